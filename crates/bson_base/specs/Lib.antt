@@ -1,0 +1,4 @@
+pub mod Tags
+pub mod Value
+pub mod Kinds
+pub mod Scalars

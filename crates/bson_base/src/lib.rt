@@ -1,0 +1,22 @@
+//! The values of BSON that hold no other value, and the devices that bytes come from and go to.
+#![tactic(auto)]
+
+pub mod binary;
+pub mod datetime;
+pub mod decimal128;
+mod double;
+pub mod oid;
+mod pointer;
+mod regex;
+pub mod spec;
+mod timestamp;
+
+pub use binary::Binary;
+pub use datetime::DateTime;
+pub use decimal128::Decimal128;
+pub use double::DoubleBits;
+pub use oid::ObjectId;
+pub use pointer::DbPointer;
+pub use regex::Regex;
+pub use spec::{BinarySubtype, ElementType};
+pub use timestamp::Timestamp;
