@@ -2,3 +2,4 @@ pub mod Tags
 pub mod Value
 pub mod Kinds
 pub mod Scalars
+pub mod Device

@@ -4,6 +4,7 @@
 pub mod binary;
 pub mod datetime;
 pub mod decimal128;
+mod device;
 mod double;
 pub mod oid;
 mod pointer;
@@ -14,6 +15,7 @@ mod timestamp;
 pub use binary::Binary;
 pub use datetime::DateTime;
 pub use decimal128::Decimal128;
+pub use device::{Counted, DeviceFault, Sink, SliceSource, Source, VecSink, read_full, write_all};
 pub use double::DoubleBits;
 pub use oid::ObjectId;
 pub use pointer::DbPointer;
