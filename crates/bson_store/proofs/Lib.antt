@@ -1,0 +1,15 @@
+pub mod Zeros
+pub mod Frames
+pub mod Entries
+pub mod Sizes
+pub mod Settling
+pub mod Sames
+pub mod Progress
+pub mod Converting
+pub mod Gate
+pub mod Faults
+pub mod RowLists
+pub mod States
+pub mod Steps
+pub mod Deliveries
+pub mod Runs
