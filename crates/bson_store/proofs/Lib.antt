@@ -13,3 +13,8 @@ pub mod States
 pub mod Steps
 pub mod Deliveries
 pub mod Runs
+pub mod Symmetry
+pub mod Kept
+pub mod Functions
+pub mod Readings
+pub mod WellFormed

@@ -28,7 +28,7 @@ itself k = (bytes_eq-Decides k k).1 refl
 flip : (k l : List ℕ) → bytes_eq k l ≡ bytes_eq l k
 flip k l = nat_list_eq_equiv.symm k l
 
-get_without_same : (k : List ℕ) (ps : Members) → look_up k (without k ps) ≡ None
+pub get_without_same : (k : List ℕ) (ps : Members) → look_up k (without k ps) ≡ None
 get_without_same k no_members = refl
 get_without_same k (member l v ps) = at_test (bytes_eq k l) refl (get_without_same k ps)
   where
@@ -36,7 +36,7 @@ get_without_same k (member l v ps) = at_test (bytes_eq k l) refl (get_without_sa
     at_test true e h = h
     at_test false e h = rw e h
 
-get_without_other : (k l : List ℕ) (ps : Members) → bytes_eq k l ≡ false → look_up k (without l ps) ≡ look_up k ps
+pub get_without_other : (k l : List ℕ) (ps : Members) → bytes_eq k l ≡ false → look_up k (without l ps) ≡ look_up k ps
 get_without_other k l no_members other = refl
 get_without_other k l (member m v ps) other = at_tests (bytes_eq l m) (bytes_eq k m) refl refl (get_without_other k l ps other)
   where

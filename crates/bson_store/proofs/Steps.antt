@@ -86,7 +86,7 @@ duplicate_serves rs n d id front e back good has short stands =
     answer_serves rs n (insert (readable d)) (refused DuplicateId None) good
     (duplicate_answers d id (list_of (rows_state rs) n) has short (subst (SomeHasId id) (sym (list_of-rows rs n)) (found_some id (documents_of rs n) front e back stands)))
 
-insert_answers : (d : Members) (id : Value) (ds : Documents) → look_up id_key d ≡ Some id → size d ≤ size_limit → (SomeHasId id ds → ⊥) → Answers (insert (readable d)) ds done (ds ++ d ∷ [])
+pub insert_answers : (d : Members) (id : Value) (ds : Documents) → look_up id_key d ≡ Some id → size d ≤ size_limit → (SomeHasId id ds → ⊥) → Answers (insert (readable d)) ds done (ds ++ d ∷ [])
 insert_answers d id ds has short free = rw (has, le-ltb size_limit (size d) short) (inr (free, (refl, refl)))
 
 pub insert_serves : (rs : List Row) (n : List ℕ) (d : Members) (id : Value) (t : State) → IsName n → look_up id_key d ≡ Some id → size d ≤ size_limit → NoneHasId id (documents_of rs n)

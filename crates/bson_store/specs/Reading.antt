@@ -68,3 +68,9 @@ pub data Reading : Type 0 where
 abbrev pub ReadsAs : List ℕ → Reading → Type 0
 ReadsAs bytes (readable d) = FailsNone bytes × Means bytes d
 ReadsAs bytes (unreadable kind) = IsRefused bytes kind
+
+-- the two refusals of which either is told where both stand
+abbrev pub MayBoth : ErrorKind → Type 0
+MayBoth Faulty = Unit {0}
+MayBoth TooDeep = Unit {0}
+MayBoth _ = ⊥

@@ -3,7 +3,7 @@
 ghost use Rattle.std.specs.Prelude.{◌≡◌, IfOk, OnErr};
 ghost use Rattle.bson_store.specs.StoreView.{state_of};
 ghost use Rattle.bson_store.specs.Commands.{AnswersAsLists, AnswersOne, SendsBytes};
-ghost use Rattle.bson_store.specs.State.{on, export};
+ghost use Rattle.bson_store.specs.State.{IsStore};
 
 use crate::command::{Command, Reply};
 use crate::error::{ErrorKind, StoreError};
@@ -49,6 +49,8 @@ fn execute(store: &mut Store, command: &Command) -> Reply
 pub fn run(store: &mut Store, commands: Vec<Command>) -> Result<Vec<Reply>, AllocError>
     // The replies and the collections after are those of the commands on plain lists of documents, but where memory was wanted.
     ensures run { IfOk result (λ replies. AnswersAsLists (state_of store.old) commands.items replies.items (state_of store.new)) }
+    // The collections after are a state: nonempty lists of kept documents under good names, no two of a list with the same `_id`.
+    ensures state { ∥ IsStore (state_of store.new) ∥₁ }
     // Where memory was wanted for the replies, no command was done.
     ensures err { OnErr result (state_of store.new ≡ state_of store.old) }
 {

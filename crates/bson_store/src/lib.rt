@@ -6,6 +6,7 @@ mod batch;
 mod command;
 mod error;
 mod frame;
+pub mod laws;
 mod read;
 mod rows;
 mod same;

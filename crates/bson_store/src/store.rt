@@ -1,7 +1,8 @@
 //! The store.
 
 ghost use Rattle.std.specs.Prelude.{IsTrue};
-ghost use Rattle.bson_store.specs.Rows.{all_fit};
+ghost use Rattle.bson_store.specs.Rows.{all_fit, rows_state};
+ghost use Rattle.bson_store.specs.State.{IsStore};
 
 use crate::error::{ErrorKind, StoreError};
 use crate::read;
@@ -15,6 +16,7 @@ use std::alloc::Global;
 pub struct Store {
     rows: Vec<Row>,
     ghost fits: { IsTrue (all_fit rows.items) },
+    ghost well_formed: { ∥ IsStore (rows_state rows.items) ∥₁ },
 }
 
 impl Store {

@@ -1,12 +1,15 @@
-use Rattle.std.proofs.Common.{◌∙◌, ap, sym, is_ok}
+use Rattle.std.proofs.Common.{◌∙◌, ap, sym, subst, is_ok}
 use Rattle.std.proofs.lemmas.Result.{err_from_is_err_and}
 use Rattle.bson_store.specs.Bytes.{size}
 use Rattle.bson_store.specs.View.{view, document_view}
 use Rattle.bson_store.specs.Reading.{size_limit}
-use Rattle.bson_store.specs.Rows.{rows_state}
+use Rattle.bson_store.specs.State.{IsName, NoneHasId}
+use Rattle.bson_store.specs.Rows.{rows_state, documents_of}
+use Rattle.bson_store.specs.declared.rows.Row.{Row}
 use Rattle.bson_store.specs.StoreView.{state_of}
 use Rattle.bson_store.proofs.RowLists.{fit_after}
 use Rattle.bson_store.proofs.States.{rows_push}
+use Rattle.bson_store.proofs.WellFormed.{are_bytes, rows_after}
 use Rattle.bson_store.proofs.Steps.{bad_name_inserts, gate_inserts, memory_inserts, read_inserts, no_id_serves, too_long_serves, duplicate_serves, insert_serves, untrue, not_within}
 use Rattle.bson_store.proofs.store.Store.insert_raw.Goals as goal
 
@@ -56,6 +59,22 @@ returns-in_err-name-clause-step c =
 pub invariant_of-self : goal.invariant_of-self
 invariant_of-self c = record {
   fits = fit_after (is_ok c.push.result) c.args.self.now.rows.items (record { name = c.in_ok-name.name; document = c.in_ok-document.document }) c.push.new.self.items c.push.ensures.items c.args.self.now.fits (c.is_short.ensures.0 c.if-not-is_short.false);
+  well_formed =
+      let absent = rw c.deref.ensures.value at c.in_default-find.ensures.none in
+      let row : Row = record { name = c.in_ok-name.name; document = c.in_ok-document.document } in
+      let same = c.in_ok-name.ensures.ok in
+      rows_after (is_ok c.push.result) c.args.self.now.rows.items row c.push.new.self.items c.args.bytes.now c.push.ensures.items
+      (record {
+        name = subst IsName (sym same) (c.is_name.ensures.0 c.if-not-is_name.false);
+        range = are_bytes c.args.bytes.now c.type_inv.bytes;
+        passes = c.in_default.ensures;
+        means = c.in_ok-document.ensures;
+        id = view c.in-Some.id.now;
+        has = sym c.in-Some.ensures;
+        short = c.is_short.ensures.0 c.if-not-is_short.false;
+        free = subst (λ n. NoneHasId (view c.in-Some.id.now) (documents_of c.args.self.now.rows.items n)) (sym same) absent;
+      })
+      c.args.self.now.well_formed;
 }
 
 pub returns-in_err-push-clause-step : goal.returns-in_err-push-clause-step
