@@ -18,3 +18,4 @@ pub mod Kept
 pub mod Functions
 pub mod Readings
 pub mod WellFormed
+pub mod Places

@@ -1,8 +1,8 @@
 -- The sizes are the lengths of what is written.
-use Rattle.std.proofs.Common.{◌≡◌, ℕ, zero, suc, ◌+◌, ◌<◌, ◌≤◌, List, [], ◌∷◌, ◌++◌, length, get_or, refl, sym, ap, ◌∙◌, arith, length-append, append_assoc, append-nil}
+use Rattle.std.proofs.Common.{◌≡◌, OnOk, Result, Ok, Err, ℕ, zero, suc, ◌+◌, ◌<◌, ◌≤◌, List, [], ◌∷◌, ◌++◌, length, get_or, refl, sym, ap, ◌∙◌, arith, length-append, append_assoc, append-nil}
 use Rattle.std.specs.Int.{w32, to_le_bytes}
 use Rattle.bson_store.specs.Value.{Value, int32, string, document, Members, no_members, member}
-use Rattle.bson_store.specs.Bytes.{payload, elements, payload_size, elements_size, size, encode}
+use Rattle.bson_store.specs.Bytes.{enclose, payload, elements, payload_size, elements_size, size, encode}
 use Rattle.bson_store.specs.View.{view, members_view}
 use Rattle.bson_store.proofs.Entries.{Entry}
 
@@ -25,12 +25,21 @@ item_size [] i p h is = absurd (omega arith)
 item_size (x ∷ xs) zero p h is = let e = ap (λ (q : Entry). payload_size (view q.1)) is in omega (arith, e)
 item_size (x ∷ xs) (suc i) p h is = let e = item_size xs i p (omega arith) is in omega (arith, e)
 
-grouped : (old le el z : List ℕ) → ((old ++ le) ++ el) ++ z ≡ old ++ ((le ++ el) ++ z)
-grouped old le el z = simp append_assoc
+-- room for a length
+abbrev pub room : List ℕ
+room = 0 ∷ 0 ∷ 0 ∷ 0 ∷ []
 
--- a length, the elements and the last byte, one after the other, are the document
-pub document_written : (d : Members) (n : ℕ) (old first out : List ℕ) → n ≡ size d → first ≡ old ++ to_le_bytes w32 n → out ++ [] ≡ first ++ elements d → out ++ 0 ∷ [] ≡ old ++ encode d
-document_written d n old first out counted at_first at_end =
-    let n_is : n ≡ length (elements d) + 5 = counted ∙ ap (λ m. m + 5) (sym (length-elements d)) in
-    ap (λ u. u ++ 0 ∷ []) (sym (append-nil out) ∙ at_end ∙ ap (λ u. u ++ elements d) at_first) ∙ grouped old (to_le_bytes w32 n) (elements d) (0 ∷ [])
-    ∙ ap (λ m. old ++ ((to_le_bytes w32 m ++ elements d) ++ 0 ∷ [])) n_is
+-- the elements behind the room for their length, and the final 00
+pub written_in : (old begun out new body : List ℕ) → begun ≡ old ++ room → out ++ [] ≡ begun ++ body → new ≡ out ++ 0 ∷ [] → new ≡ old ++ (room ++ (body ++ 0 ∷ []))
+written_in old begun out new body s e is =
+    is ∙ ap (λ (x : List ℕ). x ++ 0 ∷ []) (sym (append-nil out) ∙ e ∙ ap (λ (x : List ℕ). x ++ body) s) ∙ append_assoc (old ++ room) body (0 ∷ []) ∙ append_assoc old room (body ++ 0 ∷ [])
+
+-- with the length in its place it is the document
+document_written : (old new body : List ℕ) → new ≡ old ++ (to_le_bytes w32 (length (body ++ 0 ∷ []) + 4) ++ (body ++ 0 ∷ [])) → new ≡ old ++ enclose body
+document_written old new body is =
+    let len : length (body ++ 0 ∷ []) + 4 ≡ length body + 5 = omega (arith, length-append {A = ℕ} body (0 ∷ [])) in
+    is ∙ ap (λ n. old ++ (to_le_bytes w32 n ++ (body ++ 0 ∷ []))) len ∙ ap (λ x. old ++ x) (sym (append_assoc (to_le_bytes w32 (length body + 5)) body (0 ∷ [])))
+
+pub on_ok_written : {E : Type 0} (r : Result (Unit {0}) E) (old new body : List ℕ) → OnOk r (new ≡ old ++ (to_le_bytes w32 (length (body ++ 0 ∷ []) + 4) ++ (body ++ 0 ∷ []))) → OnOk r (new ≡ old ++ enclose body)
+on_ok_written (Ok x) old new body h = document_written old new body h
+on_ok_written (Err e) old new body h = tt

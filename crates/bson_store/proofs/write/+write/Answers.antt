@@ -1,9 +1,10 @@
-use Rattle.std.proofs.Common.{◌≡◌, ◌++◌, [], ◌∙◌, ap, sym, rules, arith}
+use Rattle.std.proofs.Common.{◌≡◌, ◌++◌, ◌∷◌, [], List, ℕ, ◌∙◌, OnOk, Result, ap, sym, refl, rules, arith, length, length-append}
+use Rattle.std.specs.Int.{w32, to_le_bytes}
 use Rattle.std.proofs.lemmas.Result.{err_from_is_err_and}
-use Rattle.bson_store.specs.Bytes.{elements, elements_size}
+use Rattle.bson_store.specs.Bytes.{elements, elements_size, encode}
 use Rattle.bson_store.specs.View.{document_view, members_view}
 use Rattle.bson_store.proofs.Entries.{document_items, no_pairs_left}
-use Rattle.bson_store.proofs.Sizes.{item_size, document_written}
+use Rattle.bson_store.proofs.Sizes.{item_size, room, written_in, length-elements, on_ok_written}
 use Rattle.bson_store.proofs.write.+write.Goals as goal
 
 pub write_document-returns-in_err-write_payload-clause-too_long :
@@ -13,13 +14,20 @@ write_document-returns-in_err-write_payload-clause-too_long t c =
     let items = c.deref-key-items.ensures.value in
     let part = item_size c.deref-key-items.result.now c.loop-key.key-index c.loop-key-item.result c.loop-key-test.true c.loop-key-item.is in
     let whole : elements_size (document_view c.args.document.now) ≡ elements_size (members_view c.deref-key-items.result.now) = ap elements_size (document_items c.args.document.now ∙ ap members_view (sym items)) in
-    λ is. absurd (omega (arith, c.in_err-write_payload.ensures.too_long (cc (p.1, p.2, is)), part, whole, c.in-Some.ensures))
+    λ is. omega (arith, c.in_err-write_payload.ensures.too_long (cc (p.1, p.2, is)), part, whole)
 
-pub write_document-returns-clause-ok : goal.write_document-returns-clause-ok
-write_document-returns-clause-ok t c =
-    let d = document_view c.args.document.now in
+pub write_document-returns : goal.write_document-returns
+write_document-returns t c =
+    let old = c.args.out.now.items in
+    let body = elements (document_view c.args.document.now) in
+    let after : List ℕ = body ++ 0 ∷ [] in
+    let begun = c.extend_from_slice.new.self.items in
     let items = document_items c.args.document.now ∙ ap members_view (sym c.deref-key-items.ensures.value) in
     let left = no_pairs_left c.deref-key-items.result.now c.loop-key.key-index c.loop-key-test.false in
-    let at_end : c.loop-key.out.items ++ [] ≡ c.extend_from_slice.new.self.items ++ elements d =
-    ap (λ ps. c.loop-key.out.items ++ elements ps) (sym left) ∙ c.loop-key.invariant ∙ ap (λ ps. c.extend_from_slice.new.self.items ++ elements ps) (sym items) in
-    c.in_ok-push-3.ensures.items ∙ document_written d c.in-Some.length c.args.out.now.items c.extend_from_slice.new.self.items c.loop-key.out.items c.in-Some.ensures.1 (search (rules, c.in_ok-extend_from_slice.ensures.items, c.to_le_bytes.ensures)) at_end
+    let at_end : c.loop-key.out.items ++ [] ≡ begun ++ body = ap (λ ps. c.loop-key.out.items ++ elements ps) (sym left) ∙ c.loop-key.invariant.so_far ∙ ap (λ ps. begun ++ elements ps) (sym items) in
+    let whole : c.push-2.new.self.items ≡ old ++ (room ++ after) = written_in old begun c.loop-key.out.items c.push-2.new.self.items body c.in_ok-extend_from_slice.ensures.items at_end c.in_ok-push-3.ensures.items in
+    let long = ap length whole in
+    record {
+      ok = on_ok_written c.put_length.result old c.put_length.new.out.items body (c.put_length.ensures.ok old room after whole (search rules) refl);
+      too_long = λ is. omega (arith, c.put_length.ensures.too_long is, long, length-append {A = ℕ} old (room ++ after), length-append {A = ℕ} body (0 ∷ []), length-elements (document_view c.args.document.now), c.len-start.ensures);
+    }

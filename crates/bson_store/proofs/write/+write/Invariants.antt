@@ -1,4 +1,4 @@
-use Rattle.std.proofs.Common.{◌≡◌, ◌++◌, drop}
+use Rattle.std.proofs.Common.{◌≡◌, ◌≤◌, ◌++◌, drop, length}
 use Rattle.bson_store.specs.Bytes.{elements}
 use Rattle.bson_store.specs.View.{members_view}
 use Rattle.bson_store.proofs.write.+write.Given as goal
@@ -10,5 +10,7 @@ abbrev pub decreases-write_document : goal.decreases-write_document
 decreases-write_document l = goal.size-write_document l
 
 abbrev pub invariant-write_document-loop-key : goal.invariant-write_document-loop-key
-invariant-write_document-loop-key l =
-    l.out.items ++ elements (members_view (drop l.key-index l.key-items)) ≡ l.initial.out.items ++ elements (members_view l.key-items)
+invariant-write_document-loop-key l = record {
+  so_far : l.out.items ++ elements (members_view (drop l.key-index l.key-items)) ≡ l.initial.out.items ++ elements (members_view l.key-items);
+  room : length l.initial.out.items ≤ length l.out.items;
+}
