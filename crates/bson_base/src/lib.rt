@@ -6,6 +6,7 @@ pub mod datetime;
 pub mod decimal128;
 mod device;
 mod double;
+pub mod faulty;
 pub mod oid;
 mod pointer;
 mod regex;
