@@ -3,3 +3,4 @@ pub mod Value
 pub mod Kinds
 pub mod Scalars
 pub mod Device
+pub mod Doubles

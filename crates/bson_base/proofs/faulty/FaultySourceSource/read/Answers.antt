@@ -8,8 +8,7 @@ returns-clause-bytes c =
     let s = c.args.self.now in
     let xs = s.bytes.now in
     let room : 0 < length c.args.buf.now = grind (arith, common_steps) in
-    let one = take_one c.args.buf.now (get_or xs s.at 0) room in
-    (
+    let one = take_one c.args.buf.now (get_or xs s.at 0) room in (
       take_next s.at xs (omega arith) ∙ ap (λ l. take s.at xs ++ l) (sym one),
-      drop_next s.at xs (omega arith) ∙ ap (λ l. l ++ drop (s.at + 1) xs) (sym one)
+      drop_next s.at xs (omega arith) ∙ ap (λ l. l ++ drop (s.at + 1) xs) (sym one),
     )
