@@ -4,3 +4,5 @@ pub mod Kinds
 pub mod Scalars
 pub mod Device
 pub mod Doubles
+pub mod Uuids
+pub mod Options

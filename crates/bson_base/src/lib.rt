@@ -12,6 +12,7 @@ mod pointer;
 mod regex;
 pub mod spec;
 mod timestamp;
+pub mod uuid;
 
 pub use binary::Binary;
 pub use datetime::DateTime;
@@ -23,3 +24,4 @@ pub use pointer::DbPointer;
 pub use regex::Regex;
 pub use spec::{BinarySubtype, ElementType};
 pub use timestamp::Timestamp;
+pub use uuid::Uuid;
