@@ -6,3 +6,6 @@ pub mod Device
 pub mod Doubles
 pub mod Uuids
 pub mod Options
+pub mod UuidReading
+pub mod VectorBytes
+pub mod Vectors

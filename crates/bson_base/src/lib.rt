@@ -7,6 +7,7 @@ pub mod decimal128;
 mod device;
 mod double;
 pub mod faulty;
+pub mod laws;
 pub mod oid;
 mod pointer;
 mod regex;
