@@ -6,13 +6,12 @@ ghost use Rattle.bson_base.specs.Uuids.{uuid_subtype, uuid_form};
 
 mod vector;
 
-pub use vector::{PackedBitVector, Vector};
-
 use crate::spec::BinarySubtype;
 use crate::uuid;
 use crate::uuid::{Uuid, UuidRepresentation};
 use std::alloc::{AllocError, Global};
 use thiserror::Error;
+pub use vector::{PackedBitVector, Vector};
 
 /// Why bytes were refused.
 #[derive(Clone, Copy, Debug, PartialEq, Eq, Error)]
@@ -89,7 +88,10 @@ impl Binary {
 
     /// The UUID of a value in a representation. `RepresentationMismatch` tells another subtype than that of the
     /// representation, `InvalidLength` another number of bytes than 16.
-    pub fn to_uuid_with_representation(&self, representation: UuidRepresentation) -> uuid::Result<Uuid>
+    pub fn to_uuid_with_representation(
+        &self,
+        representation: UuidRepresentation,
+    ) -> uuid::Result<Uuid>
         ensures { ReadsUuid representation self.now result }
     {
         if self.subtype != representation.subtype() {

@@ -11,7 +11,9 @@ use std::alloc::{AllocError, Global};
 
 // The bytes that stand for the types of numbers.
 const INT8: u8 = 0x03;
+
 const FLOAT32: u8 = 0x27;
+
 const PACKED_BIT: u8 = 0x10;
 
 /// Bits packed into bytes, the highest bit of each byte first.
