@@ -3,3 +3,9 @@ pub mod Value
 pub mod Kinds
 pub mod Scalars
 pub mod Device
+pub mod Doubles
+pub mod Uuids
+pub mod Options
+pub mod UuidReading
+pub mod VectorBytes
+pub mod Vectors
