@@ -7,7 +7,7 @@ use Rattle.bson_store.specs.Gate.{Passes}
 use Rattle.bson_store.specs.declared.error.ErrorKind.TheVariants.{EndInside, BadLength, NotTerminated, Faulty, TooDeep}
 use Rattle.bson_store.proofs.Progress.{nests_levels}
 
-no_declaration : (b : List ℕ) → 5 ≤ declared b → declared b ≤ size_limit → length b ≤ declared b → (declared b < 5) ⊎ (size_limit < declared b) ⊎ (declared b < length b) → ⊥
+pub no_declaration : (b : List ℕ) → 5 ≤ declared b → declared b ≤ size_limit → length b ≤ declared b → (declared b < 5) ⊎ (size_limit < declared b) ⊎ (declared b < length b) → ⊥
 no_declaration b least most counted (inl h) = omega arith
 no_declaration b least most counted (inr (inl h)) = omega arith
 no_declaration b least most counted (inr (inr h)) = omega arith

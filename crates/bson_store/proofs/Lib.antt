@@ -19,3 +19,4 @@ pub mod Functions
 pub mod Readings
 pub mod WellFormed
 pub mod Places
+pub mod Restoring

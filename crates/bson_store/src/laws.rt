@@ -3,8 +3,9 @@
 ghost use Rattle.std.specs.Prelude.{◌≡◌, ◌⊎◌, ℕ, List};
 ghost use Rattle.bson_base.specs.Kinds.{AreBytes};
 ghost use Rattle.bson_store.specs.Value.{Members};
+ghost use Rattle.bson_store.specs.Bytes.{encode};
 ghost use Rattle.bson_store.specs.Reading.{Reading, readable, unreadable, ReadsAs, MayBoth};
-ghost use Rattle.bson_store.specs.State.{State, Command, Reply, Step, IsReading, IsCommand, IsStore, list_of, store};
+ghost use Rattle.bson_store.specs.State.{State, Command, Reply, Step, IsReading, IsCommand, IsKept, IsStore, list_of, store};
 ghost use Rattle.bson_store.specs.declared.error.ErrorKind.{ErrorKind as Kind};
 
 /// What bytes read as is clean, has numbers and texts of its kinds and no key twice, and at most 100 levels.
@@ -18,6 +19,11 @@ pub fn one_reading()
     ensures either { (bytes : List ℕ) (d : Members) (k : Kind) → ReadsAs bytes (readable d) → ReadsAs bytes (unreadable k) → ⊥ }
     ensures refusal { (bytes : List ℕ) (k l : Kind) → ReadsAs bytes (unreadable k) → ReadsAs bytes (unreadable l)
         → (k ≡ l) ⊎ (MayBoth k × MayBoth l) }
+{}
+
+/// The written form of a document that is kept reads as that document.
+pub fn written_documents_read()
+    ensures { (d : Members) → IsKept d → ReadsAs (encode d) (readable d) }
 {}
 
 /// A step has one reply, and leaves one state.

@@ -19,3 +19,6 @@ pub use command::{Command, Reply};
 pub use error::{ErrorKind, StoreError};
 pub use store::Store;
 pub use tree::{Bson, Document};
+
+#[cfg(test)]
+mod tests;
