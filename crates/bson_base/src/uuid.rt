@@ -6,7 +6,7 @@ use crate::spec::BinarySubtype;
 use thiserror::Error;
 
 /// Why a UUID was refused.
-#[derive(Clone, Debug, PartialEq, Drop, Error)]
+#[derive(Clone, Copy, Debug, PartialEq, Error)]
 pub enum Error {
     /// The text is not one of the four forms of a UUID.
     #[error("the text is not a UUID")]
