@@ -1,4 +1,6 @@
+pub mod Answer
 pub mod Tags
 pub mod Value
 pub mod Kinds
 pub mod Scalars
+pub mod ObjectIdText
