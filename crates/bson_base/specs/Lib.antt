@@ -4,3 +4,5 @@ pub mod Value
 pub mod Kinds
 pub mod Scalars
 pub mod ObjectIdText
+pub mod Decimal
+pub mod DecimalParts

@@ -5,6 +5,7 @@ pub mod binary;
 pub mod datetime;
 pub mod decimal128;
 mod double;
+pub mod laws;
 pub mod oid;
 mod pointer;
 mod regex;

@@ -11,9 +11,8 @@ ghost use Rattle.bson_base.specs.ObjectIdText.{debug_text, first_other as first_
 use crate::datetime::DateTime;
 use hex::FromHex;
 use std::alloc::{AllocError, Global};
-use std::fmt;
-use std::str;
 use std::str::FromStr;
+use std::{fmt, str};
 use thiserror::Error as ThisError;
 
 /// Why a text is no object id.
@@ -141,7 +140,7 @@ impl From<[u8; 12]> for ObjectId {
     ghost from_gives = { λ bytes id. id_bytes id ≡ bytes };
 
     fn from(bytes: [u8; 12]) -> ObjectId {
-        ObjectId { id: bytes }
+        ObjectId::from_bytes(bytes)
     }
 }
 

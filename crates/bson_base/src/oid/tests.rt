@@ -28,9 +28,14 @@ fn refusal(text: &str) -> Option<Error> {
 fn texts(rt: HostRuntime) -> Result<(), Fail> {
     assert!(rt; prints(&rt, "53e37d08776f724e42000000")?);
     assert!(rt; prints(&rt, "0123456789abcdef01234567")?);
-    let id = ObjectId::from([0x53, 0xe3, 0x7d, 0x08, 0x77, 0x6f, 0x72, 0x4e, 0x42, 0, 0, 0]);
+    let id = ObjectId::from([
+        0x53, 0xe3, 0x7d, 0x08, 0x77, 0x6f, 0x72, 0x4e, 0x42, 0, 0, 0,
+    ]);
     assert!(rt; ObjectId::parse_str("53E37D08776F724E42000000") == Ok(id));
-    assert_eq!(rt; format!(in rt.alloc(); "{id:?}")?.as_str(), "ObjectId(\"53e37d08776f724e42000000\")");
+    assert_eq!(rt;
+        format!(in rt.alloc(); "{id:?}")?.as_str(),
+        "ObjectId(\"53e37d08776f724e42000000\")"
+    );
     Ok(())
 }
 
@@ -49,9 +54,18 @@ fn refusals(rt: HostRuntime) {
     assert!(rt; refusal("zz") == Some(Error::InvalidHexStringCharacter { c: 'z', index: 0 }));
     assert!(rt; refusal("zzz") == Some(Error::InvalidHexStringLength { length: 3 }));
     assert!(rt; refusal("") == Some(Error::InvalidHexStringLength { length: 0 }));
-    assert!(rt; refusal("0123456789abcdef0123456") == Some(Error::InvalidHexStringLength { length: 23 }));
-    assert!(rt; refusal("0123456789abcdef012345678") == Some(Error::InvalidHexStringLength { length: 25 }));
-    assert!(rt; refusal("0123456789abcdef0123456789") == Some(Error::InvalidHexStringLength { length: 26 }));
-    assert!(rt; refusal("0123456789abcdef0123456g") == Some(Error::InvalidHexStringCharacter { c: 'g', index: 23 }));
+    assert!(rt;
+        refusal("0123456789abcdef0123456") == Some(Error::InvalidHexStringLength { length: 23 })
+    );
+    assert!(rt;
+        refusal("0123456789abcdef012345678") == Some(Error::InvalidHexStringLength { length: 25 })
+    );
+    assert!(rt;
+        refusal("0123456789abcdef0123456789") == Some(Error::InvalidHexStringLength { length: 26 })
+    );
+    assert!(rt;
+        refusal("0123456789abcdef0123456g")
+            == Some(Error::InvalidHexStringCharacter { c: 'g', index: 23 })
+    );
     assert!(rt; refusal("ä") == Some(Error::InvalidHexStringCharacter { c: 'Ã', index: 0 }));
 }

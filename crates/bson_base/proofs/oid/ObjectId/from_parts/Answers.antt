@@ -10,5 +10,5 @@ returns c =
     let process = five c.args.process_id (search rules) in
     let counter = three x (search rules) in
     rw c.to_be_bytes.ensures (
-      ap (λ p. seconds ++ p ++ (get_or x 0 0 ∷ get_or x 1 0 ∷ get_or x 2 0 ∷ [])) process ∙ ap (λ q. seconds ++ c.args.process_id ++ q) counter
+    ap (λ p. seconds ++ p ++ (get_or x 0 0 ∷ get_or x 1 0 ∷ get_or x 2 0 ∷ [])) process ∙ ap (λ q. seconds ++ c.args.process_id ++ q) counter
     )
