@@ -6,3 +6,7 @@ pub mod Scalars
 pub mod ObjectIdText
 pub mod Decimal
 pub mod DecimalParts
+pub mod Device
+pub mod Doubles
+pub mod Uuids
+pub mod Options

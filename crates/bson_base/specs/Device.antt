@@ -1,0 +1,37 @@
+-- What a call does to a device: how often it failed, and the bytes that it gave or took, where it knows them.
+use Rattle.std.specs.Prelude.{◌≡◌, ℕ, ◌+◌, ◌<◌, List, [], Option, Some, Result, Ok, Err, take}
+use Rattle.std.specs.Io.KnownBytes.{Appends, Consumes, IsAtEnd}
+
+-- the count of failures rises by one exactly at a failure
+abbrev pub Counts : {A E : Type 0} → ℕ → ℕ → Result A E → Type 0
+Counts old new (Ok x) = new ≡ old
+Counts old new (Err e) = new ≡ old + 1
+
+-- what a source knows of its bytes
+pub record Supply : Type 0 where
+  -- those that it gave so far
+  pub given : Option (List ℕ)
+  -- those that it would still give
+  pub left : Option (List ℕ)
+
+-- a source gave bs: the first of what it had left
+abbrev pub Gives : Supply → Supply → List ℕ → Type 0
+Gives old new bs = Appends old.given new.given bs × Consumes old.left new.left bs
+
+-- a source has nothing left
+abbrev pub IsExhausted : Supply → Type 0
+IsExhausted s = IsAtEnd s.left
+
+-- a read gave the first n of buf at `Ok(n)`, and nothing at a failure
+abbrev pub ReadGives : {E : Type 0} → Supply → Supply → Result ℕ E → List ℕ → Type 0
+ReadGives old new (Ok n) buf = Gives old new (take n buf)
+ReadGives old new (Err e) buf = Gives old new []
+
+-- a write took the first n of buf at `Ok(n)`, and nothing at a failure
+abbrev pub WriteTakes : {E : Type 0} → Option (List ℕ) → Option (List ℕ) → Result ℕ E → List ℕ → Type 0
+WriteTakes old new (Ok n) buf = Appends old new (take n buf)
+WriteTakes old new (Err e) buf = Appends old new []
+
+-- a beginning of bs was taken
+abbrev pub TakesBeginning : Option (List ℕ) → Option (List ℕ) → List ℕ → Type 0
+TakesBeginning old new bs = (n : ℕ) × Appends old new (take n bs)

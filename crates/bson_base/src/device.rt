@@ -1,0 +1,214 @@
+//! What gives and takes bytes and counts its failures.
+
+ghost use Rattle.std.specs.Prelude.{◌≡◌, ℕ, ◌^◌, ◌-◌, ◌<◌, ◌≤◌, List, [], Option, Some, None, length, take, drop, IfOk, OnOk, OnErr};
+ghost use Rattle.std.specs.Io.KnownBytes.{Appends};
+ghost use Rattle.bson_base.specs.Device.{Counts, Supply, Gives, IsExhausted, ReadGives, WriteTakes, TakesBeginning};
+
+use std::alloc::Global;
+use std::io::{Read, Write};
+use thiserror::Error;
+
+/// A call of a device failed.
+#[derive(Clone, Copy, Debug, PartialEq, Eq, Error)]
+#[error("the device failed")]
+pub struct DeviceFault;
+
+/// What gives bytes.
+pub trait Source {
+    // How many calls have failed.
+    ghost failures: { Self → ℕ };
+
+    // The bytes given so far and those left, where they are known.
+    ghost supply: { Self → Supply };
+
+    /// Gives up to as many bytes as `buf` has room for, and says how many; none only at the end, or where there is no
+    /// room. Whoever calls it sees to it that fewer than 2⁶⁴ - 1 calls have failed.
+    fn read(&mut self, buf: &mut [u8]) -> Result<usize, DeviceFault>
+        requires { failures self.old < 2 ^ 64 - 1 }
+        ensures counts { Counts (failures self.old) (failures self.new) result }
+        ensures bound { IfOk result (λ n. n ≤ length buf.new) }
+        ensures bytes { ReadGives (supply self.old) (supply self.new) result buf.new }
+        ensures end { IfOk result (λ n. n ≡ 0 → 0 < length buf.new → IsExhausted (supply self.new)) };
+}
+
+/// What takes bytes.
+pub trait Sink {
+    // How many calls have failed.
+    ghost failures: { Self → ℕ };
+
+    // The bytes taken so far, where they are known.
+    ghost taken: { Self → Option (List ℕ) };
+
+    /// Takes bytes from the front of `buf`, and says how many: at least one, where there are any. Whoever calls it sees
+    /// to it that fewer than 2⁶⁴ - 1 calls have failed.
+    fn write(&mut self, buf: &[u8]) -> Result<usize, DeviceFault>
+        requires { failures self.old < 2 ^ 64 - 1 }
+        ensures counts { Counts (failures self.old) (failures self.new) result }
+        ensures bound { IfOk result (λ n. n ≤ length buf.now) }
+        ensures some { IfOk result (λ n. 0 < length buf.now → 0 < n) }
+        ensures bytes { WriteTakes (taken self.old) (taken self.new) result buf.now };
+}
+
+/// Bytes in memory, which are read from the front and never fail.
+#[derive(Drop)]
+pub struct SliceSource<'a> {
+    /// All the bytes.
+    pub bytes: &'a [u8],
+    /// How many of them were given.
+    pub at: usize,
+    ghost within: { at ≤ length bytes.now },
+}
+
+impl<'a> SliceSource<'a> {
+    /// A source of all of `bytes`.
+    pub fn new(bytes: &'a [u8]) -> SliceSource<'a>
+        ensures bytes { result.bytes.now ≡ bytes.now }
+        ensures at { result.at ≡ 0 }
+    {
+        SliceSource { bytes, at: 0 }
+    }
+}
+
+impl Source for SliceSource<'_> {
+    ghost failures = { λ _. 0 };
+
+    ghost supply = { λ s. record { given = Some (take s.at s.bytes.now); left = Some (drop s.at s.bytes.now) } };
+
+    fn read(&mut self, buf: &mut [u8]) -> Result<usize, DeviceFault> {
+        let rest = &self.bytes[self.at..];
+        let n = rest.len().min(buf.len());
+        buf[..n].copy_from_slice(&rest[..n]);
+        self.at += n;
+        Ok(n)
+    }
+}
+
+/// A vector that takes bytes at its end. Want of memory is its only failure.
+#[derive(Drop)]
+pub struct VecSink {
+    /// The bytes taken.
+    pub bytes: Vec<u8>,
+    /// How many calls have failed.
+    pub failed: u64,
+}
+
+impl VecSink {
+    /// A sink that has taken nothing.
+    pub fn new(alloc: Global) -> VecSink
+        ensures bytes { result.bytes.items ≡ [] }
+        ensures failed { result.failed ≡ 0 }
+    {
+        VecSink {
+            bytes: Vec::new(alloc),
+            failed: 0,
+        }
+    }
+}
+
+impl Sink for VecSink {
+    ghost failures = { λ s. s.failed };
+
+    ghost taken = { λ s. Some s.bytes.items };
+
+    fn write(&mut self, buf: &[u8]) -> Result<usize, DeviceFault> {
+        match self.bytes.extend_from_slice(buf) {
+            Ok(()) => Ok(buf.len()),
+            Err(_) => {
+                self.failed += 1;
+                Err(DeviceFault)
+            }
+        }
+    }
+}
+
+/// A reader or writer of std beside the count of its failures. Each error of the reader or writer is one, also an
+/// interrupted call, and so is a write that takes none of some bytes.
+#[derive(Drop)]
+pub struct Counted<T> {
+    /// The reader or writer.
+    pub device: T,
+    /// How many calls have failed.
+    pub failed: u64,
+}
+
+impl<T> Counted<T> {
+    /// A device that has not failed yet.
+    pub fn new(device: T) -> Counted<T>
+        ensures device { result.device ≡ device }
+        ensures failed { result.failed ≡ 0 }
+    {
+        Counted { device, failed: 0 }
+    }
+}
+
+impl<T: Read> Source for Counted<T> {
+    ghost failures = { λ c. c.failed };
+
+    ghost supply = { λ c. record { given = None; left = T.remaining c.device } };
+
+    fn read(&mut self, buf: &mut [u8]) -> Result<usize, DeviceFault> {
+        match self.device.read(buf) {
+            Ok(n) => Ok(n),
+            Err(_) => {
+                self.failed += 1;
+                Err(DeviceFault)
+            }
+        }
+    }
+}
+
+impl<T: Write> Sink for Counted<T> {
+    ghost failures = { λ c. c.failed };
+
+    ghost taken = { λ c. T.contents c.device };
+
+    fn write(&mut self, buf: &[u8]) -> Result<usize, DeviceFault> {
+        match self.device.write(buf) {
+            Ok(n) => {
+                if n == 0 && !buf.is_empty() {
+                    self.failed += 1;
+                    return Err(DeviceFault);
+                }
+                Ok(n)
+            }
+            Err(_) => {
+                self.failed += 1;
+                Err(DeviceFault)
+            }
+        }
+    }
+}
+
+/// Writes all of `bytes`, or tells the first failure, after which a beginning of them was taken.
+pub fn write_all<S: Sink>(sink: &mut S, bytes: &[u8]) -> Result<(), DeviceFault>
+    requires { S.failures sink.old < 2 ^ 64 - 1 }
+    ensures counts { Counts (S.failures sink.old) (S.failures sink.new) result }
+    ensures ok { OnOk result (Appends (S.taken sink.old) (S.taken sink.new) bytes.now) }
+    ensures err { OnErr result (TakesBeginning (S.taken sink.old) (S.taken sink.new) bytes.now) }
+{
+    let mut at = 0usize;
+    while at < bytes.len() {
+        at += sink.write(&bytes[at..])?;
+    }
+    Ok(())
+}
+
+/// Reads until `buf` is full or the source is at its end, and says how many bytes were read. After a failure `buf` may
+/// hold some of them.
+pub fn read_full<S: Source>(source: &mut S, buf: &mut [u8]) -> Result<usize, DeviceFault>
+    requires { S.failures source.old < 2 ^ 64 - 1 }
+    ensures counts { Counts (S.failures source.old) (S.failures source.new) result }
+    ensures bound { IfOk result (λ n. n ≤ length buf.new) }
+    ensures bytes { IfOk result (λ n. Gives (S.supply source.old) (S.supply source.new) (take n buf.new)) }
+    ensures end { IfOk result (λ n. n < length buf.new → IsExhausted (S.supply source.new)) }
+{
+    let mut at = 0usize;
+    while at < buf.len() {
+        let n = source.read(&mut buf[at..])?;
+        if n == 0 {
+            return Ok(at);
+        }
+        at += n;
+    }
+    Ok(at)
+}
