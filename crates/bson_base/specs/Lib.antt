@@ -10,3 +10,5 @@ pub mod Device
 pub mod Doubles
 pub mod Uuids
 pub mod Options
+pub mod DateText
+pub mod Builder

@@ -106,7 +106,9 @@ fn unusual_bits(rt: HostRuntime) -> Result<(), Fail> {
     let second = Decimal128::from_bytes([1, 0, 0, 0, 0, 0, 0, 0, 0, 0, 0, 0, 0, 0, 0x10, 0x6C]);
     assert_eq!(rt; second.to_string(rt.alloc())?.as_str(), "0");
     // One more than the greatest coefficient, too.
-    let over = Decimal128::from_bytes([0, 0, 0, 0, 0x64, 0x8E, 0x8D, 0x37, 0xC0, 0x87, 0xAD, 0xBE, 0x09, 0xED, 0x41, 0x30]);
+    let over = Decimal128::from_bytes([
+        0, 0, 0, 0, 0x64, 0x8E, 0x8D, 0x37, 0xC0, 0x87, 0xAD, 0xBE, 0x09, 0xED, 0x41, 0x30,
+    ]);
     assert_eq!(rt; over.to_string(rt.alloc())?.as_str(), "0");
     assert!(rt; Decimal128::from_bytes([7; 16]) == Decimal128::from_bytes([7; 16]));
     Ok(())
