@@ -1,6 +1,9 @@
 -- Putting numbers in order: what comes out is in order, and is the one list in order with those numbers.
 use Rattle.std.proofs.Common.{◌≡◌, ℕ, ◌+◌, ◌<◌, ◌≤◌, Bool, true, false, cond, List, [], ◌∷◌, length, get_or, suc, refl, sym, ap, ◌∙◌, subst, arith, eqb, leb}
-use Rattle.std.specs.Prelude.{◌⊎◌}
+use Rattle.std.specs.Prelude.{◌&&◌}
+use Rattle.std.specs.Str.{IsUtf8, chars}
+use Rattle.std.proofs.Math.Utf8.{scalar, scalars, encodes}
+use Rattle.std.proofs.lemmas.Str.{chars-encodes, encodes-chars, scalars-chars}
 use Rattle.std.proofs.lemmas.Grind.{common_steps}
 use Rattle.std.proofs.lemmas.List.Sums.{sum_by-cons}
 use Rattle.std.proofs.lemmas.List.Sorted.{sum_by-IsPermutation, IsNonDecreasingBy-from_sort}
@@ -8,7 +11,19 @@ use Rattle.std.specs.List.{sum_by}
 use Rattle.std.specs.List.Sorted.{IsPermutation, IsSorted, IsNonDecreasing}
 use Rattle.std.specs.Ordering.{nat_cmp}
 use Rattle.bson_base.specs.Kinds.{NeverDescends}
-use Rattle.bson_base.specs.Options.{put_in_order, ascending}
+use Rattle.bson_base.specs.Options.{put_in_order, ascending, sorted_text}
+
+and_left : (a b : Bool) → a && b ≡ true → a ≡ true
+and_left true b h = refl
+and_left false b h = h
+
+and_right : (a b : Bool) → a && b ≡ true → b ≡ true
+and_right true b h = h
+and_right false b h = absurd (cc)
+
+both : (a b : Bool) → a ≡ true → b ≡ true → a && b ≡ true
+both true b g h = h
+both false b g h = g
 
 -- one for n, none for another number
 abbrev one_at : ℕ → ℕ → ℕ
@@ -94,3 +109,27 @@ pub ascending_from_sort : (xs ys : List ℕ) → IsPermutation xs ys → IsSorte
 ascending_from_sort xs ys moved sorted =
     same_order ys (ascending xs) (never_descends ys (IsNonDecreasingBy-from_sort (λ x. x) ys sorted)) (NeverDescends-ascending xs)
     (λ n. sum_by-IsPermutation (one_at n) xs ys moved ∙ sym (count-ascending n xs))
+
+-- numbers in order stay as they are
+pub ascending_stays : (cs : List ℕ) → NeverDescends cs → ascending cs ≡ cs
+ascending_stays cs up = same_order (ascending cs) cs (NeverDescends-ascending cs) up (λ n. count-ascending n cs)
+
+scalars-put_in_order : (c : ℕ) (ds : List ℕ) → scalar c ≡ true → scalars ds ≡ true → scalars (put_in_order c ds) ≡ true
+scalars-put_in_order c [] one rest = grind (arith, common_steps, one)
+scalars-put_in_order c (d ∷ ds) one rest =
+    let first : scalar d ≡ true = and_left (scalar d) (scalars ds) rest in
+    let others : scalars (put_in_order c ds) ≡ true = scalars-put_in_order c ds one (and_right (scalar d) (scalars ds) rest) in
+    elim (leb c d) as (λ b. scalars (cond b (c ∷ d ∷ ds) (d ∷ put_in_order c ds)) ≡ true)
+    [ true ↦ both (scalar c) (scalars (d ∷ ds)) one rest | false ↦ both (scalar d) (scalars (put_in_order c ds)) first others ]
+
+scalars-ascending : (cs : List ℕ) → scalars cs ≡ true → scalars (ascending cs) ≡ true
+scalars-ascending [] all = refl
+scalars-ascending (c ∷ cs) all =
+    scalars-put_in_order c (ascending cs) (and_left (scalar c) (scalars cs) all) (scalars-ascending cs (and_right (scalar c) (scalars cs) all))
+
+pub sorted_text-in_order : (text : List ℕ) → IsUtf8 text → NeverDescends (chars (sorted_text text))
+sorted_text-in_order text utf =
+    subst NeverDescends (sym (chars-encodes (ascending (chars text)) (scalars-ascending (chars text) (scalars-chars text utf)))) (NeverDescends-ascending (chars text))
+
+pub sorted_text-kept : (text : List ℕ) → IsUtf8 text → NeverDescends (chars text) → sorted_text text ≡ text
+sorted_text-kept text utf up = ap encodes (ascending_stays (chars text) up) ∙ encodes-chars text utf

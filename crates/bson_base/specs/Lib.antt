@@ -12,3 +12,6 @@ pub mod Uuids
 pub mod Options
 pub mod DateText
 pub mod Builder
+pub mod UuidReading
+pub mod VectorBytes
+pub mod Vectors

@@ -1,5 +1,5 @@
 -- The bytes that stand for kinds and subtypes.
-use Rattle.std.specs.Prelude.{ℕ, nat_lt, if◌then◌else◌, ◌==◌}
+use Rattle.std.specs.Prelude.{ℕ, ◌<◌, ◌≤◌, nat_lt, if◌then◌else◌, ◌==◌}
 use Rattle.bson_base.specs.declared.spec.ElementType.{ElementType}
 use Rattle.bson_base.specs.declared.spec.ElementType.TheVariants as kinds
 use Rattle.bson_base.specs.declared.spec.BinarySubtype.{BinarySubtype}
@@ -50,3 +50,9 @@ subtype_byte subtypes.Sensitive = 0x08
 subtype_byte subtypes.Vector = 0x09
 subtype_byte (subtypes.UserDefined b) = b
 subtype_byte (subtypes.Reserved b) = b
+
+-- a subtype that a byte stands for
+abbrev pub IsReadable : BinarySubtype → Type 0
+IsReadable (subtypes.Reserved b) = (10 ≤ b) × (b < 128)
+IsReadable (subtypes.UserDefined b) = 128 ≤ b
+IsReadable _ = Unit {0}

@@ -1,3 +1,100 @@
-//! Laws that no call carries: each function's contract is the law, and its body is empty.
+//! Laws that no call carries. Each function does nothing, and its contract is the law.
+
+ghost use Rattle.std.specs.Prelude.{◌≡◌, ◌-◌, ◌^◌, pos, neg_ℤ, ℕ, ◌↔◌, ◌<◌, List, true, length, string_bytes, IsTrue, chars};
+ghost use Rattle.std.specs.Str.{IsUtf8};
+ghost use Rattle.bson_base.specs.Scalars.{millis_of};
+ghost use Rattle.bson_base.specs.Tags.{tag_byte, subtype_of, subtype_byte, IsReadable};
+ghost use Rattle.bson_base.specs.Kinds.{NeverDescends};
+ghost use Rattle.bson_base.specs.Options.{sorted_text};
+ghost use Rattle.bson_base.specs.Uuids.{uuid_form};
+ghost use Rattle.bson_base.specs.VectorBytes.{VectorValue, IsRangedVector, vector_bytes, is_vector};
+ghost use Rattle.bson_base.specs.Vectors.{vector_value};
+ghost use Rattle.bson_base.specs.declared.binary.Binary.{Binary as AnyBinary};
+ghost use Rattle.bson_base.specs.declared.binary.vector.Vector.{Vector as AnyVector};
+ghost use Rattle.bson_base.specs.declared.datetime.DateTime.{DateTime as AnyDateTime};
+ghost use Rattle.bson_base.specs.declared.decimal128.Decimal128.{Decimal128 as AnyDecimal128};
+ghost use Rattle.bson_base.specs.declared.double.DoubleBits.{DoubleBits as AnyDouble};
+ghost use Rattle.bson_base.specs.declared.oid.ObjectId.{ObjectId as AnyObjectId};
+ghost use Rattle.bson_base.specs.declared.pointer.DbPointer.{DbPointer as AnyDbPointer};
+ghost use Rattle.bson_base.specs.declared.regex.Regex.{Regex as AnyRegex};
+ghost use Rattle.bson_base.specs.declared.spec.BinarySubtype.{BinarySubtype as AnySubtype};
+ghost use Rattle.bson_base.specs.declared.spec.ElementType.{ElementType as AnyKind};
+ghost use Rattle.bson_base.specs.declared.timestamp.Timestamp.{Timestamp as AnyTimestamp};
+ghost use Rattle.bson_base.specs.declared.uuid.Uuid.{Uuid as AnyUuid};
+ghost use Rattle.bson_base.specs.declared.uuid.UuidRepresentation.{UuidRepresentation as AnyRepresentation};
 
 pub mod decimals;
+
+use crate::{
+    Binary, BinarySubtype, DateTime, DbPointer, Decimal128, DoubleBits, ObjectId, Regex, Timestamp,
+    Uuid,
+};
+use std::hash::Hash;
+
+/// `==` is an equivalence.
+pub fn equality<T: Eq>()
+    ensures reflexive { (x : T) → T.eq x x ≡ true }
+    ensures symmetric { (x y : T) → T.eq x y ≡ T.eq y x }
+    ensures transitive { (x y z : T) → T.eq x y ≡ true → T.eq y z ≡ true → T.eq x z ≡ true }
+{}
+
+/// Equal values make the same writes to a hasher.
+pub fn hashing<T: Hash>()
+    ensures { (x y : T) → T.eq x y ≡ true → T.hash_input x ≡ T.hash_input y }
+{}
+
+/// Two values of a type that holds no memory are equal where they are one; of a double this is its pattern.
+pub fn equal_scalars()
+    ensures doubles { (x y : AnyDouble) → IsTrue (⟦<DoubleBits as PartialEq>⟧.eq x y) ↔ (x ≡ y) }
+    ensures subtypes { (x y : AnySubtype) → IsTrue (⟦<BinarySubtype as PartialEq>⟧.eq x y) ↔ (x ≡ y) }
+    ensures object_ids { (x y : AnyObjectId) → IsTrue (⟦<ObjectId as PartialEq>⟧.eq x y) ↔ (x ≡ y) }
+    ensures moments { (x y : AnyDateTime) → IsTrue (⟦<DateTime as PartialEq>⟧.eq x y) ↔ (x ≡ y) }
+    ensures decimals { (x y : AnyDecimal128) → IsTrue (⟦<Decimal128 as PartialEq>⟧.eq x y) ↔ (x ≡ y) }
+    ensures timestamps { (x y : AnyTimestamp) → IsTrue (⟦<Timestamp as PartialEq>⟧.eq x y) ↔ (x ≡ y) }
+    ensures uuids { (x y : AnyUuid) → IsTrue (⟦<Uuid as PartialEq>⟧.eq x y) ↔ (x ≡ y) }
+{}
+
+/// Binary values, regular expressions and pointers are equal where their parts have the same bytes.
+pub fn equal_parts()
+    ensures binaries { (x y : AnyBinary) → IsTrue (⟦<Binary as PartialEq>⟧.eq x y) ↔ ((x.subtype ≡ y.subtype) × (x.bytes.items ≡ y.bytes.items)) }
+    ensures expressions { (x y : AnyRegex) → IsTrue (⟦<Regex as PartialEq>⟧.eq x y)
+        ↔ ((string_bytes x.pattern ≡ string_bytes y.pattern) × (string_bytes x.options ≡ string_bytes y.options)) }
+    ensures pointers { (x y : AnyDbPointer) → IsTrue (⟦<DbPointer as PartialEq>⟧.eq x y)
+        ↔ ((string_bytes x.namespace ≡ string_bytes y.namespace) × (x.id ≡ y.id)) }
+{}
+
+/// The first and the last moment are the least and the greatest signed number of 64 bits.
+pub fn first_and_last_moment()
+    ensures first { millis_of DateTime.MIN ≡ neg_ℤ (pos (2 ^ 63)) }
+    ensures last { millis_of DateTime.MAX ≡ pos (2 ^ 63 - 1) }
+{}
+
+/// Each kind has a tag byte of its own (bsonspec.org 1.1).
+pub fn tag_bytes()
+    ensures { (x y : AnyKind) → tag_byte x ≡ tag_byte y → x ≡ y }
+{}
+
+/// A byte comes back from its subtype; a subtype comes back from its byte exactly where it is one that a byte stands for,
+/// which a `Reserved` or `UserDefined` with another's byte is not (bsonspec.org 1.1, "subtype").
+pub fn subtype_bytes()
+    ensures bytes { (byte : ℕ) → subtype_byte (subtype_of byte) ≡ byte }
+    ensures subtypes { (subtype : AnySubtype) → IsReadable subtype ↔ (subtype_of (subtype_byte subtype) ≡ subtype) }
+{}
+
+/// The options that `Regex::new` keeps are in order, and options in order stay as they are.
+pub fn sorted_options()
+    ensures in_order { (text : List ℕ) → IsUtf8 text → NeverDescends (chars (sorted_text text)) }
+    ensures kept { (text : List ℕ) → IsUtf8 text → NeverDescends (chars text) → sorted_text text ≡ text }
+{}
+
+/// The bytes of a UUID put into a form twice are the bytes again, so what is written in a representation is read from it.
+pub fn uuid_forms()
+    ensures { (representation : AnyRepresentation) (bytes : List ℕ) → length bytes ≡ 16 → uuid_form representation (uuid_form representation bytes) ≡ bytes }
+{}
+
+/// The bytes that a vector is written as are those of a vector, and of no other, so `Vector::from_binary` gives back what
+/// `Binary::from_vector` wrote.
+pub fn written_vectors()
+    ensures apart { (x y : VectorValue) → IsRangedVector x → IsRangedVector y → vector_bytes x ≡ vector_bytes y → x ≡ y }
+    ensures read { (vector : AnyVector) → is_vector (vector_bytes (vector_value vector)) ≡ true }
+{}
