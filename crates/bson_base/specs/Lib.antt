@@ -15,3 +15,4 @@ pub mod Builder
 pub mod UuidReading
 pub mod VectorBytes
 pub mod Vectors
+pub mod ScalarTexts

@@ -1,5 +1,7 @@
 //! Values from the standard and from the documents of other drivers.
 
+mod texts;
+
 use crate::binary::{PackedBitVector, Vector};
 use crate::uuid::UuidRepresentation;
 use crate::{

@@ -2,6 +2,8 @@
 
 ghost use Rattle.std.specs.Prelude.{◌≡◌};
 
+mod text;
+
 use crate::spec::BinarySubtype;
 use thiserror::Error;
 
