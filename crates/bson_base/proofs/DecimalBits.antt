@@ -1,9 +1,9 @@
 -- A decimal's 128 bits: what was packed is unpacked again, and bytes are those of their number.
-use Rattle.std.proofs.Common.{◌≡◌, ◌≢◌, ℕ, zero, suc, ◌+◌, ◌*◌, ◌/◌, ◌%◌, ◌^◌, ◌<◌, ◌≤◌, ◌==◌, nat_lt, List, [], ◌∷◌, length, Bool, true, false, if◌then◌else◌, refl, eq-eqb, ap, ◌∙◌, sym, arith}
+use Rattle.std.proofs.Common.{◌≡◌, ◌≢◌, ℕ, zero, suc, ◌/◌, ◌%◌, ◌^◌, ◌<◌, ◌==◌, ◌∷◌, Bool, true, false, if◌then◌else◌, refl, eq-eqb, ap, ◌∙◌, sym, arith}
 use Rattle.std.specs.Int.{byte_at, bytes_low_first}
 use Rattle.std.proofs.lemmas.Bool.{eqb-true}
 use Rattle.std.proofs.Math.Nat.{pow-suc, div-div-eq-div-mul}
-use Rattle.bson_base.specs.Decimal.{bytes_of, Decimal, not_a_number, infinity, finite, IsUnpacked, limited, is_negative, pack, sign_bit, unpack}
+use Rattle.bson_base.specs.Decimal.{bytes_of, Decimal, not_a_number, infinity, finite, IsUnpacked, limited, is_negative, pack, unpack}
 
 limited_low : (c : ℕ) → limited c < 10 ^ 34
 limited_low c = grind arith

@@ -1,15 +1,14 @@
 -- Every printed finite decimal reads back to its sign, coefficient and exponent.
-use Rattle.std.proofs.Common.{◌≡◌, ℕ, zero, suc, ◌+◌, ◌-◌, ◌*◌, ◌/◌, ◌%◌, ◌^◌, ◌<◌, ◌≤◌, ◌==◌, ◌&&◌, ◌⊎◌, inl, inr, nat_lt, nat_le, not, Bool, true, false, cond, List, [], ◌∷◌, ◌++◌, length, take, drop, get_or, replicate, codes, Option, Some, None, Result, Ok, Err, refl, sym, ap, ◌∙◌, subst, arith, rules, append_assoc, append-nil, length-append, length-drop, length-take}
+use Rattle.std.proofs.Common.{◌≡◌, ℕ, zero, suc, ◌+◌, ◌-◌, ◌*◌, ◌/◌, ◌%◌, ◌^◌, ◌<◌, ◌≤◌, ◌==◌, ◌&&◌, ◌⊎◌, inl, inr, nat_lt, nat_le, Bool, true, false, List, [], ◌∷◌, ◌++◌, length, take, drop, get_or, replicate, Option, Some, None, Ok, refl, sym, ap, ◌∙◌, subst, arith, append_assoc, append-nil, length-append, length-drop, length-take}
 use Rattle.std.proofs.lemmas.Bool.{cases_lt}
 use Rattle.std.proofs.lemmas.List.{take-append-drop, length-replicate}
 use Rattle.std.specs.Char.{is_ascii_digit, digit_value, to_ascii_lowercase}
 use Rattle.std.specs.Fmt.{decimal}
 use Rattle.std.proofs.lemmas.Fmt.{decimal_by_steps_wide, length-decimal-le_wide}
-use Rattle.std.proofs.lemmas.Grind.{common_steps}
 use Rattle.std.specs.Prelude.{IsTrue}
 use Rattle.bson_base.specs.Answer.{result_map}
 use Rattle.bson_base.proofs.DecimalBits.{unpack-pack}
-use Rattle.bson_base.specs.Decimal.{Decimal, not_a_number, infinity, finite, is_finite, IsUnpacked, pack, unpack, cut, is_e, is_dot, all_digits, value_after, value, strip, raise, lower, upward, downward, read_exponent, checked_digits, read_coefficient, ◌>>=◌, shorten, in_range, with_places, read_cut, read_number, read_unsigned, read, print, with_dot, exponent_text, mantissa, is_plain, digits_text}
+use Rattle.bson_base.specs.Decimal.{Decimal, not_a_number, infinity, finite, is_finite, IsUnpacked, pack, unpack, cut, is_e, is_dot, all_digits, value_after, value, strip, upward, downward, read_exponent, checked_digits, read_coefficient, ◌>>=◌, shorten, in_range, with_places, read_cut, read_number, read_unsigned, read, print, with_dot, exponent_text, is_plain, digits_text}
 
 pub both : (a b : Bool) → a && b ≡ true → (a ≡ true) × (b ≡ true)
 both true b h = (refl, h)

@@ -1,5 +1,5 @@
 -- The texts of UUIDs, bytes, timestamps and regular expressions.
-use Rattle.std.specs.Prelude.{◌≡◌, ◌++◌, ◌∷◌, ◌⊎◌, ℕ, List, codes, Option, Some, None, Result, Ok, Err, is_err, IsTrue, false, string_bytes}
+use Rattle.std.specs.Prelude.{◌++◌, ◌∷◌, ℕ, List, codes, Option, Some, None, Result, Ok, Err, is_err, IsTrue, false, string_bytes}
 use Rattle.std.specs.Fmt.{decimal, digits}
 use Rattle.base64.specs.GeneralPurpose.{encode_of, decode_of}
 use Rattle.base64.specs.Engines.{standard}

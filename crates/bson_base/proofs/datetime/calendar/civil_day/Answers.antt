@@ -1,6 +1,5 @@
 use Rattle.std.proofs.Common.{◌≡◌, ◌∙◌, true, false, pos, ◌≤ℤ◌, refl, subst, arith, rules}
 use Rattle.std.specs.Int.{w64}
-use Rattle.std.specs.Prelude.{IsSome}
 use Rattle.std.proofs.lemmas.Int.{by_lt_z, to_z-of_z}
 use Rattle.jiff_core.specs.Calendar.{days_from_civil, IsCivilDate, IsEpochDay}
 use Rattle.jiff_core.proofs.SignedLemmas.{signed_arith}

@@ -1,4 +1,4 @@
-use Rattle.std.proofs.Common.{◌<◌, ◌≤◌, ◌^◌, ◌+◌, ◌∙◌, get_or, length, arith}
+use Rattle.std.proofs.Common.{◌<◌, ◌≤◌, ◌^◌, ◌+◌, ◌∙◌, get_or, arith}
 use Rattle.bson_base.proofs.DecimalLemmas.{below_power, one_more, power_step}
 use Rattle.bson_base.proofs.decimal128.digits.value_after.Goals as goal
 

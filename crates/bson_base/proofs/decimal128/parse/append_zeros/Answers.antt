@@ -1,5 +1,5 @@
-use Rattle.std.proofs.Common.{◌≡◌, ◌+◌, ◌≤◌, ◌∙◌, nat_le, true, length, replicate, Ok, ap, sym, arith}
-use Rattle.bson_base.specs.Decimal.{finite, value, value_after}
+use Rattle.std.proofs.Common.{◌≡◌, ◌+◌, ◌≤◌, ◌∙◌, nat_le, true, length, replicate, Ok, ap, arith}
+use Rattle.bson_base.specs.Decimal.{finite, value_after}
 use Rattle.bson_base.specs.DecimalParts.{digits_of}
 use Rattle.bson_base.proofs.DecimalLemmas.{value_after-zeros}
 use Rattle.bson_base.proofs.decimal128.parse.append_zeros.Goals as goal

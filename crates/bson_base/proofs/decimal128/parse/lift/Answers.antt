@@ -1,4 +1,4 @@
-use Rattle.std.proofs.Common.{◌≤◌, ◌<◌, ◌∙◌, length, take, ap, arith, length-take}
+use Rattle.std.proofs.Common.{◌∙◌, length, ap, arith, length-take}
 use Rattle.bson_base.specs.Decimal.{all_digits}
 use Rattle.bson_base.specs.DecimalParts.{digits_of}
 use Rattle.bson_base.proofs.PrintedReads.{all_digits-take}

@@ -1,4 +1,4 @@
-use Rattle.std.proofs.Common.{◌<◌, ◌≤◌, ◌^◌, ◌+◌, ◌-◌, ◌∙◌, arith}
+use Rattle.std.proofs.Common.{◌<◌, ◌^◌, ◌+◌, ◌-◌, ◌∙◌, arith}
 use Rattle.bson_base.proofs.DecimalLemmas.{below_power, below_last_power, power_step, zeros_step}
 use Rattle.bson_base.proofs.decimal128.parse.times_ten.Goals as goal
 

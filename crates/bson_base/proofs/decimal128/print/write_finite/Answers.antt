@@ -1,5 +1,4 @@
-use Rattle.std.proofs.Common.{◌≡◌, ◌<◌, ◌^◌, length, refl, ap, sym, subst, arith, rules, ℕ}
-use Rattle.std.specs.Fmt.{decimal}
+use Rattle.std.proofs.Common.{◌<◌, ◌^◌, refl, arith}
 use Rattle.std.proofs.lemmas.Grind.{put_two}
 use Rattle.bson_base.proofs.PrintedReads.{digits-decimal}
 use Rattle.bson_base.proofs.decimal128.print.write_finite.Goals as goal

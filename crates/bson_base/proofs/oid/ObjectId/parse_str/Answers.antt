@@ -1,5 +1,4 @@
-use Rattle.std.proofs.Common.{◌≡◌, ◌%◌, ◌==◌, ◌∙◌, Bool, true, false, Ok, length, refl, sym, ap, arith}
-use Rattle.bson_base.specs.ObjectIdText.{first_other}
+use Rattle.std.proofs.Common.{◌≡◌, ◌%◌, ◌==◌, ◌∙◌, true, false, Ok, length, refl, sym, ap, arith}
 use Rattle.bson_base.proofs.ObjectIdLemmas.{reads_digits, refuses_digits}
 use Rattle.bson_base.proofs.oid.ObjectId.parse_str.Goals as goal
 

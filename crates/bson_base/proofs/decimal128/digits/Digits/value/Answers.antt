@@ -1,6 +1,5 @@
-use Rattle.std.proofs.Common.{◌≡◌, ◌∙◌, ◌+◌, ◌++◌, ◌<◌, ◌≤◌, ◌^◌, length, ap, sym, arith}
+use Rattle.std.proofs.Common.{◌≡◌, ◌∙◌, ◌+◌, ◌++◌, length, ap, sym, arith}
 use Rattle.std.proofs.lemmas.List.{length-append}
-use Rattle.std.proofs.Math.Nat.{pow-le-pow_right}
 use Rattle.bson_base.specs.Decimal.{all_digits, value_after}
 use Rattle.bson_base.proofs.DecimalLemmas.{all_digits-both, below_last_power}
 use Rattle.bson_base.proofs.PrintedReads.{both, value_after-append}
