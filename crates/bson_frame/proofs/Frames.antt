@@ -134,8 +134,9 @@ frame_is_one bytes f g r s p q =
     let values = rest_is_one (f.key ++ 0 ∷ (f.payload ++ r)) f.key g.key (f.payload ++ r) (g.payload ++ s) p.key_name q.key_name refl tails in
     let sized : HasSize f.tag (f.payload ++ r) (length g.payload) = subst (λ (k : ElementType). HasSize k (f.payload ++ r) (length g.payload)) (sym t) (subst (λ (x : List ℕ). HasSize g.tag x (length g.payload)) (sym values) q.size) in
     let lengths = size_is_one f.tag (f.payload ++ r) (length f.payload) (length g.payload) p.size sized in
-    let ends = front_is_one f.payload g.payload r s lengths values in
-    (ap (λ (x : ElementType). record { tag = x; key = f.key; payload = f.payload }) t
-     ∙ ap (λ (x : List ℕ). record { tag = g.tag; key = x; payload = f.payload }) keys
-     ∙ ap (λ (x : List ℕ). record { tag = g.tag; key = g.key; payload = x }) ends.0,
-     ends.1)
+    let ends = front_is_one f.payload g.payload r s lengths values in (
+      ap (λ (x : ElementType). record { tag = x; key = f.key; payload = f.payload }) t
+          ∙ ap (λ (x : List ℕ). record { tag = g.tag; key = x; payload = f.payload }) keys
+          ∙ ap (λ (x : List ℕ). record { tag = g.tag; key = g.key; payload = x }) ends.0,
+      ends.1,
+    )

@@ -44,7 +44,8 @@ options_text bytes name rest n e h (inr f) =
 pub no_options : (bytes name rest : List ℕ) (kind : ErrorKind) → IsName name → bytes ≡ name ++ 0 ∷ rest → NameFault rest kind → IsNeverWhole IsRegexSize bytes × RegexFault bytes kind
 no_options bytes name rest MalformedValue n e h =
     (λ size r le. no_run rest r.options r.rest h (rest_is_one bytes name r.pattern rest (r.options ++ 0 ∷ r.rest) n r.pattern_name e r.parts), options_text bytes name rest n e h)
-no_options bytes name rest Utf8EncodingError n e f =
-    (λ size r le. no_name rest r.options r.rest f r.options_name (rest_is_one bytes name r.pattern rest (r.options ++ 0 ∷ r.rest) n r.pattern_name e r.parts),
-     inr (record { name = name; rest = rest; parts = e; is_name = n; then = f }))
+no_options bytes name rest Utf8EncodingError n e f = (
+  λ size r le. no_name rest r.options r.rest f r.options_name (rest_is_one bytes name r.pattern rest (r.options ++ 0 ∷ r.rest) n r.pattern_name e r.parts),
+  inr (record { name = name; rest = rest; parts = e; is_name = n; then = f }),
+)
 no_options bytes name rest OutOfMemory n e h = absurd h

@@ -1,6 +1,6 @@
 //! Laws of frames.
 
-ghost use Rattle.std.specs.Prelude.{◌≡◌, ◌++◌, ◌∷◌, List, ℕ};
+ghost use Rattle.std.specs.Prelude.{◌≡◌, ◌⊎◌, ◌++◌, ◌∷◌, List, ℕ};
 ghost use Rattle.bson_frame.specs.Frame.{IsFirstFrame, IsStructuralFault, Element, IsName};
 ghost use Rattle.bson_frame.specs.Payload.{IsPayload};
 ghost use Rattle.bson_frame.specs.declared.error.ErrorKind.{ErrorKind as Kind};
@@ -9,6 +9,12 @@ ghost use Rattle.bson_frame.specs.declared.error.ErrorKind.{ErrorKind as Kind};
 pub fn one_first_frame()
     ensures { (bytes : List ℕ) (e f : Element) (r s : List ℕ)
         → IsFirstFrame bytes e r → IsFirstFrame bytes f s → (e ≡ f) × (r ≡ s) }
+{}
+
+/// Bytes have a first frame or a structural fault.
+pub fn frame_or_fault()
+    ensures { (bytes : List ℕ) → ((e : Element) × (rest : List ℕ) × IsFirstFrame bytes e rest)
+        ⊎ ((kind : Kind) × IsStructuralFault bytes kind) }
 {}
 
 /// Where bytes have no first frame, that has one kind.

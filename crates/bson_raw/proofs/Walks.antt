@@ -1,5 +1,5 @@
 -- Walks: bytes have one, it is short, and it ends in its fault.
-use Rattle.std.proofs.Common.{◌≡◌, ◌≢◌, ℕ, zero, suc, ◌+◌, ◌-◌, ◌*◌, ◌/◌, ◌≤◌, List, [], ◌∷◌, ◌++◌, length, drop, slice_get, Option, Some, None, Err, refl, sym, ap, ◌∙◌, subst, arith}
+use Rattle.std.proofs.Common.{◌≡◌, ◌≢◌, ℕ, zero, suc, ◌+◌, ◌-◌, ◌*◌, ◌/◌, ◌≤◌, List, [], ◌∷◌, ◌++◌, length, drop, slice_get, Option, Some, None, Err, ◌⊎◌, inl, inr, refl, sym, ap, ◌∙◌, subst, arith}
 use Rattle.std.proofs.lemmas.List.{length-append, length-drop}
 use Rattle.bson_base.specs.Tags.{tag_byte}
 use Rattle.bson_base.specs.declared.spec.ElementType.{ElementType}
@@ -18,6 +18,9 @@ FaultsAreOne = (bytes : List ℕ) (j k : ErrorKind) → IsStructuralFault bytes 
 
 abbrev pub PayloadsAlone : Type 0
 PayloadsAlone = (bytes : List ℕ) (e : Element) (rest : List ℕ) → IsFirstFrame bytes e rest → IsPayload e.tag e.payload
+
+abbrev pub FrameOrFault : Type 0
+FrameOrFault = (bytes : List ℕ) → ((e : Element) × (rest : List ℕ) × IsFirstFrame bytes e rest) ⊎ ((kind : ErrorKind) × IsStructuralFault bytes kind)
 
 -- a frame has two bytes at least
 pub frame_len : (bytes : List ℕ) (e : Element) (rest : List ℕ) → IsFirstFrame bytes e rest → 2 + length rest ≤ length bytes
@@ -94,3 +97,33 @@ pub no_items : (bytes : List ℕ) (elements : List Element) (fault : Option Erro
 no_items bytes [] None w h = w
 no_items bytes [] (Some kind) w h = absurd cc
 no_items bytes (e ∷ elements) fault w h = absurd cc
+
+-- ---- there is a walk
+
+abbrev pub HasWalk : List ℕ → Type 0
+HasWalk bytes = (elements : List Element) × (fault : Option ErrorKind) × IsWalk bytes elements fault
+
+end_or_more : (bytes : List ℕ) → (bytes ≡ 0 ∷ []) ⊎ (bytes ≢ 0 ∷ [])
+end_or_more [] = inr (λ e. absurd cc)
+end_or_more (zero ∷ []) = inl refl
+end_or_more (suc b ∷ []) = inr (λ e. absurd cc)
+end_or_more (b ∷ c ∷ bytes) = inr (λ e. absurd cc)
+
+go_on : (bytes : List ℕ) → bytes ≢ 0 ∷ [] → ((e : Element) × (rest : List ℕ) × IsFirstFrame bytes e rest) ⊎ ((kind : ErrorKind) × IsStructuralFault bytes kind)
+    → ((e : Element) (rest : List ℕ) → IsFirstFrame bytes e rest → HasWalk rest) → HasWalk bytes
+go_on bytes more (inl f) others =
+    let w = others f.0 f.1 f.2 in
+    (f.0 ∷ w.0, w.1, (f.1, f.2, w.2))
+go_on bytes more (inr f) others = ([], Some f.0, (more, f.1))
+
+walk_or_go_on : (bytes : List ℕ) → (bytes ≡ 0 ∷ []) ⊎ (bytes ≢ 0 ∷ []) → ((e : Element) × (rest : List ℕ) × IsFirstFrame bytes e rest) ⊎ ((kind : ErrorKind) × IsStructuralFault bytes kind)
+    → ((e : Element) (rest : List ℕ) → IsFirstFrame bytes e rest → HasWalk rest) → HasWalk bytes
+walk_or_go_on bytes (inl end) f others = ([], None, end)
+walk_or_go_on bytes (inr more) f others = go_on bytes more f others
+
+walk_within : FrameOrFault → (n : ℕ) (bytes : List ℕ) → length bytes ≤ n → HasWalk bytes
+walk_within decide zero bytes h = walk_or_go_on bytes (end_or_more bytes) (decide bytes) (λ e rest first. absurd (omega (arith, frame_len bytes e rest first)))
+walk_within decide (suc n) bytes h = walk_or_go_on bytes (end_or_more bytes) (decide bytes) (λ e rest first. walk_within decide n rest (omega (arith, frame_len bytes e rest first)))
+
+pub a_walk : FrameOrFault → (bytes : List ℕ) → HasWalk bytes
+a_walk decide bytes = walk_within decide (length bytes) bytes (omega arith)

@@ -15,6 +15,13 @@ ghost use Rattle.bson_raw.specs.declared.values.Iter.{Iter as Pairs};
 ghost use Rattle.bson_raw.specs.declared.walk.RawIter.{RawIter as Elements};
 ghost use Rattle.std.specs.Borrow.{Bor};
 
+/// Bytes have a walk.
+pub fn a_walk()
+    ensures { (bytes : List ℕ) → (elements : List Element) × (fault : Option Kind) × IsWalk bytes elements fault }
+{
+    bson_frame::laws::frame_or_fault();
+}
+
 /// Bytes have at most one walk.
 pub fn one_walk()
     ensures { (bytes : List ℕ) (es fs : List Element) (a b : Option Kind) → IsWalk bytes es a → IsWalk bytes fs b

@@ -28,3 +28,6 @@ pub use document::RawDocument;
 pub use element::RawElement;
 pub use values::Iter;
 pub use walk::RawIter;
+
+#[cfg(test)]
+mod tests;
