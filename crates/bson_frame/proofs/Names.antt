@@ -1,5 +1,5 @@
 -- Names at the front of bytes, and why there are none.
-use Rattle.std.proofs.Common.{◌≡◌, ℕ, ◌+◌, ◌≤◌, List, [], ◌∷◌, ◌++◌, length, refl, sym, ap, ◌∙◌, subst, inl, inr, arith}
+use Rattle.std.proofs.Common.{◌≡◌, ℕ, List, ◌∷◌, ◌++◌, sym, ◌∙◌, subst, inl, inr}
 use Rattle.std.specs.Prelude.{IsUtf8}
 use Rattle.bson_frame.specs.declared.error.ErrorKind.{ErrorKind}
 use Rattle.bson_frame.specs.declared.error.ErrorKind.TheVariants.{MalformedValue, Utf8EncodingError, OutOfMemory}

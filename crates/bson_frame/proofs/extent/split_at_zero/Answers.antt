@@ -1,4 +1,4 @@
-use Rattle.std.proofs.Common.{◌≡◌, ◌≤◌, length, take, subst, arith}
+use Rattle.std.proofs.Common.{length, subst, arith}
 use Rattle.std.proofs.lemmas.List.{take_all, take_rest}
 use Rattle.bson_base.specs.Kinds.{HasNo00}
 use Rattle.bson_frame.proofs.Runs.{none_passed, splits_at}
