@@ -1,0 +1,5 @@
+pub mod Keyed
+pub mod View
+pub mod Kinds
+pub mod Rows
+pub mod Lending

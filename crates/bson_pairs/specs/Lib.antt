@@ -1,0 +1,5 @@
+pub mod formers
+pub mod Entries
+pub mod Keyed
+pub mod Same
+pub mod Lending
