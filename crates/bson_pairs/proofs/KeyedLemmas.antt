@@ -6,6 +6,7 @@ use Rattle.std.proofs.lemmas.Option.{slice_get_past, slice_get_read, slice_get-m
 use Rattle.std.specs.Map.{keys_of, values_of}
 use Rattle.std.proofs.lemmas.Iterator.Adapters.{position_from-zero}
 use Rattle.std.specs.declared.alloc.Global.{Global}
+pub use Rattle.bson_pairs.specs.Over.{over, get-over}
 use Rattle.bson_pairs.specs.Keyed.{Key, key_bytes, keyed, get, put, without, set_at}
 
 pub length-keyed : {V : Type 0} (ks : List (String Global)) (vs : List V) → length vs ≡ length ks → length (keyed ks vs) ≡ length vs
@@ -136,39 +137,28 @@ module _ {V : Type 0} where
 
 -- a function of the values, pair by pair
 module _ {V W : Type 0} (h : V → W) where
-  abbrev pub over : List (Key × V) → List (Key × W)
-  over = map (λ p. (p.0, h p.1))
-
-  cond-option : (b : Bool) (v : V) (r : Option V) → option_map h (cond b (Some v) r) ≡ cond b (Some (h v)) (option_map h r)
-  cond-option true v r = refl
-  cond-option false v r = refl
-
-  cond-over : (b : Bool) (ps qs : List (Key × V)) → over (cond b ps qs) ≡ cond b (over ps) (over qs)
+  cond-over : (b : Bool) (ps qs : List (Key × V)) → over h (cond b ps qs) ≡ cond b (over h ps) (over h qs)
   cond-over true ps qs = refl
   cond-over false ps qs = refl
 
-  pub get-over : (k : Key) (ps : List (Key × V)) → get k (over ps) ≡ option_map h (get k ps)
-  get-over k [] = refl
-  get-over k (p ∷ ps) = ap (cond (bytes_eq k p.0) (Some (h p.1))) (get-over k ps) ∙ sym (cond-option (bytes_eq k p.0) p.1 (get k ps))
-
-  pub put-over : (k : Key) (v : V) (ps : List (Key × V)) → put k (h v) (over ps) ≡ over (put k v ps)
+  pub put-over : (k : Key) (v : V) (ps : List (Key × V)) → put k (h v) (over h ps) ≡ over h (put k v ps)
   put-over k v [] = refl
-  put-over k v (p ∷ ps) = ap (λ l. cond (bytes_eq k p.0) ((p.0, h v) ∷ over ps) ((p.0, h p.1) ∷ l)) (put-over k v ps) ∙ sym (cond-over (bytes_eq k p.0) ((p.0, v) ∷ ps) (p ∷ put k v ps))
+  put-over k v (p ∷ ps) = ap (λ l. cond (bytes_eq k p.0) ((p.0, h v) ∷ over h ps) ((p.0, h p.1) ∷ l)) (put-over k v ps) ∙ sym (cond-over (bytes_eq k p.0) ((p.0, v) ∷ ps) (p ∷ put k v ps))
 
-  pub without-over : (k : Key) (ps : List (Key × V)) → without k (over ps) ≡ over (without k ps)
+  pub without-over : (k : Key) (ps : List (Key × V)) → without k (over h ps) ≡ over h (without k ps)
   without-over k [] = refl
-  without-over k (p ∷ ps) = ap (λ l. cond (bytes_eq k p.0) (over ps) ((p.0, h p.1) ∷ l)) (without-over k ps) ∙ sym (cond-over (bytes_eq k p.0) ps (p ∷ without k ps))
+  without-over k (p ∷ ps) = ap (λ l. cond (bytes_eq k p.0) (over h ps) ((p.0, h p.1) ∷ l)) (without-over k ps) ∙ sym (cond-over (bytes_eq k p.0) ps (p ∷ without k ps))
 
-  pub set_at-over : (ps : List (Key × V)) (i : ℕ) (v : V) → set_at (over ps) i (h v) ≡ over (set_at ps i v)
+  pub set_at-over : (ps : List (Key × V)) (i : ℕ) (v : V) → set_at (over h ps) i (h v) ≡ over h (set_at ps i v)
   set_at-over [] i v = refl
   set_at-over (p ∷ ps) zero v = refl
   set_at-over (p ∷ ps) (suc i) v = ap (λ l. (p.0, h p.1) ∷ l) (set_at-over ps i v)
 
-  pub values_of-over : (ps : List (Key × V)) → values_of (over ps) ≡ map h (values_of ps)
+  pub values_of-over : (ps : List (Key × V)) → values_of (over h ps) ≡ map h (values_of ps)
   values_of-over [] = refl
   values_of-over (p ∷ ps) = ap (λ l. h p.1 ∷ l) (values_of-over ps)
 
-  pub slice_get-over : (ps : List (Key × V)) (i : ℕ) → slice_get (values_of (over ps)) i ≡ option_map h (slice_get (values_of ps) i)
+  pub slice_get-over : (ps : List (Key × V)) (i : ℕ) → slice_get (values_of (over h ps)) i ≡ option_map h (slice_get (values_of ps) i)
   slice_get-over ps i = ap (λ l. slice_get l i) (values_of-over ps) ∙ slice_get-map h (values_of ps) i
 
 pub on_some_weaker : {T : Type 0} (r : Option T) {P Q : Type 0} → (P → Q) → OnSome r P → OnSome r Q

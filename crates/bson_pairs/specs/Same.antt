@@ -26,7 +26,7 @@ all_pass t f [] = refl
 all_pass t f (k ∷ ks) = ap (λ b. b && list_all t ks) (f k) ∙ all_pass t f ks
 
 -- a key that is there passes
-there_passes : {V : Type 0} (t : Key → Bool) (k : Key) (ps : List (Key × V)) → list_all t (keys_of ps) ≡ true → (get k ps ≡ None) ⊎ (t k ≡ true)
+pub there_passes : {V : Type 0} (t : Key → Bool) (k : Key) (ps : List (Key × V)) → list_all t (keys_of ps) ≡ true → (get k ps ≡ None) ⊎ (t k ≡ true)
 there_passes t k [] h = inl refl
 there_passes {V} t k (p ∷ ps) h = next (bytes_eq k p.0) refl (there_passes t k ps (second_so (t p.0) _ h))
   where

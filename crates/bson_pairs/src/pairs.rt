@@ -4,13 +4,12 @@ ghost use Rattle.std.specs.Option.{option_copied, option_copied_mut, option_map}
 ghost use Rattle.std.specs.Borrow.{sem};
 ghost use Rattle.std.specs.Map.{keys_of, values_of};
 ghost use Rattle.std.specs.List.{list_all, zip};
-ghost use Rattle.bson_pairs.specs.Same.{same_at, pairs_eq, pairs_eq_partial, pairs_eq_equiv};
 ghost use Rattle.bson_pairs.specs.Keyed.{key_bytes, get, has_key, put, without, set_at, HasDistinctKeys};
 ghost use Rattle.bson_pairs.specs.Lending.{LendsAt, LendsUnder, LendsValueOf, LendsOrInserts};
 
+use crate::iter::{IntoIter, Iter};
 use indexmap::IndexSet;
 use std::alloc::{AllocError, Global};
-use std::hash::{Hash, Hasher};
 use std::marker::Model;
 use std::mem;
 
@@ -56,7 +55,8 @@ impl<V> Pairs<V> {
 
     /// The keys in their order.
     pub fn keys(&self) -> &[String]
-        ensures { key_bytes result.now ≡ keys_of self.now }
+        ensures keys { key_bytes result.now ≡ keys_of self.now }
+        ensures distinct { HasDistinctKeys self.now }
     {
         self.keys.as_slice()
     }
@@ -66,6 +66,21 @@ impl<V> Pairs<V> {
         ensures { result.now ≡ values_of self.now }
     {
         self.values.as_slice()
+    }
+
+    /// The pairs, in their order.
+    pub fn iter(&self) -> Iter<'_, V>
+        ensures { result ≡ self.now }
+    {
+        Iter::new(self.keys.as_slice(), self.values.as_slice())
+    }
+
+    /// The pairs by value, in their order.
+    pub fn into_iter(self) -> IntoIter<V>
+        ensures { result ≡ self }
+    {
+        let Pairs { keys, values } = self;
+        IntoIter::new(keys.into_iter(), values)
     }
 
     /// A copy of the keys, with these values.
@@ -168,48 +183,4 @@ impl<V: Drop> Pairs<V> {
         self.keys.clear();
         self.values.clear();
     }
-}
-
-impl<V: PartialEq> Pairs<V> {
-    fn is_same_at(&self, other: &Pairs<V>, key: &str) -> bool
-        ensures { result ≡ same_at V.eq self.now other.now key.now }
-    {
-        match self.get(key) {
-            Some(a) => match other.get(key) {
-                Some(b) => a.eq(b),
-                None => false,
-            },
-            None => other.get(key).is_none(),
-        }
-    }
-
-    // Under each of these keys.
-    fn is_same_at_all(&self, other: &Pairs<V>, keys: &[String]) -> bool
-        ensures { result ≡ list_all (λ k. same_at V.eq self.now other.now (string_bytes k)) keys.now }
-    {
-        keys.iter().all(|key| self.is_same_at(other, key.as_str()))
-    }
-}
-
-/// The order of the pairs does not count.
-impl<V: PartialEq> PartialEq for Pairs<V> {
-    ghost eq = { pairs_eq V.eq };
-
-    ghost laws = { pairs_eq_partial V.eq V.laws };
-
-    fn eq(&self, other: &Pairs<V>) -> bool {
-        self.is_same_at_all(other, self.keys()) && self.is_same_at_all(other, other.keys())
-    }
-}
-
-impl<V: Eq> Eq for Pairs<V> {
-    ghost laws = { pairs_eq_equiv V.eq V.Eq.laws };
-}
-
-impl<V: Hash> Hash for Pairs<V> {
-    ghost hash_input = { λ _. [] };
-
-    ghost respects_eq = { λ _ _ _. refl };
-
-    fn hash<H: Hasher>(&self, _state: &mut H) {}
 }

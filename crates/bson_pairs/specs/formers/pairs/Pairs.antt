@@ -27,7 +27,9 @@ use Rattle.std.specs.Map.{keys_of, values_of}
 use Rattle.bson_pairs.specs.Entries.{entry, on_value, entries_puts, values_listed}
 use Rattle.indexmap.specs.IndexSet.{IndexSet}
 use Rattle.bson_pairs.specs.Keyed.{Key, key_code, key_bytes, get}
+use Rattle.bson_pairs.specs.Over.{get-over, keys_of-over}
 use Rattle.bson_pairs.specs.Same.{same_at, pairs_eq}
+use Rattle.bson_pairs.specs.Ascending.{pairs_writes, pairs_writes-over}
 use Rattle.bson_pairs.specs.declared.pairs.Pairs.TheInside.{Inside}
 use Rattle.bson_pairs.specs.declared.pairs.Pairs.TheView.{view, invariant}
 use Rattle.bson_pairs.specs.contracts.pairs.Pairs as C
@@ -82,34 +84,22 @@ module _ (R R' : RattleType) (h : R.Denot → R'.Denot) where
   the_codes_placed e es = sym (code_map (coded× key_code R.coded).code (coded× key_code R'.coded).code (on_value h) (λ x. λ i. gcons (key_code.code x.0) (sym (e x.1) i)) es)
 
 module _ {X Y : Type 0} (h : X → Y) where
-  chosen : (b : Bool) (v : X) (r : Option X) → cond b (Some (h v)) (option_map h r) ≡ option_map h (cond b (Some v) r)
-  chosen true v r = refl
-  chosen false v r = refl
-
   agreed : (E : Y → Y → Bool) (p q : Option X) → option_eq E (option_map h p) (option_map h q) ≡ option_eq (λ a b. E (h a) (h b)) p q
   agreed E None None = refl
   agreed E None (Some y) = refl
   agreed E (Some x) None = refl
   agreed E (Some x) (Some y) = refl
 
-  get_on_value : (k : Key) (ps : List (Key × X)) → get k (map (on_value h) ps) ≡ option_map h (get k ps)
-  get_on_value k [] = refl
-  get_on_value k (p ∷ ps) = ap (cond (bytes_eq k p.0) (Some (h p.1))) (get_on_value k ps) ∙ chosen (bytes_eq k p.0) p.1 (get k ps)
-
-  keys_on_value : (ps : List (Key × X)) → keys_of (map (on_value h) ps) ≡ keys_of ps
-  keys_on_value [] = refl
-  keys_on_value (p ∷ ps) = ap (λ l. p.0 ∷ l) (keys_on_value ps)
-
   pub pairs_eq-map : (E : Y → Y → Bool) (ps qs : List (Key × X)) → pairs_eq E (map (on_value h) ps) (map (on_value h) qs) ≡ pairs_eq (λ a b. E (h a) (h b)) ps qs
   pairs_eq-map E ps qs =
       let here : (k : Key) → same_at E (map (on_value h) ps) (map (on_value h) qs) k ≡ same_at (λ a b. E (h a) (h b)) ps qs k
-      = λ k. (λ i. option_eq E (get_on_value k ps i) (get_on_value k qs i)) ∙ agreed E (get k ps) (get k qs) in
-      λ i. list_all (λ k. here k i) (keys_on_value ps i) && list_all (λ k. here k i) (keys_on_value qs i)
+      = λ k. (λ i. option_eq E (get-over h k ps i) (get-over h k qs i)) ∙ agreed E (get k ps) (get k qs) in
+      λ i. list_all (λ k. here k i) (keys_of-over h ps i) && list_all (λ k. here k i) (keys_of-over h qs i)
 
 pub the_eq_natural : (X Y : Type 0) (h : X → Y) (V : eq.Ghosts Y) (ps qs : List (Key × X)) → pairs_eq V.eq ((the_former this).map X Y h ps) ((the_former this).map X Y h qs) ≡ pairs_eq (λ a b. V.eq (h a) (h b)) ps qs
 the_eq_natural X Y h V ps qs = pairs_eq-map h V.eq ps qs
 
-pub the_hash_input_natural : (X Y : Type 0) (h : X → Y) (V : hash.Ghosts Y) (V' : eq.Ghosts Y) (ps : List (Key × X)) → ◌≡◌ {A = List (List ℕ)} [] []
-the_hash_input_natural X Y h V V' ps = refl
+pub the_hash_input_natural : (X Y : Type 0) (h : X → Y) (V : hash.Ghosts Y) (V' : eq.Ghosts Y) (ps : List (Key × X)) → pairs_writes V.hash_input ((the_former this).map X Y h ps) ≡ pairs_writes (λ a. V.hash_input (h a)) ps
+the_hash_input_natural X Y h V V' ps = pairs_writes-over h V.hash_input ps
 
-pub ruleset naturals = (pairs_eq-map, refl)
+pub ruleset naturals = (pairs_eq-map, pairs_writes-over)
