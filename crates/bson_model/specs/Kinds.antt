@@ -61,6 +61,11 @@ abbrev pub scalar_generic : Scalar → Option (List ℕ)
 scalar_generic (binary Generic bs) = Some bs
 scalar_generic _ = None
 
+-- a binary of any subtype, as it stands
+abbrev pub scalar_binary : Scalar → Option Value
+scalar_binary (binary s bs) = Some (scalar (binary s bs))
+scalar_binary _ = None
+
 abbrev pub scalar_is_null : Scalar → Bool
 scalar_is_null null = true
 scalar_is_null _ = false
@@ -106,6 +111,9 @@ as_symbol = as_scalar scalar_symbol
 abbrev pub as_db_pointer : Value → Option (List ℕ × List ℕ)
 as_db_pointer = as_scalar scalar_db_pointer
 
+abbrev pub as_binary : Value → Option Value
+as_binary = as_scalar scalar_binary
+
 abbrev pub as_binary_generic : Value → Option (List ℕ)
 as_binary_generic = as_scalar scalar_generic
 
@@ -120,6 +128,11 @@ as_document _ = None
 abbrev pub is_null : Value → Bool
 is_null (scalar s) = scalar_is_null s
 is_null _ = false
+
+-- whether Null was found
+abbrev pub has_null : Option Value → Bool
+has_null None = false
+has_null (Some v) = is_null v
 
 abbrev pub or_unexpected : {A : Type 0} → Option A → Result A ValueAccessError
 or_unexpected None = Err UnexpectedType

@@ -1,9 +1,13 @@
 -- What a document ends as, once a `&mut` into it has ended.
-use Rattle.std.specs.Prelude.{◌≡◌, ℕ, ℤ, Option, Result}
+use Rattle.std.specs.Prelude.{◌≡◌, ℕ, Option, Result}
 use Rattle.std.specs.Option.{OnSome}
-use Rattle.std.specs.Borrow.{i32, Fml, MutBor, LendsIf, LendsSo, LendsSoOk}
+use Rattle.std.specs.Borrow.{Fml, RattleType, MutBor, LendsSo, LendsSoOk}
+use Rattle.std.specs.declared.alloc.Global.{Global}
+use Rattle.std.specs.declared.vec.Vec.{Vec}
 use Rattle.bson_pairs.specs.Keyed.{Key, put, set_at}
-use Rattle.bson_base.specs.Value.{scalar, int32}
+use Rattle.bson_base.specs.Value.{Value}
+use Rattle.bson_model.specs.Rows.{bytes_row}
+use Rattle.bson_model.specs.Trees.{generic_tree}
 use Rattle.bson_model.specs.View.{view, pairs_of}
 use Rattle.bson_model.specs.declared.bson.Bson.{Bson}
 use Rattle.bson_model.specs.declared.document.Document.{Document}
@@ -22,6 +26,10 @@ LendsValue m k r = LendsSo the_row bson.the_row m r (λ n w. OnSome r (pairs_of 
 abbrev pub LendsOrInsertsValue : {E : Type 0} → MutBor Document → Key → Result (MutBor Bson) E → Fml
 LendsOrInsertsValue m k r = LendsSoOk the_row bson.the_row m r (λ n w. pairs_of n ≡ put k (view w) (pairs_of m.now)) (λ n. n ≡ m.now)
 
--- the Int32 under the key is the last one written through r, and where r is an error all stays
-abbrev pub LendsNumber : {E : Type 0} → MutBor Document → Key → Result (MutBor ℤ) E → Fml
-LendsNumber m k r = LendsSoOk the_row i32 m r (λ n z. pairs_of n ≡ put k (scalar (int32 z)) (pairs_of m.now)) (λ n. pairs_of n ≡ pairs_of m.now)
+-- a binary of subtype Generic has the last bytes written through r, and what is no such binary stays
+abbrev pub LendsGeneric : MutBor Bson → Option (MutBor (Vec ℕ Global)) → Fml
+LendsGeneric m r = LendsSo bson.the_row bytes_row m r (λ n w. OnSome r (view n ≡ generic_tree w)) (λ n. view n ≡ view m.now)
+
+-- the value under the key is the last one written through r, whose tree V gives, and where r is an error all stays
+abbrev pub LendsPart : (T : RattleType) → (T.Denot → Value) → {E : Type 0} → MutBor Document → Key → Result (MutBor T.Denot) E → Fml
+LendsPart T V m k r = LendsSoOk the_row T m r (λ n w. pairs_of n ≡ put k (V w) (pairs_of m.now)) (λ n. pairs_of n ≡ pairs_of m.now)

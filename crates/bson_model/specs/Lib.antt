@@ -1,5 +1,6 @@
 pub mod Keyed
 pub mod View
+pub mod Trees
 pub mod Kinds
 pub mod Rows
 pub mod Lending

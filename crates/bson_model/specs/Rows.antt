@@ -1,5 +1,6 @@
 -- The types that a `Bson` holds, as the logic holds them, for the clauses on what a `&mut` lends.
 use denote.RattleType.{RattleType}
+use Rattle.std.specs.Prelude.{ℕ}
 use Rattle.std.specs.Borrow.{u8}
 use Rattle.std.specs.contracts.alloc.Global as global
 use Rattle.std.specs.contracts.vec.Vec as vec
@@ -10,6 +11,10 @@ use Rattle.bson_base.specs.contracts.oid.ObjectId as object_id
 use Rattle.bson_base.specs.contracts.datetime.DateTime as date_time
 use Rattle.bson_base.specs.contracts.decimal128.Decimal128 as decimal128
 use Rattle.bson_base.specs.contracts.timestamp.Timestamp as timestamp
+use Rattle.std.specs.declared.alloc.Global.{Global}
+use Rattle.std.specs.declared.vec.Vec.{Vec}
+use Rattle.bson_base.specs.declared.binary.Binary.{Binary}
+use Rattle.bson_base.specs.contracts.binary.Binary as binary
 use Rattle.bson_model.specs.contracts.bson.Bson as bson
 use Rattle.bson_model.specs.contracts.document.Document as document
 
@@ -28,6 +33,9 @@ text_row = text.the_row global.the_row ghosts
 abbrev pub bytes_row : RattleType
 bytes_row = vec.the_row u8 global.the_row ghosts
 
+abbrev pub binary_row : RattleType
+binary_row = binary.the_row
+
 abbrev pub double_row : RattleType
 double_row = double.the_row
 
@@ -42,3 +50,7 @@ decimal128_row = decimal128.the_row
 
 abbrev pub timestamp_row : RattleType
 timestamp_row = timestamp.the_row
+
+-- the same with other bytes
+abbrev pub with_bytes : Binary → Vec ℕ Global → Binary
+with_bytes b bs = record b { bytes = bs }

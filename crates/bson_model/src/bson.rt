@@ -2,14 +2,17 @@
 ghost use Rattle.std.specs.Prelude.{◌≡◌, is_some, string_bytes, map};
 ghost use Rattle.std.specs.Option.{option_map};
 ghost use Rattle.std.specs.Borrow.{LendsIf, sem};
-ghost use Rattle.bson_base.specs.Scalars.{id_bytes, millis_of};
-ghost use Rattle.bson_base.specs.Value.{value_kind};
+ghost use Rattle.bson_base.specs.Scalars.{id_bytes, millis_of, decimal_bytes};
+ghost use Rattle.bson_base.specs.Value.{value_kind, scalar, null, object_id};
 ghost use Rattle.bson_model.specs.View.{view, pairs_of, items_of, members_of};
+ghost use Rattle.bson_model.specs.Trees.{array_tree, binary_tree, bool_tree, date_time_tree, db_pointer_tree, decimal128_tree, document_tree, f64_tree, i32_tree, i64_tree, object_id_tree, option_tree, regex_tree, scoped_code_tree, text_tree, timestamp_tree, u32_tree};
 ghost use Rattle.bson_model.specs.Kinds as kinds;
+ghost use Rattle.bson_model.specs.Rows.{binary_row, bytes_row, with_bytes};
 
 use crate::document::Document;
 use bson_base::{
-    Binary, DateTime, DbPointer, Decimal128, DoubleBits, ElementType, ObjectId, Regex, Timestamp,
+    Binary, BinarySubtype, DateTime, DbPointer, Decimal128, DoubleBits, ElementType, ObjectId,
+    Regex, Timestamp,
 };
 
 /// The items of an array, in their order.
@@ -288,6 +291,292 @@ impl Bson {
             Some(text)
         } else {
             None
+        }
+    }
+}
+
+// What the typed getters that lend go through.
+impl Bson {
+    ghost use Rattle.std.specs.Borrow.{bool as truth_row, i32 as i32_row, i64 as i64_row};
+    ghost use Rattle.bson_model.specs.contracts.bson.Bson.{the_row};
+    ghost use Rattle.bson_model.specs.declared.bson.Bson as bson;
+    ghost use Rattle.bson_model.specs.Rows.{double_row, decimal128_row, timestamp_row};
+    ghost use Rattle.bson_model.specs.Lending.{LendsGeneric};
+
+    pub(crate) fn as_f64_mut(&mut self) -> Option<&mut DoubleBits>
+        ensures* writes_back { sem 𝓛 (LendsIf the_row double_row self.entry result bson.Double self.old) }
+        ensures value { option_map (λ d. d.now.0) result ≡ kinds.as_f64 (view self.old) }
+    {
+        if let Bson::Double(double) = self {
+            Some(double)
+        } else {
+            None
+        }
+    }
+
+    pub(crate) fn as_decimal128_mut(&mut self) -> Option<&mut Decimal128>
+        ensures* writes_back { sem 𝓛 (LendsIf the_row decimal128_row self.entry result bson.Decimal128 self.old) }
+        ensures value { option_map (λ d. decimal_bytes d.now) result ≡ kinds.as_decimal128 (view self.old) }
+    {
+        if let Bson::Decimal128(decimal) = self {
+            Some(decimal)
+        } else {
+            None
+        }
+    }
+
+    pub(crate) fn as_bool_mut(&mut self) -> Option<&mut bool>
+        ensures* writes_back { sem 𝓛 (LendsIf the_row truth_row self.entry result bson.Boolean self.old) }
+        ensures value { option_map (λ b. b.now) result ≡ kinds.as_bool (view self.old) }
+    {
+        if let Bson::Boolean(truth) = self {
+            Some(truth)
+        } else {
+            None
+        }
+    }
+
+    pub(crate) fn as_i32_mut(&mut self) -> Option<&mut i32>
+        ensures* writes_back { sem 𝓛 (LendsIf the_row i32_row self.entry result bson.Int32 self.old) }
+        ensures value { option_map (λ z. z.now) result ≡ kinds.as_i32 (view self.old) }
+    {
+        if let Bson::Int32(number) = self {
+            Some(number)
+        } else {
+            None
+        }
+    }
+
+    pub(crate) fn as_i64_mut(&mut self) -> Option<&mut i64>
+        ensures* writes_back { sem 𝓛 (LendsIf the_row i64_row self.entry result bson.Int64 self.old) }
+        ensures value { option_map (λ z. z.now) result ≡ kinds.as_i64 (view self.old) }
+    {
+        if let Bson::Int64(number) = self {
+            Some(number)
+        } else {
+            None
+        }
+    }
+
+    pub(crate) fn as_timestamp_mut(&mut self) -> Option<&mut Timestamp>
+        ensures* writes_back { sem 𝓛 (LendsIf the_row timestamp_row self.entry result bson.Timestamp self.old) }
+        ensures value { option_map (λ t. (t.now.time, t.now.increment)) result ≡ kinds.as_timestamp (view self.old) }
+    {
+        if let Bson::Timestamp(timestamp) = self {
+            Some(timestamp)
+        } else {
+            None
+        }
+    }
+
+    fn as_binary_mut(&mut self) -> Option<&mut Binary>
+        ensures* writes_back { sem 𝓛 (LendsIf the_row binary_row self.entry result bson.Binary self.old) }
+        ensures value { option_map (λ b. binary_tree b.now) result ≡ kinds.as_binary (view self.old) }
+    {
+        if let Bson::Binary(binary) = self {
+            Some(binary)
+        } else {
+            None
+        }
+    }
+
+    pub(crate) fn as_binary_generic_mut(&mut self) -> Option<&mut Vec<u8>>
+        ensures* writes_back { sem 𝓛 (LendsGeneric self.entry result) }
+        ensures value { option_map (λ b. b.now.items) result ≡ kinds.as_binary_generic (view self.old) }
+    {
+        match self.as_binary_mut() {
+            Some(binary) => generic_bytes(binary),
+            None => None,
+        }
+    }
+}
+
+// The bytes of a binary of subtype Generic.
+fn generic_bytes(binary: &mut Binary) -> Option<&mut Vec<u8>>
+    ensures* writes_back { sem 𝓛 (LendsIf binary_row bytes_row binary.entry result (with_bytes binary.old) binary.old) }
+    ensures value { option_map (λ b. b.now.items) result ≡ kinds.as_binary_generic (binary_tree binary.old) }
+{
+    if binary.subtype == BinarySubtype::Generic {
+        Some(&mut binary.bytes)
+    } else {
+        None
+    }
+}
+
+/// Null.
+impl Default for Bson {
+    ghost is_default = { λ v. view v ≡ scalar null };
+
+    fn default() -> Bson {
+        Bson::Null
+    }
+}
+
+/// A double, as its pattern.
+impl From<DoubleBits> for Bson {
+    ghost from_gives = { λ x v. view v ≡ f64_tree x };
+
+    fn from(double: DoubleBits) -> Bson {
+        Bson::Double(double)
+    }
+}
+
+/// A text.
+impl From<String> for Bson {
+    ghost from_gives = { λ x v. view v ≡ text_tree x };
+
+    fn from(text: String) -> Bson {
+        Bson::String(text)
+    }
+}
+
+/// A document.
+impl From<Document> for Bson {
+    ghost from_gives = { λ x v. view v ≡ document_tree x };
+
+    fn from(document: Document) -> Bson {
+        Bson::Document(document)
+    }
+}
+
+/// A truth value.
+impl From<bool> for Bson {
+    ghost from_gives = { λ x v. view v ≡ bool_tree x };
+
+    fn from(truth: bool) -> Bson {
+        Bson::Boolean(truth)
+    }
+}
+
+/// A regular expression.
+impl From<Regex> for Bson {
+    ghost from_gives = { λ x v. view v ≡ regex_tree x };
+
+    fn from(regex: Regex) -> Bson {
+        Bson::RegularExpression(regex)
+    }
+}
+
+/// Code with its scope.
+impl From<JavaScriptCodeWithScope> for Bson {
+    ghost from_gives = { λ x v. view v ≡ scoped_code_tree x };
+
+    fn from(code: JavaScriptCodeWithScope) -> Bson {
+        Bson::JavaScriptCodeWithScope(code)
+    }
+}
+
+/// Bytes with their subtype.
+impl From<Binary> for Bson {
+    ghost from_gives = { λ x v. view v ≡ binary_tree x };
+
+    fn from(binary: Binary) -> Bson {
+        Bson::Binary(binary)
+    }
+}
+
+/// A timestamp.
+impl From<Timestamp> for Bson {
+    ghost from_gives = { λ x v. view v ≡ timestamp_tree x };
+
+    fn from(timestamp: Timestamp) -> Bson {
+        Bson::Timestamp(timestamp)
+    }
+}
+
+/// An array.
+impl From<Array> for Bson {
+    ghost from_gives = { λ x v. view v ≡ array_tree x };
+
+    fn from(items: Array) -> Bson {
+        Bson::Array(items)
+    }
+}
+
+/// An Int32.
+impl From<i32> for Bson {
+    ghost from_gives = { λ x v. view v ≡ i32_tree x };
+
+    fn from(number: i32) -> Bson {
+        Bson::Int32(number)
+    }
+}
+
+/// An Int64.
+impl From<i64> for Bson {
+    ghost from_gives = { λ x v. view v ≡ i64_tree x };
+
+    fn from(number: i64) -> Bson {
+        Bson::Int64(number)
+    }
+}
+
+/// An object id.
+impl From<ObjectId> for Bson {
+    ghost from_gives = { λ x v. view v ≡ object_id_tree x };
+
+    fn from(id: ObjectId) -> Bson {
+        Bson::ObjectId(id)
+    }
+}
+
+/// A moment.
+impl From<DateTime> for Bson {
+    ghost from_gives = { λ x v. view v ≡ date_time_tree x };
+
+    fn from(moment: DateTime) -> Bson {
+        Bson::DateTime(moment)
+    }
+}
+
+/// A pointer.
+impl From<DbPointer> for Bson {
+    ghost from_gives = { λ x v. view v ≡ db_pointer_tree x };
+
+    fn from(pointer: DbPointer) -> Bson {
+        Bson::DbPointer(pointer)
+    }
+}
+
+/// A decimal number.
+impl From<Decimal128> for Bson {
+    ghost from_gives = { λ x v. view v ≡ decimal128_tree x };
+
+    fn from(decimal: Decimal128) -> Bson {
+        Bson::Decimal128(decimal)
+    }
+}
+
+/// An Int32 where the number fits, else an Int64.
+impl From<u32> for Bson {
+    ghost from_gives = { λ x v. view v ≡ u32_tree x };
+
+    fn from(number: u32) -> Bson {
+        if number < 0x8000_0000 {
+            Bson::Int32(number as i32)
+        } else {
+            Bson::Int64(i64::from(number))
+        }
+    }
+}
+
+/// The object id of twelve bytes.
+impl From<[u8; 12]> for Bson {
+    ghost from_gives = { λ x v. view v ≡ scalar (object_id x) };
+
+    fn from(bytes: [u8; 12]) -> Bson {
+        Bson::ObjectId(ObjectId::from_bytes(bytes))
+    }
+}
+
+/// The value, or Null where there is none.
+impl From<Option<Bson>> for Bson {
+    ghost from_gives = { λ x v. view v ≡ option_tree x };
+
+    fn from(value: Option<Bson>) -> Bson {
+        match value {
+            Some(value) => value,
+            None => Bson::Null,
         }
     }
 }

@@ -1,14 +1,15 @@
 //! Documents: lists of pairs of a key and a value.
-ghost use Rattle.std.specs.Prelude.{◌≡◌, unwrap_or, ◌↔◌, [], length, slice_get, string_bytes, IsTrue, IfOk, OnOk, OnErr};
+ghost use Rattle.std.specs.Prelude.{◌≡◌, unwrap_or, ◌↔◌, [], length, slice_get, string_bytes, map, IsTrue, IfOk, OnOk, OnErr};
 ghost use Rattle.std.specs.Option.{option_map};
 ghost use Rattle.std.specs.Borrow.{sem};
 ghost use Rattle.std.specs.Map.{values_of};
 ghost use Rattle.bson_model.specs.Keyed.{get, has_key, put, without};
-ghost use Rattle.bson_model.specs.View.{view, pairs_of};
+ghost use Rattle.bson_model.specs.View.{view, pairs_of, items_of, members_of};
 ghost use Rattle.bson_model.specs.Lending.{LendsValueAt, LendsValue, LendsOrInsertsValue};
 
-use crate::bson::Bson;
+use crate::bson::{Array, Bson};
 use crate::copy::copy_document;
+use bson_base::{Binary, BinarySubtype, DateTime, Decimal128, DoubleBits, ObjectId, Timestamp};
 use bson_pairs::Pairs;
 use std::alloc::{AllocError, Global};
 
@@ -130,5 +131,331 @@ impl Document {
         ensures { pairs_of self.new ≡ [] }
     {
         self.pairs.clear();
+    }
+}
+
+/// The typed getters. Each answers `NotPresent` where the key is absent, and `UnexpectedType` where a value of another kind
+/// stands under it.
+impl Document {
+    ghost use Rattle.std.specs.Borrow.{bool as truth_row, i32 as i32_row, i64 as i64_row};
+    ghost use Rattle.bson_base.specs.Scalars.{id_bytes, millis_of, decimal_bytes};
+    ghost use Rattle.bson_model.specs.Kinds.{typed, map_ok, as_f64, as_decimal128, as_str, as_array, as_document, as_bool, as_i32, as_i64, as_timestamp, as_binary_generic, as_object_id, as_datetime, has_null};
+    ghost use Rattle.bson_model.specs.Rows.{double_row, decimal128_row, text_row, array_row, timestamp_row, bytes_row, object_id_row, date_time_row};
+    ghost use Rattle.bson_model.specs.Trees.{f64_tree, decimal128_tree, text_tree, array_tree, bool_tree, i32_tree, i64_tree, timestamp_tree, generic_tree, object_id_tree, date_time_tree};
+    ghost use Rattle.bson_model.specs.Lending.{LendsPart};
+
+    /// The double under a key.
+    pub fn get_f64(&self, key: &str) -> ValueAccessResult<DoubleBits>
+        ensures { map_ok (λ d. d.0) result ≡ typed as_f64 (get key.now (pairs_of self.now)) }
+    {
+        match self.get(key) {
+            Some(Bson::Double(double)) => Ok(*double),
+            Some(_) => Err(ValueAccessError::UnexpectedType),
+            None => Err(ValueAccessError::NotPresent),
+        }
+    }
+
+    /// The double under a key, to be written to.
+    pub fn get_f64_mut(&mut self, key: &str) -> ValueAccessResult<&mut DoubleBits>
+        ensures* writes_back { sem 𝓛 (LendsPart double_row f64_tree self.entry key.now result) }
+        ensures value { map_ok (λ d. d.now.0) result ≡ typed as_f64 (get key.now (pairs_of self.old)) }
+    {
+        match self.get_mut(key) {
+            Some(value) => match value.as_f64_mut() {
+                Some(lent) => Ok(lent),
+                None => Err(ValueAccessError::UnexpectedType),
+            },
+            None => Err(ValueAccessError::NotPresent),
+        }
+    }
+
+    /// The decimal number under a key.
+    pub fn get_decimal128(&self, key: &str) -> ValueAccessResult<&Decimal128>
+        ensures { map_ok (λ d. decimal_bytes d.now) result ≡ typed as_decimal128 (get key.now (pairs_of self.now)) }
+    {
+        match self.get(key) {
+            Some(Bson::Decimal128(decimal)) => Ok(decimal),
+            Some(_) => Err(ValueAccessError::UnexpectedType),
+            None => Err(ValueAccessError::NotPresent),
+        }
+    }
+
+    /// The decimal number under a key, to be written to.
+    pub fn get_decimal128_mut(&mut self, key: &str) -> ValueAccessResult<&mut Decimal128>
+        ensures* writes_back { sem 𝓛 (LendsPart decimal128_row decimal128_tree self.entry key.now result) }
+        ensures value { map_ok (λ d. decimal_bytes d.now) result ≡ typed as_decimal128 (get key.now (pairs_of self.old)) }
+    {
+        match self.get_mut(key) {
+            Some(value) => match value.as_decimal128_mut() {
+                Some(lent) => Ok(lent),
+                None => Err(ValueAccessError::UnexpectedType),
+            },
+            None => Err(ValueAccessError::NotPresent),
+        }
+    }
+
+    /// The text under a key.
+    pub fn get_str(&self, key: &str) -> ValueAccessResult<&str>
+        ensures { map_ok (λ s. s.now) result ≡ typed as_str (get key.now (pairs_of self.now)) }
+    {
+        match self.get(key) {
+            Some(Bson::String(text)) => Ok(text.as_str()),
+            Some(_) => Err(ValueAccessError::UnexpectedType),
+            None => Err(ValueAccessError::NotPresent),
+        }
+    }
+
+    /// The text under a key, to be written to.
+    pub fn get_str_mut(&mut self, key: &str) -> ValueAccessResult<&mut String>
+        ensures* writes_back { sem 𝓛 (LendsPart text_row text_tree self.entry key.now result) }
+        ensures value { map_ok (λ s. string_bytes s.now) result ≡ typed as_str (get key.now (pairs_of self.old)) }
+    {
+        match self.get_mut(key) {
+            Some(value) => match value.as_str_mut() {
+                Some(lent) => Ok(lent),
+                None => Err(ValueAccessError::UnexpectedType),
+            },
+            None => Err(ValueAccessError::NotPresent),
+        }
+    }
+
+    /// The array under a key.
+    pub fn get_array(&self, key: &str) -> ValueAccessResult<&Array>
+        ensures { map_ok (λ a. items_of (map view a.now.items)) result ≡ typed as_array (get key.now (pairs_of self.now)) }
+    {
+        match self.get(key) {
+            Some(Bson::Array(items)) => Ok(items),
+            Some(_) => Err(ValueAccessError::UnexpectedType),
+            None => Err(ValueAccessError::NotPresent),
+        }
+    }
+
+    /// The array under a key, to be written to.
+    pub fn get_array_mut(&mut self, key: &str) -> ValueAccessResult<&mut Array>
+        ensures* writes_back { sem 𝓛 (LendsPart array_row array_tree self.entry key.now result) }
+        ensures value { map_ok (λ a. items_of (map view a.now.items)) result ≡ typed as_array (get key.now (pairs_of self.old)) }
+    {
+        match self.get_mut(key) {
+            Some(value) => match value.as_array_mut() {
+                Some(lent) => Ok(lent),
+                None => Err(ValueAccessError::UnexpectedType),
+            },
+            None => Err(ValueAccessError::NotPresent),
+        }
+    }
+
+    /// The document under a key.
+    pub fn get_document(&self, key: &str) -> ValueAccessResult<&Document>
+        ensures { map_ok (λ d. members_of (pairs_of d.now)) result ≡ typed as_document (get key.now (pairs_of self.now)) }
+    {
+        match self.get(key) {
+            Some(Bson::Document(document)) => Ok(document),
+            Some(_) => Err(ValueAccessError::UnexpectedType),
+            None => Err(ValueAccessError::NotPresent),
+        }
+    }
+
+    // A clause cannot say yet what a value ends as that lends a value of its own type. `get_mut` and `as_document_mut` say it
+    // step by step.
+    /// The document under a key, to be written to.
+    pub fn get_document_mut(&mut self, key: &str) -> ValueAccessResult<&mut Document>
+        ensures { map_ok (λ d. members_of (pairs_of d.now)) result ≡ typed as_document (get key.now (pairs_of self.old)) }
+    {
+        match self.get_mut(key) {
+            Some(value) => match value.as_document_mut() {
+                Some(lent) => Ok(lent),
+                None => Err(ValueAccessError::UnexpectedType),
+            },
+            None => Err(ValueAccessError::NotPresent),
+        }
+    }
+
+    /// The truth value under a key.
+    pub fn get_bool(&self, key: &str) -> ValueAccessResult<bool>
+        ensures { result ≡ typed as_bool (get key.now (pairs_of self.now)) }
+    {
+        match self.get(key) {
+            Some(Bson::Boolean(truth)) => Ok(*truth),
+            Some(_) => Err(ValueAccessError::UnexpectedType),
+            None => Err(ValueAccessError::NotPresent),
+        }
+    }
+
+    /// The truth value under a key, to be written to.
+    pub fn get_bool_mut(&mut self, key: &str) -> ValueAccessResult<&mut bool>
+        ensures* writes_back { sem 𝓛 (LendsPart truth_row bool_tree self.entry key.now result) }
+        ensures value { map_ok (λ b. b.now) result ≡ typed as_bool (get key.now (pairs_of self.old)) }
+    {
+        match self.get_mut(key) {
+            Some(value) => match value.as_bool_mut() {
+                Some(lent) => Ok(lent),
+                None => Err(ValueAccessError::UnexpectedType),
+            },
+            None => Err(ValueAccessError::NotPresent),
+        }
+    }
+
+    /// The Int32 under a key.
+    pub fn get_i32(&self, key: &str) -> ValueAccessResult<i32>
+        ensures { result ≡ typed as_i32 (get key.now (pairs_of self.now)) }
+    {
+        match self.get(key) {
+            Some(Bson::Int32(number)) => Ok(*number),
+            Some(_) => Err(ValueAccessError::UnexpectedType),
+            None => Err(ValueAccessError::NotPresent),
+        }
+    }
+
+    /// The Int32 under a key, to be written to.
+    pub fn get_i32_mut(&mut self, key: &str) -> ValueAccessResult<&mut i32>
+        ensures* writes_back { sem 𝓛 (LendsPart i32_row i32_tree self.entry key.now result) }
+        ensures value { map_ok (λ z. z.now) result ≡ typed as_i32 (get key.now (pairs_of self.old)) }
+    {
+        match self.get_mut(key) {
+            Some(value) => match value.as_i32_mut() {
+                Some(lent) => Ok(lent),
+                None => Err(ValueAccessError::UnexpectedType),
+            },
+            None => Err(ValueAccessError::NotPresent),
+        }
+    }
+
+    /// The Int64 under a key.
+    pub fn get_i64(&self, key: &str) -> ValueAccessResult<i64>
+        ensures { result ≡ typed as_i64 (get key.now (pairs_of self.now)) }
+    {
+        match self.get(key) {
+            Some(Bson::Int64(number)) => Ok(*number),
+            Some(_) => Err(ValueAccessError::UnexpectedType),
+            None => Err(ValueAccessError::NotPresent),
+        }
+    }
+
+    /// The Int64 under a key, to be written to.
+    pub fn get_i64_mut(&mut self, key: &str) -> ValueAccessResult<&mut i64>
+        ensures* writes_back { sem 𝓛 (LendsPart i64_row i64_tree self.entry key.now result) }
+        ensures value { map_ok (λ z. z.now) result ≡ typed as_i64 (get key.now (pairs_of self.old)) }
+    {
+        match self.get_mut(key) {
+            Some(value) => match value.as_i64_mut() {
+                Some(lent) => Ok(lent),
+                None => Err(ValueAccessError::UnexpectedType),
+            },
+            None => Err(ValueAccessError::NotPresent),
+        }
+    }
+
+    /// The timestamp under a key.
+    pub fn get_timestamp(&self, key: &str) -> ValueAccessResult<Timestamp>
+        ensures { map_ok (λ t. (t.time, t.increment)) result ≡ typed as_timestamp (get key.now (pairs_of self.now)) }
+    {
+        match self.get(key) {
+            Some(Bson::Timestamp(timestamp)) => Ok(*timestamp),
+            Some(_) => Err(ValueAccessError::UnexpectedType),
+            None => Err(ValueAccessError::NotPresent),
+        }
+    }
+
+    /// The timestamp under a key, to be written to.
+    pub fn get_timestamp_mut(&mut self, key: &str) -> ValueAccessResult<&mut Timestamp>
+        ensures* writes_back { sem 𝓛 (LendsPart timestamp_row timestamp_tree self.entry key.now result) }
+        ensures value { map_ok (λ t. (t.now.time, t.now.increment)) result ≡ typed as_timestamp (get key.now (pairs_of self.old)) }
+    {
+        match self.get_mut(key) {
+            Some(value) => match value.as_timestamp_mut() {
+                Some(lent) => Ok(lent),
+                None => Err(ValueAccessError::UnexpectedType),
+            },
+            None => Err(ValueAccessError::NotPresent),
+        }
+    }
+
+    /// The bytes of a Binary of subtype Generic under a key.
+    pub fn get_binary_generic(&self, key: &str) -> ValueAccessResult<&Vec<u8>>
+        ensures { map_ok (λ b. b.now.items) result ≡ typed as_binary_generic (get key.now (pairs_of self.now)) }
+    {
+        match self.get(key) {
+            Some(
+                Bson::Binary(
+                    Binary {
+                        subtype: BinarySubtype::Generic,
+                        bytes,
+                    },
+                ),
+            ) => Ok(bytes),
+            Some(_) => Err(ValueAccessError::UnexpectedType),
+            None => Err(ValueAccessError::NotPresent),
+        }
+    }
+
+    /// The bytes of a Binary of subtype Generic under a key, to be written to.
+    pub fn get_binary_generic_mut(&mut self, key: &str) -> ValueAccessResult<&mut Vec<u8>>
+        ensures* writes_back { sem 𝓛 (LendsPart bytes_row generic_tree self.entry key.now result) }
+        ensures value { map_ok (λ b. b.now.items) result ≡ typed as_binary_generic (get key.now (pairs_of self.old)) }
+    {
+        match self.get_mut(key) {
+            Some(value) => match value.as_binary_generic_mut() {
+                Some(lent) => Ok(lent),
+                None => Err(ValueAccessError::UnexpectedType),
+            },
+            None => Err(ValueAccessError::NotPresent),
+        }
+    }
+
+    /// The object id under a key.
+    pub fn get_object_id(&self, key: &str) -> ValueAccessResult<ObjectId>
+        ensures { map_ok id_bytes result ≡ typed as_object_id (get key.now (pairs_of self.now)) }
+    {
+        match self.get(key) {
+            Some(Bson::ObjectId(id)) => Ok(*id),
+            Some(_) => Err(ValueAccessError::UnexpectedType),
+            None => Err(ValueAccessError::NotPresent),
+        }
+    }
+
+    /// The object id under a key, to be written to.
+    pub fn get_object_id_mut(&mut self, key: &str) -> ValueAccessResult<&mut ObjectId>
+        ensures* writes_back { sem 𝓛 (LendsPart object_id_row object_id_tree self.entry key.now result) }
+        ensures value { map_ok (λ i. id_bytes i.now) result ≡ typed as_object_id (get key.now (pairs_of self.old)) }
+    {
+        match self.get_mut(key) {
+            Some(value) => match value.as_object_id_mut() {
+                Some(lent) => Ok(lent),
+                None => Err(ValueAccessError::UnexpectedType),
+            },
+            None => Err(ValueAccessError::NotPresent),
+        }
+    }
+
+    /// The moment under a key.
+    pub fn get_datetime(&self, key: &str) -> ValueAccessResult<&DateTime>
+        ensures { map_ok (λ t. millis_of t.now) result ≡ typed as_datetime (get key.now (pairs_of self.now)) }
+    {
+        match self.get(key) {
+            Some(Bson::DateTime(moment)) => Ok(moment),
+            Some(_) => Err(ValueAccessError::UnexpectedType),
+            None => Err(ValueAccessError::NotPresent),
+        }
+    }
+
+    /// The moment under a key, to be written to.
+    pub fn get_datetime_mut(&mut self, key: &str) -> ValueAccessResult<&mut DateTime>
+        ensures* writes_back { sem 𝓛 (LendsPart date_time_row date_time_tree self.entry key.now result) }
+        ensures value { map_ok (λ t. millis_of t.now) result ≡ typed as_datetime (get key.now (pairs_of self.old)) }
+    {
+        match self.get_mut(key) {
+            Some(value) => match value.as_datetime_mut() {
+                Some(lent) => Ok(lent),
+                None => Err(ValueAccessError::UnexpectedType),
+            },
+            None => Err(ValueAccessError::NotPresent),
+        }
+    }
+
+    /// Whether Null stands under a key.
+    pub fn is_null(&self, key: &str) -> bool
+        ensures { result ≡ has_null (get key.now (pairs_of self.now)) }
+    {
+        matches!(self.get(key), Some(Bson::Null))
     }
 }
