@@ -1,5 +1,5 @@
 -- The tree that a `Bson` stands for.
-use Rattle.std.specs.Prelude.{ℕ, List, [], ◌∷◌, map, string_bytes}
+use Rattle.std.specs.Prelude.{◌≡◌, ℕ, List, [], ◌∷◌, map, string_bytes}
 use Rattle.bson_base.specs.Scalars.{id_bytes, millis_of, decimal_bytes}
 use Rattle.bson_base.specs.Value.{Value, scalar, array, document, scoped_code, double, string, boolean, null, regex, code, int32, int64, timestamp, binary, object_id, date_time, symbol, decimal, undefined, max_key, min_key, db_pointer, Items, no_items, item, Members, no_members, member}
 use Rattle.bson_pairs.specs.Keyed.{Key}
@@ -58,3 +58,7 @@ pair_view p = (p.0, view p.1)
 -- the list of a document's pairs, in their order
 abbrev pub pairs_of : Document → List (Key × Value)
 pairs_of d = map pair_view d.pairs
+
+-- t is the tree of a value of which P holds
+abbrev pub IsTreeOf : (Bson → Type 0) → Value → Type 0
+IsTreeOf P t = (v : Bson) × P v × (t ≡ view v)

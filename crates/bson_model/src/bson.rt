@@ -1,19 +1,21 @@
 //! Values of the 21 kinds of BSON.
-ghost use Rattle.std.specs.Prelude.{◌≡◌, is_some, string_bytes, map};
+ghost use Rattle.std.specs.Prelude.{◌≡◌, is_some, string_bytes, map, IfOk};
 ghost use Rattle.std.specs.Option.{option_map};
 ghost use Rattle.std.specs.Borrow.{LendsIf, sem};
 ghost use Rattle.bson_base.specs.Scalars.{id_bytes, millis_of, decimal_bytes};
-ghost use Rattle.bson_base.specs.Value.{value_kind, scalar, null, object_id};
+ghost use Rattle.bson_base.specs.Value.{value_kind, scalar, array, string, null, object_id};
 ghost use Rattle.bson_model.specs.View.{view, pairs_of, items_of, members_of};
 ghost use Rattle.bson_model.specs.Trees.{array_tree, binary_tree, bool_tree, date_time_tree, db_pointer_tree, decimal128_tree, document_tree, f64_tree, i32_tree, i64_tree, object_id_tree, option_tree, regex_tree, scoped_code_tree, text_tree, timestamp_tree, u32_tree};
 ghost use Rattle.bson_model.specs.Kinds as kinds;
 ghost use Rattle.bson_model.specs.Rows.{binary_row, bytes_row, with_bytes};
 
+use crate::copy::{copy_items, copy_value};
 use crate::document::Document;
 use bson_base::{
     Binary, BinarySubtype, DateTime, DbPointer, Decimal128, DoubleBits, ElementType, ObjectId,
     Regex, Timestamp,
 };
+use std::alloc::{AllocError, Global};
 
 /// The items of an array, in their order.
 pub type Array = Vec<Bson>;
@@ -58,10 +60,42 @@ pub struct JavaScriptCodeWithScope {
     pub scope: Document,
 }
 
+impl JavaScriptCodeWithScope {
+    /// A copy with memory of its own. It fails where there is no memory.
+    pub fn try_clone(&self) -> Result<JavaScriptCodeWithScope, AllocError>
+        ensures { IfOk result (λ c. scoped_code_tree c ≡ scoped_code_tree self.now) }
+    {
+        let scope = self.scope.try_clone()?;
+        let code = self.code.clone()?;
+        Ok(JavaScriptCodeWithScope { code, scope })
+    }
+}
+
 impl Bson {
     ghost use Rattle.bson_model.specs.contracts.bson.Bson.{the_row};
     ghost use Rattle.bson_model.specs.declared.bson.Bson as bson;
     ghost use Rattle.bson_model.specs.Rows.{array_row, document_row, text_row, object_id_row, date_time_row};
+
+    /// A text, copied. It fails where there is no memory.
+    pub fn from_text(alloc: Global, text: &str) -> Result<Bson, AllocError>
+        ensures { IfOk result (λ v. view v ≡ scalar (string text.now)) }
+    {
+        Ok(Bson::String(String::from_str(alloc, text)?))
+    }
+
+    /// An array of these items, copied. It fails where there is no memory.
+    pub fn from_slice(alloc: Global, items: &[Bson]) -> Result<Bson, AllocError>
+        ensures { IfOk result (λ v. view v ≡ array (items_of (map view items.now))) }
+    {
+        Ok(Bson::Array(copy_items(alloc, items)?))
+    }
+
+    /// A copy with memory of its own. It fails where there is no memory.
+    pub fn try_clone(&self) -> Result<Bson, AllocError>
+        ensures { IfOk result (λ v. view v ≡ view self.now) }
+    {
+        copy_value(self)
+    }
 
     /// Its kind.
     pub fn element_type(&self) -> ElementType

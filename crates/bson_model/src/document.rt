@@ -1,16 +1,22 @@
 //! Documents: lists of pairs of a key and a value.
-ghost use Rattle.std.specs.Prelude.{◌≡◌, unwrap_or, ◌↔◌, [], length, slice_get, string_bytes, map, IsTrue, IfOk, OnOk, OnErr};
-ghost use Rattle.std.specs.Option.{option_map};
+ghost use Rattle.std.specs.Prelude.{◌≡◌, unwrap_or, ◌↔◌, [], length, slice_get, string_bytes, map, MatchOption, IsTrue, IfOk, OnOk, OnErr};
+ghost use Rattle.std.specs.Option.{option_map, ForNone};
 ghost use Rattle.std.specs.Borrow.{sem};
 ghost use Rattle.std.specs.Map.{values_of};
 ghost use Rattle.bson_model.specs.Keyed.{get, has_key, put, without};
-ghost use Rattle.bson_model.specs.View.{view, pairs_of, items_of, members_of};
+ghost use Rattle.bson_model.specs.View.{view, pairs_of, items_of, members_of, IsTreeOf};
+ghost use Rattle.bson_model.specs.Extend.{put_all, PutsSome};
 ghost use Rattle.bson_model.specs.Lending.{LendsValueAt, LendsValue, LendsOrInsertsValue};
+
+mod entry;
+mod iter;
 
 use crate::bson::{Array, Bson};
 use crate::copy::copy_document;
 use bson_base::{Binary, BinarySubtype, DateTime, Decimal128, DoubleBits, ObjectId, Timestamp};
 use bson_pairs::Pairs;
+pub use entry::{Entry, OccupiedEntry, VacantEntry};
+pub use iter::{IntoIter, Iter, Keys, Values};
 use std::alloc::{AllocError, Global};
 
 /// Why a typed getter has no value.
@@ -118,12 +124,54 @@ impl Document {
         self.pairs.get_or_insert(key, default)
     }
 
+    // The same of the value that `default` makes, which is called only where there was none.
+    pub(crate) fn get_or_insert_with<F: FnOnce() -> Bson>(
+        &mut self,
+        key: String,
+        default: F,
+    ) -> Result<&mut Bson, AllocError>
+    where
+        F: Drop,
+        requires { ForNone (get (string_bytes key) (pairs_of self.old)) (F.pre default) }
+        ensures* writes_back { sem 𝓛 (LendsOrInsertsValue self.entry (string_bytes key) result) }
+        ensures value { IfOk result (λ v. MatchOption (get (string_bytes key) (pairs_of self.old)) (IsTreeOf (F.post default) (view v.now)) (λ w. view v.now ≡ w)) }
+    {
+        if self.contains_key(key.as_str()) {
+            self.get_or_insert(key, Bson::Null)
+        } else {
+            let value = default();
+            self.get_or_insert(key, value)
+        }
+    }
+
     /// Takes the pair of a key out, and gives its value. The others keep their order.
     pub fn remove(&mut self, key: &str) -> Option<Bson>
         ensures value { option_map view result ≡ get key.now (pairs_of self.old) }
         ensures rest { pairs_of self.new ≡ without key.now (pairs_of self.old) }
     {
         self.pairs.remove(key)
+    }
+
+    /// Puts each value under its key, one after the other, as `insert` does. Where there is no memory for one, the pairs before
+    /// it stay.
+    pub fn extend(&mut self, pairs: Vec<(String, Bson)>) -> Result<(), AllocError>
+        ensures ok { OnOk result (pairs_of self.new ≡ put_all pairs.items (pairs_of self.old)) }
+        ensures err { OnErr result (PutsSome pairs.items (pairs_of self.old) (pairs_of self.new)) }
+    {
+        for pair in pairs {
+            self.insert(pair.0, pair.1)?;
+        }
+        Ok(())
+    }
+
+    /// The document of these pairs, put one after the other as `insert` does: where a key stands twice, it has the place of the
+    /// first pair and the value of the last.
+    pub fn from_pairs(alloc: Global, pairs: Vec<(String, Bson)>) -> Result<Document, AllocError>
+        ensures { IfOk result (λ d. pairs_of d ≡ put_all pairs.items []) }
+    {
+        let mut document = Document::new(alloc);
+        document.extend(pairs)?;
+        Ok(document)
     }
 
     /// Takes all pairs out.

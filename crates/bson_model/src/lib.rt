@@ -4,6 +4,7 @@
 mod bson;
 mod copy;
 pub mod document;
+pub mod laws;
 
 pub use bson::{Array, Bson, JavaScriptCodeWithScope};
 pub use bson_base::{
