@@ -25,7 +25,7 @@ pub type Array = Vec<Bson>;
 /// Two values are equal where their trees are, with documents compared as maps at every depth: the order of the keys does
 /// not count. Doubles are equal where their patterns are.
 #[cycle(bson)]
-#[derive(PartialEq, Eq, Hash, Drop)]
+#[derive(Debug, PartialEq, Eq, Hash, Drop)]
 pub enum Bson {
     Double(DoubleBits),
     String(String),
@@ -52,7 +52,7 @@ pub enum Bson {
 
 /// Code, and the values of its free variables (bsonspec.org 1.1, element type 0F).
 #[cycle(bson)]
-#[derive(PartialEq, Eq, Hash, Drop)]
+#[derive(Debug, PartialEq, Eq, Hash, Drop)]
 pub struct JavaScriptCodeWithScope {
     /// The text of the code.
     pub code: String,

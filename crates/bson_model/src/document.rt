@@ -36,7 +36,7 @@ pub type ValueAccessResult<T> = Result<T, ValueAccessError>;
 ///
 /// Two documents are equal where each has the other's keys and equal values under them: the order does not count.
 #[cycle(bson)]
-#[derive(PartialEq, Eq, Hash, Drop)]
+#[derive(Debug, PartialEq, Eq, Hash, Drop)]
 pub struct Document {
     pub(crate) pairs: Pairs<Bson>,
 }

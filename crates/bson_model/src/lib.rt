@@ -5,6 +5,8 @@ mod bson;
 mod copy;
 pub mod document;
 pub mod laws;
+#[cfg(test)]
+mod tests;
 
 pub use bson::{Array, Bson, JavaScriptCodeWithScope};
 pub use bson_base::{

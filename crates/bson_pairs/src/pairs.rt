@@ -11,7 +11,7 @@ use crate::iter::{IntoIter, Iter};
 use indexmap::IndexSet;
 use std::alloc::{AllocError, Global};
 use std::marker::Model;
-use std::mem;
+use std::{fmt, mem};
 
 /// Contracts see the list of the pairs, each key as its bytes.
 #[derive(Drop)]
@@ -182,5 +182,12 @@ impl<V: Drop> Pairs<V> {
     {
         self.keys.clear();
         self.values.clear();
+    }
+}
+
+/// A map of its pairs.
+impl<V: fmt::Debug> fmt::Debug for Pairs<V> {
+    fn fmt<W: fmt::Write>(&self, f: &mut fmt::Formatter<W>) -> fmt::Result {
+        f.debug_map().entries(self.iter()).finish()
     }
 }
