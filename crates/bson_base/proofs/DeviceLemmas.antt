@@ -1,7 +1,8 @@
 -- What devices gave and took, call after call.
-use Rattle.std.proofs.Common.{◌≡◌, ℕ, List, [], ◌++◌, ◌+◌, ◌≤◌, ◌-◌, length, take, drop, sym, ap, subst, ◌∙◌, arith}
+use Rattle.std.proofs.Common.{◌≡◌, ◌<◌, ◌∷◌, refl, get_or, ℕ, List, [], ◌++◌, ◌+◌, ◌≤◌, ◌-◌, length, take, drop, sym, ap, subst, ◌∙◌, arith}
+use Rattle.std.specs.Prelude.{slice_set}
 use Rattle.std.proofs.lemmas.Grind.{common_steps}
-use Rattle.std.proofs.Math.Seq.{take-append_seam, take-add}
+use Rattle.std.proofs.Math.Seq.{take-append_seam, take-add, take-suc, drop-cons}
 use Rattle.std.proofs.lemmas.List.{take-append-le}
 use Rattle.std.proofs.lemmas.Slice.{take-put_mid_below}
 use borrow.Rule.Slice.PartMut.{put_mid, post_of}
@@ -34,3 +35,14 @@ take_put_mid at k n xs ys within few =
     ∙ ap (λ l. l ++ take n (drop at (put_mid at k xs ys))) (take-put_mid_below at k xs ys at (omega arith) within)
     ∙ ap (λ l. take at xs ++ take n l) (drop_at (take at xs) (ys ++ post_of at k xs) at (length-take-le at xs within))
     ∙ ap (λ l. take at xs ++ l) (take-append-le n ys (post_of at k xs) few)
+
+-- one byte written to the front of a buffer
+pub take_one : (ys : List ℕ) (x : ℕ) → 0 < length ys → take 1 (slice_set ys 0 x) ≡ x ∷ []
+take_one [] x h = absurd (omega arith)
+take_one (y ∷ ys) x h = refl
+
+pub take_next : (at : ℕ) (xs : List ℕ) → at < length xs → take (at + 1) xs ≡ take at xs ++ get_or xs at 0 ∷ []
+take_next at xs h = grind (arith, common_steps, take-suc)
+
+pub drop_next : (at : ℕ) (xs : List ℕ) → at < length xs → drop at xs ≡ get_or xs at 0 ∷ drop (at + 1) xs
+drop_next at xs h = grind (arith, common_steps, drop-cons)

@@ -2,6 +2,7 @@
 use Rattle.std.specs.Prelude.{ℕ, ℤ, List}
 use Rattle.bson_base.specs.declared.oid.ObjectId.{ObjectId}
 use Rattle.bson_base.specs.declared.datetime.DateTime.{DateTime}
+use Rattle.bson_base.specs.declared.uuid.Uuid.{Uuid}
 use Rattle.bson_base.specs.declared.decimal128.Decimal128.{Decimal128}
 
 -- the twelve bytes
@@ -15,3 +16,7 @@ millis_of d = d.0
 -- the 16 bytes, the lowest first
 abbrev pub decimal_bytes : Decimal128 → List ℕ
 decimal_bytes d = d.bytes
+
+-- the 16 bytes, the highest first
+abbrev pub uuid_bytes : Uuid → List ℕ
+uuid_bytes u = u.bytes

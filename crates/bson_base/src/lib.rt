@@ -6,11 +6,13 @@ pub mod datetime;
 pub mod decimal128;
 mod device;
 mod double;
+pub mod faulty;
 pub mod oid;
 mod pointer;
 mod regex;
 pub mod spec;
 mod timestamp;
+pub mod uuid;
 
 pub use binary::Binary;
 pub use datetime::DateTime;
@@ -22,3 +24,4 @@ pub use pointer::DbPointer;
 pub use regex::Regex;
 pub use spec::{BinarySubtype, ElementType};
 pub use timestamp::Timestamp;
+pub use uuid::Uuid;

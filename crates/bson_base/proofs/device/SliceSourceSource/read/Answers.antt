@@ -13,9 +13,8 @@ returns-clause-bytes c =
     let long : length copied ≡ n = grind (arith, common_steps) in
     let here : copied ≡ take n (drop s.at xs) = c.copy_from_slice.ensures.after ∙ take_rest xs s.at n s.within (omega arith) in
     let front : take n (copied ++ drop n c.args.buf.now) ≡ copied = take_front copied (drop n c.args.buf.now) n long in
-    let given : take n (drop s.at xs) ≡ take n (copied ++ drop n c.args.buf.now) = sym here ∙ sym front in
-    (
+    let given : take n (drop s.at xs) ≡ take n (copied ++ drop n c.args.buf.now) = sym here ∙ sym front in (
       take-add s.at n xs ∙ ap (λ l. take s.at xs ++ l) given,
       sym (take-append-drop n (drop s.at xs)) ∙ ap (λ l. l ++ drop n (drop s.at xs)) given
-        ∙ ap (λ l. take n (copied ++ drop n c.args.buf.now) ++ l) (drop_drop s.at n xs)
+          ∙ ap (λ l. take n (copied ++ drop n c.args.buf.now) ++ l) (drop_drop s.at n xs),
     )
