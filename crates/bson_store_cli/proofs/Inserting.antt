@@ -1,21 +1,16 @@
 -- What an insert into a store without collections comes to, and what its export then writes.
-use Rattle.std.proofs.Common.{◌≡◌, ◌⊎◌, inl, inr, ℕ, ◌+◌, List, [], ◌∷◌, ◌++◌, append-nil, Bool, true, cond, Option, Some, None, Result, Ok, Err, refl, sym, ap, ◌∙◌, subst, arith}
+use Rattle.std.proofs.Common.{◌≡◌, ◌⊎◌, inl, inr, ℕ, List, [], ◌∷◌, ◌++◌, Option, Some, None, refl, ap, ◌∙◌, subst, arith}
 use Rattle.std.specs.Prelude.{IsSomeAnd, MatchOption, codes}
-use Rattle.std.specs.List.{flat_map}
 use Rattle.std.specs.Ordering.{nat_cmp}
 use Rattle.std.specs.Cmp.Lexicographic.{slice_cmp}
 use Rattle.std.specs.FinMap.{empty, get-empty}
-use Rattle.std.specs.Str.{bytes_eq}
 use Rattle.bson_store.specs.Value.{Value, Members, look_up}
-use Rattle.bson_store.specs.Bytes.{encode}
 use Rattle.bson_store.specs.Reading.{Test, prefix, declaration, extent, end, faults, depth, told, readable, unreadable, ReadsAs, IsRefused}
-use Rattle.bson_store.specs.State.{Documents, State, id_key, listed, list_of, store, SomeHasId, IsTaken, insert, on, Reply, done, refused, When, Refuses, Answers, IsName, Step, refusal_of}
-use Rattle.bson_store.specs.Run.{memory, Turn, IsDecided}
-use Rattle.bson_store.specs.Commands.{Serves, Inserts}
-use Rattle.bson_store.specs.Export.{Tally, Delivers, ExportRefused, Exports}
+use Rattle.bson_store.specs.State.{Documents, State, id_key, listed, list_of, store, SomeHasId, IsTaken, Reply, done, refused, When, Refuses, IsName, refusal_of}
+use Rattle.bson_store.specs.Run.{memory}
+use Rattle.bson_store.specs.Commands.{Inserts}
 use Rattle.bson_store.specs.declared.error.ErrorKind.{ErrorKind}
-use Rattle.bson_store.specs.declared.error.ErrorKind.TheVariants.{BadName, EndInside, BadLength, NotTerminated, Faulty, TooDeep, NoId, TooLong, NotFound, DuplicateId, Memory, Writer}
-use Rattle.bson_store.specs.declared.error.StoreError.{StoreError}
+use Rattle.bson_store.specs.declared.error.ErrorKind.TheVariants.{DuplicateId, Memory, Writer}
 use Rattle.bson_store.proofs.States.{list_of-store}
 use Rattle.bson_store_cli.specs.Pipe.{Feed, ReadsAll, StopsReading, AreKept, AreRefused, KeepsInput, RefusesInput}
 use Rattle.bson_store_cli.specs.declared.refusal.Refusal.{Refusal}

@@ -115,12 +115,14 @@ fn goes_no_further_where_the_line_fails(rt: HostRuntime) -> Result<(), Fail> {
 #[test]
 fn reads_more_than_one_chunk(rt: HostRuntime) -> Result<(), Fail> {
     // A document of 200001 bytes: `_id`, and a text `t` of 199979 letters.
-    let mut bytes = vec![in rt.alloc(); 0x41u8; 200001]?;
-    bytes[..4].copy_from_slice(&200001u32.to_le_bytes());
-    bytes[4..13].copy_from_slice(&HELLO[4..13]);
-    bytes[13..16].copy_from_slice(&[0x02, 0x74, 0x00]);
-    bytes[16..20].copy_from_slice(&199980u32.to_le_bytes());
-    bytes[199999..].copy_from_slice(&[0x00, 0x00]);
+    let letters = vec![in rt.alloc(); 0x41u8; 199979]?;
+    let mut bytes = Vec::new(rt.alloc());
+    bytes.extend_from_slice(&200001u32.to_le_bytes())?;
+    bytes.extend_from_slice(&HELLO[4..13])?;
+    bytes.extend_from_slice(b"\x02t\0")?;
+    bytes.extend_from_slice(&199980u32.to_le_bytes())?;
+    bytes.extend_from_slice(&letters)?;
+    bytes.extend_from_slice(&[0, 0])?;
     let mut input = SliceSource::new(&bytes);
     let mut output = VecSink::new(rt.alloc());
     let mut faults = VecSink::new(rt.alloc());
