@@ -1,5 +1,5 @@
 -- What devices gave and took, call after call.
-use Rattle.std.proofs.Common.{◌≡◌, ◌<◌, ◌∷◌, refl, get_or, ℕ, List, [], ◌++◌, ◌+◌, ◌≤◌, ◌-◌, length, take, drop, sym, ap, subst, ◌∙◌, arith}
+use Rattle.std.proofs.Common.{◌≡◌, ◌<◌, ◌∷◌, refl, get_or, ℕ, List, [], ◌++◌, ◌+◌, ◌≤◌, ◌-◌, length, take, drop, ap, subst, ◌∙◌, arith}
 use Rattle.std.specs.Prelude.{slice_set}
 use Rattle.std.proofs.lemmas.Grind.{common_steps}
 use Rattle.std.proofs.Math.Seq.{take-append_seam, take-add, take-suc, drop-cons}

@@ -1,5 +1,5 @@
 -- Putting numbers in order: what comes out is in order, and is the one list in order with those numbers.
-use Rattle.std.proofs.Common.{◌≡◌, ℕ, ◌+◌, ◌<◌, ◌≤◌, Bool, true, false, cond, List, [], ◌∷◌, length, get_or, suc, refl, sym, ap, ◌∙◌, subst, arith, eqb, leb}
+use Rattle.std.proofs.Common.{◌≡◌, ℕ, ◌+◌, ◌<◌, ◌≤◌, Bool, true, false, cond, List, [], ◌∷◌, get_or, suc, refl, sym, ap, ◌∙◌, subst, arith, eqb, leb}
 use Rattle.std.specs.Prelude.{◌&&◌}
 use Rattle.std.specs.Str.{IsUtf8, chars}
 use Rattle.std.proofs.Math.Utf8.{scalar, scalars, encodes}

@@ -1,5 +1,5 @@
 -- Reading a UUID from a binary value.
-use Rattle.std.specs.Prelude.{◌≡◌, ◌≢◌, ℕ, List, Result, Ok, Err, length, vec_len}
+use Rattle.std.specs.Prelude.{◌≡◌, ◌≢◌, Result, Ok, Err, vec_len}
 use Rattle.bson_base.specs.declared.binary.Binary.{Binary}
 use Rattle.bson_base.specs.declared.uuid.Uuid.{Uuid}
 use Rattle.bson_base.specs.declared.uuid.Error.{Error}

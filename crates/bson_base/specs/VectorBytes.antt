@@ -1,6 +1,6 @@
 -- The bytes of a vector of numbers (bsonspec.org 1.1, binary subtype 09): a byte of the type, a byte of the padding, the numbers.
-use Rattle.std.specs.Prelude.{ℕ, ℤ, ◌%◌, Bool, false, ◌==◌, ◌&&◌, ◌||◌, nat_lt, if◌then◌else◌, List, [], ◌∷◌, map, length}
-use Rattle.std.specs.List.{flat_map}
+use Rattle.std.specs.Prelude.{ℕ, ℤ, ◌<◌, ◌^◌, ◌%◌, Bool, false, ◌==◌, ◌&&◌, ◌||◌, nat_lt, if◌then◌else◌, List, [], ◌∷◌, map, length, FitsSigned}
+use Rattle.std.specs.List.{flat_map, All}
 use Rattle.std.specs.Int.{w8, w32, cast_unsigned, to_le_bytes}
 
 pub data VectorValue : Type 0 where
@@ -24,3 +24,9 @@ abbrev pub is_vector : List ℕ → Bool
 is_vector [] = false
 is_vector (t ∷ []) = false
 is_vector (t ∷ p ∷ ns) = if t == 0x03 then p == 0 else (if t == 0x27 then p == 0 && length ns % 4 == 0 else t == 0x10 && is_padding p ns)
+
+-- its numbers are those of their type
+abbrev pub IsRangedVector : VectorValue → Type 0
+IsRangedVector (int8 zs) = All (FitsSigned w8) zs
+IsRangedVector (float32 ns) = All (λ n. n < 2 ^ 32) ns
+IsRangedVector (packed_bit p bs) = Unit {0}

@@ -4,6 +4,7 @@ ghost use Rattle.std.specs.Prelude.{◌≡◌, IfOk};
 ghost use Rattle.bson_base.specs.Scalars.{uuid_bytes};
 ghost use Rattle.bson_base.specs.Uuids.{uuid_subtype, uuid_form};
 
+mod text;
 mod vector;
 
 use crate::spec::BinarySubtype;

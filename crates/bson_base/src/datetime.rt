@@ -4,6 +4,12 @@ ghost use Rattle.std.specs.Prelude.{◌≡◌, unsigned_abs, ◌-◌, ◌*◌, �
 ghost use Rattle.std.specs.Int.{w64, saturate_signed};
 ghost use Rattle.std.specs.Duration.{as_nanos};
 
+pub mod builder;
+mod calendar;
+mod parse;
+mod text;
+
+pub use builder::DateTimeBuilder;
 use std::time::Duration;
 use thiserror::Error;
 

@@ -1,12 +1,13 @@
 //! Laws that no call carries. Each function does nothing, and its contract is the law.
 
-ghost use Rattle.std.specs.Prelude.{◌≡◌, ℕ, ◌↔◌, ◌<◌, List, true, length, string_bytes, IsTrue, chars};
+ghost use Rattle.std.specs.Prelude.{◌≡◌, ◌-◌, ◌^◌, pos, neg_ℤ, ℕ, ◌↔◌, ◌<◌, List, true, length, string_bytes, IsTrue, chars};
 ghost use Rattle.std.specs.Str.{IsUtf8};
+ghost use Rattle.bson_base.specs.Scalars.{millis_of};
 ghost use Rattle.bson_base.specs.Tags.{tag_byte, subtype_of, subtype_byte, IsReadable};
 ghost use Rattle.bson_base.specs.Kinds.{NeverDescends};
 ghost use Rattle.bson_base.specs.Options.{sorted_text};
 ghost use Rattle.bson_base.specs.Uuids.{uuid_form};
-ghost use Rattle.bson_base.specs.VectorBytes.{vector_bytes, is_vector};
+ghost use Rattle.bson_base.specs.VectorBytes.{VectorValue, IsRangedVector, vector_bytes, is_vector};
 ghost use Rattle.bson_base.specs.Vectors.{vector_value};
 ghost use Rattle.bson_base.specs.declared.binary.Binary.{Binary as AnyBinary};
 ghost use Rattle.bson_base.specs.declared.binary.vector.Vector.{Vector as AnyVector};
@@ -21,6 +22,8 @@ ghost use Rattle.bson_base.specs.declared.spec.ElementType.{ElementType as AnyKi
 ghost use Rattle.bson_base.specs.declared.timestamp.Timestamp.{Timestamp as AnyTimestamp};
 ghost use Rattle.bson_base.specs.declared.uuid.Uuid.{Uuid as AnyUuid};
 ghost use Rattle.bson_base.specs.declared.uuid.UuidRepresentation.{UuidRepresentation as AnyRepresentation};
+
+pub mod decimals;
 
 use crate::{
     Binary, BinarySubtype, DateTime, DbPointer, Decimal128, DoubleBits, ObjectId, Regex, Timestamp,
@@ -60,6 +63,12 @@ pub fn equal_parts()
         ↔ ((string_bytes x.namespace ≡ string_bytes y.namespace) × (x.id ≡ y.id)) }
 {}
 
+/// The first and the last moment are the least and the greatest signed number of 64 bits.
+pub fn first_and_last_moment()
+    ensures first { millis_of DateTime.MIN ≡ neg_ℤ (pos (2 ^ 63)) }
+    ensures last { millis_of DateTime.MAX ≡ pos (2 ^ 63 - 1) }
+{}
+
 /// Each kind has a tag byte of its own (bsonspec.org 1.1).
 pub fn tag_bytes()
     ensures { (x y : AnyKind) → tag_byte x ≡ tag_byte y → x ≡ y }
@@ -83,7 +92,9 @@ pub fn uuid_forms()
     ensures { (representation : AnyRepresentation) (bytes : List ℕ) → length bytes ≡ 16 → uuid_form representation (uuid_form representation bytes) ≡ bytes }
 {}
 
-/// The bytes that a vector is written as are those of a vector.
+/// The bytes that a vector is written as are those of a vector, and of no other, so `Vector::from_binary` gives back what
+/// `Binary::from_vector` wrote.
 pub fn written_vectors()
-    ensures { (vector : AnyVector) → is_vector (vector_bytes (vector_value vector)) ≡ true }
+    ensures apart { (x y : VectorValue) → IsRangedVector x → IsRangedVector y → vector_bytes x ≡ vector_bytes y → x ≡ y }
+    ensures read { (vector : AnyVector) → is_vector (vector_bytes (vector_value vector)) ≡ true }
 {}

@@ -26,3 +26,6 @@ pub use regex::Regex;
 pub use spec::{BinarySubtype, ElementType};
 pub use timestamp::Timestamp;
 pub use uuid::Uuid;
+
+#[cfg(test)]
+mod tests;

@@ -1,9 +1,11 @@
 //! Regular expressions.
 
-ghost use Rattle.std.specs.Prelude.{◌≡◌, IfOk, string_bytes, chars, encode_utf8_all};
+ghost use Rattle.std.specs.Prelude.{◌≡◌, IfOk, string_bytes, chars, encode_utf8_all, Some};
 ghost use Rattle.bson_base.specs.Options.{sorted_text};
+ghost use Rattle.bson_base.specs.ScalarTexts.{regex_text};
 
 use std::alloc::{AllocError, Global};
+use std::fmt;
 
 /// A regular expression (bsonspec.org 1.1, element type 0B). Nothing here runs it.
 #[derive(Debug, PartialEq, Eq, Hash, Drop)]
@@ -33,6 +35,16 @@ impl Regex {
         let pattern = String::from_str(alloc, &self.pattern)?;
         let options = String::from_str(alloc, &self.options)?;
         Ok(Regex { pattern, options })
+    }
+}
+
+/// `/pattern/options`.
+impl fmt::Display for Regex {
+    ghost output = { λ r. Some (regex_text r) };
+
+    fn fmt<W: fmt::Write>(&self, f: &mut fmt::Formatter<W>) -> fmt::Result {
+        let (pattern, options) = (self.pattern.as_str(), self.options.as_str());
+        write!(f, "/{pattern}/{options}")
     }
 }
 

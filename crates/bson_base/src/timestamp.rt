@@ -1,5 +1,10 @@
 //! Timestamps of a replication log.
 
+ghost use Rattle.std.specs.Prelude.{Some};
+ghost use Rattle.bson_base.specs.ScalarTexts.{timestamp_text};
+
+use std::fmt;
+
 /// A moment in a log: seconds and a number within the second, each 32 bits (bsonspec.org 1.1, element type 11).
 #[derive(Clone, Copy, Debug, PartialEq, Eq, PartialOrd, Ord, Hash)]
 pub struct Timestamp {
@@ -7,4 +12,14 @@ pub struct Timestamp {
     pub time: u32,
     /// Which operation within the second.
     pub increment: u32,
+}
+
+/// `Timestamp(time, increment)`.
+impl fmt::Display for Timestamp {
+    ghost output = { λ t. Some (timestamp_text t) };
+
+    fn fmt<W: fmt::Write>(&self, f: &mut fmt::Formatter<W>) -> fmt::Result {
+        let (time, increment) = (self.time, self.increment);
+        write!(f, "Timestamp({time}, {increment})")
+    }
 }

@@ -2,11 +2,13 @@
 
 ghost use Rattle.std.specs.Prelude.{◌≡◌};
 
+mod text;
+
 use crate::spec::BinarySubtype;
 use thiserror::Error;
 
 /// Why a UUID was refused.
-#[derive(Clone, Debug, PartialEq, Drop, Error)]
+#[derive(Clone, Copy, Debug, PartialEq, Error)]
 pub enum Error {
     /// The text is not one of the four forms of a UUID.
     #[error("the text is not a UUID")]

@@ -15,6 +15,7 @@ mod tree;
 mod write;
 
 pub use batch::run;
+pub use bson_base::{Counted, DeviceFault, Sink, SliceSource, Source, VecSink};
 pub use command::{Command, Reply};
 pub use error::{ErrorKind, StoreError};
 pub use store::Store;

@@ -1,5 +1,4 @@
 use Rattle.std.proofs.Common.{◌≡◌, length, sym, ap, ◌∙◌, rules}
-use Rattle.bson_base.specs.Scalars.{uuid_bytes}
 use Rattle.bson_base.specs.Uuids.{uuid_form, uuid_subtype}
 use Rattle.bson_base.proofs.UuidLemmas.{uuid_form-twice}
 use Rattle.bson_base.proofs.binary.Binary.to_uuid_with_representation.Goals as goal

@@ -1,4 +1,4 @@
-use Rattle.std.proofs.Common.{◌≡◌, ◌+◌, ◌<◌, ℕ, List, ◌++◌, take, drop, length, get_or, sym, ap, ◌∙◌, arith, []}
+use Rattle.std.proofs.Common.{◌+◌, ◌<◌, ◌++◌, take, drop, length, get_or, sym, ap, ◌∙◌, arith}
 use Rattle.std.proofs.lemmas.Grind.{common_steps}
 use Rattle.bson_base.proofs.DeviceLemmas.{take_one, take_next, drop_next}
 use Rattle.bson_base.proofs.faulty.FaultySourceSource.read.Goals as goal

@@ -1,0 +1,5 @@
+use Rattle.bson_base.proofs.DecimalBits.{unpack-pack}
+use Rattle.bson_base.proofs.laws.decimals.packed_decimals_come_back.Goals as goal
+
+pub returns : goal.returns
+returns c = unpack-pack

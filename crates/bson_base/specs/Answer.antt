@@ -1,0 +1,7 @@
+-- What an answer holds, seen otherwise.
+use Rattle.std.specs.Prelude.{Result, Ok, Err}
+
+-- the answer with its value seen by `view`
+abbrev pub result_map : {X Y E : Type 0} → (X → Y) → Result X E → Result Y E
+result_map view (Ok x) = Ok (view x)
+result_map view (Err e) = Err e

@@ -1,0 +1,339 @@
+//! A decimal's text as it is read, step by step.
+
+ghost use Rattle.std.specs.Prelude.{◌≡◌, ◌<◌, ◌≤◌, ◌^◌, ◌+◌, ◌-◌, ℕ, Bool, true, min, length, option_map, IfOk, replicate};
+ghost use Rattle.std.specs.Str.{str_to_ascii_lowercase};
+ghost use Rattle.bson_base.specs.Answer.{result_map};
+ghost use Rattle.bson_base.specs.Decimal.{all_digits as are_digits, append_zeros as appended, checked_digits as checked, cut, downward as downward_of, drop_last as without_last, drop_tail as without_tail, finite as finite_of, fit as fitted, in_range as ranged, is_dot, is_e, is_named as is_named_by, lift as lifted, lower as lowered, marks, pack, raise as raised, read, read_coefficient as coefficient_of, read_cut as read_of_cut, read_exponent as exponent_of, read_number as number_read, read_unsigned as unsigned_read, shorten as shortened, strip as stripped, upward as upward_of, value as value_of, value_after as value_behind, with_places as placed};
+ghost use Rattle.bson_base.specs.DecimalParts.{digits_of, IsFinite, IsPackable, IsShortened, meant, packed};
+
+use super::ParseError;
+use super::digits::{Digits, all_digits};
+use super::parts::Parts;
+
+type Shortened<'a> = Result<(Digits<'a>, u32), ParseError>;
+
+fn cut_at(text: &[u8], mark: u8, other: u8) -> (&[u8], Option<&[u8]>)
+    ensures { (result.0.now, option_map (λ s. s.now) result.1) ≡ cut (marks mark other) text.now }
+{
+    for (i, c) in text.iter().enumerate() {
+        if *c == mark || *c == other {
+            return (&text[..i], Some(&text[i + 1..]));
+        }
+    }
+    (text, None)
+}
+
+/// The value of digits, or 100000 where it is more.
+fn small_value(digits: &[u8]) -> u32
+    requires { are_digits digits.now ≡ true }
+    ensures { result ≡ min (value_of digits.now) 100000 }
+{
+    let mut n = 0u32;
+    for c in digits {
+        n = (n * 10 + (*c - b'0') as u32).min(100_000);
+    }
+    n
+}
+
+fn upward(digits: &[u8]) -> Result<u32, ParseError>
+    ensures { result ≡ upward_of digits.now }
+{
+    if digits.is_empty() || !all_digits(digits) {
+        return Err(ParseError::InvalidExponent);
+    }
+    let n = small_value(digits);
+    if n <= 32767 {
+        Ok(65536 + n)
+    } else {
+        Err(ParseError::InvalidExponent)
+    }
+}
+
+fn downward(digits: &[u8]) -> Result<u32, ParseError>
+    ensures { result ≡ downward_of digits.now }
+{
+    if digits.is_empty() || !all_digits(digits) {
+        return Err(ParseError::InvalidExponent);
+    }
+    let n = small_value(digits);
+    if n <= 32768 {
+        Ok(65536 - n)
+    } else {
+        Err(ParseError::InvalidExponent)
+    }
+}
+
+fn read_exponent(text: Option<&[u8]>) -> Result<u32, ParseError>
+    ensures value { result ≡ exponent_of (option_map (λ s. s.now) text.entry) }
+    ensures bound { IfOk result (λ x. x < 98304) }
+{
+    match text {
+        None => Ok(65536),
+        Some([]) => Err(ParseError::EmptyExponent),
+        Some([first, rest @ ..]) => {
+            if *first == b'+' {
+                upward(rest)
+            } else if *first == b'-' {
+                downward(rest)
+            } else {
+                match text {
+                    Some(whole) => upward(whole),
+                    None => Ok(65536),
+                }
+            }
+        }
+    }
+}
+
+/// The digits of a coefficient, and how many stand behind the dot.
+fn read_coefficient(text: &[u8]) -> Result<(Digits<'_>, usize), ParseError>
+    ensures value { result_map (λ p. (digits_of p.0, p.1)) result ≡ coefficient_of (cut is_dot text.now) }
+    ensures digits { IfOk result (λ p. are_digits (digits_of p.0) ≡ true) }
+{
+    match cut_at(text, b'.', b'.') {
+        (whole, None) => check(
+            Digits {
+                whole,
+                part: &whole[..0],
+            },
+            0,
+        ),
+        (whole, Some(part)) => check(Digits { whole, part }, part.len()),
+    }
+}
+
+fn check(digits: Digits<'_>, places: usize) -> Result<(Digits<'_>, usize), ParseError>
+    ensures value { result_map (λ p. (digits_of p.0, p.1)) result ≡ checked (digits_of digits.entry) places }
+    ensures digits { IfOk result (λ p. are_digits (digits_of p.0) ≡ true) }
+{
+    if digits.len() > 0 && digits.all_digits() {
+        Ok((digits, places))
+    } else {
+        Err(ParseError::InvalidCoefficient)
+    }
+}
+
+fn lift(digits: Digits<'_>, kept: usize, exponent: u32) -> Shortened<'_>
+    requires long { kept < length (digits_of digits) }
+    requires all { are_digits (digits_of digits) ≡ true }
+    requires low { exponent < 98304 }
+    ensures value { result_map (λ p. (digits_of p.0, p.1)) result ≡ lifted kept (digits_of digits.entry) exponent }
+    ensures digits { IfOk result (λ p. IsShortened kept (digits_of p.0) p.1) }
+{
+    let dropped = digits.len() - kept;
+    if dropped > 32767 || exponent as usize + dropped > 98303 {
+        return Err(ParseError::Overflow);
+    }
+    Ok((digits.first(kept), exponent + dropped as u32))
+}
+
+#[tactic(auto, unfolding(crate::specs::Decimal::drop_tail))]
+fn drop_tail(digits: Digits<'_>, kept: usize, exponent: u32) -> Shortened<'_>
+    requires long { kept < length (digits_of digits) }
+    requires all { are_digits (digits_of digits) ≡ true }
+    requires low { exponent < 98304 }
+    ensures value { result_map (λ p. (digits_of p.0, p.1)) result ≡ without_tail kept (digits_of digits.entry) exponent }
+    ensures digits { IfOk result (λ p. IsShortened kept (digits_of p.0) p.1) }
+{
+    if !digits.are_zeros_from(kept) {
+        return Err(ParseError::InexactRounding);
+    }
+    lift(digits, kept, exponent)
+}
+
+fn shorten(digits: Digits<'_>, exponent: u32) -> Shortened<'_>
+    requires all { are_digits (digits_of digits) ≡ true }
+    requires low { exponent < 98304 }
+    ensures value { result_map (λ p. (digits_of p.0, p.1)) result ≡ shortened (digits_of digits.entry) exponent }
+    ensures digits { IfOk result (λ p. IsShortened 34 (digits_of p.0) p.1) }
+{
+    if digits.len() <= 34 {
+        return Ok((digits, exponent));
+    }
+    drop_tail(digits, 34, exponent)
+}
+
+fn finite(negative: bool, coefficient: u128, exponent: u16) -> Parts
+    requires coefficient { coefficient < 10 ^ 34 }
+    requires exponent { exponent < 12288 }
+    ensures value { meant result ≡ finite_of negative coefficient exponent }
+    ensures finite { IsFinite result }
+{
+    Parts::Finite {
+        negative,
+        coefficient,
+        exponent,
+    }
+}
+
+/// Without the last digits, which have to be zeros.
+fn drop_last(negative: bool, digits: Digits<'_>, missing: usize) -> Result<Parts, ParseError>
+    requires few { length (digits_of digits) ≤ 34 }
+    requires all { are_digits (digits_of digits) ≡ true }
+    ensures value { result_map meant result ≡ without_last negative (digits_of digits.entry) missing }
+    ensures finite { IfOk result IsFinite }
+{
+    if digits.len() < missing {
+        return Err(ParseError::Underflow);
+    }
+    let kept = digits.len() - missing;
+    if digits.are_zeros_from(kept) {
+        Ok(finite(negative, digits.first(kept).value(), 0))
+    } else {
+        Err(ParseError::InexactRounding)
+    }
+}
+
+fn raise(negative: bool, digits: Digits<'_>, exponent: u32) -> Result<Parts, ParseError>
+    requires few { length (digits_of digits) ≤ 34 }
+    requires all { are_digits (digits_of digits) ≡ true }
+    requires low { exponent < 59360 }
+    ensures value { result_map meant result ≡ raised negative (digits_of digits.entry) exponent }
+    ensures finite { IfOk result IsFinite }
+{
+    if digits.value() == 0 {
+        Ok(finite(negative, 0, 0))
+    } else {
+        drop_last(negative, digits, 59360 - exponent as usize)
+    }
+}
+
+/// A number followed by so many zeros, at most 34 digits in all.
+fn times_ten(start: u128, before: usize, zeros: usize) -> u128
+    requires few { before + zeros ≤ 34 }
+    requires low { start < 10 ^ before }
+    ensures value { result ≡ value_behind start (replicate zeros 48) }
+    ensures bound { result < 10 ^ 34 }
+{
+    let mut n = start;
+    for done in 0..zeros {
+        n = n * 10;
+    }
+    n
+}
+
+fn append_zeros(negative: bool, digits: Digits<'_>, zeros: usize) -> Result<Parts, ParseError>
+    requires few { length (digits_of digits) ≤ 34 }
+    requires low { zeros < 2 ^ 20 }
+    requires all { are_digits (digits_of digits) ≡ true }
+    ensures value { result_map meant result ≡ appended negative (digits_of digits.entry) zeros }
+    ensures finite { IfOk result IsFinite }
+{
+    if digits.len() + zeros <= 34 {
+        let coefficient = times_ten(digits.value(), digits.len(), zeros);
+        Ok(finite(negative, coefficient, 12287))
+    } else {
+        Err(ParseError::Overflow)
+    }
+}
+
+fn lower(negative: bool, digits: Digits<'_>, exponent: u32) -> Result<Parts, ParseError>
+    requires few { length (digits_of digits) ≤ 34 }
+    requires all { are_digits (digits_of digits) ≡ true }
+    requires high { 71647 < exponent }
+    requires fits { exponent < 98304 }
+    ensures value { result_map meant result ≡ lowered negative (digits_of digits.entry) exponent }
+    ensures finite { IfOk result IsFinite }
+{
+    if digits.value() == 0 {
+        Ok(finite(negative, 0, 12287))
+    } else {
+        append_zeros(negative, digits, (exponent - 71647) as usize)
+    }
+}
+
+fn in_range(negative: bool, digits: Digits<'_>, exponent: u32) -> Result<Parts, ParseError>
+    requires few { length (digits_of digits) ≤ 34 }
+    requires all { are_digits (digits_of digits) ≡ true }
+    requires fits { exponent < 98304 }
+    ensures value { result_map meant result ≡ ranged negative (digits_of digits.entry, exponent) }
+    ensures finite { IfOk result IsFinite }
+{
+    if exponent < 59360 {
+        raise(negative, digits, exponent)
+    } else if 71647 < exponent {
+        lower(negative, digits, exponent)
+    } else {
+        Ok(finite(negative, digits.value(), (exponent - 59360) as u16))
+    }
+}
+
+fn fit(negative: bool, digits: Digits<'_>, exponent: u32) -> Result<Parts, ParseError>
+    requires all { are_digits (digits_of digits) ≡ true }
+    requires fits { exponent < 98304 }
+    ensures value { result_map meant result ≡ fitted negative (digits_of digits.entry) exponent }
+    ensures finite { IfOk result IsFinite }
+{
+    let (digits, exponent) = shorten(digits, exponent)?;
+    in_range(negative, digits, exponent)
+}
+
+fn with_places(
+    negative: bool,
+    exponent: u32,
+    digits: Digits<'_>,
+    places: usize,
+) -> Result<Parts, ParseError>
+    requires all { are_digits (digits_of digits) ≡ true }
+    requires fits { exponent < 98304 }
+    ensures value { result_map meant result ≡ placed negative exponent (digits_of digits.entry, places) }
+    ensures finite { IfOk result IsFinite }
+{
+    if places > 32767 || (exponent as usize) < places + 32768 {
+        return Err(ParseError::Underflow);
+    }
+    fit(negative, digits.strip(), exponent - places as u32)
+}
+
+fn read_number(negative: bool, text: &[u8]) -> Result<Parts, ParseError>
+    ensures value { result_map meant result ≡ number_read negative text.now }
+    ensures finite { IfOk result IsFinite }
+{
+    let (front, behind) = cut_at(text, b'e', b'E');
+    let exponent = read_exponent(behind)?;
+    let (digits, places) = read_coefficient(front)?;
+    with_places(negative, exponent, digits, places)
+}
+
+fn is_named(text: &[u8], name: &[u8]) -> bool
+    requires { str_to_ascii_lowercase name.now ≡ name.now }
+    ensures { result ≡ is_named_by text.now name.now }
+{
+    text.eq_ignore_ascii_case(name)
+}
+
+fn read_unsigned(negative: bool, text: &[u8]) -> Result<Parts, ParseError>
+    ensures value { result_map packed result ≡ unsigned_read negative text.now }
+    ensures packable { IfOk result IsPackable }
+{
+    if is_named(text, b"nan") {
+        let signalling = false;
+        return Ok(Parts::NotANumber {
+            negative,
+            signalling,
+        });
+    }
+    if is_named(text, b"snan") {
+        let signalling = true;
+        return Ok(Parts::NotANumber {
+            negative,
+            signalling,
+        });
+    }
+    if is_named(text, b"inf") || is_named(text, b"infinity") {
+        return Ok(Parts::Infinite { negative });
+    }
+    read_number(negative, text)
+}
+
+/// The parts of the decimal that a text reads as.
+pub(crate) fn read_decimal(text: &str) -> Result<Parts, ParseError>
+    ensures value { result_map packed result ≡ read text.now }
+    ensures packable { IfOk result IsPackable }
+{
+    match text.as_bytes() {
+        [b'+', rest @ ..] => read_unsigned(false, rest),
+        [b'-', rest @ ..] => read_unsigned(true, rest),
+        rest => read_unsigned(false, rest),
+    }
+}

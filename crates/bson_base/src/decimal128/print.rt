@@ -1,0 +1,132 @@
+//! The text of a decimal.
+
+ghost use Rattle.std.specs.Prelude.{◌≡◌, ◌<◌, ◌≤◌, ◌^◌, ◌+◌, ◌-◌, ◌∷◌, ◌++◌, length, replicate};
+ghost use Rattle.std.specs.Fmt.{WritesOnOk, decimal};
+ghost use Rattle.std.specs.Str.{IsAscii};
+ghost use Rattle.bson_base.specs.Decimal.{digits_text, exponent_text, is_plain as is_plain_at, mantissa, minus_if as minus_of, print, with_dot};
+ghost use Rattle.bson_base.specs.DecimalParts.{meant};
+
+use super::parts::Parts;
+use std::fmt;
+
+/// At most five zeros, since a plain text has no more in front.
+fn zeros(count: usize) -> &'static str
+    requires { count ≤ 5 }
+    ensures { result.now ≡ replicate count 48 }
+{
+    match count {
+        0 => "",
+        1 => "0",
+        2 => "00",
+        3 => "000",
+        4 => "0000",
+        _ => "00000",
+    }
+}
+
+fn write_dotted<W: fmt::Write>(
+    f: &mut fmt::Formatter<W>,
+    digits: &str,
+    places: usize,
+) -> fmt::Result
+    requires ascii { IsAscii digits.now }
+    requires near { places ≤ length digits.now + 5 }
+    ensures { WritesOnOk W.write_str_gives f.old result (with_dot places digits.now) f.new }
+{
+    if places == 0 {
+        f.write_str(digits)
+    } else if digits.len() <= places {
+        let front = zeros(places - digits.len());
+        write!(f, "0.{front}{digits}")
+    } else {
+        let (whole, part) = digits.split_at(digits.len() - places);
+        write!(f, "{whole}.{part}")
+    }
+}
+
+fn write_exponent<W: fmt::Write>(f: &mut fmt::Formatter<W>, exponent: usize) -> fmt::Result
+    ensures { WritesOnOk W.write_str_gives f.old result (69 ∷ exponent_text exponent) f.new }
+{
+    if exponent >= 6176 {
+        write!(f, "E+{}", exponent - 6176)
+    } else {
+        write!(f, "E-{}", 6176 - exponent)
+    }
+}
+
+fn is_plain(exponent: usize, len: usize) -> bool
+    requires { len + exponent < 2 ^ 32 }
+    ensures { result ≡ is_plain_at exponent len }
+{
+    exponent <= 6176 && 6176 <= exponent + len + 5
+}
+
+fn write_scientific<W: fmt::Write>(
+    f: &mut fmt::Formatter<W>,
+    digits: &str,
+    exponent: usize,
+) -> fmt::Result
+    requires ascii { IsAscii digits.now }
+    requires some { 0 < length digits.now }
+    requires fits { length digits.now + exponent < 2 ^ 32 }
+    ensures { WritesOnOk W.write_str_gives f.old result (mantissa digits.now ++ 69 ∷ exponent_text (exponent + length digits.now - 1)) f.new }
+{
+    let len = digits.len();
+    write_dotted(f, digits, len - 1)?;
+    write_exponent(f, exponent + len - 1)
+}
+
+fn write_number<W: fmt::Write>(
+    f: &mut fmt::Formatter<W>,
+    digits: &str,
+    exponent: usize,
+) -> fmt::Result
+    requires ascii { IsAscii digits.now }
+    requires some { 0 < length digits.now }
+    requires fits { length digits.now + exponent < 2 ^ 32 }
+    ensures { WritesOnOk W.write_str_gives f.old result (digits_text exponent digits.now) f.new }
+{
+    if is_plain(exponent, digits.len()) {
+        write_dotted(f, digits, 6176 - exponent)
+    } else {
+        write_scientific(f, digits, exponent)
+    }
+}
+
+fn minus_if(negative: bool) -> &'static str
+    ensures { result.now ≡ minus_of negative }
+{
+    if negative { "-" } else { "" }
+}
+
+fn write_finite<W: fmt::Write>(
+    f: &mut fmt::Formatter<W>,
+    negative: bool,
+    coefficient: u128,
+    exponent: u16,
+) -> fmt::Result
+    ensures { WritesOnOk W.write_str_gives f.old result (minus_of negative ++ digits_text exponent (decimal coefficient)) f.new }
+{
+    f.write_str(minus_if(negative))?;
+    let mut buffer = itoa::Buffer::new();
+    let digits = buffer.format(coefficient);
+    write_number(f, digits, exponent as usize)
+}
+
+/// Writes the text of a decimal.
+pub(crate) fn write_parts<W: fmt::Write>(f: &mut fmt::Formatter<W>, parts: Parts) -> fmt::Result
+    ensures { WritesOnOk W.write_str_gives f.old result (print (meant parts)) f.new }
+{
+    match parts {
+        Parts::NotANumber { .. } => f.write_str("NaN"),
+        Parts::Infinite { negative } => {
+            let minus = minus_if(negative);
+            write!(f, "{minus}Infinity")
+        }
+        Parts::Finite {
+            negative,
+            coefficient,
+            exponent,
+        } => { write_finite(f, negative, coefficient, exponent) }
+    }
+}

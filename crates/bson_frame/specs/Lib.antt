@@ -1,0 +1,4 @@
+pub mod Frame
+pub mod Reader
+pub mod Payload
+pub mod View

@@ -1,0 +1,29 @@
+-- What clauses see of the code's types.
+use Rattle.std.specs.Prelude.{◌≡◌, ℕ, List, Option, Some, None, string_bytes, ◌⊎◌}
+use Rattle.std.specs.Option.{option_map}
+use Rattle.bson_frame.specs.declared.parts.Frame.{Frame}
+use Rattle.bson_frame.specs.declared.error.ErrorKind.{ErrorKind}
+use Rattle.bson_frame.specs.declared.error.ErrorKind.TheVariants.{OutOfMemory}
+use Rattle.bson_frame.specs.declared.error.Error.{Error}
+use Rattle.bson_frame.specs.declared.error.ValueAccessError.{ValueAccessError}
+use Rattle.bson_frame.specs.Frame.{Element}
+
+-- a frame without where it lies in memory, and without what follows it
+abbrev pub element_of : Frame → Element
+element_of f = record { tag = f.tag; key = f.key.now; payload = f.payload.now }
+
+-- the key that a fault stands under, if there is one
+abbrev pub fault_key : Error → Option (List ℕ)
+fault_key e = option_map string_bytes e.key
+
+-- the key that was asked for
+abbrev pub asked_key : ValueAccessError → List ℕ
+asked_key e = string_bytes e.key
+
+-- a fault of this kind that stands under no key
+abbrev pub IsBare : ErrorKind → Error → Type 0
+IsBare kind e = (e.kind ≡ kind) × (fault_key e ≡ None)
+
+-- a payload fault under its key, or want of memory in its place
+abbrev pub IsFaultUnder : List ℕ → ErrorKind → Error → Type 0
+IsFaultUnder key kind e = ((e.kind ≡ kind) × (fault_key e ≡ Some key)) ⊎ IsBare OutOfMemory e

@@ -1,0 +1,18 @@
+use Rattle.std.specs.Option.{option_map}
+use Rattle.std.specs.Map.{values_of}
+use Rattle.std.proofs.Common.{◌≡◌, Some, is_some, slice_get, string_bytes, refl, sym, ap, ◌∙◌, subst}
+use Rattle.std.proofs.lemmas.Result.{IfOk-weaker, on_ok_weaker}
+use Rattle.bson_pairs.specs.Keyed.{get, put, without, set_at}
+use Rattle.bson_model.specs.View.{view, pairs_of}
+use Rattle.bson_model.specs.declared.document.Document.{roll-Document}
+use Rattle.bson_model.proofs.ViewLemmas.{view_of_ref, view_of_mut, is_some-map}
+use Rattle.bson_pairs.proofs.KeyedLemmas.{over, get-over, put-over, without-over, set_at-over, slice_get-over, on_some, on_some_weaker}
+use Rattle.bson_model.proofs.document.Document.get_index_mut.Goals as goal
+
+pub returns : goal.returns
+returns c =
+    let ps = c.args.self.now.pairs in
+    let at = c.args.index in (
+      (refl, λ w. on_some c.get_index_mut.result (sym (set_at-over view ps at w)), refl),
+      record { writes_back = tt; value = view_of_mut c.get_index_mut.result ∙ ap (option_map view) c.get_index_mut.ensures.value ∙ sym (slice_get-over view ps at) },
+    )

@@ -1,0 +1,11 @@
+pub mod Keyed
+pub mod View
+pub mod Trees
+pub mod Kinds
+pub mod Rows
+pub mod Equal
+pub mod Laws
+pub mod Lending
+pub mod Extend
+pub mod Rest
+pub mod Entries

@@ -1,0 +1,81 @@
+//! What no single call promises: the laws of equality and hashing, and that no key stands twice. Each function is called for
+//! its fact alone.
+ghost use Rattle.std.specs.Prelude.{◌≡◌, IsTrue, map};
+ghost use Rattle.std.specs.Cmp.{IsEquivalence};
+ghost use Rattle.bson_base.specs.Value.{HasDistinctKeys, ItemsHaveDistinctKeys, MembersHaveDistinctKeys};
+ghost use Rattle.bson_model.specs.Laws.{bson_eq, document_eq, bson_writes, document_writes};
+ghost use Rattle.bson_model.specs.View.{view, pairs_of, items_of, members_of};
+ghost use Rattle.bson_model.specs.declared.bson.Bson.{Bson as Tree};
+ghost use Rattle.bson_model.specs.declared.document.Document.{Document as Pairs};
+
+use crate::bson::Bson;
+use crate::document::Document;
+use std::hash::Hash;
+
+fn equality<T: Eq>()
+    ensures { IsEquivalence T.eq }
+{}
+
+fn hashing<T: Hash>()
+    ensures { (x y : T) → IsTrue (T.eq x y) → T.hash_input x ≡ T.hash_input y }
+{}
+
+/// `==` on values is an equivalence.
+pub fn equality_of_values()
+    ensures { IsEquivalence bson_eq }
+{
+    equality::<Bson>();
+}
+
+/// `==` on documents is an equivalence.
+pub fn equality_of_documents()
+    ensures { IsEquivalence document_eq }
+{
+    equality::<Document>();
+}
+
+/// Equal values are fed alike to a hasher.
+pub fn hashing_of_values()
+    ensures { (x y : Tree) → IsTrue (bson_eq x y) → bson_writes x ≡ bson_writes y }
+{
+    hashing::<Bson>();
+}
+
+/// Equal documents are fed alike to a hasher.
+pub fn hashing_of_documents()
+    ensures { (x y : Pairs) → IsTrue (document_eq x y) → document_writes x ≡ document_writes y }
+{
+    hashing::<Document>();
+}
+
+/// No key stands twice in any document of the value. It goes through the whole value.
+#[cycle(distinct)]
+pub fn distinct_keys(value: &Bson)
+    ensures { HasDistinctKeys (view value.now) }
+{
+    match value {
+        Bson::Array(items) => distinct_keys_of_items(items.as_slice()),
+        Bson::Document(document) => distinct_keys_of_document(document),
+        Bson::JavaScriptCodeWithScope(code) => distinct_keys_of_document(&code.scope),
+        _ => (),
+    }
+}
+
+/// No key stands twice in any document of the items. It goes through all of them.
+#[cycle(distinct)]
+pub fn distinct_keys_of_items(items: &[Bson])
+    ensures { ItemsHaveDistinctKeys (items_of (map view items.now)) }
+{
+    for item in items {
+        distinct_keys(item);
+    }
+}
+
+/// No key stands twice in the document, nor in any document inside. It goes through the whole document.
+#[cycle(distinct)]
+pub fn distinct_keys_of_document(document: &Document)
+    ensures { MembersHaveDistinctKeys (members_of (pairs_of document.now)) }
+{
+    let _keys = document.pairs.keys();
+    distinct_keys_of_items(document.pairs.values());
+}

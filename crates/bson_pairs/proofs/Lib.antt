@@ -1,0 +1,3 @@
+pub mod KeyedLemmas
+pub mod NextLemmas
+pub mod DistinctLemmas

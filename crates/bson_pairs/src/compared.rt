@@ -1,0 +1,153 @@
+//! Equality and hashing of pairs, in which their order does not count.
+ghost use Rattle.std.specs.Prelude.{◌≡◌, string_bytes};
+ghost use Rattle.std.specs.List.{list_all};
+ghost use Rattle.std.specs.Option.{option_copied, option_map};
+ghost use Rattle.bson_pairs.specs.Keyed.{key_bytes, get, has_key};
+ghost use Rattle.bson_pairs.specs.Same.{same_at, pairs_eq, pairs_eq_partial, pairs_eq_equiv};
+ghost use Rattle.bson_pairs.specs.Ascending.{ascending, pairs_writes, pairs_writes_respect};
+ghost use Rattle.bson_pairs.specs.Next.{is_above, lesser, next_key, above, first_pair};
+
+use crate::pairs::Pairs;
+use std::hash::{Hash, Hasher};
+
+impl<V> Pairs<V> {
+    // The value under a key. A place that the key may have is looked at first.
+    fn get_near(&self, key: &str, place: usize) -> Option<&V>
+        ensures { option_copied result ≡ get key.now self.now }
+    {
+        match self.keys().get(place) {
+            Some(there) => {
+                if there.as_str() == key {
+                    Some(&self.values()[place])
+                } else {
+                    self.get(key)
+                }
+            }
+            None => self.get(key),
+        }
+    }
+
+    // Whether each of these keys is there.
+    fn has_all(&self, keys: &[String]) -> bool
+        ensures { result ≡ list_all (λ k. has_key (string_bytes k) self.now) keys.now }
+    {
+        for (place, key) in keys.iter().enumerate() {
+            if self.get_near(key.as_str(), place).is_none() {
+                return false;
+            }
+        }
+        true
+    }
+}
+
+impl<V: PartialEq> Pairs<V> {
+    // Whether neither has a value under a key, or both have, and the two are equal.
+    fn is_same_at(&self, other: &Pairs<V>, key: &str, place: usize) -> bool
+        ensures { result ≡ same_at V.eq self.now other.now key.now }
+    {
+        match self.get_near(key, place) {
+            Some(a) => match other.get_near(key, place) {
+                Some(b) => a.eq(b),
+                None => false,
+            },
+            None => other.get_near(key, place).is_none(),
+        }
+    }
+
+    // Under each of these keys.
+    fn is_same_at_all(&self, other: &Pairs<V>, keys: &[String]) -> bool
+        ensures { result ≡ list_all (λ k. same_at V.eq self.now other.now (string_bytes k)) keys.now }
+    {
+        for (place, key) in keys.iter().enumerate() {
+            if !self.is_same_at(other, key.as_str(), place) {
+                return false;
+            }
+        }
+        true
+    }
+}
+
+/// The order of the pairs does not count. Each value is compared at most once.
+impl<V: PartialEq> PartialEq for Pairs<V> {
+    ghost eq = { pairs_eq V.eq };
+
+    ghost laws = { pairs_eq_partial V.eq V.laws };
+
+    fn eq(&self, other: &Pairs<V>) -> bool {
+        self.is_same_at_all(other, self.keys()) && self.has_all(other.keys())
+    }
+}
+
+impl<V: Eq> Eq for Pairs<V> {
+    ghost laws = { pairs_eq_equiv V.eq V.Eq.laws };
+}
+
+// Whether a key is above the given one, if there is one.
+fn is_key_above(after: Option<&str>, key: &str) -> bool
+    ensures { result ≡ is_above (option_copied after.entry) key.now }
+{
+    match after {
+        Some(after) => after < key,
+        None => true,
+    }
+}
+
+// The lesser of a key and of another, if there is one.
+fn lesser_key<'a>(key: &'a str, other: Option<&'a str>) -> Option<&'a str>
+    ensures { option_copied result ≡ lesser key.now (option_copied other.entry) }
+{
+    match other {
+        Some(other) => Some(if key < other { key } else { other }),
+        None => Some(key),
+    }
+}
+
+// The least of the keys that are above the given one.
+fn next_key_above<'a>(keys: &'a [String], after: Option<&str>) -> Option<&'a str>
+    ensures { option_copied result ≡ next_key (option_copied after.entry) (key_bytes keys.now) }
+{
+    let mut next = None;
+    for i in (0..keys.len()).rev() {
+        let key = keys[i].as_str();
+        if is_key_above(after, key) {
+            next = lesser_key(key, next);
+        }
+    }
+    next
+}
+
+impl<V> Pairs<V> {
+    // The pair with the least key above the given one.
+    fn next_above(&self, after: Option<&str>) -> Option<(&str, &V)>
+        ensures { option_map (λ p. (p.0.now, p.1.now)) result ≡ first_pair (above (option_copied after.entry) (ascending self.now)) }
+    {
+        match next_key_above(self.keys(), after) {
+            Some(key) => match self.get(key) {
+                Some(value) => Some((key, value)),
+                None => None,
+            },
+            None => None,
+        }
+    }
+}
+
+/// The pairs are fed ascending by their keys. Each one is looked for among all, so that no memory is taken.
+impl<V: Hash> Hash for Pairs<V> {
+    ghost hash_input = { pairs_writes V.hash_input };
+
+    ghost respects_eq = { pairs_writes_respect V.eq V.hash_input V.respects_eq };
+
+    fn hash<H: Hasher>(&self, state: &mut H) {
+        let mut after = None;
+        for i in 0..self.len() {
+            match self.next_above(after) {
+                Some((key, value)) => {
+                    key.hash(state);
+                    value.hash(state);
+                    after = Some(key);
+                }
+                None => return,
+            }
+        }
+    }
+}

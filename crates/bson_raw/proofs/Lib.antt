@@ -1,0 +1,4 @@
+pub mod Walks
+pub mod Turns
+pub mod Runs
+pub mod Accesses

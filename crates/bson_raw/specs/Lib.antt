@@ -1,0 +1,5 @@
+pub mod View
+pub mod Walk
+pub mod Value
+pub mod Read
+pub mod Access

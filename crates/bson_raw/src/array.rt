@@ -1,0 +1,213 @@
+//! Arrays as views over their bytes.
+
+ghost use Rattle.std.specs.Prelude.{◌≡◌, ◌↔◌, [], IsTrue, List, Result, Option, drop, Some, None};
+ghost use Rattle.std.specs.Iterator.{Drains};
+ghost use Rattle.std.specs.Fmt.{decimal};
+ghost use Rattle.bson_frame.specs.Frame.{Element};
+ghost use Rattle.bson_frame.specs.declared.error.Error.{Error as Fault};
+ghost use Rattle.bson_frame.specs.declared.error.ErrorKind.{ErrorKind as Kind};
+
+use crate::access;
+use crate::access::Asked;
+use crate::array_iter::RawArrayIter;
+use crate::bson_ref::{RawBinaryRef, RawBsonRef, RawRegexRef};
+use crate::document::RawDocument;
+use crate::element::RawElement;
+use bson_base::{DateTime, DoubleBits, ObjectId, Timestamp};
+use bson_frame::{Error, ValueAccessResult};
+use std::alloc::Global;
+
+/// A view of the bytes of an array: a document whose keys don't count (bsonspec.org 1.1, element type 04). Two views are equal
+/// where their bytes are.
+#[derive(Clone, Copy, Debug, PartialEq)]
+pub struct RawArray<'a> {
+    pub(crate) document: RawDocument<'a>,
+}
+
+impl<'a> RawArray<'a> {
+    ghost use Rattle.bson_raw.specs.Access.{AccessAnswer};
+    ghost use Rattle.bson_raw.specs.Read.{GetAnswer, IsRead, value_steps};
+    ghost use Rattle.bson_raw.specs.Value.{as_f64, as_str, as_document, as_array, as_binary, as_object_id, as_bool, as_datetime, as_regex, as_timestamp, as_i32, as_i64};
+    ghost use Rattle.bson_raw.specs.View.{array_bytes, values_left};
+    ghost use Rattle.bson_raw.specs.Walk.{IsDocumentWalk, YieldsWalk, IsFound, found_at};
+    ghost use Rattle.bson_raw.specs.declared.bson_ref.RawBsonRef.{RawBsonRef as Value};
+
+    /// The bytes.
+    pub fn as_bytes(self) -> &'a [u8]
+        ensures { result.now ≡ array_bytes self.entry }
+    {
+        self.document.as_bytes()
+    }
+
+    /// Whether iteration yields nothing.
+    pub fn is_empty(self) -> bool
+        ensures { IsTrue result ↔ (IsDocumentWalk (array_bytes self.entry) [] None) }
+    {
+        self.document.is_empty()
+    }
+
+    /// The values in order, payload faults in their places, and a structural fault last. Memory is taken for the key of a
+    /// payload fault alone; where it finds none, want of memory stands in its place and the walk goes on.
+    pub fn iter(self, alloc: Global) -> RawArrayIter<'a>
+        ensures start { values_left result ≡ Some (drop 4 (array_bytes self.entry)) }
+        ensures walk { (items : List (Result Value Fault)) → Drains value_steps result items
+            → YieldsWalk IsRead (array_bytes self.entry) items }
+    {
+        RawArrayIter {
+            raw: self.document.iter_elements(),
+            alloc,
+        }
+    }
+
+    /// The item of the walk at the place, counted from 0, whatever its key. A fault counts as an item.
+    fn item_at(self, index: usize) -> Option<Result<RawElement<'a>, Error>>
+        ensures { (elements : List Element) (fault : Option Kind) → IsDocumentWalk (array_bytes self.entry) elements fault
+            → IsFound (found_at index elements fault) result }
+    {
+        bson_frame::laws::one_first_frame();
+        bson_frame::laws::one_structural_fault();
+        bson_frame::laws::payload_by_itself();
+        self.document.iter_elements().nth(index)
+    }
+
+    /// The value at the place, counted from 0, whatever its key, or the fault there; none past the end. Memory is taken for
+    /// the key of a payload fault alone.
+    pub fn get(self, alloc: Global, index: usize) -> Result<Option<RawBsonRef<'a>>, Error>
+        ensures { (elements : List Element) (fault : Option Kind) → IsDocumentWalk (array_bytes self.entry) elements fault
+            → GetAnswer (found_at index elements fault) result }
+    {
+        access::read(alloc, self.item_at(index))
+    }
+
+    /// The double at the place, counted from 0. The key of an error is the place in decimal.
+    ///
+    /// `NotPresent` past the end, `UnexpectedType` where a value of another kind stands, `InvalidBson` where `get` answers a
+    /// fault. Memory is taken for an error alone.
+    pub fn get_f64(self, alloc: Global, index: usize) -> ValueAccessResult<DoubleBits>
+        ensures { (elements : List Element) (fault : Option Kind) → IsDocumentWalk (array_bytes self.entry) elements fault
+            → AccessAnswer as_f64 (decimal index) (found_at index elements fault) result }
+    {
+        access::take_f64(alloc, Asked::Place(index), self.get(alloc, index))
+    }
+
+    /// The text at the place, counted from 0. The key of an error is the place in decimal.
+    ///
+    /// `NotPresent` past the end, `UnexpectedType` where a value of another kind stands, `InvalidBson` where `get` answers a
+    /// fault. Memory is taken for an error alone.
+    pub fn get_str(self, alloc: Global, index: usize) -> ValueAccessResult<&'a str>
+        ensures { (elements : List Element) (fault : Option Kind) → IsDocumentWalk (array_bytes self.entry) elements fault
+            → AccessAnswer as_str (decimal index) (found_at index elements fault) result }
+    {
+        access::take_str(alloc, Asked::Place(index), self.get(alloc, index))
+    }
+
+    /// The document at the place, counted from 0. The key of an error is the place in decimal.
+    ///
+    /// `NotPresent` past the end, `UnexpectedType` where a value of another kind stands, `InvalidBson` where `get` answers a
+    /// fault. Memory is taken for an error alone.
+    pub fn get_document(self, alloc: Global, index: usize) -> ValueAccessResult<RawDocument<'a>>
+        ensures { (elements : List Element) (fault : Option Kind) → IsDocumentWalk (array_bytes self.entry) elements fault
+            → AccessAnswer as_document (decimal index) (found_at index elements fault) result }
+    {
+        access::take_document(alloc, Asked::Place(index), self.get(alloc, index))
+    }
+
+    /// The array at the place, counted from 0. The key of an error is the place in decimal.
+    ///
+    /// `NotPresent` past the end, `UnexpectedType` where a value of another kind stands, `InvalidBson` where `get` answers a
+    /// fault. Memory is taken for an error alone.
+    pub fn get_array(self, alloc: Global, index: usize) -> ValueAccessResult<RawArray<'a>>
+        ensures { (elements : List Element) (fault : Option Kind) → IsDocumentWalk (array_bytes self.entry) elements fault
+            → AccessAnswer as_array (decimal index) (found_at index elements fault) result }
+    {
+        access::take_array(alloc, Asked::Place(index), self.get(alloc, index))
+    }
+
+    /// The binary value at the place, counted from 0. The key of an error is the place in decimal.
+    ///
+    /// `NotPresent` past the end, `UnexpectedType` where a value of another kind stands, `InvalidBson` where `get` answers a
+    /// fault. Memory is taken for an error alone.
+    pub fn get_binary(self, alloc: Global, index: usize) -> ValueAccessResult<RawBinaryRef<'a>>
+        ensures { (elements : List Element) (fault : Option Kind) → IsDocumentWalk (array_bytes self.entry) elements fault
+            → AccessAnswer as_binary (decimal index) (found_at index elements fault) result }
+    {
+        access::take_binary(alloc, Asked::Place(index), self.get(alloc, index))
+    }
+
+    /// The object id at the place, counted from 0. The key of an error is the place in decimal.
+    ///
+    /// `NotPresent` past the end, `UnexpectedType` where a value of another kind stands, `InvalidBson` where `get` answers a
+    /// fault. Memory is taken for an error alone.
+    pub fn get_object_id(self, alloc: Global, index: usize) -> ValueAccessResult<ObjectId>
+        ensures { (elements : List Element) (fault : Option Kind) → IsDocumentWalk (array_bytes self.entry) elements fault
+            → AccessAnswer as_object_id (decimal index) (found_at index elements fault) result }
+    {
+        access::take_object_id(alloc, Asked::Place(index), self.get(alloc, index))
+    }
+
+    /// The boolean at the place, counted from 0. The key of an error is the place in decimal.
+    ///
+    /// `NotPresent` past the end, `UnexpectedType` where a value of another kind stands, `InvalidBson` where `get` answers a
+    /// fault. Memory is taken for an error alone.
+    pub fn get_bool(self, alloc: Global, index: usize) -> ValueAccessResult<bool>
+        ensures { (elements : List Element) (fault : Option Kind) → IsDocumentWalk (array_bytes self.entry) elements fault
+            → AccessAnswer as_bool (decimal index) (found_at index elements fault) result }
+    {
+        access::take_bool(alloc, Asked::Place(index), self.get(alloc, index))
+    }
+
+    /// The moment at the place, counted from 0. The key of an error is the place in decimal.
+    ///
+    /// `NotPresent` past the end, `UnexpectedType` where a value of another kind stands, `InvalidBson` where `get` answers a
+    /// fault. Memory is taken for an error alone.
+    pub fn get_datetime(self, alloc: Global, index: usize) -> ValueAccessResult<DateTime>
+        ensures { (elements : List Element) (fault : Option Kind) → IsDocumentWalk (array_bytes self.entry) elements fault
+            → AccessAnswer as_datetime (decimal index) (found_at index elements fault) result }
+    {
+        access::take_datetime(alloc, Asked::Place(index), self.get(alloc, index))
+    }
+
+    /// The regular expression at the place, counted from 0. The key of an error is the place in decimal.
+    ///
+    /// `NotPresent` past the end, `UnexpectedType` where a value of another kind stands, `InvalidBson` where `get` answers a
+    /// fault. Memory is taken for an error alone.
+    pub fn get_regex(self, alloc: Global, index: usize) -> ValueAccessResult<RawRegexRef<'a>>
+        ensures { (elements : List Element) (fault : Option Kind) → IsDocumentWalk (array_bytes self.entry) elements fault
+            → AccessAnswer as_regex (decimal index) (found_at index elements fault) result }
+    {
+        access::take_regex(alloc, Asked::Place(index), self.get(alloc, index))
+    }
+
+    /// The timestamp at the place, counted from 0. The key of an error is the place in decimal.
+    ///
+    /// `NotPresent` past the end, `UnexpectedType` where a value of another kind stands, `InvalidBson` where `get` answers a
+    /// fault. Memory is taken for an error alone.
+    pub fn get_timestamp(self, alloc: Global, index: usize) -> ValueAccessResult<Timestamp>
+        ensures { (elements : List Element) (fault : Option Kind) → IsDocumentWalk (array_bytes self.entry) elements fault
+            → AccessAnswer as_timestamp (decimal index) (found_at index elements fault) result }
+    {
+        access::take_timestamp(alloc, Asked::Place(index), self.get(alloc, index))
+    }
+
+    /// The integer of 32 bits at the place, counted from 0. The key of an error is the place in decimal.
+    ///
+    /// `NotPresent` past the end, `UnexpectedType` where a value of another kind stands, `InvalidBson` where `get` answers a
+    /// fault. Memory is taken for an error alone.
+    pub fn get_i32(self, alloc: Global, index: usize) -> ValueAccessResult<i32>
+        ensures { (elements : List Element) (fault : Option Kind) → IsDocumentWalk (array_bytes self.entry) elements fault
+            → AccessAnswer as_i32 (decimal index) (found_at index elements fault) result }
+    {
+        access::take_i32(alloc, Asked::Place(index), self.get(alloc, index))
+    }
+
+    /// The integer of 64 bits at the place, counted from 0. The key of an error is the place in decimal.
+    ///
+    /// `NotPresent` past the end, `UnexpectedType` where a value of another kind stands, `InvalidBson` where `get` answers a
+    /// fault. Memory is taken for an error alone.
+    pub fn get_i64(self, alloc: Global, index: usize) -> ValueAccessResult<i64>
+        ensures { (elements : List Element) (fault : Option Kind) → IsDocumentWalk (array_bytes self.entry) elements fault
+            → AccessAnswer as_i64 (decimal index) (found_at index elements fault) result }
+    {
+        access::take_i64(alloc, Asked::Place(index), self.get(alloc, index))
+    }
+}

@@ -1,0 +1,240 @@
+//! Values read from payloads.
+
+ghost use Rattle.bson_base.specs.declared.spec.ElementType.TheVariants as kinds;
+ghost use Rattle.bson_raw.specs.Value.{Decodes};
+
+use crate::array::RawArray;
+use crate::bson_ref::{
+    RawBinaryRef, RawBsonRef, RawDbPointerRef, RawJavaScriptCodeWithScopeRef, RawRegexRef,
+};
+use crate::document::RawDocument;
+use bson_base::{
+    BinarySubtype, DateTime, Decimal128, DoubleBits, ElementType, ObjectId, Timestamp,
+};
+use bson_frame::{ErrorKind, name_at, text_at};
+
+fn double(payload: &[u8]) -> Result<RawBsonRef<'_>, ErrorKind>
+    ensures { Decodes kinds.Double payload.now result }
+{
+    match <[u8; 8]>::try_from(payload) {
+        Ok(bytes) => Ok(RawBsonRef::Double(DoubleBits::from_bits(u64::from_le_bytes(bytes)))),
+        Err(_) => Err(ErrorKind::MalformedValue),
+    }
+}
+
+fn string(payload: &[u8]) -> Result<RawBsonRef<'_>, ErrorKind>
+    ensures { Decodes kinds.String payload.now result }
+{
+    match text_at(payload) {
+        Ok((text, _)) => Ok(RawBsonRef::String(text)),
+        Err(kind) => Err(kind),
+    }
+}
+
+fn javascript(payload: &[u8]) -> Result<RawBsonRef<'_>, ErrorKind>
+    ensures { Decodes kinds.JavaScriptCode payload.now result }
+{
+    match text_at(payload) {
+        Ok((text, _)) => Ok(RawBsonRef::JavaScriptCode(text)),
+        Err(kind) => Err(kind),
+    }
+}
+
+fn symbol(payload: &[u8]) -> Result<RawBsonRef<'_>, ErrorKind>
+    ensures { Decodes kinds.Symbol payload.now result }
+{
+    match text_at(payload) {
+        Ok((text, _)) => Ok(RawBsonRef::Symbol(text)),
+        Err(kind) => Err(kind),
+    }
+}
+
+fn document(payload: &[u8]) -> Result<RawBsonRef<'_>, ErrorKind>
+    ensures { Decodes kinds.EmbeddedDocument payload.now result }
+{
+    match RawDocument::from_bytes(payload) {
+        Ok(document) => Ok(RawBsonRef::Document(document)),
+        Err(e) => Err(e.kind),
+    }
+}
+
+fn array(payload: &[u8]) -> Result<RawBsonRef<'_>, ErrorKind>
+    ensures { Decodes kinds.Array payload.now result }
+{
+    match RawDocument::from_bytes(payload) {
+        Ok(document) => Ok(RawBsonRef::Array(RawArray { document })),
+        Err(e) => Err(e.kind),
+    }
+}
+
+fn boolean(payload: &[u8]) -> Result<RawBsonRef<'_>, ErrorKind>
+    ensures { Decodes kinds.Boolean payload.now result }
+{
+    match payload {
+        [0] => Ok(RawBsonRef::Boolean(false)),
+        [1] => Ok(RawBsonRef::Boolean(true)),
+        _ => Err(ErrorKind::MalformedValue),
+    }
+}
+
+fn object_id(payload: &[u8]) -> Result<RawBsonRef<'_>, ErrorKind>
+    ensures { Decodes kinds.ObjectId payload.now result }
+{
+    match <[u8; 12]>::try_from(payload) {
+        Ok(bytes) => Ok(RawBsonRef::ObjectId(ObjectId::from_bytes(bytes))),
+        Err(_) => Err(ErrorKind::MalformedValue),
+    }
+}
+
+fn decimal128(payload: &[u8]) -> Result<RawBsonRef<'_>, ErrorKind>
+    ensures { Decodes kinds.Decimal128 payload.now result }
+{
+    match <[u8; 16]>::try_from(payload) {
+        Ok(bytes) => Ok(RawBsonRef::Decimal128(Decimal128::from_bytes(bytes))),
+        Err(_) => Err(ErrorKind::MalformedValue),
+    }
+}
+
+fn int32(payload: &[u8]) -> Result<RawBsonRef<'_>, ErrorKind>
+    ensures { Decodes kinds.Int32 payload.now result }
+{
+    match <[u8; 4]>::try_from(payload) {
+        Ok(bytes) => Ok(RawBsonRef::Int32(i32::from_le_bytes(bytes))),
+        Err(_) => Err(ErrorKind::MalformedValue),
+    }
+}
+
+fn int64(payload: &[u8]) -> Result<RawBsonRef<'_>, ErrorKind>
+    ensures { Decodes kinds.Int64 payload.now result }
+{
+    match <[u8; 8]>::try_from(payload) {
+        Ok(bytes) => Ok(RawBsonRef::Int64(i64::from_le_bytes(bytes))),
+        Err(_) => Err(ErrorKind::MalformedValue),
+    }
+}
+
+fn date_time(payload: &[u8]) -> Result<RawBsonRef<'_>, ErrorKind>
+    ensures { Decodes kinds.DateTime payload.now result }
+{
+    match <[u8; 8]>::try_from(payload) {
+        Ok(bytes) => {
+            let millis = i64::from_le_bytes(bytes);
+            Ok(RawBsonRef::DateTime(DateTime::from_millis(millis)))
+        }
+        Err(_) => Err(ErrorKind::MalformedValue),
+    }
+}
+
+fn timestamp(payload: &[u8]) -> Result<RawBsonRef<'_>, ErrorKind>
+    ensures { Decodes kinds.Timestamp payload.now result }
+{
+    let [a, b, c, d, e, f, g, h] = payload else {
+        return Err(ErrorKind::MalformedValue);
+    };
+    Ok(RawBsonRef::Timestamp(Timestamp {
+        increment: u32::from_le_bytes([*a, *b, *c, *d]),
+        time: u32::from_le_bytes([*e, *f, *g, *h]),
+    }))
+}
+
+fn db_pointer(payload: &[u8]) -> Result<RawBsonRef<'_>, ErrorKind>
+    ensures { Decodes kinds.DbPointer payload.now result }
+{
+    let (namespace, rest) = match text_at(payload) {
+        Ok(parts) => parts,
+        Err(kind) => return Err(kind),
+    };
+    match <[u8; 12]>::try_from(rest) {
+        Ok(bytes) => Ok(RawBsonRef::DbPointer(RawDbPointerRef {
+            namespace,
+            id: ObjectId::from_bytes(bytes),
+        })),
+        Err(_) => Err(ErrorKind::MalformedValue),
+    }
+}
+
+fn binary(payload: &[u8]) -> Result<RawBsonRef<'_>, ErrorKind>
+    ensures { Decodes kinds.Binary payload.now result }
+{
+    if payload.len() < 5 {
+        return Err(ErrorKind::MalformedValue);
+    }
+    let (front, bytes) = payload.split_at(5);
+    let subtype = BinarySubtype::from(front[4]);
+    if front[4] != 2 {
+        return Ok(RawBsonRef::Binary(RawBinaryRef { subtype, bytes }));
+    }
+    let [a, b, c, d, ..] = bytes else {
+        return Err(ErrorKind::MalformedValue);
+    };
+    let (_, inside) = bytes.split_at(4);
+    if u32::from_le_bytes([*a, *b, *c, *d]) as usize != inside.len() {
+        return Err(ErrorKind::MalformedValue);
+    }
+    Ok(RawBsonRef::Binary(RawBinaryRef {
+        subtype,
+        bytes: inside,
+    }))
+}
+
+fn code_with_scope(payload: &[u8]) -> Result<RawBsonRef<'_>, ErrorKind>
+    ensures { Decodes kinds.JavaScriptCodeWithScope payload.now result }
+{
+    if payload.len() < 14 {
+        return Err(ErrorKind::MalformedValue);
+    }
+    let (_, parts) = payload.split_at(4);
+    match text_at(parts) {
+        Ok((code, scope)) => match RawDocument::from_bytes(scope) {
+            Ok(scope) => Ok(RawBsonRef::JavaScriptCodeWithScope(RawJavaScriptCodeWithScopeRef {
+                code,
+                scope,
+            })),
+            Err(e) => Err(e.kind),
+        },
+        Err(kind) => Err(kind),
+    }
+}
+
+fn regex(payload: &[u8]) -> Result<RawBsonRef<'_>, ErrorKind>
+    ensures { Decodes kinds.RegularExpression payload.now result }
+{
+    bson_frame::laws::one_name();
+    let (pattern, rest) = match name_at(payload) {
+        Ok(parts) => parts,
+        Err(kind) => return Err(kind),
+    };
+    match name_at(rest) {
+        Ok((options, _)) => Ok(RawBsonRef::RegularExpression(RawRegexRef { pattern, options })),
+        Err(kind) => Err(kind),
+    }
+}
+
+/// The value of a payload, or the kind of its fault.
+pub(crate) fn value_of(tag: ElementType, payload: &[u8]) -> Result<RawBsonRef<'_>, ErrorKind>
+    ensures { Decodes tag payload.now result }
+{
+    match tag {
+        ElementType::Double => double(payload),
+        ElementType::String => string(payload),
+        ElementType::EmbeddedDocument => document(payload),
+        ElementType::Array => array(payload),
+        ElementType::Binary => binary(payload),
+        ElementType::Undefined => Ok(RawBsonRef::Undefined),
+        ElementType::ObjectId => object_id(payload),
+        ElementType::Boolean => boolean(payload),
+        ElementType::DateTime => date_time(payload),
+        ElementType::Null => Ok(RawBsonRef::Null),
+        ElementType::RegularExpression => regex(payload),
+        ElementType::DbPointer => db_pointer(payload),
+        ElementType::JavaScriptCode => javascript(payload),
+        ElementType::Symbol => symbol(payload),
+        ElementType::JavaScriptCodeWithScope => code_with_scope(payload),
+        ElementType::Int32 => int32(payload),
+        ElementType::Timestamp => timestamp(payload),
+        ElementType::Int64 => int64(payload),
+        ElementType::Decimal128 => decimal128(payload),
+        ElementType::MaxKey => Ok(RawBsonRef::MaxKey),
+        ElementType::MinKey => Ok(RawBsonRef::MinKey),
+    }
+}

@@ -1,0 +1,253 @@
+//! Documents as views over their bytes.
+
+ghost use Rattle.std.specs.Prelude.{◌≡◌, ◌↔◌, [], IsTrue, MatchResult, List, Result, Option, drop, Some, None};
+ghost use Rattle.std.specs.Iterator.{Drains};
+ghost use Rattle.bson_frame.specs.Payload.{IsEnvelope};
+ghost use Rattle.bson_frame.specs.Frame.{Element};
+ghost use Rattle.bson_frame.specs.declared.error.Error.{Error as Fault};
+ghost use Rattle.bson_frame.specs.declared.error.ErrorKind.{ErrorKind as Kind};
+ghost use Rattle.bson_frame.specs.declared.error.ErrorKind.TheVariants.{MalformedValue};
+
+use crate::access;
+use crate::access::Asked;
+use crate::array::RawArray;
+use crate::bson_ref::{RawBinaryRef, RawBsonRef, RawRegexRef};
+use crate::element::RawElement;
+use crate::values::Iter;
+use crate::walk::RawIter;
+use bson_base::{DateTime, DoubleBits, ObjectId, Timestamp};
+use bson_frame::{Error, ErrorKind, ValueAccessResult, is_envelope};
+use std::alloc::Global;
+
+/// A view of the bytes of one document (bsonspec.org 1.1, "document"): at least 5 bytes, their number in the first four, and
+/// 00 as the last. What stands between isn't looked at until it is read. Two views are equal where their bytes are.
+#[derive(Clone, Copy, Debug, PartialEq)]
+pub struct RawDocument<'a> {
+    pub(crate) bytes: &'a [u8],
+    pub ghost envelope: { IsEnvelope bytes.now },
+}
+
+impl<'a> RawDocument<'a> {
+    ghost use Rattle.bson_frame.specs.View.{IsBare};
+    ghost use Rattle.bson_raw.specs.Access.{AccessAnswer};
+    ghost use Rattle.bson_raw.specs.Read.{GetAnswer, IsPairRead, pair_steps};
+    ghost use Rattle.bson_raw.specs.Value.{as_f64, as_str, as_document, as_array, as_binary, as_object_id, as_bool, as_datetime, as_regex, as_timestamp, as_i32, as_i64};
+    ghost use Rattle.bson_raw.specs.View.{bytes_of, left_of, pairs_left};
+    ghost use Rattle.bson_raw.specs.Walk.{IsDocumentWalk, YieldsWalk, IsItem, IsFound, found_under, raw_steps};
+    ghost use Rattle.bson_raw.specs.declared.bson_ref.RawBsonRef.{RawBsonRef as Value};
+    ghost use Rattle.bson_raw.specs.declared.element.RawElement.{RawElement as Item};
+    ghost use Rattle.std.specs.Borrow.{Bor};
+    ghost use Rattle.std.specs.Prelude.{ℕ};
+
+    /// The view of these bytes. `MalformedValue`, under no key, where they aren't at least 5, don't declare their own number
+    /// or don't end in 00.
+    pub fn from_bytes(bytes: &'a [u8]) -> Result<RawDocument<'a>, Error>
+        ensures { MatchResult result (λ d. bytes_of d ≡ bytes.now)
+            (λ e. (IsEnvelope bytes.now → ⊥) × IsBare MalformedValue e) }
+    {
+        if is_envelope(bytes) {
+            Ok(RawDocument { bytes })
+        } else {
+            Err(Error::new(None, ErrorKind::MalformedValue))
+        }
+    }
+
+    /// The bytes.
+    pub fn as_bytes(self) -> &'a [u8]
+        ensures { result.now ≡ bytes_of self.entry }
+    {
+        self.bytes
+    }
+
+    /// Whether iteration yields nothing.
+    pub fn is_empty(self) -> bool
+        ensures { IsTrue result ↔ (IsDocumentWalk (bytes_of self.entry) [] None) }
+    {
+        self.bytes.len() == 5
+    }
+
+    /// The elements in order, and a structural fault last. Takes no memory.
+    pub fn iter_elements(self) -> RawIter<'a>
+        ensures start { left_of result ≡ Some (drop 4 (bytes_of self.entry)) }
+        ensures walk { (items : List (Result Item Fault)) → Drains raw_steps result items
+            → YieldsWalk IsItem (bytes_of self.entry) items }
+    {
+        let (_, rest) = self.bytes.split_at(4);
+        RawIter { rest: Some(rest) }
+    }
+
+    /// The keys and values in order, payload faults in their places, and a structural fault last. Memory is taken for the key
+    /// of a payload fault alone; where it finds none, want of memory stands in its place and the walk goes on.
+    pub fn iter(self, alloc: Global) -> Iter<'a>
+        ensures start { pairs_left result ≡ Some (drop 4 (bytes_of self.entry)) }
+        ensures walk { (items : List (Result (Bor (List ℕ) × Value) Fault)) → Drains pair_steps result items
+            → YieldsWalk IsPairRead (bytes_of self.entry) items }
+    {
+        Iter {
+            raw: self.iter_elements(),
+            alloc,
+        }
+    }
+
+    /// The first element with the key, or the structural fault before it.
+    pub(crate) fn find(self, key: &str) -> Option<Result<RawElement<'a>, Error>>
+        ensures { (elements : List Element) (fault : Option Kind) → IsDocumentWalk (bytes_of self.entry) elements fault
+            → IsFound (found_under key.now elements fault) result }
+    {
+        bson_frame::laws::one_first_frame();
+        bson_frame::laws::one_structural_fault();
+        bson_frame::laws::payload_by_itself();
+        for item in self.iter_elements() {
+            match item {
+                Ok(element) => {
+                    if element.key() == key {
+                        return Some(Ok(element));
+                    }
+                }
+                Err(e) => return Some(Err(e)),
+            }
+        }
+        None
+    }
+
+    /// The value of the first element with the key, or its payload fault, or the structural fault before it. Memory is taken
+    /// for the key of a payload fault alone.
+    pub fn get(self, alloc: Global, key: &str) -> Result<Option<RawBsonRef<'a>>, Error>
+        ensures { (elements : List Element) (fault : Option Kind) → IsDocumentWalk (bytes_of self.entry) elements fault
+            → GetAnswer (found_under key.now elements fault) result }
+    {
+        access::read(alloc, self.find(key))
+    }
+
+    /// The double under the key.
+    ///
+    /// `NotPresent` where no element has the key, `UnexpectedType` where the first one has a value of another kind, `InvalidBson`
+    /// where `get` answers a fault. Memory is taken for an error alone.
+    pub fn get_f64(self, alloc: Global, key: &str) -> ValueAccessResult<DoubleBits>
+        ensures { (elements : List Element) (fault : Option Kind) → IsDocumentWalk (bytes_of self.entry) elements fault
+            → AccessAnswer as_f64 key.now (found_under key.now elements fault) result }
+    {
+        access::take_f64(alloc, Asked::Key(key), self.get(alloc, key))
+    }
+
+    /// The text under the key.
+    ///
+    /// `NotPresent` where no element has the key, `UnexpectedType` where the first one has a value of another kind, `InvalidBson`
+    /// where `get` answers a fault. Memory is taken for an error alone.
+    pub fn get_str(self, alloc: Global, key: &str) -> ValueAccessResult<&'a str>
+        ensures { (elements : List Element) (fault : Option Kind) → IsDocumentWalk (bytes_of self.entry) elements fault
+            → AccessAnswer as_str key.now (found_under key.now elements fault) result }
+    {
+        access::take_str(alloc, Asked::Key(key), self.get(alloc, key))
+    }
+
+    /// The document under the key.
+    ///
+    /// `NotPresent` where no element has the key, `UnexpectedType` where the first one has a value of another kind, `InvalidBson`
+    /// where `get` answers a fault. Memory is taken for an error alone.
+    pub fn get_document(self, alloc: Global, key: &str) -> ValueAccessResult<RawDocument<'a>>
+        ensures { (elements : List Element) (fault : Option Kind) → IsDocumentWalk (bytes_of self.entry) elements fault
+            → AccessAnswer as_document key.now (found_under key.now elements fault) result }
+    {
+        access::take_document(alloc, Asked::Key(key), self.get(alloc, key))
+    }
+
+    /// The array under the key.
+    ///
+    /// `NotPresent` where no element has the key, `UnexpectedType` where the first one has a value of another kind, `InvalidBson`
+    /// where `get` answers a fault. Memory is taken for an error alone.
+    pub fn get_array(self, alloc: Global, key: &str) -> ValueAccessResult<RawArray<'a>>
+        ensures { (elements : List Element) (fault : Option Kind) → IsDocumentWalk (bytes_of self.entry) elements fault
+            → AccessAnswer as_array key.now (found_under key.now elements fault) result }
+    {
+        access::take_array(alloc, Asked::Key(key), self.get(alloc, key))
+    }
+
+    /// The binary value under the key.
+    ///
+    /// `NotPresent` where no element has the key, `UnexpectedType` where the first one has a value of another kind, `InvalidBson`
+    /// where `get` answers a fault. Memory is taken for an error alone.
+    pub fn get_binary(self, alloc: Global, key: &str) -> ValueAccessResult<RawBinaryRef<'a>>
+        ensures { (elements : List Element) (fault : Option Kind) → IsDocumentWalk (bytes_of self.entry) elements fault
+            → AccessAnswer as_binary key.now (found_under key.now elements fault) result }
+    {
+        access::take_binary(alloc, Asked::Key(key), self.get(alloc, key))
+    }
+
+    /// The object id under the key.
+    ///
+    /// `NotPresent` where no element has the key, `UnexpectedType` where the first one has a value of another kind, `InvalidBson`
+    /// where `get` answers a fault. Memory is taken for an error alone.
+    pub fn get_object_id(self, alloc: Global, key: &str) -> ValueAccessResult<ObjectId>
+        ensures { (elements : List Element) (fault : Option Kind) → IsDocumentWalk (bytes_of self.entry) elements fault
+            → AccessAnswer as_object_id key.now (found_under key.now elements fault) result }
+    {
+        access::take_object_id(alloc, Asked::Key(key), self.get(alloc, key))
+    }
+
+    /// The boolean under the key.
+    ///
+    /// `NotPresent` where no element has the key, `UnexpectedType` where the first one has a value of another kind, `InvalidBson`
+    /// where `get` answers a fault. Memory is taken for an error alone.
+    pub fn get_bool(self, alloc: Global, key: &str) -> ValueAccessResult<bool>
+        ensures { (elements : List Element) (fault : Option Kind) → IsDocumentWalk (bytes_of self.entry) elements fault
+            → AccessAnswer as_bool key.now (found_under key.now elements fault) result }
+    {
+        access::take_bool(alloc, Asked::Key(key), self.get(alloc, key))
+    }
+
+    /// The moment under the key.
+    ///
+    /// `NotPresent` where no element has the key, `UnexpectedType` where the first one has a value of another kind, `InvalidBson`
+    /// where `get` answers a fault. Memory is taken for an error alone.
+    pub fn get_datetime(self, alloc: Global, key: &str) -> ValueAccessResult<DateTime>
+        ensures { (elements : List Element) (fault : Option Kind) → IsDocumentWalk (bytes_of self.entry) elements fault
+            → AccessAnswer as_datetime key.now (found_under key.now elements fault) result }
+    {
+        access::take_datetime(alloc, Asked::Key(key), self.get(alloc, key))
+    }
+
+    /// The regular expression under the key.
+    ///
+    /// `NotPresent` where no element has the key, `UnexpectedType` where the first one has a value of another kind, `InvalidBson`
+    /// where `get` answers a fault. Memory is taken for an error alone.
+    pub fn get_regex(self, alloc: Global, key: &str) -> ValueAccessResult<RawRegexRef<'a>>
+        ensures { (elements : List Element) (fault : Option Kind) → IsDocumentWalk (bytes_of self.entry) elements fault
+            → AccessAnswer as_regex key.now (found_under key.now elements fault) result }
+    {
+        access::take_regex(alloc, Asked::Key(key), self.get(alloc, key))
+    }
+
+    /// The timestamp under the key.
+    ///
+    /// `NotPresent` where no element has the key, `UnexpectedType` where the first one has a value of another kind, `InvalidBson`
+    /// where `get` answers a fault. Memory is taken for an error alone.
+    pub fn get_timestamp(self, alloc: Global, key: &str) -> ValueAccessResult<Timestamp>
+        ensures { (elements : List Element) (fault : Option Kind) → IsDocumentWalk (bytes_of self.entry) elements fault
+            → AccessAnswer as_timestamp key.now (found_under key.now elements fault) result }
+    {
+        access::take_timestamp(alloc, Asked::Key(key), self.get(alloc, key))
+    }
+
+    /// The integer of 32 bits under the key.
+    ///
+    /// `NotPresent` where no element has the key, `UnexpectedType` where the first one has a value of another kind, `InvalidBson`
+    /// where `get` answers a fault. Memory is taken for an error alone.
+    pub fn get_i32(self, alloc: Global, key: &str) -> ValueAccessResult<i32>
+        ensures { (elements : List Element) (fault : Option Kind) → IsDocumentWalk (bytes_of self.entry) elements fault
+            → AccessAnswer as_i32 key.now (found_under key.now elements fault) result }
+    {
+        access::take_i32(alloc, Asked::Key(key), self.get(alloc, key))
+    }
+
+    /// The integer of 64 bits under the key.
+    ///
+    /// `NotPresent` where no element has the key, `UnexpectedType` where the first one has a value of another kind, `InvalidBson`
+    /// where `get` answers a fault. Memory is taken for an error alone.
+    pub fn get_i64(self, alloc: Global, key: &str) -> ValueAccessResult<i64>
+        ensures { (elements : List Element) (fault : Option Kind) → IsDocumentWalk (bytes_of self.entry) elements fault
+            → AccessAnswer as_i64 key.now (found_under key.now elements fault) result }
+    {
+        access::take_i64(alloc, Asked::Key(key), self.get(alloc, key))
+    }
+}

@@ -1,0 +1,71 @@
+//! Elements whose values aren't read yet.
+
+ghost use Rattle.std.specs.Prelude.{◌≡◌, length};
+ghost use Rattle.bson_frame.specs.View.{IsFaultUnder};
+
+use crate::bson_ref::RawBsonRef;
+use crate::decode::value_of;
+use bson_base::ElementType;
+use bson_frame::{Error, ErrorKind, Frame};
+use std::alloc::Global;
+
+/// An element whose value isn't read yet (bsonspec.org 1.1, "element").
+#[derive(Clone, Copy, Debug)]
+pub struct RawElement<'a> {
+    pub(crate) frame: Frame<'a>,
+}
+
+impl<'a> RawElement<'a> {
+    ghost use Rattle.bson_raw.specs.Value.{Decodes, Answers};
+    ghost use Rattle.bson_raw.specs.View.{parts_of};
+
+    /// The key.
+    pub fn key(&self) -> &'a str
+        ensures { result.now ≡ (parts_of self.now).key }
+    {
+        self.frame.key
+    }
+
+    /// How many bytes the payload has.
+    pub fn len(&self) -> usize
+        ensures { result ≡ length (parts_of self.now).payload }
+    {
+        self.frame.payload.len()
+    }
+
+    /// The kind of the value.
+    pub fn element_type(&self) -> ElementType
+        ensures { result ≡ (parts_of self.now).tag }
+    {
+        self.frame.tag
+    }
+
+    /// The value, or the kind of the payload fault: `Utf8EncodingError` where a text isn't UTF-8, else `MalformedValue`. Takes
+    /// no memory.
+    pub fn value_or_kind(&self) -> Result<RawBsonRef<'a>, ErrorKind>
+        ensures { Decodes (parts_of self.now).tag (parts_of self.now).payload result }
+    {
+        value_of(self.frame.tag, self.frame.payload)
+    }
+
+    /// The value, or the payload fault under its key. Memory is taken for that key alone; where it finds none, the fault is
+    /// want of memory, under no key.
+    pub fn value(&self, alloc: Global) -> Result<RawBsonRef<'a>, Error>
+        ensures { Answers (parts_of self.now) result }
+    {
+        match self.value_or_kind() {
+            Ok(value) => Ok(value),
+            Err(kind) => Err(fault_under(alloc, self.frame.key, kind)),
+        }
+    }
+}
+
+/// A fault under a key; want of memory in its place where the key finds none.
+fn fault_under(alloc: Global, key: &str, kind: ErrorKind) -> Error
+    ensures { IsFaultUnder key.now kind result }
+{
+    match String::from_str(alloc, key) {
+        Ok(key) => Error::new(Some(key), kind),
+        Err(_) => Error::new(None, ErrorKind::OutOfMemory),
+    }
+}

@@ -1,0 +1,121 @@
+//! Conversions into values that borrow their bytes.
+
+ghost use Rattle.std.specs.Prelude.{◌≡◌};
+ghost use Rattle.bson_raw.specs.declared.bson_ref.RawBsonRef.TheVariants as values;
+
+use crate::array::RawArray;
+use crate::bson_ref::{RawBinaryRef, RawBsonRef, RawJavaScriptCodeWithScopeRef, RawRegexRef};
+use crate::document::RawDocument;
+use bson_base::{DateTime, Decimal128, DoubleBits, ObjectId, Timestamp};
+
+impl<'a> From<&'a str> for RawBsonRef<'a> {
+    ghost from_gives = { λ value result. result ≡ values.String value };
+
+    fn from(value: &'a str) -> RawBsonRef<'a> {
+        RawBsonRef::String(value)
+    }
+}
+
+impl<'a> From<i32> for RawBsonRef<'a> {
+    ghost from_gives = { λ value result. result ≡ values.Int32 value };
+
+    fn from(value: i32) -> RawBsonRef<'a> {
+        RawBsonRef::Int32(value)
+    }
+}
+
+impl<'a> From<i64> for RawBsonRef<'a> {
+    ghost from_gives = { λ value result. result ≡ values.Int64 value };
+
+    fn from(value: i64) -> RawBsonRef<'a> {
+        RawBsonRef::Int64(value)
+    }
+}
+
+impl<'a> From<DoubleBits> for RawBsonRef<'a> {
+    ghost from_gives = { λ value result. result ≡ values.Double value };
+
+    fn from(value: DoubleBits) -> RawBsonRef<'a> {
+        RawBsonRef::Double(value)
+    }
+}
+
+impl<'a> From<bool> for RawBsonRef<'a> {
+    ghost from_gives = { λ value result. result ≡ values.Boolean value };
+
+    fn from(value: bool) -> RawBsonRef<'a> {
+        RawBsonRef::Boolean(value)
+    }
+}
+
+impl<'a> From<RawDocument<'a>> for RawBsonRef<'a> {
+    ghost from_gives = { λ value result. result ≡ values.Document value };
+
+    fn from(value: RawDocument<'a>) -> RawBsonRef<'a> {
+        RawBsonRef::Document(value)
+    }
+}
+
+impl<'a> From<RawArray<'a>> for RawBsonRef<'a> {
+    ghost from_gives = { λ value result. result ≡ values.Array value };
+
+    fn from(value: RawArray<'a>) -> RawBsonRef<'a> {
+        RawBsonRef::Array(value)
+    }
+}
+
+impl<'a> From<DateTime> for RawBsonRef<'a> {
+    ghost from_gives = { λ value result. result ≡ values.DateTime value };
+
+    fn from(value: DateTime) -> RawBsonRef<'a> {
+        RawBsonRef::DateTime(value)
+    }
+}
+
+impl<'a> From<Timestamp> for RawBsonRef<'a> {
+    ghost from_gives = { λ value result. result ≡ values.Timestamp value };
+
+    fn from(value: Timestamp) -> RawBsonRef<'a> {
+        RawBsonRef::Timestamp(value)
+    }
+}
+
+impl<'a> From<ObjectId> for RawBsonRef<'a> {
+    ghost from_gives = { λ value result. result ≡ values.ObjectId value };
+
+    fn from(value: ObjectId) -> RawBsonRef<'a> {
+        RawBsonRef::ObjectId(value)
+    }
+}
+
+impl<'a> From<Decimal128> for RawBsonRef<'a> {
+    ghost from_gives = { λ value result. result ≡ values.Decimal128 value };
+
+    fn from(value: Decimal128) -> RawBsonRef<'a> {
+        RawBsonRef::Decimal128(value)
+    }
+}
+
+impl<'a> From<RawBinaryRef<'a>> for RawBsonRef<'a> {
+    ghost from_gives = { λ value result. result ≡ values.Binary value };
+
+    fn from(value: RawBinaryRef<'a>) -> RawBsonRef<'a> {
+        RawBsonRef::Binary(value)
+    }
+}
+
+impl<'a> From<RawRegexRef<'a>> for RawBsonRef<'a> {
+    ghost from_gives = { λ value result. result ≡ values.RegularExpression value };
+
+    fn from(value: RawRegexRef<'a>) -> RawBsonRef<'a> {
+        RawBsonRef::RegularExpression(value)
+    }
+}
+
+impl<'a> From<RawJavaScriptCodeWithScopeRef<'a>> for RawBsonRef<'a> {
+    ghost from_gives = { λ value result. result ≡ values.JavaScriptCodeWithScope value };
+
+    fn from(value: RawJavaScriptCodeWithScopeRef<'a>) -> RawBsonRef<'a> {
+        RawBsonRef::JavaScriptCodeWithScope(value)
+    }
+}

@@ -1,0 +1,69 @@
+//! Laws of the walk.
+
+ghost use Rattle.std.specs.Prelude.{◌≡◌, ◌≤◌, ◌+◌, ◌-◌, ◌/◌, ◌↔◌, [], ℕ, List, Option, Result, Some, None, Err, length, slice_get};
+ghost use Rattle.std.specs.Iterator.{Yields};
+ghost use Rattle.bson_frame.specs.Frame.{Element};
+ghost use Rattle.bson_frame.specs.declared.error.Error.{Error as Fault};
+ghost use Rattle.bson_frame.specs.declared.error.ErrorKind.{ErrorKind as Kind};
+ghost use Rattle.bson_raw.specs.Walk.{IsWalk, IsDocumentWalk, walk_items, raw_steps, items_left};
+ghost use Rattle.bson_raw.specs.View.{left_of, pairs_left, values_left};
+ghost use Rattle.bson_raw.specs.Read.{pair_steps, value_steps};
+ghost use Rattle.bson_raw.specs.declared.array_iter.RawArrayIter.{RawArrayIter as Values};
+ghost use Rattle.bson_raw.specs.declared.bson_ref.RawBsonRef.{RawBsonRef as Value};
+ghost use Rattle.bson_raw.specs.declared.element.RawElement.{RawElement as Item};
+ghost use Rattle.bson_raw.specs.declared.values.Iter.{Iter as Pairs};
+ghost use Rattle.bson_raw.specs.declared.walk.RawIter.{RawIter as Elements};
+ghost use Rattle.std.specs.Borrow.{Bor};
+
+/// Bytes have a walk.
+pub fn a_walk()
+    ensures { (bytes : List ℕ) → (elements : List Element) × (fault : Option Kind) × IsWalk bytes elements fault }
+{
+    bson_frame::laws::frame_or_fault();
+}
+
+/// Bytes have at most one walk.
+pub fn one_walk()
+    ensures { (bytes : List ℕ) (es fs : List Element) (a b : Option Kind) → IsWalk bytes es a → IsWalk bytes fs b
+        → (es ≡ fs) × (a ≡ b) }
+{
+    bson_frame::laws::one_first_frame();
+    bson_frame::laws::one_structural_fault();
+}
+
+/// A document of n bytes has at most (n - 4) / 2 elements.
+pub fn at_most_half()
+    ensures { (bytes : List ℕ) (elements : List Element) (fault : Option Kind) → IsDocumentWalk bytes elements fault
+        → length elements ≤ (length bytes - 4) / 2 }
+{}
+
+/// A structural fault is the last item of a walk, so there is at most one.
+pub fn fault_comes_last()
+    ensures { (elements : List Element) (fault : Option Kind) (k : ℕ) (kind : Kind)
+        → slice_get (walk_items elements fault) k ≡ Some (Err kind)
+        → k + 1 ≡ length (walk_items elements fault) }
+{}
+
+/// A document yields nothing exactly where it is empty.
+pub fn empty_yields_nothing()
+    ensures { (bytes : List ℕ) (elements : List Element) (fault : Option Kind) → IsDocumentWalk bytes elements fault
+        → (IsDocumentWalk bytes [] None ↔ (walk_items elements fault ≡ [])) }
+{}
+
+/// The iterator over elements ends: it yields no more items than are left.
+pub fn raw_iter_ends()
+    ensures { (s t : Elements) (items : List (Result Item Fault)) → Yields raw_steps s items t
+        → length items ≤ items_left (left_of s) }
+{}
+
+/// The iterator over keys and values ends.
+pub fn iter_ends()
+    ensures { (s t : Pairs) (items : List (Result (Bor (List ℕ) × Value) Fault)) → Yields pair_steps s items t
+        → length items ≤ items_left (pairs_left s) }
+{}
+
+/// The iterator over the values of an array ends.
+pub fn array_iter_ends()
+    ensures { (s t : Values) (items : List (Result Value Fault)) → Yields value_steps s items t
+        → length items ≤ items_left (values_left s) }
+{}

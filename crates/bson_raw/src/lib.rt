@@ -1,0 +1,33 @@
+//! Raw documents: views over the bytes of BSON documents, which read them without building trees (bsonspec.org 1.1).
+//!
+//! Bytes have one walk: their elements in order, down to the final 00, or as far as the first bytes that begin with no element.
+//! Every read is told by that walk, faults included.
+#![tactic(auto)]
+
+mod access;
+mod array;
+mod array_iter;
+mod bson_ref;
+mod decode;
+mod document;
+mod element;
+mod from;
+pub mod laws;
+mod values;
+mod walk;
+
+pub use array::RawArray;
+pub use array_iter::RawArrayIter;
+pub use bson_frame::{
+    Error, ErrorKind, Result, ValueAccessError, ValueAccessErrorKind, ValueAccessResult,
+};
+pub use bson_ref::{
+    RawBinaryRef, RawBsonRef, RawDbPointerRef, RawJavaScriptCodeWithScopeRef, RawRegexRef,
+};
+pub use document::RawDocument;
+pub use element::RawElement;
+pub use values::Iter;
+pub use walk::RawIter;
+
+#[cfg(test)]
+mod tests;

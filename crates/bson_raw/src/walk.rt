@@ -1,0 +1,42 @@
+//! The walk over the elements of a document.
+
+ghost use Rattle.std.specs.Iterator.{at_most};
+
+use crate::element::RawElement;
+use bson_frame::{Error, frame};
+
+/// The elements of a document in order, their values not read yet, and a structural fault as the last item.
+#[derive(Clone, Copy, Debug)]
+pub struct RawIter<'a> {
+    /// From the next frame on; None after the end.
+    pub(crate) rest: Option<&'a [u8]>,
+}
+
+impl<'a> Iterator for RawIter<'a> {
+    ghost use Rattle.bson_raw.specs.View.{left_of};
+    ghost use Rattle.bson_raw.specs.Walk.{raw_steps, items_left};
+
+    type Item = Result<RawElement<'a>, Error>;
+
+    ghost next_gives = { raw_steps };
+
+    ghost remaining = { λ s. at_most (items_left (left_of s)) };
+
+    fn next(&mut self) -> Option<Result<RawElement<'a>, Error>> {
+        let bytes = self.rest?;
+        if let [0] = bytes {
+            self.rest = None;
+            return None;
+        }
+        match frame(bytes) {
+            Ok(frame) => {
+                self.rest = Some(frame.rest);
+                Some(Ok(RawElement { frame }))
+            }
+            Err(kind) => {
+                self.rest = None;
+                Some(Err(Error::new(None, kind)))
+            }
+        }
+    }
+}

@@ -1,0 +1,37 @@
+//! The texts of UUIDs. They stand in a crate of their own, since a crate that has a module `uuid` can't use the crate of
+//! that name.
+#![tactic(auto)]
+
+ghost use Rattle.std.specs.Prelude.{◌≡◌};
+ghost use Rattle.std.specs.Fmt.{WritesOnOk};
+ghost use Rattle.uuid_text.specs.UuidText.{hyphenated, uuid_of};
+
+use std::fmt;
+use uuid::Uuid;
+
+/// The 16 bytes of a UUID's text: 32 hexadecimal digits in either case, the same with hyphens, and that form in braces or
+/// behind `urn:uuid:`.
+#[tactic(auto, unfolding(crate::specs::UuidText::uuid_of))]
+pub fn parse(text: &str) -> Option<[u8; 16]>
+    ensures { result ≡ uuid_of text.now }
+{
+    match Uuid::parse_str(text) {
+        Ok(id) => Some(id.into_bytes()),
+        Err(_) => None,
+    }
+}
+
+/// Writes the form with hyphens, in lower case.
+#[tactic(auto, unfolding(crate::specs::UuidText::hyphenated))]
+pub fn write_hyphenated<W: fmt::Write>(f: &mut fmt::Formatter<W>, bytes: [u8; 16]) -> fmt::Result
+    ensures { WritesOnOk W.write_str_gives f.old result (hyphenated bytes) f.new }
+{
+    let mut buffer = Uuid::encode_buffer();
+    let text = Uuid::from_bytes(bytes)
+        .hyphenated()
+        .encode_lower(&mut buffer);
+    f.write_str(text)
+}
+
+#[cfg(test)]
+mod tests;
