@@ -12,7 +12,7 @@ use Rattle.bson_store.specs.Commands.{Inserts}
 use Rattle.bson_store.specs.declared.error.ErrorKind.{ErrorKind}
 use Rattle.bson_store.specs.declared.error.ErrorKind.TheVariants.{DuplicateId, Memory, Writer}
 use Rattle.bson_store.proofs.States.{list_of-store}
-use Rattle.bson_store_cli.specs.Pipe.{Feed, ReadsAll, StopsReading, AreKept, AreRefused, KeepsInput, RefusesInput}
+use Rattle.bson_store_cli.specs.Pipe.{Feed, ReadsAll, StopsReading, MeansKept, AreRefused, KeepsInput, RefusesInput}
 use Rattle.bson_store_cli.specs.declared.refusal.Refusal.{Refusal}
 use Rattle.bson_store_cli.specs.declared.refusal.Refusal.TheVariants.{Reader, Store}
 
@@ -30,7 +30,7 @@ nothing_listed s e = ap (λ u. list_of u name) e ∙ ap listed (get-empty (slice
 
 -- the bytes are kept, and the collection has what they mean alone
 abbrev pub IsInserted : List ℕ → State → Type 0
-IsInserted bytes t = (d : Members) × AreKept bytes d × (list_of t name ≡ d ∷ [])
+IsInserted bytes t = (d : Members) × MeansKept bytes d × (list_of t name ≡ d ∷ [])
 
 stored : (s t : State) (d : Members) (es : Documents) → list_of s name ≡ [] → es ≡ list_of s name ++ d ∷ [] → t ≡ store s name es → list_of t name ≡ d ∷ []
 stored s t d es none is put =

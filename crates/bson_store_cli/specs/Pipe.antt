@@ -36,7 +36,7 @@ name_of (Store kind) = kind_name kind
 abbrev pub line_of : Refusal → List ℕ
 line_of refusal = codes "refused: " ++ (name_of refusal ++ 10 ∷ [])
 
--- all of the line went out, or a call failed and a beginning did
+-- the line went out, or a call failed and a beginning did
 abbrev pub Tells : List ℕ → Tally → Tally → Type 0
 Tells line old new = ((new.failures ≡ old.failures) × Appends old.taken new.taken line) ⊎ ((new.failures ≡ old.failures + 1) × TakesBeginning old.taken new.taken line)
 
@@ -59,17 +59,17 @@ StopsReading (Store _) old new = ⊥
 
 -- ---- the document
 
--- the bytes mean the document, and it is kept
-abbrev pub AreKept : List ℕ → Members → Type 0
-AreKept bytes d = ReadsAs bytes (readable d) × (refusal_of d ≡ None)
+-- the bytes mean the document, and a store keeps it
+abbrev pub MeansKept : List ℕ → Members → Type 0
+MeansKept bytes d = ReadsAs bytes (readable d) × (refusal_of d ≡ None)
 
--- the bytes are refused, or they mean a document that is
+-- the bytes are refused with the kind, or they mean a document that is
 abbrev pub AreRefused : List ℕ → ErrorKind → Type 0
 AreRefused bytes kind = IsRefused bytes kind ⊎ ((d : Members) × ReadsAs bytes (readable d) × (refusal_of d ≡ Some kind))
 
 -- the program's collection has just the document of the input
 abbrev pub KeepsInput : Feed → Feed → State → Type 0
-KeepsInput old new state = (bytes : List ℕ) × (d : Members) × ReadsAll old new bytes × AreKept bytes d × (list_of state (codes "c") ≡ d ∷ [])
+KeepsInput old new state = (bytes : List ℕ) × (d : Members) × ReadsAll old new bytes × MeansKept bytes d × (list_of state (codes "c") ≡ d ∷ [])
 
 -- why it has not
 abbrev pub RefusesInput : Refusal → Feed → Feed → Type 0
@@ -82,8 +82,8 @@ RefusesInput (Store kind) old new = (bytes : List ℕ) × ReadsAll old new bytes
 -- All was read, it means a document that is kept, and this went out as it is written; or why not. Only where Memory or
 -- Writer is told may something have gone out, a beginning of the written document.
 abbrev pub Exchanges : Feed → Feed → Tally → Tally → Result (Unit {0}) Refusal → Type 0
-Exchanges old new before after (Ok x) = (bytes : List ℕ) × (d : Members) × ReadsAll old new bytes × AreKept bytes d × Delivers (encode d) before after (Ok x)
-Exchanges old new before after (Err (Store Writer)) = (bytes : List ℕ) × (d : Members) × ReadsAll old new bytes × AreKept bytes d × Delivers (encode d) before after (Err Writer)
+Exchanges old new before after (Ok x) = (bytes : List ℕ) × (d : Members) × ReadsAll old new bytes × MeansKept bytes d × Delivers (encode d) before after (Ok x)
+Exchanges old new before after (Err (Store Writer)) = (bytes : List ℕ) × (d : Members) × ReadsAll old new bytes × MeansKept bytes d × Delivers (encode d) before after (Err Writer)
 Exchanges old new before after (Err (Store Memory)) = (StopsReading (Store Memory) old new × (after ≡ before))
     ⊎ ((bytes : List ℕ) × (d : Members) × ReadsAll old new bytes × ReadsAs bytes (readable d) × Delivers (encode d) before after (Err Memory))
 Exchanges old new before after (Err Reader) = StopsReading Reader old new × (after ≡ before)
