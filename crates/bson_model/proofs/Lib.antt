@@ -1,2 +1,4 @@
 pub mod ViewLemmas
 pub mod DistinctLemmas
+pub mod EqualLemmas
+pub mod LayerLemmas

@@ -2,8 +2,10 @@
 ghost use Rattle.std.specs.Prelude.{◌≡◌, is_some, string_bytes, map, IfOk};
 ghost use Rattle.std.specs.Option.{option_map};
 ghost use Rattle.std.specs.Borrow.{LendsIf, sem};
-ghost use Rattle.bson_base.specs.Scalars.{id_bytes, millis_of, decimal_bytes};
-ghost use Rattle.bson_base.specs.Value.{value_kind, scalar, array, string, null, object_id};
+ghost use Rattle.bson_base.specs.Scalars.{id_bytes, millis_of, decimal_bytes, uuid_bytes};
+ghost use Rattle.bson_base.specs.VectorBytes.{vector_bytes};
+ghost use Rattle.bson_base.specs.Vectors.{vector_value};
+ghost use Rattle.bson_base.specs.Value.{value_kind, scalar, array, binary, string, null, object_id};
 ghost use Rattle.bson_model.specs.View.{view, pairs_of, items_of, members_of};
 ghost use Rattle.bson_model.specs.Trees.{array_tree, binary_tree, bool_tree, date_time_tree, db_pointer_tree, decimal128_tree, document_tree, f64_tree, i32_tree, i64_tree, object_id_tree, option_tree, regex_tree, scoped_code_tree, text_tree, timestamp_tree, u32_tree};
 ghost use Rattle.bson_model.specs.Kinds as kinds;
@@ -11,9 +13,10 @@ ghost use Rattle.bson_model.specs.Rows.{binary_row, bytes_row, with_bytes};
 
 use crate::copy::{copy_items, copy_value};
 use crate::document::Document;
+use bson_base::binary::Vector;
 use bson_base::{
     Binary, BinarySubtype, DateTime, DbPointer, Decimal128, DoubleBits, ElementType, ObjectId,
-    Regex, Timestamp,
+    Regex, Timestamp, Uuid,
 };
 use std::alloc::{AllocError, Global};
 
@@ -88,6 +91,20 @@ impl Bson {
         ensures { IfOk result (λ v. view v ≡ array (items_of (map view items.now))) }
     {
         Ok(Bson::Array(copy_items(alloc, items)?))
+    }
+
+    /// A UUID as a binary value of subtype Uuid (bsonspec.org 1.1, subtype 04). It fails where there is no memory.
+    pub fn from_uuid(alloc: Global, uuid: Uuid) -> Result<Bson, AllocError>
+        ensures { IfOk result (λ v. view v ≡ scalar (binary BinarySubtype.Uuid (uuid_bytes uuid))) }
+    {
+        Ok(Bson::Binary(Binary::from_uuid(alloc, uuid)?))
+    }
+
+    /// A vector as a binary value of subtype Vector (bsonspec.org 1.1, subtype 09). It fails where there is no memory.
+    pub fn from_vector(alloc: Global, vector: &Vector) -> Result<Bson, AllocError>
+        ensures { IfOk result (λ v. view v ≡ scalar (binary BinarySubtype.Vector (vector_bytes (vector_value vector.now)))) }
+    {
+        Ok(Bson::Binary(Binary::from_vector(alloc, vector)?))
     }
 
     /// A copy with memory of its own. It fails where there is no memory.

@@ -1,8 +1,9 @@
 //! What no single call promises: the laws of equality and hashing, and that no key stands twice. Each function is called for
 //! its fact alone.
-ghost use Rattle.std.specs.Prelude.{◌≡◌, IsTrue, map};
+ghost use Rattle.std.specs.Prelude.{◌≡◌, ◌↔◌, IsTrue, map};
+ghost use Rattle.bson_model.specs.Equal.{Equal};
 ghost use Rattle.std.specs.Cmp.{IsEquivalence};
-ghost use Rattle.bson_base.specs.Value.{HasDistinctKeys, ItemsHaveDistinctKeys, MembersHaveDistinctKeys};
+ghost use Rattle.bson_base.specs.Value.{document, HasDistinctKeys, ItemsHaveDistinctKeys, MembersHaveDistinctKeys};
 ghost use Rattle.bson_model.specs.Laws.{bson_eq, document_eq, bson_writes, document_writes};
 ghost use Rattle.bson_model.specs.View.{view, pairs_of, items_of, members_of};
 ghost use Rattle.bson_model.specs.declared.bson.Bson.{Bson as Tree};
@@ -46,6 +47,25 @@ pub fn hashing_of_documents()
     ensures { (x y : Pairs) → IsTrue (document_eq x y) → document_writes x ≡ document_writes y }
 {
     hashing::<Document>();
+}
+
+/// Two values are equal exactly where their trees are, with documents compared as maps at every depth. It goes through both
+/// values for the fact that no key stands twice.
+pub fn equality_of_trees(a: &Bson, b: &Bson) -> bool
+    ensures { IsTrue result ↔ Equal (view a.now) (view b.now) }
+{
+    distinct_keys(a);
+    distinct_keys(b);
+    a == b
+}
+
+/// Two documents are equal exactly where each has the other's keys, and equal trees under them.
+pub fn equality_of_members(a: &Document, b: &Document) -> bool
+    ensures { IsTrue result ↔ Equal (document (members_of (pairs_of a.now))) (document (members_of (pairs_of b.now))) }
+{
+    distinct_keys_of_document(a);
+    distinct_keys_of_document(b);
+    a == b
 }
 
 /// No key stands twice in any document of the value. It goes through the whole value.

@@ -569,3 +569,23 @@ fn entries_insert_where_the_key_is_absent(rt: HostRuntime) -> Result<(), Fail> {
     assert_eq!(rt; document.get_i32("c"), Ok(8));
     Ok(())
 }
+
+#[test]
+fn uuids_and_vectors_are_binary_values(rt: HostRuntime) -> Result<(), Fail> {
+    let alloc = rt.alloc();
+    let uuid = bson_base::Uuid::from_bytes([9; 16]);
+    let value = Bson::from_uuid(alloc, uuid)?;
+    let wanted = Binary {
+        subtype: BinarySubtype::Uuid,
+        bytes: Vec::from_slice(alloc, &[9; 16])?,
+    };
+    assert_eq!(rt; value, Bson::Binary(wanted));
+    let numbers = bson_base::binary::Vector::Int8(Vec::from_slice(alloc, &[0, 1, 2])?);
+    let value = Bson::from_vector(alloc, &numbers)?;
+    let wanted = Binary {
+        subtype: BinarySubtype::Vector,
+        bytes: Vec::from_slice(alloc, &[3, 0, 0, 1, 2])?,
+    };
+    assert_eq!(rt; value, Bson::Binary(wanted));
+    Ok(())
+}
