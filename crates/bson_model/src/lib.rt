@@ -10,7 +10,8 @@ mod tests;
 
 pub use bson::{Array, Bson, JavaScriptCodeWithScope};
 pub use bson_base::{
-    Binary, BinarySubtype, DateTime, DbPointer, Decimal128, DoubleBits, ElementType, ObjectId,
-    Regex, Timestamp, binary, datetime, decimal128, oid, spec,
+    Binary, BinarySubtype, Counted, DateTime, DbPointer, Decimal128, DeviceFault, DoubleBits,
+    ElementType, ObjectId, Regex, Sink, SliceSource, Source, Timestamp, Uuid, VecSink, binary,
+    datetime, decimal128, oid, spec, uuid,
 };
 pub use document::Document;
