@@ -1,5 +1,5 @@
 use super::*;
-use crate::document::{Entry, ValueAccessError};
+use crate::document::ValueAccessError;
 use std::alloc::{AllocError, Global};
 use std::hash::{BuildHasher, BuildHasherDefault, DefaultHasher};
 use std::test::Fail;
@@ -51,79 +51,99 @@ fn put(document: &mut Document, alloc: Global, key: &str, value: Bson) -> Result
     Ok(())
 }
 
-// A value of each kind, under the kind's name.
-fn each_kind(alloc: Global) -> Result<Document, AllocError> {
-    let mut all = Document::new(alloc);
+fn put_texts(all: &mut Document, alloc: Global) -> Result<(), AllocError> {
+    put(all, alloc, "string", Bson::from(text(alloc, "hello")?))?;
     put(
-        &mut all,
-        alloc,
-        "double",
-        Bson::from(DoubleBits(0x3FF8_0000_0000_0000)),
-    )?;
-    put(&mut all, alloc, "string", Bson::from(text(alloc, "hello")?))?;
-    put(
-        &mut all,
-        alloc,
-        "array",
-        Bson::from_slice(alloc, &[Bson::Int32(1), Bson::Null])?,
-    )?;
-    put(
-        &mut all,
-        alloc,
-        "document",
-        Bson::from(one(alloc, "a", Bson::Int32(5))?),
-    )?;
-    put(&mut all, alloc, "boolean", Bson::from(true))?;
-    put(&mut all, alloc, "null", Bson::default())?;
-    put(&mut all, alloc, "regex", Bson::from(regex(alloc)?))?;
-    put(
-        &mut all,
+        all,
         alloc,
         "code",
         Bson::JavaScriptCode(text(alloc, "f()")?),
     )?;
-    put(&mut all, alloc, "scoped", Bson::from(scoped_code(alloc)?))?;
-    put(&mut all, alloc, "int32", Bson::from(-3i32))?;
-    put(&mut all, alloc, "int64", Bson::from(-4i64))?;
+    put(all, alloc, "symbol", Bson::Symbol(text(alloc, "sym")?))?;
+    put(all, alloc, "regex", Bson::from(regex(alloc)?))
+}
+
+fn put_numbers(all: &mut Document, alloc: Global) -> Result<(), AllocError> {
     put(
-        &mut all,
+        all,
         alloc,
-        "timestamp",
-        Bson::from(Timestamp {
-            time: 4,
-            increment: 2,
-        }),
+        "double",
+        Bson::from(DoubleBits(0x3FF8_0000_0000_0000)),
     )?;
+    put(all, alloc, "boolean", Bson::from(true))?;
+    put(all, alloc, "int32", Bson::from(-3i32))?;
+    put(all, alloc, "int64", Bson::from(-4i64))?;
     put(
-        &mut all,
+        all,
+        alloc,
+        "decimal",
+        Bson::from(Decimal128::from_bytes([6; 16])),
+    )
+}
+
+fn put_moments(all: &mut Document, alloc: Global) -> Result<(), AllocError> {
+    let timestamp = Timestamp {
+        time: 4,
+        increment: 2,
+    };
+    put(all, alloc, "timestamp", Bson::from(timestamp))?;
+    put(
+        all,
+        alloc,
+        "datetime",
+        Bson::from(DateTime::from_millis(-1)),
+    )?;
+    put(all, alloc, "object_id", Bson::from([9u8; 12]))?;
+    put(all, alloc, "pointer", Bson::from(pointer(alloc)?))
+}
+
+fn put_bytes(all: &mut Document, alloc: Global) -> Result<(), AllocError> {
+    put(
+        all,
         alloc,
         "binary",
         Bson::from(binary(alloc, BinarySubtype::Generic)?),
     )?;
     put(
-        &mut all,
+        all,
         alloc,
         "uuid",
         Bson::from(binary(alloc, BinarySubtype::Uuid)?),
-    )?;
-    put(&mut all, alloc, "object_id", Bson::from([9u8; 12]))?;
+    )
+}
+
+fn put_marks(all: &mut Document, alloc: Global) -> Result<(), AllocError> {
+    put(all, alloc, "null", Bson::default())?;
+    put(all, alloc, "undefined", Bson::Undefined)?;
+    put(all, alloc, "max", Bson::MaxKey)?;
+    put(all, alloc, "min", Bson::MinKey)
+}
+
+fn put_nested(all: &mut Document, alloc: Global) -> Result<(), AllocError> {
     put(
-        &mut all,
+        all,
         alloc,
-        "datetime",
-        Bson::from(DateTime::from_millis(-1)),
+        "array",
+        Bson::from_slice(alloc, &[Bson::Int32(1), Bson::Null])?,
     )?;
-    put(&mut all, alloc, "symbol", Bson::Symbol(text(alloc, "sym")?))?;
     put(
-        &mut all,
+        all,
         alloc,
-        "decimal",
-        Bson::from(Decimal128::from_bytes([6; 16])),
+        "document",
+        Bson::from(one(alloc, "a", Bson::Int32(5))?),
     )?;
-    put(&mut all, alloc, "undefined", Bson::Undefined)?;
-    put(&mut all, alloc, "max", Bson::MaxKey)?;
-    put(&mut all, alloc, "min", Bson::MinKey)?;
-    put(&mut all, alloc, "pointer", Bson::from(pointer(alloc)?))?;
+    put(all, alloc, "scoped", Bson::from(scoped_code(alloc)?))
+}
+
+// A value of each kind, under the kind's name.
+fn each_kind(alloc: Global) -> Result<Document, AllocError> {
+    let mut all = Document::new(alloc);
+    put_texts(&mut all, alloc)?;
+    put_numbers(&mut all, alloc)?;
+    put_moments(&mut all, alloc)?;
+    put_bytes(&mut all, alloc)?;
+    put_marks(&mut all, alloc)?;
+    put_nested(&mut all, alloc)?;
     Ok(all)
 }
 
@@ -177,28 +197,43 @@ fn doubles_are_compared_by_pattern(rt: HostRuntime) -> Result<(), Fail> {
 }
 
 #[test]
-fn conversions_have_their_kinds(rt: HostRuntime) -> Result<(), Fail> {
-    let alloc = rt.alloc();
+fn numbers_are_converted(rt: HostRuntime) -> Result<(), Fail> {
     assert_eq!(rt; Bson::from(2_147_483_648u32), Bson::Int64(2_147_483_648));
     assert_eq!(rt; Bson::from(2_147_483_647u32), Bson::Int32(2_147_483_647));
     assert_eq!(rt;
         Bson::from(ObjectId::from_bytes([9; 12])),
         Bson::from([9u8; 12])
     );
+    Ok(())
+}
+
+#[test]
+fn options_are_converted(rt: HostRuntime) -> Result<(), Fail> {
     assert_eq!(rt; Bson::from(None), Bson::Null);
     assert_eq!(rt; Bson::from(Some(Bson::MinKey)), Bson::MinKey);
-    assert_eq!(rt;
-        Bson::from_text(alloc, "hello")?,
-        Bson::from(text(alloc, "hello")?)
-    );
-    let mut items = Vec::new(alloc);
+    Ok(())
+}
+
+#[test]
+fn texts_are_copied(rt: HostRuntime) -> Result<(), Fail> {
+    let copied = Bson::from_text(rt.alloc(), "hello")?;
+    assert_eq!(rt; copied, Bson::from(text(rt.alloc(), "hello")?));
+    Ok(())
+}
+
+#[test]
+fn items_are_copied(rt: HostRuntime) -> Result<(), Fail> {
+    let mut items = Vec::new(rt.alloc());
     items.push(Bson::Int32(1))?;
     items.push(Bson::Null)?;
-    assert_eq!(rt;
-        Bson::from_slice(alloc, items.as_slice())?,
-        Bson::from(items)
-    );
-    let all = each_kind(alloc)?;
+    let copied = Bson::from_slice(rt.alloc(), items.as_slice())?;
+    assert_eq!(rt; copied, Bson::from(items));
+    Ok(())
+}
+
+#[test]
+fn values_have_their_kinds(rt: HostRuntime) -> Result<(), Fail> {
+    let all = each_kind(rt.alloc())?;
     let kinds = [
         ("double", ElementType::Double),
         ("string", ElementType::String),
@@ -223,10 +258,7 @@ fn conversions_have_their_kinds(rt: HostRuntime) -> Result<(), Fail> {
         ("pointer", ElementType::DbPointer),
     ];
     for (key, kind) in kinds {
-        match all.get(key) {
-            Some(value) => assert_eq!(rt; value.element_type(), kind, "at {key}"),
-            None => assert!(rt; false, "at {key}"),
-        }
+        assert_eq!(rt; all.get(key).map(|value| value.element_type()), Some(kind));
     }
     Ok(())
 }
@@ -291,29 +323,37 @@ fn a_value_answers_for_its_kind_alone(rt: HostRuntime) -> Result<(), Fail> {
 }
 
 #[test]
-fn values_are_written_through(rt: HostRuntime) -> Result<(), Fail> {
-    let alloc = rt.alloc();
-    let mut value = Bson::from_text(alloc, "a")?;
+fn texts_are_written_through(rt: HostRuntime) -> Result<(), Fail> {
+    let mut value = Bson::from_text(rt.alloc(), "a")?;
     if let Some(lent) = value.as_str_mut() {
-        lent.push_str("b")?;
+        lent.clear();
     }
-    assert_eq!(rt; value, Bson::from_text(alloc, "ab")?);
-    assert!(rt; value.as_array_mut().is_none());
-    assert!(rt; value.as_document_mut().is_none());
-    assert!(rt; value.as_object_id_mut().is_none());
-    assert!(rt; value.as_datetime_mut().is_none());
-    assert!(rt; value.as_symbol_mut().is_none());
-    let mut value = Bson::from_slice(alloc, &[])?;
+    assert_eq!(rt; value.as_str(), Some(""));
+    let mut value = Bson::Symbol(text(rt.alloc(), "a")?);
+    if let Some(lent) = value.as_symbol_mut() {
+        lent.clear();
+    }
+    assert_eq!(rt; value.as_symbol(), Some(""));
+    Ok(())
+}
+
+#[test]
+fn arrays_and_documents_are_written_through(rt: HostRuntime) -> Result<(), Fail> {
+    let mut value = Bson::from_slice(rt.alloc(), &[Bson::Null])?;
     if let Some(lent) = value.as_array_mut() {
-        lent.push(Bson::Null)?;
+        lent.clear();
     }
-    assert_eq!(rt; value, Bson::from_slice(alloc, &[Bson::Null])?);
-    assert!(rt; value.as_str_mut().is_none());
-    let mut value = Bson::from(Document::new(alloc));
+    assert_eq!(rt; value.as_array().map(|items| items.len()), Some(0));
+    let mut value = Bson::from(one(rt.alloc(), "a", Bson::Null)?);
     if let Some(lent) = value.as_document_mut() {
-        put(lent, alloc, "a", Bson::Int32(5))?;
+        lent.clear();
     }
-    assert_eq!(rt; value, Bson::from(one(alloc, "a", Bson::Int32(5))?));
+    assert_eq!(rt; value.as_document().map(|document| document.len()), Some(0));
+    Ok(())
+}
+
+#[test]
+fn ids_and_moments_are_written_through(rt: HostRuntime) -> Result<(), Fail> {
     let mut value = Bson::from([0u8; 12]);
     if let Some(lent) = value.as_object_id_mut() {
         *lent = ObjectId::from_bytes([1; 12]);
@@ -324,56 +364,76 @@ fn values_are_written_through(rt: HostRuntime) -> Result<(), Fail> {
         *lent = DateTime::from_millis(1);
     }
     assert_eq!(rt; value, Bson::from(DateTime::from_millis(1)));
-    let mut value = Bson::Symbol(text(alloc, "a")?);
-    if let Some(lent) = value.as_symbol_mut() {
-        lent.clear();
-    }
-    assert_eq!(rt; value, Bson::Symbol(text(alloc, "")?));
     Ok(())
 }
 
 #[test]
-fn getters_answer_their_kind(rt: HostRuntime) -> Result<(), Fail> {
-    let alloc = rt.alloc();
-    let all = each_kind(alloc)?;
+fn null_lends_nothing(rt: HostRuntime) -> Result<(), Fail> {
+    let mut value = Bson::Null;
+    assert!(rt; value.as_str_mut().is_none());
+    assert!(rt; value.as_array_mut().is_none());
+    assert!(rt; value.as_document_mut().is_none());
+    assert!(rt; value.as_object_id_mut().is_none());
+    assert!(rt; value.as_datetime_mut().is_none());
+    assert!(rt; value.as_symbol_mut().is_none());
+    Ok(())
+}
+
+#[test]
+fn getters_of_numbers_answer(rt: HostRuntime) -> Result<(), Fail> {
+    let all = each_kind(rt.alloc())?;
     assert_eq!(rt;
         all.get_f64("double"),
         Ok(DoubleBits(0x3FF8_0000_0000_0000))
     );
-    assert_eq!(rt;
-        all.get_decimal128("decimal").map(|d| *d),
-        Ok(Decimal128::from_bytes([6; 16]))
-    );
-    assert_eq!(rt; all.get_str("string"), Ok("hello"));
-    assert_eq!(rt; all.get_array("array").map(|a| a.len()), Ok(2));
-    assert_eq!(rt; all.get_document("document").map(|d| d.len()), Ok(1));
     assert_eq!(rt; all.get_bool("boolean"), Ok(true));
     assert_eq!(rt; all.get_i32("int32"), Ok(-3));
     assert_eq!(rt; all.get_i64("int64"), Ok(-4));
-    assert_eq!(rt;
-        all.get_timestamp("timestamp"),
-        Ok(Timestamp {
-            time: 4,
-            increment: 2
-        })
-    );
-    assert_eq!(rt; all.get_binary_generic("binary").map(|b| b.len()), Ok(3));
+    let decimal = all.get_decimal128("decimal").map(|d| d.bytes());
+    assert_eq!(rt; decimal, Ok([6; 16]));
+    Ok(())
+}
+
+#[test]
+fn getters_of_moments_answer(rt: HostRuntime) -> Result<(), Fail> {
+    let all = each_kind(rt.alloc())?;
+    let timestamp = Timestamp {
+        time: 4,
+        increment: 2,
+    };
+    assert_eq!(rt; all.get_timestamp("timestamp"), Ok(timestamp));
     assert_eq!(rt;
         all.get_object_id("object_id"),
         Ok(ObjectId::from_bytes([9; 12]))
     );
-    assert_eq!(rt;
-        all.get_datetime("datetime").map(|t| *t),
-        Ok(DateTime::from_millis(-1))
-    );
+    let millis = all.get_datetime("datetime").map(|t| t.timestamp_millis());
+    assert_eq!(rt; millis, Ok(-1));
+    Ok(())
+}
+
+#[test]
+fn getters_of_parts_answer(rt: HostRuntime) -> Result<(), Fail> {
+    let all = each_kind(rt.alloc())?;
+    assert_eq!(rt; all.get_str("string"), Ok("hello"));
+    assert_eq!(rt; all.get_array("array").map(|a| a.len()), Ok(2));
+    assert_eq!(rt; all.get_document("document").map(|d| d.len()), Ok(1));
+    assert_eq!(rt; all.get_binary_generic("binary").map(|b| b.len()), Ok(3));
+    Ok(())
+}
+
+#[test]
+fn null_is_found(rt: HostRuntime) -> Result<(), Fail> {
+    let all = each_kind(rt.alloc())?;
     assert!(rt; all.is_null("null"));
     assert!(rt; !all.is_null("double"));
     assert!(rt; !all.is_null("absent"));
     Ok(())
 }
 
-// The error of each getter at a key: those that read, and those that lend.
-fn errors(document: &mut Document, key: &str) -> [Option<ValueAccessError>; 24] {
+type Told = Option<ValueAccessError>;
+
+// The errors of the getters that read.
+fn errors_of_reads(document: &Document, key: &str) -> [Told; 12] {
     [
         document.get_f64(key).err(),
         document.get_decimal128(key).err(),
@@ -387,12 +447,22 @@ fn errors(document: &mut Document, key: &str) -> [Option<ValueAccessError>; 24] 
         document.get_binary_generic(key).err(),
         document.get_object_id(key).err(),
         document.get_datetime(key).err(),
+    ]
+}
+
+fn errors_of_six(document: &mut Document, key: &str) -> [Told; 6] {
+    [
         document.get_f64_mut(key).err(),
         document.get_decimal128_mut(key).err(),
         document.get_str_mut(key).err(),
         document.get_array_mut(key).err(),
         document.get_document_mut(key).err(),
         document.get_bool_mut(key).err(),
+    ]
+}
+
+fn errors_of_six_more(document: &mut Document, key: &str) -> [Told; 6] {
+    [
         document.get_i32_mut(key).err(),
         document.get_i64_mut(key).err(),
         document.get_timestamp_mut(key).err(),
@@ -403,38 +473,46 @@ fn errors(document: &mut Document, key: &str) -> [Option<ValueAccessError>; 24] 
 }
 
 #[test]
-fn getters_refuse_other_kinds(rt: HostRuntime) -> Result<(), Fail> {
-    let alloc = rt.alloc();
-    let mut all = each_kind(alloc)?;
+fn getters_that_read_refuse(rt: HostRuntime) -> Result<(), Fail> {
+    let all = each_kind(rt.alloc())?;
     for key in ["uuid", "null", "regex", "max"] {
-        for error in errors(&mut all, key) {
-            assert_eq!(rt; error, Some(ValueAccessError::UnexpectedType), "at {key}");
+        for error in errors_of_reads(&all, key) {
+            assert_eq!(rt; error, Some(ValueAccessError::UnexpectedType));
         }
     }
-    for error in errors(&mut all, "absent") {
+    for error in errors_of_reads(&all, "absent") {
         assert_eq!(rt; error, Some(ValueAccessError::NotPresent));
     }
     Ok(())
 }
 
 #[test]
-fn getters_write_through(rt: HostRuntime) -> Result<(), Fail> {
-    let alloc = rt.alloc();
-    let mut all = each_kind(alloc)?;
+fn getters_that_lend_refuse_other_kinds(rt: HostRuntime) -> Result<(), Fail> {
+    let mut all = each_kind(rt.alloc())?;
+    for error in errors_of_six(&mut all, "uuid") {
+        assert_eq!(rt; error, Some(ValueAccessError::UnexpectedType));
+    }
+    for error in errors_of_six_more(&mut all, "uuid") {
+        assert_eq!(rt; error, Some(ValueAccessError::UnexpectedType));
+    }
+    Ok(())
+}
+
+#[test]
+fn getters_that_lend_refuse_absent_keys(rt: HostRuntime) -> Result<(), Fail> {
+    let mut all = each_kind(rt.alloc())?;
+    for error in errors_of_six(&mut all, "absent") {
+        assert_eq!(rt; error, Some(ValueAccessError::NotPresent));
+    }
+    for error in errors_of_six_more(&mut all, "absent") {
+        assert_eq!(rt; error, Some(ValueAccessError::NotPresent));
+    }
+    Ok(())
+}
+
+fn write_numbers(all: &mut Document) {
     if let Ok(lent) = all.get_f64_mut("double") {
         *lent = DoubleBits(1);
-    }
-    if let Ok(lent) = all.get_decimal128_mut("decimal") {
-        *lent = Decimal128::from_bytes([1; 16]);
-    }
-    if let Ok(lent) = all.get_str_mut("string") {
-        lent.clear();
-    }
-    if let Ok(lent) = all.get_array_mut("array") {
-        lent.clear();
-    }
-    if let Ok(lent) = all.get_document_mut("document") {
-        lent.clear();
     }
     if let Ok(lent) = all.get_bool_mut("boolean") {
         *lent = false;
@@ -445,14 +523,11 @@ fn getters_write_through(rt: HostRuntime) -> Result<(), Fail> {
     if let Ok(lent) = all.get_i64_mut("int64") {
         *lent = 2;
     }
+}
+
+fn write_moments(all: &mut Document) {
     if let Ok(lent) = all.get_timestamp_mut("timestamp") {
-        *lent = Timestamp {
-            time: 0,
-            increment: 1,
-        };
-    }
-    if let Ok(lent) = all.get_binary_generic_mut("binary") {
-        lent.clear();
+        lent.increment = 1;
     }
     if let Ok(lent) = all.get_object_id_mut("object_id") {
         *lent = ObjectId::from_bytes([1; 12]);
@@ -460,127 +535,213 @@ fn getters_write_through(rt: HostRuntime) -> Result<(), Fail> {
     if let Ok(lent) = all.get_datetime_mut("datetime") {
         *lent = DateTime::from_millis(5);
     }
+    if let Ok(lent) = all.get_decimal128_mut("decimal") {
+        *lent = Decimal128::from_bytes([1; 16]);
+    }
+}
+
+fn clear_parts(all: &mut Document) {
+    if let Ok(lent) = all.get_str_mut("string") {
+        lent.clear();
+    }
+    if let Ok(lent) = all.get_array_mut("array") {
+        lent.clear();
+    }
+    if let Ok(lent) = all.get_document_mut("document") {
+        lent.clear();
+    }
+    if let Ok(lent) = all.get_binary_generic_mut("binary") {
+        lent.clear();
+    }
+}
+
+#[test]
+fn numbers_are_written_in_place(rt: HostRuntime) -> Result<(), Fail> {
+    let mut all = each_kind(rt.alloc())?;
+    write_numbers(&mut all);
     assert_eq!(rt; all.get_f64("double"), Ok(DoubleBits(1)));
-    assert_eq!(rt;
-        all.get_decimal128("decimal").map(|d| *d),
-        Ok(Decimal128::from_bytes([1; 16]))
-    );
-    assert_eq!(rt; all.get_str("string"), Ok(""));
-    assert_eq!(rt; all.get_array("array").map(|a| a.len()), Ok(0));
-    assert_eq!(rt; all.get_document("document").map(|d| d.len()), Ok(0));
     assert_eq!(rt; all.get_bool("boolean"), Ok(false));
     assert_eq!(rt; all.get_i32("int32"), Ok(1));
     assert_eq!(rt; all.get_i64("int64"), Ok(2));
-    assert_eq!(rt;
-        all.get_timestamp("timestamp"),
-        Ok(Timestamp {
-            time: 0,
-            increment: 1
-        })
-    );
-    assert_eq!(rt; all.get_binary_generic("binary").map(|b| b.len()), Ok(0));
-    assert_eq!(rt;
-        all.get_object_id("object_id"),
-        Ok(ObjectId::from_bytes([1; 12]))
-    );
-    assert_eq!(rt;
-        all.get_datetime("datetime").map(|t| *t),
-        Ok(DateTime::from_millis(5))
-    );
     assert_eq!(rt; all.len(), 22);
     Ok(())
 }
 
 #[test]
-fn copies_are_equal(rt: HostRuntime) -> Result<(), Fail> {
-    let alloc = rt.alloc();
-    let all = each_kind(alloc)?;
-    assert_eq!(rt; all.try_clone()?, all);
-    for (key, value) in &all {
-        assert_eq!(rt; &value.try_clone(rt.alloc())?, value, "at {key}");
-    }
-    let code = scoped_code(alloc)?;
-    assert_eq!(rt; code.try_clone()?, code);
-    laws::distinct_keys_of_document(&all);
+fn moments_are_written_in_place(rt: HostRuntime) -> Result<(), Fail> {
+    let mut all = each_kind(rt.alloc())?;
+    write_moments(&mut all);
+    assert_eq!(rt; all.get_timestamp("timestamp").map(|t| t.increment), Ok(1));
+    assert_eq!(rt;
+        all.get_object_id("object_id"),
+        Ok(ObjectId::from_bytes([1; 12]))
+    );
+    let millis = all.get_datetime("datetime").map(|t| t.timestamp_millis());
+    assert_eq!(rt; millis, Ok(5));
+    let decimal = all.get_decimal128("decimal").map(|d| d.bytes());
+    assert_eq!(rt; decimal, Ok([1; 16]));
     Ok(())
 }
 
 #[test]
-fn pairs_come_and_go(rt: HostRuntime) -> Result<(), Fail> {
-    let alloc = rt.alloc();
-    let mut pairs = Vec::new(alloc);
-    for (key, value) in [("a", 1), ("b", 2), ("a", 3), ("c", 4)] {
-        pairs.push((text(alloc, key)?, Bson::Int32(value)))?;
+fn parts_are_written_in_place(rt: HostRuntime) -> Result<(), Fail> {
+    let mut all = each_kind(rt.alloc())?;
+    clear_parts(&mut all);
+    assert_eq!(rt; all.get_str("string"), Ok(""));
+    assert_eq!(rt; all.get_array("array").map(|a| a.len()), Ok(0));
+    assert_eq!(rt; all.get_document("document").map(|d| d.len()), Ok(0));
+    assert_eq!(rt; all.get_binary_generic("binary").map(|b| b.len()), Ok(0));
+    Ok(())
+}
+
+#[test]
+fn copies_are_equal(rt: HostRuntime) -> Result<(), Fail> {
+    let all = each_kind(rt.alloc())?;
+    let copied = all.try_clone()?;
+    assert!(rt; laws::equality_of_members(&all, &copied));
+    for value in all.values() {
+        let copied = value.try_clone(rt.alloc())?;
+        assert!(rt; laws::equality_of_trees(value, &copied));
     }
-    let mut document = Document::from_pairs(alloc, pairs)?;
+    Ok(())
+}
+
+#[test]
+fn code_is_copied(rt: HostRuntime) -> Result<(), Fail> {
+    let code = scoped_code(rt.alloc())?;
+    let copied = code.try_clone()?;
+    assert_eq!(rt; copied, code);
+    Ok(())
+}
+
+fn pair(alloc: Global, key: &str, number: i32) -> Result<(String, Bson), AllocError> {
+    Ok((text(alloc, key)?, Bson::Int32(number)))
+}
+
+fn three_pairs(alloc: Global) -> Result<Document, AllocError> {
+    let mut pairs = Vec::new(alloc);
+    pairs.push(pair(alloc, "a", 1)?)?;
+    pairs.push(pair(alloc, "b", 2)?)?;
+    pairs.push(pair(alloc, "a", 3)?)?;
+    pairs.push(pair(alloc, "c", 4)?)?;
+    Document::from_pairs(alloc, pairs)
+}
+
+#[test]
+fn the_last_of_two_pairs_counts(rt: HostRuntime) -> Result<(), Fail> {
+    let mut document = three_pairs(rt.alloc())?;
     assert_eq!(rt; document.len(), 3);
     assert_eq!(rt; document.get_i32("a"), Ok(3));
+    let mut more = Vec::new(rt.alloc());
+    more.push(pair(rt.alloc(), "d", 5)?)?;
+    document.extend(more)?;
+    assert!(rt; document.contains_key("d"));
+    Ok(())
+}
+
+#[test]
+fn removed_pairs_are_gone(rt: HostRuntime) -> Result<(), Fail> {
+    let mut document = three_pairs(rt.alloc())?;
     assert_eq!(rt; document.remove("b"), Some(Bson::Int32(2)));
     assert_eq!(rt; document.remove("b"), None);
-    if let Some(value) = document.get_index_mut(1) {
-        *value = Bson::Int32(5);
-    }
-    assert!(rt; document.get_index_mut(2).is_none());
-    if let Some(value) = document.get_mut("a") {
-        *value = Bson::Null;
-    }
-    assert!(rt; document.get_mut("b").is_none());
     let mut keys = document.keys();
     assert_eq!(rt; keys.next().map(|k| k.as_str()), Some("a"));
     assert_eq!(rt; keys.next().map(|k| k.as_str()), Some("c"));
     assert!(rt; keys.next().is_none());
-    let mut values = document.values();
-    assert_eq!(rt; values.next(), Some(&Bson::Null));
-    assert_eq!(rt; values.next(), Some(&Bson::Int32(5)));
-    assert!(rt; values.next().is_none());
-    let mut more = Vec::new(alloc);
-    more.push((text(alloc, "d")?, Bson::MaxKey))?;
-    document.extend(more)?;
-    assert!(rt; document.contains_key("d"));
-    let mut owned = document.try_clone()?.into_iter();
-    assert_eq!(rt; owned.next(), Some((text(alloc, "a")?, Bson::Null)));
-    assert_eq!(rt; owned.next(), Some((text(alloc, "c")?, Bson::Int32(5))));
-    assert_eq!(rt; owned.next(), Some((text(alloc, "d")?, Bson::MaxKey)));
-    assert_eq!(rt; owned.next(), None);
     document.clear();
     assert!(rt; document.is_empty());
     Ok(())
 }
 
 #[test]
-fn entries_insert_where_the_key_is_absent(rt: HostRuntime) -> Result<(), Fail> {
-    let alloc = rt.alloc();
-    let mut document = one(alloc, "a", Bson::Int32(1))?;
-    match document.entry(text(alloc, "a")?) {
-        Entry::Occupied(entry) => assert_eq!(rt; entry.key(), "a"),
-        Entry::Vacant(_) => assert!(rt; false),
+fn values_are_lent_by_place_and_by_key(rt: HostRuntime) -> Result<(), Fail> {
+    let mut document = three_pairs(rt.alloc())?;
+    if let Some(value) = document.get_index_mut(1) {
+        *value = Bson::Int32(5);
     }
-    assert_eq!(rt; document.entry(text(alloc, "b")?).key(), "b");
-    *document.entry(text(alloc, "a")?).or_insert(Bson::Int32(7))? = Bson::Int32(2);
-    *document.entry(text(alloc, "b")?).or_insert(Bson::Int32(7))? = Bson::Int32(3);
-    document
-        .entry(text(alloc, "b")?)
-        .or_insert_with(|| Bson::Int32(8))?;
-    document
-        .entry(text(alloc, "c")?)
-        .or_insert_with(|| Bson::Int32(8))?;
-    assert_eq!(rt; document.get_i32("a"), Ok(2));
-    assert_eq!(rt; document.get_i32("b"), Ok(3));
-    assert_eq!(rt; document.get_i32("c"), Ok(8));
+    if let Some(value) = document.get_mut("a") {
+        *value = Bson::Null;
+    }
+    assert!(rt; document.get_index_mut(3).is_none());
+    assert!(rt; document.get_mut("d").is_none());
+    let mut values = document.values();
+    assert_eq!(rt; values.next(), Some(&Bson::Null));
+    assert_eq!(rt; values.next(), Some(&Bson::Int32(5)));
+    assert_eq!(rt; values.next(), Some(&Bson::Int32(4)));
+    assert!(rt; values.next().is_none());
     Ok(())
 }
 
 #[test]
-fn uuids_and_vectors_are_binary_values(rt: HostRuntime) -> Result<(), Fail> {
+fn pairs_come_by_value(rt: HostRuntime) -> Result<(), Fail> {
+    let mut numbers = 0;
+    for (key, value) in three_pairs(rt.alloc())? {
+        assert_eq!(rt; key.len(), 1);
+        assert!(rt; value.as_i32().is_some());
+        numbers = 1;
+    }
+    assert_eq!(rt; numbers, 1);
+    Ok(())
+}
+
+#[test]
+fn entries_insert_where_the_key_is_absent(rt: HostRuntime) -> Result<(), Fail> {
+    let mut document = one(rt.alloc(), "a", Bson::Int32(1))?;
+    let key = text(rt.alloc(), "a")?;
+    *document.entry(key).or_insert(Bson::Int32(7))? = Bson::Int32(2);
+    let key = text(rt.alloc(), "b")?;
+    *document.entry(key).or_insert(Bson::Int32(7))? = Bson::Int32(3);
+    assert_eq!(rt; document.get_i32("a"), Ok(2));
+    assert_eq!(rt; document.get_i32("b"), Ok(3));
+    Ok(())
+}
+
+#[test]
+fn entries_call_where_the_key_is_absent(rt: HostRuntime) -> Result<(), Fail> {
+    let mut document = one(rt.alloc(), "a", Bson::Int32(1))?;
+    let key = text(rt.alloc(), "a")?;
+    let entry = document.entry(key);
+    assert_eq!(rt; entry.key(), "a");
+    entry.or_insert_with(|| Bson::Int32(8))?;
+    let key = text(rt.alloc(), "b")?;
+    document.entry(key).or_insert_with(|| Bson::Int32(8))?;
+    assert_eq!(rt; document.get_i32("a"), Ok(1));
+    assert_eq!(rt; document.get_i32("b"), Ok(8));
+    Ok(())
+}
+
+// With `rt try --test --fail-alloc N` a growth is refused here for some N.
+#[test]
+fn a_refused_growth_changes_nothing(rt: HostRuntime) -> Result<(), Fail> {
+    let mut document = Document::new(rt.alloc());
+    for name in ["a", "b", "c", "d", "e", "f", "g", "h", "i", "j"] {
+        let before = document.len();
+        if let Ok(key) = text(rt.alloc(), name) {
+            match document.insert(key, Bson::Null) {
+                Ok(_) => assert!(rt; document.len() > before),
+                Err(_) => assert!(rt; document.len() == before && !document.contains_key(name)),
+            }
+        }
+    }
+    Ok(())
+}
+
+#[test]
+fn uuids_are_binary_values(rt: HostRuntime) -> Result<(), Fail> {
     let alloc = rt.alloc();
-    let uuid = bson_base::Uuid::from_bytes([9; 16]);
-    let value = Bson::from_uuid(alloc, uuid)?;
+    let value = Bson::from_uuid(alloc, Uuid::from_bytes([9; 16]))?;
     let wanted = Binary {
         subtype: BinarySubtype::Uuid,
         bytes: Vec::from_slice(alloc, &[9; 16])?,
     };
     assert_eq!(rt; value, Bson::Binary(wanted));
-    let numbers = bson_base::binary::Vector::Int8(Vec::from_slice(alloc, &[0, 1, 2])?);
+    Ok(())
+}
+
+#[test]
+fn vectors_are_binary_values(rt: HostRuntime) -> Result<(), Fail> {
+    let alloc = rt.alloc();
+    let numbers = binary::Vector::Int8(Vec::from_slice(alloc, &[0, 1, 2])?);
     let value = Bson::from_vector(alloc, &numbers)?;
     let wanted = Binary {
         subtype: BinarySubtype::Vector,
