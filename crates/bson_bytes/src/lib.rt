@@ -1,0 +1,2 @@
+//! The bytes of document trees: what a tree is written as, and what bytes mean as a tree (bsonspec.org 1.1).
+#![tactic(auto)]
