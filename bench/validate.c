@@ -1,4 +1,4 @@
-/* Times libbson's bson_validate over one document: validate FILE ROUNDS. Build: see README.md beside this file. */
+/* Times libbson's bson_validate and bson_copy over one document: validate FILE ROUNDS. Build: see README.md beside this file. */
 #include <bson/bson.h>
 #include <stdio.h>
 #include <stdlib.h>
@@ -30,5 +30,14 @@ int main(int argc, char **argv) {
         }
         printf("bson_validate, %s: %.0f us, %.0f MB/s\n", names[f], least * 1e6, size / least / 1e6);
     }
+    double least = 1e9;
+    for (int round = 0; round < atoi(argv[2]); round++) {
+        double start = seconds();
+        bson_t *copy = bson_copy(&document);
+        double taken = seconds() - start;
+        bson_destroy(copy);
+        if (taken < least) least = taken;
+    }
+    printf("bson_copy: %.0f us, %.0f MB/s\n", least * 1e6, size / least / 1e6);
     return 0;
 }
