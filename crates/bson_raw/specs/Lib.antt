@@ -3,3 +3,4 @@ pub mod Walk
 pub mod Value
 pub mod Read
 pub mod Access
+pub mod Convert

@@ -8,6 +8,7 @@ mod access;
 mod array;
 mod array_iter;
 mod bson_ref;
+mod convert;
 mod decode;
 mod document;
 mod element;
