@@ -9,3 +9,4 @@ pub mod Lending
 pub mod Extend
 pub mod Rest
 pub mod Entries
+pub mod JsonKeys
