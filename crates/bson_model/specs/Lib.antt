@@ -10,3 +10,5 @@ pub mod Extend
 pub mod Rest
 pub mod Entries
 pub mod JsonKeys
+pub mod Dates
+pub mod JsonWrite
