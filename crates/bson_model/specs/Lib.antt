@@ -9,3 +9,6 @@ pub mod Lending
 pub mod Extend
 pub mod Rest
 pub mod Entries
+pub mod JsonKeys
+pub mod Dates
+pub mod JsonWrite

@@ -1,0 +1,6 @@
+//! Extended JSON over the trees of `serde_json`.
+
+pub mod de;
+mod ser;
+
+pub use ser::Mode;
