@@ -6,3 +6,4 @@ pub mod Settling
 pub mod Progress
 pub mod Converting
 pub mod Faults
+pub mod Reading

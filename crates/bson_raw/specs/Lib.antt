@@ -4,3 +4,4 @@ pub mod Value
 pub mod Read
 pub mod Access
 pub mod Convert
+pub mod Input

@@ -14,6 +14,8 @@ mod document;
 mod element;
 mod from;
 pub mod laws;
+mod read_error;
+mod reader;
 mod values;
 mod walk;
 
@@ -27,6 +29,8 @@ pub use bson_ref::{
 };
 pub use document::RawDocument;
 pub use element::RawElement;
+pub use read_error::ReadError;
+pub use reader::from_reader;
 pub use values::Iter;
 pub use walk::RawIter;
 
