@@ -5,3 +5,5 @@ pub mod LayerLemmas
 pub mod JsonWriteLemmas
 pub mod DateTextLemmas
 pub mod SizeLemmas
+pub mod FiniteLemmas
+pub mod ShowLemmas

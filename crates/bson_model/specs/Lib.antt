@@ -12,3 +12,4 @@ pub mod Entries
 pub mod JsonKeys
 pub mod Dates
 pub mod JsonWrite
+pub mod Display
