@@ -10,3 +10,6 @@ pub mod Extend
 pub mod Rest
 pub mod Entries
 pub mod JsonKeys
+pub mod JsonTexts
+pub mod JsonRead
+pub mod JsonWrappers

@@ -4,6 +4,7 @@
 mod bson;
 mod copy;
 pub mod document;
+pub mod extjson;
 pub mod laws;
 #[cfg(test)]
 mod tests;

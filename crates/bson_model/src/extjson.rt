@@ -1,0 +1,3 @@
+//! Extended JSON v2, between values of BSON and JSON trees.
+
+pub mod de;
