@@ -7,3 +7,5 @@ pub mod DateTextLemmas
 pub mod SizeLemmas
 pub mod FiniteLemmas
 pub mod ShowLemmas
+pub mod JsonTextsLemmas
+pub mod JsonReadLemmas

@@ -13,3 +13,6 @@ pub mod JsonKeys
 pub mod Dates
 pub mod JsonWrite
 pub mod Display
+pub mod JsonTexts
+pub mod JsonRead
+pub mod JsonWrappers
