@@ -1,0 +1,5 @@
+pub mod Ordered
+pub mod Canonical
+pub mod Scalars
+pub mod Decimals
+pub mod Normal
