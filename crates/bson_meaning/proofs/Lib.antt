@@ -1,5 +1,8 @@
 pub mod Ordered
 pub mod Canonical
-pub mod Scalars
+pub mod NormalScalars
 pub mod Decimals
 pub mod Normal
+pub mod Comparing
+pub mod Characters
+pub mod Turns

@@ -10,7 +10,7 @@ use Rattle.bson_base.specs.Kinds.{IsPlainScalar, IsCleanScalar, IsRangedScalar}
 use Rattle.bson_base.specs.Tags.{subtype_byte, subtype_of}
 use Rattle.bson_meaning.specs.Meaning.{normal_scalar, norm, norm_items, norm_members, place, asc, asc_items, asc_members}
 use Rattle.bson_base.specs.Value.{Scalar, double, string, binary, regex, code, decimal, Value, scalar, array, document, scoped_code, Items, no_items, item, Members, no_members, member, look_up, EachPart, EachItem, EachMember, HasDistinctKeys, ItemsHaveDistinctKeys, MembersHaveDistinctKeys}
-use Rattle.bson_meaning.proofs.Scalars.{normal_double_twice, normal_double_fits, byte_again, sorted_text_twice, sorted_text_length, sorted_text_plain, sorted_text_utf8, sorted_text_clean}
+use Rattle.bson_meaning.proofs.NormalScalars.{normal_double_twice, normal_double_fits, byte_again, sorted_text_twice, sorted_text_length, sorted_text_plain, sorted_text_utf8, sorted_text_clean}
 use Rattle.bson_meaning.proofs.Decimals.{normal_decimal_length, normal_decimal_bytes, normal_decimal_twice}
 use Rattle.bson_meaning.proofs.Ordered.{tied, same_key, look_up-asc, look_up-norm}
 

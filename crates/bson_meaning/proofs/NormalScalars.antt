@@ -62,7 +62,7 @@ scalars_put c (d ∷ ds) h k = by (scalars_put c ds h (both_true (scalar d) (sca
     by r true = and_true (scalar c) (scalars (d ∷ ds)) h k
     by r false = and_true (scalar d) (scalars (put_in_order c ds)) (both_true (scalar d) (scalars ds) k).0 r
 
-scalars_ascending : (cs : List ℕ) → scalars cs ≡ true → scalars (ascending cs) ≡ true
+pub scalars_ascending : (cs : List ℕ) → scalars cs ≡ true → scalars (ascending cs) ≡ true
 scalars_ascending [] h = refl
 scalars_ascending (c ∷ cs) h = let p = both_true (scalar c) (scalars cs) h in scalars_put c (ascending cs) p.0 (scalars_ascending cs p.1)
 
