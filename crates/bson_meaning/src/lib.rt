@@ -2,11 +2,13 @@
 #![tactic(auto)]
 
 mod compare;
+mod forms;
 mod levels;
 mod options;
 mod plain;
 mod scalars;
 
 pub use compare::same_meaning;
+pub use forms::normalize;
 pub use levels::depth;
 pub use plain::is_plain;
