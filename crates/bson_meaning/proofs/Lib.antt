@@ -7,3 +7,4 @@ pub mod Comparing
 pub mod Characters
 pub mod Turns
 pub mod Putting
+pub mod InOrder

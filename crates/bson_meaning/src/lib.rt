@@ -7,8 +7,10 @@ mod levels;
 mod options;
 mod plain;
 mod scalars;
+mod sorting;
 
 pub use compare::same_meaning;
 pub use forms::normalize;
 pub use levels::depth;
 pub use plain::is_plain;
+pub use sorting::sorted;
