@@ -1,0 +1,11 @@
+pub mod Extents
+pub mod Lengths
+pub mod One
+pub mod Places
+pub mod Scalars
+pub mod Settled
+pub mod Spelled
+pub mod Told
+pub mod Writing
+pub mod Written
+pub mod Zeros
