@@ -1,0 +1,16 @@
+//! What documents mean: their normal form, keys that are equal where the meaning is, and the gate for bytes.
+#![tactic(auto)]
+
+mod compare;
+mod forms;
+mod levels;
+mod options;
+mod plain;
+mod scalars;
+mod sorting;
+
+pub use compare::same_meaning;
+pub use forms::normalize;
+pub use levels::depth;
+pub use plain::is_plain;
+pub use sorting::sorted;
