@@ -6,10 +6,13 @@
 
 mod access;
 mod array;
+mod array_buf;
 mod array_iter;
+mod bson;
 mod bson_ref;
 mod decode;
 mod document;
+mod document_buf;
 mod element;
 mod from;
 pub mod laws;
@@ -17,7 +20,9 @@ mod values;
 mod walk;
 
 pub use array::RawArray;
+pub use array_buf::RawArrayBuf;
 pub use array_iter::RawArrayIter;
+pub use bson::{RawBson, RawJavaScriptCodeWithScope, raw_binary_of};
 pub use bson_frame::{
     Error, ErrorKind, Result, ValueAccessError, ValueAccessErrorKind, ValueAccessResult,
 };
@@ -25,6 +30,7 @@ pub use bson_ref::{
     RawBinaryRef, RawBsonRef, RawDbPointerRef, RawJavaScriptCodeWithScopeRef, RawRegexRef,
 };
 pub use document::RawDocument;
+pub use document_buf::RawDocumentBuf;
 pub use element::RawElement;
 pub use values::Iter;
 pub use walk::RawIter;
