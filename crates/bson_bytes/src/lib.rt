@@ -1,2 +1,4 @@
 //! The bytes of document trees: what a tree is written as, and what bytes mean as a tree (bsonspec.org 1.1).
 #![tactic(auto)]
+
+pub mod put;
