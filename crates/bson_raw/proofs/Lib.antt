@@ -2,3 +2,4 @@ pub mod Walks
 pub mod Turns
 pub mod Runs
 pub mod Accesses
+pub mod Puts

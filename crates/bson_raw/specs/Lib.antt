@@ -5,3 +5,5 @@ pub mod Read
 pub mod Access
 pub mod Buffer
 pub mod Raw
+pub mod Append
+pub mod Written

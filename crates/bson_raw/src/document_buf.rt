@@ -6,6 +6,9 @@ ghost use Rattle.bson_frame.specs.Payload.{IsEnvelope};
 ghost use Rattle.bson_frame.specs.declared.error.Error.{Error as Fault};
 ghost use Rattle.bson_frame.specs.declared.error.ErrorKind.TheVariants.{MalformedValue};
 
+use crate::append::append_to;
+use crate::bson::RawBson;
+use crate::bson_ref::RawBsonRef;
 use crate::document::RawDocument;
 use crate::values::Iter;
 use crate::walk::RawIter;
@@ -22,7 +25,9 @@ pub struct RawDocumentBuf {
 
 impl RawDocumentBuf {
     ghost use Rattle.bson_frame.specs.View.{IsBare};
+    ghost use Rattle.bson_raw.specs.Append.{Appends};
     ghost use Rattle.bson_raw.specs.Buffer.{buffer_bytes};
+    ghost use Rattle.bson_raw.specs.Raw.{ref_value, own_value};
     ghost use Rattle.bson_raw.specs.Read.{IsPairRead, pair_steps};
     ghost use Rattle.bson_raw.specs.View.{bytes_of, left_of, pairs_left};
     ghost use Rattle.bson_raw.specs.Walk.{YieldsWalk, IsItem, raw_steps};
@@ -65,6 +70,23 @@ impl RawDocumentBuf {
     {
         let bytes = Vec::from_slice(*self.bytes.allocator(), &self.bytes)?;
         Ok(RawDocumentBuf { bytes })
+    }
+
+    /// Puts a value last, under a key. It takes time in proportion to the element, but for growths of the buffer.
+    ///
+    /// `MalformedValue`, under no key, where a 00 stands in the key, a pattern or options, and where the document would be over
+    /// 2147483647 bytes. A refusal changes nothing.
+    pub fn append_ref(&mut self, key: &str, value: RawBsonRef<'_>) -> Result<(), Error>
+        ensures { Appends (buffer_bytes self.old) (buffer_bytes self.new) key.now (ref_value value.entry) result }
+    {
+        append_to(&mut self.bytes, key, value)
+    }
+
+    /// Puts a value last, under a key, as `append_ref` does.
+    pub fn append(&mut self, key: &str, value: RawBson) -> Result<(), Error>
+        ensures { Appends (buffer_bytes self.old) (buffer_bytes self.new) key.now (own_value value) result }
+    {
+        self.append_ref(key, value.as_raw_bson_ref())
     }
 
     /// The view of the bytes.

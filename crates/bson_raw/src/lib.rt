@@ -5,6 +5,7 @@
 #![tactic(auto)]
 
 mod access;
+mod append;
 mod array;
 mod array_buf;
 mod array_iter;
