@@ -1,2 +1,5 @@
+pub mod Lengths
 pub mod Places
+pub mod Writing
+pub mod Written
 pub mod Zeros

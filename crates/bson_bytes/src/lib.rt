@@ -2,3 +2,6 @@
 #![tactic(auto)]
 
 pub mod put;
+mod write;
+
+pub use write::encode_document;

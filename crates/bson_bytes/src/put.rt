@@ -2,16 +2,17 @@
 //!
 //! Where a call is refused, a part of its bytes may have been appended; those from before stay.
 
-ghost use Rattle.std.specs.Prelude.{◌≡◌, ◌↔◌, IsTrue, ◌+◌, ◌<◌, ◌≤◌, ◌^◌, ◌++◌, ◌∷◌, [], List, ℕ, length, OnOk, OnErr, IfErr};
-ghost use Rattle.bson_base.specs.Kinds.{HasNo00};
+ghost use Rattle.std.specs.Prelude.{◌≡◌, ◌↔◌, IsTrue, ◌+◌, ◌<◌, ◌≤◌, ◌^◌, ◌++◌, ◌∷◌, [], List, ℕ, length, decimal, OnOk, OnErr, IfErr};
+ghost use Rattle.bson_base.specs.Kinds.{HasNo00, IsPlainScalar};
+ghost use Rattle.bson_base.specs.Scalars.{id_bytes};
 ghost use Rattle.bson_base.specs.Tags.{tag_byte};
-ghost use Rattle.bson_base.specs.Value.{binary};
+ghost use Rattle.bson_base.specs.Value.{binary, regex, timestamp, db_pointer};
 ghost use Rattle.bson_bytes.specs.Encode.{le32, ended, inner, text_bytes, scalar_bytes, scalar_size};
 ghost use Rattle.bson_bytes.specs.Writing.{IsRefusal, StartsWith};
 ghost use Rattle.bson_frame.specs.View.{IsBare};
 ghost use Rattle.bson_frame.specs.declared.error.ErrorKind.TheVariants.{MalformedValue, OutOfMemory};
 
-use bson_base::{BinarySubtype, ElementType};
+use bson_base::{BinarySubtype, ElementType, ObjectId, Timestamp};
 use bson_frame::{Error, ErrorKind, Result};
 
 /// The greatest number of bytes that a length can tell: it is a signed number of 32 bits.
@@ -86,6 +87,20 @@ pub fn write_front(kind: ElementType, key: &str, out: &mut Vec<u8>) -> Result<()
     write_name(key, out)
 }
 
+/// Appends what stands in front of an item's payload: its tag, its place in the array in decimal, and 00 (bsonspec.org 1.1,
+/// element type 04). The error is a refused growth.
+#[tactic(auto, unfolding(crate::specs::Encode::ended))]
+pub fn write_place(kind: ElementType, place: usize, out: &mut Vec<u8>) -> Result<()>
+    ensures ok { OnOk result (out.new.items ≡ out.old.items ++ tag_byte kind ∷ ended (decimal place)) }
+    ensures refused { IfErr result (IsBare OutOfMemory) }
+    ensures kept { OnErr result (StartsWith out.new.items out.old.items) }
+{
+    let key = place.to_string(*out.allocator())?;
+    write_bytes(&[kind.tag()], out)?;
+    write_bytes(key.as_bytes(), out)?;
+    write_bytes(&[0], out)
+}
+
 /// Appends a length, a subtype and the bytes; an old binary has a second length in front of its bytes (bsonspec.org 1.1,
 /// "binary"). `MalformedValue` where these are over 2147483647 bytes.
 #[tactic(auto, unfolding(crate::specs::Encode::le32, crate::specs::Encode::inner))]
@@ -111,6 +126,40 @@ pub fn write_binary(subtype: BinarySubtype, bytes: &[u8], out: &mut Vec<u8>) -> 
         write_bytes(&inner.to_le_bytes(), out)?;
     }
     write_bytes(bytes, out)
+}
+
+/// Appends a pattern and options, each with its 00 (bsonspec.org 1.1, element type 0B). `MalformedValue` where a 00 stands in
+/// one of them.
+pub fn write_regex(pattern: &str, options: &str, out: &mut Vec<u8>) -> Result<()>
+    ensures ok { OnOk result (out.new.items ≡ out.old.items ++ scalar_bytes (regex pattern.now options.now)) }
+    ensures plain { OnOk result (IsPlainScalar (regex pattern.now options.now)) }
+    ensures refused { IfErr result (IsRefusal (IsPlainScalar (regex pattern.now options.now) → ⊥)) }
+    ensures kept { OnErr result (StartsWith out.new.items out.old.items) }
+{
+    write_name(pattern, out)?;
+    write_name(options, out)
+}
+
+/// Appends a timestamp, the increment first (bsonspec.org 1.1, element type 11). The error is a refused growth.
+#[tactic(auto, unfolding(crate::specs::Encode::le32))]
+pub fn write_timestamp(value: Timestamp, out: &mut Vec<u8>) -> Result<()>
+    ensures ok { OnOk result (out.new.items ≡ out.old.items ++ scalar_bytes (timestamp value.time value.increment)) }
+    ensures refused { IfErr result (IsBare OutOfMemory) }
+    ensures kept { OnErr result (StartsWith out.new.items out.old.items) }
+{
+    write_bytes(&value.increment.to_le_bytes(), out)?;
+    write_bytes(&value.time.to_le_bytes(), out)
+}
+
+/// Appends a text and the twelve bytes of an object id (bsonspec.org 1.1, element type 0C). `MalformedValue` where the text
+/// takes over 2147483647 bytes.
+pub fn write_pointer(namespace: &str, id: ObjectId, out: &mut Vec<u8>) -> Result<()>
+    ensures ok { OnOk result (out.new.items ≡ out.old.items ++ scalar_bytes (db_pointer namespace.now (id_bytes id))) }
+    ensures refused { IfErr result (IsRefusal (2 ^ 31 ≤ length namespace.now + 5)) }
+    ensures kept { OnErr result (StartsWith out.new.items out.old.items) }
+{
+    write_text(namespace, out)?;
+    write_bytes(&id.bytes(), out)
 }
 
 /// Puts a number in the place of four bytes.
