@@ -1,5 +1,6 @@
 -- The parts of `append`: what is written behind a document, and how it becomes a document again.
-use Rattle.std.proofs.Common.{◌≡◌, ℕ, ◌+◌, ◌-◌, ◌<◌, ◌≤◌, ◌^◌, List, [], ◌∷◌, ◌++◌, length, take, drop, set, get_or, Bool, true, false, if◌then◌else◌, OnOk, IfErr, Result, Ok, Err, refl, sym, ap, ◌∙◌, subst, append_assoc, arith}
+use Rattle.std.specs.List.{AllZip}
+use Rattle.std.proofs.Common.{◌≡◌, ℕ, suc, ◌+◌, ◌-◌, ◌<◌, ◌≤◌, ◌^◌, List, [], ◌∷◌, ◌++◌, length, take, drop, set, get_or, Bool, true, false, if◌then◌else◌, OnOk, IfErr, Result, Ok, Err, refl, sym, ap, ◌∙◌, subst, append_assoc, arith}
 use Rattle.std.proofs.lemmas.List.{length-append, set-append_right, take_at, drop_at, take-append-drop, drop-drop, drop_more, drop_all, length-take-le, length-drop, get_or_at}
 use Rattle.std.proofs.lemmas.Nat.{from_le_bytes-to_le_bytes_4}
 use Rattle.bson_base.specs.declared.spec.ElementType.{ElementType}
@@ -254,3 +255,15 @@ behind old mid rest env e = e ∙ ap (λ (x : List ℕ). x ++ rest) (document_pa
 
 pub cut_down : (old mid new : List ℕ) (n : ℕ) → n ≡ length old → StartsWith mid old → new ≡ take n mid → new ≡ old
 cut_down old mid new n len s e = e ∙ ap (λ (x : List ℕ). take n x) s.1 ∙ take_at old s.0 n (sym len)
+
+-- the document has grown
+pub grown : (old new key : List ℕ) (v : RawValue) → IsEnvelope old → CanTake old key v × (new ≡ with_element old (element_for key v)) → length old + 2 ≤ length new
+grown old new key v env h = omega (arith, ap length h.1, with_element_length old key v env)
+
+-- ---- places
+
+pub zip_length : {A B : Type 0} (R : A → B → Type 0) (xs : List A) (ys : List B) → AllZip R xs ys → length xs ≡ length ys
+zip_length R [] [] h = refl
+zip_length R [] (y ∷ ys) h = absurd h
+zip_length R (x ∷ xs) [] h = absurd h
+zip_length R (x ∷ xs) (y ∷ ys) h = ap suc (zip_length R xs ys h.1)

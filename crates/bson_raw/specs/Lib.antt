@@ -7,3 +7,4 @@ pub mod Buffer
 pub mod Raw
 pub mod Append
 pub mod Written
+pub mod Copied

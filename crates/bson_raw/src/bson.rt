@@ -21,8 +21,8 @@ use crate::document::RawDocument;
 use crate::document_buf::RawDocumentBuf;
 use bson_base::binary::Vector;
 use bson_base::{
-    Binary, BinarySubtype, DateTime, DbPointer, Decimal128, DoubleBits, ElementType, ObjectId, Regex,
-    Timestamp,
+    Binary, BinarySubtype, DateTime, DbPointer, Decimal128, DoubleBits, ElementType, ObjectId,
+    Regex, Timestamp,
 };
 use std::alloc::{AllocError, Global};
 
@@ -82,7 +82,6 @@ pub enum RawBson {
     /// A pointer to a document of a collection (0C).
     DbPointer(DbPointer),
 }
-
 
 impl RawJavaScriptCodeWithScope {
     /// A copy with memory of its own. The error is a refused growth.
@@ -169,7 +168,9 @@ impl RawBson {
             RawBson::Null => Ok(RawBson::Null),
             RawBson::RegularExpression(r) => Ok(RawBson::RegularExpression(r.try_clone(alloc)?)),
             RawBson::JavaScriptCode(s) => Ok(RawBson::JavaScriptCode(s.clone()?)),
-            RawBson::JavaScriptCodeWithScope(c) => Ok(RawBson::JavaScriptCodeWithScope(c.try_clone()?)),
+            RawBson::JavaScriptCodeWithScope(c) => Ok(RawBson::JavaScriptCodeWithScope(
+                c.try_clone()?,
+            )),
             RawBson::Int32(x) => Ok(RawBson::Int32(*x)),
             RawBson::Int64(x) => Ok(RawBson::Int64(*x)),
             RawBson::Timestamp(x) => Ok(RawBson::Timestamp(*x)),

@@ -16,7 +16,9 @@ mod document;
 mod document_buf;
 mod element;
 mod from;
+mod from_owned;
 pub mod laws;
+mod owned;
 mod values;
 mod walk;
 
