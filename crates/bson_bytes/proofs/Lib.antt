@@ -1,3 +1,4 @@
+pub mod Extents
 pub mod Lengths
 pub mod Places
 pub mod Writing

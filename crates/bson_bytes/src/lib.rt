@@ -4,4 +4,6 @@
 pub mod put;
 mod write;
 
-pub use write::encode_document;
+pub use write::{
+    encode_document, encode_items, write_document, write_items, write_scoped, write_value,
+};
