@@ -5,22 +5,30 @@
 #![tactic(auto)]
 
 mod access;
+mod append;
 mod array;
+mod array_buf;
 mod array_iter;
+mod bson;
 mod bson_ref;
 mod convert;
 mod decode;
 mod document;
+mod document_buf;
 mod element;
 mod from;
+mod from_owned;
 pub mod laws;
+mod owned;
 mod read_error;
 mod reader;
 mod values;
 mod walk;
 
 pub use array::RawArray;
+pub use array_buf::RawArrayBuf;
 pub use array_iter::RawArrayIter;
+pub use bson::{RawBson, RawJavaScriptCodeWithScope, raw_binary_of};
 pub use bson_frame::{
     Error, ErrorKind, Result, ValueAccessError, ValueAccessErrorKind, ValueAccessResult,
 };
@@ -28,6 +36,7 @@ pub use bson_ref::{
     RawBinaryRef, RawBsonRef, RawDbPointerRef, RawJavaScriptCodeWithScopeRef, RawRegexRef,
 };
 pub use document::RawDocument;
+pub use document_buf::RawDocumentBuf;
 pub use element::RawElement;
 pub use read_error::ReadError;
 pub use reader::from_reader;
