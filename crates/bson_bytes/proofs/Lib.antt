@@ -1,6 +1,9 @@
+pub mod Distinct
 pub mod Extents
 pub mod Lengths
+pub mod Meant
 pub mod One
+pub mod Options
 pub mod Places
 pub mod Scalars
 pub mod Settled

@@ -1,6 +1,5 @@
 -- Bytes spell one tree at most.
-use Rattle.std.proofs.Common.{◌≡◌, ℕ, ℤ, zero, suc, ◌+◌, ◌^◌, ◌<◌, ◌≤◌, List, [], ◌∷◌, ◌++◌, length, drop, Bool, true, false, eqb, refl, sym, ap, ◌∙◌, subst, arith, lit<, eq-eqb, length-append}
-use Rattle.std.specs.Prelude.{slice_index}
+use Rattle.std.proofs.Common.{◌≡◌, ℕ, ◌<◌, List, [], ◌∷◌, ◌++◌, length, drop, Bool, true, false, eqb, refl, sym, ap, ◌∙◌, subst, arith, lit<, eq-eqb, length-append}
 use mathlib.Core.Bool.{true≢false}
 use Rattle.bson_base.specs.declared.spec.ElementType.{ElementType}
 use Rattle.bson_base.specs.declared.spec.ElementType.TheVariants as kinds
@@ -9,11 +8,10 @@ use Rattle.bson_base.specs.Tags.{tag_byte}
 use Rattle.bson_base.specs.Value.{Scalar, double, string, binary, undefined, object_id, boolean, date_time, null, regex, db_pointer, code, symbol, int32, timestamp, int64, decimal, max_key, min_key, scalar_kind, value_kind, Value, scalar, array, document, scoped_code, Items, no_items, item, Members, no_members, member}
 use Rattle.bson_bytes.specs.Encode.{truth}
 use Rattle.bson_bytes.specs.Spells.{HoldsScalar, SpellsValue, SpellsItems, SpellsMembers, settle, Means}
-use Rattle.bson_frame.specs.Frame.{Element, IsFirstFrame, IsRegexSize, HasSize}
+use Rattle.bson_frame.specs.Frame.{Element, IsFirstFrame, IsRegexSize}
 use Rattle.bson_frame.specs.Payload.{IsPayload}
 use Rattle.bson_frame.proofs.Frames.{frame_is_one}
 use Rattle.bson_frame.proofs.Payloads.{payload_by_itself}
-use Rattle.bson_frame.proofs.Runs.{run_is_one, no_zero_within}
 
 apart : {A : Type 0} (m n : ℕ) → m ≡ n → eqb m n ≡ false → A
 apart m n e f = absurd (true≢false (sym (eq-eqb m n e) ∙ f))

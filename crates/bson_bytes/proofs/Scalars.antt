@@ -1,5 +1,5 @@
 -- What a scalar is written as has its size, has no fault, and holds it.
-use Rattle.std.proofs.Common.{◌≡◌, ℕ, ℤ, zero, suc, ◌+◌, ◌-◌, ◌^◌, ◌<◌, ◌≤◌, ◌==◌, List, [], ◌∷◌, ◌++◌, length, Bool, true, false, take, drop, refl, sym, ap, ◌∙◌, arith, append_assoc, append-nil, length-append, subst}
+use Rattle.std.proofs.Common.{◌≡◌, ℕ, ℤ, ◌+◌, ◌-◌, ◌^◌, ◌<◌, ◌==◌, List, [], ◌∷◌, ◌++◌, length, Bool, true, false, take, drop, refl, sym, ap, ◌∙◌, arith, append_assoc, append-nil, length-append, subst}
 use Rattle.std.specs.Prelude.{slice_index, IsUtf8, FitsSigned, if◌then◌else◌}
 use Rattle.std.specs.Int.{w32, w64, from_le_bytes, cast_signed, cast_unsigned}
 use Rattle.std.proofs.lemmas.Nat.{from_le_bytes-to_le_bytes_4, from_le_bytes-to_le_bytes_8}
@@ -8,16 +8,15 @@ use Rattle.std.proofs.Math.Facts.{to_z-of_z, Fits-of_z}
 use Rattle.std.proofs.Math.Seq.{take-append_seam, drop-append_seam}
 use Rattle.bson_base.specs.declared.spec.BinarySubtype.{BinarySubtype}
 use Rattle.bson_base.specs.declared.spec.BinarySubtype.TheVariants as subtypes
-use Rattle.bson_base.specs.declared.spec.ElementType.TheVariants as kinds
 use Rattle.bson_base.specs.Kinds.{HasNo00, IsPlainScalar, IsCleanScalar, IsRangedScalar}
 use Rattle.bson_base.specs.Tags.{subtype_of, subtype_byte}
 use Rattle.bson_base.specs.Value.{Scalar, double, string, binary, undefined, object_id, boolean, date_time, null, regex, db_pointer, code, symbol, int32, timestamp, int64, decimal, max_key, min_key, scalar_kind}
-use Rattle.bson_bytes.specs.Encode.{le32, le64, text_bytes, ended, is_old, inner, truth, scalar_bytes, scalar_size}
+use Rattle.bson_bytes.specs.Encode.{le32, le64, text_bytes, ended, inner, truth, scalar_bytes, scalar_size}
 use Rattle.bson_bytes.specs.Spells.{HoldsScalar}
-use Rattle.bson_bytes.proofs.Lengths.{le32_length, le64_length, text_length, ended_length, inner_length, payload_length}
+use Rattle.bson_bytes.proofs.Lengths.{le32_length, le64_length, text_length, inner_length, payload_length}
 use Rattle.bson_bytes.proofs.Extents.{number_back, text_number, text_size}
 use Rattle.bson_frame.specs.declared.error.ErrorKind.{ErrorKind}
-use Rattle.bson_frame.specs.Frame.{number, HasSize, IsTextSize, IsRegexSize, IsName}
+use Rattle.bson_frame.specs.Frame.{number, HasSize, IsTextSize, IsRegexSize}
 use Rattle.bson_frame.specs.Payload.{text_in, IsFaultless, IsNoText, IsOldMisfit}
 
 -- what a scalar has to be to come back from its bytes

@@ -1,9 +1,9 @@
 -- A tree whose keys stand once and whose options ascend stays as it is.
-use Rattle.std.proofs.Common.{◌≡◌, ℕ, ◌+◌, ◌^◌, ◌<◌, List, [], ◌∷◌, ◌++◌, length, Bool, true, false, Option, Some, None, unwrap_or, refl, sym, ap, ◌∙◌, arith, subst}
+use Rattle.std.proofs.Common.{◌≡◌, ℕ, ◌^◌, ◌<◌, List, Bool, true, false, Option, Some, None, unwrap_or, refl, sym, ap, ◌∙◌, arith, subst}
 use Rattle.std.specs.Prelude.{IsUtf8, if◌then◌else◌}
 use Rattle.std.specs.Str.{bytes_eq}
 use Rattle.bson_base.specs.Kinds.{HasNo00, IsRangedScalar, IsClean, IsSound}
-use Rattle.bson_base.specs.Value.{Scalar, double, string, binary, undefined, object_id, boolean, date_time, null, regex, db_pointer, code, symbol, int32, timestamp, int64, decimal, max_key, min_key, Value, scalar, array, document, scoped_code, Items, no_items, item, Members, no_members, member, look_up, without, EachPart, EachItem, EachMember, HasDistinctKeys, ItemsHaveDistinctKeys, MembersHaveDistinctKeys}
+use Rattle.bson_base.specs.Value.{Scalar, regex, Value, scalar, array, document, scoped_code, Items, no_items, item, Members, no_members, member, look_up, without, EachPart, EachItem, EachMember, HasDistinctKeys, ItemsHaveDistinctKeys, MembersHaveDistinctKeys}
 use Rattle.bson_base.proofs.OptionsLemmas.{sorted_text-kept}
 use Rattle.bson_bytes.specs.Encode.{encode, size, members_bytes}
 use Rattle.bson_bytes.specs.Spells.{settle_scalar, settle_value, settle_items, settle, Means, SpellsMembers}

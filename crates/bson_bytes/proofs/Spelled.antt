@@ -1,22 +1,20 @@
 -- What is written spells what was written.
-use Rattle.std.proofs.Common.{◌≡◌, ℕ, zero, suc, ◌+◌, ◌-◌, ◌*◌, ◌%◌, ◌^◌, ◌<◌, ◌≤◌, List, [], ◌∷◌, ◌++◌, length, drop, take, Bool, true, false, Option, None, inl, inr, refl, sym, ap, ◌∙◌, arith, append_assoc, append-nil, length-append, subst}
+use Rattle.std.proofs.Common.{◌≡◌, ℕ, suc, ◌+◌, ◌%◌, ◌^◌, ◌<◌, List, [], ◌∷◌, ◌++◌, length, drop, inl, inr, refl, sym, ap, ◌∙◌, arith, append_assoc, length-append, subst}
 use Rattle.std.specs.Prelude.{IsUtf8, decimal as digits}
-use Rattle.bson_base.specs.declared.spec.ElementType.{ElementType}
-use Rattle.bson_base.specs.declared.spec.ElementType.TheVariants as kinds
-use Rattle.bson_base.specs.Kinds.{HasNo00, IsPlainScalar, IsCleanScalar, IsRangedScalar, IsClean, IsSound}
+use Rattle.bson_base.specs.Kinds.{HasNo00, IsPlainScalar, IsCleanScalar, IsRangedScalar}
 use Rattle.bson_base.specs.Tags.{tag_byte}
 use Rattle.bson_base.specs.Value.{Scalar, value_kind, Value, scalar, array, document, scoped_code, Items, no_items, item, Members, no_members, member, EachPart, EachItem, EachMember}
 use Rattle.std.proofs.lemmas.Fmt.{IsAscii-decimal, decimal_by_steps_wide}
 use Rattle.std.proofs.lemmas.Str.{IsUtf8-from_ascii}
-use Rattle.bson_bytes.specs.Encode.{le32, text_bytes, ended, framed, scoped, scalar_size, value_bytes, items_bytes, members_bytes, value_size, items_size, members_size, encode, size}
+use Rattle.bson_bytes.specs.Encode.{le32, text_bytes, ended, framed, scoped, scalar_size, value_bytes, items_bytes, members_bytes, value_size, items_size, members_size}
 use Rattle.bson_bytes.specs.Spells.{SpellsValue, SpellsItems, SpellsMembers}
-use Rattle.bson_bytes.proofs.Lengths.{le32_length, text_length, framed_length, scoped_length, value_length, items_length, members_length}
-use Rattle.bson_bytes.proofs.Extents.{number_back, text_number, text_size, framed_size, framed_envelope}
+use Rattle.bson_bytes.proofs.Lengths.{text_length, framed_length, scoped_length, items_length, members_length}
+use Rattle.bson_bytes.proofs.Extents.{number_back, text_size, framed_size, framed_envelope}
 use Rattle.bson_bytes.proofs.Scalars.{IsTold, scalar_sized, scalar_faultless, scalar_held, text_back, pointer_back}
 use Rattle.bson_frame.specs.declared.error.ErrorKind.{ErrorKind}
 use Rattle.bson_frame.specs.declared.error.ErrorKind.TheVariants.{MalformedValue, Utf8EncodingError, OutOfMemory}
-use Rattle.bson_frame.specs.Frame.{number, HasSize, IsCodeSize, IsTextSize, IsName, IsFirstFrame}
-use Rattle.bson_frame.specs.Payload.{text_in, code_in, scope_in, IsEnvelope, IsFaultless, CodeFault}
+use Rattle.bson_frame.specs.Frame.{number, HasSize, IsCodeSize, IsTextSize, IsName}
+use Rattle.bson_frame.specs.Payload.{text_in, code_in, scope_in, IsEnvelope, CodeFault}
 
 abbrev pub IsCleanPart : Scalar → Type 0
 IsCleanPart s = IsPlainScalar s × IsCleanScalar s

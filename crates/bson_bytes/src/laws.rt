@@ -26,3 +26,9 @@ pub fn bytes_tell()
 pub fn one_meaning()
     ensures { (bytes : List ℕ) (d e : Members) → Means bytes d → Means bytes e → d ≡ e }
 {}
+
+/// What bytes mean is clean and sound.
+pub fn meanings()
+    ensures clean { (bytes : List ℕ) (d : Members) → AreBytes bytes → Means bytes d → IsClean (document d) }
+    ensures sound { (bytes : List ℕ) (d : Members) → AreBytes bytes → Means bytes d → IsSound (document d) }
+{}

@@ -3,6 +3,8 @@
 
 pub mod laws;
 pub mod put;
+#[cfg(test)]
+mod tests;
 mod write;
 
 pub use write::{
