@@ -1,6 +1,6 @@
 //! Documents from readers that hold more, hold less, go slowly or fail.
 
-use crate::{ErrorKind, ReadError, from_reader};
+use crate::{Error, ErrorKind, ReadError, from_reader};
 use bson_base::SliceSource;
 use bson_base::faulty::FaultySource;
 use std::result::Result;
@@ -57,13 +57,11 @@ fn the_least_document(rt: HostRuntime) -> Result<(), Fail> {
 #[test]
 fn bytes_without_a_document(rt: HostRuntime) {
     let mut reader = SliceSource::new(&[5, 0, 0, 0, 1, 0]);
-    match from_reader(rt.alloc(), &mut reader) {
-        Err(ReadError::Raw(e)) => {
-            assert_eq!(rt; e.key(), None);
-            assert_eq!(rt; e.kind, ErrorKind::MalformedValue);
-        }
-        _ => assert!(rt; false),
-    }
+    let refusal = ReadError::Raw(Error::new(None, ErrorKind::MalformedValue));
+    assert_eq!(rt;
+        from_reader(rt.alloc(), &mut reader).as_ref().err(),
+        Some(&refusal)
+    );
     assert_eq!(rt; reader.at, 5);
 }
 
