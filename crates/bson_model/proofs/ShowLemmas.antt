@@ -1,11 +1,11 @@
 -- Texts of values, part by part.
-use Rattle.std.proofs.Common.{◌≡◌, ℕ, ◌+◌, ◌<◌, ℤ, pos, neg_ℤ, ◌≤ℤ◌, Bool, true, false, List, [], ◌∷◌, ◌++◌, map, length, get_or, drop, refl, sym, ap, ◌∙◌, arith}
+use Rattle.std.proofs.Common.{◌≡◌, ℕ, ◌+◌, ◌<◌, ℤ, ◌≤ℤ◌, Bool, true, false, List, [], ◌∷◌, ◌++◌, map, length, get_or, drop, refl, sym, ap, ◌∙◌, arith}
 use Rattle.std.specs.Prelude.{codes, int_le, if◌then◌else◌, ◌&&◌}
 use Rattle.std.specs.Fmt.{signed_decimal, HasWritten, IsPlainFormatter}
 use Rattle.std.specs.declared.fmt.Formatter.{Formatter}
 use Rattle.std.proofs.lemmas.List.{append_assoc, drop_more}
 use Rattle.jiff_core.proofs.SignedLemmas.{signed_arith}
-use Rattle.bson_base.specs.DateText.{HasDateText, IsShownDate}
+use Rattle.bson_base.specs.DateText.{IsShownDate}
 use Rattle.bson_base.specs.Value.{Value}
 use Rattle.bson_pairs.specs.Keyed.{Key}
 use Rattle.bson_model.specs.Dates.{date_text, has_date_text, shown_date}

@@ -1,5 +1,5 @@
 -- What Display writes of a value, in the plain form.
-use Rattle.std.specs.Prelude.{ℕ, ℤ, Bool, if◌then◌else◌, true, false, List, [], ◌∷◌, ◌++◌, codes}
+use Rattle.std.specs.Prelude.{ℕ, Bool, if◌then◌else◌, true, false, List, [], ◌∷◌, ◌++◌, codes}
 use Rattle.std.specs.Fmt.{decimal as natural, digits, signed_decimal}
 use Rattle.std.specs.Int.{w64, to_be_bytes}
 use Rattle.base64.specs.GeneralPurpose.{encode_of}

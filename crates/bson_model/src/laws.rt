@@ -1,19 +1,20 @@
 //! What no single call promises: the laws of equality and hashing, and that no key stands twice. Each function is called for
 //! its fact alone.
-ghost use Rattle.std.specs.Prelude.{◌≡◌, ◌↔◌, IsTrue, is_some, map, not};
+ghost use Rattle.std.specs.Prelude.{◌≡◌, ◌↔◌, IsTrue, map};
 ghost use Rattle.bson_model.specs.Equal.{Equal};
 ghost use Rattle.std.specs.Cmp.{IsEquivalence};
-ghost use Rattle.bson_base.specs.Value.{Value, document, HasDistinctKeys, ItemsHaveDistinctKeys, MembersHaveDistinctKeys};
-ghost use Rattle.bson_model.specs.JsonWrite.{holds_finite, write};
+ghost use Rattle.bson_base.specs.Value.{document, HasDistinctKeys, ItemsHaveDistinctKeys, MembersHaveDistinctKeys};
 ghost use Rattle.bson_model.specs.Laws.{bson_eq, document_eq, bson_writes, document_writes};
 ghost use Rattle.bson_model.specs.View.{view, pairs_of, items_of, members_of};
 ghost use Rattle.bson_model.specs.declared.bson.Bson.{Bson as Tree};
 ghost use Rattle.bson_model.specs.declared.document.Document.{Document as Pairs};
-ghost use Rattle.bson_model.specs.declared.extjson.ser.Mode.{Mode};
+
+mod written;
 
 use crate::bson::Bson;
 use crate::document::Document;
 use std::hash::Hash;
+pub use written::{date_texts, written_values};
 
 fn equality<T: Eq>()
     ensures { IsEquivalence T.eq }
@@ -101,8 +102,3 @@ pub fn distinct_keys_of_document(document: &Document)
     let _keys = document.pairs.keys();
     distinct_keys_of_items(document.pairs.values());
 }
-
-/// A value has an Extended JSON tree, in either form, exactly where no finite double other than the zeros stands in it.
-pub fn written_values()
-    ensures { (m : Mode) (v : Value) → is_some (write m v) ≡ not (holds_finite v) }
-{}
