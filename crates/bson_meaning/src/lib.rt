@@ -3,6 +3,7 @@
 
 mod compare;
 mod forms;
+pub mod laws;
 mod levels;
 mod options;
 mod plain;
