@@ -1,5 +1,6 @@
 -- Keys are equal exactly for documents of the same meaning, and sameness is an equivalence.
-use Rattle.std.proofs.Common.{◌≡◌, ◌↔◌, ℕ, ◌+◌, ◌^◌, ◌<◌, ◌≤◌, List, [], ◌++◌, length, append-nil, refl, ap, ◌∙◌, sym, arith}
+use Rattle.std.proofs.Common.{◌≡◌, ◌↔◌, ℕ, ◌+◌, ◌^◌, ◌<◌, ◌≤◌, List, [], ◌++◌, length, refl, ap, ◌∙◌, sym, subst, arith, Bool, true, false, leb}
+use Rattle.std.proofs.lemmas.Bool.{leb-true, leb-false}
 use Rattle.std.specs.Prelude.{IsUtf8}
 use Rattle.std.specs.declared.cmp.Ordering.TheVariants.{Less, Equal, Greater}
 use Rattle.std.specs.Ordering.{nat_cmp, match_ordering}
@@ -7,6 +8,7 @@ use Rattle.std.specs.Cmp.Lexicographic.{slice_cmp}
 use Rattle.bson_base.specs.Kinds.{HasNo00, IsPlainScalar, IsCleanScalar, IsRangedScalar, IsSound, IsPlain, IsClean}
 use Rattle.bson_base.specs.Value.{Scalar, Value, scalar, array, document, scoped_code, Items, no_items, item, Members, no_members, member, look_up, EachPart, EachMember, HasDistinctKeys, ItemsHaveDistinctKeys, MembersHaveDistinctKeys}
 use Rattle.bson_bytes.specs.Encode.{members_size, encode, size}
+use Rattle.bson_bytes.specs.Writing.{CanBeWritten}
 use Rattle.bson_bytes.proofs.Lengths.{encode_length}
 use Rattle.bson_bytes.proofs.Told.{bytes_tell}
 use Rattle.bson_model.specs.Equal as equality
@@ -129,3 +131,19 @@ mutual
   equal_under : (ms ns : Members) → EqualUnder ms ns → SameUnder ms ns
   equal_under no_members ns h = tt
   equal_under (member k v ms) ns h = (some_and_map (look_up k ns) _ _ (equal_same v) h.0, equal_under ms ns h.1)
+
+-- ---- keys that can be written
+
+pub key_fits : (d m : Members) → m ≡ canonical_members d → CanBeWritten (document m) → length (key d) ≤ 2147483647
+key_fits d m e h =
+    let n : size (canonical_members d) < 2 ^ 31 = subst (λ x. size x < 2 ^ 31) e h.1 in
+    omega (arith, encode_length (canonical_members d), n)
+
+pub key_long : (d m : Members) → m ≡ canonical_members d → IsPlain (document d) → IsSound (document d) → (CanBeWritten (document m) → ⊥) → 2147483647 < length (key d)
+key_long d m e p s h = by (leb (length (key d)) 2147483647) refl
+  where
+    by : (b : Bool) → leb (length (key d)) 2147483647 ≡ b → 2147483647 < length (key d)
+    by true f =
+        let n : size (canonical_members d) < 2 ^ 31 = omega (arith, encode_length (canonical_members d), leb-true (length (key d)) 2147483647 f) in
+        absurd (h (subst (λ x. CanBeWritten (document x)) (sym e) (canonical_plain d p s, n)))
+    by false f = omega (arith, leb-false (length (key d)) 2147483647 f)
