@@ -8,3 +8,4 @@ pub mod Characters
 pub mod Turns
 pub mod Putting
 pub mod InOrder
+pub mod KeyLaw

@@ -3,6 +3,8 @@
 
 mod compare;
 mod forms;
+mod key;
+pub mod laws;
 mod levels;
 mod options;
 mod plain;
@@ -11,6 +13,7 @@ mod sorting;
 
 pub use compare::same_meaning;
 pub use forms::normalize;
+pub use key::{KeyError, meaning_key};
 pub use levels::depth;
 pub use plain::is_plain;
 pub use sorting::sorted;
