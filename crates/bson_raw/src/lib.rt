@@ -19,8 +19,11 @@ mod from;
 mod from_owned;
 pub mod laws;
 mod owned;
+mod trees;
 mod values;
 mod walk;
+mod write_error;
+mod writer;
 
 pub use array::RawArray;
 pub use array_buf::RawArrayBuf;
@@ -37,6 +40,8 @@ pub use document_buf::RawDocumentBuf;
 pub use element::RawElement;
 pub use values::Iter;
 pub use walk::RawIter;
+pub use write_error::WriteError;
+pub use writer::to_writer;
 
 #[cfg(test)]
 mod tests;
