@@ -3,3 +3,5 @@ pub mod Turns
 pub mod Runs
 pub mod Accesses
 pub mod Puts
+pub mod Sizes
+pub mod Gains

@@ -1,6 +1,6 @@
 //! Arrays that own their bytes.
 
-ghost use Rattle.std.specs.Prelude.{◌≡◌, ◌≤◌, ◌+◌, ◌∷◌, [], IfOk, is_ok, if◌then◌else◌, List, Result, Option, Some, drop, length, vec_len};
+ghost use Rattle.std.specs.Prelude.{◌≡◌, ◌≤◌, ◌+◌, ◌∷◌, [], IfOk, OnOk, is_ok, if◌then◌else◌, List, Result, Option, Some, drop, length, vec_len};
 ghost use Rattle.std.specs.Fmt.{decimal};
 ghost use Rattle.std.specs.Iterator.{Drains};
 ghost use Rattle.bson_frame.specs.declared.error.Error.{Error as Fault};
@@ -26,7 +26,7 @@ pub struct RawArrayBuf {
 }
 
 impl RawArrayBuf {
-    ghost use Rattle.bson_raw.specs.Append.{Appends};
+    ghost use Rattle.bson_raw.specs.Append.{Appends, Gains, element_for};
     ghost use Rattle.bson_raw.specs.Buffer.{array_buffer_bytes, next_place};
     ghost use Rattle.bson_raw.specs.Raw.{own_value};
     ghost use Rattle.bson_raw.specs.Read.{IsRead, value_steps};
@@ -64,6 +64,7 @@ impl RawArrayBuf {
     /// bytes. A refusal changes nothing.
     pub fn push(&mut self, value: RawBson) -> Result<(), Error>
         ensures value { Appends (array_buffer_bytes self.old) (array_buffer_bytes self.new) (decimal (next_place self.old)) (own_value value) result }
+        ensures walk { OnOk result (Gains (array_buffer_bytes self.old) (array_buffer_bytes self.new) (element_for (decimal (next_place self.old)) (own_value value))) }
         ensures place { next_place self.new ≡ (if is_ok result then next_place self.old + 1 else next_place self.old) }
     {
         let alloc = *self.document.bytes.allocator();
