@@ -8,3 +8,5 @@ pub mod Converting
 pub mod Faults
 pub mod Reading
 pub mod Puts
+pub mod Sizes
+pub mod Gains

@@ -35,3 +35,19 @@ pub record CanTake (bytes : List ℕ) (key : List ℕ) (v : RawValue) : Type 0 w
 abbrev pub Appends : List ℕ → List ℕ → List ℕ → RawValue → Result (Unit {0}) Error → Type 0
 Appends old new key v (Ok x) = CanTake old key v × (new ≡ with_element old (element_for key v))
 Appends old new key v (Err e) = IsRefusal (CanTake old key v → ⊥) e × (new ≡ old)
+
+-- ---- the walk afterwards
+
+-- a code with scope whose declared length counts its own four bytes
+abbrev pub IsLongEnough : Element → Type 0
+IsLongEnough e = e.tag ≡ kinds.JavaScriptCodeWithScope → 4 ≤ length e.payload
+
+-- the last element, if there is one, isn't a code with scope of declared length under 4
+abbrev pub EndsLongEnough : List Element → Type 0
+EndsLongEnough [] = Unit {0}
+EndsLongEnough (e ∷ []) = IsLongEnough e
+EndsLongEnough (e ∷ f ∷ elements) = EndsLongEnough (f ∷ elements)
+
+-- a walk without a structural fault that ends so gains the element
+abbrev pub Gains : List ℕ → List ℕ → Element → Type 0
+Gains old new e = (elements : List Element) → IsDocumentWalk old elements None → EndsLongEnough elements → IsDocumentWalk new (elements ++ e ∷ []) None

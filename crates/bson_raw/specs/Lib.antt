@@ -10,3 +10,5 @@ pub mod Raw
 pub mod Append
 pub mod Written
 pub mod Copied
+pub mod Places
+pub mod Trees

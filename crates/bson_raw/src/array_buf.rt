@@ -1,11 +1,9 @@
 //! Arrays that own their bytes.
 
-ghost use Rattle.std.specs.Prelude.{◌≡◌, ◌≤◌, ◌+◌, ◌∷◌, [], IfOk, is_ok, if◌then◌else◌, List, Result, Option, Some, drop, length, vec_len};
+ghost use Rattle.std.specs.Prelude.{◌≡◌, ◌≤◌, ◌+◌, ◌∷◌, [], IfOk, OnOk, is_ok, if◌then◌else◌, List, Result, Option, Some, drop, length, vec_len};
 ghost use Rattle.std.specs.Fmt.{decimal};
 ghost use Rattle.std.specs.Iterator.{Drains};
-ghost use Rattle.bson_frame.specs.Frame.{Element};
 ghost use Rattle.bson_frame.specs.declared.error.Error.{Error as Fault};
-ghost use Rattle.bson_frame.specs.declared.error.ErrorKind.{ErrorKind as Kind};
 
 use crate::array::RawArray;
 use crate::array_iter::RawArrayIter;
@@ -28,7 +26,7 @@ pub struct RawArrayBuf {
 }
 
 impl RawArrayBuf {
-    ghost use Rattle.bson_raw.specs.Append.{Appends};
+    ghost use Rattle.bson_raw.specs.Append.{Appends, Gains, element_for};
     ghost use Rattle.bson_raw.specs.Buffer.{array_buffer_bytes, next_place};
     ghost use Rattle.bson_raw.specs.Raw.{own_value};
     ghost use Rattle.bson_raw.specs.Read.{IsRead, value_steps};
@@ -66,6 +64,7 @@ impl RawArrayBuf {
     /// bytes. A refusal changes nothing.
     pub fn push(&mut self, value: RawBson) -> Result<(), Error>
         ensures value { Appends (array_buffer_bytes self.old) (array_buffer_bytes self.new) (decimal (next_place self.old)) (own_value value) result }
+        ensures walk { OnOk result (Gains (array_buffer_bytes self.old) (array_buffer_bytes self.new) (element_for (decimal (next_place self.old)) (own_value value))) }
         ensures place { next_place self.new ≡ (if is_ok result then next_place self.old + 1 else next_place self.old) }
     {
         let alloc = *self.document.bytes.allocator();
@@ -99,21 +98,33 @@ impl RawArrayBuf {
     }
 }
 
+impl RawArrayBuf {
+    ghost use Rattle.bson_raw.specs.Buffer.{buffer_bytes, array_buffer_bytes};
+    ghost use Rattle.bson_raw.specs.Places.{GoesOn};
+
+    /// The array that a document is.
+    pub(crate) fn of_document(document: RawDocumentBuf) -> RawArrayBuf
+        ensures bytes { array_buffer_bytes result ≡ buffer_bytes document }
+        ensures place { GoesOn result }
+    {
+        laws::one_walk();
+        let places = document.iter_elements().count();
+        RawArrayBuf { document, places }
+    }
+}
+
 impl<'a> RawArray<'a> {
-    ghost use Rattle.bson_raw.specs.Buffer.{array_buffer_bytes, next_place};
+    ghost use Rattle.bson_raw.specs.Buffer.{array_buffer_bytes};
+    ghost use Rattle.bson_raw.specs.Places.{GoesOn};
     ghost use Rattle.bson_raw.specs.View.{array_bytes};
-    ghost use Rattle.bson_raw.specs.Walk.{IsDocumentWalk, walk_items};
 
     /// A copy of the bytes, in which the next value has the number of the items here as its place; a fault counts as an item.
     /// The error is a refused growth.
     pub fn to_raw_array_buf(self, alloc: Global) -> Result<RawArrayBuf, AllocError>
         ensures bytes { IfOk result (λ a. array_buffer_bytes a ≡ array_bytes self.entry) }
-        ensures place { IfOk result (λ a. (elements : List Element) (fault : Option Kind) → IsDocumentWalk (array_bytes self.entry) elements fault
-            → next_place a ≡ length (walk_items elements fault)) }
+        ensures place { IfOk result GoesOn }
     {
         let document = self.document.to_raw_document_buf(alloc)?;
-        laws::one_walk();
-        let places = self.document.iter_elements().count();
-        Ok(RawArrayBuf { document, places })
+        Ok(RawArrayBuf::of_document(document))
     }
 }

@@ -9,6 +9,7 @@ ghost use Rattle.bson_base.specs.VectorBytes.{vector_bytes};
 ghost use Rattle.bson_base.specs.Vectors.{vector_value};
 ghost use Rattle.bson_model.specs.Kinds as kinds;
 ghost use Rattle.bson_raw.specs.Buffer.{buffer_bytes, array_buffer_bytes};
+ghost use Rattle.bson_raw.specs.Places.{SamePlace};
 ghost use Rattle.bson_raw.specs.Raw.{ref_value, own_value, raw_kind, leaf, scoped_code, of_leaf, array_in, document_in, scoped_in, binary_in, regex_in, null_in, code_in};
 ghost use Rattle.bson_raw.specs.View.{bytes_of, array_bytes};
 
@@ -157,7 +158,8 @@ impl RawBson {
 
     /// A copy with memory of its own. The error is a refused growth.
     pub fn try_clone(&self, alloc: Global) -> Result<RawBson, AllocError>
-        ensures { IfOk result (λ v. own_value v ≡ own_value self.now) }
+        ensures value { IfOk result (λ v. own_value v ≡ own_value self.now) }
+        ensures place { IfOk result (SamePlace self.now) }
     {
         match self {
             RawBson::Double(x) => Ok(RawBson::Double(*x)),

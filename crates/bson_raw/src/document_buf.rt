@@ -1,6 +1,6 @@
 //! Documents that own their bytes.
 
-ghost use Rattle.std.specs.Prelude.{◌≡◌, ◌∷◌, [], IfOk, MatchResult, List, Result, Some, drop};
+ghost use Rattle.std.specs.Prelude.{◌≡◌, ◌∷◌, [], IfOk, OnOk, MatchResult, List, Result, Some, drop};
 ghost use Rattle.std.specs.Iterator.{Drains};
 ghost use Rattle.bson_frame.specs.Payload.{IsEnvelope};
 ghost use Rattle.bson_frame.specs.declared.error.Error.{Error as Fault};
@@ -25,7 +25,7 @@ pub struct RawDocumentBuf {
 
 impl RawDocumentBuf {
     ghost use Rattle.bson_frame.specs.View.{IsBare};
-    ghost use Rattle.bson_raw.specs.Append.{Appends};
+    ghost use Rattle.bson_raw.specs.Append.{Appends, Gains, element_for};
     ghost use Rattle.bson_raw.specs.Buffer.{buffer_bytes};
     ghost use Rattle.bson_raw.specs.Raw.{ref_value, own_value};
     ghost use Rattle.bson_raw.specs.Read.{IsPairRead, pair_steps};
@@ -77,14 +77,16 @@ impl RawDocumentBuf {
     /// `MalformedValue`, under no key, where a 00 stands in the key, a pattern or options, and where the document would be over
     /// 2147483647 bytes. A refusal changes nothing.
     pub fn append_ref(&mut self, key: &str, value: RawBsonRef<'_>) -> Result<(), Error>
-        ensures { Appends (buffer_bytes self.old) (buffer_bytes self.new) key.now (ref_value value.entry) result }
+        ensures bytes { Appends (buffer_bytes self.old) (buffer_bytes self.new) key.now (ref_value value.entry) result }
+        ensures walk { OnOk result (Gains (buffer_bytes self.old) (buffer_bytes self.new) (element_for key.now (ref_value value.entry))) }
     {
         append_to(&mut self.bytes, key, value)
     }
 
     /// Puts a value last, under a key, as `append_ref` does.
     pub fn append(&mut self, key: &str, value: RawBson) -> Result<(), Error>
-        ensures { Appends (buffer_bytes self.old) (buffer_bytes self.new) key.now (own_value value) result }
+        ensures bytes { Appends (buffer_bytes self.old) (buffer_bytes self.new) key.now (own_value value) result }
+        ensures walk { OnOk result (Gains (buffer_bytes self.old) (buffer_bytes self.new) (element_for key.now (own_value value))) }
     {
         self.append_ref(key, value.as_raw_bson_ref())
     }

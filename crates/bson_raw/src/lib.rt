@@ -22,8 +22,11 @@ pub mod laws;
 mod owned;
 mod read_error;
 mod reader;
+mod trees;
 mod values;
 mod walk;
+mod write_error;
+mod writer;
 
 pub use array::RawArray;
 pub use array_buf::RawArrayBuf;
@@ -42,6 +45,8 @@ pub use read_error::ReadError;
 pub use reader::from_reader;
 pub use values::Iter;
 pub use walk::RawIter;
+pub use write_error::WriteError;
+pub use writer::to_writer;
 
 #[cfg(test)]
 mod tests;

@@ -4,6 +4,7 @@ ghost use Rattle.std.specs.Prelude.{◌≡◌, IfOk, string_bytes};
 ghost use Rattle.bson_frame.specs.Payload.{IsPayload};
 ghost use Rattle.bson_raw.specs.Buffer.{buffer_bytes};
 ghost use Rattle.bson_raw.specs.Copied.{CopyAnswers};
+ghost use Rattle.bson_raw.specs.Places.{ArrayGoesOn};
 ghost use Rattle.bson_raw.specs.Raw.{ref_value, own_value};
 ghost use Rattle.bson_raw.specs.View.{parts_of, bytes_of};
 
@@ -63,7 +64,8 @@ fn own_code(
 impl<'a> RawBsonRef<'a> {
     /// A copy that owns its bytes. The error is a refused growth.
     pub fn to_raw_bson(self, alloc: Global) -> Result<RawBson, AllocError>
-        ensures { IfOk result (λ v. own_value v ≡ ref_value self.entry) }
+        ensures value { IfOk result (λ v. own_value v ≡ ref_value self.entry) }
+        ensures place { IfOk result ArrayGoesOn }
     {
         match self {
             RawBsonRef::Double(x) => Ok(RawBson::Double(x)),
@@ -100,7 +102,8 @@ impl<'a> RawBsonRef<'a> {
 impl<'a> RawElement<'a> {
     /// A copy of the value that owns its bytes, or the payload fault under its key. Want of memory stands under no key.
     pub fn to_raw_bson(&self, alloc: Global) -> Result<RawBson, Error>
-        ensures { IsPayload (parts_of self.now).tag (parts_of self.now).payload → CopyAnswers (parts_of self.now) result }
+        ensures value { IsPayload (parts_of self.now).tag (parts_of self.now).payload → CopyAnswers (parts_of self.now) result }
+        ensures place { IfOk result ArrayGoesOn }
     {
         match self.value(alloc) {
             Ok(value) => Ok(value.to_raw_bson(alloc)?),
