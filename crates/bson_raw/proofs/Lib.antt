@@ -5,3 +5,4 @@ pub mod Accesses
 pub mod Puts
 pub mod Sizes
 pub mod Gains
+pub mod Builds

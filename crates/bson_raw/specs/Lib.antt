@@ -10,3 +10,4 @@ pub mod Written
 pub mod Copied
 pub mod Places
 pub mod Trees
+pub mod Pairs
