@@ -7,3 +7,4 @@ pub mod Progress
 pub mod Converting
 pub mod Faults
 pub mod Reading
+pub mod FirstFaults
