@@ -6,3 +6,9 @@ pub mod Puts
 pub mod Sizes
 pub mod Gains
 pub mod Builds
+pub mod Settling
+pub mod Progress
+pub mod Converting
+pub mod Faults
+pub mod Reading
+pub mod FirstFaults

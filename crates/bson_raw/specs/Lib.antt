@@ -11,3 +11,5 @@ pub mod Copied
 pub mod Places
 pub mod Trees
 pub mod Pairs
+pub mod Convert
+pub mod Input

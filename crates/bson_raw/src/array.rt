@@ -11,10 +11,12 @@ use crate::access;
 use crate::access::Asked;
 use crate::array_iter::RawArrayIter;
 use crate::bson_ref::{RawBinaryRef, RawBsonRef, RawRegexRef};
+use crate::convert::{array_of, elements};
 use crate::document::RawDocument;
 use crate::element::RawElement;
 use bson_base::{DateTime, DoubleBits, ObjectId, Timestamp};
 use bson_frame::{Error, ValueAccessResult};
+use bson_model::Array;
 use std::alloc::Global;
 
 /// A view of the bytes of an array: a document whose keys don't count (bsonspec.org 1.1, element type 04). Two views are equal
@@ -209,5 +211,26 @@ impl<'a> RawArray<'a> {
             → AccessAnswer as_i64 (decimal index) (found_at index elements fault) result }
     {
         access::take_i64(alloc, Asked::Place(index), self.get(alloc, index))
+    }
+}
+
+/// To a tree.
+impl RawArray<'_> {
+    ghost use Rattle.std.specs.Prelude.{IfErr, MatchResult, map};
+    ghost use Rattle.bson_base.specs.Value.{Items};
+    ghost use Rattle.bson_model.specs.View.{items_of, view};
+    ghost use Rattle.bson_raw.specs.Convert.{HasFault, MeansItems, Tells};
+    ghost use Rattle.bson_raw.specs.View.{array_bytes};
+
+    /// The items that the bytes mean, in their order, whatever their keys.
+    ///
+    /// Errors are those of `RawDocument::to_document`: the first fault at any depth, or `OutOfMemory`.
+    pub fn to_array(self, alloc: Global) -> Result<Array, Error>
+        ensures tree { MatchResult result (λ a. MeansItems (array_bytes self.entry) (items_of (map view a.items)))
+            (Tells (HasFault (drop 4 (array_bytes self.entry)))) }
+        ensures none { IfErr result (Tells (λ _ _. (items : Items) → MeansItems (array_bytes self.entry) items → ⊥)) }
+    {
+        bson_frame::laws::one_first_frame();
+        array_of(alloc, elements(self.document))
     }
 }

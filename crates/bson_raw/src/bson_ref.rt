@@ -1,12 +1,16 @@
 //! Values that borrow their bytes.
 
-ghost use Rattle.std.specs.Prelude.{◌≡◌};
+ghost use Rattle.std.specs.Prelude.{◌≡◌, IfOk};
 
 use crate::array::RawArray;
+use crate::convert::tree_of;
 use crate::document::RawDocument;
 use bson_base::{
-    BinarySubtype, DateTime, Decimal128, DoubleBits, ElementType, ObjectId, Timestamp,
+    Binary, BinarySubtype, DateTime, Decimal128, DoubleBits, ElementType, ObjectId, Timestamp,
 };
+use bson_frame::Error;
+use bson_model::Bson;
+use std::alloc::{AllocError, Global};
 
 /// Bytes with a subtype (bsonspec.org 1.1, element type 05). Of an old binary the bytes behind its inner length.
 #[derive(Clone, Copy, Debug, PartialEq)]
@@ -15,6 +19,19 @@ pub struct RawBinaryRef<'a> {
     pub subtype: BinarySubtype,
     /// The bytes.
     pub bytes: &'a [u8],
+}
+
+impl RawBinaryRef<'_> {
+    /// A copy with memory of its own. The error is a refused growth.
+    pub fn to_binary(self, alloc: Global) -> Result<Binary, AllocError>
+        ensures subtype { IfOk result (λ b. b.subtype ≡ self.entry.subtype) }
+        ensures bytes { IfOk result (λ b. b.bytes.items ≡ self.entry.bytes.now) }
+    {
+        Ok(Binary {
+            subtype: self.subtype,
+            bytes: self.bytes.to_vec(alloc)?,
+        })
+    }
 }
 
 /// A regular expression (bsonspec.org 1.1, element type 0B). Nothing here runs it.
@@ -292,5 +309,24 @@ impl<'a> RawBsonRef<'a> {
             RawBsonRef::JavaScriptCodeWithScope(value) => Some(value),
             _ => None,
         }
+    }
+}
+
+/// To a tree.
+impl RawBsonRef<'_> {
+    ghost use Rattle.std.specs.Prelude.{IfErr};
+    ghost use Rattle.bson_base.specs.Value.{Value};
+    ghost use Rattle.bson_raw.specs.Convert.{ConvertsValue, Stands, Tells};
+
+    /// The tree of the value: documents, arrays and scopes inside are converted, and the options of a regular expression put
+    /// into the order of their characters.
+    ///
+    /// Errors are those of `RawDocument::to_document`: the first fault at any depth, or `OutOfMemory`.
+    pub fn to_bson(self, alloc: Global) -> Result<Bson, Error>
+        ensures tree { ConvertsValue self.entry result }
+        ensures none { IfErr result (Tells (λ _ _. (v : Value) → Stands self.entry v → ⊥)) }
+    {
+        bson_frame::laws::one_first_frame();
+        tree_of(alloc, self)
     }
 }

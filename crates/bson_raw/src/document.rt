@@ -12,11 +12,13 @@ use crate::access;
 use crate::access::Asked;
 use crate::array::RawArray;
 use crate::bson_ref::{RawBinaryRef, RawBsonRef, RawRegexRef};
+use crate::convert::{document_of, elements};
 use crate::element::RawElement;
 use crate::values::Iter;
 use crate::walk::RawIter;
 use bson_base::{DateTime, DoubleBits, ObjectId, Timestamp};
 use bson_frame::{Error, ErrorKind, ValueAccessResult, is_envelope};
+use bson_model::Document;
 use std::alloc::Global;
 
 /// A view of the bytes of one document (bsonspec.org 1.1, "document"): at least 5 bytes, their number in the first four, and
@@ -249,5 +251,29 @@ impl<'a> RawDocument<'a> {
             → AccessAnswer as_i64 key.now (found_under key.now elements fault) result }
     {
         access::take_i64(alloc, Asked::Key(key), self.get(alloc, key))
+    }
+}
+
+/// To a tree.
+impl RawDocument<'_> {
+    ghost use Rattle.std.specs.Prelude.{IfErr};
+    ghost use Rattle.bson_bytes.specs.Spells.{Means, IsFaulty};
+    ghost use Rattle.bson_model.specs.View.{members_of, pairs_of};
+    ghost use Rattle.bson_raw.specs.Convert.{HasFault, Tells};
+    ghost use Rattle.bson_raw.specs.View.{bytes_of};
+
+    /// The document that the bytes mean: a repeated key has its last value in the place of its first, and the options of a
+    /// regular expression are in the order of their characters.
+    ///
+    /// Where an element at any depth is faulty, the first fault in the order of the bytes: `MalformedValue`, or
+    /// `Utf8EncodingError` where a text isn't UTF-8, under the key of the element whose payload is faulty, or under none where
+    /// bytes begin with no element. `OutOfMemory`, under no key, where a growth was refused.
+    pub fn to_document(self, alloc: Global) -> Result<Document, Error>
+        ensures tree { MatchResult result (λ d. Means (bytes_of self.entry) (members_of (pairs_of d)))
+            (Tells (HasFault (drop 4 (bytes_of self.entry)))) }
+        ensures none { IfErr result (Tells (λ _ _. IsFaulty (bytes_of self.entry))) }
+    {
+        bson_frame::laws::one_first_frame();
+        document_of(alloc, elements(self))
     }
 }

@@ -4,9 +4,11 @@ ghost use Rattle.std.specs.Prelude.{◌≡◌, length};
 ghost use Rattle.bson_frame.specs.View.{IsFaultUnder};
 
 use crate::bson_ref::RawBsonRef;
+use crate::convert::tree_of;
 use crate::decode::value_of;
 use bson_base::ElementType;
 use bson_frame::{Error, ErrorKind, Frame};
+use bson_model::Bson;
 use std::alloc::Global;
 
 /// An element whose value isn't read yet (bsonspec.org 1.1, "element").
@@ -60,8 +62,33 @@ impl<'a> RawElement<'a> {
     }
 }
 
+/// To a tree.
+impl RawElement<'_> {
+    ghost use Rattle.std.specs.Prelude.{IfErr};
+    ghost use Rattle.bson_base.specs.Value.{Value, value_kind};
+    ghost use Rattle.bson_bytes.specs.Spells.{SpellsValue};
+    ghost use Rattle.bson_frame.specs.Payload.{IsPayload};
+    ghost use Rattle.bson_raw.specs.Convert.{ConvertsElement, Tells};
+    ghost use Rattle.bson_raw.specs.View.{parts_of};
+
+    /// The value that the payload means, as a tree.
+    ///
+    /// Where the payload or an element at any depth inside is faulty, the first fault in the order of the bytes:
+    /// `MalformedValue`, or `Utf8EncodingError` where a text isn't UTF-8, under the key of the element whose payload is
+    /// faulty, or under none where bytes begin with no element. `OutOfMemory`, under no key, where a growth was refused.
+    pub fn to_bson(&self, alloc: Global) -> Result<Bson, Error>
+        ensures tree { ConvertsElement (parts_of self.now) result }
+        ensures none { IsPayload (parts_of self.now).tag (parts_of self.now).payload
+            → IfErr result (Tells (λ _ _. (v : Value) → value_kind v ≡ (parts_of self.now).tag → SpellsValue (parts_of self.now).payload v → ⊥)) }
+    {
+        bson_frame::laws::one_first_frame();
+        let value = self.value(alloc)?;
+        tree_of(alloc, value)
+    }
+}
+
 /// A fault under a key; want of memory in its place where the key finds none.
-fn fault_under(alloc: Global, key: &str, kind: ErrorKind) -> Error
+pub(crate) fn fault_under(alloc: Global, key: &str, kind: ErrorKind) -> Error
     ensures { IsFaultUnder key.now kind result }
 {
     match String::from_str(alloc, key) {

@@ -7,6 +7,7 @@ ghost use Rattle.bson_frame.specs.declared.error.Error.{Error as Fault};
 ghost use Rattle.bson_frame.specs.declared.error.ErrorKind.{ErrorKind as Kind};
 ghost use Rattle.bson_raw.specs.Walk.{IsWalk, IsDocumentWalk, walk_items, raw_steps, items_left};
 ghost use Rattle.bson_raw.specs.View.{left_of, pairs_left, values_left};
+ghost use Rattle.bson_raw.specs.Convert.{HasFault};
 ghost use Rattle.bson_raw.specs.Read.{pair_steps, value_steps};
 ghost use Rattle.bson_raw.specs.declared.array_iter.RawArrayIter.{RawArrayIter as Values};
 ghost use Rattle.bson_raw.specs.declared.bson_ref.RawBsonRef.{RawBsonRef as Value};
@@ -79,4 +80,13 @@ pub fn bytes_come_back(bytes: Vec<u8>) -> bson_frame::Result<Vec<u8>>
         Ok(document) => Ok(document.into_bytes()),
         Err(e) => Err(e),
     }
+}
+
+/// Elements have one first fault at most: the bytes alone tell its key and its kind.
+pub fn one_first_fault()
+    ensures { (bytes : List ℕ) (j k : Option (List ℕ)) (m n : Kind) → HasFault bytes j m → HasFault bytes k n
+        → (j ≡ k) × (m ≡ n) }
+{
+    bson_frame::laws::one_first_frame();
+    bson_frame::laws::one_structural_fault();
 }

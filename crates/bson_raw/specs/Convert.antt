@@ -1,0 +1,138 @@
+-- What a conversion from bytes to trees gives, and which fault it tells where bytes mean no tree.
+use Rattle.std.specs.Prelude.{◌≡◌, ◌≢◌, ℕ, List, [], ◌∷◌, map, drop, Option, Some, None, Result, MatchResult, Vec, string_bytes, ◌⊎◌}
+use Rattle.std.specs.declared.alloc.Global.{Global}
+use Rattle.bson_base.specs.declared.spec.ElementType.{ElementType}
+use Rattle.bson_base.specs.declared.spec.ElementType.TheVariants as kinds
+use Rattle.bson_base.specs.Scalars.{id_bytes, millis_of, decimal_bytes}
+use Rattle.bson_base.specs.Value.{double, string, binary, undefined, object_id, boolean, date_time, null, regex, db_pointer, code, symbol, int32, timestamp, int64, decimal, max_key, min_key, value_kind, Value, scalar, array, document, scoped_code, Items, Members}
+use Rattle.bson_bytes.specs.Spells.{SpellsValue, SpellsItems, SpellsMembers, settle_value, settle_items, settle}
+use Rattle.bson_frame.specs.declared.error.ErrorKind.{ErrorKind}
+use Rattle.bson_frame.specs.declared.error.ErrorKind.TheVariants.{MalformedValue, Utf8EncodingError, OutOfMemory}
+use Rattle.bson_frame.specs.declared.error.Error.{Error}
+use Rattle.bson_frame.specs.Frame.{Element, IsFirstFrame, IsStructuralFault}
+use Rattle.bson_frame.specs.Payload.{scope_in, IsEnvelope, IsPayload, IsPayloadFault, IsFaultless}
+use Rattle.bson_frame.specs.View.{fault_key}
+use Rattle.bson_model.specs.declared.bson.Bson.{Bson}
+use Rattle.bson_model.specs.declared.bson.JavaScriptCodeWithScope.{JavaScriptCodeWithScope}
+use Rattle.bson_model.specs.declared.document.Document.{Document}
+use Rattle.bson_model.specs.View.{view, items_of, members_of, pairs_of}
+use Rattle.bson_raw.specs.declared.bson_ref.RawBsonRef.{RawBsonRef}
+use Rattle.bson_raw.specs.declared.bson_ref.RawBsonRef.TheVariants as values
+use Rattle.bson_raw.specs.declared.bson_ref.RawJavaScriptCodeWithScopeRef.{RawJavaScriptCodeWithScopeRef}
+use Rattle.bson_raw.specs.View.{bytes_of, array_bytes}
+
+-- ---- the first fault
+
+-- a way along the elements of a document: no further, past an element, or into one
+pub data Way : Type 0 where
+  here : Way
+  past : Way → Way
+  into : Way → Way
+
+-- the elements inside a payload, where its kind has some
+abbrev pub elements_in : ElementType → List ℕ → Option (List ℕ)
+elements_in kinds.EmbeddedDocument payload = Some (drop 4 payload)
+elements_in kinds.Array payload = Some (drop 4 payload)
+elements_in kinds.JavaScriptCodeWithScope payload = Some (drop 4 (scope_in payload))
+elements_in tag payload = None
+
+-- The way leads past elements that spell values to a fault: where no frame is, which stands under no key, or in the
+-- payload of an element, under its key.
+abbrev pub IsFirstFault : List ℕ → Way → Option (List ℕ) → ErrorKind → Type 0
+IsFirstFault bytes here None kind = (bytes ≢ 0 ∷ []) × IsStructuralFault bytes kind
+IsFirstFault bytes here (Some key) kind = (e : Element) × (rest : List ℕ) × IsFirstFrame bytes e rest × (e.key ≡ key) × IsPayloadFault e.tag e.payload kind
+IsFirstFault bytes (past way) key kind = (e : Element) × (rest : List ℕ) × (v : Value) × IsFirstFrame bytes e rest × (value_kind v ≡ e.tag) × SpellsValue e.payload v × IsFirstFault rest way key kind
+IsFirstFault bytes (into way) key kind = (e : Element) × (rest inner : List ℕ) × IsFirstFrame bytes e rest × IsFaultless e.tag e.payload × (elements_in e.tag e.payload ≡ Some inner) × IsFirstFault inner way key kind
+
+-- the first fault of elements, in the order of their bytes
+abbrev pub HasFault : List ℕ → Option (List ℕ) → ErrorKind → Type 0
+HasFault bytes key kind = (way : Way) × IsFirstFault bytes way key kind
+
+-- the first fault of one element's value
+abbrev pub HasFaultIn : Element → Option (List ℕ) → ErrorKind → Type 0
+HasFaultIn e key kind = ((key ≡ Some e.key) × IsPayloadFault e.tag e.payload kind)
+    ⊎ ((inner : List ℕ) × IsFaultless e.tag e.payload × (elements_in e.tag e.payload ≡ Some inner) × HasFault inner key kind)
+
+-- a fault is told: want of memory, under no key, or a kind and a key of which this holds
+abbrev pub Told : (Option (List ℕ) → ErrorKind → Type 0) → Option (List ℕ) → ErrorKind → Type 0
+Told Fault key MalformedValue = Fault key MalformedValue
+Told Fault key Utf8EncodingError = Fault key Utf8EncodingError
+Told Fault key OutOfMemory = key ≡ None
+
+abbrev pub Tells : (Option (List ℕ) → ErrorKind → Type 0) → Error → Type 0
+Tells Fault e = Told Fault (fault_key e) e.kind
+
+-- ---- trees
+
+-- elements spell the tree of a document
+abbrev pub IsDocumentOf : List ℕ → Document → Type 0
+IsDocumentOf bytes d = (ms : Members) × SpellsMembers bytes ms × (members_of (pairs_of d) ≡ settle ms)
+
+-- elements spell the items of an array, whatever their keys
+abbrev pub IsArrayOf : List ℕ → Vec Bson Global → Type 0
+IsArrayOf bytes a = (vs : Items) × SpellsItems bytes vs × (items_of (map view a.items) ≡ settle_items vs)
+
+-- the code, and the tree of the scope
+abbrev pub IsScopedOf : RawJavaScriptCodeWithScopeRef → JavaScriptCodeWithScope → Type 0
+IsScopedOf x c = (string_bytes c.code ≡ x.code.now) × IsDocumentOf (drop 4 (bytes_of x.scope)) c.scope
+
+-- an element spells the tree of a value
+abbrev pub IsValueOf : Element → Bson → Type 0
+IsValueOf e b = (v : Value) × (value_kind v ≡ e.tag) × SpellsValue e.payload v × (view b ≡ settle_value v)
+
+-- the elements inside a value that was read, where its kind has some
+abbrev pub elements_of : RawBsonRef → Option (List ℕ)
+elements_of (values.Array x) = Some (drop 4 (array_bytes x))
+elements_of (values.Document x) = Some (drop 4 (bytes_of x))
+elements_of (values.JavaScriptCodeWithScope x) = Some (drop 4 (bytes_of x.scope))
+elements_of v = None
+
+-- a value that was read spells a tree: what it holds, and what the elements inside spell
+abbrev pub Stands : RawBsonRef → Value → Type 0
+Stands (values.Double x) v = v ≡ scalar (double x.0)
+Stands (values.String x) v = v ≡ scalar (string x.now)
+Stands (values.Array x) v = (vs : Items) × (v ≡ array vs) × SpellsItems (drop 4 (array_bytes x)) vs
+Stands (values.Document x) v = (ms : Members) × (v ≡ document ms) × SpellsMembers (drop 4 (bytes_of x)) ms
+Stands (values.Boolean x) v = v ≡ scalar (boolean x)
+Stands values.Null v = v ≡ scalar null
+Stands (values.RegularExpression x) v = v ≡ scalar (regex x.pattern.now x.options.now)
+Stands (values.JavaScriptCode x) v = v ≡ scalar (code x.now)
+Stands (values.JavaScriptCodeWithScope x) v = (ms : Members) × (v ≡ scoped_code x.code.now ms) × SpellsMembers (drop 4 (bytes_of x.scope)) ms
+Stands (values.Int32 x) v = v ≡ scalar (int32 x)
+Stands (values.Int64 x) v = v ≡ scalar (int64 x)
+Stands (values.Timestamp x) v = v ≡ scalar (timestamp x.time x.increment)
+Stands (values.Binary x) v = v ≡ scalar (binary x.subtype x.bytes.now)
+Stands (values.ObjectId x) v = v ≡ scalar (object_id (id_bytes x))
+Stands (values.DateTime x) v = v ≡ scalar (date_time (millis_of x))
+Stands (values.Symbol x) v = v ≡ scalar (symbol x.now)
+Stands (values.Decimal128 x) v = v ≡ scalar (decimal (decimal_bytes x))
+Stands values.Undefined v = v ≡ scalar undefined
+Stands values.MaxKey v = v ≡ scalar max_key
+Stands values.MinKey v = v ≡ scalar min_key
+Stands (values.DbPointer x) v = v ≡ scalar (db_pointer x.namespace.now (id_bytes x.id))
+
+-- a value that was read spells the tree of a value
+abbrev pub IsBsonOf : RawBsonRef → Bson → Type 0
+IsBsonOf r b = (v : Value) × Stands r v × (view b ≡ settle_value v)
+
+-- the first fault of a value that was read
+abbrev pub HasFaultInside : RawBsonRef → Option (List ℕ) → ErrorKind → Type 0
+HasFaultInside r key kind = (inner : List ℕ) × (elements_of r ≡ Some inner) × HasFault inner key kind
+
+-- ---- what the conversions answer
+
+abbrev pub ConvertsMembers : List ℕ → Result Document Error → Type 0
+ConvertsMembers bytes result = MatchResult result (IsDocumentOf bytes) (Tells (HasFault bytes))
+
+abbrev pub ConvertsItems : List ℕ → Result (Vec Bson Global) Error → Type 0
+ConvertsItems bytes result = MatchResult result (IsArrayOf bytes) (Tells (HasFault bytes))
+
+abbrev pub ConvertsElement : Element → Result Bson Error → Type 0
+ConvertsElement e result = IsPayload e.tag e.payload → MatchResult result (IsValueOf e) (Tells (HasFaultIn e))
+
+abbrev pub ConvertsValue : RawBsonRef → Result Bson Error → Type 0
+ConvertsValue r result = MatchResult result (IsBsonOf r) (Tells (HasFaultInside r))
+
+-- the bytes of an array mean the items
+abbrev pub MeansItems : List ℕ → Items → Type 0
+MeansItems bytes items = (vs : Items) × IsEnvelope bytes × SpellsItems (drop 4 bytes) vs × (items ≡ settle_items vs)

@@ -1,0 +1,178 @@
+//! From bytes to trees. Elements are read from the front, once each, and the reader goes into an array, a document or a scope
+//! where it meets it; so the fault that is told is the first in the order of the bytes.
+
+ghost use Rattle.std.specs.Prelude.{◌≡◌, ◌≢◌, ◌↔◌, ◌∷◌, ◌+◌, [], drop, length, string_bytes, IfOk, IsTrue, MatchResult, OnOk};
+ghost use Rattle.bson_base.specs.Options.{sorted_text};
+ghost use Rattle.bson_frame.specs.Frame.{IsFirstFrame, IsStructuralFault};
+ghost use Rattle.bson_frame.specs.Payload.{IsPayload};
+ghost use Rattle.bson_frame.specs.View.{element_of, fault_key};
+ghost use Rattle.bson_model.specs.Keyed.{put};
+ghost use Rattle.bson_model.specs.View.{pairs_of, view};
+ghost use Rattle.bson_raw.specs.Convert.{ConvertsMembers, ConvertsItems, ConvertsElement, ConvertsValue, IsScopedOf, HasFault, Tells};
+ghost use Rattle.bson_raw.specs.View.{bytes_of};
+
+use crate::bson_ref::{RawBsonRef, RawDbPointerRef, RawJavaScriptCodeWithScopeRef, RawRegexRef};
+use crate::decode::value_of;
+use crate::document::RawDocument;
+use crate::element::fault_under;
+use bson_frame::{Error, Frame, frame};
+use bson_model::{Array, Bson, DbPointer, Document, JavaScriptCodeWithScope, Regex};
+use std::alloc::{AllocError, Global};
+
+/// Whether only the final 00 of a document is left.
+fn is_end(bytes: &[u8]) -> bool
+    ensures { IsTrue result ↔ (bytes.now ≡ 0 ∷ []) }
+{
+    match bytes {
+        [0] => true,
+        _ => false,
+    }
+}
+
+/// The next element, or the structural fault.
+fn next_frame(bytes: &[u8]) -> Result<Frame<'_>, Error>
+    ensures { MatchResult result (λ f. IsFirstFrame bytes.now (element_of f) f.rest.now)
+        (λ e. IsStructuralFault bytes.now e.kind × (fault_key e ≡ None)) }
+{
+    match frame(bytes) {
+        Ok(frame) => Ok(frame),
+        Err(kind) => Err(Error::new(None, kind)),
+    }
+}
+
+/// The bytes from the first element on.
+pub(crate) fn elements(document: RawDocument<'_>) -> &[u8]
+    ensures value { result.now ≡ drop 4 (bytes_of document.entry) }
+    ensures shorter { length result.now + 4 ≡ length (bytes_of document.entry) }
+{
+    let (_, elements) = document.as_bytes().split_at(4);
+    elements
+}
+
+/// Puts a value under a key. A key that is there keeps its place, and its value goes.
+fn put_pair(
+    alloc: Global,
+    document: &mut Document,
+    key: &str,
+    value: Bson,
+) -> Result<(), AllocError>
+    ensures { OnOk result (pairs_of document.new ≡ put key.now (view value) (pairs_of document.old)) }
+{
+    let key = String::from_str(alloc, key)?;
+    document.insert(key, value)?;
+    Ok(())
+}
+
+/// The document of these elements.
+#[cycle(convert)]
+pub(crate) fn document_of(alloc: Global, elements: &[u8]) -> Result<Document, Error>
+    ensures { ConvertsMembers elements.now result }
+{
+    bson_frame::laws::payload_by_itself();
+    let mut document = Document::new(alloc);
+    let mut rest = elements;
+    while !is_end(rest) {
+        let frame = next_frame(rest)?;
+        let value = element_tree(alloc, &frame)?;
+        put_pair(alloc, &mut document, frame.key, value)?;
+        rest = frame.rest;
+    }
+    Ok(document)
+}
+
+/// The array of these elements, whatever their keys.
+#[cycle(convert)]
+pub(crate) fn array_of(alloc: Global, elements: &[u8]) -> Result<Array, Error>
+    ensures { ConvertsItems elements.now result }
+{
+    bson_frame::laws::payload_by_itself();
+    let mut items = Vec::new(alloc);
+    let mut rest = elements;
+    while !is_end(rest) {
+        let frame = next_frame(rest)?;
+        let value = element_tree(alloc, &frame)?;
+        items.push(value)?;
+        rest = frame.rest;
+    }
+    Ok(items)
+}
+
+/// The tree of an element's value.
+#[cycle(convert)]
+fn element_tree(alloc: Global, frame: &Frame<'_>) -> Result<Bson, Error>
+    requires { IsPayload frame.now.tag frame.now.payload.now }
+    ensures { ConvertsElement (element_of frame.now) result }
+{
+    match value_of(frame.tag, frame.payload) {
+        Ok(value) => tree_of(alloc, value),
+        Err(kind) => Err(fault_under(alloc, frame.key, kind)),
+    }
+}
+
+/// The tree of a value that was read.
+#[cycle(convert)]
+pub(crate) fn tree_of(alloc: Global, value: RawBsonRef<'_>) -> Result<Bson, Error>
+    ensures { ConvertsValue value.entry result }
+{
+    match value {
+        RawBsonRef::Double(x) => Ok(Bson::Double(x)),
+        RawBsonRef::String(text) => Ok(Bson::String(String::from_str(alloc, text)?)),
+        RawBsonRef::Array(x) => Ok(Bson::Array(array_of(alloc, elements(x.document))?)),
+        RawBsonRef::Document(x) => Ok(Bson::Document(document_of(alloc, elements(x))?)),
+        RawBsonRef::Boolean(x) => Ok(Bson::Boolean(x)),
+        RawBsonRef::Null => Ok(Bson::Null),
+        RawBsonRef::RegularExpression(x) => Ok(Bson::RegularExpression(regex_of(alloc, x)?)),
+        RawBsonRef::JavaScriptCode(text) => {
+            Ok(Bson::JavaScriptCode(String::from_str(alloc, text)?))
+        }
+        RawBsonRef::JavaScriptCodeWithScope(x) => {
+            Ok(Bson::JavaScriptCodeWithScope(scoped_of(alloc, x)?))
+        }
+        RawBsonRef::Int32(x) => Ok(Bson::Int32(x)),
+        RawBsonRef::Int64(x) => Ok(Bson::Int64(x)),
+        RawBsonRef::Timestamp(x) => Ok(Bson::Timestamp(x)),
+        RawBsonRef::Binary(x) => Ok(Bson::Binary(x.to_binary(alloc)?)),
+        RawBsonRef::ObjectId(x) => Ok(Bson::ObjectId(x)),
+        RawBsonRef::DateTime(x) => Ok(Bson::DateTime(x)),
+        RawBsonRef::Symbol(text) => Ok(Bson::Symbol(String::from_str(alloc, text)?)),
+        RawBsonRef::Decimal128(x) => Ok(Bson::Decimal128(x)),
+        RawBsonRef::Undefined => Ok(Bson::Undefined),
+        RawBsonRef::MaxKey => Ok(Bson::MaxKey),
+        RawBsonRef::MinKey => Ok(Bson::MinKey),
+        RawBsonRef::DbPointer(x) => Ok(Bson::DbPointer(pointer_of(alloc, x)?)),
+    }
+}
+
+/// Code with the tree of its scope.
+#[cycle(convert)]
+fn scoped_of(
+    alloc: Global,
+    value: RawJavaScriptCodeWithScopeRef<'_>,
+) -> Result<JavaScriptCodeWithScope, Error>
+    ensures { MatchResult result (IsScopedOf value.entry) (Tells (HasFault (drop 4 (bytes_of value.entry.scope)))) }
+{
+    let scope = document_of(alloc, elements(value.scope))?;
+    let code = String::from_str(alloc, value.code)?;
+    Ok(JavaScriptCodeWithScope { code, scope })
+}
+
+/// A copy, with the options in the order of their characters.
+fn regex_of(alloc: Global, value: RawRegexRef<'_>) -> Result<Regex, AllocError>
+    ensures pattern { IfOk result (λ r. string_bytes r.pattern ≡ value.entry.pattern.now) }
+    ensures options { IfOk result (λ r. string_bytes r.options ≡ sorted_text value.entry.options.now) }
+{
+    let pattern = String::from_str(alloc, value.pattern)?;
+    let options = String::from_str(alloc, value.options)?;
+    Regex::new(alloc, pattern, options)
+}
+
+fn pointer_of(alloc: Global, value: RawDbPointerRef<'_>) -> Result<DbPointer, AllocError>
+    ensures namespace { IfOk result (λ p. string_bytes p.namespace ≡ value.entry.namespace.now) }
+    ensures id { IfOk result (λ p. p.id ≡ value.entry.id) }
+{
+    let namespace = String::from_str(alloc, value.namespace)?;
+    Ok(DbPointer::new(namespace, value.id))
+}
+
+#[cfg(test)]
+mod tests;
