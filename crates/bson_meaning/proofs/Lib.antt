@@ -9,3 +9,5 @@ pub mod Turns
 pub mod Putting
 pub mod InOrder
 pub mod KeyLaw
+pub mod Progress
+pub mod Held
