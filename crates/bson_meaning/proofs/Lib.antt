@@ -11,3 +11,4 @@ pub mod InOrder
 pub mod KeyLaw
 pub mod Progress
 pub mod Held
+pub mod Heights
