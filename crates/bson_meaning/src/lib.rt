@@ -19,3 +19,6 @@ pub use levels::depth;
 pub use plain::is_plain;
 pub use reading::{GateError, gate};
 pub use sorting::sorted;
+
+#[cfg(test)]
+mod tests;
