@@ -9,3 +9,6 @@ pub mod Turns
 pub mod Putting
 pub mod InOrder
 pub mod KeyLaw
+pub mod Progress
+pub mod Held
+pub mod Heights
