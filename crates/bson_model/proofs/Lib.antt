@@ -4,3 +4,4 @@ pub mod EqualLemmas
 pub mod LayerLemmas
 pub mod JsonTextsLemmas
 pub mod JsonReadLemmas
+pub mod JsonGrammarLemmas

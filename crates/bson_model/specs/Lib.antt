@@ -12,4 +12,5 @@ pub mod Entries
 pub mod JsonKeys
 pub mod JsonTexts
 pub mod JsonRead
+pub mod JsonGrammar
 pub mod JsonWrappers

@@ -9,8 +9,11 @@ ghost use Rattle.bson_model.specs.View.{view, pairs_of, items_of, members_of};
 ghost use Rattle.bson_model.specs.declared.bson.Bson.{Bson as Tree};
 ghost use Rattle.bson_model.specs.declared.document.Document.{Document as Pairs};
 
+mod grammar;
+
 use crate::bson::Bson;
 use crate::document::Document;
+pub use grammar::reading_is_the_grammar;
 use std::hash::Hash;
 
 fn equality<T: Eq>()
