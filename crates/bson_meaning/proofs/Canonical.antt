@@ -1,0 +1,117 @@
+-- Values mean the same exactly if their normal forms with keys in order are equal.
+use Rattle.std.proofs.Common.{◌≡◌, ℕ, List, Bool, true, false, cond, Option, Some, None, refl, ap, ◌∙◌, sym, subst}
+use Rattle.std.specs.Prelude.{bytes_eq, option_map, is_some, IsSomeAnd}
+use Rattle.bson_meaning.specs.Meaning.{norm, norm_items, norm_members, asc, asc_items, asc_members, Same, SameItems, SameUnder}
+use Rattle.bson_model.specs.Equal.{SameKeys}
+use Rattle.bson_base.specs.Value.{Value, scalar, array, document, scoped_code, Items, no_items, item, Members, no_members, member, look_up, HasDistinctKeys, ItemsHaveDistinctKeys, MembersHaveDistinctKeys}
+use Rattle.bson_meaning.proofs.Ordered.{look_up-asc, look_up-norm, headed, ascending_asc, same_members, equal_keys}
+
+abbrev pub canonical : Value → Value
+canonical v = asc (norm v)
+
+abbrev pub canonical_items : Items → Items
+canonical_items vs = asc_items (norm_items vs)
+
+abbrev pub canonical_members : Members → Members
+canonical_members ms = asc_members (norm_members ms)
+
+twice_mapped : (o : Option Value) → option_map asc (option_map norm o) ≡ option_map canonical o
+twice_mapped (Some v) = refl
+twice_mapped None = refl
+
+pub look_up-canonical : (q : List ℕ) (ms : Members) → look_up q (canonical_members ms) ≡ option_map canonical (look_up q ms)
+look_up-canonical q ms = look_up-asc q (norm_members ms) ∙ ap (option_map asc) (look_up-norm q ms) ∙ twice_mapped (look_up q ms)
+
+alike : (o p : Option Value) → is_some o ≡ is_some p → ((v : Value) → o ≡ Some v → IsSomeAnd p (λ w. canonical v ≡ canonical w)) → option_map canonical o ≡ option_map canonical p
+alike None None h f = refl
+alike None (Some w) h f = cc
+alike (Some v) None h f = cc
+alike (Some v) (Some w) h f = ap Some (f v refl)
+
+pub some_and_map : (o : Option Value) (P Q : Value → Type 0) → ((w : Value) → P w → Q w) → IsSomeAnd o P → IsSomeAnd o Q
+some_and_map None P Q f h = h
+some_and_map (Some w) P Q f h = f w h
+
+members_alike : (ms ns : Members) → SameKeys ms ns → ((q : List ℕ) (v : Value) → look_up q ms ≡ Some v → IsSomeAnd (look_up q ns) (λ w. canonical v ≡ canonical w)) → canonical_members ms ≡ canonical_members ns
+members_alike ms ns keys under = same_members _ _ (ascending_asc (norm_members ms)) (ascending_asc (norm_members ns))
+    (λ q. look_up-canonical q ms ∙ alike (look_up q ms) (look_up q ns) (keys q) (under q) ∙ sym (look_up-canonical q ns))
+
+found_under : (q k : List ℕ) (v u : Value) (o : Option Value) (ns : Members) (b : Bool) → bytes_eq q k ≡ b → cond b (Some v) o ≡ Some u
+    → IsSomeAnd (look_up k ns) (λ w. canonical v ≡ canonical w) → (o ≡ Some u → IsSomeAnd (look_up q ns) (λ w. canonical u ≡ canonical w))
+    → IsSomeAnd (look_up q ns) (λ w. canonical u ≡ canonical w)
+found_under q k v u o ns true e h here there =
+    let i : v ≡ u = cc in
+    subst (λ m. IsSomeAnd (look_up m ns) (λ w. canonical u ≡ canonical w)) (sym (equal_keys q k e)) (subst (λ x. IsSomeAnd (look_up k ns) (λ w. canonical x ≡ canonical w)) i here)
+found_under q k v u o ns false e h here there = there h
+
+mutual
+  pub canonical_same : (v w : Value) → Same v w → canonical v ≡ canonical w
+  canonical_same (scalar s) (scalar t) h = ap scalar h
+  canonical_same (array vs) (array ws) h = ap array (items_same vs ws h)
+  canonical_same (document ms) (document ns) h = ap document (members_alike ms ns h.0 (λ q v e. under_at ms ns h.1 q v e))
+  canonical_same (scoped_code t ms) (scoped_code u ns) h = let i : t ≡ u = h.0 in let j : canonical_members ms ≡ canonical_members ns = members_alike ms ns h.1 (λ q v e. under_at ms ns h.2 q v e) in cc
+  canonical_same _ _ h = absurd h
+
+  items_same : (vs ws : Items) → SameItems vs ws → canonical_items vs ≡ canonical_items ws
+  items_same no_items no_items h = refl
+  items_same (item v vs) (item w ws) h = let i : canonical v ≡ canonical w = canonical_same v w h.0 in let j : canonical_items vs ≡ canonical_items ws = items_same vs ws h.1 in cc
+  items_same _ _ h = absurd h
+
+  under_at : (ms ns : Members) → SameUnder ms ns → (q : List ℕ) (u : Value) → look_up q ms ≡ Some u → IsSomeAnd (look_up q ns) (λ w. canonical u ≡ canonical w)
+  under_at no_members ns h q u e = cc
+  under_at (member k v ms) ns h q u e =
+      found_under q k v u (look_up q ms) ns (bytes_eq q k) refl e (some_and_map (look_up k ns) _ _ (canonical_same v) h.0) (under_at ms ns h.1 q u)
+
+-- ---- and back
+
+later : (q k : List ℕ) (v u : Value) (ms : Members) → look_up k ms ≡ None → look_up q ms ≡ Some u → look_up q (member k v ms) ≡ Some u
+later q k v u ms absent e = by (bytes_eq q k) refl
+  where
+    by : (b : Bool) → bytes_eq q k ≡ b → cond b (Some v) (look_up q ms) ≡ Some u
+    by true h = let n : None ≡ Some u = sym absent ∙ ap (λ m. look_up m ms) (sym (equal_keys q k h)) ∙ e in cc
+    by false h = e
+
+abbrev Meets : Members → Members → Type 0
+Meets ms ns = (q : List ℕ) (v : Value) → look_up q ms ≡ Some v → IsSomeAnd (look_up q ns) (λ w. canonical v ≡ canonical w)
+
+known : (o p : Option Value) → option_map canonical o ≡ option_map canonical p → (v : Value) → o ≡ Some v → IsSomeAnd p (λ w. canonical v ≡ canonical w)
+known None p e v h = cc
+known (Some u) None e v h = cc
+known (Some u) (Some w) e v h = let i : u ≡ v = cc in let j : canonical u ≡ canonical w = cc in ap canonical (sym i) ∙ j
+
+kept_some : (o : Option Value) → is_some (option_map canonical o) ≡ is_some o
+kept_some None = refl
+kept_some (Some v) = refl
+
+stand_alike : (ms ns : Members) → canonical_members ms ≡ canonical_members ns → (q : List ℕ) → option_map canonical (look_up q ms) ≡ option_map canonical (look_up q ns)
+stand_alike ms ns e q = sym (look_up-canonical q ms) ∙ ap (look_up q) e ∙ look_up-canonical q ns
+
+keys_alike : (ms ns : Members) → canonical_members ms ≡ canonical_members ns → SameKeys ms ns
+keys_alike ms ns e q = sym (kept_some (look_up q ms)) ∙ ap is_some (stand_alike ms ns e q) ∙ kept_some (look_up q ns)
+
+meets : (ms ns : Members) → canonical_members ms ≡ canonical_members ns → Meets ms ns
+meets ms ns e q = known (look_up q ms) (look_up q ns) (stand_alike ms ns e q)
+
+mutual
+  pub same_canonical : (v w : Value) → HasDistinctKeys v → canonical v ≡ canonical w → Same v w
+  same_canonical (scalar s) (scalar t) d e = cc
+  same_canonical (array vs) (array ws) d e = let i : canonical_items vs ≡ canonical_items ws = cc in same_items vs ws d i
+  same_canonical (document ms) (document ns) d e = let i : canonical_members ms ≡ canonical_members ns = cc in (keys_alike ms ns i, same_under ms ns d (meets ms ns i))
+  same_canonical (scoped_code t ms) (scoped_code u ns) d e =
+      let i : canonical_members ms ≡ canonical_members ns = cc in
+      let j : t ≡ u = cc in
+      (j, keys_alike ms ns i, same_under ms ns d (meets ms ns i))
+  same_canonical _ _ d e = cc
+
+  same_items : (vs ws : Items) → ItemsHaveDistinctKeys vs → canonical_items vs ≡ canonical_items ws → SameItems vs ws
+  same_items no_items no_items d e = tt
+  same_items (item v vs) (item w ws) d e =
+      let i : canonical v ≡ canonical w = cc in
+      let j : canonical_items vs ≡ canonical_items ws = cc in
+      (same_canonical v w d.0 i, same_items vs ws d.1 j)
+  same_items _ _ d e = cc
+
+  same_under : (ms ns : Members) → MembersHaveDistinctKeys ms → Meets ms ns → SameUnder ms ns
+  same_under no_members ns d f = tt
+  same_under (member k v ms) ns d f =
+      (some_and_map (look_up k ns) _ _ (λ w. same_canonical v w d.1) (f k v (headed k v ms)), same_under ms ns d.2 (λ q u e. f q u (later q k v u ms d.0 e)))

@@ -1,0 +1,129 @@
+//! Whether two trees mean the same.
+
+ghost use Rattle.std.specs.Prelude.{◌≡◌, ◌↔◌, map, IsTrue};
+ghost use Rattle.bson_model.specs.View.{view, pairs_of, items_of, members_of};
+ghost use Rattle.bson_model.specs.Equal.{SameKeys};
+ghost use Rattle.bson_model.specs.Trees.{regex_tree, binary_tree};
+ghost use Rattle.bson_meaning.specs.Meaning.{Same, SameItems, SameUnder};
+ghost use Rattle.bson_meaning.specs.Sames.{HasKeysOf, IsScalar};
+
+use crate::options::same_options;
+use crate::scalars::{normal_decimal, normal_double, normal_subtype};
+use bson_model::laws::equality_of_trees;
+use bson_model::{Binary, Bson, Document, Regex};
+
+/// Whether two values mean the same: their normal forms are equal, with documents compared as maps at every depth.
+///
+/// Each key is looked up by its hash, so the order of keys costs nothing.
+#[cycle(same)]
+pub fn same_meaning(value: &Bson, other: &Bson) -> bool
+    ensures { IsTrue result ↔ Same (view value.now) (view other.now) }
+{
+    match value {
+        Bson::Array(items) => match other {
+            Bson::Array(others) => same_items(items.as_slice(), others.as_slice()),
+            _ => false,
+        },
+        Bson::Document(document) => match other {
+            Bson::Document(other) => same_documents(document, other),
+            _ => false,
+        },
+        Bson::JavaScriptCodeWithScope(code) => match other {
+            Bson::JavaScriptCodeWithScope(other) => {
+                code.code == other.code && same_documents(&code.scope, &other.scope)
+            }
+            _ => false,
+        },
+        _ => same_scalar(value, other),
+    }
+}
+
+#[cycle(same)]
+fn same_items(items: &[Bson], others: &[Bson]) -> bool
+    ensures { IsTrue result ↔ SameItems (items_of (map view items.now)) (items_of (map view others.now)) }
+{
+    let mut left = others;
+    for item in items {
+        let [other, rest @ ..] = left else {
+            return false;
+        };
+        if !same_meaning(item, other) {
+            return false;
+        }
+        left = rest;
+    }
+    left.is_empty()
+}
+
+#[cycle(same)]
+fn same_documents(document: &Document, other: &Document) -> bool
+    ensures { IsTrue result ↔ SameKeys (members_of (pairs_of document.now)) (members_of (pairs_of other.now)) × SameUnder (members_of (pairs_of document.now)) (members_of (pairs_of other.now)) }
+{
+    same_under(document, other) && has_keys_of(other, document)
+}
+
+#[cycle(same)]
+fn same_under(document: &Document, other: &Document) -> bool
+    ensures { IsTrue result ↔ SameUnder (members_of (pairs_of document.now)) (members_of (pairs_of other.now)) }
+{
+    for (key, value) in document {
+        let Some(found) = other.get(key.as_str()) else {
+            return false;
+        };
+        if !same_meaning(value, found) {
+            return false;
+        }
+    }
+    true
+}
+
+fn has_keys_of(document: &Document, other: &Document) -> bool
+    ensures { IsTrue result ↔ HasKeysOf (members_of (pairs_of document.now)) (members_of (pairs_of other.now)) }
+{
+    for (key, _) in document {
+        if !other.contains_key(key.as_str()) {
+            return false;
+        }
+    }
+    true
+}
+
+fn same_scalar(value: &Bson, other: &Bson) -> bool
+    requires { IsScalar (view value.now) }
+    ensures { IsTrue result ↔ Same (view value.now) (view other.now) }
+{
+    if value.element_type() != other.element_type() {
+        return false;
+    }
+    match value {
+        Bson::Double(double) => match other {
+            Bson::Double(other) => normal_double(*double) == normal_double(*other),
+            _ => false,
+        },
+        Bson::RegularExpression(regex) => match other {
+            Bson::RegularExpression(other) => same_regex(regex, other),
+            _ => false,
+        },
+        Bson::Binary(binary) => match other {
+            Bson::Binary(other) => same_binary(binary, other),
+            _ => false,
+        },
+        Bson::Decimal128(decimal) => match other {
+            Bson::Decimal128(other) => normal_decimal(decimal) == normal_decimal(other),
+            _ => false,
+        },
+        _ => equality_of_trees(value, other),
+    }
+}
+
+fn same_regex(regex: &Regex, other: &Regex) -> bool
+    ensures { IsTrue result ↔ Same (regex_tree regex.now) (regex_tree other.now) }
+{
+    regex.pattern == other.pattern && same_options(regex.options.as_str(), other.options.as_str())
+}
+
+fn same_binary(binary: &Binary, other: &Binary) -> bool
+    ensures { IsTrue result ↔ Same (binary_tree binary.now) (binary_tree other.now) }
+{
+    normal_subtype(binary.subtype) == normal_subtype(other.subtype) && binary.bytes == other.bytes
+}

@@ -1,0 +1,60 @@
+//! Whether a tree can be written.
+
+ghost use Rattle.std.specs.Prelude.{◌↔◌, map, IsTrue};
+ghost use Rattle.bson_base.specs.Kinds.{HasNo00, IsPlain, IsPlainScalar};
+ghost use Rattle.bson_base.specs.Value.{EachItem, EachMember};
+ghost use Rattle.bson_model.specs.View.{view, pairs_of, items_of, members_of};
+
+use bson_model::{Bson, Document};
+
+/// Whether no key, no pattern and no options in the value hold a byte 00, which would end them when they are written
+/// (bsonspec.org 1.1, "cstring").
+#[cycle(plain)]
+pub fn is_plain(value: &Bson) -> bool
+    ensures { IsTrue result ↔ IsPlain (view value.now) }
+{
+    match value {
+        Bson::Array(items) => are_plain(items.as_slice()),
+        Bson::Document(document) => has_plain_members(document),
+        Bson::JavaScriptCodeWithScope(code) => has_plain_members(&code.scope),
+        Bson::RegularExpression(regex) => {
+            has_no_00(regex.pattern.as_str()) && has_no_00(regex.options.as_str())
+        }
+        _ => true,
+    }
+}
+
+#[cycle(plain)]
+fn are_plain(items: &[Bson]) -> bool
+    ensures { IsTrue result ↔ EachItem HasNo00 IsPlainScalar (items_of (map view items.now)) }
+{
+    for item in items {
+        if !is_plain(item) {
+            return false;
+        }
+    }
+    true
+}
+
+#[cycle(plain)]
+pub(crate) fn has_plain_members(document: &Document) -> bool
+    ensures { IsTrue result ↔ EachMember HasNo00 IsPlainScalar (members_of (pairs_of document.now)) }
+{
+    for (key, value) in document {
+        if !has_no_00(key.as_str()) || !is_plain(value) {
+            return false;
+        }
+    }
+    true
+}
+
+fn has_no_00(text: &str) -> bool
+    ensures { IsTrue result ↔ HasNo00 text.now }
+{
+    for byte in text.as_bytes() {
+        if *byte == 0 {
+            return false;
+        }
+    }
+    true
+}

@@ -1,0 +1,86 @@
+//! The normal form of scalars.
+
+ghost use Rattle.std.specs.Prelude.{◌≡◌};
+ghost use Rattle.bson_base.specs.Decimal.{limited as limited_of, number_of, pack, sixteen_bytes, unpack};
+ghost use Rattle.bson_base.specs.Scalars.{decimal_bytes};
+ghost use Rattle.bson_base.specs.Tags.{subtype_of, subtype_byte};
+ghost use Rattle.bson_meaning.specs.Meaning.{normal_double as double_normal, normal_decimal as decimal_normal};
+
+use bson_model::{BinarySubtype, Decimal128, DoubleBits};
+
+const QUIET: u64 = 0x7FF8_0000_0000_0000;
+
+const NEGATIVE_QUIET: u64 = 0xFFF8_0000_0000_0000;
+
+/// The double, or the quiet NaN of its sign where it is a NaN.
+#[tactic(auto, unfolding(crate::specs::Meaning::normal_double))]
+pub(crate) fn normal_double(double: DoubleBits) -> DoubleBits
+    ensures { result.0 ≡ double_normal double.0 }
+{
+    if !double.is_nan() {
+        return double;
+    }
+    if double.is_negative() {
+        DoubleBits::from_bits(NEGATIVE_QUIET)
+    } else {
+        DoubleBits::from_bits(QUIET)
+    }
+}
+
+/// What the byte of a subtype stands for.
+pub(crate) fn normal_subtype(subtype: BinarySubtype) -> BinarySubtype
+    ensures { result ≡ subtype_of (subtype_byte subtype) }
+{
+    BinarySubtype::from(u8::from(subtype))
+}
+
+/// The first form of what a decimal means.
+#[tactic(auto, unfolding(crate::specs::Meaning::normal_decimal))]
+pub(crate) fn normal_decimal(decimal: &Decimal128) -> Decimal128
+    ensures { decimal_bytes result ≡ decimal_normal (decimal_bytes decimal.now) }
+{
+    Decimal128::from_bytes(bytes_of_number(normal_bits(number_of_bytes(decimal.bytes()))))
+}
+
+/// The number of 16 bytes, the lowest first.
+fn number_of_bytes(bytes: [u8; 16]) -> u128
+    ensures { result ≡ number_of bytes }
+{
+    u128::from_le_bytes(bytes)
+}
+
+/// The 16 bytes of a number, the lowest first.
+#[tactic(auto, unfolding(bson_base::specs::Decimal::sixteen_bytes))]
+fn bytes_of_number(number: u128) -> [u8; 16]
+    ensures { result ≡ sixteen_bytes number }
+{
+    number.to_le_bytes()
+}
+
+/// The first form of 128 bits: where the coefficient is over its limit it is 0, and every NaN is the quiet positive one
+/// (IEEE 754-2008, 3.5.2, binary encoding).
+#[tactic(auto, unfolding(bson_base::specs::Decimal::unpack))]
+fn normal_bits(bits: u128) -> u128
+    ensures { result ≡ pack (unpack bits) }
+{
+    let sign = bits / (1 << 127) * (1 << 127);
+    if bits / (1 << 123) % 16 == 15 {
+        if bits / (1 << 122) % 2 == 1 {
+            31 << 122
+        } else {
+            sign + (30 << 122)
+        }
+    } else if bits / (1 << 125) % 4 == 3 {
+        sign + bits / (1 << 111) % (1 << 14) * (1 << 113)
+    } else {
+        sign + bits / (1 << 113) % (1 << 14) * (1 << 113) + limited(bits % (1 << 113))
+    }
+}
+
+const LIMIT: u128 = 10_000_000_000_000_000_000_000_000_000_000_000;
+
+fn limited(coefficient: u128) -> u128
+    ensures { result ≡ limited_of coefficient }
+{
+    if coefficient < LIMIT { coefficient } else { 0 }
+}
