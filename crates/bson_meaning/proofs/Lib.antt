@@ -6,3 +6,4 @@ pub mod Normal
 pub mod Comparing
 pub mod Characters
 pub mod Turns
+pub mod JsonSame

@@ -2,6 +2,7 @@
 #![tactic(auto)]
 
 mod compare;
+pub mod json_laws;
 mod levels;
 mod options;
 mod plain;
