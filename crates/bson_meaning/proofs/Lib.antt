@@ -7,3 +7,5 @@ pub mod Comparing
 pub mod Characters
 pub mod Turns
 pub mod JsonSame
+pub mod JsonReadBack
+pub mod JsonReads
