@@ -1,13 +1,15 @@
 -- What is written with its length put in afterwards.
-use Rattle.std.proofs.Common.{◌≡◌, ℕ, zero, suc, ◌+◌, ◌^◌, ◌<◌, ◌≤◌, List, [], ◌∷◌, ◌++◌, length, map, get_or, drop, Result, Ok, Err, OnOk, OnErr, IfErr, add-one, refl, sym, ap, ◌∙◌, subst, arith, append-nil, append_assoc, length-append}
+use Rattle.std.proofs.Common.{◌≡◌, ℕ, zero, suc, ◌+◌, ◌^◌, ◌<◌, ◌≤◌, List, [], ◌∷◌, ◌++◌, length, map, get_or, drop, Result, OnOk, OnErr, IfErr, add-one, refl, sym, ap, ◌∙◌, subst, arith, append-nil, append_assoc, length-append}
 use Rattle.std.specs.Prelude.{decimal}
 use Rattle.std.proofs.Math.Seq.{drop-cons}
 use Rattle.std.proofs.lemmas.Result.{on_ok_weaker, on_err_weaker, IfErr-weaker}
 use Rattle.bson_base.specs.Kinds.{IsPlain}
 use Rattle.bson_base.specs.Tags.{tag_byte}
 use Rattle.bson_base.specs.Value.{Value, value_kind, array, Items, item, no_items}
-use Rattle.bson_bytes.specs.Encode.{le32, ended, framed, scoped, text_bytes, value_bytes, value_size, items_bytes, items_size}
+use Rattle.bson_bytes.specs.Encode.{le32, ended, framed, scoped, text_bytes, value_bytes, value_size, items_bytes}
 use Rattle.bson_bytes.specs.Writing.{CanBeWritten, IsRefusal, Refuses, StartsWith}
+use Rattle.bson_bytes.proofs.Extents.{framed_envelope}
+use Rattle.bson_frame.specs.Payload.{IsEnvelope}
 use Rattle.bson_bytes.proofs.Writing.{ItemsTo}
 use Rattle.bson_frame.specs.declared.error.Error.{Error}
 use Rattle.bson_frame.specs.declared.error.ErrorKind.{ErrorKind}
@@ -54,13 +56,17 @@ pub long_refused : (r : Result (Unit {0}) Error) (v : Value) (old whole after : 
 long_refused r v old whole after start s e n h =
     let l = ap length e in
     let told : (f : Error) → IsBare MalformedValue f × (start + 2 ^ 31 ≤ length whole) → IsRefusal (CanBeWritten v → ⊥) f = λ f b.
-        let too_long : CanBeWritten v → ⊥ = λ can. omega (arith, can.1, b.1, s, l, n, length-append {A = ℕ} old (room ++ after)) in
-        let is = b.0.0 in (rw is too_long, b.0.1) in
+    let too_long : CanBeWritten v → ⊥ = λ can. omega (arith, can.1, b.1, s, l, n, length-append {A = ℕ} old (room ++ after)) in
+    let is = b.0.0 in (rw is too_long, b.0.1) in
     IfErr-weaker r _ _ told h
 
 -- and nothing from before is gone
 pub begun_kept : (r : Result (Unit {0}) Error) (old whole new more : List ℕ) → whole ≡ old ++ more → OnErr r (new ≡ whole) → OnErr r (StartsWith new old)
 begun_kept r old whole new more e h = on_err_weaker r (λ is. (more, is ∙ e)) h
+
+-- what is a document's, and short, declares its own length and ends in 00
+pub written_envelope : (bytes body : List ℕ) → bytes ≡ framed body → length body + 5 < 2 ^ 31 → IsEnvelope bytes
+written_envelope bytes body e h = subst IsEnvelope (sym e) (framed_envelope body h)
 
 -- ---- items by index
 
@@ -91,7 +97,7 @@ pub item_written : (whole rest : Items) (i : ℕ) (v : Value) (begun out after_p
 item_written whole rest i v begun out after_place now to place is plain =
     let front = tag_byte (value_kind v) ∷ ended (decimal i) in
     let one : now ++ items_bytes (i + 1) rest ≡ out ++ (front ++ (value_bytes v ++ items_bytes (i + 1) rest)) =
-        ap (λ (x : List ℕ). x ++ items_bytes (i + 1) rest) (is ∙ ap (λ (x : List ℕ). x ++ value_bytes v) place) ∙ append_assoc (out ++ front) (value_bytes v) (items_bytes (i + 1) rest) ∙ append_assoc out front (value_bytes v ++ items_bytes (i + 1) rest) in
+    ap (λ (x : List ℕ). x ++ items_bytes (i + 1) rest) (is ∙ ap (λ (x : List ℕ). x ++ value_bytes v) place) ∙ append_assoc (out ++ front) (value_bytes v) (items_bytes (i + 1) rest) ∙ append_assoc out front (value_bytes v ++ items_bytes (i + 1) rest) in
     record {
       written = one ∙ rw add-one to.written;
       forth = λ h. to.forth (plain, h);

@@ -16,7 +16,7 @@ use bson_base::{BinarySubtype, ElementType, ObjectId, Timestamp};
 use bson_frame::{Error, ErrorKind, Result};
 
 /// The greatest number of bytes that a length can tell: it is a signed number of 32 bits.
-const MAX: usize = 2147483647;
+pub(crate) const MAX: usize = 2147483647;
 
 /// The refusal of a 00 where none may stand, or of too many bytes.
 pub(crate) fn refusal() -> Error

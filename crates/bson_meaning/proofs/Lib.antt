@@ -9,3 +9,6 @@ pub mod Turns
 pub mod JsonSame
 pub mod JsonReadBack
 pub mod JsonReads
+pub mod Putting
+pub mod InOrder
+pub mod KeyLaw

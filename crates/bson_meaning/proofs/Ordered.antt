@@ -78,7 +78,7 @@ abbrev pub IsAscending : Members → Type 0
 IsAscending no_members = Unit {0}
 IsAscending (member k v ms) = AllAbove k ms × IsAscending ms
 
-above_more : (k l : List ℕ) (ms : Members) → Order k l ≡ Less → AllAbove l ms → AllAbove k ms
+pub above_more : (k l : List ℕ) (ms : Members) → Order k l ≡ Less → AllAbove l ms → AllAbove k ms
 above_more k l no_members h a = tt
 above_more k l (member m v ms) h a = (nat_list_cmp_total.trans k l m h a.0, above_more k l ms h a.1)
 
@@ -114,7 +114,7 @@ differ k l h = by (bytes_eq k l) refl
     by true e = let less : Order k k ≡ Less = ap (Order k) (equal_keys k l e) ∙ h in let equal : Order k k ≡ Equal = itself k in cc
     by false e = refl
 
-none_above : (k : List ℕ) (ms : Members) → AllAbove k ms → look_up k ms ≡ None
+pub none_above : (k : List ℕ) (ms : Members) → AllAbove k ms → look_up k ms ≡ None
 none_above k no_members a = refl
 none_above k (member l v ms) a = ap (λ b. cond b (Some v) (look_up k ms)) (differ k l a.0) ∙ none_above k ms a.1
 

@@ -2,3 +2,4 @@ pub mod Meaning
 pub mod Counts
 pub mod Sames
 pub mod JsonReserved
+pub mod Pairs

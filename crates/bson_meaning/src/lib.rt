@@ -3,11 +3,18 @@
 
 mod compare;
 pub mod json_laws;
+mod forms;
+mod key;
+pub mod laws;
 mod levels;
 mod options;
 mod plain;
 mod scalars;
+mod sorting;
 
 pub use compare::same_meaning;
+pub use forms::normalize;
+pub use key::{KeyError, meaning_key};
 pub use levels::depth;
 pub use plain::is_plain;
+pub use sorting::sorted;

@@ -5,3 +5,7 @@ pub mod LayerLemmas
 pub mod JsonWriteLemmas
 pub mod DateTextLemmas
 pub mod SizeLemmas
+pub mod FiniteLemmas
+pub mod ShowLemmas
+pub mod JsonTextsLemmas
+pub mod JsonReadLemmas

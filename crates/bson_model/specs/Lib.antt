@@ -12,3 +12,7 @@ pub mod Entries
 pub mod JsonKeys
 pub mod Dates
 pub mod JsonWrite
+pub mod Display
+pub mod JsonTexts
+pub mod JsonRead
+pub mod JsonWrappers

@@ -1,4 +1,4 @@
-//! Extended JSON over the trees of `serde_json`.
+//! Extended JSON v2, between values of BSON and JSON trees.
 
 pub mod de;
 mod ser;

@@ -3,6 +3,7 @@
 
 mod bson;
 mod copy;
+mod display;
 pub mod document;
 pub mod extjson;
 pub mod laws;

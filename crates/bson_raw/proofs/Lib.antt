@@ -6,3 +6,7 @@ pub mod Settling
 pub mod Progress
 pub mod Converting
 pub mod Faults
+pub mod Reading
+pub mod Puts
+pub mod Sizes
+pub mod Gains

@@ -4,3 +4,11 @@ pub mod Value
 pub mod Read
 pub mod Access
 pub mod Convert
+pub mod Input
+pub mod Buffer
+pub mod Raw
+pub mod Append
+pub mod Written
+pub mod Copied
+pub mod Places
+pub mod Trees

@@ -1,11 +1,13 @@
 //! From bytes to trees. Elements are read from the front, once each, and the reader goes into an array, a document or a scope
 //! where it meets it; so the fault that is told is the first in the order of the bytes.
 
-ghost use Rattle.std.specs.Prelude.{◌≡◌, ◌≢◌, ◌↔◌, ◌∷◌, ◌+◌, [], drop, length, string_bytes, IfOk, IsTrue, MatchResult};
+ghost use Rattle.std.specs.Prelude.{◌≡◌, ◌≢◌, ◌↔◌, ◌∷◌, ◌+◌, [], drop, length, string_bytes, IfOk, IsTrue, MatchResult, OnOk};
 ghost use Rattle.bson_base.specs.Options.{sorted_text};
 ghost use Rattle.bson_frame.specs.Frame.{IsFirstFrame, IsStructuralFault};
 ghost use Rattle.bson_frame.specs.Payload.{IsPayload};
 ghost use Rattle.bson_frame.specs.View.{element_of, fault_key};
+ghost use Rattle.bson_model.specs.Keyed.{put};
+ghost use Rattle.bson_model.specs.View.{pairs_of, view};
 ghost use Rattle.bson_raw.specs.Convert.{ConvertsMembers, ConvertsItems, ConvertsElement, ConvertsValue, IsScopedOf, HasFault, Tells};
 ghost use Rattle.bson_raw.specs.View.{bytes_of};
 
@@ -47,6 +49,20 @@ pub(crate) fn elements(document: RawDocument<'_>) -> &[u8]
     elements
 }
 
+/// Puts a value under a key that may be there: it keeps its place, and loses its value.
+fn put_pair(
+    alloc: Global,
+    document: &mut Document,
+    key: &str,
+    value: Bson,
+) -> Result<(), AllocError>
+    ensures { OnOk result (pairs_of document.new ≡ put key.now (view value) (pairs_of document.old)) }
+{
+    let key = String::from_str(alloc, key)?;
+    document.insert(key, value)?;
+    Ok(())
+}
+
 /// The document of these elements.
 #[cycle(convert)]
 pub(crate) fn document_of(alloc: Global, elements: &[u8]) -> Result<Document, Error>
@@ -58,8 +74,7 @@ pub(crate) fn document_of(alloc: Global, elements: &[u8]) -> Result<Document, Er
     while !is_end(rest) {
         let frame = next_frame(rest)?;
         let value = element_tree(alloc, &frame)?;
-        let key = String::from_str(alloc, frame.key)?;
-        document.insert(key, value)?;
+        put_pair(alloc, &mut document, frame.key, value)?;
         rest = frame.rest;
     }
     Ok(document)
@@ -158,3 +173,6 @@ fn pointer_of(alloc: Global, value: RawDbPointerRef<'_>) -> Result<DbPointer, Al
     let namespace = String::from_str(alloc, value.namespace)?;
     Ok(DbPointer::new(namespace, value.id))
 }
+
+#[cfg(test)]
+mod tests;

@@ -1,22 +1,51 @@
-//! Extended JSON as it is read.
+//! Extended JSON v2 as it is read (MongoDB Extended JSON v2, "Parsing").
+ghost use Rattle.std.specs.Prelude.{◌≡◌, map, string_bytes, OnOk};
+ghost use Rattle.std.specs.Option.{option_map};
+ghost use Rattle.serde_json.specs.View.{view as tree_of, number_view, items_view, members_view};
+ghost use Rattle.bson_model.specs.Keyed.{put};
+ghost use Rattle.bson_model.specs.View.{view, pairs_of, items_of, members_of};
+ghost use Rattle.bson_model.specs.JsonKeys.{any_reserved};
+ghost use Rattle.bson_model.specs.JsonRead.{Gives, read as value_of, read_items as items_read, read_members as members_read, read_typed as typed_of, read_scope as scope_of, text_of as spec_text, whole, with_scope as spec_scoped, integer as integer_of};
+ghost use Rattle.serde_json.specs.Find.{as_i64};
 
-ghost use Rattle.std.specs.Prelude.{◌≡◌};
-ghost use Rattle.bson_model.specs.declared.extjson.de.Error.TheVariants.{Memory};
+mod bodies;
+mod keys;
+mod texts;
 
+use crate::bson::{Bson, JavaScriptCodeWithScope};
+use crate::document::Document;
+use bodies::{read_wrapped, text_of};
 use bson_base::oid;
-use std::alloc::{AllocError, AllocFailed};
+use keys::is_reserved;
+use serde_json::{Map, Number, Value};
+use std::alloc::{AllocError, AllocFailed, Global};
+use thiserror::Error as ThisError;
 
-/// Why a tree was refused.
-#[derive(Clone, Copy, Debug, PartialEq, Drop)]
+/// Why a JSON tree was refused.
+#[derive(Clone, Copy, Debug, PartialEq, ThisError)]
 pub enum Error {
+    /// The text under `$oid` is no object id.
+    #[error("the text is no object id")]
     InvalidObjectId(oid::Error),
+    /// A wrapper has a further key, its body has another form, or a key of the body is absent or unknown.
+    #[error("the tree is no Extended JSON")]
     DeserializationError,
+    /// A double that is finite and not zero: a number that is no signed integer of 64 bits, or a numeral under
+    /// `$numberDouble` with a digit other than 0.
+    #[error("the number is a finite double")]
     FiniteDouble,
+    /// A growth of memory was refused.
+    #[error("out of memory")]
     Memory,
 }
 
+/// What a call of this module answers.
+pub type Result<T> = std::result::Result<T, Error>;
+
 impl From<AllocError> for Error {
-    ghost from_gives = { λ _ e. e ≡ Memory };
+    ghost use Rattle.bson_model.specs.declared.extjson.de.Error.TheVariants.{Memory as memory};
+
+    ghost from_gives = { λ _ e. e ≡ memory };
 
     fn from(_: AllocError) -> Error {
         Error::Memory
@@ -24,10 +53,187 @@ impl From<AllocError> for Error {
 }
 
 impl<T: Drop> From<AllocFailed<T>> for Error {
-    ghost from_gives = { λ _ e. e ≡ Memory };
+    ghost use Rattle.bson_model.specs.declared.extjson.de.Error.TheVariants.{Memory as memory};
+
+    ghost from_gives = { λ _ e. e ≡ memory };
 
     fn from(failed: AllocFailed<T>) -> Error {
         drop(failed);
         Error::Memory
+    }
+}
+
+impl From<oid::Error> for Error {
+    ghost use Rattle.bson_model.specs.JsonRead.{of_object_id};
+
+    ghost from_gives = { λ x e. e ≡ of_object_id x };
+
+    fn from(error: oid::Error) -> Error {
+        match error {
+            oid::Error::Memory => Error::Memory,
+            other => Error::InvalidObjectId(other),
+        }
+    }
+}
+
+fn has_reserved(members: &Map<String, Value>) -> bool
+    ensures { result ≡ any_reserved (members_view members.now.entries) }
+{
+    for (key, _) in members {
+        if is_reserved(key) {
+            return true;
+        }
+    }
+    false
+}
+
+fn integer(n: i64) -> Bson
+    ensures { view result ≡ integer_of n }
+{
+    if i32::MIN as i64 <= n && n <= i32::MAX as i64 {
+        Bson::Int32(n as i32)
+    } else {
+        Bson::Int64(n)
+    }
+}
+
+fn read_number(n: Number) -> Result<Bson>
+    ensures { Gives view result (whole (as_i64 (number_view n))) }
+{
+    match n.as_i64() {
+        Some(n) => Ok(integer(n)),
+        None => Err(Error::FiniteDouble),
+    }
+}
+
+fn with_scope(code: String, scope: Option<Document>) -> Bson
+    ensures { view result ≡ spec_scoped (string_bytes code) (option_map (λ d. members_of (pairs_of d)) scope) }
+{
+    match scope {
+        Some(scope) => Bson::JavaScriptCodeWithScope(JavaScriptCodeWithScope { code, scope }),
+        None => Bson::JavaScriptCode(code),
+    }
+}
+
+fn add(document: &mut Document, key: String, value: Bson) -> std::result::Result<(), AllocError>
+    ensures { OnOk result (pairs_of document.new ≡ put (string_bytes key) (view value) (pairs_of document.old)) }
+{
+    drop(document.insert(key, value)?);
+    Ok(())
+}
+
+#[cycle(read)]
+fn read(alloc: Global, value: Value) -> Result<Bson>
+    ensures { Gives view result (value_of (tree_of value)) }
+{
+    match value {
+        Value::Null => Ok(Bson::Null),
+        Value::Bool(truth) => Ok(Bson::Boolean(truth)),
+        Value::Number(n) => read_number(n),
+        Value::String(text) => Ok(Bson::String(text)),
+        Value::Array(items) => Ok(Bson::Array(read_items(alloc, items)?)),
+        Value::Object(members) => {
+            if has_reserved(&members) {
+                read_typed(alloc, members)
+            } else {
+                Ok(Bson::Document(read_members(alloc, members)?))
+            }
+        }
+    }
+}
+
+#[cycle(read)]
+fn read_items(alloc: Global, items: Vec<Value>) -> Result<Vec<Bson>>
+    ensures { Gives (λ v. items_of (map view v.items)) result (items_read (items_view items.items)) }
+{
+    let mut values = Vec::new(alloc);
+    for item in items {
+        values.push(read(alloc, item)?)?;
+    }
+    Ok(values)
+}
+
+#[cycle(read)]
+fn read_members(alloc: Global, members: Map<String, Value>) -> Result<Document>
+    ensures { Gives (λ d. members_of (pairs_of d)) result (members_read (members_view members.entries)) }
+{
+    let mut document = Document::new(alloc);
+    for (key, value) in members {
+        add(&mut document, key, read(alloc, value)?)?;
+    }
+    Ok(document)
+}
+
+// An object with a reserved key.
+#[cycle(read)]
+fn read_typed(alloc: Global, members: Map<String, Value>) -> Result<Bson>
+    ensures { Gives view result (typed_of (members_view members.entries)) }
+{
+    let mut entries = members.into_iter();
+    let Some((key, value)) = entries.next() else {
+        return Err(Error::DeserializationError);
+    };
+    let Some((second, scope)) = entries.next() else {
+        return read_wrapped(alloc, &key, value);
+    };
+    if entries.next().is_some() {
+        return Err(Error::DeserializationError);
+    }
+    if key.as_str() == "$code" && second.as_str() == "$scope" {
+        let code = text_of(value)?;
+        Ok(with_scope(code, read_scope(alloc, scope)?))
+    } else {
+        Err(Error::DeserializationError)
+    }
+}
+
+#[cycle(read)]
+fn read_scope(alloc: Global, scope: Value) -> Result<Option<Document>>
+    ensures { Gives (λ o. option_map (λ d. members_of (pairs_of d)) o) result (scope_of (tree_of scope)) }
+{
+    match scope {
+        Value::Null => Ok(None),
+        Value::Object(members) => Ok(Some(read_members(alloc, members)?)),
+        _ => Err(Error::DeserializationError),
+    }
+}
+
+impl Bson {
+    ghost use Rattle.std.specs.Prelude.{◌≡◌};
+    ghost use Rattle.serde_json.specs.View.{view as tree_of, members_view};
+    ghost use Rattle.serde_json.specs.Data.{object};
+    ghost use Rattle.bson_model.specs.View.{view};
+    ghost use Rattle.bson_model.specs.JsonRead.{Gives, read};
+
+    /// The value that a JSON tree stands for. A number that is no signed integer of 64 bits is `FiniteDouble`; what is wrong
+    /// with a typed value is told by the error's kind. Where there are several faults, the first one in the order of keys is
+    /// told, a further key before the fault of a body.
+    pub fn try_from_value(alloc: Global, value: Value) -> Result<Bson>
+        ensures { Gives view result (read (tree_of value)) }
+    {
+        read(alloc, value)
+    }
+
+    /// The value that a JSON object stands for: a typed value where it has a reserved key, else a document. The errors are
+    /// those of `try_from_value`.
+    pub fn try_from_map(alloc: Global, members: Map<String, Value>) -> Result<Bson>
+        ensures { Gives view result (read (object (members_view members.entries))) }
+    {
+        read(alloc, Value::Object(members))
+    }
+}
+
+impl Document {
+    ghost use Rattle.std.specs.Prelude.{◌≡◌};
+    ghost use Rattle.serde_json.specs.View.{members_view};
+    ghost use Rattle.bson_model.specs.View.{pairs_of, members_of};
+    ghost use Rattle.bson_model.specs.JsonRead.{Gives, read_members};
+
+    /// The document of a JSON object, whose own keys are never taken for reserved ones; those of the objects below are. The
+    /// errors are those of `Bson::try_from_value`.
+    pub fn try_from_map(alloc: Global, members: Map<String, Value>) -> Result<Document>
+        ensures { Gives (λ d. members_of (pairs_of d)) result (read_members (members_view members.entries)) }
+    {
+        read_members(alloc, members)
     }
 }

@@ -1,17 +1,16 @@
 //! Extended JSON as it is written (MongoDB Extended JSON v2). One writer serves both forms: they differ in integers and dates
 //! alone.
 
-ghost use Rattle.std.specs.Prelude.{◌≡◌, ◌++◌, codes, string_bytes, option_map, IfOk, OnOk, true, map, ◌≤ℤ◌, pos};
+ghost use Rattle.std.specs.Prelude.{◌≡◌, true, string_bytes, map, option_map, IfOk, OnOk};
 ghost use Rattle.serde_json.specs.Data as json;
-ghost use Rattle.serde_json.specs.Data.{no_members, put, object, number, unsigned};
+ghost use Rattle.serde_json.specs.Data.{no_members, object, put};
 ghost use Rattle.serde_json.specs.View.{view as data_of, items_view, members_view};
-ghost use Rattle.bson_base.specs.Decimal.{minus_if as minus_of};
+ghost use Rattle.bson_base.specs.Decimal.{decimal_text};
 ghost use Rattle.bson_base.specs.Scalars.{id_bytes, millis_of, decimal_bytes};
 ghost use Rattle.bson_base.specs.Tags.{subtype_byte};
-ghost use Rattle.bson_base.specs.Decimal.{decimal_text};
 ghost use Rattle.bson_model.specs.Dates.{date_text as date_text_of};
 ghost use Rattle.bson_model.specs.JsonKeys as keys;
-ghost use Rattle.bson_model.specs.JsonWrite.{Writes, both as both_of, double_text as double_text_of, date_body as body_of, is_relaxed_date as is_relaxed, write_millis as millis_body, with_scope as with_scope_of, write, write_binary as binary_of, write_date as date_of, write_double as double_of, write_id as id_of, write_integer, write_items as items_of, write_members as members_written, write_pointer as pointer_of, write_regex as regex_of, write_timestamp as timestamp_of};
+ghost use Rattle.bson_model.specs.JsonWrite.{Writes, date_body as body_of, double_text as double_text_of, is_relaxed_date as is_relaxed, with_scope as with_scope_of, wrapped_text as wrapped_text_of, write, write_binary as binary_of, write_date as date_of, write_double as double_of, write_id as id_of, write_integer, write_items as items_of, write_members as members_written, write_millis as millis_of_date, write_pointer as pointer_of, write_regex as regex_of, write_timestamp as timestamp_of};
 ghost use Rattle.bson_model.specs.View.{view, pairs_of, items_of as trees_of, members_of};
 
 use super::de::Error;
@@ -183,7 +182,7 @@ fn write_id(alloc: Global, id: ObjectId) -> Result<Value, AllocError>
 }
 
 fn write_decimal(alloc: Global, decimal: Decimal128) -> Result<Value, AllocError>
-    ensures { IfOk result (λ v. data_of v ≡ object (json.member (keys.key_of keys.of_decimal) (json.string (decimal_text (decimal_bytes decimal))) no_members)) }
+    ensures { IfOk result (λ v. data_of v ≡ wrapped_text_of keys.of_decimal (decimal_text (decimal_bytes decimal))) }
 {
     wrapped_text(alloc, "$numberDecimal", decimal.to_string(alloc)?)
 }
@@ -229,7 +228,7 @@ fn write_pointer(alloc: Global, pointer: DbPointer) -> Result<Value, AllocError>
 }
 
 fn write_millis(alloc: Global, millis: i64) -> Result<Value, AllocError>
-    ensures { IfOk result (λ v. data_of v ≡ millis_body millis) }
+    ensures { IfOk result (λ v. data_of v ≡ millis_of_date millis) }
 {
     wrapped_text(alloc, "$numberLong", millis.to_string(alloc)?)
 }
@@ -267,3 +266,6 @@ fn write_date(alloc: Global, moment: DateTime, mode: Mode) -> Result<Value, Allo
     let body = date_body(alloc, moment, mode)?;
     wrapped(alloc, "$date", body)
 }
+
+#[cfg(test)]
+mod tests;

@@ -1,7 +1,7 @@
-use Rattle.std.proofs.Common.{◌≡◌, ◌∙◌, ◌+◌, ◌++◌, ◌∷◌, [], List, ℕ, OnOk, IfErr, ap, sym, refl, subst, arith, rules, length, length-append, append_assoc, map, drop, string_bytes}
+use Rattle.std.proofs.Common.{◌≡◌, ◌∙◌, ◌+◌, ◌++◌, ◌∷◌, [], List, ℕ, ap, sym, refl, arith, rules, length, length-append, map, drop, string_bytes}
 use Rattle.std.proofs.lemmas.Result.{err_from_is_err_and}
 use Rattle.bson_base.specs.Value.{array}
-use Rattle.bson_bytes.specs.Encode.{members_bytes, items_bytes, text_bytes, framed, value_bytes, value_size}
+use Rattle.bson_bytes.specs.Encode.{members_bytes, items_bytes, text_bytes, value_bytes, value_size}
 use Rattle.bson_bytes.proofs.Lengths.{members_length, items_length, text_length, framed_length}
 use Rattle.bson_bytes.proofs.Written.{room, written_in, framed_ok, scoped_in, scoped_ok, short_ok, long_refused, begun_kept, no_items_left, next_item, item_refused, item_written}
 use Rattle.bson_model.specs.Rest.{iter_rest}
@@ -9,8 +9,8 @@ use Rattle.bson_model.specs.Trees.{document_tree, scoped_code_tree}
 use Rattle.bson_model.specs.View.{view, pairs_of, items_of, members_of}
 use Rattle.bson_bytes.proofs.write.+write.Goals as goal
 
-pub put_document-returns : goal.put_document-returns
-put_document-returns t c =
+pub write_document-returns : goal.write_document-returns
+write_document-returns t c =
     let old = c.args.out.now.items in
     let start : c.len-start.result ≡ length old = search rules in
     let tree = document_tree c.args.document.now in
@@ -28,8 +28,8 @@ put_document-returns t c =
       kept = begun_kept c.put_length.result old c.write_bytes-2.new.out.items c.put_length.new.out.items (room ++ after) whole c.put_length.ensures.kept;
     }
 
-pub put_items-returns : goal.put_items-returns
-put_items-returns t c =
+pub write_items-returns : goal.write_items-returns
+write_items-returns t c =
     let old = c.args.out.now.items in
     let start : c.len-start.result ≡ length old = search rules in
     let items = items_of (map view c.args.items.now) in
@@ -47,8 +47,8 @@ put_items-returns t c =
       kept = begun_kept c.put_length.result old c.write_bytes-2.new.out.items c.put_length.new.out.items (room ++ after) whole c.put_length.ensures.kept;
     }
 
-pub put_scoped-returns : goal.put_scoped-returns
-put_scoped-returns t c =
+pub write_scoped-returns : goal.write_scoped-returns
+write_scoped-returns t c =
     let old = c.args.out.now.items in
     let start : c.len-start.result ≡ length old = search rules in
     let tree = scoped_code_tree c.args.code.now in
@@ -56,17 +56,17 @@ put_scoped-returns t c =
     let scope = value_bytes (document_tree c.args.code.now.scope) in
     let after : List ℕ = text_bytes text ++ scope in
     let begun = c.write_bytes.new.out.items in
-    let whole : c.put_document.new.out.items ≡ old ++ (room ++ after) = scoped_in old begun c.write_text.new.out.items c.put_document.new.out.items text scope c.in_ok-write_bytes.ensures.ok (search (rules, c.in_ok-write_text.ensures.ok)) c.in_ok-put_document.ensures.ok in
+    let whole : c.write_document.new.out.items ≡ old ++ (room ++ after) = scoped_in old begun c.write_text.new.out.items c.write_document.new.out.items text scope c.in_ok-write_bytes.ensures.ok (search (rules, c.in_ok-write_text.ensures.ok)) c.in_ok-write_document.ensures.ok in
     let long : value_size tree ≡ length after + 4 = omega (arith, members_length (members_of (pairs_of c.args.code.now.scope)), length-append {A = ℕ} (text_bytes text) scope, text_length text, framed_length (members_bytes (members_of (pairs_of c.args.code.now.scope)))) in
     record {
       ok = scoped_ok c.put_length.result old c.put_length.new.out.items text scope (c.put_length.ensures.ok old room after whole (search rules) refl);
-      fits = short_ok c.put_length.result tree old c.put_document.new.out.items after c.len-start.result start whole long (tt, c.in_ok-put_document.ensures.fits.0) c.put_length.ensures.short;
-      refused = long_refused c.put_length.result tree old c.put_document.new.out.items after c.len-start.result start whole long c.put_length.ensures.refused;
-      kept = begun_kept c.put_length.result old c.put_document.new.out.items c.put_length.new.out.items (room ++ after) whole c.put_length.ensures.kept;
+      fits = short_ok c.put_length.result tree old c.write_document.new.out.items after c.len-start.result start whole long (tt, c.in_ok-write_document.ensures.fits.0) c.put_length.ensures.short;
+      refused = long_refused c.put_length.result tree old c.write_document.new.out.items after c.len-start.result start whole long c.put_length.ensures.refused;
+      kept = begun_kept c.put_length.result old c.write_document.new.out.items c.put_length.new.out.items (room ++ after) whole c.put_length.ensures.kept;
     }
 
-pub put_items-returns-in_err-put_value-clause-refused : goal.put_items-returns-in_err-put_value-clause-refused
-put_items-returns-in_err-put_value-clause-refused t c =
+pub write_items-returns-in_err-put_value-clause-refused : goal.write_items-returns-in_err-put_value-clause-refused
+write_items-returns-in_err-put_value-clause-refused t c =
     let xs = c.args.items.now in
     let i = c.loop-i.i in
     let b = c.index-items-i.result in
@@ -74,8 +74,8 @@ put_items-returns-in_err-put_value-clause-refused t c =
     let p = err_from_is_err_and c.from_residual-in_err-put_value.result c.from_residual-in_err-put_value.ensures.1 in
     rw (p.1, p.2) (item_refused (items_of (map view xs)) (items_of (map view (drop (i + 1) xs))) i (view b) c.write_bytes.new.out.items c.loop-i.out.items _ to c.in_err-put_value.ensures.refused)
 
-pub put_items-loop-i-preserved : goal.put_items-loop-i-preserved
-put_items-loop-i-preserved t c =
+pub write_items-loop-i-preserved : goal.write_items-loop-i-preserved
+write_items-loop-i-preserved t c =
     let xs = c.args.items.now in
     let i = c.loop-i.i in
     let b = c.index-items-i.result in

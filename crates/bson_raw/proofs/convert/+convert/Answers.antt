@@ -148,8 +148,8 @@ document_of-loop-rest-preserved t c =
     let v = c.in_ok-value.ensures (c.payload_by_itself.ensures c.loop-rest.rest.now e after c.in_ok-frame.ensures) in
     let ps = pairs_of c.loop-rest.document in
     let tree = view c.in_ok-value.value in
-    members_more c.args.elements.now c.loop-rest.rest.now (members_of ps) (members_of (pairs_of c.insert.new.self)) e after v.0 c.loop-rest.invariant c.in_ok-frame.ensures v.1 v.2
-    (ap members_of c.in_ok-insert.ensures.ok ∙ members_of_put (string_bytes c.in_ok-key.key) tree ps ∙ ap (λ k. put k tree (members_of ps)) c.in_ok-key.ensures.ok ∙ ap (λ u. put c.in_ok-frame.frame.key.now u (members_of ps)) v.3)
+    members_more c.args.elements.now c.loop-rest.rest.now (members_of ps) (members_of (pairs_of c.put_pair.new.document)) e after v.0 c.loop-rest.invariant c.in_ok-frame.ensures v.1 v.2
+    (ap members_of c.in_ok-put_pair.ensures ∙ members_of_put c.in_ok-frame.frame.key.now tree ps ∙ ap (λ u. put c.in_ok-frame.frame.key.now u (members_of ps)) v.3)
 
 pub document_of-returns : goal.document_of-returns
 document_of-returns t c = members_done c.args.elements.now c.loop-rest.rest.now (members_of (pairs_of c.loop-rest.document)) c.loop-rest.invariant (c.is_end.ensures.0 (search rules))

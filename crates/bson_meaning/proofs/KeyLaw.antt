@@ -1,0 +1,149 @@
+-- Keys are equal exactly for documents of the same meaning, and sameness is an equivalence.
+use Rattle.std.proofs.Common.{◌≡◌, ◌↔◌, ℕ, ◌+◌, ◌^◌, ◌<◌, ◌≤◌, List, [], ◌++◌, length, refl, ap, ◌∙◌, sym, subst, arith, Bool, true, false, leb}
+use Rattle.std.proofs.lemmas.Bool.{leb-true, leb-false}
+use Rattle.std.specs.Prelude.{IsUtf8}
+use Rattle.std.specs.declared.cmp.Ordering.TheVariants.{Less, Equal, Greater}
+use Rattle.std.specs.Ordering.{nat_cmp, match_ordering}
+use Rattle.std.specs.Cmp.Lexicographic.{slice_cmp}
+use Rattle.bson_base.specs.Kinds.{HasNo00, IsPlainScalar, IsCleanScalar, IsRangedScalar, IsSound, IsPlain, IsClean}
+use Rattle.bson_base.specs.Value.{Scalar, Value, scalar, array, document, scoped_code, Items, no_items, item, Members, no_members, member, look_up, EachPart, EachMember, HasDistinctKeys, ItemsHaveDistinctKeys, MembersHaveDistinctKeys}
+use Rattle.bson_bytes.specs.Encode.{members_size, encode, size}
+use Rattle.bson_bytes.specs.Writing.{CanBeWritten}
+use Rattle.bson_bytes.proofs.Lengths.{encode_length}
+use Rattle.bson_bytes.proofs.Told.{bytes_tell}
+use Rattle.bson_model.specs.Equal as equality
+use Rattle.bson_model.specs.Equal.{EqualItems, EqualUnder}
+use Rattle.bson_meaning.specs.Meaning.{normal_scalar, norm, norm_members, place, asc, asc_items, asc_members, key, Same, SameItems, SameUnder}
+use Rattle.bson_meaning.proofs.Ordered.{IsAscending, ascending_asc, none_above}
+use Rattle.bson_meaning.proofs.Canonical.{canonical_members, canonical_same, same_canonical, some_and_map}
+use Rattle.bson_meaning.proofs.Normal.{normal_scalar_ranged, normal_scalar_plain, normal_scalar_clean, norm_each, asc_each, both_each, norm_distinct, norm_distinct_members, asc_members_size, norm_members_size, norm_twice}
+
+-- ---- keys in order stand once
+
+abbrev ValuesDistinct : Members → Type 0
+ValuesDistinct no_members = Unit {0}
+ValuesDistinct (member k v ms) = HasDistinctKeys v × ValuesDistinct ms
+
+place_values : (k : List ℕ) (v : Value) (ms : Members) → HasDistinctKeys v → ValuesDistinct ms → ValuesDistinct (place k v ms)
+place_values k v no_members h i = (h, tt)
+place_values k v (member l w ms) h i =
+    elim (slice_cmp nat_cmp k l) as (λ o. ValuesDistinct (match_ordering o (member k v (member l w ms)) (member k v ms) (member l w (place k v ms)))) [
+      | Less ↦ (h, i)
+      | Equal ↦ (h, i.1)
+      | Greater ↦ (i.0, place_values k v ms h i.1)
+    ]
+
+ascending_distinct : (ms : Members) → IsAscending ms → ValuesDistinct ms → MembersHaveDistinctKeys ms
+ascending_distinct no_members a h = tt
+ascending_distinct (member k v ms) a h = (none_above k ms a.0, h.0, ascending_distinct ms a.1 h.1)
+
+mutual
+  pub asc_distinct : (v : Value) → HasDistinctKeys (asc v)
+  asc_distinct (scalar s) = tt
+  asc_distinct (array vs) = asc_distinct_items vs
+  asc_distinct (document ms) = ascending_distinct (asc_members ms) (ascending_asc ms) (asc_values ms)
+  asc_distinct (scoped_code t ms) = ascending_distinct (asc_members ms) (ascending_asc ms) (asc_values ms)
+
+  asc_distinct_items : (vs : Items) → ItemsHaveDistinctKeys (asc_items vs)
+  asc_distinct_items no_items = tt
+  asc_distinct_items (item v vs) = (asc_distinct v, asc_distinct_items vs)
+
+  asc_values : (ms : Members) → ValuesDistinct (asc_members ms)
+  asc_values no_members = tt
+  asc_values (member k v ms) = place_values k (asc v) (asc_members ms) (asc_distinct v) (asc_values ms)
+
+-- ---- what a key is written of
+
+abbrev IsKey : List ℕ → Type 0
+IsKey k = HasNo00 k × IsUtf8 k
+
+canonical_clean : (d : Members) → IsPlain (document d) → IsSound (document d) → IsClean (document (canonical_members d))
+canonical_clean d p s =
+    let both = both_each HasNo00 IsUtf8 IsPlainScalar IsRangedScalar (document d) p s.ranged in
+    let normal = norm_each IsKey HasNo00 (λ s. IsPlainScalar s × IsRangedScalar s) (λ s. IsPlainScalar s × IsCleanScalar s) (λ k h. h.0)
+    (λ s h. (normal_scalar_plain s h.1 h.0, normal_scalar_clean s h.1)) (document d) both in
+    asc_each HasNo00 (λ s. IsPlainScalar s × IsCleanScalar s) (document (norm_members d)) normal
+
+canonical_sound : (d : Members) → IsSound (document d) → IsSound (document (canonical_members d))
+canonical_sound d s = record {
+  ranged = asc_each IsUtf8 IsRangedScalar (document (norm_members d)) (norm_each IsUtf8 IsUtf8 IsRangedScalar IsRangedScalar (λ k h. h) normal_scalar_ranged (document d) s.ranged);
+  distinct = asc_distinct (document (norm_members d));
+}
+
+pub canonical_plain : (d : Members) → IsPlain (document d) → IsSound (document d) → IsPlain (document (canonical_members d))
+canonical_plain d p s =
+    let both = both_each HasNo00 IsUtf8 IsPlainScalar IsRangedScalar (document d) p s.ranged in
+    asc_each HasNo00 IsPlainScalar (document (norm_members d)) (norm_each IsKey HasNo00 (λ s. IsPlainScalar s × IsRangedScalar s) IsPlainScalar (λ k h. h.0) (λ s h. normal_scalar_plain s h.1 h.0) (document d) both)
+
+pub key_law : (d e : Members) → IsPlain (document d) → IsSound (document d) → IsPlain (document e) → IsSound (document e)
+    → length (key d) ≤ 2147483647 → length (key e) ≤ 2147483647 → (key d ≡ key e) ↔ Same (document d) (document e)
+key_law d e p s q t m n =
+    let a : size (canonical_members d) < 2 ^ 31 = omega (arith, encode_length (canonical_members d)) in
+    let b : size (canonical_members e) < 2 ^ 31 = omega (arith, encode_length (canonical_members e)) in (
+      λ k. same_canonical (document d) (document e) s.distinct (ap document (bytes_tell (canonical_members d) (canonical_members e) [] [] (canonical_clean d p s) (canonical_sound d s)
+          (canonical_clean e q t) (canonical_sound e t) a b (ap (λ x. x ++ []) k)).0),
+      λ h. let i : document (canonical_members d) ≡ document (canonical_members e) = canonical_same (document d) (document e) h in
+          let j : canonical_members d ≡ canonical_members e = cc in ap encode j,
+    )
+
+-- ---- an equivalence
+
+pub same_itself : (v : Value) → IsSound v → Same v v
+same_itself v s = same_canonical v v s.distinct refl
+
+pub same_back : (v w : Value) → IsSound w → Same v w → Same w v
+same_back v w t h = same_canonical w v t.distinct (sym (canonical_same v w h))
+
+pub same_on : (u v w : Value) → IsSound u → Same u v → Same v w → Same u w
+same_on u v w r h k = same_canonical u w r.distinct (canonical_same u v h ∙ canonical_same v w k)
+
+pub twice : (v : Value) → IsSound v → norm (norm v) ≡ norm v
+twice v s = norm_twice IsUtf8 v s.ranged
+
+pub same_norm : (v : Value) → IsSound v → Same (norm v) v
+same_norm v s = same_canonical (norm v) v (norm_distinct v s.distinct) (ap asc (twice v s))
+
+-- ---- sizes
+
+abbrev IsWhole : Scalar → Type 0
+IsWhole s = (IsPlainScalar s × IsCleanScalar s) × IsRangedScalar s
+
+pub key_size : (d : Members) → IsClean (document d) → IsSound (document d) → size (asc_members (norm_members d)) ≡ size d
+key_size d c s =
+    let whole : EachMember IsKey IsWhole d = both_each HasNo00 IsUtf8 (λ s. IsPlainScalar s × IsCleanScalar s) IsRangedScalar (document d) c s.ranged in
+    ap (λ n. n + 5) (asc_members_size (norm_members d) (norm_distinct_members d s.distinct) ∙ norm_members_size IsKey d whole)
+
+-- ---- equal values
+
+mutual
+  pub equal_same : (v w : Value) → equality.Equal v w → Same v w
+  equal_same (scalar s) (scalar t) h = ap normal_scalar h
+  equal_same (array vs) (array ws) h = equal_items vs ws h
+  equal_same (document ms) (document ns) h = (h.0, equal_under ms ns h.1)
+  equal_same (scoped_code t ms) (scoped_code u ns) h = (h.0, h.1, equal_under ms ns h.2)
+  equal_same _ _ h = absurd h
+
+  equal_items : (vs ws : Items) → EqualItems vs ws → SameItems vs ws
+  equal_items no_items no_items h = tt
+  equal_items (item v vs) (item w ws) h = (equal_same v w h.0, equal_items vs ws h.1)
+  equal_items _ _ h = absurd h
+
+  equal_under : (ms ns : Members) → EqualUnder ms ns → SameUnder ms ns
+  equal_under no_members ns h = tt
+  equal_under (member k v ms) ns h = (some_and_map (look_up k ns) _ _ (equal_same v) h.0, equal_under ms ns h.1)
+
+-- ---- keys that can be written
+
+pub key_fits : (d m : Members) → m ≡ canonical_members d → CanBeWritten (document m) → length (key d) ≤ 2147483647
+key_fits d m e h =
+    let n : size (canonical_members d) < 2 ^ 31 = subst (λ x. size x < 2 ^ 31) e h.1 in
+    omega (arith, encode_length (canonical_members d), n)
+
+pub key_long : (d m : Members) → m ≡ canonical_members d → IsPlain (document d) → IsSound (document d) → (CanBeWritten (document m) → ⊥) → 2147483647 < length (key d)
+key_long d m e p s h = by (leb (length (key d)) 2147483647) refl
+  where
+    by : (b : Bool) → leb (length (key d)) 2147483647 ≡ b → 2147483647 < length (key d)
+    by true f =
+        let n : size (canonical_members d) < 2 ^ 31 = omega (arith, encode_length (canonical_members d), leb-true (length (key d)) 2147483647 f) in
+        absurd (h (subst (λ x. CanBeWritten (document x)) (sym e) (canonical_plain d p s, n)))
+    by false f = omega (arith, leb-false (length (key d)) 2147483647 f)

@@ -1,0 +1,28 @@
+use Rattle.std.proofs.Common.{◌≡◌, map, [], ap, sym, ◌∙◌, string_bytes, subst}
+use Rattle.std.proofs.lemmas.Result.{IfOk-weaker}
+use Rattle.std.specs.Vec.Iter.{into_iter_items}
+use Rattle.bson_base.specs.Value.{scoped_code}
+use Rattle.bson_model.specs.View.{view, pairs_of, items_of, members_of}
+use Rattle.bson_model.proofs.ViewLemmas.{view-WithScope}
+use Rattle.bson_meaning.specs.Meaning.{norm}
+use Rattle.bson_meaning.proofs.Putting.{KeysOnce, keys_once, once_changed, put_all_once, normal_members, normal_items, finished, no_more}
+use Rattle.bson_meaning.proofs.forms.+normal.Goals as goal
+
+pub normal_document-returns : goal.normal_document-returns
+normal_document-returns t c =
+    let ps = pairs_of c.args.document in
+    let items = c.in_ok-pairs.pairs.items in
+    let once = subst KeysOnce (sym c.in_ok-pairs.ensures) (once_changed norm ps (keys_once ps c.requires)) in
+    IfOk-weaker c.from_pairs.result _ _ (λ d e. ap members_of (e ∙ put_all_once items [] once ∙ c.in_ok-pairs.ensures) ∙ normal_members ps) c.from_pairs.ensures
+
+pub normal_items-returns : goal.normal_items-returns
+normal_items-returns t c =
+    let all = c.args.items.items in
+    ap items_of (finished (λ b. norm (view b)) (map view c.loop-item.normal.items) (into_iter_items c.loop-item.item-iterator) all c.loop-item.invariant.0 (no_more (into_iter_items c.loop-item.item-iterator) (c.loop-item.invariant.1 ∙ c.in-None.ensures.steps.0))) ∙ normal_items all
+
+pub normal_value-returns-in_ok-scope-in-JavaScriptCodeWithScope : goal.normal_value-returns-in_ok-scope-in-JavaScriptCodeWithScope
+normal_value-returns-in_ok-scope-in-JavaScriptCodeWithScope t c =
+    let old = c.in-JavaScriptCodeWithScope.code in
+    let scope = c.in_ok-scope-in-JavaScriptCodeWithScope in
+    view-WithScope (record { code = old.code; scope = scope.scope }) ∙ ap (scoped_code (string_bytes old.code)) scope.ensures
+    ∙ ap norm (sym (view-WithScope old)) ∙ ap (λ v. norm (view v)) (sym c.in-JavaScriptCodeWithScope.is)

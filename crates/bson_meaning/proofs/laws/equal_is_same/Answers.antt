@@ -1,0 +1,5 @@
+use Rattle.bson_meaning.proofs.KeyLaw.{equal_same}
+use Rattle.bson_meaning.proofs.laws.equal_is_same.Goals as goal
+
+pub returns : goal.returns
+returns c = equal_same

@@ -1,0 +1,92 @@
+//! Keys of meaning.
+
+ghost use Rattle.std.specs.Prelude.{◌≡◌, ◌≢◌, ◌↔◌, ◌<◌, ◌≤◌, Err, length, IfOk, OnOk};
+ghost use Rattle.bson_base.specs.Kinds.{IsPlain, IsSound};
+ghost use Rattle.bson_base.specs.Value.{document as tree, Members};
+ghost use Rattle.bson_bytes.specs.Encode.{encode};
+ghost use Rattle.bson_bytes.specs.Writing.{CanBeWritten};
+ghost use Rattle.bson_model.specs.Trees.{document_tree};
+ghost use Rattle.bson_model.specs.View.{pairs_of, members_of};
+ghost use Rattle.bson_meaning.specs.Meaning.{key as key_of, norm_members, asc_members, Same};
+
+use crate::forms::normal_document;
+use crate::plain::has_plain_members;
+use crate::sorting::sorted_document;
+use bson_bytes::encode_document;
+use bson_frame::ErrorKind;
+use bson_model::Document;
+use bson_model::laws::distinct_keys_of_document;
+use std::alloc::{AllocError, Global};
+use thiserror::Error;
+
+/// Why a document has no key.
+#[derive(Clone, Copy, Debug, PartialEq, Eq, Error)]
+pub enum KeyError {
+    /// A 00 stands in a key, a pattern or options.
+    #[error("a zero byte in a key, a pattern or options")]
+    NotPlain,
+    /// The key would be over 2147483647 bytes.
+    #[error("the key is too long")]
+    TooLong,
+    /// A growth was refused.
+    #[error("out of memory")]
+    Memory,
+}
+
+impl From<AllocError> for KeyError {
+    ghost use Rattle.bson_meaning.specs.declared.key.KeyError.TheVariants.{Memory};
+
+    ghost from_gives = { λ _ e. e ≡ Memory };
+
+    fn from(_error: AllocError) -> KeyError {
+        KeyError::Memory
+    }
+}
+
+/// The bytes of the document's normal form with its keys in order. Two documents have the same key exactly where they mean the
+/// same, as long as neither is refused.
+pub fn meaning_key(alloc: Global, document: &Document) -> Result<Vec<u8>, KeyError>
+    ensures bytes { IfOk result (λ k. k.items ≡ key_of (members_of (pairs_of document.now))) }
+    ensures fits { OnOk result (length (key_of (members_of (pairs_of document.now))) ≤ 2147483647) }
+
+    // The order of refusals: a 00 comes before the length.
+    ensures not_plain { (result ≡ Err KeyError.NotPlain) ↔ (IsPlain (tree (members_of (pairs_of document.now))) → ⊥) }
+    ensures too_long { result ≡ Err KeyError.TooLong → IsSound (tree (members_of (pairs_of document.now)))
+        → 2147483647 < length (key_of (members_of (pairs_of document.now))) }
+
+    // What keys are for, for every other document.
+    ensures tells { (e : Members) → IsSound (tree (members_of (pairs_of document.now))) → IsPlain (tree e) → IsSound (tree e) → length (key_of e) ≤ 2147483647
+        → OnOk result ((key_of (members_of (pairs_of document.now)) ≡ key_of e) ↔ Same (tree (members_of (pairs_of document.now))) (tree e)) }
+{
+    if !has_plain_members(document) {
+        return Err(KeyError::NotPlain);
+    }
+    let canonical = canonical(alloc, document)?;
+    written(alloc, &canonical)
+}
+
+/// The normal form with its keys in order.
+fn canonical(alloc: Global, document: &Document) -> Result<Document, AllocError>
+    ensures { IfOk result (λ d. members_of (pairs_of d) ≡ asc_members (norm_members (members_of (pairs_of document.now)))) }
+{
+    distinct_keys_of_document(document);
+    let copy = document.try_clone()?;
+    let normal = normal_document(alloc, copy)?;
+    sorted_document(alloc, normal)
+}
+
+/// The bytes of a document without a 00 in a key, a pattern or options.
+fn written(alloc: Global, document: &Document) -> Result<Vec<u8>, KeyError>
+    ensures bytes { IfOk result (λ k. k.items ≡ encode (members_of (pairs_of document.now))) }
+    ensures fits { OnOk result (CanBeWritten (document_tree document.now)) }
+    ensures never_not_plain { result ≢ Err KeyError.NotPlain }
+    ensures too_long { result ≡ Err KeyError.TooLong → CanBeWritten (document_tree document.now) → ⊥ }
+{
+    match encode_document(alloc, document) {
+        Ok(bytes) => Ok(bytes),
+        Err(error) => match error.kind {
+            ErrorKind::OutOfMemory => Err(KeyError::Memory),
+            _ => Err(KeyError::TooLong),
+        },
+    }
+}

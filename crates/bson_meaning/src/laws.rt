@@ -1,0 +1,39 @@
+//! Laws of meaning. Each function does nothing, and its contract is the law. It is said of sound values: their numbers and
+//! texts are those of their kinds, and no key stands twice.
+
+ghost use Rattle.std.specs.Prelude.{◌≡◌, ◌↔◌, ◌≤◌, List, ℕ, length};
+ghost use Rattle.bson_base.specs.Kinds.{IsClean, IsPlain, IsSound};
+ghost use Rattle.bson_base.specs.Value.{document, Members, Value};
+ghost use Rattle.bson_bytes.specs.Encode.{size};
+ghost use Rattle.bson_model.specs.Equal.{Equal};
+ghost use Rattle.bson_meaning.specs.Meaning.{norm, norm_members, asc_members, key, Same};
+
+/// Meaning the same is an equivalence.
+pub fn same_is_an_equivalence()
+    ensures itself { (v : Value) → IsSound v → Same v v }
+    ensures back { (v w : Value) → IsSound w → Same v w → Same w v }
+    ensures on { (u v w : Value) → IsSound u → Same u v → Same v w → Same u w }
+{}
+
+/// Equal values mean the same.
+pub fn equal_is_same()
+    ensures { (v w : Value) → Equal v w → Same v w }
+{}
+
+/// The normal form of a normal form is itself, and a value means the same as its normal form.
+pub fn normal_forms()
+    ensures twice { (v : Value) → IsSound v → norm (norm v) ≡ norm v }
+    ensures same { (v : Value) → IsSound v → Same (norm v) v }
+{}
+
+/// Keys are equal exactly for documents of the same meaning.
+pub fn keys_tell()
+    ensures { (d e : Members) → IsPlain (document d) → IsSound (document d) → IsPlain (document e) → IsSound (document e)
+        → length (key d) ≤ 2147483647 → length (key e) ≤ 2147483647 → (key d ≡ key e) ↔ Same (document d) (document e) }
+{}
+
+/// The key of a clean document has as many bytes as the document.
+pub fn keys_keep_sizes()
+    ensures bytes { (d : Members) → IsClean (document d) → IsSound (document d) → length (key d) ≡ size d }
+    ensures trees { (d : Members) → IsClean (document d) → IsSound (document d) → size (asc_members (norm_members d)) ≡ size d }
+{}

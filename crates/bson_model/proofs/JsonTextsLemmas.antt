@@ -1,0 +1,120 @@
+-- Whole numbers: `parse` of std reads what `integer_of` does.
+use Rattle.std.proofs.Common.{◌≡◌, ℕ, zero, suc, ◌+◌, ◌*◌, ◌<◌, ◌^◌, ◌&&◌, ◌==◌, nat_lt, Bool, true, false, cond, if◌then◌else◌, List, [], ◌∷◌, length, ℤ, pos, negsuc, neg_ℤ, int_le, Option, Some, None, Result, Ok, Err, OkIff, FitsSigned, refl, sym, ap, ◌∙◌, arith, eq-eqb}
+use Rattle.std.specs.Int.{w32, w64}
+use Rattle.std.specs.Char.{is_ascii_digit, digit_value}
+use Rattle.std.specs.Str.Parse.{AllDigits, IsNumeral, ParsesSigned, digits_value, digits_value_after, starts_with_minus, without_leading_sign, signed_digits_value}
+use Rattle.bson_base.specs.Decimal.{all_digits, value, value_after}
+use Rattle.bson_base.proofs.PrintedReads.{both}
+use Rattle.bson_model.specs.JsonTexts.{signed, is_digits, with_sign, integer_of, fits_32, fits_64, only, int_of, long_of}
+use Rattle.bson_model.specs.JsonRead.{wanted}
+use Rattle.bson_model.specs.declared.extjson.de.Error.{Error}
+use Rattle.bson_model.specs.declared.extjson.de.Error.TheVariants.{DeserializationError}
+
+-- ---- digits
+
+digit_below : (c : ℕ) → is_ascii_digit c ≡ true → digit_value c < 10
+digit_below c h = grind arith
+
+digit_is : (c : ℕ) → digit_value c < 10 → is_ascii_digit c ≡ true
+digit_is c h = grind arith
+
+pub all_below : (ds : List ℕ) → all_digits ds ≡ true → AllDigits 10 ds
+all_below [] h = tt
+all_below (c ∷ cs) h = let k = both (is_ascii_digit c) (all_digits cs) h in (digit_below c k.0, all_below cs k.1)
+
+pub all_are : (ds : List ℕ) → AllDigits 10 ds → all_digits ds ≡ true
+all_are [] h = refl
+all_are (c ∷ cs) h = rw (digit_is c h.0) (all_are cs h.1)
+
+pub value_is : (n : ℕ) (ds : List ℕ) → value_after n ds ≡ digits_value_after 10 n ds
+value_is n [] = refl
+value_is n (c ∷ cs) = value_is (n * 10 + digit_value c) cs
+
+numeral : (ds : List ℕ) → is_digits ds ≡ true → IsNumeral 10 ds
+numeral ds h = let k = both (nat_lt 0 (length ds)) (all_digits ds) h in (grind (arith, k.0), all_below ds k.1)
+
+is_numeral : (ds : List ℕ) → IsNumeral 10 ds → is_digits ds ≡ true
+is_numeral ds h = let k : nat_lt 0 (length ds) ≡ true = grind (arith, h.0) in rw k (all_are ds h.1)
+
+-- ---- the sign
+
+by_sign : (c : ℕ) (cs : List ℕ) (p m : Bool) → (c == 43) ≡ p → (c == 45) ≡ m → signed (c ∷ cs) ≡ (starts_with_minus (c ∷ cs), without_leading_sign (c ∷ cs))
+by_sign c cs true true e f = absurd (grind arith)
+by_sign c cs true false e f = rw (e, f) refl
+by_sign c cs false true e f = rw (e, f) refl
+by_sign c cs false false e f = rw (e, f) refl
+
+signed_is : (t : List ℕ) → signed t ≡ (starts_with_minus t, without_leading_sign t)
+signed_is [] = refl
+signed_is (c ∷ cs) = by_sign c cs (c == 43) (c == 45) refl refl
+
+number_is : (t : List ℕ) → with_sign (signed t) ≡ signed_digits_value 10 t
+number_is t = rw (signed_is t, value_is 0 (without_leading_sign t)) refl
+
+integer_some : (t : List ℕ) → IsNumeral 10 (without_leading_sign t) → integer_of t ≡ Some (signed_digits_value 10 t)
+integer_some t h =
+    let digits : is_digits (signed t).1 ≡ true = ap (λ s. is_digits s.1) (signed_is t) ∙ is_numeral (without_leading_sign t) h in
+    rw digits (ap Some (number_is t))
+
+integer_none : (t : List ℕ) → (IsNumeral 10 (without_leading_sign t) → ⊥) → integer_of t ≡ None
+integer_none t h = by (is_digits (signed t).1) refl
+  where
+    by : (b : Bool) → is_digits (signed t).1 ≡ b → integer_of t ≡ None
+    by true e = absurd (h (numeral (without_leading_sign t) (sym (ap (λ s. is_digits s.1) (signed_is t)) ∙ e)))
+    by false e = rw e refl
+
+-- ---- ranges
+
+fits_32_so : (z : ℤ) → FitsSigned w32 z → fits_32 z ≡ true
+fits_32_so (pos n) h = let k : n < 2 ^ 31 = h.sfits in grind arith
+fits_32_so (negsuc n) h = let k : n < 2 ^ 31 = h.sfits in grind arith
+
+so_fits_32 : (z : ℤ) → fits_32 z ≡ true → FitsSigned w32 z
+so_fits_32 (pos n) h = record { sfits = grind arith }
+so_fits_32 (negsuc n) h = record { sfits = grind arith }
+
+fits_64_so : (z : ℤ) → FitsSigned w64 z → fits_64 z ≡ true
+fits_64_so (pos n) h = let k : n < 2 ^ 63 = h.sfits in grind arith
+fits_64_so (negsuc n) h = let k : n < 2 ^ 63 = h.sfits in grind arith
+
+so_fits_64 : (z : ℤ) → fits_64 z ≡ true → FitsSigned w64 z
+so_fits_64 (pos n) h = record { sfits = grind arith }
+so_fits_64 (negsuc n) h = record { sfits = grind arith }
+
+-- ---- what `parse` reads
+
+module _ (F : ℤ → Type 0) (fits : ℤ → Bool) (so : (z : ℤ) → F z → fits z ≡ true) (back : (z : ℤ) → fits z ≡ true → F z) where
+  read_some : (t : List ℕ) (z : ℤ) → (IsNumeral 10 (without_leading_sign t) × F (signed_digits_value 10 t)) × (z ≡ signed_digits_value 10 t) → only fits (integer_of t) ≡ Some z
+  read_some t z h = rw (integer_some t h.0.0, so (signed_digits_value 10 t) h.0.1) (ap Some (sym h.1))
+
+  out_of_range : (t : List ℕ) → (F (signed_digits_value 10 t) → ⊥) → only fits (Some (signed_digits_value 10 t)) ≡ None
+  out_of_range t h = by (fits (signed_digits_value 10 t)) refl
+    where
+      by : (b : Bool) → fits (signed_digits_value 10 t) ≡ b → only fits (Some (signed_digits_value 10 t)) ≡ None
+      by true e = absurd (h (back (signed_digits_value 10 t) e))
+      by false e = rw e refl
+
+  read_none : (t : List ℕ) → (IsNumeral 10 (without_leading_sign t) × F (signed_digits_value 10 t) → ⊥) → only fits (integer_of t) ≡ None
+  read_none t h = by (is_digits (signed t).1) refl
+    where
+      by : (b : Bool) → is_digits (signed t).1 ≡ b → only fits (integer_of t) ≡ None
+      by true e =
+          let n = numeral (without_leading_sign t) (sym (ap (λ s. is_digits s.1) (signed_is t)) ∙ e) in
+          ap (only fits) (integer_some t n) ∙ out_of_range t (λ f. h (n, f))
+      by false e = rw e refl
+
+pub int_some : (t : List ℕ) (z : ℤ) → (IsNumeral 10 (without_leading_sign t) × FitsSigned w32 (signed_digits_value 10 t)) × (z ≡ signed_digits_value 10 t) → Ok z ≡ wanted (int_of t)
+unfolding int_of
+int_some t z h = ap wanted (sym (read_some (FitsSigned w32) fits_32 fits_32_so so_fits_32 t z h))
+
+pub int_none : (t : List ℕ) → (IsNumeral 10 (without_leading_sign t) × FitsSigned w32 (signed_digits_value 10 t) → ⊥) → Err DeserializationError ≡ wanted (int_of t)
+unfolding int_of
+int_none t h = ap wanted (sym (read_none (FitsSigned w32) fits_32 fits_32_so so_fits_32 t h))
+
+pub long_some : (t : List ℕ) (z : ℤ) → (IsNumeral 10 (without_leading_sign t) × FitsSigned w64 (signed_digits_value 10 t)) × (z ≡ signed_digits_value 10 t) → Ok z ≡ wanted (long_of t)
+unfolding long_of
+long_some t z h = ap wanted (sym (read_some (FitsSigned w64) fits_64 fits_64_so so_fits_64 t z h))
+
+pub long_none : (t : List ℕ) → (IsNumeral 10 (without_leading_sign t) × FitsSigned w64 (signed_digits_value 10 t) → ⊥) → Err DeserializationError ≡ wanted (long_of t)
+unfolding long_of
+long_none t h = ap wanted (sym (read_none (FitsSigned w64) fits_64 fits_64_so so_fits_64 t h))

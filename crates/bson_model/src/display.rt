@@ -1,0 +1,169 @@
+//! The texts of values, in the plain form. Width, fill and `#` change nothing.
+
+ghost use Rattle.std.specs.Prelude.{◌++◌, Some, true, codes, string_bytes, map};
+ghost use Rattle.std.specs.Fmt.{WritesOnOk};
+ghost use Rattle.bson_base.specs.Scalars.{id_bytes, millis_of};
+ghost use Rattle.bson_base.specs.Value.{db_pointer};
+ghost use Rattle.bson_model.specs.Dates.{shown_date};
+ghost use Rattle.bson_model.specs.Display.{call_of_text, mark_before, quoted, shown, shown_document, shown_double, shown_items, shown_members, shown_scalar};
+ghost use Rattle.bson_model.specs.View.{view, pairs_of, items_of, members_of};
+
+use crate::bson::{Bson, JavaScriptCodeWithScope};
+use crate::document::Document;
+use bson_base::{DateTime, DbPointer, DoubleBits};
+use std::{fmt, str};
+
+/// The value as text: `"text"`, `[a, b]`, `{ "k": v, "l": w }`, integers in decimal, a double as `0x` and the 16 digits of its
+/// pattern, the other kinds by their names.
+impl fmt::Display for Bson {
+    ghost output = { λ v. Some (shown (view v)) };
+
+    fn fmt<W: fmt::Write>(&self, f: &mut fmt::Formatter<W>) -> fmt::Result {
+        write_value(f, self)
+    }
+}
+
+/// `{ "k": v, "l": w }`, or `{}`.
+impl fmt::Display for Document {
+    ghost output = { λ d. Some (shown_document (members_of (pairs_of d))) };
+
+    fn fmt<W: fmt::Write>(&self, f: &mut fmt::Formatter<W>) -> fmt::Result {
+        write_document(f, self)
+    }
+}
+
+/// The text of the code, without the scope.
+impl fmt::Display for JavaScriptCodeWithScope {
+    ghost output = { λ c. Some (string_bytes c.code) };
+
+    fn fmt<W: fmt::Write>(&self, f: &mut fmt::Formatter<W>) -> fmt::Result {
+        f.write_str(&self.code)
+    }
+}
+
+#[cycle(show)]
+fn write_value<W: fmt::Write>(f: &mut fmt::Formatter<W>, value: &Bson) -> fmt::Result
+    ensures { WritesOnOk W.write_str_gives f.old result (shown (view value.now)) f.new }
+{
+    match value {
+        Bson::Double(double) => write_double(f, *double),
+        Bson::String(text) => write!(f, "\"{text}\""),
+        Bson::Array(items) => write_array(f, items),
+        Bson::Document(document) => write_document(f, document),
+        Bson::Boolean(truth) => write!(f, "{truth}"),
+        Bson::Null => f.write_str("null"),
+        Bson::RegularExpression(regex) => write!(f, "{regex}"),
+        Bson::JavaScriptCode(code) => f.write_str(code),
+        Bson::JavaScriptCodeWithScope(code) => f.write_str(&code.code),
+        Bson::Int32(number) => write!(f, "{number}"),
+        Bson::Int64(number) => write!(f, "{number}"),
+        Bson::Timestamp(timestamp) => write!(f, "{timestamp}"),
+        Bson::Binary(binary) => write!(f, "{binary}"),
+        Bson::ObjectId(id) => write!(f, "{id:?}"),
+        Bson::DateTime(moment) => write_moment(f, moment),
+        Bson::Symbol(text) => write!(f, "Symbol(\"{text}\")"),
+        Bson::Decimal128(decimal) => write!(f, "{decimal}"),
+        Bson::Undefined => f.write_str("undefined"),
+        Bson::MaxKey => f.write_str("MaxKey"),
+        Bson::MinKey => f.write_str("MinKey"),
+        Bson::DbPointer(pointer) => write_pointer(f, pointer),
+    }
+}
+
+#[cycle(show)]
+fn write_array<W: fmt::Write>(f: &mut fmt::Formatter<W>, items: &[Bson]) -> fmt::Result
+    ensures { WritesOnOk W.write_str_gives f.old result (codes "[" ++ shown_items true (items_of (map view items.now)) ++ codes "]") f.new }
+{
+    f.write_str("[")?;
+    write_items(f, items)?;
+    f.write_str("]")
+}
+
+#[cycle(show)]
+fn write_items<W: fmt::Write>(f: &mut fmt::Formatter<W>, items: &[Bson]) -> fmt::Result
+    ensures { WritesOnOk W.write_str_gives f.old result (shown_items true (items_of (map view items.now))) f.new }
+{
+    let mut first = true;
+    for item in items {
+        write_mark(f, first)?;
+        write_value(f, item)?;
+        first = false;
+    }
+    Ok(())
+}
+
+#[cycle(show)]
+fn write_document<W: fmt::Write>(f: &mut fmt::Formatter<W>, document: &Document) -> fmt::Result
+    ensures { WritesOnOk W.write_str_gives f.old result (shown_document (members_of (pairs_of document.now))) f.new }
+{
+    if document.is_empty() {
+        return f.write_str("{}");
+    }
+    f.write_str("{ ")?;
+    write_members(f, document)?;
+    f.write_str(" }")
+}
+
+#[cycle(show)]
+fn write_members<W: fmt::Write>(f: &mut fmt::Formatter<W>, document: &Document) -> fmt::Result
+    ensures { WritesOnOk W.write_str_gives f.old result (shown_members true (members_of (pairs_of document.now))) f.new }
+{
+    let mut first = true;
+    for (key, value) in document.pairs.iter() {
+        write_mark(f, first)?;
+        write_key(f, key)?;
+        write_value(f, value)?;
+        first = false;
+    }
+    Ok(())
+}
+
+fn write_mark<W: fmt::Write>(f: &mut fmt::Formatter<W>, first: bool) -> fmt::Result
+    ensures { WritesOnOk W.write_str_gives f.old result (mark_before first) f.new }
+{
+    f.write_str(if first { "" } else { ", " })
+}
+
+fn write_key<W: fmt::Write>(f: &mut fmt::Formatter<W>, key: &str) -> fmt::Result
+    ensures { WritesOnOk W.write_str_gives f.old result (quoted key.now ++ codes ": ") f.new }
+{
+    write!(f, "\"{key}\": ")
+}
+
+fn write_double<W: fmt::Write>(f: &mut fmt::Formatter<W>, double: DoubleBits) -> fmt::Result
+    ensures { WritesOnOk W.write_str_gives f.old result (shown_double double.0) f.new }
+{
+    let mut digits = [0u8; 16];
+    let Ok(()) = hex::encode_to_slice(&double.to_bits().to_be_bytes()[..], &mut digits) else {
+        return Err(fmt::Error);
+    };
+    match str::from_utf8(&digits) {
+        Ok(text) => write!(f, "0x{text}"),
+        Err(_) => Err(fmt::Error),
+    }
+}
+
+fn write_date<W: fmt::Write>(f: &mut fmt::Formatter<W>, moment: &DateTime) -> fmt::Result
+    ensures { WritesOnOk W.write_str_gives f.old result (shown_date (millis_of moment.now)) f.new }
+{
+    fmt::Display::fmt(moment, f)
+}
+
+fn write_moment<W: fmt::Write>(f: &mut fmt::Formatter<W>, moment: &DateTime) -> fmt::Result
+    ensures { WritesOnOk W.write_str_gives f.old result (call_of_text (codes "DateTime") (shown_date (millis_of moment.now))) f.new }
+{
+    f.write_str("DateTime(\"")?;
+    write_date(f, moment)?;
+    f.write_str("\")")
+}
+
+fn write_pointer<W: fmt::Write>(f: &mut fmt::Formatter<W>, pointer: &DbPointer) -> fmt::Result
+    ensures { WritesOnOk W.write_str_gives f.old result (shown_scalar (db_pointer (string_bytes pointer.now.namespace) (id_bytes pointer.now.id))) f.new }
+{
+    let namespace = pointer.namespace.as_str();
+    let id = pointer.id;
+    write!(f, "DbPointer({namespace}, {id})")
+}
+
+#[cfg(test)]
+mod tests;

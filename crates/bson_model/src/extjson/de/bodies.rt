@@ -1,0 +1,307 @@
+//! The bodies under reserved keys, but for the scope of a code.
+ghost use Rattle.std.specs.Prelude.{◌≡◌, if◌then◌else◌, string_bytes, Ok, Err};
+ghost use Rattle.serde_json.specs.Find.{as_i64};
+ghost use Rattle.serde_json.specs.View.{view as tree_of, number_view, members_view};
+ghost use Rattle.bson_base.specs.DateText.{date_of};
+ghost use Rattle.bson_base.specs.Scalars.{id_bytes, millis_of, decimal_bytes};
+ghost use Rattle.bson_base.specs.Value.{binary};
+ghost use Rattle.bson_model.specs.View.{view};
+ghost use Rattle.bson_model.specs.JsonKeys.{reserved_of};
+ghost use Rattle.bson_model.specs.JsonWrappers.{meant};
+ghost use Rattle.bson_model.specs.declared.extjson.de.Error.TheVariants.{DeserializationError};
+ghost use Rattle.bson_model.specs.JsonRead.{accepted, Gives, base64_body, binary_body, both as both_of, byte_body as byte_of, date_body, decimal_body, double_body as double_of, id_body, int_body as int_of, is_one as one_of, is_true as true_of, long_body as long_of, pair_of, pointer_body, read_body as body_read, read_wrapped as wrapped_of, regex_body, scalar_of, single, text_of as text_read, timestamp_body, u32_from, u32_of, under as under_of, uuid_body, wanted};
+
+use super::keys::{Wrapper, wrapper_of};
+use super::texts::{read_byte, read_double, read_int, read_long};
+use super::{Error, Result};
+use crate::bson::Bson;
+use bson_base::{
+    Binary, BinarySubtype, DateTime, DbPointer, Decimal128, DoubleBits, ObjectId, Regex, Timestamp,
+    Uuid, binary,
+};
+use serde_json::{Map, Number, Value};
+use std::alloc::Global;
+
+pub(super) fn text_of(value: Value) -> Result<String>
+    ensures { Gives (λ t. string_bytes t) result (text_read (tree_of value)) }
+{
+    match value {
+        Value::String(text) => Ok(text),
+        _ => Err(Error::DeserializationError),
+    }
+}
+
+// The body of an object with this key alone.
+fn single(members: Map<String, Value>, key: &str) -> Result<Value>
+    ensures { Gives (λ v. tree_of v) result (single key.now (members_view members.entries)) }
+{
+    let mut entries = members.into_iter();
+    let Some((first, value)) = entries.next() else {
+        return Err(Error::DeserializationError);
+    };
+    if entries.next().is_some() {
+        return Err(Error::DeserializationError);
+    }
+    if first.as_str() == key {
+        Ok(value)
+    } else {
+        Err(Error::DeserializationError)
+    }
+}
+
+fn under(value: Value, key: &str) -> Result<Value>
+    ensures { Gives (λ v. tree_of v) result (under_of key.now (tree_of value)) }
+{
+    match value {
+        Value::Object(members) => single(members, key),
+        _ => Err(Error::DeserializationError),
+    }
+}
+
+// The bodies of an object with these two keys alone, the first one below the second.
+fn pair(members: Map<String, Value>, first: &str, second: &str) -> Result<(Value, Value)>
+    ensures { Gives (λ p. (tree_of p.0, tree_of p.1)) result (pair_of first.now second.now (members_view members.entries)) }
+{
+    let mut entries = members.into_iter();
+    let Some((key, value)) = entries.next() else {
+        return Err(Error::DeserializationError);
+    };
+    let Some((other_key, other)) = entries.next() else {
+        return Err(Error::DeserializationError);
+    };
+    if entries.next().is_some() {
+        return Err(Error::DeserializationError);
+    }
+    if key.as_str() == first && other_key.as_str() == second {
+        Ok((value, other))
+    } else {
+        Err(Error::DeserializationError)
+    }
+}
+
+fn both(value: Value, first: &str, second: &str) -> Result<(Value, Value)>
+    ensures { Gives (λ p. (tree_of p.0, tree_of p.1)) result (both_of first.now second.now (tree_of value)) }
+{
+    match value {
+        Value::Object(members) => pair(members, first, second),
+        _ => Err(Error::DeserializationError),
+    }
+}
+
+fn object_id(value: Value) -> Result<ObjectId>
+    ensures { Gives (λ i. id_bytes i) result (id_body (tree_of value)) }
+{
+    let text = text_of(value)?;
+    Ok(ObjectId::parse_str(&text)?)
+}
+
+fn regex(alloc: Global, value: Value) -> Result<Regex>
+    ensures { Gives (λ r. (string_bytes r.pattern, string_bytes r.options)) result (regex_body (tree_of value)) }
+{
+    let (options, pattern) = both(value, "options", "pattern")?;
+    let options = text_of(options)?;
+    let pattern = text_of(pattern)?;
+    Ok(Regex::new(alloc, pattern, options)?)
+}
+
+fn int(value: Value) -> Result<i32>
+    ensures { Gives (λ z. z) result (int_of (tree_of value)) }
+{
+    let text = text_of(value)?;
+    read_int(&text)
+}
+
+fn long(value: Value) -> Result<i64>
+    ensures { Gives (λ z. z) result (long_of (tree_of value)) }
+{
+    let text = text_of(value)?;
+    read_long(&text)
+}
+
+fn double(value: Value) -> Result<u64>
+    ensures { Gives (λ n. n) result (double_of (tree_of value)) }
+{
+    let text = text_of(value)?;
+    read_double(&text)
+}
+
+fn decimal(value: Value) -> Result<Decimal128>
+    ensures { Gives (λ d. decimal_bytes d) result (decimal_body (tree_of value)) }
+{
+    let text = text_of(value)?;
+    match text.parse::<Decimal128>() {
+        Ok(decimal) => Ok(decimal),
+        Err(_) => Err(Error::DeserializationError),
+    }
+}
+
+fn byte(value: Value) -> Result<u8>
+    ensures { Gives (λ b. b) result (byte_of (tree_of value)) }
+{
+    let text = text_of(value)?;
+    read_byte(&text)
+}
+
+fn bytes(alloc: Global, value: Value, subtype: BinarySubtype) -> Result<Binary>
+    ensures { Gives (λ b. binary b.subtype b.bytes.items) result (base64_body subtype (tree_of value)) }
+{
+    let text = text_of(value)?;
+    match Binary::from_base64(alloc, &text, Some(subtype)) {
+        Ok(binary) => Ok(binary),
+        Err(binary::Error::Memory) => Err(Error::Memory),
+        Err(_) => Err(Error::DeserializationError),
+    }
+}
+
+fn binary_value(alloc: Global, value: Value) -> Result<Binary>
+    ensures { Gives (λ b. binary b.subtype b.bytes.items) result (binary_body (tree_of value)) }
+{
+    let (base64, subtype) = both(value, "base64", "subType")?;
+    let subtype = BinarySubtype::from(byte(subtype)?);
+    bytes(alloc, base64, subtype)
+}
+
+fn uuid(alloc: Global, value: Value) -> Result<Binary>
+    ensures { Gives (λ b. binary b.subtype b.bytes.items) result (uuid_body (tree_of value)) }
+{
+    let text = text_of(value)?;
+    match Uuid::parse_str(&text) {
+        Ok(uuid) => Ok(Binary::from_uuid(alloc, uuid)?),
+        Err(_) => Err(Error::DeserializationError),
+    }
+}
+
+fn u32_from(n: Number) -> Option<u32>
+    ensures { result ≡ u32_from (number_view n) }
+{
+    let n = n.as_u64()?;
+    if n <= u32::MAX as u64 {
+        Some(n as u32)
+    } else {
+        None
+    }
+}
+
+fn unsigned(value: Value) -> Result<u32>
+    ensures { Gives (λ n. n) result (u32_of (tree_of value)) }
+{
+    let Value::Number(n) = value else {
+        return Err(Error::DeserializationError);
+    };
+    match u32_from(n) {
+        Some(n) => Ok(n),
+        None => Err(Error::DeserializationError),
+    }
+}
+
+fn timestamp(value: Value) -> Result<Timestamp>
+    ensures { Gives (λ t. (t.time, t.increment)) result (timestamp_body (tree_of value)) }
+{
+    let (increment, time) = both(value, "i", "t")?;
+    let increment = unsigned(increment)?;
+    let time = unsigned(time)?;
+    Ok(Timestamp { time, increment })
+}
+
+fn date_of_text(text: &str) -> Result<DateTime>
+    ensures { Gives (λ d. millis_of d) result (accepted (date_of text.now)) }
+{
+    match DateTime::parse_rfc3339_str(text) {
+        Ok(date) => Ok(date),
+        Err(_) => Err(Error::DeserializationError),
+    }
+}
+
+fn date_of_number(n: Number) -> Result<DateTime>
+    ensures { Gives (λ d. millis_of d) result (wanted (as_i64 (number_view n))) }
+{
+    match n.as_i64() {
+        Some(millis) => Ok(DateTime::from_millis(millis)),
+        None => Err(Error::DeserializationError),
+    }
+}
+
+fn date(value: Value) -> Result<DateTime>
+    ensures { Gives (λ d. millis_of d) result (date_body (tree_of value)) }
+{
+    match value {
+        Value::String(text) => date_of_text(&text),
+        Value::Number(n) => date_of_number(n),
+        Value::Object(members) => {
+            let millis = long(single(members, "$numberLong")?)?;
+            Ok(DateTime::from_millis(millis))
+        }
+        _ => Err(Error::DeserializationError),
+    }
+}
+
+fn pointer(value: Value) -> Result<DbPointer>
+    ensures { Gives (λ p. (string_bytes p.namespace, id_bytes p.id)) result (pointer_body (tree_of value)) }
+{
+    let (id, namespace) = both(value, "$id", "$ref")?;
+    let id = object_id(under(id, "$oid")?)?;
+    let namespace = text_of(namespace)?;
+    Ok(DbPointer::new(namespace, id))
+}
+
+fn is_one(value: Value) -> bool
+    ensures { result ≡ one_of (tree_of value) }
+{
+    match value {
+        Value::Number(n) => n.as_u64() == Some(1),
+        _ => false,
+    }
+}
+
+fn is_true(value: Value) -> bool
+    ensures { result ≡ true_of (tree_of value) }
+{
+    match value {
+        Value::Bool(truth) => truth,
+        _ => false,
+    }
+}
+
+// The value of a key that stands for one value alone, where its body is right.
+fn constant(is_right: bool, constant: Bson) -> Result<Bson>
+    ensures { Gives view result (if is_right then Ok (view constant) else Err DeserializationError) }
+{
+    if is_right {
+        Ok(constant)
+    } else {
+        Err(Error::DeserializationError)
+    }
+}
+
+fn read_body(alloc: Global, wrapper: Wrapper, value: Value) -> Result<Bson>
+    ensures { Gives view result (scalar_of (body_read (meant wrapper) (tree_of value))) }
+{
+    match wrapper {
+        Wrapper::Oid => Ok(Bson::ObjectId(object_id(value)?)),
+        Wrapper::Symbol => Ok(Bson::Symbol(text_of(value)?)),
+        Wrapper::RegularExpression => Ok(Bson::RegularExpression(regex(alloc, value)?)),
+        Wrapper::NumberInt => Ok(Bson::Int32(int(value)?)),
+        Wrapper::NumberLong => Ok(Bson::Int64(long(value)?)),
+        Wrapper::NumberDouble => Ok(Bson::Double(DoubleBits::from_bits(double(value)?))),
+        Wrapper::NumberDecimal => Ok(Bson::Decimal128(decimal(value)?)),
+        Wrapper::Binary => Ok(Bson::Binary(binary_value(alloc, value)?)),
+        Wrapper::Uuid => Ok(Bson::Binary(uuid(alloc, value)?)),
+        Wrapper::Code => Ok(Bson::JavaScriptCode(text_of(value)?)),
+        Wrapper::Timestamp => Ok(Bson::Timestamp(timestamp(value)?)),
+        Wrapper::Date => Ok(Bson::DateTime(date(value)?)),
+        Wrapper::MinKey => constant(is_one(value), Bson::MinKey),
+        Wrapper::MaxKey => constant(is_one(value), Bson::MaxKey),
+        Wrapper::DbPointer => Ok(Bson::DbPointer(pointer(value)?)),
+        Wrapper::Undefined => constant(is_true(value), Bson::Undefined),
+    }
+}
+
+/// The value of a wrapper with one key.
+pub(super) fn read_wrapped(alloc: Global, key: &str, value: Value) -> Result<Bson>
+    ensures { Gives view result (wrapped_of (reserved_of key.now) (tree_of value)) }
+{
+    match wrapper_of(key) {
+        Some(wrapper) => read_body(alloc, wrapper, value),
+        None => Err(Error::DeserializationError),
+    }
+}

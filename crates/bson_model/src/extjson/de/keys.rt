@@ -1,0 +1,57 @@
+//! The keys that mark a typed value.
+ghost use Rattle.std.specs.Prelude.{◌≡◌};
+ghost use Rattle.std.specs.Option.{option_map};
+ghost use Rattle.bson_model.specs.JsonKeys.{reserved_of, is_reserved as reserves};
+ghost use Rattle.bson_model.specs.JsonWrappers.{meant};
+
+/// The kinds of typed values, by their keys.
+#[derive(Clone, Copy, Drop)]
+pub(super) enum Wrapper {
+    Oid,
+    Symbol,
+    RegularExpression,
+    NumberInt,
+    NumberLong,
+    NumberDouble,
+    NumberDecimal,
+    Binary,
+    Uuid,
+    Code,
+    Timestamp,
+    Date,
+    MinKey,
+    MaxKey,
+    DbPointer,
+    Undefined,
+}
+
+#[tactic(auto, unfolding(crate::specs::JsonKeys::reserved_of))]
+pub(super) fn wrapper_of(key: &str) -> Option<Wrapper>
+    ensures { option_map meant result ≡ reserved_of key.now }
+{
+    match key {
+        "$oid" => Some(Wrapper::Oid),
+        "$symbol" => Some(Wrapper::Symbol),
+        "$regularExpression" => Some(Wrapper::RegularExpression),
+        "$numberInt" => Some(Wrapper::NumberInt),
+        "$numberLong" => Some(Wrapper::NumberLong),
+        "$numberDouble" => Some(Wrapper::NumberDouble),
+        "$numberDecimal" => Some(Wrapper::NumberDecimal),
+        "$binary" => Some(Wrapper::Binary),
+        "$uuid" => Some(Wrapper::Uuid),
+        "$code" => Some(Wrapper::Code),
+        "$timestamp" => Some(Wrapper::Timestamp),
+        "$date" => Some(Wrapper::Date),
+        "$minKey" => Some(Wrapper::MinKey),
+        "$maxKey" => Some(Wrapper::MaxKey),
+        "$dbPointer" => Some(Wrapper::DbPointer),
+        "$undefined" => Some(Wrapper::Undefined),
+        _ => None,
+    }
+}
+
+pub(super) fn is_reserved(key: &str) -> bool
+    ensures { result ≡ reserves key.now }
+{
+    wrapper_of(key).is_some()
+}

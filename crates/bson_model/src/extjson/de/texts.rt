@@ -1,0 +1,199 @@
+//! The texts in Extended JSON that no scalar has by itself: whole numbers, doubles, and a byte in hexadecimal.
+ghost use Rattle.std.specs.Prelude.{◌≡◌, ◌++◌, option_map};
+ghost use Rattle.std.specs.Str.{str_to_ascii_lowercase};
+ghost use Rattle.hex.specs.Hex.{hex_digit_value};
+ghost use Rattle.bson_base.specs.Decimal.{all_digits as are_digits, all_zeros as are_zeros, cut, is_dot, is_e, is_named as is_named_by, marks};
+ghost use Rattle.bson_model.specs.JsonTexts.{byte_of, double_of, int_of, is_digits as digits_alone, is_exponent as exponent_of, long_of, read_numeral as numeral_read, read_unsigned as unsigned_of, sign_bit as bit_of, signed, without_dot};
+ghost use Rattle.bson_model.specs.JsonRead.{wanted};
+
+use super::{Error, Result};
+
+const SIGN: u64 = 0x8000_0000_0000_0000;
+
+const NAN: u64 = 0x7FF8_0000_0000_0000;
+
+const INFINITY: u64 = 0x7FF0_0000_0000_0000;
+
+/// The number of a text under `$numberInt`.
+#[tactic(auto, unfolding(crate::specs::JsonTexts::int_of))]
+pub(super) fn read_int(text: &str) -> Result<i32>
+    ensures { result ≡ wanted (int_of text.now) }
+{
+    match text.parse::<i32>() {
+        Ok(n) => Ok(n),
+        Err(_) => Err(Error::DeserializationError),
+    }
+}
+
+/// The number of a text under `$numberLong`.
+#[tactic(auto, unfolding(crate::specs::JsonTexts::long_of))]
+pub(super) fn read_long(text: &str) -> Result<i64>
+    ensures { result ≡ wanted (long_of text.now) }
+{
+    match text.parse::<i64>() {
+        Ok(n) => Ok(n),
+        Err(_) => Err(Error::DeserializationError),
+    }
+}
+
+/// Whether a minus stands in front, and what stands behind a sign or none.
+fn split_sign(text: &[u8]) -> (bool, &[u8])
+    ensures { (result.0, result.1.now) ≡ signed text.now }
+{
+    match text {
+        [b'+', rest @ ..] => (false, rest),
+        [b'-', rest @ ..] => (true, rest),
+        rest => (false, rest),
+    }
+}
+
+fn cut_at(text: &[u8], mark: u8, other: u8) -> (&[u8], Option<&[u8]>)
+    ensures { (result.0.now, option_map (λ s. s.now) result.1) ≡ cut (marks mark other) text.now }
+{
+    for (i, c) in text.iter().enumerate() {
+        if *c == mark || *c == other {
+            return (&text[..i], Some(&text[i + 1..]));
+        }
+    }
+    (text, None)
+}
+
+fn all_digits(text: &[u8]) -> bool
+    ensures { result ≡ are_digits text.now }
+{
+    for c in text {
+        if !c.is_ascii_digit() {
+            return false;
+        }
+    }
+    true
+}
+
+fn all_zeros(text: &[u8]) -> bool
+    ensures { result ≡ are_zeros text.now }
+{
+    for c in text {
+        if *c != b'0' {
+            return false;
+        }
+    }
+    true
+}
+
+fn is_digits(text: &[u8]) -> bool
+    ensures { result ≡ digits_alone text.now }
+{
+    !text.is_empty() && all_digits(text)
+}
+
+fn is_exponent(text: Option<&[u8]>) -> bool
+    ensures { result ≡ exponent_of (option_map (λ s. s.now) text.entry) }
+{
+    match text {
+        Some(text) => is_digits(split_sign(text).1),
+        None => true,
+    }
+}
+
+fn is_named(text: &[u8], name: &[u8]) -> bool
+    requires { str_to_ascii_lowercase name.now ≡ name.now }
+    ensures { result ≡ is_named_by text.now name.now }
+{
+    text.eq_ignore_ascii_case(name)
+}
+
+fn sign_bit(negative: bool) -> u64
+    ensures { result ≡ bit_of negative }
+{
+    if negative { SIGN } else { 0 }
+}
+
+// What stands on both sides of a dot; all of a text without one stands in front.
+fn split_dot(text: &[u8]) -> (&[u8], &[u8])
+    ensures { result.0.now ++ result.1.now ≡ without_dot text.now }
+{
+    match cut_at(text, b'.', b'.') {
+        (whole, None) => (whole, &whole[..0]),
+        (whole, Some(part)) => (whole, part),
+    }
+}
+
+fn both_digits(whole: &[u8], part: &[u8]) -> bool
+    ensures { result ≡ are_digits (whole.now ++ part.now) }
+{
+    all_digits(whole) && all_digits(part)
+}
+
+fn both_zeros(whole: &[u8], part: &[u8]) -> bool
+    ensures { result ≡ are_zeros (whole.now ++ part.now) }
+{
+    all_zeros(whole) && all_zeros(part)
+}
+
+fn some_digits(whole: &[u8], part: &[u8]) -> bool
+    ensures { result ≡ digits_alone (whole.now ++ part.now) }
+{
+    whole.len() + part.len() > 0 && both_digits(whole, part)
+}
+
+/// A double behind its sign.
+fn read_unsigned(negative: bool, text: &[u8]) -> Result<u64>
+    ensures { result ≡ unsigned_of (negative, text.now) }
+{
+    if is_named(text, b"nan") {
+        return Ok(sign_bit(negative) + NAN);
+    }
+    if is_named(text, b"inf") || is_named(text, b"infinity") {
+        return Ok(sign_bit(negative) + INFINITY);
+    }
+    let (front, behind) = cut_at(text, b'e', b'E');
+    read_numeral(negative, front, behind)
+}
+
+fn read_numeral(negative: bool, front: &[u8], behind: Option<&[u8]>) -> Result<u64>
+    ensures { result ≡ numeral_read negative (front.now, option_map (λ s. s.now) behind.entry) }
+{
+    let (whole, part) = split_dot(front);
+    if !some_digits(whole, part) || !is_exponent(behind) {
+        return Err(Error::DeserializationError);
+    }
+    if both_zeros(whole, part) {
+        Ok(sign_bit(negative))
+    } else {
+        Err(Error::FiniteDouble)
+    }
+}
+
+/// The pattern of a text under `$numberDouble`.
+#[tactic(auto, unfolding(crate::specs::JsonTexts::double_of))]
+pub(super) fn read_double(text: &str) -> Result<u64>
+    ensures { result ≡ double_of text.now }
+{
+    let (negative, rest) = split_sign(text.as_bytes());
+    read_unsigned(negative, rest)
+}
+
+fn hex_digit(c: u8) -> Option<u8>
+    ensures { result ≡ hex_digit_value c }
+{
+    match c {
+        b'A'..=b'F' => Some(c - 55),
+        b'a'..=b'f' => Some(c - 87),
+        b'0'..=b'9' => Some(c - 48),
+        _ => None,
+    }
+}
+
+/// The byte of two hexadecimal digits.
+#[tactic(auto, unfolding(crate::specs::JsonTexts::byte_of))]
+pub(super) fn read_byte(text: &str) -> Result<u8>
+    ensures { result ≡ wanted (byte_of text.now) }
+{
+    match text.as_bytes() {
+        [high, low] => match (hex_digit(*high), hex_digit(*low)) {
+            (Some(high), Some(low)) => Ok(high * 16 + low),
+            _ => Err(Error::DeserializationError),
+        },
+        _ => Err(Error::DeserializationError),
+    }
+}

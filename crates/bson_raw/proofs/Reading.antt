@@ -1,0 +1,24 @@
+-- The bytes of one document, read in two steps.
+use Rattle.std.proofs.Common.{◌≡◌, ℕ, ◌+◌, ◌<◌, ◌≤◌, List, ◌++◌, length, take, drop, Result, Ok, Err, Vec, Global, inl, inr, sym, ap, ◌∙◌, subst, arith}
+use Rattle.std.proofs.lemmas.List.{length-append}
+use Rattle.bson_base.proofs.DeviceLemmas.{Gives-trans}
+use Rattle.bson_frame.proofs.Payloads.{number_front}
+use Rattle.bson_frame.specs.Frame.{number}
+use Rattle.bson_raw.specs.declared.read_error.ReadError.{ReadError}
+use Rattle.bson_raw.specs.declared.read_error.ReadError.TheVariants.{Reader, EndInside, BadLength, Raw, Memory}
+use Rattle.bson_raw.specs.Input.{Feed, Took, IsInputLength, ReadsRest, ReadsBytes}
+
+took_both : (old mid new : Feed) (xs ys : List ℕ) → Took old mid xs → Took mid new ys → Took old new (xs ++ ys)
+took_both old mid new xs ys first second = (second.0 ∙ first.0, Gives-trans old.supply mid.supply new.supply xs ys first.1 second.1)
+
+pub bytes_read : (old mid new : Feed) (head : List ℕ) (n : ℕ) (result : Result (Vec ℕ Global) ReadError) → length head ≡ 4 → Took old mid head → n ≡ number head → IsInputLength n → ReadsRest mid new head n result → ReadsBytes old new result
+bytes_read old mid new head n (Ok all) four first is fits (rest, second, whole, len) =
+    let same : number all.items ≡ number head = ap number whole ∙ number_front head rest (omega (arith, four)) in
+    (subst (Took old new) (sym whole) (took_both old mid new head rest first second), (subst IsInputLength (is ∙ sym same) fits, len ∙ is ∙ sym same))
+bytes_read old mid new head n (Err Reader) four first is fits h = h ∙ ap (λ k. k + 1) first.0
+bytes_read old mid new head n (Err EndInside) four first is fits (rest, second, short) =
+    let same = number_front head rest (omega (arith, four)) in
+    (head ++ rest, (took_both old mid new head rest first second.0, second.1), inr (omega (arith, four, length-append head rest), subst IsInputLength (is ∙ sym same) fits, subst (λ k. length (head ++ rest) < k) (is ∙ sym same) short))
+bytes_read old mid new head n (Err Memory) four first is fits h = h ∙ first.0
+bytes_read old mid new head n (Err BadLength) four first is fits h = absurd h
+bytes_read old mid new head n (Err (Raw e)) four first is fits h = h

@@ -1,0 +1,91 @@
+-- What reading one document does to a source.
+use Rattle.std.specs.Prelude.{◌≡◌, ◌≢◌, ℕ, ◌+◌, ◌<◌, ◌≤◌, List, ◌++◌, drop, length, Result, Ok, Err, Vec, ◌⊎◌}
+use Rattle.std.specs.declared.alloc.Global.{Global}
+use Rattle.bson_base.specs.Device.{Supply, Gives, IsExhausted}
+use Rattle.bson_base.specs.Value.{Members}
+use Rattle.bson_bytes.specs.Spells.{Means}
+use Rattle.bson_frame.specs.Frame.{number}
+use Rattle.bson_frame.specs.Payload.{IsEnvelope}
+use Rattle.bson_frame.specs.View.{fault_key, IsBare}
+use Rattle.bson_frame.specs.declared.error.Error.{Error as Fault}
+use Rattle.bson_frame.specs.declared.error.ErrorKind.TheVariants.{MalformedValue, OutOfMemory}
+use Rattle.bson_model.specs.declared.document.Document.{Document}
+use Rattle.bson_model.specs.View.{members_of, pairs_of}
+use Rattle.bson_raw.specs.declared.read_error.ReadError.{ReadError}
+use Rattle.bson_raw.specs.declared.read_error.ReadError.TheVariants.{Reader, EndInside, BadLength, Raw, Memory}
+use Rattle.bson_raw.specs.Convert.{HasFault}
+
+-- what a source tells: how many of its calls have failed, and what it gave and has left, where it knows that
+pub record Feed : Type 0 where
+  pub failures : ℕ
+  pub supply : Supply
+
+-- no call failed, and the source gave these bytes
+abbrev pub Took : Feed → Feed → List ℕ → Type 0
+Took old new bytes = (new.failures ≡ old.failures) × Gives old.supply new.supply bytes
+
+-- no call failed, and the source gave these bytes, all that it had left
+abbrev pub TookAll : Feed → Feed → List ℕ → Type 0
+TookAll old new bytes = Took old new bytes × IsExhausted new.supply
+
+-- a length that the document of an input may declare
+abbrev pub IsInputLength : ℕ → Type 0
+IsInputLength n = (5 ≤ n) × (n ≤ 16777216)
+
+-- the bytes of one document: as many as the first four declare
+abbrev pub AreDeclared : List ℕ → Type 0
+AreDeclared bytes = IsInputLength (number bytes) × (length bytes ≡ number bytes)
+
+-- too few for a length, or fewer than are declared
+abbrev pub EndInDocument : List ℕ → Type 0
+EndInDocument bytes = (length bytes < 4) ⊎ ((4 ≤ length bytes) × IsInputLength (number bytes) × (length bytes < number bytes))
+
+-- the last byte isn't 00, or elements have this first fault; so the bytes mean no document
+abbrev pub IsRawFault : List ℕ → Fault → Type 0
+IsRawFault bytes e = (e.kind ≢ OutOfMemory) × (((IsEnvelope bytes → ⊥) × IsBare MalformedValue e) ⊎ (IsEnvelope bytes × HasFault (drop 4 bytes) (fault_key e) e.kind))
+    × ((d : Members) → Means bytes d → ⊥)
+
+abbrev pub ReadsDocument : Feed → Feed → Result Document ReadError → Type 0
+ReadsDocument old new (Ok d) = (bytes : List ℕ) × Took old new bytes × AreDeclared bytes × Means bytes (members_of (pairs_of d))
+ReadsDocument old new (Err Reader) = new.failures ≡ old.failures + 1
+ReadsDocument old new (Err EndInside) = (bytes : List ℕ) × TookAll old new bytes × EndInDocument bytes
+ReadsDocument old new (Err BadLength) = (bytes : List ℕ) × Took old new bytes × (length bytes ≡ 4) × (IsInputLength (number bytes) → ⊥)
+ReadsDocument old new (Err (Raw e)) = (bytes : List ℕ) × Took old new bytes × AreDeclared bytes × IsRawFault bytes e
+ReadsDocument old new (Err Memory) = new.failures ≡ old.failures
+
+-- ---- its parts
+
+-- the first four bytes
+abbrev pub ReadsHead : Feed → Feed → Result (List ℕ) ReadError → Type 0
+ReadsHead old new (Ok head) = Took old new head × (length head ≡ 4)
+ReadsHead old new (Err Reader) = new.failures ≡ old.failures + 1
+ReadsHead old new (Err EndInside) = (bytes : List ℕ) × TookAll old new bytes × (length bytes < 4)
+ReadsHead old new (Err _) = ⊥
+
+-- the bytes behind the first four, up to a length
+abbrev pub ReadsRest : Feed → Feed → List ℕ → ℕ → Result (Vec ℕ Global) ReadError → Type 0
+ReadsRest old new head n (Ok all) = (rest : List ℕ) × Took old new rest × (all.items ≡ head ++ rest) × (length all.items ≡ n)
+ReadsRest old new head n (Err Reader) = new.failures ≡ old.failures + 1
+ReadsRest old new head n (Err EndInside) = (rest : List ℕ) × TookAll old new rest × (length (head ++ rest) < n)
+ReadsRest old new head n (Err Memory) = new.failures ≡ old.failures
+ReadsRest old new head n (Err _) = ⊥
+
+-- the declared bytes of one document
+abbrev pub ReadsBytes : Feed → Feed → Result (Vec ℕ Global) ReadError → Type 0
+ReadsBytes old new (Ok all) = Took old new all.items × AreDeclared all.items
+ReadsBytes old new (Err Reader) = new.failures ≡ old.failures + 1
+ReadsBytes old new (Err EndInside) = (bytes : List ℕ) × TookAll old new bytes × EndInDocument bytes
+ReadsBytes old new (Err BadLength) = (bytes : List ℕ) × Took old new bytes × (length bytes ≡ 4) × (IsInputLength (number bytes) → ⊥)
+ReadsBytes old new (Err (Raw e)) = ⊥
+ReadsBytes old new (Err Memory) = new.failures ≡ old.failures
+
+-- a refused conversion, as a reader tells it
+abbrev pub IsRefusal : Fault → ReadError → Type 0
+IsRefusal e told = ((e.kind ≡ OutOfMemory) × (told ≡ Memory)) ⊎ ((e.kind ≢ OutOfMemory) × (told ≡ Raw e))
+
+-- what bytes are read as
+abbrev pub ReadsBody : List ℕ → Result Document ReadError → Type 0
+ReadsBody bytes (Ok d) = Means bytes (members_of (pairs_of d))
+ReadsBody bytes (Err (Raw e)) = IsRawFault bytes e
+ReadsBody bytes (Err Memory) = Unit {0}
+ReadsBody bytes (Err _) = ⊥

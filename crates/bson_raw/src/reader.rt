@@ -1,0 +1,129 @@
+//! One document from a reader.
+
+ghost use Rattle.std.specs.Prelude.{◌≡◌, ◌<◌, ◌≤◌, ◌^◌, ◌-◌, length, MatchResult};
+ghost use Rattle.bson_frame.specs.Frame.{number};
+ghost use Rattle.bson_raw.specs.Input.{IsInputLength, IsRefusal, ReadsDocument, ReadsHead, ReadsRest, ReadsBytes, ReadsBody};
+ghost use Rattle.bson_raw.specs.declared.read_error.ReadError.TheVariants.{BadLength};
+
+use crate::document::RawDocument;
+use crate::read_error::ReadError;
+use bson_base::{Source, read_full};
+use bson_frame::{Error, ErrorKind};
+use bson_model::Document;
+use std::alloc::Global;
+
+/// The greatest length of a document that is read.
+const LIMIT: u32 = 16777216;
+
+/// The first four bytes.
+fn read_head<R: Source>(reader: &mut R) -> Result<[u8; 4], ReadError>
+    requires { R.failures reader.old < 2 ^ 64 - 1 }
+    ensures { ReadsHead (record { failures = R.failures reader.old; supply = R.supply reader.old })
+        (record { failures = R.failures reader.new; supply = R.supply reader.new }) result }
+{
+    let mut head = [0u8; 4];
+    match read_full(reader, &mut head) {
+        Ok(n) => {
+            if n < 4 {
+                return Err(ReadError::EndInside);
+            }
+            Ok(head)
+        }
+        Err(_) => Err(ReadError::Reader),
+    }
+}
+
+/// The length that the first four bytes declare, where a document may have it.
+fn declared(head: [u8; 4]) -> Result<usize, ReadError>
+    ensures { MatchResult result (λ n. (n ≡ number head) × IsInputLength n)
+        (λ e. (e ≡ BadLength) × (IsInputLength (number head) → ⊥)) }
+{
+    let number = u32::from_le_bytes(head);
+    if number < 5 {
+        return Err(ReadError::BadLength);
+    }
+    if number > LIMIT {
+        return Err(ReadError::BadLength);
+    }
+    Ok(number as usize)
+}
+
+/// The first four bytes with those behind them, up to a length.
+fn read_rest<R: Source>(
+    alloc: Global,
+    reader: &mut R,
+    head: [u8; 4],
+    declared: usize,
+) -> Result<Vec<u8>, ReadError>
+    requires failures { R.failures reader.old < 2 ^ 64 - 1 }
+    requires declared { 4 ≤ declared }
+    ensures { ReadsRest (record { failures = R.failures reader.old; supply = R.supply reader.old })
+        (record { failures = R.failures reader.new; supply = R.supply reader.new }) head declared result }
+{
+    let mut bytes = vec![in alloc; 0u8; declared]?;
+    let (front, rest) = bytes.split_at_mut(4);
+    front.copy_from_slice(&head);
+    match read_full(reader, rest) {
+        Ok(n) => {
+            if n < declared - 4 {
+                return Err(ReadError::EndInside);
+            }
+            Ok(bytes)
+        }
+        Err(_) => Err(ReadError::Reader),
+    }
+}
+
+/// The bytes of one document.
+fn read_bytes<R: Source>(alloc: Global, reader: &mut R) -> Result<Vec<u8>, ReadError>
+    requires { R.failures reader.old < 2 ^ 64 - 1 }
+    ensures { ReadsBytes (record { failures = R.failures reader.old; supply = R.supply reader.old })
+        (record { failures = R.failures reader.new; supply = R.supply reader.new }) result }
+{
+    let head = read_head(reader)?;
+    let declared = declared(head)?;
+    read_rest(alloc, reader, head, declared)
+}
+
+/// A refused conversion, as the reader's caller is told it.
+fn refusal(e: Error) -> ReadError
+    ensures { IsRefusal e result }
+{
+    match e.kind {
+        ErrorKind::OutOfMemory => ReadError::Memory,
+        _ => ReadError::Raw(e),
+    }
+}
+
+/// The document that bytes mean.
+fn document_in(alloc: Global, bytes: &[u8]) -> Result<Document, ReadError>
+    ensures { ReadsBody bytes.now result }
+{
+    match RawDocument::from_bytes(bytes) {
+        Ok(raw) => match raw.to_document(alloc) {
+            Ok(document) => Ok(document),
+            Err(e) => Err(refusal(e)),
+        },
+        Err(e) => Err(ReadError::Raw(e)),
+    }
+}
+
+/// The document that the reader's next bytes mean, as `RawDocument::to_document` reads them. Of the reader the bytes that the
+/// document declares are taken, and no more. Whoever calls it sees to it that fewer than 2⁶⁴ - 1 calls of the reader have
+/// failed.
+///
+/// `Reader` where a read failed; `EndInside` where the reader ended inside the document, which took all that was left;
+/// `BadLength` where the declared length is under 5 or over 16777216, which took four bytes; `Raw` where the bytes mean no
+/// document, which took as many as are declared: `MalformedValue` under no key where the last isn't 00, else the fault that
+/// `to_document` tells; `Memory` where a growth was refused.
+pub fn from_reader<R: Source>(alloc: Global, reader: &mut R) -> Result<Document, ReadError>
+    requires { R.failures reader.old < 2 ^ 64 - 1 }
+    ensures { ReadsDocument (record { failures = R.failures reader.old; supply = R.supply reader.old })
+        (record { failures = R.failures reader.new; supply = R.supply reader.new }) result }
+{
+    let bytes = read_bytes(alloc, reader)?;
+    document_in(alloc, &bytes)
+}
+
+#[cfg(test)]
+mod tests;
