@@ -6,6 +6,9 @@ pub mod Normal
 pub mod Comparing
 pub mod Characters
 pub mod Turns
+pub mod JsonSame
+pub mod JsonReadBack
+pub mod JsonReads
 pub mod Putting
 pub mod InOrder
 pub mod KeyLaw

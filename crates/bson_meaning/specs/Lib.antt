@@ -1,5 +1,6 @@
 pub mod Meaning
 pub mod Counts
 pub mod Sames
+pub mod JsonReserved
 pub mod Pairs
 pub mod Gate

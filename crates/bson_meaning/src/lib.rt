@@ -2,6 +2,7 @@
 #![tactic(auto)]
 
 mod compare;
+pub mod json_laws;
 mod forms;
 mod key;
 pub mod laws;

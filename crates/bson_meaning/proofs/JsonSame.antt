@@ -1,0 +1,270 @@
+-- What a value is written as goes by its meaning, and so does whether a reserved key stands in it.
+use Rattle.std.proofs.Common.{◌≡◌, ℕ, zero, suc, ◌*◌, ◌/◌, ◌^◌, ◌<◌, List, ◌++◌, Bool, true, false, cond, if◌then◌else◌, Option, Some, None, refl, ap, ◌∙◌, sym, subst, arith}
+use Rattle.std.proofs.Math.Nat.{pow-suc}
+use Rattle.std.specs.Prelude.{◌||◌, bytes_eq, codes, option_map, option_and_then}
+use Rattle.std.specs.declared.cmp.Ordering.{Ordering}
+use Rattle.std.specs.declared.cmp.Ordering.TheVariants.{Less, Equal, Greater}
+use Rattle.std.specs.Ordering.{match_ordering, ordering_reverse}
+use Rattle.std.proofs.lemmas.Cmp.{nat_list_cmp_total}
+use Rattle.serde_json.specs.Data as tree
+use Rattle.serde_json.specs.Data.{Data, object}
+use Rattle.bson_base.specs.Decimal.{Decimal, not_a_number, infinity, finite, IsUnpacked, number_of, bytes_of, sixteen_bytes, pack, unpack, print, minus_if}
+use Rattle.bson_base.specs.Doubles.{is_nan, is_infinite, is_zero, is_negative}
+use Rattle.bson_base.specs.Kinds.{IsRangedScalar, IsSound}
+use Rattle.bson_base.specs.Tags.{subtype_byte}
+use Rattle.bson_base.specs.Value.{Scalar, double, binary, regex, decimal, Value, scalar, array, document, scoped_code, Items, no_items, item, Members, no_members, member, look_up, EachPart, EachItem, EachMember, HasDistinctKeys, ItemsHaveDistinctKeys, MembersHaveDistinctKeys}
+use Rattle.bson_base.proofs.DecimalBits.{unpack_is, unpack-pack}
+use Rattle.bson_model.specs.JsonKeys.{is_reserved, of_decimal, of_double, of_regex}
+use Rattle.bson_model.specs.JsonWrite.{double_text, wrapped_text, with_scope, write, write_binary, write_items, write_members, write_scalar, wrapped, both}
+use Rattle.bson_model.specs.declared.extjson.ser.Mode.{Mode}
+use Rattle.bson_meaning.specs.JsonReserved.{some_reserved, reserved_in, reserved_in_items, has_reserved}
+use Rattle.bson_meaning.specs.Meaning.{normal_double, normal_decimal, normal_scalar, norm, norm_items, norm_members, place, asc, asc_items, asc_members, Same}
+use Rattle.bson_meaning.proofs.Canonical.{canonical_same}
+use Rattle.bson_meaning.proofs.Normal.{norm_distinct}
+use Rattle.bson_meaning.proofs.NormalScalars.{byte_again, sorted_text_twice}
+use Rattle.bson_meaning.proofs.Ordered.{Order, tied, turned, same_key, look_up-asc}
+
+-- ---- the normal form of a scalar
+
+abbrev quiet : Bool → ℕ
+quiet c = if c then 0xFFF8_0000_0000_0000 else 0x7FF8_0000_0000_0000
+
+abbrev told : ℕ → Bool → Option (List ℕ)
+told n b = option_map (λ t. minus_if (is_negative n) ++ t)
+    (if b then Some (codes "NaN") else if is_infinite n then Some (codes "Infinity") else if is_zero n then Some (codes "0.0") else None)
+
+quiet_told : (c : Bool) → double_text (quiet c) ≡ Some (minus_if c ++ codes "NaN")
+quiet_told true = refl
+quiet_told false = refl
+
+double_again : (n : ℕ) → double_text (normal_double n) ≡ double_text n
+unfolding normal_double
+double_again n = by (is_nan n) refl
+  where
+    by : (b : Bool) → is_nan n ≡ b → double_text (if b then quiet (is_negative n) else n) ≡ double_text n
+    by true e = quiet_told (is_negative n) ∙ sym (ap (told n) e)
+    by false e = refl
+
+number_again : (k n : ℕ) → n < 256 ^ k → number_of (bytes_of k n) ≡ n
+number_again zero n h = omega arith
+number_again (suc k) n h =
+    let p : 256 ^ suc k ≡ 256 ^ k * 256 = pow-suc 256 k in
+    let q : number_of (bytes_of k (n / 256)) ≡ n / 256 = number_again k (n / 256) (omega arith) in
+    omega arith
+
+pack_low : (d : Decimal) → IsUnpacked d → pack d < 2 ^ 128
+pack_low not_a_number h = omega arith
+pack_low (infinity true) h = omega arith
+pack_low (infinity false) h = omega arith
+pack_low (finite true c e) h = omega (arith, h.0, h.1)
+pack_low (finite false c e) h = omega (arith, h.0, h.1)
+
+unpack_again : (bs : List ℕ) → unpack (number_of (normal_decimal bs)) ≡ unpack (number_of bs)
+unfolding normal_decimal sixteen_bytes
+unpack_again bs =
+    let d = unpack (number_of bs) in
+    let u : IsUnpacked d = unpack_is (number_of bs) in
+    ap unpack (number_again 16 (pack d) (pack_low d u)) ∙ unpack-pack d u
+
+abbrev regex_tree : List ℕ → List ℕ → Data
+regex_tree p t = wrapped of_regex (both (codes "options") (tree.string t) (codes "pattern") (tree.string p))
+
+pub write_normal : (m : Mode) (s : Scalar) → IsRangedScalar s → write_scalar m (normal_scalar s) ≡ write_scalar m s
+write_normal m (double n) h = ap (option_map (wrapped_text of_double)) (double_again n)
+write_normal m (binary s bs) h = ap (λ b. Some (write_binary b bs)) (byte_again (subtype_byte s))
+write_normal m (regex p o) h = ap (λ t. Some (regex_tree p t)) (sorted_text_twice o h.1)
+write_normal m (decimal bs) h = ap (λ d. Some (wrapped_text of_decimal (print d))) (unpack_again bs)
+write_normal m _ h = refl
+
+-- ---- the normal form of a value
+
+pub then_alike : {A B : Type 0} (o : Option A) (f g : A → Option B) → ((a : A) → f a ≡ g a) → option_and_then f o ≡ option_and_then g o
+then_alike (Some a) f g h = h a
+then_alike None f g h = refl
+
+abbrev item_in : Option Data → Option tree.Items → Option tree.Items
+item_in j js = option_and_then (λ d. option_map (tree.item d) js) j
+
+mutual
+  pub write_norm : (m : Mode) (K : List ℕ → Type 0) (v : Value) → EachPart K IsRangedScalar v → write m (norm v) ≡ write m v
+  write_norm m K (scalar s) h = write_normal m s h
+  write_norm m K (array vs) h = ap (option_map tree.array) (write_norm_items m K vs h)
+  write_norm m K (document ms) h = ap (option_map object) (write_norm_members m K ms h tree.no_members)
+  write_norm m K (scoped_code t ms) h = ap (option_map (with_scope t)) (write_norm_members m K ms h.1 tree.no_members)
+
+  write_norm_items : (m : Mode) (K : List ℕ → Type 0) (vs : Items) → EachItem K IsRangedScalar vs → write_items m (norm_items vs) ≡ write_items m vs
+  write_norm_items m K no_items h = refl
+  write_norm_items m K (item v vs) h = ap (λ j. item_in j (write_items m (norm_items vs))) (write_norm m K v h.0) ∙ ap (item_in (write m v)) (write_norm_items m K vs h.1)
+
+  pub write_norm_members : (m : Mode) (K : List ℕ → Type 0) (ms : Members) → EachMember K IsRangedScalar ms → (found : tree.Members)
+      → write_members m (norm_members ms) found ≡ write_members m ms found
+  write_norm_members m K no_members h found = refl
+  write_norm_members m K (member k v ms) h found =
+      ap (option_and_then (λ j. write_members m (norm_members ms) (tree.put k j found))) (write_norm m K v h.1)
+      ∙ then_alike (write m v) _ _ (λ j. write_norm_members m K ms h.2 (tree.put k j found))
+
+-- ---- members of a tree put in one after the other
+
+abbrev With : List ℕ → Data → List ℕ → Data → tree.Members → Ordering → tree.Members
+With k d l e js o = match_ordering o (tree.member k d (tree.member l e js)) (tree.member l d js) (tree.member l e (tree.put k d js))
+
+after : (k l : List ℕ) → Order k l ≡ Less → Order l k ≡ Greater
+after k l e = nat_list_cmp_total.antisymm l k ∙ ap ordering_reverse e
+
+-- one before l and l itself, put in either order
+pub commute : (k l : List ℕ) (d e : Data) → Order k l ≡ Less → (js : tree.Members) → tree.put k d (tree.put l e js) ≡ tree.put l e (tree.put k d js)
+commute k l d e h tree.no_members = ap (With k d l e tree.no_members) h ∙ sym (ap (With l e k d tree.no_members) (after k l h))
+commute k l d e h (tree.member m f js) = by (commute k l d e h js) (Order l m) (Order k m) refl refl
+  where
+    before : Order l k ≡ Greater
+    before = after k l h
+
+    first : tree.put l e (tree.member k d (tree.member m f js)) ≡ tree.member k d (tree.put l e (tree.member m f js))
+    first = ap (With l e k d (tree.member m f js)) before
+
+    by : tree.put k d (tree.put l e js) ≡ tree.put l e (tree.put k d js) → (o p : Ordering) → Order l m ≡ o → Order k m ≡ p
+        → tree.put k d (With l e m f js o) ≡ tree.put l e (With k d m f js p)
+    by r Less Less a b = ap (With k d l e (tree.member m f js)) h ∙ ap (tree.member k d) (sym (ap (With l e m f js) a)) ∙ sym first
+    by r Equal Less a b = ap (With k d m e js) b ∙ ap (tree.member k d) (sym (ap (With l e m f js) a)) ∙ sym first
+    by r Greater Less a b = ap (With k d m f (tree.put l e js)) b ∙ ap (tree.member k d) (sym (ap (With l e m f js) a)) ∙ sym first
+    by r Greater Equal a b = ap (With k d m f (tree.put l e js)) b ∙ sym (ap (With l e m d js) a)
+    by r Greater Greater a b = ap (With k d m f (tree.put l e js)) b ∙ ap (tree.member m f) r ∙ sym (ap (With l e m f (tree.put k d js)) a)
+    by r Less Equal a b = let x : Order k m ≡ Less = nat_list_cmp_total.trans k l m h a in cc
+    by r Less Greater a b = let x : Order k m ≡ Less = nat_list_cmp_total.trans k l m h a in cc
+    by r Equal Equal a b = let x : Order k m ≡ Less = ap (Order k) (sym (tied l m a)) ∙ h in cc
+    by r Equal Greater a b = let x : Order k m ≡ Less = ap (Order k) (sym (tied l m a)) ∙ h in cc
+
+-- ---- the order of keys
+
+pub not_first : (b : Bool) (w : Value) (o : Option Value) → cond b (Some w) o ≡ None → o ≡ None
+not_first true w o f = cc
+not_first false w o f = f
+
+pub met : (k l : List ℕ) (w : Value) (o : Option Value) → Order k l ≡ Equal → cond (bytes_eq k l) (Some w) o ≡ None → ⊥
+met k l w o e n =
+    let i : bytes_eq k l ≡ true = subst (λ m. bytes_eq k m ≡ true) (tied k l e) (same_key k) in
+    let j : Some w ≡ None = sym (ap (λ b. cond b (Some w) o) i) ∙ n in cc
+
+in_turns : {A B C : Type 0} (o : Option A) (p : Option B) (f : A → B → Option C) (g : B → A → Option C) → ((a : A) (b : B) → f a b ≡ g b a)
+    → option_and_then (λ a. option_and_then (f a) p) o ≡ option_and_then (λ b. option_and_then (g b) o) p
+in_turns (Some a) (Some b) f g h = h a b
+in_turns (Some a) None f g h = refl
+in_turns None (Some b) f g h = refl
+in_turns None None f g h = refl
+
+write_place : (m : Mode) (k : List ℕ) (v : Value) (ms : Members) → look_up k ms ≡ None → (found : tree.Members)
+    → write_members m (place k v ms) found ≡ option_and_then (λ j. write_members m ms (tree.put k j found)) (write m v)
+write_place m k v no_members h found = refl
+write_place m k v (member l w ms) h found = by (Order k l) refl (write_place m k v ms)
+  where
+    by : (o : Ordering) → Order k l ≡ o
+        → (look_up k ms ≡ None → (js : tree.Members) → write_members m (place k v ms) js ≡ option_and_then (λ j. write_members m ms (tree.put k j js)) (write m v))
+        → write_members m (match_ordering o (member k v (member l w ms)) (member k v ms) (member l w (place k v ms))) found
+        ≡ option_and_then (λ j. write_members m (member l w ms) (tree.put k j found)) (write m v)
+    by Less e r = refl
+    by Equal e r = absurd (met k l w (look_up k ms) e h)
+    by Greater e r =
+        then_alike (write m w) (λ i. write_members m (place k v ms) (tree.put l i found)) (λ i. option_and_then (λ j. write_members m ms (tree.put k j (tree.put l i found))) (write m v))
+        (λ i. r (not_first (bytes_eq k l) w (look_up k ms) h) (tree.put l i found))
+        ∙ in_turns (write m w) (write m v) (λ i j. write_members m ms (tree.put k j (tree.put l i found))) (λ j i. write_members m ms (tree.put l i (tree.put k j found)))
+        (λ i j. ap (write_members m ms) (sym (commute l k i j (turned k l e) found)))
+
+pub none_ordered : (k : List ℕ) (ms : Members) → look_up k ms ≡ None → look_up k (asc_members ms) ≡ None
+none_ordered k ms h = look_up-asc k ms ∙ ap (option_map asc) h
+
+mutual
+  pub write_asc : (m : Mode) (v : Value) → HasDistinctKeys v → write m (asc v) ≡ write m v
+  write_asc m (scalar s) h = refl
+  write_asc m (array vs) h = ap (option_map tree.array) (write_asc_items m vs h)
+  write_asc m (document ms) h = ap (option_map object) (write_asc_members m ms h tree.no_members)
+  write_asc m (scoped_code t ms) h = ap (option_map (with_scope t)) (write_asc_members m ms h tree.no_members)
+
+  write_asc_items : (m : Mode) (vs : Items) → ItemsHaveDistinctKeys vs → write_items m (asc_items vs) ≡ write_items m vs
+  write_asc_items m no_items h = refl
+  write_asc_items m (item v vs) h = ap (λ j. item_in j (write_items m (asc_items vs))) (write_asc m v h.0) ∙ ap (item_in (write m v)) (write_asc_items m vs h.1)
+
+  pub write_asc_members : (m : Mode) (ms : Members) → MembersHaveDistinctKeys ms → (found : tree.Members) → write_members m (asc_members ms) found ≡ write_members m ms found
+  write_asc_members m no_members h found = refl
+  write_asc_members m (member k v ms) h found = write_place m k (asc v) (asc_members ms) (none_ordered k ms h.0) found
+      ∙ ap (option_and_then (λ j. write_members m (asc_members ms) (tree.put k j found))) (write_asc m v h.1)
+      ∙ then_alike (write m v) _ _ (λ j. write_asc_members m ms h.2 (tree.put k j found))
+
+pub write_same : (m : Mode) (v w : Value) → IsSound v → IsSound w → Same v w → write m v ≡ write m w
+write_same m v w s t h = sym (write_asc m (norm v) (norm_distinct v s.distinct) ∙ write_norm m _ v s.ranged) ∙ ap (write m) (canonical_same v w h)
+    ∙ write_asc m (norm w) (norm_distinct w t.distinct) ∙ write_norm m _ w t.ranged
+
+-- ---- reserved keys
+
+pub or_turned : (a b c : Bool) → (a || (b || c)) ≡ (b || (a || c))
+or_turned true true c = refl
+or_turned true false c = refl
+or_turned false b c = refl
+
+pub or_twice : (a c : Bool) → (a || (a || c)) ≡ (a || c)
+or_twice true c = refl
+or_twice false c = refl
+
+mutual
+  reserved_norm : (v : Value) → reserved_in (norm v) ≡ reserved_in v
+  reserved_norm (scalar s) = refl
+  reserved_norm (array vs) = reserved_norm_items vs
+  reserved_norm (document ms) = ap (λ b. b || has_reserved (norm_members ms)) (some_reserved_norm ms) ∙ ap (λ b. some_reserved ms || b) (reserved_norm_members ms)
+  reserved_norm (scoped_code t ms) = reserved_norm_members ms
+
+  reserved_norm_items : (vs : Items) → reserved_in_items (norm_items vs) ≡ reserved_in_items vs
+  reserved_norm_items no_items = refl
+  reserved_norm_items (item v vs) = ap (λ b. b || reserved_in_items (norm_items vs)) (reserved_norm v) ∙ ap (λ b. reserved_in v || b) (reserved_norm_items vs)
+
+  some_reserved_norm : (ms : Members) → some_reserved (norm_members ms) ≡ some_reserved ms
+  some_reserved_norm no_members = refl
+  some_reserved_norm (member k v ms) = ap (λ b. is_reserved k || b) (some_reserved_norm ms)
+
+  pub reserved_norm_members : (ms : Members) → has_reserved (norm_members ms) ≡ has_reserved ms
+  reserved_norm_members no_members = refl
+  reserved_norm_members (member k v ms) = ap (λ b. b || has_reserved (norm_members ms)) (reserved_norm v) ∙ ap (λ b. reserved_in v || b) (reserved_norm_members ms)
+
+some_reserved_place : (k : List ℕ) (v : Value) (ms : Members) → some_reserved (place k v ms) ≡ (is_reserved k || some_reserved ms)
+some_reserved_place k v no_members = refl
+some_reserved_place k v (member l w ms) =
+    elim (Order k l) as (λ o. Order k l ≡ o → some_reserved (match_ordering o (member k v (member l w ms)) (member k v ms) (member l w (place k v ms))) ≡ (is_reserved k || (is_reserved l || some_reserved ms))) [
+      | Less ↦ λ e. refl
+      | Equal ↦ λ e. sym (ap (λ q. is_reserved k || (is_reserved q || some_reserved ms)) (sym (tied k l e)) ∙ or_twice (is_reserved k) (some_reserved ms))
+      | Greater ↦ λ e. ap (λ b. is_reserved l || b) (some_reserved_place k v ms) ∙ or_turned (is_reserved l) (is_reserved k) (some_reserved ms)
+    ] refl
+
+below_place : (k : List ℕ) (v : Value) (ms : Members) → look_up k ms ≡ None → has_reserved (place k v ms) ≡ (reserved_in v || has_reserved ms)
+below_place k v no_members h = refl
+below_place k v (member l w ms) h = by (Order k l) refl (below_place k v ms)
+  where
+    by : (o : Ordering) → Order k l ≡ o → (look_up k ms ≡ None → has_reserved (place k v ms) ≡ (reserved_in v || has_reserved ms))
+        → has_reserved (match_ordering o (member k v (member l w ms)) (member k v ms) (member l w (place k v ms))) ≡ (reserved_in v || (reserved_in w || has_reserved ms))
+    by Less e r = refl
+    by Equal e r = absurd (met k l w (look_up k ms) e h)
+    by Greater e r = ap (λ b. reserved_in w || b) (r (not_first (bytes_eq k l) w (look_up k ms) h)) ∙ or_turned (reserved_in w) (reserved_in v) (has_reserved ms)
+
+mutual
+  reserved_asc : (v : Value) → HasDistinctKeys v → reserved_in (asc v) ≡ reserved_in v
+  reserved_asc (scalar s) h = refl
+  reserved_asc (array vs) h = reserved_asc_items vs h
+  reserved_asc (document ms) h = ap (λ b. b || has_reserved (asc_members ms)) (some_reserved_asc ms) ∙ ap (λ b. some_reserved ms || b) (reserved_asc_members ms h)
+  reserved_asc (scoped_code t ms) h = reserved_asc_members ms h
+
+  reserved_asc_items : (vs : Items) → ItemsHaveDistinctKeys vs → reserved_in_items (asc_items vs) ≡ reserved_in_items vs
+  reserved_asc_items no_items h = refl
+  reserved_asc_items (item v vs) h = ap (λ b. b || reserved_in_items (asc_items vs)) (reserved_asc v h.0) ∙ ap (λ b. reserved_in v || b) (reserved_asc_items vs h.1)
+
+  some_reserved_asc : (ms : Members) → some_reserved (asc_members ms) ≡ some_reserved ms
+  some_reserved_asc no_members = refl
+  some_reserved_asc (member k v ms) = some_reserved_place k (asc v) (asc_members ms) ∙ ap (λ b. is_reserved k || b) (some_reserved_asc ms)
+
+  pub reserved_asc_members : (ms : Members) → MembersHaveDistinctKeys ms → has_reserved (asc_members ms) ≡ has_reserved ms
+  reserved_asc_members no_members h = refl
+  reserved_asc_members (member k v ms) h = below_place k (asc v) (asc_members ms) (none_ordered k ms h.0)
+      ∙ ap (λ b. b || has_reserved (asc_members ms)) (reserved_asc v h.1) ∙ ap (λ b. reserved_in v || b) (reserved_asc_members ms h.2)
+
+pub reserved_same : (d e : Members) → IsSound (document d) → IsSound (document e) → Same (document d) (document e) → has_reserved d ≡ has_reserved e
+reserved_same d e s t h =
+    let i : document (asc_members (norm_members d)) ≡ document (asc_members (norm_members e)) = canonical_same (document d) (document e) h in
+    let j : asc_members (norm_members d) ≡ asc_members (norm_members e) = cc in
+    sym (reserved_asc_members (norm_members d) (norm_distinct (document d) s.distinct) ∙ reserved_norm_members d) ∙ ap has_reserved j
+    ∙ reserved_asc_members (norm_members e) (norm_distinct (document e) t.distinct) ∙ reserved_norm_members e
