@@ -207,9 +207,10 @@ impl Bson {
     ghost use Rattle.bson_model.specs.View.{view};
     ghost use Rattle.bson_model.specs.JsonRead.{Gives, read};
 
-    /// The value that a JSON tree stands for. A number that is no signed integer of 64 bits is `FiniteDouble`; what is wrong
-    /// with a typed value is told by the error's kind. Where there are several faults, the first one in the order of keys is
-    /// told, a further key before the fault of a body.
+    /// The value that a JSON tree stands for (MongoDB Extended JSON v2, "Parsing"). `InvalidObjectId` tells a text under
+    /// `$oid` that is no object id, `FiniteDouble` a number that is no signed integer of 64 bits or a numeral under
+    /// `$numberDouble` that is not zero, `DeserializationError` any other fault of a typed value, `Memory` a refused growth.
+    /// Of several faults the first one in the order of keys is told, a further key before the fault of a body.
     pub fn try_from_value(alloc: Global, json: Value) -> Result<Bson>
         ensures { Gives view result (read (tree_of json)) }
     {
