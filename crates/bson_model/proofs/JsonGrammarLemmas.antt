@@ -1,5 +1,5 @@
 -- What is read is what the grammar says.
-use Rattle.std.proofs.Common.{◌≡◌, ℕ, ◌^◌, ◌<◌, ◌==◌, ◌&&◌, ◌↔◌, nat_lt, ℤ, Bool, true, false, List, codes, Option, Some, None, Result, Ok, Err, bytes_eq, refl, sym, ap, ◌∙◌, arith}
+use Rattle.std.proofs.Common.{◌≡◌, ℕ, ◌^◌, ◌<◌, ◌&&◌, ◌↔◌, nat_lt, ℤ, Bool, true, false, List, codes, Option, Some, None, Result, Ok, Err, bytes_eq, refl, sym, ap, ◌∙◌, arith}
 use Rattle.std.proofs.lemmas.Slice.Eq.{bytes_eq-Decides}
 use Rattle.base64.specs.GeneralPurpose.{decode_of}
 use Rattle.base64.specs.Engines.{standard}
@@ -12,17 +12,16 @@ use Rattle.bson_base.specs.ObjectIdText.{object_id_of}
 use Rattle.bson_base.specs.Options.{sorted_text}
 use Rattle.bson_base.specs.ScalarTexts.{read_uuid}
 use Rattle.bson_base.specs.Tags.{subtype_of}
-use Rattle.bson_base.specs.Value.{Scalar, double, string, binary, undefined, object_id, boolean, date_time, null, regex, db_pointer, code, symbol, int32, timestamp, int64, decimal, max_key, min_key, Value, scalar, array, document, scoped_code, Items, no_items, item, Members, no_members, member}
+use Rattle.bson_base.specs.Value.{Scalar, double, binary, undefined, object_id, date_time, regex, db_pointer, code, symbol, int32, timestamp, int64, decimal, max_key, min_key, Value, scalar, array, document, Items, no_items, item, Members, no_members, member}
 use Rattle.bson_base.specs.declared.oid.Error as oid
 use Rattle.bson_base.specs.declared.spec.BinarySubtype.{BinarySubtype}
 use Rattle.bson_base.specs.declared.spec.BinarySubtype.TheVariants.{Uuid}
 use Rattle.bson_base.proofs.PrintedReads.{both as both_true}
-use Rattle.bson_model.specs.JsonGrammar.{If, one, two, ReadsDate, ReadsBody, Reads, ReadsItems, ReadsMembers, ReadsTyped, ReadsScope}
+use Rattle.bson_model.specs.JsonGrammar.{one, two, ReadsDate, ReadsBody, Reads, ReadsItems, ReadsMembers, ReadsTyped, ReadsScope}
 use Rattle.bson_model.specs.JsonKeys.{Reserved, of_id, of_symbol, of_regex, of_int, of_long, of_double, of_decimal, of_binary, of_uuid, of_code, of_timestamp, of_date, of_min, of_max, of_pointer, of_undefined, key_of, scope_key, reserved_of, any_reserved}
-use Rattle.bson_model.specs.JsonRead.{◌>>=◌, wanted, accepted, accepted_id, text_of, single, under, pair_of, both, u32_from, u32_of, is_one, is_true, integer, whole, id_body, regex_body, int_body, long_body, double_body, decimal_body, byte_body, base64_body, binary_body, uuid_body, timestamp_body, date_body, pointer_body, constant, read_body, scalar_of, read_wrapped, with_scope, read, read_items, read_members, read_typed, read_scope}
+use Rattle.bson_model.specs.JsonRead.{◌>>=◌, wanted, accepted, accepted_id, text_of, single, under, pair_of, both, u32_from, u32_of, is_one, is_true, integer, whole, id_body, regex_body, int_body, long_body, double_body, decimal_body, byte_body, base64_body, binary_body, uuid_body, timestamp_body, date_body, pointer_body, constant, read_body, read_wrapped, with_scope, read, read_items, read_members, read_typed, read_scope}
 use Rattle.bson_model.specs.JsonTexts.{int_of, long_of, double_of, byte_of}
 use Rattle.bson_model.specs.declared.extjson.de.Error.{Error}
-use Rattle.bson_model.specs.declared.extjson.de.Error.TheVariants.{DeserializationError}
 
 -- ---- an answer that is there, step by step
 

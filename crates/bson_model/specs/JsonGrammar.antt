@@ -1,6 +1,6 @@
 -- The grammar of Extended JSON as it is read (MongoDB Extended JSON v2, "Conversion table" and "Parsing"): which value a
 -- JSON tree stands for. The members of an object stand in the order of their keys, each key once.
-use Rattle.std.specs.Prelude.{◌≡◌, ℕ, ◌^◌, ◌<◌, ℤ, Bool, true, false, List, codes, Some, Ok}
+use Rattle.std.specs.Prelude.{◌≡◌, ℕ, ◌^◌, ◌<◌, ℤ, MatchBool, true, List, codes, Some, Ok}
 use Rattle.base64.specs.GeneralPurpose.{decode_of}
 use Rattle.base64.specs.Engines.{standard}
 use Rattle.serde_json.specs.Data as tree
@@ -17,10 +17,6 @@ use Rattle.bson_base.specs.declared.spec.BinarySubtype.TheVariants.{Uuid}
 use Rattle.bson_model.specs.JsonKeys.{Reserved, of_id, of_symbol, of_regex, of_int, of_long, of_double, of_decimal, of_binary, of_uuid, of_code, of_timestamp, of_date, of_min, of_max, of_pointer, of_undefined, key_of, scope_key, reserved_of, any_reserved}
 use Rattle.bson_model.specs.JsonTexts.{int_of, long_of, double_of, byte_of}
 use Rattle.bson_model.specs.JsonRead.{integer}
-
-abbrev pub If : Bool → Type 0 → Type 0 → Type 0
-If true A B = A
-If false A B = B
 
 -- an object with one member
 abbrev pub one : List ℕ → Data → Data
@@ -64,7 +60,7 @@ abbrev mutual
   Reads (number n) v = (z : ℤ) × (as_i64 n ≡ Some z) × (v ≡ integer z)
   Reads (text t) v = v ≡ scalar (string t)
   Reads (tree.array js) v = (vs : Items) × ReadsItems js vs × (v ≡ array vs)
-  Reads (object js) v = If (any_reserved js) (ReadsTyped js v) ((ms : Members) × ReadsMembers js ms × (v ≡ document ms))
+  Reads (object js) v = MatchBool (any_reserved js) (ReadsTyped js v) ((ms : Members) × ReadsMembers js ms × (v ≡ document ms))
 
   pub ReadsItems : tree.Items → Items → Type 0
   ReadsItems tree.no_items no_items = Unit {0}
