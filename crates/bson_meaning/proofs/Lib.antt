@@ -12,3 +12,8 @@ pub mod JsonReads
 pub mod Putting
 pub mod InOrder
 pub mod KeyLaw
+pub mod JsonRanges
+pub mod JsonBase64
+pub mod JsonDates
+pub mod JsonUuids
+pub mod JsonSound
