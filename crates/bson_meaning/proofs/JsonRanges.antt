@@ -1,8 +1,7 @@
 -- What the texts of Extended JSON read as lies in the ranges of its kinds.
-use Rattle.std.proofs.Common.{◌≡◌, ℕ, zero, suc, ◌+◌, ◌*◌, ◌/◌, ◌%◌, ◌^◌, ◌<◌, ◌==◌, ◌&&◌, ◌||◌, ℤ, pos, negsuc, Bool, true, false, if◌then◌else◌, List, [], ◌∷◌, length, Option, Some, None, Result, Ok, Err, refl, sym, ap, ◌∙◌, subst, arith}
-use Rattle.std.specs.Prelude.{slice_index, codes, FitsSigned, int_le}
+use Rattle.std.proofs.Common.{◌≡◌, ℕ, zero, suc, ◌+◌, ◌*◌, ◌/◌, ◌%◌, ◌^◌, ◌<◌, ◌==◌, ◌||◌, ℤ, pos, negsuc, Bool, true, false, if◌then◌else◌, List, [], ◌∷◌, length, Option, Some, None, Ok, Err, refl, sym, ap, ◌∙◌, subst, arith}
+use Rattle.std.specs.Prelude.{codes, FitsSigned, int_le}
 use Rattle.std.specs.Int.{w32, w64}
-use Rattle.std.specs.List.{list_all}
 use Rattle.std.proofs.lemmas.Bool.{leb-true, eqb-true}
 use Rattle.hex.specs.Hex.{hex_digit_value}
 use Rattle.bson_base.specs.Decimal.{bytes_of, sixteen_bytes, cut, is_e, is_named, all_zeros}
@@ -11,7 +10,6 @@ use Rattle.bson_base.specs.ObjectIdText.{object_id_of, even_text, first_other, d
 use Rattle.bson_base.specs.declared.oid.Error.TheVariants.{InvalidHexStringLength}
 use Rattle.bson_base.proofs.PrintedReads.{both}
 use Rattle.bson_model.specs.JsonTexts.{int_of, long_of, integer_of, fits_32, fits_64, only, double_of, sign_bit, read_unsigned, read_numeral, is_numeral, signed, without_dot, byte_of, byte_from}
-use Rattle.bson_model.specs.declared.extjson.de.Error.{Error}
 use Rattle.bson_model.specs.declared.extjson.de.Error.TheVariants.{DeserializationError, FiniteDouble}
 
 -- ---- hexadecimal digits

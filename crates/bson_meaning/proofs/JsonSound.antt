@@ -1,5 +1,5 @@
 -- What a JSON tree reads as is sound, and its normal form clean.
-use Rattle.std.proofs.Common.{◌≡◌, ℕ, ℤ, pos, negsuc, ◌<◌, ◌^◌, ◌==◌, nat_lt, List, [], ◌∷◌, length, Bool, true, false, cond, if◌then◌else◌, Option, Some, None, Result, Ok, Err, refl, ap, ◌∙◌, sym, subst, arith}
+use Rattle.std.proofs.Common.{◌≡◌, ℕ, ℤ, ◌<◌, ◌^◌, nat_lt, List, length, Bool, true, false, cond, if◌then◌else◌, Option, Some, None, Result, Ok, Err, refl, ap, ◌∙◌, sym, subst, arith}
 use Rattle.std.specs.Prelude.{◌&&◌, bytes_eq, codes, FitsSigned, IsUtf8}
 use Rattle.std.specs.Int.{w32, w64}
 use Rattle.std.proofs.lemmas.Bool.{ltb-true}
@@ -13,16 +13,13 @@ use Rattle.bson_base.specs.Decimal.{sixteen_bytes}
 use Rattle.bson_base.specs.Decimal as decimals
 use Rattle.bson_base.specs.Kinds.{AreBytes, HasNo00, IsPlainScalar, IsCleanScalar, IsRangedScalar, IsPlain, IsClean, IsSound}
 use Rattle.bson_base.specs.ObjectIdText.{object_id_of}
-use Rattle.bson_base.specs.Options.{sorted_text}
 use Rattle.bson_base.specs.ScalarTexts.{read_uuid}
 use Rattle.bson_base.specs.Tags.{subtype_of}
-use Rattle.bson_base.specs.Value.{Scalar, string, binary, undefined, object_id, boolean, date_time, null, regex, db_pointer, code, symbol, int32, timestamp, int64, decimal, double, max_key, min_key, Value, scalar, array, document, scoped_code, Items, no_items, item, Members, no_members, member, look_up, EachPart, EachItem, EachMember, HasDistinctKeys, ItemsHaveDistinctKeys, MembersHaveDistinctKeys}
+use Rattle.bson_base.specs.Value.{Scalar, undefined, int32, int64, max_key, min_key, Value, scalar, document, Items, no_items, Members, no_members, look_up, EachPart, EachItem, EachMember, HasDistinctKeys, ItemsHaveDistinctKeys, MembersHaveDistinctKeys}
 use Rattle.bson_base.specs.declared.oid.Error as oid
-use Rattle.bson_base.specs.declared.spec.BinarySubtype.{BinarySubtype}
-use Rattle.bson_base.specs.declared.spec.BinarySubtype.TheVariants.{Uuid}
 use Rattle.bson_model.specs.JsonKeys.{Reserved, any_reserved, key_of, reserved_of, scope_key, of_id, of_symbol, of_regex, of_int, of_long, of_double, of_decimal, of_binary, of_uuid, of_code, of_timestamp, of_date, of_min, of_max, of_pointer, of_undefined}
-use Rattle.bson_model.specs.JsonRead.{◌>>=◌, wanted, accepted, accepted_id, text_of, single, under, both, pair_of, below_32, u32_from, u32_of, is_one, is_true, integer, whole, id_body, regex_body, int_body, long_body, double_body, decimal_body, base64_body, byte_body, binary_body, uuid_body, timestamp_body, date_body, pointer_body, constant, read_body, scalar_of, read_wrapped, with_scope, read, read_items, read_members, read_typed, read_scope}
-use Rattle.bson_model.specs.JsonTexts.{fits_32, int_of, long_of, byte_of, double_of}
+use Rattle.bson_model.specs.JsonRead.{◌>>=◌, wanted, accepted, accepted_id, text_of, single, under, both, pair_of, below_32, u32_of, is_one, is_true, integer, whole, id_body, regex_body, int_body, long_body, double_body, decimal_body, base64_body, byte_body, binary_body, uuid_body, timestamp_body, date_body, pointer_body, constant, read_body, read_wrapped, with_scope, read, read_items, read_members, read_typed, read_scope}
+use Rattle.bson_model.specs.JsonTexts.{fits_32, int_of, long_of, byte_of}
 use Rattle.bson_model.specs.declared.extjson.de.Error.{Error}
 use Rattle.bson_model.specs.declared.extjson.de.Error.TheVariants.{DeserializationError}
 use Rattle.bson_meaning.specs.JsonTrees.{IsAbsent, IsJson, AreJson, IsJsonObject}
