@@ -17,3 +17,4 @@ pub mod JsonBase64
 pub mod JsonDates
 pub mod JsonUuids
 pub mod JsonSound
+pub mod JsonValues
