@@ -4,6 +4,7 @@ pub mod Lengths
 pub mod Meant
 pub mod One
 pub mod Options
+pub mod Parts
 pub mod Places
 pub mod Scalars
 pub mod Settled

@@ -17,6 +17,7 @@ use Rattle.bson_base.proofs.OptionsLemmas.{sorted_text-in_order}
 use Rattle.bson_bytes.specs.Spells.{HoldsScalar, SpellsValue, SpellsItems, SpellsMembers, settle_scalar, settle_value, settle_items, settle, Means}
 use Rattle.bson_bytes.proofs.Distinct.{chosen, distinct, each_without, each_at}
 use Rattle.bson_bytes.proofs.One.{parts_in}
+use Rattle.bson_bytes.proofs.Parts.{each_member}
 use Rattle.bson_bytes.proofs.Options.{no_zero_sorted, text_sorted}
 use Rattle.bson_bytes.proofs.Spelled.{IsCleanPart}
 use Rattle.bson_frame.specs.declared.error.ErrorKind.{ErrorKind}
@@ -159,24 +160,6 @@ mutual
       let rest = good_members is.1 ms parts.1 is.6 in
       let key = is.2.key_name in
       ((subst HasNo00 (sym is.3) key.no_zero, subst IsUtf8 (sym is.3) key.text), chosen {P = EachPart IsGoodKey IsGood} (look_up k (settle ms)) (settle_value v) first (λ w e. each_at IsGoodKey IsGood (settle ms) k w rest e), each_without IsGoodKey IsGood k (settle ms) rest)
-
--- ---- taken apart
-
-module _ (K L : List ℕ → Type 0) (S T : Scalar → Type 0) (f : (k : List ℕ) → K k → L k) (g : (s : Scalar) → S s → T s) where
-  mutual
-    pub each_part : (v : Value) → EachPart K S v → EachPart L T v
-    each_part (scalar s) h = g s h
-    each_part (array vs) h = each_item vs h
-    each_part (document ms) h = each_member ms h
-    each_part (scoped_code t ms) h = (g (code t) h.0, each_member ms h.1)
-
-    each_item : (vs : Items) → EachItem K S vs → EachItem L T vs
-    each_item no_items h = tt
-    each_item (item v vs) h = (each_part v h.0, each_item vs h.1)
-
-    pub each_member : (ms : Members) → EachMember K S ms → EachMember L T ms
-    each_member no_members h = tt
-    each_member (member k v ms) h = (f k h.0, each_part v h.1, each_member ms h.2)
 
 pub meaning_is_clean : (bytes : List ℕ) (d : Members) → AreBytes bytes → Means bytes d → IsClean (document d)
 meaning_is_clean bytes d h m =

@@ -38,35 +38,35 @@ regex_size p o rest plain ranged = record {
   declared = simp length-append (omega arith);
 }
 
-pub scalar_sized : (s : Scalar) (rest : List ℕ) → IsTold s → HasSize (scalar_kind s) (scalar_bytes s ++ rest) (length (scalar_bytes s))
-scalar_sized (double n) rest h = le64_length n
-scalar_sized (string t) rest h = text_size t rest h.small
-scalar_sized (binary s bs) rest h =
-    let n : number ((le32 (length (inner s bs)) ++ subtype_byte s ∷ inner s bs) ++ rest) ≡ length (inner s bs) = ap number (append_assoc (le32 (length (inner s bs))) (subtype_byte s ∷ inner s bs) rest) ∙ number_back (length (inner s bs)) _ (omega (arith, inner_length s bs, h.small)) in
+pub scalar_sized : (s : Scalar) (rest : List ℕ) → IsPlainScalar s → IsRangedScalar s → scalar_size s < 2 ^ 31 → HasSize (scalar_kind s) (scalar_bytes s ++ rest) (length (scalar_bytes s))
+scalar_sized (double n) rest plain ranged h = le64_length n
+scalar_sized (string t) rest plain ranged h = text_size t rest h
+scalar_sized (binary s bs) rest plain ranged h =
+    let n : number ((le32 (length (inner s bs)) ++ subtype_byte s ∷ inner s bs) ++ rest) ≡ length (inner s bs) = ap number (append_assoc (le32 (length (inner s bs))) (subtype_byte s ∷ inner s bs) rest) ∙ number_back (length (inner s bs)) _ (omega (arith, inner_length s bs, h)) in
     record {
       declared = payload_length (binary s bs) ∙ omega (arith, n, inner_length s bs);
-      fits = omega (arith, n, inner_length s bs, h.small);
+      fits = omega (arith, n, inner_length s bs, h);
     }
-scalar_sized undefined rest h = refl
-scalar_sized (object_id bs) rest h = h.ranged.0
-scalar_sized (boolean b) rest h = refl
-scalar_sized (date_time z) rest h = le64_length _
-scalar_sized null rest h = refl
-scalar_sized (regex p o) rest h = regex_size p o rest h.plain h.ranged
-scalar_sized (db_pointer t bs) rest h =
-    let l : length (text_bytes t ++ bs) ≡ length (text_bytes t) + 12 = length-append (text_bytes t) bs ∙ ap (λ n. length (text_bytes t) + n) h.ranged.1 in
+scalar_sized undefined rest plain ranged h = refl
+scalar_sized (object_id bs) rest plain ranged h = ranged.0
+scalar_sized (boolean b) rest plain ranged h = refl
+scalar_sized (date_time z) rest plain ranged h = le64_length _
+scalar_sized null rest plain ranged h = refl
+scalar_sized (regex p o) rest plain ranged h = regex_size p o rest plain ranged
+scalar_sized (db_pointer t bs) rest plain ranged h =
+    let l : length (text_bytes t ++ bs) ≡ length (text_bytes t) + 12 = length-append (text_bytes t) bs ∙ ap (λ n. length (text_bytes t) + n) ranged.1 in
     record {
       room = omega (arith, l);
-      text = rw (append_assoc (text_bytes t) bs rest) (subst (λ n. IsTextSize (text_bytes t ++ (bs ++ rest)) n) (omega (arith, l)) (text_size t (bs ++ rest) (omega (arith, h.small))));
+      text = rw (append_assoc (text_bytes t) bs rest) (subst (λ n. IsTextSize (text_bytes t ++ (bs ++ rest)) n) (omega (arith, l)) (text_size t (bs ++ rest) (omega (arith, h))));
     }
-scalar_sized (code t) rest h = text_size t rest h.small
-scalar_sized (symbol t) rest h = text_size t rest h.small
-scalar_sized (int32 z) rest h = le32_length _
-scalar_sized (timestamp t i) rest h = simp (length-append, le32_length)
-scalar_sized (int64 z) rest h = le64_length _
-scalar_sized (decimal bs) rest h = h.ranged.0
-scalar_sized max_key rest h = refl
-scalar_sized min_key rest h = refl
+scalar_sized (code t) rest plain ranged h = text_size t rest h
+scalar_sized (symbol t) rest plain ranged h = text_size t rest h
+scalar_sized (int32 z) rest plain ranged h = le32_length _
+scalar_sized (timestamp t i) rest plain ranged h = simp (length-append, le32_length)
+scalar_sized (int64 z) rest plain ranged h = le64_length _
+scalar_sized (decimal bs) rest plain ranged h = ranged.0
+scalar_sized max_key rest plain ranged h = refl
+scalar_sized min_key rest plain ranged h = refl
 
 -- ---- no fault
 

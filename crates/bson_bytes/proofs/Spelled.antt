@@ -1,7 +1,7 @@
 -- What is written spells what was written.
 use Rattle.std.proofs.Common.{◌≡◌, ℕ, suc, ◌+◌, ◌%◌, ◌^◌, ◌<◌, List, [], ◌∷◌, ◌++◌, length, drop, inl, inr, refl, sym, ap, ◌∙◌, arith, append_assoc, length-append, subst}
 use Rattle.std.specs.Prelude.{IsUtf8, decimal as digits}
-use Rattle.bson_base.specs.Kinds.{HasNo00, IsPlainScalar, IsCleanScalar, IsRangedScalar}
+use Rattle.bson_base.specs.Kinds.{HasNo00, IsPlainScalar, IsCleanScalar, IsRangedScalar, IsPlain}
 use Rattle.bson_base.specs.Tags.{tag_byte}
 use Rattle.bson_base.specs.Value.{Scalar, value_kind, Value, scalar, array, document, scoped_code, Items, no_items, item, Members, no_members, member, EachPart, EachItem, EachMember}
 use Rattle.std.proofs.lemmas.Fmt.{IsAscii-decimal, decimal_by_steps_wide}
@@ -10,6 +10,7 @@ use Rattle.bson_bytes.specs.Encode.{le32, text_bytes, ended, framed, scoped, sca
 use Rattle.bson_bytes.specs.Spells.{SpellsValue, SpellsItems, SpellsMembers}
 use Rattle.bson_bytes.proofs.Lengths.{text_length, framed_length, scoped_length, items_length, members_length}
 use Rattle.bson_bytes.proofs.Extents.{number_back, text_size, framed_size, framed_envelope}
+use Rattle.bson_bytes.proofs.Parts.{each_part}
 use Rattle.bson_bytes.proofs.Scalars.{IsTold, scalar_sized, scalar_faultless, scalar_held, text_back, pointer_back}
 use Rattle.bson_frame.specs.declared.error.ErrorKind.{ErrorKind}
 use Rattle.bson_frame.specs.declared.error.ErrorKind.TheVariants.{MalformedValue, Utf8EncodingError, OutOfMemory}
@@ -75,11 +76,15 @@ pub framed_inside : (b : List ℕ) → drop 4 (framed b) ≡ b ++ 0 ∷ []
 unfolding framed le32
 framed_inside b = refl
 
-value_sized : (v : Value) (rest : List ℕ) → EachPart HasNo00 IsCleanPart v → EachPart IsUtf8 IsRangedScalar v → value_size v < 2 ^ 31 → HasSize (value_kind v) (value_bytes v ++ rest) (length (value_bytes v))
-value_sized (scalar s) rest clean ranged h = scalar_sized s rest (told s clean ranged h)
-value_sized (array vs) rest clean ranged h = framed_size (items_bytes 0 vs) rest (omega (arith, h, items_length 0 vs))
-value_sized (document ms) rest clean ranged h = framed_size (members_bytes ms) rest (omega (arith, h, members_length ms))
-value_sized (scoped_code t ms) rest clean ranged h = scoped_sized t (members_bytes ms) rest (omega (arith, h, members_length ms))
+pub value_sized : (v : Value) (rest : List ℕ) → IsPlain v → EachPart IsUtf8 IsRangedScalar v → value_size v < 2 ^ 31 → HasSize (value_kind v) (value_bytes v ++ rest) (length (value_bytes v))
+value_sized (scalar s) rest plain ranged h = scalar_sized s rest plain ranged h
+value_sized (array vs) rest plain ranged h = framed_size (items_bytes 0 vs) rest (omega (arith, h, items_length 0 vs))
+value_sized (document ms) rest plain ranged h = framed_size (members_bytes ms) rest (omega (arith, h, members_length ms))
+value_sized (scoped_code t ms) rest plain ranged h = scoped_sized t (members_bytes ms) rest (omega (arith, h, members_length ms))
+
+-- what is clean is plain
+pub plain_value : (v : Value) → EachPart HasNo00 IsCleanPart v → IsPlain v
+plain_value v clean = each_part HasNo00 HasNo00 IsCleanPart IsPlainScalar (λ k h. h) (λ s h. h.0) v clean
 
 mutual
   pub spelled_value : (v : Value) → EachPart HasNo00 IsCleanPart v → EachPart IsUtf8 IsRangedScalar v → value_size v < 2 ^ 31 → SpellsValue (value_bytes v) v
@@ -100,7 +105,7 @@ mutual
     record {
       parts = element_parts (tag_byte (value_kind v)) (digits i) (value_bytes v) (items_bytes (suc i) vs);
       key_name = digits_name i (omega (arith, small));
-      size = value_sized v (items_bytes (suc i) vs ++ 0 ∷ []) clean.0 ranged.0 (omega (arith, h));
+      size = value_sized v (items_bytes (suc i) vs ++ 0 ∷ []) (plain_value v clean.0) ranged.0 (omega (arith, h));
     },
     refl,
     spelled_value v clean.0 ranged.0 (omega (arith, h)),
@@ -115,7 +120,7 @@ mutual
     record {
       parts = element_parts (tag_byte (value_kind v)) k (value_bytes v) (members_bytes ms);
       key_name = record { no_zero = clean.0; text = ranged.0 };
-      size = value_sized v (members_bytes ms ++ 0 ∷ []) clean.1 ranged.1 (omega (arith, h));
+      size = value_sized v (members_bytes ms ++ 0 ∷ []) (plain_value v clean.1) ranged.1 (omega (arith, h));
     },
     refl,
     refl,

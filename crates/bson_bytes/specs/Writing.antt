@@ -8,6 +8,7 @@ use Rattle.bson_frame.specs.declared.error.ErrorKind.{ErrorKind}
 use Rattle.bson_frame.specs.declared.error.ErrorKind.TheVariants.{MalformedValue, Utf8EncodingError, OutOfMemory}
 use Rattle.bson_frame.specs.View.{fault_key}
 
+-- what the kind of an error says where a tree is written
 abbrev pub Refuses : Type 0 → ErrorKind → Type 0
 Refuses Reason MalformedValue = Reason
 Refuses Reason Utf8EncodingError = ⊥

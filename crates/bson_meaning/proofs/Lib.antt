@@ -18,3 +18,6 @@ pub mod JsonDates
 pub mod JsonUuids
 pub mod JsonSound
 pub mod JsonValues
+pub mod Progress
+pub mod Held
+pub mod Heights

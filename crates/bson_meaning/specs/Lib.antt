@@ -4,3 +4,4 @@ pub mod Sames
 pub mod JsonReserved
 pub mod Pairs
 pub mod JsonTrees
+pub mod Gate

@@ -3,10 +3,13 @@
 
 ghost use Rattle.std.specs.Prelude.{◌≡◌, ◌↔◌, ◌≤◌, List, ℕ, length};
 ghost use Rattle.bson_base.specs.Kinds.{IsClean, IsPlain, IsSound};
-ghost use Rattle.bson_base.specs.Value.{document, Members, Value};
+ghost use Rattle.bson_base.specs.Value.{document, levels, Members, Value};
 ghost use Rattle.bson_bytes.specs.Encode.{size};
+ghost use Rattle.bson_bytes.specs.Spells.{Means};
 ghost use Rattle.bson_model.specs.Equal.{Equal};
+ghost use Rattle.bson_meaning.specs.Gate.{IsRefused, level_limit, Passes};
 ghost use Rattle.bson_meaning.specs.Meaning.{norm, norm_members, asc_members, key, Same};
+ghost use Rattle.bson_meaning.specs.declared.reading.GateError.{GateError};
 
 /// Meaning the same is an equivalence.
 pub fn same_is_an_equivalence()
@@ -36,4 +39,14 @@ pub fn keys_tell()
 pub fn keys_keep_sizes()
     ensures bytes { (d : Members) → IsClean (document d) → IsSound (document d) → length (key d) ≡ size d }
     ensures trees { (d : Members) → IsClean (document d) → IsSound (document d) → size (asc_members (norm_members d)) ≡ size d }
+{}
+
+/// Bytes that pass the gate are refused by no test: where a fault or too many levels are told, they stand.
+pub fn one_answer_of_the_gate()
+    ensures { (bytes : List ℕ) (error : GateError) → Passes bytes → IsRefused bytes error → ⊥ }
+{}
+
+/// Bytes that pass the gate mean a document of at most 100 levels.
+pub fn passing_means()
+    ensures { (bytes : List ℕ) → Passes bytes → (d : Members) × Means bytes d × (levels (document d) ≤ level_limit) }
 {}

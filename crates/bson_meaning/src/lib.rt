@@ -9,6 +9,7 @@ pub mod laws;
 mod levels;
 mod options;
 mod plain;
+mod reading;
 mod scalars;
 mod sorting;
 
@@ -17,4 +18,8 @@ pub use forms::normalize;
 pub use key::{KeyError, meaning_key};
 pub use levels::depth;
 pub use plain::is_plain;
+pub use reading::{GateError, gate};
 pub use sorting::sorted;
+
+#[cfg(test)]
+mod tests;

@@ -1,9 +1,8 @@
 -- From values that were read to the trees that they spell.
-use Rattle.std.proofs.Common.{◌≡◌, ℕ, ◌+◌, ◌-◌, ◌≤◌, List, Bool, true, false, length, drop, Option, Some, None, Result, Ok, Err, MatchResult, inr, length-drop, refl, sym, ap, ◌∙◌, subst, arith}
+use Rattle.std.proofs.Common.{◌≡◌, ℕ, ◌+◌, ◌≤◌, List, length, drop, Some, Result, Ok, Err, MatchResult, inr, length-drop, refl, sym, ap, ◌∙◌, subst, arith}
 use Rattle.bson_base.specs.declared.spec.ElementType.{ElementType}
-use Rattle.bson_base.specs.declared.spec.ElementType.TheVariants as kinds
 use Rattle.bson_base.specs.Scalars.{id_bytes, millis_of, decimal_bytes}
-use Rattle.bson_base.specs.Value.{Scalar, double, string, binary, undefined, object_id, boolean, date_time, null, regex, db_pointer, code, symbol, int32, timestamp, int64, decimal, max_key, min_key, scalar_kind, Value, scalar, array, document, scoped_code, value_kind}
+use Rattle.bson_base.specs.Value.{Scalar, double, string, binary, undefined, object_id, boolean, date_time, null, regex, db_pointer, code, symbol, int32, timestamp, int64, decimal, max_key, min_key, scalar_kind, Value, scalar, value_kind}
 use Rattle.bson_bytes.specs.Spells.{HoldsScalar, SpellsValue, SpellsItems, SpellsMembers}
 use Rattle.bson_frame.specs.Frame.{number}
 use Rattle.bson_frame.specs.Payload.{code_in, scope_in, IsFaultless}

@@ -1,11 +1,9 @@
 -- Elements with a fault spell no tree.
-use Rattle.std.proofs.Common.{◌≡◌, ◌≢◌, ℕ, List, [], ◌∷◌, drop, Option, Some, None, Result, Ok, Err, MatchResult, IfErr, Vec, Global, ◌⊎◌, inl, inr, refl, sym, subst}
+use Rattle.std.proofs.Common.{◌≡◌, ℕ, List, drop, Option, Some, None, Result, Ok, Err, MatchResult, IfErr, Vec, Global, ◌⊎◌, inl, inr, refl, sym, subst}
 use Rattle.bson_base.specs.declared.spec.ElementType.{ElementType}
-use Rattle.bson_base.specs.declared.spec.ElementType.TheVariants as kinds
-use Rattle.bson_base.specs.Value.{Scalar, double, string, binary, undefined, object_id, boolean, date_time, null, regex, db_pointer, code, symbol, int32, timestamp, int64, decimal, max_key, min_key, scalar_kind, Value, scalar, array, document, scoped_code, Items, no_items, item, Members, no_members, member, value_kind}
+use Rattle.bson_base.specs.Value.{Scalar, double, scalar_kind, Value, scalar, array, document, scoped_code, Items, no_items, item, Members, no_members, member, value_kind}
 use Rattle.bson_bytes.specs.Spells.{SpellsValue, SpellsItems, SpellsMembers, IsFaulty}
 use Rattle.bson_frame.specs.declared.error.ErrorKind.{ErrorKind}
-use Rattle.bson_frame.specs.declared.error.ErrorKind.TheVariants.{MalformedValue, Utf8EncodingError, OutOfMemory}
 use Rattle.bson_frame.specs.declared.error.Error.{Error}
 use Rattle.bson_frame.specs.Frame.{Element, IsFirstFrame}
 use Rattle.bson_frame.specs.Payload.{IsFaultless}
@@ -19,7 +17,7 @@ use Rattle.bson_raw.proofs.Progress.{told_on}
 use Rattle.bson_raw.proofs.Walks.{FramesAreOne, end_has_no_frame}
 
 -- a payload that spells a value has no fault of its own
-no_fault : (tag : ElementType) (payload : List ℕ) (v : Value) → value_kind v ≡ tag → SpellsValue payload v → IsFaultless tag payload
+pub no_fault : (tag : ElementType) (payload : List ℕ) (v : Value) → value_kind v ≡ tag → SpellsValue payload v → IsFaultless tag payload
 no_fault tag payload (scalar s) kind spells = subst (λ (t : ElementType). IsFaultless t payload) kind spells.0
 no_fault tag payload (array vs) kind spells = subst (λ (t : ElementType). IsFaultless t payload) kind (λ k h. h)
 no_fault tag payload (document ms) kind spells = subst (λ (t : ElementType). IsFaultless t payload) kind (λ k h. h)
@@ -48,10 +46,11 @@ not_inside : (inner : List ℕ) → IsInside inner → ((ms : Members) → Spell
 not_inside inner (inl (ms, h)) f g = f ms h
 not_inside inner (inr (vs, h)) f g = g vs h
 
-module _ (one : FramesAreOne) where
-  abbrev IsSpelled : Element → Type 0
-  IsSpelled e = (v : Value) × (value_kind v ≡ e.tag) × SpellsValue e.payload v
+-- the element's payload spells a value
+abbrev pub IsSpelled : Element → Type 0
+IsSpelled e = (v : Value) × (value_kind v ≡ e.tag) × SpellsValue e.payload v
 
+module _ (one : FramesAreOne) where
   members_front : (bytes : List ℕ) (e : Element) (rest : List ℕ) → IsFirstFrame bytes e rest → (ms : Members) → SpellsMembers bytes ms → IsSpelled e × ((after : Members) × SpellsMembers rest after)
   members_front bytes e rest first no_members h = absurd (end_has_no_frame bytes e rest h first)
   members_front bytes e rest first (member k v ms) h =
@@ -91,6 +90,10 @@ module _ (one : FramesAreOne) where
         spells_no_items way rest key kind fault after.0 after.1
     spells_no_items (into way) bytes key kind (e, rest, inner, first, faultless, is, fault) vs h =
         not_inside inner (inside_front e inner is (items_front bytes e rest first vs h).0) (spells_no_members way inner key kind fault) (spells_no_items way inner key kind fault)
+
+  -- the elements inside a payload that spells a value have no fault
+  pub inside_faulty : (e : Element) (inner : List ℕ) → elements_in e.tag e.payload ≡ Some inner → IsSpelled e → (way : Way) (key : Option (List ℕ)) (kind : ErrorKind) → IsFirstFault inner way key kind → ⊥
+  inside_faulty e inner is spelled way key kind fault = not_inside inner (inside_front e inner is spelled) (spells_no_members way inner key kind fault) (spells_no_items way inner key kind fault)
 
   pub no_document : (bytes inner : List ℕ) (result : Result Document Error) → inner ≡ drop 4 bytes → ConvertsMembers inner result → IfErr result (Tells (λ _ _. IsFaulty bytes))
   no_document bytes inner (Ok d) is h = tt

@@ -2,11 +2,13 @@ pub mod Walks
 pub mod Turns
 pub mod Runs
 pub mod Accesses
+pub mod Puts
+pub mod Sizes
+pub mod Gains
+pub mod Builds
 pub mod Settling
 pub mod Progress
 pub mod Converting
 pub mod Faults
 pub mod Reading
-pub mod Puts
-pub mod Sizes
-pub mod Gains
+pub mod FirstFaults

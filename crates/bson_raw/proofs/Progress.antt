@@ -1,5 +1,5 @@
 -- How far the conversion of elements has come.
-use Rattle.std.proofs.Common.{◌≡◌, ◌≢◌, ℕ, ◌+◌, ◌≤◌, List, [], ◌∷◌, ◌++◌, length, map, Bool, true, false, Option, Some, None, inl, inr, refl, sym, ap, ◌∙◌, subst, arith}
+use Rattle.std.proofs.Common.{◌≡◌, ◌≢◌, ℕ, ◌+◌, ◌≤◌, List, [], ◌∷◌, ◌++◌, length, map, Bool, false, Option, None, inl, inr, refl, sym, ap, ◌∙◌, subst, arith}
 use Rattle.std.proofs.lemmas.List.{length-append}
 use Rattle.bson_base.specs.Value.{Value, Items, no_items, item, Members, no_members, member, put, value_kind}
 use Rattle.bson_bytes.specs.Spells.{SpellsValue, SpellsItems, SpellsMembers, settle_value, settle_items, settle}
@@ -11,7 +11,7 @@ use Rattle.std.specs.Prelude.{IsTrue}
 use Rattle.bson_frame.specs.Frame.{Element, IsFirstFrame, IsStructuralFault}
 use Rattle.bson_model.specs.declared.bson.Bson.{Bson}
 use Rattle.bson_model.specs.View.{view, items_of}
-use Rattle.bson_raw.specs.Convert.{Way, here, past, into, IsFirstFault, HasFault, HasFaultIn, Told, Tells}
+use Rattle.bson_raw.specs.Convert.{here, past, into, HasFault, HasFaultIn, Told, Tells}
 use Rattle.bson_raw.proofs.Settling.{put_all, put_all_settles}
 
 -- a frame has two bytes more than its payload and what follows it

@@ -53,7 +53,7 @@ abbrev pub HasFaultIn : Element → Option (List ℕ) → ErrorKind → Type 0
 HasFaultIn e key kind = ((key ≡ Some e.key) × IsPayloadFault e.tag e.payload kind)
     ⊎ ((inner : List ℕ) × IsFaultless e.tag e.payload × (elements_in e.tag e.payload ≡ Some inner) × HasFault inner key kind)
 
--- want of memory, under no key, or what this says of the key and the kind
+-- a fault is told: want of memory, under no key, or a kind and a key of which this holds
 abbrev pub Told : (Option (List ℕ) → ErrorKind → Type 0) → Option (List ℕ) → ErrorKind → Type 0
 Told Fault key MalformedValue = Fault key MalformedValue
 Told Fault key Utf8EncodingError = Fault key Utf8EncodingError
@@ -112,8 +112,8 @@ Stands values.MinKey v = v ≡ scalar min_key
 Stands (values.DbPointer x) v = v ≡ scalar (db_pointer x.namespace.now (id_bytes x.id))
 
 -- a value that was read spells the tree of a value
-abbrev pub IsTreeOf : RawBsonRef → Bson → Type 0
-IsTreeOf r b = (v : Value) × Stands r v × (view b ≡ settle_value v)
+abbrev pub IsBsonOf : RawBsonRef → Bson → Type 0
+IsBsonOf r b = (v : Value) × Stands r v × (view b ≡ settle_value v)
 
 -- the first fault of a value that was read
 abbrev pub HasFaultInside : RawBsonRef → Option (List ℕ) → ErrorKind → Type 0
@@ -131,7 +131,7 @@ abbrev pub ConvertsElement : Element → Result Bson Error → Type 0
 ConvertsElement e result = IsPayload e.tag e.payload → MatchResult result (IsValueOf e) (Tells (HasFaultIn e))
 
 abbrev pub ConvertsValue : RawBsonRef → Result Bson Error → Type 0
-ConvertsValue r result = MatchResult result (IsTreeOf r) (Tells (HasFaultInside r))
+ConvertsValue r result = MatchResult result (IsBsonOf r) (Tells (HasFaultInside r))
 
 -- the bytes of an array mean the items
 abbrev pub MeansItems : List ℕ → Items → Type 0

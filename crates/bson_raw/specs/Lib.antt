@@ -3,8 +3,6 @@ pub mod Walk
 pub mod Value
 pub mod Read
 pub mod Access
-pub mod Convert
-pub mod Input
 pub mod Buffer
 pub mod Raw
 pub mod Append
@@ -12,3 +10,6 @@ pub mod Written
 pub mod Copied
 pub mod Places
 pub mod Trees
+pub mod Pairs
+pub mod Convert
+pub mod Input

@@ -49,7 +49,7 @@ pub(crate) fn elements(document: RawDocument<'_>) -> &[u8]
     elements
 }
 
-/// Puts a value under a key that may be there: it keeps its place, and loses its value.
+/// Puts a value under a key. A key that is there keeps its place, and its value goes.
 fn put_pair(
     alloc: Global,
     document: &mut Document,

@@ -1,12 +1,13 @@
 //! Laws of the walk.
 
-ghost use Rattle.std.specs.Prelude.{◌≡◌, ◌≤◌, ◌+◌, ◌-◌, ◌/◌, ◌↔◌, [], ℕ, List, Option, Result, Some, None, Err, length, slice_get};
+ghost use Rattle.std.specs.Prelude.{MatchResult, ◌≡◌, ◌≤◌, ◌+◌, ◌-◌, ◌/◌, ◌↔◌, [], ℕ, List, Option, Result, Some, None, Err, length, slice_get};
 ghost use Rattle.std.specs.Iterator.{Yields};
 ghost use Rattle.bson_frame.specs.Frame.{Element};
 ghost use Rattle.bson_frame.specs.declared.error.Error.{Error as Fault};
 ghost use Rattle.bson_frame.specs.declared.error.ErrorKind.{ErrorKind as Kind};
 ghost use Rattle.bson_raw.specs.Walk.{IsWalk, IsDocumentWalk, walk_items, raw_steps, items_left};
 ghost use Rattle.bson_raw.specs.View.{left_of, pairs_left, values_left};
+ghost use Rattle.bson_raw.specs.Convert.{HasFault};
 ghost use Rattle.bson_raw.specs.Read.{pair_steps, value_steps};
 ghost use Rattle.bson_raw.specs.declared.array_iter.RawArrayIter.{RawArrayIter as Values};
 ghost use Rattle.bson_raw.specs.declared.bson_ref.RawBsonRef.{RawBsonRef as Value};
@@ -14,6 +15,9 @@ ghost use Rattle.bson_raw.specs.declared.element.RawElement.{RawElement as Item}
 ghost use Rattle.bson_raw.specs.declared.values.Iter.{Iter as Pairs};
 ghost use Rattle.bson_raw.specs.declared.walk.RawIter.{RawIter as Elements};
 ghost use Rattle.std.specs.Borrow.{Bor};
+ghost use Rattle.bson_frame.specs.Payload.{IsEnvelope};
+
+use crate::document_buf::RawDocumentBuf;
 
 /// Bytes have a walk.
 pub fn a_walk()
@@ -67,3 +71,22 @@ pub fn array_iter_ends()
     ensures { (s t : Values) (items : List (Result Value Fault)) → Yields value_steps s items t
         → length items ≤ items_left (values_left s) }
 {}
+
+/// Bytes that pass as a document come back from its buffer as they were; others are refused.
+pub fn bytes_come_back(bytes: Vec<u8>) -> bson_frame::Result<Vec<u8>>
+    ensures { MatchResult result (λ back. back.items ≡ bytes.items) (λ _. IsEnvelope bytes.items → ⊥) }
+{
+    match RawDocumentBuf::from_bytes(bytes) {
+        Ok(document) => Ok(document.into_bytes()),
+        Err(e) => Err(e),
+    }
+}
+
+/// Elements have one first fault at most: the bytes alone tell its key and its kind.
+pub fn one_first_fault()
+    ensures { (bytes : List ℕ) (j k : Option (List ℕ)) (m n : Kind) → HasFault bytes j m → HasFault bytes k n
+        → (j ≡ k) × (m ≡ n) }
+{
+    bson_frame::laws::one_first_frame();
+    bson_frame::laws::one_structural_fault();
+}

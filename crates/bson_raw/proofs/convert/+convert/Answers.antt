@@ -1,4 +1,4 @@
-use Rattle.std.proofs.Common.{◌≡◌, ◌≢◌, string_bytes, ℕ, ◌∙◌, ◌∷◌, [], drop, length, Option, List, ap, refl, sym, subst, arith, rules}
+use Rattle.std.proofs.Common.{◌≢◌, ◌∙◌, ◌∷◌, [], ap, refl, subst, arith, rules}
 use Rattle.std.proofs.lemmas.Result.{err_from_is_err_and}
 use Rattle.bson_base.specs.Scalars.{id_bytes, millis_of, decimal_bytes}
 use Rattle.bson_base.specs.Value.{double, string, binary, undefined, object_id, boolean, date_time, null, regex, db_pointer, code, symbol, int32, timestamp, int64, decimal, max_key, min_key, scalar, array, document, scoped_code, put}

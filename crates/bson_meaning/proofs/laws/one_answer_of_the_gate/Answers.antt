@@ -1,0 +1,5 @@
+use Rattle.bson_meaning.proofs.Held.{one_answer}
+use Rattle.bson_meaning.proofs.laws.one_answer_of_the_gate.Goals as goal
+
+pub returns : goal.returns
+returns c = one_answer
