@@ -1,21 +1,21 @@
 -- What is written as a text in Extended JSON reads back.
-use Rattle.std.proofs.Common.{◌≡◌, ℕ, zero, suc, ◌+◌, ◌*◌, ◌/◌, ◌%◌, ◌^◌, ◌<◌, ◌≤◌, ◌==◌, ◌&&◌, ℤ, pos, negsuc, nat_lt, Bool, true, false, not, List, [], ◌∷◌, length, Option, Some, None, Ok, Err, if◌then◌else◌, refl, sym, ap, ◌∙◌, arith}
-use Rattle.std.specs.Prelude.{slice_index, codes, FitsSigned, int_le}
+use Rattle.std.proofs.Common.{◌≡◌, ℕ, zero, suc, ◌+◌, ◌*◌, ◌/◌, ◌%◌, ◌^◌, ◌<◌, ◌==◌, ℤ, pos, negsuc, nat_lt, Bool, true, false, not, List, [], ◌∷◌, length, Some, None, Ok, Err, if◌then◌else◌, refl, ap, ◌∙◌, arith}
+use Rattle.std.specs.Prelude.{slice_index, codes, FitsSigned}
 use Rattle.std.specs.Char.{is_ascii_digit}
 use Rattle.std.specs.Fmt.{decimal, signed_decimal}
 use Rattle.std.specs.Int.{w32, w64}
-use Rattle.std.specs.List.{prefix_len, position}
+use Rattle.std.specs.List.{prefix_len}
 use Rattle.base64.specs.GeneralPurpose.{encode_of, decode_of, IsBytes, IsConsistent}
 use Rattle.base64.specs.Engines.{standard}
 use Rattle.base64.proofs.EngineFacts.{decode_of-encode_of}
 use Rattle.hex.specs.Hex.{encode_lower, encode_with, hex_digit_value, is_hex_digit, lower_digits}
 use Rattle.hex.proofs.HexLemmas.{length-encode_with, IsDigits-lower_digits}
-use Rattle.bson_base.specs.Decimal.{Decimal, not_a_number, infinity, finite, IsUnpacked, all_digits, value, pack, print, read}
+use Rattle.bson_base.specs.Decimal.{Decimal, not_a_number, infinity, finite, IsUnpacked, all_digits, pack, print, read}
 use Rattle.bson_base.specs.Kinds.{AreBytes}
-use Rattle.bson_base.specs.ObjectIdText.{object_id_of, even_text, first_other, digit_bytes, digit_value}
+use Rattle.bson_base.specs.ObjectIdText.{object_id_of, even_text, first_other, digit_bytes}
 use Rattle.bson_base.specs.declared.oid.Error.TheVariants.{InvalidHexStringLength}
 use Rattle.bson_base.proofs.PrintedReads.{both, digits-decimal, printed_reads}
-use Rattle.bson_model.specs.JsonTexts.{int_of, long_of, integer_of, is_digits, signed, with_sign, fits_32, fits_64, only, double_of, byte_of, byte_from}
+use Rattle.bson_model.specs.JsonTexts.{int_of, long_of, integer_of, signed, fits_32, fits_64, only, double_of, byte_of}
 
 -- ---- two hexadecimal digits a byte
 

@@ -1,15 +1,15 @@
 -- A canonical tree reads as a value of the same meaning.
-use Rattle.std.proofs.Common.{suc, max, ◌≤◌, lit≤, arith, ◌≡◌, ℕ, ◌+◌, ◌<◌, ◌/◌, ◌%◌, ◌^◌, ◌==◌, List, [], ◌∷◌, ◌++◌, Bool, true, false, cond, if◌then◌else◌, Option, Some, None, Result, Ok, Err, refl, ap, ◌∙◌, sym, subst, ◌↔◌}
-use Rattle.std.specs.Prelude.{◌||◌, bytes_eq, codes, option_map, option_and_then, nat_lt, IsUtf8}
+use Rattle.std.proofs.Common.{suc, max, ◌≤◌, lit≤, arith, ◌≡◌, ℕ, ◌<◌, ◌^◌, ◌==◌, List, ◌++◌, Bool, true, false, cond, if◌then◌else◌, Option, Some, None, Result, Ok, Err, refl, ap, ◌∙◌, sym, subst, ◌↔◌}
+use Rattle.std.specs.Prelude.{◌||◌, bytes_eq, codes, option_map, option_and_then, IsUtf8}
 use Rattle.std.specs.declared.cmp.Ordering.{Ordering}
 use Rattle.std.specs.declared.cmp.Ordering.TheVariants.{Less, Equal, Greater}
 use Rattle.std.specs.Ordering.{match_ordering}
 use Rattle.std.proofs.lemmas.Bool.{eqb-true, leb-true, leb-false}
 use Rattle.serde_json.specs.Data as tree
 use Rattle.serde_json.specs.Data.{Data, object, unsigned, number}
-use Rattle.base64.specs.GeneralPurpose.{encode_of, decode_of}
+use Rattle.base64.specs.GeneralPurpose.{encode_of}
 use Rattle.base64.specs.Engines.{standard}
-use Rattle.bson_base.specs.Decimal.{number_of, sixteen_bytes, pack, unpack, minus_if, decimal_text}
+use Rattle.bson_base.specs.Decimal.{number_of, sixteen_bytes, unpack, minus_if, decimal_text}
 use Rattle.bson_base.specs.Doubles.{exponent, fraction, is_nan, is_infinite, is_zero, is_negative}
 use Rattle.bson_base.specs.Kinds.{AreBytes, HasNo00, IsPlainScalar, IsRangedScalar, IsPlain, IsSound}
 use Rattle.bson_base.specs.Options.{sorted_text}
@@ -21,13 +21,13 @@ use Rattle.bson_model.specs.JsonKeys.{any_reserved, is_reserved, reserved_of, of
 use Rattle.bson_model.specs.JsonRead.{read, read_items, read_members, read_typed, scalar_of, wanted, accepted, accepted_id, base64_body, below_32, ◌>>=◌}
 use Rattle.bson_model.specs.JsonRead as reading
 use Rattle.bson_model.specs.JsonTexts.{double_of}
-use Rattle.bson_model.specs.JsonWrite.{double_text, wrapped_text, with_scope, write, write_binary, write_date, write_id, write_integer, write_items, write_members, write_pointer, write_regex, write_scalar, write_timestamp, unsigned_text}
+use Rattle.bson_model.specs.JsonWrite.{double_text, wrapped_text, with_scope, write, write_binary, write_date, write_id, write_integer, write_items, write_members, write_pointer, write_regex, write_scalar, write_timestamp}
 use Rattle.bson_model.specs.JsonKeys.{of_int, of_long}
 use Rattle.bson_model.specs.declared.extjson.de.Error.{Error}
 use Rattle.bson_model.specs.declared.extjson.ser.Mode.TheVariants.{Canonical}
 use Rattle.bson_meaning.specs.JsonReserved.{some_reserved, reserved_in, reserved_in_items, has_reserved}
-use Rattle.bson_meaning.specs.Meaning.{normal_double, normal_decimal, normal_scalar, norm_members, place, asc_members, Same}
-use Rattle.bson_meaning.proofs.Canonical.{canonical, canonical_items, canonical_members, look_up-canonical, same_canonical, canonical_same}
+use Rattle.bson_meaning.specs.Meaning.{normal_double, normal_decimal, normal_scalar, norm_members, place, Same}
+use Rattle.bson_meaning.proofs.Canonical.{canonical, canonical_items, canonical_members, look_up-canonical, same_canonical}
 use Rattle.bson_meaning.proofs.Decimals.{normal_decimal_twice}
 use Rattle.bson_meaning.proofs.JsonReadBack.{byte_back, id_back, long_back, int_back, decimal_back, base64_back, zero_back, negative_zero_back, infinity_back, negative_infinity_back, nan_back, negative_nan_back}
 use Rattle.bson_meaning.proofs.JsonSame.{or_turned, or_twice, write_same}

@@ -12,6 +12,12 @@ pub mod JsonReads
 pub mod Putting
 pub mod InOrder
 pub mod KeyLaw
+pub mod JsonRanges
+pub mod JsonBase64
+pub mod JsonDates
+pub mod JsonUuids
+pub mod JsonSound
+pub mod JsonValues
 pub mod Progress
 pub mod Held
 pub mod Heights

@@ -3,4 +3,5 @@ pub mod Counts
 pub mod Sames
 pub mod JsonReserved
 pub mod Pairs
+pub mod JsonTrees
 pub mod Gate

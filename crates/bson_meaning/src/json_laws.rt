@@ -2,14 +2,19 @@
 ghost use Rattle.std.specs.Prelude.{◌≡◌, ◌↔◌, ◌≤◌, false, Some, Ok};
 ghost use Rattle.serde_json.specs.Data as json;
 ghost use Rattle.serde_json.specs.Data.{Data};
-ghost use Rattle.bson_base.specs.Kinds.{IsPlain, IsSound};
+ghost use Rattle.bson_base.specs.Kinds.{IsClean, IsPlain, IsSound};
 ghost use Rattle.bson_base.specs.Value.{document, levels, Members, Value};
-ghost use Rattle.bson_model.specs.JsonRead.{read_members};
+ghost use Rattle.bson_model.specs.JsonRead.{read, read_members};
 ghost use Rattle.bson_model.specs.JsonWrite.{write, write_members};
 ghost use Rattle.bson_model.specs.declared.extjson.ser.Mode.{Mode};
 ghost use Rattle.bson_model.specs.declared.extjson.ser.Mode.TheVariants.{Canonical};
 ghost use Rattle.bson_meaning.specs.JsonReserved.{has_reserved};
+ghost use Rattle.bson_meaning.specs.JsonTrees.{IsJson, IsJsonObject};
 ghost use Rattle.bson_meaning.specs.Meaning.{asc, norm, norm_members, asc_members, Same};
+
+mod values;
+
+pub use values::{maps_are_json, values_are_json};
 
 /// A value, its normal form and the value with its keys in order are written alike, in both modes.
 pub fn normal_forms_are_written_alike()
@@ -35,5 +40,13 @@ pub fn canonical_trees_read_back()
     ensures { (d : Members) (js : json.Members) → IsSound (document d) → has_reserved d ≡ false
         → write_members Canonical d json.no_members ≡ Some js
         → (e : Members) × (read_members js ≡ Ok e) × (asc_members (norm_members e) ≡ asc_members (norm_members d))
-            × (IsPlain (document d) → IsPlain (document e)) × (levels (document e) ≤ levels (document d)) }
+        × (IsPlain (document d) → IsPlain (document e)) × (levels (document e) ≤ levels (document d)) }
+{}
+
+/// What a JSON tree reads as is sound. The normal form of a document that is read so is clean where the document is plain.
+pub fn readings_are_sound()
+    ensures value { (j : Data) (v : Value) → IsJson j → read j ≡ Ok v → IsSound v }
+    ensures top { (js : json.Members) (d : Members) → IsJsonObject js → read_members js ≡ Ok d → IsSound (document d) }
+    ensures kept { (js : json.Members) (d : Members) → IsJsonObject js → read_members js ≡ Ok d → IsPlain (document d)
+        → IsClean (document (asc_members (norm_members d))) × IsSound (document (asc_members (norm_members d))) }
 {}

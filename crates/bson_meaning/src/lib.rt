@@ -2,8 +2,8 @@
 #![tactic(auto)]
 
 mod compare;
-pub mod json_laws;
 mod forms;
+pub mod json_laws;
 mod key;
 pub mod laws;
 mod levels;
