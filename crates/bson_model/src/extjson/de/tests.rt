@@ -608,3 +608,17 @@ fn a_map_reads_as_its_object(rt: HostRuntime) -> Result<(), Fail> {
     assert!(rt; refused == Err(Error::DeserializationError));
     Ok(())
 }
+
+#[test]
+fn the_first_fault_in_the_order_of_keys_is_told(rt: HostRuntime) -> Result<(), Fail> {
+    let alloc = rt.alloc();
+    let short = Error::InvalidObjectId(oid::Error::InvalidHexStringLength { length: 2 });
+    let texts = [
+        "{\"a\":{\"$oid\":\"00\"},\"b\":1.5}",
+        "{\"b\":1.5,\"a\":{\"$oid\":\"00\"}}",
+        "[{\"$oid\":\"00\"},1.5]",
+    ];
+    all_refused(&rt, alloc, &texts, short)?;
+    let texts = ["{\"b\":{\"$oid\":\"00\"},\"a\":1.5}"];
+    all_refused(&rt, alloc, &texts, Error::FiniteDouble)
+}
