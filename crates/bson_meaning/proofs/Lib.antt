@@ -12,3 +12,4 @@ pub mod KeyLaw
 pub mod Progress
 pub mod Held
 pub mod Heights
+pub mod Viewing

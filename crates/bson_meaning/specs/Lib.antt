@@ -3,3 +3,4 @@ pub mod Counts
 pub mod Sames
 pub mod Pairs
 pub mod Gate
+pub mod Views
