@@ -14,7 +14,7 @@ has_some : (o : Option Value) (P : Value → Type 0) → IsSomeAnd o P → is_so
 has_some None P h = absurd h
 has_some (Some v) P h = refl
 
-keys_under : (ms ns : Members) → SameUnder ms ns → HasKeysOf ms ns
+pub keys_under : (ms ns : Members) → SameUnder ms ns → HasKeysOf ms ns
 keys_under no_members ns h = tt
 keys_under (member k v ms) ns h = (has_some (look_up k ns) (Same v) h.0, keys_under ms ns h.1)
 

@@ -103,7 +103,7 @@ scalar_inner (double n) = refl
 scalar_inner (string t) = refl
 scalar_inner _ = refl
 
-scalar_apart : (s : Scalar) (tag : ElementType) → scalar_kind s ≡ tag → HasInner tag ≡ true → ⊥
+pub scalar_apart : (s : Scalar) (tag : ElementType) → scalar_kind s ≡ tag → HasInner tag ≡ true → ⊥
 scalar_apart s tag e h = let no : true ≡ false = sym h ∙ ap HasInner (sym e) ∙ scalar_inner s in cc
 
 -- the members of the document that a value is spelled with

@@ -21,3 +21,4 @@ pub mod JsonValues
 pub mod Progress
 pub mod Held
 pub mod Heights
+pub mod Viewing

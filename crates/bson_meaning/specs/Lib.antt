@@ -5,3 +5,4 @@ pub mod JsonReserved
 pub mod Pairs
 pub mod JsonTrees
 pub mod Gate
+pub mod Views

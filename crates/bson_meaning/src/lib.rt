@@ -12,6 +12,7 @@ mod plain;
 mod reading;
 mod scalars;
 mod sorting;
+mod views;
 
 pub use compare::same_meaning;
 pub use forms::normalize;
@@ -20,6 +21,7 @@ pub use levels::depth;
 pub use plain::is_plain;
 pub use reading::{GateError, gate};
 pub use sorting::sorted;
+pub use views::same_as_raw;
 
 #[cfg(test)]
 mod tests;

@@ -1,7 +1,9 @@
 //! Rows that were worked out by hand from bsonspec.org 1.1 and IEEE 754-2008.
 
 use super::*;
+use bson_bytes::encode_document;
 use bson_model::{Binary, BinarySubtype, Bson, Decimal128, Document, DoubleBits, Regex};
+use bson_raw::{RawBsonRef, RawDocument};
 use std::alloc::{AllocError, Global};
 use std::test::Fail;
 
@@ -157,5 +159,16 @@ fn nested(alloc: Global, inner: usize) -> Result<Vec<u8>, AllocError> {
 fn a_hundred_levels_at_the_gate(rt: HostRuntime) -> Result<(), Fail> {
     assert_eq!(rt; gate(&nested(rt.alloc(), 99)?), Ok(()));
     assert_eq!(rt; gate(&nested(rt.alloc(), 100)?), Err(GateError::TooDeep));
+    Ok(())
+}
+
+#[test]
+fn a_view_in_another_order(rt: HostRuntime) -> Result<(), Fail> {
+    let bytes = encode_document(rt.alloc(), &pair(rt.alloc(), ["x", "y"], [1, 2])?)?;
+    let raw = RawBsonRef::Document(RawDocument::from_bytes(&bytes)?);
+    let same = Bson::Document(pair(rt.alloc(), ["y", "x"], [2, 1])?);
+    let other = Bson::Document(pair(rt.alloc(), ["x", "z"], [1, 2])?);
+    assert!(rt; same_as_raw(raw, &same));
+    assert!(rt; !same_as_raw(raw, &other));
     Ok(())
 }

@@ -1,0 +1,74 @@
+-- What a view of raw bytes spells.
+use Rattle.std.specs.Prelude.{◌≡◌, ◌↔◌, ℕ, List, drop, Bool, IsTrue, Option, Some, None}
+use Rattle.bson_base.specs.Scalars.{id_bytes, millis_of, decimal_bytes}
+use Rattle.bson_base.specs.Value.{Scalar, double, string, binary, undefined, object_id, boolean, date_time, null, regex, db_pointer, code, symbol, int32, timestamp, int64, decimal, max_key, min_key, Value, scalar, array, document, scoped_code, Items, no_items, Members, no_members, value_kind, HasDistinctKeys}
+use Rattle.bson_bytes.specs.Spells.{SpellsValue, SpellsItems, SpellsMembers}
+use Rattle.bson_frame.specs.Frame.{Element}
+use Rattle.bson_meaning.specs.Meaning.{Same}
+use Rattle.bson_raw.specs.View.{bytes_of, array_bytes}
+use Rattle.bson_raw.specs.declared.bson_ref.RawBsonRef.{RawBsonRef}
+use Rattle.bson_raw.specs.declared.bson_ref.RawBsonRef.TheVariants as views
+
+-- the scalar that a view shows; null for views of documents and arrays
+abbrev pub shown : RawBsonRef → Scalar
+shown (views.Double x) = double x.0
+shown (views.String x) = string x.now
+shown (views.Boolean x) = boolean x
+shown (views.RegularExpression x) = regex x.pattern.now x.options.now
+shown (views.JavaScriptCode x) = code x.now
+shown (views.Int32 x) = int32 x
+shown (views.Int64 x) = int64 x
+shown (views.Timestamp x) = timestamp x.time x.increment
+shown (views.Binary x) = binary x.subtype x.bytes.now
+shown (views.ObjectId x) = object_id (id_bytes x)
+shown (views.DateTime x) = date_time (millis_of x)
+shown (views.Symbol x) = symbol x.now
+shown (views.Decimal128 x) = decimal (decimal_bytes x)
+shown views.Undefined = undefined
+shown views.MaxKey = max_key
+shown views.MinKey = min_key
+shown (views.DbPointer x) = db_pointer x.namespace.now (id_bytes x.id)
+shown _ = null
+
+-- the view shows the value, whose documents its bytes spell without a fault at any level
+abbrev pub Shows : RawBsonRef → Value → Type 0
+Shows (views.Array x) v = (vs : Items) × SpellsItems (drop 4 (array_bytes x)) vs × (v ≡ array vs)
+Shows (views.Document x) v = (ms : Members) × SpellsMembers (drop 4 (bytes_of x)) ms × (v ≡ document ms)
+Shows (views.JavaScriptCodeWithScope x) v = (ms : Members) × SpellsMembers (drop 4 (bytes_of x.scope)) ms × (v ≡ scoped_code x.code.now ms)
+Shows raw v = v ≡ scalar (shown raw)
+
+-- no document, array or scope
+abbrev pub ShowsScalar : RawBsonRef → Type 0
+ShowsScalar (views.Array x) = ⊥
+ShowsScalar (views.Document x) = ⊥
+ShowsScalar (views.JavaScriptCodeWithScope x) = ⊥
+ShowsScalar _ = Unit {0}
+
+-- nor a kind that has a normal form of its own
+abbrev pub ShowsFixed : RawBsonRef → Type 0
+ShowsFixed (views.Double x) = ⊥
+ShowsFixed (views.RegularExpression x) = ⊥
+ShowsFixed (views.Binary x) = ⊥
+ShowsFixed (views.Decimal128 x) = ⊥
+ShowsFixed raw = ShowsScalar raw
+
+-- nor a text
+abbrev pub ShowsNumber : RawBsonRef → Type 0
+ShowsNumber (views.String x) = ⊥
+ShowsNumber (views.JavaScriptCode x) = ⊥
+ShowsNumber (views.Symbol x) = ⊥
+ShowsNumber (views.DbPointer x) = ⊥
+ShowsNumber raw = ShowsFixed raw
+
+-- the elements that are still to come, and the items
+abbrev pub IsRest : Option (List ℕ) → Members → Type 0
+IsRest None ms = ms ≡ no_members
+IsRest (Some bytes) ms = SpellsMembers bytes ms
+
+abbrev pub IsItemsRest : Option (List ℕ) → Items → Type 0
+IsItemsRest None vs = vs ≡ no_items
+IsItemsRest (Some bytes) vs = SpellsItems bytes vs
+
+-- b says whether a value that the element's payload spells means the same as w
+abbrev pub ComparesPayload : Element → Value → Bool → Type 0
+ComparesPayload e w b = (v : Value) → value_kind v ≡ e.tag → SpellsValue e.payload v → HasDistinctKeys v → IsTrue b ↔ Same v w
