@@ -11,6 +11,11 @@ ghost use Rattle.bson_meaning.specs.Gate.{IsRefused, level_limit, Passes};
 ghost use Rattle.bson_meaning.specs.Meaning.{norm, norm_members, asc_members, key, Same};
 ghost use Rattle.bson_meaning.specs.declared.reading.GateError.{GateError};
 
+pub use crate::json_laws::{
+    canonical_trees_read_back, maps_are_json, normal_forms_are_written_alike, readings_are_sound, trees_go_by_meaning,
+    values_are_json,
+};
+
 /// Meaning the same is an equivalence.
 pub fn same_is_an_equivalence()
     ensures itself { (v : Value) → IsSound v → Same v v }
