@@ -1,14 +1,11 @@
 -- Buffers that are built of several values.
-use Rattle.std.proofs.Common.{◌≡◌, ℕ, ◌+◌, List, [], ◌∷◌, length, map, String, Result, Ok, Err, inl, inr, refl, sym, ap, ◌∙◌, subst, arith}
-use Rattle.std.specs.declared.alloc.Global.{Global}
+use Rattle.std.proofs.Common.{◌≡◌, ℕ, List, [], ◌∷◌, length, inl, inr, refl, sym, subst, arith}
 use Rattle.bson_bytes.specs.Writing.{IsRefusal, Refuses}
 use Rattle.bson_frame.specs.declared.error.Error.{Error}
 use Rattle.bson_frame.specs.declared.error.ErrorKind.{ErrorKind}
 use Rattle.bson_frame.specs.declared.error.ErrorKind.TheVariants.{OutOfMemory}
 use Rattle.bson_frame.specs.View.{IsBare}
-use Rattle.bson_raw.specs.declared.bson.RawBson.{RawBson}
 use Rattle.bson_raw.specs.Append.{element_for, with_element, CanTake, AllTaken, StopsAt, empty_bytes}
-use Rattle.bson_raw.specs.Pairs.{pair_of}
 use Rattle.bson_raw.specs.Raw.{RawValue}
 
 -- what comes of the pairs that are left comes of all

@@ -1,8 +1,7 @@
 -- A document that was written comes back.
-use Rattle.std.proofs.Common.{◌≡◌, ℕ, ◌<◌, ◌^◌, List, Result, MatchResult, IfErr, Option, None, Ok, Err, sym, subst}
-use Rattle.bson_base.specs.Kinds.{IsClean, IsSound}
-use Rattle.bson_base.specs.Value.{document, Members}
-use Rattle.bson_bytes.specs.Encode.{encode, size}
+use Rattle.std.proofs.Common.{◌≡◌, ℕ, List, Result, MatchResult, IfErr, Option, None, Ok, Err, sym, subst}
+use Rattle.bson_base.specs.Value.{Members}
+use Rattle.bson_bytes.specs.Encode.{encode}
 use Rattle.bson_bytes.specs.Spells.{Means, IsFaulty}
 use Rattle.bson_bytes.specs.Writing.{IsRefusal, Refuses}
 use Rattle.bson_frame.specs.declared.error.Error.{Error}

@@ -1,5 +1,5 @@
 -- The walk of bytes to which more is added in place of the final 00.
-use Rattle.std.proofs.Common.{◌≡◌, ℕ, ◌+◌, ◌-◌, ◌≤◌, List, [], ◌∷◌, ◌++◌, length, take, drop, get_or, IsUtf8, OnOk, Option, Some, None, Result, Ok, Err, refl, sym, ap, ◌∙◌, subst, append_assoc, arith}
+use Rattle.std.proofs.Common.{◌≡◌, ℕ, ◌+◌, ◌-◌, ◌≤◌, List, [], ◌∷◌, ◌++◌, length, take, drop, get_or, IsUtf8, OnOk, Option, None, Result, Ok, Err, refl, sym, ap, ◌∙◌, subst, append_assoc, arith}
 use Rattle.std.specs.List.{AllByRecursion}
 use Rattle.std.proofs.lemmas.List.{length-append, length-drop, take_at, drop_at}
 use Rattle.bson_base.specs.declared.spec.ElementType.{ElementType}
@@ -8,7 +8,7 @@ use Rattle.bson_base.specs.Tags.{tag_byte}
 use Rattle.bson_bytes.specs.Encode.{le32, ended, framed}
 use Rattle.bson_frame.specs.declared.error.Error.{Error}
 use Rattle.bson_frame.specs.declared.error.ErrorKind.{ErrorKind}
-use Rattle.bson_frame.specs.Frame.{number, HasSize, IsCodeSize, Element, IsFirstFrame, IsName}
+use Rattle.bson_frame.specs.Frame.{HasSize, IsCodeSize, Element, IsFirstFrame, IsName}
 use Rattle.bson_frame.specs.Payload.{IsEnvelope}
 use Rattle.bson_raw.specs.Append.{element_for, Appends, element_bytes, body_of, with_element, IsLongEnough, EndsLongEnough, Gains}
 use Rattle.bson_raw.specs.Raw.{RawValue}

@@ -1,9 +1,8 @@
 -- The parts of `append`: what is written behind a document, and how it becomes a document again.
 use Rattle.std.specs.List.{AllZip}
 use Rattle.std.proofs.Common.{◌≡◌, ℕ, suc, ◌+◌, ◌-◌, ◌<◌, ◌≤◌, ◌^◌, List, [], ◌∷◌, ◌++◌, length, take, drop, set, get_or, Bool, true, false, if◌then◌else◌, OnOk, IfErr, Result, Ok, Err, refl, sym, ap, ◌∙◌, subst, append_assoc, arith}
-use Rattle.std.proofs.lemmas.List.{length-append, set-append_right, take_at, drop_at, take-append-drop, drop-drop, drop_more, drop_all, length-take-le, length-drop, get_or_at}
+use Rattle.std.proofs.lemmas.List.{length-append, set-append_right, take_at, take-append-drop, drop-drop, drop_more, drop_all, length-take-le, length-drop, get_or_at}
 use Rattle.std.proofs.lemmas.Nat.{from_le_bytes-to_le_bytes_4}
-use Rattle.bson_base.specs.declared.spec.ElementType.{ElementType}
 use Rattle.bson_base.specs.declared.spec.BinarySubtype.{BinarySubtype}
 use Rattle.bson_base.specs.Kinds.{HasNo00}
 use Rattle.bson_base.specs.Tags.{tag_byte, subtype_byte}
@@ -13,9 +12,9 @@ use Rattle.bson_bytes.specs.Writing.{IsRefusal, Refuses, StartsWith}
 use Rattle.bson_frame.specs.declared.error.Error.{Error}
 use Rattle.bson_frame.specs.declared.error.ErrorKind.{ErrorKind}
 use Rattle.bson_frame.specs.declared.error.ErrorKind.TheVariants.{MalformedValue, Utf8EncodingError, OutOfMemory}
-use Rattle.bson_frame.specs.Frame.{number, IsDocumentSize}
+use Rattle.bson_frame.specs.Frame.{number}
 use Rattle.bson_frame.specs.Payload.{IsEnvelope}
-use Rattle.bson_frame.specs.View.{fault_key, IsBare}
+use Rattle.bson_frame.specs.View.{IsBare}
 use Rattle.bson_frame.proofs.Payloads.{number_front}
 use Rattle.bson_raw.specs.declared.bson_ref.RawBsonRef.{RawBsonRef}
 use Rattle.bson_raw.specs.declared.bson_ref.RawBsonRef.TheVariants as refs

@@ -2,12 +2,11 @@
 use Rattle.std.proofs.Common.{◌≡◌, ℕ, ◌+◌, ◌-◌, ◌<◌, ◌≤◌, ◌^◌, List, [], ◌∷◌, ◌++◌, length, get_or, refl, sym, ap, ◌∙◌, append_assoc, arith}
 use Rattle.std.proofs.lemmas.List.{length-append, get_or_append_left, get_or_at}
 use Rattle.std.proofs.lemmas.Nat.{from_le_bytes-to_le_bytes_4}
-use Rattle.std.specs.Int.{w32}
 use Rattle.bson_base.specs.declared.spec.ElementType.{ElementType}
 use Rattle.bson_base.specs.declared.spec.ElementType.TheVariants as kinds
 use Rattle.bson_base.specs.declared.spec.BinarySubtype.{BinarySubtype}
 use Rattle.bson_base.specs.Tags.{subtype_byte}
-use Rattle.bson_base.specs.Value.{Scalar, double, string, binary, undefined, object_id, boolean, date_time, null, regex, db_pointer, code, symbol, int32, timestamp, int64, decimal, max_key, min_key}
+use Rattle.bson_base.specs.Value.{double, string, binary, undefined, object_id, boolean, date_time, null, regex, db_pointer, code, symbol, int32, timestamp, int64, decimal, max_key, min_key}
 use Rattle.bson_bytes.specs.Encode.{le32, le64, ended, text_bytes, scoped, inner, scalar_bytes}
 use Rattle.bson_frame.specs.Frame.{number, HasSize, IsTextSize, IsDocumentSize, IsBinarySize, IsCodeSize, IsRegexSize, IsPointerSize, IsName}
 use Rattle.bson_frame.specs.Payload.{IsEnvelope}
@@ -15,7 +14,7 @@ use Rattle.bson_frame.proofs.Frames.{front_is_one}
 use Rattle.bson_frame.proofs.Payloads.{number_front}
 use Rattle.bson_raw.specs.Raw.{RawValue, leaf, array, document, scoped_code, raw_kind, raw_payload}
 use Rattle.bson_raw.specs.Written.{CanWrite, IsFormed}
-use Rattle.bson_raw.proofs.Puts.{le32_length, text_length, ended_length}
+use Rattle.bson_raw.proofs.Puts.{le32_length, text_length}
 
 -- ---- what follows doesn't count
 

@@ -11,7 +11,6 @@ ghost use Rattle.bson_raw.specs.Raw.{RawValue, ref_value, raw_kind, raw_payload,
 ghost use Rattle.bson_raw.specs.Written.{CanWrite, IsFormed, scoped_value, Closes};
 
 use crate::bson_ref::{RawBsonRef, RawJavaScriptCodeWithScopeRef};
-use bson_base::ElementType;
 use bson_bytes::put::{
     put_length, write_binary, write_bytes, write_name, write_pointer, write_regex, write_text,
     write_timestamp,

@@ -1,11 +1,11 @@
-use Rattle.std.proofs.Common.{◌≡◌, ℕ, ◌+◌, List, [], ◌∷◌, length, sym, ap, subst, arith}
+use Rattle.std.proofs.Common.{◌≡◌, ◌+◌, [], ◌∷◌, length, ap, subst, arith}
 use Rattle.std.specs.Fmt.{decimal}
 use Rattle.std.specs.Vec.Iter.{into_iter_items}
 use Rattle.std.proofs.lemmas.Result.{err_from_is_err_and}
 use Rattle.bson_raw.specs.Append.{empty_bytes}
 use Rattle.bson_raw.specs.Buffer.{array_buffer_bytes, next_place}
 use Rattle.bson_raw.specs.Pairs.{placed}
-use Rattle.bson_raw.specs.Raw.{RawValue, own_value}
+use Rattle.bson_raw.specs.Raw.{own_value}
 use Rattle.bson_raw.proofs.Builds.{OnTheWay, begins, goes_on, stops, ends, no_memory, nothing_left}
 use Rattle.bson_raw.proofs.array_buf.RawArrayBuf.from_iter.Goals as goal
 

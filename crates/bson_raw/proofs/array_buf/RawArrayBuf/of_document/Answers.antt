@@ -1,4 +1,4 @@
-use Rattle.std.proofs.Common.{ℕ, List, Option, length, drop, sym, ap, ◌∙◌}
+use Rattle.std.proofs.Common.{List, Option, length, drop, sym, ap, ◌∙◌}
 use Rattle.bson_frame.specs.declared.error.ErrorKind.{ErrorKind}
 use Rattle.bson_frame.specs.Frame.{Element}
 use Rattle.bson_raw.specs.Buffer.{buffer_bytes}
