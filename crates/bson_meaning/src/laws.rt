@@ -1,5 +1,5 @@
-//! Laws of meaning. Each function does nothing, and its contract is the law. It is said of sound values: their numbers and
-//! texts are those of their kinds, and no key stands twice.
+//! Laws of meaning. Each function below does nothing, and its contract is the law. It is said of sound values: their numbers
+//! and texts are those of their kinds, and no key stands twice. Every value at hand is sound, which `soundness` tells.
 
 ghost use Rattle.std.specs.Prelude.{◌≡◌, ◌↔◌, ◌≤◌, List, ℕ, length};
 ghost use Rattle.bson_base.specs.Kinds.{IsClean, IsPlain, IsSound};
@@ -10,6 +10,8 @@ ghost use Rattle.bson_model.specs.Equal.{Equal};
 ghost use Rattle.bson_meaning.specs.Gate.{IsRefused, level_limit, Passes};
 ghost use Rattle.bson_meaning.specs.Meaning.{norm, norm_members, asc_members, key, Same};
 ghost use Rattle.bson_meaning.specs.declared.reading.GateError.{GateError};
+
+pub use crate::sound::{soundness, soundness_of_document};
 
 /// Meaning the same is an equivalence.
 pub fn same_is_an_equivalence()
