@@ -2,7 +2,7 @@
 
 ghost use Rattle.std.specs.Prelude.{◌≡◌, ◌≢◌, ◌↔◌, ◌<◌, ◌≤◌, Err, length, IfOk, OnOk};
 ghost use Rattle.bson_base.specs.Kinds.{IsPlain, IsSound};
-ghost use Rattle.bson_base.specs.Value.{document as tree, Members};
+ghost use Rattle.bson_base.specs.Value.{document as tree, Members, MembersHaveDistinctKeys};
 ghost use Rattle.bson_bytes.specs.Encode.{encode};
 ghost use Rattle.bson_bytes.specs.Writing.{CanBeWritten};
 ghost use Rattle.bson_model.specs.Trees.{document_tree};
@@ -12,10 +12,10 @@ ghost use Rattle.bson_meaning.specs.Meaning.{key as key_of, norm_members, asc_me
 use crate::forms::normal_document;
 use crate::plain::has_plain_members;
 use crate::sorting::sorted_document;
+use crate::sound::soundness_of_document;
 use bson_bytes::encode_document;
 use bson_frame::ErrorKind;
 use bson_model::Document;
-use bson_model::laws::distinct_keys_of_document;
 use std::alloc::{AllocError, Global};
 use thiserror::Error;
 
@@ -51,25 +51,25 @@ pub fn meaning_key(alloc: Global, document: &Document) -> Result<Vec<u8>, KeyErr
 
     // The order of refusals: a 00 comes before the length.
     ensures not_plain { (result ≡ Err KeyError.NotPlain) ↔ (IsPlain (tree (members_of (pairs_of document.now))) → ⊥) }
-    ensures too_long { result ≡ Err KeyError.TooLong → IsSound (tree (members_of (pairs_of document.now)))
-        → 2147483647 < length (key_of (members_of (pairs_of document.now))) }
+    ensures too_long { result ≡ Err KeyError.TooLong → 2147483647 < length (key_of (members_of (pairs_of document.now))) }
 
     // What keys are for, for every other document.
-    ensures tells { (e : Members) → IsSound (tree (members_of (pairs_of document.now))) → IsPlain (tree e) → IsSound (tree e) → length (key_of e) ≤ 2147483647
+    ensures tells { (e : Members) → IsPlain (tree e) → IsSound (tree e) → length (key_of e) ≤ 2147483647
         → OnOk result ((key_of (members_of (pairs_of document.now)) ≡ key_of e) ↔ Same (tree (members_of (pairs_of document.now))) (tree e)) }
 {
     if !has_plain_members(document) {
         return Err(KeyError::NotPlain);
     }
+    soundness_of_document(document);
     let canonical = canonical(alloc, document)?;
     written(alloc, &canonical)
 }
 
 /// The normal form with its keys in order.
 fn canonical(alloc: Global, document: &Document) -> Result<Document, AllocError>
+    requires { MembersHaveDistinctKeys (members_of (pairs_of document.now)) }
     ensures { IfOk result (λ d. members_of (pairs_of d) ≡ asc_members (norm_members (members_of (pairs_of document.now)))) }
 {
-    distinct_keys_of_document(document);
     let copy = document.try_clone()?;
     let normal = normal_document(alloc, copy)?;
     sorted_document(alloc, normal)

@@ -1,5 +1,5 @@
-//! Laws of meaning. Each function does nothing, and its contract is the law. It is said of sound values: their numbers and
-//! texts are those of their kinds, and no key stands twice.
+//! Laws of meaning. Each function below does nothing, and its contract is the law. It is said of sound values: their numbers
+//! and texts are those of their kinds, and no key stands twice. Every value at hand is sound, which `soundness` tells.
 
 ghost use Rattle.std.specs.Prelude.{◌≡◌, ◌↔◌, ◌≤◌, List, ℕ, length};
 ghost use Rattle.bson_base.specs.Kinds.{IsClean, IsPlain, IsSound};
@@ -15,6 +15,7 @@ pub use crate::json_laws::{
     canonical_trees_read_back, maps_are_json, normal_forms_are_written_alike, readings_are_sound, trees_go_by_meaning,
     values_are_json,
 };
+pub use crate::sound::{soundness, soundness_of_document};
 
 /// Meaning the same is an equivalence.
 pub fn same_is_an_equivalence()

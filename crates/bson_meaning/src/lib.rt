@@ -12,6 +12,7 @@ mod plain;
 mod reading;
 mod scalars;
 mod sorting;
+mod sound;
 mod views;
 
 pub use compare::same_meaning;

@@ -6,5 +6,5 @@ use Rattle.bson_meaning.proofs.key.canonical.Goals as goal
 
 pub sorted_document-requires : goal.sorted_document-requires
 sorted_document-requires c =
-    let copied = subst (λ ps. MembersHaveDistinctKeys (members_of ps)) (sym c.in_ok-copy.ensures) c.distinct_keys_of_document.ensures in
+    let copied = subst (λ ps. MembersHaveDistinctKeys (members_of ps)) (sym c.in_ok-copy.ensures) c.requires in
     subst MembersHaveDistinctKeys (sym c.in_ok-normal.ensures) (norm_distinct_members (members_of (pairs_of c.in_ok-copy.copy)) copied)
