@@ -1,2 +1,3 @@
 pub mod Encode
 pub mod Spells
+pub mod Writing

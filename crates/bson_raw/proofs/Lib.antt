@@ -8,3 +8,6 @@ pub mod Converting
 pub mod Faults
 pub mod Reading
 pub mod FirstFaults
+pub mod Puts
+pub mod Sizes
+pub mod Gains

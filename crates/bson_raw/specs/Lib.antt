@@ -5,3 +5,10 @@ pub mod Read
 pub mod Access
 pub mod Convert
 pub mod Input
+pub mod Buffer
+pub mod Raw
+pub mod Append
+pub mod Written
+pub mod Copied
+pub mod Places
+pub mod Trees

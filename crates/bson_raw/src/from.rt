@@ -4,8 +4,10 @@ ghost use Rattle.std.specs.Prelude.{◌≡◌};
 ghost use Rattle.bson_raw.specs.declared.bson_ref.RawBsonRef.TheVariants as values;
 
 use crate::array::RawArray;
+use crate::array_buf::RawArrayBuf;
 use crate::bson_ref::{RawBinaryRef, RawBsonRef, RawJavaScriptCodeWithScopeRef, RawRegexRef};
 use crate::document::RawDocument;
+use crate::document_buf::RawDocumentBuf;
 use bson_base::{DateTime, Decimal128, DoubleBits, ObjectId, Timestamp};
 
 impl<'a> From<&'a str> for RawBsonRef<'a> {
@@ -61,6 +63,28 @@ impl<'a> From<RawArray<'a>> for RawBsonRef<'a> {
 
     fn from(value: RawArray<'a>) -> RawBsonRef<'a> {
         RawBsonRef::Array(value)
+    }
+}
+
+impl<'a> From<&'a RawDocumentBuf> for RawBsonRef<'a> {
+    ghost use Rattle.bson_raw.specs.Buffer.{buffer_bytes};
+    ghost use Rattle.bson_raw.specs.Raw.{ref_value, document};
+
+    ghost from_gives = { λ value result. ref_value result ≡ document (buffer_bytes value.now) };
+
+    fn from(value: &'a RawDocumentBuf) -> RawBsonRef<'a> {
+        RawBsonRef::Document(value.as_ref())
+    }
+}
+
+impl<'a> From<&'a RawArrayBuf> for RawBsonRef<'a> {
+    ghost use Rattle.bson_raw.specs.Buffer.{array_buffer_bytes};
+    ghost use Rattle.bson_raw.specs.Raw.{ref_value, array};
+
+    ghost from_gives = { λ value result. ref_value result ≡ array (array_buffer_bytes value.now) };
+
+    fn from(value: &'a RawArrayBuf) -> RawBsonRef<'a> {
+        RawBsonRef::Array(value.as_ref())
     }
 }
 

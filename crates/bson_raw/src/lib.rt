@@ -5,22 +5,33 @@
 #![tactic(auto)]
 
 mod access;
+mod append;
 mod array;
+mod array_buf;
 mod array_iter;
+mod bson;
 mod bson_ref;
 mod convert;
 mod decode;
 mod document;
+mod document_buf;
 mod element;
 mod from;
+mod from_owned;
 pub mod laws;
+mod owned;
 mod read_error;
 mod reader;
+mod trees;
 mod values;
 mod walk;
+mod write_error;
+mod writer;
 
 pub use array::RawArray;
+pub use array_buf::RawArrayBuf;
 pub use array_iter::RawArrayIter;
+pub use bson::{RawBson, RawJavaScriptCodeWithScope, raw_binary_of};
 pub use bson_frame::{
     Error, ErrorKind, Result, ValueAccessError, ValueAccessErrorKind, ValueAccessResult,
 };
@@ -28,11 +39,14 @@ pub use bson_ref::{
     RawBinaryRef, RawBsonRef, RawDbPointerRef, RawJavaScriptCodeWithScopeRef, RawRegexRef,
 };
 pub use document::RawDocument;
+pub use document_buf::RawDocumentBuf;
 pub use element::RawElement;
 pub use read_error::ReadError;
 pub use reader::from_reader;
 pub use values::Iter;
 pub use walk::RawIter;
+pub use write_error::WriteError;
+pub use writer::to_writer;
 
 #[cfg(test)]
 mod tests;

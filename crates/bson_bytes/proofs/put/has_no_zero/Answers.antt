@@ -1,0 +1,6 @@
+use Rattle.std.proofs.Common.{◌≡◌}
+use Rattle.bson_bytes.proofs.Zeros.{no_zero_told}
+use Rattle.bson_bytes.proofs.put.has_no_zero.Goals as goal
+
+pub returns : goal.returns
+returns c = rw c.contains.ensures.value (no_zero_told c.args.bytes.now)

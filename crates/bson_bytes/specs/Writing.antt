@@ -1,0 +1,26 @@
+-- What is told where a tree is written.
+use Rattle.std.specs.Prelude.{◌≡◌, ℕ, ◌+◌, ◌<◌, ◌^◌, List, ◌++◌, length, None}
+use Rattle.bson_base.specs.Kinds.{IsPlain}
+use Rattle.bson_base.specs.Value.{Value, document, Members}
+use Rattle.bson_bytes.specs.Encode.{value_size}
+use Rattle.bson_frame.specs.declared.error.Error.{Error}
+use Rattle.bson_frame.specs.declared.error.ErrorKind.{ErrorKind}
+use Rattle.bson_frame.specs.declared.error.ErrorKind.TheVariants.{MalformedValue, Utf8EncodingError, OutOfMemory}
+use Rattle.bson_frame.specs.View.{fault_key}
+
+abbrev pub Refuses : Type 0 → ErrorKind → Type 0
+Refuses Reason MalformedValue = Reason
+Refuses Reason Utf8EncodingError = ⊥
+Refuses Reason OutOfMemory = Unit {0}
+
+-- MalformedValue for this reason alone, or want of memory; no key is told
+abbrev pub IsRefusal : Type 0 → Error → Type 0
+IsRefusal Reason e = Refuses Reason e.kind × (fault_key e ≡ None)
+
+-- the bytes from before stand in front
+abbrev pub StartsWith : List ℕ → List ℕ → Type 0
+StartsWith new old = (more : List ℕ) × (new ≡ old ++ more)
+
+-- no 00 in a key, a pattern or options, and at most 2147483647 bytes
+abbrev pub CanBeWritten : Value → Type 0
+CanBeWritten v = IsPlain v × (value_size v < 2 ^ 31)

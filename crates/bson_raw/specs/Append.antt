@@ -1,0 +1,53 @@
+-- An element that is put into a document.
+use Rattle.std.specs.Prelude.{◌≡◌, ℕ, ◌+◌, ◌-◌, ◌<◌, ◌≤◌, ◌^◌, List, [], ◌∷◌, ◌++◌, length, take, drop, Option, None, Result, Ok, Err}
+use Rattle.bson_base.specs.declared.spec.ElementType.TheVariants as kinds
+use Rattle.bson_base.specs.Kinds.{HasNo00}
+use Rattle.bson_base.specs.Tags.{tag_byte}
+use Rattle.bson_bytes.specs.Encode.{ended, framed}
+use Rattle.bson_bytes.specs.Writing.{IsRefusal}
+use Rattle.bson_frame.specs.declared.error.Error.{Error}
+use Rattle.bson_frame.specs.Frame.{Element}
+use Rattle.bson_raw.specs.Raw.{RawValue, raw_kind, raw_payload, IsPlainRaw}
+use Rattle.bson_raw.specs.Walk.{IsDocumentWalk}
+
+-- the element that a value is under a key
+abbrev pub element_for : List ℕ → RawValue → Element
+element_for key v = record { tag = raw_kind v; key = key; payload = raw_payload v }
+
+abbrev pub element_bytes : Element → List ℕ
+element_bytes e = tag_byte e.tag ∷ (ended e.key ++ e.payload)
+
+-- the bytes of a document's elements, without its length and its final 00
+abbrev pub body_of : List ℕ → List ℕ
+body_of bytes = take (length bytes - 5) (drop 4 bytes)
+
+-- the element in front of the final 00, and the length corrected
+abbrev pub with_element : List ℕ → Element → List ℕ
+with_element bytes e = framed (body_of bytes ++ element_bytes e)
+
+-- no 00 in the key, a pattern or options, and at most 2147483647 bytes afterwards
+pub record CanTake (bytes : List ℕ) (key : List ℕ) (v : RawValue) : Type 0 where
+  pub key_plain : HasNo00 key
+  pub value_plain : IsPlainRaw v
+  pub fits : length (with_element bytes (element_for key v)) < 2 ^ 31
+
+-- a value was put into a document under a key, or the document is as before
+abbrev pub Appends : List ℕ → List ℕ → List ℕ → RawValue → Result (Unit {0}) Error → Type 0
+Appends old new key v (Ok x) = CanTake old key v × (new ≡ with_element old (element_for key v))
+Appends old new key v (Err e) = IsRefusal (CanTake old key v → ⊥) e × (new ≡ old)
+
+-- ---- the walk afterwards
+
+-- a code with scope whose declared length counts its own four bytes
+abbrev pub IsLongEnough : Element → Type 0
+IsLongEnough e = e.tag ≡ kinds.JavaScriptCodeWithScope → 4 ≤ length e.payload
+
+-- the last element, if there is one, isn't a code with scope of declared length under 4
+abbrev pub EndsLongEnough : List Element → Type 0
+EndsLongEnough [] = Unit {0}
+EndsLongEnough (e ∷ []) = IsLongEnough e
+EndsLongEnough (e ∷ f ∷ elements) = EndsLongEnough (f ∷ elements)
+
+-- a walk without a structural fault that ends so gains the element
+abbrev pub Gains : List ℕ → List ℕ → Element → Type 0
+Gains old new e = (elements : List Element) → IsDocumentWalk old elements None → EndsLongEnough elements → IsDocumentWalk new (elements ++ e ∷ []) None

@@ -1,0 +1,35 @@
+-- Trees as raw values, and the writing of a tree to a device.
+use Rattle.std.specs.Prelude.{◌≡◌, ℕ, ◌+◌, List, Option, Result, Ok, Err}
+use Rattle.std.specs.Io.KnownBytes.{Appends}
+use Rattle.bson_base.specs.Device.{TakesBeginning}
+use Rattle.bson_base.specs.Value as values
+use Rattle.bson_base.specs.Value.{Value, Members}
+use Rattle.bson_bytes.specs.Encode.{framed, items_bytes, encode}
+use Rattle.bson_bytes.specs.Writing.{CanBeWritten}
+use Rattle.bson_frame.specs.declared.error.ErrorKind.TheVariants.{MalformedValue}
+use Rattle.bson_frame.specs.View.{IsBare}
+use Rattle.bson_raw.specs.declared.write_error.WriteError.{WriteError}
+use Rattle.bson_raw.specs.declared.write_error.WriteError.TheVariants.{Writer, Raw, Memory}
+use Rattle.bson_raw.specs.Raw.{RawValue, leaf, array, document, scoped_code}
+
+-- the tree with what stands inside written
+abbrev pub raw_of : Value → RawValue
+raw_of (values.scalar s) = leaf s
+raw_of (values.array vs) = array (framed (items_bytes 0 vs))
+raw_of (values.document ms) = document (encode ms)
+raw_of (values.scoped_code t ms) = scoped_code t (encode ms)
+
+-- what stands inside can be written
+abbrev pub CanBeRaw : Value → Type 0
+CanBeRaw (values.scalar s) = Unit {0}
+CanBeRaw (values.array vs) = CanBeWritten (values.array vs)
+CanBeRaw (values.document ms) = CanBeWritten (values.document ms)
+CanBeRaw (values.scoped_code t ms) = CanBeWritten (values.document ms)
+
+-- a document went out; or nothing did, as it can't be written or for want of memory; or a beginning, as a call of the device
+-- failed. A device tells how many of its calls failed, and the bytes that it took, where it knows them.
+abbrev pub Sends : Members → ℕ → ℕ → Option (List ℕ) → Option (List ℕ) → Result (Unit {0}) WriteError → Type 0
+Sends d failures now old new (Ok x) = CanBeWritten (values.document d) × (now ≡ failures) × Appends old new (encode d)
+Sends d failures now old new (Err Writer) = CanBeWritten (values.document d) × (now ≡ failures + 1) × TakesBeginning old new (encode d)
+Sends d failures now old new (Err (Raw e)) = (CanBeWritten (values.document d) → ⊥) × IsBare MalformedValue e × (now ≡ failures) × (new ≡ old)
+Sends d failures now old new (Err Memory) = (now ≡ failures) × (new ≡ old)

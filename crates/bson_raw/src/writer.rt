@@ -1,0 +1,36 @@
+//! Documents that are written to devices.
+
+ghost use Rattle.std.specs.Prelude.{◌<◌, ◌-◌, ◌^◌};
+ghost use Rattle.bson_model.specs.View.{pairs_of, members_of};
+ghost use Rattle.bson_raw.specs.Trees.{Sends};
+
+use crate::write_error::WriteError;
+use bson_base::{Sink, write_all};
+use bson_bytes::encode_document;
+use bson_frame::ErrorKind;
+use bson_model::Document;
+use std::alloc::Global;
+
+/// Writes a document (bsonspec.org 1.1, "document"). All its bytes are made before the first write.
+///
+/// `Raw` where a 00 stands in a key, a pattern or options, or the document would be over 2147483647 bytes; `Memory` where a
+/// growth is refused; nothing went out then. `Writer` where a write failed, or took none of some bytes; a beginning went out.
+pub fn to_writer<W: Sink>(
+    alloc: Global,
+    document: &Document,
+    writer: &mut W,
+) -> Result<(), WriteError>
+    requires { W.failures writer.old < 2 ^ 64 - 1 }
+    ensures { Sends (members_of (pairs_of document.now)) (W.failures writer.old) (W.failures writer.new) (W.taken writer.old) (W.taken writer.new) result }
+{
+    match encode_document(alloc, document) {
+        Ok(bytes) => match write_all(writer, &bytes) {
+            Ok(()) => Ok(()),
+            Err(_) => Err(WriteError::Writer),
+        },
+        Err(e) => match e.kind {
+            ErrorKind::OutOfMemory => Err(WriteError::Memory),
+            _ => Err(WriteError::Raw(e)),
+        },
+    }
+}
