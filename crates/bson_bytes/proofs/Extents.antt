@@ -1,10 +1,10 @@
 -- What is written has the size that its kind asks for, whatever follows it.
-use Rattle.std.proofs.Common.{◌≡◌, ℕ, ℤ, zero, suc, ◌+◌, ◌-◌, ◌^◌, ◌<◌, ◌≤◌, List, [], ◌∷◌, ◌++◌, length, get_or, take, drop, refl, sym, ap, ◌∙◌, arith, append_assoc, append-nil, length-append, subst}
+use Rattle.std.proofs.Common.{◌≡◌, ℕ, zero, suc, ◌+◌, ◌-◌, ◌^◌, ◌<◌, List, [], ◌∷◌, ◌++◌, length, refl, sym, ap, ◌∙◌, arith, append_assoc, append-nil, length-append, subst}
 use Rattle.std.specs.Prelude.{slice_index}
 use Rattle.std.proofs.lemmas.Nat.{from_le_bytes-to_le_bytes_4}
-use Rattle.bson_bytes.specs.Encode.{le32, text_bytes, ended, framed, scoped}
-use Rattle.bson_bytes.proofs.Lengths.{le32_length, text_length, framed_length, scoped_length}
-use Rattle.bson_frame.specs.Frame.{number, IsTextSize, IsDocumentSize, IsCodeSize, IsPointerSize}
+use Rattle.bson_bytes.specs.Encode.{le32, text_bytes, framed}
+use Rattle.bson_bytes.proofs.Lengths.{le32_length, text_length, framed_length}
+use Rattle.bson_frame.specs.Frame.{number, IsTextSize, IsDocumentSize}
 use Rattle.bson_frame.specs.Payload.{IsEnvelope}
 
 pub number_back : (n : ℕ) (rest : List ℕ) → n < 2 ^ 32 → number (le32 n ++ rest) ≡ n

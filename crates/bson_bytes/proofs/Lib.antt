@@ -1,6 +1,15 @@
+pub mod Distinct
 pub mod Extents
 pub mod Lengths
+pub mod Meant
+pub mod One
+pub mod Options
+pub mod Parts
 pub mod Places
+pub mod Scalars
+pub mod Settled
+pub mod Spelled
+pub mod Told
 pub mod Writing
 pub mod Written
 pub mod Zeros

@@ -1,12 +1,12 @@
 -- What is written with its length put in afterwards.
-use Rattle.std.proofs.Common.{◌≡◌, ℕ, zero, suc, ◌+◌, ◌^◌, ◌<◌, ◌≤◌, List, [], ◌∷◌, ◌++◌, length, map, get_or, drop, Result, Ok, Err, OnOk, OnErr, IfErr, add-one, refl, sym, ap, ◌∙◌, subst, arith, append-nil, append_assoc, length-append}
+use Rattle.std.proofs.Common.{◌≡◌, ℕ, zero, suc, ◌+◌, ◌^◌, ◌<◌, ◌≤◌, List, [], ◌∷◌, ◌++◌, length, map, get_or, drop, Result, OnOk, OnErr, IfErr, add-one, refl, sym, ap, ◌∙◌, subst, arith, append-nil, append_assoc, length-append}
 use Rattle.std.specs.Prelude.{decimal}
 use Rattle.std.proofs.Math.Seq.{drop-cons}
 use Rattle.std.proofs.lemmas.Result.{on_ok_weaker, on_err_weaker, IfErr-weaker}
 use Rattle.bson_base.specs.Kinds.{IsPlain}
 use Rattle.bson_base.specs.Tags.{tag_byte}
 use Rattle.bson_base.specs.Value.{Value, value_kind, array, Items, item, no_items}
-use Rattle.bson_bytes.specs.Encode.{le32, ended, framed, scoped, text_bytes, value_bytes, value_size, items_bytes, items_size}
+use Rattle.bson_bytes.specs.Encode.{le32, ended, framed, scoped, text_bytes, value_bytes, value_size, items_bytes}
 use Rattle.bson_bytes.specs.Writing.{CanBeWritten, IsRefusal, Refuses, StartsWith}
 use Rattle.bson_bytes.proofs.Extents.{framed_envelope}
 use Rattle.bson_frame.specs.Payload.{IsEnvelope}

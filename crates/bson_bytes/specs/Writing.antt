@@ -1,13 +1,14 @@
 -- What is told where a tree is written.
-use Rattle.std.specs.Prelude.{◌≡◌, ℕ, ◌+◌, ◌<◌, ◌^◌, List, ◌++◌, length, None}
+use Rattle.std.specs.Prelude.{◌≡◌, ℕ, ◌<◌, ◌^◌, List, ◌++◌, None}
 use Rattle.bson_base.specs.Kinds.{IsPlain}
-use Rattle.bson_base.specs.Value.{Value, document, Members}
+use Rattle.bson_base.specs.Value.{Value}
 use Rattle.bson_bytes.specs.Encode.{value_size}
 use Rattle.bson_frame.specs.declared.error.Error.{Error}
 use Rattle.bson_frame.specs.declared.error.ErrorKind.{ErrorKind}
 use Rattle.bson_frame.specs.declared.error.ErrorKind.TheVariants.{MalformedValue, Utf8EncodingError, OutOfMemory}
 use Rattle.bson_frame.specs.View.{fault_key}
 
+-- what the kind of an error says where a tree is written
 abbrev pub Refuses : Type 0 → ErrorKind → Type 0
 Refuses Reason MalformedValue = Reason
 Refuses Reason Utf8EncodingError = ⊥

@@ -1,7 +1,10 @@
 //! The bytes of document trees: what a tree is written as, and what bytes mean as a tree (bsonspec.org 1.1).
 #![tactic(auto)]
 
+pub mod laws;
 pub mod put;
+#[cfg(test)]
+mod tests;
 mod write;
 
 pub use write::{

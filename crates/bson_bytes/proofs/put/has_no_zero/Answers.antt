@@ -1,4 +1,3 @@
-use Rattle.std.proofs.Common.{◌≡◌}
 use Rattle.bson_bytes.proofs.Zeros.{no_zero_told}
 use Rattle.bson_bytes.proofs.put.has_no_zero.Goals as goal
 

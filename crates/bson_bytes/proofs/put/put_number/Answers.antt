@@ -1,4 +1,3 @@
-use Rattle.std.proofs.Common.{◌≡◌}
 use Rattle.bson_bytes.specs.Encode.{le32}
 use Rattle.bson_bytes.proofs.Places.{four_set}
 use Rattle.bson_bytes.proofs.put.put_number.Goals as goal

@@ -1,7 +1,7 @@
-use Rattle.std.proofs.Common.{◌≡◌, ◌∙◌, ◌+◌, ◌++◌, ◌∷◌, [], List, ℕ, OnOk, IfErr, ap, sym, refl, subst, arith, rules, length, length-append, append_assoc, map, drop, string_bytes}
+use Rattle.std.proofs.Common.{◌≡◌, ◌∙◌, ◌+◌, ◌++◌, ◌∷◌, [], List, ℕ, ap, sym, refl, arith, rules, length, length-append, map, drop, string_bytes}
 use Rattle.std.proofs.lemmas.Result.{err_from_is_err_and}
 use Rattle.bson_base.specs.Value.{array}
-use Rattle.bson_bytes.specs.Encode.{members_bytes, items_bytes, text_bytes, framed, value_bytes, value_size}
+use Rattle.bson_bytes.specs.Encode.{members_bytes, items_bytes, text_bytes, value_bytes, value_size}
 use Rattle.bson_bytes.proofs.Lengths.{members_length, items_length, text_length, framed_length}
 use Rattle.bson_bytes.proofs.Written.{room, written_in, framed_ok, scoped_in, scoped_ok, short_ok, long_refused, begun_kept, no_items_left, next_item, item_refused, item_written}
 use Rattle.bson_model.specs.Rest.{iter_rest}

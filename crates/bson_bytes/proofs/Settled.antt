@@ -1,0 +1,56 @@
+-- A tree whose keys stand once and whose options ascend stays as it is.
+use Rattle.std.proofs.Common.{◌≡◌, ℕ, ◌^◌, ◌<◌, List, Bool, true, false, Option, Some, None, unwrap_or, refl, sym, ap, ◌∙◌, arith, subst}
+use Rattle.std.specs.Prelude.{IsUtf8, if◌then◌else◌}
+use Rattle.std.specs.Str.{bytes_eq}
+use Rattle.bson_base.specs.Kinds.{HasNo00, IsRangedScalar, IsClean, IsSound}
+use Rattle.bson_base.specs.Value.{Scalar, regex, Value, scalar, array, document, scoped_code, Items, no_items, item, Members, no_members, member, look_up, without, EachPart, EachItem, EachMember, HasDistinctKeys, ItemsHaveDistinctKeys, MembersHaveDistinctKeys}
+use Rattle.bson_base.proofs.OptionsLemmas.{sorted_text-kept}
+use Rattle.bson_bytes.specs.Encode.{encode, size, members_bytes}
+use Rattle.bson_bytes.specs.Spells.{settle_scalar, settle_value, settle_items, settle, Means, SpellsMembers}
+use Rattle.bson_bytes.proofs.Extents.{framed_envelope}
+use Rattle.bson_bytes.proofs.Lengths.{members_length}
+use Rattle.bson_bytes.proofs.Spelled.{IsCleanPart, spelled_members, framed_inside}
+
+without_absent : (k : List ℕ) (ms : Members) → look_up k ms ≡ None → without k ms ≡ ms
+without_absent k no_members e = refl
+without_absent k (member l v ms) e = by (bytes_eq k l) e (without_absent k ms)
+  where
+    by : (b : Bool) → (if b then Some v else look_up k ms) ≡ None → (look_up k ms ≡ None → without k ms ≡ ms) → (if b then without k ms else member l v (without k ms)) ≡ member l v ms
+    by true e rest = cc
+    by false e rest = ap (member l v) (rest e)
+
+stays_scalar : (s : Scalar) → IsCleanPart s → IsRangedScalar s → settle_scalar s ≡ s
+stays_scalar (regex p o) clean ranged = ap (regex p) (sorted_text-kept o ranged.1 clean.1)
+stays_scalar _ clean ranged = refl
+
+mutual
+  stays_value : (v : Value) → EachPart HasNo00 IsCleanPart v → EachPart IsUtf8 IsRangedScalar v → HasDistinctKeys v → settle_value v ≡ v
+  stays_value (scalar s) clean ranged once = ap scalar (stays_scalar s clean ranged)
+  stays_value (array vs) clean ranged once = ap array (stays_items vs clean ranged once)
+  stays_value (document ms) clean ranged once = ap document (stays ms clean ranged once)
+  stays_value (scoped_code t ms) clean ranged once = ap (scoped_code t) (stays ms clean.1 ranged.1 once)
+
+  stays_items : (vs : Items) → EachItem HasNo00 IsCleanPart vs → EachItem IsUtf8 IsRangedScalar vs → ItemsHaveDistinctKeys vs → settle_items vs ≡ vs
+  stays_items no_items clean ranged once = refl
+  stays_items (item v vs) clean ranged once =
+      let first = stays_value v clean.0 ranged.0 once.0 in
+      let rest = stays_items vs clean.1 ranged.1 once.1 in
+      cc
+
+  stays : (ms : Members) → EachMember HasNo00 IsCleanPart ms → EachMember IsUtf8 IsRangedScalar ms → MembersHaveDistinctKeys ms → settle ms ≡ ms
+  stays no_members clean ranged once = refl
+  stays (member k v ms) clean ranged once =
+      let rest = stays ms clean.2 ranged.2 once.2 in
+      let none : look_up k (settle ms) ≡ None = ap (look_up k) rest ∙ once.0 in
+      ap (λ (o : Option Value). member k (unwrap_or o (settle_value v)) (without k (settle ms))) none
+      ∙ ap (λ (w : Value). member k w (without k (settle ms))) (stays_value v clean.1 ranged.1 once.1)
+      ∙ ap (λ (ns : Members). member k v (without k ns)) rest ∙ ap (member k v) (without_absent k ms once.0)
+
+-- a clean tree comes back from its bytes
+pub comes_back : (d : Members) → IsClean (document d) → IsSound (document d) → size d < 2 ^ 31 → Means (encode d) d
+comes_back d clean sound h = (
+  d,
+  framed_envelope (members_bytes d) (omega (arith, h, members_length d)),
+  subst (λ (x : List ℕ). SpellsMembers x d) (sym (framed_inside (members_bytes d))) (spelled_members d clean sound.ranged (omega (arith, h))),
+  sym (stays d clean sound.ranged sound.distinct),
+)

@@ -1,0 +1,5 @@
+use Rattle.bson_bytes.proofs.One.{one_meaning}
+use Rattle.bson_bytes.proofs.laws.one_meaning.Goals as goal
+
+pub returns : goal.returns
+returns c = one_meaning

@@ -1,0 +1,5 @@
+use Rattle.bson_bytes.proofs.Lengths.{encode_length}
+use Rattle.bson_bytes.proofs.laws.sizes.Goals as goal
+
+pub returns : goal.returns
+returns c = encode_length

@@ -1,0 +1,5 @@
+use Rattle.bson_bytes.proofs.Told.{written_frame}
+use Rattle.bson_bytes.proofs.laws.written_frames.Goals as goal
+
+pub returns : goal.returns
+returns c = written_frame
