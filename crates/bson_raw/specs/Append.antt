@@ -1,12 +1,14 @@
 -- An element that is put into a document.
-use Rattle.std.specs.Prelude.{◌≡◌, ℕ, ◌+◌, ◌-◌, ◌<◌, ◌≤◌, ◌^◌, List, [], ◌∷◌, ◌++◌, length, take, drop, Option, None, Result, Ok, Err}
+use Rattle.std.specs.Prelude.{◌≡◌, ℕ, ◌+◌, ◌-◌, ◌<◌, ◌≤◌, ◌^◌, List, [], ◌∷◌, ◌++◌, length, take, drop, ◌⊎◌, Option, None, Result, Ok, Err}
 use Rattle.bson_base.specs.declared.spec.ElementType.TheVariants as kinds
 use Rattle.bson_base.specs.Kinds.{HasNo00}
 use Rattle.bson_base.specs.Tags.{tag_byte}
 use Rattle.bson_bytes.specs.Encode.{ended, framed}
 use Rattle.bson_bytes.specs.Writing.{IsRefusal}
 use Rattle.bson_frame.specs.declared.error.Error.{Error}
+use Rattle.bson_frame.specs.declared.error.ErrorKind.TheVariants.{OutOfMemory}
 use Rattle.bson_frame.specs.Frame.{Element}
+use Rattle.bson_frame.specs.View.{IsBare}
 use Rattle.bson_raw.specs.Raw.{RawValue, raw_kind, raw_payload, IsPlainRaw}
 use Rattle.bson_raw.specs.Walk.{IsDocumentWalk}
 
@@ -51,3 +53,24 @@ EndsLongEnough (e ∷ f ∷ elements) = EndsLongEnough (f ∷ elements)
 -- a walk without a structural fault that ends so gains the element
 abbrev pub Gains : List ℕ → List ℕ → Element → Type 0
 Gains old new e = (elements : List Element) → IsDocumentWalk old elements None → EndsLongEnough elements → IsDocumentWalk new (elements ++ e ∷ []) None
+
+-- ---- several values
+
+-- the values are taken one after the other, each under its key
+abbrev pub AllTaken : List ℕ → List (List ℕ × RawValue) → List ℕ → Type 0
+AllTaken old [] new = new ≡ old
+AllTaken old (p ∷ pairs) new = CanTake old p.0 p.1 × AllTaken (with_element old (element_for p.0 p.1)) pairs new
+
+-- the first that isn't taken, or want of memory
+abbrev pub StopsAt : List ℕ → List (List ℕ × RawValue) → Error → Type 0
+StopsAt old [] e = IsBare OutOfMemory e
+StopsAt old (p ∷ pairs) e = IsRefusal (CanTake old p.0 p.1 → ⊥) e ⊎ (CanTake old p.0 p.1 × StopsAt (with_element old (element_for p.0 p.1)) pairs e)
+
+-- the bytes of the empty document
+abbrev pub empty_bytes : List ℕ
+empty_bytes = 5 ∷ 0 ∷ 0 ∷ 0 ∷ 0 ∷ []
+
+-- what a call answers that builds a document of pairs
+abbrev pub Builds : {T : Type 0} → (T → List ℕ) → List (List ℕ × RawValue) → Result T Error → Type 0
+Builds bytes pairs (Ok x) = AllTaken empty_bytes pairs (bytes x)
+Builds bytes pairs (Err e) = StopsAt empty_bytes pairs e

@@ -26,8 +26,9 @@ pub struct RawArrayBuf {
 }
 
 impl RawArrayBuf {
-    ghost use Rattle.bson_raw.specs.Append.{Appends, Gains, element_for};
+    ghost use Rattle.bson_raw.specs.Append.{Appends, Builds, Gains, element_for};
     ghost use Rattle.bson_raw.specs.Buffer.{array_buffer_bytes, next_place};
+    ghost use Rattle.bson_raw.specs.Pairs.{placed};
     ghost use Rattle.bson_raw.specs.Raw.{own_value};
     ghost use Rattle.bson_raw.specs.Read.{IsRead, value_steps};
     ghost use Rattle.bson_raw.specs.View.{array_bytes, values_left};
@@ -56,6 +57,21 @@ impl RawArrayBuf {
             document,
             places: self.places,
         })
+    }
+
+    /// The array of these values, one after the other.
+    ///
+    /// The first refusal ends it and is answered: `MalformedValue`, under no key, where a 00 stands in a pattern or options,
+    /// and where the array would be over 2147483647 bytes; `OutOfMemory` where a growth is refused.
+    pub fn from_iter(alloc: Global, values: Vec<RawBson>) -> Result<RawArrayBuf, Error>
+        ensures bytes { Builds array_buffer_bytes (placed 0 values.items) result }
+        ensures place { IfOk result (λ a. next_place a ≡ length values.items) }
+    {
+        let mut array = RawArrayBuf::new(alloc)?;
+        for value in values {
+            array.push(value)?;
+        }
+        Ok(array)
     }
 
     /// Puts a value last. Its key is the number of the values in front of it, in decimal.

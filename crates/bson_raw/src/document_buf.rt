@@ -1,6 +1,6 @@
 //! Documents that own their bytes.
 
-ghost use Rattle.std.specs.Prelude.{◌≡◌, ◌∷◌, [], IfOk, OnOk, MatchResult, List, Result, Some, drop};
+ghost use Rattle.std.specs.Prelude.{◌≡◌, ◌∷◌, [], IfOk, OnOk, MatchResult, List, Result, Some, drop, map};
 ghost use Rattle.std.specs.Iterator.{Drains};
 ghost use Rattle.bson_frame.specs.Payload.{IsEnvelope};
 ghost use Rattle.bson_frame.specs.declared.error.Error.{Error as Fault};
@@ -25,8 +25,9 @@ pub struct RawDocumentBuf {
 
 impl RawDocumentBuf {
     ghost use Rattle.bson_frame.specs.View.{IsBare};
-    ghost use Rattle.bson_raw.specs.Append.{Appends, Gains, element_for};
+    ghost use Rattle.bson_raw.specs.Append.{Appends, Builds, Gains, element_for};
     ghost use Rattle.bson_raw.specs.Buffer.{buffer_bytes};
+    ghost use Rattle.bson_raw.specs.Pairs.{pair_of};
     ghost use Rattle.bson_raw.specs.Raw.{ref_value, own_value};
     ghost use Rattle.bson_raw.specs.Read.{IsPairRead, pair_steps};
     ghost use Rattle.bson_raw.specs.View.{bytes_of, left_of, pairs_left};
@@ -70,6 +71,20 @@ impl RawDocumentBuf {
     {
         let bytes = Vec::from_slice(*self.bytes.allocator(), &self.bytes)?;
         Ok(RawDocumentBuf { bytes })
+    }
+
+    /// The document of these values under their keys, one after the other.
+    ///
+    /// The first refusal ends it and is answered: `MalformedValue`, under no key, where a 00 stands in a key, a pattern or
+    /// options, and where the document would be over 2147483647 bytes; `OutOfMemory` where a growth is refused.
+    pub fn from_iter(alloc: Global, pairs: Vec<(String, RawBson)>) -> Result<RawDocumentBuf, Error>
+        ensures { Builds buffer_bytes (map pair_of pairs.items) result }
+    {
+        let mut document = RawDocumentBuf::new(alloc)?;
+        for (key, value) in pairs {
+            document.append(&key, value)?;
+        }
+        Ok(document)
     }
 
     /// Puts a value last, under a key. It takes time in proportion to the element, but for growths of the buffer.

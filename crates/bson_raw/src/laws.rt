@@ -1,6 +1,6 @@
 //! Laws of the walk.
 
-ghost use Rattle.std.specs.Prelude.{◌≡◌, ◌<◌, ◌^◌, ◌≤◌, ◌+◌, ◌-◌, ◌/◌, ◌↔◌, [], ℕ, List, Option, Result, Some, None, Err, length, slice_get};
+ghost use Rattle.std.specs.Prelude.{MatchResult, ◌≡◌, ◌<◌, ◌^◌, ◌≤◌, ◌+◌, ◌-◌, ◌/◌, ◌↔◌, [], ℕ, List, Option, Result, Some, None, Err, length, slice_get};
 ghost use Rattle.std.specs.Iterator.{Yields};
 ghost use Rattle.bson_base.specs.Kinds.{IsClean, IsSound};
 ghost use Rattle.bson_base.specs.Value.{document, Members};
@@ -19,6 +19,9 @@ ghost use Rattle.bson_raw.specs.declared.element.RawElement.{RawElement as Item}
 ghost use Rattle.bson_raw.specs.declared.values.Iter.{Iter as Pairs};
 ghost use Rattle.bson_raw.specs.declared.walk.RawIter.{RawIter as Elements};
 ghost use Rattle.std.specs.Borrow.{Bor};
+ghost use Rattle.bson_frame.specs.Payload.{IsEnvelope};
+
+use crate::document_buf::RawDocumentBuf;
 
 /// Bytes have a walk.
 pub fn a_walk()
@@ -72,6 +75,16 @@ pub fn array_iter_ends()
     ensures { (s t : Values) (items : List (Result Value Fault)) → Yields value_steps s items t
         → length items ≤ items_left (values_left s) }
 {}
+
+/// Bytes that pass as a document come back from its buffer as they were; others are refused.
+pub fn bytes_come_back(bytes: Vec<u8>) -> bson_frame::Result<Vec<u8>>
+    ensures { MatchResult result (λ back. back.items ≡ bytes.items) (λ _. IsEnvelope bytes.items → ⊥) }
+{
+    match RawDocumentBuf::from_bytes(bytes) {
+        Ok(document) => Ok(document.into_bytes()),
+        Err(e) => Err(e),
+    }
+}
 
 /// Elements have one first fault at most: the bytes alone tell its key and its kind.
 pub fn one_first_fault()

@@ -49,4 +49,6 @@ pub use write_error::WriteError;
 pub use writer::to_writer;
 
 #[cfg(test)]
+mod buffer_tests;
+#[cfg(test)]
 mod tests;

@@ -1,0 +1,14 @@
+-- The elements that buffers are built of.
+use Rattle.std.specs.Prelude.{ℕ, ◌+◌, List, [], ◌∷◌, String, string_bytes}
+use Rattle.std.specs.Fmt.{decimal}
+use Rattle.std.specs.declared.alloc.Global.{Global}
+use Rattle.bson_raw.specs.declared.bson.RawBson.{RawBson}
+use Rattle.bson_raw.specs.Raw.{RawValue, own_value}
+
+abbrev pub pair_of : String Global × RawBson → List ℕ × RawValue
+pair_of p = (string_bytes p.0, own_value p.1)
+
+-- the values of an array from the place i on, under their places in decimal
+abbrev pub placed : ℕ → List RawBson → List (List ℕ × RawValue)
+placed i [] = []
+placed i (v ∷ values) = (decimal i, own_value v) ∷ placed (i + 1) values
