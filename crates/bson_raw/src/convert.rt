@@ -12,8 +12,6 @@ ghost use Rattle.bson_raw.specs.Convert.{ConvertsMembers, ConvertsItems, Convert
 ghost use Rattle.bson_raw.specs.Raw.{ref_value};
 ghost use Rattle.bson_raw.specs.View.{bytes_of};
 
-mod owned;
-
 use crate::bson_ref::{RawBsonRef, RawDbPointerRef, RawJavaScriptCodeWithScopeRef, RawRegexRef};
 use crate::decode::value_of;
 use crate::document::RawDocument;

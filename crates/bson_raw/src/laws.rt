@@ -1,11 +1,7 @@
 //! Laws of the walk.
 
-ghost use Rattle.std.specs.Prelude.{MatchResult, ◌≡◌, ◌<◌, ◌^◌, ◌≤◌, ◌+◌, ◌-◌, ◌/◌, ◌↔◌, [], ℕ, List, Option, Result, Some, None, Err, length, slice_get};
+ghost use Rattle.std.specs.Prelude.{MatchResult, ◌≡◌, ◌≤◌, ◌+◌, ◌-◌, ◌/◌, ◌↔◌, [], ℕ, List, Option, Result, Some, None, Err, length, slice_get};
 ghost use Rattle.std.specs.Iterator.{Yields};
-ghost use Rattle.bson_base.specs.Kinds.{IsClean, IsSound};
-ghost use Rattle.bson_base.specs.Value.{document, Members};
-ghost use Rattle.bson_bytes.specs.Encode.{encode, size};
-ghost use Rattle.bson_bytes.specs.Spells.{Means, IsFaulty};
 ghost use Rattle.bson_frame.specs.Frame.{Element};
 ghost use Rattle.bson_frame.specs.declared.error.Error.{Error as Fault};
 ghost use Rattle.bson_frame.specs.declared.error.ErrorKind.{ErrorKind as Kind};
@@ -93,13 +89,4 @@ pub fn one_first_fault()
 {
     bson_frame::laws::one_first_frame();
     bson_frame::laws::one_structural_fault();
-}
-
-/// A clean document of at most 2147483647 bytes comes back from its bytes: they have no fault, and mean it alone.
-pub fn documents_come_back()
-    ensures faultless { (d : Members) → IsClean (document d) → IsSound (document d) → size d < 2 ^ 31 → IsFaulty (encode d) → ⊥ }
-    ensures same { (d e : Members) → IsClean (document d) → IsSound (document d) → size d < 2 ^ 31 → Means (encode d) e → e ≡ d }
-{
-    bson_bytes::laws::trees_come_back();
-    bson_bytes::laws::one_meaning();
 }
