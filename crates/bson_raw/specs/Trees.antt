@@ -1,16 +1,21 @@
 -- Trees as raw values, and the writing of a tree to a device.
-use Rattle.std.specs.Prelude.{◌≡◌, ℕ, ◌+◌, List, Option, Result, Ok, Err}
+use Rattle.std.specs.Prelude.{◌≡◌, ℕ, ◌+◌, List, Option, Result, Ok, Err, IfErr}
 use Rattle.std.specs.Io.KnownBytes.{Appends}
 use Rattle.bson_base.specs.Device.{TakesBeginning}
 use Rattle.bson_base.specs.Value as values
 use Rattle.bson_base.specs.Value.{Value, Members}
 use Rattle.bson_bytes.specs.Encode.{framed, items_bytes, encode}
 use Rattle.bson_bytes.specs.Writing.{CanBeWritten}
+use Rattle.bson_frame.specs.declared.error.Error.{Error}
 use Rattle.bson_frame.specs.declared.error.ErrorKind.TheVariants.{MalformedValue}
 use Rattle.bson_frame.specs.View.{IsBare}
+use Rattle.bson_model.specs.declared.bson.Bson.{Bson}
+use Rattle.bson_raw.specs.declared.bson.RawBson.{RawBson}
+use Rattle.bson_raw.specs.declared.bson_ref.RawBsonRef.{RawBsonRef}
 use Rattle.bson_raw.specs.declared.write_error.WriteError.{WriteError}
 use Rattle.bson_raw.specs.declared.write_error.WriteError.TheVariants.{Writer, Raw, Memory}
-use Rattle.bson_raw.specs.Raw.{RawValue, leaf, array, document, scoped_code}
+use Rattle.bson_raw.specs.Convert.{ConvertsValue, Stands, Tells}
+use Rattle.bson_raw.specs.Raw.{RawValue, leaf, array, document, scoped_code, ref_value, own_value}
 
 -- the tree with what stands inside written
 abbrev pub raw_of : Value → RawValue
@@ -33,3 +38,7 @@ Sends d failures now old new (Ok x) = CanBeWritten (values.document d) × (now �
 Sends d failures now old new (Err Writer) = CanBeWritten (values.document d) × (now ≡ failures + 1) × TakesBeginning old new (encode d)
 Sends d failures now old new (Err (Raw e)) = (CanBeWritten (values.document d) → ⊥) × IsBare MalformedValue e × (now ≡ failures) × (new ≡ old)
 Sends d failures now old new (Err Memory) = (now ≡ failures) × (new ≡ old)
+
+-- a value converts as one that borrows the same
+abbrev pub ConvertsOwned : RawBson → Result Bson Error → Type 0
+ConvertsOwned v result = (r : RawBsonRef) × (ref_value r ≡ own_value v) × ConvertsValue r result × IfErr result (Tells (λ _ _. (w : Value) → Stands r w → ⊥))

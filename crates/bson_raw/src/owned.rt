@@ -9,24 +9,11 @@ ghost use Rattle.bson_raw.specs.Raw.{ref_value, own_value};
 ghost use Rattle.bson_raw.specs.View.{parts_of, bytes_of};
 
 use crate::bson::{RawBson, RawJavaScriptCodeWithScope};
-use crate::bson_ref::{
-    RawBinaryRef, RawBsonRef, RawDbPointerRef, RawJavaScriptCodeWithScopeRef, RawRegexRef,
-};
+use crate::bson_ref::{RawBsonRef, RawDbPointerRef, RawJavaScriptCodeWithScopeRef, RawRegexRef};
 use crate::element::RawElement;
-use bson_base::{Binary, DbPointer, Regex};
+use bson_base::{DbPointer, Regex};
 use bson_frame::Error;
 use std::alloc::{AllocError, Global};
-
-fn own_binary(alloc: Global, binary: RawBinaryRef<'_>) -> Result<Binary, AllocError>
-    ensures subtype { IfOk result (λ b. b.subtype ≡ binary.entry.subtype) }
-    ensures bytes { IfOk result (λ b. b.bytes.items ≡ binary.entry.bytes.now) }
-{
-    let bytes = Vec::from_slice(alloc, binary.bytes)?;
-    Ok(Binary {
-        subtype: binary.subtype,
-        bytes,
-    })
-}
 
 /// With the options in the order of the bytes.
 fn own_regex(alloc: Global, regex: RawRegexRef<'_>) -> Result<Regex, AllocError>
@@ -86,7 +73,7 @@ impl<'a> RawBsonRef<'a> {
             RawBsonRef::Int32(x) => Ok(RawBson::Int32(x)),
             RawBsonRef::Int64(x) => Ok(RawBson::Int64(x)),
             RawBsonRef::Timestamp(x) => Ok(RawBson::Timestamp(x)),
-            RawBsonRef::Binary(x) => Ok(RawBson::Binary(own_binary(alloc, x)?)),
+            RawBsonRef::Binary(x) => Ok(RawBson::Binary(x.to_binary(alloc)?)),
             RawBsonRef::ObjectId(x) => Ok(RawBson::ObjectId(x)),
             RawBsonRef::DateTime(x) => Ok(RawBson::DateTime(x)),
             RawBsonRef::Symbol(x) => Ok(RawBson::Symbol(String::from_str(alloc, x)?)),

@@ -1,14 +1,16 @@
 //! Trees that are written into buffers.
 
-ghost use Rattle.std.specs.Prelude.{◌≡◌, IfOk, IfErr, OnOk};
+ghost use Rattle.std.specs.Prelude.{◌≡◌, IfOk, IfErr, OnOk, MatchResult, drop};
 ghost use Rattle.bson_bytes.specs.Encode.{encode};
 ghost use Rattle.bson_bytes.specs.Writing.{CanBeWritten, IsRefusal};
+ghost use Rattle.bson_bytes.specs.Spells.{Means, IsFaulty};
 ghost use Rattle.bson_model.specs.View.{view, pairs_of, members_of};
 ghost use Rattle.bson_model.specs.Trees.{document_tree};
 ghost use Rattle.bson_raw.specs.Buffer.{buffer_bytes};
+ghost use Rattle.bson_raw.specs.Convert.{HasFault, Tells};
 ghost use Rattle.bson_raw.specs.Places.{ArrayGoesOn};
 ghost use Rattle.bson_raw.specs.Raw.{own_value};
-ghost use Rattle.bson_raw.specs.Trees.{raw_of, CanBeRaw};
+ghost use Rattle.bson_raw.specs.Trees.{raw_of, CanBeRaw, ConvertsOwned};
 
 use crate::array_buf::RawArrayBuf;
 use crate::bson::{RawBson, RawJavaScriptCodeWithScope};
@@ -30,6 +32,15 @@ impl RawDocumentBuf {
     {
         let bytes = encode_document(alloc, document)?;
         Ok(RawDocumentBuf { bytes })
+    }
+
+    /// The document that the bytes mean, as `RawDocument::to_document` gives it, and its errors.
+    pub fn to_document(&self) -> Result<Document, Error>
+        ensures tree { MatchResult result (λ d. Means (buffer_bytes self.now) (members_of (pairs_of d)))
+            (Tells (HasFault (drop 4 (buffer_bytes self.now)))) }
+        ensures none { IfErr result (Tells (λ _ _. IsFaulty (buffer_bytes self.now))) }
+    {
+        self.as_ref().to_document(*self.bytes.allocator())
     }
 }
 
@@ -79,5 +90,12 @@ impl RawBson {
             Bson::MinKey => Ok(RawBson::MinKey),
             Bson::DbPointer(x) => Ok(RawBson::DbPointer(x)),
         }
+    }
+
+    /// The tree of the value, as `RawBsonRef::to_bson` gives it, and its errors.
+    pub fn to_bson(&self, alloc: Global) -> Result<Bson, Error>
+        ensures { ConvertsOwned self.now result }
+    {
+        self.as_raw_bson_ref().to_bson(alloc)
     }
 }
