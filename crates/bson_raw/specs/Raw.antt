@@ -3,6 +3,10 @@ use Rattle.std.specs.Prelude.{ℕ, List, string_bytes, Option, Some, None}
 use Rattle.bson_base.specs.declared.spec.ElementType.{ElementType}
 use Rattle.bson_base.specs.declared.spec.ElementType.TheVariants as kinds
 use Rattle.bson_base.specs.declared.spec.BinarySubtype.{BinarySubtype}
+use Rattle.bson_base.specs.declared.binary.Binary.{Binary}
+use Rattle.bson_base.specs.declared.regex.Regex.{Regex}
+use Rattle.bson_base.specs.declared.pointer.DbPointer.{DbPointer}
+use Rattle.bson_base.specs.declared.timestamp.Timestamp.{Timestamp}
 use Rattle.bson_base.specs.Scalars.{id_bytes, millis_of, decimal_bytes}
 use Rattle.bson_base.specs.Kinds.{IsPlainScalar}
 use Rattle.bson_base.specs.Value.{Scalar, double, string, binary, undefined, object_id, boolean, date_time, null, regex, db_pointer, code, symbol, int32, timestamp, int64, decimal, max_key, min_key, scalar_kind}
