@@ -12,3 +12,4 @@ pub mod Converting
 pub mod Faults
 pub mod Reading
 pub mod FirstFaults
+pub mod ComesBack

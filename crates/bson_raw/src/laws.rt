@@ -15,9 +15,15 @@ ghost use Rattle.bson_raw.specs.declared.element.RawElement.{RawElement as Item}
 ghost use Rattle.bson_raw.specs.declared.values.Iter.{Iter as Pairs};
 ghost use Rattle.bson_raw.specs.declared.walk.RawIter.{RawIter as Elements};
 ghost use Rattle.std.specs.Borrow.{Bor};
+ghost use Rattle.bson_base.specs.Kinds.{IsClean, IsSound};
+ghost use Rattle.bson_bytes.specs.Writing.{CanBeWritten, IsRefusal};
 ghost use Rattle.bson_frame.specs.Payload.{IsEnvelope};
+ghost use Rattle.bson_model.specs.Trees.{document_tree};
+ghost use Rattle.bson_model.specs.View.{pairs_of, members_of};
 
 use crate::document_buf::RawDocumentBuf;
+use bson_model::Document;
+use std::alloc::Global;
 
 /// Bytes have a walk.
 pub fn a_walk()
@@ -89,4 +95,19 @@ pub fn one_first_fault()
 {
     bson_frame::laws::one_first_frame();
     bson_frame::laws::one_structural_fault();
+}
+
+/// A clean document that is written into a buffer comes back from it. It is refused where it has no written form, or a growth
+/// is refused, and for no other reason.
+pub fn documents_come_back(alloc: Global, document: &Document) -> bson_frame::Result<Document>
+    ensures { IsClean (document_tree document.now) → IsSound (document_tree document.now)
+        → MatchResult result (λ back. members_of (pairs_of back) ≡ members_of (pairs_of document.now))
+        (IsRefusal (CanBeWritten (document_tree document.now) → ⊥)) }
+{
+    bson_bytes::laws::trees_come_back();
+    bson_bytes::laws::one_meaning();
+    match RawDocumentBuf::from_document(alloc, document) {
+        Ok(buffer) => buffer.to_document(),
+        Err(e) => Err(e),
+    }
 }
