@@ -9,6 +9,7 @@ use Rattle.bson_frame.specs.Payload.{code_in, scope_in, IsFaultless}
 use Rattle.bson_raw.specs.declared.bson_ref.RawBsonRef.{RawBsonRef}
 use Rattle.bson_raw.specs.declared.bson_ref.RawBsonRef.TheVariants as values
 use Rattle.bson_raw.specs.Value.{IsValue, Holds, kind_of}
+use Rattle.bson_raw.specs.Raw.{ref_value}
 use Rattle.bson_raw.specs.View.{bytes_of, array_bytes}
 use Rattle.bson_frame.specs.declared.error.Error.{Error}
 use Rattle.bson_frame.specs.Frame.{Element}
@@ -44,7 +45,7 @@ module _ (tag : ElementType) (payload : List ℕ) where
   by_scalar s v kind holds faultless is = subst IsSpelled (sym is) (kind, (subst (λ (t : ElementType). IsFaultless t payload) (sym kind) faultless, holds))
 
   -- the tree that a value spells is one that its payload spells
-  pub spelled : (r : RawBsonRef) (v : Value) → kind_of r ≡ tag → Holds payload r → IsFaultless tag payload → Stands r v → IsSpelled v
+  pub spelled : (r : RawBsonRef) (v : Value) → kind_of r ≡ tag → Holds payload r → IsFaultless tag payload → Stands (ref_value r) v → IsSpelled v
   spelled (values.Double x) v kind holds faultless is = by_scalar (double x.0) v kind holds faultless is
   spelled (values.String x) v kind holds faultless is = by_scalar (string x.now) v kind holds faultless is
   spelled (values.Array x) v kind holds faultless (vs, is, spells) = subst IsSpelled (sym is) (kind, subst (λ b. SpellsItems (drop 4 b) vs) holds spells)
@@ -68,20 +69,20 @@ module _ (tag : ElementType) (payload : List ℕ) where
   spelled values.MinKey v kind holds faultless is = by_scalar min_key v kind holds faultless is
   spelled (values.DbPointer x) v kind holds faultless is = by_scalar (db_pointer x.namespace.now (id_bytes x.id)) v kind holds faultless is
 
-  inside_of : (r : RawBsonRef) → Holds payload r → elements_of r ≡ elements_in (kind_of r) payload
+  inside_of : (r : RawBsonRef) → Holds payload r → elements_of (ref_value r) ≡ elements_in (kind_of r) payload
   inside_of (values.Array x) holds = ap (λ (b : List ℕ). Some (drop 4 b)) holds
   inside_of (values.Document x) holds = ap (λ (b : List ℕ). Some (drop 4 b)) holds
   inside_of (values.JavaScriptCodeWithScope x) holds = ap (λ (b : List ℕ). Some (drop 4 b)) holds.1
   inside_of _ holds = refl
 
   -- what is inside a value is inside its payload
-  pub same_inside : (r : RawBsonRef) → kind_of r ≡ tag → Holds payload r → elements_of r ≡ elements_in tag payload
+  pub same_inside : (r : RawBsonRef) → kind_of r ≡ tag → Holds payload r → elements_of (ref_value r) ≡ elements_in tag payload
   same_inside r kind holds = inside_of r holds ∙ ap (λ (t : ElementType). elements_in t payload) kind
 
 -- what a value's conversion answers is what its element's does
-pub element_converted : (e : Element) (r : RawBsonRef) (result : Result Bson Error) → IsValue e.tag e.payload r → ConvertsValue r result → MatchResult result (IsValueOf e) (Tells (HasFaultIn e))
+pub element_converted : (e : Element) (r : RawBsonRef) (result : Result Bson Error) → IsValue e.tag e.payload r → ConvertsValue (ref_value r) result → MatchResult result (IsValueOf e) (Tells (HasFaultIn e))
 element_converted e r (Ok b) is (v, stands, seen) =
     let s = spelled e.tag e.payload r v is.kind is.holds is.faultless stands in
     (v, s.0, s.1, seen)
 element_converted e r (Err x) is h =
-    told_on (HasFaultInside r) (HasFaultIn e) (λ key kind f. inr (f.0, is.faultless, sym (same_inside e.tag e.payload r is.kind is.holds) ∙ f.1, f.2)) (fault_key x) x.kind h
+    told_on (HasFaultInside (ref_value r)) (HasFaultIn e) (λ key kind f. inr (f.0, is.faultless, sym (same_inside e.tag e.payload r is.kind is.holds) ∙ f.1, f.2)) (fault_key x) x.kind h

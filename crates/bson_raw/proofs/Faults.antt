@@ -10,8 +10,8 @@ use Rattle.bson_frame.specs.Payload.{IsFaultless}
 use Rattle.bson_frame.specs.View.{fault_key}
 use Rattle.bson_model.specs.declared.bson.Bson.{Bson}
 use Rattle.bson_model.specs.declared.document.Document.{Document}
-use Rattle.bson_raw.specs.declared.bson_ref.RawBsonRef.{RawBsonRef}
-use Rattle.bson_raw.specs.declared.bson_ref.RawBsonRef.TheVariants as values
+use Rattle.bson_raw.specs.Raw as raws
+use Rattle.bson_raw.specs.Raw.{RawValue}
 use Rattle.bson_raw.specs.Convert.{Stands, elements_of, HasFaultInside, Way, here, past, into, elements_in, IsFirstFault, HasFault, HasFaultIn, IsValueOf, MeansItems, ConvertsMembers, ConvertsItems, ConvertsValue, Tells}
 use Rattle.bson_raw.proofs.Progress.{told_on}
 use Rattle.bson_raw.proofs.Walks.{FramesAreOne, end_has_no_frame}
@@ -115,13 +115,13 @@ module _ (one : FramesAreOne) where
       by v same spells kind key (inr (inner, faultless, is, (way, fault))) =
           not_inside inner (inside_front e inner is (v, same, spells)) (spells_no_members way inner key kind fault) (spells_no_items way inner key kind fault)
 
-  inside_stands : (r : RawBsonRef) (inner : List ℕ) (v : Value) → elements_of r ≡ Some inner → Stands r v → IsInside inner
-  inside_stands (values.Array x) inner v is (vs, same, spells) = in_items _ inner vs is spells
-  inside_stands (values.Document x) inner v is (ms, same, spells) = in_members _ inner ms is spells
-  inside_stands (values.JavaScriptCodeWithScope x) inner v is (ms, same, spells) = in_members _ inner ms is spells
-  inside_stands _ inner v is h = absurd (cc)
+  inside_stands : (r : RawValue) (inner : List ℕ) (v : Value) → elements_of r ≡ Some inner → Stands r v → IsInside inner
+  inside_stands (raws.leaf s) inner v is h = absurd (cc)
+  inside_stands (raws.array bs) inner v is (vs, same, spells) = in_items _ inner vs is spells
+  inside_stands (raws.document bs) inner v is (ms, same, spells) = in_members _ inner ms is spells
+  inside_stands (raws.scoped_code t bs) inner v is (ms, same, spells) = in_members _ inner ms is spells
 
-  pub no_tree : (r : RawBsonRef) (result : Result Bson Error) → ConvertsValue r result → IfErr result (Tells (λ _ _. (v : Value) → Stands r v → ⊥))
+  pub no_tree : (r : RawValue) (result : Result Bson Error) → ConvertsValue r result → IfErr result (Tells (λ _ _. (v : Value) → Stands r v → ⊥))
   no_tree r (Ok b) h = tt
   no_tree r (Err x) h = told_on (HasFaultInside r) (λ _ _. (v : Value) → Stands r v → ⊥) (λ key kind fault v stands. by v stands kind key fault) (fault_key x) x.kind h
     where

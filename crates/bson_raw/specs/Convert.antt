@@ -3,8 +3,7 @@ use Rattle.std.specs.Prelude.{◌≡◌, ◌≢◌, ℕ, List, [], ◌∷◌, ma
 use Rattle.std.specs.declared.alloc.Global.{Global}
 use Rattle.bson_base.specs.declared.spec.ElementType.{ElementType}
 use Rattle.bson_base.specs.declared.spec.ElementType.TheVariants as kinds
-use Rattle.bson_base.specs.Scalars.{id_bytes, millis_of, decimal_bytes}
-use Rattle.bson_base.specs.Value.{double, string, binary, undefined, object_id, boolean, date_time, null, regex, db_pointer, code, symbol, int32, timestamp, int64, decimal, max_key, min_key, value_kind, Value, scalar, array, document, scoped_code, Items, Members}
+use Rattle.bson_base.specs.Value.{value_kind, Value, scalar, array, document, scoped_code, Items, Members}
 use Rattle.bson_bytes.specs.Spells.{SpellsValue, SpellsItems, SpellsMembers, settle_value, settle_items, settle}
 use Rattle.bson_frame.specs.declared.error.ErrorKind.{ErrorKind}
 use Rattle.bson_frame.specs.declared.error.ErrorKind.TheVariants.{MalformedValue, Utf8EncodingError, OutOfMemory}
@@ -16,10 +15,10 @@ use Rattle.bson_model.specs.declared.bson.Bson.{Bson}
 use Rattle.bson_model.specs.declared.bson.JavaScriptCodeWithScope.{JavaScriptCodeWithScope}
 use Rattle.bson_model.specs.declared.document.Document.{Document}
 use Rattle.bson_model.specs.View.{view, items_of, members_of, pairs_of}
-use Rattle.bson_raw.specs.declared.bson_ref.RawBsonRef.{RawBsonRef}
-use Rattle.bson_raw.specs.declared.bson_ref.RawBsonRef.TheVariants as values
 use Rattle.bson_raw.specs.declared.bson_ref.RawJavaScriptCodeWithScopeRef.{RawJavaScriptCodeWithScopeRef}
-use Rattle.bson_raw.specs.View.{bytes_of, array_bytes}
+use Rattle.bson_raw.specs.Raw as raws
+use Rattle.bson_raw.specs.Raw.{RawValue}
+use Rattle.bson_raw.specs.View.{bytes_of}
 
 -- ---- the first fault
 
@@ -80,43 +79,26 @@ IsScopedOf x c = (string_bytes c.code ≡ x.code.now) × IsDocumentOf (drop 4 (b
 abbrev pub IsValueOf : Element → Bson → Type 0
 IsValueOf e b = (v : Value) × (value_kind v ≡ e.tag) × SpellsValue e.payload v × (view b ≡ settle_value v)
 
--- the elements inside a value that was read, where its kind has some
-abbrev pub elements_of : RawBsonRef → Option (List ℕ)
-elements_of (values.Array x) = Some (drop 4 (array_bytes x))
-elements_of (values.Document x) = Some (drop 4 (bytes_of x))
-elements_of (values.JavaScriptCodeWithScope x) = Some (drop 4 (bytes_of x.scope))
-elements_of v = None
+-- the elements inside a raw value, where its kind has some
+abbrev pub elements_of : RawValue → Option (List ℕ)
+elements_of (raws.leaf s) = None
+elements_of (raws.array bs) = Some (drop 4 bs)
+elements_of (raws.document bs) = Some (drop 4 bs)
+elements_of (raws.scoped_code t bs) = Some (drop 4 bs)
 
--- a value that was read spells a tree: what it holds, and what the elements inside spell
-abbrev pub Stands : RawBsonRef → Value → Type 0
-Stands (values.Double x) v = v ≡ scalar (double x.0)
-Stands (values.String x) v = v ≡ scalar (string x.now)
-Stands (values.Array x) v = (vs : Items) × (v ≡ array vs) × SpellsItems (drop 4 (array_bytes x)) vs
-Stands (values.Document x) v = (ms : Members) × (v ≡ document ms) × SpellsMembers (drop 4 (bytes_of x)) ms
-Stands (values.Boolean x) v = v ≡ scalar (boolean x)
-Stands values.Null v = v ≡ scalar null
-Stands (values.RegularExpression x) v = v ≡ scalar (regex x.pattern.now x.options.now)
-Stands (values.JavaScriptCode x) v = v ≡ scalar (code x.now)
-Stands (values.JavaScriptCodeWithScope x) v = (ms : Members) × (v ≡ scoped_code x.code.now ms) × SpellsMembers (drop 4 (bytes_of x.scope)) ms
-Stands (values.Int32 x) v = v ≡ scalar (int32 x)
-Stands (values.Int64 x) v = v ≡ scalar (int64 x)
-Stands (values.Timestamp x) v = v ≡ scalar (timestamp x.time x.increment)
-Stands (values.Binary x) v = v ≡ scalar (binary x.subtype x.bytes.now)
-Stands (values.ObjectId x) v = v ≡ scalar (object_id (id_bytes x))
-Stands (values.DateTime x) v = v ≡ scalar (date_time (millis_of x))
-Stands (values.Symbol x) v = v ≡ scalar (symbol x.now)
-Stands (values.Decimal128 x) v = v ≡ scalar (decimal (decimal_bytes x))
-Stands values.Undefined v = v ≡ scalar undefined
-Stands values.MaxKey v = v ≡ scalar max_key
-Stands values.MinKey v = v ≡ scalar min_key
-Stands (values.DbPointer x) v = v ≡ scalar (db_pointer x.namespace.now (id_bytes x.id))
+-- a raw value spells a tree: what it holds, and what the elements inside spell
+abbrev pub Stands : RawValue → Value → Type 0
+Stands (raws.leaf s) v = v ≡ scalar s
+Stands (raws.array bs) v = (vs : Items) × (v ≡ array vs) × SpellsItems (drop 4 bs) vs
+Stands (raws.document bs) v = (ms : Members) × (v ≡ document ms) × SpellsMembers (drop 4 bs) ms
+Stands (raws.scoped_code t bs) v = (ms : Members) × (v ≡ scoped_code t ms) × SpellsMembers (drop 4 bs) ms
 
--- a value that was read spells the tree of a value
-abbrev pub IsBsonOf : RawBsonRef → Bson → Type 0
+-- a raw value spells the tree of a value
+abbrev pub IsBsonOf : RawValue → Bson → Type 0
 IsBsonOf r b = (v : Value) × Stands r v × (view b ≡ settle_value v)
 
--- the first fault of a value that was read
-abbrev pub HasFaultInside : RawBsonRef → Option (List ℕ) → ErrorKind → Type 0
+-- the first fault of a raw value
+abbrev pub HasFaultInside : RawValue → Option (List ℕ) → ErrorKind → Type 0
 HasFaultInside r key kind = (inner : List ℕ) × (elements_of r ≡ Some inner) × HasFault inner key kind
 
 -- ---- what the conversions answer
@@ -130,7 +112,7 @@ ConvertsItems bytes result = MatchResult result (IsArrayOf bytes) (Tells (HasFau
 abbrev pub ConvertsElement : Element → Result Bson Error → Type 0
 ConvertsElement e result = IsPayload e.tag e.payload → MatchResult result (IsValueOf e) (Tells (HasFaultIn e))
 
-abbrev pub ConvertsValue : RawBsonRef → Result Bson Error → Type 0
+abbrev pub ConvertsValue : RawValue → Result Bson Error → Type 0
 ConvertsValue r result = MatchResult result (IsBsonOf r) (Tells (HasFaultInside r))
 
 -- the bytes of an array mean the items

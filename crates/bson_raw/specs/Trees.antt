@@ -11,11 +11,10 @@ use Rattle.bson_frame.specs.declared.error.ErrorKind.TheVariants.{MalformedValue
 use Rattle.bson_frame.specs.View.{IsBare}
 use Rattle.bson_model.specs.declared.bson.Bson.{Bson}
 use Rattle.bson_raw.specs.declared.bson.RawBson.{RawBson}
-use Rattle.bson_raw.specs.declared.bson_ref.RawBsonRef.{RawBsonRef}
 use Rattle.bson_raw.specs.declared.write_error.WriteError.{WriteError}
 use Rattle.bson_raw.specs.declared.write_error.WriteError.TheVariants.{Writer, Raw, Memory}
 use Rattle.bson_raw.specs.Convert.{ConvertsValue, Stands, Tells}
-use Rattle.bson_raw.specs.Raw.{RawValue, leaf, array, document, scoped_code, ref_value, own_value}
+use Rattle.bson_raw.specs.Raw.{RawValue, leaf, array, document, scoped_code, own_value}
 
 -- the tree with what stands inside written
 abbrev pub raw_of : Value → RawValue
@@ -41,4 +40,4 @@ Sends d failures now old new (Err Memory) = (now ≡ failures) × (new ≡ old)
 
 -- a value converts as one that borrows the same
 abbrev pub ConvertsOwned : RawBson → Result Bson Error → Type 0
-ConvertsOwned v result = (r : RawBsonRef) × (ref_value r ≡ own_value v) × ConvertsValue r result × IfErr result (Tells (λ _ _. (w : Value) → Stands r w → ⊥))
+ConvertsOwned v result = ConvertsValue (own_value v) result × IfErr result (Tells (λ _ _. (w : Value) → Stands (own_value v) w → ⊥))

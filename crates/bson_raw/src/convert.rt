@@ -9,6 +9,7 @@ ghost use Rattle.bson_frame.specs.View.{element_of, fault_key};
 ghost use Rattle.bson_model.specs.Keyed.{put};
 ghost use Rattle.bson_model.specs.View.{pairs_of, view};
 ghost use Rattle.bson_raw.specs.Convert.{ConvertsMembers, ConvertsItems, ConvertsElement, ConvertsValue, IsScopedOf, HasFault, Tells};
+ghost use Rattle.bson_raw.specs.Raw.{ref_value};
 ghost use Rattle.bson_raw.specs.View.{bytes_of};
 
 use crate::bson_ref::{RawBsonRef, RawDbPointerRef, RawJavaScriptCodeWithScopeRef, RawRegexRef};
@@ -112,7 +113,7 @@ fn element_tree(alloc: Global, frame: &Frame<'_>) -> Result<Bson, Error>
 /// The tree of a value that was read.
 #[cycle(convert)]
 pub(crate) fn tree_of(alloc: Global, value: RawBsonRef<'_>) -> Result<Bson, Error>
-    ensures { ConvertsValue value.entry result }
+    ensures { ConvertsValue (ref_value value.entry) result }
 {
     match value {
         RawBsonRef::Double(x) => Ok(Bson::Double(x)),

@@ -1,6 +1,6 @@
 //! Trees of bytes that were worked out by hand from bsonspec.org 1.1.
 
-use crate::{ErrorKind, RawDocument};
+use crate::{ErrorKind, RawBson, RawDocument, RawDocumentBuf};
 use bson_base::{BinarySubtype, DateTime, DoubleBits, ObjectId, Timestamp};
 use bson_model::{Bson, Document};
 use std::alloc::{AllocError, Global};
@@ -203,6 +203,27 @@ fn bytes_and_pointers(rt: HostRuntime) -> Result<(), Fail> {
         Some(Bson::DbPointer(pointer)) => assert_eq!(rt; pointer.namespace.as_str(), "n"),
         _ => assert!(rt; false),
     }
+    Ok(())
+}
+
+#[test]
+fn a_written_document_comes_back(rt: HostRuntime) -> Result<(), Fail> {
+    let bytes = each_kind(rt.alloc())?;
+    let document = tree(rt.alloc(), &bytes)?;
+    let written = RawDocumentBuf::from_document(rt.alloc(), &document)?;
+    assert_eq!(rt; written.as_ref().as_bytes(), bytes.as_slice());
+    assert_eq!(rt; written.to_document()?, document);
+    Ok(())
+}
+
+#[test]
+fn an_owned_value_comes_back(rt: HostRuntime) -> Result<(), Fail> {
+    let items = tree(rt.alloc(), &ITEMS)?;
+    let owned = RawBson::from_bson(rt.alloc(), Bson::Document(items))?;
+    assert_eq!(rt;
+        owned.to_bson(rt.alloc())?,
+        Bson::Document(tree(rt.alloc(), &ITEMS)?)
+    );
     Ok(())
 }
 
