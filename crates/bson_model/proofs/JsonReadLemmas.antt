@@ -1,5 +1,5 @@
 -- Reading goes on from what is read so far.
-use Rattle.std.proofs.Common.{◌≡◌, ℕ, List, [], ◌∷◌, ◌++◌, map, Option, Some, None, is_some, MatchOption, IsErrAnd, Result, Ok, Err, String, Global, string_bytes, string_cmp, codes, cond, Bool, true, false, Less, Greater, is_eq, nat_cmp, bytes_eq, refl, sym, ap, ◌∙◌, subst, append_assoc}
+use Rattle.std.proofs.Common.{◌≡◌, ℕ, List, [], ◌∷◌, ◌++◌, map, Option, Some, None, is_some, MatchOption, IsErrAnd, Result, Ok, Err, String, Global, string_bytes, string_cmp, true, false, Less, Greater, is_eq, nat_cmp, bytes_eq, refl, sym, ap, ◌∙◌, subst, append_assoc}
 use Rattle.std.specs.List.{AllByRecursion}
 use Rattle.std.specs.List.Sorted.{IsStrictlySortedBy}
 use Rattle.std.specs.Map.{keys_of}
@@ -15,7 +15,7 @@ use Rattle.bson_base.specs.Value.{Value, Items, no_items, item, Members, no_memb
 use Rattle.bson_pairs.specs.Keyed.{Key, put}
 use Rattle.bson_model.specs.JsonKeys.{key_of, of_code, scope_key}
 use Rattle.bson_model.specs.JsonRead.{◌>>=◌, Fails, Gives, read, read_items, read_members, read_typed, text_of, read_scope, with_scope}
-use Rattle.bson_model.specs.View.{view, items_of, members_of, pairs_of}
+use Rattle.bson_model.specs.View.{view, items_of, members_of}
 use Rattle.bson_model.specs.declared.bson.Bson.{Bson}
 use Rattle.bson_model.specs.declared.extjson.de.Error.{Error}
 use Rattle.bson_model.specs.declared.extjson.de.Error.TheVariants.{InvalidObjectId, DeserializationError, FiniteDouble, Memory}

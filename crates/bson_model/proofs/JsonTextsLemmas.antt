@@ -1,13 +1,12 @@
 -- Whole numbers: `parse` of std reads what `integer_of` does.
-use Rattle.std.proofs.Common.{◌≡◌, ℕ, zero, suc, ◌+◌, ◌*◌, ◌<◌, ◌^◌, ◌&&◌, ◌==◌, nat_lt, Bool, true, false, cond, if◌then◌else◌, List, [], ◌∷◌, length, ℤ, pos, negsuc, neg_ℤ, int_le, Option, Some, None, Result, Ok, Err, OkIff, FitsSigned, refl, sym, ap, ◌∙◌, arith, eq-eqb}
+use Rattle.std.proofs.Common.{◌≡◌, ℕ, ◌+◌, ◌*◌, ◌<◌, ◌^◌, ◌==◌, nat_lt, Bool, true, false, List, [], ◌∷◌, length, ℤ, pos, negsuc, Some, None, Ok, Err, FitsSigned, refl, sym, ap, ◌∙◌, arith}
 use Rattle.std.specs.Int.{w32, w64}
 use Rattle.std.specs.Char.{is_ascii_digit, digit_value}
-use Rattle.std.specs.Str.Parse.{AllDigits, IsNumeral, ParsesSigned, digits_value, digits_value_after, starts_with_minus, without_leading_sign, signed_digits_value}
-use Rattle.bson_base.specs.Decimal.{all_digits, value, value_after}
+use Rattle.std.specs.Str.Parse.{AllDigits, IsNumeral, digits_value_after, starts_with_minus, without_leading_sign, signed_digits_value}
+use Rattle.bson_base.specs.Decimal.{all_digits, value_after}
 use Rattle.bson_base.proofs.PrintedReads.{both}
 use Rattle.bson_model.specs.JsonTexts.{signed, is_digits, with_sign, integer_of, fits_32, fits_64, only, int_of, long_of}
 use Rattle.bson_model.specs.JsonRead.{wanted}
-use Rattle.bson_model.specs.declared.extjson.de.Error.{Error}
 use Rattle.bson_model.specs.declared.extjson.de.Error.TheVariants.{DeserializationError}
 
 -- ---- digits

@@ -9,3 +9,4 @@ pub mod FiniteLemmas
 pub mod ShowLemmas
 pub mod JsonTextsLemmas
 pub mod JsonReadLemmas
+pub mod JsonGrammarLemmas

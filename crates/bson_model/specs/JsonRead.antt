@@ -1,12 +1,12 @@
 -- Extended JSON as it is read (MongoDB Extended JSON v2, "Parsing"): the value that a JSON tree stands for, or the first
 -- fault in the order of keys. The members of an object stand in the order of their keys, each key once.
-use Rattle.std.specs.Prelude.{◌≡◌, ℕ, ◌^◌, ◌==◌, ◌&&◌, nat_lt, ℤ, Bool, true, false, if◌then◌else◌, List, [], ◌∷◌, codes, Option, Some, None, Result, Ok, Err}
+use Rattle.std.specs.Prelude.{◌≡◌, ℕ, ◌^◌, ◌==◌, ◌&&◌, nat_lt, ℤ, Bool, false, if◌then◌else◌, List, codes, Option, Some, None, Result, Ok, Err}
 use Rattle.std.specs.Str.{bytes_eq}
 use Rattle.base64.specs.GeneralPurpose.{decode_of}
 use Rattle.base64.specs.Engines.{standard}
 use Rattle.serde_json.specs.Data as tree
 use Rattle.serde_json.specs.Data.{Num, unsigned, negative, float, Data, number, string as text, object}
-use Rattle.serde_json.specs.Find.{as_i64, as_u64}
+use Rattle.serde_json.specs.Find.{as_i64}
 use Rattle.bson_base.specs.DateText.{date_of}
 use Rattle.bson_base.specs.Decimal.{read as decimal_of, sixteen_bytes}
 use Rattle.bson_base.specs.ObjectIdText.{object_id_of}

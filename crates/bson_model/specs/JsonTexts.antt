@@ -1,6 +1,6 @@
 -- The texts in Extended JSON that no scalar has by itself (MongoDB Extended JSON v2, "Conversion table"): whole numbers,
 -- doubles, and a byte in hexadecimal.
-use Rattle.std.specs.Prelude.{ℕ, ◌+◌, ◌*◌, ◌^◌, ◌==◌, ◌&&◌, ◌||◌, nat_lt, Bool, true, false, if◌then◌else◌, ℤ, pos, negsuc, neg_ℤ, int_le, List, [], ◌∷◌, ◌++◌, length, codes, Option, Some, None, option_and_then, Result, Ok, Err}
+use Rattle.std.specs.Prelude.{ℕ, ◌+◌, ◌*◌, ◌^◌, ◌==◌, ◌&&◌, ◌||◌, nat_lt, Bool, true, false, if◌then◌else◌, ℤ, pos, negsuc, neg_ℤ, int_le, List, [], ◌∷◌, ◌++◌, length, codes, Option, Some, None, Result, Ok, Err}
 use Rattle.hex.specs.Hex.{hex_digit_value}
 use Rattle.bson_base.specs.Decimal.{cut, is_e, is_dot, is_named, all_digits, all_zeros, value}
 use Rattle.bson_model.specs.declared.extjson.de.Error.{Error}

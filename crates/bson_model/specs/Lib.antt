@@ -15,4 +15,5 @@ pub mod JsonWrite
 pub mod Display
 pub mod JsonTexts
 pub mod JsonRead
+pub mod JsonGrammar
 pub mod JsonWrappers

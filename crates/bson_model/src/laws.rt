@@ -9,10 +9,12 @@ ghost use Rattle.bson_model.specs.View.{view, pairs_of, items_of, members_of};
 ghost use Rattle.bson_model.specs.declared.bson.Bson.{Bson as Tree};
 ghost use Rattle.bson_model.specs.declared.document.Document.{Document as Pairs};
 
+mod grammar;
 mod written;
 
 use crate::bson::Bson;
 use crate::document::Document;
+pub use grammar::reading_is_the_grammar;
 use std::hash::Hash;
 pub use written::{date_texts, written_values};
 

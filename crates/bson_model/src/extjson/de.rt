@@ -10,6 +10,8 @@ ghost use Rattle.serde_json.specs.Find.{as_i64};
 
 mod bodies;
 mod keys;
+#[cfg(test)]
+mod tests;
 mod texts;
 
 use crate::bson::{Bson, JavaScriptCodeWithScope};
@@ -205,21 +207,22 @@ impl Bson {
     ghost use Rattle.bson_model.specs.View.{view};
     ghost use Rattle.bson_model.specs.JsonRead.{Gives, read};
 
-    /// The value that a JSON tree stands for. A number that is no signed integer of 64 bits is `FiniteDouble`; what is wrong
-    /// with a typed value is told by the error's kind. Where there are several faults, the first one in the order of keys is
-    /// told, a further key before the fault of a body.
-    pub fn try_from_value(alloc: Global, value: Value) -> Result<Bson>
-        ensures { Gives view result (read (tree_of value)) }
+    /// The value that a JSON tree stands for (MongoDB Extended JSON v2, "Parsing"). `InvalidObjectId` tells a text under
+    /// `$oid` that is no object id, `FiniteDouble` a number that is no signed integer of 64 bits or a numeral under
+    /// `$numberDouble` that is not zero, `DeserializationError` any other fault of a typed value, `Memory` a refused growth.
+    /// Of several faults the first one in the order of keys is told, a further key before the fault of a body.
+    pub fn try_from_value(alloc: Global, json: Value) -> Result<Bson>
+        ensures { Gives view result (read (tree_of json)) }
     {
-        read(alloc, value)
+        read(alloc, json)
     }
 
     /// The value that a JSON object stands for: a typed value where it has a reserved key, else a document. The errors are
     /// those of `try_from_value`.
-    pub fn try_from_map(alloc: Global, members: Map<String, Value>) -> Result<Bson>
-        ensures { Gives view result (read (object (members_view members.entries))) }
+    pub fn try_from_map(alloc: Global, map: Map<String, Value>) -> Result<Bson>
+        ensures { Gives view result (read (object (members_view map.entries))) }
     {
-        read(alloc, Value::Object(members))
+        read(alloc, Value::Object(map))
     }
 }
 
@@ -231,9 +234,9 @@ impl Document {
 
     /// The document of a JSON object, whose own keys are never taken for reserved ones; those of the objects below are. The
     /// errors are those of `Bson::try_from_value`.
-    pub fn try_from_map(alloc: Global, members: Map<String, Value>) -> Result<Document>
-        ensures { Gives (λ d. members_of (pairs_of d)) result (read_members (members_view members.entries)) }
+    pub fn try_from_map(alloc: Global, map: Map<String, Value>) -> Result<Document>
+        ensures { Gives (λ d. members_of (pairs_of d)) result (read_members (members_view map.entries)) }
     {
-        read_members(alloc, members)
+        read_members(alloc, map)
     }
 }
