@@ -12,8 +12,8 @@ ghost use Rattle.bson_meaning.specs.Meaning.{norm, norm_members, asc_members, ke
 ghost use Rattle.bson_meaning.specs.declared.reading.GateError.{GateError};
 
 pub use crate::json_laws::{
-    canonical_trees_read_back, maps_are_json, normal_forms_are_written_alike, readings_are_sound, trees_go_by_meaning,
-    values_are_json,
+    canonical_trees_read_back, maps_are_json, normal_forms_are_written_alike, readings_are_sound,
+    trees_go_by_meaning, values_are_json,
 };
 pub use crate::sound::{soundness, soundness_of_document};
 

@@ -172,3 +172,63 @@ fn a_view_in_another_order(rt: HostRuntime) -> Result<(), Fail> {
     assert!(rt; !same_as_raw(raw, &other));
     Ok(())
 }
+
+/// The key of {b: 2, a: 1}, each number in four bytes.
+#[test]
+fn a_key(rt: HostRuntime) -> Result<(), Fail> {
+    let document = pair(rt.alloc(), ["b", "a"], [2, 1])?;
+    let key = [
+        0x13, 0, 0, 0, 0x10, 0x61, 0, 1, 0, 0, 0, 0x10, 0x62, 0, 2, 0, 0, 0, 0,
+    ];
+    assert_eq!(rt;
+        meaning_key(rt.alloc(), &document)?.as_slice(),
+        key.as_slice()
+    );
+    Ok(())
+}
+
+/// The front of so many documents inside each other, under empty keys, that take seven bytes each.
+fn fronts(alloc: Global, size: u32, levels: u32) -> Result<Vec<u8>, AllocError> {
+    let mut bytes = Vec::new(alloc);
+    for i in 0..levels {
+        let length = size.wrapping_sub(i.wrapping_mul(7));
+        bytes.extend_from_slice(&length.to_le_bytes())?;
+        bytes.extend_from_slice(&[3, 0])?;
+    }
+    Ok(bytes)
+}
+
+#[test]
+fn millions_of_levels_at_the_gate(rt: HostRuntime) -> Result<(), Fail> {
+    let mut bytes = fronts(rt.alloc(), 16777213, 2396744)?;
+    bytes.extend_from_slice(&[5, 0, 0, 0])?;
+    bytes.resize(16777213, 0)?;
+    assert_eq!(rt; gate(&bytes), Err(GateError::TooDeep));
+    Ok(())
+}
+
+/// So many keys with their numbers, upwards or downwards.
+fn many(alloc: Global, count: i32, upwards: bool) -> Result<Document, AllocError> {
+    let mut document = Document::new(alloc);
+    for i in 0..count {
+        let number = if upwards {
+            i
+        } else {
+            count.wrapping_sub(i).wrapping_sub(1)
+        };
+        document.insert(number.to_string(alloc)?, Bson::Int32(number))?;
+    }
+    Ok(document)
+}
+
+#[test]
+fn many_keys_in_opposite_orders(rt: HostRuntime) -> Result<(), Fail> {
+    let up = many(rt.alloc(), 100000, true)?;
+    let down = many(rt.alloc(), 100000, false)?;
+    assert_eq!(rt;
+        meaning_key(rt.alloc(), &up)?,
+        meaning_key(rt.alloc(), &down)?
+    );
+    assert!(rt; same_meaning(&Bson::Document(up), &Bson::Document(down)));
+    Ok(())
+}

@@ -112,6 +112,19 @@ fn a_beginning_goes_out(rt: HostRuntime) -> Result<(), Fail> {
 }
 
 #[test]
+fn a_writer_that_fails_at_each_byte(rt: HostRuntime) -> Result<(), Fail> {
+    let alloc = rt.alloc();
+    let tree = one(alloc)?;
+    for room in 0..12 {
+        let mut sink = FaultySink::new(alloc, room);
+        let refused = to_writer(alloc, &tree, &mut sink);
+        assert_eq!(rt; refused, Err(WriteError::Writer));
+        assert_eq!(rt; sink.bytes.len() as u64, room);
+    }
+    Ok(())
+}
+
+#[test]
 fn a_pattern_with_00_does_not_go_out(rt: HostRuntime) -> Result<(), Fail> {
     let alloc = rt.alloc();
     let regex = Regex {
