@@ -1,0 +1,5 @@
+use Rattle.store_laws.proofs.Unmoved.{unmoved}
+use Rattle.store_laws.proofs.laws.rows_stay.Goals as goal
+
+pub returns : goal.returns
+returns c = unmoved
