@@ -1,0 +1,168 @@
+-- The greatest place.
+use Rattle.std.proofs.Common.{codes, subst₂, ap₂, Equal, suc, add-one, ◌≡◌, ◌≢◌, ◌⊎◌, inl, inr, ◌<ℤ◌, ◌≤ℤ◌, ◌+ℤ◌, ℕ, ℤ, pos, ◌+◌, List, [], ◌∷◌, ◌++◌, map, filter, Bool, true, false, Option, None, Some, Ok, Err, Result, refl, sym, ap, subst, ◌∙◌, IsTrue, arith, is_lt, length, slice_get}
+use Rattle.std.specs.List.{AllByRecursion, list_all}
+use Rattle.std.specs.List.Sorted.{IsPermutation, IsSorted}
+use Rattle.std.specs.Ordering.{int_cmp, ordering_then}
+use Rattle.std.proofs.lemmas.Int.{ints}
+use Rattle.std.proofs.lemmas.Bool.Decides.{nat_tests}
+use Rattle.std.proofs.lemmas.List.Sorted.{All-permutation, IsPermutation-sym, length_permutation}
+use Rattle.std.proofs.lemmas.List.Elements.{All-from_recursion, recursion_from_All}
+use Rattle.sqlite.specs.declared.types.Value.{Value}
+use Rattle.sqlite.specs.declared.types.Value.TheVariants.{Null, Int}
+use Rattle.sqlite.specs.Order.{Row, value_cmp, column}
+use Rattle.sqlite_value.proofs.OrderLemmas.{then-Equal, value_cmp-Int}
+use Rattle.sqlite_value.specs.declared.keys.Key.{Key}
+use Rattle.sqlite.specs.Collation.TheVariants.{Binary}
+use Rattle.sqlite_trees.specs.Tree.{IsAscending}
+use Rattle.sqlite_rules.specs.Edit.{id_in}
+use Rattle.sqlite.specs.Term.{Term, col}
+use Rattle.sqlite.specs.Query.{Query, Output, output, output_cmp}
+use Rattle.sqlite.specs.Command.{Command}
+use Rattle.sqlite.specs.Command.TheVariants.{Select, Rows}
+use Rattle.sqlite.specs.declared.error.Error.TheVariants.{QueryReturnedNoRows}
+use Rattle.sqlite_trees.specs.declared.error.StoreError.{StoreError}
+use Rattle.sqlite_trees.specs.declared.error.StoreError.TheVariants.{OutOfMemory, Io, Corrupt, Full, Broken, Unstorable}
+use Rattle.sqlite.specs.Clock.{timed}
+use Rattle.sqlite.specs.Effect.{Database, Answers, RefusesToRead}
+use Rattle.sqlite.specs.Listing.{understood, reads_listing}
+use Rattle.sqlite.specs.State.{State, Shown, QueriesRow, IsUnchanged, FailsToQuery, FailsToShow, IsNotRun, store_error}
+use Rattle.sqlite_tied.specs.Compute.{everything}
+use Rattle.sqlite.proofs.Callers.{IsPlain, reads_as, first_as, command_of}
+use Rattle.bson_table.specs.Schema.{documents_schema}
+use Rattle.bson_table.specs.Rows.{Doc, stored, IsRising, Shows}
+use Rattle.bson_table.specs.Run.{last_place}
+use Rattle.bson_table.proofs.AnswerLemmas.{Outputs, outputs_of}
+use Rattle.bson_table.proofs.ReadLemmas.{shown_unchanged}
+use Rattle.bson_table.proofs.RunLemmas.{below_next}
+use Rattle.bson_table.proofs.Texts.{plain_query, program}
+
+abbrev pub greatest_text : List ℕ
+greatest_text = codes "SELECT place FROM documents ORDER BY place DESC"
+
+abbrev by_desc : List (Term × Key)
+by_desc = (col 1 0, record { collation = Binary; descending = true }) ∷ []
+
+abbrev desc_query : Query
+desc_query = plain_query [] (col 1 0 ∷ []) by_desc
+
+desc_is : (command_of (understood documents_schema greatest_text) ≡ Select (program desc_query) (codes "place" ∷ [])) × (reads_listing documents_schema greatest_text ≡ false)
+unfolding understood everything
+desc_is = (refl, refl)
+
+pub desc_plain : IsPlain (understood documents_schema greatest_text)
+unfolding understood everything
+desc_plain = (refl, refl)
+
+abbrev key_of : Output → ℤ
+key_of o = id_in (column o.0 0)
+
+-- an output of the query has its place as its key and as its one column
+abbrev IsPlaced : Output → Type 0
+IsPlaced o = (column o.0 0 ≡ Int (key_of o)) × (column o.1 0 ≡ Int (key_of o))
+
+not_below : (a b : ℤ) (u v : Value) → u ≡ Int a → v ≡ Int b → is_lt (ordering_then (value_cmp u v) Equal) ≡ false → b ≤ℤ a
+not_below a b u v p q h = let e : is_lt (int_cmp a b) ≡ false = ap is_lt (sym (then-Equal (value_cmp u v) ∙ ap₂ value_cmp p q ∙ value_cmp-Int a b)) ∙ h in grind (arith, ints, nat_tests)
+
+all_down : (a b : ℤ) (os : List Output) → b ≤ℤ a → AllByRecursion (λ o. key_of o ≤ℤ b) os → AllByRecursion (λ o. key_of o ≤ℤ a) os
+all_down a b [] h k = tt
+all_down a b (o ∷ os) h k = (omega (arith, ints, h, k.0), all_down a b os h k.1)
+
+-- the first is the greatest
+falls : (x : Output) (os : List Output) → AllByRecursion IsPlaced (x ∷ os) → IsSorted (output_cmp desc_query) (x ∷ os) → AllByRecursion (λ o. key_of o ≤ℤ key_of x) os
+falls x [] p s = tt
+falls x (y ∷ os) p s =
+    let le = not_below (key_of x) (key_of y) (column x.0 0) (column y.0 0) p.0.0 p.1.0.0 (s 0 x (omega arith) (omega arith)) in
+    let more = falls y os p.1 (λ k d low lt. rw add-one (rw add-one at (s (suc k) d (omega arith) (omega (arith, lt))))) in
+    (le, all_down (key_of x) (key_of y) os le more)
+
+abbrev out : Doc → Output
+out d = output desc_query ([] ∷ stored d ∷ [])
+
+placed : (ds : List Doc) → AllByRecursion IsPlaced (map out ds)
+placed [] = tt
+placed (d ∷ ds) = ((refl, refl), placed ds)
+
+every : (docs : List Doc) → filter (λ _. true) docs ≡ docs
+every [] = refl
+every (d ∷ docs) = ap (λ ds. d ∷ ds) (every docs)
+
+up_to : (k : ℤ) (ds : List Doc) → AllByRecursion (λ d. d.place <ℤ (k +ℤ pos 1)) ds → AllByRecursion (λ o. key_of o ≤ℤ k) (map out ds)
+up_to k [] h = tt
+up_to k (d ∷ ds) h = (omega (arith, ints, h.0), up_to k ds h.1)
+
+last_at_most : (k : ℤ) (d : Doc) (ds : List Doc) → AllByRecursion (λ o. key_of o ≤ℤ k) (map out (d ∷ ds)) → last_place (d ∷ ds) ≤ℤ k
+last_at_most k d [] h = h.0
+last_at_most k d (e ∷ ds) h = last_at_most k e ds h.1
+
+abbrev Finds : List Doc → Option Row → Type 0
+Finds docs None = docs ≡ []
+Finds docs (Some row) = (docs ≢ []) × (column row 0 ≡ Int (last_place docs))
+
+same_place : (a b : ℤ) → a ≤ℤ b → b ≤ℤ a → a ≡ b
+same_place a b h k = omega (arith, ints, h, k)
+
+first_is : (docs : List Doc) (xs : List Output) → IsRising docs → IsPermutation (map out docs) xs → IsSorted (output_cmp desc_query) xs → Finds docs (slice_get (map (λ (o : Output). o.1) xs) 0)
+first_is [] [] up p s = refl
+first_is (d ∷ docs) [] up p s = absurd (let n = length_permutation _ _ p in cc)
+first_is [] (x ∷ xs) up p s = absurd (let n = length_permutation _ _ p in cc)
+first_is (d ∷ docs) (x ∷ xs) up p s =
+    let moved = λ (P : Output → Type 0) (h : AllByRecursion P (map out (d ∷ docs))). recursion_from_All P (x ∷ xs) (All-permutation P (map out (d ∷ docs)) (x ∷ xs) p (All-from_recursion P (map out (d ∷ docs)) h)) in
+    let back = λ (P : Output → Type 0) (h : AllByRecursion P (x ∷ xs)). recursion_from_All P (map out (d ∷ docs)) (All-permutation P (x ∷ xs) (map out (d ∷ docs)) (IsPermutation-sym (map out (d ∷ docs)) (x ∷ xs) p) (All-from_recursion P (x ∷ xs) h)) in
+    let at = moved IsPlaced (placed (d ∷ docs)) in
+    let low = (moved (λ o. key_of o ≤ℤ last_place (d ∷ docs)) (up_to (last_place (d ∷ docs)) (d ∷ docs) (below_next (d ∷ docs) up))).0 in
+    let self : key_of x ≤ℤ key_of x = omega (arith, ints) in
+    let high = last_at_most (key_of x) d docs (back (λ o. key_of o ≤ℤ key_of x) (self, falls x xs at s)) in
+    ((λ e. cc), at.0.1 ∙ ap Int (same_place (key_of x) (last_place (d ∷ docs)) low high))
+
+-- no refusal has the name of an answer with no rows
+not_read : (limit : Option ℕ) (command : Command) (db : Database) (params : Row) → RefusesToRead limit command db params QueryReturnedNoRows → ⊥
+not_read limit (Select q names) db params (inl h) = absurd (let e = h.0 in cc)
+not_read limit (Select q names) db params (inr (inl h)) = absurd (let e = h.0 in cc)
+not_read limit (Select q names) db params (inr (inr h)) = absurd (let e = h.0 in cc)
+not_read limit (Rows values width names) db params h = absurd (let e = h.0 in cc)
+not_read limit _ db params h = absurd (cc)
+
+not_stored : (k : StoreError) → QueryReturnedNoRows ≡ store_error k → ⊥
+not_stored OutOfMemory h = cc
+not_stored Io h = cc
+not_stored Corrupt h = cc
+not_stored Full h = cc
+not_stored Broken h = cc
+not_stored Unstorable h = cc
+
+not_failed : (old new : State) → IsPlain (understood old.now.schema greatest_text) → FailsToQuery greatest_text [] old new QueryReturnedNoRows → ⊥
+unfolding FailsToQuery IsNotRun
+not_failed old new plain (inl (inl (inl why, same))) = absurd (let e = why.2 in cc)
+not_failed old new plain (inl (inl (inr why, same))) = absurd (elim why.2 [ inl a ↦ let e = a.1 in cc | inr b ↦ elim b [ inl x ↦ let e = x.1 in cc | inr y ↦ let e = y.1 in cc ] ])
+not_failed old new plain (inl (inr failed)) = absurd (not_stored failed.0 failed.1)
+not_failed old new plain (inr ran) =
+    let none = (subst IsPlain ran.1.is plain).0 in
+    let it = subst (λ k. FailsToShow old new greatest_text ran.0 (timed [] ran.0.formats ran.1.now) QueryReturnedNoRows k) none ran.2 in
+    absurd (not_read old.step_limit ran.0.command it.0 (timed [] ran.0.formats ran.1.now) it.2)
+
+module _ (old new : State) (docs : List Doc) (h : Shows old docs) where
+  of_answer : (rows : List Row) → Answers old.now (program desc_query) [] rows → Finds docs (slice_get rows 0)
+  of_answer rows a =
+      let o = outputs_of [] (col 1 0 ∷ []) by_desc [] (λ _. true) docs old.now rows h.table (λ d. refl) a in
+      subst (λ rs. Finds docs (slice_get rs 0)) (sym o.shown) (first_is docs o.all h.table.rising (subst (λ ds. IsPermutation (map out ds) o.all) (every docs) o.same) o.sorted)
+
+  pub greatest_row : (row : Row) → QueriesRow greatest_text [] old new (Ok row) → (docs ≢ []) × (column row 0 ≡ Int (last_place docs))
+  greatest_row row q =
+      let got = first_as greatest_text [] old new documents_schema h.schema (Select (program desc_query) _) desc_is.0 desc_plain desc_is.1 row q in
+      of_answer (row ∷ got.1.0) (record { typed = got.0; answer = got.1.1 })
+
+  pub greatest_none : Shown greatest_text [] old new [] → docs ≡ []
+  greatest_none s = of_answer [] (reads_as greatest_text [] old new documents_schema h.schema (Select (program desc_query) _) desc_is.0 desc_plain desc_is.1 [] s)
+
+  pub greatest_same : (row : Row) → QueriesRow greatest_text [] old new (Ok row) → IsUnchanged old new
+  unfolding QueriesRow
+  greatest_same row (inl q) = q.1
+  greatest_same row (inr q) = shown_unchanged greatest_text [] old new q.0 (subst (λ s. IsPlain (understood s greatest_text)) (sym h.schema) desc_plain) q.1
+
+  plain : IsPlain (understood old.now.schema greatest_text)
+  plain = subst (λ s. IsPlain (understood s greatest_text)) (sym h.schema) desc_plain
+
+  pub greatest_empty : QueriesRow greatest_text [] old new (Err QueryReturnedNoRows) → (docs ≡ []) × IsUnchanged old new
+  unfolding QueriesRow
+  greatest_empty (inl q) = absurd (not_failed old new plain q)
+  greatest_empty (inr q) = (greatest_none q.1, shown_unchanged greatest_text [] old new [] plain q.1)
