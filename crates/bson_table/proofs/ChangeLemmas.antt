@@ -143,11 +143,11 @@ module _ (p : ℤ) (old new : State) (docs : List Doc) (h : Shows old docs) wher
       let auto = h.autocommit in
       record { is_open = w.shown.is_open; autocommit = w.shown.mode ∙ auto; settled = sym (w.shown.committed_is ∙ rw auto); schema = made.0; table = made.1 }
 
-  pub remove_crash : Survives old new (CommitsBy delete_text (Int p ∷ []) old) → Survives old new (λ trees. HasRows trees (without p docs))
-  remove_crash = survives_weaker old new _ _ (λ _ db commits.
+  pub remove_commits : (db : Trees) → CommitsBy delete_text (Int p ∷ []) old db → HasRows db (without p docs)
+  remove_commits db commits =
       let c = commits_as delete_text (Int p ∷ []) old db documents_schema delete_command h.schema delete_is delete_plain (λ e. cc) (λ name e. cc) commits in
       let made = deletes old.step_limit (mode_of old) (statement_of delete_text (understood documents_schema delete_text)) p docs old.now c.0 c.1 h.schema h.table c.2 in
-      subst (λ t. HasRows t (without p docs)) (sym c.4) made.1)
+      subst (λ t. HasRows t (without p docs)) (sym c.4) made.1
 
   pub rewrites : (body : List ℕ) (r : Result ℕ Error) → Executes update_text (Int p ∷ Blob body ∷ []) old new r → OnOk r (Shows new (replaced p body docs))
   rewrites body (Err e) ran = tt
@@ -157,8 +157,8 @@ module _ (p : ℤ) (old new : State) (docs : List Doc) (h : Shows old docs) wher
       let auto = h.autocommit in
       record { is_open = w.shown.is_open; autocommit = w.shown.mode ∙ auto; settled = sym (w.shown.committed_is ∙ rw auto); schema = made.0; table = made.1 }
 
-  pub rewrite_crash : (body : List ℕ) → Survives old new (CommitsBy update_text (Int p ∷ Blob body ∷ []) old) → Survives old new (λ trees. HasRows trees (replaced p body docs))
-  rewrite_crash body = survives_weaker old new _ _ (λ _ db commits.
+  pub rewrite_commits : (body : List ℕ) (db : Trees) → CommitsBy update_text (Int p ∷ Blob body ∷ []) old db → HasRows db (replaced p body docs)
+  rewrite_commits body db commits =
       let c = commits_as update_text (Int p ∷ Blob body ∷ []) old db documents_schema update_command h.schema update_is update_plain (λ e. cc) (λ name e. cc) commits in
       let made = updates old.step_limit (mode_of old) (statement_of update_text (understood documents_schema update_text)) p body docs old.now c.0 c.1 h.schema h.table c.2 in
-      subst (λ t. HasRows t (replaced p body docs)) (sym c.4) made.1)
+      subst (λ t. HasRows t (replaced p body docs)) (sym c.4) made.1

@@ -51,6 +51,3 @@ module _ (old new : State) (h : IsBlank old) where
       let made = creates old.step_limit (mode_of old) old.now w.tally new.now h.schema w.changed in
       let auto = h.autocommit in
       record { is_open = w.shown.is_open; autocommit = w.shown.mode ∙ auto; settled = sym (w.shown.committed_is ∙ rw auto); schema = made.0; table = made.1 }
-
-  pub create_crash : Survives old new (CommitsBy create_text [] old) → Survives old new (λ trees. HasRows trees [])
-  create_crash = survives_weaker old new _ _ (λ _ db commits. create_commits old h db commits)

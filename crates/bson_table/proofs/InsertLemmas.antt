@@ -85,8 +85,8 @@ module _ (d : Doc) (old new : State) (r : Result ℕ Error) (clean : doubt old.i
       go (Ok count) e = adds d old new docs count h (last (omega (arith, clean, now)) docs h) e
       go (Err why) e = tt
 
-  pub add_crash : Survives old new (CommitsBy insert_text (given d) old) → (docs : List Doc) → Shows old docs → Survives old new (λ trees. HasRows trees (docs ++ d ∷ []))
-  add_crash s docs h = survives_weaker old new _ _ (λ now db. add_commits d old docs db h (last (omega (arith, clean, now)) docs h)) s
+  pub add_crash : Survives old new (CommitsBy insert_text (given d) old) → Survives old new (λ trees. (docs : List Doc) → Shows old docs → HasRows trees (docs ++ d ∷ []))
+  add_crash = survives_weaker old new _ _ (λ now db commits docs h. add_commits d old docs db h (last (omega (arith, clean, now)) docs h) commits)
 
 -- ---- in a transaction
 

@@ -29,11 +29,10 @@ use Rattle.sqlite.specs.State.{State, Shown, QueriesRow, IsUnchanged, FailsToQue
 use Rattle.sqlite_tied.specs.Compute.{everything}
 use Rattle.sqlite.proofs.Callers.{IsPlain, reads_as, first_as, command_of}
 use Rattle.bson_table.specs.Schema.{documents_schema}
-use Rattle.bson_table.specs.Rows.{Doc, stored, IsRising, Shows}
-use Rattle.bson_table.specs.Run.{last_place}
+use Rattle.bson_table.specs.Visit.{IsSelect}
+use Rattle.bson_table.specs.Rows.{Doc, stored, IsRising, Shows, last_place}
 use Rattle.bson_table.proofs.AnswerLemmas.{Outputs, outputs_of}
-use Rattle.bson_table.proofs.ReadLemmas.{shown_unchanged}
-use Rattle.bson_table.proofs.RunLemmas.{below_next}
+use Rattle.bson_table.proofs.LastPlaceLemmas.{below_next}
 use Rattle.bson_table.proofs.Texts.{plain_query, program}
 
 abbrev pub greatest_text : List ℕ
@@ -48,6 +47,10 @@ desc_query = plain_query [] (col 1 0 ∷ []) by_desc
 desc_is : (command_of (understood documents_schema greatest_text) ≡ Select (program desc_query) (codes "place" ∷ [])) × (reads_listing documents_schema greatest_text ≡ false)
 unfolding understood everything
 desc_is = (refl, refl)
+
+pub greatest_asks : IsSelect greatest_text
+unfolding everything
+greatest_asks = (refl, refl)
 
 pub desc_plain : IsPlain (understood documents_schema greatest_text)
 unfolding understood everything
@@ -114,32 +117,6 @@ first_is (d ∷ docs) (x ∷ xs) up p s =
     let high = last_at_most (key_of x) d docs (back (λ o. key_of o ≤ℤ key_of x) (self, falls x xs at s)) in
     ((λ e. cc), at.0.1 ∙ ap Int (same_place (key_of x) (last_place (d ∷ docs)) low high))
 
--- no refusal has the name of an answer with no rows
-not_read : (limit : Option ℕ) (command : Command) (db : Database) (params : Row) → RefusesToRead limit command db params QueryReturnedNoRows → ⊥
-not_read limit (Select q names) db params (inl h) = absurd (let e = h.0 in cc)
-not_read limit (Select q names) db params (inr (inl h)) = absurd (let e = h.0 in cc)
-not_read limit (Select q names) db params (inr (inr h)) = absurd (let e = h.0 in cc)
-not_read limit (Rows values width names) db params h = absurd (let e = h.0 in cc)
-not_read limit _ db params h = absurd (cc)
-
-not_stored : (k : StoreError) → QueryReturnedNoRows ≡ store_error k → ⊥
-not_stored OutOfMemory h = cc
-not_stored Io h = cc
-not_stored Corrupt h = cc
-not_stored Full h = cc
-not_stored Broken h = cc
-not_stored Unstorable h = cc
-
-not_failed : (old new : State) → IsPlain (understood old.now.schema greatest_text) → FailsToQuery greatest_text [] old new QueryReturnedNoRows → ⊥
-unfolding FailsToQuery IsNotRun
-not_failed old new plain (inl (inl (inl why, same))) = absurd (let e = why.2 in cc)
-not_failed old new plain (inl (inl (inr why, same))) = absurd (elim why.2 [ inl a ↦ let e = a.1 in cc | inr b ↦ elim b [ inl x ↦ let e = x.1 in cc | inr y ↦ let e = y.1 in cc ] ])
-not_failed old new plain (inl (inr failed)) = absurd (not_stored failed.0 failed.1)
-not_failed old new plain (inr ran) =
-    let none = (subst IsPlain ran.1.is plain).0 in
-    let it = subst (λ k. FailsToShow old new greatest_text ran.0 (timed [] ran.0.formats ran.1.now) QueryReturnedNoRows k) none ran.2 in
-    absurd (not_read old.step_limit ran.0.command it.0 (timed [] ran.0.formats ran.1.now) it.2)
-
 module _ (old new : State) (docs : List Doc) (h : Shows old docs) where
   of_answer : (rows : List Row) → Answers old.now (program desc_query) [] rows → Finds docs (slice_get rows 0)
   of_answer rows a =
@@ -153,16 +130,3 @@ module _ (old new : State) (docs : List Doc) (h : Shows old docs) where
 
   pub greatest_none : Shown greatest_text [] old new [] → docs ≡ []
   greatest_none s = of_answer [] (reads_as greatest_text [] old new documents_schema h.schema (Select (program desc_query) _) desc_is.0 desc_plain desc_is.1 [] s)
-
-  pub greatest_same : (row : Row) → QueriesRow greatest_text [] old new (Ok row) → IsUnchanged old new
-  unfolding QueriesRow
-  greatest_same row (inl q) = q.1
-  greatest_same row (inr q) = shown_unchanged greatest_text [] old new q.0 (subst (λ s. IsPlain (understood s greatest_text)) (sym h.schema) desc_plain) q.1
-
-  plain : IsPlain (understood old.now.schema greatest_text)
-  plain = subst (λ s. IsPlain (understood s greatest_text)) (sym h.schema) desc_plain
-
-  pub greatest_empty : QueriesRow greatest_text [] old new (Err QueryReturnedNoRows) → (docs ≡ []) × IsUnchanged old new
-  unfolding QueriesRow
-  greatest_empty (inl q) = absurd (not_failed old new plain q)
-  greatest_empty (inr q) = (greatest_none q.1, shown_unchanged greatest_text [] old new [] plain q.1)

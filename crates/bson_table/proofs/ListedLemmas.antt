@@ -19,11 +19,14 @@ use Rattle.sqlite.proofs.Callers.{reads_as}
 use Rattle.std.proofs.Common.{IsTrue}
 use Rattle.bson_table.specs.Schema.{documents, documents_schema}
 use Rattle.bson_table.specs.Rows.{Doc, stored, HasRows, Shows, IsRising}
-use Rattle.bson_table.specs.Open.{all_text, is_listed, doc_of, first_bad, Lists}
+use Rattle.bson_table.specs.Cells.{is_listed, doc_of}
+use Rattle.bson_table.specs.Open.{all_text, Reads}
+use Rattle.bson_table.specs.Check.{AreGood}
 use Rattle.bson_table.proofs.Texts.{all_query, all_is, all_plain, program}
 use Rattle.bson_table.proofs.AnswerLemmas.{matches_are, passes as keeps}
 use Rattle.bson_table.proofs.TypedLemmas.{IsTyped, typed_row}
-use Rattle.bson_table.proofs.OpenLemmas.{put_down, put_down_is, good_rises}
+use Rattle.bson_table.proofs.ListedRows.{put_down, put_down_is}
+use Rattle.bson_table.proofs.CheckLemmas.{good_rises}
 
 abbrev cols : Row → Row
 cols r = (output all_query ([] ∷ r ∷ [])).1
@@ -63,7 +66,7 @@ put_down_all db has live =
     let p = subst (λ s. AllByRecursion (λ tb. AllByRecursion (λ row. passes NotNull s db.trees tb row ≡ true) (db.trees tb.tree)) s.tables) has (rules NotNull) in
     typed_all (db.trees 0) t.0 p.0
 
-pub listed_rows : (old new : State) (docs : List Doc) → old.now.schema ≡ documents_schema → IsDatabase old.now → Lists old new docs → IsRising docs → HasRows old.now.trees docs
+pub listed_rows : (old new : State) (docs : List Doc) → old.now.schema ≡ documents_schema → IsDatabase old.now → Reads old new docs → IsRising docs → HasRows old.now.trees docs
 listed_rows old new docs has live h up =
     let read : Answers old.now (program all_query) [] h.rows = reads_as all_text [] old new documents_schema has (Select (program all_query) _) all_is.0 all_plain all_is.1 h.rows h.answered in
     let moved = IsPermutation-map put_down (map cols (old.now.trees 0)) h.rows (answered old.now h.rows read) in
@@ -71,8 +74,8 @@ listed_rows old new docs has live h up =
     record { rows = IsPermutation-sym (old.now.trees 0) (map stored docs) both; rising = up }
 
 -- an open on a table of this schema
-pub listed_shows : (accepts : List ℕ → List ℕ → List ℕ → Bool) (old new : State) (docs : List Doc) → old.now.schema ≡ documents_schema → IsDatabase old.now → old.in_transaction ≡ false → old.now ≡ old.committed
-    → Lists old new docs → first_bad accepts docs ≡ None → Shows new docs
+pub listed_shows : (accepts : List ℕ → List ℕ → List ℕ → Type 0) (old new : State) (docs : List Doc) → old.now.schema ≡ documents_schema → IsDatabase old.now → old.in_transaction ≡ false → old.now ≡ old.committed
+    → Reads old new docs → AreGood accepts docs → Shows new docs
 listed_shows accepts old new docs has live auto settled h good =
     let u = h.unchanged in
     record {

@@ -2,7 +2,7 @@
 use Rattle.std.proofs.Common.{◌≡◌, ◌<◌, ◌≤◌, ◌<ℤ◌, ◌≤ℤ◌, ℕ, ℤ, pos, ◌+ℤ◌, ◌+◌, zero, suc, add-one, List, [], ◌∷◌, ◌++◌, take, length, get_or, refl, sym, ap, ap₂, subst, ◌∙◌, arith}
 use Rattle.std.specs.List.{AllByRecursion}
 use Rattle.std.proofs.lemmas.Int.{ints}
-use Rattle.bson_table.specs.declared.NewRow.{NewRow}
+use Rattle.bson_table.specs.declared.row.NewRow.{NewRow}
 use Rattle.std.proofs.Common.{Result, Ok, Err, OnOk, IsTrue, false}
 use Rattle.sqlite.specs.declared.error.Error.{Error}
 use Rattle.sqlite.specs.Effect.{Database}

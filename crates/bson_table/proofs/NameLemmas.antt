@@ -17,8 +17,8 @@ use Rattle.sqlite.proofs.Callers.{IsPlain, command_of, reads_as}
 use Rattle.sqlite_tied.specs.Compute.{everything}
 use Rattle.bson_table.specs.Schema.{documents_schema}
 use Rattle.bson_table.specs.Rows.{Doc, Shows, is_in}
-use Rattle.bson_table.specs.Visit.{IsSelect}
-use Rattle.bson_table.specs.Names.{has_name, is_name, names_text}
+use Rattle.bson_table.specs.Visit.{IsSelect, value_of}
+use Rattle.bson_table.specs.Names.{has_name, is_same_name, names_text}
 use Rattle.bson_table.proofs.Texts.{plain_query, program, by_place}
 use Rattle.bson_table.proofs.AnswerLemmas.{outputs_of}
 use Rattle.bson_table.proofs.ReadLemmas.{in_order, same_bytes}
@@ -59,9 +59,9 @@ name_inserted x (y ∷ names) c = go (name_cmp x y) refl (name_inserted x names 
         rw e (or_twice (bytes_eq c y.items) (has_name names c) ∙ ap (λ a. bytes_eq c a || (bytes_eq c y.items || has_name names c)) (sym same))
     go Greater e more = rw e (ap (λ b. bytes_eq c y.items || b) more ∙ or_swap (bytes_eq c y.items) (bytes_eq c x.items) (has_name names c))
 
-pub names_more : (c : List ℕ) (rows : List Row) (r : Row) → list_any (is_name c) (rows ++ r ∷ []) ≡ is_name c r || list_any (is_name c) rows
-names_more c [] r = refl
-names_more c (x ∷ rows) r = ap (λ b. is_name c x || b) (names_more c rows r) ∙ or_swap (is_name c x) (is_name c r) (list_any (is_name c) rows)
+pub names_more : (c : List ℕ) (names : List (List ℕ)) (n : List ℕ) → list_any (is_same_name c) (names ++ n ∷ []) ≡ is_same_name c n || list_any (is_same_name c) names
+names_more c [] n = refl
+names_more c (x ∷ names) n = ap (λ b. is_same_name c x || b) (names_more c names n) ∙ or_swap (is_same_name c x) (is_same_name c n) (list_any (is_same_name c) names)
 
 pub names_asks : IsSelect names_text
 unfolding everything
@@ -79,13 +79,13 @@ every : (docs : List Doc) → filter (λ _. true) docs ≡ docs
 every [] = refl
 every (d ∷ docs) = ap (λ ds. d ∷ ds) (every docs)
 
-in_docs : (c : List ℕ) (docs : List Doc) → list_any (is_name c) (map (λ (d : Doc). Text d.coll ∷ []) docs) ≡ list_any (is_in c) docs
+in_docs : (c : List ℕ) (docs : List Doc) → list_any (is_same_name c) (map value_of (map (λ (d : Doc). Text d.coll ∷ []) docs)) ≡ list_any (is_in c) docs
 in_docs c [] = refl
 in_docs c (d ∷ docs) = ap₂ (λ p q. p || q) (flip c d.coll) (in_docs c docs)
 
-pub names_of : (old new : State) (docs : List Doc) (rows : List Row) (c : List ℕ) → Shows old docs → Shown names_text [] old new rows → list_any (is_name c) rows ≡ list_any (is_in c) docs
+pub names_of : (old new : State) (docs : List Doc) (rows : List Row) (c : List ℕ) → Shows old docs → Shown names_text [] old new rows → list_any (is_same_name c) (map value_of rows) ≡ list_any (is_in c) docs
 names_of old new docs rows c h s =
     let project = col 1 2 ∷ [] in
     let answer = reads_as names_text [] old new documents_schema h.schema (Select (program (plain_query [] project by_place)) (codes "coll" ∷ [])) names_is.0 names_plain names_is.1 rows s in
     let is = in_order [] project [] (λ _. true) docs rows h.table.rising (outputs_of [] project by_place [] (λ _. true) docs old.now rows h.table (λ d. refl) answer) ∙ ap (map (λ (d : Doc). Text d.coll ∷ [])) (every docs) in
-    ap (list_any (is_name c)) is ∙ in_docs c docs
+    ap (λ (rs : List Row). list_any (is_same_name c) (map value_of rs)) is ∙ in_docs c docs

@@ -115,22 +115,3 @@ unread_keeps old new e (inl (inl not_run)) h still = not_run.1.0.now_is
 unread_keeps old new e (inl (inr failed)) h still = undone_keeps old new h failed.3 still
 unread_keeps old new e (inr ran) h still =
     (subst (λ k. FailsToShow old new all_text ran.0 (clocked [] ran.0.formats ran.1.now) e k) (all_bare old.now.schema ran.0 ran.1.is).0 ran.2).3.0.now_is
-
-pub was_open_if : {X : Type 0} (old new : State) (rows : X → List Row) (r : Result X Error) → IfOk r (λ x. Shown all_text [] old new (rows x)) → OnOk r (IsTrue old.is_open)
-was_open_if old new rows (Ok x) h = (listed_same old new (rows x) h).0.was_open
-was_open_if old new rows (Err e) h = tt
-
-refused_shut : (old new : State) (e : Error) → FailsToQuery all_text [] old new e → IsTrue new.is_open → IsTrue old.is_open
-unfolding FailsToQuery IsNotRun
-refused_shut old new e (inl (inl not_run)) still = not_run.1.0.was_open
-refused_shut old new e (inl (inr failed)) still = failed.3.was_open still
-refused_shut old new e (inr ran) still =
-    (subst (λ k. FailsToShow old new all_text ran.0 (clocked [] ran.0.formats ran.1.now) e k) (all_bare old.now.schema ran.0 ran.1.is).0 ran.2).3.0.was_open
-
-pub stays_shut_if : {X : Type 0} (old new : State) (rows : X → List Row) (r : Result X Error) → IfOk r (λ x. Shown all_text [] old new (rows x)) → IfErr r (FailsToQuery all_text [] old new) → IsTrue new.is_open → IsTrue old.is_open
-stays_shut_if old new rows (Ok x) h k still = (listed_same old new (rows x) h).0.was_open
-stays_shut_if old new rows (Err e) h k still = refused_shut old new e k still
-
-pub unchanged_if : {X : Type 0} (old new : State) (rows : X → List Row) (r : Result X Error) → IfOk r (λ x. Shown all_text [] old new (rows x)) → OnOk r (IsUnchanged old new)
-unchanged_if old new rows (Ok x) h = listed_same old new (rows x) h
-unchanged_if old new rows (Err e) h = tt

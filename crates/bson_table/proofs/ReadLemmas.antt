@@ -1,5 +1,5 @@
 -- What the queries answer, and that they change nothing.
-use Rattle.std.proofs.Common.{codes, subst₂, Vec, ap₂, Equal, suc, add-one, ltb, eqb, bytes_eq, ◌≡◌, ◌⊎◌, inl, inr, ◌<ℤ◌, ◌≤ℤ◌, ℕ, ℤ, pos, ◌+◌, ◌≤◌, List, [], ◌∷◌, ◌++◌, append-nil, map, filter, Bool, true, false, cond, ◌&&◌, None, Some, Ok, Err, Result, IfOk, IfErr, OnOk, OnErr, refl, sym, ap, subst, ◌∙◌, IsTrue, arith, is_eq, is_lt, length, get_or}
+use Rattle.std.proofs.Common.{codes, subst₂, Vec, ap₂, Equal, suc, add-one, ltb, eqb, bytes_eq, ◌≡◌, ◌⊎◌, inl, inr, ◌<ℤ◌, ◌≤ℤ◌, ℕ, ℤ, pos, ◌+◌, ◌≤◌, List, [], ◌∷◌, ◌++◌, append-nil, map, filter, Bool, true, false, cond, ◌&&◌, None, Some, Ok, Err, Result, IfOk, IfErr, OnOk, OnErr, refl, sym, ap, subst, ◌∙◌, IsTrue, arith, is_eq, is_lt, length, get_or, option_map, find, slice_get}
 use Rattle.std.specs.List.{AllByRecursion, list_all, sum_by}
 use Rattle.std.specs.List.Sorted.{IsPermutation, IsSorted}
 use Rattle.std.specs.Ordering.{int_eq, int_cmp, ordering_then, nat_cmp}
@@ -27,32 +27,12 @@ use Rattle.sqlite_value.specs.declared.keys.Key.{Key}
 use Rattle.sqlite.specs.Given.{IsPlain}
 use Rattle.sqlite.specs.State.{State, HasCleanDisk, Survives, IsUnchanged, IsNotRun, FailsToQuery, Shown, ShowsRows, FailsToShow, CommitsShowing, Begins}
 use Rattle.sqlite.proofs.StateLemmas.{survives_weaker}
-use Rattle.sqlite.proofs.Callers.{reads_as, begins_as, never_commits, command_of}
-use Rattle.bson_table.specs.Schema.{documents_schema, collection_text}
+use Rattle.sqlite.proofs.Callers.{reads_as, command_of}
+use Rattle.bson_table.specs.Schema.{documents_schema}
 use Rattle.bson_table.specs.Rows.{Doc, stored, HasRows, Shows, IsRising, is_named, is_in}
 use Rattle.bson_table.proofs.AnswerLemmas.{Outputs, outputs_of, equal_is}
-use Rattle.bson_table.proofs.StatementLemmas.{unchanged_shows, undone_shows}
 use Rattle.bson_table.proofs.SortLemmas.{same_order, Strict, Rises}
-use Rattle.bson_table.proofs.Texts.{plain_query, program, equals, by_place, find_text, find_is, find_plain, collection_is, collection_plain, all_text, all_is, all_plain}
-
--- a plain query that is answered leaves everything
-pub shown_unchanged : (sql : List ℕ) (params : Row) (old new : State) (rows : List Row) → IsPlain (understood old.now.schema sql) → Shown sql params old new rows → IsUnchanged old new
-unfolding Shown
-shown_unchanged sql params old new rows plain h =
-    let none = (subst IsPlain h.1.is plain).0 in
-    (subst (λ k. ShowsRows old new sql h.0 (timed params h.0.formats h.1.now) rows k) none h.2).3
-
--- a plain query that is refused leaves the table, or the connection is shut
-pub unread_shows : (sql : List ℕ) (params : Row) (old new : State) (docs : List Doc) (e : Error) → IsPlain (understood old.now.schema sql) → FailsToQuery sql params old new e → Shows old docs → IsTrue new.is_open → Shows new docs
-unfolding FailsToQuery IsNotRun
-unread_shows sql params old new docs e plain (inl (inl not_run)) h still = unchanged_shows old new docs h not_run.1
-unread_shows sql params old new docs e plain (inl (inr failed)) h still = undone_shows old new docs h failed.3 still
-unread_shows sql params old new docs e plain (inr ran) h still =
-    let none = (subst IsPlain ran.1.is plain).0 in
-    unchanged_shows old new docs h (subst (λ k. FailsToShow old new sql ran.0 (timed params ran.0.formats ran.1.now) e k) none ran.2).3
-
-pub read_crash : (sql : List ℕ) (params : Row) (old new : State) → IsPlain (understood old.now.schema sql) → Survives old new (CommitsShowing sql params old) → Survives old new (λ _. ⊥)
-read_crash sql params old new plain = survives_weaker old new _ _ (λ _ db. never_commits sql params old db plain)
+use Rattle.bson_table.proofs.Texts.{plain_query, program, equals, by_place, find_text, find_is, find_plain}
 
 -- the same bytes, as SQL compares them
 pub same_bytes : (a b : List ℕ) → is_eq (slice_cmp nat_cmp a b) ≡ bytes_eq a b
@@ -151,22 +131,7 @@ module _ (terms project : List Term) (params : Row) (t : Doc → Bool) where
       let same = same_order key_of xs o.all all sums (strict docs up) (rises o.all (all IsPlaced (placed (filter t docs))) o.sorted) in
       o.shown ∙ ap (map (λ (x : Output). x.1)) (sym same) ∙ map_map (λ (x : Output). x.1) out (filter t docs)
 
--- ---- the queries, as the functions run them
-
-module _ (sql : List ℕ) (params : Row) (old new : State) (docs : List Doc) (h : Shows old docs) (plain : IsPlain (understood documents_schema sql)) where
-  its_plain : IsPlain (understood old.now.schema sql)
-  its_plain = subst (λ s. IsPlain (understood s sql)) (sym h.schema) plain
-
-  pub same_ok : (r : Result (Vec Row Global) Error) → IfOk r (λ rows. Shown sql params old new rows.items) → OnOk r (Shows new docs)
-  same_ok (Ok rows) s = unchanged_shows old new docs h (shown_unchanged sql params old new rows.items its_plain s)
-  same_ok (Err e) s = tt
-
-  pub same_err : (r : Result (Vec Row Global) Error) → IfErr r (FailsToQuery sql params old new) → IsTrue new.is_open → OnErr r (Shows new docs)
-  same_err (Ok rows) f still = tt
-  same_err (Err e) f still = unread_shows sql params old new docs e its_plain f h still
-
-  pub no_crash : Survives old new (CommitsShowing sql params old) → Survives old new (λ _. ⊥)
-  no_crash = read_crash sql params old new its_plain
+-- ---- a row by its collection and key
 
 answers_of : (sql : List ℕ) (params : Row) (old new : State) (docs : List Doc) (names : List (List ℕ)) (terms project : List Term) (order : List (Term × Key)) (rows : List Row) → Shows old docs
     → (command_of (understood documents_schema sql) ≡ Select (program (plain_query terms project order)) names) × (reads_listing documents_schema sql ≡ false) → IsPlain (understood documents_schema sql)
@@ -175,43 +140,22 @@ answers_of sql params old new docs names terms project order rows h is plain s =
     reads_as sql params old new documents_schema h.schema (Select (program (plain_query terms project order)) names) is.0 plain is.1 rows s
 
 pub named_rows : (coll idkey : List ℕ) (old new : State) (docs : List Doc) (rows : List Row) → Shows old docs → Shown find_text (Text coll ∷ Blob idkey ∷ []) old new rows
-    → IsPermutation (map (λ d. Int d.place ∷ Blob d.body ∷ []) (filter (is_named coll idkey) docs)) rows
+    → rows ≡ map (λ d. Int d.place ∷ Blob d.body ∷ []) (filter (is_named coll idkey) docs)
 named_rows coll idkey old new docs rows h s =
     let params = Text coll ∷ Blob idkey ∷ [] in
     let terms = equals 2 0 ∷ equals 3 1 ∷ [] in
     let project = col 1 0 ∷ col 1 4 ∷ [] in
-    let o = outputs_of terms project [] params (is_named coll idkey) docs old.now rows h.table (named_test coll idkey) (answers_of find_text params old new docs _ terms project [] rows h find_is find_plain s) in
-    let xs = map (λ (d : Doc). output (plain_query terms project []) (params ∷ stored d ∷ [])) (filter (is_named coll idkey) docs) in
-    let moved = IsPermutation-map (λ (x : Output). x.1) xs o.all o.same in
-    subst₂ (λ a b. IsPermutation a b) (map_map (λ (x : Output). x.1) (λ (d : Doc). output (plain_query terms project []) (params ∷ stored d ∷ [])) (filter (is_named coll idkey) docs)) (sym o.shown) moved
+    in_order terms project params (is_named coll idkey) docs rows h.table.rising
+    (outputs_of terms project by_place params (is_named coll idkey) docs old.now rows h.table (named_test coll idkey) (answers_of find_text params old new docs _ terms project by_place rows h find_is find_plain s))
 
-pub collection_rows : (coll : List ℕ) (old new : State) (docs : List Doc) (rows : List Row) → Shows old docs → Shown collection_text (Text coll ∷ []) old new rows → rows ≡ map (λ d. Blob d.body ∷ []) (filter (is_in coll) docs)
-collection_rows coll old new docs rows h s =
-    let params = Text coll ∷ [] in
-    let terms = equals 2 0 ∷ [] in
-    let project = col 1 4 ∷ [] in
-    in_order terms project params (is_in coll) docs rows h.table.rising
-    (outputs_of terms project by_place params (is_in coll) docs old.now rows h.table (in_test coll []) (answers_of collection_text params old new docs _ terms project by_place rows h collection_is collection_plain s))
+abbrev pub found_row : Doc → Row
+found_row d = Int d.place ∷ Blob d.body ∷ []
 
-every : (docs : List Doc) → filter (λ _. true) docs ≡ docs
-every [] = refl
-every (d ∷ docs) = ap (λ ds. d ∷ ds) (every docs)
-
-pub all_rows : (old new : State) (docs : List Doc) (rows : List Row) → Shows old docs → Shown all_text [] old new rows → rows ≡ map (λ d. Int d.place ∷ Text d.coll ∷ Blob d.idkey ∷ Blob d.body ∷ []) docs
-all_rows old new docs rows h s =
-    let project = col 1 0 ∷ col 1 2 ∷ col 1 3 ∷ col 1 4 ∷ [] in
-    in_order [] project [] (λ _. true) docs rows h.table.rising
-    (outputs_of [] project by_place [] (λ _. true) docs old.now rows h.table (λ d. refl) (answers_of all_text [] old new docs _ [] project by_place rows h all_is all_plain s))
-    ∙ ap (map (λ (d : Doc). Int d.place ∷ Text d.coll ∷ Blob d.idkey ∷ Blob d.body ∷ [])) (every docs)
-
--- the first rows of a collection, as they are read one at a time
-pub first_of_collection : (coll : List ℕ) (s : State) (docs : List Doc) (rows : List Row) → Shows s docs → Begins collection_text (Text coll ∷ []) s rows → (rest : List Row) × (rows ++ rest ≡ map (λ d. Blob d.body ∷ []) (filter (is_in coll) docs))
-first_of_collection coll s docs rows h b =
-    let params = Text coll ∷ [] in
-    let terms = equals 2 0 ∷ [] in
-    let project = col 1 4 ∷ [] in
-    let got = begins_as collection_text params s s documents_schema h.schema (Select (program (plain_query terms project by_place)) (codes "body" ∷ [])) collection_is.0 collection_plain collection_is.1 rows b in (
-      got.1.0,
-      in_order terms project params (is_in coll) docs (rows ++ got.1.0) h.table.rising
-          (outputs_of terms project by_place params (is_in coll) docs s.now (rows ++ got.1.0) h.table (in_test coll []) (record { typed = got.0; answer = got.1.1 })),
-    )
+-- the first of them is what is found
+pub first_found : (p : Doc → Bool) (docs : List Doc) → slice_get (map found_row (filter p docs)) 0 ≡ option_map found_row (find p docs)
+first_found p [] = refl
+first_found p (d ∷ docs) = go (p d) (first_found p docs)
+  where
+    go : (b : Bool) → slice_get (map found_row (filter p docs)) 0 ≡ option_map found_row (find p docs) → slice_get (map found_row (cond b (d ∷ filter p docs) (filter p docs))) 0 ≡ option_map found_row (cond b (Some d) (find p docs))
+    go true h = refl
+    go false h = h

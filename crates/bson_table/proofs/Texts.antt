@@ -15,7 +15,8 @@ use Rattle.sqlite.specs.declared.types.Value.TheVariants.{Null, Int}
 use Rattle.sqlite_tied.specs.Compute.{everything}
 use Rattle.sqlite.specs.Listing.{understood, reads_listing}
 use Rattle.sqlite.proofs.Callers.{IsPlain, command_of, statement_of}
-use Rattle.bson_table.specs.Schema.{documents, documents_schema, no_schema, collection_text}
+use Rattle.bson_table.specs.Schema.{documents, documents_schema, no_schema}
+use Rattle.bson_table.specs.Visit.{IsSelect}
 
 abbrev pub create_text : List ℕ
 create_text = codes "CREATE TABLE documents (place INTEGER PRIMARY KEY, coll TEXT NOT NULL, idkey BLOB NOT NULL, body BLOB NOT NULL, UNIQUE (coll, idkey)) STRICT"
@@ -78,10 +79,10 @@ unfolding understood everything
 update_plain = (refl, refl)
 
 abbrev pub find_text : List ℕ
-find_text = codes "SELECT place, body FROM documents WHERE coll = ?1 AND idkey = ?2"
+find_text = codes "SELECT place, body FROM documents WHERE coll = ?1 AND idkey = ?2 ORDER BY place"
 
 abbrev pub find_query : Query
-find_query = plain_query (equals 2 0 ∷ equals 3 1 ∷ []) (col 1 0 ∷ col 1 4 ∷ []) []
+find_query = plain_query (equals 2 0 ∷ equals 3 1 ∷ []) (col 1 0 ∷ col 1 4 ∷ []) by_place
 
 pub find_is : (command_of (understood documents_schema find_text) ≡ Select (program find_query) (codes "place" ∷ codes "body" ∷ [])) × (reads_listing documents_schema find_text ≡ false)
 unfolding understood everything
@@ -90,17 +91,6 @@ find_is = (refl, refl)
 pub find_plain : IsPlain (understood documents_schema find_text)
 unfolding understood everything
 find_plain = (refl, refl)
-
-abbrev pub collection_query : Query
-collection_query = plain_query (equals 2 0 ∷ []) (col 1 4 ∷ []) by_place
-
-pub collection_is : (command_of (understood documents_schema collection_text) ≡ Select (program collection_query) (codes "body" ∷ [])) × (reads_listing documents_schema collection_text ≡ false)
-unfolding understood everything
-collection_is = (refl, refl)
-
-pub collection_plain : IsPlain (understood documents_schema collection_text)
-unfolding understood everything
-collection_plain = (refl, refl)
 
 abbrev pub all_text : List ℕ
 all_text = codes "SELECT place, coll, idkey, body FROM documents ORDER BY place"
@@ -129,3 +119,7 @@ last_is = (refl, refl)
 pub last_plain : IsPlain (understood documents_schema last_text)
 unfolding understood everything
 last_plain = (refl, refl)
+
+pub find_asks : IsSelect find_text
+unfolding everything
+find_asks = (refl, refl)

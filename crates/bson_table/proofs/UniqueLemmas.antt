@@ -11,11 +11,6 @@ use Rattle.sqlite_value.specs.Order.{Row, column}
 use Rattle.sqlite_trees.specs.Tree.{Trees}
 use Rattle.sqlite_rules.specs.Edit.{id_in}
 use Rattle.bson_table.specs.Rows.{Doc, stored, IsRising, HasRows}
-use Rattle.std.proofs.Common.{Bool, None}
-use Rattle.sqlite.specs.State.{State}
-use Rattle.bson_table.specs.Rows.{Shows}
-use Rattle.bson_table.specs.Open.{Opened, first_bad}
-use Rattle.bson_table.proofs.StatementLemmas.{unchanged_shows}
 use Rattle.bson_table.proofs.SortLemmas.{same_order, Strict, Rises}
 
 abbrev key_of : Row → ℤ
@@ -74,9 +69,3 @@ one_list trees a b h k =
     let perm : IsPermutation xs ys = IsPermutation-trans xs (trees 0) ys h.rows (IsPermutation-sym ys (trees 0) k.rows) in
     same_all a b
     (same_order key_of xs ys (λ P all. recursion_from_All P ys (All-permutation P xs ys perm (All-from_recursion P xs all))) (λ f. sum_by-IsPermutation f xs ys perm) (strict a h.rising) (rises b k.rising))
-
-pub again : (accepts : List ℕ → List ℕ → List ℕ → Bool) (old new : State) (docs : List Doc) → Shows old docs → Opened accepts old new → Shows new docs × (first_bad accepts docs ≡ None)
-again accepts old new docs h o =
-    let found = o.found h.schema in
-    let same : found.0 ≡ docs = one_list new.now.trees found.0 docs found.1.table (unchanged_shows old new docs h found.3).table in
-    (unchanged_shows old new docs h found.3, subst (λ ds. first_bad accepts ds ≡ None) same found.2)

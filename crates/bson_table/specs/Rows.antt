@@ -1,6 +1,6 @@
 -- The rows of the table, and what a connection shows of them.
 use Rattle.std.specs.Ordering.{int_eq}
-use Rattle.bson_table.specs.declared.NewRow.{NewRow}
+use Rattle.bson_table.specs.declared.row.NewRow.{NewRow}
 use Rattle.std.specs.Prelude.{◌+ℤ◌, pos, not, ◌&&◌, filter, bytes_eq, if◌then◌else◌, ◌≡◌, ◌<ℤ◌, ℕ, ℤ, Bool, false, List, [], ◌∷◌, ◌++◌, map, IsTrue}
 use Rattle.std.specs.List.{AllByRecursion}
 use Rattle.std.specs.List.Sorted.{IsPermutation}
@@ -32,6 +32,12 @@ AreBelow place = AllByRecursion (λ d. d.place <ℤ place)
 pub record HasRows (trees : Trees) (docs : List Doc) : Type 0 where
   pub rows : IsPermutation (map stored docs) (trees 0)
   pub rising : IsRising docs
+
+-- the greatest place, or 0
+abbrev pub last_place : List Doc → ℤ
+last_place [] = pos 0
+last_place (d ∷ []) = d.place
+last_place (d ∷ (e ∷ docs)) = last_place (e ∷ docs)
 
 -- the connection is open with no transaction, and its database has the table, with these rows
 pub record Shows (s : State) (docs : List Doc) : Type 0 where

@@ -1,38 +1,40 @@
 //! Opening a database, whose table is tested row by row.
 
-ghost use Rattle.std.specs.Prelude.{◌≡◌, ℕ, ℤ, Bool, List, map, Some, None, IsTrue, IfOk, IfErr, OnOk, OnErr, is_some, option_map};
-ghost use Rattle.std.specs.List.{list_any, list_all};
+ghost use Rattle.std.specs.Prelude.{◌≡◌, ◌⊎◌, List, IsTrue, IfErr, OnOk, OnErr, is_some};
+ghost use Rattle.std.specs.List.{list_all};
 ghost use Rattle.sqlite_value.specs.Order.{column};
-ghost use Rattle.bson_table.specs.Rows.{Doc, is_named};
 ghost use Rattle.sqlite.specs.Held.{state};
 ghost use Rattle.sqlite.specs.State.{HasCleanDisk, Survives, IsLive};
-ghost use Rattle.sqlite_schema.specs.Names.{table_named};
-ghost use Rattle.bson_table.specs.Open.{Refuses, Passes, Opened, Unopened, KeepsRows, Makes, table_name, is_listed, int_in, bytes_in, doc_of, is_good, first_bad};
+ghost use Rattle.sqlite_schema.specs.Names.{table_named, index_named, view_named};
+ghost use Rattle.bson_table.specs.Cells.{is_listed, int_in, bytes_in};
+ghost use Rattle.bson_table.specs.Open.{Refuses, Passes, Opened, Unopened, KeepsRows, Makes, table_name, HasNoTable, IsTaken};
 
-use crate::create;
-use crate::seen::find_bad_by_set;
+use crate::check::{RowCheck, find_bad};
+use crate::statements::create;
 use sqlite::types::ValueRef;
 use sqlite::{Alter, Connection, Error, ErrorCode, Row};
-use std::alloc::{AllocError, Global};
+use std::alloc::Global;
 
 /// Why a database is not opened.
 #[derive(Clone, Copy, Debug, PartialEq, Eq)]
 pub enum OpenError {
-    /// `documents` can't be read by the four columns with these types.
+    /// `documents` can't be read by the four columns with their types, or is no table.
     NotAStore,
-    /// The place of the first row that the store can't have written.
+    /// The place of the first row that a store can't have written.
     BadRow(i64),
+    /// Memory ran out, here or in the database.
     Memory,
-    Database(Error),
+    /// The database refused: its disk, a limit on steps, an open transaction.
+    Database,
 }
 
-/// What a store asks of a row beside the rules of the table.
-pub trait RowCheck {
-    /// The name, the key and the body go together.
-    ghost accepts: { Self → List ℕ → List ℕ → List ℕ → Bool };
-
-    fn passes(&self, coll: &[u8], idkey: &[u8], body: &[u8]) -> Result<bool, AllocError>
-        ensures { IfOk result (λ b. b ≡ accepts self.now coll.now idkey.now body.now) };
+fn refusal(error: Error) -> OpenError
+    ensures { (result ≡ OpenError.Memory) ⊎ (result ≡ OpenError.Database) }
+{
+    match error {
+        Error::SqliteFailure(ErrorCode::OutOfMemory) => OpenError::Memory,
+        _ => OpenError::Database,
+    }
 }
 
 fn is_row(row: &Row) -> bool
@@ -44,6 +46,7 @@ fn is_row(row: &Row) -> bool
         && matches!(row.get_ref(3), Ok(ValueRef::Blob(_)))
 }
 
+/// The integer in a row's first column.
 pub(crate) fn place_in(row: &Row) -> i64
     ensures { result ≡ int_in (column row.now 0) }
 {
@@ -53,6 +56,7 @@ pub(crate) fn place_in(row: &Row) -> i64
     }
 }
 
+/// The bytes in a row's column.
 pub(crate) fn bytes_at(row: &Row, at: usize) -> &[u8]
     ensures { result.now ≡ bytes_in (column row.now at) }
 {
@@ -68,20 +72,16 @@ fn are_rows(rows: &[Row]) -> bool
     rows.iter().all(|row| is_row(row))
 }
 
-pub(crate) fn is_row_named(row: &Row, coll: &[u8], idkey: &[u8]) -> bool
-    ensures { result ≡ is_named coll.now idkey.now (doc_of row.now) }
-{
-    bytes_at(row, 1) == coll && bytes_at(row, 2) == idkey
-}
-
 /// Reads the whole table, and tests each row.
-pub fn survey<S: Alter, C: RowCheck>(
+fn survey<S: Alter, C: RowCheck>(
     alloc: Global,
     conn: &mut Connection<S>,
     check: &C,
 ) -> Result<(), OpenError>
     ensures read { HasCleanDisk (state S.Store conn.new) → OnOk result (Passes (C.accepts check.now) (state S.Store conn.old) (state S.Store conn.new)) }
     ensures refused { HasCleanDisk (state S.Store conn.new) → IfErr result (λ e. Refuses (C.accepts check.now) (state S.Store conn.old) (state S.Store conn.new) e) }
+    ensures kept { HasCleanDisk (state S.Store conn.new) → (IsTrue (state S.Store conn.old).is_open → (state S.Store conn.old).now ≡ (state S.Store conn.old).committed)
+        → OnErr result (KeepsRows (state S.Store conn.old) (state S.Store conn.new)) }
     ensures crash { Survives (state S.Store conn.old) (state S.Store conn.new) (λ _. ⊥) }
 {
     let rows = match conn.query_all(
@@ -90,53 +90,20 @@ pub fn survey<S: Alter, C: RowCheck>(
     ) {
         Ok(rows) => rows,
         Err(Error::SqlInputError(_)) => return Err(OpenError::NotAStore),
-        Err(error) => return Err(OpenError::Database(error)),
+        Err(error) => return Err(refusal(error)),
     };
     if !are_rows(rows.as_slice()) {
         return Err(OpenError::NotAStore);
     }
-    match find_bad_by_set(alloc, rows.as_slice(), check) {
+    match find_bad(alloc, rows.as_slice(), check) {
         Ok(None) => Ok(()),
         Ok(Some(place)) => Err(OpenError::BadRow(place)),
         Err(_) => Err(OpenError::Memory),
     }
 }
 
-/// A connection whose table was tested.
-#[derive(Drop)]
-pub struct Table<S: Alter + Drop> {
-    pub conn: Connection<S>,
-}
-
-impl<S: Alter + Drop> Table<S> {
-    /// Gives the connection back.
-    pub fn close(self) -> Connection<S>
-        ensures { result ≡ self.conn }
-    {
-        let Table { conn } = self;
-        conn
-    }
-}
-
-/// Opens the table, which is made where the database has none.
-pub fn open<S: Alter + Drop, C: RowCheck>(
-    alloc: Global,
-    mut conn: Connection<S>,
-    check: &C,
-) -> Result<Table<S>, (OpenError, Connection<S>)>
-    ensures opened { IfOk result (λ t. HasCleanDisk (state S.Store t.conn) → Opened (C.accepts check.now) (state S.Store conn) (state S.Store t.conn)) }
-    ensures refused { IfErr result (λ e. HasCleanDisk (state S.Store e.1) → Unopened (C.accepts check.now) (state S.Store conn) (state S.Store e.1) e.0) }
-    ensures kept { IfErr result (λ e. HasCleanDisk (state S.Store e.1) → KeepsRows (state S.Store conn) (state S.Store e.1)) }
-    ensures crash { IfOk result (λ t. Survives (state S.Store conn) (state S.Store t.conn) (Makes (state S.Store conn))) }
-    ensures crash_refused { IfErr result (λ e. Survives (state S.Store conn) (state S.Store e.1) (Makes (state S.Store conn))) }
-{
-    match prepare(alloc, &mut conn, check) {
-        Ok(()) => Ok(Table { conn }),
-        Err(error) => Err((error, conn)),
-    }
-}
-
-fn prepare<S: Alter, C: RowCheck>(
+/// Makes the table where the database has no object of the name, and tests it where it has.
+pub(crate) fn prepare<S: Alter, C: RowCheck>(
     alloc: Global,
     conn: &mut Connection<S>,
     check: &C,
@@ -147,15 +114,17 @@ fn prepare<S: Alter, C: RowCheck>(
     ensures crash { Survives (state S.Store conn.old) (state S.Store conn.new) (Makes (state S.Store conn.old)) }
 {
     if !conn.is_autocommit() {
-        return Err(OpenError::Database(Error::SqliteFailure(ErrorCode::TransactionState)));
+        return Err(OpenError::Database);
     }
     if has_table(conn) {
-        survey(alloc, conn, check)
-    } else {
-        match create(conn) {
-            Ok(_) => Ok(()),
-            Err(error) => Err(OpenError::Database(error)),
-        }
+        return survey(alloc, conn, check);
+    }
+    if is_taken(conn) {
+        return Err(OpenError::NotAStore);
+    }
+    match create(conn) {
+        Ok(_) => Ok(()),
+        Err(error) => Err(refusal(error)),
     }
 }
 
@@ -164,4 +133,12 @@ fn has_table<S: Alter>(conn: &Connection<S>) -> bool
     ensures live { IsLive (state S.Store conn.now) }
 {
     conn.schema().table_named(b"documents").is_some()
+}
+
+/// Whether a view or an index has the name.
+fn is_taken<S: Alter>(conn: &Connection<S>) -> bool
+    ensures { IsTrue result → IsTaken (state S.Store conn.now) }
+{
+    let schema = conn.schema();
+    schema.view_named(b"documents").is_some() || schema.index_named(b"documents").is_some()
 }

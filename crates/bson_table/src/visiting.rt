@@ -1,33 +1,32 @@
-//! Rows of an answer, one at a time.
+//! Values of an answer's one column, one at a time.
 
-ghost use Rattle.std.specs.Prelude.{◌≡◌, ◌⊎◌, ℕ, Bool, List, [], ◌∷◌, ◌++◌, true, false, IsTrue, IfOk, IfErr, OnOk, OnErr};
-ghost use Rattle.sqlite.specs.declared.types.Value.TheVariants.{Text};
-ghost use Rattle.sqlite_value.specs.Order.{Row as SqlRow};
+ghost use Rattle.std.specs.Prelude.{◌≡◌, ℕ, List, [], ◌∷◌, ◌++◌, false, IsTrue, IfOk};
 ghost use Rattle.sqlite.specs.Values.{bound};
 ghost use Rattle.sqlite.specs.Held.{state};
-ghost use Rattle.sqlite.specs.State.{HasCleanDisk, Survives, Fails, IsUnchanged};
-ghost use Rattle.bson_table.specs.Rows.{Doc, Shows};
-ghost use Rattle.bson_table.specs.Visit.{IsSelect, TookAll, TookSome, TookOf, body_rows};
+ghost use Rattle.sqlite.specs.State.{HasCleanDisk, Survives};
+ghost use Rattle.bson_table.specs.Visit.{IsSelect, IsRead, TookAll, TookSome};
 
+use crate::opening::bytes_at;
 use sqlite::types::ValueRef;
-use sqlite::{Alter, Connection, Error, ErrorCode, Row};
+use sqlite::{Alter, Connection, Error, ErrorCode};
 
-/// What is done with each row.
+/// What is done with each body of a collection.
 pub trait Visit {
-    /// It has taken these rows, in this order.
-    ghost took: { Self → List SqlRow → Type 0 };
+    /// It has taken these bodies, in this order.
+    ghost took: { Self → List (List ℕ) → Type 0 };
 
-    /// It asks for no further row.
-    ghost is_done: { Self → Bool };
+    /// It asks for no further body.
+    ghost is_done: { Self → Type 0 } = { λ _. Unit {0} };
 
-    /// Takes a row, and says whether it asks for another.
-    fn visit(&mut self, row: &Row) -> bool
-        ensures took { (rows : List SqlRow) → took self.old rows → took self.new (rows ++ row.now ∷ []) }
-        ensures more { result ≡ false → is_done self.new ≡ true };
+    /// Takes a body, and says whether it asks for another.
+    fn visit(&mut self, body: &[u8]) -> bool
+        ensures took { (bodies : List (List ℕ)) → took self.old bodies → took self.new (bodies ++ body.now ∷ []) }
+        ensures more { result ≡ false → is_done self.new };
 }
 
-/// Hands each row of an answer to a visitor, until it asks for no more. One row is read at a time. True: all were taken.
-pub fn visit_rows<S: Alter, V: Visit>(
+/// Hands the first value of each row of an answer to a visitor, until it asks for no more. One row is read at a time.
+/// True: all were taken.
+pub(crate) fn visit_values<S: Alter, V: Visit>(
     conn: &mut Connection<S>,
     sql: &str,
     params: &[ValueRef<'_>],
@@ -37,10 +36,8 @@ pub fn visit_rows<S: Alter, V: Visit>(
     ensures whole { HasCleanDisk (state S.Store conn.new) → V.took visitor.old []
         → IfOk result (λ all. IsTrue all → TookAll V.took visitor.new sql.now (bound params.now) (state S.Store conn.old) (state S.Store conn.new)) }
     ensures some { HasCleanDisk (state S.Store conn.new) → V.took visitor.old [] → TookSome V.took visitor.new sql.now (bound params.now) (state S.Store conn.old) }
-    ensures stopped { IfOk result (λ all. all ≡ false → V.is_done visitor.new ≡ true) }
-    ensures same { HasCleanDisk (state S.Store conn.new) → OnOk result (IsUnchanged (state S.Store conn.old) (state S.Store conn.new)) }
-    ensures refused { HasCleanDisk (state S.Store conn.new) → (docs : List Doc) → Shows (state S.Store conn.old) docs
-        → IsTrue (state S.Store conn.new).is_open → OnErr result (Shows (state S.Store conn.new) docs) }
+    ensures stopped { IfOk result (λ all. all ≡ false → V.is_done visitor.new) }
+    ensures read { HasCleanDisk (state S.Store conn.new) → IsRead (state S.Store conn.old) (state S.Store conn.new) result }
     ensures crash { Survives (state S.Store conn.old) (state S.Store conn.new) (λ _. ⊥) }
 {
     let mut rows = conn.query(sql, params)?;
@@ -52,31 +49,7 @@ pub fn visit_rows<S: Alter, V: Visit>(
         let Some(row) = rows.next()? else {
             return Ok(true);
         };
-        wants = visitor.visit(row);
+        wants = visitor.visit(bytes_at(row, 0));
     }
     Err(Error::SqliteFailure(ErrorCode::TooBig))
-}
-
-/// Hands each body of a collection to a visitor, in order of place, until it asks for no more.
-pub fn visit_bodies<S: Alter, V: Visit>(
-    conn: &mut Connection<S>,
-    coll: &str,
-    visitor: &mut V,
-) -> Result<bool, Error>
-    ensures whole { HasCleanDisk (state S.Store conn.new) → (docs : List Doc) → Shows (state S.Store conn.old) docs → V.took visitor.old []
-        → IfOk result (λ all. IsTrue all → V.took visitor.new (body_rows coll.now docs)) }
-    ensures some { HasCleanDisk (state S.Store conn.new) → (docs : List Doc) → Shows (state S.Store conn.old) docs → V.took visitor.old []
-        → TookOf V.took visitor.new (body_rows coll.now docs) }
-    ensures stopped { IfOk result (λ all. all ≡ false → V.is_done visitor.new ≡ true) }
-    ensures same { HasCleanDisk (state S.Store conn.new) → (docs : List Doc) → Shows (state S.Store conn.old) docs → OnOk result (Shows (state S.Store conn.new) docs) }
-    ensures refused { HasCleanDisk (state S.Store conn.new) → (docs : List Doc) → Shows (state S.Store conn.old) docs
-        → IsTrue (state S.Store conn.new).is_open → OnErr result (Shows (state S.Store conn.new) docs) }
-    ensures crash { Survives (state S.Store conn.old) (state S.Store conn.new) (λ _. ⊥) }
-{
-    visit_rows(
-        conn,
-        "SELECT body FROM documents WHERE +coll = ?1 ORDER BY place",
-        &[ValueRef::Text(coll.as_bytes())],
-        visitor,
-    )
 }

@@ -1,7 +1,7 @@
 use Rattle.std.proofs.Common.{rules, ◌≡◌, true, false, not, sym, ap, ◌∙◌, IsTrue}
 use Rattle.sqlite.specs.Held.{state}
 use Rattle.sqlite.specs.State.{State}
-use Rattle.bson_table.proofs.SurveyLemmas.{opened_if, kept_if, says_if, made_by, makes_if}
+use Rattle.bson_table.proofs.SurveyLemmas.{opened_if, says_if, made_by, makes_if}
 use Rattle.bson_table.proofs.opening.prepare.Goals as goal
 
 pub returns-then-has_table-clause-opened : goal.returns-then-has_table-clause-opened
@@ -13,11 +13,6 @@ pub returns-then-has_table-clause-refused : goal.returns-then-has_table-clause-r
 returns-then-has_table-clause-refused g c clean =
     let auto : (state g.S.Store c.args.conn.now).in_transaction ≡ false = search rules in
     says_if (g.C.RowCheck.accepts c.args.check.now) (state g.S.Store c.args.conn.now) (state g.S.Store c.survey.new.conn) auto (c.is_autocommit.ensures.settled (search rules)) (sym c.has_table.ensures.there ∙ c.if-has_table.true) c.survey.result (c.survey.ensures.refused clean)
-
-pub returns-then-has_table-clause-kept : goal.returns-then-has_table-clause-kept
-returns-then-has_table-clause-kept g c clean =
-    let auto : (state g.S.Store c.args.conn.now).in_transaction ≡ false = search rules in
-    kept_if (g.C.RowCheck.accepts c.args.check.now) (state g.S.Store c.args.conn.now) (state g.S.Store c.survey.new.conn) auto (c.is_autocommit.ensures.settled (search rules)) c.survey.result (c.survey.ensures.refused clean)
 
 pub returns-in-Err-clause-crash : goal.returns-in-Err-clause-crash
 returns-in-Err-clause-crash g c =
