@@ -1,11 +1,11 @@
 -- The greatest place.
-use Rattle.std.proofs.Common.{codes, subst₂, ap₂, Equal, suc, add-one, ◌≡◌, ◌≢◌, ◌⊎◌, inl, inr, ◌<ℤ◌, ◌≤ℤ◌, ◌+ℤ◌, ℕ, ℤ, pos, ◌+◌, List, [], ◌∷◌, ◌++◌, map, filter, Bool, true, false, Option, None, Some, Ok, Err, Result, refl, sym, ap, subst, ◌∙◌, IsTrue, arith, is_lt, length, slice_get}
+use Rattle.std.proofs.Common.{codes, subst₂, ap₂, Equal, suc, add-one, ◌≡◌, ◌≢◌, ◌⊎◌, inl, inr, ◌<ℤ◌, ◌≤ℤ◌, ◌+ℤ◌, ℕ, ℤ, pos, ◌+◌, List, [], ◌∷◌, ◌++◌, map, filter, Bool, true, false, Option, None, Some, Ok, Err, Result, refl, sym, ap, subst, ◌∙◌, IsTrue, arith, is_lt, length, slice_get, take}
 use Rattle.std.specs.List.{AllByRecursion, list_all}
 use Rattle.std.specs.List.Sorted.{IsPermutation, IsSorted}
 use Rattle.std.specs.Ordering.{int_cmp, ordering_then}
 use Rattle.std.proofs.lemmas.Int.{ints}
 use Rattle.std.proofs.lemmas.Bool.Decides.{nat_tests}
-use Rattle.std.proofs.lemmas.List.Sorted.{All-permutation, IsPermutation-sym, length_permutation}
+use Rattle.std.proofs.lemmas.List.Sorted.{All-permutation, IsPermutation-sym, IsPermutation-map, IsPermutation-trans, length_permutation}
 use Rattle.std.proofs.lemmas.List.Elements.{All-from_recursion, recursion_from_All}
 use Rattle.sqlite.specs.declared.types.Value.{Value}
 use Rattle.sqlite.specs.declared.types.Value.TheVariants.{Null, Int}
@@ -15,8 +15,10 @@ use Rattle.sqlite_value.specs.declared.keys.Key.{Key}
 use Rattle.sqlite.specs.Collation.TheVariants.{Binary}
 use Rattle.sqlite_trees.specs.Tree.{IsAscending}
 use Rattle.sqlite_rules.specs.Edit.{id_in}
-use Rattle.sqlite.specs.Term.{Term, col}
+use Rattle.sqlite.specs.Term.{Term, col, lit}
 use Rattle.sqlite.specs.Query.{Query, Output, output, output_cmp}
+use Rattle.sqlite_sql.specs.Query.{IsAnswerAs}
+use Rattle.sqlite_sql.specs.Program.{overlay}
 use Rattle.sqlite.specs.Command.{Command}
 use Rattle.sqlite.specs.Command.TheVariants.{Select, Rows}
 use Rattle.sqlite.specs.declared.error.Error.TheVariants.{QueryReturnedNoRows}
@@ -31,18 +33,18 @@ use Rattle.sqlite.proofs.Callers.{IsPlain, reads_as, first_as, command_of}
 use Rattle.bson_table.specs.Schema.{documents_schema}
 use Rattle.bson_table.specs.Visit.{IsSelect}
 use Rattle.bson_table.specs.Rows.{Doc, stored, IsRising, Shows, last_place}
-use Rattle.bson_table.proofs.AnswerLemmas.{Outputs, outputs_of}
+use Rattle.bson_table.proofs.AnswerLemmas.{passes, matches_are}
 use Rattle.bson_table.proofs.LastPlaceLemmas.{below_next}
 use Rattle.bson_table.proofs.Texts.{plain_query, program}
 
 abbrev pub greatest_text : List ℕ
-greatest_text = codes "SELECT place FROM documents ORDER BY place DESC"
+greatest_text = codes "SELECT place FROM documents ORDER BY place DESC LIMIT 1"
 
 abbrev by_desc : List (Term × Key)
 by_desc = (col 1 0, record { collation = Binary; descending = true }) ∷ []
 
 abbrev desc_query : Query
-desc_query = plain_query [] (col 1 0 ∷ []) by_desc
+desc_query = record (plain_query [] (col 1 0 ∷ []) by_desc) { limit = lit (Int (pos 1)) }
 
 desc_is : (command_of (understood documents_schema greatest_text) ≡ Select (program desc_query) (codes "place" ∷ [])) × (reads_listing documents_schema greatest_text ≡ false)
 unfolding understood everything
@@ -85,10 +87,6 @@ placed : (ds : List Doc) → AllByRecursion IsPlaced (map out ds)
 placed [] = tt
 placed (d ∷ ds) = ((refl, refl), placed ds)
 
-every : (docs : List Doc) → filter (λ _. true) docs ≡ docs
-every [] = refl
-every (d ∷ docs) = ap (λ ds. d ∷ ds) (every docs)
-
 up_to : (k : ℤ) (ds : List Doc) → AllByRecursion (λ d. d.place <ℤ (k +ℤ pos 1)) ds → AllByRecursion (λ o. key_of o ≤ℤ k) (map out ds)
 up_to k [] h = tt
 up_to k (d ∷ ds) h = (omega (arith, ints, h.0), up_to k ds h.1)
@@ -117,11 +115,28 @@ first_is (d ∷ docs) (x ∷ xs) up p s =
     let high = last_at_most (key_of x) d docs (back (λ o. key_of o ≤ℤ key_of x) (self, falls x xs at s)) in
     ((λ e. cc), at.0.1 ∙ ap Int (same_place (key_of x) (last_place (d ∷ docs)) low high))
 
+first_of_page : (xs : List Row) → slice_get (take 1 xs) 0 ≡ slice_get xs 0
+first_of_page [] = refl
+first_of_page (x ∷ xs) = refl
+
+map_map : {A B C : Type 0} (f : B → C) (g : A → B) (xs : List A) → map f (map g xs) ≡ map (λ x. f (g x)) xs
+map_map f g [] = refl
+map_map f g (x ∷ xs) = ap (λ ys. f (g x) ∷ ys) (map_map f g xs)
+
+keeps_all : (rows : List Row) → filter (passes [] []) rows ≡ rows
+keeps_all [] = refl
+keeps_all (r ∷ rows) = ap (λ rs. r ∷ rs) (keeps_all rows)
+
 module _ (old new : State) (docs : List Doc) (h : Shows old docs) where
   of_answer : (rows : List Row) → Answers old.now (program desc_query) [] rows → Finds docs (slice_get rows 0)
-  of_answer rows a =
-      let o = outputs_of [] (col 1 0 ∷ []) by_desc [] (λ _. true) docs old.now rows h.table (λ d. refl) a in
-      subst (λ rs. Finds docs (slice_get rs 0)) (sym o.shown) (first_is docs o.all h.table.rising (subst (λ ds. IsPermutation (map out ds) o.all) (every docs) o.same) o.sorted)
+  of_answer rows answers =
+      let a : IsAnswerAs Null desc_query (overlay old.now.trees []) [] rows = answers.answer Null in
+      let shown = λ (r : Row). output desc_query ([] ∷ r ∷ []) in
+      let all = old.now.trees 0 in
+      let kept : a.kept ≡ map shown all = a.distinct ∙ ap (map (output desc_query)) (a.grouped ∙ matches_are Null (overlay old.now.trees []) [] [] all) ∙ map_map (output desc_query) (λ (r : Row). [] ∷ r ∷ []) (filter (passes [] []) all) ∙ ap (map shown) (keeps_all all) in
+      let outs : IsPermutation (map out docs) (map shown all) = subst (λ xs. IsPermutation xs (map shown all)) (map_map shown stored docs) (IsPermutation-map shown (map stored docs) all h.table.rows) in
+      let same : IsPermutation (map out docs) a.ordered = IsPermutation-trans (map out docs) (map shown all) a.ordered outs (subst (λ k. IsPermutation k a.ordered) kept a.same) in
+      subst (λ (found : Option Row). Finds docs found) (sym (ap (λ (rs : List Row). slice_get rs 0) a.shown ∙ first_of_page (map (λ (o : Output). o.1) a.ordered))) (first_is docs a.ordered h.table.rising same a.sorted)
 
   pub greatest_row : (row : Row) → QueriesRow greatest_text [] old new (Ok row) → (docs ≢ []) × (column row 0 ≡ Int (last_place docs))
   greatest_row row q =

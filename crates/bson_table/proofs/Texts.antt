@@ -106,20 +106,6 @@ pub all_plain : IsPlain (understood documents_schema all_text)
 unfolding understood everything
 all_plain = (refl, refl)
 
-abbrev pub last_text : List ℕ
-last_text = codes "SELECT place FROM documents ORDER BY place DESC LIMIT 1"
-
-abbrev pub last_query : Query
-last_query = record (plain_query [] (col 1 0 ∷ []) ((col 1 0, record { collation = Binary; descending = true }) ∷ [])) { limit = lit (Int (pos 1)) }
-
-pub last_is : (command_of (understood documents_schema last_text) ≡ Select (program last_query) (codes "place" ∷ [])) × (reads_listing documents_schema last_text ≡ false)
-unfolding understood everything
-last_is = (refl, refl)
-
-pub last_plain : IsPlain (understood documents_schema last_text)
-unfolding understood everything
-last_plain = (refl, refl)
-
 pub find_asks : IsSelect find_text
 unfolding everything
 find_asks = (refl, refl)

@@ -4,6 +4,7 @@ use bson_table::{Fault, Found, NewRow, OpenError, RowCheck, Table};
 use sqlite::{Alter, Connection, Error, FileStore, Files, MemStore, Options};
 use sqlite_disk::{Disk, Fuse, Memory};
 use std::alloc::{AllocError, Global};
+use std::process::Abort;
 use std::test::Fail;
 
 /// A row is good where its body isn't empty.

@@ -3,7 +3,7 @@ use bson_table::Table;
 use sqlite::{Alter, Files};
 use sqlite_disk::{Crash, Fuse, Memory};
 use std::alloc::Global;
-use std::rt::Abort;
+use std::process::Abort;
 use std::test::Fail;
 
 const STEPS: usize = 6;

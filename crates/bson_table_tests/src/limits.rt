@@ -3,7 +3,7 @@ use crate::visits::taken;
 use bson_table::{Fault, OpenError, Table};
 use sqlite::MemStore;
 use std::alloc::Global;
-use std::rt::Abort;
+use std::process::Abort;
 use std::test::Fail;
 
 const MOST: u64 = 200;
@@ -33,8 +33,8 @@ fn a_refused_open_changes_nothing(rt: HostRuntime) -> Result<(), Fail> {
 }
 
 /// An answer of a call, as a number; a refusal is -1, and has to be one of the database.
-fn told<T: Drop>(rt: &impl Abort, result: Result<T, Fault>) -> i64 {
-    match result {
+fn told<T: Drop>(rt: &impl Abort, answer: Result<T, Fault>) -> i64 {
+    match answer {
         Ok(_) => 1,
         Err(fault) => {
             assert_eq!(rt; fault, Fault::Database);

@@ -1,7 +1,7 @@
 use crate::calls::{Opened, answers, append, change, is, is_refused, length_of, memory, number, open, outcome, place_of, remove, sql, state_of};
 use bson_table::{Fault, OpenError};
 use std::alloc::Global;
-use std::rt::Abort;
+use std::process::Abort;
 use std::test::Fail;
 
 const PLAIN: &str = "CREATE TABLE documents (place INTEGER PRIMARY KEY, coll TEXT NOT NULL, idkey BLOB NOT NULL, body BLOB NOT NULL)";

@@ -2,7 +2,7 @@ use crate::calls::{append, append_two, collections, is, memory, open, state_of};
 use bson_table::{Fault, Table, Visit};
 use sqlite::{Alter, MemStore};
 use std::alloc::Global;
-use std::rt::Abort;
+use std::process::Abort;
 use std::test::Fail;
 
 /// Takes bodies until it has so many.
