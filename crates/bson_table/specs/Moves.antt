@@ -4,11 +4,12 @@ use Rattle.std.specs.List.{list_any}
 use Rattle.std.specs.declared.alloc.Global.{Global}
 use Rattle.std.specs.BTreeSet.{BTreeSet}
 use Rattle.sqlite.specs.State.{State, HasCleanDisk}
+use Rattle.sqlite.specs.Tree.{Trees}
 use Rattle.bson_table.specs.declared.fault.Fault.{Fault}
 use Rattle.bson_table.specs.declared.fault.Fault.TheVariants.{Places}
 use Rattle.bson_table.specs.declared.row.Found.{Found}
 use Rattle.bson_table.specs.declared.row.NewRow.{NewRow}
-use Rattle.bson_table.specs.Rows.{Doc, Shows, is_named, is_in, last_place, docs_from}
+use Rattle.bson_table.specs.Rows.{Doc, Shows, HasRows, is_named, is_in, last_place, docs_from}
 use Rattle.bson_table.specs.Names.{has_name}
 
 -- what a connection shows while it is open
@@ -22,6 +23,14 @@ Moves old new P = HasCleanDisk new → HasCleanDisk old × ((docs : List Doc) �
 -- a call is accepted only on an open connection, which stays open
 abbrev pub WasOpen : {A : Type 0} → State → State → Result A Fault → Type 0
 WasOpen old new result = HasCleanDisk new → (docs : List Doc) → Stands old docs → OnOk result (IsTrue old.is_open × IsTrue new.is_open)
+
+-- a crash may leave the rows changed so
+abbrev pub MayLeave : (List Doc → List Doc) → State → Trees → Type 0
+MayLeave change old trees = (docs : List Doc) → Stands old docs → HasRows trees (change docs)
+
+-- after a call that was accepted a crash leaves the rows changed so, and no others
+abbrev pub Settles : {A : Type 0} → (List Doc → List Doc) → State → State → Result A Fault → Type 0
+Settles change old new result = HasCleanDisk new → (docs : List Doc) → Stands old docs → OnOk result ((db : Trees) → new.may_leave db → HasRows db (change docs))
 
 -- there are so many places after the greatest one
 abbrev pub IsRoomFor : ℕ → List Doc → Type 0

@@ -1,11 +1,10 @@
 //! The table: a list of rows, of which each call is a change.
 
-ghost use Rattle.std.specs.Prelude.{◌≡◌, ◌≢◌, ◌∷◌, [], length, List, false, IsTrue, IfOk, IfErr, OnOk, IsErrOf};
+ghost use Rattle.std.specs.Prelude.{◌≡◌, length, false, IfOk, IfErr, IsErrOf};
 ghost use Rattle.sqlite.specs.Held.{state};
-ghost use Rattle.sqlite.specs.Tree.{Trees};
 ghost use Rattle.sqlite.specs.State.{HasCleanDisk, Survives};
-ghost use Rattle.bson_table.specs.Rows.{Doc, HasRows, without, replaced, last_place};
-ghost use Rattle.bson_table.specs.Moves.{Stands, Moves, WasOpen, Finds, Changes, Appends, Lists, Visits, appended, all_appended};
+ghost use Rattle.bson_table.specs.Rows.{without, replaced};
+ghost use Rattle.bson_table.specs.Moves.{Moves, WasOpen, MayLeave, Settles, Finds, Changes, Appends, Lists, Visits, appended, all_appended};
 ghost use Rattle.bson_table.specs.Open.{Opened, Unopened, KeepsRows, Makes};
 ghost use Rattle.sqlite_value.specs.Order.{column};
 ghost use Rattle.bson_table.specs.Cells.{int_in, bytes_in};
@@ -80,9 +79,8 @@ impl<S: Alter + Drop> Table<S> {
     pub fn append(&mut self, coll: &str, idkey: &[u8], body: &[u8]) -> Result<(), Fault>
         ensures moves { Moves (state_of S.Store self.old) (state_of S.Store self.new) (Appends 1 (appended coll.now idkey.now body.now) result) }
         ensures open { WasOpen (state_of S.Store self.old) (state_of S.Store self.new) result }
-        ensures crash { Survives (state_of S.Store self.old) (state_of S.Store self.new) (λ trees. (docs : List Doc) → Stands (state_of S.Store self.old) docs → HasRows trees (appended coll.now idkey.now body.now docs)) }
-        ensures settled { HasCleanDisk (state_of S.Store self.new) → (docs : List Doc) → Stands (state_of S.Store self.old) docs
-            → OnOk result ((db : Trees) → (state_of S.Store self.new).may_leave db → HasRows db (appended coll.now idkey.now body.now docs)) }
+        ensures crash { Survives (state_of S.Store self.old) (state_of S.Store self.new) (MayLeave (appended coll.now idkey.now body.now) (state_of S.Store self.old)) }
+        ensures settled { Settles (appended coll.now idkey.now body.now) (state_of S.Store self.old) (state_of S.Store self.new) result }
         ensures full { IsErrOf result Fault.Places → Survives (state_of S.Store self.old) (state_of S.Store self.new) (λ _. ⊥) }
     {
         let last = statements::greatest(&mut self.conn)?;
@@ -97,9 +95,8 @@ impl<S: Alter + Drop> Table<S> {
     pub fn append_all(&mut self, coll: &str, rows: &[NewRow]) -> Result<(), Fault>
         ensures moves { Moves (state_of S.Store self.old) (state_of S.Store self.new) (Appends (length rows.now) (all_appended coll.now rows.now) result) }
         ensures open { WasOpen (state_of S.Store self.old) (state_of S.Store self.new) result }
-        ensures crash { Survives (state_of S.Store self.old) (state_of S.Store self.new) (λ trees. (docs : List Doc) → Stands (state_of S.Store self.old) docs → HasRows trees (all_appended coll.now rows.now docs)) }
-        ensures settled { HasCleanDisk (state_of S.Store self.new) → (docs : List Doc) → Stands (state_of S.Store self.old) docs
-            → OnOk result ((db : Trees) → (state_of S.Store self.new).may_leave db → HasRows db (all_appended coll.now rows.now docs)) }
+        ensures crash { Survives (state_of S.Store self.old) (state_of S.Store self.new) (MayLeave (all_appended coll.now rows.now) (state_of S.Store self.old)) }
+        ensures settled { Settles (all_appended coll.now rows.now) (state_of S.Store self.old) (state_of S.Store self.new) result }
         ensures full { IsErrOf result Fault.Places → Survives (state_of S.Store self.old) (state_of S.Store self.new) (λ _. ⊥) }
     {
         let last = statements::greatest(&mut self.conn)?;
@@ -114,9 +111,8 @@ impl<S: Alter + Drop> Table<S> {
     pub fn rewrite_at(&mut self, found: &Found, body: &[u8]) -> Result<(), Fault>
         ensures moves { Moves (state_of S.Store self.old) (state_of S.Store self.new) (Changes (replaced found.now.place body.now) result) }
         ensures open { WasOpen (state_of S.Store self.old) (state_of S.Store self.new) result }
-        ensures crash { Survives (state_of S.Store self.old) (state_of S.Store self.new) (λ trees. (docs : List Doc) → Stands (state_of S.Store self.old) docs → HasRows trees (replaced found.now.place body.now docs)) }
-        ensures settled { HasCleanDisk (state_of S.Store self.new) → (docs : List Doc) → Stands (state_of S.Store self.old) docs
-            → OnOk result ((db : Trees) → (state_of S.Store self.new).may_leave db → HasRows db (replaced found.now.place body.now docs)) }
+        ensures crash { Survives (state_of S.Store self.old) (state_of S.Store self.new) (MayLeave (replaced found.now.place body.now) (state_of S.Store self.old)) }
+        ensures settled { Settles (replaced found.now.place body.now) (state_of S.Store self.old) (state_of S.Store self.new) result }
     {
         statements::rewrite_at(&mut self.conn, found.place, body)?;
         Ok(())
@@ -126,9 +122,8 @@ impl<S: Alter + Drop> Table<S> {
     pub fn remove_at(&mut self, found: &Found) -> Result<(), Fault>
         ensures moves { Moves (state_of S.Store self.old) (state_of S.Store self.new) (Changes (without found.now.place) result) }
         ensures open { WasOpen (state_of S.Store self.old) (state_of S.Store self.new) result }
-        ensures crash { Survives (state_of S.Store self.old) (state_of S.Store self.new) (λ trees. (docs : List Doc) → Stands (state_of S.Store self.old) docs → HasRows trees (without found.now.place docs)) }
-        ensures settled { HasCleanDisk (state_of S.Store self.new) → (docs : List Doc) → Stands (state_of S.Store self.old) docs
-            → OnOk result ((db : Trees) → (state_of S.Store self.new).may_leave db → HasRows db (without found.now.place docs)) }
+        ensures crash { Survives (state_of S.Store self.old) (state_of S.Store self.new) (MayLeave (without found.now.place) (state_of S.Store self.old)) }
+        ensures settled { Settles (without found.now.place) (state_of S.Store self.old) (state_of S.Store self.new) result }
     {
         statements::remove_at(&mut self.conn, found.place)?;
         Ok(())

@@ -104,7 +104,8 @@ fn a_refused_call_changes_nothing(rt: HostRuntime) -> Result<(), Fail> {
             break;
         }
     }
-    is(&rt, least, 0);
+    // an answer has fewer rows than the limit: at 1 only the first append reads none
+    is(&rt, least, 1);
     is(&rt, last, 8);
     Ok(())
 }
