@@ -1,0 +1,87 @@
+-- A table of this schema that lists rows in order shows them.
+use Rattle.std.proofs.Common.{subst₂, ◌≡◌, ℕ, ℤ, List, [], ◌∷◌, ◌++◌, map, filter, drop, Bool, true, false, ◌&&◌, None, Some, refl, sym, ap, ap₂, subst, ◌∙◌, codes}
+use Rattle.std.specs.List.{list_all, AllByRecursion}
+use Rattle.std.specs.List.Sorted.{IsPermutation}
+use Rattle.std.proofs.lemmas.List.Sorted.{IsPermutation-map, IsPermutation-sym, IsPermutation-trans}
+use Rattle.std.proofs.lemmas.Bool.{and_parts}
+use Rattle.sqlite.specs.declared.types.Value.TheVariants.{Null}
+use Rattle.sqlite.specs.Order.{Row, column}
+use Rattle.sqlite_trees.specs.Tree.{Trees}
+use Rattle.sqlite_sql.specs.Query.{Query, IsAnswerAs, Output, output}
+use Rattle.sqlite_sql.specs.Program.{overlay}
+use Rattle.sqlite_schema.specs.declared.schema.Constraint.{Constraint}
+use Rattle.sqlite_schema.specs.declared.schema.Constraint.TheVariants.{Datatype, NotNull}
+use Rattle.sqlite_schema.specs.Rules.{passes, are_typed, are_present, has_computed}
+use Rattle.sqlite.specs.Effect.{Database, IsDatabase, Answers}
+use Rattle.sqlite.specs.Command.TheVariants.{Select}
+use Rattle.sqlite.specs.State.{State, Shown, IsUnchanged}
+use Rattle.sqlite.proofs.Callers.{reads_as}
+use Rattle.std.proofs.Common.{IsTrue}
+use Rattle.bson_table.specs.Schema.{documents, documents_schema}
+use Rattle.bson_table.specs.Rows.{Doc, stored, HasRows, Shows, IsRising}
+use Rattle.bson_table.specs.Cells.{is_listed, doc_of}
+use Rattle.bson_table.specs.Open.{all_text, Reads}
+use Rattle.bson_table.specs.Check.{AreGood}
+use Rattle.bson_table.proofs.Texts.{all_query, all_is, all_plain, program}
+use Rattle.bson_table.proofs.AnswerLemmas.{matches_are, passes as keeps}
+use Rattle.bson_table.proofs.TypedLemmas.{IsTyped, typed_row}
+use Rattle.bson_table.proofs.ListedRows.{put_down, put_down_is}
+use Rattle.bson_table.proofs.CheckLemmas.{good_rises}
+
+abbrev cols : Row → Row
+cols r = (output all_query ([] ∷ r ∷ [])).1
+
+map_map : {A B C : Type 0} (f : B → C) (g : A → B) (xs : List A) → map f (map g xs) ≡ map (λ x. f (g x)) xs
+map_map f g [] = refl
+map_map f g (x ∷ xs) = ap (λ ys. f (g x) ∷ ys) (map_map f g xs)
+
+keeps_all : (rows : List Row) → filter (keeps [] []) rows ≡ rows
+keeps_all [] = refl
+keeps_all (r ∷ rows) = ap (λ rs. r ∷ rs) (keeps_all rows)
+
+-- what the query answers of any rows
+pub answered : (db : Database) (rows : List Row) → Answers db (program all_query) [] rows → IsPermutation (map cols (db.trees 0)) rows
+answered db rows answers =
+    let a : IsAnswerAs Null all_query (overlay db.trees []) [] rows = answers.answer Null in
+    let env = λ (r : Row). [] ∷ r ∷ [] in
+    let kept : a.kept ≡ map (λ r. output all_query (env r)) (db.trees 0) = a.distinct ∙ ap (map (output all_query)) (a.grouped ∙ matches_are Null (overlay db.trees []) [] [] (db.trees 0)) ∙ map_map (output all_query) env (filter (keeps [] []) (db.trees 0)) ∙ ap (map (λ r. output all_query (env r))) (keeps_all (db.trees 0)) in
+    let moved = IsPermutation-map (λ (x : Output). x.1) _ a.ordered (subst (λ k. IsPermutation k a.ordered) kept a.same) in
+    subst₂ (λ x y. IsPermutation x y) (map_map (λ (x : Output). x.1) (λ r. output all_query (env r)) (db.trees 0)) (sym a.shown) moved
+
+-- each row of the table is typed
+typed_all : (rows : List Row) → AllByRecursion (λ row. (are_typed (Some 0) 0 documents.columns (drop 1 row) && has_computed documents row) ≡ true) rows → AllByRecursion (λ row. are_present (Some 0) 0 documents.columns row ≡ true) rows
+    → map put_down (map cols rows) ≡ rows
+typed_all [] t p = refl
+typed_all (r ∷ rows) t p =
+    let typed = typed_row r (and_parts (are_typed (Some 0) 0 documents.columns (drop 1 r)) (has_computed documents r) t.0).0 p.0 in
+    ap₂ (λ x xs. x ∷ xs) (one r typed) (typed_all rows t.1 p.1)
+  where
+    one : (row : Row) → IsTyped row → put_down (cols row) ≡ row
+    one row k = subst (λ (x : Row). put_down (cols x) ≡ x) (sym k.is) refl
+
+put_down_all : (db : Database) → db.schema ≡ documents_schema → IsDatabase db → map put_down (map cols (db.trees 0)) ≡ db.trees 0
+put_down_all db has live =
+    let rules = live.obeys.rules in
+    let t = subst (λ s. AllByRecursion (λ tb. AllByRecursion (λ row. passes Datatype s db.trees tb row ≡ true) (db.trees tb.tree)) s.tables) has (rules Datatype) in
+    let p = subst (λ s. AllByRecursion (λ tb. AllByRecursion (λ row. passes NotNull s db.trees tb row ≡ true) (db.trees tb.tree)) s.tables) has (rules NotNull) in
+    typed_all (db.trees 0) t.0 p.0
+
+pub listed_rows : (old new : State) (docs : List Doc) → old.now.schema ≡ documents_schema → IsDatabase old.now → Reads old new docs → IsRising docs → HasRows old.now.trees docs
+listed_rows old new docs has live h up =
+    let read : Answers old.now (program all_query) [] h.rows = reads_as all_text [] old new documents_schema has (Select (program all_query) _) all_is.0 all_plain all_is.1 h.rows h.answered in
+    let moved = IsPermutation-map put_down (map cols (old.now.trees 0)) h.rows (answered old.now h.rows read) in
+    let both = subst₂ (λ x y. IsPermutation x y) (put_down_all old.now has live) (put_down_is h.rows h.typed ∙ ap (map stored) (sym h.same)) moved in
+    record { rows = IsPermutation-sym (old.now.trees 0) (map stored docs) both; rising = up }
+
+-- an open on a table of this schema
+pub listed_shows : (accepts : List ℕ → List ℕ → List ℕ → Type 0) (old new : State) (docs : List Doc) → old.now.schema ≡ documents_schema → IsDatabase old.now → old.in_transaction ≡ false → old.now ≡ old.committed
+    → Reads old new docs → AreGood accepts docs → Shows new docs
+listed_shows accepts old new docs has live auto settled h good =
+    let u = h.unchanged in
+    record {
+      is_open = u.0.is_open;
+      autocommit = u.0.mode ∙ auto;
+      settled = u.0.now_is ∙ settled ∙ sym u.0.committed_is;
+      schema = ap (λ (d : Database). d.schema) u.0.now_is ∙ has;
+      table = subst (λ (d : Database). HasRows d.trees docs) (sym u.0.now_is) (listed_rows old new docs has live h (good_rises accepts docs good));
+    }

@@ -1,0 +1,161 @@
+-- What the queries answer, and that they change nothing.
+use Rattle.std.proofs.Common.{codes, subst₂, Vec, ap₂, Equal, suc, add-one, ltb, eqb, bytes_eq, ◌≡◌, ◌⊎◌, inl, inr, ◌<ℤ◌, ◌≤ℤ◌, ℕ, ℤ, pos, ◌+◌, ◌≤◌, List, [], ◌∷◌, ◌++◌, append-nil, map, filter, Bool, true, false, cond, ◌&&◌, None, Some, Ok, Err, Result, IfOk, IfErr, OnOk, OnErr, refl, sym, ap, subst, ◌∙◌, IsTrue, arith, is_eq, is_lt, length, get_or, option_map, find, slice_get}
+use Rattle.std.specs.List.{AllByRecursion, list_all, sum_by}
+use Rattle.std.specs.List.Sorted.{IsPermutation, IsSorted}
+use Rattle.std.specs.Ordering.{int_eq, int_cmp, ordering_then, nat_cmp}
+use Rattle.std.specs.Cmp.Lexicographic.{slice_cmp}
+use Rattle.std.proofs.lemmas.Int.{ints}
+use Rattle.std.proofs.lemmas.Bool.Decides.{nat_tests}
+use Rattle.std.proofs.lemmas.List.Sorted.{IsPermutation-map, All-permutation, sum_by-IsPermutation}
+use Rattle.std.proofs.lemmas.List.Elements.{All-from_recursion, recursion_from_All}
+use Rattle.sqlite.specs.declared.types.Value.{Value}
+use Rattle.sqlite.specs.declared.types.Value.TheVariants.{Null, Int, Text, Blob}
+use Rattle.sqlite.specs.declared.error.Error.{Error}
+use Rattle.sqlite.specs.Order.{Row, value_cmp, column}
+use Rattle.sqlite_value.proofs.OrderLemmas.{then-Equal, value_cmp-Int, value_cmp-Text, value_cmp-Blob}
+use Rattle.sqlite_trees.specs.Tree.{IsAscending}
+use Rattle.sqlite_rules.specs.Edit.{id_in}
+use Rattle.sqlite.specs.Term.{Term, col}
+use Rattle.sqlite_sql.specs.Term.{holds}
+use Rattle.sqlite.specs.Query.{Output, output, output_cmp}
+use Rattle.sqlite.specs.Command.TheVariants.{Select}
+use Rattle.sqlite.specs.Effect.{Database, Answers}
+use Rattle.sqlite.specs.Clock.{timed}
+use Rattle.sqlite.specs.Listing.{understood, reads_listing}
+use Rattle.std.specs.declared.alloc.Global.{Global}
+use Rattle.sqlite_value.specs.declared.keys.Key.{Key}
+use Rattle.sqlite.specs.Given.{IsPlain}
+use Rattle.sqlite.specs.State.{State, HasCleanDisk, Survives, IsUnchanged, IsNotRun, FailsToQuery, Shown, ShowsRows, FailsToShow, CommitsShowing, Begins}
+use Rattle.sqlite.proofs.StateLemmas.{survives_weaker}
+use Rattle.sqlite.proofs.Callers.{reads_as, command_of}
+use Rattle.bson_table.specs.Schema.{documents_schema}
+use Rattle.bson_table.specs.Rows.{Doc, stored, HasRows, Shows, IsRising, is_named, is_in}
+use Rattle.bson_table.proofs.AnswerLemmas.{Outputs, outputs_of, equal_is}
+use Rattle.bson_table.proofs.SortLemmas.{same_order, Strict, Rises}
+use Rattle.bson_table.proofs.Texts.{plain_query, program, equals, by_place, find_text, find_is, find_plain}
+
+-- the same bytes, as SQL compares them
+pub same_bytes : (a b : List ℕ) → is_eq (slice_cmp nat_cmp a b) ≡ bytes_eq a b
+same_bytes [] [] = refl
+same_bytes [] (y ∷ b) = refl
+same_bytes (x ∷ a) [] = refl
+same_bytes (x ∷ a) (y ∷ b) = go (ltb x y) (eqb x y) refl refl (same_bytes a b)
+  where
+    go : (l e : Bool) → ltb x y ≡ l → eqb x y ≡ e → is_eq (slice_cmp nat_cmp a b) ≡ bytes_eq a b → is_eq (slice_cmp nat_cmp (x ∷ a) (y ∷ b)) ≡ bytes_eq (x ∷ a) (y ∷ b)
+    go true true p q h = absurd (grind (arith, nat_tests))
+    go true false p q h = rw (p, q) refl
+    go false true p q h = rw (p, q) h
+    go false false p q h = rw (p, q) refl
+
+pub text_test : (a b : List ℕ) → is_eq (value_cmp (Text a) (Text b)) ≡ bytes_eq a b
+text_test a b = ap is_eq (value_cmp-Text a b) ∙ same_bytes a b
+
+pub blob_test : (a b : List ℕ) → is_eq (value_cmp (Blob a) (Blob b)) ≡ bytes_eq a b
+blob_test a b = ap is_eq (value_cmp-Blob a b) ∙ same_bytes a b
+
+-- ---- the tests of the queries, on documents
+
+and_true : (b : Bool) → b && true ≡ b
+and_true true = refl
+and_true false = refl
+
+pub named_test : (coll idkey : List ℕ) (d : Doc) → list_all (holds ((Text coll ∷ Blob idkey ∷ []) ∷ stored d ∷ [])) (equals 2 0 ∷ equals 3 1 ∷ []) ≡ is_named coll idkey d
+named_test coll idkey d =
+    rw (equal_is (Text d.coll) (Text coll) (bytes_eq d.coll coll) refl refl (text_test d.coll coll), equal_is (Blob d.idkey) (Blob idkey) (bytes_eq d.idkey idkey) refl refl (blob_test d.idkey idkey))
+    (ap (λ b. bytes_eq d.coll coll && b) (and_true (bytes_eq d.idkey idkey)))
+
+pub in_test : (coll : List ℕ) (more : Row) (d : Doc) → list_all (holds ((Text coll ∷ more) ∷ stored d ∷ [])) (equals 2 0 ∷ []) ≡ is_in coll d
+in_test coll more d = and_true _ ∙ equal_is (Text d.coll) (Text coll) (bytes_eq d.coll coll) refl refl (text_test d.coll coll)
+
+-- ---- rows in order
+
+map_map : {A B C : Type 0} (f : B → C) (g : A → B) (xs : List A) → map f (map g xs) ≡ map (λ x. f (g x)) xs
+map_map f g [] = refl
+map_map f g (x ∷ xs) = ap (λ ys. f (g x) ∷ ys) (map_map f g xs)
+
+-- what an output is sorted by
+abbrev key_of : Output → ℤ
+key_of o = id_in (column o.0 0)
+
+abbrev IsPlaced : Output → Type 0
+IsPlaced o = column o.0 0 ≡ Int (key_of o)
+
+not_below : (a b : ℤ) (u v : Value) → u ≡ Int a → v ≡ Int b → is_lt (ordering_then (value_cmp u v) Equal) ≡ false → b ≤ℤ a
+not_below a b u v p q h = let e : is_lt (int_cmp a b) ≡ false = ap is_lt (sym (then-Equal (value_cmp u v) ∙ ap₂ value_cmp p q ∙ value_cmp-Int a b)) ∙ h in grind (arith, ints, nat_tests)
+
+module _ (terms project : List Term) (params : Row) (t : Doc → Bool) where
+  abbrev out : Doc → Output
+  out d = output (plain_query terms project by_place) (params ∷ stored d ∷ [])
+
+  strict : (docs : List Doc) → IsRising docs → Strict key_of (map out (filter t docs))
+  strict [] up = tt
+  strict (d ∷ docs) up = go (t d) (strict docs up.1) (above docs up.0)
+    where
+      go : (b : Bool) → Strict key_of (map out (filter t docs)) → AllByRecursion (λ o. d.place <ℤ key_of o) (map out (filter t docs)) → Strict key_of (map out (cond b (d ∷ filter t docs) (filter t docs)))
+      go true h k = (k, h)
+      go false h k = h
+
+      above : (ds : List Doc) → AllByRecursion (λ b. d.place <ℤ b.place) ds → AllByRecursion (λ o. d.place <ℤ key_of o) (map out (filter t ds))
+      above [] k = tt
+      above (e ∷ ds) k = at (t e) (above ds k.1)
+        where
+          at : (b : Bool) → AllByRecursion (λ o. d.place <ℤ key_of o) (map out (filter t ds)) → AllByRecursion (λ o. d.place <ℤ key_of o) (map out (cond b (e ∷ filter t ds) (filter t ds)))
+          at true h = (k.0, h)
+          at false h = h
+
+  step_up : (x y : Output) → IsPlaced x → IsPlaced y → is_lt (output_cmp (plain_query terms project by_place) y x) ≡ false → key_of x ≤ℤ key_of y
+  step_up x y px py h = not_below (key_of y) (key_of x) (column y.0 0) (column x.0 0) py px h
+
+  rises : (os : List Output) → AllByRecursion IsPlaced os → IsSorted (output_cmp (plain_query terms project by_place)) os → Rises key_of os
+  rises [] p s = tt
+  rises (x ∷ []) p s = (tt, tt)
+  rises (x ∷ (y ∷ os)) p s =
+      let le = step_up x y p.0 p.1.0 (s 0 x (omega arith) (omega arith)) in
+      let more = rises (y ∷ os) p.1 (λ k d low lt. rw add-one (rw add-one at (s (suc k) d (omega arith) (omega (arith, lt))))) in
+      ((le, le_all (key_of x) (key_of y) os le more.0), more)
+    where
+      le_all : (a b : ℤ) (zs : List Output) → a ≤ℤ b → AllByRecursion (λ z. b ≤ℤ key_of z) zs → AllByRecursion (λ z. a ≤ℤ key_of z) zs
+      le_all a b [] h k = tt
+      le_all a b (z ∷ zs) h k = (omega (arith, ints, h, k.0), le_all a b zs h k.1)
+
+  placed : (ds : List Doc) → AllByRecursion IsPlaced (map out ds)
+  placed [] = tt
+  placed (d ∷ ds) = (refl, placed ds)
+
+  -- the rows in order of place are those of the documents that pass, in their order
+  pub in_order : (docs : List Doc) (rows : List Row) → IsRising docs → Outputs terms project by_place params t docs rows → rows ≡ map (λ d. (out d).1) (filter t docs)
+  in_order docs rows up o =
+      let xs = map out (filter t docs) in
+      let all : (P : Output → Type 0) → AllByRecursion P xs → AllByRecursion P o.all = λ P h. recursion_from_All P o.all (All-permutation P xs o.all o.same (All-from_recursion P xs h)) in
+      let sums : (f : Output → ℕ) → sum_by f o.all ≡ sum_by f xs = λ f. sum_by-IsPermutation f xs o.all o.same in
+      let same = same_order key_of xs o.all all sums (strict docs up) (rises o.all (all IsPlaced (placed (filter t docs))) o.sorted) in
+      o.shown ∙ ap (map (λ (x : Output). x.1)) (sym same) ∙ map_map (λ (x : Output). x.1) out (filter t docs)
+
+-- ---- a row by its collection and key
+
+answers_of : (sql : List ℕ) (params : Row) (old new : State) (docs : List Doc) (names : List (List ℕ)) (terms project : List Term) (order : List (Term × Key)) (rows : List Row) → Shows old docs
+    → (command_of (understood documents_schema sql) ≡ Select (program (plain_query terms project order)) names) × (reads_listing documents_schema sql ≡ false) → IsPlain (understood documents_schema sql)
+    → Shown sql params old new rows → Answers old.now (program (plain_query terms project order)) params rows
+answers_of sql params old new docs names terms project order rows h is plain s =
+    reads_as sql params old new documents_schema h.schema (Select (program (plain_query terms project order)) names) is.0 plain is.1 rows s
+
+pub named_rows : (coll idkey : List ℕ) (old new : State) (docs : List Doc) (rows : List Row) → Shows old docs → Shown find_text (Text coll ∷ Blob idkey ∷ []) old new rows
+    → rows ≡ map (λ d. Int d.place ∷ Blob d.body ∷ []) (filter (is_named coll idkey) docs)
+named_rows coll idkey old new docs rows h s =
+    let params = Text coll ∷ Blob idkey ∷ [] in
+    let terms = equals 2 0 ∷ equals 3 1 ∷ [] in
+    let project = col 1 0 ∷ col 1 4 ∷ [] in
+    in_order terms project params (is_named coll idkey) docs rows h.table.rising
+    (outputs_of terms project by_place params (is_named coll idkey) docs old.now rows h.table (named_test coll idkey) (answers_of find_text params old new docs _ terms project by_place rows h find_is find_plain s))
+
+abbrev pub found_row : Doc → Row
+found_row d = Int d.place ∷ Blob d.body ∷ []
+
+-- the first of them is what is found
+pub first_found : (p : Doc → Bool) (docs : List Doc) → slice_get (map found_row (filter p docs)) 0 ≡ option_map found_row (find p docs)
+first_found p [] = refl
+first_found p (d ∷ docs) = go (p d) (first_found p docs)
+  where
+    go : (b : Bool) → slice_get (map found_row (filter p docs)) 0 ≡ option_map found_row (find p docs) → slice_get (map found_row (cond b (d ∷ filter p docs) (filter p docs))) 0 ≡ option_map found_row (cond b (Some d) (find p docs))
+    go true h = refl
+    go false h = h

@@ -1,0 +1,41 @@
+-- How edits change the rows.
+use Rattle.std.proofs.Common.{◌≡◌, ◌<ℤ◌, ℕ, ℤ, pos, List, [], ◌∷◌, ◌++◌, map, Bool, true, false, cond, refl, sym, ap, subst, ◌∙◌, arith, rules, Ordering, Less, Equal, Greater, int_cmp, is_eq}
+use Rattle.std.specs.List.{AllByRecursion}
+use Rattle.std.proofs.lemmas.Int.{ints}
+use Rattle.sqlite.specs.declared.types.Value.{Value}
+use Rattle.sqlite.specs.declared.types.Value.TheVariants.{Null, Int, Text, Blob}
+use Rattle.sqlite_value.specs.Order.{Row, value_cmp}
+use Rattle.sqlite_value.proofs.OrderLemmas.{value_cmp-Int}
+use Rattle.sqlite_sql.specs.Ops.{unary}
+use Rattle.sqlite_trees.specs.Tree.{Trees, rowid, put_row, IsAscending}
+use Rattle.sqlite_schema.specs.declared.schema.Kind.TheVariants.{Integer}
+use Rattle.sqlite_rules.specs.Cast.{cast}
+use Rattle.bson_table.specs.Rows.{Doc, stored, IsRising, AreBelow, HasRows}
+
+either : (b : Bool) (x : Value) → cond b x x ≡ x
+either true x = refl
+either false x = refl
+
+pub cast_null : cast Integer Null ≡ Null
+unfolding unary
+cast_null = either _ Null
+
+pub cast_int : (n : ℤ) → cast Integer (Int n) ≡ Int n
+unfolding unary
+cast_int n = either _ (Int n)
+
+pub int_below : (a b : ℤ) → a <ℤ b → value_cmp (Int a) (Int b) ≡ Less
+int_below a b h = value_cmp-Int a b ∙ grind (ints, arith)
+
+-- a row with a place above all goes last
+pub put_last : (d : Doc) (docs : List Doc) → AreBelow d.place docs → put_row (stored d) (map stored docs) ≡ map stored (docs ++ d ∷ [])
+put_last d [] h = refl
+put_last d (x ∷ docs) h = rw (int_below x.place d.place h.0) (ap (λ rows. stored x ∷ rows) (put_last d docs h.1))
+
+pub rising_last : (d : Doc) (docs : List Doc) → IsRising docs → AreBelow d.place docs → IsRising (docs ++ d ∷ [])
+rising_last d [] up h = (tt, tt)
+rising_last d (x ∷ docs) up h = (all_last docs up.0, rising_last d docs up.1 h.1)
+  where
+    all_last : (ys : List Doc) → AllByRecursion (λ b. x.place <ℤ b.place) ys → AllByRecursion (λ b. x.place <ℤ b.place) (ys ++ d ∷ [])
+    all_last [] k = (h.0, tt)
+    all_last (y ∷ ys) k = (k.0, all_last ys k.1)

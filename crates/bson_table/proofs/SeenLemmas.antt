@@ -1,0 +1,76 @@
+-- A set of names and keys, beside the rows that it stands for.
+use Rattle.std.proofs.Common.{◌≡◌, ◌++◌, ℕ, List, [], ◌∷◌, Bool, true, false, not, ◌&&◌, ◌||◌, bytes_eq, eqb, refl, sym, ap, ap₂, ◌∙◌, is_eq, arith, Less, Equal, Greater, Ordering, IsTrue, IfOk, Result, Ok, Err, Vec}
+use Rattle.std.specs.List.{list_any}
+use Rattle.std.specs.Ordering.{nat_cmp, ordering_then}
+use Rattle.std.specs.Cmp.Lexicographic.{slice_cmp}
+use Rattle.std.proofs.lemmas.Bool.Decides.{nat_tests}
+use Rattle.std.proofs.lemmas.Bool.{cases_Bool}
+use Rattle.std.specs.BTreeSet.{insert_key}
+use Rattle.bson_table.specs.Rows.{Doc, is_named}
+use Rattle.bson_table.specs.Seen.{Pair, has_pair, HasSeen}
+use Rattle.bson_table.proofs.ReadLemmas.{same_bytes}
+
+pub flip : (a b : List ℕ) → bytes_eq a b ≡ bytes_eq b a
+flip [] [] = refl
+flip [] (y ∷ b) = refl
+flip (x ∷ a) [] = refl
+flip (x ∷ a) (y ∷ b) = go (eqb x y) refl (flip a b)
+  where
+    go : (e : Bool) → eqb x y ≡ e → bytes_eq a b ≡ bytes_eq b a → bytes_eq (x ∷ a) (y ∷ b) ≡ bytes_eq (y ∷ b) (x ∷ a)
+    go true p h = let q : eqb y x ≡ true = grind (arith, nat_tests) in rw (p, q) h
+    go false p h = let q : eqb y x ≡ false = grind (arith, nat_tests) in rw (p, q) refl
+
+abbrev pub pair_cmp : Pair → Pair → Ordering
+pair_cmp x y = ordering_then (slice_cmp nat_cmp x.0.items y.0.items) (slice_cmp nat_cmp x.1.items y.1.items)
+
+then_eq : (x y : Ordering) → is_eq (ordering_then x y) ≡ is_eq x && is_eq y
+then_eq Less y = refl
+then_eq Equal y = refl
+then_eq Greater y = refl
+
+pair_test : (x y : Pair) → is_eq (pair_cmp x y) ≡ bytes_eq x.0.items y.0.items && bytes_eq x.1.items y.1.items
+pair_test x y =
+    then_eq (slice_cmp nat_cmp x.0.items y.0.items) (slice_cmp nat_cmp x.1.items y.1.items) ∙ ap₂ (λ p q. p && q) (same_bytes x.0.items y.0.items) (same_bytes x.1.items y.1.items)
+
+-- whether the set has a key
+pub contains_is : (x : Pair) (keys : List Pair) → list_any (λ y. is_eq (pair_cmp x y)) keys ≡ has_pair keys x.0.items x.1.items
+contains_is x [] = refl
+contains_is x (y ∷ keys) = ap₂ (λ p q. p || q) (pair_test x y) (contains_is x keys)
+
+or_swap : (a b c : Bool) → a || (b || c) ≡ b || (a || c)
+or_swap true true c = refl
+or_swap true false c = refl
+or_swap false true c = refl
+or_swap false false c = refl
+
+-- a key that is not there yet
+pub inserted : (x : Pair) (keys : List Pair) (c k : List ℕ) → list_any (λ y. is_eq (pair_cmp x y)) keys ≡ false
+    → has_pair (insert_key pair_cmp keys x) c k ≡ (bytes_eq c x.0.items && bytes_eq k x.1.items) || has_pair keys c k
+inserted x [] c k new = refl
+inserted x (y ∷ keys) c k new = go (pair_cmp x y) refl (λ absent. inserted x keys c k absent)
+  where
+    here : Pair → Bool
+    here p = bytes_eq c p.0.items && bytes_eq k p.1.items
+
+    go : (o : Ordering) → pair_cmp x y ≡ o → (list_any (λ z. is_eq (pair_cmp x z)) keys ≡ false → has_pair (insert_key pair_cmp keys x) c k ≡ here x || has_pair keys c k)
+        → has_pair (insert_key pair_cmp (y ∷ keys) x) c k ≡ here x || has_pair (y ∷ keys) c k
+    go Less e more = rw e refl
+    go Equal e more = absurd (let t = rw e at new in cc)
+    go Greater e more = rw e (ap (λ b. here y || b) (more (let t = rw e at new in t)) ∙ or_swap (here y) (here x) (has_pair keys c k))
+
+any_last : (p : Doc → Bool) (docs : List Doc) (d : Doc) → list_any p (docs ++ d ∷ []) ≡ p d || list_any p docs
+any_last p [] d = refl
+any_last p (e ∷ docs) d = ap (λ b. p e || b) (any_last p docs d) ∙ or_swap (p e) (p d) (list_any p docs)
+
+-- one more row
+pub seen_more : (old new : List Pair) (docs : List Doc) (d : Doc) → HasSeen old docs → ((c k : List ℕ) → has_pair new c k ≡ (bytes_eq c d.coll && bytes_eq k d.idkey) || has_pair old c k) → HasSeen new (docs ++ d ∷ [])
+seen_more old new docs d h added c k =
+    added c k ∙ ap₂ (λ p q. p || q) (ap₂ (λ p q. p && q) (flip c d.coll) (flip k d.idkey)) (h c k) ∙ sym (any_last (is_named c k) docs d)
+
+pub was_absent : (b r : Bool) → r ≡ not b → r ≡ true → b ≡ false
+was_absent true r e t = absurd (cc)
+was_absent false r e t = refl
+
+pub ok_const : {E P : Type 0} (r : Result Bool E) → P → IfOk r (λ good. IsTrue good → P)
+ok_const (Ok b) p = λ _. p
+ok_const (Err e) p = tt

@@ -1,0 +1,91 @@
+-- What holds of any statement: a refused one leaves the table, and what a crash may leave comes from its change.
+use Rattle.std.proofs.Common.{OnErr, ◌≡◌, ◌⊎◌, inl, inr, ℕ, List, [], ◌∷◌, ◌++◌, append-nil, Bool, true, false, None, Some, Ok, Err, Result, refl, sym, ap, subst, subst₂, ◌∙◌, IsTrue, if◌then◌else◌}
+use Rattle.std.proofs.lemmas.Bool.{cases_Bool}
+use Rattle.sqlite.specs.Order.{Row}
+use Rattle.sqlite.specs.Tree.{Trees}
+use Rattle.sqlite.specs.Command.{Command}
+use Rattle.sqlite.specs.Command.TheVariants.{Commit, Release, Nothing}
+use Rattle.sqlite_resolve.specs.declared.compiled.Compiled.{Compiled}
+use Rattle.sqlite_resolve.specs.declared.error.CompileError.{CompileError}
+use Rattle.sqlite_schema.specs.declared.schema.Schema.{Schema}
+use Rattle.sqlite.specs.declared.error.Error.{Error}
+use Rattle.sqlite.specs.Listing.{understood}
+use Rattle.sqlite.specs.Effect.{Database, IsDatabase}
+use Rattle.sqlite.specs.Does.{Tally, Does}
+use Rattle.sqlite.specs.Clock.{timed}
+use Rattle.sqlite.specs.State.{HasCleanDisk, State, mode_of, Executes, ExecutesIn, IsUnchanged, IsRolledBack, IsNotRun, RunsAlone, RunsCommand, shows_rows, CommitsBy, MayCommit, MayWrite, text_of, Writes}
+use Rattle.sqlite.specs.Given.{IsPlain}
+use Rattle.sqlite.proofs.Callers.{command_of, statement_of}
+use Rattle.bson_table.specs.Schema.{documents_schema}
+use Rattle.bson_table.specs.Rows.{Doc, HasRows, Shows}
+
+pub unchanged_shows : (old new : State) (docs : List Doc) → Shows old docs → IsUnchanged old new → Shows new docs
+unchanged_shows old new docs h u = record {
+  is_open = u.0.is_open;
+  autocommit = u.0.mode ∙ h.autocommit;
+  settled = u.0.now_is ∙ h.settled ∙ sym u.0.committed_is;
+  schema = ap (λ (d : Database). d.schema) u.0.now_is ∙ h.schema;
+  table = subst (λ (d : Database). HasRows d.trees docs) (sym u.0.now_is) h.table;
+}
+
+pub undone_shows : (old new : State) (docs : List Doc) → Shows old docs → IsRolledBack old new → IsTrue new.is_open → Shows new docs
+undone_shows old new docs h u still =
+    let back = u.undone still in
+    let now : new.now ≡ old.now = back.0 ∙ sym h.settled in
+    record {
+      is_open = still;
+      autocommit = u.autocommit;
+      settled = back.0 ∙ sym back.1;
+      schema = ap (λ (d : Database). d.schema) now ∙ h.schema;
+      table = subst (λ (d : Database). HasRows d.trees docs) (sym now) h.table;
+    }
+
+-- a statement that is refused leaves the table, or the connection is shut
+pub refused_shows : (sql : List ℕ) (params : Row) (old new : State) (docs : List Doc) (e : Error) → Executes sql params old new (Err e) → Shows old docs → IsTrue new.is_open → Shows new docs
+unfolding ExecutesIn IsNotRun
+refused_shows sql params old new docs e (inl (inl not_run)) h still = unchanged_shows old new docs h not_run.1
+refused_shows sql params old new docs e (inl (inr failed)) h still = undone_shows old new docs h failed.3 still
+refused_shows sql params old new docs e (inr ran) h still = elim (cases_Bool (shows_rows false ran.0)) [
+  | inl shows ↦ unchanged_shows old new docs h (rw shows at ran.2).1
+  | inr runs ↦ elim (rw runs at ran.2) [ inl refused ↦ unchanged_shows old new docs h refused.1 | inr failed ↦ undone_shows old new docs h failed.3 still ]
+]
+
+-- What a write commits is what its command makes.
+pub commits_as : (sql : List ℕ) (params : Row) (s : State) (db : Trees) (schema : Schema) (command : Command) → s.now.schema ≡ schema → command_of (understood schema sql) ≡ command → IsPlain (understood schema sql)
+    → (command ≡ Commit → ⊥) → ((name : List ℕ) → command ≡ Release name → ⊥) → CommitsBy sql params s db
+    → (tally : Tally) × (after : Database) × Does s.step_limit (mode_of s) params s.now (statement_of sql (understood schema sql)) None command (Ok (tally, after)) × IsDatabase after × (db ≡ after.trees)
+unfolding CommitsBy
+commits_as sql params s db schema command has is plain no_commit no_release h =
+    let known = sym h.1.is ∙ ap (λ x. understood x sql) has in
+    let bare = subst IsPlain (sym known) plain in
+    let same : h.0.command ≡ command = ap command_of known ∙ is in
+    let it : MayCommit s None h.0.command (text_of sql h.0) params db = rw (bare.0, bare.1, append-nil params) at h.2 in
+    elim (subst₂ (λ k t. MayCommit s None k t params db) same (ap (statement_of sql) known) it) [
+      | inl ends ↦ absurd (elim ends.0 [ inl c ↦ no_commit c | inr r ↦ no_release r.0 r.2 ])
+      | inr w ↦ (w.1, w.2, w.3, w.4, w.5)
+    ]
+
+pub if_refused : (sql : List ℕ) (params : Row) (old new : State) (r : Result ℕ Error) → (HasCleanDisk new → Executes sql params old new r)
+    → HasCleanDisk new → (docs : List Doc) → Shows old docs → IsTrue new.is_open → OnErr r (Shows new docs)
+if_refused sql params old new r ran now docs h still = go r (ran now)
+  where
+    go : (x : Result ℕ Error) → Executes sql params old new x → OnErr x (Shows new docs)
+    go (Ok count) e = tt
+    go (Err why) e = refused_shows sql params old new docs why e h still
+
+-- a refused statement leaves the database, where no transaction is open
+pub undone_keeps : (old new : State) → (IsTrue old.is_open → old.now ≡ old.committed) → IsRolledBack old new → IsTrue new.is_open → new.now ≡ old.now
+undone_keeps old new settled u still = (u.undone still).0 ∙ sym (settled (u.was_open still))
+
+refused_keeps : (sql : List ℕ) (params : Row) (old new : State) (e : Error) → Executes sql params old new (Err e) → (IsTrue old.is_open → old.now ≡ old.committed) → IsTrue new.is_open → new.now ≡ old.now
+unfolding ExecutesIn IsNotRun
+refused_keeps sql params old new e (inl (inl not_run)) h still = not_run.1.0.now_is
+refused_keeps sql params old new e (inl (inr failed)) h still = undone_keeps old new h failed.3 still
+refused_keeps sql params old new e (inr ran) h still = elim (cases_Bool (shows_rows false ran.0)) [
+  | inl shows ↦ (rw shows at ran.2).1.0.now_is
+  | inr runs ↦ elim (rw runs at ran.2) [ inl refused ↦ refused.1.0.now_is | inr failed ↦ undone_keeps old new h failed.3 still ]
+]
+
+pub if_refused_keeps : (sql : List ℕ) (params : Row) (old new : State) (r : Result ℕ Error) → Executes sql params old new r → (IsTrue old.is_open → old.now ≡ old.committed) → OnErr r (IsTrue new.is_open → new.now ≡ old.now)
+if_refused_keeps sql params old new (Ok count) e h = tt
+if_refused_keeps sql params old new (Err why) e h = refused_keeps sql params old new why e h

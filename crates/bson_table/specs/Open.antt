@@ -1,0 +1,80 @@
+-- What an open finds.
+use Rattle.std.specs.Prelude.{◌≡◌, ◌≢◌, ◌⊎◌, ℕ, true, false, List, [], map, None, codes, Err, IsTrue}
+use Rattle.std.specs.List.{list_all}
+use Rattle.sqlite_value.specs.Order.{Row}
+use Rattle.sqlite_resolve.specs.declared.error.CompileError.{CompileError}
+use Rattle.sqlite.specs.Listing.{understood}
+use Rattle.sqlite.specs.State.{State, Shown, IsUnchanged}
+use Rattle.bson_table.specs.declared.opening.OpenError.{OpenError}
+use Rattle.bson_table.specs.declared.opening.OpenError.TheVariants.{NotAStore, BadRow, Memory, Database}
+use Rattle.sqlite_trees.specs.Tree.{Trees}
+use Rattle.sqlite_schema.specs.declared.schema.Schema.{Schema}
+use Rattle.sqlite_schema.specs.Names.{table_named, index_named, view_named}
+use Rattle.bson_table.specs.Schema.{documents_schema}
+use Rattle.bson_table.specs.Rows.{Doc, Shows, HasRows, IsBlank}
+use Rattle.bson_table.specs.Cells.{is_listed, doc_of}
+use Rattle.bson_table.specs.Check.{AreGood, IsFirstBad}
+
+abbrev pub all_text : List ℕ
+all_text = codes "SELECT place, coll, idkey, body FROM documents ORDER BY place"
+
+abbrev pub table_name : List ℕ
+table_name = codes "documents"
+
+-- the database has a table of the name
+abbrev pub HasTable : State → Type 0
+HasTable s = table_named s.now.schema table_name ≢ None
+
+abbrev pub HasNoTable : State → Type 0
+HasNoTable s = table_named s.now.schema table_name ≡ None
+
+-- a view or an index has the name
+abbrev pub IsTaken : State → Type 0
+IsTaken s = (view_named s.now.schema table_name ≢ None) ⊎ (index_named s.now.schema table_name ≢ None)
+
+-- the table is read by the four columns, with these rows, and nothing changes
+pub record Reads (old new : State) (docs : List Doc) : Type 0 where
+  pub rows : List Row
+  pub answered : Shown all_text [] old new rows
+  pub typed : list_all is_listed rows ≡ true
+  pub same : docs ≡ map doc_of rows
+  pub unchanged : IsUnchanged old new
+
+-- it can't be: a column isn't there, or a row has a value of another type
+abbrev pub ReadsNot : State → State → Type 0
+ReadsNot old new =
+    (((fault : CompileError) × (understood old.now.schema all_text ≡ Err fault)) ⊎ ((rows : List Row) × Shown all_text [] old new rows × (list_all is_listed rows ≡ false)))
+    × IsUnchanged old new
+
+-- no refusal changes a row
+abbrev pub KeepsRows : State → State → Type 0
+KeepsRows old new = IsTrue new.is_open → new.now ≡ old.now
+
+-- what an open may commit
+abbrev pub Makes : State → Trees → Type 0
+Makes old trees = HasNoTable old × (IsBlank old → HasRows trees [])
+
+module _ (accepts : List ℕ → List ℕ → List ℕ → Type 0) where
+  -- why the rows of a table are refused, and what that leaves
+  abbrev pub Refuses : State → State → OpenError → Type 0
+  Refuses old new NotAStore = ReadsNot old new
+  Refuses old new (BadRow place) = (docs : List Doc) × Reads old new docs × IsFirstBad accepts docs place
+  Refuses old new Memory = Unit {0}
+  Refuses old new Database = Unit {0}
+
+  abbrev pub Passes : State → State → Type 0
+  Passes old new = (docs : List Doc) × Reads old new docs × AreGood accepts docs
+
+  -- what an open leaves: the table made, or found with rows that a store can have written
+  pub record Opened (old new : State) : Type 0 where
+    pub made : IsBlank old → Shows new []
+    pub found : (docs : List Doc) → Shows old docs → Shows new docs × AreGood accepts docs
+    pub listed : old.now.schema ≡ documents_schema → (docs : List Doc) × Shows new docs × AreGood accepts docs × IsUnchanged old new
+    pub other : HasNoTable old ⊎ Passes old new
+
+  -- when each refusal comes
+  abbrev pub Unopened : State → State → OpenError → Type 0
+  Unopened old new NotAStore = (HasTable old × ReadsNot old new) ⊎ (HasNoTable old × IsTaken old)
+  Unopened old new (BadRow place) = HasTable old × ((docs : List Doc) × Reads old new docs × IsFirstBad accepts docs place)
+  Unopened old new Memory = Unit {0}
+  Unopened old new Database = Unit {0}

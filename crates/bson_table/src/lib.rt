@@ -1,0 +1,18 @@
+//! A table of rows over `sqlite`, seen as a list: each call is a change of that list.
+#![tactic(auto)]
+
+mod check;
+mod fault;
+mod names;
+mod opening;
+mod row;
+mod statements;
+mod table;
+mod visiting;
+
+pub use check::RowCheck;
+pub use fault::Fault;
+pub use opening::OpenError;
+pub use row::{Found, NewRow};
+pub use table::Table;
+pub use visiting::Visit;

@@ -1,0 +1,144 @@
+//! Opening a database, whose table is tested row by row.
+
+ghost use Rattle.std.specs.Prelude.{◌≡◌, ◌⊎◌, List, IsTrue, IfErr, OnOk, OnErr, is_some};
+ghost use Rattle.std.specs.List.{list_all};
+ghost use Rattle.sqlite_value.specs.Order.{column};
+ghost use Rattle.sqlite.specs.Held.{state};
+ghost use Rattle.sqlite.specs.State.{HasCleanDisk, Survives, IsLive};
+ghost use Rattle.sqlite_schema.specs.Names.{table_named, index_named, view_named};
+ghost use Rattle.bson_table.specs.Cells.{is_listed, int_in, bytes_in};
+ghost use Rattle.bson_table.specs.Open.{Refuses, Passes, Opened, Unopened, KeepsRows, Makes, table_name, HasNoTable, IsTaken};
+
+use crate::check::{RowCheck, find_bad};
+use crate::statements::create;
+use sqlite::types::ValueRef;
+use sqlite::{Alter, Connection, Error, ErrorCode, Row};
+use std::alloc::Global;
+
+/// Why a database is not opened.
+#[derive(Clone, Copy, Debug, PartialEq, Eq)]
+pub enum OpenError {
+    /// `documents` can't be read by the four columns with their types, or is no table.
+    NotAStore,
+    /// The place of the first row that a store can't have written.
+    BadRow(i64),
+    /// Memory ran out, here or in the database.
+    Memory,
+    /// The database refused: its disk, a limit on steps, an open transaction.
+    Database,
+}
+
+fn refusal(error: Error) -> OpenError
+    ensures { (result ≡ OpenError.Memory) ⊎ (result ≡ OpenError.Database) }
+{
+    match error {
+        Error::SqliteFailure(ErrorCode::OutOfMemory) => OpenError::Memory,
+        _ => OpenError::Database,
+    }
+}
+
+fn is_row(row: &Row) -> bool
+    ensures { result ≡ is_listed row.now }
+{
+    matches!(row.get_ref(0), Ok(ValueRef::Int(_)))
+        && matches!(row.get_ref(1), Ok(ValueRef::Text(_)))
+        && matches!(row.get_ref(2), Ok(ValueRef::Blob(_)))
+        && matches!(row.get_ref(3), Ok(ValueRef::Blob(_)))
+}
+
+/// The integer in a row's first column.
+pub(crate) fn place_in(row: &Row) -> i64
+    ensures { result ≡ int_in (column row.now 0) }
+{
+    match row.get_ref(0) {
+        Ok(ValueRef::Int(place)) => place,
+        _ => 0,
+    }
+}
+
+/// The bytes in a row's column.
+pub(crate) fn bytes_at(row: &Row, at: usize) -> &[u8]
+    ensures { result.now ≡ bytes_in (column row.now at) }
+{
+    match row.get_ref(at) {
+        Ok(ValueRef::Text(bytes)) | Ok(ValueRef::Blob(bytes)) => bytes,
+        _ => &[],
+    }
+}
+
+fn are_rows(rows: &[Row]) -> bool
+    ensures { result ≡ list_all is_listed rows.now }
+{
+    rows.iter().all(|row| is_row(row))
+}
+
+/// Reads the whole table, and tests each row.
+fn survey<S: Alter, C: RowCheck>(
+    alloc: Global,
+    conn: &mut Connection<S>,
+    check: &C,
+) -> Result<(), OpenError>
+    ensures read { HasCleanDisk (state S.Store conn.new) → OnOk result (Passes (C.accepts check.now) (state S.Store conn.old) (state S.Store conn.new)) }
+    ensures refused { HasCleanDisk (state S.Store conn.new) → IfErr result (λ e. Refuses (C.accepts check.now) (state S.Store conn.old) (state S.Store conn.new) e) }
+    ensures kept { HasCleanDisk (state S.Store conn.new) → (IsTrue (state S.Store conn.old).is_open → (state S.Store conn.old).now ≡ (state S.Store conn.old).committed)
+        → OnErr result (KeepsRows (state S.Store conn.old) (state S.Store conn.new)) }
+    ensures crash { Survives (state S.Store conn.old) (state S.Store conn.new) (λ _. ⊥) }
+{
+    let rows = match conn.query_all(
+        "SELECT place, coll, idkey, body FROM documents ORDER BY place",
+        &[],
+    ) {
+        Ok(rows) => rows,
+        Err(Error::SqlInputError(_)) => return Err(OpenError::NotAStore),
+        Err(error) => return Err(refusal(error)),
+    };
+    if !are_rows(rows.as_slice()) {
+        return Err(OpenError::NotAStore);
+    }
+    match find_bad(alloc, rows.as_slice(), check) {
+        Ok(None) => Ok(()),
+        Ok(Some(place)) => Err(OpenError::BadRow(place)),
+        Err(_) => Err(OpenError::Memory),
+    }
+}
+
+/// Makes the table where the database has no object of the name, and tests it where it has.
+pub(crate) fn prepare<S: Alter, C: RowCheck>(
+    alloc: Global,
+    conn: &mut Connection<S>,
+    check: &C,
+) -> Result<(), OpenError>
+    ensures opened { HasCleanDisk (state S.Store conn.new) → OnOk result (Opened (C.accepts check.now) (state S.Store conn.old) (state S.Store conn.new)) }
+    ensures refused { HasCleanDisk (state S.Store conn.new) → IfErr result (λ e. Unopened (C.accepts check.now) (state S.Store conn.old) (state S.Store conn.new) e) }
+    ensures kept { HasCleanDisk (state S.Store conn.new) → OnErr result (KeepsRows (state S.Store conn.old) (state S.Store conn.new)) }
+    ensures crash { Survives (state S.Store conn.old) (state S.Store conn.new) (Makes (state S.Store conn.old)) }
+{
+    if !conn.is_autocommit() {
+        return Err(OpenError::Database);
+    }
+    if has_table(conn) {
+        return survey(alloc, conn, check);
+    }
+    if is_taken(conn) {
+        return Err(OpenError::NotAStore);
+    }
+    match create(conn) {
+        Ok(_) => Ok(()),
+        Err(error) => Err(refusal(error)),
+    }
+}
+
+fn has_table<S: Alter>(conn: &Connection<S>) -> bool
+    ensures there { result ≡ is_some (table_named (state S.Store conn.now).now.schema table_name) }
+    ensures live { IsLive (state S.Store conn.now) }
+{
+    conn.schema().table_named(b"documents").is_some()
+}
+
+/// Whether a view or an index has the name.
+fn is_taken<S: Alter>(conn: &Connection<S>) -> bool
+    ensures { IsTrue result → IsTaken (state S.Store conn.now) }
+{
+    let schema = conn.schema();
+    schema.view_named(b"documents").is_some() || schema.index_named(b"documents").is_some()
+}

@@ -1,0 +1,165 @@
+//! The statements, each with what it does to the rows.
+
+ghost use Rattle.std.specs.Prelude.{◌≡◌, ◌≢◌, ◌+ℤ◌, ◌<ℤ◌, ◌^◌, pos, length, List, [], ◌∷◌, ◌++◌, map, filter, IsTrue, IfOk, OnOk, OnErr, MatchOption};
+ghost use Rattle.sqlite.specs.declared.types.Value.TheVariants.{Int, Blob};
+ghost use Rattle.sqlite.specs.Held.{state};
+ghost use Rattle.sqlite.specs.State.{HasCleanDisk, Survives};
+ghost use Rattle.bson_table.specs.Rows.{Doc, IsBlank, AreBelow, HasRows, Shows, Inside, Keeps, docs_from, without, replaced, is_named, last_place};
+ghost use Rattle.bson_table.specs.Moves.{Stands};
+ghost use Rattle.bson_table.specs.Visit.{IsRead};
+ghost use Rattle.bson_table.specs.Written.{IsWritten};
+
+use crate::opening::place_in;
+use crate::row::NewRow;
+use sqlite::types::ValueRef;
+use sqlite::{Alter, Connection, Error, ErrorCode, Row, Transaction};
+
+/// Makes the table in a database that has none.
+pub(crate) fn create<S: Alter>(conn: &mut Connection<S>) -> Result<usize, Error>
+    ensures made { HasCleanDisk (state S.Store conn.new) → IsBlank (state S.Store conn.old) → OnOk result (Shows (state S.Store conn.new) []) }
+    ensures refused { HasCleanDisk (state S.Store conn.new) → (IsTrue (state S.Store conn.old).is_open → (state S.Store conn.old).now ≡ (state S.Store conn.old).committed)
+        → OnErr result (IsTrue (state S.Store conn.new).is_open → (state S.Store conn.new).now ≡ (state S.Store conn.old).now) }
+    ensures crash { Survives (state S.Store conn.old) (state S.Store conn.new) (λ trees. IsBlank (state S.Store conn.old) → HasRows trees []) }
+{
+    conn.execute(
+        "CREATE TABLE documents (place INTEGER PRIMARY KEY, coll TEXT NOT NULL, idkey BLOB NOT NULL, body BLOB NOT NULL, UNIQUE (coll, idkey)) STRICT",
+        &[],
+    )
+}
+
+/// Adds a row after all others.
+pub(crate) fn add<'a, S: Alter>(
+    conn: &mut Connection<S>,
+    place: i64,
+    coll: &'a str,
+    idkey: &'a [u8],
+    body: &'a [u8],
+) -> Result<usize, Error>
+    requires last { HasCleanDisk (state S.Store conn.old) → (docs : List Doc) → Shows (state S.Store conn.old) docs → AreBelow place docs }
+    ensures written { HasCleanDisk (state S.Store conn.new) → IsTrue (state S.Store conn.old).is_open
+        → IsWritten (state S.Store conn.old) (state S.Store conn.new) (λ docs. docs ++ record { place = place; coll = coll.now; idkey = idkey.now; body = body.now } ∷ []) result }
+    ensures crash { Survives (state S.Store conn.old) (state S.Store conn.new)
+        (λ trees. (docs : List Doc) → Shows (state S.Store conn.old) docs → HasRows trees (docs ++ record { place = place; coll = coll.now; idkey = idkey.now; body = body.now } ∷ [])) }
+{
+    conn.execute(
+        "INSERT INTO documents (place, coll, idkey, body) VALUES (?1, ?2, ?3, ?4)",
+        &[
+            ValueRef::Int(place),
+            ValueRef::Text(coll.as_bytes()),
+            ValueRef::Blob(idkey),
+            ValueRef::Blob(body),
+        ],
+    )
+}
+
+/// Removes the row at a place.
+pub(crate) fn remove_at<S: Alter>(conn: &mut Connection<S>, place: i64) -> Result<usize, Error>
+    ensures written { HasCleanDisk (state S.Store conn.new) → IsWritten (state S.Store conn.old) (state S.Store conn.new) (without place) result }
+    ensures crash { Survives (state S.Store conn.old) (state S.Store conn.new) (λ trees. (docs : List Doc) → Stands (state S.Store conn.old) docs → HasRows trees (without place docs)) }
+{
+    let statement = conn.prepare("DELETE FROM documents WHERE place = ?1")?;
+    statement.execute(conn, &[ValueRef::Int(place)])
+}
+
+/// Puts another body at a place.
+pub(crate) fn rewrite_at<S: Alter>(
+    conn: &mut Connection<S>,
+    place: i64,
+    body: &[u8],
+) -> Result<usize, Error>
+    ensures written { HasCleanDisk (state S.Store conn.new) → IsWritten (state S.Store conn.old) (state S.Store conn.new) (replaced place body.now) result }
+    ensures crash { Survives (state S.Store conn.old) (state S.Store conn.new) (λ trees. (docs : List Doc) → Stands (state S.Store conn.old) docs → HasRows trees (replaced place body.now docs)) }
+{
+    let statement = conn.prepare("UPDATE documents SET body = ?2 WHERE place = ?1")?;
+    statement.execute(conn, &[ValueRef::Int(place), ValueRef::Blob(body)])
+}
+
+/// The places and bodies of the rows with this collection and key, in order of place.
+pub(crate) fn named<'a, S: Alter>(
+    conn: &mut Connection<S>,
+    coll: &'a str,
+    idkey: &'a [u8],
+) -> Result<Vec<Row>, Error>
+    ensures rows { HasCleanDisk (state S.Store conn.new) → (docs : List Doc) → Shows (state S.Store conn.old) docs
+        → IfOk result (λ rows. rows.items ≡ map (λ d. Int d.place ∷ Blob d.body ∷ []) (filter (is_named coll.now idkey.now) docs)) }
+    ensures read { HasCleanDisk (state S.Store conn.new) → IsRead (state S.Store conn.old) (state S.Store conn.new) result }
+    ensures crash { Survives (state S.Store conn.old) (state S.Store conn.new) (λ _. ⊥) }
+{
+    conn.query_all(
+        "SELECT place, body FROM documents WHERE coll = ?1 AND idkey = ?2 ORDER BY place",
+        &[ValueRef::Text(coll.as_bytes()), ValueRef::Blob(idkey)],
+    )
+}
+
+/// The greatest place, or 0 of a table with no rows.
+pub(crate) fn greatest<S: Alter>(conn: &mut Connection<S>) -> Result<i64, Error>
+    ensures place { HasCleanDisk (state S.Store conn.new) → (docs : List Doc) → Shows (state S.Store conn.old) docs → IfOk result (λ place. place ≡ last_place docs) }
+    ensures read { HasCleanDisk (state S.Store conn.new) → IsRead (state S.Store conn.old) (state S.Store conn.new) result }
+    ensures crash { Survives (state S.Store conn.old) (state S.Store conn.new) (λ _. ⊥) }
+{
+    match conn.query_row("SELECT place FROM documents ORDER BY place DESC LIMIT 1", &[]) {
+        Ok(row) => Ok(place_in(&row)),
+        Err(Error::QueryReturnedNoRows) => Ok(0),
+        Err(error) => Err(error),
+    }
+}
+
+/// Adds a row after all others, in a transaction.
+fn put<'a, 't, S: Alter>(
+    tx: &mut Transaction<'t, S>,
+    place: i64,
+    coll: &'a str,
+    idkey: &'a [u8],
+    body: &'a [u8],
+) -> Result<usize, Error>
+    ensures same_reference { tx.new.conn.ghost_name ≡ tx.old.conn.ghost_name }
+    ensures added { HasCleanDisk (state S.Store tx.new.conn.now) → (first docs : List Doc) → Inside (state S.Store tx.old.conn.now) first docs → AreBelow place docs
+        → OnOk result (Inside (state S.Store tx.new.conn.now) first (docs ++ record { place = place; coll = coll.now; idkey = idkey.now; body = body.now } ∷ [])) }
+    ensures refused { HasCleanDisk (state S.Store tx.new.conn.now) → (first docs : List Doc) → Inside (state S.Store tx.old.conn.now) first docs
+        → IsTrue (state S.Store tx.new.conn.now).is_open → OnErr result (Keeps (state S.Store tx.new.conn.now) first) }
+    ensures crash { Survives (state S.Store tx.old.conn.now) (state S.Store tx.new.conn.now) (λ _. ⊥) }
+{
+    tx.execute(
+        "INSERT INTO documents (place, coll, idkey, body) VALUES (?1, ?2, ?3, ?4)",
+        &[
+            ValueRef::Int(place),
+            ValueRef::Text(coll.as_bytes()),
+            ValueRef::Blob(idkey),
+            ValueRef::Blob(body),
+        ],
+    )
+}
+
+/// Adds rows to a collection, after the last place: all of them, or none.
+pub(crate) fn add_all<S: Alter>(
+    conn: &mut Connection<S>,
+    last: i64,
+    coll: &str,
+    rows: &[NewRow],
+) -> Result<(), Error>
+    requires fits { (last +ℤ pos (length rows.now)) <ℤ pos (2 ^ 63) }
+    requires last { HasCleanDisk (state S.Store conn.old) → (docs : List Doc) → Shows (state S.Store conn.old) docs → AreBelow (last +ℤ pos 1) docs }
+    ensures added { HasCleanDisk (state S.Store conn.new) → (docs : List Doc) → Shows (state S.Store conn.old) docs
+        → OnOk result (Shows (state S.Store conn.new) (docs ++ docs_from (last +ℤ pos 1) coll.now rows.now)) }
+    ensures refused { HasCleanDisk (state S.Store conn.new) → (docs : List Doc) → Shows (state S.Store conn.old) docs
+        → IsTrue (state S.Store conn.new).is_open → OnErr result (Shows (state S.Store conn.new) docs) }
+    ensures crash { Survives (state S.Store conn.old) (state S.Store conn.new)
+        (λ trees. (docs : List Doc) → Shows (state S.Store conn.old) docs → HasRows trees (docs ++ docs_from (last +ℤ pos 1) coll.now rows.now)) }
+{
+    if !conn.is_autocommit() {
+        return Err(Error::SqliteFailure(ErrorCode::TransactionState));
+    }
+    let mut tx = conn.transaction();
+    let mut place = last;
+    for row in rows {
+        place += 1;
+        put(
+            &mut tx,
+            place,
+            coll,
+            row.idkey.as_slice(),
+            row.body.as_slice(),
+        )?;
+    }
+    tx.commit()
+}

@@ -1,0 +1,185 @@
+//! The table: a list of rows, of which each call is a change.
+
+ghost use Rattle.std.specs.Prelude.{◌≡◌, length, false, IfOk, IfErr, IsErrOf};
+ghost use Rattle.sqlite.specs.Held.{state};
+ghost use Rattle.sqlite.specs.State.{HasCleanDisk, Survives};
+ghost use Rattle.bson_table.specs.Rows.{without, replaced};
+ghost use Rattle.bson_table.specs.Moves.{Moves, WasOpen, MayLeave, Settles, Finds, Changes, Appends, Lists, Visits, appended, all_appended};
+ghost use Rattle.bson_table.specs.Open.{Opened, Unopened, KeepsRows, Makes};
+ghost use Rattle.sqlite_value.specs.Order.{column};
+ghost use Rattle.bson_table.specs.Cells.{int_in, bytes_in};
+
+use crate::check::RowCheck;
+use crate::fault::Fault;
+use crate::names::Names;
+use crate::opening::{OpenError, bytes_at, place_in, prepare};
+use crate::row::{Found, NewRow};
+use crate::statements;
+use crate::visiting::{Visit, visit_values};
+use sqlite::types::ValueRef;
+use sqlite::{Alter, Connection, Row};
+use std::alloc::{AllocError, Global};
+use std::collections::BTreeSet;
+
+/// A table of rows in a database: each row has a place, a collection, a written key and a body.
+///
+/// Every call is refused once the connection is shut, which a fault of the disk may do.
+#[derive(Drop)]
+pub struct Table<S: Alter> {
+    conn: Connection<S>,
+    alloc: Global,
+}
+
+impl<S: Alter + Drop> Table<S> {
+    ghost use Rattle.bson_table.specs.Table.{connection_of, state_of};
+
+    /// Opens the table, which is made where the database has none. A refusal gives the connection back, with its rows as they were.
+    pub fn open<C: RowCheck>(
+        alloc: Global,
+        mut connection: Connection<S>,
+        check: &C,
+    ) -> Result<Table<S>, (OpenError, Connection<S>)>
+        ensures opened { IfOk result (λ t. HasCleanDisk (state_of S.Store t) → Opened (C.accepts check.now) (state S.Store connection) (state_of S.Store t)) }
+        ensures refused { IfErr result (λ e. HasCleanDisk (state S.Store e.1) → Unopened (C.accepts check.now) (state S.Store connection) (state S.Store e.1) e.0) }
+        ensures kept { IfErr result (λ e. HasCleanDisk (state S.Store e.1) → KeepsRows (state S.Store connection) (state S.Store e.1)) }
+        ensures crash { IfOk result (λ t. Survives (state S.Store connection) (state_of S.Store t) (Makes (state S.Store connection))) }
+        ensures crash_refused { IfErr result (λ e. Survives (state S.Store connection) (state S.Store e.1) (Makes (state S.Store connection))) }
+    {
+        match prepare(alloc, &mut connection, check) {
+            Ok(()) => Ok(Table {
+                conn: connection,
+                alloc,
+            }),
+            Err(error) => Err((error, connection)),
+        }
+    }
+
+    /// Gives the connection back.
+    pub fn close(self) -> Connection<S>
+        ensures { result ≡ connection_of self }
+    {
+        let Table { conn, alloc: _ } = self;
+        conn
+    }
+
+    /// The first row of the collection with this key.
+    pub fn named(&mut self, coll: &str, idkey: &[u8]) -> Result<Option<Found>, Fault>
+        ensures moves { Moves (state_of S.Store self.old) (state_of S.Store self.new) (Finds coll.now idkey.now result) }
+        ensures open { WasOpen (state_of S.Store self.old) (state_of S.Store self.new) result }
+        ensures crash { Survives (state_of S.Store self.old) (state_of S.Store self.new) (λ _. ⊥) }
+    {
+        let rows = statements::named(&mut self.conn, coll, idkey)?;
+        match rows.first() {
+            Some(row) => Ok(Some(found_in(self.alloc, row)?)),
+            None => Ok(None),
+        }
+    }
+
+    /// Adds a row to the collection, at the place after the greatest one.
+    pub fn append(&mut self, coll: &str, idkey: &[u8], body: &[u8]) -> Result<(), Fault>
+        ensures moves { Moves (state_of S.Store self.old) (state_of S.Store self.new) (Appends 1 (appended coll.now idkey.now body.now) result) }
+        ensures open { WasOpen (state_of S.Store self.old) (state_of S.Store self.new) result }
+        ensures crash { Survives (state_of S.Store self.old) (state_of S.Store self.new) (MayLeave (appended coll.now idkey.now body.now) (state_of S.Store self.old)) }
+        ensures settled { Settles (appended coll.now idkey.now body.now) (state_of S.Store self.old) (state_of S.Store self.new) result }
+        ensures full { IsErrOf result Fault.Places → Survives (state_of S.Store self.old) (state_of S.Store self.new) (λ _. ⊥) }
+    {
+        let last = statements::greatest(&mut self.conn)?;
+        let Some(place) = last.checked_add(1) else {
+            return Err(Fault::Places);
+        };
+        statements::add(&mut self.conn, place, coll, idkey, body)?;
+        Ok(())
+    }
+
+    /// Adds rows to the collection, at the places after the greatest one: all of them or, where the call is refused, none.
+    pub fn append_all(&mut self, coll: &str, rows: &[NewRow]) -> Result<(), Fault>
+        ensures moves { Moves (state_of S.Store self.old) (state_of S.Store self.new) (Appends (length rows.now) (all_appended coll.now rows.now) result) }
+        ensures open { WasOpen (state_of S.Store self.old) (state_of S.Store self.new) result }
+        ensures crash { Survives (state_of S.Store self.old) (state_of S.Store self.new) (MayLeave (all_appended coll.now rows.now) (state_of S.Store self.old)) }
+        ensures settled { Settles (all_appended coll.now rows.now) (state_of S.Store self.old) (state_of S.Store self.new) result }
+        ensures full { IsErrOf result Fault.Places → Survives (state_of S.Store self.old) (state_of S.Store self.new) (λ _. ⊥) }
+    {
+        let last = statements::greatest(&mut self.conn)?;
+        if last.checked_add(rows.len() as i64).is_none() {
+            return Err(Fault::Places);
+        }
+        statements::add_all(&mut self.conn, last, coll, rows)?;
+        Ok(())
+    }
+
+    /// Puts another body in the place of a row's.
+    pub fn rewrite_at(&mut self, found: &Found, body: &[u8]) -> Result<(), Fault>
+        ensures moves { Moves (state_of S.Store self.old) (state_of S.Store self.new) (Changes (replaced found.now.place body.now) result) }
+        ensures open { WasOpen (state_of S.Store self.old) (state_of S.Store self.new) result }
+        ensures crash { Survives (state_of S.Store self.old) (state_of S.Store self.new) (MayLeave (replaced found.now.place body.now) (state_of S.Store self.old)) }
+        ensures settled { Settles (replaced found.now.place body.now) (state_of S.Store self.old) (state_of S.Store self.new) result }
+    {
+        statements::rewrite_at(&mut self.conn, found.place, body)?;
+        Ok(())
+    }
+
+    /// Removes a row. The others keep their places.
+    pub fn remove_at(&mut self, found: &Found) -> Result<(), Fault>
+        ensures moves { Moves (state_of S.Store self.old) (state_of S.Store self.new) (Changes (without found.now.place) result) }
+        ensures open { WasOpen (state_of S.Store self.old) (state_of S.Store self.new) result }
+        ensures crash { Survives (state_of S.Store self.old) (state_of S.Store self.new) (MayLeave (without found.now.place) (state_of S.Store self.old)) }
+        ensures settled { Settles (without found.now.place) (state_of S.Store self.old) (state_of S.Store self.new) result }
+    {
+        statements::remove_at(&mut self.conn, found.place)?;
+        Ok(())
+    }
+
+    /// The collections that have a row, ascending by the bytes of their names.
+    pub fn collections(&mut self) -> Result<BTreeSet<Vec<u8>>, Fault>
+        ensures moves { Moves (state_of S.Store self.old) (state_of S.Store self.new) (Lists result) }
+        ensures open { WasOpen (state_of S.Store self.old) (state_of S.Store self.new) result }
+        ensures crash { Survives (state_of S.Store self.old) (state_of S.Store self.new) (λ _. ⊥) }
+    {
+        let mut visitor = Names {
+            names: BTreeSet::new(self.alloc),
+            failed: false,
+            alloc: self.alloc,
+        };
+        let ended = visit_values(
+            &mut self.conn,
+            "SELECT coll FROM documents ORDER BY place",
+            &[],
+            &mut visitor,
+        )?;
+        let Names {
+            names,
+            failed,
+            alloc: _,
+        } = visitor;
+        if failed || !ended {
+            return Err(Fault::Memory);
+        }
+        Ok(names)
+    }
+
+    /// Hands each body of a collection to a visitor, in order of place, until it asks for no more: one row is read at a
+    /// time, outside any transaction. True: all were taken. Other calls come after it only.
+    pub fn visit_bodies<V: Visit>(&mut self, coll: &str, visitor: &mut V) -> Result<bool, Fault>
+        ensures moves { Moves (state_of S.Store self.old) (state_of S.Store self.new) (Visits V.took visitor.old visitor.new coll.now result) }
+        ensures stopped { IfOk result (λ all. all ≡ false → V.is_done visitor.new) }
+        ensures open { WasOpen (state_of S.Store self.old) (state_of S.Store self.new) result }
+        ensures crash { Survives (state_of S.Store self.old) (state_of S.Store self.new) (λ _. ⊥) }
+    {
+        let all = visit_values(
+            &mut self.conn,
+            "SELECT body FROM documents WHERE +coll = ?1 ORDER BY place",
+            &[ValueRef::Text(coll.as_bytes())],
+            visitor,
+        )?;
+        Ok(all)
+    }
+}
+
+fn found_in(alloc: Global, row: &Row) -> Result<Found, AllocError>
+    ensures { IfOk result (λ f. (f.place ≡ int_in (column row.now 0)) × (f.body.items ≡ bytes_in (column row.now 1))) }
+{
+    Ok(Found {
+        place: place_in(row),
+        body: Vec::from_slice(alloc, bytes_at(row, 1))?,
+    })
+}
