@@ -1,14 +1,14 @@
 //! Laws of meaning. Each function below does nothing, and its contract is the law. It is said of sound values: their numbers
 //! and texts are those of their kinds, and no key stands twice. Every value at hand is sound, which `soundness` tells.
 
-ghost use Rattle.std.specs.Prelude.{◌≡◌, ◌↔◌, ◌≤◌, List, ℕ, length};
+ghost use Rattle.std.specs.Prelude.{◌≡◌, ◌↔◌, ◌≤◌, ◌⊎◌, List, ℕ, length};
 ghost use Rattle.bson_base.specs.Kinds.{IsClean, IsPlain, IsSound};
-ghost use Rattle.bson_base.specs.Value.{document, levels, Members, Value};
+ghost use Rattle.bson_base.specs.Value.{document, levels, member, Members, no_members, Value};
 ghost use Rattle.bson_bytes.specs.Encode.{size};
 ghost use Rattle.bson_bytes.specs.Spells.{Means};
 ghost use Rattle.bson_model.specs.Equal.{Equal};
-ghost use Rattle.bson_meaning.specs.Gate.{IsRefused, level_limit, Passes};
-ghost use Rattle.bson_meaning.specs.Meaning.{norm, norm_members, asc_members, key, Same};
+ghost use Rattle.bson_meaning.specs.Gate.{IsFaultyOrDeep, IsRefused, level_limit, Passes};
+ghost use Rattle.bson_meaning.specs.Meaning.{asc, norm, norm_members, asc_members, key, Same};
 ghost use Rattle.bson_meaning.specs.declared.reading.GateError.{GateError};
 
 pub use crate::json_laws::{
@@ -47,12 +47,28 @@ pub fn keys_keep_sizes()
     ensures trees { (d : Members) → IsClean (document d) → IsSound (document d) → size (asc_members (norm_members d)) ≡ size d }
 {}
 
-/// Bytes that pass the gate are refused by no test: where a fault or too many levels are told, they stand.
+/// Bytes that pass the gate are refused by no test: where a fault or too many levels are told, they stand. Bytes that don't
+/// pass are refused in one way, but that of `Faulty` and `TooDeep` either is told where both stand.
 pub fn one_answer_of_the_gate()
-    ensures { (bytes : List ℕ) (error : GateError) → Passes bytes → IsRefused bytes error → ⊥ }
+    ensures passes { (bytes : List ℕ) (error : GateError) → Passes bytes → IsRefused bytes error → ⊥ }
+    ensures refused { (bytes : List ℕ) (e f : GateError) → IsRefused bytes e → IsRefused bytes f
+        → (e ≡ f) ⊎ (IsFaultyOrDeep e × IsFaultyOrDeep f) }
 {}
 
-/// Bytes that pass the gate mean a document of at most 100 levels.
+/// Bytes that pass the gate mean a document, and the document that they mean has at most 100 levels.
 pub fn passing_means()
-    ensures { (bytes : List ℕ) → Passes bytes → (d : Members) × Means bytes d × (levels (document d) ≤ level_limit) }
+    ensures some { (bytes : List ℕ) → Passes bytes → (d : Members) × Means bytes d }
+    ensures low { (bytes : List ℕ) (d : Members) → Passes bytes → Means bytes d → levels (document d) ≤ level_limit }
+{}
+
+/// What means the same as a plain value is plain. Two documents of one member each, under one key, mean the same exactly where
+/// their values do.
+pub fn same_values()
+    ensures plain { (v w : Value) → IsSound v → IsSound w → Same v w → IsPlain w → IsPlain v }
+    ensures under { (k : List ℕ) (v w : Value) → Same (document (member k v no_members)) (document (member k w no_members)) ↔ Same v w }
+{}
+
+/// The normal form of a plain value, with its keys in order, is clean.
+pub fn normal_forms_are_clean()
+    ensures { (v : Value) → IsPlain v → IsSound v → IsClean (asc (norm v)) }
 {}
