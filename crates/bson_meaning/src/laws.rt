@@ -1,7 +1,7 @@
 //! Laws of meaning. Each function below does nothing, and its contract is the law. It is said of sound values: their numbers
 //! and texts are those of their kinds, and no key stands twice. Every value at hand is sound, which `soundness` tells.
 
-ghost use Rattle.std.specs.Prelude.{◌≡◌, ◌↔◌, ◌≤◌, ◌⊎◌, List, ℕ, length};
+ghost use Rattle.std.specs.Prelude.{◌≡◌, ◌↔◌, ◌≤◌, ◌⊎◌, IsTrue, List, ℕ, length};
 ghost use Rattle.bson_base.specs.Kinds.{IsClean, IsPlain, IsSound};
 ghost use Rattle.bson_base.specs.Value.{document, levels, member, Members, no_members, Value};
 ghost use Rattle.bson_bytes.specs.Encode.{size};
@@ -9,13 +9,17 @@ ghost use Rattle.bson_bytes.specs.Spells.{Means};
 ghost use Rattle.bson_model.specs.Equal.{Equal};
 ghost use Rattle.bson_meaning.specs.Gate.{IsFaultyOrDeep, IsRefused, level_limit, Passes};
 ghost use Rattle.bson_meaning.specs.Meaning.{asc, norm, norm_members, asc_members, key, Same};
-ghost use Rattle.bson_meaning.specs.declared.reading.GateError.{GateError};
+ghost use Rattle.bson_meaning.specs.declared.key.KeyError.{KeyError as AnyKeyError};
+ghost use Rattle.bson_meaning.specs.declared.reading.GateError.{GateError as AnyGateError};
 
 pub use crate::json_laws::{
     canonical_trees_read_back, maps_are_json, normal_forms_are_written_alike, readings_are_sound,
     trees_go_by_meaning, values_are_json,
 };
 pub use crate::sound::{soundness, soundness_of_document};
+
+use crate::key::KeyError;
+use crate::reading::GateError;
 
 /// Meaning the same is an equivalence.
 pub fn same_is_an_equivalence()
@@ -50,8 +54,8 @@ pub fn keys_keep_sizes()
 /// Bytes that pass the gate are refused by no test: where a fault or too many levels are told, they stand. Bytes that don't
 /// pass are refused in one way, but that of `Faulty` and `TooDeep` either is told where both stand.
 pub fn one_answer_of_the_gate()
-    ensures passes { (bytes : List ℕ) (error : GateError) → Passes bytes → IsRefused bytes error → ⊥ }
-    ensures refused { (bytes : List ℕ) (e f : GateError) → IsRefused bytes e → IsRefused bytes f
+    ensures passes { (bytes : List ℕ) (error : AnyGateError) → Passes bytes → IsRefused bytes error → ⊥ }
+    ensures refused { (bytes : List ℕ) (e f : AnyGateError) → IsRefused bytes e → IsRefused bytes f
         → (e ≡ f) ⊎ (IsFaultyOrDeep e × IsFaultyOrDeep f) }
 {}
 
@@ -71,4 +75,10 @@ pub fn same_values()
 /// The normal form of a plain value, with its keys in order, is clean.
 pub fn normal_forms_are_clean()
     ensures { (v : Value) → IsPlain v → IsSound v → IsClean (asc (norm v)) }
+{}
+
+/// Errors are equal where they are one.
+pub fn equal_errors()
+    ensures keys { (x y : AnyKeyError) → IsTrue (⟦<KeyError as PartialEq>⟧.eq x y) ↔ (x ≡ y) }
+    ensures gate { (x y : AnyGateError) → IsTrue (⟦<GateError as PartialEq>⟧.eq x y) ↔ (x ≡ y) }
 {}
