@@ -9,8 +9,6 @@ mod digits;
 mod parse;
 mod parts;
 mod print;
-#[cfg(test)]
-mod tests;
 
 use parse::read_decimal;
 use parts::{Parts, bytes_of_number, number_of_bytes};

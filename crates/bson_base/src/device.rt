@@ -212,6 +212,3 @@ pub fn read_full<S: Source>(source: &mut S, buf: &mut [u8]) -> Result<usize, Dev
     }
     Ok(at)
 }
-
-#[cfg(test)]
-mod tests;

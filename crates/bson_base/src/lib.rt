@@ -26,6 +26,3 @@ pub use regex::Regex;
 pub use spec::{BinarySubtype, ElementType};
 pub use timestamp::Timestamp;
 pub use uuid::Uuid;
-
-#[cfg(test)]
-mod tests;

@@ -188,6 +188,3 @@ impl fmt::Debug for ObjectId {
         write!(f, "ObjectId(\"{self}\")")
     }
 }
-
-#[cfg(test)]
-mod tests;

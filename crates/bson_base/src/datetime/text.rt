@@ -193,6 +193,3 @@ impl fmt::Display for DateTime {
         write_date(f, self.0)
     }
 }
-
-#[cfg(test)]
-mod tests;

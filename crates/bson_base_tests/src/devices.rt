@@ -1,0 +1,103 @@
+//! Reads and writes over devices that give little, take little, or fail.
+
+use bson_base::faulty::{FaultySink, FaultySource};
+use bson_base::{Counted, DeviceFault, Sink, SliceSource, Source, VecSink, read_full, write_all};
+
+const BYTES: &[u8] = b"abcde";
+
+#[test]
+fn slices(rt: HostRuntime) {
+    let mut source = SliceSource::new(BYTES);
+    let mut buf = [0; 3];
+    assert_eq!(rt; source.read(&mut buf), Ok(3));
+    assert_eq!(rt; &buf, b"abc");
+}
+
+#[test]
+fn ends_of_slices(rt: HostRuntime) {
+    let mut source = SliceSource::new(BYTES);
+    let mut buf = [0; 3];
+    let first = source.read(&mut buf);
+    let none = source.read(&mut []);
+    let second = source.read(&mut buf);
+    assert_eq!(rt; &buf, b"dec");
+    let end = source.read(&mut buf);
+    assert_eq!(rt; [first, none, second, end], [Ok(3), Ok(0), Ok(2), Ok(0)]);
+}
+
+#[test]
+fn a_slow_read(rt: HostRuntime) {
+    let mut source = FaultySource::new(BYTES, 100);
+    let mut buf = [0; 8];
+    let read = read_full(&mut source, &mut buf);
+    assert_eq!(rt; &buf, b"abcde\0\0\0");
+    assert_eq!(rt; (read, source.failed), (Ok(5), 0));
+}
+
+#[test]
+fn a_read_before_the_failure(rt: HostRuntime) {
+    let mut source = FaultySource::new(BYTES, 4);
+    let mut buf = [0; 3];
+    let read = read_full(&mut source, &mut buf);
+    assert_eq!(rt; &buf, b"abc");
+    assert_eq!(rt; (read, source.failed), (Ok(3), 0));
+}
+
+#[test]
+fn a_failing_read(rt: HostRuntime) {
+    let mut source = FaultySource::new(BYTES, 4);
+    let mut buf = [0; 3];
+    let before = read_full(&mut source, &mut buf);
+    let failing = read_full(&mut source, &mut buf);
+    assert_eq!(rt; (before, failing), (Ok(3), Err(DeviceFault)));
+    assert_eq!(rt; (source.at, source.failed), (4, 1));
+}
+
+#[test]
+fn writes_to_memory(rt: HostRuntime) {
+    let mut sink = VecSink::new(rt.alloc());
+    let some = write_all(&mut sink, b"abc");
+    let none = write_all(&mut sink, b"");
+    assert_eq!(rt; (some, none, sink.failed), (Ok(()), Ok(()), 0));
+    assert_eq!(rt; sink.bytes.as_slice(), b"abc".as_slice());
+}
+
+#[test]
+fn slow_and_failing_writes(rt: HostRuntime) {
+    let mut sink = FaultySink::new(rt.alloc(), 4);
+    let before = write_all(&mut sink, b"abc");
+    let failing = write_all(&mut sink, b"def");
+    assert_eq!(rt;
+        (before, failing, sink.failed),
+        (Ok(()), Err(DeviceFault), 1)
+    );
+    assert_eq!(rt; sink.bytes.as_slice(), b"abcd".as_slice());
+}
+
+#[test]
+fn readers_of_std(rt: HostRuntime) {
+    let mut source = Counted::new(BYTES);
+    let mut buf = [0; 8];
+    let read = read_full(&mut source, &mut buf);
+    assert_eq!(rt; (read, source.failed), (Ok(5), 0));
+}
+
+#[test]
+fn writers_of_std(rt: HostRuntime) {
+    let mut sink = Counted::new(Vec::new(rt.alloc()));
+    let written = write_all(&mut sink, BYTES);
+    assert_eq!(rt; written, Ok(()));
+    assert_eq!(rt; sink.device.as_slice(), BYTES);
+}
+
+#[test]
+fn a_full_writer_of_std(rt: HostRuntime) {
+    let mut room = [0; 3];
+    let mut full = Counted::new(&mut room[..]);
+    let before = full.write(BYTES);
+    let failing = full.write(BYTES);
+    assert_eq!(rt;
+        (before, failing, full.failed),
+        (Ok(3), Err(DeviceFault), 1)
+    );
+}
