@@ -16,10 +16,9 @@ pub use crate::json_laws::{
     canonical_trees_read_back, maps_are_json, normal_forms_are_written_alike, readings_are_sound,
     trees_go_by_meaning, values_are_json,
 };
-pub use crate::sound::{soundness, soundness_of_document};
-
 use crate::key::KeyError;
 use crate::reading::GateError;
+pub use crate::sound::{soundness, soundness_of_document};
 
 /// Meaning the same is an equivalence.
 pub fn same_is_an_equivalence()

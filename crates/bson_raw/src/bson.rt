@@ -170,9 +170,9 @@ impl RawBson {
             RawBson::Null => Ok(RawBson::Null),
             RawBson::RegularExpression(r) => Ok(RawBson::RegularExpression(r.try_clone(alloc)?)),
             RawBson::JavaScriptCode(s) => Ok(RawBson::JavaScriptCode(s.clone()?)),
-            RawBson::JavaScriptCodeWithScope(c) => Ok(RawBson::JavaScriptCodeWithScope(
-                c.try_clone(alloc)?,
-            )),
+            RawBson::JavaScriptCodeWithScope(c) => Ok(RawBson::JavaScriptCodeWithScope(c.try_clone(
+                alloc,
+            )?)),
             RawBson::Int32(x) => Ok(RawBson::Int32(*x)),
             RawBson::Int64(x) => Ok(RawBson::Int64(*x)),
             RawBson::Timestamp(x) => Ok(RawBson::Timestamp(*x)),
