@@ -1,5 +1,5 @@
 -- What means the same as a plain value is plain, and documents of one value mean the same exactly where their values do.
-use Rattle.std.proofs.Common.{◌≡◌, ℕ, List, [], ◌∷◌, ◌++◌, Bool, true, false, cond, leb, Option, Some, None, refl, ap, ◌∙◌, sym, subst}
+use Rattle.std.proofs.Common.{◌≡◌, ℕ, List, [], ◌∷◌, ◌++◌, Bool, true, false, cond, leb, Option, Some, None, refl, sym, subst}
 use Rattle.std.specs.Prelude.{bytes_eq, IsSomeAnd, IsUtf8, chars, is_some}
 use lib.Utf8.{encode as encoded, encodes}
 use Rattle.std.proofs.lemmas.Str.{encodes-chars}

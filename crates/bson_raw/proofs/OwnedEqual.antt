@@ -1,5 +1,5 @@
 -- `==` of values that own their bytes, by what they show.
-use Rattle.std.proofs.Common.{◌≡◌, ◌&&◌, nat_eq, string_bytes, refl, sym, ap, true≢false}
+use Rattle.std.proofs.Common.{◌≡◌, string_bytes, refl, sym, ap, true≢false}
 use Rattle.std.specs.Bool.{Decides}
 use Rattle.std.specs.Cmp.{booleans_Decides}
 use Rattle.std.specs.Cmp.Lexicographic.{bytes_decides}
@@ -12,7 +12,6 @@ use Rattle.bson_raw.specs.contracts.bson.RawBsonPartialEq.TheImpl as values
 use Rattle.bson_raw.specs.declared.bson.RawBson.{RawBson}
 use Rattle.bson_raw.specs.declared.bson.RawBson.TheVariants.{Double, String, Array, Document, Boolean, Null, RegularExpression, JavaScriptCode, JavaScriptCodeWithScope, Int32, Int64, Timestamp, Binary, ObjectId, DateTime, Symbol, Decimal128, Undefined, MaxKey, MinKey, DbPointer}
 use Rattle.bson_raw.specs.Raw.{own_value, leaf, array, document, scoped_code}
-use Rattle.bson_raw.specs.View.{array_bytes, bytes_of}
 use Rattle.bson_raw.specs.Buffer.{buffer_bytes, array_buffer_bytes}
 
 module _ (subtypes : (s t : BinarySubtype) → Decides (subtype.ghosts.eq s t) (s ≡ t)) where

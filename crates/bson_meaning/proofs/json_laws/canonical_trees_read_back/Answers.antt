@@ -1,4 +1,4 @@
-use Rattle.std.proofs.Common.{◌≡◌, ◌≤◌, Option, Some, None, Ok, refl, sym, false}
+use Rattle.std.proofs.Common.{◌≡◌, ◌≤◌, Option, Some, None, Ok, refl, false}
 use Rattle.std.specs.Prelude.{option_map}
 use Rattle.serde_json.specs.Data as json
 use Rattle.serde_json.specs.Data.{Data}
