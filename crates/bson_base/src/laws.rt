@@ -1,33 +1,47 @@
 //! Laws that no call carries. Each function does nothing, and its contract is the law.
 
 ghost use Rattle.std.specs.Prelude.{◌≡◌, ◌-◌, ◌^◌, pos, neg_ℤ, ℕ, ◌↔◌, ◌<◌, List, true, length, string_bytes, IsTrue, chars};
+ghost use Rattle.std.specs.Ordering.{int_cmp, nat_cmp, ordering_then};
+ghost use Rattle.std.specs.Cmp.Lexicographic.{slice_cmp};
 ghost use Rattle.std.specs.Str.{IsUtf8};
-ghost use Rattle.bson_base.specs.Scalars.{millis_of};
+ghost use Rattle.bson_base.specs.Scalars.{millis_of, id_bytes, uuid_bytes};
 ghost use Rattle.bson_base.specs.Tags.{tag_byte, subtype_of, subtype_byte, IsReadable};
 ghost use Rattle.bson_base.specs.Kinds.{NeverDescends};
 ghost use Rattle.bson_base.specs.Options.{sorted_text};
 ghost use Rattle.bson_base.specs.Uuids.{uuid_form};
 ghost use Rattle.bson_base.specs.VectorBytes.{VectorValue, IsRangedVector, vector_bytes, is_vector};
-ghost use Rattle.bson_base.specs.Vectors.{vector_value};
+ghost use Rattle.bson_base.specs.Vectors.{packed_value, vector_value};
 ghost use Rattle.bson_base.specs.declared.binary.Binary.{Binary as AnyBinary};
+ghost use Rattle.bson_base.specs.declared.binary.Error.{Error as AnyBinaryError};
+ghost use Rattle.bson_base.specs.declared.binary.vector.PackedBitVector.{PackedBitVector as AnyBits};
 ghost use Rattle.bson_base.specs.declared.binary.vector.Vector.{Vector as AnyVector};
 ghost use Rattle.bson_base.specs.declared.datetime.DateTime.{DateTime as AnyDateTime};
+ghost use Rattle.bson_base.specs.declared.datetime.Error.{Error as AnyDateTimeError};
 ghost use Rattle.bson_base.specs.declared.decimal128.Decimal128.{Decimal128 as AnyDecimal128};
+ghost use Rattle.bson_base.specs.declared.decimal128.ParseError.{ParseError as AnyDecimalError};
+ghost use Rattle.bson_base.specs.declared.device.DeviceFault.{DeviceFault as AnyDeviceFault};
 ghost use Rattle.bson_base.specs.declared.double.DoubleBits.{DoubleBits as AnyDouble};
+ghost use Rattle.bson_base.specs.declared.oid.Error.{Error as AnyObjectIdError};
 ghost use Rattle.bson_base.specs.declared.oid.ObjectId.{ObjectId as AnyObjectId};
 ghost use Rattle.bson_base.specs.declared.pointer.DbPointer.{DbPointer as AnyDbPointer};
 ghost use Rattle.bson_base.specs.declared.regex.Regex.{Regex as AnyRegex};
 ghost use Rattle.bson_base.specs.declared.spec.BinarySubtype.{BinarySubtype as AnySubtype};
 ghost use Rattle.bson_base.specs.declared.spec.ElementType.{ElementType as AnyKind};
 ghost use Rattle.bson_base.specs.declared.timestamp.Timestamp.{Timestamp as AnyTimestamp};
+ghost use Rattle.bson_base.specs.declared.uuid.Error.{Error as AnyUuidError};
 ghost use Rattle.bson_base.specs.declared.uuid.Uuid.{Uuid as AnyUuid};
 ghost use Rattle.bson_base.specs.declared.uuid.UuidRepresentation.{UuidRepresentation as AnyRepresentation};
 
 pub mod decimals;
 
+use crate::binary::{Error as BinaryError, PackedBitVector, Vector};
+use crate::datetime::Error as DateTimeError;
+use crate::decimal128::ParseError;
+use crate::oid::Error as ObjectIdError;
+use crate::uuid::{Error as UuidError, UuidRepresentation};
 use crate::{
-    Binary, BinarySubtype, DateTime, DbPointer, Decimal128, DoubleBits, ObjectId, Regex, Timestamp,
-    Uuid,
+    Binary, BinarySubtype, DateTime, DbPointer, Decimal128, DeviceFault, DoubleBits, ElementType,
+    ObjectId, Regex, Timestamp, Uuid,
 };
 use std::hash::Hash;
 
@@ -52,7 +66,21 @@ pub fn equal_scalars()
     ensures decimals { (x y : AnyDecimal128) → IsTrue (⟦<Decimal128 as PartialEq>⟧.eq x y) ↔ (x ≡ y) }
     ensures timestamps { (x y : AnyTimestamp) → IsTrue (⟦<Timestamp as PartialEq>⟧.eq x y) ↔ (x ≡ y) }
     ensures uuids { (x y : AnyUuid) → IsTrue (⟦<Uuid as PartialEq>⟧.eq x y) ↔ (x ≡ y) }
+    ensures kinds { (x y : AnyKind) → IsTrue (⟦<ElementType as PartialEq>⟧.eq x y) ↔ (x ≡ y) }
+    ensures representations { (x y : AnyRepresentation) → IsTrue (⟦<UuidRepresentation as PartialEq>⟧.eq x y) ↔ (x ≡ y) }
 {}
+
+/// Two errors are equal where they are one, with all that they tell.
+pub fn equal_errors()
+    ensures binaries { (x y : AnyBinaryError) → IsTrue (⟦<BinaryError as PartialEq>⟧.eq x y) ↔ (x ≡ y) }
+    ensures moments { (x y : AnyDateTimeError) → IsTrue (⟦<DateTimeError as PartialEq>⟧.eq x y) ↔ (x ≡ y) }
+    ensures decimals { (x y : AnyDecimalError) → IsTrue (⟦<ParseError as PartialEq>⟧.eq x y) ↔ (x ≡ y) }
+    ensures object_ids { (x y : AnyObjectIdError) → IsTrue (⟦<ObjectIdError as PartialEq>⟧.eq x y) ↔ (x ≡ y) }
+    ensures uuids { (x y : AnyUuidError) → IsTrue (⟦<UuidError as PartialEq>⟧.eq x y) ↔ (x ≡ y) }
+    ensures devices { (x y : AnyDeviceFault) → IsTrue (⟦<DeviceFault as PartialEq>⟧.eq x y) ↔ (x ≡ y) }
+{
+    equal_scalars();
+}
 
 /// Binary values, regular expressions and pointers are equal where their parts have the same bytes.
 pub fn equal_parts()
@@ -61,6 +89,21 @@ pub fn equal_parts()
         ↔ ((string_bytes x.pattern ≡ string_bytes y.pattern) × (string_bytes x.options ≡ string_bytes y.options)) }
     ensures pointers { (x y : AnyDbPointer) → IsTrue (⟦<DbPointer as PartialEq>⟧.eq x y)
         ↔ ((string_bytes x.namespace ≡ string_bytes y.namespace) × (x.id ≡ y.id)) }
+{}
+
+/// Vectors are equal where they have the same numbers, and bits where they have the same bytes and padding.
+pub fn equal_vectors()
+    ensures vectors { (x y : AnyVector) → IsTrue (⟦<Vector as PartialEq>⟧.eq x y) ↔ (vector_value x ≡ vector_value y) }
+    ensures bits { (x y : AnyBits) → IsTrue (⟦<PackedBitVector as PartialEq>⟧.eq x y) ↔ (packed_value x ≡ packed_value y) }
+{}
+
+/// Which value comes first: of timestamps the one with fewer seconds, and at the same second the one with the lower
+/// increment; of moments the earlier one; of object ids and of UUIDs the one with the lower byte at the first that differs.
+pub fn order_of_scalars()
+    ensures timestamps { (x y : AnyTimestamp) → ⟦<Timestamp as Ord>⟧.cmp x y ≡ ordering_then (nat_cmp x.time y.time) (nat_cmp x.increment y.increment) }
+    ensures moments { (x y : AnyDateTime) → ⟦<DateTime as Ord>⟧.cmp x y ≡ int_cmp (millis_of x) (millis_of y) }
+    ensures object_ids { (x y : AnyObjectId) → ⟦<ObjectId as Ord>⟧.cmp x y ≡ slice_cmp nat_cmp (id_bytes x) (id_bytes y) }
+    ensures uuids { (x y : AnyUuid) → ⟦<Uuid as Ord>⟧.cmp x y ≡ slice_cmp nat_cmp (uuid_bytes x) (uuid_bytes y) }
 {}
 
 /// The first and the last moment are the least and the greatest signed number of 64 bits.

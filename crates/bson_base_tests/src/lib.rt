@@ -14,6 +14,8 @@ mod devices;
 #[cfg(test)]
 mod doubles;
 #[cfg(test)]
+mod interrupted;
+#[cfg(test)]
 mod moments;
 #[cfg(test)]
 mod object_ids;

@@ -155,6 +155,7 @@ pub fn write_timestamp(value: Timestamp, out: &mut Vec<u8>) -> Result<()>
 /// takes over 2147483647 bytes.
 pub fn write_pointer(namespace: &str, id: ObjectId, out: &mut Vec<u8>) -> Result<()>
     ensures ok { OnOk result (out.new.items ≡ out.old.items ++ scalar_bytes (db_pointer namespace.now (id_bytes id))) }
+    ensures short { OnOk result (length namespace.now + 5 < 2 ^ 31) }
     ensures refused { IfErr result (IsRefusal (2 ^ 31 ≤ length namespace.now + 5)) }
     ensures kept { OnErr result (StartsWith out.new.items out.old.items) }
 {

@@ -6,6 +6,8 @@ use Rattle.bson_frame.specs.declared.error.ErrorKind.{ErrorKind}
 use Rattle.bson_frame.specs.declared.error.ErrorKind.TheVariants.{OutOfMemory}
 use Rattle.bson_frame.specs.declared.error.Error.{Error}
 use Rattle.bson_frame.specs.declared.error.ValueAccessError.{ValueAccessError}
+use Rattle.bson_frame.specs.declared.error.ValueAccessErrorKind.{ValueAccessErrorKind}
+use Rattle.bson_frame.specs.declared.error.ValueAccessErrorKind.TheVariants as reasons
 use Rattle.bson_frame.specs.Frame.{Element}
 
 -- a frame without where it lies in memory, and without what follows it
@@ -27,3 +29,16 @@ IsBare kind e = (e.kind ≡ kind) × (fault_key e ≡ None)
 -- a payload fault under its key, or want of memory in its place
 abbrev pub IsFaultUnder : List ℕ → ErrorKind → Error → Type 0
 IsFaultUnder key kind e = ((e.kind ≡ kind) × (fault_key e ≡ Some key)) ⊎ IsBare OutOfMemory e
+
+-- why a value isn't there, without where its key lies in memory
+pub data Reason : Type 0 where
+  not_present : Reason
+  unexpected_type : Reason
+  invalid_bson : Option (List ℕ) → ErrorKind → Reason
+  out_of_memory : Reason
+
+abbrev pub reason_of : ValueAccessErrorKind → Reason
+reason_of reasons.NotPresent = not_present
+reason_of reasons.UnexpectedType = unexpected_type
+reason_of (reasons.InvalidBson e) = invalid_bson (fault_key e) e.kind
+reason_of reasons.OutOfMemory = out_of_memory

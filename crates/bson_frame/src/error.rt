@@ -22,7 +22,7 @@ pub enum ErrorKind {
 }
 
 /// A fault, and the key that it stands under: that of the element where a payload is faulty, none where there is no frame.
-#[derive(Debug, Drop, PartialEq)]
+#[derive(Debug, PartialEq, Drop)]
 pub struct Error {
     key: Option<String>,
     /// What the fault is.
@@ -127,6 +127,19 @@ impl ValueAccessError {
         self.key.as_str()
     }
 }
+
+impl fmt::Display for ValueAccessErrorKind {
+    fn fmt<W: fmt::Write>(&self, f: &mut fmt::Formatter<W>) -> fmt::Result {
+        match self {
+            ValueAccessErrorKind::NotPresent => write!(f, "no value"),
+            ValueAccessErrorKind::UnexpectedType => write!(f, "a value of another kind"),
+            ValueAccessErrorKind::InvalidBson(e) => write!(f, "invalid BSON: {e}"),
+            ValueAccessErrorKind::OutOfMemory => write!(f, "out of memory"),
+        }
+    }
+}
+
+impl std::error::Error for ValueAccessErrorKind {}
 
 impl fmt::Display for ValueAccessError {
     fn fmt<W: fmt::Write>(&self, f: &mut fmt::Formatter<W>) -> fmt::Result {

@@ -1,9 +1,17 @@
 //! Laws of frames.
 
-ghost use Rattle.std.specs.Prelude.{◌≡◌, ◌⊎◌, ◌++◌, ◌∷◌, List, ℕ};
+ghost use Rattle.std.specs.Prelude.{◌≡◌, ◌⊎◌, ◌++◌, ◌∷◌, ◌↔◌, IsTrue, List, ℕ};
 ghost use Rattle.bson_frame.specs.Frame.{IsFirstFrame, IsStructuralFault, Element, IsName};
 ghost use Rattle.bson_frame.specs.Payload.{IsPayload};
+ghost use Rattle.bson_frame.specs.View.{asked_key, element_of, fault_key, reason_of};
+ghost use Rattle.bson_frame.specs.declared.error.Error.{Error as AnyError};
 ghost use Rattle.bson_frame.specs.declared.error.ErrorKind.{ErrorKind as Kind};
+ghost use Rattle.bson_frame.specs.declared.error.ValueAccessError.{ValueAccessError as AnyRefusal};
+ghost use Rattle.bson_frame.specs.declared.error.ValueAccessErrorKind.{ValueAccessErrorKind as AnyReason};
+ghost use Rattle.bson_frame.specs.declared.parts.Frame.{Frame as AnyFrame};
+
+use crate::error::{Error, ErrorKind, ValueAccessError, ValueAccessErrorKind};
+use crate::parts::Frame;
 
 /// Bytes have at most one first frame.
 pub fn one_first_frame()
@@ -30,4 +38,17 @@ pub fn payload_by_itself()
 /// Bytes have at most one name in front.
 pub fn one_name()
     ensures { (a b x y : List ℕ) → IsName a → IsName b → a ++ 0 ∷ x ≡ b ++ 0 ∷ y → (a ≡ b) × (x ≡ y) }
+{}
+
+/// Errors are equal where they tell the same: the kind, the key and what was found there.
+pub fn equal_errors()
+    ensures kinds { (x y : Kind) → IsTrue (⟦<ErrorKind as PartialEq>⟧.eq x y) ↔ (x ≡ y) }
+    ensures faults { (x y : AnyError) → IsTrue (⟦<Error as PartialEq>⟧.eq x y) ↔ ((fault_key x ≡ fault_key y) × (x.kind ≡ y.kind)) }
+    ensures reasons { (x y : AnyReason) → IsTrue (⟦<ValueAccessErrorKind as PartialEq>⟧.eq x y) ↔ (reason_of x ≡ reason_of y) }
+    ensures refusals { (x y : AnyRefusal) → IsTrue (⟦<ValueAccessError as PartialEq>⟧.eq x y) ↔ ((asked_key x ≡ asked_key y) × (reason_of x.kind ≡ reason_of y.kind)) }
+{}
+
+/// Frames are equal where they have the same kind, key, payload and rest.
+pub fn equal_frames()
+    ensures { (x y : AnyFrame) → IsTrue (⟦<Frame<'static> as PartialEq>⟧.eq x y) ↔ ((element_of x ≡ element_of y) × (x.rest.now ≡ y.rest.now)) }
 {}

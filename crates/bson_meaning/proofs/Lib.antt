@@ -22,3 +22,5 @@ pub mod Progress
 pub mod Held
 pub mod Heights
 pub mod Viewing
+mod PlainSame
+mod OneRefusal

@@ -51,6 +51,12 @@ IsRefused bytes NotTerminated = IsCounted bytes × (slice_index bytes (length by
 IsRefused bytes Faulty = IsCounted bytes × IsEnvelope bytes × IsFaulty bytes
 IsRefused bytes TooDeep = IsCounted bytes × IsEnvelope bytes × Nests level_limit (drop 4 bytes)
 
+-- the tests of which either is told where bytes fail both
+abbrev pub IsFaultyOrDeep : GateError → Type 0
+IsFaultyOrDeep Faulty = Unit {0}
+IsFaultyOrDeep TooDeep = Unit {0}
+IsFaultyOrDeep _ = ⊥
+
 -- no test refuses the bytes: they spell a document, repeated keys included, of at most 100 levels
 abbrev pub Passes : List ℕ → Type 0
 Passes bytes = IsCounted bytes × IsEnvelope bytes × ((ms : Members) × SpellsMembers (drop 4 bytes) ms × (levels (document ms) ≤ level_limit))

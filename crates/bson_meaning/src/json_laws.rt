@@ -37,9 +37,13 @@ pub fn trees_go_by_meaning()
 /// The canonical tree of a document without a reserved key below its top reads as a document of the same normal form, which is
 /// plain where the first is, and no deeper.
 pub fn canonical_trees_read_back()
-    ensures { (d : Members) (js : json.Members) → IsSound (document d) → has_reserved d ≡ false
+    ensures members { (d : Members) (js : json.Members) → IsSound (document d) → has_reserved d ≡ false
         → write_members Canonical d json.no_members ≡ Some js
         → (e : Members) × (read_members js ≡ Ok e) × (asc_members (norm_members e) ≡ asc_members (norm_members d))
+        × (IsPlain (document d) → IsPlain (document e)) × (levels (document e) ≤ levels (document d)) }
+    ensures tree { (d : Members) (j : Data) → IsSound (document d) → has_reserved d ≡ false → write Canonical (document d) ≡ Some j
+        → (js : json.Members) × (e : Members) × (j ≡ json.object js) × (read_members js ≡ Ok e)
+        × (asc_members (norm_members e) ≡ asc_members (norm_members d))
         × (IsPlain (document d) → IsPlain (document e)) × (levels (document e) ≤ levels (document d)) }
 {}
 

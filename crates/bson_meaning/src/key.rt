@@ -48,6 +48,7 @@ impl From<AllocError> for KeyError {
 pub fn meaning_key(alloc: Global, document: &Document) -> Result<Vec<u8>, KeyError>
     ensures bytes { IfOk result (λ k. k.items ≡ key_of (members_of (pairs_of document.now))) }
     ensures fits { OnOk result (length (key_of (members_of (pairs_of document.now))) ≤ 2147483647) }
+    ensures plain { OnOk result (IsPlain (tree (members_of (pairs_of document.now)))) }
 
     // The order of refusals: a 00 comes before the length.
     ensures not_plain { (result ≡ Err KeyError.NotPlain) ↔ (IsPlain (tree (members_of (pairs_of document.now))) → ⊥) }

@@ -1,20 +1,23 @@
 //! Laws of meaning. Each function below does nothing, and its contract is the law. It is said of sound values: their numbers
 //! and texts are those of their kinds, and no key stands twice. Every value at hand is sound, which `soundness` tells.
 
-ghost use Rattle.std.specs.Prelude.{◌≡◌, ◌↔◌, ◌≤◌, List, ℕ, length};
+ghost use Rattle.std.specs.Prelude.{◌≡◌, ◌↔◌, ◌≤◌, ◌⊎◌, IsTrue, List, ℕ, length};
 ghost use Rattle.bson_base.specs.Kinds.{IsClean, IsPlain, IsSound};
-ghost use Rattle.bson_base.specs.Value.{document, levels, Members, Value};
+ghost use Rattle.bson_base.specs.Value.{document, levels, member, Members, no_members, Value};
 ghost use Rattle.bson_bytes.specs.Encode.{size};
 ghost use Rattle.bson_bytes.specs.Spells.{Means};
 ghost use Rattle.bson_model.specs.Equal.{Equal};
-ghost use Rattle.bson_meaning.specs.Gate.{IsRefused, level_limit, Passes};
-ghost use Rattle.bson_meaning.specs.Meaning.{norm, norm_members, asc_members, key, Same};
-ghost use Rattle.bson_meaning.specs.declared.reading.GateError.{GateError};
+ghost use Rattle.bson_meaning.specs.Gate.{IsFaultyOrDeep, IsRefused, level_limit, Passes};
+ghost use Rattle.bson_meaning.specs.Meaning.{asc, norm, norm_members, asc_members, key, Same};
+ghost use Rattle.bson_meaning.specs.declared.key.KeyError.{KeyError as AnyKeyError};
+ghost use Rattle.bson_meaning.specs.declared.reading.GateError.{GateError as AnyGateError};
 
 pub use crate::json_laws::{
     canonical_trees_read_back, maps_are_json, normal_forms_are_written_alike, readings_are_sound,
     trees_go_by_meaning, values_are_json,
 };
+use crate::key::KeyError;
+use crate::reading::GateError;
 pub use crate::sound::{soundness, soundness_of_document};
 
 /// Meaning the same is an equivalence.
@@ -47,12 +50,34 @@ pub fn keys_keep_sizes()
     ensures trees { (d : Members) → IsClean (document d) → IsSound (document d) → size (asc_members (norm_members d)) ≡ size d }
 {}
 
-/// Bytes that pass the gate are refused by no test: where a fault or too many levels are told, they stand.
+/// Bytes that pass the gate are refused by no test: where a fault or too many levels are told, they stand. Bytes that don't
+/// pass are refused in one way, but that of `Faulty` and `TooDeep` either is told where both stand.
 pub fn one_answer_of_the_gate()
-    ensures { (bytes : List ℕ) (error : GateError) → Passes bytes → IsRefused bytes error → ⊥ }
+    ensures passes { (bytes : List ℕ) (error : AnyGateError) → Passes bytes → IsRefused bytes error → ⊥ }
+    ensures refused { (bytes : List ℕ) (e f : AnyGateError) → IsRefused bytes e → IsRefused bytes f
+        → (e ≡ f) ⊎ (IsFaultyOrDeep e × IsFaultyOrDeep f) }
 {}
 
-/// Bytes that pass the gate mean a document of at most 100 levels.
+/// Bytes that pass the gate mean a document, and the document that they mean has at most 100 levels.
 pub fn passing_means()
-    ensures { (bytes : List ℕ) → Passes bytes → (d : Members) × Means bytes d × (levels (document d) ≤ level_limit) }
+    ensures some { (bytes : List ℕ) → Passes bytes → (d : Members) × Means bytes d }
+    ensures low { (bytes : List ℕ) (d : Members) → Passes bytes → Means bytes d → levels (document d) ≤ level_limit }
+{}
+
+/// What means the same as a plain value is plain. Two documents of one member each, under one key, mean the same exactly where
+/// their values do.
+pub fn same_values()
+    ensures plain { (v w : Value) → IsSound v → IsSound w → Same v w → IsPlain w → IsPlain v }
+    ensures under { (k : List ℕ) (v w : Value) → Same (document (member k v no_members)) (document (member k w no_members)) ↔ Same v w }
+{}
+
+/// The normal form of a plain value, with its keys in order, is clean.
+pub fn normal_forms_are_clean()
+    ensures { (v : Value) → IsPlain v → IsSound v → IsClean (asc (norm v)) }
+{}
+
+/// Errors are equal where they are one.
+pub fn equal_errors()
+    ensures keys { (x y : AnyKeyError) → IsTrue (⟦<KeyError as PartialEq>⟧.eq x y) ↔ (x ≡ y) }
+    ensures gate { (x y : AnyGateError) → IsTrue (⟦<GateError as PartialEq>⟧.eq x y) ↔ (x ≡ y) }
 {}

@@ -51,7 +51,7 @@ abbrev pub IsSpelled : Element → Type 0
 IsSpelled e = (v : Value) × (value_kind v ≡ e.tag) × SpellsValue e.payload v
 
 module _ (one : FramesAreOne) where
-  members_front : (bytes : List ℕ) (e : Element) (rest : List ℕ) → IsFirstFrame bytes e rest → (ms : Members) → SpellsMembers bytes ms → IsSpelled e × ((after : Members) × SpellsMembers rest after)
+  pub members_front : (bytes : List ℕ) (e : Element) (rest : List ℕ) → IsFirstFrame bytes e rest → (ms : Members) → SpellsMembers bytes ms → IsSpelled e × ((after : Members) × SpellsMembers rest after)
   members_front bytes e rest first no_members h = absurd (end_has_no_frame bytes e rest h first)
   members_front bytes e rest first (member k v ms) h =
       let same = one bytes h.0 e h.1 rest h.2 first in
@@ -67,7 +67,7 @@ module _ (one : FramesAreOne) where
   inside_front e inner is (v, kind, spells) = inside_spells e.payload inner v (subst (λ (t : ElementType). elements_in t e.payload ≡ Some inner) (sym kind) is) spells
 
   mutual
-    spells_no_members : (way : Way) (bytes : List ℕ) (key : Option (List ℕ)) (kind : ErrorKind) → IsFirstFault bytes way key kind → (ms : Members) → SpellsMembers bytes ms → ⊥
+    pub spells_no_members : (way : Way) (bytes : List ℕ) (key : Option (List ℕ)) (kind : ErrorKind) → IsFirstFault bytes way key kind → (ms : Members) → SpellsMembers bytes ms → ⊥
     spells_no_members here bytes None kind fault no_members h = fault.0 h
     spells_no_members here bytes None kind fault (member k v ms) h = fault.1.no_frame h.0 h.1 h.2
     spells_no_members here bytes (Some key) kind (e, rest, first, is, fault) ms h =

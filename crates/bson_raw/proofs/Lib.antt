@@ -13,3 +13,6 @@ pub mod Faults
 pub mod Reading
 pub mod FirstFaults
 pub mod ComesBack
+mod BorrowedEqual
+mod OwnedEqual
+mod NoFaults

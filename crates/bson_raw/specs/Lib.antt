@@ -13,3 +13,4 @@ pub mod Trees
 pub mod Pairs
 pub mod Convert
 pub mod Input
+pub mod Refusals

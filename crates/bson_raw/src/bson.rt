@@ -86,12 +86,12 @@ pub enum RawBson {
 
 impl RawJavaScriptCodeWithScope {
     /// A copy with memory of its own. The error is a refused growth.
-    pub fn try_clone(&self) -> Result<RawJavaScriptCodeWithScope, AllocError>
+    pub fn try_clone(&self, alloc: Global) -> Result<RawJavaScriptCodeWithScope, AllocError>
         ensures code { IfOk result (λ c. string_bytes c.code ≡ string_bytes self.now.code) }
         ensures scope { IfOk result (λ c. buffer_bytes c.scope ≡ buffer_bytes self.now.scope) }
     {
-        let scope = self.scope.try_clone()?;
-        let code = self.code.clone()?;
+        let scope = self.scope.as_ref().to_raw_document_buf(alloc)?;
+        let code = String::from_str(alloc, &self.code)?;
         Ok(RawJavaScriptCodeWithScope { code, scope })
     }
 
@@ -170,9 +170,9 @@ impl RawBson {
             RawBson::Null => Ok(RawBson::Null),
             RawBson::RegularExpression(r) => Ok(RawBson::RegularExpression(r.try_clone(alloc)?)),
             RawBson::JavaScriptCode(s) => Ok(RawBson::JavaScriptCode(s.clone()?)),
-            RawBson::JavaScriptCodeWithScope(c) => Ok(RawBson::JavaScriptCodeWithScope(
-                c.try_clone()?,
-            )),
+            RawBson::JavaScriptCodeWithScope(c) => Ok(RawBson::JavaScriptCodeWithScope(c.try_clone(
+                alloc,
+            )?)),
             RawBson::Int32(x) => Ok(RawBson::Int32(*x)),
             RawBson::Int64(x) => Ok(RawBson::Int64(*x)),
             RawBson::Timestamp(x) => Ok(RawBson::Timestamp(*x)),

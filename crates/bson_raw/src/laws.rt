@@ -1,7 +1,8 @@
 //! Laws of the walk.
 
-ghost use Rattle.std.specs.Prelude.{MatchResult, ◌≡◌, ◌≤◌, ◌+◌, ◌-◌, ◌/◌, ◌↔◌, [], ℕ, List, Option, Result, Some, None, Err, length, slice_get};
+ghost use Rattle.std.specs.Prelude.{MatchResult, ◌≡◌, ◌≤◌, ◌<◌, ◌+◌, ◌-◌, ◌/◌, ◌^◌, ◌↔◌, [], ℕ, drop, List, Option, Result, Some, None, Err, length, slice_get};
 ghost use Rattle.std.specs.Iterator.{Yields};
+ghost use Rattle.std.specs.List.{All};
 ghost use Rattle.bson_frame.specs.Frame.{Element};
 ghost use Rattle.bson_frame.specs.declared.error.Error.{Error as Fault};
 ghost use Rattle.bson_frame.specs.declared.error.ErrorKind.{ErrorKind as Kind};
@@ -16,10 +17,15 @@ ghost use Rattle.bson_raw.specs.declared.values.Iter.{Iter as Pairs};
 ghost use Rattle.bson_raw.specs.declared.walk.RawIter.{RawIter as Elements};
 ghost use Rattle.std.specs.Borrow.{Bor};
 ghost use Rattle.bson_base.specs.Kinds.{IsClean, IsSound};
+ghost use Rattle.bson_base.specs.Value.{document, Members};
+ghost use Rattle.bson_bytes.specs.Encode.{encode, size};
+ghost use Rattle.bson_bytes.specs.Spells.{Means};
 ghost use Rattle.bson_bytes.specs.Writing.{CanBeWritten, IsRefusal};
-ghost use Rattle.bson_frame.specs.Payload.{IsEnvelope};
+ghost use Rattle.bson_frame.specs.Payload.{IsEnvelope, IsFaultless};
 ghost use Rattle.bson_model.specs.Trees.{document_tree};
 ghost use Rattle.bson_model.specs.View.{pairs_of, members_of};
+
+pub mod equality;
 
 use crate::document_buf::RawDocumentBuf;
 use bson_model::Document;
@@ -95,6 +101,19 @@ pub fn one_first_fault()
 {
     bson_frame::laws::one_first_frame();
     bson_frame::laws::one_structural_fault();
+}
+
+/// Bytes that mean a document have no fault: not in their walk, not in a payload of it, and not at any depth. So it is with
+/// what a clean document is written as.
+pub fn documents_have_no_fault()
+    ensures walk { (bytes : List ℕ) (d : Members) (elements : List Element) (fault : Option Kind) → Means bytes d → IsDocumentWalk bytes elements fault
+        → (fault ≡ None) × All (λ e. IsFaultless e.tag e.payload) elements }
+    ensures inside { (bytes : List ℕ) (d : Members) (key : Option (List ℕ)) (kind : Kind) → Means bytes d → HasFault (drop 4 bytes) key kind → ⊥ }
+    ensures written { (d : Members) (key : Option (List ℕ)) (kind : Kind) → IsClean (document d) → IsSound (document d) → size d < 2 ^ 31
+        → HasFault (drop 4 (encode d)) key kind → ⊥ }
+{
+    bson_frame::laws::one_first_frame();
+    bson_bytes::laws::trees_come_back();
 }
 
 /// A clean document that is written into a buffer comes back from it. It is refused where it has no written form, or a growth

@@ -1,5 +1,6 @@
 use Rattle.bson_meaning.proofs.Held.{one_answer}
+use Rattle.bson_meaning.proofs.OneRefusal.{one_refusal}
 use Rattle.bson_meaning.proofs.laws.one_answer_of_the_gate.Goals as goal
 
 pub returns : goal.returns
-returns c = one_answer
+returns c = record { passes = one_answer; refused = one_refusal }
