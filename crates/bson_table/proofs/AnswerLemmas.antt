@@ -1,25 +1,24 @@
 -- What a query over the table answers.
-use Rattle.std.proofs.Common.{◌≡◌, ◌⊎◌, inl, inr, ℕ, ℤ, pos, negsuc, List, [], ◌∷◌, ◌++◌, append-nil, map, filter, flat_map, Bool, true, false, cond, if◌then◌else◌, ◌&&◌, not, refl, sym, ap, subst, ◌∙◌, Option, Some, None, is_eq, bytes_eq}
+use Rattle.std.proofs.Common.{◌≡◌, List, [], ◌∷◌, ◌++◌, map, filter, flat_map, Bool, true, false, cond, if◌then◌else◌, refl, ap, subst, ◌∙◌, Some, is_eq}
 use Rattle.std.specs.List.{list_all}
 use Rattle.std.specs.List.Sorted.{IsPermutation, IsSorted}
-use Rattle.std.proofs.lemmas.List.Sorted.{IsPermutation-map, IsPermutation-trans, length_permutation}
+use Rattle.std.proofs.lemmas.List.Sorted.{IsPermutation-map, IsPermutation-trans}
 use Rattle.sqlite_trees.proofs.ListLemmas.{IsPermutation-filter}
-use Rattle.std.proofs.lemmas.Bool.{cases_Bool}
 use Rattle.sqlite.specs.declared.types.Value.{Value}
-use Rattle.sqlite.specs.declared.types.Value.TheVariants.{Null, Int, Text, Blob}
+use Rattle.sqlite.specs.declared.types.Value.TheVariants.{Null}
 use Rattle.sqlite_value.specs.declared.keys.Key.{Key}
 use Rattle.sqlite.specs.Collation.TheVariants.{Binary}
 use Rattle.sqlite.specs.Order.{Row, value_cmp}
 use Rattle.sqlite_sql.specs.declared.ops.BinaryOp.TheVariants.{Compare}
 use Rattle.sqlite_sql.specs.declared.ops.CompareOp.TheVariants.{Eq}
 use Rattle.sqlite_sql.specs.Ops.{binary, is_true, from_truth}
-use Rattle.sqlite_sql.specs.Term.{Term, Env, col, op2, eval, eval_all, holds}
-use Rattle.sqlite_sql.specs.Query.{Query, inner, end, matches_as, IsAnswer, IsAnswerAs, Output, output, output_cmp}
+use Rattle.sqlite_sql.specs.Term.{Term, holds}
+use Rattle.sqlite_sql.specs.Query.{end, matches_as, IsAnswerAs, Output, output, output_cmp}
 use Rattle.sqlite_sql.specs.Program.{overlay}
 use Rattle.sqlite.specs.Tree.{Trees}
 use Rattle.sqlite.specs.Effect.{Answers, Database}
 use Rattle.bson_table.specs.Rows.{Doc, stored, HasRows}
-use Rattle.bson_table.proofs.Texts.{plain_query, program, equals}
+use Rattle.bson_table.proofs.Texts.{plain_query, program}
 
 -- = on two values that are not NULL, as a test
 pub truth_is : (b : Bool) → is_true (from_truth (Some b)) ≡ b

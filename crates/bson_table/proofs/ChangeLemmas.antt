@@ -3,7 +3,7 @@ use Rattle.std.proofs.Common.{◌≡◌, ◌⊎◌, inl, inr, ℕ, ℤ, List, []
 use Rattle.std.specs.List.{list_all}
 use Rattle.std.specs.List.Sorted.{IsPermutation}
 use Rattle.std.proofs.lemmas.List.Sorted.{length_permutation}
-use Rattle.sqlite.specs.declared.types.Value.TheVariants.{Null, Int, Text, Blob}
+use Rattle.sqlite.specs.declared.types.Value.TheVariants.{Null, Int, Blob}
 use Rattle.sqlite.specs.Order.{Row}
 use Rattle.sqlite_value.proofs.OrderLemmas.{value_cmp-Int}
 use Rattle.sqlite.specs.Tree.{Trees}
@@ -20,16 +20,14 @@ use Rattle.sqlite.specs.Rows.{Written}
 use Rattle.sqlite.specs.Effect.{Database, Answers}
 use Rattle.sqlite.specs.declared.run.Mode.{Mode}
 use Rattle.sqlite.specs.declared.error.Error.{Error}
-use Rattle.sqlite.specs.State.{State, mode_of, Executes, CommitsBy, HasCleanDisk, Survives}
+use Rattle.sqlite.specs.State.{State, mode_of, Executes, CommitsBy}
 use Rattle.sqlite.specs.Listing.{understood}
-use Rattle.sqlite_trees.specs.View.{doubt}
-use Rattle.sqlite.proofs.StateLemmas.{survives_weaker}
 use Rattle.sqlite.proofs.Callers.{runs_as, one_step, one_permutation, statement_of}
 use Rattle.bson_table.specs.Schema.{documents, documents_schema}
 use Rattle.bson_table.specs.Rows.{Doc, stored, HasRows, Shows, is_at, without, replaced}
 use Rattle.bson_table.proofs.RowLemmas.{cast_null, cast_int}
-use Rattle.bson_table.proofs.PlaceLemmas.{without_is, at_place, put_back, rising_without, rising_replaced}
-use Rattle.bson_table.proofs.AnswerLemmas.{Outputs, outputs_of, equal_is}
+use Rattle.bson_table.proofs.PlaceLemmas.{at_place, rising_without, rising_replaced}
+use Rattle.bson_table.proofs.AnswerLemmas.{outputs_of, equal_is}
 use Rattle.bson_table.proofs.StatementLemmas.{commits_as}
 use Rattle.bson_table.proofs.PermLemmas.{gone_perm, back_perm}
 use Rattle.bson_table.proofs.InsertLemmas.{went, same_value}

@@ -1,5 +1,5 @@
 -- Rows that are good one after the other.
-use Rattle.std.proofs.Common.{◌≡◌, ◌<ℤ◌, ℕ, ℤ, pos, List, [], ◌∷◌, ◌++◌, append-nil, append_assoc, refl, sym, subst, arith}
+use Rattle.std.proofs.Common.{◌<ℤ◌, ℕ, ℤ, List, [], ◌∷◌, ◌++◌, append-nil, append_assoc, sym, subst, arith}
 use Rattle.std.specs.List.{AllByRecursion}
 use Rattle.std.proofs.lemmas.Int.{ints}
 use Rattle.bson_table.specs.Rows.{Doc, IsRising, last_place}

@@ -1,5 +1,5 @@
 -- What the CREATE TABLE does in an empty database.
-use Rattle.std.proofs.Common.{Option, ◌≡◌, ◌⊎◌, inl, inr, ℕ, List, [], ◌∷◌, Bool, true, false, None, Some, Ok, Err, Result, OnOk, refl, sym, ap, subst, ◌∙◌}
+use Rattle.std.proofs.Common.{Option, ◌≡◌, ℕ, [], false, None, Ok, Err, Result, OnOk, refl, sym, ap, subst, ◌∙◌}
 use Rattle.std.specs.Fmt.{digits}
 use Rattle.std.specs.List.Sorted.{IsPermutation}
 use Rattle.std.proofs.lemmas.List.Sorted.{IsPermutation-refl}
@@ -12,10 +12,9 @@ use Rattle.sqlite.specs.Effect.{Database}
 use Rattle.sqlite.specs.declared.run.Mode.{Mode}
 use Rattle.sqlite.specs.declared.error.Error.{Error}
 use Rattle.sqlite.specs.State.{State, mode_of, Executes, CommitsBy, Survives}
-use Rattle.sqlite.proofs.StateLemmas.{survives_weaker}
 use Rattle.sqlite.proofs.Callers.{runs_as}
 use Rattle.bson_table.specs.Schema.{documents, documents_schema, no_schema}
-use Rattle.bson_table.specs.Rows.{Doc, HasRows, Shows, IsBlank}
+use Rattle.bson_table.specs.Rows.{HasRows, Shows, IsBlank}
 use Rattle.bson_table.proofs.StatementLemmas.{commits_as}
 use Rattle.bson_table.proofs.InsertLemmas.{went, same_value}
 use Rattle.bson_table.proofs.Texts.{create_text, create_is, create_plain}

@@ -1,11 +1,11 @@
 -- What the INSERT does.
-use Rattle.std.proofs.Common.{IsTrue, arith, ◌≤◌, OnOk, OnErr, ◌≡◌, ◌⊎◌, inl, inr, ℕ, List, [], ◌∷◌, ◌++◌, map, Bool, true, false, None, Some, Ok, Err, Result, refl, sym, ap, subst, ◌∙◌, Option}
-use Rattle.sqlite.specs.declared.types.Value.TheVariants.{Null, Int, Text, Blob}
+use Rattle.std.proofs.Common.{IsTrue, arith, ◌≤◌, OnOk, OnErr, ◌≡◌, ◌⊎◌, inl, inr, ℕ, List, [], ◌∷◌, ◌++◌, map, None, Ok, Err, Result, refl, sym, ap, subst, ◌∙◌, Option}
+use Rattle.sqlite.specs.declared.types.Value.TheVariants.{Int, Text, Blob}
 use Rattle.sqlite.specs.Order.{Row}
 use Rattle.sqlite.specs.Tree.{Trees}
 use Rattle.sqlite.specs.Command.TheVariants.{Insert}
 use Rattle.sqlite.specs.Source.TheVariants.{Values}
-use Rattle.sqlite.specs.Edit.{Edit, edit_of, edited}
+use Rattle.sqlite.specs.Edit.{edit_of, edited}
 use Rattle.sqlite.specs.Rowids.TheVariants.{Chosen}
 use Rattle.sqlite.specs.Does.{Tally, Does}
 use Rattle.sqlite.specs.Rows.{Written}
@@ -17,7 +17,7 @@ use Rattle.sqlite_trees.specs.View.{doubt}
 use Rattle.sqlite.specs.declared.error.Error.{Error}
 use Rattle.sqlite.specs.Listing.{understood}
 use Rattle.bson_table.proofs.StatementLemmas.{commits_as}
-use Rattle.sqlite.proofs.Callers.{runs_as, one_step, through, statement_of}
+use Rattle.sqlite.proofs.Callers.{runs_as, one_step, statement_of}
 use Rattle.bson_table.specs.Schema.{documents, documents_schema}
 use Rattle.bson_table.specs.Rows.{Doc, stored, AreBelow, HasRows, Shows, Inside, Keeps}
 use Rattle.std.specs.List.Sorted.{IsPermutation}

@@ -1,6 +1,6 @@
 -- The greatest place.
-use Rattle.std.proofs.Common.{codes, subst₂, ap₂, Equal, suc, add-one, ◌≡◌, ◌≢◌, ◌⊎◌, inl, inr, ◌<ℤ◌, ◌≤ℤ◌, ◌+ℤ◌, ℕ, ℤ, pos, ◌+◌, List, [], ◌∷◌, ◌++◌, map, filter, Bool, true, false, Option, None, Some, Ok, Err, Result, refl, sym, ap, subst, ◌∙◌, IsTrue, arith, is_lt, length, slice_get, take}
-use Rattle.std.specs.List.{AllByRecursion, list_all}
+use Rattle.std.proofs.Common.{codes, ap₂, Equal, suc, add-one, ◌≡◌, ◌≢◌, ◌<ℤ◌, ◌≤ℤ◌, ◌+ℤ◌, ℕ, ℤ, pos, List, [], ◌∷◌, map, filter, true, false, Option, None, Some, Ok, refl, sym, ap, subst, ◌∙◌, arith, is_lt, slice_get, take}
+use Rattle.std.specs.List.{AllByRecursion}
 use Rattle.std.specs.List.Sorted.{IsPermutation, IsSorted}
 use Rattle.std.specs.Ordering.{int_cmp, ordering_then}
 use Rattle.std.proofs.lemmas.Int.{ints}
@@ -13,21 +13,15 @@ use Rattle.sqlite.specs.Order.{Row, value_cmp, column}
 use Rattle.sqlite_value.proofs.OrderLemmas.{then-Equal, value_cmp-Int}
 use Rattle.sqlite_value.specs.declared.keys.Key.{Key}
 use Rattle.sqlite.specs.Collation.TheVariants.{Binary}
-use Rattle.sqlite_trees.specs.Tree.{IsAscending}
 use Rattle.sqlite_rules.specs.Edit.{id_in}
 use Rattle.sqlite.specs.Term.{Term, col, lit}
 use Rattle.sqlite.specs.Query.{Query, Output, output, output_cmp}
 use Rattle.sqlite_sql.specs.Query.{IsAnswerAs}
 use Rattle.sqlite_sql.specs.Program.{overlay}
-use Rattle.sqlite.specs.Command.{Command}
-use Rattle.sqlite.specs.Command.TheVariants.{Select, Rows}
-use Rattle.sqlite.specs.declared.error.Error.TheVariants.{QueryReturnedNoRows}
-use Rattle.sqlite_trees.specs.declared.error.StoreError.{StoreError}
-use Rattle.sqlite_trees.specs.declared.error.StoreError.TheVariants.{OutOfMemory, Io, Corrupt, Full, Broken, Unstorable}
-use Rattle.sqlite.specs.Clock.{timed}
-use Rattle.sqlite.specs.Effect.{Database, Answers, RefusesToRead}
+use Rattle.sqlite.specs.Command.TheVariants.{Select}
+use Rattle.sqlite.specs.Effect.{Answers}
 use Rattle.sqlite.specs.Listing.{understood, reads_listing}
-use Rattle.sqlite.specs.State.{State, Shown, QueriesRow, IsUnchanged, FailsToQuery, FailsToShow, IsNotRun, store_error}
+use Rattle.sqlite.specs.State.{State, Shown, QueriesRow}
 use Rattle.sqlite_tied.specs.Compute.{everything}
 use Rattle.sqlite.proofs.Callers.{IsPlain, reads_as, first_as, command_of}
 use Rattle.bson_table.specs.Schema.{documents_schema}

@@ -1,25 +1,21 @@
 -- A table of this schema that lists rows in order shows them.
-use Rattle.std.proofs.Common.{subst₂, ◌≡◌, ℕ, ℤ, List, [], ◌∷◌, ◌++◌, map, filter, drop, Bool, true, false, ◌&&◌, None, Some, refl, sym, ap, ap₂, subst, ◌∙◌, codes}
-use Rattle.std.specs.List.{list_all, AllByRecursion}
+use Rattle.std.proofs.Common.{subst₂, ◌≡◌, ℕ, List, [], ◌∷◌, map, filter, drop, true, false, ◌&&◌, Some, refl, sym, ap, ap₂, subst, ◌∙◌}
+use Rattle.std.specs.List.{AllByRecursion}
 use Rattle.std.specs.List.Sorted.{IsPermutation}
-use Rattle.std.proofs.lemmas.List.Sorted.{IsPermutation-map, IsPermutation-sym, IsPermutation-trans}
+use Rattle.std.proofs.lemmas.List.Sorted.{IsPermutation-map, IsPermutation-sym}
 use Rattle.std.proofs.lemmas.Bool.{and_parts}
 use Rattle.sqlite.specs.declared.types.Value.TheVariants.{Null}
-use Rattle.sqlite.specs.Order.{Row, column}
-use Rattle.sqlite_trees.specs.Tree.{Trees}
-use Rattle.sqlite_sql.specs.Query.{Query, IsAnswerAs, Output, output}
+use Rattle.sqlite.specs.Order.{Row}
+use Rattle.sqlite_sql.specs.Query.{IsAnswerAs, Output, output}
 use Rattle.sqlite_sql.specs.Program.{overlay}
-use Rattle.sqlite_schema.specs.declared.schema.Constraint.{Constraint}
 use Rattle.sqlite_schema.specs.declared.schema.Constraint.TheVariants.{Datatype, NotNull}
 use Rattle.sqlite_schema.specs.Rules.{passes, are_typed, are_present, has_computed}
 use Rattle.sqlite.specs.Effect.{Database, IsDatabase, Answers}
 use Rattle.sqlite.specs.Command.TheVariants.{Select}
-use Rattle.sqlite.specs.State.{State, Shown, IsUnchanged}
+use Rattle.sqlite.specs.State.{State}
 use Rattle.sqlite.proofs.Callers.{reads_as}
-use Rattle.std.proofs.Common.{IsTrue}
 use Rattle.bson_table.specs.Schema.{documents, documents_schema}
 use Rattle.bson_table.specs.Rows.{Doc, stored, HasRows, Shows, IsRising}
-use Rattle.bson_table.specs.Cells.{is_listed, doc_of}
 use Rattle.bson_table.specs.Open.{all_text, Reads}
 use Rattle.bson_table.specs.Check.{AreGood}
 use Rattle.bson_table.proofs.Texts.{all_query, all_is, all_plain, program}

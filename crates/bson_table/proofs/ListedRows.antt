@@ -1,11 +1,11 @@
 -- A listed row as the table stores it.
-use Rattle.std.proofs.Common.{◌≡◌, ℕ, List, [], ◌∷◌, map, true, ◌&&◌, refl, ap₂}
+use Rattle.std.proofs.Common.{◌≡◌, List, [], ◌∷◌, map, true, ◌&&◌, refl, ap₂}
 use Rattle.std.specs.List.{list_all}
 use Rattle.std.proofs.lemmas.Bool.{and_parts}
 use Rattle.sqlite.specs.declared.types.Value.{Value}
 use Rattle.sqlite.specs.declared.types.Value.TheVariants.{Null, Int, Real, Text, Blob}
 use Rattle.sqlite.specs.Order.{Row, column}
-use Rattle.bson_table.specs.Rows.{Doc, stored}
+use Rattle.bson_table.specs.Rows.{stored}
 use Rattle.bson_table.specs.Cells.{is_int, is_text, is_blob, is_listed, int_in, bytes_in, doc_of}
 
 an_int : (v : Value) → is_int v ≡ true → v ≡ Int (int_in v)

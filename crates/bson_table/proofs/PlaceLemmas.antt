@@ -1,15 +1,14 @@
 -- One row by its place.
-use Rattle.std.proofs.Common.{◌≡◌, ◌⊎◌, inl, inr, ◌<ℤ◌, ℕ, ℤ, pos, List, [], ◌∷◌, ◌++◌, map, filter, Bool, true, false, not, cond, if◌then◌else◌, refl, sym, ap, subst, ◌∙◌, arith, rules, Ordering, Less, Equal, Greater, int_cmp, is_eq}
+use Rattle.std.proofs.Common.{◌≡◌, ◌⊎◌, inl, inr, ◌<ℤ◌, ℕ, ℤ, List, [], ◌∷◌, map, filter, Bool, true, false, not, cond, if◌then◌else◌, refl, ap, subst, ◌∙◌, arith, Less, Equal, Greater, int_cmp, is_eq}
 use Rattle.std.specs.List.{AllByRecursion}
 use lib.Signed.{lt_z}
-use Rattle.std.specs.Ordering.{int_eq}
 use Rattle.std.proofs.lemmas.Int.{ints}
 use Rattle.std.proofs.lemmas.Bool.{cases_Bool}
 use Rattle.std.proofs.lemmas.Bool.Decides.{nat_tests}
 use Rattle.sqlite.specs.declared.types.Value.TheVariants.{Int}
-use Rattle.sqlite_value.specs.Order.{Row, value_cmp}
+use Rattle.sqlite_value.specs.Order.{value_cmp}
 use Rattle.sqlite_value.proofs.OrderLemmas.{value_cmp-Int}
-use Rattle.sqlite_trees.specs.Tree.{put_row, has_rowid, without_rowid, IsAscending}
+use Rattle.sqlite_trees.specs.Tree.{put_row, has_rowid, without_rowid}
 use Rattle.bson_table.specs.Rows.{Doc, stored, IsRising, is_at, without, with_body, replaced}
 
 -- three ways that two places compare

@@ -1,35 +1,30 @@
 -- What the queries answer, and that they change nothing.
-use Rattle.std.proofs.Common.{codes, subst₂, Vec, ap₂, Equal, suc, add-one, ltb, eqb, bytes_eq, ◌≡◌, ◌⊎◌, inl, inr, ◌<ℤ◌, ◌≤ℤ◌, ℕ, ℤ, pos, ◌+◌, ◌≤◌, List, [], ◌∷◌, ◌++◌, append-nil, map, filter, Bool, true, false, cond, ◌&&◌, None, Some, Ok, Err, Result, IfOk, IfErr, OnOk, OnErr, refl, sym, ap, subst, ◌∙◌, IsTrue, arith, is_eq, is_lt, length, get_or, option_map, find, slice_get}
+use Rattle.std.proofs.Common.{ap₂, Equal, suc, add-one, ltb, eqb, bytes_eq, ◌≡◌, ◌<ℤ◌, ◌≤ℤ◌, ℕ, ℤ, List, [], ◌∷◌, map, filter, Bool, true, false, cond, ◌&&◌, Some, refl, sym, ap, ◌∙◌, arith, is_eq, is_lt, option_map, find, slice_get}
 use Rattle.std.specs.List.{AllByRecursion, list_all, sum_by}
-use Rattle.std.specs.List.Sorted.{IsPermutation, IsSorted}
-use Rattle.std.specs.Ordering.{int_eq, int_cmp, ordering_then, nat_cmp}
+use Rattle.std.specs.List.Sorted.{IsSorted}
+use Rattle.std.specs.Ordering.{int_cmp, ordering_then, nat_cmp}
 use Rattle.std.specs.Cmp.Lexicographic.{slice_cmp}
 use Rattle.std.proofs.lemmas.Int.{ints}
 use Rattle.std.proofs.lemmas.Bool.Decides.{nat_tests}
-use Rattle.std.proofs.lemmas.List.Sorted.{IsPermutation-map, All-permutation, sum_by-IsPermutation}
+use Rattle.std.proofs.lemmas.List.Sorted.{All-permutation, sum_by-IsPermutation}
 use Rattle.std.proofs.lemmas.List.Elements.{All-from_recursion, recursion_from_All}
 use Rattle.sqlite.specs.declared.types.Value.{Value}
-use Rattle.sqlite.specs.declared.types.Value.TheVariants.{Null, Int, Text, Blob}
-use Rattle.sqlite.specs.declared.error.Error.{Error}
+use Rattle.sqlite.specs.declared.types.Value.TheVariants.{Int, Text, Blob}
 use Rattle.sqlite.specs.Order.{Row, value_cmp, column}
 use Rattle.sqlite_value.proofs.OrderLemmas.{then-Equal, value_cmp-Int, value_cmp-Text, value_cmp-Blob}
-use Rattle.sqlite_trees.specs.Tree.{IsAscending}
 use Rattle.sqlite_rules.specs.Edit.{id_in}
 use Rattle.sqlite.specs.Term.{Term, col}
 use Rattle.sqlite_sql.specs.Term.{holds}
 use Rattle.sqlite.specs.Query.{Output, output, output_cmp}
 use Rattle.sqlite.specs.Command.TheVariants.{Select}
-use Rattle.sqlite.specs.Effect.{Database, Answers}
-use Rattle.sqlite.specs.Clock.{timed}
+use Rattle.sqlite.specs.Effect.{Answers}
 use Rattle.sqlite.specs.Listing.{understood, reads_listing}
-use Rattle.std.specs.declared.alloc.Global.{Global}
 use Rattle.sqlite_value.specs.declared.keys.Key.{Key}
 use Rattle.sqlite.specs.Given.{IsPlain}
-use Rattle.sqlite.specs.State.{State, HasCleanDisk, Survives, IsUnchanged, IsNotRun, FailsToQuery, Shown, ShowsRows, FailsToShow, CommitsShowing, Begins}
-use Rattle.sqlite.proofs.StateLemmas.{survives_weaker}
+use Rattle.sqlite.specs.State.{State, Shown}
 use Rattle.sqlite.proofs.Callers.{reads_as, command_of}
 use Rattle.bson_table.specs.Schema.{documents_schema}
-use Rattle.bson_table.specs.Rows.{Doc, stored, HasRows, Shows, IsRising, is_named, is_in}
+use Rattle.bson_table.specs.Rows.{Doc, stored, Shows, IsRising, is_named, is_in}
 use Rattle.bson_table.proofs.AnswerLemmas.{Outputs, outputs_of, equal_is}
 use Rattle.bson_table.proofs.SortLemmas.{same_order, Strict, Rises}
 use Rattle.bson_table.proofs.Texts.{plain_query, program, equals, by_place, find_text, find_is, find_plain}

@@ -1,16 +1,16 @@
 -- How edits change the rows.
-use Rattle.std.proofs.Common.{◌≡◌, ◌<ℤ◌, ℕ, ℤ, pos, List, [], ◌∷◌, ◌++◌, map, Bool, true, false, cond, refl, sym, ap, subst, ◌∙◌, arith, rules, Ordering, Less, Equal, Greater, int_cmp, is_eq}
+use Rattle.std.proofs.Common.{◌≡◌, ◌<ℤ◌, ℤ, List, [], ◌∷◌, ◌++◌, map, Bool, true, false, cond, refl, ap, ◌∙◌, arith, Less}
 use Rattle.std.specs.List.{AllByRecursion}
 use Rattle.std.proofs.lemmas.Int.{ints}
 use Rattle.sqlite.specs.declared.types.Value.{Value}
-use Rattle.sqlite.specs.declared.types.Value.TheVariants.{Null, Int, Text, Blob}
-use Rattle.sqlite_value.specs.Order.{Row, value_cmp}
+use Rattle.sqlite.specs.declared.types.Value.TheVariants.{Null, Int}
+use Rattle.sqlite_value.specs.Order.{value_cmp}
 use Rattle.sqlite_value.proofs.OrderLemmas.{value_cmp-Int}
 use Rattle.sqlite_sql.specs.Ops.{unary}
-use Rattle.sqlite_trees.specs.Tree.{Trees, rowid, put_row, IsAscending}
+use Rattle.sqlite_trees.specs.Tree.{put_row}
 use Rattle.sqlite_schema.specs.declared.schema.Kind.TheVariants.{Integer}
 use Rattle.sqlite_rules.specs.Cast.{cast}
-use Rattle.bson_table.specs.Rows.{Doc, stored, IsRising, AreBelow, HasRows}
+use Rattle.bson_table.specs.Rows.{Doc, stored, IsRising, AreBelow}
 
 either : (b : Bool) (x : Value) → cond b x x ≡ x
 either true x = refl

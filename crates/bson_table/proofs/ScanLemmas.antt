@@ -12,7 +12,7 @@ use Rattle.sqlite.specs.Collation.TheVariants.{Binary}
 use Rattle.std.specs.List.{list_all}
 use Rattle.sqlite.specs.Command.TheVariants.{Select}
 use Rattle.sqlite.specs.Listing.{understood, reads_listing}
-use Rattle.sqlite.specs.State.{State, Shown, Begins}
+use Rattle.sqlite.specs.State.{State}
 use Rattle.sqlite.proofs.Callers.{IsPlain, command_of, reads_as, begins_as}
 use Rattle.sqlite_tied.specs.Compute.{everything}
 use Rattle.bson_table.specs.Schema.{documents_schema}

@@ -1,10 +1,9 @@
 -- A set of names and keys, beside the rows that it stands for.
-use Rattle.std.proofs.Common.{◌≡◌, ◌++◌, ℕ, List, [], ◌∷◌, Bool, true, false, not, ◌&&◌, ◌||◌, bytes_eq, eqb, refl, sym, ap, ap₂, ◌∙◌, is_eq, arith, Less, Equal, Greater, Ordering, IsTrue, IfOk, Result, Ok, Err, Vec}
+use Rattle.std.proofs.Common.{◌≡◌, ◌++◌, ℕ, List, [], ◌∷◌, Bool, true, false, not, ◌&&◌, ◌||◌, bytes_eq, eqb, refl, sym, ap, ap₂, ◌∙◌, is_eq, arith, Less, Equal, Greater, Ordering, IsTrue, IfOk, Result, Ok, Err}
 use Rattle.std.specs.List.{list_any}
 use Rattle.std.specs.Ordering.{nat_cmp, ordering_then}
 use Rattle.std.specs.Cmp.Lexicographic.{slice_cmp}
 use Rattle.std.proofs.lemmas.Bool.Decides.{nat_tests}
-use Rattle.std.proofs.lemmas.Bool.{cases_Bool}
 use Rattle.std.specs.BTreeSet.{insert_key}
 use Rattle.bson_table.specs.Rows.{Doc, is_named}
 use Rattle.bson_table.specs.Seen.{Pair, has_pair, HasSeen}

@@ -1,22 +1,18 @@
 -- What holds of any statement: a refused one leaves the table, and what a crash may leave comes from its change.
-use Rattle.std.proofs.Common.{OnErr, ◌≡◌, ◌⊎◌, inl, inr, ℕ, List, [], ◌∷◌, ◌++◌, append-nil, Bool, true, false, None, Some, Ok, Err, Result, refl, sym, ap, subst, subst₂, ◌∙◌, IsTrue, if◌then◌else◌}
+use Rattle.std.proofs.Common.{OnErr, ◌≡◌, inl, inr, ℕ, List, append-nil, false, None, Ok, Err, Result, sym, ap, subst, subst₂, ◌∙◌, IsTrue}
 use Rattle.std.proofs.lemmas.Bool.{cases_Bool}
 use Rattle.sqlite.specs.Order.{Row}
 use Rattle.sqlite.specs.Tree.{Trees}
 use Rattle.sqlite.specs.Command.{Command}
-use Rattle.sqlite.specs.Command.TheVariants.{Commit, Release, Nothing}
-use Rattle.sqlite_resolve.specs.declared.compiled.Compiled.{Compiled}
-use Rattle.sqlite_resolve.specs.declared.error.CompileError.{CompileError}
+use Rattle.sqlite.specs.Command.TheVariants.{Commit, Release}
 use Rattle.sqlite_schema.specs.declared.schema.Schema.{Schema}
 use Rattle.sqlite.specs.declared.error.Error.{Error}
 use Rattle.sqlite.specs.Listing.{understood}
 use Rattle.sqlite.specs.Effect.{Database, IsDatabase}
 use Rattle.sqlite.specs.Does.{Tally, Does}
-use Rattle.sqlite.specs.Clock.{timed}
-use Rattle.sqlite.specs.State.{HasCleanDisk, State, mode_of, Executes, ExecutesIn, IsUnchanged, IsRolledBack, IsNotRun, RunsAlone, RunsCommand, shows_rows, CommitsBy, MayCommit, MayWrite, text_of, Writes}
+use Rattle.sqlite.specs.State.{HasCleanDisk, State, mode_of, Executes, ExecutesIn, IsUnchanged, IsRolledBack, IsNotRun, shows_rows, CommitsBy, MayCommit, text_of}
 use Rattle.sqlite.specs.Given.{IsPlain}
 use Rattle.sqlite.proofs.Callers.{command_of, statement_of}
-use Rattle.bson_table.specs.Schema.{documents_schema}
 use Rattle.bson_table.specs.Rows.{Doc, HasRows, Shows}
 
 pub unchanged_shows : (old new : State) (docs : List Doc) → Shows old docs → IsUnchanged old new → Shows new docs

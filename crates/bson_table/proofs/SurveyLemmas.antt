@@ -1,8 +1,7 @@
 -- What an open says of what it read.
-use Rattle.std.proofs.Common.{◌≡◌, ◌≢◌, ◌⊎◌, inl, inr, ℕ, List, [], Bool, true, false, Option, Some, None, is_some, Result, Ok, Err, OnOk, OnErr, IfErr, IsTrue, sym, ap, subst, ◌∙◌, refl}
+use Rattle.std.proofs.Common.{◌≡◌, ◌≢◌, ◌⊎◌, inl, inr, ℕ, List, [], true, false, Option, Some, None, is_some, Result, Ok, Err, OnOk, IfErr, IsTrue, sym, ap, subst, ◌∙◌, refl}
 use Rattle.sqlite_tied.specs.Compute.{everything}
-use Rattle.sqlite.specs.Tree.{Trees}
-use Rattle.sqlite.specs.State.{State, Survives, IsLive, IsUnchanged}
+use Rattle.sqlite.specs.State.{State, Survives, IsLive}
 use Rattle.sqlite.proofs.StateLemmas.{survives_weaker}
 use Rattle.sqlite_schema.specs.Names.{table_named}
 use Rattle.bson_table.specs.declared.opening.OpenError.{OpenError}
@@ -10,7 +9,7 @@ use Rattle.bson_table.specs.declared.opening.OpenError.TheVariants.{NotAStore, B
 use Rattle.bson_table.specs.Schema.{documents_schema, no_schema}
 use Rattle.bson_table.specs.Rows.{Doc, HasRows, Shows, IsBlank}
 use Rattle.bson_table.specs.Check.{AreGood}
-use Rattle.bson_table.specs.Open.{Refuses, Passes, Opened, Unopened, Makes, HasTable, HasNoTable, IsTaken, table_name}
+use Rattle.bson_table.specs.Open.{Refuses, Passes, Opened, Unopened, Makes, HasTable, HasNoTable, table_name}
 use Rattle.bson_table.proofs.StatementLemmas.{unchanged_shows}
 use Rattle.bson_table.proofs.UniqueLemmas.{one_list}
 use Rattle.bson_table.proofs.ListedLemmas.{listed_shows}

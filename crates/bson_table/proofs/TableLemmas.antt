@@ -1,11 +1,10 @@
 -- What the calls of the table say of its rows.
-use Rattle.std.proofs.Common.{◌≡◌, ◌≢◌, ◌⊎◌, inl, inr, Bool, ◌+ℤ◌, ◌++◌, ◌∷◌, [], ℕ, ℤ, pos, List, map, filter, find, Option, Some, None, option_map, Result, Ok, Err, IsTrue, IfErr, IsErrAnd, refl, sym, ap, ap₂, subst, ◌∙◌, arith}
-use Rattle.sqlite.specs.declared.types.Value.TheVariants.{Int, Text, Blob}
+use Rattle.std.proofs.Common.{◌≡◌, ◌≢◌, inl, inr, Bool, ◌+ℤ◌, ◌++◌, ◌∷◌, [], ℕ, ℤ, pos, List, map, Option, Some, None, option_map, Result, Ok, Err, IsErrAnd, refl, sym, ap, ap₂, subst, ◌∙◌, arith}
+use Rattle.sqlite.specs.declared.types.Value.TheVariants.{Text}
 use Rattle.sqlite.specs.declared.error.Error.{Error}
 use Rattle.sqlite.specs.declared.error.Error.TheVariants.{SqliteFailure}
 use Rattle.sqlite.specs.declared.error.ErrorCode.TheVariants.{OutOfMemory}
 use Rattle.sqlite.specs.Order.{Row, column}
-use Rattle.sqlite.specs.Tree.{Trees}
 use Rattle.sqlite.specs.Effect.{Database}
 use Rattle.sqlite.specs.State.{State, HasCleanDisk, Survives, IsUnchanged}
 use Rattle.sqlite.proofs.StateLemmas.{survives_then}
@@ -60,10 +59,10 @@ pub crash_written : (old mid new : State) (change made : List Doc → List Doc) 
 crash_written old mid new change made same first later is =
     survives_then old mid new (λ _. ⊥) (λ trees. (docs : List Doc) → Shows mid docs → HasRows trees (made docs)) (λ trees. (docs : List Doc) → Stands old docs → HasRows trees (change docs)) (λ _ db none. absurd none)
     (λ clean db commits docs stands.
-        let early : HasCleanDisk mid = omega (arith, clean, later.clean) in
-        let u = same early in
-        let h = stands u.0.was_open in
-        subst (λ (ds : List Doc). HasRows db ds) (is early docs h) (commits docs (unchanged_shows old mid docs h u))) first later
+    let early : HasCleanDisk mid = omega (arith, clean, later.clean) in
+    let u = same early in
+    let h = stands u.0.was_open in
+    subst (λ (ds : List Doc). HasRows db ds) (is early docs h) (commits docs (unchanged_shows old mid docs h u))) first later
 
 -- a visit that is refused: whatever was taken is a beginning
 pub visits_refused : {V : Type 0} (took : V → List (List ℕ) → Type 0) (first last : V) (coll : List ℕ) (old : State) (docs : List Doc) → Stands old docs → (r : Result Bool Fault) (why : Error) → IsErrAnd r (λ e. e ≡ fault_of why)

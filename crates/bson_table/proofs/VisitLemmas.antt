@@ -1,17 +1,14 @@
 -- Rows that are taken one at a time.
-use Rattle.std.proofs.Common.{◌≡◌, ◌⊎◌, inl, inr, ℕ, List, [], ◌∷◌, ◌++◌, map, filter, Bool, true, Ok, Err, Result, IfOk, OnOk, OnErr, IsTrue, refl, sym, ap, subst, ◌∙◌, codes}
-use Rattle.sqlite.specs.declared.error.Error.{Error}
+use Rattle.std.proofs.Common.{◌≡◌, inr, ℕ, List, [], ◌∷◌, ◌++◌, map, Ok, refl, sym, ap, subst}
 use Rattle.sqlite.specs.Order.{Row}
 use Rattle.sqlite.specs.Effect.{Database}
 use Rattle.sqlite.specs.Listing.{understood, reads_listing, IsSourceOf}
 use Rattle.sqlite.specs.Held.{Held, state}
 use Rattle.sqlite.specs.Given.{HasGiven}
 use Rattle.sqlite_trees.specs.declared.store.Store as store
-use Rattle.sqlite.specs.State.{State, Shown, ShowsRows, Begins, IsUnchanged, FailsToQuery}
+use Rattle.sqlite.specs.State.{State, Shown, ShowsRows, Begins, IsUnchanged}
 use Rattle.sqlite.specs.Clock.{timed}
 use Rattle.sqlite.proofs.Callers.{given_begin, unchanged_then}
-use Rattle.sqlite_resolve.specs.Compile.{first}
-use Rattle.sqlite_tied.specs.Compute.{everything}
 use Rattle.bson_table.specs.Visit.{IsSelect, TookSome, value_of}
 use Rattle.bson_table.proofs.AnyLemmas.{bare}
 

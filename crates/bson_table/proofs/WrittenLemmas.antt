@@ -1,5 +1,5 @@
 -- What a prepared statement that writes leaves.
-use Rattle.std.proofs.Common.{◌≡◌, inl, inr, List, Result, Ok, Err, OnOk, IsErr, IsTrue, ℕ, arith}
+use Rattle.std.proofs.Common.{inl, inr, List, Result, Ok, Err, OnOk, IsErr, IsTrue, ℕ, arith}
 use Rattle.sqlite.specs.Order.{Row}
 use Rattle.sqlite.specs.Tree.{Trees}
 use Rattle.sqlite.specs.declared.error.Error.{Error}

@@ -1,5 +1,5 @@
 -- What a call of the table does to its rows.
-use Rattle.std.specs.Prelude.{◌≡◌, ◌≢◌, ◌+ℤ◌, ◌<ℤ◌, ◌^◌, ◌++◌, ◌∷◌, [], ℕ, ℤ, pos, List, length, map, filter, find, Option, option_map, Result, Bool, IsTrue, IfOk, IfErr, OnOk, OnErr, Vec}
+use Rattle.std.specs.Prelude.{◌≡◌, ◌≢◌, ◌+ℤ◌, ◌<ℤ◌, ◌^◌, ◌++◌, ◌∷◌, [], ℕ, ℤ, pos, List, map, filter, find, Option, option_map, Result, Bool, IsTrue, IfOk, IfErr, OnOk, OnErr, Vec}
 use Rattle.std.specs.List.{list_any}
 use Rattle.std.specs.declared.alloc.Global.{Global}
 use Rattle.std.specs.BTreeSet.{BTreeSet}

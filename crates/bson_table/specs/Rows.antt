@@ -1,11 +1,11 @@
 -- The rows of the table, and what a connection shows of them.
 use Rattle.std.specs.Ordering.{int_eq}
 use Rattle.bson_table.specs.declared.row.NewRow.{NewRow}
-use Rattle.std.specs.Prelude.{◌+ℤ◌, pos, not, ◌&&◌, filter, bytes_eq, if◌then◌else◌, ◌≡◌, ◌<ℤ◌, ℕ, ℤ, Bool, false, List, [], ◌∷◌, ◌++◌, map, IsTrue}
+use Rattle.std.specs.Prelude.{◌+ℤ◌, pos, not, ◌&&◌, filter, bytes_eq, if◌then◌else◌, ◌≡◌, ◌<ℤ◌, ℕ, ℤ, Bool, false, List, [], ◌∷◌, map, IsTrue}
 use Rattle.std.specs.List.{AllByRecursion}
 use Rattle.std.specs.List.Sorted.{IsPermutation}
 use Rattle.sqlite.specs.declared.types.Value.TheVariants.{Null, Int, Text, Blob}
-use Rattle.sqlite_value.specs.Order.{Row, column, bytes}
+use Rattle.sqlite_value.specs.Order.{Row}
 use Rattle.sqlite_trees.specs.Tree.{Trees, IsAscending}
 use Rattle.sqlite.specs.State.{State}
 use Rattle.bson_table.specs.Schema.{documents_schema, no_schema}

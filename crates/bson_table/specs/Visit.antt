@@ -1,5 +1,5 @@
 -- Values that are taken one after the other.
-use Rattle.std.specs.Prelude.{◌≡◌, ◌⊎◌, ℕ, Bool, true, false, List, [], ◌++◌, map, codes, Result, Ok, Err, IsTrue, OnOk, OnErr}
+use Rattle.std.specs.Prelude.{◌≡◌, ◌⊎◌, ℕ, Bool, true, false, List, [], map, codes, Result, Ok, Err, IsTrue, OnOk, OnErr}
 use Rattle.sqlite_value.specs.Order.{Row, column}
 use Rattle.sqlite_ast.specs.declared.Statement.{Statement}
 use Rattle.sqlite_ast.specs.declared.Statement.TheVariants as written

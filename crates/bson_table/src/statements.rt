@@ -97,7 +97,10 @@ pub(crate) fn greatest<S: Alter>(conn: &mut Connection<S>) -> Result<i64, Error>
     ensures read { HasCleanDisk (state S.Store conn.new) → IsRead (state S.Store conn.old) (state S.Store conn.new) result }
     ensures crash { Survives (state S.Store conn.old) (state S.Store conn.new) (λ _. ⊥) }
 {
-    match conn.query_row("SELECT place FROM documents ORDER BY place DESC LIMIT 1", &[]) {
+    match conn.query_row(
+        "SELECT place FROM documents ORDER BY place DESC LIMIT 1",
+        &[],
+    ) {
         Ok(row) => Ok(place_in(&row)),
         Err(Error::QueryReturnedNoRows) => Ok(0),
         Err(error) => Err(error),

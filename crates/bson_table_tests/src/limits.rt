@@ -32,50 +32,92 @@ fn a_refused_open_changes_nothing(rt: HostRuntime) -> Result<(), Fail> {
     Ok(())
 }
 
-/// An answer of a call, as a number; a refusal is -1, and has to be one of the database.
-fn told<T: Drop>(rt: &impl Abort, answer: Result<T, Fault>) -> i64 {
+/// Whether a call was accepted; a refusal has to be one of the database.
+fn told<T: Drop>(rt: &impl Abort, answer: Result<T, Fault>) -> bool {
     match answer {
-        Ok(_) => 1,
+        Ok(_) => true,
         Err(fault) => {
             assert_eq!(rt; fault, Fault::Database);
-            0
+            false
         }
     }
 }
 
-/// Changes the rows under a limit on steps, and says what the number of the rows has to be by the changes that were accepted.
-fn changed(rt: &impl Abort, alloc: Global, table: &mut Table<MemStore>) -> (i64, i64) {
-    let first = told(rt, append(table, "c", 1));
-    if first == 0 {
-        return (0, 0);
+/// What the calls under a limit came to: how many were accepted, and what the rows have to be.
+#[derive(Clone, Copy)]
+struct Sum {
+    accepted: i64,
+    rows: i64,
+    state: i64,
+}
+
+impl Sum {
+    /// One more call; where it was accepted, so much is added to the number that tells the rows.
+    fn and(self, is_accepted: bool, change: i64) -> Sum {
+        if !is_accepted {
+            return self;
+        }
+        Sum {
+            accepted: self.accepted.wrapping_add(1),
+            rows: self.rows,
+            state: self.state.wrapping_add(change),
+        }
     }
-    let second = told(rt, append(table, "c", 2));
-    let two = told(rt, append_two(alloc, table, 3, 4));
-    let longer = told(rt, change(alloc, table, 1));
-    let reads = read(rt, table);
-    let gone = if second == 1 {
-        told(rt, remove(alloc, table, 2))
+
+    /// One more row, with a body of so many bytes.
+    fn and_row(self, bytes: i64) -> Sum {
+        let rows = self.rows.wrapping_add(1);
+        Sum {
+            accepted: self.accepted,
+            rows,
+            state: self
+                .state
+                .wrapping_add(10000)
+                .wrapping_add(rows.wrapping_mul(100))
+                .wrapping_add(bytes),
+        }
+    }
+}
+
+const NONE: Sum = Sum {
+    accepted: 0,
+    rows: 0,
+    state: 0,
+};
+
+fn one_more(rt: &impl Abort, table: &mut Table<MemStore>, key: u8, sum: Sum) -> Sum {
+    if told(rt, append(table, "c", key)) {
+        sum.and(true, 0).and_row(2)
     } else {
-        0
-    };
-    let places = [first, second, two, two];
-    let mut want = 3 * longer;
-    let mut place = 0;
-    for made in places {
-        if made == 1 {
-            place += 1;
-            want += 10000 + place * 100 + 2;
-        }
+        sum
     }
-    want += 2 * two - gone * 10202;
-    (want, first + second + two + longer + reads + gone)
 }
 
-fn read(rt: &impl Abort, table: &mut Table<MemStore>) -> i64 {
-    let found = told(rt, place_of(table, "c", 1));
-    let names = told(rt, collections(table));
+fn two_more(rt: &impl Abort, alloc: Global, table: &mut Table<MemStore>, sum: Sum) -> Sum {
+    if told(rt, append_two(alloc, table, 3, 4)) {
+        sum.and(true, 0).and_row(3).and_row(3)
+    } else {
+        sum
+    }
+}
+
+fn read(rt: &impl Abort, table: &mut Table<MemStore>, sum: Sum) -> Sum {
+    let is_found = told(rt, place_of(table, "c", 1));
+    let are_named = told(rt, collections(table));
     let (_, _, all) = taken(table, "c", 100);
-    found + names + told(rt, all)
+    sum.and(is_found, 0).and(are_named, 0).and(told(rt, all), 0)
+}
+
+/// Changes the rows under a limit on steps. The first row is there at each limit.
+fn changed(rt: &impl Abort, alloc: Global, table: &mut Table<MemStore>) -> Sum {
+    let sum = one_more(rt, table, 1, NONE);
+    let sum = one_more(rt, table, 2, sum);
+    let sum = two_more(rt, alloc, table, sum);
+    let is_longer = told(rt, change(alloc, table, 1));
+    let sum = read(rt, table, sum.and(is_longer, 3));
+    let is_gone = told(rt, remove(alloc, table, 1));
+    let bytes = if is_longer { 5 } else { 2 };
+    sum.and(is_gone, -10100 - bytes)
 }
 
 /// Runs the calls with a limit from before the open on, and gives the number of those that were accepted.
@@ -83,11 +125,11 @@ fn run(rt: &impl Abort, alloc: Global, limit: u64) -> Result<i64, Fail> {
     let mut conn = memory(alloc)?;
     conn.set_step_limit(Some(limit));
     let mut table = open(alloc, conn)?;
-    let (want, accepted) = changed(rt, alloc, &mut table);
+    let sum = changed(rt, alloc, &mut table);
     let mut conn = table.close();
     conn.set_step_limit(None);
-    is(rt, state_of(&mut conn), want);
-    Ok(accepted)
+    is(rt, state_of(&mut conn), sum.state);
+    Ok(sum.accepted)
 }
 
 #[test]

@@ -1,4 +1,4 @@
-use Rattle.std.proofs.Common.{◌≡◌, true, false, IsTrue, rules}
+use Rattle.std.proofs.Common.{IsTrue, rules}
 use Rattle.bson_table.specs.Cells.{doc_of}
 use Rattle.bson_table.proofs.SeenLemmas.{seen_more, ok_const}
 use Rattle.bson_table.proofs.check.is_good_after.Goals as goal

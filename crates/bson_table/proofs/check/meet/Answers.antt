@@ -1,4 +1,4 @@
-use Rattle.std.proofs.Common.{◌≡◌, ◌&&◌, ◌||◌, ℕ, not, List, bytes_eq, true, false, IsTrue, ap, ap₂, ◌∙◌, is_eq, rules}
+use Rattle.std.proofs.Common.{◌≡◌, ◌&&◌, ◌||◌, not, bytes_eq, true, false, ap, ap₂, ◌∙◌, is_eq, rules}
 use Rattle.std.specs.List.{list_any}
 use Rattle.bson_table.specs.Seen.{Pair, has_pair}
 use Rattle.bson_table.proofs.SeenLemmas.{pair_cmp, contains_is, inserted, was_absent}

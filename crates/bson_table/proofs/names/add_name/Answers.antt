@@ -1,4 +1,4 @@
-use Rattle.std.proofs.Common.{◌≡◌, ◌||◌, ℕ, List, bytes_eq, ap, ◌∙◌}
+use Rattle.std.proofs.Common.{◌||◌, bytes_eq, ap, ◌∙◌}
 use Rattle.bson_table.specs.Names.{has_name}
 use Rattle.bson_table.proofs.NameLemmas.{name_inserted}
 use Rattle.bson_table.proofs.names.add_name.Goals as goal

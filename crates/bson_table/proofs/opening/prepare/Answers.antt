@@ -1,6 +1,5 @@
-use Rattle.std.proofs.Common.{rules, ◌≡◌, true, false, not, sym, ap, ◌∙◌, IsTrue}
+use Rattle.std.proofs.Common.{rules, ◌≡◌, false, sym, ◌∙◌}
 use Rattle.sqlite.specs.Held.{state}
-use Rattle.sqlite.specs.State.{State}
 use Rattle.bson_table.proofs.SurveyLemmas.{opened_if, says_if, made_by, makes_if}
 use Rattle.bson_table.proofs.opening.prepare.Goals as goal
 

@@ -1,9 +1,8 @@
-use Rattle.std.proofs.Common.{refl, [], ◌≡◌, List, map, Some, None, inl, inr, true, false, sym, ap, ◌∙◌, subst, rules}
+use Rattle.std.proofs.Common.{refl, [], ◌≡◌, List, map, inl, inr, true, sym, ◌∙◌, rules}
 use Rattle.std.specs.List.{list_all}
 use Rattle.sqlite.specs.Order.{Row}
-use Rattle.sqlite.specs.State.{State, HasCleanDisk, Shown, Survives}
+use Rattle.sqlite.specs.State.{State, Shown}
 use Rattle.sqlite.specs.Held.{state}
-use Rattle.bson_table.specs.Rows.{Doc}
 use Rattle.bson_table.specs.Cells.{is_listed, doc_of}
 use Rattle.bson_table.specs.Open.{all_text, Reads}
 use Rattle.bson_table.proofs.PlainLemmas.{listed_same, listing_leaves, not_understood, unread_keeps}

@@ -1,4 +1,4 @@
-use Rattle.std.proofs.Common.{take_all, subst₂, ◌≤◌, ◌≡◌, ◌<◌, ◌++◌, ◌∷◌, [], ℤ, pos, ◌+ℤ◌, List, take, length, append_assoc, sym, ap, subst, ◌∙◌, SFits, w64, to_z, of_z, rules, arith}
+use Rattle.std.proofs.Common.{take_all, subst₂, ◌≡◌, ◌<◌, ◌++◌, ◌∷◌, [], ℤ, pos, ◌+ℤ◌, List, take, length, append_assoc, sym, ap, subst, ◌∙◌, w64, to_z, of_z, rules, arith}
 use Rattle.std.proofs.lemmas.Int.{to_z-of_z, ints}
 use Rattle.sqlite.specs.State.{HasCleanDisk, Survives}
 use Rattle.sqlite.specs.Held.{state}

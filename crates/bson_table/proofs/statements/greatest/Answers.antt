@@ -1,4 +1,4 @@
-use Rattle.std.proofs.Common.{◌≡◌, [], rules, ap, sym, ◌∙◌}
+use Rattle.std.proofs.Common.{[], rules, ap, sym, ◌∙◌}
 use Rattle.sqlite.specs.Held.{state}
 use Rattle.bson_table.specs.Rows.{last_place}
 use Rattle.bson_table.specs.Cells.{int_in}

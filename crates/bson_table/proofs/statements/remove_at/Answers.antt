@@ -1,10 +1,9 @@
-use Rattle.std.proofs.Common.{◌≡◌, [], ◌∷◌, List, w64, to_z, of_z, arith}
+use Rattle.std.proofs.Common.{◌≡◌, [], ◌∷◌, w64, to_z, of_z, arith}
 use Rattle.std.proofs.lemmas.Int.{to_z-of_z}
 use Rattle.sqlite.specs.declared.types.Value.TheVariants.{Int}
 use Rattle.sqlite.specs.Held.{state}
-use Rattle.sqlite.specs.Tree.{Trees}
 use Rattle.sqlite.specs.State.{HasCleanDisk, Executes, CommitsBy}
-use Rattle.bson_table.specs.Rows.{Doc, HasRows, without}
+use Rattle.bson_table.specs.Rows.{HasRows, without}
 use Rattle.bson_table.proofs.ChangeLemmas.{removes, remove_commits}
 use Rattle.bson_table.proofs.WrittenLemmas.{not_prepared, written_by, written_err, crash_before, crash_after}
 use Rattle.bson_table.proofs.Texts.{delete_text}
@@ -29,9 +28,9 @@ returns-clause-crash g c =
     let same : to_z w64 (of_z w64 c.args.place) ≡ c.args.place = to_z-of_z w64 c.args.place c.ranges.place in
     crash_after old mid new _ (λ docs trees. HasRows trees (without c.args.place docs)) (λ clean. (c.in_ok-statement.ensures.ok clean).1) c.prepare.ensures.survives c.execute.ensures.survives
     (λ early docs shows db commits.
-        let made = c.in_ok-statement.ensures.ok early in
-        let it : CommitsBy delete_text (Int c.args.place ∷ []) mid db = rw (made.0, same) at commits in
-        remove_commits c.args.place mid new docs shows db it)
+    let made = c.in_ok-statement.ensures.ok early in
+    let it : CommitsBy delete_text (Int c.args.place ∷ []) mid db = rw (made.0, same) at commits in
+    remove_commits c.args.place mid new docs shows db it)
 
 pub returns-in_err-statement-clause-written : goal.returns-in_err-statement-clause-written
 returns-in_err-statement-clause-written g c clean =

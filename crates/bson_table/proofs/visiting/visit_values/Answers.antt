@@ -1,13 +1,11 @@
-use Rattle.std.proofs.Common.{◌≡◌, ℕ, List, [], ◌∷◌, ◌++◌, map, true, false, OnErr, IfErr, refl, sym, ap, subst, ◌∙◌, rules, arith}
+use Rattle.std.proofs.Common.{ℕ, List, [], ◌∷◌, ◌++◌, map, IfErr, refl, sym, ap, subst, ◌∙◌, rules, arith}
 use Rattle.sqlite.proofs.StateLemmas.{survives_then}
 use Rattle.sqlite.proofs.Callers.{unchanged_then}
-use Rattle.sqlite.specs.Order.{Row}
 use Rattle.sqlite.specs.Values.{bound}
-use Rattle.sqlite.specs.State.{State, HasCleanDisk, IsUnchanged, Survives, Shown, Begins, CommitsShowing, FailsToQuery}
+use Rattle.sqlite.specs.State.{HasCleanDisk, IsUnchanged, Survives, CommitsShowing, FailsToQuery}
 use Rattle.sqlite.specs.Held.{state}
 use Rattle.sqlite.specs.Given.{HasGiven}
-use Rattle.bson_table.specs.Rows.{Doc, Shows}
-use Rattle.bson_table.specs.Visit.{TookAll, TookSome, value_of}
+use Rattle.bson_table.specs.Visit.{TookAll, value_of}
 use Rattle.bson_table.proofs.AnyLemmas.{leaves_nothing, begun_any, read_err}
 use Rattle.bson_table.proofs.VisitLemmas.{took_some, shown_before, values_on}
 use Rattle.bson_table.proofs.visiting.visit_values.Goals as goal

@@ -1,10 +1,10 @@
-use Rattle.std.proofs.Common.{◌≡◌, ◌+ℤ◌, ◌<ℤ◌, ◌^◌, ◌++◌, ◌∷◌, [], ℤ, pos, List, w64, to_z, of_z, subst, sym, ap, ◌∙◌, arith, rules, refl}
+use Rattle.std.proofs.Common.{◌≡◌, ◌+ℤ◌, ◌<ℤ◌, ◌^◌, ◌++◌, ◌∷◌, [], ℤ, pos, w64, to_z, of_z, subst, sym, ap, ◌∙◌, arith, refl}
 use Rattle.std.proofs.lemmas.Int.{ints}
 use Rattle.sqlite.specs.Held.{state}
 use Rattle.sqlite.specs.Tree.{Trees}
 use Rattle.sqlite.specs.Effect.{Database}
 use Rattle.sqlite.specs.State.{HasCleanDisk}
-use Rattle.bson_table.specs.Rows.{Doc, AreBelow, HasRows, last_place}
+use Rattle.bson_table.specs.Rows.{AreBelow, HasRows}
 use Rattle.bson_table.specs.Moves.{appended}
 use Rattle.bson_table.proofs.TableLemmas.{stands_still, below_greatest, crash_written, appends_err, added_shows}
 use Rattle.bson_table.proofs.table.Table.append.Goals as goal
@@ -22,10 +22,14 @@ returns-in_err-add-clause-moves g c clean =
     let mid = state g.S.Store c.greatest.new.conn in
     let early : HasCleanDisk mid = omega (arith, clean, c.add.ensures.crash.clean) in
     let u = (c.in_ok-last.ensures.read early).unchanged in
-    let w = c.in_err-add.ensures.written clean u.0.is_open in
-    (omega (arith, clean, c.add.ensures.crash.clean, c.greatest.ensures.crash.clean), λ docs stands.
-        (docs, (λ still. let it = w.refused still in it.1 docs (stands_still old mid docs u stands it.0)),
-        appends_err 1 (appended c.args.coll.now c.args.idkey.now c.args.body.now) docs c.from_residual-in_err-add.result c.in_err-add.field-0.0 c.from_residual-in_err-add.ensures.1))
+    let w = c.in_err-add.ensures.written clean u.0.is_open in (
+      omega (arith, clean, c.add.ensures.crash.clean, c.greatest.ensures.crash.clean),
+      λ docs stands. (
+        docs,
+        (λ still. let it = w.refused still in it.1 docs (stands_still old mid docs u stands it.0)),
+        appends_err 1 (appended c.args.coll.now c.args.idkey.now c.args.body.now) docs c.from_residual-in_err-add.result c.in_err-add.field-0.0 c.from_residual-in_err-add.ensures.1,
+      ),
+    )
 
 pub returns-in_err-add-clause-crash : goal.returns-in_err-add-clause-crash
 returns-in_err-add-clause-crash g c =
@@ -48,13 +52,16 @@ returns-clause-moves g c clean =
     let fits : (c.in_ok-last.last +ℤ pos 1) <ℤ pos (2 ^ 63) = omega (arith, ints, sum.0, sum.1) in
     let early : HasCleanDisk mid = omega (arith, clean, c.add.ensures.crash.clean) in
     let u = (c.in_ok-last.ensures.read early).unchanged in
-    let w = c.in_ok-add.ensures.written clean u.0.is_open in
-    (omega (arith, clean, c.add.ensures.crash.clean, c.greatest.ensures.crash.clean), λ docs stands.
-        let h = stands u.0.was_open in
-        let greatest = c.in_ok-last.ensures.place early docs h in
-        (appended c.args.coll.now c.args.idkey.now c.args.body.now docs,
-        (λ _. added_shows old mid new c.in_ok-last.last Q c.args.coll.now c.args.idkey.now c.args.body.now docs u h greatest same (w.done.1 docs)),
-        record { done = refl; room = subst (λ (p : ℤ). (p +ℤ pos 1) <ℤ pos (2 ^ 63)) greatest fits; refused = tt; full = tt }))
+    let w = c.in_ok-add.ensures.written clean u.0.is_open in (
+      omega (arith, clean, c.add.ensures.crash.clean, c.greatest.ensures.crash.clean),
+      λ docs stands.
+          let h = stands u.0.was_open in
+          let greatest = c.in_ok-last.ensures.place early docs h in (
+            appended c.args.coll.now c.args.idkey.now c.args.body.now docs,
+            (λ _. added_shows old mid new c.in_ok-last.last Q c.args.coll.now c.args.idkey.now c.args.body.now docs u h greatest same (w.done.1 docs)),
+            record { done = refl; room = subst (λ (p : ℤ). (p +ℤ pos 1) <ℤ pos (2 ^ 63)) greatest fits; refused = tt; full = tt },
+          ),
+    )
 
 pub returns-clause-crash : goal.returns-clause-crash
 returns-clause-crash g c =

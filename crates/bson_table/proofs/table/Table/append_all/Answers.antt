@@ -1,7 +1,7 @@
-use Rattle.std.proofs.Common.{◌≡◌, ◌+ℤ◌, ◌++◌, ℤ, pos, List, w64, to_z, of_z, subst, sym, ap, ◌∙◌, arith}
+use Rattle.std.proofs.Common.{◌≡◌, ◌+ℤ◌, ◌++◌, ℤ, pos, w64, to_z, of_z, ap, ◌∙◌, arith}
 use Rattle.std.proofs.lemmas.Int.{ints}
 use Rattle.sqlite.specs.Held.{state}
-use Rattle.bson_table.specs.Rows.{Doc, AreBelow, docs_from, last_place}
+use Rattle.bson_table.specs.Rows.{docs_from}
 use Rattle.bson_table.specs.Moves.{all_appended}
 use Rattle.bson_table.proofs.TableLemmas.{below_greatest, crash_written}
 use Rattle.bson_table.proofs.table.Table.append_all.Goals as goal

@@ -1,4 +1,4 @@
-use Rattle.std.proofs.Common.{◌≡◌, false, IsTrue, refl, ◌∙◌, arith, rules}
+use Rattle.std.proofs.Common.{IsTrue, refl, ◌∙◌, arith, rules}
 use Rattle.sqlite.specs.Held.{state}
 use Rattle.bson_table.proofs.NameLemmas.{names_asks, names_of}
 use Rattle.bson_table.proofs.TableLemmas.{stands_still}
@@ -13,6 +13,8 @@ returns-clause-moves g c clean =
     let new = state g.S.Store c.visit_values.new.conn in
     let u = (c.in_ok-ended.ensures.read clean).unchanged in
     let all : IsTrue c.in_ok-ended.ended = c.if-not-ended.false in
-    let t = c.in_ok-ended.ensures.whole clean (search rules) all in
-    (omega (arith, clean, c.visit_values.ensures.crash.clean), λ docs stands.
-        (docs, stands_still old new docs u stands, record { same = refl; names = λ name. t.2 c.if-failed.false name ∙ names_of old new docs t.0 name (stands u.0.was_open) t.1; faults = tt }))
+    let t = c.in_ok-ended.ensures.whole clean (search rules) all in (
+      omega (arith, clean, c.visit_values.ensures.crash.clean),
+      λ docs stands.
+          (docs, stands_still old new docs u stands, record { same = refl; names = λ name. t.2 c.if-failed.false name ∙ names_of old new docs t.0 name (stands u.0.was_open) t.1; faults = tt }),
+    )
