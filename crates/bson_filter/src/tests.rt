@@ -54,7 +54,10 @@ fn looks_up(
 ) -> Result<(), Fail> {
     let document = RawDocument::from_bytes(&LETTERS)?;
     let (found, met) = look_up(document, &path(alloc, keys)?);
-    assert!(rt; found.map(|view| view.element_type()) == want.0, "at {keys}");
+    assert!(rt;
+        found.map(|view| view.element_type()) == want.0,
+        "at {keys}"
+    );
     assert_eq!(rt; met, want.1, "at {keys}");
     Ok(())
 }
@@ -89,8 +92,16 @@ fn filters_on_letters(rt: HostRuntime) -> Result<(), Fail> {
     selects_letters(&rt, &is_text(alloc, "v.7", "a")?, false)?;
     let letters = Bson::from_slice(alloc, &[Bson::from_text(alloc, "a")?])?;
     selects_letters(&rt, &Filter::Eq(path(alloc, "v")?, letters), true)?;
-    selects_letters(&rt, &Filter::Kind(path(alloc, "v")?, ElementType::Array), true)?;
-    selects_letters(&rt, &Filter::Kind(path(alloc, "x")?, ElementType::Array), false)?;
+    selects_letters(
+        &rt,
+        &Filter::Kind(path(alloc, "v")?, ElementType::Array),
+        true,
+    )?;
+    selects_letters(
+        &rt,
+        &Filter::Kind(path(alloc, "x")?, ElementType::Array),
+        false,
+    )?;
     selects_letters(&rt, &Filter::Exists(path(alloc, "x")?), false)
 }
 
@@ -120,16 +131,14 @@ fn both(alloc: Global, first: &str, second: &str) -> Result<Vec<Filter>, AllocEr
 }
 
 /// Whether `{v: kept}` is selected by what is asked of the value under `v`.
-fn means(
-    rt: &impl Abort,
-    alloc: Global,
-    kept: Bson,
-    asked: Bson,
-    want: bool,
-) -> Result<(), Fail> {
+fn means(rt: &impl Abort, alloc: Global, kept: Bson, asked: Bson, want: bool) -> Result<(), Fail> {
     let bytes = encode_document(alloc, &holding(alloc, kept)?)?;
     let filter = Filter::Eq(path(alloc, "v")?, asked);
-    assert_eq!(rt; selects(RawDocument::from_bytes(&bytes)?, &filter), want, "{filter:?}");
+    assert_eq!(rt;
+        selects(RawDocument::from_bytes(&bytes)?, &filter),
+        want,
+        "{filter:?}"
+    );
     Ok(())
 }
 
@@ -148,7 +157,14 @@ fn numbers_mean_themselves(rt: HostRuntime) -> Result<(), Fail> {
     means_itself(&rt, alloc, Bson::Int64(1 << 40))?;
     means_itself(&rt, alloc, Bson::Boolean(true))?;
     means_itself(&rt, alloc, Bson::DateTime(DateTime::from_millis(-1)))?;
-    means_itself(&rt, alloc, Bson::Timestamp(Timestamp { time: 5, increment: 6 }))?;
+    means_itself(
+        &rt,
+        alloc,
+        Bson::Timestamp(Timestamp {
+            time: 5,
+            increment: 6,
+        }),
+    )?;
     means_itself(&rt, alloc, Bson::ObjectId(ObjectId::from_bytes([7; 12])))?;
     means_itself(&rt, alloc, decimal([0x40, 0x30]))?;
     means_itself(&rt, alloc, Bson::Null)?;
@@ -174,7 +190,11 @@ fn texts_mean_themselves(rt: HostRuntime) -> Result<(), Fail> {
 #[test]
 fn containers_mean_themselves(rt: HostRuntime) -> Result<(), Fail> {
     let alloc = rt.alloc();
-    means_itself(&rt, alloc, Bson::from_slice(alloc, &[Bson::Int32(1), Bson::Null])?)?;
+    means_itself(
+        &rt,
+        alloc,
+        Bson::from_slice(alloc, &[Bson::Int32(1), Bson::Null])?,
+    )?;
     means_itself(&rt, alloc, Bson::Document(holding(alloc, Bson::Int32(1))?))?;
     means_itself(&rt, alloc, Bson::JavaScriptCodeWithScope(scoped(alloc)?))
 }
@@ -210,7 +230,13 @@ fn numbers_of_one_meaning(rt: HostRuntime) -> Result<(), Fail> {
     means(&rt, alloc, double(nan), double(nan + (1 << 63)), false)?;
     means(&rt, alloc, double(0), double(0), true)?;
     means(&rt, alloc, double(0), double(1 << 63), false)?;
-    means(&rt, alloc, decimal([0x10, 0x6C]), decimal([0x40, 0x30]), true)?;
+    means(
+        &rt,
+        alloc,
+        decimal([0x10, 0x6C]),
+        decimal([0x40, 0x30]),
+        true,
+    )?;
     means(&rt, alloc, Bson::Int32(1), Bson::Int64(1), false)
 }
 
@@ -226,7 +252,13 @@ fn pair(alloc: Global, keys: [&str; 2], values: [i32; 2]) -> Result<Bson, AllocE
 fn documents_of_one_meaning(rt: HostRuntime) -> Result<(), Fail> {
     let alloc = rt.alloc();
     let kept = pair(alloc, ["a", "b"], [1, 2])?;
-    means(&rt, alloc, kept.try_clone(alloc)?, pair(alloc, ["b", "a"], [2, 1])?, true)?;
+    means(
+        &rt,
+        alloc,
+        kept.try_clone(alloc)?,
+        pair(alloc, ["b", "a"], [2, 1])?,
+        true,
+    )?;
     means(&rt, alloc, kept, pair(alloc, ["b", "a"], [1, 2])?, false)?;
     means(&rt, alloc, regex(alloc, "im")?, regex(alloc, "mi")?, true)?;
     let items = Bson::from_slice(alloc, &[Bson::Int32(1), Bson::Int32(2)])?;
