@@ -1,11 +1,11 @@
 -- Elements that are copied where their keys are listed.
-use Rattle.std.proofs.Common.{◌≡◌, ℕ, ◌+◌, ◌-◌, ◌<◌, ◌≤◌, ◌^◌, List, [], ◌∷◌, ◌++◌, length, take, drop, map, Bool, true, false, cond, ◌||◌, String, string_bytes, bytes_eq, refl, sym, ap, ◌∙◌, subst, arith, append_assoc, append-nil, length-append, slice_range, OnOk, Result}
+use Rattle.std.proofs.Common.{◌≡◌, ℕ, ◌+◌, ◌-◌, ◌≤◌, List, [], ◌∷◌, ◌++◌, length, take, drop, true, false, cond, ◌||◌, String, string_bytes, bytes_eq, refl, sym, ap, ◌∙◌, arith, append_assoc, append-nil, length-append, slice_range}
 use Rattle.std.specs.declared.alloc.Global.{Global}
 use Rattle.std.specs.List.{list_any}
 use Rattle.std.proofs.Math.Seq.{take-append_seam}
 use Rattle.bson_base.specs.Tags.{tag_byte}
 use Rattle.bson_base.specs.Value.{Value, Members, no_members, member, value_kind}
-use Rattle.bson_bytes.specs.Encode.{le32, ended, framed, encode, value_bytes, members_bytes}
+use Rattle.bson_bytes.specs.Encode.{le32, ended, framed, members_bytes}
 use Rattle.bson_bytes.proofs.Lengths.{framed_length}
 use Rattle.bson_bytes.proofs.Spelled.{framed_inside}
 use Rattle.bson_frame.proofs.Frames.{nothing}
@@ -67,9 +67,9 @@ module _ (keys : Path) (whole : Members) (old new left : List ℕ) (e : Element)
     ahead = one.ahead;
     back = one.others;
     copied =
-      let tail = members_bytes (only keys one.more) in
-      let told = ap (λ b. new ++ members_bytes (cond b (member e.key one.value (only keys one.more)) (only keys one.more))) (sym listed) ∙ goal_so_far in
-      ap (λ (x : List ℕ). x ++ tail) (e_now ∙ ap (λ (x : List ℕ). new ++ x) is) ∙ append_assoc new (element_bytes e) tail ∙ ap (λ (x : List ℕ). new ++ x) (sym (member_front e one.value (only keys one.more) one.written)) ∙ told;
+        let tail = members_bytes (only keys one.more) in
+        let told = ap (λ b. new ++ members_bytes (cond b (member e.key one.value (only keys one.more)) (only keys one.more))) (sym listed) ∙ goal_so_far in
+        ap (λ (x : List ℕ). x ++ tail) (e_now ∙ ap (λ (x : List ℕ). new ++ x) is) ∙ append_assoc new (element_bytes e) tail ∙ ap (λ (x : List ℕ). new ++ x) (sym (member_front e one.value (only keys one.more) one.written)) ∙ told;
   }
 
   pub left_out : list_any (bytes_eq e.key) keys ≡ false → Copying keys whole old new rest

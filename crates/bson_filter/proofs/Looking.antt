@@ -1,5 +1,5 @@
 -- The walk over written members, up to the first with a key.
-use Rattle.std.proofs.Common.{◌≡◌, ℕ, suc, ◌+◌, ◌*◌, ◌-◌, ◌≤◌, List, [], ◌∷◌, ◌++◌, length, drop, Bool, true, false, cond, Option, Some, None, Ok, Err, bytes_eq, refl, sym, ap, ◌∙◌, subst, arith, length-append, length-drop, add-one}
+use Rattle.std.proofs.Common.{◌≡◌, ℕ, suc, ◌+◌, ◌≤◌, List, [], ◌∷◌, ◌++◌, length, drop, true, false, cond, Option, Some, None, Ok, Err, bytes_eq, refl, sym, ap, ◌∙◌, subst, arith, length-append, length-drop}
 use Rattle.bson_base.specs.Value.{Value, Members, no_members, member, look_up}
 use Rattle.bson_bytes.specs.Encode.{encode, members_bytes}
 use Rattle.bson_bytes.proofs.One.{end_no_frame}
@@ -9,8 +9,8 @@ use Rattle.bson_frame.specs.Frame.{Element, IsFirstFrame, HasNoFrame}
 use Rattle.bson_raw.specs.declared.element.RawElement.{RawElement}
 use Rattle.bson_raw.specs.View.{parts_of}
 use Rattle.bson_raw.specs.Walk.{steps_from}
-use Rattle.bson_filter.specs.Views.{ComesBack, ComeBack, IsWrittenFor, FindsElement}
-use Rattle.bson_filter.proofs.Members.{Next, next, none_left}
+use Rattle.bson_filter.specs.Views.{ComeBack, IsWrittenFor, FindsElement}
+use Rattle.bson_filter.proofs.Members.{next, none_left}
 use Rattle.store_laws.specs.Filter.{place_of}
 
 -- these members are still to come

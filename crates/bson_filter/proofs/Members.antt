@@ -4,7 +4,7 @@ use Rattle.std.specs.Prelude.{IsUtf8, option_and_then, decimal as digits}
 use Rattle.bson_base.specs.Kinds.{HasNo00, IsClean, IsSound, IsRangedScalar}
 use Rattle.bson_base.specs.Tags.{tag_byte}
 use Rattle.bson_base.specs.Value.{Value, scalar, array, document, scoped_code, Items, no_items, item, Members, no_members, member, look_up, value_kind, EachItem, EachMember, ItemsHaveDistinctKeys, MembersHaveDistinctKeys}
-use Rattle.bson_bytes.specs.Encode.{ended, framed, encode, value_bytes, items_bytes, members_bytes, value_size, items_size, members_size}
+use Rattle.bson_bytes.specs.Encode.{ended, framed, encode, value_bytes, items_bytes, members_bytes, items_size, members_size}
 use Rattle.bson_bytes.proofs.Lengths.{encode_length}
 use Rattle.bson_bytes.proofs.Spelled.{IsCleanPart, digits_name, plain_value}
 use Rattle.bson_bytes.proofs.Told.{written_frame}

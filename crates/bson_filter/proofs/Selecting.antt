@@ -1,5 +1,5 @@
 -- What a filter asks of a document, and what the code tells.
-use Rattle.std.proofs.Common.{◌≡◌, ◌↔◌, ◌⊎◌, inl, inr, ℕ, ◌+◌, ◌<◌, ◌≤◌, List, [], ◌∷◌, map, drop, length, get_or, Bool, true, false, not, IsTrue, Option, Some, None, is_some, refl, sym, ap, ◌∙◌, subst, add-one}
+use Rattle.std.proofs.Common.{◌≡◌, ◌↔◌, ◌⊎◌, inl, inr, ℕ, ◌+◌, ◌<◌, ◌≤◌, List, map, drop, length, get_or, Bool, true, false, not, IsTrue, Option, Some, None, is_some, refl, sym, ap, ◌∙◌, subst, add-one}
 use Rattle.std.specs.Prelude.{IsSomeAnd}
 use Rattle.std.proofs.lemmas.List.{drop_all}
 use Rattle.std.proofs.Math.Seq.{drop-cons}
@@ -11,7 +11,7 @@ use Rattle.bson_raw.specs.declared.bson_ref.RawBsonRef.{RawBsonRef}
 use Rattle.bson_raw.specs.Value.{kind_of}
 use Rattle.bson_filter.specs.declared.filter.Filter.{Filter}
 use Rattle.bson_filter.specs.Filters.{filter_of, tests_of}
-use Rattle.bson_filter.specs.Views.{Encodes, ComesBack, Finds}
+use Rattle.bson_filter.specs.Views.{ComesBack, Finds}
 use Rattle.bson_filter.proofs.Members.{at_back}
 use Rattle.bson_filter.proofs.Views.{shows, kind_shown}
 use Rattle.store_laws.specs.Filter.{at, Filter as Test, Filters, no_filters, filter, Path, Selects, SelectsAll, SelectsAny}

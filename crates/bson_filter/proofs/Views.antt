@@ -1,8 +1,7 @@
 -- Views of written values.
-use Rattle.std.proofs.Common.{◌≡◌, ℕ, ◌+◌, ◌<◌, ◌^◌, List, ◌++◌, length, drop, Option, Some, None, Result, Ok, Err, MatchResult, refl, sym, ap, ◌∙◌, subst, arith}
-use Rattle.bson_base.specs.declared.spec.ElementType.{ElementType}
-use Rattle.bson_base.specs.Value.{Value, scalar, array, document, scoped_code, value_kind}
-use Rattle.bson_bytes.specs.Encode.{le32, text_bytes, framed, scoped, encode, value_bytes, items_bytes, members_bytes, value_size}
+use Rattle.std.proofs.Common.{◌≡◌, ℕ, ◌+◌, ◌<◌, ◌^◌, List, ◌++◌, length, drop, Option, Some, Result, Ok, Err, MatchResult, refl, sym, ap, ◌∙◌, subst, arith}
+use Rattle.bson_base.specs.Value.{Value, array, document, scoped_code, value_kind}
+use Rattle.bson_bytes.specs.Encode.{le32, text_bytes, scoped, encode, value_bytes, value_size}
 use Rattle.bson_bytes.specs.Spells.{SpellsValue, SpellsItems, SpellsMembers}
 use Rattle.bson_bytes.proofs.Scalars.{pointer_back}
 use Rattle.bson_bytes.proofs.Spelled.{spelled_value}
@@ -13,7 +12,7 @@ use Rattle.bson_frame.specs.declared.error.ErrorKind.TheVariants.{MalformedValue
 use Rattle.bson_frame.specs.View.{IsBare}
 use Rattle.bson_frame.specs.Frame.{number, Element}
 use Rattle.bson_frame.specs.Payload.{code_in, scope_in, IsEnvelope, IsPayload, IsPayloadFault}
-use Rattle.bson_meaning.specs.Views.{shown, Shows}
+use Rattle.bson_meaning.specs.Views.{Shows}
 use Rattle.bson_meaning.proofs.Viewing.{payload_shown, no_payload_fault}
 use Rattle.bson_raw.specs.declared.bson_ref.RawBsonRef.{RawBsonRef}
 use Rattle.bson_raw.specs.declared.bson_ref.RawBsonRef.TheVariants as views

@@ -11,6 +11,3 @@ pub use filter::Filter;
 pub use paths::look_up;
 pub use projection::project;
 pub use select::selects;
-
-#[cfg(test)]
-mod tests;

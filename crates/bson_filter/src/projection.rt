@@ -19,7 +19,11 @@ use std::alloc::{AllocError, Global};
 /// refused growth.
 ///
 /// In bytes that are no document's written form, the elements before the first fault count, repeated keys included.
-pub fn project(alloc: Global, document: RawDocument<'_>, keys: &[String]) -> Result<Vec<u8>, AllocError>
+pub fn project(
+    alloc: Global,
+    document: RawDocument<'_>,
+    keys: &[String],
+) -> Result<Vec<u8>, AllocError>
     ensures { OfWritten (bytes_of document.entry) (λ d. IfOk result (λ out. out.items ≡ encode (only (path_of keys.now) d))) }
 {
     let bytes = document.as_bytes();

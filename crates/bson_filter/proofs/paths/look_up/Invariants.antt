@@ -1,4 +1,4 @@
-use Rattle.std.proofs.Common.{◌≡◌, ◌+◌, ◌*◌, ◌≤◌, length, drop}
+use Rattle.std.proofs.Common.{◌+◌, ◌*◌, ◌≤◌, length, drop}
 use Rattle.bson_raw.specs.View.{bytes_of}
 use Rattle.bson_base.specs.Value.{document}
 use Rattle.bson_filter.specs.Filters.{path_of}

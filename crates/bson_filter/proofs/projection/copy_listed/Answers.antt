@@ -1,4 +1,4 @@
-use Rattle.std.proofs.Common.{◌≡◌, ◌++◌, ℕ, List, Vec, length, true, false, sym, ap, ◌∙◌, subst}
+use Rattle.std.proofs.Common.{◌≡◌, ◌++◌, ℕ, List, Vec, length, sym, ap, ◌∙◌, subst}
 use Rattle.std.specs.declared.alloc.Global.{Global}
 use Rattle.std.specs.List.{list_any}
 use Rattle.std.specs.Str.{bytes_eq}
@@ -21,7 +21,7 @@ loop-first-preserved c =
     let told : c.is_listed.result ≡ list_any (bytes_eq e.key) keys = c.is_listed.ensures ∙ any_mapped e.key c.args.keys.now in
     let n = length c.args.elements.now in
     elim c.if-is_listed.branch [
-      then-is_listed+in_ok-extend_from_slice w ↦
+      | then-is_listed+in_ok-extend_from_slice w ↦
           let listed = sym told ∙ w.if-is_listed.true in
           let front = w.split_at.result.0.now in
           let front_is : front ≡ element_bytes e = w.split_at.ensures.front ∙ front_taken left (element_bytes e) rest (split_front left e rest first) in
