@@ -174,6 +174,3 @@ fn pointer_of(alloc: Global, value: RawDbPointerRef<'_>) -> Result<DbPointer, Al
     let namespace = String::from_str(alloc, value.namespace)?;
     Ok(DbPointer::new(namespace, value.id))
 }
-
-#[cfg(test)]
-mod tests;

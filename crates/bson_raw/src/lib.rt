@@ -47,8 +47,3 @@ pub use values::Iter;
 pub use walk::RawIter;
 pub use write_error::WriteError;
 pub use writer::to_writer;
-
-#[cfg(test)]
-mod buffer_tests;
-#[cfg(test)]
-mod tests;

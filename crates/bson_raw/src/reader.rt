@@ -124,6 +124,3 @@ pub fn from_reader<R: Source>(alloc: Global, reader: &mut R) -> Result<Document,
     let bytes = read_bytes(alloc, reader)?;
     document_in(alloc, &bytes)
 }
-
-#[cfg(test)]
-mod tests;
