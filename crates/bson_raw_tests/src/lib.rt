@@ -8,6 +8,8 @@ mod buffers;
 #[cfg(test)]
 mod conversions;
 #[cfg(test)]
+mod exact_answers;
+#[cfg(test)]
 mod getters;
 #[cfg(test)]
 mod items;
@@ -23,5 +25,7 @@ mod readers;
 mod refusals;
 #[cfg(test)]
 mod trees;
+#[cfg(test)]
+mod unequal;
 #[cfg(test)]
 mod writers;
