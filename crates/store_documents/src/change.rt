@@ -33,7 +33,12 @@ fn put_value(document: &mut Document, key: String, value: Bson) -> Result<(), Al
 }
 
 /// Puts the normal form of a value, with its keys in order, under a key.
-fn put_normal(alloc: Global, document: &mut Document, key: &str, value: Bson) -> Result<(), AllocError>
+fn put_normal(
+    alloc: Global,
+    document: &mut Document,
+    key: &str,
+    value: Bson,
+) -> Result<(), AllocError>
     ensures { OnOk result (members_of (pairs_of document.new) ≡ put key.now (asc (norm (view value))) (members_of (pairs_of document.old))) }
 {
     let value = kept_value(alloc, value)?;

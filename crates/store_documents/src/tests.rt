@@ -4,7 +4,9 @@ use super::*;
 use bson_bytes::encode_document;
 use bson_meaning::KeyError;
 use bson_model::extjson::Mode;
-use bson_model::{Binary, BinarySubtype, Bson, Document, DoubleBits, JavaScriptCodeWithScope, Regex};
+use bson_model::{
+    Binary, BinarySubtype, Bson, Document, DoubleBits, JavaScriptCodeWithScope, Regex,
+};
 use serde_json::{Map, Value};
 use std::alloc::{AllocError, Global};
 use std::process::Abort;
@@ -26,7 +28,8 @@ const ONE_A_B: [u8; 28] = [
 
 /// {_id: {a: 2, b: 3}}.
 const ID_A_B: [u8; 29] = [
-    29, 0, 0, 0, 3, 95, 105, 100, 0, 19, 0, 0, 0, 16, 97, 0, 2, 0, 0, 0, 16, 98, 0, 3, 0, 0, 0, 0, 0,
+    29, 0, 0, 0, 3, 95, 105, 100, 0, 19, 0, 0, 0, 16, 97, 0, 2, 0, 0, 0, 16, 98, 0, 3, 0, 0, 0, 0,
+    0,
 ];
 
 /// {a: 2}.
@@ -153,16 +156,31 @@ fn bytes_of_too_many_levels(rt: HostRuntime) -> Result<(), Fail> {
 
 #[test]
 fn json_is_kept_in_order(rt: HostRuntime) -> Result<(), Fail> {
-    let got = kept_json(rt.alloc(), r#"{"b": 3, "a": {"$numberInt": "2"}, "_id": 1}"#)?;
+    let got = kept_json(
+        rt.alloc(),
+        r#"{"b": 3, "a": {"$numberInt": "2"}, "_id": 1}"#,
+    )?;
     gives(&rt, got, &ONE_A_B)
 }
 
 #[test]
 fn json_that_is_not_kept(rt: HostRuntime) -> Result<(), Fail> {
     is_refused(&rt, kept_json(rt.alloc(), "[1]")?, ErrorKind::NotAnObject);
-    is_refused(&rt, kept_json(rt.alloc(), r#"{"_id": 1.5}"#)?, ErrorKind::JsonRefused);
-    is_refused(&rt, kept_json(rt.alloc(), r#"{"_id": {"$oid": "1"}}"#)?, ErrorKind::JsonRefused);
-    is_refused(&rt, kept_json(rt.alloc(), r#"{"_id": 1, "a\u0000": 1}"#)?, ErrorKind::Nul);
+    is_refused(
+        &rt,
+        kept_json(rt.alloc(), r#"{"_id": 1.5}"#)?,
+        ErrorKind::JsonRefused,
+    );
+    is_refused(
+        &rt,
+        kept_json(rt.alloc(), r#"{"_id": {"$oid": "1"}}"#)?,
+        ErrorKind::JsonRefused,
+    );
+    is_refused(
+        &rt,
+        kept_json(rt.alloc(), r#"{"_id": 1, "a\u0000": 1}"#)?,
+        ErrorKind::Nul,
+    );
     is_refused(&rt, kept_json(rt.alloc(), r#"{"a": 1}"#)?, ErrorKind::NoId);
     Ok(())
 }
@@ -216,10 +234,22 @@ fn a_document_of_too_many_bytes(rt: HostRuntime) -> Result<(), Fail> {
 
 #[test]
 fn a_set_member_keeps_its_place(rt: HostRuntime) -> Result<(), Fail> {
-    gives(&rt, set_member(rt.alloc(), &ONE_A_B, "b", Bson::Int32(3)), &ONE_A_B)?;
+    gives(
+        &rt,
+        set_member(rt.alloc(), &ONE_A_B, "b", Bson::Int32(3)),
+        &ONE_A_B,
+    )?;
     let seven = set_member(rt.alloc(), &ONE_A_B, "a", Bson::Int32(7))?;
-    gives(&rt, set_member(rt.alloc(), &seven, "a", Bson::Int32(2)), &ONE_A_B)?;
-    gives(&rt, set_member(rt.alloc(), &ONE_A, "b", Bson::Int32(3)), &ONE_A_B)
+    gives(
+        &rt,
+        set_member(rt.alloc(), &seven, "a", Bson::Int32(2)),
+        &ONE_A_B,
+    )?;
+    gives(
+        &rt,
+        set_member(rt.alloc(), &ONE_A, "b", Bson::Int32(3)),
+        &ONE_A_B,
+    )
 }
 
 #[test]
@@ -232,9 +262,21 @@ fn a_set_value_is_kept_in_normal_form(rt: HostRuntime) -> Result<(), Fail> {
 #[test]
 fn members_that_are_not_set(rt: HostRuntime) -> Result<(), Fail> {
     let alloc = rt.alloc();
-    is_refused(&rt, set_member(alloc, &ONE, "a", nested(alloc, 100)?), ErrorKind::TooDeep);
-    is_refused(&rt, set_member(alloc, &ONE, "a", regex(alloc, "\0", "")?), ErrorKind::Nul);
-    is_refused(&rt, set_member(alloc, &ONE, "a", zeros(alloc, 16777200)?), ErrorKind::TooLong);
+    is_refused(
+        &rt,
+        set_member(alloc, &ONE, "a", nested(alloc, 100)?),
+        ErrorKind::TooDeep,
+    );
+    is_refused(
+        &rt,
+        set_member(alloc, &ONE, "a", regex(alloc, "\0", "")?),
+        ErrorKind::Nul,
+    );
+    is_refused(
+        &rt,
+        set_member(alloc, &ONE, "a", zeros(alloc, 16777200)?),
+        ErrorKind::TooLong,
+    );
     Ok(())
 }
 
@@ -256,7 +298,10 @@ fn json_with(alloc: Global, value: Bson, mode: Mode) -> Result<String, Fail> {
 #[test]
 fn documents_as_json(rt: HostRuntime) -> Result<(), Fail> {
     let canonical = json_with(rt.alloc(), Bson::Int32(2), Mode::Canonical)?;
-    assert_eq!(rt; canonical.as_str(), r#"{"_id":{"$numberInt":"1"},"a":{"$numberInt":"2"}}"#);
+    assert_eq!(rt;
+        canonical.as_str(),
+        r#"{"_id":{"$numberInt":"1"},"a":{"$numberInt":"2"}}"#
+    );
     let relaxed = json_with(rt.alloc(), Bson::Int32(2), Mode::Relaxed)?;
     assert_eq!(rt; relaxed.as_str(), r#"{"_id":1,"a":2}"#);
     Ok(())
@@ -266,10 +311,18 @@ fn documents_as_json(rt: HostRuntime) -> Result<(), Fail> {
 fn documents_that_are_no_json(rt: HostRuntime) -> Result<(), Fail> {
     let alloc = rt.alloc();
     let body = set_member(alloc, &ONE, "a", Bson::Double(DoubleBits::from_bits(1)))?;
-    is_refused(&rt, json_of(alloc, &body, Mode::Relaxed), ErrorKind::FiniteDouble);
+    is_refused(
+        &rt,
+        json_of(alloc, &body, Mode::Relaxed),
+        ErrorKind::FiniteDouble,
+    );
     let reserved = single(alloc, "$oid", Bson::Int32(1))?;
     let body = set_member(alloc, &body, "b", Bson::Document(reserved))?;
-    is_refused(&rt, json_of(alloc, &body, Mode::Canonical), ErrorKind::ReservedKey);
+    is_refused(
+        &rt,
+        json_of(alloc, &body, Mode::Canonical),
+        ErrorKind::ReservedKey,
+    );
     Ok(())
 }
 
@@ -283,7 +336,10 @@ fn free_keys_in_json(rt: HostRuntime) -> Result<(), Fail> {
     let scope = single(alloc, "$date", Bson::Null)?;
     let scoped = Bson::JavaScriptCodeWithScope(JavaScriptCodeWithScope { code, scope });
     let relaxed = json_with(alloc, scoped, Mode::Relaxed)?;
-    assert_eq!(rt; relaxed.as_str(), r#"{"_id":1,"a":{"$code":"f","$scope":{"$date":null}}}"#);
+    assert_eq!(rt;
+        relaxed.as_str(),
+        r#"{"_id":1,"a":{"$code":"f","$scope":{"$date":null}}}"#
+    );
     Ok(())
 }
 
