@@ -2,7 +2,9 @@
 #![tactic(auto)]
 
 mod call;
+mod texts;
 mod words;
 
 pub use call::Call;
+pub use texts::{TextError, read_id, read_json};
 pub use words::{Words, read_words};
