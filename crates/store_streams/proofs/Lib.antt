@@ -1,2 +1,5 @@
 pub mod KeyLemmas
 pub mod Taken
+pub mod Gates
+pub mod Streams
+pub mod Appending

@@ -3,6 +3,7 @@
 
 mod input;
 mod keys;
+pub mod laws;
 
 pub use input::{ReadAllError, read_all};
 pub use keys::Keys;

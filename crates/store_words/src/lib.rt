@@ -2,9 +2,17 @@
 #![tactic(auto)]
 
 mod call;
+mod filter;
+mod input;
+mod lines;
+#[cfg(test)]
+mod tests;
 mod texts;
 mod words;
 
-pub use call::Call;
+pub use call::{Call, RELAXED};
+pub use filter::{Filter, read_filter};
+pub use input::{LinesError, read_lines};
+pub use lines::{Complaint, write_complaint, write_flag, write_line, write_number, write_refusal};
 pub use texts::{TextError, read_id, read_json};
 pub use words::{Words, read_words};

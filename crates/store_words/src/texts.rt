@@ -5,7 +5,7 @@ ghost use Rattle.store_words.specs.Texts.{AnswersId, AnswersJson};
 
 use bson_model::{Bson, extjson};
 use serde_json::Value;
-use std::alloc::{AllocError, Global};
+use std::alloc::{AllocError, AllocFailed, Global};
 use thiserror::Error;
 
 /// Why a text gives nothing.
@@ -25,6 +25,17 @@ impl From<AllocError> for TextError {
     ghost from_gives = { λ _ e. e ≡ Memory };
 
     fn from(_error: AllocError) -> TextError {
+        TextError::Memory
+    }
+}
+
+impl<T: Drop> From<AllocFailed<T>> for TextError {
+    ghost use Rattle.store_words.specs.declared.texts.TextError.TheVariants.{Memory};
+
+    ghost from_gives = { λ _ e. e ≡ Memory };
+
+    fn from(failed: AllocFailed<T>) -> TextError {
+        drop(failed);
         TextError::Memory
     }
 }
