@@ -89,7 +89,7 @@ has_reading js = by (read_members js) refl
     by (Err x) i = record { x = unreadable JsonRefused; reads = rw i refl; undecided = λ u. u }
 
 pub object_tree : (js : JsonMembers) → (a : Reading) × ReadsTree (object js) a × (IsUnread in_json a → ⊥)
-object_tree js = let h = has_reading js in (h.x, (h.reads, h.undecided))
+object_tree js = let h = has_reading js in (h.x, h.reads, h.undecided)
 
 pub any_tree : (j : Data) → (a : Reading) × ReadsTree j a
 any_tree json.null = (unreadable NotAnObject, refl)
