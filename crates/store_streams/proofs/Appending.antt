@@ -1,5 +1,5 @@
 -- Documents that go into a list go by the written keys of their ids.
-use Rattle.std.proofs.Common.{◌≡◌, ◌⊎◌, inl, inr, ℕ, suc, ◌+◌, ◌<◌, ◌≤◌, add-zero, List, [], ◌∷◌, ◌++◌, length, map, append_assoc, Bool, true, false, cond, ltb, Option, Some, None, refl, ap, ap₂, sym, ◌∙◌, subst, is_some, arith}
+use Rattle.std.proofs.Common.{◌≡◌, ◌⊎◌, inl, inr, ℕ, suc, ◌+◌, ◌<◌, ◌≤◌, add-zero, zero-add, List, [], ◌∷◌, ◌++◌, length, map, append_assoc, Bool, true, false, ◌||◌, cond, ltb, Option, Some, None, refl, ap, ap₂, sym, ◌∙◌, subst, is_some, arith}
 use Rattle.std.specs.Prelude.{MatchOption, IsSomeAnd}
 use Rattle.std.specs.List.{list_any}
 use Rattle.std.specs.Str.{bytes_eq}
@@ -49,7 +49,7 @@ own_id_of : (d : Members) → IsKept d → OwnId d
 own_id_of d k = by (look_up id_key d) refl
   where
     by : (o : Option Value) → look_up id_key d ≡ o → OwnId d
-    by None e = let no : true ≡ false = sym k.identified ∙ ap is_some e in cc
+    by None e = let differ : true ≡ false = sym k.identified ∙ ap is_some e in cc
     by (Some id) e = record { id = id; found = e }
 
 -- a document has the id exactly where the keys are equal
@@ -63,7 +63,7 @@ some_taken : (d : Members) (there : Documents) → IsKept d → AreKept there �
 some_taken d [] kd kt own t = cc
 some_taken d (e ∷ there) kd kt own t = by (bytes_eq (key (own_id d)) (key (own_id e))) refl t (some_taken d there kd kt.1 own)
   where
-    by : (b : Bool) → bytes_eq (key (own_id d)) (key (own_id e)) ≡ b → cond b true (list_any (bytes_eq (key (own_id d))) (keys_of there)) ≡ true
+    by : (b : Bool) → bytes_eq (key (own_id d)) (key (own_id e)) ≡ b → b || list_any (bytes_eq (key (own_id d))) (keys_of there) ≡ true
         → (list_any (bytes_eq (key (own_id d))) (keys_of there) ≡ true → SomeHasId own.id there) → SomeHasId own.id (e ∷ there)
     by true i t more = inl (same_keys d e kd kt.0 own i)
     by false i t more = inr (more t)
@@ -72,13 +72,13 @@ none_taken : (d : Members) (there : Documents) → IsKept d → AreKept there �
 none_taken d [] kd kt own t h = h
 none_taken d (e ∷ there) kd kt own t h = by (bytes_eq (key (own_id d)) (key (own_id e))) refl t h (none_taken d there kd kt.1 own)
   where
-    by : (b : Bool) → bytes_eq (key (own_id d)) (key (own_id e)) ≡ b → cond b true (list_any (bytes_eq (key (own_id d))) (keys_of there)) ≡ false → SomeHasId own.id (e ∷ there)
+    by : (b : Bool) → bytes_eq (key (own_id d)) (key (own_id e)) ≡ b → b || list_any (bytes_eq (key (own_id d))) (keys_of there) ≡ false → SomeHasId own.id (e ∷ there)
         → (list_any (bytes_eq (key (own_id d))) (keys_of there) ≡ false → SomeHasId own.id there → ⊥) → ⊥
-    by true i t h more = let no : true ≡ false = t in cc
+    by true i t h more = let differ : true ≡ false = t in cc
     by false i t (inl has) more =
         let o = own_of d own.id kd own.found in
         let same = (bytes_eq-Decides (key (own_id d)) (key (own_id e))).1 (ap key (own_is d own.id own.found) ∙ (has_written e own.id kt.0 o.sound has).keys) in
-        let no : true ≡ false = sym same ∙ i in cc
+        let differ : true ≡ false = sym same ∙ i in cc
     by false i t (inr has) more = more t has
 
 taken : (d : Members) (there : Documents) → IsKept d → AreKept there → list_any (bytes_eq (key (own_id d))) (keys_of there) ≡ true → IsTaken d there
@@ -98,13 +98,13 @@ abbrev Goes : ℕ → Documents → Documents → Documents → Option ℕ → T
 Goes i start there more o = MatchOption o (Appends i start there more (number (i + length more)) (there ++ more)) (λ j. Appends i start there more (refused DuplicateId (Some j)) start)
 
 goes_on : (i : ℕ) (start there : Documents) (d : Members) (more : Documents) (o : Option ℕ) → (IsTaken d there → ⊥) → Goes (suc i) start (there ++ d ∷ []) more o → Goes i start there (d ∷ more) o
-goes_on i start there d more None no h =
+goes_on i start there d more None fresh h =
     let e : suc i + length more ≡ i + suc (length more) = omega arith in
-    inr (no, subst (λ n. Appends (suc i) start (there ++ d ∷ []) more (number n) (there ++ d ∷ more)) e (subst (λ es. Appends (suc i) start (there ++ d ∷ []) more (number (suc i + length more)) es) (append_assoc there (d ∷ []) more) h))
-goes_on i start there d more (Some j) no h = inr (no, h)
+    inr (fresh, subst (λ n. Appends (suc i) start (there ++ d ∷ []) more (number n) (there ++ d ∷ more)) e (subst (λ es. Appends (suc i) start (there ++ d ∷ []) more (number (suc i + length more)) es) (append_assoc there (d ∷ []) more) h))
+goes_on i start there d more (Some j) fresh h = inr (fresh, h)
 
 pub appending : (i : ℕ) (start there more : Documents) → AreKept there → AreKept more → Goes i start there more (first_taken i (keys_of there) (keys_of more))
-appending i start there [] kt km = (ap number (sym (add-zero i)), append-nil there)
+appending i start there [] kt km = (ap number (add-zero i), append-nil there)
 appending i start there (d ∷ more) kt km = by (list_any (bytes_eq (key (own_id d))) (keys_of there)) refl (appending (suc i) start (there ++ d ∷ []) more (kept_last there d kt km.0) km.1)
   where
     by : (b : Bool) → list_any (bytes_eq (key (own_id d))) (keys_of there) ≡ b → Goes (suc i) start (there ++ d ∷ []) more (first_taken (suc i) (keys_of (there ++ d ∷ [])) (keys_of more))
@@ -112,3 +112,9 @@ appending i start there (d ∷ more) kt km = by (list_any (bytes_eq (key (own_id
     by true t rest = inl (taken d there km.0 kt t, (refl, refl))
     by false t rest = goes_on i start there d more _ (free d there km.0 kt t)
         (subst (λ ks. Goes (suc i) start (there ++ d ∷ []) more (first_taken (suc i) ks (keys_of more))) (map-append (λ e. key (own_id e)) there (d ∷ [])) rest)
+
+-- all of them, from the start
+pub appending_all : (ds more : Documents) → AreKept ds → AreKept more
+    → MatchOption (first_taken 0 (keys_of ds) (keys_of more)) (Appends 0 ds ds more (number (length more)) (ds ++ more)) (λ j. Appends 0 ds ds more (refused DuplicateId (Some j)) ds)
+appending_all ds more kd km = subst (λ n. MatchOption (first_taken 0 (keys_of ds) (keys_of more)) (Appends 0 ds ds more (number n) (ds ++ more)) (λ j. Appends 0 ds ds more (refused DuplicateId (Some j)) ds))
+    (zero-add (length more)) (appending 0 ds ds more kd km)

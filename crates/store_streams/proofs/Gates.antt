@@ -68,7 +68,7 @@ abbrev FaultlessOr : (ErrorKind → Type 0) → Type 0
 FaultlessOr Fault = ((kind : ErrorKind) → Fault kind → ⊥) ⊎ ((kind : ErrorKind) × Fault kind)
 
 text_fault : (text : List ℕ) → FaultlessOr (IsNoText text)
-text_fault text = elim (is_text text) [ inl u ↦ inl (λ kind f. f.1 u) | inr no ↦ inr (Utf8EncodingError, (refl, no)) ]
+text_fault text = elim (is_text text) [ inl u ↦ inl (λ kind f. f.1 u) | inr not_text ↦ inr (Utf8EncodingError, (refl, not_text)) ]
 
 truth_fault : (payload : List ℕ) → FaultlessOr (IsPayloadFault kinds.Boolean payload)
 truth_fault payload = elim (cases_lt 1 (slice_index payload 0)) [ inl big ↦ inr (MalformedValue, (refl, big)) | inr small ↦ inl (λ kind f. omega (arith, f.1, small)) ]
@@ -95,7 +95,7 @@ code_fault payload = elim (cases_lt (length payload) 14) [
   | inr long ↦ elim (text_at (code_in payload)) [
     | inr never ↦ inr (MalformedValue, inr (inl never))
     | inl text ↦ elim (is_text (text_in (code_in payload))) [
-      | inr no ↦ inr (Utf8EncodingError, (long, (text, no)))
+      | inr not_text ↦ inr (Utf8EncodingError, (long, (text, not_text)))
       | inl utf ↦ elim (envelope (scope_in payload)) [
         | inr none ↦ inr (MalformedValue, inr (inr (text, utf, none)))
         | inl scope ↦ inl (whole_code payload long text utf scope)
