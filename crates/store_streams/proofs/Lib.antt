@@ -2,4 +2,6 @@ pub mod KeyLemmas
 pub mod Taken
 pub mod Gates
 pub mod Streams
+pub mod SoFar
+pub mod Going
 pub mod Appending
