@@ -1,6 +1,6 @@
 -- The lines that the program prints.
 use Rattle.std.specs.Prelude.{ℕ, List, [], ◌∷◌, ◌++◌, Bool, true, false, Option, Some, None, codes, decimal}
-use Rattle.std.specs.Prelude.{signed_decimal}
+use Rattle.std.specs.Fmt.{signed_decimal}
 use Rattle.std.specs.Borrow.{Bor}
 use Rattle.store_laws.specs.Refusal.{kind_name}
 use Rattle.store_laws.specs.declared.error.ErrorKind.{ErrorKind}
