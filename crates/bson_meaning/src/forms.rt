@@ -9,7 +9,7 @@ ghost use Rattle.bson_meaning.specs.Pairs.{normal_pair};
 ghost use Rattle.bson_meaning.specs.Sames.{IsScalar};
 
 use crate::scalars::{normal_decimal, normal_double, normal_subtype};
-use bson_model::laws::distinct_keys;
+use bson_model::laws::{distinct_keys, distinct_keys_of_document};
 use bson_model::{Binary, Bson, Document, JavaScriptCodeWithScope, Regex};
 use std::alloc::{AllocError, Global};
 
@@ -21,6 +21,14 @@ pub fn normalize(alloc: Global, value: Bson) -> Result<Bson, AllocError>
 {
     distinct_keys(&value);
     normal_value(alloc, value)
+}
+
+/// The normal form of a document, which is one too. The error is a refused growth; the document is dropped then.
+pub fn normalize_document(alloc: Global, document: Document) -> Result<Document, AllocError>
+    ensures { IfOk result (λ d. members_of (pairs_of d) ≡ norm_members (members_of (pairs_of document))) }
+{
+    distinct_keys_of_document(&document);
+    normal_document(alloc, document)
 }
 
 #[cycle(normal)]

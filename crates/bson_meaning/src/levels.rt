@@ -1,7 +1,7 @@
 //! How deep a tree is.
 
 ghost use Rattle.std.specs.Prelude.{◌≡◌, ◌^◌, ◌-◌, map, min};
-ghost use Rattle.bson_base.specs.Value.{levels, items_levels, members_levels};
+ghost use Rattle.bson_base.specs.Value.{document as tree, levels, items_levels, members_levels};
 ghost use Rattle.bson_model.specs.View.{view, pairs_of, items_of, members_of};
 
 use bson_model::{Bson, Document};
@@ -18,6 +18,13 @@ pub fn depth(value: &Bson) -> usize
         Bson::JavaScriptCodeWithScope(code) => depth_of_members(&code.scope).saturating_add(1),
         _ => 0,
     }
+}
+
+/// How many documents, arrays and scopes lie inside each other, the document itself counted. Else as `depth`.
+pub fn depth_of_document(document: &Document) -> usize
+    ensures { result ≡ min (levels (tree (members_of (pairs_of document.now)))) (2 ^ 64 - 1) }
+{
+    depth_of_members(document).saturating_add(1)
 }
 
 #[cycle(depth)]

@@ -16,12 +16,12 @@ mod sound;
 mod views;
 
 pub use compare::same_meaning;
-pub use forms::normalize;
+pub use forms::{normalize, normalize_document};
 pub use key::{KeyError, meaning_key};
-pub use levels::depth;
-pub use plain::is_plain;
+pub use levels::{depth, depth_of_document};
+pub use plain::{is_plain, is_plain_document};
 pub use reading::{GateError, gate};
-pub use sorting::sorted;
+pub use sorting::{sort_keys, sorted};
 pub use views::same_as_raw;
 
 #[cfg(test)]

@@ -2,7 +2,7 @@
 
 ghost use Rattle.std.specs.Prelude.{◌↔◌, map, IsTrue};
 ghost use Rattle.bson_base.specs.Kinds.{HasNo00, IsPlain, IsPlainScalar};
-ghost use Rattle.bson_base.specs.Value.{EachItem, EachMember};
+ghost use Rattle.bson_base.specs.Value.{document as tree, EachItem, EachMember};
 ghost use Rattle.bson_model.specs.View.{view, pairs_of, items_of, members_of};
 
 use bson_model::{Bson, Document};
@@ -22,6 +22,13 @@ pub fn is_plain(value: &Bson) -> bool
         }
         _ => true,
     }
+}
+
+/// Whether no key, no pattern and no options in the document hold a byte 00.
+pub fn is_plain_document(document: &Document) -> bool
+    ensures { IsTrue result ↔ IsPlain (tree (members_of (pairs_of document.now))) }
+{
+    has_plain_members(document)
 }
 
 #[cycle(plain)]

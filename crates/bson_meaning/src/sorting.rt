@@ -10,7 +10,7 @@ ghost use Rattle.bson_model.specs.View.{view, pairs_of, items_of, members_of};
 ghost use Rattle.bson_meaning.specs.Meaning.{asc, asc_items, asc_members};
 ghost use Rattle.bson_meaning.specs.Pairs.{sorted_pair};
 
-use bson_model::laws::distinct_keys_of_document;
+use bson_model::laws::{distinct_keys, distinct_keys_of_document};
 use bson_model::{Bson, Document, JavaScriptCodeWithScope};
 use std::alloc::{AllocError, Global};
 
@@ -21,6 +21,15 @@ pub fn sorted(alloc: Global, document: Document) -> Result<Document, AllocError>
 {
     distinct_keys_of_document(&document);
     sorted_document(alloc, document)
+}
+
+/// The value with the keys of each document and scope in it ascending by their bytes; arrays keep their order. The error is a
+/// refused growth; the value is dropped then.
+pub fn sort_keys(alloc: Global, value: Bson) -> Result<Bson, AllocError>
+    ensures { IfOk result (λ v. view v ≡ asc (view value)) }
+{
+    distinct_keys(&value);
+    sorted_value(alloc, value)
 }
 
 #[cycle(sorted)]

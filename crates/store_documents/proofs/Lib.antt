@@ -1,0 +1,5 @@
+pub mod OfBytes
+pub mod OfJson
+pub mod OfBodies
+pub mod OfChanges
+pub mod OfRows

@@ -1,0 +1,76 @@
+-- Written documents with one member changed.
+use Rattle.std.proofs.Common.{◌≡◌, ◌⊎◌, inl, inr, ℕ, ◌<◌, ◌≤◌, List, [], ◌∷◌, Bool, true, false, cond, Some, None, refl, ap, ◌∙◌, sym, arith}
+use Rattle.std.specs.Prelude.{bytes_eq, is_some}
+use Rattle.bson_base.specs.Kinds.{IsPlain}
+use Rattle.bson_base.specs.Value.{Value, document, Members, no_members, member, has_key, levels, look_up, put, without, MembersHaveDistinctKeys}
+use Rattle.bson_bytes.specs.Encode.{size, members_size}
+use Rattle.bson_meaning.specs.Gate.{level_limit, size_limit}
+use Rattle.bson_meaning.proofs.Ordered.{equal_keys}
+use Rattle.bson_model.specs.View.{members_of}
+use Rattle.bson_model.specs.Keyed.{has_key as has_pair, put as put_pair, without as without_pair}
+use Rattle.bson_model.proofs.EqualLemmas.{look_up-members_of}
+use Rattle.bson_raw.proofs.Settling.{members_of_put}
+use Rattle.store_laws.specs.State.{IsKept}
+use Rattle.store_laws.specs.declared.error.ErrorKind.{ErrorKind}
+use Rattle.store_laws.specs.declared.error.ErrorKind.TheVariants.{TooDeep, Nul, TooLong, Memory}
+use Rattle.store_laws.proofs.Levels.{clean_plain, read_without}
+use Rattle.store_documents.specs.Bodies.{IsUnwritten}
+
+-- why a changed document can't be kept
+abbrev pub Refused : Members → ErrorKind → Type 0
+Refused e k = ((k ≡ TooDeep) × (level_limit < levels (document e)))
+    ⊎ ((k ≡ Nul) × (levels (document e) ≤ level_limit) × (IsPlain (document e) → ⊥))
+    ⊎ ((k ≡ TooLong) × (levels (document e) ≤ level_limit) × IsPlain (document e) × (size_limit < size e))
+    ⊎ (k ≡ Memory)
+
+pub unwritten : (e : Members) (k : ErrorKind) → levels (document e) ≤ level_limit → IsUnwritten e k → Refused e k
+unwritten e k low (inl nul) = inr (inl (nul.0, low, nul.1))
+unwritten e k low (inr (inl long)) = inr (inr (inl (long.0, low, long.1, long.2)))
+unwritten e k low (inr (inr memory)) = inr (inr (inr memory))
+
+pub memory : (e : Members) (k : ErrorKind) → k ≡ Memory → Refused e k
+memory e k is = inr (inr (inr is))
+
+-- ---- a member taken out
+
+absent_without : (k : List ℕ) (d : Members) → look_up k d ≡ None → without k d ≡ d
+absent_without k no_members h = refl
+absent_without k (member l v ms) h = by (bytes_eq k l) (absent_without k ms) h
+  where
+    by : (b : Bool) → (look_up k ms ≡ None → without k ms ≡ ms) → cond b (Some v) (look_up k ms) ≡ None → cond b (without k ms) (member l v (without k ms)) ≡ member l v ms
+    by true f e = cc
+    by false f e = ap (member l v) (f e)
+
+members_of_without : (k : List ℕ) (ps : List (List ℕ × Value)) → MembersHaveDistinctKeys (members_of ps) → members_of (without_pair k ps) ≡ without k (members_of ps)
+members_of_without k [] d = refl
+members_of_without k (p ∷ ps) d = by (bytes_eq k p.0) refl (members_of_without k ps d.2)
+  where
+    by : (b : Bool) → bytes_eq k p.0 ≡ b → members_of (without_pair k ps) ≡ without k (members_of ps)
+        → members_of (cond b ps (p ∷ without_pair k ps)) ≡ cond b (without k (members_of ps)) (member p.0 p.1 (without k (members_of ps)))
+    by true e h = sym (absent_without k (members_of ps) (ap (λ l. look_up l (members_of ps)) (equal_keys k p.0 e) ∙ d.0))
+    by false e h = ap (member p.0 p.1) h
+
+pub rest_is : (k : List ℕ) (d : Members) (ps qs : List (List ℕ × Value)) → MembersHaveDistinctKeys (members_of ps) → qs ≡ without_pair k ps → members_of ps ≡ d → members_of qs ≡ without k d
+rest_is k d ps qs once is same = ap members_of is ∙ members_of_without k ps once ∙ ap (without k) same
+
+pub there_is : (k : List ℕ) (d : Members) (ps : List (List ℕ × Value)) (b : Bool) → b ≡ has_pair k ps → members_of ps ≡ d → b ≡ has_key k d
+there_is k d ps b is same = is ∙ sym (ap is_some (look_up-members_of k ps)) ∙ ap (has_key k) same
+
+-- ---- a member put in
+
+pub value_put : (k l : List ℕ) (v w : Value) (ps qs : List (List ℕ × Value)) → k ≡ l → v ≡ w → qs ≡ put_pair k v ps → members_of qs ≡ put l w (members_of ps)
+value_put k l v w ps qs i j is = ap members_of is ∙ members_of_put k v ps ∙ ap (λ x. put x v (members_of ps)) i ∙ ap (λ x. put l x (members_of ps)) j
+
+without_size : (k : List ℕ) (d : Members) → members_size (without k d) ≤ members_size d
+without_size k no_members = omega arith
+without_size k (member l v ms) = by (without_size k ms) (bytes_eq k l)
+  where
+    by : members_size (without k ms) ≤ members_size ms → (b : Bool) → members_size (cond b (without k ms) (member l v (without k ms))) ≤ members_size (member l v ms)
+    by h true = omega (arith, h)
+    by h false = omega (arith, h)
+
+-- a kept document without a member can be written
+pub written_without : (k : List ℕ) (d : Members) (x : ErrorKind) → IsKept d → IsUnwritten (without k d) x → x ≡ Memory
+written_without k d x kept (inl nul) = absurd (nul.1 (clean_plain (without k d) (read_without k d kept.read).clean))
+written_without k d x kept (inr (inl long)) = absurd (omega (arith, long.2, without_size k d, kept.small))
+written_without k d x kept (inr (inr is)) = is

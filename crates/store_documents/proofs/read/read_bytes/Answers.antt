@@ -1,0 +1,12 @@
+use Rattle.std.proofs.Common.{inl}
+use Rattle.store_documents.proofs.OfBytes.{are_bytes, converted, converted_read}
+use Rattle.store_documents.proofs.read.read_bytes.Goals as goal
+
+pub returns-in-Err-clause-answer : goal.returns-in-Err-clause-answer
+returns-in-Err-clause-answer c = inl (c.in-Err.error, c.in-Err.ensures, c.gate_refusal.ensures)
+
+pub returns-clause-answer : goal.returns-clause-answer
+returns-clause-answer c = converted c.args.bytes.now c.document_of.result c.in_default.ensures c.document_of.ensures
+
+pub returns-clause-read : goal.returns-clause-read
+returns-clause-read c = converted_read c.args.bytes.now c.document_of.result (are_bytes c.args.bytes.now c.type_inv.bytes) c.in_default.ensures c.document_of.ensures

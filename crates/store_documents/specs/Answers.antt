@@ -1,0 +1,34 @@
+-- What is answered where bytes or JSON are read as documents, and where documents are given as JSON.
+use Rattle.std.specs.Prelude.{◌≡◌, ◌⊎◌, ℕ, List, Some, None, Result, Ok, Err}
+use Rattle.serde_json.specs.Data.{Data}
+use Rattle.serde_json.specs.View.{view as data_of}
+use Rattle.serde_json.specs.declared.value.Value.{Value as Json}
+use Rattle.bson_base.specs.Value.{Members}
+use Rattle.bson_model.specs.View.{view, members_of, pairs_of}
+use Rattle.bson_model.specs.declared.bson.Bson.{Bson}
+use Rattle.bson_model.specs.declared.document.Document.{Document}
+use Rattle.store_laws.specs.Reading.{Reading, readable, unreadable, read_value, ReadsBytes, ReadsTree}
+use Rattle.store_laws.specs.Run.{IsUnread}
+use Rattle.store_laws.specs.State.{in_json}
+use Rattle.store_laws.specs.declared.error.ErrorKind.{ErrorKind}
+use Rattle.store_laws.specs.declared.error.ErrorKind.TheVariants.{JsonRefused, Memory}
+
+-- what the bytes read as; or memory was wanted, and they read as some document
+abbrev pub AnswersBytes : List ℕ → Result Document ErrorKind → Type 0
+AnswersBytes bytes (Ok d) = ReadsBytes bytes (readable (members_of (pairs_of d)))
+AnswersBytes bytes (Err k) = ReadsBytes bytes (unreadable k) ⊎ ((k ≡ Memory) × (d : Members) × ReadsBytes bytes (readable d))
+
+-- what the tree reads as; or memory was wanted, and it reads as what isn't decided before anything grows
+abbrev pub AnswersTree : Data → Result Document ErrorKind → Type 0
+AnswersTree j (Ok d) = ReadsTree j (readable (members_of (pairs_of d)))
+AnswersTree j (Err k) = ReadsTree j (unreadable k) ⊎ ((k ≡ Memory) × (a : Reading) × ReadsTree j a × (IsUnread in_json a → ⊥))
+
+-- the value that the tree reads as, or why there is none
+abbrev pub AnswersValue : Data → Result Bson ErrorKind → Type 0
+AnswersValue j (Ok v) = read_value j ≡ Some (view v)
+AnswersValue j (Err k) = ((k ≡ JsonRefused) × (read_value j ≡ None)) ⊎ (k ≡ Memory)
+
+-- the tree that is wanted, the refusal that stands in its place, or want of memory
+abbrev pub AnswersJson : Result Data ErrorKind → Result Json ErrorKind → Type 0
+AnswersJson r (Ok j) = r ≡ Ok (data_of j)
+AnswersJson r (Err k) = (r ≡ Err k) ⊎ (k ≡ Memory)

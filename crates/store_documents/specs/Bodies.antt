@@ -1,0 +1,76 @@
+-- Documents as they are kept, the keys of their ids, and changed documents.
+use Rattle.std.specs.Prelude.{◌≡◌, ◌⊎◌, ℕ, ◌^◌, ◌<◌, ◌≤◌, List, length, Some, None, Result, Ok, Err, Vec, IsUtf8}
+use Rattle.std.specs.declared.alloc.Global.{Global}
+use Rattle.bson_base.specs.Kinds.{IsPlain, IsSound}
+use Rattle.bson_base.specs.Value.{Value, document, Members, has_key, levels, without}
+use Rattle.bson_bytes.specs.Encode.{encode, size}
+use Rattle.bson_meaning.specs.Gate.{size_limit, level_limit}
+use Rattle.bson_meaning.specs.Meaning.{key}
+use Rattle.bson_meaning.specs.declared.key.KeyError.{KeyError}
+use Rattle.bson_meaning.specs.declared.key.KeyError.TheVariants as faults
+use Rattle.store_laws.specs.State.{IsKept, IsName, refusal_of}
+use Rattle.store_laws.specs.Table.{only_id, own_id}
+use Rattle.store_laws.specs.declared.error.ErrorKind.{ErrorKind}
+use Rattle.store_laws.specs.declared.error.ErrorKind.TheVariants.{TooDeep, Nul, TooLong, Memory}
+use Rattle.store_documents.specs.declared.change.Unset.{Unset}
+use Rattle.store_documents.specs.declared.write.Written.{Written}
+
+-- ---- ids
+
+-- the key of an id tells whether a kept document has it
+pub record IsKeyOf (k : List ℕ) (id : Value) : Type 0 where
+  pub sound : IsSound id
+  pub plain : IsPlain id
+  pub short : length (key (only_id id)) ≤ 2147483647
+  pub key : k ≡ key (only_id id)
+
+-- what is told for an `_id` that has no key; none that is kept is such
+abbrev pub refusal_of_key : KeyError → ErrorKind
+refusal_of_key faults.NotPlain = Nul
+refusal_of_key faults.TooLong = TooLong
+refusal_of_key faults.Memory = Memory
+
+-- ---- bytes
+
+-- the bytes of a document that is small enough to be kept
+abbrev pub IsBody : List ℕ → Members → Type 0
+IsBody bytes d = (bytes ≡ encode d) × IsPlain (document d) × (size d ≤ size_limit)
+
+-- no length can tell the size, or memory was wanted
+abbrev pub IsLong : Members → ErrorKind → Type 0
+IsLong d k = ((k ≡ TooLong) × (2 ^ 31 ≤ size d)) ⊎ (k ≡ Memory)
+
+-- why the bytes of a document aren't written
+abbrev pub IsUnwritten : Members → ErrorKind → Type 0
+IsUnwritten d k = ((k ≡ Nul) × (IsPlain (document d) → ⊥)) ⊎ ((k ≡ TooLong) × IsPlain (document d) × (size_limit < size d)) ⊎ (k ≡ Memory)
+
+-- ---- what is answered
+
+-- a document is written beside the key of its `_id`, or refused
+abbrev pub AnswersWritten : Members → Result Written ErrorKind → Type 0
+AnswersWritten d (Ok w) = (refusal_of d ≡ None) × (w.key.items ≡ key (own_id d)) × (w.body.items ≡ encode d)
+AnswersWritten d (Err k) = (refusal_of d ≡ Some k) ⊎ (k ≡ Memory)
+
+-- a changed document is written, or can't be kept
+abbrev pub AnswersChanged : Members → Result (Vec ℕ Global) ErrorKind → Type 0
+AnswersChanged e (Ok b) = (levels (document e) ≤ level_limit) × IsPlain (document e) × (size e ≤ size_limit) × (b.items ≡ encode e)
+AnswersChanged e (Err k) = ((k ≡ TooDeep) × (level_limit < levels (document e)))
+    ⊎ ((k ≡ Nul) × (levels (document e) ≤ level_limit) × (IsPlain (document e) → ⊥))
+    ⊎ ((k ≡ TooLong) × (levels (document e) ≤ level_limit) × IsPlain (document e) × (size_limit < size e))
+    ⊎ (k ≡ Memory)
+
+-- the member is taken out
+abbrev pub AnswersUnset : List ℕ → Members → Result Unset ErrorKind → Type 0
+AnswersUnset k d (Ok u) = (u.was_there ≡ has_key k d) × (u.body.items ≡ encode (without k d))
+AnswersUnset k d (Err x) = x ≡ Memory
+
+-- ---- rows
+
+-- a row that a store can have written: of a kept document, under a good name, with the key of its `_id`
+pub record IsRow (coll k bytes : List ℕ) : Type 0 where
+  pub name : IsName coll
+  pub utf8 : IsUtf8 coll
+  pub document : Members
+  pub kept : IsKept document
+  pub key : k ≡ key (own_id document)
+  pub body : bytes ≡ encode document

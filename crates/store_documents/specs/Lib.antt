@@ -1,0 +1,4 @@
+pub mod Names
+pub mod Propositions
+pub mod Answers
+pub mod Bodies

@@ -1,0 +1,57 @@
+//! Written documents as JSON.
+
+ghost use Rattle.std.specs.Prelude.{◌≡◌};
+ghost use Rattle.bson_base.specs.Value.{Members, document as tree};
+ghost use Rattle.bson_bytes.specs.Encode.{encode};
+ghost use Rattle.bson_model.specs.JsonWrite.{write};
+ghost use Rattle.bson_model.specs.View.{members_of, pairs_of};
+ghost use Rattle.store_laws.specs.State.{IsKept, or_finite, tree_of};
+ghost use Rattle.store_documents.specs.Answers.{AnswersJson};
+
+use crate::read::read_bytes;
+use crate::reserved::has_reserved_below;
+use bson_model::extjson::Mode;
+use bson_model::{Bson, Document, extjson};
+use serde_json::Value;
+use std::alloc::Global;
+use store_laws::ErrorKind;
+
+/// The JSON tree of a document. `FiniteDouble` where a finite double other than the zeros stands in it, or `Memory`.
+fn json_written(alloc: Global, document: Document, mode: Mode) -> Result<Value, ErrorKind>
+    ensures { AnswersJson (or_finite (write mode (tree (members_of (pairs_of document))))) result }
+{
+    let value = Bson::Document(document);
+    let written = match mode {
+        Mode::Canonical => value.into_canonical_extjson(alloc),
+        Mode::Relaxed => value.into_relaxed_extjson(alloc),
+    };
+    match written {
+        Ok(json) => Ok(json),
+        Err(extjson::de::Error::FiniteDouble) => Err(ErrorKind::FiniteDouble),
+        Err(extjson::de::Error::Memory) => Err(ErrorKind::Memory),
+        Err(_) => unreachable!(),
+    }
+}
+
+/// The JSON tree of a document. `ReservedKey` where it has a reserved key below its top, else `FiniteDouble`, or `Memory`.
+fn json_of_document(alloc: Global, document: Document, mode: Mode) -> Result<Value, ErrorKind>
+    ensures { AnswersJson (tree_of mode (members_of (pairs_of document))) result }
+{
+    if has_reserved_below(&document) {
+        return Err(ErrorKind::ReservedKey);
+    }
+    json_written(alloc, document, mode)
+}
+
+/// The JSON tree of a kept document (MongoDB Extended JSON v2), of which `body` is the written form.
+///
+/// `ReservedKey` where a document below the top has a reserved key (`$oid` or another that marks a typed value), which would be
+/// read as another value; the keys of a code's scope are free. Else `FiniteDouble` where a finite double other than the zeros
+/// stands in the document. `Memory` where a growth was refused. Bytes that aren't the written form of a kept document may be
+/// refused as `read_bytes` refuses them.
+pub fn json_of(alloc: Global, body: &[u8], mode: Mode) -> Result<Value, ErrorKind>
+    ensures { (d : Members) → IsKept d → body.now ≡ encode d → AnswersJson (tree_of mode d) result }
+{
+    let document = read_bytes(alloc, body)?;
+    json_of_document(alloc, document, mode)
+}

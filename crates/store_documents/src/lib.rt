@@ -1,0 +1,24 @@
+//! Documents as they come into a store and go out of it, apart from any table: what bytes and JSON are read as, how a document
+//! is written under the key of its `_id`, what a change of one member makes of it, what it is as JSON, and whether a row can be
+//! one that a store wrote.
+#![tactic(auto)]
+
+mod answer;
+mod change;
+mod ids;
+mod name;
+mod read;
+mod reserved;
+mod row;
+mod write;
+
+pub use answer::json_of;
+pub use change::{Unset, set_member, unset_member};
+pub use ids::key_of_id;
+pub use name::Name;
+pub use read::{read_bytes, read_json, read_value};
+pub use row::is_row;
+pub use write::{Written, write_document};
+
+#[cfg(test)]
+mod tests;

@@ -1,0 +1,50 @@
+//! Names of collections.
+
+ghost use Rattle.std.specs.Prelude.{◌≡◌, ◌↔◌, IsSome, IsTrue, IfSome};
+ghost use Rattle.bson_base.specs.Kinds.{HasNo00};
+ghost use Rattle.store_laws.specs.State.{IsName};
+ghost use Rattle.store_documents.specs.Propositions.{name_is_one};
+
+/// The name of a collection: a text that isn't empty and holds no byte 00.
+#[derive(Clone, Copy, Debug)]
+pub struct Name<'a> {
+    text: &'a str,
+    ghost named: { IsName text.now } by { name_is_one text.now },
+}
+
+impl<'a> Name<'a> {
+    ghost use Rattle.store_documents.specs.Names.{name_bytes};
+
+    /// The name that a text is, where it is one.
+    pub fn new(text: &'a str) -> Option<Name<'a>>
+        ensures some { IsSome result ↔ (IsName text.now) }
+        ensures text { IfSome result (λ n. name_bytes n ≡ text.now) }
+    {
+        if is_name(text.as_bytes()) {
+            Some(Name { text })
+        } else {
+            None
+        }
+    }
+
+    /// The text of the name.
+    pub fn as_str(&self) -> &'a str
+        ensures text { result.now ≡ name_bytes self.now }
+        ensures named { IsName result.now }
+    {
+        self.text
+    }
+}
+
+fn has_no_zero(bytes: &[u8]) -> bool
+    ensures { IsTrue result ↔ HasNo00 bytes.now }
+{
+    !bytes.contains(&0)
+}
+
+/// Whether a collection can have the bytes as its name.
+fn is_name(bytes: &[u8]) -> bool
+    ensures { IsTrue result ↔ (IsName bytes.now) }
+{
+    !bytes.is_empty() && has_no_zero(bytes)
+}

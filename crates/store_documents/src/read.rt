@@ -1,0 +1,142 @@
+//! Documents and values as they come in.
+
+ghost use Rattle.std.specs.Prelude.{◌≡◌, ◌⊎◌, ◌≢◌, IfOk, MatchOption, MatchResult};
+ghost use Rattle.serde_json.specs.Data.{object};
+ghost use Rattle.serde_json.specs.View.{view as tree_of, members_view};
+ghost use Rattle.bson_bytes.specs.Spells.{Means};
+ghost use Rattle.bson_meaning.specs.Gate.{Passes};
+ghost use Rattle.bson_meaning.specs.Meaning.{asc_members, norm_members};
+ghost use Rattle.bson_model.specs.View.{members_of, pairs_of};
+ghost use Rattle.bson_model.specs.declared.extjson.de.Error.TheVariants as json_faults;
+ghost use Rattle.store_laws.specs.Reading.{IsRead, IsUnfit, Keeps, ReadsTree, kind_of, readable, unreadable};
+ghost use Rattle.store_laws.specs.declared.error.ErrorKind.TheVariants.{JsonRefused, Memory, NotAnObject};
+ghost use Rattle.store_documents.specs.Answers.{AnswersBytes, AnswersTree, AnswersValue};
+
+use bson_frame as frames;
+use bson_meaning::laws::values_are_json;
+use bson_meaning::{
+    GateError, depth_of_document, gate, is_plain_document, normalize_document, sorted,
+};
+use bson_model::{Bson, Document, extjson};
+use bson_raw::RawDocument;
+use serde_json::{Map, Value};
+use std::alloc::{AllocError, Global};
+use store_laws::ErrorKind;
+
+/// The greatest number of levels of a document that is kept, itself counted.
+pub(crate) const LEVELS: usize = 100;
+
+/// The refusal for a test of the gate.
+fn gate_refusal(error: GateError) -> ErrorKind
+    ensures { result ≡ kind_of error }
+{
+    match error {
+        GateError::EndInside => ErrorKind::EndInside,
+        GateError::BadLength => ErrorKind::BadLength,
+        GateError::NotTerminated => ErrorKind::NotTerminated,
+        GateError::Faulty => ErrorKind::Faulty,
+        GateError::TooDeep => ErrorKind::TooDeep,
+    }
+}
+
+/// The refusal for a fault of the JSON reader.
+fn json_refusal(error: extjson::de::Error) -> ErrorKind
+    ensures { ((error ≡ json_faults.Memory) × (result ≡ Memory)) ⊎ ((error ≢ json_faults.Memory) × (result ≡ JsonRefused)) }
+{
+    match error {
+        extjson::de::Error::Memory => ErrorKind::Memory,
+        extjson::de::Error::InvalidObjectId(_) => ErrorKind::JsonRefused,
+        extjson::de::Error::DeserializationError => ErrorKind::JsonRefused,
+        extjson::de::Error::FiniteDouble => ErrorKind::JsonRefused,
+    }
+}
+
+/// The document that bytes mean which pass the gate. `Memory` where a growth was refused.
+fn document_of(alloc: Global, bytes: &[u8]) -> Result<Document, ErrorKind>
+    requires { Passes bytes.now }
+    ensures { MatchResult result (λ d. Means bytes.now (members_of (pairs_of d))) (λ k. k ≡ Memory) }
+{
+    let Ok(raw) = RawDocument::from_bytes(bytes) else {
+        unreachable!()
+    };
+    match raw.to_document(alloc) {
+        Ok(document) => Ok(document),
+        Err(error) => match error.kind {
+            frames::ErrorKind::OutOfMemory => Err(ErrorKind::Memory),
+            _ => unreachable!(),
+        },
+    }
+}
+
+/// The document that bytes mean (bsonspec.org 1.1, "document"): of a repeated key the last value, in the place of the first.
+///
+/// `EndInside`, `BadLength`, `NotTerminated`, `Faulty` and `TooDeep` are those of the gate, the first whose test fails. `Memory`
+/// comes only where the gate refuses nothing, and where a growth was refused.
+pub fn read_bytes(alloc: Global, bytes: &[u8]) -> Result<Document, ErrorKind>
+    ensures answer { AnswersBytes bytes.now result }
+    ensures read { IfOk result (λ d. IsRead (members_of (pairs_of d))) }
+{
+    if let Err(error) = gate(bytes) {
+        return Err(gate_refusal(error));
+    }
+    document_of(alloc, bytes)
+}
+
+/// The normal form of a document, with its keys in order.
+fn in_order(alloc: Global, document: Document) -> Result<Document, AllocError>
+    ensures { IfOk result (λ d. members_of (pairs_of d) ≡ asc_members (norm_members (members_of (pairs_of document)))) }
+{
+    let normal = normalize_document(alloc, document)?;
+    sorted(alloc, normal)
+}
+
+/// The normal form with its keys in order, of a document that can be kept. `TooDeep` or `Nul` where it can't be, in this order.
+fn kept(alloc: Global, document: Document) -> Result<Document, ErrorKind>
+    ensures { MatchResult result (λ e. Keeps (members_of (pairs_of document)) (readable (members_of (pairs_of e))))
+        (λ k. (k ≡ Memory) ⊎ IsUnfit (members_of (pairs_of document)) k) }
+{
+    if depth_of_document(&document) > LEVELS {
+        return Err(ErrorKind::TooDeep);
+    }
+    if !is_plain_document(&document) {
+        return Err(ErrorKind::Nul);
+    }
+    in_order(alloc, document).map_err(|_| ErrorKind::Memory)
+}
+
+/// The members of an object.
+fn object_of(json: Value) -> Option<Map<String, Value>>
+    ensures { MatchOption result (ReadsTree (tree_of json) (unreadable NotAnObject)) (λ m. tree_of json ≡ object (members_view m.entries)) }
+{
+    match json {
+        Value::Object(map) => Some(map),
+        _ => None,
+    }
+}
+
+/// The document that a JSON tree stands for (MongoDB Extended JSON v2), in normal form with its keys in order.
+///
+/// `NotAnObject` where the tree is no object; `JsonRefused` where it is no Extended JSON, or holds a finite double other than
+/// the zeros; `TooDeep` where the document has over 100 levels; `Nul` where a 00 stands in a key, a pattern or options of it;
+/// each where none before it is told. `Memory` where a growth was refused, and never in the place of `NotAnObject`.
+pub fn read_json(alloc: Global, json: Value) -> Result<Document, ErrorKind>
+    ensures answer { AnswersTree (tree_of json) result }
+    ensures read { IfOk result (λ d. IsRead (members_of (pairs_of d))) }
+{
+    values_are_json(&json);
+    let Some(map) = object_of(json) else {
+        return Err(ErrorKind::NotAnObject);
+    };
+    match Document::try_from_map(alloc, map) {
+        Ok(document) => kept(alloc, document),
+        Err(error) => Err(json_refusal(error)),
+    }
+}
+
+/// The value that a JSON tree stands for, as it is set under a key. `JsonRefused` where it is no Extended JSON, or holds a
+/// finite double other than the zeros; `Memory` where a growth was refused.
+pub fn read_value(alloc: Global, json: Value) -> Result<Bson, ErrorKind>
+    ensures { AnswersValue (tree_of json) result }
+{
+    Bson::try_from_value(alloc, json).map_err(json_refusal)
+}

@@ -1,0 +1,71 @@
+//! Reserved keys below the top of a document, where Extended JSON would be read as typed values.
+
+ghost use Rattle.std.specs.Prelude.{◌≡◌, map};
+ghost use Rattle.bson_meaning.specs.JsonReserved.{has_reserved, reserved_in, reserved_in_items, some_reserved};
+ghost use Rattle.bson_model.specs.JsonKeys.{is_reserved as reserves};
+ghost use Rattle.bson_model.specs.View.{view, items_of, members_of, pairs_of};
+
+use bson_model::{Bson, Document};
+
+/// Whether a key marks a typed value in Extended JSON (MongoDB Extended JSON v2, "Conversion table").
+#[tactic(auto, unfolding(bson_model::specs::JsonKeys::reserved_of))]
+fn is_reserved(key: &str) -> bool
+    ensures { result ≡ reserves key.now }
+{
+    match key {
+        "$oid" | "$symbol" | "$regularExpression" | "$numberInt" | "$numberLong" => true,
+        "$numberDouble" | "$numberDecimal" | "$binary" | "$uuid" | "$code" => true,
+        "$timestamp" | "$date" | "$minKey" | "$maxKey" | "$dbPointer" | "$undefined" => true,
+        _ => false,
+    }
+}
+
+/// Whether one of the keys is reserved.
+fn has_reserved_key(document: &Document) -> bool
+    ensures { result ≡ some_reserved (members_of (pairs_of document.now)) }
+{
+    for (key, _) in document {
+        if is_reserved(key.as_str()) {
+            return true;
+        }
+    }
+    false
+}
+
+/// Whether a document in the value has a reserved key. The keys of a scope are free, those of the documents in it aren't.
+#[cycle(reserved)]
+fn has_reserved_inside(value: &Bson) -> bool
+    ensures { result ≡ reserved_in (view value.now) }
+{
+    match value {
+        Bson::Array(items) => have_reserved_inside(items.as_slice()),
+        Bson::Document(document) => has_reserved_key(document) || has_reserved_below(document),
+        Bson::JavaScriptCodeWithScope(code) => has_reserved_below(&code.scope),
+        _ => false,
+    }
+}
+
+#[cycle(reserved)]
+fn have_reserved_inside(items: &[Bson]) -> bool
+    ensures { result ≡ reserved_in_items (items_of (map view items.now)) }
+{
+    for item in items {
+        if has_reserved_inside(item) {
+            return true;
+        }
+    }
+    false
+}
+
+/// Whether a document below this one has a reserved key. Its own keys are free.
+#[cycle(reserved)]
+pub(crate) fn has_reserved_below(document: &Document) -> bool
+    ensures { result ≡ has_reserved (members_of (pairs_of document.now)) }
+{
+    for (_, value) in document {
+        if has_reserved_inside(value) {
+            return true;
+        }
+    }
+    false
+}

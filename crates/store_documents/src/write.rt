@@ -1,0 +1,88 @@
+//! Documents as they are written to be kept.
+
+ghost use Rattle.std.specs.Prelude.{◌≡◌, MatchResult};
+ghost use Rattle.bson_base.specs.Kinds.{IsPlain};
+ghost use Rattle.bson_base.specs.Value.{document as tree};
+ghost use Rattle.bson_bytes.specs.Encode.{encode};
+ghost use Rattle.bson_model.specs.View.{members_of, pairs_of};
+ghost use Rattle.store_laws.specs.Reading.{IsRead};
+ghost use Rattle.store_documents.specs.Bodies.{AnswersWritten, IsBody, IsLong, IsUnwritten, refusal_of_key};
+
+use crate::ids::{ID_KEY, key_of_id};
+use bson_bytes::encode_document;
+use bson_frame as frames;
+use bson_meaning::{KeyError, is_plain_document};
+use bson_model::Document;
+use std::alloc::Global;
+use store_laws::ErrorKind;
+
+/// The greatest number of bytes of a document that is kept.
+const LIMIT: usize = 16777216;
+
+/// A document as it is kept.
+#[derive(Debug, Drop)]
+pub struct Written {
+    /// The key of its `_id`.
+    pub key: Vec<u8>,
+    /// Its bytes.
+    pub body: Vec<u8>,
+}
+
+/// The refusal for an `_id` that has no key.
+fn key_refusal(error: KeyError) -> ErrorKind
+    ensures { result ≡ refusal_of_key error }
+{
+    match error {
+        KeyError::NotPlain => ErrorKind::Nul,
+        KeyError::TooLong => ErrorKind::TooLong,
+        KeyError::Memory => ErrorKind::Memory,
+    }
+}
+
+/// The bytes of a document without a 00 in a key, a pattern or options. `TooLong` where they are over 2147483647, or `Memory`.
+fn encoded(alloc: Global, document: &Document) -> Result<Vec<u8>, ErrorKind>
+    requires { IsPlain (tree (members_of (pairs_of document.now))) }
+    ensures { MatchResult result (λ b. b.items ≡ encode (members_of (pairs_of document.now))) (IsLong (members_of (pairs_of document.now))) }
+{
+    match encode_document(alloc, document) {
+        Ok(bytes) => Ok(bytes),
+        Err(error) => match error.kind {
+            frames::ErrorKind::MalformedValue => Err(ErrorKind::TooLong),
+            frames::ErrorKind::OutOfMemory => Err(ErrorKind::Memory),
+            frames::ErrorKind::Utf8EncodingError => unreachable!(),
+        },
+    }
+}
+
+/// The bytes of a document. `Nul` where a 00 stands in a key, a pattern or options, else `TooLong` where they are over
+/// 16777216; `Memory` where a growth was refused.
+pub(crate) fn body_of(alloc: Global, document: &Document) -> Result<Vec<u8>, ErrorKind>
+    ensures { MatchResult result (λ b. IsBody b.items (members_of (pairs_of document.now))) (IsUnwritten (members_of (pairs_of document.now))) }
+{
+    if !is_plain_document(document) {
+        return Err(ErrorKind::Nul);
+    }
+    let bytes = encoded(alloc, document)?;
+    if bytes.len() > LIMIT {
+        return Err(ErrorKind::TooLong);
+    }
+    Ok(bytes)
+}
+
+/// A document as it is kept: its bytes, and the key of its `_id`. The document is one as it is read: clean, of at most 100
+/// levels.
+///
+/// `NoId` where it has no `_id`, else `TooLong` where its bytes are over 16777216; `Memory` where a growth was refused. A document
+/// that isn't as it is read may be refused by `Nul`, where a 00 stands in a key, a pattern or options.
+pub fn write_document(alloc: Global, document: &Document) -> Result<Written, ErrorKind>
+    ensures { IsRead (members_of (pairs_of document.now)) → AnswersWritten (members_of (pairs_of document.now)) result }
+{
+    let Some(id) = document.get(ID_KEY) else {
+        return Err(ErrorKind::NoId);
+    };
+    let body = body_of(alloc, document)?;
+    match key_of_id(alloc, id) {
+        Ok(key) => Ok(Written { key, body }),
+        Err(error) => Err(key_refusal(error)),
+    }
+}
