@@ -150,8 +150,8 @@ payload_by inner inside tag payload sized = elim (faultless_or tag payload) [
 
 payloads_at : (inner : ℕ) → ElementsTell inner → PayloadsTell (suc inner)
 payloads_at inner tell = payload_by (suc inner) (λ tag payload held holds.
-  let e = tell (drop 4 held) in
-  (e.0, held_reads tag payload held (suc inner) e.0 holds (omega arith) (subst (λ n. ReadsElements (drop 4 held) n e.0) (let i : inner ≡ suc inner - 1 = omega arith in i) e.1)))
+    let e = tell (drop 4 held) in
+    (e.0, held_reads tag payload held (suc inner) e.0 holds (omega arith) (subst (λ n. ReadsElements (drop 4 held) n e.0) (let i : inner ≡ suc inner - 1 = omega arith in i) e.1)))
 
 payloads_at_zero : PayloadsTell 0
 payloads_at_zero = payload_by 0 (λ tag payload held holds. (Err gate.TooDeep, (held, holds, nests_zero 0 (drop 4 held) refl)))

@@ -54,9 +54,19 @@ fn documents_as_they_are_written(rt: HostRuntime) -> Result<(), Fail> {
     let bytes = b"\x17\0\0\0\x10_id\0\x01\0\0\0\x10_id\0\x02\0\0\0\0";
     keeps(&rt, alloc, bytes, TWO)?;
     let bytes = b"\x1C\0\0\0\x10_id\0\x01\0\0\0\x10a\0\x02\0\0\0\x10a\0\x03\0\0\0\0";
-    keeps(&rt, alloc, bytes, b"\x15\0\0\0\x10_id\0\x01\0\0\0\x10a\0\x03\0\0\0\0")?;
+    keeps(
+        &rt,
+        alloc,
+        bytes,
+        b"\x15\0\0\0\x10_id\0\x01\0\0\0\x10a\0\x03\0\0\0\0",
+    )?;
     let bytes = b"\x16\0\0\0\x10_id\0\x01\0\0\0\x0Br\0a\0mi\0\0";
-    keeps(&rt, alloc, bytes, b"\x16\0\0\0\x10_id\0\x01\0\0\0\x0Br\0a\0im\0\0")
+    keeps(
+        &rt,
+        alloc,
+        bytes,
+        b"\x16\0\0\0\x10_id\0\x01\0\0\0\x0Br\0a\0im\0\0",
+    )
 }
 
 #[test]
@@ -70,10 +80,28 @@ fn items_get_the_keys_of_their_places(rt: HostRuntime) -> Result<(), Fail> {
 fn the_first_refused_document_decides(rt: HostRuntime) -> Result<(), Fail> {
     let alloc = rt.alloc();
     refuses(&rt, alloc, EMPTY, ErrorKind::NoId, 0);
-    refuses(&rt, alloc, &both(alloc, HELLO, b"\x04\0\0\0")?, ErrorKind::BadLength, 1);
-    refuses(&rt, alloc, &both(alloc, EMPTY, b"\x04\0\0\0")?, ErrorKind::NoId, 0);
+    refuses(
+        &rt,
+        alloc,
+        &both(alloc, HELLO, b"\x04\0\0\0")?,
+        ErrorKind::BadLength,
+        1,
+    );
+    refuses(
+        &rt,
+        alloc,
+        &both(alloc, EMPTY, b"\x04\0\0\0")?,
+        ErrorKind::NoId,
+        0,
+    );
     refuses(&rt, alloc, &both(alloc, HELLO, EMPTY)?, ErrorKind::NoId, 1);
-    refuses(&rt, alloc, &both(alloc, b"\x05\0\0\0\x01", EMPTY)?, ErrorKind::NotTerminated, 0);
+    refuses(
+        &rt,
+        alloc,
+        &both(alloc, b"\x05\0\0\0\x01", EMPTY)?,
+        ErrorKind::NotTerminated,
+        0,
+    );
     Ok(())
 }
 
@@ -81,7 +109,13 @@ fn the_first_refused_document_decides(rt: HostRuntime) -> Result<(), Fail> {
 fn streams_that_end_inside(rt: HostRuntime) -> Result<(), Fail> {
     let alloc = rt.alloc();
     refuses(&rt, alloc, b"\x1F\0\0", ErrorKind::EndInside, 0);
-    refuses(&rt, alloc, &both(alloc, HELLO, b"\0")?, ErrorKind::EndInside, 1);
+    refuses(
+        &rt,
+        alloc,
+        &both(alloc, HELLO, b"\0")?,
+        ErrorKind::EndInside,
+        1,
+    );
     refuses(&rt, alloc, &HELLO[..30], ErrorKind::EndInside, 0);
     refuses(&rt, alloc, b"\x01\0\0\x01", ErrorKind::BadLength, 0);
     refuses(&rt, alloc, b"\0\0\0\x01", ErrorKind::EndInside, 0);

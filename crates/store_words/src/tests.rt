@@ -73,7 +73,14 @@ fn lines_without_further_words(rt: HostRuntime) -> Result<(), Fail> {
 fn words_go_by_their_places(rt: HostRuntime) -> Result<(), Fail> {
     let alloc = rt.alloc();
     reads(&rt, alloc, "f|get|-c|-1", Call::Get, "-c", 1)?;
-    reads(&rt, alloc, "f|get|--relaxed|--relaxed", Call::Get, "--relaxed", 1)?;
+    reads(
+        &rt,
+        alloc,
+        "f|get|--relaxed|--relaxed",
+        Call::Get,
+        "--relaxed",
+        1,
+    )?;
     reads(&rt, alloc, "f|insert|insert|-", Call::Insert, "insert", 1)?;
     reads(&rt, alloc, "f|export|", Call::Export, "", 0)?;
     reads(&rt, alloc, "f|set|c||--|", Call::Set, "c", 3)
@@ -82,19 +89,49 @@ fn words_go_by_their_places(rt: HostRuntime) -> Result<(), Fail> {
 #[test]
 fn lines_that_are_not_in_the_table(rt: HostRuntime) -> Result<(), Fail> {
     let alloc = rt.alloc();
-    for line in ["f", "f|", "f|Insert|c|{}", "f|insert", "f|insert|c", "f|insert|c|{}|x"] {
+    for line in [
+        "f",
+        "f|",
+        "f|Insert|c|{}",
+        "f|insert",
+        "f|insert|c",
+        "f|insert|c|{}|x",
+    ] {
         misses(&rt, alloc, line)?;
     }
-    for line in ["f|get|c", "f|get|c|1|2", "f|get|c|1|--relaxed|2", "f|get|c|--relaxed|1|2"] {
+    for line in [
+        "f|get|c",
+        "f|get|c|1|2",
+        "f|get|c|1|--relaxed|2",
+        "f|get|c|--relaxed|1|2",
+    ] {
         misses(&rt, alloc, line)?;
     }
-    for line in ["f|set|c|1|k", "f|set|c|1|k|2|3", "f|unset|c|1", "f|unset|c|1|k|2"] {
+    for line in [
+        "f|set|c|1|k",
+        "f|set|c|1|k|2|3",
+        "f|unset|c|1",
+        "f|unset|c|1|k|2",
+    ] {
         misses(&rt, alloc, line)?;
     }
-    for line in ["f|remove|c", "f|find|c", "f|count|c", "f|find|c|{}|{}", "f|import", "f|import|c|d"] {
+    for line in [
+        "f|remove|c",
+        "f|find|c",
+        "f|count|c",
+        "f|find|c|{}|{}",
+        "f|import",
+        "f|import|c|d",
+    ] {
         misses(&rt, alloc, line)?;
     }
-    for line in ["f|export|c|d", "f|dump|c|d", "f|load|c|d", "f|collections|c", "collections"] {
+    for line in [
+        "f|export|c|d",
+        "f|dump|c|d",
+        "f|load|c|d",
+        "f|collections|c",
+        "collections",
+    ] {
         misses(&rt, alloc, line)?;
     }
     Ok(())
@@ -129,7 +166,12 @@ fn each_filter(rt: HostRuntime) -> Result<(), Fail> {
     is_filter(&rt, alloc, "{\"eq\":[[\"v\",\"0\"],1]}", one)?;
     let there = Filter::Exists(path(alloc, "a")?);
     is_filter(&rt, alloc, "{\"exists\":[\"a\"]}", there)?;
-    is_filter(&rt, alloc, "{\"exists\":[]}", Filter::Exists(Vec::new(alloc)))?;
+    is_filter(
+        &rt,
+        alloc,
+        "{\"exists\":[]}",
+        Filter::Exists(Vec::new(alloc)),
+    )?;
     let kind = Filter::Kind(path(alloc, "a")?, ElementType::MinKey);
     is_filter(&rt, alloc, "{\"kind\":[[\"a\"],255]}", kind)?;
     is_filter(&rt, alloc, "{\"and\":[]}", Filter::And(Vec::new(alloc)))?;
@@ -147,7 +189,12 @@ fn filters_inside_filters(rt: HostRuntime) -> Result<(), Fail> {
     let text = "{\"or\":[{\"and\":[]},{\"exists\":[\"a\"]}]}";
     is_filter(&rt, alloc, text, Filter::Or(either))?;
     let long = Filter::Eq(path(alloc, "a")?, Bson::Int64(1));
-    is_filter(&rt, alloc, "{\"eq\":[[\"a\"],{\"$numberLong\":\"1\"}]}", long)
+    is_filter(
+        &rt,
+        alloc,
+        "{\"eq\":[[\"a\"],{\"$numberLong\":\"1\"}]}",
+        long,
+    )
 }
 
 /// The text is no filter.
@@ -159,19 +206,47 @@ fn is_no_filter(rt: &impl Abort, alloc: Global, text: &str) {
 #[test]
 fn texts_that_are_no_filters(rt: HostRuntime) {
     let alloc = rt.alloc();
-    for text in ["", "{", "1", "[]", "{}", "{\"Eq\":[[],1]}", "{\"and\":[],\"or\":[]}"] {
+    for text in [
+        "",
+        "{",
+        "1",
+        "[]",
+        "{}",
+        "{\"Eq\":[[],1]}",
+        "{\"and\":[],\"or\":[]}",
+    ] {
         is_no_filter(&rt, alloc, text);
     }
-    for text in ["{\"eq\":[[\"a\"]]}", "{\"eq\":[[\"a\"],1,2]}", "{\"eq\":[\"a\",1]}", "{\"eq\":1}"] {
+    for text in [
+        "{\"eq\":[[\"a\"]]}",
+        "{\"eq\":[[\"a\"],1,2]}",
+        "{\"eq\":[\"a\",1]}",
+        "{\"eq\":1}",
+    ] {
         is_no_filter(&rt, alloc, text);
     }
-    for text in ["{\"eq\":[[1],1]}", "{\"eq\":[[],1.5]}", "{\"exists\":\"a\"}", "{\"exists\":[[]]}"] {
+    for text in [
+        "{\"eq\":[[1],1]}",
+        "{\"eq\":[[],1.5]}",
+        "{\"exists\":\"a\"}",
+        "{\"exists\":[[]]}",
+    ] {
         is_no_filter(&rt, alloc, text);
     }
-    for text in ["{\"kind\":[[],0]}", "{\"kind\":[[],272]}", "{\"kind\":[[],\"16\"]}"] {
+    for text in [
+        "{\"kind\":[[],0]}",
+        "{\"kind\":[[],272]}",
+        "{\"kind\":[[],\"16\"]}",
+    ] {
         is_no_filter(&rt, alloc, text);
     }
-    for text in ["{\"kind\":[[],-1]}", "{\"kind\":[[],16.0]}", "{\"not\":[]}", "{\"and\":{}}", "{\"or\":[1]}"] {
+    for text in [
+        "{\"kind\":[[],-1]}",
+        "{\"kind\":[[],16.0]}",
+        "{\"not\":[]}",
+        "{\"and\":{}}",
+        "{\"or\":[1]}",
+    ] {
         is_no_filter(&rt, alloc, text);
     }
 }
@@ -228,10 +303,34 @@ fn tells(
 #[test]
 fn refusals(rt: HostRuntime) -> Result<(), Fail> {
     let alloc = rt.alloc();
-    tells(&rt, alloc, ErrorKind::DuplicateId, None, "refused: DuplicateId\n")?;
-    tells(&rt, alloc, ErrorKind::NoId, Some(0), "refused: NoId document 0\n")?;
-    tells(&rt, alloc, ErrorKind::BadLength, Some(120), "refused: BadLength document 120\n")?;
-    tells(&rt, alloc, ErrorKind::BadRow(-7), None, "refused: BadRow -7\n")?;
+    tells(
+        &rt,
+        alloc,
+        ErrorKind::DuplicateId,
+        None,
+        "refused: DuplicateId\n",
+    )?;
+    tells(
+        &rt,
+        alloc,
+        ErrorKind::NoId,
+        Some(0),
+        "refused: NoId document 0\n",
+    )?;
+    tells(
+        &rt,
+        alloc,
+        ErrorKind::BadLength,
+        Some(120),
+        "refused: BadLength document 120\n",
+    )?;
+    tells(
+        &rt,
+        alloc,
+        ErrorKind::BadRow(-7),
+        None,
+        "refused: BadRow -7\n",
+    )?;
     tells(&rt, alloc, ErrorKind::Database, None, "refused: Database\n")
 }
 

@@ -1,4 +1,4 @@
-use Rattle.std.proofs.Common.{◌<◌, ◌∙◌, length, arith}
+use Rattle.std.proofs.Common.{◌∙◌, arith}
 use Rattle.std.proofs.lemmas.Result.{err_from_is_err_and}
 use Rattle.store_words.proofs.Parts.{parts_more, parts_begun}
 use Rattle.store_words.proofs.lines.write_parts.Goals as goal
@@ -16,5 +16,5 @@ loop-part-preserved g c =
     record {
       fine = c.in_ok-write_all.ensures.counts ∙ c.loop-part.invariant.fine;
       went = parts_more (taken c.args.sink.now) (taken c.loop-part.sink) (taken c.write_all.new.sink) c.args.parts.now c.loop-part.part-index _ c.as_bytes.result.now
-        (let h = c.loop-part-test.true in omega arith) c.as_bytes.ensures.value c.loop-part.invariant.went c.in_ok-write_all.ensures.ok;
+          (let h = c.loop-part-test.true in omega arith) c.as_bytes.ensures.value c.loop-part.invariant.went c.in_ok-write_all.ensures.ok;
     }

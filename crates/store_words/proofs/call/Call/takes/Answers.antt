@@ -1,8 +1,7 @@
-use Rattle.std.proofs.Common.{◌≡◌, ◌↔◌, inl, inr, ◌<◌, ◌≤◌, List, [], ◌∷◌, length, map, get_or, Bool, true, IsTrue, String, Global, string_bytes, ap, ◌∙◌, sym, subst, arith}
+use Rattle.std.proofs.Common.{◌≡◌, ◌↔◌, inl, inr, ◌<◌, ◌≤◌, List, [], ◌∷◌, length, map, get_or, Bool, IsTrue, String, Global, string_bytes, ap, ◌∙◌, sym, subst, arith}
 use Rattle.std.specs.Str.{bytes_eq}
 use Rattle.std.proofs.lemmas.Slice.Eq.{bytes_eq-Decides}
 use Rattle.store_words.specs.Words.{Takes, relaxed}
-use Rattle.store_words.specs.declared.call.Call.{Call}
 use Rattle.store_words.specs.declared.call.Call.TheVariants.{Get}
 use Rattle.store_words.proofs.call.Call.takes.Goals as goal
 
