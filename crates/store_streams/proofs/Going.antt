@@ -1,0 +1,65 @@
+-- From the answer for one document to those for many.
+use Rattle.std.proofs.Common.{◌≡◌, ◌⊎◌, inl, inr, ℕ, ◌<◌, List, [], ◌∷◌, ◌++◌, length, Option, Some, None, Result, Ok, Err, Bor, refl, ap, sym, ◌∙◌, subst}
+use Rattle.serde_json.specs.Data.{Data}
+use Rattle.bson_base.specs.Value.{Members}
+use Rattle.bson_bytes.specs.Encode.{encode}
+use Rattle.bson_meaning.specs.Gate.{IsCounted}
+use Rattle.bson_meaning.specs.Meaning.{key}
+use Rattle.store_laws.specs.Reading.{Documents, Reading, readable, unreadable, ReadsBytes, ReadsTree, IsUncut, ReadsStream, ReadsTrees}
+use Rattle.store_laws.specs.State.{refusal_of}
+use Rattle.store_laws.specs.Table.{own_id}
+use Rattle.store_laws.specs.declared.error.ErrorKind.{ErrorKind}
+use Rattle.store_laws.specs.declared.error.ErrorKind.TheVariants.{Memory}
+use Rattle.store_documents.specs.Bodies.{AnswersWritten}
+use Rattle.store_documents.specs.declared.write.Written.{Written}
+use Rattle.store_streams.specs.declared.error.StreamError.TheVariants as errors
+use Rattle.store_streams.specs.Judging.{AnswersFront, AnswersRow, Judges, RefusesFront, refusal_at}
+use Rattle.store_streams.proofs.SoFar.{SoFar, so_far_refused, so_far_stopped}
+use Rattle.store_streams.proofs.Streams.{any_stream, any_trees, stream_more, stream_unread, stream_uncut, trees_more, trees_unread}
+
+-- ---- one document
+
+-- what can't be read, or memory was wanted
+pub unread_row : (Reads : Reading → Type 0) (k : ErrorKind) → Reads (unreadable k) ⊎ (k ≡ Memory) → AnswersRow Reads (Err k)
+unread_row Reads Memory h = tt
+unread_row Reads _ (inl h) = inl h
+unread_row Reads _ (inr e) = absurd (cc)
+
+pub written_row : (Reads : Reading → Type 0) (d : Members) (r : Result Written ErrorKind) → Reads (readable d) → AnswersWritten d r → AnswersRow Reads r
+written_row Reads d (Ok w) h a = (d, h, a.0, a.2, a.1)
+written_row Reads d (Err Memory) h a = tt
+written_row Reads d (Err _) h (inl why) = inr (d, h, why)
+written_row Reads d (Err _) h (inr e) = absurd (cc)
+
+-- ---- the first document of a stream
+
+pub front_kept : (bytes p : List ℕ) (rest : Bor (List ℕ)) (w : Written) → bytes ≡ p ++ rest.now → IsCounted p → AnswersRow (ReadsBytes p) (Ok w) → AnswersFront bytes (Ok (w, rest))
+front_kept bytes p rest w e counted (d, h, fits, body, is) = (d, (λ more stop s. stream_more bytes p rest.now d more stop e counted h s), fits, body, is)
+
+pub front_refused : (bytes p rest : List ℕ) (k : ErrorKind) → bytes ≡ p ++ rest → IsCounted p → AnswersRow (ReadsBytes p) (Err k) → AnswersFront bytes (Err k)
+front_refused bytes p rest Memory e counted h = tt
+front_refused bytes p rest _ e counted (inl h) = inl (stream_unread bytes p rest _ e counted h)
+front_refused bytes p rest _ e counted (inr (d, h, why)) = let s = any_stream rest in inr (d, s.0, s.1, stream_more bytes p rest d s.0 s.1 e counted h s.2, why)
+
+pub front_uncut : (bytes : List ℕ) (k : ErrorKind) → 0 < length bytes → IsUncut bytes k → AnswersFront bytes (Err k)
+front_uncut bytes Memory some h = tt
+front_uncut bytes _ some h = inl (stream_uncut bytes _ some h)
+
+-- ---- the first tree of a list
+
+pub tree_refused : (j : Data) (js : List Data) (k : ErrorKind) → AnswersRow (ReadsTree j) (Err k) → RefusesFront (ReadsTrees (j ∷ js)) k
+tree_refused j js Memory h = tt
+tree_refused j js _ (inl h) = inl (trees_unread j js _ h)
+tree_refused j js _ (inr (d, h, why)) = let s = any_trees js in inr (d, s.0, s.1, trees_more j js d s.0 s.1 h s.2, why)
+
+-- ---- all
+
+pub judged_memory : (Whole Rest : Documents → Option ErrorKind → Type 0) (rows : List Written) (place : ℕ) → SoFar Whole Rest rows place
+    → (ds : Documents) × (stop : Option ErrorKind) × Rest ds stop → Judges Whole (Err errors.Memory)
+judged_memory Whole Rest rows place s any = (s.done ++ any.0, any.1, s.reads any.0 any.1 any.2)
+
+pub judged_refused : (Whole Rest : Documents → Option ErrorKind → Type 0) (rows : List Written) (place : ℕ) (k : ErrorKind) → SoFar Whole Rest rows place
+    → (ds : Documents) × (stop : Option ErrorKind) × Rest ds stop → RefusesFront Rest k → Judges Whole (Err (refusal_at k place))
+judged_refused Whole Rest rows place Memory s any h = judged_memory Whole Rest rows place s any
+judged_refused Whole Rest rows place _ s any (inl h) = so_far_stopped Whole Rest rows place _ s h
+judged_refused Whole Rest rows place _ s any (inr (d, more, stop, h, why)) = so_far_refused Whole Rest rows place _ d more stop s h why

@@ -1,0 +1,14 @@
+use Rattle.std.proofs.Common.{◌≡◌, ◌<◌, ◌-◌, ◌^◌, vec_len}
+use Rattle.bson_base.specs.Device.{Gives}
+use Rattle.store_streams.proofs.input.read_all.Given as goal
+
+abbrev pub invariant-loop-n : goal.invariant-loop-n
+invariant-loop-n g l = record {
+  fine : g.S.Source.failures l.source ≡ g.S.Source.failures l.fn.source;
+  so_far : Gives (g.S.Source.supply l.fn.source) (g.S.Source.supply l.source) l.bytes.items;
+  room : 0 < vec_len l.chunk;
+}
+
+-- each round but the last takes a whole chunk
+abbrev pub decreases-loop-n : goal.decreases-loop-n
+decreases-loop-n g l = 2 ^ 64 - vec_len l.bytes

@@ -1,0 +1,67 @@
+//! The lines of JSON text that `load` reads.
+
+use crate::texts::{TextError, read_json};
+use serde_json::Value;
+use std::alloc::{AllocError, AllocFailed, Global};
+use thiserror::Error;
+
+/// Why lines of JSON text aren't read.
+#[derive(Clone, Copy, Debug, PartialEq, Eq, Error)]
+pub enum LinesError {
+    /// This line, counted from 1, is no JSON text.
+    #[error("line {0} is no JSON text")]
+    Line(u64),
+    /// A growth was refused.
+    #[error("out of memory")]
+    Memory,
+}
+
+impl From<AllocError> for LinesError {
+    ghost use Rattle.std.specs.Prelude.{◌≡◌};
+    ghost use Rattle.store_words.specs.declared.input.LinesError.TheVariants.{Memory};
+
+    ghost from_gives = { λ _ e. e ≡ Memory };
+
+    fn from(_error: AllocError) -> LinesError {
+        LinesError::Memory
+    }
+}
+
+impl<T: Drop> From<AllocFailed<T>> for LinesError {
+    ghost use Rattle.std.specs.Prelude.{◌≡◌};
+    ghost use Rattle.store_words.specs.declared.input.LinesError.TheVariants.{Memory};
+
+    ghost from_gives = { λ _ e. e ≡ Memory };
+
+    fn from(failed: AllocFailed<T>) -> LinesError {
+        drop(failed);
+        LinesError::Memory
+    }
+}
+
+/// The tree of a line (RFC 8259, which has UTF-8 alone).
+fn tree_of(alloc: Global, line: &[u8]) -> Result<Value, TextError> {
+    let Ok(text) = str::from_utf8(line) else {
+        return Err(TextError::Unreadable);
+    };
+    read_json(alloc, text)
+}
+
+/// Reads lines of JSON text, each of which ends in a line feed, but for the last one also at the end. A line of no bytes has no
+/// tree, and counts like any other.
+pub fn read_lines(alloc: Global, bytes: &[u8]) -> Result<Vec<Value>, LinesError> {
+    let mut trees = Vec::new(alloc);
+    let mut number = 0u64;
+    for line in bytes.split(|byte| *byte == b'\n') {
+        number = number.saturating_add(1);
+        if line.is_empty() {
+            continue;
+        }
+        match tree_of(alloc, line) {
+            Ok(tree) => trees.push(tree)?,
+            Err(TextError::Unreadable) => return Err(LinesError::Line(number)),
+            Err(TextError::Memory) => return Err(LinesError::Memory),
+        }
+    }
+    Ok(trees)
+}

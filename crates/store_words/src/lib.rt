@@ -1,0 +1,18 @@
+//! The words of the program `bson_store`: which command they name, what their texts stand for, and the lines that are printed.
+#![tactic(auto)]
+
+mod call;
+mod filter;
+mod input;
+mod lines;
+#[cfg(test)]
+mod tests;
+mod texts;
+mod words;
+
+pub use call::{Call, RELAXED};
+pub use filter::{Filter, read_filter};
+pub use input::{LinesError, read_lines};
+pub use lines::{Complaint, write_complaint, write_flag, write_line, write_number, write_refusal};
+pub use texts::{TextError, read_id, read_json};
+pub use words::{Words, read_words};
