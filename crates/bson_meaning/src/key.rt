@@ -51,7 +51,6 @@ pub fn meaning_key(alloc: Global, document: &Document) -> Result<Vec<u8>, KeyErr
     ensures plain { OnOk result (IsPlain (tree (members_of (pairs_of document.now)))) }
 
     // The order of refusals: a 00 comes before the length.
-    ensures plain { OnOk result (IsPlain (tree (members_of (pairs_of document.now)))) }
     ensures not_plain { (result ≡ Err KeyError.NotPlain) ↔ (IsPlain (tree (members_of (pairs_of document.now))) → ⊥) }
     ensures too_long { result ≡ Err KeyError.TooLong → 2147483647 < length (key_of (members_of (pairs_of document.now))) }
 
