@@ -164,6 +164,3 @@ fn write_pointer<W: fmt::Write>(f: &mut fmt::Formatter<W>, pointer: &DbPointer) 
     let id = pointer.id;
     write!(f, "DbPointer({namespace}, {id})")
 }
-
-#[cfg(test)]
-mod tests;

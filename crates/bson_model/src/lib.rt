@@ -7,8 +7,6 @@ mod display;
 pub mod document;
 pub mod extjson;
 pub mod laws;
-#[cfg(test)]
-mod tests;
 
 pub use bson::{Array, Bson, JavaScriptCodeWithScope};
 pub use bson_base::{

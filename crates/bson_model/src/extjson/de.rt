@@ -10,8 +10,6 @@ ghost use Rattle.serde_json.specs.Find.{as_i64};
 
 mod bodies;
 mod keys;
-#[cfg(test)]
-mod tests;
 mod texts;
 
 use crate::bson::{Bson, JavaScriptCodeWithScope};

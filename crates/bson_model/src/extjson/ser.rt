@@ -266,6 +266,3 @@ fn write_date(alloc: Global, moment: DateTime, mode: Mode) -> Result<Value, Allo
     let body = date_body(alloc, moment, mode)?;
     wrapped(alloc, "$date", body)
 }
-
-#[cfg(test)]
-mod tests;
