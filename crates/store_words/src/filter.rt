@@ -1,26 +1,10 @@
 //! Filters as JSON texts.
 
 use crate::texts::{TextError, read_json};
+use bson_filter::Filter;
 use bson_model::{Bson, ElementType};
 use serde_json::Value;
 use std::alloc::Global;
-
-/// A test on documents.
-#[derive(Debug, PartialEq, Drop)]
-pub enum Filter {
-    /// The value at the path means the same as this one.
-    Eq(Vec<String>, Bson),
-    /// A value stands at the path.
-    Exists(Vec<String>),
-    /// A value of this kind stands at the path.
-    Kind(Vec<String>, ElementType),
-    /// The filter doesn't select the document.
-    Not(Box<Filter>),
-    /// All of these select it, also where there are none.
-    And(Vec<Filter>),
-    /// One of these selects it.
-    Or(Vec<Filter>),
-}
 
 /// The filter of a JSON text, an object with one key: `{"eq":[path,value]}`, `{"exists":path}`, `{"kind":[path,tag]}`,
 /// `{"not":filter}`, `{"and":[filter,..]}` or `{"or":[filter,..]}`. A path is an array of texts, a value Extended JSON, and a

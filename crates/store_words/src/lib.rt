@@ -11,7 +11,7 @@ mod texts;
 mod words;
 
 pub use call::{Call, RELAXED};
-pub use filter::{Filter, read_filter};
+pub use filter::read_filter;
 pub use input::{LinesError, read_lines};
 pub use lines::{Complaint, write_complaint, write_flag, write_line, write_number, write_refusal};
 pub use texts::{TextError, read_id, read_json};

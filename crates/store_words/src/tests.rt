@@ -1,10 +1,11 @@
 //! Each line of the table of commands, each way to miss it, the texts and the printed lines.
 
 use super::{
-    Call, Complaint, Filter, LinesError, TextError, read_filter, read_id, read_lines, read_words,
+    Call, Complaint, LinesError, TextError, read_filter, read_id, read_lines, read_words,
     write_complaint, write_flag, write_number, write_refusal,
 };
 use bson_base::VecSink;
+use bson_filter::Filter;
 use bson_model::{Bson, ElementType};
 use std::alloc::{AllocError, Global};
 use std::process::Abort;
