@@ -1,12 +1,18 @@
 -- What an export does to the device that it writes to.
-use Rattle.std.specs.Prelude.{◌≡◌, ℕ, ◌+◌, List, [], Option, None, Result, Ok, Err}
+use Rattle.std.specs.Prelude.{◌≡◌, ℕ, ◌+◌, List, Option, None, Result, Ok, Err, Vec, IfOk, IfErr, map}
 use Rattle.std.specs.List.{flat_map}
 use Rattle.std.specs.Io.KnownBytes.{Appends}
+use Rattle.std.specs.declared.alloc.Global.{Global}
 use Rattle.bson_base.specs.Device.{TakesBeginning}
-use Rattle.bson_store.specs.Bytes.{encode}
-use Rattle.bson_store.specs.State.{State, list_of, IsName}
-use Rattle.bson_store.specs.declared.error.ErrorKind.{ErrorKind}
-use Rattle.bson_store.specs.declared.error.ErrorKind.TheVariants.{BadName, Memory, Writer}
+use Rattle.bson_bytes.specs.Encode.{encode}
+use Rattle.bson_table.specs.Rows.{Doc}
+use Rattle.bson_table.specs.Moves.{bodies_of}
+use Rattle.store_laws.specs.State.{State, list_of, IsName}
+use Rattle.store_laws.specs.Table.{Table, state_of}
+use Rattle.store_laws.specs.declared.error.ErrorKind.{ErrorKind}
+use Rattle.store_laws.specs.declared.error.ErrorKind.TheVariants.{BadName, Memory, Database, Writer}
+use Rattle.bson_store.specs.Shown.{Show}
+use Rattle.bson_store.specs.Refusals.{IsDenied}
 use Rattle.bson_store.specs.declared.error.StoreError.{StoreError}
 
 -- what a sink tells: how many of its calls have failed, and the bytes that it took, where it knows them
@@ -14,10 +20,12 @@ pub record Tally : Type 0 where
   pub failures : ℕ
   pub taken : Option (List ℕ)
 
--- all of bs went out; or a beginning of it did, and a call of the sink failed where `Writer` is told, and none where `Memory` is
+-- All of bs went out; or a beginning of it did, and a call of the sink failed where `Writer` is told, and none where `Memory` or
+-- `Database` is.
 abbrev pub Delivers : List ℕ → Tally → Tally → Result (Unit {0}) ErrorKind → Type 0
 Delivers bs old new (Ok x) = (new.failures ≡ old.failures) × Appends old.taken new.taken bs
 Delivers bs old new (Err Memory) = (new.failures ≡ old.failures) × TakesBeginning old.taken new.taken bs
+Delivers bs old new (Err Database) = (new.failures ≡ old.failures) × TakesBeginning old.taken new.taken bs
 Delivers bs old new (Err Writer) = (new.failures ≡ old.failures + 1) × TakesBeginning old.taken new.taken bs
 Delivers bs old new (Err _) = ⊥
 
@@ -30,3 +38,21 @@ ExportRefused s n old new kind = IsName n × Delivers (flat_map encode (list_of 
 abbrev pub Exports : State → List ℕ → Tally → Tally → Result (Unit {0}) StoreError → Type 0
 Exports s n old new (Ok x) = IsName n × Delivers (flat_map encode (list_of s n)) old new (Ok x)
 Exports s n old new (Err e) = (e.document ≡ None) × ExportRefused s n old new e.kind
+
+-- whatever table the rows show, its list goes out, and the rows stay
+pub record Sends (n : List ℕ) (old new : Tally) (result : Result (Unit {0}) StoreError) (docs after : List Doc) : Type 0 where
+  pub same : after ≡ docs
+  pub exports : (a : Table) → Show docs a → Exports (state_of a) n old new result
+
+-- the bodies of a collection, one after the other
+abbrev pub bytes_of : List (Vec ℕ Global) → List (List ℕ)
+bytes_of = map (λ (v : Vec ℕ Global). v.items)
+
+abbrev pub joined : List (Vec ℕ Global) → List ℕ
+joined = flat_map (λ (v : Vec ℕ Global). v.items)
+
+-- all bodies of a collection
+pub record Gathers (n : List ℕ) (result : Result (Vec (Vec ℕ Global) Global) StoreError) (docs after : List Doc) : Type 0 where
+  pub same : after ≡ docs
+  pub bodies : IfOk result (λ v. bytes_of v.items ≡ bodies_of n docs)
+  pub denied : IfErr result IsDenied

@@ -1,12 +1,6 @@
-pub mod Value
-pub mod View
-pub mod Bytes
-pub mod Reading
-pub mod State
-pub mod Run
-pub mod Rows
-pub mod StoreView
-pub mod Commands
+pub mod Shown
+pub mod Calls
+pub mod Refusals
 pub mod Export
-pub mod FrameView
-pub mod Gate
+pub mod Opening
+pub mod Runs

@@ -1,19 +1,59 @@
 //! Lists of commands.
 
 ghost use Rattle.std.specs.Prelude.{◌≡◌, IfOk, OnErr};
-ghost use Rattle.bson_store.specs.StoreView.{state_of};
-ghost use Rattle.bson_store.specs.Commands.{AnswersAsLists, AnswersOne, SendsBytes};
-ghost use Rattle.bson_store.specs.State.{IsStore};
+ghost use Rattle.bson_table.specs.Moves.{Moves};
+ghost use Rattle.bson_store.specs.Calls.{held};
+ghost use Rattle.bson_store.specs.Refusals.{reply_by, as_done, as_flag, as_bytes, as_json};
+ghost use Rattle.bson_store.specs.Runs.{Exported, Obeys, AnswersAsLists, AnswersThroughTables, reply_of};
 
 use crate::command::{Command, Reply};
-use crate::error::{ErrorKind, StoreError};
+use crate::error::StoreError;
 use crate::store::Store;
-use bson_base::VecSink;
+use bson_model::VecSink;
+use serde_json::Value;
+use sqlite::Alter;
 use std::alloc::AllocError;
+use store_laws::ErrorKind;
+
+fn done(outcome: Result<(), StoreError>) -> Reply
+    ensures { reply_of result ≡ reply_by as_done outcome }
+{
+    match outcome {
+        Ok(()) => Reply::Done,
+        Err(error) => Reply::Refused(error),
+    }
+}
+
+fn flag(outcome: Result<bool, StoreError>) -> Reply
+    ensures { reply_of result ≡ reply_by as_flag outcome }
+{
+    match outcome {
+        Ok(flag) => Reply::Flag(flag),
+        Err(error) => Reply::Refused(error),
+    }
+}
+
+fn written(outcome: Result<Vec<u8>, StoreError>) -> Reply
+    ensures { reply_of result ≡ reply_by as_bytes outcome }
+{
+    match outcome {
+        Ok(bytes) => Reply::Bytes(bytes),
+        Err(error) => Reply::Refused(error),
+    }
+}
+
+fn json(outcome: Result<Value, StoreError>) -> Reply
+    ensures { reply_of result ≡ reply_by as_json outcome }
+{
+    match outcome {
+        Ok(json) => Reply::Json(json),
+        Err(error) => Reply::Refused(error),
+    }
+}
 
 /// The written documents of a collection, in memory.
-fn exported(store: &Store, name: &str) -> Reply
-    ensures { SendsBytes (state_of store.now) name.now result }
+fn exported<S: Alter + Drop>(store: &mut Store<S>, name: &str) -> Reply
+    ensures { Moves (held S.Store store.old) (held S.Store store.new) (Exported name.now result) }
 {
     let mut sink = VecSink::new(store.allocator());
     match store.export(name, &mut sink) {
@@ -27,35 +67,56 @@ fn exported(store: &Store, name: &str) -> Reply
 }
 
 /// One command.
-fn execute(store: &mut Store, command: &Command) -> Reply
-    ensures { AnswersOne (state_of store.old) command.now result (state_of store.new) }
+fn execute<S: Alter + Drop>(store: &mut Store<S>, command: Command) -> Reply
+    ensures { Moves (held S.Store store.old) (held S.Store store.new) (Obeys command result) }
 {
     match command {
-        Command::InsertRaw(name, bytes) => match store.insert_raw(name.as_str(), bytes) {
-            Ok(()) => Reply::Done,
-            Err(error) => Reply::Refused(error),
+        Command::InsertRaw { name, bytes } => done(store.insert_raw(
+            name.as_str(),
+            bytes.as_slice(),
+        )),
+        Command::InsertJson { name, json } => done(store.insert_json(name.as_str(), json)),
+        Command::ReplaceRaw { name, bytes } => done(store.replace_raw(
+            name.as_str(),
+            bytes.as_slice(),
+        )),
+        Command::ReplaceJson { name, json } => done(store.replace_json(name.as_str(), json)),
+        Command::Set {
+            name,
+            id,
+            key,
+            value,
+        } => {
+            let key = key.as_str();
+            done(store.set(name.as_str(), &id, key, value))
         },
-        Command::GetRaw(name, id) => match store.get_raw(name.as_str(), id) {
-            Ok(bytes) => Reply::Bytes(bytes),
-            Err(error) => Reply::Refused(error),
+        Command::Unset { name, id, key } => {
+            let key = key.as_str();
+            flag(store.unset(name.as_str(), &id, key))
         },
-        Command::Export(name) => exported(store, name.as_str()),
+        Command::Remove { name, id } => done(store.remove(name.as_str(), &id)),
+        Command::GetRaw { name, id } => written(store.get_raw(name.as_str(), &id)),
+        Command::GetJson { name, id, mode } => json(store.get_json(name.as_str(), &id, mode)),
+        Command::Export { name } => exported(store, name.as_str()),
     }
 }
 
 /// Does the commands one after the other, and gives a reply for each.
 ///
 /// The only error is want of memory for the replies, before the first command.
-pub fn run(store: &mut Store, commands: Vec<Command>) -> Result<Vec<Reply>, AllocError>
-    // The replies and the collections after are those of the commands on plain lists of documents, but where memory was wanted.
-    ensures run { IfOk result (λ replies. AnswersAsLists (state_of store.old) commands.items replies.items (state_of store.new)) }
-    // The collections after are a state: nonempty lists of kept documents under good names, no two of a list with the same `_id`.
-    ensures state { ∥ IsStore (state_of store.new) ∥₁ }
+pub fn run<S: Alter + Drop>(
+    store: &mut Store<S>,
+    commands: Vec<Command>,
+) -> Result<Vec<Reply>, AllocError>
+    // Whatever table the rows showed, the replies and the table that they show now are those of a run through tables.
+    ensures tables { IfOk result (λ replies. Moves (held S.Store store.old) (held S.Store store.new) (AnswersThroughTables commands.items replies.items)) }
+    // So they are those of the commands on plain lists of documents, but where memory, the database or places were wanted.
+    ensures lists { IfOk result (λ replies. Moves (held S.Store store.old) (held S.Store store.new) (AnswersAsLists commands.items replies.items)) }
     // Where memory was wanted for the replies, no command was done.
-    ensures err { OnErr result (state_of store.new ≡ state_of store.old) }
+    ensures err { OnErr result (store.new ≡ store.old) }
 {
     let mut replies = Vec::with_capacity(store.allocator(), commands.len())?;
-    for command in &commands {
+    for command in commands {
         let reply = execute(store, command);
         replies.push(reply)?;
     }

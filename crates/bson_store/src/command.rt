@@ -1,17 +1,57 @@
 //! Commands and replies.
 
 use crate::error::StoreError;
-use crate::tree::Bson;
+use bson_model::Bson;
+use bson_model::extjson::Mode;
+use serde_json::Value;
 
-/// A call on a collection, which is named first.
+/// A call of the store: the one of its name.
 #[derive(Drop)]
 pub enum Command {
-    /// `Store::insert_raw`.
-    InsertRaw(String, Vec<u8>),
-    /// `Store::get_raw`.
-    GetRaw(String, Bson),
+    InsertRaw {
+        name: String,
+        bytes: Vec<u8>,
+    },
+    InsertJson {
+        name: String,
+        json: Value,
+    },
+    ReplaceRaw {
+        name: String,
+        bytes: Vec<u8>,
+    },
+    ReplaceJson {
+        name: String,
+        json: Value,
+    },
+    Set {
+        name: String,
+        id: Bson,
+        key: String,
+        value: Value,
+    },
+    Unset {
+        name: String,
+        id: Bson,
+        key: String,
+    },
+    Remove {
+        name: String,
+        id: Bson,
+    },
+    GetRaw {
+        name: String,
+        id: Bson,
+    },
+    GetJson {
+        name: String,
+        id: Bson,
+        mode: Mode,
+    },
     /// `Store::export`, into memory.
-    Export(String),
+    Export {
+        name: String,
+    },
 }
 
 /// What a command answers.
@@ -19,8 +59,12 @@ pub enum Command {
 pub enum Reply {
     /// It is done.
     Done,
+    /// Whether a key was there.
+    Flag(bool),
     /// Written documents, one after the other.
     Bytes(Vec<u8>),
+    /// A document as Extended JSON.
+    Json(Value),
     /// It was refused, and nothing changed.
     Refused(StoreError),
 }

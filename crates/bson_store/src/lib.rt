@@ -1,25 +1,26 @@
-//! A store of BSON documents in named collections, one document for each `_id`, over a plain list of rows in memory.
-//! Documents come in and go out as bytes (bsonspec.org 1.1), for now of three kinds of value.
+//! Named collections of documents in one SQL table, one document for each `_id` in a collection.
 #![tactic(auto)]
 
 mod batch;
 mod command;
 mod error;
-mod frame;
-pub mod laws;
-mod read;
-mod rows;
-mod same;
+mod export;
+mod row_test;
 mod store;
-mod tree;
-mod write;
 
 pub use batch::run;
-pub use bson_base::{Counted, DeviceFault, Sink, SliceSource, Source, VecSink};
+pub use bson_model::{
+    Array, Binary, BinarySubtype, Bson, Counted, DateTime, DbPointer, Decimal128, DeviceFault,
+    Document, DoubleBits, ElementType, JavaScriptCodeWithScope, ObjectId, Regex, Sink, SliceSource,
+    Source, Timestamp, Uuid, VecSink, binary, datetime, decimal128, document, extjson, oid, spec,
+    uuid,
+};
+pub use bson_raw::{
+    RawArray, RawArrayBuf, RawBinaryRef, RawBson, RawBsonRef, RawDbPointerRef, RawDocument,
+    RawDocumentBuf, RawElement, RawJavaScriptCodeWithScope, RawJavaScriptCodeWithScopeRef,
+    RawRegexRef,
+};
 pub use command::{Command, Reply};
-pub use error::{ErrorKind, StoreError};
+pub use error::StoreError;
 pub use store::Store;
-pub use tree::{Bson, Document};
-
-#[cfg(test)]
-mod tests;
+pub use store_laws::{ErrorKind, laws};

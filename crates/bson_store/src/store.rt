@@ -1,110 +1,320 @@
 //! The store.
 
-ghost use Rattle.std.specs.Prelude.{IsTrue};
-ghost use Rattle.bson_store.specs.Rows.{all_fit, rows_state};
-ghost use Rattle.bson_store.specs.State.{IsStore};
+ghost use Rattle.std.specs.Prelude.{◌≡◌, ◌↔◌, ◌<◌, ◌^◌, ◌-◌, IsTrue, IfOk, IfErr, MatchResult};
+ghost use Rattle.sqlite.specs.Held.{state};
+ghost use Rattle.sqlite.specs.State.{HasCleanDisk};
+ghost use Rattle.bson_table.specs.Open.{KeepsRows};
+ghost use Rattle.bson_store.specs.Opening.{Opens, RefusesToOpen};
+ghost use Rattle.serde_json.specs.View.{view as tree_of};
+ghost use Rattle.bson_base.specs.Kinds.{HasNo00};
+ghost use Rattle.bson_model.specs.View.{pairs_of, members_of, view};
+ghost use Rattle.bson_table.specs.Moves.{Moves};
+ghost use Rattle.bson_store.specs.Calls.{connection_of, held, Does, DoesBytes, DoesTree, DoesRead, Looks};
+ghost use Rattle.bson_store.specs.Export.{Gathers, Sends};
+ghost use Rattle.bson_store.specs.Refusals.{refusal, reply_by, as_done, as_flag, as_bytes, as_json};
+ghost use Rattle.store_documents.specs.Names.{name_bytes};
+ghost use Rattle.store_laws.specs.Reading.{IsRead, read_value};
+ghost use Rattle.store_laws.specs.State.{IsName, IsFreeKey, in_bytes, in_json, insert, replace, set, unset, remove, get_raw, get_json, on};
+ghost use Rattle.store_laws.specs.declared.error.ErrorKind.TheVariants.{BadName};
 
-use crate::error::{ErrorKind, StoreError};
-use crate::read;
-use crate::rows::{self, Row};
-use crate::tree::Bson;
-use bson_base::Sink;
+use crate::error::StoreError;
+use crate::export::{Bodies, deliver};
+use crate::row_test::RowTest;
+use bson_meaning::KeyError;
+use bson_meaning::laws::values_are_json;
+use bson_model::extjson::Mode;
+use bson_model::{Bson, Document, Sink};
+use bson_table::{Found, Table};
+use serde_json::Value;
+use sqlite::{Alter, Connection};
 use std::alloc::Global;
+use store_documents::{
+    Name, json_of, key_of_id, read_bytes, read_json, read_value, set_member, unset_member,
+    write_document,
+};
+use store_laws::ErrorKind;
+
+/// The name of a collection. BadName where it can't be one.
+fn good_name(name: &str) -> Result<Name<'_>, StoreError>
+    ensures { MatchResult result (λ n. (name_bytes n ≡ name.now) × IsName name.now) (λ e. (e ≡ refusal BadName) × (IsName name.now → ⊥)) }
+{
+    match Name::new(name) {
+        Some(name) => Ok(name),
+        None => Err(StoreError::from(ErrorKind::BadName)),
+    }
+}
+
+fn has_no_zero(bytes: &[u8]) -> bool
+    ensures { IsTrue result ↔ HasNo00 bytes.now }
+{
+    !bytes.contains(&0)
+}
+
+/// Whether a key can be set: it isn't `_id` and holds no 00.
+fn is_free(key: &str) -> bool
+    ensures { IsTrue result ↔ IsFreeKey key.now }
+{
+    key != "_id" && has_no_zero(key.as_bytes())
+}
 
 /// Named collections of documents, one document for each `_id` in a collection.
 #[derive(Drop)]
-pub struct Store {
-    rows: Vec<Row>,
-    ghost fits: { IsTrue (all_fit rows.items) },
-    ghost well_formed: { ∥ IsStore (rows_state rows.items) ∥₁ },
+pub struct Store<S: Alter + Drop> {
+    pub(crate) table: Table<S>,
+    pub(crate) alloc: Global,
 }
 
-impl Store {
-    ghost use Rattle.std.specs.Prelude.{◌≡◌, ◌<◌, ◌^◌, ◌-◌, OnErr};
-    ghost use Rattle.std.specs.FinMap.{empty};
-    ghost use Rattle.bson_store.specs.State.{on, get_raw};
-    ghost use Rattle.bson_store.specs.Commands.{Inserts, Serves, reply_of_insert, reply_of_bytes};
-    ghost use Rattle.bson_store.specs.Export.{Exports};
-    ghost use Rattle.bson_store.specs.StoreView.{state_of};
-    ghost use Rattle.bson_store.specs.View.{view};
-
-    /// A store without collections, which takes its memory from `alloc`.
-    pub fn new(alloc: Global) -> Store
-        ensures { state_of result ≡ empty }
+impl<S: Alter + Drop> Store<S> {
+    /// Opens the store of a database: its table of documents, which is made where there is none. A refusal gives the
+    /// connection back, with every row as it was.
+    ///
+    /// Refused by NotAStore, where `documents` can't be read by the four columns; by BadRow, with the place of the first row
+    /// that no store can have written; and by Memory and Database.
+    pub fn open(
+        alloc: Global,
+        connection: Connection<S>,
+    ) -> Result<Store<S>, (StoreError, Connection<S>)>
+        ensures opened { IfOk result (λ s. HasCleanDisk (held S.Store s) → Opens (state S.Store connection) (held S.Store s)) }
+        ensures refused { IfErr result (λ e. HasCleanDisk (state S.Store e.1) → RefusesToOpen (state S.Store connection) (state S.Store e.1) e.0) }
+        ensures kept { IfErr result (λ e. HasCleanDisk (state S.Store e.1) → KeepsRows (state S.Store connection) (state S.Store e.1)) }
     {
-        Store {
-            rows: Vec::new(alloc),
+        match Table::open(alloc, connection, &RowTest { alloc }) {
+            Ok(table) => Ok(Store { table, alloc }),
+            Err((error, connection)) => Err((StoreError::from(error), connection)),
         }
+    }
+
+    /// Gives the connection back.
+    pub fn close(self) -> Connection<S>
+        ensures { result ≡ connection_of self }
+    {
+        let Store { table, alloc: _ } = self;
+        table.close()
+    }
+
+    /// Puts a document last in a collection.
+    fn insert(&mut self, name: Name<'_>, document: &Document) -> Result<(), StoreError>
+        requires { IsRead (members_of (pairs_of document.now)) }
+        ensures { Moves (held S.Store self.old) (held S.Store self.new) (DoesRead (name_bytes name.entry) insert (members_of (pairs_of document.now)) (reply_by as_done result)) }
+    {
+        let coll = name.as_str();
+        let written = write_document(self.alloc, document)?;
+        let key = written.key.as_slice();
+        let found = self.table.named(coll, key)?;
+        if let Some(_) = found {
+            return Err(StoreError::from(ErrorKind::DuplicateId));
+        }
+        let body = written.body.as_slice();
+        self.table.append(coll, key, body)?;
+        Ok(())
+    }
+
+    /// Puts a document in the place of that of a collection with its `_id`.
+    fn replace(&mut self, name: Name<'_>, document: &Document) -> Result<(), StoreError>
+        requires { IsRead (members_of (pairs_of document.now)) }
+        ensures { Moves (held S.Store self.old) (held S.Store self.new) (DoesRead (name_bytes name.entry) replace (members_of (pairs_of document.now)) (reply_by as_done result)) }
+    {
+        let coll = name.as_str();
+        let written = write_document(self.alloc, document)?;
+        let key = written.key.as_slice();
+        let Some(found) = self.table.named(coll, key)? else {
+            return Err(StoreError::from(ErrorKind::NotFound));
+        };
+        let body = written.body.as_slice();
+        self.table.rewrite_at(&found, body)?;
+        Ok(())
+    }
+
+    /// The row of the document of a collection whose `_id` means the same as `id`.
+    fn find(&mut self, name: Name<'_>, id: &Bson) -> Result<Option<Found>, StoreError>
+        ensures { Moves (held S.Store self.old) (held S.Store self.new) (Looks (name_bytes name.entry) (view id.now) result) }
+    {
+        let key = match key_of_id(self.alloc, id) {
+            Ok(key) => key,
+            // No document has an id that can't be written.
+            Err(KeyError::NotPlain) => return Ok(None),
+            Err(KeyError::TooLong) => return Ok(None),
+            Err(KeyError::Memory) => return Err(StoreError::from(ErrorKind::Memory)),
+        };
+        let coll = name.as_str();
+        let key = key.as_slice();
+        let found = self.table.named(coll, key)?;
+        Ok(found)
     }
 
     /// Puts the document that `bytes` mean last in the collection `name`, and makes the collection where it isn't there.
     /// The document is kept as it means: of a repeated key the last value, in the place of the first.
     ///
     /// Refused, in this order, by BadName; by EndInside, BadLength, NotTerminated, Faulty and TooDeep of the bytes; by
-    /// NoId, TooLong, DuplicateId; and by Memory, but never in the place of a refusal by the name or the bytes.
+    /// NoId, TooLong, DuplicateId, Places; and by Memory and Database, but never in the place of a refusal by the name or
+    /// the bytes.
     pub fn insert_raw(&mut self, name: &str, bytes: &[u8]) -> Result<(), StoreError>
-        ensures step { Inserts (state_of self.old) name.now bytes.now (reply_of_insert result) (state_of self.new) }
-        ensures err { OnErr result (state_of self.new ≡ state_of self.old) }
+        ensures { Moves (held S.Store self.old) (held S.Store self.new) (DoesBytes name.now (insert in_bytes) bytes.now (reply_by as_done result)) }
     {
-        if !rows::is_name(name) {
-            return Err(StoreError::from(ErrorKind::BadName));
+        let name = good_name(name)?;
+        let document = read_bytes(self.alloc, bytes)?;
+        self.insert(name, &document)
+    }
+
+    /// Puts the document that `json` stands for last in the collection `name`, in normal form with its keys in order.
+    ///
+    /// Refused, in this order, by BadName; NotAnObject; JsonRefused, TooDeep and Nul; NoId, TooLong, DuplicateId, Places; and
+    /// by Memory and Database, but never in the place of BadName or NotAnObject.
+    pub fn insert_json(&mut self, name: &str, json: Value) -> Result<(), StoreError>
+        ensures { Moves (held S.Store self.old) (held S.Store self.new) (DoesTree name.now (insert in_json) (tree_of json) (reply_by as_done result)) }
+    {
+        let name = good_name(name)?;
+        let document = read_json(self.alloc, json)?;
+        self.insert(name, &document)
+    }
+
+    /// Puts the document that `bytes` mean in the place of that of the collection `name` whose `_id` means the same.
+    ///
+    /// Refused as `insert_raw`, but by NotFound where that is refused by DuplicateId, and never by Places.
+    pub fn replace_raw(&mut self, name: &str, bytes: &[u8]) -> Result<(), StoreError>
+        ensures { Moves (held S.Store self.old) (held S.Store self.new) (DoesBytes name.now (replace in_bytes) bytes.now (reply_by as_done result)) }
+    {
+        let name = good_name(name)?;
+        let document = read_bytes(self.alloc, bytes)?;
+        self.replace(name, &document)
+    }
+
+    /// Puts the document that `json` stands for, in normal form with its keys in order, in the place of that of the
+    /// collection `name` whose `_id` means the same.
+    ///
+    /// Refused as `insert_json`, but by NotFound where that is refused by DuplicateId, and never by Places.
+    pub fn replace_json(&mut self, name: &str, json: Value) -> Result<(), StoreError>
+        ensures { Moves (held S.Store self.old) (held S.Store self.new) (DoesTree name.now (replace in_json) (tree_of json) (reply_by as_done result)) }
+    {
+        let name = good_name(name)?;
+        let document = read_json(self.alloc, json)?;
+        self.replace(name, &document)
+    }
+
+    /// Puts a value, in normal form with its keys in order, under a top key of the document of the collection `name` whose
+    /// `_id` means the same as `id`: in the key's place, or last where the key isn't there.
+    ///
+    /// Refused, in this order, by BadName; BadKey, where the key is `_id` or holds a 00; JsonRefused of the value; NotFound;
+    /// TooDeep, Nul and TooLong of the changed document; and by Memory and Database, but never in the place of BadName or
+    /// BadKey.
+    pub fn set(&mut self, name: &str, id: &Bson, key: &str, value: Value) -> Result<(), StoreError>
+        ensures { Moves (held S.Store self.old) (held S.Store self.new) (Does (on name.now (set (view id.now) key.now (read_value (tree_of value)))) (reply_by as_done result)) }
+    {
+        let name = good_name(name)?;
+        if !is_free(key) {
+            return Err(StoreError::from(ErrorKind::BadKey));
         }
-        if let Err(kind) = read::gate(bytes) {
-            return Err(StoreError::from(kind));
-        }
-        let alloc = *self.rows.allocator();
-        let document = read::convert(alloc, bytes)?;
-        let Some(id) = document.get("_id") else {
-            return Err(StoreError::from(ErrorKind::NoId));
+        values_are_json(&value);
+        let value = read_value(self.alloc, value)?;
+        let Some(found) = self.find(name, id)? else {
+            return Err(StoreError::from(ErrorKind::NotFound));
         };
-        if !rows::is_short(&document) {
-            return Err(StoreError::from(ErrorKind::TooLong));
+        let old = found.body.as_slice();
+        let body = set_member(self.alloc, old, key, value)?;
+        let body = body.as_slice();
+        self.table.rewrite_at(&found, body)?;
+        Ok(())
+    }
+
+    /// Takes a top key out of the document of the collection `name` whose `_id` means the same as `id`, and says whether it
+    /// was there. The rest keeps its order.
+    ///
+    /// Refused, in this order, by BadName; BadKey, where the key is `_id` or holds a 00; NotFound; and by Memory and
+    /// Database, but never in the place of BadName or BadKey.
+    pub fn unset(&mut self, name: &str, id: &Bson, key: &str) -> Result<bool, StoreError>
+        ensures { Moves (held S.Store self.old) (held S.Store self.new) (Does (on name.now (unset (view id.now) key.now)) (reply_by as_flag result)) }
+    {
+        let name = good_name(name)?;
+        if !is_free(key) {
+            return Err(StoreError::from(ErrorKind::BadKey));
         }
-        if let Some(_) = rows::find(&self.rows, name, id) {
-            return Err(StoreError::from(ErrorKind::DuplicateId));
+        let Some(found) = self.find(name, id)? else {
+            return Err(StoreError::from(ErrorKind::NotFound));
+        };
+        let old = found.body.as_slice();
+        let unset = unset_member(self.alloc, old, key)?;
+        if !unset.was_there {
+            return Ok(false);
         }
-        let name = String::from_str(alloc, name)?;
-        self.rows.push(Row { name, document })?;
+        let body = unset.body.as_slice();
+        self.table.rewrite_at(&found, body)?;
+        Ok(true)
+    }
+
+    /// Takes the document of the collection `name` whose `_id` means the same as `id` away.
+    ///
+    /// Refused by BadName, NotFound, Memory and Database.
+    pub fn remove(&mut self, name: &str, id: &Bson) -> Result<(), StoreError>
+        ensures { Moves (held S.Store self.old) (held S.Store self.new) (Does (on name.now (remove (view id.now))) (reply_by as_done result)) }
+    {
+        let name = good_name(name)?;
+        let Some(found) = self.find(name, id)? else {
+            return Err(StoreError::from(ErrorKind::NotFound));
+        };
+        self.table.remove_at(&found)?;
         Ok(())
     }
 
     /// The written form of the document of the collection `name` whose `_id` means the same as `id`.
     ///
-    /// Refused by BadName, NotFound and Memory.
-    pub fn get_raw(&self, name: &str, id: &Bson) -> Result<Vec<u8>, StoreError>
-        ensures { Serves (state_of self.now) (on name.now (get_raw (view id.now))) (reply_of_bytes result) (state_of self.now) }
+    /// Refused by BadName, NotFound, Memory and Database.
+    pub fn get_raw(&mut self, name: &str, id: &Bson) -> Result<Vec<u8>, StoreError>
+        ensures { Moves (held S.Store self.old) (held S.Store self.new) (Does (on name.now (get_raw (view id.now))) (reply_by as_bytes result)) }
     {
-        if !rows::is_name(name) {
-            return Err(StoreError::from(ErrorKind::BadName));
-        }
-        let Some(document) = rows::find(&self.rows, name, id) else {
+        let name = good_name(name)?;
+        let Some(found) = self.find(name, id)? else {
             return Err(StoreError::from(ErrorKind::NotFound));
         };
-        let mut out = Vec::new(*self.rows.allocator());
-        rows::append(document, &mut out)?;
-        Ok(out)
+        Ok(found.body)
     }
 
-    /// Writes the documents of the collection `name` to `sink`, one after the other.
+    /// The document of the collection `name` whose `_id` means the same as `id`, as Extended JSON.
     ///
-    /// Refused by BadName, when nothing went out; by Writer where a write failed or took none of some bytes, and by
-    /// Memory, when a beginning went out.
-    pub fn export<S: Sink>(&self, name: &str, sink: &mut S) -> Result<(), StoreError>
-        requires { S.failures sink.old < 2 ^ 64 - 1 }
-        ensures { Exports (state_of self.now) name.now (record { failures = S.failures sink.old; taken = S.taken sink.old })
-            (record { failures = S.failures sink.new; taken = S.taken sink.new }) result }
+    /// Refused, in this order, by BadName; NotFound; ReservedKey, where a document below the top has a key that Extended
+    /// JSON reserves; FiniteDouble, where a double is finite and no zero; and by Memory and Database.
+    pub fn get_json(&mut self, name: &str, id: &Bson, mode: Mode) -> Result<Value, StoreError>
+        ensures { Moves (held S.Store self.old) (held S.Store self.new) (Does (on name.now (get_json mode (view id.now))) (reply_by as_json result)) }
     {
-        if !rows::is_name(name) {
-            return Err(StoreError::from(ErrorKind::BadName));
+        let name = good_name(name)?;
+        let Some(found) = self.find(name, id)? else {
+            return Err(StoreError::from(ErrorKind::NotFound));
+        };
+        let body = found.body.as_slice();
+        let json = json_of(self.alloc, body, mode)?;
+        Ok(json)
+    }
+
+    /// The bodies of a collection, in order.
+    fn bodies(&mut self, name: Name<'_>) -> Result<Vec<Vec<u8>>, StoreError>
+        ensures { Moves (held S.Store self.old) (held S.Store self.new) (Gathers (name_bytes name.entry) result) }
+    {
+        let mut visitor = Bodies::new(self.alloc);
+        let all = self.table.visit_bodies(name.as_str(), &mut visitor)?;
+        // A visitor that was not handed all bodies has failed.
+        let _ = all;
+        if visitor.failed {
+            return Err(StoreError::from(ErrorKind::Memory));
         }
-        match rows::deliver(*self.rows.allocator(), &self.rows, name, sink) {
-            Ok(()) => Ok(()),
-            Err(kind) => Err(StoreError::from(kind)),
-        }
+        Ok(visitor.bodies)
+    }
+
+    /// Writes the written documents of the collection `name` to `writer`, one after the other.
+    ///
+    /// Refused by BadName, and then nothing is written; by Writer, where a write failed or took nothing; and by Memory and
+    /// Database. A beginning may have been written.
+    pub fn export<W: Sink>(&mut self, name: &str, writer: &mut W) -> Result<(), StoreError>
+        requires { W.failures writer.old < 2 ^ 64 - 1 }
+        ensures { Moves (held S.Store self.old) (held S.Store self.new) (Sends name.now (record { failures = W.failures writer.old; taken = W.taken writer.old })
+            (record { failures = W.failures writer.new; taken = W.taken writer.new }) result) }
+    {
+        let name = good_name(name)?;
+        let bodies = self.bodies(name)?;
+        deliver(bodies.as_slice(), writer)?;
+        Ok(())
     }
 
     /// The allocator that the store takes its memory from.
     pub(crate) fn allocator(&self) -> Global {
-        *self.rows.allocator()
+        self.alloc
     }
 }

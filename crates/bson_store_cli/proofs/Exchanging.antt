@@ -1,12 +1,12 @@
 -- Where the document of the input is not kept, nothing goes out.
 use Rattle.std.proofs.Common.{◌≡◌, inl, inr, List, ℕ, Bool, true, false, cond, None, Some, Err, refl}
 use Rattle.std.specs.Prelude.{nat_lt}
-use Rattle.bson_store.specs.Value.{has_key}
-use Rattle.bson_store.specs.Bytes.{encode, size}
-use Rattle.bson_store.specs.Reading.{size_limit}
-use Rattle.bson_store.specs.State.{id_key}
-use Rattle.bson_store.specs.Export.{Tally}
-use Rattle.bson_store.specs.declared.error.ErrorKind.TheVariants.{NoId, TooLong, Memory, Writer}
+use Rattle.first_path.specs.Value.{has_key}
+use Rattle.first_path.specs.Bytes.{encode, size}
+use Rattle.first_path.specs.Reading.{size_limit}
+use Rattle.first_path.specs.State.{id_key}
+use Rattle.first_path.specs.Export.{Tally}
+use Rattle.first_path.specs.declared.error.ErrorKind.TheVariants.{NoId, TooLong, Memory, Writer}
 use Rattle.bson_store_cli.specs.Pipe.{Feed, AreRefused, RefusesInput, Exchanges}
 use Rattle.bson_store_cli.specs.declared.refusal.Refusal.{Refusal}
 use Rattle.bson_store_cli.specs.declared.refusal.Refusal.TheVariants.{Reader, Store}

@@ -4,14 +4,14 @@ use Rattle.std.specs.Prelude.{IsSomeAnd, MatchOption, codes}
 use Rattle.std.specs.Ordering.{nat_cmp}
 use Rattle.std.specs.Cmp.Lexicographic.{slice_cmp}
 use Rattle.std.specs.FinMap.{empty, get-empty}
-use Rattle.bson_store.specs.Value.{Value, Members, look_up}
-use Rattle.bson_store.specs.Reading.{Test, prefix, declaration, extent, end, faults, depth, told, readable, unreadable, ReadsAs, IsRefused}
-use Rattle.bson_store.specs.State.{Documents, State, id_key, listed, list_of, store, SomeHasId, IsTaken, Reply, done, refused, When, Refuses, IsName, refusal_of}
-use Rattle.bson_store.specs.Run.{memory}
-use Rattle.bson_store.specs.Commands.{Inserts}
-use Rattle.bson_store.specs.declared.error.ErrorKind.{ErrorKind}
-use Rattle.bson_store.specs.declared.error.ErrorKind.TheVariants.{DuplicateId, Memory, Writer}
-use Rattle.bson_store.proofs.States.{list_of-store}
+use Rattle.first_path.specs.Value.{Value, Members, look_up}
+use Rattle.first_path.specs.Reading.{Test, prefix, declaration, extent, end, faults, depth, told, readable, unreadable, ReadsAs, IsRefused}
+use Rattle.first_path.specs.State.{Documents, State, id_key, listed, list_of, store, SomeHasId, IsTaken, Reply, done, refused, When, Refuses, IsName, refusal_of}
+use Rattle.first_path.specs.Run.{memory}
+use Rattle.first_path.specs.Commands.{Inserts}
+use Rattle.first_path.specs.declared.error.ErrorKind.{ErrorKind}
+use Rattle.first_path.specs.declared.error.ErrorKind.TheVariants.{DuplicateId, Memory, Writer}
+use Rattle.first_path.proofs.States.{list_of-store}
 use Rattle.bson_store_cli.specs.Pipe.{Feed, ReadsAll, StopsReading, MeansKept, AreRefused, KeepsInput, RefusesInput}
 use Rattle.bson_store_cli.specs.declared.refusal.Refusal.{Refusal}
 use Rattle.bson_store_cli.specs.declared.refusal.Refusal.TheVariants.{Reader, Store}

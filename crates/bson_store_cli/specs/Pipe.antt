@@ -2,13 +2,13 @@
 use Rattle.std.specs.Prelude.{◌≡◌, ◌⊎◌, ℕ, ◌+◌, List, [], ◌∷◌, ◌++◌, Some, None, Result, Ok, Err, codes}
 use Rattle.std.specs.Io.KnownBytes.{Appends}
 use Rattle.bson_base.specs.Device.{Supply, Gives, IsExhausted, TakesBeginning}
-use Rattle.bson_store.specs.Value.{Members}
-use Rattle.bson_store.specs.Bytes.{encode}
-use Rattle.bson_store.specs.Reading.{readable, ReadsAs, IsRefused}
-use Rattle.bson_store.specs.State.{State, list_of, refusal_of}
-use Rattle.bson_store.specs.Export.{Tally, Delivers}
-use Rattle.bson_store.specs.declared.error.ErrorKind.{ErrorKind}
-use Rattle.bson_store.specs.declared.error.ErrorKind.TheVariants.{BadName, EndInside, BadLength, NotTerminated, Faulty, TooDeep, NoId, TooLong, NotFound, DuplicateId, Memory, Writer}
+use Rattle.first_path.specs.Value.{Members}
+use Rattle.first_path.specs.Bytes.{encode}
+use Rattle.first_path.specs.Reading.{readable, ReadsAs, IsRefused}
+use Rattle.first_path.specs.State.{State, list_of, refusal_of}
+use Rattle.first_path.specs.Export.{Tally, Delivers}
+use Rattle.first_path.specs.declared.error.ErrorKind.{ErrorKind}
+use Rattle.first_path.specs.declared.error.ErrorKind.TheVariants.{BadName, EndInside, BadLength, NotTerminated, Faulty, TooDeep, NoId, TooLong, NotFound, DuplicateId, Memory, Writer}
 use Rattle.bson_store_cli.specs.declared.refusal.Refusal.{Refusal}
 use Rattle.bson_store_cli.specs.declared.refusal.Refusal.TheVariants.{Reader, Store}
 

@@ -7,7 +7,7 @@ mod refusal;
 #[cfg(test)]
 mod tests;
 
-use bson_store::Counted;
+use first_path::Counted;
 use pipe::pipe;
 use std::process::ExitCode;
 

@@ -1,12 +1,12 @@
 //! The program over any devices.
 
 ghost use Rattle.std.specs.Prelude.{◌≡◌, ◌<◌, ◌^◌, ◌-◌, IfOk, IfErr, vec_len};
-ghost use Rattle.bson_store.specs.StoreView.{state_of};
+ghost use Rattle.first_path.specs.StoreView.{state_of};
 ghost use Rattle.bson_store_cli.specs.Pipe.{ReadsAll, StopsReading, KeepsInput, RefusesInput, Exchanges, Pipes};
 
 use crate::refusal::Refusal;
 use bson_base::read_full;
-use bson_store::{Sink, Source, Store};
+use first_path::{Sink, Source, Store};
 use std::alloc::{AllocError, Global};
 
 /// How many bytes are read at a time.

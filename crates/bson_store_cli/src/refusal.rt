@@ -4,10 +4,10 @@ ghost use Rattle.std.specs.Prelude.{◌≡◌, ◌<◌, ◌^◌, ◌-◌, OnOk, 
 ghost use Rattle.std.specs.Io.KnownBytes.{Appends};
 ghost use Rattle.bson_base.specs.Device.{Counts, TakesBeginning};
 ghost use Rattle.bson_store_cli.specs.declared.refusal.Refusal.TheVariants.{Store};
-ghost use Rattle.bson_store.specs.declared.error.ErrorKind.TheVariants.{Memory};
+ghost use Rattle.first_path.specs.declared.error.ErrorKind.TheVariants.{Memory};
 
 use bson_base::write_all;
-use bson_store::{DeviceFault, ErrorKind, Sink, StoreError};
+use first_path::{DeviceFault, ErrorKind, Sink, StoreError};
 use std::alloc::AllocError;
 
 /// Why nothing was written, or not all.

@@ -2,7 +2,7 @@
 
 use crate::pipe::pipe;
 use bson_base::faulty::{FaultySink, FaultySource};
-use bson_store::{SliceSource, VecSink};
+use first_path::{SliceSource, VecSink};
 use std::test::Fail;
 
 /// `{_id: 1, hello: "world"}`, the sample of the repository.

@@ -100,11 +100,19 @@ fn at(alloc: Global, place: i64) -> Found {
 }
 
 /// Puts a longer body at a place.
-pub fn change<S: Alter + Drop>(alloc: Global, table: &mut Table<S>, place: i64) -> Result<(), Fault> {
+pub fn change<S: Alter + Drop>(
+    alloc: Global,
+    table: &mut Table<S>,
+    place: i64,
+) -> Result<(), Fault> {
     table.rewrite_at(&at(alloc, place), &[9, 9, 9, 9, 9])
 }
 
-pub fn remove<S: Alter + Drop>(alloc: Global, table: &mut Table<S>, place: i64) -> Result<(), Fault> {
+pub fn remove<S: Alter + Drop>(
+    alloc: Global,
+    table: &mut Table<S>,
+    place: i64,
+) -> Result<(), Fault> {
     table.remove_at(&at(alloc, place))
 }
 
@@ -117,7 +125,11 @@ pub fn place_of<S: Alter + Drop>(table: &mut Table<S>, coll: &str, key: u8) -> R
 }
 
 /// The length of the body with this key, and 0 where there is none.
-pub fn length_of<S: Alter + Drop>(table: &mut Table<S>, coll: &str, key: u8) -> Result<usize, Fault> {
+pub fn length_of<S: Alter + Drop>(
+    table: &mut Table<S>,
+    coll: &str,
+    key: u8,
+) -> Result<usize, Fault> {
     match table.named(coll, &[key])? {
         Some(found) => Ok(found.body.len()),
         None => Ok(0),
@@ -162,7 +174,11 @@ pub fn answers(rt: &impl Abort, got: Opened, want: Opened) {
 }
 
 /// That a call was refused for this.
-pub fn is_refused<T: Drop>(rt: &impl Abort, got: Result<T, Fault>, want: Fault) -> Result<(), Fail> {
+pub fn is_refused<T: Drop>(
+    rt: &impl Abort,
+    got: Result<T, Fault>,
+    want: Fault,
+) -> Result<(), Fail> {
     match got {
         Ok(_) => assert!(rt; false),
         Err(fault) => assert_eq!(rt; fault, want),

@@ -1,4 +1,6 @@
-use crate::calls::{append, append_two, change, fused, is, memory, open, remove, reopened, state_of};
+use crate::calls::{
+    append, append_two, change, fused, is, memory, open, remove, reopened, state_of,
+};
 use bson_table::Table;
 use sqlite::{Alter, Files};
 use sqlite_disk::{Crash, Fuse, Memory};

@@ -1,4 +1,7 @@
-use crate::calls::{Opened, answers, append, append_two, change, collections, is, memory, open, outcome, place_of, remove, state_of};
+use crate::calls::{
+    Opened, answers, append, append_two, change, collections, is, memory, open, outcome, place_of,
+    remove, state_of,
+};
 use crate::visits::taken;
 use bson_table::{Fault, OpenError, Table};
 use sqlite::MemStore;

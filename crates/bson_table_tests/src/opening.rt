@@ -1,10 +1,15 @@
-use crate::calls::{Opened, answers, append, change, is, is_refused, length_of, memory, number, open, outcome, place_of, remove, sql, state_of};
+use crate::calls::{
+    Opened, answers, append, change, is, is_refused, length_of, memory, number, open, outcome,
+    place_of, remove, sql, state_of,
+};
 use bson_table::{Fault, OpenError};
 use std::alloc::Global;
 use std::process::Abort;
 use std::test::Fail;
 
-const PLAIN: &str = "CREATE TABLE documents (place INTEGER PRIMARY KEY, coll TEXT NOT NULL, idkey BLOB NOT NULL, body BLOB NOT NULL)";
+const PLAIN: &str =
+    "CREATE TABLE documents (place INTEGER PRIMARY KEY, coll TEXT NOT NULL, idkey BLOB NOT NULL, body BLOB NOT NULL)";
+
 const LOOSE: &str = "CREATE TABLE documents (place INTEGER, coll TEXT, idkey BLOB, body BLOB)";
 
 /// What an open answers of a database that these texts make, whose rows it leaves as they were.
@@ -27,8 +32,16 @@ fn an_empty_database_gets_the_table_and_is_found_again(rt: HostRuntime) -> Resul
     append(&mut table, "d", 1)?;
     let mut conn = table.close();
     let before = state_of(&mut conn);
-    is(&rt, number(&mut conn, "SELECT count(*) FROM sqlite_schema"), 2);
-    is(&rt, number(&mut conn, "SELECT max(place) FROM documents"), 2);
+    is(
+        &rt,
+        number(&mut conn, "SELECT count(*) FROM sqlite_schema"),
+        2,
+    );
+    is(
+        &rt,
+        number(&mut conn, "SELECT max(place) FROM documents"),
+        2,
+    );
     let (found, mut conn) = outcome(rt.alloc(), conn);
     answers(&rt, found, Opened::Yes);
     is(&rt, state_of(&mut conn), before);
@@ -38,19 +51,69 @@ fn an_empty_database_gets_the_table_and_is_found_again(rt: HostRuntime) -> Resul
 #[test]
 fn what_can_not_be_read_is_no_store(rt: HostRuntime) -> Result<(), Fail> {
     let no = Opened::No(OpenError::NotAStore);
-    opens(&rt, rt.alloc(), &["CREATE TABLE documents (place INTEGER PRIMARY KEY, coll TEXT, idkey BLOB)"], no)?;
-    opens(&rt, rt.alloc(), &[PLAIN, "INSERT INTO documents VALUES (1, 'c', x'01', 'text')"], no)?;
-    opens(&rt, rt.alloc(), &[LOOSE, "INSERT INTO documents VALUES (1, 'c', NULL, x'01')"], no)?;
-    opens(&rt, rt.alloc(), &[LOOSE, "INSERT INTO documents VALUES (NULL, 'c', x'01', x'01')"], no)?;
-    opens(&rt, rt.alloc(), &["CREATE TABLE documents (place, coll TEXT, idkey BLOB, body BLOB)", "INSERT INTO documents VALUES (1.5, 'c', x'01', x'01')"], no)?;
+    opens(
+        &rt,
+        rt.alloc(),
+        &["CREATE TABLE documents (place INTEGER PRIMARY KEY, coll TEXT, idkey BLOB)"],
+        no,
+    )?;
+    opens(
+        &rt,
+        rt.alloc(),
+        &[
+            PLAIN,
+            "INSERT INTO documents VALUES (1, 'c', x'01', 'text')",
+        ],
+        no,
+    )?;
+    opens(
+        &rt,
+        rt.alloc(),
+        &[LOOSE, "INSERT INTO documents VALUES (1, 'c', NULL, x'01')"],
+        no,
+    )?;
+    opens(
+        &rt,
+        rt.alloc(),
+        &[
+            LOOSE,
+            "INSERT INTO documents VALUES (NULL, 'c', x'01', x'01')",
+        ],
+        no,
+    )?;
+    opens(
+        &rt,
+        rt.alloc(),
+        &[
+            "CREATE TABLE documents (place, coll TEXT, idkey BLOB, body BLOB)",
+            "INSERT INTO documents VALUES (1.5, 'c', x'01', x'01')",
+        ],
+        no,
+    )?;
     Ok(())
 }
 
 #[test]
 fn what_is_no_table_is_no_store(rt: HostRuntime) -> Result<(), Fail> {
     let no = Opened::No(OpenError::NotAStore);
-    opens(&rt, rt.alloc(), &["CREATE TABLE t (a INTEGER PRIMARY KEY)", "CREATE VIEW documents AS SELECT a FROM t"], no)?;
-    opens(&rt, rt.alloc(), &["CREATE TABLE t (a INTEGER PRIMARY KEY, b TEXT)", "CREATE INDEX documents ON t (b)"], no)?;
+    opens(
+        &rt,
+        rt.alloc(),
+        &[
+            "CREATE TABLE t (a INTEGER PRIMARY KEY)",
+            "CREATE VIEW documents AS SELECT a FROM t",
+        ],
+        no,
+    )?;
+    opens(
+        &rt,
+        rt.alloc(),
+        &[
+            "CREATE TABLE t (a INTEGER PRIMARY KEY, b TEXT)",
+            "CREATE INDEX documents ON t (b)",
+        ],
+        no,
+    )?;
     Ok(())
 }
 
@@ -58,30 +121,95 @@ fn what_is_no_table_is_no_store(rt: HostRuntime) -> Result<(), Fail> {
 #[test]
 fn no_store_comes_before_a_bad_row(rt: HostRuntime) -> Result<(), Fail> {
     let no = Opened::No(OpenError::NotAStore);
-    opens(&rt, rt.alloc(), &[LOOSE, "INSERT INTO documents VALUES (0, 'c', x'01', x'01'), (5, 'c', x'02', 'text')"], no)?;
+    opens(
+        &rt,
+        rt.alloc(),
+        &[
+            LOOSE,
+            "INSERT INTO documents VALUES (0, 'c', x'01', x'01'), (5, 'c', x'02', 'text')",
+        ],
+        no,
+    )?;
     Ok(())
 }
 
 fn bad_at(rt: &impl Abort, alloc: Global, made: &str, rows: &str, place: i64) -> Result<(), Fail> {
-    opens(rt, alloc, &[made, rows], Opened::No(OpenError::BadRow(place)))
+    opens(
+        rt,
+        alloc,
+        &[made, rows],
+        Opened::No(OpenError::BadRow(place)),
+    )
 }
 
 #[test]
 fn bad_rows_are_told_by_their_place(rt: HostRuntime) -> Result<(), Fail> {
-    bad_at(&rt, rt.alloc(), PLAIN, "INSERT INTO documents VALUES (0, 'c', x'01', x'01')", 0)?;
-    bad_at(&rt, rt.alloc(), PLAIN, "INSERT INTO documents VALUES (-3, 'c', x'01', x'01')", -3)?;
-    bad_at(&rt, rt.alloc(), PLAIN, "INSERT INTO documents VALUES (7, 'c', x'01', x'')", 7)?;
-    bad_at(&rt, rt.alloc(), PLAIN, "INSERT INTO documents VALUES (3, 'c', x'01', x'01'), (9, 'c', x'01', x'02')", 9)?;
-    bad_at(&rt, rt.alloc(), LOOSE, "INSERT INTO documents VALUES (4, 'c', x'01', x'01'), (4, 'c', x'02', x'02')", 4)?;
-    bad_at(&rt, rt.alloc(), LOOSE, "INSERT INTO documents VALUES (9, 'c', x'01', x''), (2, 'c', x'03', x'')", 2)?;
+    bad_at(
+        &rt,
+        rt.alloc(),
+        PLAIN,
+        "INSERT INTO documents VALUES (0, 'c', x'01', x'01')",
+        0,
+    )?;
+    bad_at(
+        &rt,
+        rt.alloc(),
+        PLAIN,
+        "INSERT INTO documents VALUES (-3, 'c', x'01', x'01')",
+        -3,
+    )?;
+    bad_at(
+        &rt,
+        rt.alloc(),
+        PLAIN,
+        "INSERT INTO documents VALUES (7, 'c', x'01', x'')",
+        7,
+    )?;
+    bad_at(
+        &rt,
+        rt.alloc(),
+        PLAIN,
+        "INSERT INTO documents VALUES (3, 'c', x'01', x'01'), (9, 'c', x'01', x'02')",
+        9,
+    )?;
+    bad_at(
+        &rt,
+        rt.alloc(),
+        LOOSE,
+        "INSERT INTO documents VALUES (4, 'c', x'01', x'01'), (4, 'c', x'02', x'02')",
+        4,
+    )?;
+    bad_at(
+        &rt,
+        rt.alloc(),
+        LOOSE,
+        "INSERT INTO documents VALUES (9, 'c', x'01', x''), (2, 'c', x'03', x'')",
+        2,
+    )?;
     Ok(())
 }
 
 #[test]
 fn good_rows_of_other_rules_are_opened(rt: HostRuntime) -> Result<(), Fail> {
     opens(&rt, rt.alloc(), &[LOOSE], Opened::Yes)?;
-    opens(&rt, rt.alloc(), &[PLAIN, "INSERT INTO documents VALUES (3, 'c', x'01', x'01'), (9, 'd', x'01', x'02')"], Opened::Yes)?;
-    opens(&rt, rt.alloc(), &[PLAIN, "INSERT INTO documents VALUES (9223372036854775807, 'c', x'01', x'01')"], Opened::Yes)?;
+    opens(
+        &rt,
+        rt.alloc(),
+        &[
+            PLAIN,
+            "INSERT INTO documents VALUES (3, 'c', x'01', x'01'), (9, 'd', x'01', x'02')",
+        ],
+        Opened::Yes,
+    )?;
+    opens(
+        &rt,
+        rt.alloc(),
+        &[
+            PLAIN,
+            "INSERT INTO documents VALUES (9223372036854775807, 'c', x'01', x'01')",
+        ],
+        Opened::Yes,
+    )?;
     Ok(())
 }
 
@@ -89,7 +217,10 @@ fn good_rows_of_other_rules_are_opened(rt: HostRuntime) -> Result<(), Fail> {
 fn after_the_last_place_there_is_none(rt: HostRuntime) -> Result<(), Fail> {
     let mut conn = memory(rt.alloc())?;
     sql(&mut conn, PLAIN)?;
-    sql(&mut conn, "INSERT INTO documents VALUES (9223372036854775806, 'c', x'01', x'01')")?;
+    sql(
+        &mut conn,
+        "INSERT INTO documents VALUES (9223372036854775806, 'c', x'01', x'01')",
+    )?;
     let mut table = open(rt.alloc(), conn)?;
     append(&mut table, "c", 2)?;
     let refused = append(&mut table, "c", 3);
@@ -109,20 +240,37 @@ fn rows_keep_their_places(rt: HostRuntime) -> Result<(), Fail> {
     change(rt.alloc(), &mut table, 2)?;
     remove(rt.alloc(), &mut table, 1)?;
     append(&mut table, "c", 1)?;
-    let found = (place_of(&mut table, "c", 1)?, place_of(&mut table, "c", 2)?, place_of(&mut table, "d", 1)?, place_of(&mut table, "d", 2)?);
+    let found = (
+        place_of(&mut table, "c", 1)?,
+        place_of(&mut table, "c", 2)?,
+        place_of(&mut table, "d", 1)?,
+        place_of(&mut table, "d", 2)?,
+    );
     assert_eq!(rt; found, (4, 2, 3, 0));
-    assert_eq!(rt; (length_of(&mut table, "c", 1)?, length_of(&mut table, "c", 2)?), (2, 5));
+    assert_eq!(rt;
+        (
+            length_of(&mut table, "c", 1)?,
+            length_of(&mut table, "c", 2)?
+        ),
+        (2, 5)
+    );
     Ok(())
 }
 
 #[test]
 fn a_table_beside_others_is_served(rt: HostRuntime) -> Result<(), Fail> {
     let mut conn = memory(rt.alloc())?;
-    sql(&mut conn, "CREATE TABLE before (a INTEGER PRIMARY KEY, b TEXT)")?;
+    sql(
+        &mut conn,
+        "CREATE TABLE before (a INTEGER PRIMARY KEY, b TEXT)",
+    )?;
     sql(&mut conn, "INSERT INTO before VALUES (1, 'x'), (2, 'y')")?;
     sql(&mut conn, "CREATE INDEX by_b ON before (b)")?;
     sql(&mut conn, PLAIN)?;
-    sql(&mut conn, "CREATE TABLE after (a INTEGER PRIMARY KEY, b TEXT)")?;
+    sql(
+        &mut conn,
+        "CREATE TABLE after (a INTEGER PRIMARY KEY, b TEXT)",
+    )?;
     let mut table = open(rt.alloc(), conn)?;
     append(&mut table, "c", 1)?;
     append(&mut table, "c", 2)?;
@@ -131,7 +279,11 @@ fn a_table_beside_others_is_served(rt: HostRuntime) -> Result<(), Fail> {
     is(&rt, place_of(&mut table, "c", 2)?, 2);
     let mut conn = table.close();
     is(&rt, state_of(&mut conn), 10205);
-    is(&rt, number(&mut conn, "SELECT count(*) FROM before WHERE b = 'y'"), 1);
+    is(
+        &rt,
+        number(&mut conn, "SELECT count(*) FROM before WHERE b = 'y'"),
+        1,
+    );
     is(&rt, number(&mut conn, "SELECT count(*) FROM after"), 0);
     Ok(())
 }

@@ -38,7 +38,12 @@ pub fn taken<S: Alter + Drop>(
     (taker.taken, taker.bytes, all)
 }
 
-fn takes(rt: &impl Abort, table: &mut Table<MemStore>, most: u64, want: (u64, u64, bool)) -> Result<(), Fail> {
+fn takes(
+    rt: &impl Abort,
+    table: &mut Table<MemStore>,
+    most: u64,
+    want: (u64, u64, bool),
+) -> Result<(), Fail> {
     let (count, bytes, all) = taken(table, "c", most);
     assert_eq!(rt; (count, bytes, all?), want);
     Ok(())

@@ -1,34 +1,48 @@
-use Rattle.std.proofs.Common.{◌≡◌, ◌∷◌, [], length, ap, ◌∙◌, sym, subst, arith, length-append, take_all}
-use Rattle.bson_store.specs.StoreView.{state_of}
-use Rattle.bson_store.specs.declared.command.Command.{Command}
+use Rattle.std.proofs.Common.{◌∷◌, [], length, ap, ◌∙◌, arith, length-append}
+use Rattle.std.specs.Vec.Iter.{into_iter_items}
+use Rattle.bson_meaning.proofs.Putting.{no_more}
+use Rattle.bson_store.specs.Calls.{held}
 use Rattle.bson_store.specs.declared.command.Reply.{Reply}
-use Rattle.bson_store.proofs.Runs.{SoFar, so_far_start, so_far_more, so_far_all}
+use Rattle.bson_store.proofs.Going.{so_far_start, so_far_more, so_far_all, lists_moved}
 use Rattle.bson_store.proofs.batch.run.Goals as goal
 
 pub loop-command-init : goal.loop-command-init
-loop-command-init c =
+loop-command-init g c =
+    let gives = c.into_iter-command-iterator.ensures.into_iter_gives in
     let none = c.in_ok-replies.ensures.items in
-    record {
-      so_far = subst (λ rs. SoFar (state_of c.args.store.now) [] rs (state_of c.args.store.now)) (sym none) (so_far_start (state_of c.args.store.now));
-      counted = ap length none;
-      room = omega (arith, c.in_ok-replies.ensures.capacity, c.deref-command-items.ensures.len, c.len.ensures);
-      all = c.deref-command-items.ensures.value;
-    }
+    let all = ap length gives.0 in
+    let empty = ap length none in (
+      so_far_start (held g.S.Store c.args.store.now) c.args.commands.items (into_iter_items c.into_iter-command-iterator.result) c.in_ok-replies.replies.items gives.0 none,
+      omega (arith, all, gives.1, c.args.commands.ok.0),
+      omega (arith, empty, all, c.in_ok-replies.ensures.capacity, c.len.ensures, c.args.commands.ok.0),
+      tt,
+      tt,
+    )
 
 pub loop-command-preserved : goal.loop-command-preserved
-loop-command-preserved c =
+loop-command-preserved g c =
     let l = c.loop-command in
+    let steps = c.in-Some.ensures.steps in
     let items = c.in_ok-push.ensures.items in
     let longer = ap length items in
-    record {
-      so_far = so_far_more (state_of c.args.store.now) (state_of l.store) (state_of c.execute-reply.new.store) c.deref-command-items.result.now l.command-index c.command-item.result l.replies.items c.push.new.self.items c.execute-reply.result c.loop-command-test.true c.command-item.is items l.invariant.so_far c.execute-reply.ensures;
-      counted = omega (arith, longer, l.invariant.counted, length-append {A = Reply} l.replies.items (c.execute-reply.result ∷ []));
-      room = omega (arith, c.push.ensures.capacity, l.invariant.room);
-      all = l.invariant.all;
-    }
+    let fewer = ap length steps.0 in (
+      so_far_more (held g.S.Store c.args.store.now) (held g.S.Store l.store) (held g.S.Store c.execute-reply.new.store) c.args.commands.items (into_iter_items l.command-iterator) (into_iter_items c.next.new.self) c.in-Some.command
+          l.replies.items c.push.new.self.items c.execute-reply.result steps.0 items l.invariant.0 c.execute-reply.ensures,
+      omega (arith, fewer, steps.1, l.invariant.1),
+      omega (arith, fewer, longer, length-append {A = Reply} l.replies.items (c.execute-reply.result ∷ []), c.push.ensures.capacity, l.invariant.2),
+      tt,
+      tt,
+    )
 
-pub returns-clause-run : goal.returns-clause-run
-returns-clause-run c =
+pub returns-clause-tables : goal.returns-clause-tables
+returns-clause-tables g c =
     let l = c.loop-command in
-    let whole = take_all l.command-index c.deref-command-items.result.now c.loop-command-test.false ∙ l.invariant.all in
-    so_far_all (state_of c.args.store.now) c.args.commands.items l.replies.items (state_of l.store) (subst (λ xs. SoFar (state_of c.args.store.now) xs l.replies.items (state_of l.store)) whole l.invariant.so_far)
+    so_far_all (held g.S.Store c.args.store.now) (held g.S.Store l.store) c.args.commands.items (into_iter_items l.command-iterator) l.replies.items
+    (no_more (into_iter_items l.command-iterator) (l.invariant.1 ∙ c.in-None.ensures.steps.0)) l.invariant.0
+
+pub returns-clause-lists : goal.returns-clause-lists
+returns-clause-lists g c =
+    let l = c.loop-command in
+    lists_moved (held g.S.Store c.args.store.now) (held g.S.Store l.store) c.args.commands.items l.replies.items
+    (so_far_all (held g.S.Store c.args.store.now) (held g.S.Store l.store) c.args.commands.items (into_iter_items l.command-iterator) l.replies.items
+    (no_more (into_iter_items l.command-iterator) (l.invariant.1 ∙ c.in-None.ensures.steps.0)) l.invariant.0)

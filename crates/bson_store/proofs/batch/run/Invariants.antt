@@ -1,13 +1,14 @@
-use Rattle.std.proofs.Common.{◌≡◌, ◌≤◌, length, take}
+use Rattle.std.proofs.Common.{◌≡◌, ◌≤◌, length, ◌+◌}
 use Rattle.std.specs.Vec.{vec_capacity}
-use Rattle.bson_store.specs.StoreView.{state_of}
-use Rattle.bson_store.proofs.Runs.{SoFar}
+use Rattle.std.specs.Vec.Iter.{into_iter_items, into_iter_len}
+use Rattle.bson_store.specs.Calls.{held}
+use Rattle.bson_store.proofs.Going.{SoFar}
 use Rattle.bson_store.proofs.batch.run.Given as goal
 
 abbrev pub invariant-loop-command : goal.invariant-loop-command
-invariant-loop-command l = record {
-  so_far : SoFar (state_of l.initial.store) (take l.command-index l.command-items) l.replies.items (state_of l.store);
-  counted : length l.replies.items ≡ l.command-index;
-  room : length l.command-items ≤ vec_capacity l.replies;
-  all : l.command-items ≡ l.fn.commands.items;
-}
+invariant-loop-command g l =
+    SoFar (held g.S.Store l.initial.store) l.fn.commands.items (into_iter_items l.command-iterator) l.replies.items (held g.S.Store l.store)
+    × (length (into_iter_items l.command-iterator) ≡ into_iter_len l.command-iterator)
+    × (length l.replies.items + length (into_iter_items l.command-iterator) ≤ vec_capacity l.replies)
+    × (goal.iterator-loop-command g).can_next l.command-iterator
+    × (goal.iterator-loop-command g).is_finite l.command-iterator

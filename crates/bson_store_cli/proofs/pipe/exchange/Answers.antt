@@ -1,5 +1,5 @@
 use Rattle.std.proofs.lemmas.Result.{err_from_is_err_and}
-use Rattle.bson_store.specs.Export.{Tally}
+use Rattle.first_path.specs.Export.{Tally}
 use Rattle.bson_store_cli.specs.Pipe.{Feed}
 use Rattle.bson_store_cli.proofs.Exchanging.{nothing_out}
 use Rattle.bson_store_cli.proofs.pipe.exchange.Goals as goal

@@ -1,6 +1,6 @@
 use Rattle.std.proofs.Common.{subst}
 use Rattle.std.proofs.lemmas.Result.{err_from_is_err_and}
-use Rattle.bson_store.specs.StoreView.{state_of}
+use Rattle.first_path.specs.StoreView.{state_of}
 use Rattle.bson_store_cli.specs.Pipe.{Feed}
 use Rattle.bson_store_cli.proofs.Inserting.{nothing_listed, IsInserted, InsertRefused, inserted, not_inserted, input_kept, input_refused}
 use Rattle.bson_store_cli.proofs.pipe.keep.Goals as goal

@@ -1,26 +1,27 @@
+use Rattle.std.proofs.Common.{inr, refl}
 use Rattle.std.proofs.lemmas.Result.{err_from_is_err_and}
-use Rattle.bson_store.specs.View.{view, document_view}
-use Rattle.bson_store.specs.State.{get_raw}
-use Rattle.bson_store.specs.StoreView.{state_of}
-use Rattle.bson_store.proofs.Steps.{bad_name_serves, memory_serves, get_serves, not_found_serves, untrue}
+use Rattle.bson_store.specs.Calls.{held}
+use Rattle.store_documents.specs.Names.{name_bytes}
+use Rattle.bson_model.specs.View.{view}
+use Rattle.store_laws.specs.State as model
+use Rattle.bson_store.proofs.Exits.{bad_moves, unlooked_moves, none_moves, there_moves}
+use Rattle.bson_store.proofs.Finding.{got}
 use Rattle.bson_store.proofs.store.Store.get_raw.Goals as goal
 
-pub returns-then-not-is_name : goal.returns-then-not-is_name
-returns-then-not-is_name c =
-    rw c.from.ensures (bad_name_serves (state_of c.args.self.now) c.args.name.now (get_raw (view c.args.id.now)) (λ good. untrue c.is_name.result c.if-not-is_name.true (c.is_name.ensures.1 good)))
+pub returns-in_err-name : goal.returns-in_err-name
+returns-in_err-name g c =
+    let p = err_from_is_err_and c.from_residual.result c.from_residual.ensures.1 in
+    rw (p.1, p.2, c.in_err-name.ensures.0) (bad_moves (held g.S.Store c.args.self.now) c.args.name.now (model.get_raw (view c.args.id.now)) c.in_err-name.ensures.1)
 
 pub returns-in_default : goal.returns-in_default
-returns-in_default c =
-    let absent = rw c.deref.ensures.value at c.in_default.ensures.none in
-    rw c.from-in_default.ensures (not_found_serves c.args.self.now.rows.items c.args.name.now (view c.args.id.now) (c.is_name.ensures.0 c.if-not-is_name.false) absent)
-
-pub returns-in_err-append : goal.returns-in_err-append
-returns-in_err-append c =
-    let p = err_from_is_err_and c.from_residual.result c.from_residual.ensures.1 in
-    rw (p.1, p.2) (memory_serves (state_of c.args.self.now) c.args.name.now (get_raw (view c.args.id.now)) (c.is_name.ensures.0 c.if-not-is_name.false) (λ x. x))
+returns-in_default g c =
+    rw c.from.ensures (none_moves (held g.S.Store c.args.self.now) (held g.S.Store c.find.new.self) c.args.name.now (name_bytes c.in_ok-name.name) (view c.args.id.now) c.in_ok-found.field-0 (model.get_raw (view c.args.id.now)) c.in_ok-name.ensures.0 c.in_default.is c.in_ok-name.ensures.1 (λ a none. inr (none, (refl, refl))) c.in_ok-found.ensures)
 
 pub returns : goal.returns
-returns c =
-    let found = rw c.deref.ensures.value at c.in-Some.ensures.found in
-    let written = rw c.new-out.ensures.items at c.in_ok-append.ensures in
-    get_serves c.args.self.now.rows.items c.args.name.now (view c.args.id.now) found.0 (document_view c.in-Some.document.now) found.1 c.append.new.out.items (c.is_name.ensures.0 c.if-not-is_name.false) found.2 written
+returns g c =
+    there_moves (held g.S.Store c.args.self.now) (held g.S.Store c.find.new.self) c.args.name.now (name_bytes c.in_ok-name.name) (view c.args.id.now) c.in_ok-found.field-0 c.in-Some.found (model.get_raw (view c.args.id.now)) (model.bytes c.in-Some.found.body.items) c.in_ok-name.ensures.0 c.in-Some.is c.in_ok-name.ensures.1 (λ x. x) (got (view c.args.id.now) c.in-Some.found) c.in_ok-found.ensures
+
+pub returns-in_err-found : goal.returns-in_err-found
+returns-in_err-found g c =
+    let p = err_from_is_err_and c.from_residual-in_err-found.result c.from_residual-in_err-found.ensures.1 in
+    rw (p.1, p.2) (unlooked_moves (held g.S.Store c.args.self.now) (held g.S.Store c.find.new.self) c.args.name.now (name_bytes c.in_ok-name.name) (view c.args.id.now) (model.get_raw (view c.args.id.now)) c.in_err-found.field-0.0 c.in_ok-name.ensures.0 c.in_ok-name.ensures.1 (λ x. x) c.in_err-found.ensures)

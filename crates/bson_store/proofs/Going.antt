@@ -1,0 +1,100 @@
+-- Runs of the first commands, which go on by one more.
+use Rattle.std.proofs.Common.{◌≡◌, ℕ, List, [], ◌∷◌, ◌++◌, length, map, refl, ap, ◌∙◌, sym, subst, arith, append_assoc, append-nil, length-append}
+use Rattle.std.specs.FinMap.{empty}
+use Rattle.sqlite.specs.State.{State}
+use Rattle.bson_table.specs.Rows.{Doc}
+use Rattle.bson_table.specs.Moves.{Moves}
+use Rattle.serde_json.specs.Data.{Data}
+use Rattle.store_laws.specs.Reading.{Reading, ReadsBytes, ReadsTree}
+use Rattle.bson_store.specs.Calls.{Does, DoesBytes, DoesTree}
+use Rattle.store_laws.specs.State as model
+use Rattle.store_laws.specs.Table.{RunThrough}
+use Rattle.store_laws.proofs.Going.{one_more}
+use Rattle.store_laws.proofs.Tables.{run_of_states, run_spares}
+use Rattle.bson_store.specs.Runs.{Asks, AsksEach, reply_of, Obeys, AnswersThroughTables, AnswersAsLists}
+use Rattle.bson_store.specs.declared.command.Command.{Command}
+use Rattle.bson_store.specs.declared.command.Reply.{Reply}
+use Rattle.bson_store.proofs.Moving.{rests, moved, moved_twice}
+
+map_parts : {X Y : Type 0} (f : X → Y) (xs ys : List X) → map f (xs ++ ys) ≡ map f xs ++ map f ys
+map_parts f [] ys = refl
+map_parts f (x ∷ xs) ys = ap (λ zs. f x ∷ zs) (map_parts f xs ys)
+
+asks_last : (xs : List Command) (cs : List model.Command) (x : Command) (c : model.Command) → AsksEach xs cs → Asks x c → AsksEach (xs ++ x ∷ []) (cs ++ c ∷ [])
+asks_last [] [] x c h k = (k, tt)
+asks_last [] (d ∷ cs) x c h k = absurd h
+asks_last (y ∷ xs) [] x c h k = absurd h
+asks_last (y ∷ xs) (d ∷ cs) x c h k = (h.0, asks_last xs cs x c h.1 k)
+
+none_yet : (docs : List Doc) → AnswersThroughTables [] [] docs docs
+none_yet docs a s = record { b = a; shown = s; asked = []; asks = tt; denials = empty; run = refl }
+
+one_command : (old mid new : List Doc) (xs : List Command) (rs : List Reply) (x : Command) (r : Reply) → AnswersThroughTables xs rs old mid → Obeys x r mid new → AnswersThroughTables (xs ++ x ∷ []) (rs ++ r ∷ []) old new
+one_command old mid new xs rs x r so_far one a s =
+    let h = so_far a s in
+    let d = one.2 h.b h.shown in
+    let more = one_more h.denials a h.b d.0 h.asked (map reply_of rs) one.0 (reply_of r) h.run d.2 in
+    record {
+      b = d.0;
+      shown = d.1;
+      asked = h.asked ++ one.0 ∷ [];
+      asks = asks_last xs h.asked x one.0 h.asks one.1;
+      denials = more.0;
+      run = subst (λ qs. RunThrough more.0 0 a (h.asked ++ one.0 ∷ []) qs d.0) (sym (map_parts reply_of rs (r ∷ []))) more.1;
+    }
+
+on_lists : (xs : List Command) (rs : List Reply) (old new : List Doc) → AnswersThroughTables xs rs old new → AnswersAsLists xs rs old new
+on_lists xs rs old new h a s =
+    let k = h a s in
+    record {
+      b = k.b;
+      shown = k.shown;
+      asked = k.asked;
+      asks = k.asks;
+      denials = k.denials;
+      spared = run_spares k.denials 0 a k.b k.asked (map reply_of rs) k.run;
+      run = run_of_states k.denials 0 a k.b k.asked (map reply_of rs) k.run;
+    }
+
+pub lists_moved : (s t : State) (xs : List Command) (rs : List Reply) → Moves s t (AnswersThroughTables xs rs) → Moves s t (AnswersAsLists xs rs)
+lists_moved s t xs rs m = moved s t (AnswersThroughTables xs rs) (AnswersAsLists xs rs) m (on_lists xs rs)
+
+-- the commands that were done, and those that are left
+pub record SoFar (old : State) (commands rest : List Command) (replies : List Reply) (new : State) : Type 0 where
+  pub done : List Command
+  pub split : done ++ rest ≡ commands
+  pub counted : length replies ≡ length done
+  pub run : Moves old new (AnswersThroughTables done replies)
+
+pub so_far_more : (old mid new : State) (commands rest left : List Command) (x : Command) (rs more : List Reply) (r : Reply) → rest ≡ x ∷ left → more ≡ rs ++ r ∷ [] → SoFar old commands rest rs mid → Moves mid new (Obeys x r) → SoFar old commands left more new
+so_far_more old mid new commands rest left x rs more r is put h one = record {
+  done = h.done ++ x ∷ [];
+  split = append_assoc h.done (x ∷ []) left ∙ ap (λ y. h.done ++ y) (sym is) ∙ h.split;
+  counted = omega (arith, ap length put, h.counted, length-append {A = Reply} rs (r ∷ []), length-append {A = Command} h.done (x ∷ []));
+  run = subst (λ qs. Moves old new (AnswersThroughTables (h.done ++ x ∷ []) qs)) (sym put)
+      (moved_twice old mid new (AnswersThroughTables h.done rs) (Obeys x r) (AnswersThroughTables (h.done ++ x ∷ []) (rs ++ r ∷ [])) h.run one (λ a b c f g. one_command a b c h.done rs x r f g));
+}
+
+pub so_far_all : (old new : State) (commands rest : List Command) (rs : List Reply) → rest ≡ [] → SoFar old commands rest rs new → Moves old new (AnswersThroughTables commands rs)
+so_far_all old new commands rest rs none h = subst (λ xs. Moves old new (AnswersThroughTables xs rs)) (sym (append-nil h.done) ∙ ap (λ y. h.done ++ y) (sym none) ∙ h.split) h.run
+
+pub so_far_start : (s : State) (commands rest : List Command) (rs : List Reply) → rest ≡ commands → rs ≡ [] → SoFar s commands rest rs s
+so_far_start s commands rest rs is none = record {
+  done = [];
+  split = is;
+  counted = ap length none;
+  run = subst (λ qs. Moves s s (AnswersThroughTables [] qs)) (sym none) (rests s (AnswersThroughTables [] []) none_yet);
+}
+
+-- ---- each command
+
+pub obeys_bytes : (s t : State) (x : Command) (n b : List ℕ) (call : Reading → model.Call) (r : Reply) (q : model.Reply) → ((a : Reading) → (model.IsName n → ReadsBytes b a) → Asks x (model.on n (call a))) → reply_of r ≡ q → Moves s t (DoesBytes n call b q) → Moves s t (Obeys x r)
+obeys_bytes s t x n b call r q asks is m =
+    moved s t (DoesBytes n call b q) (Obeys x r) m (λ docs after h. (model.on n (call h.0), asks h.0 h.1, subst (λ p. Does (model.on n (call h.0)) p docs after) (sym is) h.2))
+
+pub obeys_tree : (s t : State) (x : Command) (n : List ℕ) (j : Data) (call : Reading → model.Call) (r : Reply) (q : model.Reply) → ((a : Reading) → (model.IsName n → ReadsTree j a) → Asks x (model.on n (call a))) → reply_of r ≡ q → Moves s t (DoesTree n call j q) → Moves s t (Obeys x r)
+obeys_tree s t x n j call r q asks is m =
+    moved s t (DoesTree n call j q) (Obeys x r) m (λ docs after h. (model.on n (call h.0), asks h.0 h.1, subst (λ p. Does (model.on n (call h.0)) p docs after) (sym is) h.2))
+
+pub obeys : (s t : State) (x : Command) (c : model.Command) (r : Reply) (q : model.Reply) → Asks x c → reply_of r ≡ q → Moves s t (Does c q) → Moves s t (Obeys x r)
+obeys s t x c r q asks is m = moved s t (Does c q) (Obeys x r) m (λ docs after h. (c, asks, subst (λ p. Does c p docs after) (sym is) h))

@@ -1,0 +1,228 @@
+-- Exits of calls that leave the rows, and of inserts: each takes the table that the rows showed to the one that they show.
+use Rattle.std.proofs.lemmas.Int.{ints}
+use Rattle.std.proofs.Math.Dec.{leb}
+use Rattle.std.proofs.lemmas.Bool.Decides.{leb_tells}
+use Rattle.std.proofs.Common.{◌≡◌, ◌≢◌, ◌⊎◌, inl, inr, ℕ, ◌+◌, ℤ, pos, ◌+ℤ◌, ◌<ℤ◌, ◌^◌, suc, ◌<◌, ◌≤◌, List, [], ◌∷◌, ◌++◌, Bool, true, false, cond, IsTrue, Option, Some, None, Ok, Err, is_some, nat_lt, refl, ap, ◌∙◌, sym, subst, arith, append-nil}
+use Rattle.std.specs.List.{find}
+use Rattle.std.specs.Option.{option_map}
+use Rattle.std.proofs.lemmas.Bool.{le-ltb}
+use Rattle.bson_base.specs.Value.{Value, Members, look_up, has_key}
+use Rattle.bson_bytes.specs.Encode.{encode, size}
+use Rattle.bson_meaning.specs.Gate.{size_limit}
+use Rattle.bson_meaning.specs.Meaning.{key}
+use Rattle.bson_meaning.proofs.KeyLaw.{same_itself}
+use Rattle.bson_table.specs.Rows.{Doc, is_named}
+use Rattle.bson_table.specs.Rows as table
+use Rattle.bson_table.specs.Moves.{Finds, Appends, IsRoomFor, appended, kept, seen}
+use Rattle.bson_table.specs.declared.fault.Fault.{Fault}
+use Rattle.bson_table.specs.declared.fault.Fault.TheVariants as faults
+use Rattle.bson_table.specs.declared.row.Found.{Found}
+use Rattle.store_documents.specs.Bodies.{IsKeyOf, AnswersWritten}
+use Rattle.store_documents.specs.declared.write.Written.{Written}
+use Rattle.store_laws.specs.Reading.{Documents, readable, IsRead}
+use Rattle.store_laws.specs.State.{id_key, list_of, store, HasId, SomeHasId, NoneHasId, Form, in_bytes, in_json, Call, insert, Command, on, Reply, done, refused, refusal_of, Answers, IsName, IsKept, Step}
+use Rattle.store_laws.specs.Run.{memory, database, places, IsDecided, IsDecidedCall, IsUnread}
+use Rattle.store_laws.specs.Table.{Row, Table, state_of, documents_of, greatest, last_place, Follows, Serves}
+use Rattle.store_laws.specs.declared.error.ErrorKind.{ErrorKind}
+use Rattle.store_laws.specs.declared.error.ErrorKind.TheVariants.{BadName, NoId, TooLong, DuplicateId, Places}
+use Rattle.store_laws.proofs.Rows.{rows_not_empty, list_of-state_of, rows_last}
+use Rattle.store_laws.proofs.States.{stored_again}
+use Rattle.store_laws.proofs.Ids.{own_is, own_of, has_written}
+use Rattle.bson_store.specs.Shown.{IsRowOf, Show}
+use Rattle.bson_store.specs.Calls.{Does, DoesRead}
+use Rattle.bson_store.specs.Refusals.{kind_of_fault}
+use Rattle.bson_store.proofs.Tables.{last_greatest, shows_more, rows_after, absent, found, stands_at}
+
+stays : (a : Table) → Follows a a
+stays a = inl ([], sym (append-nil a), tt)
+
+pub bad_name : (docs : List Doc) (n : List ℕ) (c : Call) → (IsName n → ⊥) → Does (on n c) (refused BadName None) docs docs
+bad_name docs n c bad a s = (a, s, (None, (inr (bad, (refl, refl)), stays a, tt)))
+
+-- a call that leaves the list of its name
+pub stay : (a : Table) (n : List ℕ) (c : Call) (r : Reply) → IsName n → Answers c (documents_of a n) r (documents_of a n) → Serves a (on n c) r a
+stay a n c r good answers = (None, (inl (good, (list_of (state_of a) n, subst (λ l. Answers c l r l) (sym (list_of-state_of a n)) answers, sym (stored_again (state_of a) n (rows_not_empty a)))), stays a, tt))
+
+pub answers_stay : (docs : List Doc) (n : List ℕ) (c : Call) (r : Reply) → IsName n → ((a : Table) → Show docs a → Answers c (documents_of a n) r (documents_of a n)) → Does (on n c) r docs docs
+answers_stay docs n c r good answers a s = (a, s, stay a n c r good (answers a s))
+
+pub memory_other : faults.Memory ≢ faults.Places
+memory_other e = cc
+
+-- memory was wanted, or the database refused
+pub denied : (docs : List Doc) (c : Command) (x : Fault) → x ≢ faults.Places → (IsDecided c → ⊥) → Does c (refused (kind_of_fault x) None) docs docs
+denied docs c faults.Memory other undecided a s = (a, s, (Some memory, ((refl, refl), stays a, undecided)))
+denied docs c faults.Database other undecided a s = (a, s, (Some database, ((refl, refl), stays a, undecided)))
+denied docs c faults.Places other undecided a s = absurd (other refl)
+
+pub untrue : (b : Bool) → b ≡ false → IsTrue b → ⊥
+untrue b e h = cc
+
+pub undecided : (n : List ℕ) (c : Call) → IsName n → (IsDecidedCall c → ⊥) → IsDecided (on n c) → ⊥
+undecided n c good call (inl bad) = bad good
+undecided n c good call (inr d) = call d
+
+pub read_open : (f : Form) (d : Members) → IsUnread f (readable d) → ⊥
+read_open in_bytes d x = x
+read_open in_json d x = x
+
+-- ---- documents that were written
+
+-- a document that was read, with the key of its id and its written form, and that is kept where there is room
+pub record Fits (d : Members) (k b : List ℕ) : Type 0 where
+  pub read : IsRead d
+  pub id : Value
+  pub has : look_up id_key d ≡ Some id
+  pub short : size d ≤ size_limit
+  pub key : IsKeyOf k id
+  pub body : b ≡ encode d
+
+refused_short : (d : Members) → refusal_of d ≡ None → (has_key id_key d ≡ true) × (size d ≤ size_limit)
+refused_short d h = by (has_key id_key d) refl h
+  where
+    small : (b : Bool) → nat_lt size_limit (size d) ≡ b → cond b (Some TooLong) None ≡ None → size d ≤ size_limit
+    small true e h = cc
+    small false e h = le_of (size d) size_limit e
+      where
+        le_of : (m n : ℕ) → nat_lt n m ≡ false → m ≤ n
+        le_of m n e = grind (arith, e)
+
+    by : (b : Bool) → has_key id_key d ≡ b → cond b (cond (nat_lt size_limit (size d)) (Some TooLong) None) (Some NoId) ≡ None → (b ≡ true) × (size d ≤ size_limit)
+    by true e h = (refl, small (nat_lt size_limit (size d)) refl h)
+    by false e h = cc
+
+id_in : (d : Members) → has_key id_key d ≡ true → (id : Value) × (look_up id_key d ≡ Some id)
+id_in d h = by (look_up id_key d) refl h
+  where
+    by : (o : Option Value) → look_up id_key d ≡ o → is_some o ≡ true → (id : Value) × (look_up id_key d ≡ Some id)
+    by None e h = cc
+    by (Some id) e h = (id, e)
+
+pub written_fits : (d : Members) (w : Written) → IsRead d → AnswersWritten d (Ok w) → Fits d w.key.items w.body.items
+written_fits d w read h =
+    let s = refused_short d h.0 in
+    let i = id_in d s.0 in
+    let kept : IsKept d = record { read = read; identified = s.0; small = s.1 } in
+    let own = own_of d i.0 kept i.1 in
+    let has : HasId i.0 d = rw i.1 (same_itself i.0 own.sound) in
+    let is = has_written d i.0 kept own.sound has in
+    record {
+      read = read;
+      id = i.0;
+      has = i.1;
+      short = s.1;
+      key = record { sound = own.sound; plain = is.plain; short = omega (arith, is.short); key = h.1 ∙ sym is.keys };
+      body = h.2;
+    }
+
+-- ---- inserts
+
+some_behind : (id : Value) (front : Documents) (d : Members) (back : Documents) → HasId id d → SomeHasId id (front ++ d ∷ back)
+some_behind id [] d back h = inl h
+some_behind id (c ∷ front) d back h = inr (some_behind id front d back h)
+
+none_not_some : (id : Value) (l : Documents) → NoneHasId id l → SomeHasId id l → ⊥
+none_not_some id [] n s = s
+none_not_some id (d ∷ l) n (inl h) = n.0 h
+none_not_some id (d ∷ l) n (inr h) = none_not_some id l n.1 h
+
+unfit_answers : (f : Form) (d : Members) (k : ErrorKind) (l : Documents) → refusal_of d ≡ Some k → Answers (insert f (readable d)) l (refused k None) l
+unfit_answers f d k l is = rw is (refl, refl)
+
+pub insert_unwritten : (docs : List Doc) (n : List ℕ) (d : Members) (k : ErrorKind) → IsName n → AnswersWritten d (Err k) → DoesRead n insert d (refused k None) docs docs
+insert_unwritten docs n d k good (inl is) f = answers_stay docs n (insert f (readable d)) (refused k None) good (λ a s. unfit_answers f d k (documents_of a n) is)
+insert_unwritten docs n d k good (inr is) f = rw is (denied docs (on n (insert f (readable d))) faults.Memory memory_other (undecided n (insert f (readable d)) good (read_open f d)))
+
+insert_denied : (docs : List Doc) (n : List ℕ) (d : Members) (x : Fault) → IsName n → x ≢ faults.Places → DoesRead n insert d (refused (kind_of_fault x) None) docs docs
+insert_denied docs n d x good other f = denied docs (on n (insert f (readable d))) x other (undecided n (insert f (readable d)) good (read_open f d))
+
+pub insert_unfound : (docs after : List Doc) (n k : List ℕ) (d : Members) (x : Fault) → IsName n → Finds n k (Err x) docs after → DoesRead n insert d (refused (kind_of_fault x) None) docs after
+insert_unfound docs after n k d x good h = rw h.same (insert_denied docs n d x good h.faults)
+
+duplicate_answers : (f : Form) (d : Members) (id : Value) (l : Documents) → look_up id_key d ≡ Some id → size d ≤ size_limit → SomeHasId id l → Answers (insert f (readable d)) l (refused DuplicateId None) l
+duplicate_answers f d id l has short taken = rw (has, le-ltb size_limit (size d) short) (inl (taken, (refl, refl)))
+
+pub some_is : (o : Option Doc) (x : ℤ × List ℕ) → Some x ≡ option_map seen o → (e : Doc) × (o ≡ Some e) × (x ≡ seen e)
+some_is None x h = cc
+some_is (Some e) x h = (e, refl, cc)
+
+pub none_is : (o : Option Doc) → None ≡ option_map seen o → o ≡ None
+none_is None h = refl
+none_is (Some e) h = cc
+
+duplicate_of : (docs : List Doc) (n k b : List ℕ) (d : Members) (e : Doc) → IsName n → Fits d k b → find (is_named n k) docs ≡ Some e → DoesRead n insert d (refused DuplicateId None) docs docs
+duplicate_of docs n k b d e good fits is f =
+    answers_stay docs n (insert f (readable d)) (refused DuplicateId None) good
+    (λ a s. let p = found n k fits.id docs a e fits.key s.each s.good is in
+    let q = stands_at n k fits.id docs a e p in
+    duplicate_answers f d fits.id (documents_of a n) fits.has fits.short (subst (SomeHasId fits.id) (sym q.split) (some_behind fits.id (documents_of p.front n) p.r.document (documents_of p.back n) q.has)))
+
+pub duplicate : (docs after : List Doc) (n k b : List ℕ) (d : Members) (x : Found) → IsName n → Fits d k b → Finds n k (Ok (Some x)) docs after → DoesRead n insert d (refused DuplicateId None) docs after
+duplicate docs after n k b d x good fits h =
+    let e = some_is (find (is_named n k) docs) (kept x) h.found in
+    rw h.same (duplicate_of docs n k b d e.0 good fits e.1)
+
+insert_answers : (f : Form) (d : Members) (id : Value) (l : Documents) → look_up id_key d ≡ Some id → size d ≤ size_limit → (SomeHasId id l → ⊥) → Answers (insert f (readable d)) l done (l ++ d ∷ [])
+insert_answers f d id l has short free = rw (has, le-ltb size_limit (size d) short) (inr (free, (refl, refl)))
+
+step_in : (f : Form) (docs : List Doc) (n k b : List ℕ) (d : Members) (a : Table) (r : Row) → IsName n → Fits d k b → find (is_named n k) docs ≡ None → Show docs a → r.name ≡ n → r.document ≡ d
+    → Step (state_of a) (on n (insert f (readable d))) done (state_of (a ++ r ∷ []))
+step_in f docs n k b d a r good h free s name is =
+    let l = list_of (state_of a) n in
+    let none = absent n k h.id docs a h.key s.each s.good free in
+    inl (
+      good,
+      (
+        l ++ d ∷ [],
+        insert_answers f d h.id l h.has h.short (λ some. none_not_some h.id (documents_of a n) none (subst (SomeHasId h.id) (list_of-state_of a n) some)),
+        rows_last a (r ∷ []) n (name, tt) ∙ ap (λ e. store (state_of a) n (l ++ e ∷ [])) is,
+      ),
+    )
+
+next_place : (g : ℕ) → pos g +ℤ pos 1 ≡ pos (suc g)
+next_place g = ap pos (omega arith)
+
+room_is : (l : ℤ) (g : ℕ) → l ≡ pos g → (l +ℤ pos 1) <ℤ pos (2 ^ 63) → g < last_place
+room_is l g e h = let i = subst (λ z. (z +ℤ pos 1) <ℤ pos (2 ^ 63)) e h in omega (arith, ints, i)
+
+full_is : (l : ℤ) (g : ℕ) → l ≡ pos g → ((l +ℤ pos 1) <ℤ pos (2 ^ 63) → ⊥) → last_place < g + 1
+full_is l g e h = by (leb_tells (g + 1) last_place)
+  where
+    by : ((leb (g + 1) last_place ≡ true) × (g + 1 ≤ last_place)) ⊎ ((leb (g + 1) last_place ≡ false) × (last_place < g + 1)) → last_place < g + 1
+    by (inl k) = let low : (l +ℤ pos 1) <ℤ pos (2 ^ 63) = omega (arith, ints, e, k.1) in absurd (h low)
+    by (inr k) = k.1
+
+goes_in : (f : Form) (docs : List Doc) (n k b : List ℕ) (d : Members) → IsName n → Fits d k b → find (is_named n k) docs ≡ None → IsRoomFor 1 docs → Does (on n (insert f (readable d))) done docs (appended n k b docs)
+goes_in f docs n k b d good h free room a s =
+    let r : Row = record { place = suc (greatest a); name = n; document = d } in
+    let last = last_greatest a docs s in
+    let below : greatest a < last_place = room_is (table.last_place docs) (greatest a) last room in
+    let step = step_in f docs n k b d a r good h free s refl refl in
+    let one : IsRowOf r (record { place = table.last_place docs +ℤ pos 1; coll = n; idkey = k; body = b }) = record {
+      place = ap (λ z. z +ℤ pos 1) last ∙ next_place (greatest a);
+      name = refl;
+      key = h.key.key ∙ ap key (sym (own_is d h.id h.has));
+      body = h.body;
+    } in (
+      a ++ r ∷ [],
+      shows_more docs a r _ s one refl (rows_after a (a ++ r ∷ []) (on n (insert f (readable d))) done s.good h.read step),
+      (None, (step, inl (r ∷ [], refl, (refl, omega (arith, below), tt)), tt)),
+    )
+
+no_place : (f : Form) (docs : List Doc) (n k b : List ℕ) (d : Members) → IsName n → Fits d k b → find (is_named n k) docs ≡ None → (IsRoomFor 1 docs → ⊥) → Does (on n (insert f (readable d))) (refused Places None) docs docs
+no_place f docs n k b d good h free full a s =
+    let r : Row = record { place = suc (greatest a); name = n; document = d } in
+    let g : last_place < greatest a + 1 = full_is (table.last_place docs) (greatest a) (last_greatest a docs s) full in
+    (a, s, (Some places, ((refl, refl), stays a, (undecided n (insert f (readable d)) good (read_open f d), (g, done, state_of (a ++ r ∷ []), step_in f docs n k b d a r good h free s refl refl, λ x. x)))))
+
+pub put_in : (docs mid after : List Doc) (n k b : List ℕ) (d : Members) → IsName n → Fits d k b → Finds n k (Ok None) docs mid → Appends 1 (appended n k b) (Ok tt) mid after → DoesRead n insert d done docs after
+put_in docs mid after n k b d good fits none h f =
+    let room = subst (IsRoomFor 1) none.same h.room in
+    rw (h.done, none.same) (goes_in f docs n k b d good fits (none_is (find (is_named n k) docs) none.found) room)
+
+-- the table refuses a row more
+pub not_put_in : (docs mid after : List Doc) (n k b : List ℕ) (d : Members) (x : Fault) → IsName n → Fits d k b → Finds n k (Ok None) docs mid → Appends 1 (appended n k b) (Err x) mid after → DoesRead n insert d (refused (kind_of_fault x) None) docs after
+not_put_in docs mid after n k b d faults.Memory good fits none h f = rw (h.refused, none.same) (insert_denied docs n d faults.Memory good memory_other f)
+not_put_in docs mid after n k b d faults.Database good fits none h f = rw (h.refused, none.same) (insert_denied docs n d faults.Database good (λ e. cc) f)
+not_put_in docs mid after n k b d faults.Places good fits none h f =
+    rw (h.refused, none.same) (no_place f docs n k b d good fits (none_is (find (is_named n k) docs) none.found) (λ room. h.full refl (subst (IsRoomFor 1) (sym none.same) room)))

@@ -1,0 +1,51 @@
+use Rattle.std.proofs.Common.{refl, string_bytes}
+use Rattle.serde_json.specs.View.{view as data_of}
+use Rattle.bson_model.specs.View.{view}
+use Rattle.store_laws.specs.Reading.{read_value}
+use Rattle.store_laws.specs.State as model
+use Rattle.bson_store.specs.Calls.{held}
+use Rattle.bson_store.specs.declared.command.Command.TheVariants as commands
+use Rattle.bson_store.specs.Refusals.{reply_by, as_done, as_flag, as_bytes, as_json}
+use Rattle.bson_store.specs.Runs.{reply_of}
+use Rattle.bson_store.proofs.Going.{obeys, obeys_bytes, obeys_tree}
+use Rattle.bson_store.proofs.batch.execute.Goals as goal
+
+pub returns-in-InsertRaw : goal.returns-in-InsertRaw
+returns-in-InsertRaw g c =
+    rw c.in-InsertRaw.is (obeys_bytes (held g.S.Store c.args.store.now) (held g.S.Store c.insert_raw.new.self) (commands.InsertRaw c.in-InsertRaw.name c.in-InsertRaw.bytes) (string_bytes c.in-InsertRaw.name) c.in-InsertRaw.bytes.items (model.insert model.in_bytes) c.done.result (reply_by as_done c.insert_raw.result) (λ a h. (a, h, refl)) c.done.ensures (rw (c.as_str.ensures.value, c.as_slice.ensures.value) at c.insert_raw.ensures))
+
+pub returns-in-ReplaceRaw : goal.returns-in-ReplaceRaw
+returns-in-ReplaceRaw g c =
+    rw c.in-ReplaceRaw.is (obeys_bytes (held g.S.Store c.args.store.now) (held g.S.Store c.replace_raw.new.self) (commands.ReplaceRaw c.in-ReplaceRaw.name c.in-ReplaceRaw.bytes) (string_bytes c.in-ReplaceRaw.name) c.in-ReplaceRaw.bytes.items (model.replace model.in_bytes) c.done-in-ReplaceRaw.result (reply_by as_done c.replace_raw.result) (λ a h. (a, h, refl)) c.done-in-ReplaceRaw.ensures (rw (c.as_str-in-ReplaceRaw.ensures.value, c.as_slice-in-ReplaceRaw.ensures.value) at c.replace_raw.ensures))
+
+pub returns-in-InsertJson : goal.returns-in-InsertJson
+returns-in-InsertJson g c =
+    rw c.in-InsertJson.is (obeys_tree (held g.S.Store c.args.store.now) (held g.S.Store c.insert_json.new.self) (commands.InsertJson c.in-InsertJson.name c.in-InsertJson.json) (string_bytes c.in-InsertJson.name) (data_of c.in-InsertJson.json) (model.insert model.in_json) c.done-in-InsertJson.result (reply_by as_done c.insert_json.result) (λ a h. (a, h, refl)) c.done-in-InsertJson.ensures (rw c.as_str-in-InsertJson.ensures.value at c.insert_json.ensures))
+
+pub returns-in-ReplaceJson : goal.returns-in-ReplaceJson
+returns-in-ReplaceJson g c =
+    rw c.in-ReplaceJson.is (obeys_tree (held g.S.Store c.args.store.now) (held g.S.Store c.replace_json.new.self) (commands.ReplaceJson c.in-ReplaceJson.name c.in-ReplaceJson.json) (string_bytes c.in-ReplaceJson.name) (data_of c.in-ReplaceJson.json) (model.replace model.in_json) c.done-in-ReplaceJson.result (reply_by as_done c.replace_json.result) (λ a h. (a, h, refl)) c.done-in-ReplaceJson.ensures (rw c.as_str-in-ReplaceJson.ensures.value at c.replace_json.ensures))
+
+pub returns-in-Set : goal.returns-in-Set
+returns-in-Set g c =
+    rw c.in-Set.is (obeys (held g.S.Store c.args.store.now) (held g.S.Store c.set.new.self) (commands.Set c.in-Set.name c.in-Set.id c.in-Set.key c.in-Set.value) (model.on (string_bytes c.in-Set.name) (model.set (view c.in-Set.id) (string_bytes c.in-Set.key) (read_value (data_of c.in-Set.value)))) c.done-in-Set.result (reply_by as_done c.set.result) refl c.done-in-Set.ensures (rw (c.as_str-key.ensures.value, c.as_str-in-Set.ensures.value) at c.set.ensures))
+
+pub returns-in-Unset : goal.returns-in-Unset
+returns-in-Unset g c =
+    rw c.in-Unset.is (obeys (held g.S.Store c.args.store.now) (held g.S.Store c.unset.new.self) (commands.Unset c.in-Unset.name c.in-Unset.id c.in-Unset.key) (model.on (string_bytes c.in-Unset.name) (model.unset (view c.in-Unset.id) (string_bytes c.in-Unset.key))) c.flag.result (reply_by as_flag c.unset.result) refl c.flag.ensures (rw (c.as_str-key-in-Unset.ensures.value, c.as_str-in-Unset.ensures.value) at c.unset.ensures))
+
+pub returns-in-Remove : goal.returns-in-Remove
+returns-in-Remove g c =
+    rw c.in-Remove.is (obeys (held g.S.Store c.args.store.now) (held g.S.Store c.remove.new.self) (commands.Remove c.in-Remove.name c.in-Remove.id) (model.on (string_bytes c.in-Remove.name) (model.remove (view c.in-Remove.id))) c.done-in-Remove.result (reply_by as_done c.remove.result) refl c.done-in-Remove.ensures (rw (c.as_str-in-Remove.ensures.value) at c.remove.ensures))
+
+pub returns-in-GetRaw : goal.returns-in-GetRaw
+returns-in-GetRaw g c =
+    rw c.in-GetRaw.is (obeys (held g.S.Store c.args.store.now) (held g.S.Store c.get_raw.new.self) (commands.GetRaw c.in-GetRaw.name c.in-GetRaw.id) (model.on (string_bytes c.in-GetRaw.name) (model.get_raw (view c.in-GetRaw.id))) c.written.result (reply_by as_bytes c.get_raw.result) refl c.written.ensures (rw (c.as_str-in-GetRaw.ensures.value) at c.get_raw.ensures))
+
+pub returns-in-GetJson : goal.returns-in-GetJson
+returns-in-GetJson g c =
+    rw c.in-GetJson.is (obeys (held g.S.Store c.args.store.now) (held g.S.Store c.get_json.new.self) (commands.GetJson c.in-GetJson.name c.in-GetJson.id c.in-GetJson.mode) (model.on (string_bytes c.in-GetJson.name) (model.get_json c.in-GetJson.mode (view c.in-GetJson.id))) c.json.result (reply_by as_json c.get_json.result) refl c.json.ensures (rw (c.as_str-in-GetJson.ensures.value) at c.get_json.ensures))
+
+pub returns-in-Export : goal.returns-in-Export
+returns-in-Export g c =
+    rw c.in-Export.is (obeys (held g.S.Store c.args.store.now) (held g.S.Store c.exported.new.store) (commands.Export c.in-Export.name) (model.on (string_bytes c.in-Export.name) model.export) c.exported.result (reply_of c.exported.result) refl refl (rw c.as_str-in-Export.ensures.value at c.exported.ensures))

@@ -1,5 +1,0 @@
-use Rattle.bson_store.proofs.Readings.{one_document, not_both, one_refusal}
-use Rattle.bson_store.proofs.laws.one_reading.Goals as goal
-
-pub returns : goal.returns
-returns c = record { document = one_document; either = not_both; refusal = one_refusal }

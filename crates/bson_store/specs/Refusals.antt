@@ -1,0 +1,49 @@
+-- What the refusals of the table are told as, and what a call's result is as a reply.
+use Rattle.std.specs.Prelude.{◌≡◌, ◌≢◌, Bool, ℕ, None, Result, Ok, Err, Vec}
+use Rattle.std.specs.declared.alloc.Global.{Global}
+use Rattle.serde_json.specs.View.{view as tree_of}
+use Rattle.serde_json.specs.declared.value.Value.{Value as Json}
+use Rattle.bson_table.specs.declared.fault.Fault.{Fault}
+use Rattle.bson_table.specs.declared.fault.Fault.TheVariants as faults
+use Rattle.bson_table.specs.declared.opening.OpenError.{OpenError}
+use Rattle.bson_table.specs.declared.opening.OpenError.TheVariants as opens
+use Rattle.store_laws.specs.State as model
+use Rattle.store_laws.specs.declared.error.ErrorKind.{ErrorKind}
+use Rattle.store_laws.specs.declared.error.ErrorKind.TheVariants.{NotAStore, BadRow, Memory, Database, Places}
+use Rattle.bson_store.specs.declared.error.StoreError.{StoreError}
+
+abbrev pub kind_of_fault : Fault → ErrorKind
+kind_of_fault faults.Memory = Memory
+kind_of_fault faults.Database = Database
+kind_of_fault faults.Places = Places
+
+abbrev pub kind_of_opening : OpenError → ErrorKind
+kind_of_opening opens.NotAStore = NotAStore
+kind_of_opening (opens.BadRow place) = BadRow place
+kind_of_opening opens.Memory = Memory
+kind_of_opening opens.Database = Database
+
+-- a refusal of a call of one document
+abbrev pub refusal : ErrorKind → StoreError
+refusal k = record { kind = k; document = None }
+
+-- memory was wanted, or the database refused
+abbrev pub IsDenied : StoreError → Type 0
+IsDenied e = (x : Fault) × (x ≢ faults.Places) × (e ≡ refusal (kind_of_fault x))
+
+-- a result as the reply that it is
+abbrev pub reply_by : {A : Type 0} → (A → model.Reply) → Result A StoreError → model.Reply
+reply_by f (Ok x) = f x
+reply_by f (Err e) = model.refused e.kind e.document
+
+abbrev pub as_done : Unit {0} → model.Reply
+as_done x = model.done
+
+abbrev pub as_flag : Bool → model.Reply
+as_flag b = model.flag b
+
+abbrev pub as_bytes : Vec ℕ Global → model.Reply
+as_bytes v = model.bytes v.items
+
+abbrev pub as_json : Json → model.Reply
+as_json j = model.json (tree_of j)

@@ -1,0 +1,75 @@
+-- What a list of commands and its replies say of tables and of plain lists.
+use Rattle.std.specs.Prelude.{◌≡◌, ℕ, List, [], ◌∷◌, map, string_bytes}
+use Rattle.serde_json.specs.View.{view as tree_of}
+use Rattle.bson_model.specs.View.{view}
+use Rattle.bson_table.specs.Rows.{Doc}
+use Rattle.store_laws.specs.Reading.{Reading, ReadsBytes, ReadsTree, read_value}
+use Rattle.store_laws.specs.State as model
+use Rattle.store_laws.specs.Run.{Denials, Run, SparesDecided}
+use Rattle.store_laws.specs.Table.{Table, RunThrough, state_of}
+use Rattle.bson_store.specs.Shown.{Show}
+use Rattle.bson_store.specs.Calls.{Does}
+use Rattle.bson_store.specs.declared.command.Command.{Command}
+use Rattle.bson_store.specs.declared.command.Command.TheVariants.{InsertRaw, InsertJson, ReplaceRaw, ReplaceJson, Set, Unset, Remove, GetRaw, GetJson, Export}
+use Rattle.bson_store.specs.declared.command.Reply.{Reply}
+use Rattle.bson_store.specs.declared.command.Reply.TheVariants.{Done, Flag, Bytes, Json, Refused}
+
+-- bytes stand for what they read as, and so does JSON; under a bad name nothing is read
+abbrev pub Asks : Command → model.Command → Type 0
+Asks (InsertRaw name bytes) c = (a : Reading) × (model.IsName (string_bytes name) → ReadsBytes bytes.items a) × (c ≡ model.on (string_bytes name) (model.insert model.in_bytes a))
+Asks (InsertJson name json) c = (a : Reading) × (model.IsName (string_bytes name) → ReadsTree (tree_of json) a) × (c ≡ model.on (string_bytes name) (model.insert model.in_json a))
+Asks (ReplaceRaw name bytes) c = (a : Reading) × (model.IsName (string_bytes name) → ReadsBytes bytes.items a) × (c ≡ model.on (string_bytes name) (model.replace model.in_bytes a))
+Asks (ReplaceJson name json) c = (a : Reading) × (model.IsName (string_bytes name) → ReadsTree (tree_of json) a) × (c ≡ model.on (string_bytes name) (model.replace model.in_json a))
+Asks (Set name id key value) c = c ≡ model.on (string_bytes name) (model.set (view id) (string_bytes key) (read_value (tree_of value)))
+Asks (Unset name id key) c = c ≡ model.on (string_bytes name) (model.unset (view id) (string_bytes key))
+Asks (Remove name id) c = c ≡ model.on (string_bytes name) (model.remove (view id))
+Asks (GetRaw name id) c = c ≡ model.on (string_bytes name) (model.get_raw (view id))
+Asks (GetJson name id mode) c = c ≡ model.on (string_bytes name) (model.get_json mode (view id))
+Asks (Export name) c = c ≡ model.on (string_bytes name) model.export
+
+abbrev pub AsksEach : List Command → List model.Command → Type 0
+AsksEach [] [] = Unit {0}
+AsksEach (x ∷ xs) (c ∷ cs) = Asks x c × AsksEach xs cs
+AsksEach [] (c ∷ cs) = ⊥
+AsksEach (x ∷ xs) [] = ⊥
+
+abbrev pub reply_of : Reply → model.Reply
+reply_of Done = model.done
+reply_of (Flag b) = model.flag b
+reply_of (Bytes v) = model.bytes v.items
+reply_of (Json j) = model.json (tree_of j)
+reply_of (Refused e) = model.refused e.kind e.document
+
+-- an export into memory
+abbrev pub Exported : List ℕ → Reply → List Doc → List Doc → Type 0
+Exported n r = Does (model.on n model.export) (reply_of r)
+
+-- one of the commands
+abbrev pub Obeys : Command → Reply → List Doc → List Doc → Type 0
+Obeys x r old new = (c : model.Command) × Asks x c × Does c (reply_of r) old new
+
+-- a run of the commands through tables, from a to one that the rows show
+pub record RunsFrom (a : Table) (commands : List Command) (replies : List Reply) (docs : List Doc) : Type 0 where
+  pub b : Table
+  pub shown : Show docs b
+  pub asked : List model.Command
+  pub asks : AsksEach commands asked
+  pub denials : Denials
+  pub run : RunThrough denials 0 a asked (map reply_of replies) b
+
+-- whatever table the rows showed
+abbrev pub AnswersThroughTables : List Command → List Reply → List Doc → List Doc → Type 0
+AnswersThroughTables commands replies old new = (a : Table) → Show old a → RunsFrom a commands replies new
+
+-- The same on plain lists: what was denied spares each command that is decided before anything grows.
+pub record RunsOnLists (a : Table) (commands : List Command) (replies : List Reply) (docs : List Doc) : Type 0 where
+  pub b : Table
+  pub shown : Show docs b
+  pub asked : List model.Command
+  pub asks : AsksEach commands asked
+  pub denials : Denials
+  pub spared : SparesDecided denials 0 asked
+  pub run : Run denials 0 (state_of a) asked (map reply_of replies) (state_of b)
+
+abbrev pub AnswersAsLists : List Command → List Reply → List Doc → List Doc → Type 0
+AnswersAsLists commands replies old new = (a : Table) → Show old a → RunsOnLists a commands replies new

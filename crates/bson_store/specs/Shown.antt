@@ -1,0 +1,30 @@
+-- The table of documents that rows of bytes show.
+use Rattle.std.specs.Prelude.{◌≡◌, ℕ, ◌<◌, pos, List, [], ◌∷◌}
+use Rattle.bson_bytes.specs.Encode.{encode}
+use Rattle.bson_meaning.specs.Meaning.{key}
+use Rattle.bson_table.specs.Rows.{Doc}
+use Rattle.store_laws.specs.Table.{Row, Table, AreRows, own_id}
+
+-- a row of bytes is that of a document: its key is that of the document's `_id`, its body the document's written form
+pub record IsRowOf (r : Row) (d : Doc) : Type 0 where
+  pub place : d.place ≡ pos r.place
+  pub name : d.coll ≡ r.name
+  pub key : d.idkey ≡ key (own_id r.document)
+  pub body : d.body ≡ encode r.document
+
+abbrev pub AreRowsOf : Table → List Doc → Type 0
+AreRowsOf [] [] = Unit {0}
+AreRowsOf (r ∷ rs) (d ∷ ds) = IsRowOf r d × AreRowsOf rs ds
+AreRowsOf [] (d ∷ ds) = ⊥
+AreRowsOf (r ∷ rs) [] = ⊥
+
+-- the places rise from above n
+abbrev pub Rises : ℕ → Table → Type 0
+Rises n [] = Unit {0}
+Rises n (r ∷ rs) = (n < r.place) × Rises r.place rs
+
+-- the rows of bytes show the table
+pub record Show (docs : List Doc) (t : Table) : Type 0 where
+  pub each : AreRowsOf t docs
+  pub good : AreRows t
+  pub rising : Rises 0 t

@@ -1,0 +1,15 @@
+//! Tests of the store over a database in memory, with ample memory.
+#![tactic(auto)]
+
+#[cfg(test)]
+mod calls;
+#[cfg(test)]
+mod documents;
+#[cfg(test)]
+mod inserts;
+#[cfg(test)]
+mod opening;
+#[cfg(test)]
+mod runs;
+#[cfg(test)]
+mod samples;

@@ -1,0 +1,93 @@
+//! Lists of commands.
+
+use crate::calls::{id, new_store, tree};
+use crate::samples::{HELLO, ONE_A};
+use bson_store::extjson::Mode;
+use bson_store::{Command, ErrorKind, Reply, run};
+use std::alloc::{AllocError, Global};
+use std::test::Fail;
+
+fn name(alloc: Global) -> Result<String, AllocError> {
+    Ok(String::from_str(alloc, "c")?)
+}
+
+/// A reply as its refusal, or as how many bytes it has.
+fn told(reply: &Reply) -> (Option<ErrorKind>, usize) {
+    match reply {
+        Reply::Done => (None, 0),
+        Reply::Flag(flag) => (None, if *flag { 1 } else { 2 }),
+        Reply::Bytes(bytes) => (None, bytes.len()),
+        Reply::Json(_) => (None, 3),
+        Reply::Refused(error) => (Some(error.kind), 0),
+    }
+}
+
+fn commands(alloc: Global) -> Result<Vec<Command>, Fail> {
+    let mut commands = Vec::new(alloc);
+    commands.push(Command::InsertRaw {
+        name: name(alloc)?,
+        bytes: HELLO.to_vec(alloc)?,
+    })?;
+    commands.push(Command::InsertJson {
+        name: name(alloc)?,
+        json: tree(alloc, "{\"_id\":2}")?,
+    })?;
+    commands.push(Command::ReplaceRaw {
+        name: name(alloc)?,
+        bytes: ONE_A.to_vec(alloc)?,
+    })?;
+    commands.push(Command::ReplaceJson {
+        name: name(alloc)?,
+        json: tree(alloc, "{\"_id\":3}")?,
+    })?;
+    commands.push(Command::Set {
+        name: name(alloc)?,
+        id: id(2),
+        key: String::from_str(alloc, "a")?,
+        value: tree(alloc, "1")?,
+    })?;
+    commands.push(Command::Unset {
+        name: name(alloc)?,
+        id: id(2),
+        key: String::from_str(alloc, "a")?,
+    })?;
+    commands.push(Command::GetRaw {
+        name: name(alloc)?,
+        id: id(1),
+    })?;
+    commands.push(Command::GetJson {
+        name: name(alloc)?,
+        id: id(1),
+        mode: Mode::Canonical,
+    })?;
+    commands.push(Command::Remove {
+        name: name(alloc)?,
+        id: id(1),
+    })?;
+    commands.push(Command::Export { name: name(alloc)? })?;
+    Ok(commands)
+}
+
+#[test]
+fn each_command_in_a_row(rt: HostRuntime) -> Result<(), Fail> {
+    let mut store = new_store(rt.alloc())?;
+    let replies = run(&mut store, commands(rt.alloc())?)?;
+    let mut found = Vec::new(rt.alloc());
+    for reply in &replies {
+        found.push(told(reply))?;
+    }
+    let wanted = [
+        (None, 0),
+        (None, 0),
+        (None, 0),
+        (Some(ErrorKind::NotFound), 0),
+        (None, 0),
+        (None, 1),
+        (None, 21),
+        (None, 3),
+        (None, 0),
+        (None, 14),
+    ];
+    assert_eq!(rt; found.as_slice(), wanted.as_slice());
+    Ok(())
+}

@@ -1,0 +1,12 @@
+pub mod Value
+pub mod View
+pub mod Bytes
+pub mod Reading
+pub mod State
+pub mod Run
+pub mod Rows
+pub mod StoreView
+pub mod Commands
+pub mod Export
+pub mod FrameView
+pub mod Gate
