@@ -86,7 +86,10 @@ fn a_document_that_comes_again_comes_last(rt: HostRuntime) -> Result<(), Fail> {
     let removed = kind(store.remove("c", &id(1)));
     let again = put(&mut store, &ONE);
     let bytes = all(rt.alloc(), &mut store)?;
-    assert_eq!(rt; (second, removed, again, bytes.len()), (None, None, None, 28));
+    assert_eq!(rt;
+        (second, removed, again, bytes.len()),
+        (None, None, None, 28)
+    );
     assert!(rt; bytes.ends_with(&ONE), "the document stands last");
     Ok(())
 }
