@@ -3,8 +3,6 @@
 
 pub mod laws;
 pub mod put;
-#[cfg(test)]
-mod tests;
 mod write;
 
 pub use write::{

@@ -23,6 +23,3 @@ pub use plain::{is_plain, is_plain_document};
 pub use reading::{GateError, gate};
 pub use sorting::{sort_keys, sorted};
 pub use views::same_as_raw;
-
-#[cfg(test)]
-mod tests;

@@ -19,6 +19,3 @@ pub use name::Name;
 pub use read::{read_bytes, read_json, read_value};
 pub use row::is_row;
 pub use write::{Written, write_document};
-
-#[cfg(test)]
-mod tests;

@@ -6,8 +6,6 @@ mod input;
 mod keys;
 pub mod laws;
 mod stream;
-#[cfg(test)]
-mod tests;
 mod trees;
 
 pub use error::StreamError;

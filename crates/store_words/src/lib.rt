@@ -5,8 +5,6 @@ mod call;
 mod filter;
 mod input;
 mod lines;
-#[cfg(test)]
-mod tests;
 mod texts;
 mod words;
 

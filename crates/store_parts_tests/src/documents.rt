@@ -1,6 +1,5 @@
 //! Answers that were worked out by hand from bsonspec.org 1.1 and MongoDB Extended JSON v2, with ample memory.
 
-use super::*;
 use bson_bytes::encode_document;
 use bson_meaning::KeyError;
 use bson_model::extjson::Mode;
@@ -11,6 +10,10 @@ use serde_json::{Map, Value};
 use std::alloc::{AllocError, Global};
 use std::process::Abort;
 use std::test::Fail;
+use store_documents::{
+    Name, is_row, json_of, key_of_id, read_bytes, read_json, read_value, set_member, unset_member,
+    write_document,
+};
 use store_laws::ErrorKind;
 
 /// {_id: 1}.

@@ -1,9 +1,5 @@
 //! Each line of the table of commands, each way to miss it, the texts and the printed lines.
 
-use super::{
-    Call, Complaint, LinesError, TextError, read_filter, read_id, read_lines, read_words,
-    write_complaint, write_flag, write_number, write_refusal,
-};
 use bson_base::VecSink;
 use bson_filter::Filter;
 use bson_model::{Bson, ElementType};
@@ -11,6 +7,10 @@ use std::alloc::{AllocError, Global};
 use std::process::Abort;
 use std::test::Fail;
 use store_laws::ErrorKind;
+use store_words::{
+    Call, Complaint, LinesError, TextError, read_filter, read_id, read_lines, read_words,
+    write_complaint, write_flag, write_number, write_refusal,
+};
 
 /// The words of a line, which stand between bars.
 fn words_of(alloc: Global, line: &str) -> Result<Vec<String>, AllocError> {

@@ -1,7 +1,10 @@
 //! Rows that were worked out by hand from bsonspec.org 1.1 and IEEE 754-2008.
 
-use super::*;
 use bson_bytes::encode_document;
+use bson_meaning::{
+    GateError, KeyError, depth, gate, is_plain, meaning_key, normalize, same_as_raw, same_meaning,
+    sorted,
+};
 use bson_model::{Binary, BinarySubtype, Bson, Decimal128, Document, DoubleBits, Regex};
 use bson_raw::{RawBsonRef, RawDocument};
 use std::alloc::{AllocError, Global};

@@ -1,9 +1,9 @@
 //! Bytes of trees, worked out by hand from bsonspec.org 1.1.
 
-use super::*;
 use bson_base::{
     Binary, BinarySubtype, DateTime, DbPointer, Decimal128, DoubleBits, ObjectId, Regex, Timestamp,
 };
+use bson_bytes::{encode_document, write_value};
 use bson_frame::{Error, ErrorKind};
 use bson_model::{Bson, Document, JavaScriptCodeWithScope};
 use std::alloc::{AllocError, Global};
