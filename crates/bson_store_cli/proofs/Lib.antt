@@ -1,0 +1,4 @@
+mod Opening
+mod Kinds
+mod Keeping
+mod Sending
