@@ -1,5 +1,5 @@
 -- What an insert into a store without a row comes to.
-use Rattle.std.proofs.Common.{◌≡◌, ◌⊎◌, inl, inr, ℕ, List, [], ◌∷◌, ◌++◌, cond, Option, Some, None, refl, sym, ap, ◌∙◌, subst, arith}
+use Rattle.std.proofs.Common.{◌≡◌, inl, inr, ℕ, List, [], ◌∷◌, ◌++◌, cond, Option, Some, None, refl, ap, ◌∙◌, subst, arith}
 use Rattle.std.specs.Prelude.{IsSomeAnd, MatchOption, codes}
 use Rattle.sqlite.specs.State.{State, HasCleanDisk}
 use Rattle.bson_base.specs.Value.{Value, Members, look_up}
@@ -14,12 +14,10 @@ use Rattle.store_laws.specs.declared.error.ErrorKind.{ErrorKind}
 use Rattle.store_laws.specs.declared.error.ErrorKind.TheVariants.{DuplicateId, Memory, Database}
 use Rattle.store_laws.proofs.States.{list_of-store}
 use Rattle.store_laws.proofs.Rows.{list_of-state_of}
-use Rattle.store_streams.specs.Feed.{Feed, ReadsAll, StopsReading}
-use Rattle.store_streams.specs.declared.input.ReadAllError.{ReadAllError}
-use Rattle.store_streams.specs.declared.input.ReadAllError.TheVariants as reading
+use Rattle.store_streams.specs.Feed.{Feed, ReadsAll}
 use Rattle.bson_store.specs.Shown.{Show}
 use Rattle.bson_store.specs.Calls.{DoesBytes}
-use Rattle.bson_store_cli.specs.Pipe.{kind_of_reading, HasAlone, KeepsInput, RefusesInput}
+use Rattle.bson_store_cli.specs.Pipe.{KeepsInput, RefusesInput}
 use Rattle.bson_store_cli.proofs.Kinds.{input_refused}
 
 -- the collection's name
@@ -117,9 +115,3 @@ pub input_not_kept : (s t : State) (old new : Feed) (bytes : List ℕ) (kind : E
 input_not_kept s t old new bytes kind place clean empty all moves =
     let m = (moves clean).1 [] empty in
     not_inserted kind old new bytes place m.0 m.2.0 all (m.2.1 is_name) (m.2.2 [] no_rows)
-
--- ---- before the insert
-
-pub reading_stopped : (e : ReadAllError) (old new : Feed) → StopsReading e old new → RefusesInput (kind_of_reading e) old new
-reading_stopped reading.Reader old new h = h
-reading_stopped reading.Memory old new h = inl h

@@ -1,5 +1,5 @@
 -- What is opened in memory, and why it isn't.
-use Rattle.std.proofs.Common.{◌≡◌, ◌⊎◌, inl, inr, ap, List, []}
+use Rattle.std.proofs.Common.{◌≡◌, ◌⊎◌, inl, inr, ap, []}
 use Rattle.sqlite.specs.State.{State}
 use Rattle.sqlite.specs.Steps.{IsEmpty}
 use Rattle.sqlite_schema.specs.declared.schema.Schema.{Schema}

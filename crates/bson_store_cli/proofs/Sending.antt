@@ -1,5 +1,5 @@
 -- What goes out of the program.
-use Rattle.std.proofs.Common.{◌≡◌, inl, inr, ℕ, List, [], ◌∷◌, ◌++◌, append-nil, None, Ok, Err, refl, ap, ◌∙◌, subst}
+use Rattle.std.proofs.Common.{◌≡◌, inl, inr, [], ◌∷◌, append-nil, None, Ok, Err, refl, ap, ◌∙◌, subst}
 use Rattle.std.specs.List.{flat_map}
 use Rattle.sqlite.specs.State.{State, HasCleanDisk}
 use Rattle.bson_base.specs.Value.{Members}
@@ -9,8 +9,7 @@ use Rattle.store_laws.specs.State.{list_of, refusal_of}
 use Rattle.store_laws.specs.Table.{Table, state_of}
 use Rattle.store_laws.specs.declared.error.ErrorKind.{ErrorKind}
 use Rattle.store_laws.specs.declared.error.ErrorKind.TheVariants.{BadName, Memory, Database, Reader, Writer}
-use Rattle.store_streams.specs.Feed.{Feed, StopsReading}
-use Rattle.store_streams.specs.declared.input.ReadAllError.TheVariants as reading
+use Rattle.store_streams.specs.Feed.{Feed}
 use Rattle.bson_store.specs.Export.{Tally, Delivers, ExportRefused, Sends}
 use Rattle.bson_store.specs.declared.error.StoreError.{StoreError}
 use Rattle.bson_store_cli.specs.Pipe.{ReadsDocument, HasAlone, KeepsInput, RefusesInput, Exchanges}

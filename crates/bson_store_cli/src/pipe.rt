@@ -26,7 +26,10 @@ fn new_store(alloc: Global) -> Result<Store<MemStore>, ErrorKind>
     };
     match Store::open(alloc, connection) {
         Ok(store) => Ok(store),
-        Err((error, _)) => Err(error.kind),
+        Err((error, connection)) => {
+            drop(connection);
+            Err(error.kind)
+        }
     }
 }
 
