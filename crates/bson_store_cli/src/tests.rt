@@ -2,7 +2,7 @@
 
 use crate::pipe::pipe;
 use bson_base::faulty::{FaultySink, FaultySource};
-use first_path::{SliceSource, VecSink};
+use bson_store::{SliceSource, VecSink};
 use std::test::Fail;
 
 /// `{_id: 1, hello: "world"}`, the sample of the repository.
@@ -25,18 +25,22 @@ const LAST: [u8; 14] = [
 /// A document without elements.
 const EMPTY: [u8; 5] = [0x05, 0x00, 0x00, 0x00, 0x00];
 
-/// A document whose `_id` is a boolean without its payload.
-const CUT: [u8; 11] = [
+/// A document whose `_id` is true.
+const FLAG: [u8; 11] = [
     0x0B, 0x00, 0x00, 0x00, 0x08, 0x5F, 0x69, 0x64, 0x00, 0x01, 0x00,
 ];
 
+/// A document whose `_id` is a boolean without its payload.
+const CUT: [u8; 10] = [0x0A, 0x00, 0x00, 0x00, 0x08, 0x5F, 0x69, 0x64, 0x00, 0x00];
+
 #[test]
 fn answers_each_input(rt: HostRuntime) -> Result<(), Fail> {
-    let table: [(&[u8], &[u8], u8, &str); 5] = [
+    let table: [(&[u8], &[u8], u8, &str); 6] = [
         (&HELLO, &HELLO, 0, ""),
         (&[], &[], 1, "refused: EndInside\n"),
         (&EMPTY, &[], 1, "refused: NoId\n"),
         (&TWICE, &LAST, 0, ""),
+        (&FLAG, &FLAG, 0, ""),
         (&CUT, &[], 1, "refused: Faulty\n"),
     ];
     for (bytes, written, status, line) in table {
