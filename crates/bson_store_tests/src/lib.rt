@@ -8,6 +8,8 @@ mod documents;
 #[cfg(test)]
 mod inserts;
 #[cfg(test)]
+mod levels;
+#[cfg(test)]
 mod opening;
 #[cfg(test)]
 mod runs;
