@@ -18,7 +18,7 @@ use Rattle.store_streams.specs.Feed.{Feed, ReadsAll}
 use Rattle.bson_store.specs.Shown.{Show}
 use Rattle.bson_store.specs.Calls.{DoesBytes}
 use Rattle.bson_store_cli.specs.Pipe.{KeepsInput, RefusesInput}
-use Rattle.bson_store_cli.proofs.Kinds.{input_refused}
+use Rattle.bson_store_cli.proofs.Refusing.{input_refused}
 
 -- the collection's name
 abbrev pub name : List ℕ

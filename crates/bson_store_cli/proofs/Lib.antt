@@ -1,4 +1,4 @@
 mod Opening
-mod Kinds
+mod Refusing
 mod Keeping
 mod Sending

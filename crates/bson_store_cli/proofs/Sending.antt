@@ -13,7 +13,7 @@ use Rattle.store_streams.specs.Feed.{Feed}
 use Rattle.bson_store.specs.Export.{Tally, Delivers, ExportRefused, Sends}
 use Rattle.bson_store.specs.declared.error.StoreError.{StoreError}
 use Rattle.bson_store_cli.specs.Pipe.{ReadsDocument, HasAlone, KeepsInput, RefusesInput, Exchanges}
-use Rattle.bson_store_cli.proofs.Kinds.{of_input}
+use Rattle.bson_store_cli.proofs.Refusing.{of_input}
 use Rattle.bson_store_cli.proofs.Keeping.{name, is_name}
 
 -- where the document of the input is not kept, nothing goes out
