@@ -4,6 +4,7 @@ use crate::pipe::pipe;
 use bson_base::faulty::{FaultySink, FaultySource};
 use bson_store::{SliceSource, VecSink};
 use std::alloc::Global;
+use std::process::Abort;
 use std::test::Fail;
 
 /// `{_id: 1, hello: "world"}`, the sample of the repository.
