@@ -11,5 +11,9 @@ pub mod Exits
 pub mod Going
 pub mod Exporting
 pub mod Gathering
+pub mod Keyed
+pub mod Adding
+pub mod Importing
+pub mod Dumping
 pub mod Opened
 pub mod Opening

@@ -33,7 +33,7 @@ use Rattle.bson_store.specs.Calls.{Does, DoesRead}
 use Rattle.bson_store.specs.Refusals.{kind_of_fault}
 use Rattle.bson_store.proofs.Tables.{last_greatest, shows_more, rows_after, absent, found, stands_at}
 
-stays : (a : Table) → Follows a a
+pub stays : (a : Table) → Follows a a
 stays a = inl ([], sym (append-nil a), tt)
 
 pub bad_name : (docs : List Doc) (n : List ℕ) (c : Call) → (IsName n → ⊥) → Does (on n c) (refused BadName None) docs docs
@@ -179,7 +179,7 @@ step_in f docs n k b d a r good h free s name is =
       ),
     )
 
-next_place : (g : ℕ) → pos g +ℤ pos 1 ≡ pos (suc g)
+pub next_place : (g : ℕ) → pos g +ℤ pos 1 ≡ pos (suc g)
 next_place g = ap pos (omega arith)
 
 room_is : (l : ℤ) (g : ℕ) → l ≡ pos g → (l +ℤ pos 1) <ℤ pos (2 ^ 63) → g < last_place

@@ -3,4 +3,6 @@ pub mod Calls
 pub mod Refusals
 pub mod Export
 pub mod Opening
+pub mod Many
+pub mod Dump
 pub mod Runs

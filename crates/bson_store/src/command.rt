@@ -52,6 +52,18 @@ pub enum Command {
     Export {
         name: String,
     },
+    /// `Store::import`, from memory.
+    Import {
+        name: String,
+        bytes: Vec<u8>,
+    },
+    LoadJson {
+        name: String,
+        trees: Vec<Value>,
+    },
+    DumpJson {
+        name: String,
+    },
 }
 
 /// What a command answers.
@@ -65,6 +77,10 @@ pub enum Reply {
     Bytes(Vec<u8>),
     /// A document as Extended JSON.
     Json(Value),
+    /// How many documents.
+    Count(u64),
+    /// Documents as Extended JSON, one after the other.
+    JsonList(Vec<Value>),
     /// It was refused, and nothing changed.
     Refused(StoreError),
 }

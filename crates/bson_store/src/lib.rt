@@ -3,8 +3,10 @@
 
 mod batch;
 mod command;
+mod dump;
 mod error;
 mod export;
+mod import;
 mod row_test;
 mod store;
 

@@ -35,7 +35,7 @@ use store_documents::{
 use store_laws::ErrorKind;
 
 /// The name of a collection. BadName where it can't be one.
-fn good_name(name: &str) -> Result<Name<'_>, StoreError>
+pub(crate) fn good_name(name: &str) -> Result<Name<'_>, StoreError>
     ensures { MatchResult result (λ n. (name_bytes n ≡ name.now) × IsName name.now) (λ e. (e ≡ refusal BadName) × (IsName name.now → ⊥)) }
 {
     match Name::new(name) {

@@ -8,6 +8,8 @@ mod documents;
 #[cfg(test)]
 mod inserts;
 #[cfg(test)]
+mod many;
+#[cfg(test)]
 mod opening;
 #[cfg(test)]
 mod runs;

@@ -18,6 +18,8 @@ fn told(reply: &Reply) -> (Option<ErrorKind>, usize) {
         Reply::Flag(flag) => (None, if *flag { 1 } else { 2 }),
         Reply::Bytes(bytes) => (None, bytes.len()),
         Reply::Json(_) => (None, 3),
+        Reply::Count(count) => (None, *count as usize),
+        Reply::JsonList(trees) => (None, trees.len()),
         Reply::Refused(error) => (Some(error.kind), 0),
     }
 }
@@ -87,6 +89,49 @@ fn each_command_in_a_row(rt: HostRuntime) -> Result<(), Fail> {
         (None, 3),
         (None, 0),
         (None, 14),
+    ];
+    assert_eq!(rt; found.as_slice(), wanted.as_slice());
+    Ok(())
+}
+
+fn commands_of_many(alloc: Global) -> Result<Vec<Command>, Fail> {
+    let mut commands = Vec::new(alloc);
+    commands.push(Command::Import {
+        name: name(alloc)?,
+        bytes: HELLO.to_vec(alloc)?,
+    })?;
+    let mut trees = Vec::new(alloc);
+    trees.push(tree(alloc, "{\"_id\":2}")?)?;
+    trees.push(tree(alloc, "{\"_id\":3}")?)?;
+    commands.push(Command::LoadJson {
+        name: name(alloc)?,
+        trees,
+    })?;
+    commands.push(Command::Import {
+        name: name(alloc)?,
+        bytes: ONE_A.to_vec(alloc)?,
+    })?;
+    commands.push(Command::DumpJson { name: name(alloc)? })?;
+    commands.push(Command::DumpJson {
+        name: String::new(alloc),
+    })?;
+    Ok(commands)
+}
+
+#[test]
+fn commands_of_many_documents(rt: HostRuntime) -> Result<(), Fail> {
+    let mut store = new_store(rt.alloc())?;
+    let replies = run(&mut store, commands_of_many(rt.alloc())?)?;
+    let mut found = Vec::new(rt.alloc());
+    for reply in &replies {
+        found.push(told(reply))?;
+    }
+    let wanted = [
+        (None, 1),
+        (None, 2),
+        (Some(ErrorKind::DuplicateId), 0),
+        (None, 3),
+        (Some(ErrorKind::BadName), 0),
     ];
     assert_eq!(rt; found.as_slice(), wanted.as_slice());
     Ok(())
