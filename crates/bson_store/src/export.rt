@@ -44,7 +44,7 @@ impl Visit for Bodies {
     ghost use Rattle.std.specs.Prelude.{◌≡◌, true, false};
     ghost use Rattle.bson_store.specs.Export.{bytes_of};
 
-    ghost took = { λ v bodies. v.failed ≡ false → bytes_of v.bodies.items ≡ bodies };
+    ghost took = { λ _ v bodies. v.failed ≡ false → bytes_of v.bodies.items ≡ bodies };
 
     ghost is_done = { λ v. v.failed ≡ true };
 
