@@ -3,7 +3,7 @@ use Rattle.std.proofs.lemmas.Int.{ints}
 use Rattle.std.proofs.Math.Dec.{leb}
 use Rattle.std.proofs.lemmas.Bool.Decides.{leb_tells}
 use Rattle.std.proofs.Common.{◌≡◌, ◌≢◌, ◌⊎◌, inl, inr, ℕ, ◌+◌, ℤ, pos, ◌+ℤ◌, ◌<ℤ◌, ◌^◌, suc, max, ◌<◌, ◌≤◌, List, [], ◌∷◌, ◌++◌, length, map, true, false, Option, Some, None, Result, Ok, Err, refl, ap, ◌∙◌, sym, subst, arith}
-use Rattle.std.specs.Prelude.{MatchOption}
+use Rattle.std.specs.Prelude.{MatchOption, IsUtf8}
 use Rattle.bson_base.specs.Value.{Members}
 use Rattle.bson_bytes.specs.Encode.{encode}
 use Rattle.bson_meaning.specs.Meaning.{key}
@@ -60,13 +60,13 @@ rises_all : (m : ℕ) (rs : Table) (n : List ℕ) (ds : Documents) → Rises m r
 rises_all m [] n ds rises = let e : m ≡ max m 0 = omega arith in subst (λ (g : ℕ). Rises m (rows_at g n ds)) e (rises_at m n ds)
 rises_all m (q ∷ rs) n ds rises = (rises.0, subst (λ (g : ℕ). Rises q.place (rs ++ rows_at g n ds)) (greater m q.place (greatest rs) rises.0) (rises_all q.place rs n ds rises.1))
 
-each_all : (g : ℕ) (n : List ℕ) (ws : List Written) (ds : Documents) → AreWritten ws ds → AreRowsOf (rows_at g n ds) (docs_from (pos (suc g)) n (map row_of ws))
-each_all g n [] [] h = tt
-each_all g n [] (d ∷ ds) h = absurd h
-each_all g n (w ∷ ws) [] h = absurd h
-each_all g n (w ∷ ws) (d ∷ ds) h = (
-  record { place = refl; name = refl; key = h.1; body = h.0 },
-  subst (λ z. AreRowsOf (rows_at (suc g) n ds) (docs_from z n (map row_of ws))) (sym (next_place (suc g))) (each_all (suc g) n ws ds h.2),
+each_all : (g : ℕ) (n : List ℕ) (ws : List Written) (ds : Documents) → IsUtf8 n → AreWritten ws ds → AreRowsOf (rows_at g n ds) (docs_from (pos (suc g)) n (map row_of ws))
+each_all g n [] [] text h = tt
+each_all g n [] (d ∷ ds) text h = absurd h
+each_all g n (w ∷ ws) [] text h = absurd h
+each_all g n (w ∷ ws) (d ∷ ds) text h = (
+  record { place = refl; name = refl; text = text; key = h.1; body = h.0 },
+  subst (λ z. AreRowsOf (rows_at (suc g) n ds) (docs_from z n (map row_of ws))) (sym (next_place (suc g))) (each_all (suc g) n ws ds text h.2),
 )
 
 as_many : (ws : List Written) (ds : Documents) → AreWritten ws ds → length (map row_of ws) ≡ length ds
@@ -129,9 +129,9 @@ full_is l g k e h = by (leb_tells (g + k) last_place)
     by (inl i) = let low : (l +ℤ pos k) <ℤ pos (2 ^ 63) = omega (arith, ints, e, i.1) in absurd (h low)
     by (inr i) = i.1
 
-go_in : (docs : List Doc) (n : List ℕ) (ds : Documents) (ws : List Written) → IsName n → Come ds ws → None ≡ first_taken 0 (keys_in n docs) (keys_of_rows ws) → IsRoomFor (length (map row_of ws)) docs
+go_in : (docs : List Doc) (n : List ℕ) (ds : Documents) (ws : List Written) → IsName n → IsUtf8 n → Come ds ws → None ≡ first_taken 0 (keys_in n docs) (keys_of_rows ws) → IsRoomFor (length (map row_of ws)) docs
     → Does (on n (import ds None)) (number (length ds)) docs (all_appended n (map row_of ws) docs)
-go_in docs n ds ws good c free room a s =
+go_in docs n ds ws good text c free room a s =
     let g = greatest a in
     let new = rows_at g n ds in
     let last = last_greatest a docs s in
@@ -141,7 +141,7 @@ go_in docs n ds ws good c free room a s =
     let all : max 0 g ≡ g = omega arith in (
       a ++ new,
       record {
-        each = each_more a new docs (docs_from (table.last_place docs +ℤ pos 1) n (map row_of ws)) s.each (subst (λ z. AreRowsOf new (docs_from z n (map row_of ws))) (sym first) (each_all g n ws ds c.rows));
+        each = each_more a new docs (docs_from (table.last_place docs +ℤ pos 1) n (map row_of ws)) s.each (subst (λ z. AreRowsOf new (docs_from z n (map row_of ws))) (sym first) (each_all g n ws ds text c.rows));
         good = rows_after a (a ++ new) (on n (import ds None)) (number (length ds)) s.good (c.read, tt) step;
         rising = subst (λ (k : ℕ). Rises 0 (a ++ rows_at k n ds)) all (rises_all 0 a n ds s.rising);
       },
@@ -202,11 +202,11 @@ not_added docs mid after n ws o x e good none is h p = record {
     by ds faults.Database full c = fault_does docs n ds faults.Database good (λ e. cc)
     by ds faults.Places full c = no_places docs n ds ws good c (sym none ∙ h.place) (λ room. full refl (subst (IsRoomFor (length (map row_of ws))) (sym h.same) room))
 
-pub added : (docs mid after : List Doc) (n : List ℕ) (ws : List Written) (o : Option ℕ) (k : ℕ) → IsName n → o ≡ None → k ≡ length (map row_of ws) → FindsTaken n ws (Ok o) docs mid
+pub added : (docs mid after : List Doc) (n : List ℕ) (ws : List Written) (o : Option ℕ) (k : ℕ) → IsName n → IsUtf8 n → o ≡ None → k ≡ length (map row_of ws) → FindsTaken n ws (Ok o) docs mid
     → PutsRows (length (map row_of ws)) (all_appended n (map row_of ws)) (Ok tt) mid after → AddsAll n ws (Ok k) docs after
-added docs mid after n ws o k good none many h p = record {
+added docs mid after n ws o k good text none many h p = record {
   same = tt;
   fault = tt;
   does = λ ds read fit rows. rw (p.done, h.same, many ∙ as_many ws ds rows)
-      (go_in docs n ds ws good (record { read = read; fit = fit; rows = rows }) (sym none ∙ h.place) (subst (IsRoomFor (length (map row_of ws))) h.same p.room));
+      (go_in docs n ds ws good text (record { read = read; fit = fit; rows = rows }) (sym none ∙ h.place) (subst (IsRoomFor (length (map row_of ws))) h.same p.room));
 }

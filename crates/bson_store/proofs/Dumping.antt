@@ -1,5 +1,5 @@
 -- The trees of a collection, as a visitor makes them.
-use Rattle.std.proofs.Common.{◌≡◌, ◌≢◌, ◌⊎◌, inl, inr, ℕ, suc, ◌+◌, List, [], ◌∷◌, ◌++◌, length, map, Bool, true, false, IsTrue, Option, Some, None, is_some, Result, Ok, Err, refl, ap, ◌∙◌, sym, subst, arith}
+use Rattle.std.proofs.Common.{◌≡◌, ◌≢◌, ◌⊎◌, inl, inr, ℕ, suc, ◌+◌, zero-add, List, [], ◌∷◌, ◌++◌, length, map, Bool, true, false, IsTrue, Option, Some, None, is_some, Result, Ok, Err, refl, ap, ◌∙◌, sym, subst, arith}
 use Rattle.std.proofs.lemmas.List.{append-nil}
 use Rattle.serde_json.specs.Data.{Data}
 use Rattle.serde_json.specs.View.{view as data_of}
@@ -27,7 +27,7 @@ use Rattle.bson_store.proofs.Adding.{kept_there}
 use Rattle.bson_store.proofs.Exporting.{bodies_are}
 use Rattle.bson_store.proofs.Serving.{answers_stay, denied, undecided, memory_other}
 
-Told : Type 0
+abbrev Told : Type 0
 Told = Result (List Data) (ErrorKind × ℕ)
 
 -- ---- trees of documents, and of more behind them
@@ -35,35 +35,40 @@ Told = Result (List Data) (ErrorKind × ℕ)
 -- a document behind that has a tree
 pub trees_longer : (i : ℕ) (ds : Documents) (d : Members) (js : List Data) (j : Data) → trees_of i ds ≡ Ok js → tree_of Canonical d ≡ Ok j → trees_of i (ds ++ d ∷ []) ≡ Ok (js ++ j ∷ [])
 trees_longer i [] d js j h t = let none : [] ≡ js = cc in ap (λ x. tree_first i x (Ok [])) t ∙ ap (λ l. Ok (l ++ j ∷ [])) none
-trees_longer i (e ∷ ds) d js j h t = by (tree_of Canonical e) (trees_of (suc i) ds) refl h
+trees_longer i (e ∷ ds) d js j h t = by (tree_of Canonical e) (trees_of (suc i) ds) refl h (λ xs k. trees_longer (suc i) ds d xs j k t)
   where
-    by : (r : Result Data ErrorKind) (rest : Result (List Data) (ErrorKind × ℕ)) → trees_of (suc i) ds ≡ rest → tree_first i r rest ≡ Ok js → tree_first i r (trees_of (suc i) (ds ++ d ∷ [])) ≡ Ok (js ++ j ∷ [])
-    by (Ok x) (Ok xs) e h = let all : x ∷ xs ≡ js = cc in ap (tree_first i (Ok x)) (trees_longer (suc i) ds d xs j e t) ∙ ap (λ l. Ok (l ++ j ∷ [])) all
-    by (Ok x) (Err y) e h = cc
-    by (Err k) rest e h = cc
+    by : (r : Result Data ErrorKind) (rest : Told) → trees_of (suc i) ds ≡ rest → tree_first i r rest ≡ Ok js → ((xs : List Data) → trees_of (suc i) ds ≡ Ok xs → trees_of (suc i) (ds ++ d ∷ []) ≡ Ok (xs ++ j ∷ []))
+        → tree_first i r (trees_of (suc i) (ds ++ d ∷ [])) ≡ Ok (js ++ j ∷ [])
+    by (Ok x) (Ok xs) e h next = let all : x ∷ xs ≡ js = cc in ap (tree_first i (Ok x)) (next xs e) ∙ ap (λ l. Ok (l ++ j ∷ [])) all
+    by (Ok x) (Err y) e h next = cc
+    by (Err k) rest e h next = cc
 
 -- a document behind that has none
 pub trees_stop : (i : ℕ) (ds : Documents) (d : Members) (js : List Data) (k : ErrorKind) → trees_of i ds ≡ Ok js → tree_of Canonical d ≡ Err k → trees_of i (ds ++ d ∷ []) ≡ Err (k, i + length js)
-trees_stop i [] d js k h t = let none : [] ≡ js = cc in ap (λ x. tree_first i x (Ok [])) t ∙ let at : i ≡ i + length js = omega (arith, ap (λ (l : List Data). length l) none) in ap (λ n. Err (k, n)) at
-trees_stop i (e ∷ ds) d js k h t = by (tree_of Canonical e) (trees_of (suc i) ds) refl h
+trees_stop i [] d js k h t =
+    let none : [] ≡ js = cc in
+    let at : i ≡ i + length js = omega (arith, ap (λ (l : List Data). length l) none) in
+    ap (λ x. tree_first i x (Ok [])) t ∙ ap (λ n. Err (k, n)) at
+trees_stop i (e ∷ ds) d js k h t = by (tree_of Canonical e) (trees_of (suc i) ds) refl h (λ xs m. trees_stop (suc i) ds d xs k m t)
   where
-    by : (r : Result Data ErrorKind) (rest : Result (List Data) (ErrorKind × ℕ)) → trees_of (suc i) ds ≡ rest → tree_first i r rest ≡ Ok js → tree_first i r (trees_of (suc i) (ds ++ d ∷ [])) ≡ Err (k, i + length js)
-    by (Ok x) (Ok xs) e h =
+    by : (r : Result Data ErrorKind) (rest : Told) → trees_of (suc i) ds ≡ rest → tree_first i r rest ≡ Ok js → ((xs : List Data) → trees_of (suc i) ds ≡ Ok xs → trees_of (suc i) (ds ++ d ∷ []) ≡ Err (k, suc i + length xs))
+        → tree_first i r (trees_of (suc i) (ds ++ d ∷ [])) ≡ Err (k, i + length js)
+    by (Ok x) (Ok xs) e h next =
         let all : x ∷ xs ≡ js = cc in
         let at : suc i + length xs ≡ i + length js = omega (arith, ap (λ (l : List Data). length l) all) in
-        ap (tree_first i (Ok x)) (trees_stop (suc i) ds d xs k e t) ∙ ap (λ n. Err (k, n)) at
-    by (Ok x) (Err y) e h = cc
-    by (Err y) rest e h = cc
+        ap (tree_first i (Ok x)) (next xs e) ∙ ap (λ n. Err (k, n)) at
+    by (Ok x) (Err y) e h next = cc
+    by (Err y) rest e h next = cc
 
 -- once one has none, nothing behind it matters
 pub trees_stay : (i : ℕ) (ds more : Documents) (x : ErrorKind × ℕ) → trees_of i ds ≡ Err x → trees_of i (ds ++ more) ≡ Err x
 trees_stay i [] more x h = cc
-trees_stay i (e ∷ ds) more x h = by (tree_of Canonical e) (trees_of (suc i) ds) refl h
+trees_stay i (e ∷ ds) more x h = by (tree_of Canonical e) (trees_of (suc i) ds) refl h (λ z k. trees_stay (suc i) ds more z k)
   where
-    by : (r : Result Data ErrorKind) (rest : Result (List Data) (ErrorKind × ℕ)) → trees_of (suc i) ds ≡ rest → tree_first i r rest ≡ Err x → tree_first i r (trees_of (suc i) (ds ++ more)) ≡ Err x
-    by (Ok y) (Ok ys) e h = cc
-    by (Ok y) (Err z) e h = ap (tree_first i (Ok y)) (trees_stay (suc i) ds more z e) ∙ h
-    by (Err k) rest e h = h
+    by : (r : Result Data ErrorKind) (rest : Told) → trees_of (suc i) ds ≡ rest → tree_first i r rest ≡ Err x → ((z : ErrorKind × ℕ) → trees_of (suc i) ds ≡ Err z → trees_of (suc i) (ds ++ more) ≡ Err z) → tree_first i r (trees_of (suc i) (ds ++ more)) ≡ Err x
+    by (Ok y) (Ok ys) e h next = cc
+    by (Ok y) (Err z) e h next = ap (tree_first i (Ok y)) (next z e) ∙ h
+    by (Err k) rest e h next = h
 
 -- ---- bodies of documents
 
@@ -120,6 +125,10 @@ map_length : (xs : List Json) → length (map data_of xs) ≡ length xs
 map_length [] = refl
 map_length (x ∷ xs) = ap suc (map_length xs)
 
+pub has_none : (o : Option StoreError) → is_some o ≡ false → o ≡ None
+has_none None h = refl
+has_none (Some e) h = cc
+
 -- a visitor that has a refusal keeps it
 pub took_stays : (v w : Trees) (bodies : List (List ℕ)) (body : List ℕ) → w ≡ v → is_some v.refusal ≡ true → TookTrees v bodies → TookTrees w (bodies ++ body ∷ [])
 took_stays v w bodies body same some took ds kept is = subst (λ x. Gives x ds x.refusal) (sym same) (by v.refusal refl some)
@@ -130,9 +139,9 @@ took_stays v w bodies body same some took ds kept is = subst (λ x. Gives x ds x
     before : Gives v p.front v.refusal
     before = took p.front (front_kept p.front (p.d ∷ []) (subst AreKept p.split kept)) p.written
 
-    on : (x : ErrorKind × ℕ) (o : Result (List Data) (ErrorKind × ℕ)) (e : StoreError) → trees_of 0 p.front ≡ o → trees_reply o ≡ refused e.kind e.document → trees_reply (trees_of 0 ds) ≡ refused e.kind e.document
-    on x (Ok js) e h i = cc
-    on x (Err y) e h i = ap (λ l. trees_reply (trees_of 0 l)) p.split ∙ ap trees_reply (trees_stay 0 p.front (p.d ∷ []) y h) ∙ i
+    still : (x : ErrorKind × ℕ) (o : Result (List Data) (ErrorKind × ℕ)) (e : StoreError) → trees_of 0 p.front ≡ o → trees_reply o ≡ refused e.kind e.document → trees_reply (trees_of 0 ds) ≡ refused e.kind e.document
+    still x (Ok js) e h i = cc
+    still x (Err y) e h i = ap (λ l. trees_reply (trees_of 0 l)) p.split ∙ ap trees_reply (trees_stay 0 p.front (p.d ∷ []) y h) ∙ i
 
     by : (o : Option StoreError) → v.refusal ≡ o → is_some o ≡ true → Gives v ds o
     by None e s = cc
@@ -140,7 +149,7 @@ took_stays v w bodies body same some took ds kept is = subst (λ x. Gives x ds x
       where
         at : (e ≡ refusal kind.Memory) ⊎ (trees_reply (trees_of 0 p.front) ≡ refused e.kind e.document) → (e ≡ refusal kind.Memory) ⊎ (trees_reply (trees_of 0 ds) ≡ refused e.kind e.document)
         at (inl h) = inl h
-        at (inr h) = inr (on (kind.Memory, 0) (trees_of 0 p.front) e refl h)
+        at (inr h) = inr (still (kind.Memory, 0) (trees_of 0 p.front) e refl h)
 
 -- what the visitor had before this body
 had : (v : Trees) (bodies : List (List ℕ)) (body : List ℕ) (ds : Documents) (p : LastOf bodies body ds) → v.refusal ≡ None → TookTrees v bodies → AreKept ds → trees_of 0 p.front ≡ Ok (map data_of v.trees.items)
@@ -166,7 +175,7 @@ took_none v w bodies body e js none now adds took ds kept is = subst (Gives w ds
     by : (e ≡ refusal kind.Memory) ⊎ ((k : ErrorKind) × (tree_of Canonical p.d ≡ Err k) × (e ≡ refusal_at k (length v.trees.items))) → (e ≡ refusal kind.Memory) ⊎ (trees_reply (trees_of 0 ds) ≡ refused e.kind e.document)
     by (inl h) = inl h
     by (inr (k, t, h)) = inr
-        (ap (λ l. trees_reply (trees_of 0 l)) p.split ∙ ap trees_reply (trees_stop 0 p.front p.d (map data_of v.trees.items) k (had v bodies body ds p none took kept) t) ∙ ap (λ n. refused k (Some n)) (map_length v.trees.items) ∙ sym (ap (λ (x : StoreError). refused x.kind x.document) h))
+        (ap (λ l. trees_reply (trees_of 0 l)) p.split ∙ ap trees_reply (trees_stop 0 p.front p.d (map data_of v.trees.items) k (had v bodies body ds p none took kept) t) ∙ ap (λ n. refused k (Some n)) (zero-add (length (map data_of v.trees.items)) ∙ map_length v.trees.items) ∙ sym (ap (λ (x : StoreError). refused x.kind x.document) h))
 
 -- ---- exits
 

@@ -61,14 +61,17 @@ refusal_is d k h = by (has_key id_key d) (nat_lt size_limit (size d)) h
     by true false e = cc
     by false c e = this kind.NoId tt e
 
+kinds_are : (x k : ErrorKind) (i j : ℕ) → ◌≡◌ {A = Option (ErrorKind × ℕ)} (Some (x, i)) (Some (k, j)) → x ≡ k
+kinds_are x k i j e = let pair : ◌≡◌ {A = ErrorKind × ℕ} (x, i) (k, j) = cc in ap (λ p. p.0) pair
+
 first_is : (i : ℕ) (ds : Documents) (stop : Option ErrorKind) (k : ErrorKind) (j : ℕ) → IsStop stop → first_refusal i ds stop ≡ Some (k, j) → IsOfDocuments k
 first_is i [] None k j h e = cc
-first_is i [] (Some x) k j h e = let same : x ≡ k = cc in subst IsOfDocuments same (reading_of x h)
+first_is i [] (Some x) k j h e = subst IsOfDocuments (kinds_are x k i j e) (reading_of x h)
 first_is i (d ∷ ds) stop k j h e = by (refusal_of d) refl e (first_is (suc i) ds stop k j h)
   where
     by : (o : Option ErrorKind) → refusal_of d ≡ o → or_later o i (first_refusal (suc i) ds stop) ≡ Some (k, j) → (first_refusal (suc i) ds stop ≡ Some (k, j) → IsOfDocuments k) → IsOfDocuments k
     by None r e rest = rest e
-    by (Some x) r e rest = let same : x ≡ k = cc in refusal_is d k (r ∙ ap Some same)
+    by (Some x) r e rest = refusal_is d k (r ∙ ap Some (kinds_are x k i j e))
 
 -- ---- many documents, in whatever form they came
 
@@ -155,7 +158,7 @@ from_memory docs after n bytes old new r before now whole h = by r h
 
     at : (k : ErrorKind) (i : Option ℕ) → ImportRefused n old new k i docs after → DoesMany n (ReadsStream bytes) (refused k i) docs after
     at kind.BadName i h = rw h.1 (bad_here h.0 h.3)
-    at kind.Reader i h = let no : 0 ≡ 1 = sym now ∙ h.2 ∙ ap (λ m. m + 1) before in cc
+    at kind.Reader i h = let no : ◌≡◌ {A = ℕ} 0 1 = sym now ∙ h.2 ∙ ap (λ m. m + 1) before in cc
     at kind.Memory i h = rw h.1 (wanted_here h.0 h.3)
     at _ i h = took _ h
 

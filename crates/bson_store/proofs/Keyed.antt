@@ -1,5 +1,5 @@
 -- The written keys of a collection, and the rows whose key is there already.
-use Rattle.std.proofs.Common.{◌≡◌, ℕ, ◌+◌, ◌<◌, ◌≤◌, suc, List, [], ◌∷◌, length, get_or, take, map, filter, Bool, true, false, not, ◌||◌, ◌&&◌, cond, Option, Some, None, is_some, Ok, Err, refl, ap, ◌∙◌, sym, subst, arith}
+use Rattle.std.proofs.Common.{◌≡◌, ℕ, zero, suc, ◌+◌, ◌<◌, ◌≤◌, List, [], ◌∷◌, length, get_or, take, map, filter, Bool, true, false, not, ◌||◌, ◌&&◌, cond, Option, Some, None, is_some, Ok, Err, refl, ap, ◌∙◌, sym, subst, arith}
 use Rattle.std.specs.List.{list_any, find}
 use Rattle.std.proofs.lemmas.List.{length-map}
 use Rattle.std.specs.Option.{option_map}
@@ -113,7 +113,7 @@ rows_below rows at h = omega (arith, h, length-map rows (λ (w : Written). w.key
 
 key_at : (rows : List Written) (at : ℕ) (w : Written) → at < length rows → w ≡ get_or rows at w → w.key.items ≡ get_or (keys_of_rows rows) at []
 key_at [] at w h is = absurd (omega (arith, h))
-key_at (r ∷ rows) 0 w h is = ap (λ (x : Written). x.key.items) is
+key_at (r ∷ rows) zero w h is = ap (λ (x : Written). x.key.items) is
 key_at (r ∷ rows) (suc at) w h is = key_at rows at w (omega (arith, h)) is
 
 either_false : (a b : Bool) → false ≡ a || b → (a ≡ false) × (b ≡ false)
@@ -132,11 +132,11 @@ comes_more n rows old new at w b docs mid after h is other added c m =
 
 pub taken_here : (n : List ℕ) (rows : List Written) (met : Keys) (at : ℕ) (w : Written) (b : Bool) (docs mid after : List Doc) → at < length rows → w ≡ get_or rows at w → b ≡ true
     → ComesTo n rows met at docs mid → Meets n w.key.items met (Ok b) mid after → FindsTaken n rows (Ok (Some at)) docs after
-taken_here n rows met at w b docs mid after h is yes c m =
+taken_here n rows met at w b docs mid after h is told c m =
     let there : b ≡ list_any (bytes_eq w.key.items) (keys_in n docs) || has_met met w.key.items = subst (λ ds. b ≡ list_any (bytes_eq w.key.items) (keys_in n ds) || has_met met w.key.items) c.same m.there in
     record {
       same = m.same ∙ c.same;
-      place = sym (by (list_any (bytes_eq w.key.items) (keys_in n docs)) refl (sym there ∙ yes));
+      place = sym (by (list_any (bytes_eq w.key.items) (keys_in n docs)) refl (sym there ∙ told));
       denied = tt;
     }
   where

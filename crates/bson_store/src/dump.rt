@@ -65,7 +65,8 @@ impl Trees {
 
     /// Puts the tree of a body last.
     fn add(&mut self, body: &[u8]) -> Result<(), StoreError>
-        ensures { (d : Members) → IsKept d → body.now ≡ encode d → Adds self.old.trees.items self.new.trees.items (tree_of Canonical d) result }
+        ensures tree { (d : Members) → IsKept d → body.now ≡ encode d → Adds self.old.trees.items self.new.trees.items (tree_of Canonical d) result }
+        ensures refusal { self.new.refusal ≡ self.old.refusal }
     {
         let place = self.trees.len() as u64;
         let json = tree_at(self.alloc, body, place)?;
@@ -78,7 +79,7 @@ impl Visit for Trees {
     ghost use Rattle.std.specs.Prelude.{IsSome};
     ghost use Rattle.bson_store.specs.Dump.{TookTrees};
 
-    ghost took = { λ v bodies. TookTrees v bodies };
+    ghost took = { λ _ v bodies. TookTrees v bodies };
 
     ghost is_done = { λ v. IsSome v.refusal };
 
@@ -106,7 +107,8 @@ impl<S: Alter + Drop> Store<S> {
     {
         let name = good_name(name)?;
         let mut visitor = Trees::new(self.alloc);
-        let all = self.table.visit_bodies(name.as_str(), &mut visitor)?;
+        let coll = name.as_str();
+        let all = self.table.visit_bodies(coll, &mut visitor)?;
         // A visitor that was not handed all bodies has a refusal.
         let _ = all;
         let Trees {

@@ -5,7 +5,9 @@ ghost use Rattle.std.specs.Str.{bytes_eq};
 ghost use Rattle.serde_json.specs.View.{view as tree_of};
 ghost use Rattle.bson_table.specs.Moves.{Appends, Moves, all_appended};
 ghost use Rattle.store_documents.specs.Names.{name_bytes};
-ghost use Rattle.store_laws.specs.Reading.{AreAllJson, ReadsTrees};
+ghost use Rattle.bson_base.specs.Kinds.{AreBytes};
+ghost use Rattle.store_laws.specs.Reading.{AreAllJson, ReadsStream, ReadsTrees};
+ghost use Rattle.store_streams.specs.Judging.{Judges};
 ghost use Rattle.store_streams.specs.Keys.{has_met};
 ghost use Rattle.bson_store.specs.Calls.{held};
 ghost use Rattle.bson_store.specs.Many.{AddsAll, DoesMany, FindsTaken, Imports, Meets, row_of};
@@ -22,7 +24,7 @@ use sqlite::Alter;
 use std::alloc::{AllocError, Global};
 use store_documents::{Name, Written};
 use store_laws::ErrorKind;
-use store_streams::{Keys, judge_stream, judge_trees, read_all};
+use store_streams::{Keys, StreamError, judge_stream, judge_trees, read_all};
 
 /// JSON trees are such as the reader knows. It costs a walk through them.
 fn are_json(trees: &[Value])
@@ -31,6 +33,14 @@ fn are_json(trees: &[Value])
     for json in trees {
         values_are_json(json);
     }
+}
+
+/// The rows of the documents of a stream.
+fn judged(alloc: Global, stream: &[u8]) -> Result<Vec<Written>, StreamError>
+    ensures rows { Judges (ReadsStream stream.now) result }
+    ensures range { AreBytes stream.now }
+{
+    judge_stream(alloc, stream)
 }
 
 /// The rows in the table's terms. No bytes are copied.
@@ -61,14 +71,13 @@ impl<S: Alter + Drop> Store<S> {
     /// Whether a key is in the collection or was met before. Where it wasn't, it is met now.
     fn is_taken<'a>(
         &mut self,
-        name: Name<'_>,
+        coll: &str,
         met: &mut Keys<'a>,
         key: &'a [u8],
     ) -> Result<bool, StoreError>
-        ensures moves { Moves (held S.Store self.old) (held S.Store self.new) (Meets (name_bytes name.entry) key.now met.old result) }
+        ensures moves { Moves (held S.Store self.old) (held S.Store self.new) (Meets coll.now key.now met.old result) }
         ensures met { IfOk result (λ taken. taken ≡ false → (k : List ℕ) → has_met met.new k ≡ bytes_eq k key.now || has_met met.old k) }
     {
-        let coll = name.as_str();
         let found = self.table.named(coll, key)?;
         if let Some(_) = found {
             return Ok(true);
@@ -78,39 +87,39 @@ impl<S: Alter + Drop> Store<S> {
     }
 
     /// The place of the first row whose key is in the collection or that of a row before.
-    fn first_taken(&mut self, name: Name<'_>, rows: &[Written]) -> Result<Option<u64>, StoreError>
-        ensures { Moves (held S.Store self.old) (held S.Store self.new) (FindsTaken (name_bytes name.entry) rows.now result) }
+    fn first_taken(&mut self, coll: &str, rows: &[Written]) -> Result<Option<u64>, StoreError>
+        ensures { Moves (held S.Store self.old) (held S.Store self.new) (FindsTaken coll.now rows.now result) }
     {
         let mut met = Keys::new(self.alloc);
         for at in 0..rows.len() {
             let row = &rows[at];
             let key = row.key.as_slice();
-            if self.is_taken(name, &mut met, key)? {
+            if self.is_taken(coll, &mut met, key)? {
                 return Ok(Some(at as u64));
             }
         }
         Ok(None)
     }
 
+    /// Writes all rows, in one transaction.
+    fn write_all(&mut self, coll: &str, rows: &[NewRow]) -> Result<(), Fault>
+        ensures { Moves (held S.Store self.old) (held S.Store self.new) (Appends (length rows.now) (all_appended coll.now rows.now) result) }
+    {
+        self.table.append_all(coll, rows)
+    }
+
     /// Puts the documents that these rows are last in a collection, and says how many they are.
     fn add_all(&mut self, name: Name<'_>, rows: Vec<Written>) -> Result<u64, StoreError>
         ensures { Moves (held S.Store self.old) (held S.Store self.new) (AddsAll (name_bytes name.entry) rows.items result) }
     {
-        let taken = self.first_taken(name, rows.as_slice())?;
+        let coll = name.as_str();
+        let taken = self.first_taken(coll, rows.as_slice())?;
         if let Some(document) = taken {
             return Err(duplicate(document));
         }
-        let rows = new_rows(self.alloc, rows)?;
-        self.write_all(name, rows.as_slice())?;
-        Ok(rows.len() as u64)
-    }
-
-    /// Writes all rows, in one transaction.
-    fn write_all(&mut self, name: Name<'_>, rows: &[NewRow]) -> Result<(), Fault>
-        ensures { Moves (held S.Store self.old) (held S.Store self.new) (Appends (length rows.now) (all_appended (name_bytes name.entry) rows.now) result) }
-    {
-        let coll = name.as_str();
-        self.table.append_all(coll, rows)
+        let new = new_rows(self.alloc, rows)?;
+        self.write_all(coll, new.as_slice())?;
+        Ok(new.len() as u64)
     }
 
     /// Puts the documents of a stream last in the collection `name`, in their order, and answers how many they are: the bytes
@@ -129,7 +138,7 @@ impl<S: Alter + Drop> Store<S> {
         let name = good_name(name)?;
         let bytes = read_all(self.alloc, reader)?;
         let stream = bytes.as_slice();
-        let rows = judge_stream(self.alloc, stream)?;
+        let rows = judged(self.alloc, stream)?;
         self.add_all(name, rows)
     }
 

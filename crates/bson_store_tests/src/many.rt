@@ -72,6 +72,13 @@ fn streams_as_they_are_kept(rt: HostRuntime) -> Result<(), Fail> {
 }
 
 #[test]
+fn items_get_the_keys_of_their_places(rt: HostRuntime) -> Result<(), Fail> {
+    let bytes = b"\x1F\0\0\0\x10_id\0\x01\0\0\0\x04v\0\x0E\0\0\0\x027\0\x02\0\0\0a\0\0\0";
+    let want = b"\x1F\0\0\0\x10_id\0\x01\0\0\0\x04v\0\x0E\0\0\0\x020\0\x02\0\0\0a\0\0\0";
+    keeps(&rt, rt.alloc(), bytes, want)
+}
+
+#[test]
 fn streams_that_are_refused(rt: HostRuntime) -> Result<(), Fail> {
     let alloc = rt.alloc();
     refuses(&rt, alloc, &[5, 0, 0, 0, 0], ErrorKind::NoId, 0)?;

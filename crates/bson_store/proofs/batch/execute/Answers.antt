@@ -1,13 +1,13 @@
-use Rattle.std.proofs.Common.{refl, string_bytes}
+use Rattle.std.proofs.Common.{map, refl, string_bytes}
 use Rattle.serde_json.specs.View.{view as data_of}
 use Rattle.bson_model.specs.View.{view}
-use Rattle.store_laws.specs.Reading.{read_value}
+use Rattle.store_laws.specs.Reading.{ReadsStream, ReadsTrees, read_value}
 use Rattle.store_laws.specs.State as model
 use Rattle.bson_store.specs.Calls.{held}
 use Rattle.bson_store.specs.declared.command.Command.TheVariants as commands
-use Rattle.bson_store.specs.Refusals.{reply_by, as_done, as_flag, as_bytes, as_json}
+use Rattle.bson_store.specs.Refusals.{reply_by, as_done, as_flag, as_bytes, as_json, as_json_list, as_number}
 use Rattle.bson_store.specs.Runs.{reply_of}
-use Rattle.bson_store.proofs.Going.{obeys, obeys_bytes, obeys_tree}
+use Rattle.bson_store.proofs.Going.{obeys, obeys_bytes, obeys_many, obeys_tree}
 use Rattle.bson_store.proofs.batch.execute.Goals as goal
 
 pub returns-in-InsertRaw : goal.returns-in-InsertRaw
@@ -49,3 +49,15 @@ returns-in-GetJson g c =
 pub returns-in-Export : goal.returns-in-Export
 returns-in-Export g c =
     rw c.in-Export.is (obeys (held g.S.Store c.args.store.now) (held g.S.Store c.exported.new.store) (commands.Export c.in-Export.name) (model.on (string_bytes c.in-Export.name) model.export) c.exported.result (reply_of c.exported.result) refl refl (rw c.as_str-in-Export.ensures.value at c.exported.ensures))
+
+pub returns-in-Import : goal.returns-in-Import
+returns-in-Import g c =
+    rw c.in-Import.is (obeys_many (held g.S.Store c.args.store.now) (held g.S.Store c.imported.new.store) (commands.Import c.in-Import.name c.in-Import.bytes) (string_bytes c.in-Import.name) (ReadsStream c.in-Import.bytes.items) c.imported.result (reply_of c.imported.result) (λ ds stop h. (ds, stop, h, refl)) refl (rw (c.as_str-in-Import.ensures.value, c.as_slice-in-Import.ensures.value) at c.imported.ensures))
+
+pub returns-in-LoadJson : goal.returns-in-LoadJson
+returns-in-LoadJson g c =
+    rw c.in-LoadJson.is (obeys_many (held g.S.Store c.args.store.now) (held g.S.Store c.load_json.new.self) (commands.LoadJson c.in-LoadJson.name c.in-LoadJson.trees) (string_bytes c.in-LoadJson.name) (ReadsTrees (map data_of c.in-LoadJson.trees.items)) c.counted.result (reply_by as_number c.load_json.result) (λ ds stop h. (ds, stop, h, refl)) c.counted.ensures (rw c.as_str-in-LoadJson.ensures.value at c.load_json.ensures))
+
+pub returns-in-DumpJson : goal.returns-in-DumpJson
+returns-in-DumpJson g c =
+    rw c.in-DumpJson.is (obeys (held g.S.Store c.args.store.now) (held g.S.Store c.dump_json.new.self) (commands.DumpJson c.in-DumpJson.name) (model.on (string_bytes c.in-DumpJson.name) model.dump) c.json_list.result (reply_by as_json_list c.dump_json.result) refl c.json_list.ensures (rw c.as_str-in-DumpJson.ensures.value at c.dump_json.ensures))
