@@ -1,6 +1,7 @@
 -- What a list of commands and its replies say of tables and of plain lists.
 use Rattle.std.specs.Prelude.{◌≡◌, ℕ, List, [], ◌∷◌, map, string_bytes}
 use Rattle.serde_json.specs.View.{view as tree_of}
+use Rattle.bson_filter.specs.Filters.{filter_of, path_of}
 use Rattle.bson_model.specs.View.{view}
 use Rattle.bson_table.specs.Rows.{Doc}
 use Rattle.store_laws.specs.Reading.{Reading, ReadsBytes, ReadsTree, read_value}
@@ -9,10 +10,13 @@ use Rattle.store_laws.specs.Run.{Denials, Run, SparesDecided}
 use Rattle.store_laws.specs.Table.{Table, RunThrough, state_of}
 use Rattle.bson_store.specs.Shown.{Show}
 use Rattle.bson_store.specs.Calls.{Does}
+use Rattle.bson_store.specs.Export.{bytes_of}
 use Rattle.bson_store.specs.declared.command.Command.{Command}
-use Rattle.bson_store.specs.declared.command.Command.TheVariants.{InsertRaw, InsertJson, ReplaceRaw, ReplaceJson, Set, Unset, Remove, GetRaw, GetJson, Export}
+use Rattle.bson_store.specs.declared.command.Command.TheVariants.{InsertRaw, InsertJson, ReplaceRaw, ReplaceJson, Set, Unset, Remove, GetRaw, GetJson, Collections, Find, Project, Export}
+use Rattle.bson_store.specs.declared.command.Command.TheVariants as commands
 use Rattle.bson_store.specs.declared.command.Reply.{Reply}
-use Rattle.bson_store.specs.declared.command.Reply.TheVariants.{Done, Flag, Bytes, Json, Refused}
+use Rattle.bson_store.specs.declared.command.Reply.TheVariants.{Done, Flag, Bytes, BytesList, Json, Names, Refused}
+use Rattle.bson_store.specs.declared.command.Reply.TheVariants as replies
 
 -- bytes stand for what they read as, and so does JSON; under a bad name nothing is read
 abbrev pub Asks : Command → model.Command → Type 0
@@ -25,6 +29,10 @@ Asks (Unset name id key) c = c ≡ model.on (string_bytes name) (model.unset (vi
 Asks (Remove name id) c = c ≡ model.on (string_bytes name) (model.remove (view id))
 Asks (GetRaw name id) c = c ≡ model.on (string_bytes name) (model.get_raw (view id))
 Asks (GetJson name id mode) c = c ≡ model.on (string_bytes name) (model.get_json mode (view id))
+Asks Collections c = c ≡ model.collections
+Asks (Find name filter) c = c ≡ model.on (string_bytes name) (model.find (filter_of filter))
+Asks (commands.Count name filter) c = c ≡ model.on (string_bytes name) (model.count (filter_of filter))
+Asks (Project name filter keys) c = c ≡ model.on (string_bytes name) (model.project (filter_of filter) (path_of keys.items))
 Asks (Export name) c = c ≡ model.on (string_bytes name) model.export
 
 abbrev pub AsksEach : List Command → List model.Command → Type 0
@@ -36,8 +44,11 @@ AsksEach (x ∷ xs) [] = ⊥
 abbrev pub reply_of : Reply → model.Reply
 reply_of Done = model.done
 reply_of (Flag b) = model.flag b
+reply_of (replies.Count n) = model.number n
 reply_of (Bytes v) = model.bytes v.items
+reply_of (BytesList v) = model.bytes_list (bytes_of v.items)
 reply_of (Json j) = model.json (tree_of j)
+reply_of (Names v) = model.names (map string_bytes v.items)
 reply_of (Refused e) = model.refused e.kind e.document
 
 -- an export into memory

@@ -10,6 +10,8 @@ mod inserts;
 #[cfg(test)]
 mod opening;
 #[cfg(test)]
+mod questions;
+#[cfg(test)]
 mod runs;
 #[cfg(test)]
 mod samples;

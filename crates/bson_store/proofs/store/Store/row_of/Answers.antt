@@ -6,7 +6,7 @@ use Rattle.bson_model.specs.View.{view}
 use Rattle.bson_store.specs.Calls.{Looks}
 use Rattle.bson_store.proofs.Moving.{rests, moved}
 use Rattle.bson_store.proofs.Finding.{unplain_looks, long_looks, found_looks}
-use Rattle.bson_store.proofs.store.Store.find.Goals as goal
+use Rattle.bson_store.proofs.store.Store.row_of.Goals as goal
 
 pub returns-in-Err-NotPlain : goal.returns-in-Err-NotPlain
 returns-in-Err-NotPlain g c =
