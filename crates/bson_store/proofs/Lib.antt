@@ -11,5 +11,7 @@ pub mod Exits
 pub mod Going
 pub mod Exporting
 pub mod Gathering
+pub mod Selecting
+pub mod Naming
 pub mod Opened
 pub mod Opening

@@ -34,7 +34,7 @@ use Rattle.bson_store.specs.Calls.{Does, DoesRead}
 use Rattle.bson_store.specs.Refusals.{kind_of_fault}
 use Rattle.bson_store.proofs.Tables.{last_greatest, shows_more, rows_after, absent, found, stands_at}
 
-stays : (a : Table) → Follows a a
+pub stays : (a : Table) → Follows a a
 stays a = inl ([], sym (append-nil a), tt)
 
 pub bad_name : (docs : List Doc) (n : List ℕ) (c : Call) → (IsName n → ⊥) → Does (on n c) (refused BadName None) docs docs

@@ -8,15 +8,12 @@ use Rattle.bson_raw.specs.declared.document.RawDocument.{RawDocument}
 use Rattle.bson_table.specs.Rows.{Doc}
 use Rattle.store_laws.specs.Filter.{Filter, Selects}
 use Rattle.store_laws.specs.Reading.{Documents}
-use Rattle.store_laws.specs.State.{AreKept, Picks, When, Reply, number, bytes_list, names}
+use Rattle.store_laws.specs.State.{AreKept, Picks, When, Reply, bytes_list, names}
 use Rattle.store_laws.specs.Table.{Table, documents_of}
 use Rattle.bson_store.specs.Export.{bytes_of}
 use Rattle.bson_store.specs.Refusals.{IsDenied}
 use Rattle.bson_store.specs.Shown.{Show}
 use Rattle.bson_store.specs.declared.error.StoreError.{StoreError}
-
-abbrev pub as_number : ℕ → Reply
-as_number n = number n
 
 abbrev pub as_list : Vec (Vec ℕ Global) Global → Reply
 as_list v = bytes_list (bytes_of v.items)

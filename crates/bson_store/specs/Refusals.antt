@@ -47,3 +47,6 @@ as_bytes v = model.bytes v.items
 
 abbrev pub as_json : Json → model.Reply
 as_json j = model.json (tree_of j)
+
+abbrev pub as_number : ℕ → model.Reply
+as_number i = model.number i

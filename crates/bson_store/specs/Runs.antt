@@ -15,8 +15,7 @@ use Rattle.bson_store.specs.declared.command.Command.{Command}
 use Rattle.bson_store.specs.declared.command.Command.TheVariants.{InsertRaw, InsertJson, ReplaceRaw, ReplaceJson, Set, Unset, Remove, GetRaw, GetJson, Collections, Find, Project, Export}
 use Rattle.bson_store.specs.declared.command.Command.TheVariants as commands
 use Rattle.bson_store.specs.declared.command.Reply.{Reply}
-use Rattle.bson_store.specs.declared.command.Reply.TheVariants.{Done, Flag, Bytes, BytesList, Json, Names, Refused}
-use Rattle.bson_store.specs.declared.command.Reply.TheVariants as replies
+use Rattle.bson_store.specs.declared.command.Reply.TheVariants.{Done, Flag, Bytes, Json, Count, BytesList, Names, Refused}
 
 -- bytes stand for what they read as, and so does JSON; under a bad name nothing is read
 abbrev pub Asks : Command → model.Command → Type 0
@@ -44,7 +43,7 @@ AsksEach (x ∷ xs) [] = ⊥
 abbrev pub reply_of : Reply → model.Reply
 reply_of Done = model.done
 reply_of (Flag b) = model.flag b
-reply_of (replies.Count n) = model.number n
+reply_of (Count i) = model.number i
 reply_of (Bytes v) = model.bytes v.items
 reply_of (BytesList v) = model.bytes_list (bytes_of v.items)
 reply_of (Json j) = model.json (tree_of j)

@@ -3,8 +3,8 @@
 ghost use Rattle.std.specs.Prelude.{◌≡◌, IfOk, OnErr};
 ghost use Rattle.bson_table.specs.Moves.{Moves};
 ghost use Rattle.bson_store.specs.Calls.{held};
-ghost use Rattle.bson_store.specs.Questions.{as_list, as_names, as_number};
-ghost use Rattle.bson_store.specs.Refusals.{reply_by, as_done, as_flag, as_bytes, as_json};
+ghost use Rattle.bson_store.specs.Questions.{as_list, as_names};
+ghost use Rattle.bson_store.specs.Refusals.{reply_by, as_done, as_flag, as_bytes, as_json, as_number};
 ghost use Rattle.bson_store.specs.Runs.{Exported, Obeys, AnswersAsLists, AnswersThroughTables, reply_of};
 
 use crate::command::{Command, Reply};
@@ -52,11 +52,11 @@ fn json(outcome: Result<Value, StoreError>) -> Reply
     }
 }
 
-fn number(outcome: Result<u64, StoreError>) -> Reply
+fn counted(outcome: Result<u64, StoreError>) -> Reply
     ensures { reply_of result ≡ reply_by as_number outcome }
 {
     match outcome {
-        Ok(number) => Reply::Count(number),
+        Ok(count) => Reply::Count(count),
         Err(error) => Reply::Refused(error),
     }
 }
@@ -127,7 +127,7 @@ fn execute<S: Alter + Drop>(store: &mut Store<S>, command: Command) -> Reply
         Command::GetJson { name, id, mode } => json(store.get_json(name.as_str(), &id, mode)),
         Command::Collections => names(store.collections()),
         Command::Find { name, filter } => list(store.find(name.as_str(), &filter)),
-        Command::Count { name, filter } => number(store.count(name.as_str(), &filter)),
+        Command::Count { name, filter } => counted(store.count(name.as_str(), &filter)),
         Command::Project { name, filter, keys } => {
             let keys = keys.as_slice();
             list(store.project(name.as_str(), &filter, keys))

@@ -76,7 +76,7 @@ pub enum Reply {
     Done,
     /// Whether a key was there.
     Flag(bool),
-    /// How many documents there are.
+    /// How many documents.
     Count(u64),
     /// Written documents, one after the other.
     Bytes(Vec<u8>),

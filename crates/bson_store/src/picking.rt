@@ -115,7 +115,7 @@ fn add_projection(
 
 /// The document of a body, where the filter selects it.
 fn selected<'a>(filter: &Filter, body: &'a [u8]) -> Result<Option<RawDocument<'a>>, StoreError>
-    ensures picks { (d : Members) → IsKept d → body.now ≡ encode d → IsPick (filter_of filter.now) d body.now result }
+    ensures { (d : Members) → IsKept d → body.now ≡ encode d → IsPick (filter_of filter.now) d body.now result }
 {
     let Ok(document) = RawDocument::from_bytes(body) else {
         // No store wrote such a body: the disk returns another than was written.

@@ -6,8 +6,8 @@ ghost use Rattle.bson_table.specs.Moves.{Moves};
 ghost use Rattle.store_documents.specs.Names.{name_bytes};
 ghost use Rattle.store_laws.specs.State.{collections, count, find, on, project};
 ghost use Rattle.bson_store.specs.Calls.{Does, held};
-ghost use Rattle.bson_store.specs.Questions.{Picked, as_list, as_names, as_number};
-ghost use Rattle.bson_store.specs.Refusals.{reply_by};
+ghost use Rattle.bson_store.specs.Questions.{Picked, as_list, as_names};
+ghost use Rattle.bson_store.specs.Refusals.{as_number, reply_by};
 
 use crate::error::StoreError;
 use crate::names::names_of;
@@ -98,7 +98,7 @@ impl<S: Alter + Drop> Store<S> {
             bodies: Vec::new(self.alloc),
             alloc: self.alloc,
         };
-        let projections = self.pick(name, filter, projections)?;
-        Ok(projections.bodies)
+        let taken = self.pick(name, filter, projections)?;
+        Ok(taken.bodies)
     }
 }

@@ -289,9 +289,8 @@ impl<S: Alter + Drop> Store<S> {
         ensures { Moves (held S.Store self.old) (held S.Store self.new) (Gathers (name_bytes name.entry) result) }
     {
         let mut visitor = Bodies::new(self.alloc);
-        let all = self.table.visit_bodies(name.as_str(), &mut visitor)?;
-        // A visitor that was not handed all bodies has failed.
-        let _ = all;
+        // A visitor that is not handed all bodies has failed.
+        self.table.visit_bodies(name.as_str(), &mut visitor)?;
         if visitor.failed {
             return Err(StoreError::from(ErrorKind::Memory));
         }

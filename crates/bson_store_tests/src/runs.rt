@@ -16,7 +16,7 @@ fn told(reply: &Reply) -> (Option<ErrorKind>, usize) {
     match reply {
         Reply::Done => (None, 0),
         Reply::Flag(flag) => (None, if *flag { 1 } else { 2 }),
-        Reply::Count(number) => (None, *number as usize),
+        Reply::Count(count) => (None, *count as usize),
         Reply::Bytes(bytes) => (None, bytes.len()),
         Reply::BytesList(bodies) => (None, bodies.len()),
         Reply::Json(_) => (None, 3),
