@@ -11,6 +11,8 @@ pub mod Exits
 pub mod Going
 pub mod Exporting
 pub mod Gathering
+pub mod Selecting
+pub mod Naming
 pub mod Keyed
 pub mod Adding
 pub mod Importing

@@ -12,6 +12,8 @@ mod many;
 #[cfg(test)]
 mod opening;
 #[cfg(test)]
+mod questions;
+#[cfg(test)]
 mod runs;
 #[cfg(test)]
 mod samples;
