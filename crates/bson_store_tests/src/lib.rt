@@ -8,9 +8,15 @@ mod documents;
 #[cfg(test)]
 mod inserts;
 #[cfg(test)]
+<<<<<<< HEAD
 mod levels;
+=======
+mod many;
+>>>>>>> f1b77eb168edcc34498f922b8bd08bf69bfd9ab7
 #[cfg(test)]
 mod opening;
+#[cfg(test)]
+mod questions;
 #[cfg(test)]
 mod runs;
 #[cfg(test)]
