@@ -8,7 +8,8 @@ ghost use Rattle.bson_store.specs.Opening.{Opens, RefusesToOpen};
 ghost use Rattle.serde_json.specs.View.{view as tree_of};
 ghost use Rattle.bson_base.specs.Kinds.{HasNo00};
 ghost use Rattle.bson_model.specs.View.{pairs_of, members_of, view};
-ghost use Rattle.bson_table.specs.Moves.{Moves};
+ghost use Rattle.bson_table.specs.Moves.{Appends, Changes, Moves, appended};
+ghost use Rattle.bson_table.specs.Rows.{replaced};
 ghost use Rattle.bson_store.specs.Calls.{connection_of, held, Does, DoesBytes, DoesTree, DoesRead, Looks};
 ghost use Rattle.bson_store.specs.Export.{Gathers, Sends};
 ghost use Rattle.bson_store.specs.Refusals.{refusal, reply_by, as_done, as_flag, as_bytes, as_json};
@@ -24,7 +25,7 @@ use bson_meaning::KeyError;
 use bson_meaning::laws::values_are_json;
 use bson_model::extjson::Mode;
 use bson_model::{Bson, Document, Sink};
-use bson_table::{Found, Table};
+use bson_table::{Fault, Found, Table};
 use serde_json::Value;
 use sqlite::{Alter, Connection};
 use std::alloc::Global;
@@ -92,6 +93,20 @@ impl<S: Alter + Drop> Store<S> {
         table.close()
     }
 
+    /// Writes a row behind all others.
+    fn put_last(&mut self, coll: &str, key: &[u8], body: &[u8]) -> Result<(), Fault>
+        ensures { Moves (held S.Store self.old) (held S.Store self.new) (Appends 1 (appended coll.now key.now body.now) result) }
+    {
+        self.table.append(coll, key, body)
+    }
+
+    /// Writes a body in the place of a row's.
+    fn put_back(&mut self, found: &Found, body: &[u8]) -> Result<(), Fault>
+        ensures { Moves (held S.Store self.old) (held S.Store self.new) (Changes (replaced found.now.place body.now) result) }
+    {
+        self.table.rewrite_at(found, body)
+    }
+
     /// Puts a document last in a collection.
     fn insert(&mut self, name: Name<'_>, document: &Document) -> Result<(), StoreError>
         requires { IsRead (members_of (pairs_of document.now)) }
@@ -105,7 +120,7 @@ impl<S: Alter + Drop> Store<S> {
             return Err(StoreError::from(ErrorKind::DuplicateId));
         }
         let body = written.body.as_slice();
-        self.table.append(coll, key, body)?;
+        self.put_last(coll, key, body)?;
         Ok(())
     }
 
@@ -121,7 +136,7 @@ impl<S: Alter + Drop> Store<S> {
             return Err(StoreError::from(ErrorKind::NotFound));
         };
         let body = written.body.as_slice();
-        self.table.rewrite_at(&found, body)?;
+        self.put_back(&found, body)?;
         Ok(())
     }
 
@@ -212,7 +227,7 @@ impl<S: Alter + Drop> Store<S> {
         let old = found.body.as_slice();
         let body = set_member(self.alloc, old, key, value)?;
         let body = body.as_slice();
-        self.table.rewrite_at(&found, body)?;
+        self.put_back(&found, body)?;
         Ok(())
     }
 
@@ -237,7 +252,7 @@ impl<S: Alter + Drop> Store<S> {
             return Ok(false);
         }
         let body = unset.body.as_slice();
-        self.table.rewrite_at(&found, body)?;
+        self.put_back(&found, body)?;
         Ok(true)
     }
 

@@ -20,11 +20,11 @@ pub returns-in-Some : goal.returns-in-Some
 returns-in-Some g c =
     rw c.from.ensures (duplicate_insert (held g.S.Store c.args.self.now) (state_of g.S.Store c.named.new.self) (name_bytes c.args.name) (members_of (pairs_of c.args.document.now)) c.in_ok-written.written c.in_ok-found.found c.in-Some.field-0 (rw c.as_str-coll.ensures.text at c.as_str-coll.ensures.named) c.requires (c.in_ok-written.ensures c.requires) c.in-Some.is (rw (c.as_str-coll.ensures.text, c.as_slice-key.ensures.value) at c.in_ok-found.ensures.moves))
 
-pub returns-in_err-append : goal.returns-in_err-append
-returns-in_err-append g c =
-    let p = err_from_is_err_and c.from_residual-in_err-append.result c.from_residual-in_err-append.ensures.1 in
-    rw (p.1, p.2) (not_put_moves (held g.S.Store c.args.self.now) (state_of g.S.Store c.named.new.self) (state_of g.S.Store c.append.new.self) (name_bytes c.args.name) (members_of (pairs_of c.args.document.now)) c.in_ok-written.written c.in_ok-found.found c.in_err-append.field-0.0 (rw c.as_str-coll.ensures.text at c.as_str-coll.ensures.named) c.requires (c.in_ok-written.ensures c.requires) c.in_default.is (rw (c.as_str-coll.ensures.text, c.as_slice-key.ensures.value) at c.in_ok-found.ensures.moves) (rw (c.as_str-coll.ensures.text, c.as_slice-key.ensures.value, c.as_slice-body.ensures.value) at c.in_err-append.ensures.moves))
+pub returns-in_err-put_last : goal.returns-in_err-put_last
+returns-in_err-put_last g c =
+    let p = err_from_is_err_and c.from_residual-in_err-put_last.result c.from_residual-in_err-put_last.ensures.1 in
+    rw (p.1, p.2) (not_put_moves (held g.S.Store c.args.self.now) (state_of g.S.Store c.named.new.self) (held g.S.Store c.put_last.new.self) (name_bytes c.args.name) (members_of (pairs_of c.args.document.now)) c.in_ok-written.written c.in_ok-found.found c.in_err-put_last.field-0.0 (rw c.as_str-coll.ensures.text at c.as_str-coll.ensures.named) c.requires (c.in_ok-written.ensures c.requires) c.in_default.is (rw (c.as_str-coll.ensures.text, c.as_slice-key.ensures.value) at c.in_ok-found.ensures.moves) (rw (c.as_str-coll.ensures.text, c.as_slice-key.ensures.value, c.as_slice-body.ensures.value) at c.in_err-put_last.ensures))
 
 pub returns : goal.returns
 returns g c =
-    put_moves (held g.S.Store c.args.self.now) (state_of g.S.Store c.named.new.self) (state_of g.S.Store c.append.new.self) (name_bytes c.args.name) (members_of (pairs_of c.args.document.now)) c.in_ok-written.written c.in_ok-found.found (rw c.as_str-coll.ensures.text at c.as_str-coll.ensures.named) (rw c.as_str-coll.ensures.text at c.as_str-coll.utf8) c.requires (c.in_ok-written.ensures c.requires) c.in_default.is (rw (c.as_str-coll.ensures.text, c.as_slice-key.ensures.value) at c.in_ok-found.ensures.moves) (rw (c.as_str-coll.ensures.text, c.as_slice-key.ensures.value, c.as_slice-body.ensures.value) at c.in_ok-append.ensures.moves)
+    put_moves (held g.S.Store c.args.self.now) (state_of g.S.Store c.named.new.self) (held g.S.Store c.put_last.new.self) (name_bytes c.args.name) (members_of (pairs_of c.args.document.now)) c.in_ok-written.written c.in_ok-found.found (rw c.as_str-coll.ensures.text at c.as_str-coll.ensures.named) (rw c.as_str-coll.ensures.text at c.as_str-coll.utf8) c.requires (c.in_ok-written.ensures c.requires) c.in_default.is (rw (c.as_str-coll.ensures.text, c.as_slice-key.ensures.value) at c.in_ok-found.ensures.moves) (rw (c.as_str-coll.ensures.text, c.as_slice-key.ensures.value, c.as_slice-body.ensures.value) at c.in_ok-put_last.ensures)

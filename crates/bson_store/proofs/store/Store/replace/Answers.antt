@@ -20,11 +20,11 @@ pub returns-in_default : goal.returns-in_default
 returns-in_default g c =
     rw c.from.ensures (none_replace (held g.S.Store c.args.self.now) (state_of g.S.Store c.named.new.self) (name_bytes c.args.name) (members_of (pairs_of c.args.document.now)) c.in_ok-written.written c.in_ok-found.field-0 (rw c.as_str-coll.ensures.text at c.as_str-coll.ensures.named) c.requires (c.in_ok-written.ensures c.requires) c.in_default.is (rw (c.as_str-coll.ensures.text, c.as_slice-key.ensures.value) at c.in_ok-found.ensures.moves))
 
-pub returns-in_err-rewrite_at : goal.returns-in_err-rewrite_at
-returns-in_err-rewrite_at g c =
-    let p = err_from_is_err_and c.from_residual-in_err-rewrite_at.result c.from_residual-in_err-rewrite_at.ensures.1 in
-    rw (p.1, p.2) (not_place_moves (held g.S.Store c.args.self.now) (state_of g.S.Store c.named.new.self) (state_of g.S.Store c.rewrite_at.new.self) (name_bytes c.args.name) (members_of (pairs_of c.args.document.now)) c.in_ok-written.written c.in_ok-found.field-0 c.in-Some.found c.in_err-rewrite_at.field-0.0 (rw c.as_str-coll.ensures.text at c.as_str-coll.ensures.named) c.requires (c.in_ok-written.ensures c.requires) c.in-Some.is (rw (c.as_str-coll.ensures.text, c.as_slice-key.ensures.value) at c.in_ok-found.ensures.moves) (rw c.as_slice-body.ensures.value at c.in_err-rewrite_at.ensures.moves))
+pub returns-in_err-put_back : goal.returns-in_err-put_back
+returns-in_err-put_back g c =
+    let p = err_from_is_err_and c.from_residual-in_err-put_back.result c.from_residual-in_err-put_back.ensures.1 in
+    rw (p.1, p.2) (not_place_moves (held g.S.Store c.args.self.now) (state_of g.S.Store c.named.new.self) (held g.S.Store c.put_back.new.self) (name_bytes c.args.name) (members_of (pairs_of c.args.document.now)) c.in_ok-written.written c.in_ok-found.field-0 c.in-Some.found c.in_err-put_back.field-0.0 (rw c.as_str-coll.ensures.text at c.as_str-coll.ensures.named) c.requires (c.in_ok-written.ensures c.requires) c.in-Some.is (rw (c.as_str-coll.ensures.text, c.as_slice-key.ensures.value) at c.in_ok-found.ensures.moves) (rw c.as_slice-body.ensures.value at c.in_err-put_back.ensures))
 
 pub returns : goal.returns
 returns g c =
-    place_moves (held g.S.Store c.args.self.now) (state_of g.S.Store c.named.new.self) (state_of g.S.Store c.rewrite_at.new.self) (name_bytes c.args.name) (members_of (pairs_of c.args.document.now)) c.in_ok-written.written c.in_ok-found.field-0 c.in-Some.found (rw c.as_str-coll.ensures.text at c.as_str-coll.ensures.named) c.requires (c.in_ok-written.ensures c.requires) c.in-Some.is (rw (c.as_str-coll.ensures.text, c.as_slice-key.ensures.value) at c.in_ok-found.ensures.moves) (rw c.as_slice-body.ensures.value at c.in_ok-rewrite_at.ensures.moves)
+    place_moves (held g.S.Store c.args.self.now) (state_of g.S.Store c.named.new.self) (held g.S.Store c.put_back.new.self) (name_bytes c.args.name) (members_of (pairs_of c.args.document.now)) c.in_ok-written.written c.in_ok-found.field-0 c.in-Some.found (rw c.as_str-coll.ensures.text at c.as_str-coll.ensures.named) c.requires (c.in_ok-written.ensures c.requires) c.in-Some.is (rw (c.as_str-coll.ensures.text, c.as_slice-key.ensures.value) at c.in_ok-found.ensures.moves) (rw c.as_slice-body.ensures.value at c.in_ok-put_back.ensures)

@@ -1,7 +1,6 @@
 use Rattle.std.proofs.Common.{inl, inr, None, refl, ◌∙◌, true, false}
 use Rattle.std.proofs.lemmas.Result.{err_from_is_err_and}
 use Rattle.bson_store.specs.Calls.{held}
-use Rattle.bson_table.specs.Table.{state_of}
 use Rattle.store_documents.specs.Names.{name_bytes}
 use Rattle.bson_model.specs.View.{view}
 use Rattle.store_laws.specs.State as model
@@ -33,14 +32,14 @@ pub returns-then-not-unset : goal.returns-then-not-unset
 returns-then-not-unset g c =
     there_moves (held g.S.Store c.args.self.now) (held g.S.Store c.row_of.new.self) c.args.name.now (name_bytes c.in_ok-name.name) (view c.args.id.now) c.in_ok-found.field-0 c.in-Some.found (model.unset (view c.args.id.now) c.args.key.now) (model.flag false) c.in_ok-name.ensures.0 c.in-Some.is c.in_ok-name.ensures.1 (λ bad. bad (c.is_free.ensures.0 c.if-not-is_free.false)) (unset_stays (view c.args.id.now) c.args.key.now c.in-Some.found c.in_ok-unset.unset (c.is_free.ensures.0 c.if-not-is_free.false) c.if-not-unset.true (λ d kept was. c.in_ok-unset.ensures d kept (c.as_slice-old.ensures.value ∙ was))) c.in_ok-found.ensures
 
-pub returns-in_err-rewrite_at : goal.returns-in_err-rewrite_at
-returns-in_err-rewrite_at g c =
-    let p = err_from_is_err_and c.from_residual-in_err-rewrite_at.result c.from_residual-in_err-rewrite_at.ensures.1 in
-    rw (p.1, p.2) (unchanged_moves (held g.S.Store c.args.self.now) (held g.S.Store c.row_of.new.self) (state_of g.S.Store c.rewrite_at.new.self) c.args.name.now (name_bytes c.in_ok-name.name) (view c.args.id.now) c.in_ok-found.field-0 c.in-Some.found (model.unset (view c.args.id.now) c.args.key.now) (replaced c.in-Some.found.place c.as_slice-body.result.now) c.in_err-rewrite_at.field-0.0 c.in_ok-name.ensures.0 c.in-Some.is c.in_ok-name.ensures.1 (λ bad. bad (c.is_free.ensures.0 c.if-not-is_free.false)) c.in_ok-found.ensures c.in_err-rewrite_at.ensures.moves)
+pub returns-in_err-put_back : goal.returns-in_err-put_back
+returns-in_err-put_back g c =
+    let p = err_from_is_err_and c.from_residual-in_err-put_back.result c.from_residual-in_err-put_back.ensures.1 in
+    rw (p.1, p.2) (unchanged_moves (held g.S.Store c.args.self.now) (held g.S.Store c.row_of.new.self) (held g.S.Store c.put_back.new.self) c.args.name.now (name_bytes c.in_ok-name.name) (view c.args.id.now) c.in_ok-found.field-0 c.in-Some.found (model.unset (view c.args.id.now) c.args.key.now) (replaced c.in-Some.found.place c.as_slice-body.result.now) c.in_err-put_back.field-0.0 c.in_ok-name.ensures.0 c.in-Some.is c.in_ok-name.ensures.1 (λ bad. bad (c.is_free.ensures.0 c.if-not-is_free.false)) c.in_ok-found.ensures c.in_err-put_back.ensures)
 
 pub returns : goal.returns
 returns g c =
-    rewritten_moves (held g.S.Store c.args.self.now) (held g.S.Store c.row_of.new.self) (state_of g.S.Store c.rewrite_at.new.self) c.args.name.now (name_bytes c.in_ok-name.name) (view c.args.id.now) c.in_ok-found.field-0 c.in-Some.found (model.unset (view c.args.id.now) c.args.key.now) (model.flag true) c.in_ok-unset.unset.body.items c.in_ok-name.ensures.0 c.in-Some.is c.in_ok-name.ensures.1 (λ sound. sound) (unset_remakes (view c.args.id.now) c.args.key.now c.in-Some.found c.in_ok-unset.unset (c.is_free.ensures.0 c.if-not-is_free.false) c.if-not-unset.false (λ d kept was. c.in_ok-unset.ensures d kept (c.as_slice-old.ensures.value ∙ was))) c.in_ok-found.ensures (rw c.as_slice-body.ensures.value at c.in_ok-rewrite_at.ensures.moves)
+    rewritten_moves (held g.S.Store c.args.self.now) (held g.S.Store c.row_of.new.self) (held g.S.Store c.put_back.new.self) c.args.name.now (name_bytes c.in_ok-name.name) (view c.args.id.now) c.in_ok-found.field-0 c.in-Some.found (model.unset (view c.args.id.now) c.args.key.now) (model.flag true) c.in_ok-unset.unset.body.items c.in_ok-name.ensures.0 c.in-Some.is c.in_ok-name.ensures.1 (λ sound. sound) (unset_remakes (view c.args.id.now) c.args.key.now c.in-Some.found c.in_ok-unset.unset (c.is_free.ensures.0 c.if-not-is_free.false) c.if-not-unset.false (λ d kept was. c.in_ok-unset.ensures d kept (c.as_slice-old.ensures.value ∙ was))) c.in_ok-found.ensures (rw c.as_slice-body.ensures.value at c.in_ok-put_back.ensures)
 
 pub returns-in_err-found : goal.returns-in_err-found
 returns-in_err-found g c =
