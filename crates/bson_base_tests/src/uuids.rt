@@ -1,4 +1,4 @@
-//! UUIDs in the forms of drivers, and their texts (RFC 4122).
+//! UUIDs in the forms of drivers.
 
 use bson_base::uuid::{Error, UuidRepresentation};
 use bson_base::{Binary, BinarySubtype, Uuid};
@@ -81,15 +81,5 @@ fn fifteen_bytes(rt: HostRuntime) -> Result<(), Fail> {
     let mut binary = Binary::from_uuid(rt.alloc(), Uuid::from_bytes(UUID))?;
     binary.bytes.truncate(15);
     assert_eq!(rt; binary.to_uuid(), Err(Error::InvalidLength { length: 15 }));
-    Ok(())
-}
-
-#[test]
-fn uuid_texts(rt: HostRuntime) -> Result<(), Fail> {
-    let text = "00112233-4455-6677-8899-aabbccddeeff";
-    let id = Uuid::parse_str("{00112233-4455-6677-8899-AABBCCDDEEFF}")?;
-    assert!(rt; Uuid::parse_str(text) == Ok(id));
-    assert_eq!(rt; id.to_string(rt.alloc())?.as_str(), text);
-    assert!(rt; Uuid::parse_str("0011") == Err(Error::InvalidUuidString));
     Ok(())
 }
