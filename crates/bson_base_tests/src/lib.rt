@@ -1,12 +1,10 @@
-//! Tests of bson_base: examples from the standard and from the documents of other drivers.
+//! Tests of bson_base: what no text tells. Cases whose answers are texts are lines of bson_cases.
 #![tactic(auto)]
 
 #[cfg(test)]
 mod binaries;
 #[cfg(test)]
 mod builders;
-#[cfg(test)]
-mod date_texts;
 #[cfg(test)]
 mod decimals;
 #[cfg(test)]

@@ -1,4 +1,4 @@
-//! UUIDs in the forms of drivers, and their texts (RFC 4122).
+//! UUIDs in the forms of drivers.
 
 use bson_base::uuid::{Error, UuidRepresentation};
 use bson_base::{Binary, BinarySubtype, Uuid};
@@ -27,8 +27,8 @@ fn is_written(
 ) -> Result<(), Fail> {
     let uuid = Uuid::from_bytes(UUID);
     let binary = Binary::from_uuid_with_representation(alloc, uuid, form)?;
-    assert_eq!(rt; binary.subtype, BinarySubtype::UuidOld, "{form:?}");
-    assert_eq!(rt; binary.bytes.as_slice(), want, "{form:?}");
+    let told = (binary.subtype, binary.bytes.as_slice());
+    assert!(rt; told == (BinarySubtype::UuidOld, want), "{form:?}");
     Ok(())
 }
 
@@ -50,12 +50,8 @@ fn is_read(rt: &impl Abort, alloc: Global, form: UuidRepresentation) -> Result<(
         actual_binary_subtype: BinarySubtype::UuidOld,
         requested_representation: UuidRepresentation::Standard,
     };
-    assert_eq!(rt;
-        binary.to_uuid_with_representation(form),
-        Ok(uuid),
-        "{form:?}"
-    );
-    assert_eq!(rt; binary.to_uuid(), Err(mismatch), "{form:?}");
+    let told = (binary.to_uuid_with_representation(form), binary.to_uuid());
+    assert!(rt; told == (Ok(uuid), Err(mismatch)), "{form:?}");
     Ok(())
 }
 
@@ -71,8 +67,8 @@ fn read_forms(rt: HostRuntime) -> Result<(), Fail> {
 #[test]
 fn the_standard_form(rt: HostRuntime) -> Result<(), Fail> {
     let binary = Binary::from_uuid(rt.alloc(), Uuid::from_bytes(UUID))?;
-    assert_eq!(rt; binary.subtype, BinarySubtype::Uuid);
-    assert_eq!(rt; binary.to_uuid().map(Uuid::bytes), Ok(UUID));
+    assert!(rt; binary.subtype == BinarySubtype::Uuid);
+    assert!(rt; binary.to_uuid() == Ok(Uuid::from_bytes(UUID)));
     Ok(())
 }
 
@@ -80,16 +76,6 @@ fn the_standard_form(rt: HostRuntime) -> Result<(), Fail> {
 fn fifteen_bytes(rt: HostRuntime) -> Result<(), Fail> {
     let mut binary = Binary::from_uuid(rt.alloc(), Uuid::from_bytes(UUID))?;
     binary.bytes.truncate(15);
-    assert_eq!(rt; binary.to_uuid(), Err(Error::InvalidLength { length: 15 }));
-    Ok(())
-}
-
-#[test]
-fn uuid_texts(rt: HostRuntime) -> Result<(), Fail> {
-    let text = "00112233-4455-6677-8899-aabbccddeeff";
-    let id = Uuid::parse_str("{00112233-4455-6677-8899-AABBCCDDEEFF}")?;
-    assert!(rt; Uuid::parse_str(text) == Ok(id));
-    assert_eq!(rt; id.to_string(rt.alloc())?.as_str(), text);
-    assert!(rt; Uuid::parse_str("0011") == Err(Error::InvalidUuidString));
+    assert!(rt; binary.to_uuid() == Err(Error::InvalidLength { length: 15 }));
     Ok(())
 }

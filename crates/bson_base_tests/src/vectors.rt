@@ -9,8 +9,8 @@ use std::test::Fail;
 /// Asserts the bytes of a vector, and that it is read from them.
 fn is(rt: &impl Abort, alloc: Global, vector: &Vector, want: &[u8]) -> Result<(), Fail> {
     let binary = Binary::from_vector(alloc, vector)?;
-    assert_eq!(rt; binary.subtype, BinarySubtype::Vector);
-    assert_eq!(rt; binary.bytes.as_slice(), want);
+    let told = (binary.subtype, binary.bytes.as_slice());
+    assert!(rt; told == (BinarySubtype::Vector, want));
     assert!(rt; Vector::from_binary(alloc, &binary) == Ok(vector.try_clone(alloc)?));
     copies(rt, alloc, vector, &binary)
 }

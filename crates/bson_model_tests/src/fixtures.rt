@@ -22,15 +22,6 @@ pub(crate) fn text(alloc: Global, s: &str) -> Result<String, AllocError> {
     String::from_str(alloc, s)
 }
 
-pub(crate) fn binary(
-    alloc: Global,
-    subtype: BinarySubtype,
-    bytes: &[u8],
-) -> Result<Bson, AllocError> {
-    let bytes = Vec::from_slice(alloc, bytes)?;
-    Ok(Bson::Binary(Binary { subtype, bytes }))
-}
-
 fn three_bytes(alloc: Global, subtype: BinarySubtype) -> Result<Bson, AllocError> {
     let bytes = Vec::from_slice(alloc, &[1, 2, 3])?;
     Ok(Bson::from(Binary { subtype, bytes }))
@@ -43,7 +34,7 @@ fn regex(alloc: Global) -> Result<Regex, AllocError> {
     })
 }
 
-pub(crate) fn pointer(alloc: Global) -> Result<DbPointer, AllocError> {
+fn pointer(alloc: Global) -> Result<DbPointer, AllocError> {
     Ok(DbPointer {
         namespace: text(alloc, "ns")?,
         id: ObjectId::from_bytes([7; 12]),
@@ -71,17 +62,6 @@ pub(crate) fn put(
 ) -> Result<(), AllocError> {
     drop(document.insert(text(alloc, key)?, value)?);
     Ok(())
-}
-
-/// Puts a text under a key.
-pub(crate) fn put_text(
-    document: &mut Document,
-    alloc: Global,
-    key: &str,
-    value: &str,
-) -> Result<(), AllocError> {
-    let value = Bson::String(text(alloc, value)?);
-    put(document, alloc, key, value)
 }
 
 fn put_texts(all: &mut Document, alloc: Global) -> Result<(), AllocError> {

@@ -1,9 +1,7 @@
-//! Tests of bson_model: worked examples of the format, and what no contract says. They stand in a crate of their own, so that
-//! bson_model is proved once.
+//! Tests of bson_model: what no text tells, as identity, order, what is lent and what a refused growth leaves. They stand in a
+//! crate of their own, so that bson_model is proved once. Cases whose answers are texts are lines of bson_cases.
 #![tactic(auto)]
 
-#[cfg(test)]
-mod display;
 #[cfg(test)]
 mod documents;
 #[cfg(test)]
@@ -12,14 +10,6 @@ mod entries;
 mod fixtures;
 #[cfg(test)]
 mod getters;
-#[cfg(test)]
-mod json_keys;
-#[cfg(test)]
-mod json_numbers;
-#[cfg(test)]
-mod json_read;
-#[cfg(test)]
-mod json_written;
 #[cfg(test)]
 mod lending;
 #[cfg(test)]
