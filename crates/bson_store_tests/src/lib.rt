@@ -8,11 +8,9 @@ mod documents;
 #[cfg(test)]
 mod inserts;
 #[cfg(test)]
-<<<<<<< HEAD
 mod levels;
-=======
+#[cfg(test)]
 mod many;
->>>>>>> f1b77eb168edcc34498f922b8bd08bf69bfd9ab7
 #[cfg(test)]
 mod opening;
 #[cfg(test)]
