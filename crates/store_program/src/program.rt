@@ -1,0 +1,97 @@
+//! A command of the program, from its words to its status.
+
+ghost use Rattle.std.specs.Prelude.{◌≡◌, ◌≤◌, ◌<◌, ◌^◌, ◌-◌};
+ghost use Rattle.bson_table.specs.Moves.{Moves};
+ghost use Rattle.bson_store.specs.Calls.{held};
+ghost use Rattle.store_program.specs.Commands.{IsAskedBy};
+ghost use Rattle.store_program.specs.Execute.{Performs, Prints, Executes};
+
+use crate::answer::Answer;
+use crate::changes::{insert, remove, replace, set, unset};
+use crate::printing::print;
+use crate::reads::{export, get};
+use crate::stop::{Stop, USAGE};
+use bson_store::{Sink, Source, Store};
+use sqlite::Alter;
+use std::alloc::Global;
+use store_words::{Call, Words, write_complaint, write_refusal};
+
+/// Does what the words ask for.
+fn perform<S: Alter + Drop, I: Source, O: Sink>(
+    alloc: Global,
+    store: &mut Store<S>,
+    words: &Words<'_>,
+    input: &mut I,
+    output: &mut O,
+) -> Result<Answer, Stop>
+    requires input { I.failures input.old < 2 ^ 64 - 1 }
+    requires output { O.failures output.old < 2 ^ 64 - 1 }
+    ensures { Moves (held S.Store store.old) (held S.Store store.new) (Performs (IsAskedBy words.now) result) }
+{
+    let name = words.coll;
+    let rest = words.rest;
+    match words.call {
+        Call::Insert => insert(alloc, store, name, rest),
+        Call::Replace => replace(alloc, store, name, rest),
+        Call::Get => get(alloc, store, name, rest),
+        Call::Set => set(alloc, store, name, rest),
+        Call::Unset => unset(alloc, store, name, rest),
+        Call::Remove => remove(alloc, store, name, rest),
+        Call::Export => export(store, name, rest, output),
+        _ => {
+            let _ = input;
+            Err(USAGE)
+        }
+    }
+}
+
+/// Does what the words ask for, and prints the answer.
+fn serve<S: Alter + Drop, I: Source, O: Sink>(
+    alloc: Global,
+    store: &mut Store<S>,
+    words: &Words<'_>,
+    input: &mut I,
+    output: &mut O,
+) -> Result<(), Stop>
+    requires input { I.failures input.old < 2 ^ 64 - 1 }
+    requires output { O.failures output.old < 2 ^ 64 - 1 }
+    ensures { Moves (held S.Store store.old) (held S.Store store.new) (Prints (IsAskedBy words.now) result) }
+{
+    let answer = perform(alloc, store, words, input, output)?;
+    print(alloc, &answer, output)?;
+    Ok(())
+}
+
+/// Does the command that the words ask for on `store`, and answers the program's status. Nothing of the words but their texts
+/// is left to read: the file is open.
+///
+/// With 0 the command was accepted and its answer printed to `output`. With 1 it was refused, or its answer couldn't be
+/// printed, and the line `refused: KIND` went to `faults`. With 2 a text of the words or a line of the input can't be read, and
+/// the line that says so went to `faults`; the store is as it was. Where a write to `faults` fails nothing more is done.
+pub fn execute<S: Alter + Drop, I: Source, O: Sink, F: Sink>(
+    alloc: Global,
+    store: &mut Store<S>,
+    words: &Words<'_>,
+    input: &mut I,
+    output: &mut O,
+    faults: &mut F,
+) -> u8
+    requires input { I.failures input.old < 2 ^ 64 - 1 }
+    requires output { O.failures output.old < 2 ^ 64 - 1 }
+    requires faults { F.failures faults.old < 2 ^ 64 - 1 }
+    ensures status { result ≤ 2 }
+    ensures silent { result ≡ 0 → faults.new ≡ faults.old }
+    ensures step { Moves (held S.Store store.old) (held S.Store store.new) (Executes (IsAskedBy words.now) result) }
+{
+    match serve(alloc, store, words, input, output) {
+        Ok(()) => 0,
+        Err(Stop::Refused(error)) => {
+            let _ = write_refusal(faults, error.kind, error.document);
+            1
+        }
+        Err(Stop::Words(complaint)) => {
+            let _ = write_complaint(faults, complaint);
+            2
+        }
+    }
+}

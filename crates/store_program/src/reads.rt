@@ -1,0 +1,48 @@
+//! The commands that read.
+
+ghost use Rattle.std.specs.Prelude.{◌<◌, ◌^◌, ◌-◌, map, string_bytes};
+ghost use Rattle.bson_table.specs.Moves.{Moves};
+ghost use Rattle.bson_store.specs.Calls.{held};
+ghost use Rattle.store_words.specs.declared.call.Call.TheVariants.{Get, Export};
+ghost use Rattle.store_program.specs.Commands.{IsCommandOf};
+ghost use Rattle.store_program.specs.Execute.{Performs};
+
+use crate::answer::{Answer, nothing, tree};
+use crate::stop::{Stop, USAGE};
+use crate::texts::{id_of, mode_of};
+use bson_store::{Sink, Store};
+use sqlite::Alter;
+use std::alloc::Global;
+
+/// `get COLL ID [--relaxed]`: the document as Extended JSON.
+pub fn get<S: Alter + Drop>(
+    alloc: Global,
+    store: &mut Store<S>,
+    name: &str,
+    words: &[String],
+) -> Result<Answer, Stop>
+    ensures { Moves (held S.Store store.old) (held S.Store store.new) (Performs (IsCommandOf Get name.now (map string_bytes words.now)) result) }
+{
+    let Some((id, form)) = words.split_first() else {
+        return Err(USAGE);
+    };
+    let mode = mode_of(form)?;
+    let id = id_of(alloc, id.as_str())?;
+    tree(store.get_json(name, &id, mode))
+}
+
+/// `export COLL`: the written documents go out at once.
+pub fn export<S: Alter + Drop, O: Sink>(
+    store: &mut Store<S>,
+    name: &str,
+    words: &[String],
+    output: &mut O,
+) -> Result<Answer, Stop>
+    requires { O.failures output.old < 2 ^ 64 - 1 }
+    ensures { Moves (held S.Store store.old) (held S.Store store.new) (Performs (IsCommandOf Export name.now (map string_bytes words.now)) result) }
+{
+    if !words.is_empty() {
+        return Err(USAGE);
+    }
+    nothing(store.export(name, output))
+}
