@@ -16,6 +16,7 @@ use Rattle.store_laws.specs.declared.error.ErrorKind.TheVariants.{DuplicateId, N
 use Rattle.store_laws.proofs.Rows.{rows_not_empty}
 use Rattle.store_laws.proofs.States.{stored_again}
 use Rattle.store_laws.proofs.Unmoved.{unmoved}
+use Rattle.bson_store.specs.Shown.{Show}
 use Rattle.bson_store.specs.Calls.{Does, DoesTree}
 use Rattle.bson_store.specs.Export.{Tally, Sends}
 use Rattle.bson_store.specs.Refusals.{reply_by}
@@ -23,9 +24,10 @@ use Rattle.bson_store.specs.declared.error.StoreError.{StoreError}
 use Rattle.bson_store.proofs.Moving.{rests, moved}
 use Rattle.bson_store.proofs.Serving.{stay}
 use Rattle.store_program.specs.Answers.{answer_by}
-use Rattle.store_program.specs.Execute.{Performed, Performs}
+use Rattle.store_program.specs.Execute.{Performs, Prints}
 use Rattle.store_program.specs.declared.answer.Answer.{Answer}
 use Rattle.store_program.specs.declared.stop.Stop.{Stop}
+use Rattle.store_program.specs.declared.stop.Stop.TheVariants.{Refused}
 
 -- ---- a refused call leaves the list
 
@@ -109,7 +111,7 @@ asked : {A : Type 0} (s t : Connected) (Meant : Command → Type 0) (c : Command
     → Moves s t (Does c (reply_by f outcome)) → Moves s t (Performs Meant (answer_by g outcome))
 asked s t Meant c f g (Ok x) meant accepts m = moved s t (Does c (f x)) (Performs Meant (Ok (g x))) m (λ docs after h a shown. let y = h a shown in (y.0, y.1, (c, meant, f x, accepts x, y.2)))
 asked s t Meant c f g (Err e) meant accepts m =
-    moved s t (Does c (refused e.kind e.document)) (Performs Meant (Err _)) m (λ docs after h a shown. let y = h a shown in (y.0, y.1, rows_stay a y.0 c e.kind e.document y.2))
+    moved s t (Does c (refused e.kind e.document)) (Performs Meant (Err (Refused e))) m (λ docs after h a shown. let y = h a shown in (y.0, y.1, rows_stay a y.0 c e.kind e.document y.2))
 
 pub performs : {A : Type 0} (s t : Connected) (Meant : Command → Type 0) (c : Command) (f : A → Reply) (g : A → Answer) (outcome : Result A StoreError) (result : Result Answer Stop) → Meant c
     → ((x : A) → IsRefusal (f x) → ⊥) → result ≡ answer_by g outcome → Moves s t (Does c (reply_by f outcome)) → Moves s t (Performs Meant result)
@@ -121,21 +123,19 @@ tree_asked : {A : Type 0} (s t : Connected) (Meant : Command → Type 0) (n : Li
 tree_asked s t Meant n call j f g (Ok x) meant accepts m =
     moved s t (DoesTree n call j (f x)) (Performs Meant (Ok (g x))) m (λ docs after h a shown. let y = h.2 a shown in (y.0, y.1, (on n (call h.0), meant h.0 h.1, f x, accepts x, y.2)))
 tree_asked s t Meant n call j f g (Err e) meant accepts m =
-    moved s t (DoesTree n call j (refused e.kind e.document)) (Performs Meant (Err _)) m (λ docs after h a shown. let y = h.2 a shown in (y.0, y.1, rows_stay a y.0 (on n (call h.0)) e.kind e.document y.2))
+    moved s t (DoesTree n call j (refused e.kind e.document)) (Performs Meant (Err (Refused e))) m (λ docs after h a shown. let y = h.2 a shown in (y.0, y.1, rows_stay a y.0 (on n (call h.0)) e.kind e.document y.2))
 
 pub tree_performs : {A : Type 0} (s t : Connected) (Meant : Command → Type 0) (n : List ℕ) (call : Reading → Call) (j : Data) (f : A → Reply) (g : A → Answer) (outcome : Result A StoreError) (result : Result Answer Stop)
     → ((x : Reading) → (IsName n → ReadsTree j x) → Meant (on n (call x))) → ((x : A) → IsRefusal (f x) → ⊥) → result ≡ answer_by g outcome → Moves s t (DoesTree n call j (reply_by f outcome)) → Moves s t (Performs Meant result)
 tree_performs s t Meant n call j f g outcome result meant accepts is m = subst (λ p. Moves s t (Performs Meant p)) (sym is) (tree_asked s t Meant n call j f g outcome meant accepts m)
 
 -- an export went out, or was refused
-sent : (s t : Connected) (Meant : Command → Type 0) (n : List ℕ) (old new : Tally) (g : Unit {0} → Answer) (outcome : Result (Unit {0}) StoreError) → Meant (on n export) → Moves s t (Sends n old new outcome) → Moves s t (Performs Meant (answer_by g outcome))
-sent s t Meant n old new g (Ok x) meant m = moved s t (Sends n old new (Ok x)) (Performs Meant (Ok (g x))) m (λ docs after h a shown. let out = bytes (flat_map encode (documents_of a n)) in (
+pub sent : (s t : Connected) (Meant : Command → Type 0) (n : List ℕ) (old new : Tally) → Meant (on n export) → Moves s t (Sends n old new (Ok tt)) → Moves s t (Prints Meant (Ok tt))
+sent s t Meant n old new meant m = moved s t (Sends n old new (Ok tt)) (Prints Meant (Ok tt)) m (λ docs after h a shown. let out = bytes (flat_map encode (documents_of a n)) in (
   a,
-  subst (λ d. Rattle.bson_store.specs.Shown.Show d a) (sym h.same) shown,
+  subst (λ d. Show d a) (sym h.same) shown,
   (on n export, meant, out, (λ no. no), stay a n export out (h.exports a shown).0 (refl, refl)),
 ))
-sent s t Meant n old new g (Err e) meant m = moved s t (Sends n old new (Err e)) (Performs Meant (Err _)) m (λ docs after h a shown. (a, subst (λ d. Rattle.bson_store.specs.Shown.Show d a) (sym h.same) shown, refl))
 
-pub export_performs : (s t : Connected) (Meant : Command → Type 0) (n : List ℕ) (old new : Tally) (g : Unit {0} → Answer) (outcome : Result (Unit {0}) StoreError) (result : Result Answer Stop) → Meant (on n export)
-    → result ≡ answer_by g outcome → Moves s t (Sends n old new outcome) → Moves s t (Performs Meant result)
-export_performs s t Meant n old new g outcome result meant is m = subst (λ p. Moves s t (Performs Meant p)) (sym is) (sent s t Meant n old new g outcome meant m)
+pub not_sent : (s t : Connected) (Meant : Command → Type 0) (n : List ℕ) (old new : Tally) (e : StoreError) → Moves s t (Sends n old new (Err e)) → Moves s t (Prints Meant (Err (Refused e)))
+not_sent s t Meant n old new e m = moved s t (Sends n old new (Err e)) (Prints Meant (Err (Refused e))) m (λ docs after h a shown. (a, subst (λ d. Show d a) (sym h.same) shown, inl refl))

@@ -23,6 +23,11 @@ abbrev pub mode_of : List (List ℕ) → Mode
 mode_of [] = Canonical
 mode_of (form ∷ forms) = Relaxed
 
+-- the key that the words behind an id begin with
+abbrev pub key_of : List (List ℕ) → List ℕ
+key_of [] = []
+key_of (key ∷ more) = key
+
 -- the call of a document, which the only text stands for
 abbrev pub IsOfTree : (Reading → model.Call) → List ℕ → List (List ℕ) → model.Command → Type 0
 IsOfTree call n texts c = (text : List ℕ) × (j : Data) × (a : Reading) × (texts ≡ text ∷ []) × (tree_of text ≡ Some j) × (model.IsName n → ReadsTree j a) × (c ≡ model.on n (call a))
@@ -42,7 +47,7 @@ IsCommandOf Insert n texts c = IsOfTree (model.insert model.in_json) n texts c
 IsCommandOf Replace n texts c = IsOfTree (model.replace model.in_json) n texts c
 IsCommandOf Get n texts c = IsOfId (λ id more. model.get_json (mode_of more) id) n texts c
 IsCommandOf Set n texts c = IsOfSet n texts c
-IsCommandOf Unset n texts c = (key : List ℕ) × IsOfId (λ id more. model.unset id key) n texts c
+IsCommandOf Unset n texts c = IsOfId (λ id more. model.unset id (key_of more)) n texts c
 IsCommandOf Remove n texts c = IsOfId (λ id more. model.remove id) n texts c
 IsCommandOf Find n texts c = (f : Filter) × (c ≡ model.on n (model.find f))
 IsCommandOf Count n texts c = (f : Filter) × (c ≡ model.on n (model.count f))
@@ -54,4 +59,4 @@ IsCommandOf Collections n texts c = c ≡ model.collections
 
 -- the command is one that the words ask for
 abbrev pub IsAskedBy : Words → model.Command → Type 0
-IsAskedBy w c = IsCommandOf w.call w.coll.now (map string_bytes w.rest.now) c
+IsAskedBy w = IsCommandOf w.call w.coll.now (map string_bytes w.rest.now)

@@ -4,6 +4,7 @@ use Rattle.bson_table.specs.Rows.{Doc}
 use Rattle.store_laws.specs.State.{Command, Reply}
 use Rattle.store_laws.specs.Table.{Table, Serves, IsRefusal}
 use Rattle.bson_store.specs.Shown.{Show}
+use Rattle.bson_store.specs.declared.error.StoreError.{StoreError}
 use Rattle.store_program.specs.declared.answer.Answer.{Answer}
 use Rattle.store_program.specs.declared.stop.Stop.{Stop}
 use Rattle.store_program.specs.declared.stop.Stop.TheVariants.{Words, Refused}
@@ -32,6 +33,11 @@ Printed Meant (Err (Words w)) a b = b ≡ a
 
 abbrev pub Prints : (Command → Type 0) → Result (Unit {0}) Stop → List Doc → List Doc → Type 0
 Prints Meant result = Comes (Printed Meant result)
+
+-- what is done is printed, or that is refused
+abbrev pub Tells : Result Answer Stop → Result (Unit {0}) Stop → Type 0
+Tells (Ok x) result = (result ≡ Ok tt) ⊎ ((e : StoreError) × (result ≡ Err (Refused e)))
+Tells (Err e) result = result ≡ Err e
 
 -- by the status: it was accepted; nothing was done, or it was accepted and its answer not printed; nothing was done
 abbrev pub Ended : (Command → Type 0) → ℕ → Table → Table → Type 0

@@ -4,7 +4,7 @@ ghost use Rattle.std.specs.Prelude.{◌≡◌, ◌≤◌, ◌<◌, ◌^◌, ◌-
 ghost use Rattle.bson_table.specs.Moves.{Moves};
 ghost use Rattle.bson_store.specs.Calls.{held};
 ghost use Rattle.store_program.specs.Commands.{IsAskedBy};
-ghost use Rattle.store_program.specs.Execute.{Performs, Prints, Executes};
+ghost use Rattle.store_program.specs.Execute.{Tells, Prints, Executes};
 
 use crate::answer::Answer;
 use crate::changes::{insert, remove, replace, set, unset};
@@ -16,32 +16,21 @@ use sqlite::Alter;
 use std::alloc::Global;
 use store_words::{Call, Words, write_complaint, write_refusal};
 
-/// Does what the words ask for.
-fn perform<S: Alter + Drop, I: Source, O: Sink>(
+/// Prints what a command answers. Of one that isn't done nothing is printed.
+fn told<O: Sink>(
     alloc: Global,
-    store: &mut Store<S>,
-    words: &Words<'_>,
-    input: &mut I,
+    outcome: Result<Answer, Stop>,
     output: &mut O,
-) -> Result<Answer, Stop>
-    requires input { I.failures input.old < 2 ^ 64 - 1 }
-    requires output { O.failures output.old < 2 ^ 64 - 1 }
-    ensures { Moves (held S.Store store.old) (held S.Store store.new) (Performs (IsAskedBy words.now) result) }
+) -> Result<(), Stop>
+    requires { O.failures output.old < 2 ^ 64 - 1 }
+    ensures { Tells outcome result }
 {
-    let name = words.coll;
-    let rest = words.rest;
-    match words.call {
-        Call::Insert => insert(alloc, store, name, rest),
-        Call::Replace => replace(alloc, store, name, rest),
-        Call::Get => get(alloc, store, name, rest),
-        Call::Set => set(alloc, store, name, rest),
-        Call::Unset => unset(alloc, store, name, rest),
-        Call::Remove => remove(alloc, store, name, rest),
-        Call::Export => export(store, name, rest, output),
-        _ => {
-            let _ = input;
-            Err(USAGE)
-        }
+    match outcome {
+        Ok(answer) => match print(alloc, &answer, output) {
+            Ok(()) => Ok(()),
+            Err(error) => Err(Stop::Refused(error)),
+        },
+        Err(stop) => Err(stop),
     }
 }
 
@@ -57,9 +46,21 @@ fn serve<S: Alter + Drop, I: Source, O: Sink>(
     requires output { O.failures output.old < 2 ^ 64 - 1 }
     ensures { Moves (held S.Store store.old) (held S.Store store.new) (Prints (IsAskedBy words.now) result) }
 {
-    let answer = perform(alloc, store, words, input, output)?;
-    print(alloc, &answer, output)?;
-    Ok(())
+    let name = words.coll;
+    let rest = words.rest;
+    match words.call {
+        Call::Insert => told(alloc, insert(alloc, store, name, rest), output),
+        Call::Replace => told(alloc, replace(alloc, store, name, rest), output),
+        Call::Get => told(alloc, get(alloc, store, name, rest), output),
+        Call::Set => told(alloc, set(alloc, store, name, rest), output),
+        Call::Unset => told(alloc, unset(alloc, store, name, rest), output),
+        Call::Remove => told(alloc, remove(alloc, store, name, rest), output),
+        Call::Export => export(store, name, rest, output),
+        _ => {
+            let _ = input;
+            Err(USAGE)
+        }
+    }
 }
 
 /// Does the command that the words ask for on `store`, and answers the program's status. Nothing of the words but their texts

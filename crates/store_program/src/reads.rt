@@ -5,9 +5,9 @@ ghost use Rattle.bson_table.specs.Moves.{Moves};
 ghost use Rattle.bson_store.specs.Calls.{held};
 ghost use Rattle.store_words.specs.declared.call.Call.TheVariants.{Get, Export};
 ghost use Rattle.store_program.specs.Commands.{IsCommandOf};
-ghost use Rattle.store_program.specs.Execute.{Performs};
+ghost use Rattle.store_program.specs.Execute.{Performs, Prints};
 
-use crate::answer::{Answer, nothing, tree};
+use crate::answer::{Answer, tree};
 use crate::stop::{Stop, USAGE};
 use crate::texts::{id_of, mode_of};
 use bson_store::{Sink, Store};
@@ -31,18 +31,21 @@ pub fn get<S: Alter + Drop>(
     tree(store.get_json(name, &id, mode))
 }
 
-/// `export COLL`: the written documents go out at once.
+/// `export COLL`: the written documents go out one after the other.
 pub fn export<S: Alter + Drop, O: Sink>(
     store: &mut Store<S>,
     name: &str,
     words: &[String],
     output: &mut O,
-) -> Result<Answer, Stop>
+) -> Result<(), Stop>
     requires { O.failures output.old < 2 ^ 64 - 1 }
-    ensures { Moves (held S.Store store.old) (held S.Store store.new) (Performs (IsCommandOf Export name.now (map string_bytes words.now)) result) }
+    ensures { Moves (held S.Store store.old) (held S.Store store.new) (Prints (IsCommandOf Export name.now (map string_bytes words.now)) result) }
 {
     if !words.is_empty() {
         return Err(USAGE);
     }
-    nothing(store.export(name, output))
+    match store.export(name, output) {
+        Ok(()) => Ok(()),
+        Err(error) => Err(Stop::Refused(error)),
+    }
 }
