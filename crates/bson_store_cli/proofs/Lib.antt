@@ -1,3 +1,4 @@
-pub mod Beginnings
-pub mod Inserting
-pub mod Exchanging
+mod Opening
+mod Refusing
+mod Keeping
+mod Sending

@@ -1,93 +1,75 @@
 -- What the program does to its input, its output and the device that faults are told to.
-use Rattle.std.specs.Prelude.{◌≡◌, ◌⊎◌, ℕ, ◌+◌, List, [], ◌∷◌, ◌++◌, Some, None, Result, Ok, Err, codes}
+use Rattle.std.specs.Prelude.{◌≡◌, ◌⊎◌, ℕ, ◌+◌, List, [], ◌∷◌, Some, None, Result, Ok, Err, codes}
 use Rattle.std.specs.Io.KnownBytes.{Appends}
-use Rattle.bson_base.specs.Device.{Supply, Gives, IsExhausted, TakesBeginning}
-use Rattle.first_path.specs.Value.{Members}
-use Rattle.first_path.specs.Bytes.{encode}
-use Rattle.first_path.specs.Reading.{readable, ReadsAs, IsRefused}
-use Rattle.first_path.specs.State.{State, list_of, refusal_of}
-use Rattle.first_path.specs.Export.{Tally, Delivers}
-use Rattle.first_path.specs.declared.error.ErrorKind.{ErrorKind}
-use Rattle.first_path.specs.declared.error.ErrorKind.TheVariants.{BadName, EndInside, BadLength, NotTerminated, Faulty, TooDeep, NoId, TooLong, NotFound, DuplicateId, Memory, Writer}
-use Rattle.bson_store_cli.specs.declared.refusal.Refusal.{Refusal}
-use Rattle.bson_store_cli.specs.declared.refusal.Refusal.TheVariants.{Reader, Store}
+use Rattle.bson_base.specs.Device.{TakesBeginning}
+use Rattle.bson_base.specs.Value.{Members}
+use Rattle.bson_bytes.specs.Encode.{encode}
+use Rattle.sqlite.specs.State.{State}
+use Rattle.bson_table.specs.Rows.{Doc}
+use Rattle.bson_table.specs.Moves.{Stands}
+use Rattle.store_laws.specs.Reading.{readable, unreadable, ReadsBytes}
+use Rattle.store_laws.specs.State.{list_of, refusal_of}
+use Rattle.store_laws.specs.Table.{Table, state_of}
+use Rattle.store_laws.specs.declared.error.ErrorKind.{ErrorKind}
+use Rattle.store_laws.specs.declared.error.ErrorKind.TheVariants.{Memory, Database, Reader, Writer}
+use Rattle.store_streams.specs.Feed.{Feed, ReadsAll, StopsReading}
+use Rattle.store_streams.specs.declared.input.ReadAllError.{ReadAllError}
+use Rattle.store_streams.specs.declared.input.ReadAllError.TheVariants as reading
+use Rattle.store_words.specs.Lines.{refusal_line}
+use Rattle.bson_store.specs.Shown.{Show}
+use Rattle.bson_store.specs.Export.{Tally, Delivers}
 
 -- ---- the line
-
-abbrev pub kind_name : ErrorKind → List ℕ
-kind_name BadName = codes "BadName"
-kind_name EndInside = codes "EndInside"
-kind_name BadLength = codes "BadLength"
-kind_name NotTerminated = codes "NotTerminated"
-kind_name Faulty = codes "Faulty"
-kind_name TooDeep = codes "TooDeep"
-kind_name NoId = codes "NoId"
-kind_name TooLong = codes "TooLong"
-kind_name NotFound = codes "NotFound"
-kind_name DuplicateId = codes "DuplicateId"
-kind_name Memory = codes "Memory"
-kind_name Writer = codes "Writer"
-
-abbrev pub name_of : Refusal → List ℕ
-name_of Reader = codes "Reader"
-name_of (Store kind) = kind_name kind
-
--- `refused: `, the name and a line feed
-abbrev pub line_of : Refusal → List ℕ
-line_of refusal = codes "refused: " ++ (name_of refusal ++ 10 ∷ [])
 
 -- the line went out, or a call failed and a beginning did
 abbrev pub Tells : List ℕ → Tally → Tally → Type 0
 Tells line old new = ((new.failures ≡ old.failures) × Appends old.taken new.taken line) ⊎ ((new.failures ≡ old.failures + 1) × TakesBeginning old.taken new.taken line)
 
--- ---- the input
-
--- what a source tells: how many of its calls have failed, and what it gave and has left, where it knows that
-pub record Feed : Type 0 where
-  pub failures : ℕ
-  pub supply : Supply
-
--- no call failed, and the input gave these bytes, all that it had left
-abbrev pub ReadsAll : Feed → Feed → List ℕ → Type 0
-ReadsAll old new bytes = (new.failures ≡ old.failures) × Gives old.supply new.supply bytes × IsExhausted new.supply
-
--- a call failed, or memory was wanted for what the input gave
-abbrev pub StopsReading : Refusal → Feed → Feed → Type 0
-StopsReading Reader old new = new.failures ≡ old.failures + 1
-StopsReading (Store Memory) old new = (new.failures ≡ old.failures) × ((bytes : List ℕ) × Gives old.supply new.supply bytes)
-StopsReading (Store _) old new = ⊥
-
 -- ---- the document
 
--- the bytes mean the document, and a store keeps it
-abbrev pub MeansKept : List ℕ → Members → Type 0
-MeansKept bytes d = ReadsAs bytes (readable d) × (refusal_of d ≡ None)
+abbrev pub kind_of_reading : ReadAllError → ErrorKind
+kind_of_reading reading.Reader = Reader
+kind_of_reading reading.Memory = Memory
 
--- the bytes are refused with the kind, or they mean a document that is
-abbrev pub AreRefused : List ℕ → ErrorKind → Type 0
-AreRefused bytes kind = IsRefused bytes kind ⊎ ((d : Members) × ReadsAs bytes (readable d) × (refusal_of d ≡ Some kind))
+-- all of the input was read, and it means the document
+abbrev pub ReadsDocument : Feed → Feed → Members → Type 0
+ReadsDocument old new d = (bytes : List ℕ) × ReadsAll old new bytes × ReadsBytes bytes (readable d)
 
--- the program's collection has just the document of the input
+-- all of it was read, and it can't be read as a document for this reason, or means one that isn't kept for it
+abbrev pub ReadsRefused : Feed → Feed → ErrorKind → Type 0
+ReadsRefused old new kind = (bytes : List ℕ) × ReadsAll old new bytes × (ReadsBytes bytes (unreadable kind) ⊎ ((d : Members) × ReadsBytes bytes (readable d) × (refusal_of d ≡ Some kind)))
+
+-- the rows are those of a table whose list under the program's name is the document alone
+abbrev pub HasAlone : State → Members → Type 0
+HasAlone s d = (docs : List Doc) × (a : Table) × Stands s docs × Show docs a × (list_of (state_of a) (codes "c") ≡ d ∷ [])
+
+-- the document of the input is kept, alone
 abbrev pub KeepsInput : Feed → Feed → State → Type 0
-KeepsInput old new state = (bytes : List ℕ) × (d : Members) × ReadsAll old new bytes × MeansKept bytes d × (list_of state (codes "c") ≡ d ∷ [])
+KeepsInput old new s = (d : Members) × ReadsDocument old new d × (refusal_of d ≡ None) × HasAlone s d
 
--- why it has not
-abbrev pub RefusesInput : Refusal → Feed → Feed → Type 0
-RefusesInput Reader old new = StopsReading Reader old new
-RefusesInput (Store Memory) old new = StopsReading (Store Memory) old new ⊎ ((bytes : List ℕ) × (d : Members) × ReadsAll old new bytes × ReadsAs bytes (readable d))
-RefusesInput (Store kind) old new = (bytes : List ℕ) × ReadsAll old new bytes × AreRefused bytes kind
+-- why it is not
+abbrev pub RefusesInput : ErrorKind → Feed → Feed → Type 0
+RefusesInput Reader old new = StopsReading reading.Reader old new
+RefusesInput Memory old new = StopsReading reading.Memory old new ⊎ ((d : Members) × ReadsDocument old new d)
+RefusesInput Database old new = (new ≡ old) ⊎ ((d : Members) × ReadsDocument old new d)
+RefusesInput kind old new = ReadsRefused old new kind
 
 -- ---- the program
 
--- All was read, it means a document that is kept, and this went out as it is written; or why not. Only where Memory or
--- Writer is told may something have gone out, a beginning of the written document.
-abbrev pub Exchanges : Feed → Feed → Tally → Tally → Result (Unit {0}) Refusal → Type 0
-Exchanges old new before after (Ok x) = (bytes : List ℕ) × (d : Members) × ReadsAll old new bytes × MeansKept bytes d × Delivers (encode d) before after (Ok x)
-Exchanges old new before after (Err (Store Writer)) = (bytes : List ℕ) × (d : Members) × ReadsAll old new bytes × MeansKept bytes d × Delivers (encode d) before after (Err Writer)
-Exchanges old new before after (Err (Store Memory)) = (StopsReading (Store Memory) old new × (after ≡ before))
-    ⊎ ((bytes : List ℕ) × (d : Members) × ReadsAll old new bytes × ReadsAs bytes (readable d) × Delivers (encode d) before after (Err Memory))
-Exchanges old new before after (Err Reader) = StopsReading Reader old new × (after ≡ before)
-Exchanges old new before after (Err (Store kind)) = ((bytes : List ℕ) × ReadsAll old new bytes × AreRefused bytes kind) × (after ≡ before)
+-- Once a document was read, memory was wanted or the database refused: nothing went out, or the document is kept, and a
+-- beginning of it did.
+abbrev pub Denies : ErrorKind → Feed → Feed → Tally → Tally → Type 0
+Denies kind old new before after = (d : Members) × ReadsDocument old new d × ((after ≡ before) ⊎ ((refusal_of d ≡ None) × Delivers (encode d) before after (Err kind)))
+
+-- All was read, it means a document that is kept, and this went out as it is written; or why not. Only where Writer, Memory or
+-- Database is told may something have gone out. The database can refuse before the first byte is read.
+abbrev pub Exchanges : Feed → Feed → Tally → Tally → Result (Unit {0}) ErrorKind → Type 0
+Exchanges old new before after (Ok x) = (d : Members) × ReadsDocument old new d × (refusal_of d ≡ None) × Delivers (encode d) before after (Ok x)
+Exchanges old new before after (Err Writer) = (d : Members) × ReadsDocument old new d × (refusal_of d ≡ None) × Delivers (encode d) before after (Err Writer)
+Exchanges old new before after (Err Memory) = (StopsReading reading.Memory old new × (after ≡ before)) ⊎ Denies Memory old new before after
+Exchanges old new before after (Err Database) = ((new ≡ old) × (after ≡ before)) ⊎ Denies Database old new before after
+Exchanges old new before after (Err Reader) = StopsReading reading.Reader old new × (after ≡ before)
+Exchanges old new before after (Err kind) = ReadsRefused old new kind × (after ≡ before)
 
 -- the three devices
 pub record Devices : Type 0 where
@@ -98,4 +80,4 @@ pub record Devices : Type 0 where
 -- status 0: it is done, and nothing is told; status 1: it was refused, and the line tells why
 abbrev pub Pipes : Devices → Devices → ℕ → Type 0
 Pipes old new status = ((status ≡ 0) × Exchanges old.input new.input old.output new.output (Ok tt) × (new.faults ≡ old.faults))
-    ⊎ ((refusal : Refusal) × (status ≡ 1) × Exchanges old.input new.input old.output new.output (Err refusal) × Tells (line_of refusal) old.faults new.faults)
+    ⊎ ((kind : ErrorKind) × (status ≡ 1) × Exchanges old.input new.input old.output new.output (Err kind) × Tells (refusal_line kind None) old.faults new.faults)

@@ -3,11 +3,10 @@
 #![tactic(auto)]
 
 mod pipe;
-mod refusal;
 #[cfg(test)]
 mod tests;
 
-use first_path::Counted;
+use bson_store::Counted;
 use pipe::pipe;
 use std::process::ExitCode;
 

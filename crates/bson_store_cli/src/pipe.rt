@@ -1,64 +1,73 @@
 //! The program over any devices.
 
-ghost use Rattle.std.specs.Prelude.{◌≡◌, ◌<◌, ◌^◌, ◌-◌, IfOk, IfErr, vec_len};
-ghost use Rattle.first_path.specs.StoreView.{state_of};
-ghost use Rattle.bson_store_cli.specs.Pipe.{ReadsAll, StopsReading, KeepsInput, RefusesInput, Exchanges, Pipes};
+ghost use Rattle.std.specs.Prelude.{◌≡◌, ◌⊎◌, ◌<◌, ◌^◌, ◌-◌, [], IfOk, IfErr};
+ghost use Rattle.sqlite.specs.Steps.{over_memory};
+ghost use Rattle.store_laws.specs.declared.error.ErrorKind.TheVariants.{Memory, Database};
+ghost use Rattle.bson_table.specs.Moves.{Stands};
+ghost use Rattle.bson_store.specs.Calls.{held};
+ghost use Rattle.bson_store_cli.specs.Pipe.{kind_of_reading, KeepsInput, RefusesInput, Exchanges, Pipes};
 
-use crate::refusal::Refusal;
-use bson_base::read_full;
-use first_path::{Sink, Source, Store};
-use std::alloc::{AllocError, Global};
-
-/// How many bytes are read at a time.
-const CHUNK: usize = 65536;
+use bson_store::{ErrorKind, Sink, Source, Store};
+use sqlite::{Connection, MemStore};
+use std::alloc::Global;
+use store_streams::{ReadAllError, read_all};
+use store_words::write_refusal;
 
 /// The collection that the document is kept in.
 const NAME: &str = "c";
 
-/// Room for the bytes of one read.
-fn room(alloc: Global) -> Result<Vec<u8>, AllocError>
-    ensures { IfOk result (λ room. 0 < vec_len room) }
+/// A new store in memory, without a document.
+fn new_store(alloc: Global) -> Result<Store<MemStore>, ErrorKind>
+    ensures empty { IfOk result (λ store. Stands (held over_memory store) []) }
+    ensures denied { IfErr result (λ kind. (kind ≡ Memory) ⊎ (kind ≡ Database)) }
 {
-    vec![in alloc; 0u8; CHUNK]
-}
-
-/// Reads the input to its end.
-fn read_all<I: Source>(alloc: Global, input: &mut I) -> Result<Vec<u8>, Refusal>
-    requires { I.failures input.old < 2 ^ 64 - 1 }
-    ensures ok { IfOk result (λ bytes. ReadsAll (record { failures = I.failures input.old; supply = I.supply input.old })
-        (record { failures = I.failures input.new; supply = I.supply input.new }) bytes.items) }
-    ensures err { IfErr result (λ refusal. StopsReading refusal (record { failures = I.failures input.old; supply = I.supply input.old })
-        (record { failures = I.failures input.new; supply = I.supply input.new })) }
-{
-    let mut chunk = room(alloc)?;
-    let mut bytes = Vec::new(alloc);
-    loop {
-        let Ok(n) = read_full(input, &mut chunk) else {
-            return Err(Refusal::Reader);
-        };
-        bytes.extend_from_slice(&chunk[..n])?;
-        if n < chunk.len() {
-            return Ok(bytes);
+    let Ok(connection) = Connection::open_in_memory(alloc) else {
+        return Err(ErrorKind::Memory);
+    };
+    match Store::open(alloc, connection) {
+        Ok(store) => Ok(store),
+        Err((error, connection)) => {
+            drop(connection);
+            Err(error.kind)
         }
     }
 }
 
-/// Keeps the document of the input in a new store.
-fn keep<I: Source>(alloc: Global, input: &mut I) -> Result<Store, Refusal>
+/// The kind that is told where the input isn't read to its end.
+fn kind_of_reading(error: ReadAllError) -> ErrorKind
+    ensures { result ≡ kind_of_reading error }
+{
+    match error {
+        ReadAllError::Reader => ErrorKind::Reader,
+        ReadAllError::Memory => ErrorKind::Memory,
+    }
+}
+
+/// Keeps the document of the input in a new store, which is there before the first byte is read.
+fn keep<I: Source>(alloc: Global, input: &mut I) -> Result<Store<MemStore>, ErrorKind>
     requires { I.failures input.old < 2 ^ 64 - 1 }
     ensures ok { IfOk result (λ store. KeepsInput (record { failures = I.failures input.old; supply = I.supply input.old })
-        (record { failures = I.failures input.new; supply = I.supply input.new }) (state_of store)) }
-    ensures err { IfErr result (λ refusal. RefusesInput refusal (record { failures = I.failures input.old; supply = I.supply input.old })
+        (record { failures = I.failures input.new; supply = I.supply input.new }) (held over_memory store)) }
+    ensures err { IfErr result (λ kind. RefusesInput kind (record { failures = I.failures input.old; supply = I.supply input.old })
         (record { failures = I.failures input.new; supply = I.supply input.new })) }
 {
-    let bytes = read_all(alloc, input)?;
-    let mut store = Store::new(alloc);
-    store.insert_raw(NAME, &bytes)?;
-    Ok(store)
+    let mut store = new_store(alloc)?;
+    let bytes = match read_all(alloc, input) {
+        Ok(bytes) => bytes,
+        Err(error) => return Err(kind_of_reading(error)),
+    };
+    match store.insert_raw(NAME, &bytes) {
+        Ok(()) => Ok(store),
+        Err(error) => Err(error.kind),
+    }
 }
 
 /// Keeps the document of the input, and writes what the store exports.
-fn exchange<I: Source, O: Sink>(alloc: Global, input: &mut I, output: &mut O) -> Result<(), Refusal>
+fn exchange<I: Source, O: Sink>(
+    alloc: Global,
+    input: &mut I,
+    output: &mut O,
+) -> Result<(), ErrorKind>
     requires input { I.failures input.old < 2 ^ 64 - 1 }
     requires output { O.failures output.old < 2 ^ 64 - 1 }
     ensures { Exchanges (record { failures = I.failures input.old; supply = I.supply input.old })
@@ -66,17 +75,20 @@ fn exchange<I: Source, O: Sink>(alloc: Global, input: &mut I, output: &mut O) ->
         (record { failures = O.failures output.old; taken = O.taken output.old })
         (record { failures = O.failures output.new; taken = O.taken output.new }) result }
 {
-    let store = keep(alloc, input)?;
-    store.export(NAME, output)?;
-    Ok(())
+    let mut store = keep(alloc, input)?;
+    match store.export(NAME, output) {
+        Ok(()) => Ok(()),
+        Err(error) => Err(error.kind),
+    }
 }
 
-/// Reads `input` to its end, keeps the document that its bytes mean in a new store, and writes what the store exports to
-/// `output`. The answer is the status of the program: 0, or 1 where this is refused, and then the line `refused: KIND` goes
-/// to `faults`. Where that fails nothing more is done.
+/// Opens a new store in memory, reads `input` to its end, keeps the document that its bytes mean, and writes what the store
+/// exports to `output`. The answer is the status of the program: 0, or 1 where this is refused, and then the line
+/// `refused: KIND` goes to `faults`. Where that fails nothing more is done.
 ///
 /// The kinds are Reader, where a read failed; EndInside, BadLength, NotTerminated, Faulty and TooDeep of the bytes; NoId and
-/// TooLong of the document; Writer, where a write failed or took nothing; and Memory.
+/// TooLong of the document; Writer, where a write failed or took nothing; and Memory and Database, but never in the place of
+/// a refusal by bytes that were read.
 pub fn pipe<I: Source, O: Sink, F: Sink>(
     alloc: Global,
     input: &mut I,
@@ -99,8 +111,8 @@ pub fn pipe<I: Source, O: Sink, F: Sink>(
 {
     match exchange(alloc, input, output) {
         Ok(()) => 0,
-        Err(refusal) => {
-            let _ = refusal.tell(faults);
+        Err(kind) => {
+            let _ = write_refusal(faults, kind, None);
             1
         }
     }

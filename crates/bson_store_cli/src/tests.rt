@@ -2,7 +2,9 @@
 
 use crate::pipe::pipe;
 use bson_base::faulty::{FaultySink, FaultySource};
-use first_path::{SliceSource, VecSink};
+use bson_store::{SliceSource, VecSink};
+use std::alloc::Global;
+use std::process::Abort;
 use std::test::Fail;
 
 /// `{_id: 1, hello: "world"}`, the sample of the repository.
@@ -25,89 +27,115 @@ const LAST: [u8; 14] = [
 /// A document without elements.
 const EMPTY: [u8; 5] = [0x05, 0x00, 0x00, 0x00, 0x00];
 
-/// A document whose `_id` is a boolean without its payload.
-const CUT: [u8; 11] = [
+/// A document whose `_id` is true.
+const FLAG: [u8; 11] = [
     0x0B, 0x00, 0x00, 0x00, 0x08, 0x5F, 0x69, 0x64, 0x00, 0x01, 0x00,
 ];
 
+/// A document whose `_id` is a boolean without its payload.
+const CUT: [u8; 10] = [0x0A, 0x00, 0x00, 0x00, 0x08, 0x5F, 0x69, 0x64, 0x00, 0x00];
+
+/// Runs the program on an input in memory, and compares the status, what was written and what was told.
+fn answers(
+    rt: &impl Abort,
+    alloc: Global,
+    bytes: &[u8],
+    want: (u8, &[u8], &[u8]),
+) -> Result<(), Fail> {
+    let mut input = SliceSource::new(bytes);
+    let mut output = VecSink::new(alloc);
+    let mut faults = VecSink::new(alloc);
+    let status = pipe(alloc, &mut input, &mut output, &mut faults);
+    let found = (status, output.bytes.as_slice(), faults.bytes.as_slice());
+    assert_eq!(rt; found, want);
+    Ok(())
+}
+
+/// Runs the program on HELLO, whose source gives one byte a call and fails from this call on.
+fn reads(
+    rt: &impl Abort,
+    alloc: Global,
+    calls: u64,
+    want: (u8, u64, &[u8], &[u8]),
+) -> Result<(), Fail> {
+    let mut input = FaultySource::new(&HELLO, calls);
+    let mut output = VecSink::new(alloc);
+    let mut faults = VecSink::new(alloc);
+    let status = pipe(alloc, &mut input, &mut output, &mut faults);
+    let failed = input.failed;
+    let found = (status, failed, output.bytes.as_slice(), faults.bytes.as_slice());
+    assert_eq!(rt; found, want);
+    Ok(())
+}
+
+/// Runs the program on HELLO, whose output takes one byte a call and fails from this call on.
+fn writes(
+    rt: &impl Abort,
+    alloc: Global,
+    room: u64,
+    want: (u8, u64, &[u8], &[u8]),
+) -> Result<(), Fail> {
+    let mut input = SliceSource::new(&HELLO);
+    let mut output = FaultySink::new(alloc, room);
+    let mut faults = VecSink::new(alloc);
+    let status = pipe(alloc, &mut input, &mut output, &mut faults);
+    let failed = output.failed;
+    let found = (status, failed, output.bytes.as_slice(), faults.bytes.as_slice());
+    assert_eq!(rt; found, want);
+    Ok(())
+}
+
+/// Runs the program on EMPTY, where the line can't be told from this call on.
+fn tells(
+    rt: &impl Abort,
+    alloc: Global,
+    room: u64,
+    want: (u8, u64, &[u8], &[u8]),
+) -> Result<(), Fail> {
+    let mut input = SliceSource::new(&EMPTY);
+    let mut output = VecSink::new(alloc);
+    let mut faults = FaultySink::new(alloc, room);
+    let status = pipe(alloc, &mut input, &mut output, &mut faults);
+    let failed = faults.failed;
+    let found = (status, failed, output.bytes.as_slice(), faults.bytes.as_slice());
+    assert_eq!(rt; found, want);
+    Ok(())
+}
+
 #[test]
 fn answers_each_input(rt: HostRuntime) -> Result<(), Fail> {
-    let table: [(&[u8], &[u8], u8, &str); 5] = [
-        (&HELLO, &HELLO, 0, ""),
-        (&[], &[], 1, "refused: EndInside\n"),
-        (&EMPTY, &[], 1, "refused: NoId\n"),
-        (&TWICE, &LAST, 0, ""),
-        (&CUT, &[], 1, "refused: Faulty\n"),
-    ];
-    for (bytes, written, status, line) in table {
-        let mut input = SliceSource::new(bytes);
-        let mut output = VecSink::new(rt.alloc());
-        let mut faults = VecSink::new(rt.alloc());
-        let answer = pipe(rt.alloc(), &mut input, &mut output, &mut faults);
-        assert_eq!(rt; answer, status);
-        assert_eq!(rt; output.bytes.as_slice(), written);
-        assert_eq!(rt; faults.bytes.as_slice(), line.as_bytes());
-    }
-    Ok(())
+    let alloc = rt.alloc();
+    answers(&rt, alloc, &HELLO, (0, &HELLO, b""))?;
+    answers(&rt, alloc, &[], (1, b"", b"refused: EndInside\n"))?;
+    answers(&rt, alloc, &EMPTY, (1, b"", b"refused: NoId\n"))?;
+    answers(&rt, alloc, &TWICE, (0, &LAST, b""))?;
+    answers(&rt, alloc, &FLAG, (0, &FLAG, b""))?;
+    answers(&rt, alloc, &CUT, (1, b"", b"refused: Faulty\n"))
 }
 
 #[test]
 fn tells_a_failing_read(rt: HostRuntime) -> Result<(), Fail> {
     // One call gives one byte, and one more tells the end.
     for calls in 0..32u64 {
-        let mut input = FaultySource::new(&HELLO, calls);
-        let mut output = VecSink::new(rt.alloc());
-        let mut faults = VecSink::new(rt.alloc());
-        let status = pipe(rt.alloc(), &mut input, &mut output, &mut faults);
-        assert_eq!(rt; status, 1);
-        assert_eq!(rt; input.failed, 1);
-        assert!(rt; output.bytes.is_empty());
-        assert_eq!(rt; faults.bytes.as_slice(), b"refused: Reader\n".as_slice());
+        reads(&rt, rt.alloc(), calls, (1, 1, b"", b"refused: Reader\n"))?;
     }
-    let mut input = FaultySource::new(&HELLO, 32);
-    let mut output = VecSink::new(rt.alloc());
-    let mut faults = VecSink::new(rt.alloc());
-    let status = pipe(rt.alloc(), &mut input, &mut output, &mut faults);
-    assert_eq!(rt; status, 0);
-    assert_eq!(rt; output.bytes.as_slice(), HELLO.as_slice());
-    assert!(rt; faults.bytes.is_empty());
-    Ok(())
+    reads(&rt, rt.alloc(), 32, (0, 0, &HELLO, b""))
 }
 
 #[test]
 fn tells_a_failing_write(rt: HostRuntime) -> Result<(), Fail> {
     for room in 0..31usize {
-        let mut input = SliceSource::new(&HELLO);
-        let mut output = FaultySink::new(rt.alloc(), room as u64);
-        let mut faults = VecSink::new(rt.alloc());
-        let status = pipe(rt.alloc(), &mut input, &mut output, &mut faults);
-        assert_eq!(rt; status, 1);
-        assert_eq!(rt; output.failed, 1);
-        assert_eq!(rt; output.bytes.as_slice(), &HELLO[..room]);
-        assert_eq!(rt; faults.bytes.as_slice(), b"refused: Writer\n".as_slice());
+        let want = (1, 1, &HELLO[..room], b"refused: Writer\n".as_slice());
+        writes(&rt, rt.alloc(), room as u64, want)?;
     }
-    let mut input = SliceSource::new(&HELLO);
-    let mut output = FaultySink::new(rt.alloc(), 31);
-    let mut faults = VecSink::new(rt.alloc());
-    let status = pipe(rt.alloc(), &mut input, &mut output, &mut faults);
-    assert_eq!(rt; status, 0);
-    assert_eq!(rt; output.bytes.as_slice(), HELLO.as_slice());
-    assert!(rt; faults.bytes.is_empty());
-    Ok(())
+    writes(&rt, rt.alloc(), 31, (0, 0, &HELLO, b""))
 }
 
 #[test]
 fn goes_no_further_where_the_line_fails(rt: HostRuntime) -> Result<(), Fail> {
     let line = b"refused: NoId\n";
     for room in 0..14usize {
-        let mut input = SliceSource::new(&EMPTY);
-        let mut output = VecSink::new(rt.alloc());
-        let mut faults = FaultySink::new(rt.alloc(), room as u64);
-        let status = pipe(rt.alloc(), &mut input, &mut output, &mut faults);
-        assert_eq!(rt; status, 1);
-        assert!(rt; output.bytes.is_empty());
-        assert_eq!(rt; faults.failed, 1);
-        assert_eq!(rt; faults.bytes.as_slice(), &line[..room]);
+        tells(&rt, rt.alloc(), room as u64, (1, 1, b"", &line[..room]))?;
     }
     Ok(())
 }
@@ -123,12 +151,5 @@ fn reads_more_than_one_chunk(rt: HostRuntime) -> Result<(), Fail> {
     bytes.extend_from_slice(&199980u32.to_le_bytes())?;
     bytes.extend_from_slice(&letters)?;
     bytes.extend_from_slice(&[0, 0])?;
-    let mut input = SliceSource::new(&bytes);
-    let mut output = VecSink::new(rt.alloc());
-    let mut faults = VecSink::new(rt.alloc());
-    let status = pipe(rt.alloc(), &mut input, &mut output, &mut faults);
-    assert!(rt; faults.bytes.is_empty());
-    assert_eq!(rt; status, 0);
-    assert!(rt; output.bytes.as_slice() == bytes.as_slice());
-    Ok(())
+    answers(&rt, rt.alloc(), &bytes, (0, &bytes, b""))
 }

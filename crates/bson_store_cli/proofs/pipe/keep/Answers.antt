@@ -1,24 +1,28 @@
-use Rattle.std.proofs.Common.{subst}
-use Rattle.std.proofs.lemmas.Result.{err_from_is_err_and}
-use Rattle.first_path.specs.StoreView.{state_of}
-use Rattle.bson_store_cli.specs.Pipe.{Feed}
-use Rattle.bson_store_cli.proofs.Inserting.{nothing_listed, IsInserted, InsertRefused, inserted, not_inserted, input_kept, input_refused}
+use Rattle.std.proofs.Common.{ℕ, List, subst}
+use Rattle.sqlite.specs.Steps.{over_memory}
+use Rattle.sqlite.proofs.Callers.{memory_is_clean}
+use Rattle.bson_table.specs.Moves.{Moves}
+use Rattle.store_laws.specs.State.{in_bytes, insert, done, refused}
+use Rattle.store_streams.specs.Feed.{Feed}
+use Rattle.bson_store.specs.Calls.{connection_of, held, DoesBytes}
+use Rattle.bson_store_cli.proofs.Keeping.{name, input_kept, input_not_kept}
 use Rattle.bson_store_cli.proofs.pipe.keep.Goals as goal
 
-pub returns-in_err-insert_raw-clause-err : goal.returns-in_err-insert_raw-clause-err
-returns-in_err-insert_raw-clause-err g c =
+pub returns-in-Ok-insert_raw-clause-ok : goal.returns-in-Ok-insert_raw-clause-ok
+returns-in-Ok-insert_raw-clause-ok g c =
     let old : Feed = record { failures = g.I.Source.failures c.args.input.now; supply = g.I.Source.supply c.args.input.now } in
-    let new : Feed = record { failures = g.I.Source.failures c.read_all.new.input; supply = g.I.Source.supply c.read_all.new.input } in
-    let error = c.in_err-insert_raw.field-0.0 in
-    let none = nothing_listed (state_of c.new-store.result) c.new-store.ensures in
-    let why = not_inserted (state_of c.new-store.result) (state_of c.insert_raw.new.self) c.deref.result.now error.kind error.document none c.in_err-insert_raw.ensures.step in
-    let p = err_from_is_err_and c.from_residual-in_err-insert_raw.result c.from_residual-in_err-insert_raw.ensures.1 in
-    rw (p.1, p.2) (input_refused old new c.in_ok-bytes.bytes.items error.kind c.in_ok-bytes.ensures.ok (subst (λ bytes. InsertRefused bytes error.kind) c.deref.ensures.value why))
+    let new : Feed = record { failures = g.I.Source.failures c.read_all.new.source; supply = g.I.Source.supply c.read_all.new.source } in
+    let s = held over_memory c.in_ok-store.store in
+    let t = held over_memory c.insert_raw.new.self in
+    let moves = subst (λ (bytes : List ℕ). Moves s t (DoesBytes name (insert in_bytes) bytes done)) c.deref.ensures.value c.in-Ok-insert_raw.ensures in
+    input_kept s t old new c.in-Ok.bytes.items (memory_is_clean (connection_of c.insert_raw.new.self)) c.in_ok-store.ensures.empty c.in-Ok.ensures.ok moves
 
-pub returns-clause-ok : goal.returns-clause-ok
-returns-clause-ok g c =
+pub returns-in-Err-insert_raw-clause-err : goal.returns-in-Err-insert_raw-clause-err
+returns-in-Err-insert_raw-clause-err g c =
     let old : Feed = record { failures = g.I.Source.failures c.args.input.now; supply = g.I.Source.supply c.args.input.now } in
-    let new : Feed = record { failures = g.I.Source.failures c.read_all.new.input; supply = g.I.Source.supply c.read_all.new.input } in
-    let none = nothing_listed (state_of c.new-store.result) c.new-store.ensures in
-    let kept = inserted (state_of c.new-store.result) (state_of c.insert_raw.new.self) c.deref.result.now none c.in_ok-insert_raw.ensures.step in
-    input_kept old new c.in_ok-bytes.bytes.items (state_of c.insert_raw.new.self) c.in_ok-bytes.ensures.ok (subst (λ bytes. IsInserted bytes (state_of c.insert_raw.new.self)) c.deref.ensures.value kept)
+    let new : Feed = record { failures = g.I.Source.failures c.read_all.new.source; supply = g.I.Source.supply c.read_all.new.source } in
+    let s = held over_memory c.in_ok-store.store in
+    let t = held over_memory c.insert_raw.new.self in
+    let e = c.in-Err-insert_raw.error in
+    let moves = subst (λ (bytes : List ℕ). Moves s t (DoesBytes name (insert in_bytes) bytes (refused e.kind e.document))) c.deref.ensures.value c.in-Err-insert_raw.ensures in
+    input_not_kept s t old new c.in-Ok.bytes.items e.kind e.document (memory_is_clean (connection_of c.insert_raw.new.self)) c.in_ok-store.ensures.empty c.in-Ok.ensures.ok moves
