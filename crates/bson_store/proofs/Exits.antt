@@ -1,5 +1,6 @@
 -- Exits of the calls, as moves of the rows.
 use Rattle.std.proofs.Common.{◌≡◌, ℕ, List, Option, Some, None, Ok, Err, subst}
+use Rattle.std.specs.Prelude.{IsUtf8}
 use Rattle.serde_json.specs.Data.{Data}
 use Rattle.sqlite.specs.State.{State}
 use Rattle.bson_base.specs.Kinds.{IsSound}
@@ -103,10 +104,10 @@ duplicate_insert s t n d w f x good read written e m =
     moved s t (Finds n w.key.items (Ok f)) (DoesRead n insert d (refused kind.DuplicateId None)) m
     (λ docs after h. duplicate docs after n w.key.items w.body.items d x good (written_fits d w read written) (subst (λ o. Finds n w.key.items (Ok o) docs after) e h))
 
-pub put_moves : (s t u : State) (n : List ℕ) (d : Members) (w : Written) (f : Option Found) → IsName n → IsRead d → AnswersWritten d (Ok w) → f ≡ None → Moves s t (Finds n w.key.items (Ok f)) → Moves t u (Appends 1 (appended n w.key.items w.body.items) (Ok tt)) → Moves s u (DoesRead n insert d done)
-put_moves s t u n d w f good read written e m k =
+pub put_moves : (s t u : State) (n : List ℕ) (d : Members) (w : Written) (f : Option Found) → IsName n → IsUtf8 n → IsRead d → AnswersWritten d (Ok w) → f ≡ None → Moves s t (Finds n w.key.items (Ok f)) → Moves t u (Appends 1 (appended n w.key.items w.body.items) (Ok tt)) → Moves s u (DoesRead n insert d done)
+put_moves s t u n d w f good text read written e m k =
     moved_twice s t u (Finds n w.key.items (Ok f)) (Appends 1 (appended n w.key.items w.body.items) (Ok tt)) (DoesRead n insert d done) m k
-    (λ docs mid after h l. put_in docs mid after n w.key.items w.body.items d good (written_fits d w read written) (subst (λ o. Finds n w.key.items (Ok o) docs mid) e h) l)
+    (λ docs mid after h l. put_in docs mid after n w.key.items w.body.items d good text (written_fits d w read written) (subst (λ o. Finds n w.key.items (Ok o) docs mid) e h) l)
 
 pub not_put_moves : (s t u : State) (n : List ℕ) (d : Members) (w : Written) (f : Option Found) (x : Fault) → IsName n → IsRead d → AnswersWritten d (Ok w) → f ≡ None → Moves s t (Finds n w.key.items (Ok f)) → Moves t u (Appends 1 (appended n w.key.items w.body.items) (Err x)) → Moves s u (DoesRead n insert d (refused (kind_of_fault x) None))
 not_put_moves s t u n d w f x good read written e m k =

@@ -82,7 +82,7 @@ all_written a b xs i h before = subst (λ x. Appends a b (joined x)) (take_all i
 
 -- ---- the bodies of a collection are its written documents
 
-bodies_are : (n : List ℕ) (a : Table) (docs : List Doc) → AreRowsOf a docs → bodies_of n docs ≡ map encode (documents_of a n)
+pub bodies_are : (n : List ℕ) (a : Table) (docs : List Doc) → AreRowsOf a docs → bodies_of n docs ≡ map encode (documents_of a n)
 bodies_are n [] [] each = refl
 bodies_are n [] (d ∷ docs) each = absurd each
 bodies_are n (r ∷ rs) [] each = absurd each

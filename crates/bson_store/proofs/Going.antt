@@ -1,12 +1,14 @@
 -- Runs of the first commands, which go on by one more.
-use Rattle.std.proofs.Common.{◌≡◌, ℕ, List, [], ◌∷◌, ◌++◌, length, map, refl, ap, ◌∙◌, sym, subst, arith, append_assoc, append-nil, length-append}
+use Rattle.std.proofs.Common.{◌≡◌, ℕ, List, [], ◌∷◌, ◌++◌, length, map, Option, refl, ap, ◌∙◌, sym, subst, arith, append_assoc, append-nil, length-append}
 use Rattle.std.specs.FinMap.{empty}
 use Rattle.sqlite.specs.State.{State}
 use Rattle.bson_table.specs.Rows.{Doc}
 use Rattle.bson_table.specs.Moves.{Moves}
 use Rattle.serde_json.specs.Data.{Data}
-use Rattle.store_laws.specs.Reading.{Reading, ReadsBytes, ReadsTree}
+use Rattle.store_laws.specs.Reading.{Documents, Reading, ReadsBytes, ReadsTree}
 use Rattle.bson_store.specs.Calls.{Does, DoesBytes, DoesTree}
+use Rattle.bson_store.specs.Many.{DoesMany}
+use Rattle.store_laws.specs.declared.error.ErrorKind.{ErrorKind}
 use Rattle.store_laws.specs.State as model
 use Rattle.store_laws.specs.Table.{RunThrough}
 use Rattle.store_laws.proofs.Going.{one_more}
@@ -98,3 +100,8 @@ obeys_tree s t x n j call r q asks is m =
 
 pub obeys : (s t : State) (x : Command) (c : model.Command) (r : Reply) (q : model.Reply) → Asks x c → reply_of r ≡ q → Moves s t (Does c q) → Moves s t (Obeys x r)
 obeys s t x c r q asks is m = moved s t (Does c q) (Obeys x r) m (λ docs after h. (c, asks, subst (λ p. Does c p docs after) (sym is) h))
+
+pub obeys_many : (s t : State) (x : Command) (n : List ℕ) (Reads : Documents → Option ErrorKind → Type 0) (r : Reply) (q : model.Reply) → ((ds : Documents) (stop : Option ErrorKind) → (model.IsName n → Reads ds stop) → Asks x (model.on n (model.import ds stop)))
+    → reply_of r ≡ q → Moves s t (DoesMany n Reads q) → Moves s t (Obeys x r)
+obeys_many s t x n Reads r q asks is m =
+    moved s t (DoesMany n Reads q) (Obeys x r) m (λ docs after h. (model.on n (model.import h.0 h.1), asks h.0 h.1 h.2, subst (λ p. Does (model.on n (model.import h.0 h.1)) p docs after) (sym is) h.3))

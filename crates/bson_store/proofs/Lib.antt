@@ -11,5 +11,11 @@ pub mod Exits
 pub mod Going
 pub mod Exporting
 pub mod Gathering
+pub mod Selecting
+pub mod Naming
+pub mod Keyed
+pub mod Adding
+pub mod Importing
+pub mod Dumping
 pub mod Opened
 pub mod Opening

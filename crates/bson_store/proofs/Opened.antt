@@ -68,7 +68,7 @@ show_after n seen (d ∷ docs) last good =
     let rest = show_after p.0 (seen ++ d ∷ []) docs (last_of seen d ∙ p.1) good.1 in
     let w = good.0.accepted in
     let r : Row = record { place = p.0; name = d.coll; document = w.document } in
-    let one : IsRowOf r d = record { place = p.1; name = refl; key = w.key; body = w.body } in
+    let one : IsRowOf r d = record { place = p.1; name = refl; text = w.utf8; key = w.key; body = w.body } in
     record {
       t = r ∷ rest.t;
       each = (one, rest.each);

@@ -73,7 +73,7 @@ rewritten_at ds n id f c q b good call h changes a s =
     let rises = subst (Rises 0) p.split s.rising in
     let place : f.place ≡ h.1.place = ap (λ x. x.0) h.4 in
     let left : replaced f.place b ds ≡ p.before ++ new_body b h.1 ∷ p.behind = ap (λ z. replaced z b ds) place ∙ ap (replaced h.1.place b) p.parted ∙ changed b 0 p.front p.r p.back p.before h.1 p.behind p.front_each p.each p.back_each rises in
-    let one : IsRowOf (with_document k.0 p.r) (new_body b h.1) = record { place = p.each.place; name = p.each.name; key = p.each.key ∙ sym k.3; body = k.1 } in
+    let one : IsRowOf (with_document k.0 p.r) (new_body b h.1) = record { place = p.each.place; name = p.each.name; text = p.each.text; key = p.each.key ∙ sym k.3; body = k.1 } in
     let t = p.front ++ with_document k.0 p.r ∷ p.back in (
       t,
       record {

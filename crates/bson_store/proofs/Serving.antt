@@ -3,6 +3,7 @@ use Rattle.std.proofs.lemmas.Int.{ints}
 use Rattle.std.proofs.Math.Dec.{leb}
 use Rattle.std.proofs.lemmas.Bool.Decides.{leb_tells}
 use Rattle.std.proofs.Common.{◌≡◌, ◌≢◌, ◌⊎◌, inl, inr, ℕ, ◌+◌, ℤ, pos, ◌+ℤ◌, ◌<ℤ◌, ◌^◌, suc, ◌<◌, ◌≤◌, List, [], ◌∷◌, ◌++◌, Bool, true, false, cond, IsTrue, Option, Some, None, Ok, Err, is_some, nat_lt, refl, ap, ◌∙◌, sym, subst, arith, append-nil}
+use Rattle.std.specs.Prelude.{IsUtf8}
 use Rattle.std.specs.List.{find}
 use Rattle.std.specs.Option.{option_map}
 use Rattle.std.proofs.lemmas.Bool.{le-ltb}
@@ -33,7 +34,7 @@ use Rattle.bson_store.specs.Calls.{Does, DoesRead}
 use Rattle.bson_store.specs.Refusals.{kind_of_fault}
 use Rattle.bson_store.proofs.Tables.{last_greatest, shows_more, rows_after, absent, found, stands_at}
 
-stays : (a : Table) → Follows a a
+pub stays : (a : Table) → Follows a a
 stays a = inl ([], sym (append-nil a), tt)
 
 pub bad_name : (docs : List Doc) (n : List ℕ) (c : Call) → (IsName n → ⊥) → Does (on n c) (refused BadName None) docs docs
@@ -179,7 +180,7 @@ step_in f docs n k b d a r good h free s name is =
       ),
     )
 
-next_place : (g : ℕ) → pos g +ℤ pos 1 ≡ pos (suc g)
+pub next_place : (g : ℕ) → pos g +ℤ pos 1 ≡ pos (suc g)
 next_place g = ap pos (omega arith)
 
 room_is : (l : ℤ) (g : ℕ) → l ≡ pos g → (l +ℤ pos 1) <ℤ pos (2 ^ 63) → g < last_place
@@ -192,8 +193,8 @@ full_is l g e h = by (leb_tells (g + 1) last_place)
     by (inl k) = let low : (l +ℤ pos 1) <ℤ pos (2 ^ 63) = omega (arith, ints, e, k.1) in absurd (h low)
     by (inr k) = k.1
 
-goes_in : (f : Form) (docs : List Doc) (n k b : List ℕ) (d : Members) → IsName n → Fits d k b → find (is_named n k) docs ≡ None → IsRoomFor 1 docs → Does (on n (insert f (readable d))) done docs (appended n k b docs)
-goes_in f docs n k b d good h free room a s =
+goes_in : (f : Form) (docs : List Doc) (n k b : List ℕ) (d : Members) → IsName n → IsUtf8 n → Fits d k b → find (is_named n k) docs ≡ None → IsRoomFor 1 docs → Does (on n (insert f (readable d))) done docs (appended n k b docs)
+goes_in f docs n k b d good text h free room a s =
     let r : Row = record { place = suc (greatest a); name = n; document = d } in
     let last = last_greatest a docs s in
     let below : greatest a < last_place = room_is (table.last_place docs) (greatest a) last room in
@@ -201,6 +202,7 @@ goes_in f docs n k b d good h free room a s =
     let one : IsRowOf r (record { place = table.last_place docs +ℤ pos 1; coll = n; idkey = k; body = b }) = record {
       place = ap (λ z. z +ℤ pos 1) last ∙ next_place (greatest a);
       name = refl;
+      text = text;
       key = h.key.key ∙ ap key (sym (own_is d h.id h.has));
       body = h.body;
     } in (
@@ -215,10 +217,10 @@ no_place f docs n k b d good h free full a s =
     let g : last_place < greatest a + 1 = full_is (table.last_place docs) (greatest a) (last_greatest a docs s) full in
     (a, s, (Some places, ((refl, refl), stays a, (undecided n (insert f (readable d)) good (read_open f d), (g, done, state_of (a ++ r ∷ []), step_in f docs n k b d a r good h free s refl refl, λ x. x)))))
 
-pub put_in : (docs mid after : List Doc) (n k b : List ℕ) (d : Members) → IsName n → Fits d k b → Finds n k (Ok None) docs mid → Appends 1 (appended n k b) (Ok tt) mid after → DoesRead n insert d done docs after
-put_in docs mid after n k b d good fits none h f =
+pub put_in : (docs mid after : List Doc) (n k b : List ℕ) (d : Members) → IsName n → IsUtf8 n → Fits d k b → Finds n k (Ok None) docs mid → Appends 1 (appended n k b) (Ok tt) mid after → DoesRead n insert d done docs after
+put_in docs mid after n k b d good text fits none h f =
     let room = subst (IsRoomFor 1) none.same h.room in
-    rw (h.done, none.same) (goes_in f docs n k b d good fits (none_is (find (is_named n k) docs) none.found) room)
+    rw (h.done, none.same) (goes_in f docs n k b d good text fits (none_is (find (is_named n k) docs) none.found) room)
 
 -- the table refuses a row more
 pub not_put_in : (docs mid after : List Doc) (n k b : List ℕ) (d : Members) (x : Fault) → IsName n → Fits d k b → Finds n k (Ok None) docs mid → Appends 1 (appended n k b) (Err x) mid after → DoesRead n insert d (refused (kind_of_fault x) None) docs after

@@ -18,7 +18,7 @@ use Rattle.bson_store.specs.Shown.{IsRowOf, AreRowsOf, Rises, Show}
 
 -- ---- places
 
-greater : (n m g : ℕ) → n < m → max m g ≡ max n (max m g)
+pub greater : (n m g : ℕ) → n < m → max m g ≡ max n (max m g)
 greater n m g h = omega (arith, h)
 
 last_is : (r : Row) (d : Doc) (rs : Table) (ds : List Doc) → IsRowOf r d → AreRowsOf rs ds → Rises r.place rs → table.last_place (d ∷ ds) ≡ pos (max r.place (greatest rs))

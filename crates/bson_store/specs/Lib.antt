@@ -2,5 +2,8 @@ pub mod Shown
 pub mod Calls
 pub mod Refusals
 pub mod Export
+pub mod Questions
 pub mod Opening
+pub mod Many
+pub mod Dump
 pub mod Runs

@@ -1,5 +1,5 @@
 -- What the refusals of the table are told as, and what a call's result is as a reply.
-use Rattle.std.specs.Prelude.{◌≡◌, ◌≢◌, Bool, ℕ, None, Result, Ok, Err, Vec}
+use Rattle.std.specs.Prelude.{◌≡◌, ◌≢◌, Bool, ℕ, Some, None, Result, Ok, Err, Vec, map}
 use Rattle.std.specs.declared.alloc.Global.{Global}
 use Rattle.serde_json.specs.View.{view as tree_of}
 use Rattle.serde_json.specs.declared.value.Value.{Value as Json}
@@ -9,7 +9,11 @@ use Rattle.bson_table.specs.declared.opening.OpenError.{OpenError}
 use Rattle.bson_table.specs.declared.opening.OpenError.TheVariants as opens
 use Rattle.store_laws.specs.State as model
 use Rattle.store_laws.specs.declared.error.ErrorKind.{ErrorKind}
-use Rattle.store_laws.specs.declared.error.ErrorKind.TheVariants.{NotAStore, BadRow, Memory, Database, Places}
+use Rattle.store_laws.specs.declared.error.ErrorKind.TheVariants.{NotAStore, BadRow, Memory, Database, Places, Reader}
+use Rattle.store_streams.specs.declared.error.StreamError.{StreamError}
+use Rattle.store_streams.specs.declared.error.StreamError.TheVariants as streams
+use Rattle.store_streams.specs.declared.input.ReadAllError.{ReadAllError}
+use Rattle.store_streams.specs.declared.input.ReadAllError.TheVariants as reads
 use Rattle.bson_store.specs.declared.error.StoreError.{StoreError}
 
 abbrev pub kind_of_fault : Fault → ErrorKind
@@ -23,9 +27,21 @@ kind_of_opening (opens.BadRow place) = BadRow place
 kind_of_opening opens.Memory = Memory
 kind_of_opening opens.Database = Database
 
+abbrev pub kind_of_reading : ReadAllError → ErrorKind
+kind_of_reading reads.Reader = Reader
+kind_of_reading reads.Memory = Memory
+
 -- a refusal of a call of one document
 abbrev pub refusal : ErrorKind → StoreError
 refusal k = record { kind = k; document = None }
+
+-- the refusal of the document at a place
+abbrev pub refusal_at : ErrorKind → ℕ → StoreError
+refusal_at k i = record { kind = k; document = Some i }
+
+abbrev pub refusal_of_stream : StreamError → StoreError
+refusal_of_stream (streams.Refused k i) = refusal_at k i
+refusal_of_stream streams.Memory = refusal Memory
 
 -- memory was wanted, or the database refused
 abbrev pub IsDenied : StoreError → Type 0
@@ -47,3 +63,9 @@ as_bytes v = model.bytes v.items
 
 abbrev pub as_json : Json → model.Reply
 as_json j = model.json (tree_of j)
+
+abbrev pub as_number : ℕ → model.Reply
+as_number i = model.number i
+
+abbrev pub as_json_list : Vec Json Global → model.Reply
+as_json_list v = model.json_list (map tree_of v.items)

@@ -1,18 +1,27 @@
 -- What a list of commands and its replies say of tables and of plain lists.
-use Rattle.std.specs.Prelude.{◌≡◌, ℕ, List, [], ◌∷◌, map, string_bytes}
+use Rattle.std.specs.Prelude.{◌≡◌, ℕ, List, [], ◌∷◌, Option, map, string_bytes}
 use Rattle.serde_json.specs.View.{view as tree_of}
+use Rattle.bson_filter.specs.Filters.{filter_of, path_of}
 use Rattle.bson_model.specs.View.{view}
 use Rattle.bson_table.specs.Rows.{Doc}
-use Rattle.store_laws.specs.Reading.{Reading, ReadsBytes, ReadsTree, read_value}
+use Rattle.store_laws.specs.Reading.{Documents, Reading, ReadsBytes, ReadsStream, ReadsTree, ReadsTrees, read_value}
 use Rattle.store_laws.specs.State as model
+use Rattle.store_laws.specs.declared.error.ErrorKind.{ErrorKind}
 use Rattle.store_laws.specs.Run.{Denials, Run, SparesDecided}
 use Rattle.store_laws.specs.Table.{Table, RunThrough, state_of}
 use Rattle.bson_store.specs.Shown.{Show}
 use Rattle.bson_store.specs.Calls.{Does}
+use Rattle.bson_store.specs.Export.{bytes_of}
+use Rattle.bson_store.specs.Many.{DoesMany}
 use Rattle.bson_store.specs.declared.command.Command.{Command}
-use Rattle.bson_store.specs.declared.command.Command.TheVariants.{InsertRaw, InsertJson, ReplaceRaw, ReplaceJson, Set, Unset, Remove, GetRaw, GetJson, Export}
+use Rattle.bson_store.specs.declared.command.Command.TheVariants.{InsertRaw, InsertJson, ReplaceRaw, ReplaceJson, Set, Unset, Remove, GetRaw, GetJson, Collections, Find, Project, Export, Import, LoadJson, DumpJson}
+use Rattle.bson_store.specs.declared.command.Command.TheVariants as commands
 use Rattle.bson_store.specs.declared.command.Reply.{Reply}
-use Rattle.bson_store.specs.declared.command.Reply.TheVariants.{Done, Flag, Bytes, Json, Refused}
+use Rattle.bson_store.specs.declared.command.Reply.TheVariants.{Done, Flag, Bytes, Json, Count, BytesList, JsonList, Names, Refused}
+
+-- many documents stand for what they read as
+abbrev pub AsksMany : List ℕ → (Documents → Option ErrorKind → Type 0) → model.Command → Type 0
+AsksMany n Reads c = (ds : Documents) × (stop : Option ErrorKind) × (model.IsName n → Reads ds stop) × (c ≡ model.on n (model.import ds stop))
 
 -- bytes stand for what they read as, and so does JSON; under a bad name nothing is read
 abbrev pub Asks : Command → model.Command → Type 0
@@ -25,7 +34,14 @@ Asks (Unset name id key) c = c ≡ model.on (string_bytes name) (model.unset (vi
 Asks (Remove name id) c = c ≡ model.on (string_bytes name) (model.remove (view id))
 Asks (GetRaw name id) c = c ≡ model.on (string_bytes name) (model.get_raw (view id))
 Asks (GetJson name id mode) c = c ≡ model.on (string_bytes name) (model.get_json mode (view id))
+Asks Collections c = c ≡ model.collections
+Asks (Find name filter) c = c ≡ model.on (string_bytes name) (model.find (filter_of filter))
+Asks (commands.Count name filter) c = c ≡ model.on (string_bytes name) (model.count (filter_of filter))
+Asks (Project name filter keys) c = c ≡ model.on (string_bytes name) (model.project (filter_of filter) (path_of keys.items))
 Asks (Export name) c = c ≡ model.on (string_bytes name) model.export
+Asks (Import name bytes) c = AsksMany (string_bytes name) (ReadsStream bytes.items) c
+Asks (LoadJson name trees) c = AsksMany (string_bytes name) (ReadsTrees (map tree_of trees.items)) c
+Asks (DumpJson name) c = c ≡ model.on (string_bytes name) model.dump
 
 abbrev pub AsksEach : List Command → List model.Command → Type 0
 AsksEach [] [] = Unit {0}
@@ -36,13 +52,21 @@ AsksEach (x ∷ xs) [] = ⊥
 abbrev pub reply_of : Reply → model.Reply
 reply_of Done = model.done
 reply_of (Flag b) = model.flag b
+reply_of (Count i) = model.number i
 reply_of (Bytes v) = model.bytes v.items
+reply_of (BytesList v) = model.bytes_list (bytes_of v.items)
 reply_of (Json j) = model.json (tree_of j)
+reply_of (JsonList v) = model.json_list (map tree_of v.items)
+reply_of (Names v) = model.names (map string_bytes v.items)
 reply_of (Refused e) = model.refused e.kind e.document
 
 -- an export into memory
 abbrev pub Exported : List ℕ → Reply → List Doc → List Doc → Type 0
 Exported n r = Does (model.on n model.export) (reply_of r)
+
+-- an import from memory
+abbrev pub Imported : List ℕ → List ℕ → Reply → List Doc → List Doc → Type 0
+Imported n bytes r = DoesMany n (ReadsStream bytes) (reply_of r)
 
 -- one of the commands
 abbrev pub Obeys : Command → Reply → List Doc → List Doc → Type 0

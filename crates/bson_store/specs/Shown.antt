@@ -1,14 +1,15 @@
 -- The table of documents that rows of bytes show.
-use Rattle.std.specs.Prelude.{◌≡◌, ℕ, ◌<◌, pos, List, [], ◌∷◌}
+use Rattle.std.specs.Prelude.{◌≡◌, ℕ, ◌<◌, pos, List, [], ◌∷◌, IsUtf8}
 use Rattle.bson_bytes.specs.Encode.{encode}
 use Rattle.bson_meaning.specs.Meaning.{key}
 use Rattle.bson_table.specs.Rows.{Doc}
 use Rattle.store_laws.specs.Table.{Row, Table, AreRows, own_id}
 
--- a row of bytes is that of a document: its key is that of the document's `_id`, its body the document's written form
+-- a row of bytes is that of a document: its name is a text, its key that of the document's `_id`, its body the document's written form
 pub record IsRowOf (r : Row) (d : Doc) : Type 0 where
   pub place : d.place ≡ pos r.place
   pub name : d.coll ≡ r.name
+  pub text : IsUtf8 r.name
   pub key : d.idkey ≡ key (own_id r.document)
   pub body : d.body ≡ encode r.document
 

@@ -3,13 +3,14 @@
 ghost use Rattle.std.specs.Prelude.{◌≡◌, IfOk, OnErr};
 ghost use Rattle.bson_table.specs.Moves.{Moves};
 ghost use Rattle.bson_store.specs.Calls.{held};
-ghost use Rattle.bson_store.specs.Refusals.{reply_by, as_done, as_flag, as_bytes, as_json};
-ghost use Rattle.bson_store.specs.Runs.{Exported, Obeys, AnswersAsLists, AnswersThroughTables, reply_of};
+ghost use Rattle.bson_store.specs.Questions.{as_list, as_names};
+ghost use Rattle.bson_store.specs.Refusals.{reply_by, as_done, as_flag, as_bytes, as_json, as_json_list, as_number};
+ghost use Rattle.bson_store.specs.Runs.{Exported, Imported, Obeys, AnswersAsLists, AnswersThroughTables, reply_of};
 
 use crate::command::{Command, Reply};
 use crate::error::StoreError;
 use crate::store::Store;
-use bson_model::VecSink;
+use bson_model::{SliceSource, VecSink};
 use serde_json::Value;
 use sqlite::Alter;
 use std::alloc::AllocError;
@@ -51,6 +52,42 @@ fn json(outcome: Result<Value, StoreError>) -> Reply
     }
 }
 
+fn counted(outcome: Result<u64, StoreError>) -> Reply
+    ensures { reply_of result ≡ reply_by as_number outcome }
+{
+    match outcome {
+        Ok(count) => Reply::Count(count),
+        Err(error) => Reply::Refused(error),
+    }
+}
+
+fn list(outcome: Result<Vec<Vec<u8>>, StoreError>) -> Reply
+    ensures { reply_of result ≡ reply_by as_list outcome }
+{
+    match outcome {
+        Ok(bodies) => Reply::BytesList(bodies),
+        Err(error) => Reply::Refused(error),
+    }
+}
+
+fn names(outcome: Result<Vec<String>, StoreError>) -> Reply
+    ensures { reply_of result ≡ reply_by as_names outcome }
+{
+    match outcome {
+        Ok(names) => Reply::Names(names),
+        Err(error) => Reply::Refused(error),
+    }
+}
+
+fn json_list(outcome: Result<Vec<Value>, StoreError>) -> Reply
+    ensures { reply_of result ≡ reply_by as_json_list outcome }
+{
+    match outcome {
+        Ok(trees) => Reply::JsonList(trees),
+        Err(error) => Reply::Refused(error),
+    }
+}
+
 /// The written documents of a collection, in memory.
 fn exported<S: Alter + Drop>(store: &mut Store<S>, name: &str) -> Reply
     ensures { Moves (held S.Store store.old) (held S.Store store.new) (Exported name.now result) }
@@ -64,6 +101,14 @@ fn exported<S: Alter + Drop>(store: &mut Store<S>, name: &str) -> Reply
             _ => Reply::Refused(error),
         },
     }
+}
+
+/// Documents that go into a collection from memory.
+fn imported<S: Alter + Drop>(store: &mut Store<S>, name: &str, bytes: &[u8]) -> Reply
+    ensures { Moves (held S.Store store.old) (held S.Store store.new) (Imported name.now bytes.now result) }
+{
+    let mut source = SliceSource::new(bytes);
+    counted(store.import(name, &mut source))
 }
 
 /// One command.
@@ -97,7 +142,17 @@ fn execute<S: Alter + Drop>(store: &mut Store<S>, command: Command) -> Reply
         Command::Remove { name, id } => done(store.remove(name.as_str(), &id)),
         Command::GetRaw { name, id } => written(store.get_raw(name.as_str(), &id)),
         Command::GetJson { name, id, mode } => json(store.get_json(name.as_str(), &id, mode)),
+        Command::Collections => names(store.collections()),
+        Command::Find { name, filter } => list(store.find(name.as_str(), &filter)),
+        Command::Count { name, filter } => counted(store.count(name.as_str(), &filter)),
+        Command::Project { name, filter, keys } => {
+            let keys = keys.as_slice();
+            list(store.project(name.as_str(), &filter, keys))
+        }
         Command::Export { name } => exported(store, name.as_str()),
+        Command::Import { name, bytes } => imported(store, name.as_str(), bytes.as_slice()),
+        Command::LoadJson { name, trees } => counted(store.load_json(name.as_str(), trees)),
+        Command::DumpJson { name } => json_list(store.dump_json(name.as_str())),
     }
 }
 

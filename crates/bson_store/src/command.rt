@@ -1,6 +1,7 @@
 //! Commands and replies.
 
 use crate::error::StoreError;
+use bson_filter::Filter;
 use bson_model::Bson;
 use bson_model::extjson::Mode;
 use serde_json::Value;
@@ -48,8 +49,34 @@ pub enum Command {
         id: Bson,
         mode: Mode,
     },
+    Collections,
+    Find {
+        name: String,
+        filter: Filter,
+    },
+    Count {
+        name: String,
+        filter: Filter,
+    },
+    Project {
+        name: String,
+        filter: Filter,
+        keys: Vec<String>,
+    },
     /// `Store::export`, into memory.
     Export {
+        name: String,
+    },
+    /// `Store::import`, from memory.
+    Import {
+        name: String,
+        bytes: Vec<u8>,
+    },
+    LoadJson {
+        name: String,
+        trees: Vec<Value>,
+    },
+    DumpJson {
         name: String,
     },
 }
@@ -61,10 +88,18 @@ pub enum Reply {
     Done,
     /// Whether a key was there.
     Flag(bool),
+    /// How many documents.
+    Count(u64),
     /// Written documents, one after the other.
     Bytes(Vec<u8>),
+    /// Written documents, each for itself.
+    BytesList(Vec<Vec<u8>>),
     /// A document as Extended JSON.
     Json(Value),
+    /// Documents as Extended JSON, one after the other.
+    JsonList(Vec<Value>),
+    /// Names of collections.
+    Names(Vec<String>),
     /// It was refused, and nothing changed.
     Refused(StoreError),
 }

@@ -1,13 +1,14 @@
 //! Refusals.
 
 ghost use Rattle.std.specs.Prelude.{◌≡◌};
-ghost use Rattle.bson_store.specs.Refusals.{kind_of_fault, kind_of_opening, refusal};
+ghost use Rattle.bson_store.specs.Refusals.{kind_of_fault, kind_of_opening, kind_of_reading, refusal, refusal_of_stream};
 ghost use Rattle.store_laws.specs.declared.error.ErrorKind.TheVariants.{Memory, Writer};
 
 use bson_model::DeviceFault;
 use bson_table::{Fault, OpenError};
-use std::alloc::AllocError;
+use std::alloc::{AllocError, AllocFailed};
 use store_laws::ErrorKind;
+use store_streams::{ReadAllError, StreamError};
 use thiserror::Error;
 
 /// A refused call: why, and in a call of many documents which one was refused, counted from 0.
@@ -33,6 +34,15 @@ impl From<AllocError> for StoreError {
     ghost from_gives = { λ _ e. e ≡ refusal Memory };
 
     fn from(_error: AllocError) -> StoreError {
+        StoreError::from(ErrorKind::Memory)
+    }
+}
+
+impl<T: Drop> From<AllocFailed<T>> for StoreError {
+    ghost from_gives = { λ _ e. e ≡ refusal Memory };
+
+    fn from(failed: AllocFailed<T>) -> StoreError {
+        drop(failed);
         StoreError::from(ErrorKind::Memory)
     }
 }
@@ -67,5 +77,30 @@ impl From<OpenError> for StoreError {
             OpenError::Memory => ErrorKind::Memory,
             OpenError::Database => ErrorKind::Database,
         })
+    }
+}
+
+impl From<ReadAllError> for StoreError {
+    ghost from_gives = { λ x e. e ≡ refusal (kind_of_reading x) };
+
+    fn from(error: ReadAllError) -> StoreError {
+        StoreError::from(match error {
+            ReadAllError::Reader => ErrorKind::Reader,
+            ReadAllError::Memory => ErrorKind::Memory,
+        })
+    }
+}
+
+impl From<StreamError> for StoreError {
+    ghost from_gives = { λ x e. e ≡ refusal_of_stream x };
+
+    fn from(error: StreamError) -> StoreError {
+        match error {
+            StreamError::Refused { kind, document } => StoreError {
+                kind,
+                document: Some(document),
+            },
+            StreamError::Memory => StoreError::from(ErrorKind::Memory),
+        }
     }
 }

@@ -11,7 +11,7 @@ use bson_table::Visit;
 use std::alloc::{AllocError, Global};
 
 /// Puts a copy of a body last.
-fn add(bodies: &mut Vec<Vec<u8>>, alloc: Global, body: &[u8]) -> Result<(), AllocError>
+pub(crate) fn add(bodies: &mut Vec<Vec<u8>>, alloc: Global, body: &[u8]) -> Result<(), AllocError>
     ensures { OnOk result (bytes_of bodies.new.items ≡ bytes_of bodies.old.items ++ body.now ∷ []) }
 {
     let copy = Vec::from_slice(alloc, body)?;
@@ -44,7 +44,7 @@ impl Visit for Bodies {
     ghost use Rattle.std.specs.Prelude.{◌≡◌, true, false};
     ghost use Rattle.bson_store.specs.Export.{bytes_of};
 
-    ghost took = { λ v bodies. v.failed ≡ false → bytes_of v.bodies.items ≡ bodies };
+    ghost took = { λ _ v bodies. v.failed ≡ false → bytes_of v.bodies.items ≡ bodies };
 
     ghost is_done = { λ v. v.failed ≡ true };
 

@@ -3,12 +3,18 @@
 
 mod batch;
 mod command;
+mod dump;
 mod error;
 mod export;
+mod import;
+mod names;
+mod picking;
+mod questions;
 mod row_test;
 mod store;
 
 pub use batch::run;
+pub use bson_filter::{Filter, look_up, selects};
 pub use bson_model::{
     Array, Binary, BinarySubtype, Bson, Counted, DateTime, DbPointer, Decimal128, DeviceFault,
     Document, DoubleBits, ElementType, JavaScriptCodeWithScope, ObjectId, Regex, Sink, SliceSource,

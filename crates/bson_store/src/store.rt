@@ -35,7 +35,7 @@ use store_documents::{
 use store_laws::ErrorKind;
 
 /// The name of a collection. BadName where it can't be one.
-fn good_name(name: &str) -> Result<Name<'_>, StoreError>
+pub(crate) fn good_name(name: &str) -> Result<Name<'_>, StoreError>
     ensures { MatchResult result (λ n. (name_bytes n ≡ name.now) × IsName name.now) (λ e. (e ≡ refusal BadName) × (IsName name.now → ⊥)) }
 {
     match Name::new(name) {
@@ -126,7 +126,7 @@ impl<S: Alter + Drop> Store<S> {
     }
 
     /// The row of the document of a collection whose `_id` means the same as `id`.
-    fn find(&mut self, name: Name<'_>, id: &Bson) -> Result<Option<Found>, StoreError>
+    fn row_of(&mut self, name: Name<'_>, id: &Bson) -> Result<Option<Found>, StoreError>
         ensures { Moves (held S.Store self.old) (held S.Store self.new) (Looks (name_bytes name.entry) (view id.now) result) }
     {
         let key = match key_of_id(self.alloc, id) {
@@ -206,7 +206,7 @@ impl<S: Alter + Drop> Store<S> {
         }
         values_are_json(&value);
         let value = read_value(self.alloc, value)?;
-        let Some(found) = self.find(name, id)? else {
+        let Some(found) = self.row_of(name, id)? else {
             return Err(StoreError::from(ErrorKind::NotFound));
         };
         let old = found.body.as_slice();
@@ -228,7 +228,7 @@ impl<S: Alter + Drop> Store<S> {
         if !is_free(key) {
             return Err(StoreError::from(ErrorKind::BadKey));
         }
-        let Some(found) = self.find(name, id)? else {
+        let Some(found) = self.row_of(name, id)? else {
             return Err(StoreError::from(ErrorKind::NotFound));
         };
         let old = found.body.as_slice();
@@ -248,7 +248,7 @@ impl<S: Alter + Drop> Store<S> {
         ensures { Moves (held S.Store self.old) (held S.Store self.new) (Does (on name.now (remove (view id.now))) (reply_by as_done result)) }
     {
         let name = good_name(name)?;
-        let Some(found) = self.find(name, id)? else {
+        let Some(found) = self.row_of(name, id)? else {
             return Err(StoreError::from(ErrorKind::NotFound));
         };
         self.table.remove_at(&found)?;
@@ -262,7 +262,7 @@ impl<S: Alter + Drop> Store<S> {
         ensures { Moves (held S.Store self.old) (held S.Store self.new) (Does (on name.now (get_raw (view id.now))) (reply_by as_bytes result)) }
     {
         let name = good_name(name)?;
-        let Some(found) = self.find(name, id)? else {
+        let Some(found) = self.row_of(name, id)? else {
             return Err(StoreError::from(ErrorKind::NotFound));
         };
         Ok(found.body)
@@ -276,7 +276,7 @@ impl<S: Alter + Drop> Store<S> {
         ensures { Moves (held S.Store self.old) (held S.Store self.new) (Does (on name.now (get_json mode (view id.now))) (reply_by as_json result)) }
     {
         let name = good_name(name)?;
-        let Some(found) = self.find(name, id)? else {
+        let Some(found) = self.row_of(name, id)? else {
             return Err(StoreError::from(ErrorKind::NotFound));
         };
         let body = found.body.as_slice();
@@ -289,9 +289,8 @@ impl<S: Alter + Drop> Store<S> {
         ensures { Moves (held S.Store self.old) (held S.Store self.new) (Gathers (name_bytes name.entry) result) }
     {
         let mut visitor = Bodies::new(self.alloc);
-        let all = self.table.visit_bodies(name.as_str(), &mut visitor)?;
-        // A visitor that was not handed all bodies has failed.
-        let _ = all;
+        // A visitor that is not handed all bodies has failed.
+        self.table.visit_bodies(name.as_str(), &mut visitor)?;
         if visitor.failed {
             return Err(StoreError::from(ErrorKind::Memory));
         }

@@ -8,7 +8,11 @@ mod documents;
 #[cfg(test)]
 mod inserts;
 #[cfg(test)]
+mod many;
+#[cfg(test)]
 mod opening;
+#[cfg(test)]
+mod questions;
 #[cfg(test)]
 mod runs;
 #[cfg(test)]

@@ -39,6 +39,12 @@ pub const WITH_TEXT: [u8; 23] = [
     23, 0, 0, 0, 16, 95, 105, 100, 0, 1, 0, 0, 0, 2, 97, 0, 2, 0, 0, 0, 120, 0, 0,
 ];
 
+/// {_id: 1, v: ["a"]}, whose item stands under the key `7`.
+pub const WITH_SEVEN: [u8; 31] = [
+    31, 0, 0, 0, 16, 95, 105, 100, 0, 1, 0, 0, 0, 4, 118, 0, 14, 0, 0, 0, 2, 55, 0, 2, 0, 0, 0, 97,
+    0, 0, 0,
+];
+
 /// {_id: 1, r: a regular expression with its options as given}.
 pub const fn with_options(first: u8, second: u8) -> [u8; 22] {
     [

@@ -28,7 +28,7 @@ impl Visit for Names {
     ghost use Rattle.std.specs.List.{list_any};
     ghost use Rattle.bson_table.specs.Names.{has_name, is_same_name};
 
-    ghost took = { λ v names. v.failed ≡ false → (c : List ℕ) → has_name v.names.keys c ≡ list_any (is_same_name c) names };
+    ghost took = { λ _ v names. v.failed ≡ false → (c : List ℕ) → has_name v.names.keys c ≡ list_any (is_same_name c) names };
 
     ghost is_done = { λ v. IsTrue v.failed };
 

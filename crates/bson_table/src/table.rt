@@ -160,7 +160,7 @@ impl<S: Alter + Drop> Table<S> {
     /// Hands each body of a collection to a visitor, in order of place, until it asks for no more: one row is read at a
     /// time, outside any transaction. True: all were taken. Other calls come after it only.
     pub fn visit_bodies<V: Visit>(&mut self, coll: &str, visitor: &mut V) -> Result<bool, Fault>
-        ensures moves { Moves (state_of S.Store self.old) (state_of S.Store self.new) (Visits V.took visitor.old visitor.new coll.now result) }
+        ensures moves { Moves (state_of S.Store self.old) (state_of S.Store self.new) (Visits (V.took visitor.old) visitor.old visitor.new coll.now result) }
         ensures stopped { IfOk result (λ all. all ≡ false → V.is_done visitor.new) }
         ensures open { WasOpen (state_of S.Store self.old) (state_of S.Store self.new) result }
         ensures crash { Survives (state_of S.Store self.old) (state_of S.Store self.new) (λ _. ⊥) }

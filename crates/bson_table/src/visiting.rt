@@ -12,15 +12,15 @@ use sqlite::{Alter, Connection, Error, ErrorCode};
 
 /// What is done with each body of a collection.
 pub trait Visit {
-    /// It has taken these bodies, in this order.
-    ghost took: { Self → List (List ℕ) → Type 0 };
+    /// Since it was the first visitor, the second has taken these bodies, in this order.
+    ghost took: { Self → Self → List (List ℕ) → Type 0 };
 
     /// It asks for no further body.
     ghost is_done: { Self → Type 0 } = { λ _. Unit {0} };
 
     /// Takes a body, and says whether it asks for another.
     fn visit(&mut self, body: &[u8]) -> bool
-        ensures took { (bodies : List (List ℕ)) → took self.old bodies → took self.new (bodies ++ body.now ∷ []) }
+        ensures took { (first : Self) (bodies : List (List ℕ)) → took first self.old bodies → took first self.new (bodies ++ body.now ∷ []) }
         ensures more { result ≡ false → is_done self.new };
 }
 
@@ -33,9 +33,9 @@ pub(crate) fn visit_values<S: Alter, V: Visit>(
     visitor: &mut V,
 ) -> Result<bool, Error>
     requires { IsSelect sql.now }
-    ensures whole { HasCleanDisk (state S.Store conn.new) → V.took visitor.old []
-        → IfOk result (λ all. IsTrue all → TookAll V.took visitor.new sql.now (bound params.now) (state S.Store conn.old) (state S.Store conn.new)) }
-    ensures some { HasCleanDisk (state S.Store conn.new) → V.took visitor.old [] → TookSome V.took visitor.new sql.now (bound params.now) (state S.Store conn.old) }
+    ensures whole { HasCleanDisk (state S.Store conn.new) → V.took visitor.old visitor.old []
+        → IfOk result (λ all. IsTrue all → TookAll (V.took visitor.old) visitor.new sql.now (bound params.now) (state S.Store conn.old) (state S.Store conn.new)) }
+    ensures some { HasCleanDisk (state S.Store conn.new) → V.took visitor.old visitor.old [] → TookSome (V.took visitor.old) visitor.new sql.now (bound params.now) (state S.Store conn.old) }
     ensures stopped { IfOk result (λ all. all ≡ false → V.is_done visitor.new) }
     ensures read { HasCleanDisk (state S.Store conn.new) → IsRead (state S.Store conn.old) (state S.Store conn.new) result }
     ensures crash { Survives (state S.Store conn.old) (state S.Store conn.new) (λ _. ⊥) }

@@ -14,7 +14,7 @@ pub struct Taker {
 }
 
 impl Visit for Taker {
-    ghost took = { λ v bodies. Unit {0} };
+    ghost took = { λ _ v bodies. Unit {0} };
 
     fn visit(&mut self, body: &[u8]) -> bool {
         self.taken = self.taken.wrapping_add(1);

@@ -1,13 +1,15 @@
-use Rattle.std.proofs.Common.{refl, string_bytes}
+use Rattle.std.proofs.Common.{map, refl, string_bytes}
 use Rattle.serde_json.specs.View.{view as data_of}
+use Rattle.bson_filter.specs.Filters.{filter_of, path_of}
 use Rattle.bson_model.specs.View.{view}
-use Rattle.store_laws.specs.Reading.{read_value}
+use Rattle.store_laws.specs.Reading.{ReadsStream, ReadsTrees, read_value}
 use Rattle.store_laws.specs.State as model
 use Rattle.bson_store.specs.Calls.{held}
 use Rattle.bson_store.specs.declared.command.Command.TheVariants as commands
-use Rattle.bson_store.specs.Refusals.{reply_by, as_done, as_flag, as_bytes, as_json}
+use Rattle.bson_store.specs.Questions.{as_list, as_names}
+use Rattle.bson_store.specs.Refusals.{reply_by, as_done, as_flag, as_bytes, as_json, as_json_list, as_number}
 use Rattle.bson_store.specs.Runs.{reply_of}
-use Rattle.bson_store.proofs.Going.{obeys, obeys_bytes, obeys_tree}
+use Rattle.bson_store.proofs.Going.{obeys, obeys_bytes, obeys_many, obeys_tree}
 use Rattle.bson_store.proofs.batch.execute.Goals as goal
 
 pub returns-in-InsertRaw : goal.returns-in-InsertRaw
@@ -49,3 +51,31 @@ returns-in-GetJson g c =
 pub returns-in-Export : goal.returns-in-Export
 returns-in-Export g c =
     rw c.in-Export.is (obeys (held g.S.Store c.args.store.now) (held g.S.Store c.exported.new.store) (commands.Export c.in-Export.name) (model.on (string_bytes c.in-Export.name) model.export) c.exported.result (reply_of c.exported.result) refl refl (rw c.as_str-in-Export.ensures.value at c.exported.ensures))
+
+pub returns-in-Collections : goal.returns-in-Collections
+returns-in-Collections g c =
+    rw c.in-Collections.is (obeys (held g.S.Store c.args.store.now) (held g.S.Store c.collections.new.self) commands.Collections model.collections c.names.result (reply_by as_names c.collections.result) refl c.names.ensures c.collections.ensures)
+
+pub returns-in-Find : goal.returns-in-Find
+returns-in-Find g c =
+    rw c.in-Find.is (obeys (held g.S.Store c.args.store.now) (held g.S.Store c.find.new.self) (commands.Find c.in-Find.name c.in-Find.filter) (model.on (string_bytes c.in-Find.name) (model.find (filter_of c.in-Find.filter))) c.list.result (reply_by as_list c.find.result) refl c.list.ensures (rw c.as_str-in-Find.ensures.value at c.find.ensures))
+
+pub returns-in-Count : goal.returns-in-Count
+returns-in-Count g c =
+    rw c.in-Count.is (obeys (held g.S.Store c.args.store.now) (held g.S.Store c.count.new.self) (commands.Count c.in-Count.name c.in-Count.filter) (model.on (string_bytes c.in-Count.name) (model.count (filter_of c.in-Count.filter))) c.counted.result (reply_by as_number c.count.result) refl c.counted.ensures (rw c.as_str-in-Count.ensures.value at c.count.ensures))
+
+pub returns-in-Project : goal.returns-in-Project
+returns-in-Project g c =
+    rw c.in-Project.is (obeys (held g.S.Store c.args.store.now) (held g.S.Store c.project.new.self) (commands.Project c.in-Project.name c.in-Project.filter c.in-Project.keys) (model.on (string_bytes c.in-Project.name) (model.project (filter_of c.in-Project.filter) (path_of c.in-Project.keys.items))) c.list-in-Project.result (reply_by as_list c.project.result) refl c.list-in-Project.ensures (rw (c.as_slice-keys.ensures.value, c.as_str-in-Project.ensures.value) at c.project.ensures))
+
+pub returns-in-Import : goal.returns-in-Import
+returns-in-Import g c =
+    rw c.in-Import.is (obeys_many (held g.S.Store c.args.store.now) (held g.S.Store c.imported.new.store) (commands.Import c.in-Import.name c.in-Import.bytes) (string_bytes c.in-Import.name) (ReadsStream c.in-Import.bytes.items) c.imported.result (reply_of c.imported.result) (λ ds stop h. (ds, stop, h, refl)) refl (rw (c.as_str-in-Import.ensures.value, c.as_slice-in-Import.ensures.value) at c.imported.ensures))
+
+pub returns-in-LoadJson : goal.returns-in-LoadJson
+returns-in-LoadJson g c =
+    rw c.in-LoadJson.is (obeys_many (held g.S.Store c.args.store.now) (held g.S.Store c.load_json.new.self) (commands.LoadJson c.in-LoadJson.name c.in-LoadJson.trees) (string_bytes c.in-LoadJson.name) (ReadsTrees (map data_of c.in-LoadJson.trees.items)) c.counted-in-LoadJson.result (reply_by as_number c.load_json.result) (λ ds stop h. (ds, stop, h, refl)) c.counted-in-LoadJson.ensures (rw c.as_str-in-LoadJson.ensures.value at c.load_json.ensures))
+
+pub returns-in-DumpJson : goal.returns-in-DumpJson
+returns-in-DumpJson g c =
+    rw c.in-DumpJson.is (obeys (held g.S.Store c.args.store.now) (held g.S.Store c.dump_json.new.self) (commands.DumpJson c.in-DumpJson.name) (model.on (string_bytes c.in-DumpJson.name) model.dump) c.json_list.result (reply_by as_json_list c.dump_json.result) refl c.json_list.ensures (rw c.as_str-in-DumpJson.ensures.value at c.dump_json.ensures))

@@ -43,7 +43,7 @@ returns-in_err-row-clause-some g c clean none =
     let now = c.next.follows.lender-at-none.conn.now in
     let late : HasCleanDisk (state g.S.Store now) = search rules in
     let was = c.rows.invariant.given (omega (arith, late, moved.survives.clean)) in
-    took_some g.S.Store g.V.Visit.took c.rows.visitor c.args.sql.now (bound c.args.params.now) (state g.S.Store c.args.conn.now) c.rows.rows.conn.now was.0 was.1 was.2 (was.3 none)
+    took_some g.S.Store (g.V.Visit.took c.args.visitor.now) c.rows.visitor c.args.sql.now (bound c.args.params.now) (state g.S.Store c.args.conn.now) c.rows.rows.conn.now was.0 was.1 was.2 (was.3 none)
 
 pub returns-in_default-clause-whole : goal.returns-in_default-clause-whole
 returns-in_default-clause-whole g c clean none =
@@ -53,7 +53,7 @@ returns-in_default-clause-whole g c clean none =
     let was = c.rows.invariant.given (omega (arith, late, moved.survives.clean)) in
     let shown = (rw (c.in_ok-row.was, c.in_default.is) at (moved.ok late)) c.args.sql.now (bound c.args.params.now) was.0 was.1 in
     let all = shown_before c.args.sql.now (bound c.args.params.now) (state g.S.Store c.args.conn.now) (state g.S.Store c.rows.rows.conn.now) (state g.S.Store now) was.0 c.requires was.2 shown in
-    let took : TookAll g.V.Visit.took c.rows.visitor c.args.sql.now (bound c.args.params.now) (state g.S.Store c.args.conn.now) (state g.S.Store now) = (was.0, all, was.3 none) in
+    let took : TookAll (g.V.Visit.took c.args.visitor.now) c.rows.visitor c.args.sql.now (bound c.args.params.now) (state g.S.Store c.args.conn.now) (state g.S.Store now) = (was.0, all, was.3 none) in
     search rules
 
 pub returns-in_default-clause-some : goal.returns-in_default-clause-some
@@ -62,19 +62,19 @@ returns-in_default-clause-some g c clean none =
     let now = c.next.follows.lender-at-none.conn.now in
     let late : HasCleanDisk (state g.S.Store now) = search rules in
     let was = c.rows.invariant.given (omega (arith, late, moved.survives.clean)) in
-    took_some g.S.Store g.V.Visit.took c.rows.visitor c.args.sql.now (bound c.args.params.now) (state g.S.Store c.args.conn.now) c.rows.rows.conn.now was.0 was.1 was.2 (was.3 none)
+    took_some g.S.Store (g.V.Visit.took c.args.visitor.now) c.rows.visitor c.args.sql.now (bound c.args.params.now) (state g.S.Store c.args.conn.now) c.rows.rows.conn.now was.0 was.1 was.2 (was.3 none)
 
 pub returns-then-not-wants-clause-some : goal.returns-then-not-wants-clause-some
 returns-then-not-wants-clause-some g c clean none =
     let late : HasCleanDisk (state g.S.Store c.rows.rows.conn.now) = search rules in
     let was = c.rows.invariant.given late in
-    took_some g.S.Store g.V.Visit.took c.rows.visitor c.args.sql.now (bound c.args.params.now) (state g.S.Store c.args.conn.now) c.rows.rows.conn.now was.0 was.1 was.2 (was.3 none)
+    took_some g.S.Store (g.V.Visit.took c.args.visitor.now) c.rows.visitor c.args.sql.now (bound c.args.params.now) (state g.S.Store c.args.conn.now) c.rows.rows.conn.now was.0 was.1 was.2 (was.3 none)
 
 pub returns-clause-some : goal.returns-clause-some
 returns-clause-some g c clean none =
     let late : HasCleanDisk (state g.S.Store c.rows.rows.conn.now) = search rules in
     let was = c.rows.invariant.given late in
-    took_some g.S.Store g.V.Visit.took c.rows.visitor c.args.sql.now (bound c.args.params.now) (state g.S.Store c.args.conn.now) c.rows.rows.conn.now was.0 was.1 was.2 (was.3 none)
+    took_some g.S.Store (g.V.Visit.took c.args.visitor.now) c.rows.visitor c.args.sql.now (bound c.args.params.now) (state g.S.Store c.args.conn.now) c.rows.rows.conn.now was.0 was.1 was.2 (was.3 none)
 
 pub rows-preserved : goal.rows-preserved
 rows-preserved g c =
@@ -94,5 +94,5 @@ rows-preserved g c =
           let on : HasGiven g.S.Store sql params now (was.0 ++ row ∷ []) = (rw (c.in_ok-row.was, c.in-Some.is) at (moved.ok late)) sql params was.0 was.1 in
           let still : IsUnchanged mid (state g.S.Store now) = rw c.in_ok-row.was at (moved.same late) in
           let one = ap (λ (b : List ℕ). map value_of was.0 ++ b ∷ []) c.bytes_at.ensures ∙ sym (values_on was.0 row) in
-          (was.0 ++ row ∷ [], on, unchanged_then old mid (state g.S.Store now) was.2 still, λ none. subst (λ (vs : List (List ℕ)). g.V.Visit.took c.visit-wants.new.self vs) one (c.visit-wants.ensures.took (map value_of was.0) (was.3 none)));
+          (was.0 ++ row ∷ [], on, unchanged_then old mid (state g.S.Store now) was.2 still, λ none. subst (λ (vs : List (List ℕ)). g.V.Visit.took c.args.visitor.now c.visit-wants.new.self vs) one (c.visit-wants.ensures.took c.args.visitor.now (map value_of was.0) (was.3 none)));
     }

@@ -15,5 +15,5 @@ invariant-rows g l =
       same : l.rows.conn.ghost_name ≡ l.initial.rows.conn.ghost_name;
       stopped : l.wants ≡ false → g.V.Visit.is_done l.visitor;
       survives : Survives old now (λ _. ⊥);
-      given : HasCleanDisk now → (given : List Row) × HasGiven g.S.Store l.sql (bound l.params) l.rows.conn.now given × IsUnchanged old now × (g.V.Visit.took l.fn.visitor [] → g.V.Visit.took l.visitor (map value_of given));
+      given : HasCleanDisk now → (given : List Row) × HasGiven g.S.Store l.sql (bound l.params) l.rows.conn.now given × IsUnchanged old now × (g.V.Visit.took l.fn.visitor l.fn.visitor [] → g.V.Visit.took l.fn.visitor l.visitor (map value_of given));
     }

@@ -1,21 +1,27 @@
-use Rattle.std.proofs.Common.{Ok, Err, None, ap}
-use Rattle.bson_store.specs.Calls.{held}
-use Rattle.bson_table.specs.Table.{state_of}
+use Rattle.std.proofs.Common.{ap, refl}
+use Rattle.std.proofs.lemmas.Result.{err_from_is_err_and}
+use Rattle.bson_filter.specs.Filters.{filter_of}
 use Rattle.store_documents.specs.Names.{name_bytes}
-use Rattle.bson_model.specs.View.{view}
-use Rattle.bson_store.specs.Calls.{Looks}
-use Rattle.bson_store.proofs.Moving.{rests, moved}
-use Rattle.bson_store.proofs.Finding.{unplain_looks, long_looks, found_looks}
+use Rattle.store_laws.specs.State as model
+use Rattle.bson_store.specs.Calls.{held}
+use Rattle.bson_store.specs.Questions.{as_list}
+use Rattle.bson_store.proofs.Exits.{bad_moves}
+use Rattle.bson_store.proofs.Selecting.{HasCopies, picked_moves, unpicked_moves}
 use Rattle.bson_store.proofs.store.Store.find.Goals as goal
 
-pub returns-in-Err-NotPlain : goal.returns-in-Err-NotPlain
-returns-in-Err-NotPlain g c =
-    rests (held g.S.Store c.args.self.now) (Looks (name_bytes c.args.name) (view c.args.id.now) (Ok None)) (λ docs. unplain_looks docs (name_bytes c.args.name) (view c.args.id.now) c.key_of_id.ensures.sound (c.in-Err-NotPlain.ensures.not_plain (ap Err c.in-Err-NotPlain.field-0-is)))
+pub returns-in_err-name : goal.returns-in_err-name
+returns-in_err-name g c =
+    let p = err_from_is_err_and c.from_residual.result c.from_residual.ensures.1 in
+    rw (p.1, p.2, c.in_err-name.ensures.0) (bad_moves (held g.S.Store c.args.self.now) c.args.name.now (model.find (filter_of c.args.filter.now)) c.in_err-name.ensures.1)
 
-pub returns-in-Err-TooLong : goal.returns-in-Err-TooLong
-returns-in-Err-TooLong g c =
-    rests (held g.S.Store c.args.self.now) (Looks (name_bytes c.args.name) (view c.args.id.now) (Ok None)) (λ docs. long_looks docs (name_bytes c.args.name) (view c.args.id.now) c.key_of_id.ensures.sound (c.in-Err-TooLong.ensures.too_long (ap Err c.in-Err-TooLong.field-0-is)))
+pub returns-in_err-copies : goal.returns-in_err-copies
+returns-in_err-copies g c =
+    let p = err_from_is_err_and c.from_residual-in_err-copies.result c.from_residual-in_err-copies.ensures.1 in
+    rw (p.1, p.2)
+    (unpicked_moves (HasCopies) (held g.S.Store c.args.self.now) (held g.S.Store c.pick.new.self) c.args.name.now (name_bytes c.in_ok-name.name) (filter_of c.args.filter.now) c.in_err-copies.field-0.0 (model.find (filter_of c.args.filter.now))
+    c.in_ok-name.ensures.0 c.in_ok-name.ensures.1 (λ d. d) c.in_err-copies.ensures)
 
 pub returns : goal.returns
 returns g c =
-    moved (held g.S.Store c.args.self.now) (state_of g.S.Store c.named.new.self) _ (Looks (name_bytes c.args.name) (view c.args.id.now) (Ok c.in_ok-found.found)) (rw (c.as_str-coll.ensures.text, c.as_slice-key.ensures.value) at c.in_ok-found.ensures.moves) (λ docs after h. found_looks docs after (name_bytes c.args.name) c.in-Ok.key.items (view c.args.id.now) c.in_ok-found.found c.in-Ok.ensures.ok h)
+    picked_moves (HasCopies) (held g.S.Store c.args.self.now) (held g.S.Store c.pick.new.self) c.args.name.now (name_bytes c.in_ok-name.name) (filter_of c.args.filter.now) c.in_ok-copies.copies (model.find (filter_of c.args.filter.now)) (as_list c.in_ok-copies.copies.bodies)
+    c.in_ok-name.ensures.0 c.in_ok-name.ensures.1 (λ l out picks t. (out, picks, ap model.bytes_list t, refl)) c.in_ok-copies.ensures

@@ -16,18 +16,18 @@ returns-in_err-name g c =
 
 pub returns-in_default : goal.returns-in_default
 returns-in_default g c =
-    rw c.from.ensures (none_moves (held g.S.Store c.args.self.now) (held g.S.Store c.find.new.self) c.args.name.now (name_bytes c.in_ok-name.name) (view c.args.id.now) c.in_ok-found.field-0 (model.get_json c.args.mode (view c.args.id.now)) c.in_ok-name.ensures.0 c.in_default.is c.in_ok-name.ensures.1 (λ a none. inr (none, (refl, refl))) c.in_ok-found.ensures)
+    rw c.from.ensures (none_moves (held g.S.Store c.args.self.now) (held g.S.Store c.row_of.new.self) c.args.name.now (name_bytes c.in_ok-name.name) (view c.args.id.now) c.in_ok-found.field-0 (model.get_json c.args.mode (view c.args.id.now)) c.in_ok-name.ensures.0 c.in_default.is c.in_ok-name.ensures.1 (λ a none. inr (none, (refl, refl))) c.in_ok-found.ensures)
 
 pub returns-in_err-json : goal.returns-in_err-json
 returns-in_err-json g c =
     let p = err_from_is_err_and c.from_residual-in_err-json.result c.from_residual-in_err-json.ensures.1 in
-    rw (p.1, p.2) (there_moves (held g.S.Store c.args.self.now) (held g.S.Store c.find.new.self) c.args.name.now (name_bytes c.in_ok-name.name) (view c.args.id.now) c.in_ok-found.field-0 c.in-Some.found (model.get_json c.args.mode (view c.args.id.now)) (model.refused c.in_err-json.field-0.0 None) c.in_ok-name.ensures.0 c.in-Some.is c.in_ok-name.ensures.1 (λ x. x) (no_json (view c.args.id.now) c.args.mode c.in-Some.found c.in_err-json.field-0.0 (λ d kept was. c.in_err-json.ensures d kept (c.as_slice-body.ensures.value ∙ was))) c.in_ok-found.ensures)
+    rw (p.1, p.2) (there_moves (held g.S.Store c.args.self.now) (held g.S.Store c.row_of.new.self) c.args.name.now (name_bytes c.in_ok-name.name) (view c.args.id.now) c.in_ok-found.field-0 c.in-Some.found (model.get_json c.args.mode (view c.args.id.now)) (model.refused c.in_err-json.field-0.0 None) c.in_ok-name.ensures.0 c.in-Some.is c.in_ok-name.ensures.1 (λ x. x) (no_json (view c.args.id.now) c.args.mode c.in-Some.found c.in_err-json.field-0.0 (λ d kept was. c.in_err-json.ensures d kept (c.as_slice-body.ensures.value ∙ was))) c.in_ok-found.ensures)
 
 pub returns : goal.returns
 returns g c =
-    there_moves (held g.S.Store c.args.self.now) (held g.S.Store c.find.new.self) c.args.name.now (name_bytes c.in_ok-name.name) (view c.args.id.now) c.in_ok-found.field-0 c.in-Some.found (model.get_json c.args.mode (view c.args.id.now)) (model.json (data_of c.in_ok-json.json)) c.in_ok-name.ensures.0 c.in-Some.is c.in_ok-name.ensures.1 (λ x. x) (got_json (view c.args.id.now) c.args.mode c.in-Some.found c.in_ok-json.json (λ d kept was. c.in_ok-json.ensures d kept (c.as_slice-body.ensures.value ∙ was))) c.in_ok-found.ensures
+    there_moves (held g.S.Store c.args.self.now) (held g.S.Store c.row_of.new.self) c.args.name.now (name_bytes c.in_ok-name.name) (view c.args.id.now) c.in_ok-found.field-0 c.in-Some.found (model.get_json c.args.mode (view c.args.id.now)) (model.json (data_of c.in_ok-json.json)) c.in_ok-name.ensures.0 c.in-Some.is c.in_ok-name.ensures.1 (λ x. x) (got_json (view c.args.id.now) c.args.mode c.in-Some.found c.in_ok-json.json (λ d kept was. c.in_ok-json.ensures d kept (c.as_slice-body.ensures.value ∙ was))) c.in_ok-found.ensures
 
 pub returns-in_err-found : goal.returns-in_err-found
 returns-in_err-found g c =
     let p = err_from_is_err_and c.from_residual-in_err-found.result c.from_residual-in_err-found.ensures.1 in
-    rw (p.1, p.2) (unlooked_moves (held g.S.Store c.args.self.now) (held g.S.Store c.find.new.self) c.args.name.now (name_bytes c.in_ok-name.name) (view c.args.id.now) (model.get_json c.args.mode (view c.args.id.now)) c.in_err-found.field-0.0 c.in_ok-name.ensures.0 c.in_ok-name.ensures.1 (λ x. x) c.in_err-found.ensures)
+    rw (p.1, p.2) (unlooked_moves (held g.S.Store c.args.self.now) (held g.S.Store c.row_of.new.self) c.args.name.now (name_bytes c.in_ok-name.name) (view c.args.id.now) (model.get_json c.args.mode (view c.args.id.now)) c.in_err-found.field-0.0 c.in_ok-name.ensures.0 c.in_ok-name.ensures.1 (λ x. x) c.in_err-found.ensures)

@@ -27,4 +27,4 @@ returns-in_err-append g c =
 
 pub returns : goal.returns
 returns g c =
-    put_moves (held g.S.Store c.args.self.now) (state_of g.S.Store c.named.new.self) (state_of g.S.Store c.append.new.self) (name_bytes c.args.name) (members_of (pairs_of c.args.document.now)) c.in_ok-written.written c.in_ok-found.found (rw c.as_str-coll.ensures.text at c.as_str-coll.ensures.named) c.requires (c.in_ok-written.ensures c.requires) c.in_default.is (rw (c.as_str-coll.ensures.text, c.as_slice-key.ensures.value) at c.in_ok-found.ensures.moves) (rw (c.as_str-coll.ensures.text, c.as_slice-key.ensures.value, c.as_slice-body.ensures.value) at c.in_ok-append.ensures.moves)
+    put_moves (held g.S.Store c.args.self.now) (state_of g.S.Store c.named.new.self) (state_of g.S.Store c.append.new.self) (name_bytes c.args.name) (members_of (pairs_of c.args.document.now)) c.in_ok-written.written c.in_ok-found.found (rw c.as_str-coll.ensures.text at c.as_str-coll.ensures.named) (rw c.as_str-coll.ensures.text at c.as_str-coll.utf8) c.requires (c.in_ok-written.ensures c.requires) c.in_default.is (rw (c.as_str-coll.ensures.text, c.as_slice-key.ensures.value) at c.in_ok-found.ensures.moves) (rw (c.as_str-coll.ensures.text, c.as_slice-key.ensures.value, c.as_slice-body.ensures.value) at c.in_ok-append.ensures.moves)

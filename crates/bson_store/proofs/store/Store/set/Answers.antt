@@ -31,23 +31,23 @@ returns-in_err-value g c =
 
 pub returns-in_default : goal.returns-in_default
 returns-in_default g c =
-    rw (c.from-in_default.ensures, c.in_ok-value.ensures) (none_moves (held g.S.Store c.args.self.now) (held g.S.Store c.find.new.self) c.args.name.now (name_bytes c.in_ok-name.name) (view c.args.id.now) c.in_ok-found.field-0 (model.set (view c.args.id.now) c.args.key.now (Some (view c.in_ok-value.value))) c.in_ok-name.ensures.0 c.in_default.is c.in_ok-name.ensures.1 (λ a none. inl ((c.is_free.ensures.0 c.if-not-is_free.false), inr (none, (refl, refl)))) c.in_ok-found.ensures)
+    rw (c.from-in_default.ensures, c.in_ok-value.ensures) (none_moves (held g.S.Store c.args.self.now) (held g.S.Store c.row_of.new.self) c.args.name.now (name_bytes c.in_ok-name.name) (view c.args.id.now) c.in_ok-found.field-0 (model.set (view c.args.id.now) c.args.key.now (Some (view c.in_ok-value.value))) c.in_ok-name.ensures.0 c.in_default.is c.in_ok-name.ensures.1 (λ a none. inl ((c.is_free.ensures.0 c.if-not-is_free.false), inr (none, (refl, refl)))) c.in_ok-found.ensures)
 
 pub returns-in_err-body : goal.returns-in_err-body
 returns-in_err-body g c =
     let p = err_from_is_err_and c.from_residual-in_err-body.result c.from_residual-in_err-body.ensures.1 in
-    rw (p.1, p.2, c.in_ok-value.ensures) (there_moves (held g.S.Store c.args.self.now) (held g.S.Store c.find.new.self) c.args.name.now (name_bytes c.in_ok-name.name) (view c.args.id.now) c.in_ok-found.field-0 c.in-Some.found (model.set (view c.args.id.now) c.args.key.now (Some (view c.in_ok-value.value))) (model.refused c.in_err-body.field-0.0 None) c.in_ok-name.ensures.0 c.in-Some.is c.in_ok-name.ensures.1 (λ bad. bad (c.is_free.ensures.0 c.if-not-is_free.false)) (set_refused (view c.args.id.now) (view c.in_ok-value.value) c.args.key.now c.in-Some.found c.in_err-body.field-0.0 (c.is_free.ensures.0 c.if-not-is_free.false) (λ d kept was. c.in_err-body.ensures d kept (c.as_slice-old.ensures.value ∙ was))) c.in_ok-found.ensures)
+    rw (p.1, p.2, c.in_ok-value.ensures) (there_moves (held g.S.Store c.args.self.now) (held g.S.Store c.row_of.new.self) c.args.name.now (name_bytes c.in_ok-name.name) (view c.args.id.now) c.in_ok-found.field-0 c.in-Some.found (model.set (view c.args.id.now) c.args.key.now (Some (view c.in_ok-value.value))) (model.refused c.in_err-body.field-0.0 None) c.in_ok-name.ensures.0 c.in-Some.is c.in_ok-name.ensures.1 (λ bad. bad (c.is_free.ensures.0 c.if-not-is_free.false)) (set_refused (view c.args.id.now) (view c.in_ok-value.value) c.args.key.now c.in-Some.found c.in_err-body.field-0.0 (c.is_free.ensures.0 c.if-not-is_free.false) (λ d kept was. c.in_err-body.ensures d kept (c.as_slice-old.ensures.value ∙ was))) c.in_ok-found.ensures)
 
 pub returns-in_err-rewrite_at : goal.returns-in_err-rewrite_at
 returns-in_err-rewrite_at g c =
     let p = err_from_is_err_and c.from_residual-in_err-rewrite_at.result c.from_residual-in_err-rewrite_at.ensures.1 in
-    rw (p.1, p.2, c.in_ok-value.ensures) (unchanged_moves (held g.S.Store c.args.self.now) (held g.S.Store c.find.new.self) (state_of g.S.Store c.rewrite_at.new.self) c.args.name.now (name_bytes c.in_ok-name.name) (view c.args.id.now) c.in_ok-found.field-0 c.in-Some.found (model.set (view c.args.id.now) c.args.key.now (Some (view c.in_ok-value.value))) (replaced c.in-Some.found.place c.as_slice-body.result.now) c.in_err-rewrite_at.field-0.0 c.in_ok-name.ensures.0 c.in-Some.is c.in_ok-name.ensures.1 (λ bad. bad (c.is_free.ensures.0 c.if-not-is_free.false)) c.in_ok-found.ensures c.in_err-rewrite_at.ensures.moves)
+    rw (p.1, p.2, c.in_ok-value.ensures) (unchanged_moves (held g.S.Store c.args.self.now) (held g.S.Store c.row_of.new.self) (state_of g.S.Store c.rewrite_at.new.self) c.args.name.now (name_bytes c.in_ok-name.name) (view c.args.id.now) c.in_ok-found.field-0 c.in-Some.found (model.set (view c.args.id.now) c.args.key.now (Some (view c.in_ok-value.value))) (replaced c.in-Some.found.place c.as_slice-body.result.now) c.in_err-rewrite_at.field-0.0 c.in_ok-name.ensures.0 c.in-Some.is c.in_ok-name.ensures.1 (λ bad. bad (c.is_free.ensures.0 c.if-not-is_free.false)) c.in_ok-found.ensures c.in_err-rewrite_at.ensures.moves)
 
 pub returns : goal.returns
 returns g c =
-    rw c.in_ok-value.ensures (rewritten_moves (held g.S.Store c.args.self.now) (held g.S.Store c.find.new.self) (state_of g.S.Store c.rewrite_at.new.self) c.args.name.now (name_bytes c.in_ok-name.name) (view c.args.id.now) c.in_ok-found.field-0 c.in-Some.found (model.set (view c.args.id.now) c.args.key.now (Some (view c.in_ok-value.value))) model.done c.in_ok-body.body.items c.in_ok-name.ensures.0 c.in-Some.is c.in_ok-name.ensures.1 (λ sound. (sound, c.utf8.key, subst IsValue c.in_ok-value.ensures (value_read (data_of c.args.value) c.values_are_json.ensures))) (set_remakes (view c.args.id.now) (view c.in_ok-value.value) c.args.key.now c.in-Some.found c.in_ok-body.body (c.is_free.ensures.0 c.if-not-is_free.false) (λ d kept was. c.in_ok-body.ensures d kept (c.as_slice-old.ensures.value ∙ was))) c.in_ok-found.ensures (rw c.as_slice-body.ensures.value at c.in_ok-rewrite_at.ensures.moves))
+    rw c.in_ok-value.ensures (rewritten_moves (held g.S.Store c.args.self.now) (held g.S.Store c.row_of.new.self) (state_of g.S.Store c.rewrite_at.new.self) c.args.name.now (name_bytes c.in_ok-name.name) (view c.args.id.now) c.in_ok-found.field-0 c.in-Some.found (model.set (view c.args.id.now) c.args.key.now (Some (view c.in_ok-value.value))) model.done c.in_ok-body.body.items c.in_ok-name.ensures.0 c.in-Some.is c.in_ok-name.ensures.1 (λ sound. (sound, c.utf8.key, subst IsValue c.in_ok-value.ensures (value_read (data_of c.args.value) c.values_are_json.ensures))) (set_remakes (view c.args.id.now) (view c.in_ok-value.value) c.args.key.now c.in-Some.found c.in_ok-body.body (c.is_free.ensures.0 c.if-not-is_free.false) (λ d kept was. c.in_ok-body.ensures d kept (c.as_slice-old.ensures.value ∙ was))) c.in_ok-found.ensures (rw c.as_slice-body.ensures.value at c.in_ok-rewrite_at.ensures.moves))
 
 pub returns-in_err-found : goal.returns-in_err-found
 returns-in_err-found g c =
     let p = err_from_is_err_and c.from_residual-in_err-found.result c.from_residual-in_err-found.ensures.1 in
-    rw (p.1, p.2, c.in_ok-value.ensures) (unlooked_moves (held g.S.Store c.args.self.now) (held g.S.Store c.find.new.self) c.args.name.now (name_bytes c.in_ok-name.name) (view c.args.id.now) (model.set (view c.args.id.now) c.args.key.now (Some (view c.in_ok-value.value))) c.in_err-found.field-0.0 c.in_ok-name.ensures.0 c.in_ok-name.ensures.1 (λ bad. bad (c.is_free.ensures.0 c.if-not-is_free.false)) c.in_err-found.ensures)
+    rw (p.1, p.2, c.in_ok-value.ensures) (unlooked_moves (held g.S.Store c.args.self.now) (held g.S.Store c.row_of.new.self) c.args.name.now (name_bytes c.in_ok-name.name) (view c.args.id.now) (model.set (view c.args.id.now) c.args.key.now (Some (view c.in_ok-value.value))) c.in_err-found.field-0.0 c.in_ok-name.ensures.0 c.in_ok-name.ensures.1 (λ bad. bad (c.is_free.ensures.0 c.if-not-is_free.false)) c.in_err-found.ensures)

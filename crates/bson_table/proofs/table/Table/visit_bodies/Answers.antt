@@ -20,8 +20,8 @@ returns-clause-moves g c clean =
             stands_still old new docs u stands,
             record {
               same = refl;
-              whole = λ none all. whole_scan g.V.Visit.took v c.args.coll.now old docs h new (rw c.as_bytes.ensures.value at (c.in_ok-all.ensures.whole clean none all));
-              some = λ none. some_scan g.V.Visit.took v c.args.coll.now old docs h (rw c.as_bytes.ensures.value at (c.visit_values.ensures.some clean none));
+              whole = λ none all. whole_scan (g.V.Visit.took c.args.visitor.now) v c.args.coll.now old docs h new (rw c.as_bytes.ensures.value at (c.in_ok-all.ensures.whole clean none all));
+              some = λ none. some_scan (g.V.Visit.took c.args.visitor.now) v c.args.coll.now old docs h (rw c.as_bytes.ensures.value at (c.visit_values.ensures.some clean none));
               faults = tt;
             },
           ),
@@ -35,7 +35,7 @@ returns-in_err-all-clause-moves g c clean =
       λ docs stands. (
         docs,
         (λ still. let it = (c.in_err-all.ensures.read clean).refused still in it.1 docs (stands it.0)),
-        visits_refused g.V.Visit.took c.args.visitor.now c.visit_values.new.visitor c.args.coll.now old docs stands c.from_residual.result c.in_err-all.field-0.0 c.from_residual.ensures.1
+        visits_refused (g.V.Visit.took c.args.visitor.now) c.args.visitor.now c.visit_values.new.visitor c.args.coll.now old docs stands c.from_residual.result c.in_err-all.field-0.0 c.from_residual.ensures.1
             (λ none. rw c.as_bytes.ensures.value at (c.visit_values.ensures.some clean none)),
       ),
     )

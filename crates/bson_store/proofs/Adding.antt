@@ -1,0 +1,212 @@
+-- Many documents that go into a collection, and what is told where they don't.
+use Rattle.std.proofs.lemmas.Int.{ints}
+use Rattle.std.proofs.Math.Dec.{leb}
+use Rattle.std.proofs.lemmas.Bool.Decides.{leb_tells}
+use Rattle.std.proofs.Common.{◌≡◌, ◌≢◌, ◌⊎◌, inl, inr, ℕ, ◌+◌, ℤ, pos, ◌+ℤ◌, ◌<ℤ◌, ◌^◌, suc, max, ◌<◌, ◌≤◌, List, [], ◌∷◌, ◌++◌, length, map, true, false, Option, Some, None, Result, Ok, Err, refl, ap, ◌∙◌, sym, subst, arith}
+use Rattle.std.specs.Prelude.{MatchOption, IsUtf8}
+use Rattle.bson_base.specs.Value.{Members}
+use Rattle.bson_bytes.specs.Encode.{encode}
+use Rattle.bson_meaning.specs.Meaning.{key}
+use Rattle.bson_table.specs.Rows.{Doc, docs_from}
+use Rattle.bson_table.specs.Rows as table
+use Rattle.bson_table.specs.Moves.{Appends as PutsRows, IsRoomFor, all_appended}
+use Rattle.bson_table.specs.declared.fault.Fault.{Fault}
+use Rattle.bson_table.specs.declared.fault.Fault.TheVariants as faults
+use Rattle.store_documents.specs.declared.write.Written.{Written}
+use Rattle.store_laws.specs.Reading.{Documents, AreRead}
+use Rattle.store_laws.specs.State.{list_of, store, import, on, Reply, number, refused, first_refusal, Appends, Answers, IsName, AreKept, Step}
+use Rattle.store_laws.specs.Run.{places, IsDecided}
+use Rattle.store_laws.specs.Table.{Row, Table, state_of, documents_of, greatest, last_place, own_id, AreOf, TakePlaces}
+use Rattle.store_laws.specs.declared.error.ErrorKind.{ErrorKind}
+use Rattle.store_laws.specs.declared.error.ErrorKind.TheVariants.{DuplicateId, Places}
+use Rattle.store_laws.proofs.Keys.{rows_are_a_state}
+use Rattle.store_laws.proofs.Rows.{list_of-state_of, rows_last}
+use Rattle.store_streams.specs.Judging.{AreRowsOf as AreWritten}
+use Rattle.store_streams.specs.Keys.{first_taken, keys_of}
+use Rattle.store_streams.proofs.Appending.{all_accepted, appending_all}
+use Rattle.bson_store.specs.Shown.{AreRowsOf, Rises, Show}
+use Rattle.bson_store.specs.Calls.{Does}
+use Rattle.bson_store.specs.Many.{AddsAll, FindsTaken, IsAddFault, keys_in, keys_of_rows, row_of}
+use Rattle.bson_store.specs.Refusals.{kind_of_fault, refusal, refusal_at, reply_by, as_number}
+use Rattle.bson_store.specs.declared.error.StoreError.{StoreError}
+use Rattle.bson_store.proofs.Keyed.{keys_are, row_keys_are}
+use Rattle.bson_store.proofs.Tables.{greater, last_greatest, each_more, rows_after}
+use Rattle.bson_store.proofs.Serving.{answers_stay, denied, undecided, memory_other, next_place, stays}
+
+-- ---- rows to come
+
+-- the documents at the places after g
+abbrev rows_at : ℕ → List ℕ → Documents → Table
+rows_at g n [] = []
+rows_at g n (d ∷ ds) = record { place = suc g; name = n; document = d } ∷ rows_at (suc g) n ds
+
+all_named : (g : ℕ) (n : List ℕ) (ds : Documents) → AreOf n (rows_at g n ds)
+all_named g n [] = tt
+all_named g n (d ∷ ds) = (refl, all_named (suc g) n ds)
+
+documents_back : (g : ℕ) (n : List ℕ) (ds : Documents) → map (λ (r : Row). r.document) (rows_at g n ds) ≡ ds
+documents_back g n [] = refl
+documents_back g n (d ∷ ds) = ap (λ x. d ∷ x) (documents_back (suc g) n ds)
+
+take_places : (g : ℕ) (n : List ℕ) (ds : Documents) → g + length ds ≤ last_place → TakePlaces g (rows_at g n ds)
+take_places g n [] h = tt
+take_places g n (d ∷ ds) h = (refl, omega (arith, h), take_places (suc g) n ds (omega (arith, h)))
+
+rises_at : (g : ℕ) (n : List ℕ) (ds : Documents) → Rises g (rows_at g n ds)
+rises_at g n [] = tt
+rises_at g n (d ∷ ds) = (omega arith, rises_at (suc g) n ds)
+
+rises_all : (m : ℕ) (rs : Table) (n : List ℕ) (ds : Documents) → Rises m rs → Rises m (rs ++ rows_at (max m (greatest rs)) n ds)
+rises_all m [] n ds rises = let e : m ≡ max m 0 = omega arith in subst (λ (g : ℕ). Rises m (rows_at g n ds)) e (rises_at m n ds)
+rises_all m (q ∷ rs) n ds rises = (rises.0, subst (λ (g : ℕ). Rises q.place (rs ++ rows_at g n ds)) (greater m q.place (greatest rs) rises.0) (rises_all q.place rs n ds rises.1))
+
+each_all : (g : ℕ) (n : List ℕ) (ws : List Written) (ds : Documents) → IsUtf8 n → AreWritten ws ds → AreRowsOf (rows_at g n ds) (docs_from (pos (suc g)) n (map row_of ws))
+each_all g n [] [] text h = tt
+each_all g n [] (d ∷ ds) text h = absurd h
+each_all g n (w ∷ ws) [] text h = absurd h
+each_all g n (w ∷ ws) (d ∷ ds) text h = (
+  record { place = refl; name = refl; text = text; key = h.1; body = h.0 },
+  subst (λ z. AreRowsOf (rows_at (suc g) n ds) (docs_from z n (map row_of ws))) (sym (next_place (suc g))) (each_all (suc g) n ws ds text h.2),
+)
+
+as_many : (ws : List Written) (ds : Documents) → AreWritten ws ds → length (map row_of ws) ≡ length ds
+as_many [] [] h = refl
+as_many [] (d ∷ ds) h = absurd h
+as_many (w ∷ ws) [] h = absurd h
+as_many (w ∷ ws) (d ∷ ds) h = ap suc (as_many ws ds h.2)
+
+-- ---- documents that were judged, and their rows
+
+pub record Come (ds : Documents) (ws : List Written) : Type 0 where
+  pub read : AreRead ds
+  pub fit : first_refusal 0 ds None ≡ None
+  pub rows : AreWritten ws ds
+
+kept_all : (ds : Documents) (ws : List Written) → Come ds ws → AreKept ds
+kept_all ds ws c = all_accepted 0 ds c.read c.fit
+
+pub kept_there : (docs : List Doc) (a : Table) (n : List ℕ) → Show docs a → AreKept (documents_of a n)
+kept_there docs a n s = subst AreKept (list_of-state_of a n) ((rows_are_a_state a s.good).kept n)
+
+-- the place of the first that is taken, by the keys of the rows, is that by the keys of the documents
+taken_as : (docs : List Doc) (a : Table) (n : List ℕ) (ds : Documents) (ws : List Written) (o : Option ℕ) → Show docs a → Come ds ws → o ≡ first_taken 0 (keys_in n docs) (keys_of_rows ws) → first_taken 0 (keys_of (documents_of a n)) (keys_of ds) ≡ o
+taken_as docs a n ds ws o s c h = sym (h ∙ ap (λ k. first_taken 0 k (keys_of_rows ws)) (keys_are n a docs s.each) ∙ ap (first_taken 0 (keys_of (documents_of a n))) (row_keys_are ws ds c.rows))
+
+abbrev Told : Documents → Documents → Option ℕ → Type 0
+Told l ds o = MatchOption o (Appends 0 l l ds (number (length ds)) (l ++ ds)) (λ i. Appends 0 l l ds (refused DuplicateId (Some i)) l)
+
+told : (docs : List Doc) (a : Table) (n : List ℕ) (ds : Documents) (ws : List Written) (o : Option ℕ) → Show docs a → Come ds ws → o ≡ first_taken 0 (keys_in n docs) (keys_of_rows ws) → Told (documents_of a n) ds o
+told docs a n ds ws o s c h = subst (Told (documents_of a n) ds) (taken_as docs a n ds ws o s c h) (appending_all (documents_of a n) ds (kept_there docs a n s) (kept_all ds ws c))
+
+answers_by : (l ds : Documents) (r : Reply) (es : Documents) → first_refusal 0 ds None ≡ None → Appends 0 l l ds r es → Answers (import ds None) l r es
+answers_by l ds r es fit h = rw fit h
+
+pub import_open : (n : List ℕ) (ds : Documents) (stop : Option ErrorKind) → IsName n → IsDecided (on n (import ds stop)) → ⊥
+import_open n ds stop good = undecided n (import ds stop) good (λ x. x)
+
+-- ---- all go in
+
+step_all : (docs : List Doc) (a : Table) (n : List ℕ) (ds : Documents) (ws : List Written) → IsName n → Show docs a → Come ds ws → None ≡ first_taken 0 (keys_in n docs) (keys_of_rows ws)
+    → Step (state_of a) (on n (import ds None)) (number (length ds)) (state_of (a ++ rows_at (greatest a) n ds))
+step_all docs a n ds ws good s c free =
+    let l = list_of (state_of a) n in
+    inl (
+      good,
+      (
+        l ++ ds,
+        subst (λ k. Answers (import ds None) k (number (length ds)) (k ++ ds)) (sym (list_of-state_of a n)) (answers_by (documents_of a n) ds (number (length ds)) (documents_of a n ++ ds) c.fit (told docs a n ds ws None s c free)),
+        rows_last a (rows_at (greatest a) n ds) n (all_named (greatest a) n ds) ∙ ap (λ e. store (state_of a) n (l ++ e)) (documents_back (greatest a) n ds),
+      ),
+    )
+
+room_is : (l : ℤ) (g k : ℕ) → l ≡ pos g → (l +ℤ pos k) <ℤ pos (2 ^ 63) → g + k ≤ last_place
+room_is l g k e h = let i = subst (λ z. (z +ℤ pos k) <ℤ pos (2 ^ 63)) e h in omega (arith, ints, i)
+
+full_is : (l : ℤ) (g k : ℕ) → l ≡ pos g → ((l +ℤ pos k) <ℤ pos (2 ^ 63) → ⊥) → last_place < g + k
+full_is l g k e h = by (leb_tells (g + k) last_place)
+  where
+    by : ((leb (g + k) last_place ≡ true) × (g + k ≤ last_place)) ⊎ ((leb (g + k) last_place ≡ false) × (last_place < g + k)) → last_place < g + k
+    by (inl i) = let low : (l +ℤ pos k) <ℤ pos (2 ^ 63) = omega (arith, ints, e, i.1) in absurd (h low)
+    by (inr i) = i.1
+
+go_in : (docs : List Doc) (n : List ℕ) (ds : Documents) (ws : List Written) → IsName n → IsUtf8 n → Come ds ws → None ≡ first_taken 0 (keys_in n docs) (keys_of_rows ws) → IsRoomFor (length (map row_of ws)) docs
+    → Does (on n (import ds None)) (number (length ds)) docs (all_appended n (map row_of ws) docs)
+go_in docs n ds ws good text c free room a s =
+    let g = greatest a in
+    let new = rows_at g n ds in
+    let last = last_greatest a docs s in
+    let first : table.last_place docs +ℤ pos 1 ≡ pos (suc g) = ap (λ z. z +ℤ pos 1) last ∙ next_place g in
+    let step = step_all docs a n ds ws good s c free in
+    let below : g + length ds ≤ last_place = room_is (table.last_place docs) g (length ds) last (subst (λ k. IsRoomFor k docs) (as_many ws ds c.rows) room) in
+    let all : max 0 g ≡ g = omega arith in (
+      a ++ new,
+      record {
+        each = each_more a new docs (docs_from (table.last_place docs +ℤ pos 1) n (map row_of ws)) s.each (subst (λ z. AreRowsOf new (docs_from z n (map row_of ws))) (sym first) (each_all g n ws ds text c.rows));
+        good = rows_after a (a ++ new) (on n (import ds None)) (number (length ds)) s.good (c.read, tt) step;
+        rising = subst (λ (k : ℕ). Rises 0 (a ++ rows_at k n ds)) all (rises_all 0 a n ds s.rising);
+      },
+      (None, (step, inl (new, refl, take_places g n ds below), tt)),
+    )
+
+no_places : (docs : List Doc) (n : List ℕ) (ds : Documents) (ws : List Written) → IsName n → Come ds ws → None ≡ first_taken 0 (keys_in n docs) (keys_of_rows ws) → (IsRoomFor (length (map row_of ws)) docs → ⊥)
+    → Does (on n (import ds None)) (refused Places None) docs docs
+no_places docs n ds ws good c free full a s =
+    let g : last_place < greatest a + length ds = full_is (table.last_place docs) (greatest a) (length ds) (last_greatest a docs s) (λ room. full (subst (λ k. IsRoomFor k docs) (sym (as_many ws ds c.rows)) room)) in
+    (a, s, (Some places, ((refl, refl), stays a, (import_open n ds None good, (g, number (length ds), state_of (a ++ rows_at (greatest a) n ds), step_all docs a n ds ws good s c free, λ x. x)))))
+
+-- ---- exits
+
+-- what a call is refused for that was denied something
+fault_does : (docs : List Doc) (n : List ℕ) (ds : Documents) (x : Fault) → IsName n → x ≢ faults.Places → Does (on n (import ds None)) (refused (kind_of_fault x) None) docs docs
+fault_does docs n ds x good other = denied docs (on n (import ds None)) x other (import_open n ds None good)
+
+is_fault : (e : StoreError) (x : Fault) → e ≡ refusal (kind_of_fault x) → IsAddFault e
+is_fault e x is = inl (x, is)
+
+-- the keys couldn't be told
+pub unadded : (docs after : List Doc) (n : List ℕ) (ws : List Written) (e : StoreError) → IsName n → FindsTaken n ws (Err e) docs after → AddsAll n ws (Err e) docs after
+unadded docs after n ws e good h = record {
+  same = h.same;
+  fault = is_fault e h.denied.0 h.denied.2;
+  does = λ ds read fit rows. rw (h.same, h.denied.2) (fault_does docs n ds h.denied.0 good h.denied.1);
+}
+
+-- a key is there already
+pub add_refused : (docs after : List Doc) (n : List ℕ) (ws : List Written) (o : Option ℕ) (i : ℕ) (e : StoreError) → IsName n → o ≡ Some i → e ≡ refusal_at DuplicateId i → FindsTaken n ws (Ok o) docs after → AddsAll n ws (Err e) docs after
+add_refused docs after n ws o i e good some is h = record {
+  same = h.same;
+  fault = inr (i, is);
+  does = λ ds read fit rows. rw (h.same, is) (answers_stay docs n (import ds None) (refused DuplicateId (Some i)) good
+      (λ a s. answers_by (documents_of a n) ds (refused DuplicateId (Some i)) (documents_of a n) fit (told docs a n ds ws (Some i) s (record { read = read; fit = fit; rows = rows }) (sym some ∙ h.place))));
+}
+
+-- memory was wanted for the rows
+pub add_wants : (docs after : List Doc) (n : List ℕ) (ws : List Written) (o : Option ℕ) (e : StoreError) → IsName n → e ≡ refusal (kind_of_fault faults.Memory) → FindsTaken n ws (Ok o) docs after → AddsAll n ws (Err e) docs after
+add_wants docs after n ws o e good is h = record {
+  same = h.same;
+  fault = is_fault e faults.Memory is;
+  does = λ ds read fit rows. rw (h.same, is) (fault_does docs n ds faults.Memory good memory_other);
+}
+
+-- the table refuses the rows
+pub not_added : (docs mid after : List Doc) (n : List ℕ) (ws : List Written) (o : Option ℕ) (x : Fault) (e : StoreError) → IsName n → o ≡ None → e ≡ refusal (kind_of_fault x) → FindsTaken n ws (Ok o) docs mid
+    → PutsRows (length (map row_of ws)) (all_appended n (map row_of ws)) (Err x) mid after → AddsAll n ws (Err e) docs after
+not_added docs mid after n ws o x e good none is h p = record {
+  same = p.refused ∙ h.same;
+  fault = is_fault e x is;
+  does = λ ds read fit rows. rw (p.refused, h.same, is) (by ds x p.full (record { read = read; fit = fit; rows = rows }));
+}
+  where
+    by : (ds : Documents) (y : Fault) → (y ≡ faults.Places → IsRoomFor (length (map row_of ws)) mid → ⊥) → Come ds ws → Does (on n (import ds None)) (refused (kind_of_fault y) None) docs docs
+    by ds faults.Memory full c = fault_does docs n ds faults.Memory good memory_other
+    by ds faults.Database full c = fault_does docs n ds faults.Database good (λ e. cc)
+    by ds faults.Places full c = no_places docs n ds ws good c (sym none ∙ h.place) (λ room. full refl (subst (IsRoomFor (length (map row_of ws))) (sym h.same) room))
+
+pub added : (docs mid after : List Doc) (n : List ℕ) (ws : List Written) (o : Option ℕ) (k : ℕ) → IsName n → IsUtf8 n → o ≡ None → k ≡ length (map row_of ws) → FindsTaken n ws (Ok o) docs mid
+    → PutsRows (length (map row_of ws)) (all_appended n (map row_of ws)) (Ok tt) mid after → AddsAll n ws (Ok k) docs after
+added docs mid after n ws o k good text none many h p = record {
+  same = tt;
+  fault = tt;
+  does = λ ds read fit rows. rw (p.done, h.same, many ∙ as_many ws ds rows)
+      (go_in docs n ds ws good text (record { read = read; fit = fit; rows = rows }) (sym none ∙ h.place) (subst (IsRoomFor (length (map row_of ws))) h.same p.room));
+}

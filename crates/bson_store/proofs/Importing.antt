@@ -1,0 +1,185 @@
+-- Exits of imports and loads.
+use Rattle.std.proofs.Common.{◌≡◌, ◌⊎◌, inl, inr, ℕ, suc, ◌+◌, ◌<◌, List, [], ◌∷◌, ◌++◌, length, take, drop, get_or, map, Bool, true, false, cond, nat_lt, Option, Some, None, Result, Ok, Err, Vec, Global, refl, ap, ◌∙◌, sym, subst, arith}
+use Rattle.std.proofs.lemmas.List.{append-nil, take_more}
+use Rattle.std.specs.Io.KnownBytes.{Consumes, IsAtEnd}
+use Rattle.serde_json.specs.Data.{Data}
+use Rattle.serde_json.specs.View.{view as tree_of}
+use Rattle.serde_json.specs.declared.value.Value.{Value as Json}
+use Rattle.bson_base.specs.Device.{Supply, Gives}
+use Rattle.bson_base.specs.Kinds.{AreBytes}
+use Rattle.bson_base.specs.Value.{Members, has_key}
+use Rattle.bson_bytes.specs.Encode.{size}
+use Rattle.bson_meaning.specs.Gate.{size_limit}
+use Rattle.bson_meaning.specs.JsonTrees.{IsJson}
+use Rattle.bson_table.specs.Rows.{Doc}
+use Rattle.bson_table.specs.declared.fault.Fault.{Fault}
+use Rattle.bson_table.specs.declared.fault.Fault.TheVariants as faults
+use Rattle.store_documents.specs.declared.write.Written.{Written}
+use Rattle.store_laws.specs.Reading.{Documents, AreAllJson, AreRead, IsReadingKind, IsStop, ReadsStream, ReadsTrees}
+use Rattle.store_laws.specs.State.{id_key, import, on, Reply, number, refused, refusal_of, or_later, first_refusal, Answers, IsName}
+use Rattle.store_laws.specs.Run.{IsDecided}
+use Rattle.store_laws.specs.declared.error.ErrorKind.{ErrorKind}
+use Rattle.store_laws.specs.declared.error.ErrorKind.TheVariants as kind
+use Rattle.store_laws.proofs.Readings.{stream_read, trees_read}
+use Rattle.store_streams.specs.declared.error.StreamError.{StreamError}
+use Rattle.store_streams.specs.declared.error.StreamError.TheVariants as streams
+use Rattle.store_streams.specs.declared.input.ReadAllError.{ReadAllError}
+use Rattle.store_streams.specs.declared.input.ReadAllError.TheVariants as reads
+use Rattle.store_streams.specs.Feed.{Feed, ReadsAll, StopsReading}
+use Rattle.store_streams.specs.Judging.{Judges}
+use Rattle.store_streams.proofs.Streams.{any_stream}
+use Rattle.bson_store.specs.Calls.{Does}
+use Rattle.bson_store.specs.Many.{AddsAll, DoesMany, IsAddFault, ImportRefused, Imports, Takes}
+use Rattle.bson_store.specs.Refusals.{as_number, kind_of_fault, kind_of_reading, refusal, refusal_of_stream, reply_by}
+use Rattle.bson_store.specs.declared.error.StoreError.{StoreError}
+use Rattle.bson_store.proofs.Adding.{import_open}
+use Rattle.bson_store.proofs.Serving.{answers_stay, bad_name, denied, memory_other}
+
+-- ---- what documents are refused for
+
+-- a kind that tells of documents, not of the name, the reader or memory
+abbrev IsOfDocuments : ErrorKind → Type 0
+IsOfDocuments kind.BadName = ⊥
+IsOfDocuments kind.Reader = ⊥
+IsOfDocuments kind.Memory = ⊥
+IsOfDocuments _ = Unit {0}
+
+reading_of : (k : ErrorKind) → IsReadingKind k → IsOfDocuments k
+reading_of kind.BadName h = absurd h
+reading_of kind.Reader h = absurd h
+reading_of kind.Memory h = absurd h
+reading_of _ h = tt
+
+refusal_is : (d : Members) (k : ErrorKind) → refusal_of d ≡ Some k → IsOfDocuments k
+refusal_is d k h = by (has_key id_key d) (nat_lt size_limit (size d)) h
+  where
+    this : (x : ErrorKind) → IsOfDocuments x → ◌≡◌ {A = Option ErrorKind} (Some x) (Some k) → IsOfDocuments k
+    this x t e = let same : x ≡ k = cc in subst IsOfDocuments same t
+
+    by : (b c : Bool) → cond b (cond c (Some kind.TooLong) None) (Some kind.NoId) ≡ Some k → IsOfDocuments k
+    by true true e = this kind.TooLong tt e
+    by true false e = cc
+    by false c e = this kind.NoId tt e
+
+kinds_are : (x k : ErrorKind) (i j : ℕ) → ◌≡◌ {A = Option (ErrorKind × ℕ)} (Some (x, i)) (Some (k, j)) → x ≡ k
+kinds_are x k i j e = let pair : ◌≡◌ {A = ErrorKind × ℕ} (x, i) (k, j) = cc in ap (λ p. p.0) pair
+
+first_is : (i : ℕ) (ds : Documents) (stop : Option ErrorKind) (k : ErrorKind) (j : ℕ) → IsStop stop → first_refusal i ds stop ≡ Some (k, j) → IsOfDocuments k
+first_is i [] None k j h e = cc
+first_is i [] (Some x) k j h e = subst IsOfDocuments (kinds_are x k i j e) (reading_of x h)
+first_is i (d ∷ ds) stop k j h e = by (refusal_of d) refl e (first_is (suc i) ds stop k j h)
+  where
+    by : (o : Option ErrorKind) → refusal_of d ≡ o → or_later o i (first_refusal (suc i) ds stop) ≡ Some (k, j) → (first_refusal (suc i) ds stop ≡ Some (k, j) → IsOfDocuments k) → IsOfDocuments k
+    by None r e rest = rest e
+    by (Some x) r e rest = refusal_is d k (r ∙ ap Some (kinds_are x k i j e))
+
+-- ---- many documents, in whatever form they came
+
+-- under a bad name
+pub many_bad_name : (docs : List Doc) (n : List ℕ) (Reads : Documents → Option ErrorKind → Type 0) → (IsName n → ⊥) → DoesMany n Reads (refused kind.BadName None) docs docs
+many_bad_name docs n Reads bad = ([], None, (λ good. absurd (bad good)), bad_name docs n (import [] None) bad)
+
+refused_by : (ds l : Documents) (stop : Option ErrorKind) (k : ErrorKind) (i : ℕ) → first_refusal 0 ds stop ≡ Some (k, i) → Answers (import ds stop) l (refused k (Some i)) l
+refused_by ds l stop k i is = rw is (refl, refl)
+
+wanted : (docs : List Doc) (n : List ℕ) (Reads : Documents → Option ErrorKind → Type 0) (ds : Documents) (stop : Option ErrorKind) → IsName n → Reads ds stop → DoesMany n Reads (refused kind.Memory None) docs docs
+wanted docs n Reads ds stop good reads = (ds, stop, (λ _. reads), denied docs (on n (import ds stop)) faults.Memory memory_other (import_open n ds stop good))
+
+-- they aren't judged to be kept
+pub many_refused : (docs : List Doc) (n : List ℕ) (Reads : Documents → Option ErrorKind → Type 0) (x : StreamError) → IsName n → Judges Reads (Err x)
+    → DoesMany n Reads (reply_by as_number (Err (refusal_of_stream x))) docs docs
+many_refused docs n Reads (streams.Refused k i) good h = (h.0, h.1, (λ _. h.2), answers_stay docs n (import h.0 h.1) (refused k (Some i)) good (λ a s. refused_by h.0 _ h.1 k i h.3))
+many_refused docs n Reads streams.Memory good h = wanted docs n Reads h.0 h.1 good h.2
+
+-- they are
+pub many_added : (docs after : List Doc) (n : List ℕ) (Reads : Documents → Option ErrorKind → Type 0) (rows : Vec Written Global) (r : Result ℕ StoreError) → ((ds : Documents) → Reads ds None → AreRead ds)
+    → Judges Reads (Ok rows) → AddsAll n rows.items r docs after → DoesMany n Reads (reply_by as_number r) docs after
+many_added docs after n Reads rows r sound h added = (h.0, None, (λ _. h.1), added.does h.0 (sound h.0 h.1) h.2 h.3)
+
+pub stream_sound : (bytes : List ℕ) → AreBytes bytes → (ds : Documents) → ReadsStream bytes ds None → AreRead ds
+stream_sound bytes range ds reads = (stream_read bytes ds None range reads).0
+
+pub trees_sound : (js : List Data) → AreAllJson js → (ds : Documents) → ReadsTrees js ds None → AreRead ds
+trees_sound js range ds reads = (trees_read js ds None range reads).0
+
+-- ---- over a reader
+
+pub import_unnamed : (docs : List Doc) (n : List ℕ) (f : Feed) → (IsName n → ⊥) → Imports n f f (Err (refusal kind.BadName)) docs docs
+import_unnamed docs n f bad = (bad, refl, refl, refl)
+
+pub import_unread : (docs : List Doc) (n : List ℕ) (old new : Feed) (x : ReadAllError) → IsName n → StopsReading x old new → Imports n old new (Err (refusal (kind_of_reading x))) docs docs
+import_unread docs n old new reads.Reader good h = (good, refl, h, refl)
+import_unread docs n old new reads.Memory good h = (good, refl, h, refl)
+
+-- memory was wanted once all was read
+memory_left : (docs after : List Doc) (n bytes : List ℕ) (old new : Feed) → IsName n → ReadsAll old new bytes → after ≡ docs → ImportRefused n old new kind.Memory None docs after
+memory_left docs after n bytes old new good all same = (good, refl, (all.0, (bytes, all.1)), same)
+
+of_documents : (docs after : List Doc) (n : List ℕ) (old new : Feed) (k : ErrorKind) (i : Option ℕ) → IsOfDocuments k → Takes n old new (refused k i) docs after → ImportRefused n old new k i docs after
+of_documents docs after n old new kind.BadName i told h = absurd told
+of_documents docs after n old new kind.Reader i told h = absurd told
+of_documents docs after n old new kind.Memory i told h = absurd told
+of_documents docs after n old new _ i told h = h
+
+pub import_refused : (docs : List Doc) (n bytes : List ℕ) (old new : Feed) (x : StreamError) → IsName n → AreBytes bytes → ReadsAll old new bytes → Judges (ReadsStream bytes) (Err x) → Imports n old new (Err (refusal_of_stream x)) docs docs
+import_refused docs n bytes old new (streams.Refused k i) good range all h =
+    of_documents docs docs n old new k (Some i) (first_is 0 h.0 h.1 k i (stream_read bytes h.0 h.1 range h.2).1 h.3) (good, (bytes, all, many_refused docs n (ReadsStream bytes) (streams.Refused k i) good h))
+import_refused docs n bytes old new streams.Memory good range all h = memory_left docs docs n bytes old new good all refl
+
+pub import_added : (docs after : List Doc) (n bytes : List ℕ) (old new : Feed) (rows : Vec Written Global) (r : Result ℕ StoreError) → IsName n → AreBytes bytes → ReadsAll old new bytes → Judges (ReadsStream bytes) (Ok rows)
+    → AddsAll n rows.items r docs after → Imports n old new r docs after
+import_added docs after n bytes old new rows (Ok k) good range all h added = (good, (bytes, all, many_added docs after n (ReadsStream bytes) rows (Ok k) (stream_sound bytes range) h added))
+import_added docs after n bytes old new rows (Err e) good range all h added = by e added.fault added.same (many_added docs after n (ReadsStream bytes) rows (Err e) (stream_sound bytes range) h added)
+  where
+    at_fault : (x : Fault) → after ≡ docs → DoesMany n (ReadsStream bytes) (refused (kind_of_fault x) None) docs after → ImportRefused n old new (kind_of_fault x) None docs after
+    at_fault faults.Memory same does = memory_left docs after n bytes old new good all same
+    at_fault faults.Database same does = (good, (bytes, all, does))
+    at_fault faults.Places same does = (good, (bytes, all, does))
+
+    by : (e : StoreError) → IsAddFault e → after ≡ docs → DoesMany n (ReadsStream bytes) (refused e.kind e.document) docs after → ImportRefused n old new e.kind e.document docs after
+    by e (inl (x, is)) same does = subst (λ y. ImportRefused n old new y.kind y.document docs after) (sym is) (at_fault x same (subst (λ y. DoesMany n (ReadsStream bytes) (refused y.kind y.document) docs after) is does))
+    by e (inr (i, is)) same does = rw is (good, (bytes, all, subst (λ y. DoesMany n (ReadsStream bytes) (refused y.kind y.document) docs after) is does))
+
+-- ---- from memory
+
+-- a source that never fails and gives what it has left
+pub from_memory : (docs after : List Doc) (n bytes : List ℕ) (old new : Feed) (r : Result ℕ StoreError) → old.failures ≡ 0 → new.failures ≡ 0 → ((bs : List ℕ) → ReadsAll old new bs → bs ≡ bytes)
+    → Imports n old new r docs after → DoesMany n (ReadsStream bytes) (reply_by as_number r) docs after
+from_memory docs after n bytes old new r before now whole h = by r h
+  where
+    took : (q : Reply) → Takes n old new q docs after → DoesMany n (ReadsStream bytes) q docs after
+    took q h = subst (λ bs. DoesMany n (ReadsStream bs) q docs after) (whole h.1.0 h.1.1) h.1.2
+
+    wanted_here : IsName n → after ≡ docs → DoesMany n (ReadsStream bytes) (refused kind.Memory None) docs after
+    wanted_here good same = rw same (let s = any_stream bytes in wanted docs n (ReadsStream bytes) s.0 s.1 good s.2)
+
+    bad_here : (IsName n → ⊥) → after ≡ docs → DoesMany n (ReadsStream bytes) (refused kind.BadName None) docs after
+    bad_here bad same = rw same (many_bad_name docs n (ReadsStream bytes) bad)
+
+    at : (k : ErrorKind) (i : Option ℕ) → ImportRefused n old new k i docs after → DoesMany n (ReadsStream bytes) (refused k i) docs after
+    at kind.BadName i h = rw h.1 (bad_here h.0 h.3)
+    at kind.Reader i h = let no : ◌≡◌ {A = ℕ} 0 1 = sym now ∙ h.2 ∙ ap (λ m. m + 1) before in cc
+    at kind.Memory i h = rw h.1 (wanted_here h.0 h.3)
+    at _ i h = took _ h
+
+    by : (r : Result ℕ StoreError) → Imports n old new r docs after → DoesMany n (ReadsStream bytes) (reply_by as_number r) docs after
+    by (Ok k) h = took (number k) h
+    by (Err e) h = at e.kind e.document h
+
+-- the rest of bytes was taken to its end
+pub whole_slice : (xs : List ℕ) (o : Option (List ℕ)) (bs : List ℕ) → Consumes (Some xs) o bs → IsAtEnd o → bs ≡ xs
+whole_slice xs None bs h e = absurd h
+whole_slice xs (Some ys) bs h e = sym (h ∙ ap (λ l. bs ++ l) e ∙ append-nil bs)
+
+-- ---- JSON trees one after the other
+
+all_json_last : (js : List Data) (j : Data) → AreAllJson js → IsJson j → AreAllJson (js ++ j ∷ [])
+all_json_last [] j h k = (k, tt)
+all_json_last (i ∷ js) j h k = (h.0, all_json_last js j h.1 k)
+
+map_last : (xs : List Json) (x : Json) → map tree_of (xs ++ x ∷ []) ≡ map tree_of xs ++ tree_of x ∷ []
+map_last [] x = refl
+map_last (y ∷ xs) x = ap (λ l. tree_of y ∷ l) (map_last xs x)
+
+pub json_more : (xs : List Json) (i : ℕ) (x : Json) → i < length xs → x ≡ get_or xs i x → AreAllJson (map tree_of (take i xs)) → IsJson (tree_of x) → AreAllJson (map tree_of (take (i + 1) xs))
+json_more xs i x h is before now = subst AreAllJson (sym (ap (map tree_of) (take_more xs i x h ∙ ap (λ y. take i xs ++ y ∷ []) (sym is)) ∙ map_last (take i xs) x)) (all_json_last (map tree_of (take i xs)) (tree_of x) before now)

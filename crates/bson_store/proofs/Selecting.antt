@@ -1,0 +1,205 @@
+-- What a filter selects of the documents of a collection, taken one after the other.
+use Rattle.std.proofs.Common.{◌≡◌, ◌≢◌, inl, inr, ℕ, List, [], ◌∷◌, ◌++◌, map, Bool, true, false, cond, Option, Some, None, Ok, Err, String, Global, length, refl, ap, ap₂, ◌∙◌, sym, subst}
+use Rattle.std.specs.Prelude.{MatchOption, bytes_eq}
+use Rattle.sqlite.specs.State.{State}
+use Rattle.bson_base.specs.Value.{Members, document}
+use Rattle.bson_bytes.specs.Encode.{encode}
+use Rattle.bson_filter.specs.Filters.{filter_of, path_of}
+use Rattle.bson_table.specs.Rows.{Doc}
+use Rattle.bson_table.specs.Moves.{Moves, Visits, bodies_of}
+use Rattle.bson_table.specs.declared.fault.Fault.{Fault}
+use Rattle.store_laws.specs.Filter.{Filter, Selects}
+use Rattle.store_laws.specs.Reading.{Documents}
+use Rattle.store_laws.specs.Run.{IsDecidedCall}
+use Rattle.store_laws.specs.State.{Answers, AreKept, Call, IsKept, IsName, Picks, Reply, on, only, refused}
+use Rattle.store_laws.specs.Table.{AreRows, Table, documents_of}
+use Rattle.bson_store.specs.Calls.{Does}
+use Rattle.bson_store.specs.Export.{bytes_of}
+use Rattle.bson_store.specs.Questions.{Gives, Picked, Turns}
+use Rattle.bson_store.specs.Refusals.{IsDenied, kind_of_fault, refusal}
+use Rattle.bson_store.specs.Shown.{Show}
+use Rattle.bson_store.specs.declared.error.StoreError.{StoreError}
+use Rattle.bson_store.specs.declared.picking.Copies.{Copies}
+use Rattle.bson_store.specs.declared.picking.Count.{Count}
+use Rattle.bson_store.specs.declared.picking.Picker.{Picker}
+use Rattle.bson_store.specs.declared.picking.Projections.{Projections}
+use Rattle.bson_store.proofs.Exporting.{bodies_are}
+use Rattle.bson_store.proofs.Moving.{moved}
+use Rattle.bson_store.proofs.Serving.{answers_stay, denied, undecided}
+
+-- ---- one document more
+
+-- what a filter selects of the documents was taken
+abbrev pub Taken : (Documents → Type 0) → Filter → Documents → Type 0
+Taken took f ds = (out : Documents) × Picks f ds out × took out
+
+picked_more : (f : Filter) (ds out : Documents) (d : Members) → Selects f (document d) → Picks f ds out → Picks f (ds ++ d ∷ []) (out ++ d ∷ [])
+picked_more f [] out d selected h = inl (selected, ([], ap (λ l. l ++ d ∷ []) h, refl))
+picked_more f (e ∷ ds) out d selected (inl h) = inl (h.0, (h.1.0 ++ d ∷ [], ap (λ l. l ++ d ∷ []) h.1.1, picked_more f ds h.1.0 d selected h.1.2))
+picked_more f (e ∷ ds) out d selected (inr h) = inr (h.0, picked_more f ds out d selected h.1)
+
+picked_same : (f : Filter) (ds out : Documents) (d : Members) → (Selects f (document d) → ⊥) → Picks f ds out → Picks f (ds ++ d ∷ []) out
+picked_same f [] out d no_one h = inr (no_one, h)
+picked_same f (e ∷ ds) out d no_one (inl h) = inl (h.0, (h.1.0, h.1.1, picked_same f ds h.1.0 d no_one h.1.2))
+picked_same f (e ∷ ds) out d no_one (inr h) = inr (h.0, picked_same f ds out d no_one h.1)
+
+taken_more : (old new : Documents → Type 0) (f : Filter) (es : Documents) (d : Members) → ((out : Documents) → old out → Turns new f out d) → Taken old f es → Taken new f (es ++ d ∷ [])
+taken_more old new f es d turns h = by (turns h.0 h.2)
+  where
+    by : Turns new f h.0 d → Taken new f (es ++ d ∷ [])
+    by (inl t) = (h.0 ++ d ∷ [], picked_more f es h.0 d t.0 h.1, t.1)
+    by (inr t) = (h.0, picked_same f es h.0 d t.0 h.1, t.1)
+
+-- the last of the documents is that of the last body
+record IsLast (ds : Documents) (bodies : List (List ℕ)) (b : List ℕ) : Type 0 where
+  pub front : Documents
+  pub last : Members
+  pub split : ds ≡ front ++ last ∷ []
+  pub bodies_are : bodies ≡ map encode front
+  pub body_is : b ≡ encode last
+
+last_behind : (d : Members) (c : List ℕ) (ds : Documents) (bodies : List (List ℕ)) (b : List ℕ) → c ≡ encode d → IsLast ds bodies b → IsLast (d ∷ ds) (c ∷ bodies) b
+last_behind d c ds bodies b is l = record { front = d ∷ l.front; last = l.last; split = ap (λ x. d ∷ x) l.split; bodies_are = ap₂ (λ x xs. x ∷ xs) is l.bodies_are; body_is = l.body_is }
+
+last_of : (ds : Documents) (bodies : List (List ℕ)) (b : List ℕ) → bodies ++ b ∷ [] ≡ map encode ds → IsLast ds bodies b
+last_of [] [] b h = absurd (cc)
+last_of [] (c ∷ bodies) b h = absurd (cc)
+last_of (d ∷ []) [] b h = let is : b ≡ encode d = cc in record { front = []; last = d; split = refl; bodies_are = refl; body_is = is }
+last_of (d ∷ (e ∷ ds)) [] b h = absurd (cc)
+last_of (d ∷ ds) (c ∷ bodies) b h =
+    let head : c ≡ encode d = cc in
+    let tail : bodies ++ b ∷ [] ≡ map encode ds = cc in
+    last_behind d c ds bodies b head (last_of ds bodies b tail)
+
+kept_parts : (es : Documents) (d : Members) → AreKept (es ++ d ∷ []) → AreKept es × IsKept d
+kept_parts [] d h = (tt, h.0)
+kept_parts (e ∷ es) d h = let r = kept_parts es d h.1 in ((h.0, r.0), r.1)
+
+kept_last : (ds : Documents) (bodies : List (List ℕ)) (b : List ℕ) (l : IsLast ds bodies b) → AreKept ds → AreKept l.front × IsKept l.last
+kept_last ds bodies b l kept = kept_parts l.front l.last (subst AreKept l.split kept)
+
+-- a body was handed on
+pub gave_more : (old new : Documents → Type 0) (f : Filter) (bodies : List (List ℕ)) (b : List ℕ) (fault : Option StoreError) → ((out : Documents) (d : Members) → IsKept d → b ≡ encode d → old out → Turns new f out d)
+    → Gives old f bodies fault → Gives new f (bodies ++ b ∷ []) fault
+gave_more old new f bodies b fault turns h ds kept is =
+    let l = last_of ds bodies b is in
+    let k = kept_last ds bodies b l kept in
+    by l (λ out t. turns out l.last k.1 l.body_is t) fault (h l.front k.0 l.bodies_are)
+  where
+    by : (l : IsLast ds bodies b) → ((out : Documents) → old out → Turns new f out l.last) → (o : Option StoreError) → MatchOption o (Taken old f l.front) IsDenied → MatchOption o (Taken new f ds) IsDenied
+    by l turns None t = subst (Taken new f) (sym l.split) (taken_more old new f l.front l.last turns t)
+    by l turns (Some e) t = t
+
+-- a body was refused
+pub gave_fault : (took : Documents → Type 0) (f : Filter) (bodies : List (List ℕ)) (b : List ℕ) (e : StoreError) → ((d : Members) → IsKept d → b ≡ encode d → IsDenied e) → Gives took f (bodies ++ b ∷ []) (Some e)
+gave_fault took f bodies b e h ds kept is = let l = last_of ds bodies b is in h l.last (kept_last ds bodies b l kept).1 l.body_is
+
+-- ---- all bodies of a collection
+
+gives_none : (took : Documents → Type 0) (f : Filter) → took [] → Gives took f [] None
+gives_none took f t [] kept is = ([], refl, t)
+gives_none took f t (d ∷ ds) kept is = absurd (cc)
+
+kept_of : (a : Table) (n : List ℕ) → AreRows a → AreKept (documents_of a n)
+kept_of [] n good = tt
+kept_of (r ∷ rs) n good = by (bytes_eq n r.name) (kept_of rs n good.3)
+  where
+    by : (b : Bool) → AreKept (documents_of rs n) → AreKept (cond b (r.document ∷ documents_of rs n) (documents_of rs n))
+    by true rest = (good.1, rest)
+    by false rest = rest
+
+-- the documents of a beginning of the bodies
+record IsFront (xs : List (List ℕ)) (ds : Documents) : Type 0 where
+  pub front : Documents
+  pub back : Documents
+  pub split : ds ≡ front ++ back
+  pub bodies_are : xs ≡ map encode front
+
+front_behind : (d : Members) (x : List ℕ) (xs : List (List ℕ)) (ds : Documents) → x ≡ encode d → IsFront xs ds → IsFront (x ∷ xs) (d ∷ ds)
+front_behind d x xs ds is f = record { front = d ∷ f.front; back = f.back; split = ap (λ l. d ∷ l) f.split; bodies_are = ap₂ (λ z zs. z ∷ zs) is f.bodies_are }
+
+front_of : (xs ys : List (List ℕ)) (ds : Documents) → xs ++ ys ≡ map encode ds → IsFront xs ds
+front_of [] ys ds h = record { front = []; back = ds; split = refl; bodies_are = refl }
+front_of (x ∷ xs) ys [] h = absurd (cc)
+front_of (x ∷ xs) ys (d ∷ ds) h =
+    let head : x ≡ encode d = cc in
+    let tail : xs ++ ys ≡ map encode ds = cc in
+    front_behind d x xs ds head (front_of xs ys ds tail)
+
+kept_front : (front back : Documents) → AreKept (front ++ back) → AreKept front
+kept_front [] back h = tt
+kept_front (d ∷ front) back h = (h.0, kept_front front back h.1)
+
+-- what a picker has taken since it was the first
+abbrev pub Took : {T : Type 0} → (T → T → Documents → Type 0) → Picker T → Picker T → List (List ℕ) → Type 0
+Took took first v bodies = (v.filter.now ≡ first.filter.now) × Gives (took first.taker v.taker) (filter_of v.filter.now) bodies v.fault
+
+module _ {T : Type 0} (took : T → T → Documents → Type 0) (first last : Picker T) (n : List ℕ) (docs after : List Doc) (start : took first.taker first.taker []) (faultless : first.fault ≡ None) where
+  starts : Took took first first []
+  starts = (refl, subst (λ o. Gives (took first.taker first.taker) (filter_of first.filter.now) [] o) (sym faultless) (gives_none (took first.taker first.taker) (filter_of first.filter.now) start))
+
+  -- the table refused
+  pub untaken : (x : Fault) → Visits (Took took first) first last n (Err x) docs after → Picked (took first.taker) n (filter_of first.filter.now) (Err (refusal (kind_of_fault x))) docs after
+  untaken x h = record { same = h.same; taken = λ a s. tt; denied = λ a s. (x, h.faults, refl) }
+
+  -- all were taken
+  pub taken : (all : Bool) → last.fault ≡ None → (all ≡ false → last.fault ≢ None) → Visits (Took took first) first last n (Ok all) docs after → Picked (took first.taker) n (filter_of first.filter.now) (Ok last.taker) docs after
+  taken false whole stopped h = absurd (stopped refl whole)
+  taken true whole stopped h =
+      let w = h.whole starts refl in
+      record {
+        same = h.same;
+        taken = λ a s.
+            let t = w.1 (documents_of a n) (kept_of a n s.good) (bodies_are n a docs s.each) in
+            let u : Taken (took first.taker last.taker) (filter_of last.filter.now) (documents_of a n) = subst (λ o. MatchOption o (Taken (took first.taker last.taker) (filter_of last.filter.now) (documents_of a n)) IsDenied) whole t in
+            subst (λ g. Taken (took first.taker last.taker) (filter_of g) (documents_of a n)) w.0 u;
+        denied = λ a s. tt;
+      }
+
+  -- the picker refused
+  pub refused_one : (all : Bool) (e : StoreError) → last.fault ≡ Some e → Visits (Took took first) first last n (Ok all) docs after → Picked (took first.taker) n (filter_of first.filter.now) (Err e) docs after
+  refused_one all e is h =
+      let w = h.some starts in
+      record {
+        same = h.same;
+        taken = λ a s. tt;
+        denied = λ a s.
+            let p = front_of w.0 w.1 (documents_of a n) (w.2 ∙ bodies_are n a docs s.each) in
+            let k = kept_front p.front p.back (subst AreKept p.split (kept_of a n s.good)) in
+            let t = w.3.1 p.front k p.bodies_are in
+            subst (λ o. MatchOption o (Taken (took first.taker last.taker) (filter_of last.filter.now) p.front) IsDenied) is t;
+      }
+
+-- ---- exits
+
+picked_as : {T : Type 0} (took : T → Documents → Type 0) (docs : List Doc) (n : List ℕ) (f : Filter) (t : T) (c : Call) (q : Reply) → IsName n → ((l out : Documents) → Picks f l out → took t out → Answers c l q l)
+    → ((a : Table) → Show docs a → (out : Documents) × Picks f (documents_of a n) out × took t out) → Does (on n c) q docs docs
+picked_as took docs n f t c q good answers h = answers_stay docs n c q good (λ a s. let p = h a s in answers (documents_of a n) p.0 p.1 p.2)
+
+pub picked_moves : {T : Type 0} (took : T → Documents → Type 0) (s u : State) (n nb : List ℕ) (f : Filter) (t : T) (c : Call) (q : Reply) → nb ≡ n → IsName n → ((l out : Documents) → Picks f l out → took t out → Answers c l q l)
+    → Moves s u (Picked took nb f (Ok t)) → Moves s u (Does (on n c) q)
+picked_moves took s u n nb f t c q e good answers m =
+    moved s u (Picked took nb f (Ok t)) (Does (on n c) q) m
+    (λ docs after h. let k = subst (λ x. Picked took x f (Ok t) docs after) e h in rw k.same (picked_as took docs n f t c q good answers k.taken))
+
+denied_as : (docs : List Doc) (n : List ℕ) (e : StoreError) (c : Call) → IsName n → (IsDecidedCall c → ⊥) → ((a : Table) → Show docs a → IsDenied e) → Does (on n c) (refused e.kind e.document) docs docs
+denied_as docs n e c good open_call h a s = let d = h a s in rw d.2 (denied docs (on n c) d.0 d.1 (undecided n c good open_call) a s)
+
+pub unpicked_moves : {T : Type 0} (took : T → Documents → Type 0) (s u : State) (n nb : List ℕ) (f : Filter) (e : StoreError) (c : Call) → nb ≡ n → IsName n → (IsDecidedCall c → ⊥) → Moves s u (Picked took nb f (Err e)) → Moves s u (Does (on n c) (refused e.kind e.document))
+unpicked_moves took s u n nb f e c is good open_call m =
+    moved s u (Picked took nb f (Err e)) (Does (on n c) (refused e.kind e.document)) m
+    (λ docs after h. let k = subst (λ x. Picked took x f (Err e) docs after) is h in rw k.same (denied_as docs n e c good open_call k.denied))
+
+-- ---- what each question keeps
+
+abbrev pub HasCopies : Copies → Documents → Type 0
+HasCopies t out = bytes_of t.bodies.items ≡ map encode out
+
+abbrev pub HasCounted : Count → Documents → Type 0
+HasCounted t out = t.number ≡ length out
+
+abbrev pub HasProjected : List (String Global) → Projections → Documents → Type 0
+HasProjected keys t out = (t.keys.now ≡ keys) × (bytes_of t.bodies.items ≡ map (λ d. encode (only (path_of t.keys.now) d)) out)
+
+pub projected : (keys : List (String Global)) (t : Projections) (out : Documents) → HasProjected keys t out → bytes_of t.bodies.items ≡ map (λ d. encode (only (path_of keys) d)) out
+projected keys t out h = h.1 ∙ ap (λ ks. map (λ d. encode (only (path_of ks) d)) out) h.0

@@ -1,0 +1,23 @@
+use Rattle.std.proofs.Common.{Some, drop, take, ap, refl, subst, sym, ◌∙◌}
+use Rattle.store_laws.specs.Reading.{ReadsStream}
+use Rattle.store_streams.specs.Feed.{Feed}
+use Rattle.bson_store.specs.Calls.{held}
+use Rattle.bson_store.specs.Many.{DoesMany, Imports}
+use Rattle.bson_store.specs.Refusals.{as_number, reply_by}
+use Rattle.bson_store.specs.Runs.{Imported}
+use Rattle.bson_store.proofs.Importing.{from_memory, whole_slice}
+use Rattle.bson_store.proofs.Moving.{moved}
+use Rattle.bson_store.proofs.batch.imported.Goals as goal
+
+pub returns : goal.returns
+returns g c =
+    let n = c.args.name.now in
+    let bytes = c.args.bytes.now in
+    let s = c.new-source.result in
+    let t = c.import.new.reader in
+    let old : Feed = record { failures = 0; supply = record { given = Some (take s.at s.bytes.now); left = Some (drop s.at s.bytes.now) } } in
+    let new : Feed = record { failures = 0; supply = record { given = Some (take t.at t.bytes.now); left = Some (drop t.at t.bytes.now) } } in
+    let all = ap (λ at. drop at s.bytes.now) c.new-source.ensures.at ∙ c.new-source.ensures.bytes in
+    moved (held g.S.Store c.args.store.now) (held g.S.Store c.import.new.self) (Imports n old new c.import.result) (Imported n bytes c.counted.result) c.import.ensures
+    (λ docs after h. subst (λ q. DoesMany n (ReadsStream bytes) q docs after) (sym c.counted.ensures)
+    (from_memory docs after n bytes old new c.import.result refl refl (λ bs all_read. whole_slice (drop s.at s.bytes.now) new.supply.left bs all_read.1.1 all_read.2 ∙ all) h))

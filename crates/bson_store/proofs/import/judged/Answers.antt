@@ -1,0 +1,5 @@
+use Rattle.bson_store.proofs.Bytes.{are_bytes}
+use Rattle.bson_store.proofs.import.judged.Goals as goal
+
+pub returns-clause-range : goal.returns-clause-range
+returns-clause-range c = are_bytes c.args.stream.now c.type_inv.stream

@@ -1,0 +1,8 @@
+use Rattle.std.proofs.Common.{refl, subst, sym}
+use Rattle.bson_frame.specs.Payload.{IsEnvelope}
+use Rattle.store_laws.specs.Reading.{readable}
+use Rattle.store_laws.proofs.Restore.{written_reads}
+use Rattle.bson_store.proofs.picking.selected.Goals as goal
+
+pub returns-in_default : goal.returns-in_default
+returns-in_default c d kept is = c.in_default.ensures.0 (subst IsEnvelope (sym is) ((written_reads d kept (readable d)).1 refl).0.1)

@@ -1,0 +1,76 @@
+-- What calls of many documents say of the rows: imports and loads, and dumps.
+use Rattle.std.specs.Prelude.{◌≡◌, ◌⊎◌, ◌||◌, ℕ, Bool, List, map, filter, Option, None, Result, Ok, Err, IfOk, IfErr, OnErr}
+use Rattle.std.specs.List.{list_any}
+use Rattle.std.specs.Str.{bytes_eq}
+use Rattle.bson_table.specs.Rows.{Doc, is_in}
+use Rattle.bson_table.specs.declared.fault.Fault.{Fault}
+use Rattle.bson_table.specs.declared.row.NewRow.{NewRow}
+use Rattle.store_documents.specs.declared.write.Written.{Written}
+use Rattle.store_laws.specs.Reading.{Documents, AreRead, ReadsStream}
+use Rattle.store_laws.specs.State as model
+use Rattle.store_laws.specs.declared.error.ErrorKind.{ErrorKind}
+use Rattle.store_laws.specs.declared.error.ErrorKind.TheVariants.{BadName, DuplicateId, Memory, Reader}
+use Rattle.store_streams.specs.declared.input.ReadAllError.TheVariants as reads
+use Rattle.store_streams.specs.declared.keys.Keys.{Keys}
+use Rattle.store_streams.specs.Feed.{Feed, ReadsAll, StopsReading}
+use Rattle.store_streams.specs.Judging.{AreRowsOf}
+use Rattle.store_streams.specs.Keys.{first_taken, has_met}
+use Rattle.bson_store.specs.Calls.{Does}
+use Rattle.bson_store.specs.Refusals.{IsDenied, as_number, kind_of_fault, refusal, refusal_at, reply_by}
+use Rattle.bson_store.specs.declared.error.StoreError.{StoreError}
+
+-- ---- what comes in
+
+-- a call with many documents, which stand for what they read as; under a bad name nothing is read
+abbrev pub DoesMany : List ℕ → (Documents → Option ErrorKind → Type 0) → model.Reply → List Doc → List Doc → Type 0
+DoesMany n Reads r old new = (ds : Documents) × (stop : Option ErrorKind) × (model.IsName n → Reads ds stop) × Does (model.on n (model.import ds stop)) r old new
+
+-- the reader was read to its end, and the reply is that to its bytes
+abbrev pub Takes : List ℕ → Feed → Feed → model.Reply → List Doc → List Doc → Type 0
+Takes n old new r docs after = model.IsName n × ((bytes : List ℕ) × ReadsAll old new bytes × DoesMany n (ReadsStream bytes) r docs after)
+
+-- under a bad name nothing is read; `Reader` tells that a read failed, and no other kind does
+abbrev pub ImportRefused : List ℕ → Feed → Feed → ErrorKind → Option ℕ → List Doc → List Doc → Type 0
+ImportRefused n old new BadName place docs after = (model.IsName n → ⊥) × (place ≡ None) × (new ≡ old) × (after ≡ docs)
+ImportRefused n old new Reader place docs after = model.IsName n × (place ≡ None) × StopsReading reads.Reader old new × (after ≡ docs)
+ImportRefused n old new Memory place docs after = model.IsName n × (place ≡ None) × StopsReading reads.Memory old new × (after ≡ docs)
+ImportRefused n old new kind place docs after = Takes n old new (model.refused kind place) docs after
+
+abbrev pub Imports : List ℕ → Feed → Feed → Result ℕ StoreError → List Doc → List Doc → Type 0
+Imports n old new (Ok count) docs after = Takes n old new (model.number count) docs after
+Imports n old new (Err e) docs after = ImportRefused n old new e.kind e.document docs after
+
+-- ---- the keys of what comes in
+
+-- the written keys of a collection, in order of place
+abbrev pub keys_in : List ℕ → List Doc → List (List ℕ)
+keys_in n docs = map (λ (d : Doc). d.idkey) (filter (is_in n) docs)
+
+-- whether a key is in the collection or among those that were met
+pub record Meets (n k : List ℕ) (met : Keys) (result : Result Bool StoreError) (docs after : List Doc) : Type 0 where
+  pub same : after ≡ docs
+  pub there : IfOk result (λ b. b ≡ list_any (bytes_eq k) (keys_in n docs) || has_met met k)
+  pub denied : IfErr result IsDenied
+
+abbrev pub keys_of_rows : List Written → List (List ℕ)
+keys_of_rows = map (λ (w : Written). w.key.items)
+
+-- the place of the first row whose key is in the collection or that of a row before
+pub record FindsTaken (n : List ℕ) (rows : List Written) (result : Result (Option ℕ) StoreError) (docs after : List Doc) : Type 0 where
+  pub same : after ≡ docs
+  pub place : IfOk result (λ o. o ≡ first_taken 0 (keys_in n docs) (keys_of_rows rows))
+  pub denied : IfErr result IsDenied
+
+-- a written document as a row to come
+abbrev pub row_of : Written → NewRow
+row_of w = record { idkey = w.key; body = w.body }
+
+-- a row's key is there already, or the table or memory refused
+abbrev pub IsAddFault : StoreError → Type 0
+IsAddFault e = ((x : Fault) × (e ≡ refusal (kind_of_fault x))) ⊎ ((i : ℕ) × (e ≡ refusal_at DuplicateId i))
+
+-- The rows of documents that were read and can be kept go in, or the call is refused and every row is as it was.
+pub record AddsAll (n : List ℕ) (rows : List Written) (result : Result ℕ StoreError) (docs after : List Doc) : Type 0 where
+  pub same : OnErr result (after ≡ docs)
+  pub fault : IfErr result IsAddFault
+  pub does : (ds : Documents) → AreRead ds → model.first_refusal 0 ds None ≡ None → AreRowsOf rows ds → Does (model.on n (model.import ds None)) (reply_by as_number result) docs after

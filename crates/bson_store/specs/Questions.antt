@@ -1,0 +1,42 @@
+-- Questions to collections: which there are, and what a filter selects of one.
+use Rattle.std.specs.Prelude.{◌≡◌, ℕ, List, [], ◌∷◌, ◌++◌, map, Option, Some, None, Result, Ok, Err, MatchOption, IfOk, IfErr, String, Vec, string_bytes}
+use Rattle.std.specs.declared.alloc.Global.{Global}
+use Rattle.bson_base.specs.Value.{document, Members}
+use Rattle.bson_bytes.specs.Encode.{encode}
+use Rattle.bson_raw.specs.View.{bytes_of as view_bytes}
+use Rattle.bson_raw.specs.declared.document.RawDocument.{RawDocument}
+use Rattle.bson_table.specs.Rows.{Doc}
+use Rattle.store_laws.specs.Filter.{Filter, Selects}
+use Rattle.store_laws.specs.Reading.{Documents}
+use Rattle.store_laws.specs.State.{AreKept, Picks, When, Reply, bytes_list, names}
+use Rattle.store_laws.specs.Table.{Table, documents_of}
+use Rattle.bson_store.specs.Export.{bytes_of}
+use Rattle.bson_store.specs.Refusals.{IsDenied}
+use Rattle.bson_store.specs.Shown.{Show}
+use Rattle.bson_store.specs.declared.error.StoreError.{StoreError}
+
+abbrev pub as_list : Vec (Vec ℕ Global) Global → Reply
+as_list v = bytes_list (bytes_of v.items)
+
+abbrev pub as_names : Vec (String Global) Global → Reply
+as_names v = names (map string_bytes v.items)
+
+-- the view of a document's bytes is there where the filter selects the document; nothing is refused
+abbrev pub IsPick : Filter → Members → List ℕ → Result (Option RawDocument) StoreError → Type 0
+IsPick f d bytes (Ok None) = Selects f (document d) → ⊥
+IsPick f d bytes (Ok (Some view)) = Selects f (document d) × (view_bytes view ≡ bytes)
+IsPick f d bytes (Err e) = ⊥
+
+-- a document comes behind those that were taken, where the filter selects it
+abbrev pub Turns : (Documents → Type 0) → Filter → Documents → Members → Type 0
+Turns took f out d = When (Selects f (document d)) (took (out ++ d ∷ [])) (took out)
+
+-- Whatever documents the bodies were written for, those that the filter selects were taken, unless there was a fault.
+abbrev pub Gives : (Documents → Type 0) → Filter → List (List ℕ) → Option StoreError → Type 0
+Gives took f bodies fault = (ds : Documents) → AreKept ds → bodies ≡ map encode ds → MatchOption fault ((out : Documents) × Picks f ds out × took out) IsDenied
+
+-- whatever table the rows show, what the filter selects of a collection was taken; the rows stay
+pub record Picked {T : Type 0} (took : T → Documents → Type 0) (n : List ℕ) (f : Filter) (result : Result T StoreError) (docs after : List Doc) : Type 0 where
+  pub same : after ≡ docs
+  pub taken : (a : Table) → Show docs a → IfOk result (λ t. (out : Documents) × Picks f (documents_of a n) out × took t out)
+  pub denied : (a : Table) → Show docs a → IfErr result IsDenied

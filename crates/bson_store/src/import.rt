@@ -1,0 +1,159 @@
+//! Many documents at once: all of them go into a collection, or none.
+
+ghost use Rattle.std.specs.Prelude.{◌≡◌, ◌||◌, ◌<◌, ◌^◌, ◌-◌, ℕ, List, length, map, false, Some, None, IfOk};
+ghost use Rattle.std.specs.Str.{bytes_eq};
+ghost use Rattle.serde_json.specs.View.{view as tree_of};
+ghost use Rattle.bson_table.specs.Moves.{Appends, Moves, all_appended};
+ghost use Rattle.store_documents.specs.Names.{name_bytes};
+ghost use Rattle.bson_base.specs.Kinds.{AreBytes};
+ghost use Rattle.store_laws.specs.Reading.{AreAllJson, ReadsStream, ReadsTrees};
+ghost use Rattle.store_streams.specs.Judging.{Judges};
+ghost use Rattle.store_streams.specs.Keys.{has_met};
+ghost use Rattle.bson_store.specs.Calls.{held};
+ghost use Rattle.bson_store.specs.Many.{AddsAll, DoesMany, FindsTaken, Imports, Meets, row_of};
+ghost use Rattle.bson_store.specs.Refusals.{as_number, refusal_at, reply_by};
+ghost use Rattle.store_laws.specs.declared.error.ErrorKind.TheVariants.{DuplicateId};
+
+use crate::error::StoreError;
+use crate::store::{Store, good_name};
+use bson_meaning::laws::values_are_json;
+use bson_model::Source;
+use bson_table::{Fault, NewRow};
+use serde_json::Value;
+use sqlite::Alter;
+use std::alloc::{AllocError, Global};
+use store_documents::{Name, Written};
+use store_laws::ErrorKind;
+use store_streams::{Keys, StreamError, judge_stream, judge_trees, read_all};
+
+/// JSON trees are such as the reader knows. It costs a walk through them.
+fn are_json(trees: &[Value])
+    ensures { AreAllJson (map tree_of trees.now) }
+{
+    for json in trees {
+        values_are_json(json);
+    }
+}
+
+/// The rows of the documents of a stream.
+fn judged(alloc: Global, stream: &[u8]) -> Result<Vec<Written>, StreamError>
+    ensures rows { Judges (ReadsStream stream.now) result }
+    ensures range { AreBytes stream.now }
+{
+    judge_stream(alloc, stream)
+}
+
+/// The rows in the table's terms. No bytes are copied.
+fn new_rows(alloc: Global, rows: Vec<Written>) -> Result<Vec<NewRow>, AllocError>
+    ensures { IfOk result (λ new. new.items ≡ map row_of rows.items) }
+{
+    let mut new = Vec::new(alloc);
+    for row in rows {
+        new.push(NewRow {
+            idkey: row.key,
+            body: row.body,
+        })?;
+    }
+    Ok(new)
+}
+
+/// The refusal of the document at a place whose `_id` is there already.
+fn duplicate(document: u64) -> StoreError
+    ensures { result ≡ refusal_at DuplicateId document }
+{
+    StoreError {
+        kind: ErrorKind::DuplicateId,
+        document: Some(document),
+    }
+}
+
+impl<S: Alter + Drop> Store<S> {
+    /// Whether a key is in the collection or was met before. Where it wasn't, it is met now.
+    fn is_taken<'a>(
+        &mut self,
+        coll: &str,
+        met: &mut Keys<'a>,
+        key: &'a [u8],
+    ) -> Result<bool, StoreError>
+        ensures moves { Moves (held S.Store self.old) (held S.Store self.new) (Meets coll.now key.now met.old result) }
+        ensures met { IfOk result (λ taken. taken ≡ false → (k : List ℕ) → has_met met.new k ≡ bytes_eq k key.now || has_met met.old k) }
+    {
+        let found = self.table.named(coll, key)?;
+        if let Some(_) = found {
+            return Ok(true);
+        }
+        let is_new = met.meet(key)?;
+        Ok(!is_new)
+    }
+
+    /// The place of the first row whose key is in the collection or that of a row before.
+    fn first_taken(&mut self, coll: &str, rows: &[Written]) -> Result<Option<u64>, StoreError>
+        ensures { Moves (held S.Store self.old) (held S.Store self.new) (FindsTaken coll.now rows.now result) }
+    {
+        let mut met = Keys::new(self.alloc);
+        for at in 0..rows.len() {
+            let row = &rows[at];
+            let key = row.key.as_slice();
+            if self.is_taken(coll, &mut met, key)? {
+                return Ok(Some(at as u64));
+            }
+        }
+        Ok(None)
+    }
+
+    /// Writes all rows, in one transaction.
+    fn write_all(&mut self, coll: &str, rows: &[NewRow]) -> Result<(), Fault>
+        ensures { Moves (held S.Store self.old) (held S.Store self.new) (Appends (length rows.now) (all_appended coll.now rows.now) result) }
+    {
+        self.table.append_all(coll, rows)
+    }
+
+    /// Puts the documents that these rows are last in a collection, and says how many they are.
+    fn add_all(&mut self, name: Name<'_>, rows: Vec<Written>) -> Result<u64, StoreError>
+        ensures { Moves (held S.Store self.old) (held S.Store self.new) (AddsAll (name_bytes name.entry) rows.items result) }
+    {
+        let coll = name.as_str();
+        let taken = self.first_taken(coll, rows.as_slice())?;
+        if let Some(document) = taken {
+            return Err(duplicate(document));
+        }
+        let new = new_rows(self.alloc, rows)?;
+        self.write_all(coll, new.as_slice())?;
+        Ok(new.len() as u64)
+    }
+
+    /// Puts the documents of a stream last in the collection `name`, in their order, and answers how many they are: the bytes
+    /// that `reader` has up to its end, one document after the other. Either all are put in or none.
+    ///
+    /// Refused by BadName, before anything is read; by Reader, where a read failed; by EndInside, BadLength, NotTerminated,
+    /// Faulty, TooDeep, NoId and TooLong of the first document that is refused for one of these; else by DuplicateId of the
+    /// first whose `_id` is in the collection or in an earlier document of the stream; by Places; and by Memory and Database,
+    /// but never in the place of BadName. `document` tells which document was refused. Of the reader nothing is said after
+    /// Reader; with any other refusal none of its reads failed.
+    pub fn import<R: Source>(&mut self, name: &str, reader: &mut R) -> Result<u64, StoreError>
+        requires { R.failures reader.old < 2 ^ 64 - 1 }
+        ensures { Moves (held S.Store self.old) (held S.Store self.new) (Imports name.now (record { failures = R.failures reader.old; supply = R.supply reader.old })
+            (record { failures = R.failures reader.new; supply = R.supply reader.new }) result) }
+    {
+        let name = good_name(name)?;
+        let bytes = read_all(self.alloc, reader)?;
+        let stream = bytes.as_slice();
+        let rows = judged(self.alloc, stream)?;
+        self.add_all(name, rows)
+    }
+
+    /// Puts the documents that JSON trees stand for (MongoDB Extended JSON v2) last in the collection `name`, in their order and
+    /// each in normal form with its keys in order, and answers how many they are. Either all are put in or none.
+    ///
+    /// Refused by BadName; by NotAnObject, JsonRefused, TooDeep, Nul, NoId and TooLong of the first document that is refused for
+    /// one of these; else by DuplicateId of the first whose `_id` is in the collection or in an earlier tree; by Places; and by
+    /// Memory and Database, but never in the place of BadName. `document` tells which document was refused.
+    pub fn load_json(&mut self, name: &str, trees: Vec<Value>) -> Result<u64, StoreError>
+        ensures { Moves (held S.Store self.old) (held S.Store self.new) (DoesMany name.now (ReadsTrees (map tree_of trees.items)) (reply_by as_number result)) }
+    {
+        let name = good_name(name)?;
+        are_json(trees.as_slice());
+        let rows = judge_trees(self.alloc, trees)?;
+        self.add_all(name, rows)
+    }
+}

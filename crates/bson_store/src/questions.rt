@@ -1,0 +1,104 @@
+//! Questions to collections: which there are, and what a filter selects of one.
+
+ghost use Rattle.std.specs.Prelude.{◌≡◌, []};
+ghost use Rattle.bson_filter.specs.Filters.{filter_of, path_of};
+ghost use Rattle.bson_table.specs.Moves.{Moves};
+ghost use Rattle.store_documents.specs.Names.{name_bytes};
+ghost use Rattle.store_laws.specs.State.{collections, count, find, on, project};
+ghost use Rattle.bson_store.specs.Calls.{Does, held};
+ghost use Rattle.bson_store.specs.Questions.{Picked, as_list, as_names};
+ghost use Rattle.bson_store.specs.Refusals.{as_number, reply_by};
+
+use crate::error::StoreError;
+use crate::names::names_of;
+use crate::picking::{Copies, Count, Picker, Projections, Take};
+use crate::store::{Store, good_name};
+use bson_filter::Filter;
+use sqlite::Alter;
+use store_documents::Name;
+
+impl<S: Alter + Drop> Store<S> {
+    /// The names that hold a document, ascending by their bytes.
+    ///
+    /// Refused by Memory and Database.
+    pub fn collections(&mut self) -> Result<Vec<String>, StoreError>
+        ensures { Moves (held S.Store self.old) (held S.Store self.new) (Does collections (reply_by as_names result)) }
+    {
+        let names = self.table.collections()?;
+        names_of(self.alloc, names)
+    }
+
+    /// What is kept of the documents of a collection that a filter selects.
+    fn pick<T: Take + Drop>(
+        &mut self,
+        name: Name<'_>,
+        filter: &Filter,
+        taker: T,
+    ) -> Result<T, StoreError>
+        requires { T.took taker taker [] }
+        ensures { Moves (held S.Store self.old) (held S.Store self.new) (Picked (T.took taker) (name_bytes name.entry) (filter_of filter.now) result) }
+    {
+        let mut picker = Picker {
+            filter,
+            taker,
+            fault: None,
+        };
+        self.table.visit_bodies(name.as_str(), &mut picker)?;
+        let Picker {
+            filter: _,
+            taker,
+            fault,
+        } = picker;
+        match fault {
+            None => Ok(taker),
+            Some(error) => Err(error),
+        }
+    }
+
+    /// The written forms of the documents of the collection `name` that a filter selects, in the collection's order. A name
+    /// without documents has none. Beside the answer one document is held at a time.
+    ///
+    /// Refused by BadName, Memory and Database.
+    pub fn find(&mut self, name: &str, filter: &Filter) -> Result<Vec<Vec<u8>>, StoreError>
+        ensures { Moves (held S.Store self.old) (held S.Store self.new) (Does (on name.now (find (filter_of filter.now))) (reply_by as_list result)) }
+    {
+        let name = good_name(name)?;
+        let bodies = Vec::new(self.alloc);
+        let alloc = self.alloc;
+        let copies = self.pick(name, filter, Copies { bodies, alloc })?;
+        Ok(copies.bodies)
+    }
+
+    /// How many documents of the collection `name` a filter selects. One document is held at a time.
+    ///
+    /// Refused by BadName, Memory and Database.
+    pub fn count(&mut self, name: &str, filter: &Filter) -> Result<u64, StoreError>
+        ensures { Moves (held S.Store self.old) (held S.Store self.new) (Does (on name.now (count (filter_of filter.now))) (reply_by as_number result)) }
+    {
+        let name = good_name(name)?;
+        let count = self.pick(name, filter, Count { number: 0 })?;
+        Ok(count.number)
+    }
+
+    /// Of each document of the collection `name` that a filter selects, in the collection's order, the elements with a listed
+    /// key at the top, as a document in that one's own order. Beside the answer one document is held at a time.
+    ///
+    /// Refused by BadName, Memory and Database.
+    pub fn project(
+        &mut self,
+        name: &str,
+        filter: &Filter,
+        keys: &[String],
+    ) -> Result<Vec<Vec<u8>>, StoreError>
+        ensures { Moves (held S.Store self.old) (held S.Store self.new) (Does (on name.now (project (filter_of filter.now) (path_of keys.now))) (reply_by as_list result)) }
+    {
+        let name = good_name(name)?;
+        let projections = Projections {
+            keys,
+            bodies: Vec::new(self.alloc),
+            alloc: self.alloc,
+        };
+        let taken = self.pick(name, filter, projections)?;
+        Ok(taken.bodies)
+    }
+}
