@@ -63,7 +63,12 @@ fn reads(
     let mut faults = VecSink::new(alloc);
     let status = pipe(alloc, &mut input, &mut output, &mut faults);
     let failed = input.failed;
-    let found = (status, failed, output.bytes.as_slice(), faults.bytes.as_slice());
+    let found = (
+        status,
+        failed,
+        output.bytes.as_slice(),
+        faults.bytes.as_slice(),
+    );
     assert_eq!(rt; found, want);
     Ok(())
 }
@@ -80,7 +85,12 @@ fn writes(
     let mut faults = VecSink::new(alloc);
     let status = pipe(alloc, &mut input, &mut output, &mut faults);
     let failed = output.failed;
-    let found = (status, failed, output.bytes.as_slice(), faults.bytes.as_slice());
+    let found = (
+        status,
+        failed,
+        output.bytes.as_slice(),
+        faults.bytes.as_slice(),
+    );
     assert_eq!(rt; found, want);
     Ok(())
 }
@@ -97,7 +107,12 @@ fn tells(
     let mut faults = FaultySink::new(alloc, room);
     let status = pipe(alloc, &mut input, &mut output, &mut faults);
     let failed = faults.failed;
-    let found = (status, failed, output.bytes.as_slice(), faults.bytes.as_slice());
+    let found = (
+        status,
+        failed,
+        output.bytes.as_slice(),
+        faults.bytes.as_slice(),
+    );
     assert_eq!(rt; found, want);
     Ok(())
 }

@@ -1,9 +1,10 @@
 -- What is printed of the results of the store's calls.
-use Rattle.std.specs.Prelude.{Bool, Result, Ok, Err}
+use Rattle.std.specs.Prelude.{Bool, ℕ, Result, Ok, Err, Vec, String}
+use Rattle.std.specs.declared.alloc.Global.{Global}
 use Rattle.serde_json.specs.declared.value.Value.{Value as Json}
 use Rattle.bson_store.specs.declared.error.StoreError.{StoreError}
 use Rattle.store_program.specs.declared.answer.Answer.{Answer}
-use Rattle.store_program.specs.declared.answer.Answer.TheVariants.{Nothing, Flag, Tree}
+use Rattle.store_program.specs.declared.answer.Answer.TheVariants.{Nothing, Flag, Number, Tree, Trees, Documents, Names}
 use Rattle.store_program.specs.declared.stop.Stop.{Stop}
 use Rattle.store_program.specs.declared.stop.Stop.TheVariants.{Refused}
 
@@ -20,3 +21,15 @@ as_flag b = Flag b
 
 abbrev pub as_tree : Json → Answer
 as_tree j = Tree j
+
+abbrev pub as_number : ℕ → Answer
+as_number n = Number n
+
+abbrev pub as_trees : Vec Json Global → Answer
+as_trees v = Trees v
+
+abbrev pub as_documents : Vec (Vec ℕ Global) Global → Answer
+as_documents v = Documents v
+
+abbrev pub as_names : Vec (String Global) Global → Answer
+as_names v = Names v

@@ -3,6 +3,7 @@
 
 mod answer;
 mod changes;
+mod inputs;
 mod printing;
 mod program;
 mod reads;

@@ -8,20 +8,17 @@ ghost use Rattle.store_program.specs.Execute.{Tells, Prints, Executes};
 
 use crate::answer::Answer;
 use crate::changes::{insert, remove, replace, set, unset};
+use crate::inputs::{import, load};
 use crate::printing::print;
-use crate::reads::{export, get};
-use crate::stop::{Stop, USAGE};
+use crate::reads::{collections, count, dump, export, find, get};
+use crate::stop::Stop;
 use bson_store::{Sink, Source, Store};
 use sqlite::Alter;
 use std::alloc::Global;
 use store_words::{Call, Words, write_complaint, write_refusal};
 
 /// Prints what a command answers. Of one that isn't done nothing is printed.
-fn told<O: Sink>(
-    alloc: Global,
-    outcome: Result<Answer, Stop>,
-    output: &mut O,
-) -> Result<(), Stop>
+fn told<O: Sink>(alloc: Global, outcome: Result<Answer, Stop>, output: &mut O) -> Result<(), Stop>
     requires { O.failures output.old < 2 ^ 64 - 1 }
     ensures { Tells outcome result }
 {
@@ -55,11 +52,13 @@ fn serve<S: Alter + Drop, I: Source, O: Sink>(
         Call::Set => told(alloc, set(alloc, store, name, rest), output),
         Call::Unset => told(alloc, unset(alloc, store, name, rest), output),
         Call::Remove => told(alloc, remove(alloc, store, name, rest), output),
+        Call::Find => told(alloc, find(alloc, store, name, rest), output),
+        Call::Count => told(alloc, count(alloc, store, name, rest), output),
+        Call::Import => told(alloc, import(store, name, rest, input), output),
         Call::Export => export(store, name, rest, output),
-        _ => {
-            let _ = input;
-            Err(USAGE)
-        }
+        Call::Dump => told(alloc, dump(store, name, rest), output),
+        Call::Load => told(alloc, load(alloc, store, name, rest, input), output),
+        Call::Collections => told(alloc, collections(store, name, rest), output),
     }
 }
 

@@ -1,17 +1,21 @@
 //! What the texts among the words of a command stand for.
 
-ghost use Rattle.std.specs.Prelude.{◌≡◌, Some, IfOk, map, string_bytes};
+ghost use Rattle.std.specs.Prelude.{◌≡◌, ◌<◌, ◌^◌, ◌-◌, Some, IfOk, map, string_bytes};
 ghost use Rattle.serde_json.specs.Read.{read as tree_of};
 ghost use Rattle.serde_json.specs.View.{view as data_of};
 ghost use Rattle.bson_model.specs.View.{view};
 ghost use Rattle.store_program.specs.Commands.{IsIdText, mode_of};
 
 use crate::stop::{Stop, USAGE, refused};
+use bson_filter::Filter;
 use bson_store::extjson::Mode;
-use bson_store::{Bson, ErrorKind};
+use bson_store::{Bson, ErrorKind, Source};
 use serde_json::Value;
 use std::alloc::Global;
-use store_words::{Complaint, RELAXED, TextError, read_id, read_json};
+use store_streams::{ReadAllError, read_all};
+use store_words::{
+    Complaint, LinesError, RELAXED, TextError, read_filter, read_id, read_json, read_lines,
+};
 
 /// A text that can't be read is told so; want of memory is a refusal.
 fn unread(error: TextError, complaint: Complaint) -> Stop {
@@ -55,5 +59,29 @@ pub fn mode_of(words: &[String]) -> Result<Mode, Stop>
             }
         }
         _ => Err(USAGE),
+    }
+}
+
+/// The filter of a text.
+pub fn filter_of(alloc: Global, text: &str) -> Result<Filter, Stop> {
+    match read_filter(alloc, text) {
+        Ok(filter) => Ok(filter),
+        Err(error) => Err(unread(error, Complaint::Filter)),
+    }
+}
+
+/// The trees of the input's lines, which is read to its end.
+pub fn trees_in<I: Source>(alloc: Global, input: &mut I) -> Result<Vec<Value>, Stop>
+    requires { I.failures input.old < 2 ^ 64 - 1 }
+{
+    let bytes = match read_all(alloc, input) {
+        Ok(bytes) => bytes,
+        Err(ReadAllError::Reader) => return Err(refused(ErrorKind::Reader)),
+        Err(ReadAllError::Memory) => return Err(refused(ErrorKind::Memory)),
+    };
+    match read_lines(alloc, bytes.as_slice()) {
+        Ok(trees) => Ok(trees),
+        Err(LinesError::Line(number)) => Err(Stop::Words(Complaint::Line(number))),
+        Err(LinesError::Memory) => Err(refused(ErrorKind::Memory)),
     }
 }

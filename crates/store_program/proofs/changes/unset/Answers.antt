@@ -17,5 +17,5 @@ returns g c =
     let key = c.as_str-2.result.now in
     performs (held g.S.Store c.args.store.now) (held g.S.Store c.unset.new.self) (IsCommandOf words.Unset n (map string_bytes c.args.words.now)) (model.on n (model.unset id key)) told as_flag c.unset.result c.flag.result
     (of_id_and_key (λ id more. model.unset id (key_of more)) n c.args.words.now c.id-item.result c.key-item.result c.as_str.result.now key id c.id-item.is c.key-item.is c.in-len2.len_at_least c.in-len2.len_below
-      c.as_str.ensures.value c.as_str-2.ensures.value c.in_ok-id.ensures)
+    c.as_str.ensures.value c.as_str-2.ensures.value c.in_ok-id.ensures)
     (λ x no. no) c.flag.ensures c.unset.ensures

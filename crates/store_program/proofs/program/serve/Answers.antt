@@ -38,3 +38,33 @@ pub returns-in-Export : goal.returns-in-Export
 returns-in-Export g c =
     let asked = c.args.words.now in
     as_asked (held g.S.Store c.args.store.now) (held g.S.Store c.export.new.store) words.Export asked.call asked.coll.now (map string_bytes asked.rest.now) c.export.result c.in-Export.is c.export.ensures
+
+pub returns-in-Find : goal.returns-in-Find
+returns-in-Find g c =
+    let asked = c.args.words.now in
+    told_asked (held g.S.Store c.args.store.now) (held g.S.Store c.find.new.store) words.Find asked.call asked.coll.now (map string_bytes asked.rest.now) c.find.result c.told-in-Find.result c.in-Find.is c.told-in-Find.ensures c.find.ensures
+
+pub returns-in-Count : goal.returns-in-Count
+returns-in-Count g c =
+    let asked = c.args.words.now in
+    told_asked (held g.S.Store c.args.store.now) (held g.S.Store c.count.new.store) words.Count asked.call asked.coll.now (map string_bytes asked.rest.now) c.count.result c.told-in-Count.result c.in-Count.is c.told-in-Count.ensures c.count.ensures
+
+pub returns-in-Import : goal.returns-in-Import
+returns-in-Import g c =
+    let asked = c.args.words.now in
+    told_asked (held g.S.Store c.args.store.now) (held g.S.Store c.import.new.store) words.Import asked.call asked.coll.now (map string_bytes asked.rest.now) c.import.result c.told-in-Import.result c.in-Import.is c.told-in-Import.ensures c.import.ensures
+
+pub returns-in-Dump : goal.returns-in-Dump
+returns-in-Dump g c =
+    let asked = c.args.words.now in
+    told_asked (held g.S.Store c.args.store.now) (held g.S.Store c.dump.new.store) words.Dump asked.call asked.coll.now (map string_bytes asked.rest.now) c.dump.result c.told-in-Dump.result c.in-Dump.is c.told-in-Dump.ensures c.dump.ensures
+
+pub returns-in-Load : goal.returns-in-Load
+returns-in-Load g c =
+    let asked = c.args.words.now in
+    told_asked (held g.S.Store c.args.store.now) (held g.S.Store c.load.new.store) words.Load asked.call asked.coll.now (map string_bytes asked.rest.now) c.load.result c.told-in-Load.result c.in-Load.is c.told-in-Load.ensures c.load.ensures
+
+pub returns-in-Collections : goal.returns-in-Collections
+returns-in-Collections g c =
+    let asked = c.args.words.now in
+    told_asked (held g.S.Store c.args.store.now) (held g.S.Store c.collections.new.store) words.Collections asked.call asked.coll.now (map string_bytes asked.rest.now) c.collections.result c.told-in-Collections.result c.in-Collections.is c.told-in-Collections.ensures c.collections.ensures
