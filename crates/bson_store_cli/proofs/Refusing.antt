@@ -3,7 +3,7 @@ use Rattle.std.proofs.Common.{◌≡◌, ◌≢◌, ◌⊎◌, inl, inr, ℕ, Li
 use Rattle.std.specs.Prelude.{nat_lt}
 use Rattle.bson_base.specs.Value.{Members, has_key}
 use Rattle.bson_bytes.specs.Encode.{size}
-use Rattle.bson_meaning.specs.Gate.{size_limit, IsRefused}
+use Rattle.bson_meaning.specs.Gate.{size_limit}
 use Rattle.bson_meaning.specs.declared.reading.GateError.{GateError}
 use Rattle.bson_meaning.specs.declared.reading.GateError.TheVariants as gate
 use Rattle.store_laws.specs.Reading.{kind_of, readable, unreadable, ReadsBytes}

@@ -12,7 +12,7 @@ use Rattle.store_laws.specs.declared.error.ErrorKind.TheVariants.{BadName, Memor
 use Rattle.store_streams.specs.Feed.{Feed}
 use Rattle.bson_store.specs.Export.{Tally, Delivers, ExportRefused, Sends}
 use Rattle.bson_store.specs.declared.error.StoreError.{StoreError}
-use Rattle.bson_store_cli.specs.Pipe.{ReadsDocument, HasAlone, KeepsInput, RefusesInput, Exchanges}
+use Rattle.bson_store_cli.specs.Pipe.{ReadsDocument, KeepsInput, RefusesInput, Exchanges}
 use Rattle.bson_store_cli.proofs.Refusing.{of_input}
 use Rattle.bson_store_cli.proofs.Keeping.{name, is_name}
 
