@@ -26,7 +26,7 @@ use Rattle.store_program.proofs.Accepting.{rows_stay}
 abbrev pub Allows : (Command → Type 0) → List ℕ → Type 0
 Allows Meant n = (ds : Documents) (stop : Option ErrorKind) → Meant (on n (import ds stop))
 
-Stays : Table → Table → Type 0
+abbrev Stays : Table → Table → Type 0
 Stays a b = b ≡ a
 
 many_taken : (Meant : Command → Type 0) (n : List ℕ) (Reads : Documents → Option ErrorKind → Type 0) (i : ℕ) (docs after : List Doc) → Allows Meant n → DoesMany n Reads (number i) docs after → Comes (Accepts Meant) docs after
@@ -53,8 +53,11 @@ import_refused n old new kind.Reader i docs after h = unmoved docs after h.3
 import_refused n old new kind.Memory i docs after h = unmoved docs after h.3
 import_refused n old new k i docs after (good, (bytes, all, many)) = many_refused n _ k i docs after many
 
+taken_in : (Meant : Command → Type 0) (n : List ℕ) (old new : Feed) (i : ℕ) (docs after : List Doc) → Allows Meant n → Imports n old new (Ok i) docs after → Comes (Accepts Meant) docs after
+taken_in Meant n old new i docs after allows (good, (bytes, all, many)) = many_taken Meant n _ i docs after allows many
+
 imported : (s t : Connected) (Meant : Command → Type 0) (n : List ℕ) (old new : Feed) (outcome : Result ℕ StoreError) → Allows Meant n → Moves s t (Imports n old new outcome) → Moves s t (Performs Meant (answer_by answers.as_number outcome))
-imported s t Meant n old new (Ok i) allows m = moved s t (Imports n old new (Ok i)) (Performs Meant (Ok (answers.as_number i))) m (λ docs after (good, (bytes, all, many)). many_taken Meant n _ i docs after allows many)
+imported s t Meant n old new (Ok i) allows m = moved s t (Imports n old new (Ok i)) (Performs Meant (Ok (answers.as_number i))) m (λ docs after h. taken_in Meant n old new i docs after allows h)
 imported s t Meant n old new (Err e) allows m = moved s t (Imports n old new (Err e)) (Performs Meant (Err (Refused e))) m (λ docs after h. import_refused n old new e.kind e.document docs after h)
 
 pub import_performs : (s t : Connected) (Meant : Command → Type 0) (n : List ℕ) (old new : Feed) (outcome : Result ℕ StoreError) (result : Result Answer Stop) → Allows Meant n → result ≡ answer_by answers.as_number outcome
