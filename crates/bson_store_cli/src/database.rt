@@ -1,0 +1,98 @@
+//! Commands over a database file.
+
+ghost use Rattle.std.specs.Prelude.{◌<◌, ◌^◌, ◌-◌};
+
+use bson_store::{ErrorKind, Sink, Source, Store};
+use sqlite::{Alter, Connection, Error, ErrorCode, File, FileStore};
+use std::alloc::Global;
+use std::io;
+use store_program::execute;
+use store_words::{Complaint, Words, read_words, write_complaint, write_refusal};
+
+/// Tells a refusal, and answers the status of one.
+fn refuse<F: Sink>(faults: &mut F, kind: ErrorKind) -> u8
+    requires { F.failures faults.old < 2 ^ 64 - 1 }
+{
+    let _ = write_refusal(faults, kind, None);
+    1
+}
+
+/// Tells that the words are no line of the table of commands, and answers the status of that.
+fn misuse<F: Sink>(faults: &mut F) -> u8
+    requires { F.failures faults.old < 2 ^ 64 - 1 }
+{
+    let _ = write_complaint(faults, Complaint::Usage);
+    2
+}
+
+/// What is told where the words can't be had: want of memory, or that some word is no text.
+pub fn unread<F: Sink>(error: io::Error, faults: &mut F) -> u8
+    requires { F.failures faults.old < 2 ^ 64 - 1 }
+{
+    match error.kind() {
+        io::ErrorKind::OutOfMemory => refuse(faults, ErrorKind::Memory),
+        _ => misuse(faults),
+    }
+}
+
+/// Why a file isn't opened.
+fn kind_of(error: Error) -> ErrorKind {
+    match error {
+        Error::SqliteFailure(ErrorCode::OutOfMemory) => ErrorKind::Memory,
+        _ => ErrorKind::Database,
+    }
+}
+
+/// Closes the files. Where that fails nothing is lost: what was committed stands in the log beside the file, and the next open
+/// finds it there.
+fn close(connection: Connection<FileStore<File>>) {
+    let _ = connection.close();
+}
+
+/// Does the command of the words over a connection, and closes it.
+fn over<I: Source, O: Sink, F: Sink>(
+    alloc: Global,
+    connection: Connection<FileStore<File>>,
+    words: &Words<'_>,
+    input: &mut I,
+    output: &mut O,
+    faults: &mut F,
+) -> u8
+    requires input { I.failures input.old < 2 ^ 64 - 1 }
+    requires output { O.failures output.old < 2 ^ 64 - 1 }
+    requires faults { F.failures faults.old < 2 ^ 64 - 1 }
+{
+    match Store::open(alloc, connection) {
+        Ok(mut store) => {
+            let status = execute(alloc, &mut store, words, input, output, faults);
+            close(store.close());
+            status
+        }
+        Err((error, connection)) => {
+            close(connection);
+            refuse(faults, error.kind)
+        }
+    }
+}
+
+/// Reads the words, opens the file that they name, does their command, closes the file, and answers the program's status. A file
+/// that isn't there is made. Words that are no line of the table are told before any file is opened.
+pub fn serve<I: Source, O: Sink, F: Sink>(
+    rt: &HostRuntime,
+    words: &[String],
+    input: &mut I,
+    output: &mut O,
+    faults: &mut F,
+) -> u8
+    requires input { I.failures input.old < 2 ^ 64 - 1 }
+    requires output { O.failures output.old < 2 ^ 64 - 1 }
+    requires faults { F.failures faults.old < 2 ^ 64 - 1 }
+{
+    let Some(words) = read_words(words) else {
+        return misuse(faults);
+    };
+    match Connection::open(rt, words.file) {
+        Ok(connection) => over(rt.alloc(), connection, &words, input, output, faults),
+        Err(error) => refuse(faults, kind_of(error)),
+    }
+}

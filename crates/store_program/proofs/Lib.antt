@@ -1,0 +1,4 @@
+pub mod Accepting
+pub mod Ending
+pub mod Wording
+pub mod Taking

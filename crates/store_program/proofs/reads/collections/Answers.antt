@@ -1,0 +1,15 @@
+use Rattle.std.proofs.Common.{map, string_bytes, refl}
+use Rattle.bson_store.specs.Calls.{held}
+use Rattle.bson_store.specs.Questions.{as_names}
+use Rattle.store_laws.specs.State as model
+use Rattle.store_words.specs.declared.call.Call.TheVariants as words
+use Rattle.store_program.specs.Answers as answers
+use Rattle.store_program.specs.Commands.{IsCommandOf}
+use Rattle.store_program.proofs.Accepting.{performs}
+use Rattle.store_program.proofs.reads.collections.Goals as goal
+
+pub returns : goal.returns
+returns g c =
+    let n = c.args.name.now in
+    performs (held g.S.Store c.args.store.now) (held g.S.Store c.collections.new.self) (IsCommandOf words.Collections n (map string_bytes c.args.words.now)) (model.collections) as_names answers.as_names c.collections.result c.names.result
+    (refl) (λ x no. no) c.names.ensures c.collections.ensures

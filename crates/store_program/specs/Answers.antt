@@ -1,0 +1,35 @@
+-- What is printed of the results of the store's calls.
+use Rattle.std.specs.Prelude.{Bool, ℕ, Result, Ok, Err, Vec, String}
+use Rattle.std.specs.declared.alloc.Global.{Global}
+use Rattle.serde_json.specs.declared.value.Value.{Value as Json}
+use Rattle.bson_store.specs.declared.error.StoreError.{StoreError}
+use Rattle.store_program.specs.declared.answer.Answer.{Answer}
+use Rattle.store_program.specs.declared.answer.Answer.TheVariants.{Nothing, Flag, Number, Tree, Trees, Documents, Names}
+use Rattle.store_program.specs.declared.stop.Stop.{Stop}
+use Rattle.store_program.specs.declared.stop.Stop.TheVariants.{Refused}
+
+-- a result as the answer that it is
+abbrev pub answer_by : {A : Type 0} → (A → Answer) → Result A StoreError → Result Answer Stop
+answer_by f (Ok x) = Ok (f x)
+answer_by f (Err e) = Err (Refused e)
+
+abbrev pub as_nothing : Unit {0} → Answer
+as_nothing x = Nothing
+
+abbrev pub as_flag : Bool → Answer
+as_flag b = Flag b
+
+abbrev pub as_tree : Json → Answer
+as_tree j = Tree j
+
+abbrev pub as_number : ℕ → Answer
+as_number n = Number n
+
+abbrev pub as_trees : Vec Json Global → Answer
+as_trees v = Trees v
+
+abbrev pub as_documents : Vec (Vec ℕ Global) Global → Answer
+as_documents v = Documents v
+
+abbrev pub as_names : Vec (String Global) Global → Answer
+as_names v = Names v

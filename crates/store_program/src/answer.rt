@@ -1,0 +1,97 @@
+//! What a command answers.
+
+ghost use Rattle.std.specs.Prelude.{◌≡◌};
+ghost use Rattle.store_program.specs.Answers.{answer_by, as_nothing, as_flag, as_number, as_tree, as_trees, as_documents, as_names};
+
+use crate::stop::Stop;
+use bson_store::StoreError;
+use serde_json::Value;
+
+/// What is printed of a command that is done.
+#[derive(Drop)]
+pub enum Answer {
+    /// Nothing, or all is written already.
+    Nothing,
+    /// `true` or `false`.
+    Flag(bool),
+    /// A number, in decimal.
+    Number(u64),
+    /// A JSON tree, on one line.
+    Tree(Value),
+    /// JSON trees, one a line.
+    Trees(Vec<Value>),
+    /// Written documents, one after the other.
+    Documents(Vec<Vec<u8>>),
+    /// Names, one a line.
+    Names(Vec<String>),
+}
+
+/// A change is answered with nothing.
+pub fn nothing(outcome: Result<(), StoreError>) -> Result<Answer, Stop>
+    ensures { result ≡ answer_by as_nothing outcome }
+{
+    match outcome {
+        Ok(()) => Ok(Answer::Nothing),
+        Err(error) => Err(Stop::Refused(error)),
+    }
+}
+
+/// Whether something was there.
+pub fn flag(outcome: Result<bool, StoreError>) -> Result<Answer, Stop>
+    ensures { result ≡ answer_by as_flag outcome }
+{
+    match outcome {
+        Ok(flag) => Ok(Answer::Flag(flag)),
+        Err(error) => Err(Stop::Refused(error)),
+    }
+}
+
+/// A document as a tree.
+pub fn tree(outcome: Result<Value, StoreError>) -> Result<Answer, Stop>
+    ensures { result ≡ answer_by as_tree outcome }
+{
+    match outcome {
+        Ok(tree) => Ok(Answer::Tree(tree)),
+        Err(error) => Err(Stop::Refused(error)),
+    }
+}
+
+/// How many there are.
+pub fn number(outcome: Result<u64, StoreError>) -> Result<Answer, Stop>
+    ensures { result ≡ answer_by as_number outcome }
+{
+    match outcome {
+        Ok(number) => Ok(Answer::Number(number)),
+        Err(error) => Err(Stop::Refused(error)),
+    }
+}
+
+/// Documents as trees.
+pub fn trees(outcome: Result<Vec<Value>, StoreError>) -> Result<Answer, Stop>
+    ensures { result ≡ answer_by as_trees outcome }
+{
+    match outcome {
+        Ok(trees) => Ok(Answer::Trees(trees)),
+        Err(error) => Err(Stop::Refused(error)),
+    }
+}
+
+/// Documents as they are written.
+pub fn documents(outcome: Result<Vec<Vec<u8>>, StoreError>) -> Result<Answer, Stop>
+    ensures { result ≡ answer_by as_documents outcome }
+{
+    match outcome {
+        Ok(documents) => Ok(Answer::Documents(documents)),
+        Err(error) => Err(Stop::Refused(error)),
+    }
+}
+
+/// Names of collections.
+pub fn names(outcome: Result<Vec<String>, StoreError>) -> Result<Answer, Stop>
+    ensures { result ≡ answer_by as_names outcome }
+{
+    match outcome {
+        Ok(names) => Ok(Answer::Names(names)),
+        Err(error) => Err(Stop::Refused(error)),
+    }
+}

@@ -1,0 +1,65 @@
+//! What is printed of an answer.
+
+ghost use Rattle.std.specs.Prelude.{◌≡◌, ◌<◌, ◌^◌, ◌-◌, OnOk};
+
+use crate::answer::Answer;
+use bson_base::write_all;
+use bson_store::{Sink, StoreError};
+use serde_json::Value;
+use std::alloc::Global;
+use store_words::{write_flag, write_line, write_number};
+
+/// Writes a tree on one line.
+fn print_tree<O: Sink>(alloc: Global, tree: &Value, output: &mut O) -> Result<(), StoreError>
+    requires { O.failures output.old < 2 ^ 64 - 1 }
+    ensures { OnOk result (O.failures output.new ≡ O.failures output.old) }
+{
+    let text = tree.to_string(alloc)?;
+    write_line(output, text.as_str())?;
+    Ok(())
+}
+
+/// Writes trees, one a line.
+fn print_trees<O: Sink>(alloc: Global, trees: &[Value], output: &mut O) -> Result<(), StoreError>
+    requires { O.failures output.old < 2 ^ 64 - 1 }
+{
+    for tree in trees {
+        print_tree(alloc, tree, output)?;
+    }
+    Ok(())
+}
+
+/// Writes documents, one after the other.
+fn print_documents<O: Sink>(documents: &[Vec<u8>], output: &mut O) -> Result<(), StoreError>
+    requires { O.failures output.old < 2 ^ 64 - 1 }
+{
+    for document in documents {
+        write_all(output, document.as_slice())?;
+    }
+    Ok(())
+}
+
+/// Writes names, one a line.
+fn print_names<O: Sink>(names: &[String], output: &mut O) -> Result<(), StoreError>
+    requires { O.failures output.old < 2 ^ 64 - 1 }
+{
+    for name in names {
+        write_line(output, name.as_str())?;
+    }
+    Ok(())
+}
+
+/// Writes an answer. Refused by Writer, where a write failed, and by Memory, where it was wanted for a text.
+pub fn print<O: Sink>(alloc: Global, answer: &Answer, output: &mut O) -> Result<(), StoreError>
+    requires { O.failures output.old < 2 ^ 64 - 1 }
+{
+    match answer {
+        Answer::Nothing => Ok(()),
+        Answer::Flag(flag) => Ok(write_flag(output, *flag)?),
+        Answer::Number(number) => Ok(write_number(output, *number)?),
+        Answer::Tree(tree) => print_tree(alloc, tree, output),
+        Answer::Trees(trees) => print_trees(alloc, trees.as_slice(), output),
+        Answer::Documents(documents) => print_documents(documents.as_slice(), output),
+        Answer::Names(names) => print_names(names.as_slice(), output),
+    }
+}

@@ -1,0 +1,97 @@
+//! A command of the program, from its words to its status.
+
+ghost use Rattle.std.specs.Prelude.{◌≡◌, ◌≤◌, ◌<◌, ◌^◌, ◌-◌};
+ghost use Rattle.bson_table.specs.Moves.{Moves};
+ghost use Rattle.bson_store.specs.Calls.{held};
+ghost use Rattle.store_program.specs.Commands.{IsAskedBy};
+ghost use Rattle.store_program.specs.Execute.{Tells, Prints, Executes};
+
+use crate::answer::Answer;
+use crate::changes::{insert, remove, replace, set, unset};
+use crate::inputs::{import, load};
+use crate::printing::print;
+use crate::reads::{collections, count, dump, export, find, get};
+use crate::stop::Stop;
+use bson_store::{Sink, Source, Store};
+use sqlite::Alter;
+use std::alloc::Global;
+use store_words::{Call, Words, write_complaint, write_refusal};
+
+/// Prints what a command answers. Of one that isn't done nothing is printed.
+fn told<O: Sink>(alloc: Global, outcome: Result<Answer, Stop>, output: &mut O) -> Result<(), Stop>
+    requires { O.failures output.old < 2 ^ 64 - 1 }
+    ensures { Tells outcome result }
+{
+    match outcome {
+        Ok(answer) => match print(alloc, &answer, output) {
+            Ok(()) => Ok(()),
+            Err(error) => Err(Stop::Refused(error)),
+        },
+        Err(stop) => Err(stop),
+    }
+}
+
+/// Does what the words ask for, and prints the answer.
+fn serve<S: Alter + Drop, I: Source, O: Sink>(
+    alloc: Global,
+    store: &mut Store<S>,
+    words: &Words<'_>,
+    input: &mut I,
+    output: &mut O,
+) -> Result<(), Stop>
+    requires input { I.failures input.old < 2 ^ 64 - 1 }
+    requires output { O.failures output.old < 2 ^ 64 - 1 }
+    ensures { Moves (held S.Store store.old) (held S.Store store.new) (Prints (IsAskedBy words.now) result) }
+{
+    let name = words.coll;
+    let rest = words.rest;
+    match words.call {
+        Call::Insert => told(alloc, insert(alloc, store, name, rest), output),
+        Call::Replace => told(alloc, replace(alloc, store, name, rest), output),
+        Call::Get => told(alloc, get(alloc, store, name, rest), output),
+        Call::Set => told(alloc, set(alloc, store, name, rest), output),
+        Call::Unset => told(alloc, unset(alloc, store, name, rest), output),
+        Call::Remove => told(alloc, remove(alloc, store, name, rest), output),
+        Call::Find => told(alloc, find(alloc, store, name, rest), output),
+        Call::Count => told(alloc, count(alloc, store, name, rest), output),
+        Call::Import => told(alloc, import(store, name, rest, input), output),
+        Call::Export => export(store, name, rest, output),
+        Call::Dump => told(alloc, dump(store, name, rest), output),
+        Call::Load => told(alloc, load(alloc, store, name, rest, input), output),
+        Call::Collections => told(alloc, collections(store, name, rest), output),
+    }
+}
+
+/// Does the command that the words ask for on `store`, and answers the program's status. Nothing of the words but their texts
+/// is left to read: the file is open.
+///
+/// With 0 the command was accepted and its answer printed to `output`. With 1 it was refused, or its answer couldn't be
+/// printed, and the line `refused: KIND` went to `faults`. With 2 a text of the words or a line of the input can't be read, and
+/// the line that says so went to `faults`; the store is as it was. Where a write to `faults` fails nothing more is done.
+pub fn execute<S: Alter + Drop, I: Source, O: Sink, F: Sink>(
+    alloc: Global,
+    store: &mut Store<S>,
+    words: &Words<'_>,
+    input: &mut I,
+    output: &mut O,
+    faults: &mut F,
+) -> u8
+    requires input { I.failures input.old < 2 ^ 64 - 1 }
+    requires output { O.failures output.old < 2 ^ 64 - 1 }
+    requires faults { F.failures faults.old < 2 ^ 64 - 1 }
+    ensures status { result ≤ 2 }
+    ensures silent { result ≡ 0 → faults.new ≡ faults.old }
+    ensures step { Moves (held S.Store store.old) (held S.Store store.new) (Executes (IsAskedBy words.now) result) }
+{
+    match serve(alloc, store, words, input, output) {
+        Ok(()) => 0,
+        Err(Stop::Refused(error)) => {
+            let _ = write_refusal(faults, error.kind, error.document);
+            1
+        }
+        Err(Stop::Words(complaint)) => {
+            let _ = write_complaint(faults, complaint);
+            2
+        }
+    }
+}

@@ -1,0 +1,111 @@
+//! The commands that read.
+
+ghost use Rattle.std.specs.Prelude.{◌<◌, ◌^◌, ◌-◌, map, string_bytes};
+ghost use Rattle.bson_table.specs.Moves.{Moves};
+ghost use Rattle.bson_store.specs.Calls.{held};
+ghost use Rattle.store_words.specs.declared.call.Call.TheVariants.{Get, Find, Count, Export, Dump, Collections};
+ghost use Rattle.store_program.specs.Commands.{IsCommandOf};
+ghost use Rattle.store_program.specs.Execute.{Performs, Prints};
+
+use crate::answer::{Answer, documents, names, number, tree, trees};
+use crate::stop::{Stop, USAGE};
+use crate::texts::{filter_of, id_of, mode_of};
+use bson_store::{Sink, Store};
+use sqlite::Alter;
+use std::alloc::Global;
+
+/// `get COLL ID [--relaxed]`: the document as Extended JSON.
+pub fn get<S: Alter + Drop>(
+    alloc: Global,
+    store: &mut Store<S>,
+    name: &str,
+    words: &[String],
+) -> Result<Answer, Stop>
+    ensures { Moves (held S.Store store.old) (held S.Store store.new) (Performs (IsCommandOf Get name.now (map string_bytes words.now)) result) }
+{
+    let Some((id, form)) = words.split_first() else {
+        return Err(USAGE);
+    };
+    let mode = mode_of(form)?;
+    let id = id_of(alloc, id.as_str())?;
+    tree(store.get_json(name, &id, mode))
+}
+
+/// `export COLL`: the written documents go out one after the other.
+pub fn export<S: Alter + Drop, O: Sink>(
+    store: &mut Store<S>,
+    name: &str,
+    words: &[String],
+    output: &mut O,
+) -> Result<(), Stop>
+    requires { O.failures output.old < 2 ^ 64 - 1 }
+    ensures { Moves (held S.Store store.old) (held S.Store store.new) (Prints (IsCommandOf Export name.now (map string_bytes words.now)) result) }
+{
+    if !words.is_empty() {
+        return Err(USAGE);
+    }
+    match store.export(name, output) {
+        Ok(()) => Ok(()),
+        Err(error) => Err(Stop::Refused(error)),
+    }
+}
+
+/// `find COLL FILTER`: the written documents that the filter selects.
+pub fn find<S: Alter + Drop>(
+    alloc: Global,
+    store: &mut Store<S>,
+    name: &str,
+    words: &[String],
+) -> Result<Answer, Stop>
+    ensures { Moves (held S.Store store.old) (held S.Store store.new) (Performs (IsCommandOf Find name.now (map string_bytes words.now)) result) }
+{
+    let [text] = words else {
+        return Err(USAGE);
+    };
+    let filter = filter_of(alloc, text.as_str())?;
+    documents(store.find(name, &filter))
+}
+
+/// `count COLL FILTER`: how many documents the filter selects.
+pub fn count<S: Alter + Drop>(
+    alloc: Global,
+    store: &mut Store<S>,
+    name: &str,
+    words: &[String],
+) -> Result<Answer, Stop>
+    ensures { Moves (held S.Store store.old) (held S.Store store.new) (Performs (IsCommandOf Count name.now (map string_bytes words.now)) result) }
+{
+    let [text] = words else {
+        return Err(USAGE);
+    };
+    let filter = filter_of(alloc, text.as_str())?;
+    number(store.count(name, &filter))
+}
+
+/// `dump COLL`: the documents as canonical Extended JSON.
+pub fn dump<S: Alter + Drop>(
+    store: &mut Store<S>,
+    name: &str,
+    words: &[String],
+) -> Result<Answer, Stop>
+    ensures { Moves (held S.Store store.old) (held S.Store store.new) (Performs (IsCommandOf Dump name.now (map string_bytes words.now)) result) }
+{
+    if !words.is_empty() {
+        return Err(USAGE);
+    }
+    trees(store.dump_json(name))
+}
+
+/// `collections`: the names that hold a document.
+pub fn collections<S: Alter + Drop>(
+    store: &mut Store<S>,
+    name: &str,
+    words: &[String],
+) -> Result<Answer, Stop>
+    ensures { Moves (held S.Store store.old) (held S.Store store.new) (Performs (IsCommandOf Collections name.now (map string_bytes words.now)) result) }
+{
+    if !words.is_empty() {
+        return Err(USAGE);
+    }
+    names(store.collections())
+}

@@ -1,0 +1,13 @@
+//! Tests of the program's commands over a store in memory.
+#![tactic(auto)]
+
+#[cfg(test)]
+mod commands;
+#[cfg(test)]
+mod devices;
+#[cfg(test)]
+mod many;
+#[cfg(test)]
+mod misses;
+#[cfg(test)]
+mod session;

@@ -1,0 +1,94 @@
+#!/usr/bin/python3
+"""Runs the program over a database file, and holds what it leaves and writes against other tools: sqlite3 of Debian reads the
+file, and `bson` of Python (python3-pymongo) reads what `export` and `find` write and writes what `import` takes.
+
+    tests/program.py PROGRAM
+
+prints one line a step, and ends with status 1 at the first that isn't as it should be.
+"""
+import json
+import pathlib
+import subprocess
+import sys
+import tempfile
+
+import bson
+
+PROGRAM = sys.argv[1]
+FILE = pathlib.Path(tempfile.mkdtemp()) / "test.db"
+
+
+def run(*words, given=b""):
+    done = subprocess.run([PROGRAM, str(FILE), *words], input=given, capture_output=True)
+    return done.returncode, done.stdout, done.stderr.decode()
+
+
+def holds(step, found, wanted):
+    if found != wanted:
+        print(f"{step}: {found!r} in place of {wanted!r}")
+        sys.exit(1)
+    print(f"{step}: {found!r}"[:150])
+
+
+def rows():
+    query = "SELECT place, coll, hex(idkey), hex(body) FROM documents ORDER BY place"
+    done = subprocess.run(["sqlite3", str(FILE), query], capture_output=True, text=True, check=True)
+    return done.stdout.split()
+
+
+def ids(stream):
+    return [document["_id"] for document in bson.decode_all(stream)]
+
+
+ONE = "0E000000105F6964000100000000"
+
+# The worked run.
+holds("insert", run("insert", "c", '{"_id":1}'), (0, b"", ""))
+holds("insert again", run("insert", "c", '{"_id":1}'), (1, b"", "refused: DuplicateId\n"))
+holds("get", run("get", "c", "1"), (0, b'{"_id":{"$numberInt":"1"}}\n', ""))
+holds("count", run("count", "c", '{"and":[]}'), (0, b"1\n", ""))
+holds("import of an empty document", run("import", "c", given=bytes([5, 0, 0, 0, 0])), (1, b"", "refused: NoId document 0\n"))
+holds("rows by sqlite3", rows(), [f"1|c|{ONE}|{ONE}"])
+
+# Words that miss the table, and texts that can't be read.
+for line in [[], ["insert", "c"], ["get", "c", "1", "--pretty"], ["collections", "c"], ["nothing"]]:
+    holds(f"words {line}", run(*line), (2, b"", "words: usage\n"))
+holds("JSON", run("insert", "c", "{"), (2, b"", "words: JSON\n"))
+holds("id", run("get", "c", "-"), (2, b"", "words: id\n"))
+holds("filter", run("find", "c", "{}"), (2, b"", "words: filter\n"))
+holds("line", run("load", "c", given=b'{"_id":7}\n\n-\n'), (2, b"", "words: line 3\n"))
+holds("rows stay", rows(), [f"1|c|{ONE}|{ONE}"])
+
+# Python's bson writes what import takes, and reads what export and find write.
+documents = [{"_id": i, "name": f"n{i}", "list": [i, {"x": True}], "big": 2 ** 40 + i} for i in range(2, 12)]
+stream = b"".join(bson.encode(document) for document in documents)
+holds("import", run("import", "d", given=stream), (0, b"10\n", ""))
+status, out, told = run("export", "d")
+holds("export read by Python", (status, bson.decode_all(out), told), (0, documents, ""))
+holds("export gives the bytes back", out == stream, True)
+status, out, told = run("find", "d", '{"or":[{"eq":[["name"],"n3"]},{"eq":[["list","0"],5]}]}')
+holds("find read by Python", (status, ids(out), told), (0, [3, 5], ""))
+holds("collections", run("collections"), (0, b"c\nd\n", ""))
+
+# A dump has one canonical object a line, and comes back by load.
+status, out, told = run("dump", "d")
+lines = out.decode().splitlines()
+holds("dump", (status, len(lines), told), (0, 10, ""))
+holds("a line of it", json.loads(lines[0])["_id"], {"$numberInt": "2"})
+holds("load", run("load", "e", given=out), (0, b"10\n", ""))
+status, again, told = run("dump", "e")
+holds("dump of what was loaded", again == out, True)
+
+# Changes, with words that begin with a hyphen.
+holds("insert of -2", run("insert", "-c", '{"_id":-2}'), (0, b"", ""))
+holds("set", run("set", "-c", "-2", "-k", "-3"), (0, b"", ""))
+holds("get of -2", run("get", "-c", "-2", "--relaxed"), (0, b'{"-k":-3,"_id":-2}\n', ""))
+holds("unset", run("unset", "-c", "-2", "-k"), (0, b"true\n", ""))
+holds("unset again", run("unset", "-c", "-2", "-k"), (0, b"false\n", ""))
+holds("remove", run("remove", "-c", "-2"), (0, b"", ""))
+holds("replace", run("replace", "c", '{"_id":1}'), (0, b"", ""))
+
+# A file that can't be opened.
+FILE = FILE.parent / "none" / "test.db"
+holds("no such folder", run("collections"), (1, b"", "refused: Database\n"))
+print("all as it should be")
