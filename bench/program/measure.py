@@ -4,6 +4,7 @@
 files anew, and the programs take turns, so that a busy machine is busy for all of them. All programs have to answer alike.
 """
 
+import json
 import os
 import shlex
 import statistics
@@ -34,22 +35,28 @@ def steps(stream):
 
 
 def run(command, source, sink):
-    """Seconds by the clock and of the processor, and the greatest memory in kB."""
+    """Seconds by the clock and of the processor, and the greatest memory in kB.
+
+    GNU time starts the program, since a child of this process would count this process's own memory as its greatest.
+    """
+    timed = ["/usr/bin/time", "-f", "%e %U %S %M"] + command
     with open(source or os.devnull, "rb") as stdin, open(sink, "wb") as stdout:
         start = time.perf_counter()
-        child = subprocess.Popen(command, stdin=stdin, stdout=stdout)
-        _, status, usage = os.wait4(child.pid, 0)
+        done = subprocess.run(timed, stdin=stdin, stdout=stdout, stderr=subprocess.PIPE)
         wall = time.perf_counter() - start
-    if status != 0:
-        sys.exit(f"{command}: status {os.waitstatus_to_exitcode(status)}")
-    return wall, usage.ru_utime + usage.ru_stime, usage.ru_maxrss
+    if done.returncode != 0:
+        sys.exit(f"{command}: status {done.returncode}")
+    _, user, system, memory = done.stderr.split()[-4:]
+    return wall, float(user) + float(system), int(memory)
 
 
 def digest(path, is_text):
-    """What a program printed; of JSON the letters without blanks, as programs set these as they like."""
+    """What a program printed; of JSON the values, as programs differ in blanks, escapes and the order of keys."""
     with open(path, "rb") as file:
         printed = file.read()
-    return hash(printed.replace(b" ", b"") if is_text else printed)
+    if is_text:
+        printed = json.dumps([json.loads(line) for line in printed.splitlines()], sort_keys=True)
+    return hash(printed)
 
 
 def round_of(folder, stream, programs, times, seen):
