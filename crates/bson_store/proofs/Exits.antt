@@ -1,5 +1,5 @@
 -- Exits of the calls, as moves of the rows.
-use Rattle.std.proofs.Common.{◌≡◌, ℕ, List, Option, Some, None, Ok, Err, subst}
+use Rattle.std.proofs.Common.{◌≡◌, inl, inr, refl, ℕ, List, Option, Some, None, Ok, Err, subst}
 use Rattle.std.specs.Prelude.{IsUtf8}
 use Rattle.serde_json.specs.Data.{Data}
 use Rattle.sqlite.specs.State.{State}
@@ -10,7 +10,7 @@ use Rattle.bson_table.specs.Moves.{Moves, Finds, Changes, Appends, appended}
 use Rattle.bson_table.specs.declared.fault.Fault.{Fault}
 use Rattle.bson_table.specs.declared.row.Found.{Found}
 use Rattle.store_documents.specs.Answers.{AnswersBytes, AnswersTree}
-use Rattle.store_documents.specs.Bodies.{AnswersWritten}
+use Rattle.store_documents.specs.Bodies.{AnswersKept, AnswersWritten}
 use Rattle.store_documents.specs.declared.write.Written.{Written}
 use Rattle.store_laws.specs.Reading.{Reading, readable, IsRead, ReadsBytes, ReadsTree}
 use Rattle.store_laws.specs.State.{NoneHasId, Form, in_bytes, in_json, Call, insert, replace, remove, on, Reply, done, refused, Answers, IsName, IsCall}
@@ -87,6 +87,12 @@ bad_tree s n j call bad = rests s (DoesTree n (call in_json) j (refused kind.Bad
 
 pub read_bytes : (s t : State) (n nb b : List ℕ) (call : Form → Reading → Call) (d : Members) (r : Reply) → nb ≡ n → ReadsBytes b (readable d) → Moves s t (DoesRead nb call d r) → Moves s t (DoesBytes n (call in_bytes) b r)
 read_bytes s t n nb b call d r e reads m = moved s t (DoesRead nb call d r) (DoesBytes n (call in_bytes) b r) m (λ docs after h. bytes_read docs after n b call d r reads (subst (λ k. DoesRead k call d r docs after) e h))
+
+-- bytes that have no row
+pub unkept_bytes : (s : State) (n b : List ℕ) (call : Form → Reading → Call) (k : ErrorKind) → TakesReading call → ((d : Members) (x : ErrorKind) → AnswersWritten d (Err x) → Moves s s (DoesRead n call d (refused x None)))
+    → IsName n → AnswersKept b (Err k) → Moves s s (DoesBytes n (call in_bytes) b (refused k None))
+unkept_bytes s n b call k t unwritten good (inl h) = unread_bytes s n b call k t good (inl h)
+unkept_bytes s n b call k t unwritten good (inr h) = read_bytes s s n n b call h.0 (refused k None) refl h.1 (unwritten h.0 k h.3)
 
 pub read_tree : (s t : State) (n nb : List ℕ) (j : Data) (call : Form → Reading → Call) (d : Members) (r : Reply) → nb ≡ n → ReadsTree j (readable d) → Moves s t (DoesRead nb call d r) → Moves s t (DoesTree n (call in_json) j r)
 read_tree s t n nb j call d r e reads m = moved s t (DoesRead nb call d r) (DoesTree n (call in_json) j r) m (λ docs after h. tree_read docs after n j call d r reads (subst (λ k. DoesRead k call d r docs after) e h))

@@ -1,18 +1,20 @@
 //! The store.
 
-ghost use Rattle.std.specs.Prelude.{◌≡◌, ◌↔◌, ◌<◌, ◌^◌, ◌-◌, IsTrue, IfOk, IfErr, MatchResult};
+ghost use Rattle.std.specs.Prelude.{◌≡◌, ◌↔◌, ◌<◌, ◌^◌, ◌-◌, IsTrue, IfOk, IfErr, MatchResult, Ok};
 ghost use Rattle.sqlite.specs.Held.{state};
 ghost use Rattle.sqlite.specs.State.{HasCleanDisk};
 ghost use Rattle.bson_table.specs.Open.{KeepsRows};
 ghost use Rattle.bson_store.specs.Opening.{Opens, RefusesToOpen};
 ghost use Rattle.serde_json.specs.View.{view as tree_of};
 ghost use Rattle.bson_base.specs.Kinds.{HasNo00};
+ghost use Rattle.bson_base.specs.Value.{Members};
 ghost use Rattle.bson_model.specs.View.{pairs_of, members_of, view};
 ghost use Rattle.bson_table.specs.Moves.{Appends, Changes, Moves, appended};
 ghost use Rattle.bson_table.specs.Rows.{replaced};
 ghost use Rattle.bson_store.specs.Calls.{connection_of, held, Does, DoesBytes, DoesTree, DoesRead, Looks};
 ghost use Rattle.bson_store.specs.Export.{Gathers, Sends};
 ghost use Rattle.bson_store.specs.Refusals.{refusal, reply_by, as_done, as_flag, as_bytes, as_json};
+ghost use Rattle.store_documents.specs.Bodies.{AnswersWritten};
 ghost use Rattle.store_documents.specs.Names.{name_bytes};
 ghost use Rattle.store_laws.specs.Reading.{IsRead, read_value};
 ghost use Rattle.store_laws.specs.State.{IsName, IsFreeKey, in_bytes, in_json, insert, replace, set, unset, remove, get_raw, get_json, on};
@@ -30,8 +32,8 @@ use serde_json::Value;
 use sqlite::{Alter, Connection};
 use std::alloc::Global;
 use store_documents::{
-    Name, json_of, key_of_id, read_bytes, read_json, read_value, set_member, unset_member,
-    write_document,
+    Name, Written, json_of, key_of_id, read_json, read_value, row_of_bytes, set_member,
+    unset_member, write_document,
 };
 use store_laws::ErrorKind;
 
@@ -107,20 +109,43 @@ impl<S: Alter + Drop> Store<S> {
         self.table.rewrite_at(found, body)
     }
 
+    /// Puts a document last in a collection, whose row this is.
+    fn insert_row(&mut self, name: Name<'_>, row: &Written) -> Result<(), StoreError>
+        ensures { (d : Members) → IsRead d → AnswersWritten d (Ok row.now)
+            → Moves (held S.Store self.old) (held S.Store self.new) (DoesRead (name_bytes name.entry) insert d (reply_by as_done result)) }
+    {
+        let coll = name.as_str();
+        let key = row.key.as_slice();
+        let found = self.table.named(coll, key)?;
+        if let Some(_) = found {
+            return Err(StoreError::from(ErrorKind::DuplicateId));
+        }
+        let body = row.body.as_slice();
+        self.put_last(coll, key, body)?;
+        Ok(())
+    }
+
     /// Puts a document last in a collection.
     fn insert(&mut self, name: Name<'_>, document: &Document) -> Result<(), StoreError>
         requires { IsRead (members_of (pairs_of document.now)) }
         ensures { Moves (held S.Store self.old) (held S.Store self.new) (DoesRead (name_bytes name.entry) insert (members_of (pairs_of document.now)) (reply_by as_done result)) }
     {
+        let row = write_document(self.alloc, document)?;
+        self.insert_row(name, &row)
+    }
+
+    /// Puts a document, whose row this is, in the place of that of a collection with its `_id`.
+    fn replace_row(&mut self, name: Name<'_>, row: &Written) -> Result<(), StoreError>
+        ensures { (d : Members) → IsRead d → AnswersWritten d (Ok row.now)
+            → Moves (held S.Store self.old) (held S.Store self.new) (DoesRead (name_bytes name.entry) replace d (reply_by as_done result)) }
+    {
         let coll = name.as_str();
-        let written = write_document(self.alloc, document)?;
-        let key = written.key.as_slice();
-        let found = self.table.named(coll, key)?;
-        if let Some(_) = found {
-            return Err(StoreError::from(ErrorKind::DuplicateId));
-        }
-        let body = written.body.as_slice();
-        self.put_last(coll, key, body)?;
+        let key = row.key.as_slice();
+        let Some(found) = self.table.named(coll, key)? else {
+            return Err(StoreError::from(ErrorKind::NotFound));
+        };
+        let body = row.body.as_slice();
+        self.put_back(&found, body)?;
         Ok(())
     }
 
@@ -129,15 +154,8 @@ impl<S: Alter + Drop> Store<S> {
         requires { IsRead (members_of (pairs_of document.now)) }
         ensures { Moves (held S.Store self.old) (held S.Store self.new) (DoesRead (name_bytes name.entry) replace (members_of (pairs_of document.now)) (reply_by as_done result)) }
     {
-        let coll = name.as_str();
-        let written = write_document(self.alloc, document)?;
-        let key = written.key.as_slice();
-        let Some(found) = self.table.named(coll, key)? else {
-            return Err(StoreError::from(ErrorKind::NotFound));
-        };
-        let body = written.body.as_slice();
-        self.put_back(&found, body)?;
-        Ok(())
+        let row = write_document(self.alloc, document)?;
+        self.replace_row(name, &row)
     }
 
     /// The row of the document of a collection whose `_id` means the same as `id`.
@@ -167,8 +185,8 @@ impl<S: Alter + Drop> Store<S> {
         ensures { Moves (held S.Store self.old) (held S.Store self.new) (DoesBytes name.now (insert in_bytes) bytes.now (reply_by as_done result)) }
     {
         let name = good_name(name)?;
-        let document = read_bytes(self.alloc, bytes)?;
-        self.insert(name, &document)
+        let row = row_of_bytes(self.alloc, bytes)?;
+        self.insert_row(name, &row)
     }
 
     /// Puts the document that `json` stands for last in the collection `name`, in normal form with its keys in order.
@@ -190,8 +208,8 @@ impl<S: Alter + Drop> Store<S> {
         ensures { Moves (held S.Store self.old) (held S.Store self.new) (DoesBytes name.now (replace in_bytes) bytes.now (reply_by as_done result)) }
     {
         let name = good_name(name)?;
-        let document = read_bytes(self.alloc, bytes)?;
-        self.replace(name, &document)
+        let row = row_of_bytes(self.alloc, bytes)?;
+        self.replace_row(name, &row)
     }
 
     /// Puts the document that `json` stands for, in normal form with its keys in order, in the place of that of the

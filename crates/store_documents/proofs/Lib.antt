@@ -3,3 +3,4 @@ pub mod OfJson
 pub mod OfBodies
 pub mod OfChanges
 pub mod OfRows
+mod OfStored

@@ -1,6 +1,6 @@
 -- Rows that a store can have written.
 use Rattle.std.proofs.Common.{◌≡◌, ◌↔◌, ◌⊎◌, inl, inr, ℕ, List, Bool, true, false, IsTrue, cond, Some, None, refl, ap, ◌∙◌, sym}
-use Rattle.std.specs.Prelude.{nat_lt, IsUtf8}
+use Rattle.std.specs.Prelude.{nat_lt, IsUtf8, Err}
 use Rattle.std.proofs.lemmas.Bool.{le-ltb}
 use borrow.Author.Tests.{ltb-false}
 use Rattle.bson_base.specs.Value.{Members, has_key}
@@ -12,7 +12,7 @@ use Rattle.store_laws.specs.State.{id_key, IsKept, IsName, refusal_of}
 use Rattle.store_laws.specs.Table.{own_id}
 use Rattle.store_laws.specs.declared.error.ErrorKind.{ErrorKind}
 use Rattle.store_laws.specs.declared.error.ErrorKind.TheVariants.{NoId, TooLong, Memory}
-use Rattle.store_documents.specs.Bodies.{IsRow}
+use Rattle.store_documents.specs.Bodies.{AnswersKept, IsRow}
 use Rattle.store_documents.proofs.OfBytes.{Fails, read_same, wants_memory}
 
 pub bad_name : (n k b : List ℕ) → (IsName n × IsUtf8 n → ⊥) → IsRow n k b → ⊥
@@ -40,6 +40,11 @@ unwritten n k b d x reads (inl refused) other row =
     let no : Some x ≡ None = sym refused ∙ none in
     cc
 unwritten n k b d x reads (inr memory) other row = absurd (other memory)
+
+-- no row is answered for the bytes
+pub not_answered : (n k b : List ℕ) (x : ErrorKind) → AnswersKept b (Err x) → (x ≡ Memory → ⊥) → IsRow n k b → ⊥
+not_answered n k b x (inl fails) other row = unread n k b x (inl fails) other row
+not_answered n k b x (inr a) other row = unwritten n k b a.0 x a.1 a.3 other row
 
 -- what the bytes are read as is written so
 pub record WritesAs (d : Members) (key_bytes body : List ℕ) : Type 0 where

@@ -8,6 +8,7 @@ use Rattle.bson_meaning.specs.Gate.{size_limit, level_limit}
 use Rattle.bson_meaning.specs.Meaning.{key}
 use Rattle.bson_meaning.specs.declared.key.KeyError.{KeyError}
 use Rattle.bson_meaning.specs.declared.key.KeyError.TheVariants as faults
+use Rattle.store_laws.specs.Reading.{IsRead, ReadsBytes, readable, unreadable}
 use Rattle.store_laws.specs.State.{IsKept, IsName, refusal_of}
 use Rattle.store_laws.specs.Table.{only_id, own_id}
 use Rattle.store_laws.specs.declared.error.ErrorKind.{ErrorKind}
@@ -63,6 +64,11 @@ AnswersChanged e (Err k) = ((k ≡ TooDeep) × (level_limit < levels (document e
 abbrev pub AnswersUnset : List ℕ → Members → Result Unset ErrorKind → Type 0
 AnswersUnset k d (Ok u) = (u.was_there ≡ has_key k d) × (u.body.items ≡ encode (without k d))
 AnswersUnset k d (Err x) = x ≡ Memory
+
+-- the row of the document that bytes mean, or why there is none
+abbrev pub AnswersKept : List ℕ → Result Written ErrorKind → Type 0
+AnswersKept bytes (Ok w) = (d : Members) × ReadsBytes bytes (readable d) × IsRead d × AnswersWritten d (Ok w)
+AnswersKept bytes (Err k) = ReadsBytes bytes (unreadable k) ⊎ ((d : Members) × ReadsBytes bytes (readable d) × IsRead d × AnswersWritten d (Err k))
 
 -- ---- rows
 

@@ -10,6 +10,7 @@ mod name;
 mod read;
 mod reserved;
 mod row;
+mod stored;
 mod write;
 
 pub use answer::json_of;
@@ -18,4 +19,5 @@ pub use ids::key_of_id;
 pub use name::Name;
 pub use read::{read_bytes, read_json, read_value};
 pub use row::is_row;
+pub use stored::row_of_bytes;
 pub use write::{Written, write_document};

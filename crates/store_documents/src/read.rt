@@ -3,8 +3,8 @@
 ghost use Rattle.std.specs.Prelude.{◌≡◌, ◌⊎◌, ◌≢◌, IfOk, MatchOption, MatchResult};
 ghost use Rattle.serde_json.specs.Data.{object};
 ghost use Rattle.serde_json.specs.View.{view as tree_of, members_view};
+ghost use Rattle.bson_base.specs.Value.{Members};
 ghost use Rattle.bson_bytes.specs.Spells.{Means};
-ghost use Rattle.bson_meaning.specs.Gate.{Passes};
 ghost use Rattle.bson_meaning.specs.Meaning.{asc_members, norm_members};
 ghost use Rattle.bson_model.specs.View.{members_of, pairs_of};
 ghost use Rattle.bson_model.specs.declared.extjson.de.Error.TheVariants as json_faults;
@@ -27,7 +27,7 @@ use store_laws::ErrorKind;
 pub(crate) const LEVELS: usize = 100;
 
 /// The refusal for a test of the gate.
-fn gate_refusal(error: GateError) -> ErrorKind
+pub(crate) fn gate_refusal(error: GateError) -> ErrorKind
     ensures { result ≡ kind_of error }
 {
     match error {
@@ -51,9 +51,9 @@ fn json_refusal(error: extjson::de::Error) -> ErrorKind
     }
 }
 
-/// The document that bytes mean which pass the gate. `Memory` where a growth was refused.
-fn document_of(alloc: Global, bytes: &[u8]) -> Result<Document, ErrorKind>
-    requires { Passes bytes.now }
+/// The document that bytes mean. `Memory` where a growth was refused.
+pub(crate) fn document_of(alloc: Global, bytes: &[u8]) -> Result<Document, ErrorKind>
+    requires { (d : Members) × Means bytes.now d }
     ensures { MatchResult result (λ d. Means bytes.now (members_of (pairs_of d))) (λ k. k ≡ Memory) }
 {
     let Ok(raw) = RawDocument::from_bytes(bytes) else {

@@ -6,8 +6,8 @@ ghost use Rattle.store_laws.specs.declared.error.ErrorKind.TheVariants.{Memory};
 ghost use Rattle.store_documents.specs.Bodies.{IsRow};
 
 use crate::name::Name;
-use crate::read::read_bytes;
-use crate::write::{Written, write_document};
+use crate::stored::row_of_bytes;
+use crate::write::Written;
 use std::alloc::{AllocError, Global};
 use store_laws::ErrorKind;
 
@@ -46,11 +46,7 @@ pub fn is_row(alloc: Global, coll: &[u8], key: &[u8], body: &[u8]) -> Result<boo
     if !is_text_of_name(coll) {
         return Ok(false);
     }
-    let document = match read_bytes(alloc, body) {
-        Ok(document) => document,
-        Err(kind) => return refused(kind),
-    };
-    match write_document(alloc, &document) {
+    match row_of_bytes(alloc, body) {
         Ok(written) => Ok(is_written_so(&written, key, body)),
         Err(kind) => refused(kind),
     }

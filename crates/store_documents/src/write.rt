@@ -29,7 +29,7 @@ pub struct Written {
 }
 
 /// The refusal for an `_id` that has no key.
-fn key_refusal(error: KeyError) -> ErrorKind
+pub(crate) fn key_refusal(error: KeyError) -> ErrorKind
     ensures { result ≡ refusal_of_key error }
 {
     match error {

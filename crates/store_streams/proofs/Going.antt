@@ -10,7 +10,7 @@ use Rattle.store_laws.specs.State.{refusal_of}
 use Rattle.store_laws.specs.Table.{own_id}
 use Rattle.store_laws.specs.declared.error.ErrorKind.{ErrorKind}
 use Rattle.store_laws.specs.declared.error.ErrorKind.TheVariants.{Memory}
-use Rattle.store_documents.specs.Bodies.{AnswersWritten}
+use Rattle.store_documents.specs.Bodies.{AnswersKept, AnswersWritten}
 use Rattle.store_documents.specs.declared.write.Written.{Written}
 use Rattle.store_streams.specs.declared.error.StreamError.TheVariants as errors
 use Rattle.store_streams.specs.Judging.{AnswersFront, AnswersRow, Judges, RefusesFront, refusal_at}
@@ -30,6 +30,12 @@ written_row Reads d (Ok w) h a = (d, h, a.0, a.2, a.1)
 written_row Reads d (Err Memory) h a = tt
 written_row Reads d (Err _) h (inl why) = inr (d, h, why)
 written_row Reads d (Err _) h (inr e) = absurd (cc)
+
+-- what the bytes of one document are kept as
+pub kept_row : (bytes : List ℕ) (r : Result Written ErrorKind) → AnswersKept bytes r → AnswersRow (ReadsBytes bytes) r
+kept_row bytes (Ok w) (d, reads, read, a) = written_row (ReadsBytes bytes) d (Ok w) reads a
+kept_row bytes (Err k) (inl h) = unread_row (ReadsBytes bytes) k (inl h)
+kept_row bytes (Err k) (inr (d, reads, read, a)) = written_row (ReadsBytes bytes) d (Err k) reads a
 
 -- ---- the first document of a stream
 

@@ -7,7 +7,7 @@ ghost use Rattle.store_streams.specs.Judging.{AnswersFront, AnswersRow, Judges};
 
 use crate::error::StreamError;
 use std::alloc::Global;
-use store_documents::{Written, read_bytes, write_document};
+use store_documents::{Written, row_of_bytes};
 use store_laws::ErrorKind;
 
 /// The least length that a document declares: that of one without elements.
@@ -35,11 +35,11 @@ fn cut(bytes: &[u8]) -> Result<(&[u8], &[u8]), ErrorKind>
 }
 
 /// The row of the document that bytes mean.
+#[tactic(auto, using(crate::proofs::Going::kept_row))]
 fn row_of(alloc: Global, bytes: &[u8]) -> Result<Written, ErrorKind>
     ensures { AnswersRow (ReadsBytes bytes.now) result }
 {
-    let document = read_bytes(alloc, bytes)?;
-    write_document(alloc, &document)
+    row_of_bytes(alloc, bytes)
 }
 
 /// The row of the first document of a stream that isn't at its end, and what follows the document.

@@ -1,30 +1,14 @@
 use Rattle.std.proofs.lemmas.Result.{err_from_is_err_and}
 use Rattle.bson_store.specs.Calls.{held}
-use Rattle.bson_table.specs.Table.{state_of}
 use Rattle.store_documents.specs.Names.{name_bytes}
 use Rattle.bson_model.specs.View.{pairs_of, members_of}
-use Rattle.bson_store.proofs.Exits.{unwritten_replace, unfound_replace, none_replace, place_moves, not_place_moves}
+use Rattle.bson_store.proofs.Exits.{unwritten_replace}
 use Rattle.bson_store.proofs.store.Store.replace.Goals as goal
 
-pub returns-in_err-written : goal.returns-in_err-written
-returns-in_err-written g c =
+pub returns-in_err-row : goal.returns-in_err-row
+returns-in_err-row g c =
     let p = err_from_is_err_and c.from_residual.result c.from_residual.ensures.1 in
-    rw (p.1, p.2) (unwritten_replace (held g.S.Store c.args.self.now) (name_bytes c.args.name) (members_of (pairs_of c.args.document.now)) c.in_err-written.field-0.0 (rw c.as_str-coll.ensures.text at c.as_str-coll.ensures.named) (c.in_err-written.ensures c.requires))
-
-pub returns-in_err-found : goal.returns-in_err-found
-returns-in_err-found g c =
-    let p = err_from_is_err_and c.from_residual-in_err-found.result c.from_residual-in_err-found.ensures.1 in
-    rw (p.1, p.2) (unfound_replace (held g.S.Store c.args.self.now) (state_of g.S.Store c.named.new.self) (name_bytes c.args.name) (members_of (pairs_of c.args.document.now)) c.in_ok-written.written c.in_err-found.field-0.0 (rw c.as_str-coll.ensures.text at c.as_str-coll.ensures.named) c.requires (c.in_ok-written.ensures c.requires) (rw (c.as_str-coll.ensures.text, c.as_slice-key.ensures.value) at c.in_err-found.ensures.moves))
-
-pub returns-in_default : goal.returns-in_default
-returns-in_default g c =
-    rw c.from.ensures (none_replace (held g.S.Store c.args.self.now) (state_of g.S.Store c.named.new.self) (name_bytes c.args.name) (members_of (pairs_of c.args.document.now)) c.in_ok-written.written c.in_ok-found.field-0 (rw c.as_str-coll.ensures.text at c.as_str-coll.ensures.named) c.requires (c.in_ok-written.ensures c.requires) c.in_default.is (rw (c.as_str-coll.ensures.text, c.as_slice-key.ensures.value) at c.in_ok-found.ensures.moves))
-
-pub returns-in_err-put_back : goal.returns-in_err-put_back
-returns-in_err-put_back g c =
-    let p = err_from_is_err_and c.from_residual-in_err-put_back.result c.from_residual-in_err-put_back.ensures.1 in
-    rw (p.1, p.2) (not_place_moves (held g.S.Store c.args.self.now) (state_of g.S.Store c.named.new.self) (held g.S.Store c.put_back.new.self) (name_bytes c.args.name) (members_of (pairs_of c.args.document.now)) c.in_ok-written.written c.in_ok-found.field-0 c.in-Some.found c.in_err-put_back.field-0.0 (rw c.as_str-coll.ensures.text at c.as_str-coll.ensures.named) c.requires (c.in_ok-written.ensures c.requires) c.in-Some.is (rw (c.as_str-coll.ensures.text, c.as_slice-key.ensures.value) at c.in_ok-found.ensures.moves) (rw c.as_slice-body.ensures.value at c.in_err-put_back.ensures))
+    rw (p.1, p.2) (unwritten_replace (held g.S.Store c.args.self.now) (name_bytes c.args.name) (members_of (pairs_of c.args.document.now)) c.in_err-row.field-0.0 c.args.name.named (c.in_err-row.ensures c.requires))
 
 pub returns : goal.returns
-returns g c =
-    place_moves (held g.S.Store c.args.self.now) (state_of g.S.Store c.named.new.self) (held g.S.Store c.put_back.new.self) (name_bytes c.args.name) (members_of (pairs_of c.args.document.now)) c.in_ok-written.written c.in_ok-found.field-0 c.in-Some.found (rw c.as_str-coll.ensures.text at c.as_str-coll.ensures.named) c.requires (c.in_ok-written.ensures c.requires) c.in-Some.is (rw (c.as_str-coll.ensures.text, c.as_slice-key.ensures.value) at c.in_ok-found.ensures.moves) (rw c.as_slice-body.ensures.value at c.in_ok-put_back.ensures)
+returns g c = c.replace_row.ensures (members_of (pairs_of c.args.document.now)) c.requires (c.in_ok-row.ensures c.requires)

@@ -1,9 +1,8 @@
 use Rattle.std.proofs.lemmas.Result.{err_from_is_err_and}
 use Rattle.bson_store.specs.Calls.{held}
 use Rattle.store_documents.specs.Names.{name_bytes}
-use Rattle.bson_model.specs.View.{pairs_of, members_of}
 use Rattle.store_laws.specs.State as model
-use Rattle.bson_store.proofs.Exits.{bad_bytes, unread_bytes, read_bytes}
+use Rattle.bson_store.proofs.Exits.{bad_bytes, read_bytes, unkept_bytes, unwritten_replace}
 use Rattle.bson_store.specs.Refusals.{reply_by, as_done}
 use Rattle.bson_store.proofs.Reading.{replaces}
 use Rattle.bson_store.proofs.store.Store.replace_raw.Goals as goal
@@ -13,11 +12,12 @@ returns-in_err-name g c =
     let p = err_from_is_err_and c.from_residual.result c.from_residual.ensures.1 in
     rw (p.1, p.2, c.in_err-name.ensures.0) (bad_bytes (held g.S.Store c.args.self.now) c.args.name.now c.args.bytes.now model.replace c.in_err-name.ensures.1)
 
-pub returns-in_err-document : goal.returns-in_err-document
-returns-in_err-document g c =
-    let p = err_from_is_err_and c.from_residual-in_err-document.result c.from_residual-in_err-document.ensures.1 in
-    rw (p.1, p.2) (unread_bytes (held g.S.Store c.args.self.now) c.args.name.now c.args.bytes.now model.replace c.in_err-document.field-0.0 replaces c.in_ok-name.ensures.1 c.in_err-document.ensures.answer)
+pub returns-in_err-row : goal.returns-in_err-row
+returns-in_err-row g c =
+    let p = err_from_is_err_and c.from_residual-in_err-row.result c.from_residual-in_err-row.ensures.1 in
+    rw (p.1, p.2) (unkept_bytes (held g.S.Store c.args.self.now) c.args.name.now c.args.bytes.now model.replace c.in_err-row.field-0.0 replaces (λ d k h. unwritten_replace (held g.S.Store c.args.self.now) c.args.name.now d k c.in_ok-name.ensures.1 h) c.in_ok-name.ensures.1 c.in_err-row.ensures)
 
 pub returns : goal.returns
 returns g c =
-    read_bytes (held g.S.Store c.args.self.now) (held g.S.Store c.replace.new.self) c.args.name.now (name_bytes c.in_ok-name.name) c.args.bytes.now model.replace (members_of (pairs_of c.in_ok-document.document)) (reply_by as_done c.replace.result) c.in_ok-name.ensures.0 c.in_ok-document.ensures.answer c.replace.ensures
+    let kept = c.in_ok-row.ensures in
+    read_bytes (held g.S.Store c.args.self.now) (held g.S.Store c.replace_row.new.self) c.args.name.now (name_bytes c.in_ok-name.name) c.args.bytes.now model.replace kept.0 (reply_by as_done c.replace_row.result) c.in_ok-name.ensures.0 kept.1 (c.replace_row.ensures kept.0 kept.2 kept.3)

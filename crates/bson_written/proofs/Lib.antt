@@ -1,0 +1,3 @@
+mod Payloads
+mod Turns
+mod Values

@@ -1,0 +1,24 @@
+use Rattle.std.proofs.Common.{◌+◌, ◌*◌, length}
+use Rattle.bson_written.specs.Written.{AreItemsWritten, AreWritten}
+use Rattle.bson_written.proofs.elements.+written.Given as goal
+
+abbrev pub decreases-are_items_written : goal.decreases-are_items_written
+decreases-are_items_written l = 3 * l.inner + 2
+
+abbrev pub decreases-are_written : goal.decreases-are_written
+decreases-are_written l = 3 * l.inner + 2
+
+abbrev pub decreases-holds_written : goal.decreases-holds_written
+decreases-holds_written l = 3 * l.inner
+
+abbrev pub decreases-is_written : goal.decreases-is_written
+decreases-is_written l = 3 * l.inner + 1
+
+abbrev pub invariant-are_items_written-loop-place : goal.invariant-are_items_written-loop-place
+invariant-are_items_written-loop-place l = AreItemsWritten l.place l.rest → AreItemsWritten 0 l.elements
+
+abbrev pub invariant-are_written-loop-rest : goal.invariant-are_written-loop-rest
+invariant-are_written-loop-rest l = AreWritten l.rest → AreWritten l.elements
+
+abbrev pub decreases-are_written-loop-rest : goal.decreases-are_written-loop-rest
+decreases-are_written-loop-rest l = length l.rest

@@ -1,0 +1,7 @@
+//! Whether bytes are the written form of the document that they mean, told from the bytes alone: no tree is made, and nothing here takes memory.
+#![tactic(auto)]
+
+mod elements;
+mod form;
+
+pub use form::{is_written_form, written_element};

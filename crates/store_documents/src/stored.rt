@@ -1,0 +1,94 @@
+//! Documents as they are kept, from their bytes.
+
+ghost use Rattle.std.specs.Prelude.{◌≡◌, ◌+◌, ◌<◌, ◌^◌, ◌++◌, ◌∷◌, length, IfOk, IfSome, MatchResult, Ok};
+ghost use Rattle.bson_base.specs.Tags.{tag_byte};
+ghost use Rattle.bson_base.specs.Value.{Members};
+ghost use Rattle.bson_bytes.specs.Encode.{ended, framed};
+ghost use Rattle.bson_frame.specs.View.{element_of};
+ghost use Rattle.bson_meaning.specs.Gate.{Passes};
+ghost use Rattle.bson_meaning.specs.Meaning.{key};
+ghost use Rattle.bson_written.specs.Written.{IsWrittenUnder};
+ghost use Rattle.store_laws.specs.State.{id_key, IsKept};
+ghost use Rattle.store_laws.specs.Table.{own_id};
+ghost use Rattle.store_laws.specs.declared.error.ErrorKind.TheVariants.{Memory};
+ghost use Rattle.store_documents.specs.Bodies.{AnswersKept};
+
+use crate::ids::ID_KEY;
+use crate::read::{document_of, gate_refusal};
+use crate::write::{Written, key_refusal, write_document};
+use bson_frame::Frame;
+use bson_meaning::{gate, meaning_key};
+use bson_written::{is_written_form, written_element};
+use std::alloc::{AllocError, Global};
+use store_laws::ErrorKind;
+
+/// The bytes of a document around its one element, beside the payload: a length, a tag, `_id` with its 00, a 00.
+const AROUND: usize = 10;
+
+/// The document whose one element has the key `_id`, this kind and this payload.
+fn alone(alloc: Global, id: &Frame<'_>) -> Result<Vec<u8>, AllocError>
+    requires { length id.now.payload.now + 10 < 2 ^ 32 }
+    ensures { IfOk result (λ b. b.items ≡ framed (tag_byte id.now.tag ∷ (ended id_key ++ id.now.payload.now))) }
+{
+    let size = (id.payload.len() + AROUND) as u32;
+    let mut bytes = Vec::from_slice(alloc, &size.to_le_bytes())?;
+    bytes.push(id.tag.tag())?;
+    bytes.extend_from_slice(ID_KEY.as_bytes())?;
+    bytes.push(0)?;
+    bytes.extend_from_slice(id.payload)?;
+    bytes.push(0)?;
+    Ok(bytes)
+}
+
+/// The key of an `_id` from its element, as it is written. `Memory` where a growth was refused.
+fn key_of_element(alloc: Global, id: &Frame<'_>) -> Result<Vec<u8>, ErrorKind>
+    requires { (d : Members) × IsKept d × IsWrittenUnder id_key d (element_of id.now) }
+    ensures { (d : Members) → IsKept d → IsWrittenUnder id_key d (element_of id.now) → MatchResult result (λ k. k.items ≡ key (own_id d)) (λ e. e ≡ Memory) }
+{
+    let Ok(bytes) = alone(alloc, id) else {
+        return Err(ErrorKind::Memory);
+    };
+    let document = document_of(alloc, bytes.as_slice())?;
+    match meaning_key(alloc, &document) {
+        Ok(key) => Ok(key),
+        Err(error) => Err(key_refusal(error)),
+    }
+}
+
+/// The row of the document that bytes mean, where they are its written form and that is seen without its tree. `Memory` where a
+/// growth was refused.
+fn row_as_it_stands(alloc: Global, bytes: &[u8]) -> Result<Option<Written>, ErrorKind>
+    requires { Passes bytes.now }
+    ensures { MatchResult result (λ r. IfSome r (λ w. AnswersKept bytes.now (Ok w))) (λ k. k ≡ Memory) }
+{
+    if !is_written_form(bytes) {
+        return Ok(None);
+    }
+    let Some(id) = written_element(ID_KEY, bytes) else {
+        return Ok(None);
+    };
+    let key = key_of_element(alloc, &id)?;
+    match Vec::from_slice(alloc, bytes) {
+        Ok(body) => Ok(Some(Written { key, body })),
+        Err(_) => Err(ErrorKind::Memory),
+    }
+}
+
+/// The row of the document that bytes mean, which is kept as it means: of a repeated key the last value, in the place of the
+/// first. Bytes that are the written form already are copied, and no tree is made of them.
+///
+/// `EndInside`, `BadLength`, `NotTerminated`, `Faulty` and `TooDeep` are those of the gate, the first whose test fails; then
+/// `NoId` where it has no `_id`, and `TooLong` where its bytes are over 16777216. `Memory` comes only where the gate refuses
+/// nothing, and where a growth was refused.
+pub fn row_of_bytes(alloc: Global, bytes: &[u8]) -> Result<Written, ErrorKind>
+    ensures { AnswersKept bytes.now result }
+{
+    if let Err(error) = gate(bytes) {
+        return Err(gate_refusal(error));
+    }
+    if let Some(row) = row_as_it_stands(alloc, bytes)? {
+        return Ok(row);
+    }
+    let document = document_of(alloc, bytes)?;
+    write_document(alloc, &document)
+}
