@@ -1,5 +1,5 @@
 -- What goes out of an export.
-use Rattle.std.proofs.Common.{◌≡◌, ◌≢◌, ◌⊎◌, inl, inr, ℕ, ◌+◌, ◌<◌, ◌≤◌, min, List, [], ◌∷◌, ◌++◌, map, filter, length, get_or, take, take_all, drop, cond, Bool, true, false, Option, Some, None, Ok, Err, Vec, Global, refl, sym, ap, ◌∙◌, subst, arith, append_assoc, take-append-drop, add-one}
+use Rattle.std.proofs.Common.{◌≡◌, ◌≢◌, ◌⊎◌, inl, inr, ℕ, ◌+◌, ◌<◌, ◌≤◌, min, List, [], ◌∷◌, ◌++◌, map, filter, length, get_or, take, take_all, drop, cond, Bool, true, false, Option, Some, None, Result, Ok, Err, refl, sym, ap, ◌∙◌, subst, arith, append_assoc, take-append-drop, add-one}
 use Rattle.std.proofs.lemmas.List.{take_more, take-append-le}
 use Rattle.std.proofs.Math.Seq.{take-append-add, drop-cons}
 use Rattle.std.proofs.Math.Dec.{leb}
@@ -11,7 +11,8 @@ use Rattle.bson_base.specs.Device.{TakesBeginning}
 use Rattle.bson_bytes.specs.Encode.{encode}
 use Rattle.bson_meaning.proofs.Ordered.{equal_keys}
 use Rattle.bson_table.specs.Rows.{Doc, is_in}
-use Rattle.bson_table.specs.Moves.{bodies_of}
+use Rattle.bson_table.specs.Moves.{bodies_of, Visits}
+use Rattle.bson_table.specs.declared.fault.Fault.{Fault}
 use Rattle.bson_table.specs.declared.fault.Fault.TheVariants as faults
 use Rattle.store_laws.specs.Reading.{Documents}
 use Rattle.store_laws.specs.State.{list_of, IsName, on, export, bytes, refused}
@@ -22,39 +23,21 @@ use Rattle.store_laws.proofs.Rows.{list_of-state_of}
 use Rattle.bson_store.specs.Shown.{AreRowsOf, Show}
 use Rattle.bson_store.specs.Calls.{Does}
 use Rattle.bson_store.specs.Refusals.{refusal, kind_of_fault}
-use Rattle.bson_store.specs.Export.{Tally, ExportRefused, Exports, Sends, Gathers, bytes_of, joined}
+use Rattle.bson_store.specs.Export.{Tally, ExportRefused, Exports, Sends, Sent}
 use Rattle.bson_store.specs.declared.error.StoreError.{StoreError}
 use Rattle.bson_store.proofs.Serving.{bad_name, answers_stay, denied, undecided, memory_other}
 
 -- ---- bodies that go out one after the other
 
-Body : Type 0
-Body = Vec ℕ Global
-
-joined-append : (xs ys : List (Vec ℕ Global)) → joined (xs ++ ys) ≡ joined xs ++ joined ys
-joined-append [] ys = refl
-joined-append (x ∷ xs) ys = ap (λ l. x.items ++ l) (joined-append xs ys) ∙ sym (append_assoc x.items (joined xs) (joined ys))
-
 nothing_more : (xs : List ℕ) → xs ++ [] ≡ xs
 nothing_more [] = refl
 nothing_more (x ∷ xs) = ap (λ l. x ∷ l) (nothing_more xs)
-
-one_joined : (xs : List (Vec ℕ Global)) (i : ℕ) (x : Vec ℕ Global) → i < length xs → x ≡ get_or xs i x → joined (take (i + 1) xs) ≡ joined (take i xs) ++ x.items
-one_joined xs i x h is =
-    ap joined (take_more xs i x h ∙ ap (λ y. take i xs ++ y ∷ []) (sym is)) ∙ joined-append (take i xs) (x ∷ []) ∙ ap (λ l. joined (take i xs) ++ l) (nothing_more x.items)
-
-split_joined : (xs : List (Vec ℕ Global)) (i : ℕ) (x : Vec ℕ Global) → i < length xs → x ≡ get_or xs i x → joined xs ≡ joined (take i xs) ++ (x.items ++ joined (drop (i + 1) xs))
-split_joined xs i x h is =
-    ap joined (sym (take-append-drop i xs) ∙ ap (λ y. take i xs ++ y) (drop-cons xs i x h ∙ rw (← is, add-one) refl)) ∙ joined-append (take i xs) (x ∷ drop (i + 1) xs)
 
 appends_twice : (a b c : Option (List ℕ)) (xs ys : List ℕ) → Appends a b xs → Appends b c ys → Appends a c (xs ++ ys)
 appends_twice None b c xs ys h k = tt
 appends_twice (Some p) None c xs ys h k = absurd h
 appends_twice (Some p) (Some q) None xs ys h k = absurd k
 appends_twice (Some p) (Some q) (Some r) xs ys h k = k ∙ ap (λ l. l ++ ys) h ∙ append_assoc p xs ys
-
-pub body_written : (a b c : Option (List ℕ)) (xs : List (Vec ℕ Global)) (i : ℕ) (x : Vec ℕ Global) → i < length xs → x ≡ get_or xs i x → Appends a b (joined (take i xs)) → Appends b c x.items → Appends a c (joined (take (i + 1) xs))
-body_written a b c xs i x h is before now = subst (Appends a c) (sym (one_joined xs i x h is)) (appends_twice a b c (joined (take i xs)) x.items before now)
 
 within : List ℕ → ℕ → ℕ
 within ys n = min n (length ys)
@@ -69,16 +52,36 @@ take_within ys n = by (leb_tells n (length ys))
 begun_within : (xs ys zs : List ℕ) (n : ℕ) → take (length xs + min n (length ys)) (xs ++ (ys ++ zs)) ≡ xs ++ take n ys
 begun_within xs ys zs n = take-append-add xs (ys ++ zs) (min n (length ys)) ∙ ap (λ l. xs ++ l) (take-append-le (min n (length ys)) ys zs (omega arith) ∙ take_within ys n)
 
--- a beginning of one body is, with all before it, a beginning of the whole
-pub body_begun : (a b c : Option (List ℕ)) (xs : List (Vec ℕ Global)) (i : ℕ) (x : Vec ℕ Global) → i < length xs → x ≡ get_or xs i x → Appends a b (joined (take i xs)) → TakesBeginning b c x.items → TakesBeginning a c (joined xs)
-body_begun a b c xs i x h is before (n, begun) =
-    let before_it = joined (take i xs) in
-    let behind = joined (drop (i + 1) xs) in
-    let e : take (length before_it + min n (length x.items)) (joined xs) ≡ before_it ++ take n x.items = ap (take (length before_it + min n (length x.items))) (split_joined xs i x h is) ∙ begun_within before_it x.items behind n in
-    (length before_it + min n (length x.items), subst (Appends a c) (sym e) (appends_twice a b c before_it (take n x.items) before begun))
+-- the bytes of bodies, one after the other
+abbrev flat : List (List ℕ) → List ℕ
+flat = flat_map (λ (b : List ℕ). b)
 
-pub all_written : (a b : Option (List ℕ)) (xs : List (Vec ℕ Global)) (i : ℕ) → length xs ≤ i → Appends a b (joined (take i xs)) → Appends a b (joined xs)
-all_written a b xs i h before = subst (λ x. Appends a b (joined x)) (take_all i xs h) before
+flat-last : (bodies : List (List ℕ)) (b : List ℕ) → flat (bodies ++ b ∷ []) ≡ flat bodies ++ b
+flat-last [] b = nothing_more b
+flat-last (x ∷ bodies) b = ap (λ l. x ++ l) (flat-last bodies b) ∙ sym (append_assoc x (flat bodies) b)
+
+flat-append : (xs ys : List (List ℕ)) → flat (xs ++ ys) ≡ flat xs ++ flat ys
+flat-append [] ys = refl
+flat-append (x ∷ xs) ys = ap (λ l. x ++ l) (flat-append xs ys) ∙ sym (append_assoc x (flat xs) (flat ys))
+
+-- a beginning is a beginning of what is longer
+begin_longer : (a b : Option (List ℕ)) (xs ys : List ℕ) → TakesBeginning a b xs → TakesBeginning a b (xs ++ ys)
+begin_longer a b xs ys (n, begun) = (min n (length xs), subst (Appends a b) (sym (take-append-le (min n (length xs)) xs ys (omega arith) ∙ take_within xs n)) begun)
+
+whole_begins : (a b : Option (List ℕ)) (xs ys : List ℕ) → Appends a b xs → TakesBeginning a b (xs ++ ys)
+whole_begins a b xs ys all = begin_longer a b xs ys (length xs, subst (Appends a b) (sym (take_all (length xs) xs (omega arith))) all)
+
+-- after a write that failed nothing more goes out
+pub sent_no_more : (old new : Tally) (bodies : List (List ℕ)) (b : List ℕ) → Sent old new true bodies → Sent old new true (bodies ++ b ∷ [])
+sent_no_more old new bodies b (one, begun) = (one, subst (TakesBeginning old.taken new.taken) (sym (flat-last bodies b)) (begin_longer old.taken new.taken (flat bodies) b begun))
+
+-- a write that fails lets a beginning of its body go out
+pub sent_some : (old mid new : Tally) (bodies : List (List ℕ)) (b : List ℕ) → Sent old mid false bodies → new.failures ≡ mid.failures + 1 → TakesBeginning mid.taken new.taken b → Sent old new true (bodies ++ b ∷ [])
+sent_some old mid new bodies b (none, before) one (n, begun) =
+    let front = flat bodies in
+    let e : take (length front + min n (length b)) (flat (bodies ++ b ∷ [])) ≡ front ++ take n b =
+        ap (take (length front + min n (length b))) (flat-last bodies b ∙ ap (λ l. front ++ l) (sym (nothing_more b))) ∙ begun_within front b [] n in
+    (one ∙ ap (λ (m : ℕ). m + 1) none, (length front + min n (length b), subst (Appends old.taken new.taken) (sym e) (appends_twice old.taken mid.taken new.taken front (take n b) before begun)))
 
 -- ---- the bodies of a collection are its written documents
 
@@ -101,43 +104,63 @@ bodies_are n (r ∷ rs) (d ∷ docs) each = by (bytes_eq n r.name) refl (bytes_e
         same_self k = Rattle.bson_meaning.proofs.Ordered.same_key k
     by false e true i rest = let t : bytes_eq n r.name ≡ true = rw (← each.0.name, equal_keys d.coll n i) (Rattle.bson_meaning.proofs.Ordered.same_key n) in cc
 
-joined_map : (vs : List (Vec ℕ Global)) (ds : Documents) → bytes_of vs ≡ map encode ds → joined vs ≡ flat_map encode ds
-joined_map [] [] e = refl
-joined_map [] (d ∷ ds) e = cc
-joined_map (v ∷ vs) [] e = cc
-joined_map (v ∷ vs) (d ∷ ds) e =
-    let head : v.items ≡ encode d = cc in
-    let tail : bytes_of vs ≡ map encode ds = cc in
-    ap (λ x. x ++ joined vs) head ∙ ap (λ l. encode d ++ l) (joined_map vs ds tail)
+flat_map_is : (ds : Documents) → flat (map encode ds) ≡ flat_map encode ds
+flat_map_is [] = refl
+flat_map_is (d ∷ ds) = ap (λ l. encode d ++ l) (flat_map_is ds)
 
-gathered : (n : List ℕ) (vs : List (Vec ℕ Global)) (docs : List Doc) (a : Table) → bytes_of vs ≡ bodies_of n docs → Show docs a → joined vs ≡ flat_map encode (list_of (state_of a) n)
-gathered n vs docs a e s = joined_map vs (documents_of a n) (e ∙ bodies_are n a docs s.each) ∙ ap (flat_map encode) (sym (list_of-state_of a n))
+flat_written : (n : List ℕ) (docs : List Doc) (a : Table) → Show docs a → flat (bodies_of n docs) ≡ flat_map encode (list_of (state_of a) n)
+flat_written n docs a s = ap flat (bodies_are n a docs s.each) ∙ flat_map_is (documents_of a n) ∙ ap (flat_map encode) (sym (list_of-state_of a n))
 
 -- ---- exits
 
 pub sends_none : (docs : List Doc) (n : List ℕ) (t : Tally) → (IsName n → ⊥) → Sends n t t (Err (refusal kind.BadName)) docs docs
 sends_none docs n t bad = record { same = refl; exports = λ a s. (refl, (bad, refl)) }
 
-nothing_taken : (t : Tally) (bs : List ℕ) → TakesBeginning t.taken t.taken bs
-nothing_taken t bs = (0, by t.taken)
-  where
-    by : (o : Option (List ℕ)) → Appends o o []
-    by None = tt
-    by (Some xs) = sym (nothing_more xs)
+-- A visitor of a collection's bodies, which has sent what it was handed. Its writer is known again by a name.
+module _ {V N : Type 0} (tally : V → Tally) (failed : V → Bool) (name : V → N) (first last : V) (new : Tally) (back : name first ≡ name last → new ≡ tally last) where
+  abbrev Took : V → List (List ℕ) → Type 0
+  Took v bodies = (name first ≡ name v) × Sent (tally first) (tally v) (failed v) bodies
 
-pub sends_denied : (docs after : List Doc) (n : List ℕ) (t : Tally) (e : StoreError) → IsName n → Gathers n (Err e) docs after → Sends n t t (Err e) docs after
-sends_denied docs after n t e good h = record { same = h.same; exports = λ a s. by a h.denied.0 h.denied.1 h.denied.2 }
-  where
-    by : (a : Table) (x : Rattle.bson_table.specs.declared.fault.Fault.Fault) → x ≢ faults.Places → e ≡ refusal (kind_of_fault x) → Exports (state_of a) n t t (Err e)
-    by a faults.Memory other is = rw is (refl, (good, (refl, nothing_taken t _)))
-    by a faults.Database other is = rw is (refl, (good, (refl, nothing_taken t _)))
-    by a faults.Places other is = absurd (other refl)
+  starts : failed first ≡ false → Took first []
+  starts e = (refl, subst (λ b. Sent (tally first) (tally first) b []) (sym e) (refl, nothing (tally first).taken))
+    where
+      nothing : (o : Option (List ℕ)) → Appends o o []
+      nothing None = tt
+      nothing (Some xs) = sym (nothing_more xs)
 
-pub sends_all : (docs after : List Doc) (n : List ℕ) (old new : Tally) (v : Vec (Vec ℕ Global) Global) → IsName n → Gathers n (Ok v) docs after → new.failures ≡ old.failures → Appends old.taken new.taken (joined v.items) → Sends n old new (Ok tt) docs after
-sends_all docs after n old new v good h none out = record { same = h.same; exports = λ a s. (good, (none, subst (Appends old.taken new.taken) (gathered n v.items docs a h.bodies s) out)) }
+  out_by : (b : Bool) (bodies : List (List ℕ)) → failed last ≡ b → Took last bodies → Sent (tally first) new b bodies
+  out_by b bodies is took = subst (λ t. Sent (tally first) t b bodies) (sym (back took.0)) (subst (λ x. Sent (tally first) (tally last) x bodies) is took.1)
 
-pub sends_some : (docs after : List Doc) (n : List ℕ) (old new : Tally) (v : Vec (Vec ℕ Global) Global) → IsName n → Gathers n (Ok v) docs after → new.failures ≡ old.failures + 1 → TakesBeginning old.taken new.taken (joined v.items) → Sends n old new (Err (refusal kind.Writer)) docs after
-sends_some docs after n old new v good h one out = record { same = h.same; exports = λ a s. (refl, (good, (one, subst (TakesBeginning old.taken new.taken) (gathered n v.items docs a h.bodies s) out))) }
+  pub writer_failed : (docs after : List Doc) (n : List ℕ) (r : Result Bool Fault) → IsName n → failed first ≡ false → failed last ≡ true → Visits Took first last n r docs after
+      → Sends n (tally first) new (Err (refusal kind.Writer)) docs after
+  writer_failed docs after n r good begins ends h =
+      let (taken, rest, whole, took) = h.some (starts begins) in
+      let out = out_by true taken ends took in
+      let begun : TakesBeginning (tally first).taken new.taken (flat (bodies_of n docs)) =
+          subst (TakesBeginning (tally first).taken new.taken) (sym (flat-append taken rest) ∙ ap flat whole) (begin_longer (tally first).taken new.taken (flat taken) (flat rest) out.1) in
+      record { same = h.same; exports = λ a s. (refl, (good, (out.0, subst (TakesBeginning (tally first).taken new.taken) (flat_written n docs a s) begun))) }
+
+  pub table_failed : (docs after : List Doc) (n : List ℕ) (x : Fault) → IsName n → failed first ≡ false → failed last ≡ false → Visits Took first last n (Err x) docs after
+      → Sends n (tally first) new (Err (refusal (kind_of_fault x))) docs after
+  table_failed docs after n x good begins ends h =
+      let (taken, rest, whole, took) = h.some (starts begins) in
+      let out = out_by false taken ends took in
+      let begun : TakesBeginning (tally first).taken new.taken (flat (bodies_of n docs)) =
+          subst (TakesBeginning (tally first).taken new.taken) (sym (flat-append taken rest) ∙ ap flat whole) (whole_begins (tally first).taken new.taken (flat taken) (flat rest) out.1) in
+      record { same = h.same; exports = λ a s. by a x h.faults (out.0, subst (TakesBeginning (tally first).taken new.taken) (flat_written n docs a s) begun) }
+    where
+      by : (a : Table) (x : Fault) → x ≢ faults.Places → (new.failures ≡ (tally first).failures) × TakesBeginning (tally first).taken new.taken (flat_map encode (list_of (state_of a) n))
+          → Exports (state_of a) n (tally first) new (Err (refusal (kind_of_fault x)))
+      by a faults.Memory other out = (refl, (good, out))
+      by a faults.Database other out = (refl, (good, out))
+      by a faults.Places other out = absurd (other refl)
+
+  pub all_sent : (docs after : List Doc) (n : List ℕ) (b : Bool) → IsName n → failed first ≡ false → failed last ≡ false → (b ≡ false → failed last ≡ true) → Visits Took first last n (Ok b) docs after
+      → Sends n (tally first) new (Ok tt) docs after
+  all_sent docs after n true good begins ends stopped h =
+      let out = out_by false (bodies_of n docs) ends (h.whole (starts begins) refl) in
+      record { same = h.same; exports = λ a s. (good, (out.0, subst (Appends (tally first).taken new.taken) (flat_written n docs a s) out.1)) }
+  all_sent docs after n false good begins ends stopped h = let no : true ≡ false = sym (stopped refl) ∙ ends in cc
 
 -- ---- an export into memory
 

@@ -10,7 +10,6 @@ pub mod Reading
 pub mod Exits
 pub mod Going
 pub mod Exporting
-pub mod Gathering
 pub mod Selecting
 pub mod Naming
 pub mod Keyed

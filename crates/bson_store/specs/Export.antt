@@ -1,18 +1,16 @@
 -- What an export does to the device that it writes to.
-use Rattle.std.specs.Prelude.{◌≡◌, ℕ, ◌+◌, List, Option, None, Result, Ok, Err, Vec, IfOk, IfErr, map}
+use Rattle.std.specs.Prelude.{◌≡◌, ℕ, ◌+◌, List, Option, None, Result, Ok, Err, Vec, Bool, true, false, map}
 use Rattle.std.specs.List.{flat_map}
 use Rattle.std.specs.Io.KnownBytes.{Appends}
 use Rattle.std.specs.declared.alloc.Global.{Global}
 use Rattle.bson_base.specs.Device.{TakesBeginning}
 use Rattle.bson_bytes.specs.Encode.{encode}
 use Rattle.bson_table.specs.Rows.{Doc}
-use Rattle.bson_table.specs.Moves.{bodies_of}
 use Rattle.store_laws.specs.State.{State, list_of, IsName}
 use Rattle.store_laws.specs.Table.{Table, state_of}
 use Rattle.store_laws.specs.declared.error.ErrorKind.{ErrorKind}
 use Rattle.store_laws.specs.declared.error.ErrorKind.TheVariants.{BadName, Memory, Database, Writer}
 use Rattle.bson_store.specs.Shown.{Show}
-use Rattle.bson_store.specs.Refusals.{IsDenied}
 use Rattle.bson_store.specs.declared.error.StoreError.{StoreError}
 
 -- what a sink tells: how many of its calls have failed, and the bytes that it took, where it knows them
@@ -48,11 +46,7 @@ pub record Sends (n : List ℕ) (old new : Tally) (result : Result (Unit {0}) St
 abbrev pub bytes_of : List (Vec ℕ Global) → List (List ℕ)
 bytes_of = map (λ (v : Vec ℕ Global). v.items)
 
-abbrev pub joined : List (Vec ℕ Global) → List ℕ
-joined = flat_map (λ (v : Vec ℕ Global). v.items)
-
--- all bodies of a collection
-pub record Gathers (n : List ℕ) (result : Result (Vec (Vec ℕ Global) Global) StoreError) (docs after : List Doc) : Type 0 where
-  pub same : after ≡ docs
-  pub bodies : IfOk result (λ v. bytes_of v.items ≡ bodies_of n docs)
-  pub denied : IfErr result IsDenied
+-- bodies went out one after the other, or a beginning of them did and a write failed
+abbrev pub Sent : Tally → Tally → Bool → List (List ℕ) → Type 0
+Sent old new false bodies = (new.failures ≡ old.failures) × Appends old.taken new.taken (flat_map (λ (b : List ℕ). b) bodies)
+Sent old new true bodies = (new.failures ≡ old.failures + 1) × TakesBeginning old.taken new.taken (flat_map (λ (b : List ℕ). b) bodies)

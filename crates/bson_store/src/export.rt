@@ -1,12 +1,10 @@
 //! The written documents of a collection, one after the other.
 
-ghost use Rattle.std.specs.Prelude.{◌≡◌, ◌<◌, ◌^◌, ◌-◌, ◌∷◌, ◌++◌, [], false, OnOk, OnErr};
-ghost use Rattle.std.specs.Io.KnownBytes.{Appends};
-ghost use Rattle.bson_base.specs.Device.{Counts, TakesBeginning};
-ghost use Rattle.bson_store.specs.Export.{bytes_of, joined};
+ghost use Rattle.std.specs.Prelude.{◌≡◌, ◌<◌, ◌^◌, ◌-◌, ◌∷◌, ◌++◌, [], false, OnOk};
+ghost use Rattle.bson_store.specs.Export.{bytes_of};
 
 use bson_base::write_all;
-use bson_model::{DeviceFault, Sink};
+use bson_model::Sink;
 use bson_table::Visit;
 use std::alloc::{AllocError, Global};
 
@@ -19,55 +17,34 @@ pub(crate) fn add(bodies: &mut Vec<Vec<u8>>, alloc: Global, body: &[u8]) -> Resu
     Ok(())
 }
 
-/// The bodies that the table hands out. Where memory was wanted for one, no more are asked for.
+/// Writes the bodies that the table hands out, until a write fails.
 #[derive(Drop)]
-pub struct Bodies {
-    pub bodies: Vec<Vec<u8>>,
+pub struct Sender<'w, W: Sink> {
+    pub writer: &'w mut W,
     pub failed: bool,
-    pub alloc: Global,
+    ghost ready: { failed ≡ false → W.failures writer.now < 2 ^ 64 - 1 },
 }
 
-impl Bodies {
-    pub fn new(alloc: Global) -> Bodies
-        ensures bodies { result.bodies.items ≡ [] }
-        ensures failed { result.failed ≡ false }
-    {
-        Bodies {
-            bodies: Vec::new(alloc),
-            failed: false,
-            alloc,
-        }
-    }
-}
+impl<'w, W: Sink> Visit for Sender<'w, W> {
+    ghost use Rattle.std.specs.Prelude.{◌≡◌, true};
+    ghost use Rattle.bson_store.specs.Export.{Sent};
 
-impl Visit for Bodies {
-    ghost use Rattle.std.specs.Prelude.{◌≡◌, true, false};
-    ghost use Rattle.bson_store.specs.Export.{bytes_of};
-
-    ghost took = { λ _ v bodies. v.failed ≡ false → bytes_of v.bodies.items ≡ bodies };
+    ghost took = { λ first v bodies. (first.writer.ghost_name ≡ v.writer.ghost_name) × Sent (record { failures = W.failures first.writer.now; taken = W.taken first.writer.now })
+        (record { failures = W.failures v.writer.now; taken = W.taken v.writer.now }) v.failed bodies };
 
     ghost is_done = { λ v. v.failed ≡ true };
 
     fn visit(&mut self, body: &[u8]) -> bool {
-        match add(&mut self.bodies, self.alloc, body) {
-            Ok(()) => true,
-            Err(_) => {
-                self.failed = true;
-                false
+        if self.failed {
+            return false;
+        }
+        self.failed = true;
+        match write_all(self.writer, body) {
+            Ok(()) => {
+                self.failed = false;
+                true
             }
+            Err(_) => false,
         }
     }
-}
-
-/// Writes the bodies one after the other, or tells the first failure, after which a beginning of them was taken.
-pub fn deliver<W: Sink>(bodies: &[Vec<u8>], writer: &mut W) -> Result<(), DeviceFault>
-    requires { W.failures writer.old < 2 ^ 64 - 1 }
-    ensures counts { Counts (W.failures writer.old) (W.failures writer.new) result }
-    ensures ok { OnOk result (Appends (W.taken writer.old) (W.taken writer.new) (joined bodies.now)) }
-    ensures err { OnErr result (TakesBeginning (W.taken writer.old) (W.taken writer.new) (joined bodies.now)) }
-{
-    for body in bodies {
-        write_all(writer, body.as_slice())?;
-    }
-    Ok(())
 }

@@ -12,7 +12,7 @@ ghost use Rattle.bson_model.specs.View.{pairs_of, members_of, view};
 ghost use Rattle.bson_table.specs.Moves.{Appends, Changes, Moves, appended};
 ghost use Rattle.bson_table.specs.Rows.{replaced};
 ghost use Rattle.bson_store.specs.Calls.{connection_of, held, Does, DoesBytes, DoesTree, DoesRead, Looks};
-ghost use Rattle.bson_store.specs.Export.{Gathers, Sends};
+ghost use Rattle.bson_store.specs.Export.{Sends};
 ghost use Rattle.bson_store.specs.Refusals.{refusal, reply_by, as_done, as_flag, as_bytes, as_json};
 ghost use Rattle.store_documents.specs.Bodies.{AnswersWritten};
 ghost use Rattle.store_documents.specs.Names.{name_bytes};
@@ -21,7 +21,7 @@ ghost use Rattle.store_laws.specs.State.{IsName, IsFreeKey, in_bytes, in_json, i
 ghost use Rattle.store_laws.specs.declared.error.ErrorKind.TheVariants.{BadName};
 
 use crate::error::StoreError;
-use crate::export::{Bodies, deliver};
+use crate::export::Sender;
 use crate::row_test::RowTest;
 use bson_meaning::KeyError;
 use bson_meaning::laws::values_are_json;
@@ -317,19 +317,6 @@ impl<S: Alter + Drop> Store<S> {
         Ok(json)
     }
 
-    /// The bodies of a collection, in order.
-    fn bodies(&mut self, name: Name<'_>) -> Result<Vec<Vec<u8>>, StoreError>
-        ensures { Moves (held S.Store self.old) (held S.Store self.new) (Gathers (name_bytes name.entry) result) }
-    {
-        let mut visitor = Bodies::new(self.alloc);
-        // A visitor that is not handed all bodies has failed.
-        self.table.visit_bodies(name.as_str(), &mut visitor)?;
-        if visitor.failed {
-            return Err(StoreError::from(ErrorKind::Memory));
-        }
-        Ok(visitor.bodies)
-    }
-
     /// Writes the written documents of the collection `name` to `writer`, one after the other.
     ///
     /// Refused by BadName, and then nothing is written; by Writer, where a write failed or took nothing; and by Memory and
@@ -340,8 +327,15 @@ impl<S: Alter + Drop> Store<S> {
             (record { failures = W.failures writer.new; taken = W.taken writer.new }) result) }
     {
         let name = good_name(name)?;
-        let bodies = self.bodies(name)?;
-        deliver(bodies.as_slice(), writer)?;
+        let mut sender = Sender {
+            writer,
+            failed: false,
+        };
+        let sent = self.table.visit_bodies(name.as_str(), &mut sender);
+        if sender.failed {
+            return Err(StoreError::from(ErrorKind::Writer));
+        }
+        sent?;
         Ok(())
     }
 
