@@ -10,7 +10,7 @@ use Rattle.bson_table.specs.Check.{AreGood, IsFirstBad}
 use Rattle.bson_table.specs.Seen.{Pair, HasSeen}
 
 module _ (accepts : List ℕ → List ℕ → List ℕ → Type 0) where
-  -- the rows have the types and are good, with these pairs of names and keys and this last place
+  -- the rows have the types and are good, with these pairs of keys and names and this last place
   pub record ArePassed (keys : List Pair) (last : ℤ) (rows : List Row) : Type 0 where
     pub typed : list_all is_listed rows ≡ true
     pub good : AreGood accepts (map doc_of rows)

@@ -27,7 +27,7 @@ pub trait RowCheck {
         ensures { IfOk result (λ good. MatchBool good (accepts self.now coll.now idkey.now body.now) (¬ accepts self.now coll.now idkey.now body.now)) };
 }
 
-/// Adds a collection and a key, and says whether the set had them not.
+/// Adds a key and its collection, and says whether the set had them not. The key goes first, since it tells most rows apart.
 fn meet(
     seen: &mut BTreeSet<(Vec<u8>, Vec<u8>)>,
     alloc: Global,
@@ -37,9 +37,9 @@ fn meet(
     ensures new { IfOk result (λ is_new. is_new ≡ not (has_pair seen.old.keys coll.now idkey.now)) }
     ensures added { IfOk result (λ is_new. IsTrue is_new → (c k : List ℕ) → has_pair seen.new.keys c k ≡ (bytes_eq c coll.now && bytes_eq k idkey.now) || has_pair seen.old.keys c k) }
 {
-    let name = Vec::from_slice(alloc, coll)?;
     let key = Vec::from_slice(alloc, idkey)?;
-    let is_new = seen.insert((name, key))?;
+    let name = Vec::from_slice(alloc, coll)?;
+    let is_new = seen.insert((key, name))?;
     Ok(is_new)
 }
 
