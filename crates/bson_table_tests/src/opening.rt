@@ -151,9 +151,9 @@ fn no_store_comes_before_a_bad_row(rt: HostRuntime) -> Result<(), Fail> {
     Ok(())
 }
 
-/// 300 good rows, which an answer doesn't have at hand all at once.
+/// 300 good rows, each in a collection of its own: more than an answer has at hand at once.
 const MANY: &str =
-    "INSERT INTO documents WITH RECURSIVE n (i) AS (SELECT 1 UNION ALL SELECT i + 1 FROM n WHERE i < 300) SELECT i, 'c', CAST(i AS BLOB), x'01' FROM n";
+    "INSERT INTO documents WITH RECURSIVE n (i) AS (SELECT 1 UNION ALL SELECT i + 1 FROM n WHERE i < 300) SELECT i, CAST(i AS TEXT), x'01', x'01' FROM n";
 
 #[test]
 fn many_rows_are_judged_to_the_last(rt: HostRuntime) -> Result<(), Fail> {
