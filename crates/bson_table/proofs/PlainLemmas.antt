@@ -54,7 +54,7 @@ bare_if schema text (Ok p) is h c k =
     go (Err e) f k = absurd (cc)
     go (Ok it) f k = let e = same_compiled k in subst Bare e (refl, f)
 
-all_asks : Asks (first all_text)
+pub all_asks : Asks (first all_text)
 unfolding everything
 all_asks = (refl, refl)
 

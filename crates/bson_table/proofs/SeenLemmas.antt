@@ -1,4 +1,4 @@
--- A set of names and keys, beside the rows that it stands for.
+-- A set of keys and names, beside the rows that it stands for.
 use Rattle.std.proofs.Common.{◌≡◌, ◌++◌, ℕ, List, [], ◌∷◌, Bool, true, false, not, ◌&&◌, ◌||◌, bytes_eq, eqb, refl, sym, ap, ap₂, ◌∙◌, is_eq, arith, Less, Equal, Greater, Ordering, IsTrue, IfOk, Result, Ok, Err}
 use Rattle.std.specs.List.{list_any}
 use Rattle.std.specs.Ordering.{nat_cmp, ordering_then}
@@ -32,9 +32,15 @@ pair_test x y =
     then_eq (slice_cmp nat_cmp x.0.items y.0.items) (slice_cmp nat_cmp x.1.items y.1.items) ∙ ap₂ (λ p q. p && q) (same_bytes x.0.items y.0.items) (same_bytes x.1.items y.1.items)
 
 -- whether the set has a key
-pub contains_is : (x : Pair) (keys : List Pair) → list_any (λ y. is_eq (pair_cmp x y)) keys ≡ has_pair keys x.0.items x.1.items
+pub contains_is : (x : Pair) (keys : List Pair) → list_any (λ y. is_eq (pair_cmp x y)) keys ≡ has_pair keys x.1.items x.0.items
 contains_is x [] = refl
 contains_is x (y ∷ keys) = ap₂ (λ p q. p || q) (pair_test x y) (contains_is x keys)
+
+pub and_swap : (a b : Bool) → a && b ≡ b && a
+and_swap true true = refl
+and_swap true false = refl
+and_swap false true = refl
+and_swap false false = refl
 
 or_swap : (a b c : Bool) → a || (b || c) ≡ b || (a || c)
 or_swap true true c = refl
@@ -44,12 +50,12 @@ or_swap false false c = refl
 
 -- a key that is not there yet
 pub inserted : (x : Pair) (keys : List Pair) (c k : List ℕ) → list_any (λ y. is_eq (pair_cmp x y)) keys ≡ false
-    → has_pair (insert_key pair_cmp keys x) c k ≡ (bytes_eq c x.0.items && bytes_eq k x.1.items) || has_pair keys c k
+    → has_pair (insert_key pair_cmp keys x) c k ≡ (bytes_eq k x.0.items && bytes_eq c x.1.items) || has_pair keys c k
 inserted x [] c k new = refl
 inserted x (y ∷ keys) c k new = go (pair_cmp x y) refl (λ absent. inserted x keys c k absent)
   where
     here : Pair → Bool
-    here p = bytes_eq c p.0.items && bytes_eq k p.1.items
+    here p = bytes_eq k p.0.items && bytes_eq c p.1.items
 
     go : (o : Ordering) → pair_cmp x y ≡ o → (list_any (λ z. is_eq (pair_cmp x z)) keys ≡ false → has_pair (insert_key pair_cmp keys x) c k ≡ here x || has_pair keys c k)
         → has_pair (insert_key pair_cmp (y ∷ keys) x) c k ≡ here x || has_pair (y ∷ keys) c k

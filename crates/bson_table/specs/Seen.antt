@@ -1,4 +1,4 @@
--- The names and keys of the rows that were met.
+-- The keys and names of the rows that were met.
 use Rattle.std.specs.Prelude.{◌≡◌, ◌&&◌, ℕ, Bool, List, bytes_eq}
 use Rattle.std.specs.List.{list_any}
 use Rattle.std.specs.declared.alloc.Global.{Global}
@@ -9,7 +9,7 @@ abbrev pub Pair : Type 0
 Pair = Vec ℕ Global × Vec ℕ Global
 
 abbrev pub has_pair : List Pair → List ℕ → List ℕ → Bool
-has_pair keys coll idkey = list_any (λ (p : Pair). bytes_eq coll p.0.items && bytes_eq idkey p.1.items) keys
+has_pair keys coll idkey = list_any (λ (p : Pair). bytes_eq idkey p.0.items && bytes_eq coll p.1.items) keys
 
 -- the pairs are those of these rows
 abbrev pub HasSeen : List Pair → List Doc → Type 0

@@ -1,7 +1,6 @@
 //! Opening a database, whose table is tested row by row.
 
 ghost use Rattle.std.specs.Prelude.{◌≡◌, ◌⊎◌, List, IsTrue, IfErr, OnOk, OnErr, is_some};
-ghost use Rattle.std.specs.List.{list_all};
 ghost use Rattle.sqlite_value.specs.Order.{column};
 ghost use Rattle.sqlite.specs.Held.{state};
 ghost use Rattle.sqlite.specs.State.{HasCleanDisk, Survives, IsLive};
@@ -9,7 +8,7 @@ ghost use Rattle.sqlite_schema.specs.Names.{table_named, index_named, view_named
 ghost use Rattle.bson_table.specs.Cells.{is_listed, int_in, bytes_in};
 ghost use Rattle.bson_table.specs.Open.{Refuses, Passes, Opened, Unopened, KeepsRows, Makes, table_name, HasNoTable, IsTaken};
 
-use crate::check::{RowCheck, find_bad};
+use crate::check::{RowCheck, survey};
 use crate::statements::create;
 use sqlite::types::ValueRef;
 use sqlite::{Alter, Connection, Error, ErrorCode, Row};
@@ -28,7 +27,7 @@ pub enum OpenError {
     Database,
 }
 
-fn refusal(error: Error) -> OpenError
+pub(crate) fn refusal(error: Error) -> OpenError
     ensures { (result ≡ OpenError.Memory) ⊎ (result ≡ OpenError.Database) }
 {
     match error {
@@ -37,7 +36,7 @@ fn refusal(error: Error) -> OpenError
     }
 }
 
-fn is_row(row: &Row) -> bool
+pub(crate) fn is_row(row: &Row) -> bool
     ensures { result ≡ is_listed row.now }
 {
     matches!(row.get_ref(0), Ok(ValueRef::Int(_)))
@@ -63,42 +62,6 @@ pub(crate) fn bytes_at(row: &Row, at: usize) -> &[u8]
     match row.get_ref(at) {
         Ok(ValueRef::Text(bytes)) | Ok(ValueRef::Blob(bytes)) => bytes,
         _ => &[],
-    }
-}
-
-fn are_rows(rows: &[Row]) -> bool
-    ensures { result ≡ list_all is_listed rows.now }
-{
-    rows.iter().all(|row| is_row(row))
-}
-
-/// Reads the whole table, and tests each row.
-fn survey<S: Alter, C: RowCheck>(
-    alloc: Global,
-    conn: &mut Connection<S>,
-    check: &C,
-) -> Result<(), OpenError>
-    ensures read { HasCleanDisk (state S.Store conn.new) → OnOk result (Passes (C.accepts check.now) (state S.Store conn.old) (state S.Store conn.new)) }
-    ensures refused { HasCleanDisk (state S.Store conn.new) → IfErr result (λ e. Refuses (C.accepts check.now) (state S.Store conn.old) (state S.Store conn.new) e) }
-    ensures kept { HasCleanDisk (state S.Store conn.new) → (IsTrue (state S.Store conn.old).is_open → (state S.Store conn.old).now ≡ (state S.Store conn.old).committed)
-        → OnErr result (KeepsRows (state S.Store conn.old) (state S.Store conn.new)) }
-    ensures crash { Survives (state S.Store conn.old) (state S.Store conn.new) (λ _. ⊥) }
-{
-    let rows = match conn.query_all(
-        "SELECT place, coll, idkey, body FROM documents ORDER BY place",
-        &[],
-    ) {
-        Ok(rows) => rows,
-        Err(Error::SqlInputError(_)) => return Err(OpenError::NotAStore),
-        Err(error) => return Err(refusal(error)),
-    };
-    if !are_rows(rows.as_slice()) {
-        return Err(OpenError::NotAStore);
-    }
-    match find_bad(alloc, rows.as_slice(), check) {
-        Ok(None) => Ok(()),
-        Ok(Some(place)) => Err(OpenError::BadRow(place)),
-        Err(_) => Err(OpenError::Memory),
     }
 }
 

@@ -117,7 +117,7 @@ fn what_is_no_table_is_no_store(rt: HostRuntime) -> Result<(), Fail> {
     Ok(())
 }
 
-// Both are wrong in these: a later value can't be read, and an earlier row is bad.
+// Two things are wrong in these: a value can't be read, and another row is bad, by its place or by its body.
 #[test]
 fn no_store_comes_before_a_bad_row(rt: HostRuntime) -> Result<(), Fail> {
     let no = Opened::No(OpenError::NotAStore);
@@ -129,6 +129,55 @@ fn no_store_comes_before_a_bad_row(rt: HostRuntime) -> Result<(), Fail> {
             "INSERT INTO documents VALUES (0, 'c', x'01', x'01'), (5, 'c', x'02', 'text')",
         ],
         no,
+    )?;
+    opens(
+        &rt,
+        rt.alloc(),
+        &[
+            LOOSE,
+            "INSERT INTO documents VALUES (1, 'c', x'01', x''), (2, 'c', x'02', x'01'), (3, NULL, x'03', x'01'), (4, 'c', x'04', x'01')",
+        ],
+        no,
+    )?;
+    opens(
+        &rt,
+        rt.alloc(),
+        &[
+            LOOSE,
+            "INSERT INTO documents VALUES (1, 'c', 'text', x'01'), (2, 'c', x'02', x''), (3, 'c', x'03', x'01')",
+        ],
+        no,
+    )?;
+    Ok(())
+}
+
+/// 300 good rows, each in a collection of its own: more than an answer has at hand at once.
+const MANY: &str =
+    "INSERT INTO documents WITH RECURSIVE n (i) AS (SELECT 1 UNION ALL SELECT i + 1 FROM n WHERE i < 300) SELECT i, CAST(i AS TEXT), x'01', x'01' FROM n";
+
+#[test]
+fn many_rows_are_judged_to_the_last(rt: HostRuntime) -> Result<(), Fail> {
+    opens(&rt, rt.alloc(), &[PLAIN, MANY], Opened::Yes)?;
+    opens(
+        &rt,
+        rt.alloc(),
+        &[
+            PLAIN,
+            MANY,
+            "UPDATE documents SET body = x'' WHERE place = 299 OR place = 250",
+        ],
+        Opened::No(OpenError::BadRow(250)),
+    )?;
+    opens(
+        &rt,
+        rt.alloc(),
+        &[
+            PLAIN,
+            MANY,
+            "UPDATE documents SET body = x'' WHERE place = 7",
+            "UPDATE documents SET body = 'text' WHERE place = 300",
+        ],
+        Opened::No(OpenError::NotAStore),
     )?;
     Ok(())
 }
