@@ -6,6 +6,8 @@ mod commands;
 #[cfg(test)]
 mod devices;
 #[cfg(test)]
+mod longer;
+#[cfg(test)]
 mod many;
 #[cfg(test)]
 mod misses;
