@@ -6,6 +6,8 @@ mod commands;
 #[cfg(test)]
 mod devices;
 #[cfg(test)]
+mod examples;
+#[cfg(test)]
 mod longer;
 #[cfg(test)]
 mod many;
