@@ -1,5 +1,6 @@
 //! Worked examples of inputs that are kept in another form, or refused.
 
+use crate::many::HELLO;
 use crate::session::{answers, does, new_store, prints, refuses};
 use std::alloc::{AllocError, Global};
 use std::process::Abort;
@@ -24,9 +25,8 @@ fn repeated_keys(rt: HostRuntime) -> Result<(), Fail> {
     let alloc = rt.alloc();
     let twice = b"\x17\0\0\0\x10_id\0\x01\0\0\0\x10_id\0\x02\0\0\0\0";
     keeps(&rt, alloc, twice, b"\x0E\0\0\0\x10_id\0\x02\0\0\0\0")?;
-    let repeated = b"\x1C\0\0\0\x10_id\0\x01\0\0\0\x10a\0\x02\0\0\0\x10a\0\x03\0\0\0\0";
     let last = b"\x15\0\0\0\x10_id\0\x01\0\0\0\x10a\0\x03\0\0\0\0";
-    keeps(&rt, alloc, repeated, last)
+    keeps(&rt, alloc, REPEATED, last)
 }
 
 #[test]
@@ -35,16 +35,64 @@ fn options_and_items_in_their_order(rt: HostRuntime) -> Result<(), Fail> {
     let options = b"\x16\0\0\0\x10_id\0\x01\0\0\0\x0Br\0a\0mi\0\0";
     let in_order = b"\x16\0\0\0\x10_id\0\x01\0\0\0\x0Br\0a\0im\0\0";
     keeps(&rt, alloc, options, in_order)?;
-    let seven = b"\x1F\0\0\0\x10_id\0\x01\0\0\0\x04v\0\x0E\0\0\0\x027\0\x02\0\0\0a\0\0\0";
-    let zero = b"\x1F\0\0\0\x10_id\0\x01\0\0\0\x04v\0\x0E\0\0\0\x020\0\x02\0\0\0a\0\0\0";
-    keeps(&rt, alloc, seven, zero)
+    keeps(&rt, alloc, WITH_SEVEN, WITH_ZERO)
+}
+
+/// {_id: 1, v: ["a"]}, whose item stands under the key `7`.
+const WITH_SEVEN: &[u8] = b"\x1F\0\0\0\x10_id\0\x01\0\0\0\x04v\0\x0E\0\0\0\x027\0\x02\0\0\0a\0\0\0";
+
+/// The same, whose item stands under the key `0`.
+const WITH_ZERO: &[u8] = b"\x1F\0\0\0\x10_id\0\x01\0\0\0\x04v\0\x0E\0\0\0\x020\0\x02\0\0\0a\0\0\0";
+
+#[test]
+fn items_by_their_places(rt: HostRuntime) -> Result<(), Fail> {
+    let alloc = rt.alloc();
+    let mut store = new_store(alloc)?;
+    let one = (0, b"1\n".as_slice(), "");
+    answers(&rt, alloc, &mut store, "import|c", WITH_SEVEN, one)?;
+    let first = "count|c|{\"eq\":[[\"v\",\"0\"],\"a\"]}";
+    prints(&rt, alloc, &mut store, first, "1\n")?;
+    let seventh = "count|c|{\"eq\":[[\"v\",\"7\"],\"a\"]}";
+    prints(&rt, alloc, &mut store, seventh, "0\n")
+}
+
+#[test]
+fn into_the_store_and_out(rt: HostRuntime) -> Result<(), Fail> {
+    let alloc = rt.alloc();
+    let mut store = new_store(alloc)?;
+    let line = "insert|c|{\"hello\":\"world\",\"_id\":{\"$numberInt\":\"1\"}}";
+    does(&rt, alloc, &mut store, line)?;
+    answers(&rt, alloc, &mut store, "export|c", &[], (0, &HELLO, ""))?;
+    let line = "replace|c|{\"_id\":1,\"hello\":\"world\"}";
+    does(&rt, alloc, &mut store, line)?;
+    prints(&rt, alloc, &mut store, "collections", "c\n")?;
+    let all = "find|c|{\"and\":[]}";
+    answers(&rt, alloc, &mut store, all, &[], (0, &HELLO, ""))
+}
+
+/// {_id: 1, a: 2}, and then `a` 3 again.
+const REPEATED: &[u8] = b"\x1C\0\0\0\x10_id\0\x01\0\0\0\x10a\0\x02\0\0\0\x10a\0\x03\0\0\0\0";
+
+#[test]
+fn set_and_unset(rt: HostRuntime) -> Result<(), Fail> {
+    let alloc = rt.alloc();
+    let mut store = new_store(alloc)?;
+    let one = (0, b"1\n".as_slice(), "");
+    answers(&rt, alloc, &mut store, "import|c", REPEATED, one)?;
+    does(&rt, alloc, &mut store, "set|c|1|a|\"x\"")?;
+    let text = b"\x17\0\0\0\x10_id\0\x01\0\0\0\x02a\0\x02\0\0\0x\0\0";
+    answers(&rt, alloc, &mut store, "export|c", &[], (0, text, ""))?;
+    prints(&rt, alloc, &mut store, "unset|c|1|a", "true\n")?;
+    prints(&rt, alloc, &mut store, "unset|c|1|a", "false\n")?;
+    let key = "refused: BadKey\n";
+    refuses(&rt, alloc, &mut store, "set|c|1|_id|2", key)
 }
 
 #[test]
 fn streams_that_are_refused(rt: HostRuntime) -> Result<(), Fail> {
     let alloc = rt.alloc();
-    let one = b"\x0E\0\0\0\x10_id\0\x01\0\0\0\0\x04\0\0\0";
-    turns_away(&rt, alloc, one, "refused: BadLength document 1\n")?;
+    let behind = b"\x1F\0\0\0\x10_id\0\x01\0\0\0\x02hello\0\x06\0\0\0world\0\0\x04\0\0\0";
+    turns_away(&rt, alloc, behind, "refused: BadLength document 1\n")?;
     let cut = b"\x1F\0\0";
     turns_away(&rt, alloc, cut, "refused: EndInside document 0\n")
 }
@@ -130,6 +178,10 @@ const RESERVED: &[u8] =
 const RESERVED_AT_THE_TOP: &[u8] =
     b"\x31\0\0\0\x10_id\0\x01\0\0\0\x02$oid\0\x19\0\0\x0053e37d08776f724e42000000\0\0";
 
+/// The same with its keys in ascending order.
+const IN_ORDER: &[u8] =
+    b"\x31\0\0\0\x02$oid\0\x19\0\0\x0053e37d08776f724e42000000\0\x10_id\0\x01\0\0\0\0";
+
 #[test]
 fn reserved_keys(rt: HostRuntime) -> Result<(), Fail> {
     let alloc = rt.alloc();
@@ -146,7 +198,10 @@ fn reserved_keys(rt: HostRuntime) -> Result<(), Fail> {
         one,
     )?;
     let line = "{\"$oid\":\"53e37d08776f724e42000000\",\"_id\":{\"$numberInt\":\"1\"}}\n";
-    prints(&rt, alloc, &mut store, "dump|top", line)
+    prints(&rt, alloc, &mut store, "dump|top", line)?;
+    answers(&rt, alloc, &mut store, "load|again", line.as_bytes(), one)?;
+    let all = (0, IN_ORDER, "");
+    answers(&rt, alloc, &mut store, "export|again", &[], all)
 }
 
 #[test]
