@@ -86,10 +86,20 @@ fn whether_values_stand_at_paths(rt: HostRuntime) -> Result<(), Fail> {
     stands(&rt, alloc, "x", false)
 }
 
+/// Asserts whether all of these filters select the document.
+fn all_select(rt: &impl Abort, filters: Vec<Filter>, want: bool) -> Result<(), Fail> {
+    selects_letters(rt, &Filter::And(filters), want)
+}
+
+/// Asserts whether one of these filters selects the document.
+fn one_selects(rt: &impl Abort, filters: Vec<Filter>, want: bool) -> Result<(), Fail> {
+    selects_letters(rt, &Filter::Or(filters), want)
+}
+
 #[test]
 fn no_filters(rt: HostRuntime) -> Result<(), Fail> {
-    selects_letters(&rt, &Filter::And(Vec::new(rt.alloc())), true)?;
-    selects_letters(&rt, &Filter::Or(Vec::new(rt.alloc())), false)
+    all_select(&rt, Vec::new(rt.alloc()), true)?;
+    one_selects(&rt, Vec::new(rt.alloc()), false)
 }
 
 /// Asserts whether the document is selected by a filter that doesn't want a value at a path.
@@ -107,22 +117,24 @@ fn filters_turned_round(rt: HostRuntime) -> Result<(), Fail> {
 
 /// Whether values stand at two paths.
 fn both(alloc: Global, first: &str, second: &str) -> Result<Vec<Filter>, AllocError> {
-    let mut filters = Vec::new(alloc);
-    filters.push(Filter::Exists(path(alloc, first)?))?;
-    filters.push(Filter::Exists(path(alloc, second)?))?;
+    let first = path(alloc, first)?;
+    let second = path(alloc, second)?;
+    let mut filters = Vec::with_capacity(alloc, 2)?;
+    filters.push(Filter::Exists(first))?;
+    filters.push(Filter::Exists(second))?;
     Ok(filters)
 }
 
 #[test]
 fn all_of_two_filters(rt: HostRuntime) -> Result<(), Fail> {
     let alloc = rt.alloc();
-    selects_letters(&rt, &Filter::And(both(alloc, "v", "x")?), false)?;
-    selects_letters(&rt, &Filter::And(both(alloc, "v", "_id")?), true)
+    all_select(&rt, both(alloc, "v", "x")?, false)?;
+    all_select(&rt, both(alloc, "v", "_id")?, true)
 }
 
 #[test]
 fn one_of_two_filters(rt: HostRuntime) -> Result<(), Fail> {
     let alloc = rt.alloc();
-    selects_letters(&rt, &Filter::Or(both(alloc, "v", "x")?), true)?;
-    selects_letters(&rt, &Filter::Or(both(alloc, "x", "y")?), false)
+    one_selects(&rt, both(alloc, "v", "x")?, true)?;
+    one_selects(&rt, both(alloc, "x", "y")?, false)
 }

@@ -4,7 +4,7 @@ use crate::session::{answers, does, misses, new_store, prints, refuses};
 use std::test::Fail;
 
 /// {_id: 1, hello: "world"}.
-const HELLO: [u8; 31] = [
+pub const HELLO: [u8; 31] = [
     31, 0, 0, 0, 16, 95, 105, 100, 0, 1, 0, 0, 0, 2, 104, 101, 108, 108, 111, 0, 6, 0, 0, 0, 119,
     111, 114, 108, 100, 0, 0,
 ];

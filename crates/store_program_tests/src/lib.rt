@@ -6,6 +6,10 @@ mod commands;
 #[cfg(test)]
 mod devices;
 #[cfg(test)]
+mod examples;
+#[cfg(test)]
+mod longer;
+#[cfg(test)]
 mod many;
 #[cfg(test)]
 mod misses;

@@ -10,11 +10,22 @@ use std::alloc::Global;
 use std::process::Abort;
 use std::test::Fail;
 
+/// What `{v: kept}` is written as.
+fn written(alloc: Global, kept: Bson) -> Result<Vec<u8>, Fail> {
+    let document = holding(alloc, kept)?;
+    Ok(encode_document(alloc, &document)?)
+}
+
+/// Whether the document of these bytes is selected.
+fn selects_bytes(bytes: &[u8], filter: &Filter) -> Result<bool, Fail> {
+    Ok(selects(RawDocument::from_bytes(bytes)?, filter))
+}
+
 /// Whether `{v: kept}` is selected by what is asked of the value under `v`.
 fn is_selected(alloc: Global, kept: Bson, asked: Bson) -> Result<bool, Fail> {
-    let bytes = encode_document(alloc, &holding(alloc, kept)?)?;
+    let bytes = written(alloc, kept)?;
     let filter = Filter::Eq(path(alloc, "v")?, asked);
-    Ok(selects(RawDocument::from_bytes(&bytes)?, &filter))
+    selects_bytes(&bytes, &filter)
 }
 
 /// Asserts whether `{v: kept}` is selected so.

@@ -1,7 +1,7 @@
 //! Devices that fail.
 
 use crate::session::{does, new_store, prints, words_of};
-use bson_base::faulty::FaultySink;
+use bson_base::faulty::{FaultySink, FaultySource};
 use bson_store::{SliceSource, Store, VecSink};
 use sqlite::MemStore;
 use std::alloc::Global;
@@ -82,4 +82,34 @@ fn failing_faults(rt: HostRuntime) -> Result<(), Fail> {
     let alloc = rt.alloc();
     tells_a_beginning(&rt, alloc, "insert|c|{}", 3, 1)?;
     tells_a_beginning(&rt, alloc, "insert|c|{", 0, 2)
+}
+
+/// With an input that gives one byte and then fails, the line is refused, and the store stays empty.
+fn fails_to_read(rt: &impl Abort, alloc: Global, line: &str, bytes: &[u8]) -> Result<(), Fail> {
+    let mut store = new_store(alloc)?;
+    let words = words_of(alloc, line)?;
+    let words = read_words(&words).ok_or("no line of the table")?;
+    let mut input = FaultySource::new(bytes, 1);
+    let mut output = VecSink::new(alloc);
+    let mut faults = VecSink::new(alloc);
+    let status = execute(
+        alloc,
+        &mut store,
+        &words,
+        &mut input,
+        &mut output,
+        &mut faults,
+    );
+    let told = faults.bytes.as_slice() == b"refused: Reader\n".as_slice();
+    let found = (status, input.failed, output.bytes.is_empty(), told);
+    assert_eq!(rt; found, (1, 1, true, true), "{line}");
+    prints(rt, alloc, &mut store, "collections", "")
+}
+
+#[test]
+fn a_failing_input(rt: HostRuntime) -> Result<(), Fail> {
+    let alloc = rt.alloc();
+    let one = b"\x0E\0\0\0\x10_id\0\x01\0\0\0\0";
+    fails_to_read(&rt, alloc, "import|c", one)?;
+    fails_to_read(&rt, alloc, "load|c", b"{\"_id\":1}")
 }
