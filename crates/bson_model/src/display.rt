@@ -4,7 +4,7 @@ ghost use Rattle.std.specs.Prelude.{◌++◌, Some, true, codes, string_bytes, m
 ghost use Rattle.std.specs.Fmt.{WritesOnOk};
 ghost use Rattle.bson_base.specs.Scalars.{id_bytes, millis_of};
 ghost use Rattle.bson_base.specs.Value.{db_pointer};
-ghost use Rattle.bson_model.specs.Dates.{shown_date};
+ghost use Rattle.bson_base.specs.Dates.{shown_date};
 ghost use Rattle.bson_model.specs.Display.{call_of_text, mark_before, quoted, shown, shown_document, shown_double, shown_items, shown_members, shown_scalar};
 ghost use Rattle.bson_model.specs.View.{view, pairs_of, items_of, members_of};
 

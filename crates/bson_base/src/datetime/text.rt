@@ -1,10 +1,11 @@
 //! Date texts.
 
 ghost use Rattle.std.specs.Prelude.{◌≡◌, ◌≢◌, ◌<◌, ◌∷◌, ◌*ℤ◌, ◌+ℤ◌, pos, List, ℕ, IfOk, IfSome, IsSome, Some, Err, ◌↔◌, string_bytes};
-ghost use Rattle.std.specs.Fmt.{WritesOnOk, WritesStyledOnOk};
+ghost use Rattle.std.specs.Fmt.{WritesOnOk, WritesStyledOnOk, DisplaysOnOk, DisplaysStyledOnOk};
 ghost use Rattle.jiff_core.specs.Calendar.{IsCivilDate, days_from_civil};
 ghost use Rattle.bson_base.specs.Answer.{result_map};
-ghost use Rattle.bson_base.specs.DateText.{date_of, fraction_text, HasDateText, IsDateText, moment_text, WritesDate, WritesDateStyled, two as two_of};
+ghost use Rattle.bson_base.specs.DateText.{date_of, fraction_text, HasDateText, IsDateText, moment_text, WritesDate, two as two_of};
+ghost use Rattle.bson_base.specs.Dates.{shown_date};
 ghost use Rattle.bson_base.specs.Scalars.{millis_of};
 
 use super::calendar::{CivilDay, civil_day};
@@ -172,15 +173,13 @@ impl DateTime {
 }
 
 fn write_moment<W: fmt::Write>(f: &mut fmt::Formatter<W>, moment: Moment) -> fmt::Result
-    ensures plain { WritesOnOk W.write_str_gives f.old result (moment_text moment.year moment.month moment.day moment.clock) f.new }
-    ensures styled { WritesStyledOnOk W.write_str_gives f.old result (moment_text moment.year moment.month moment.day moment.clock) f.new }
+    ensures { WritesStyledOnOk W.write_str_gives f.old result (moment_text moment.year moment.month moment.day moment.clock) f.new }
 {
     write_plainly(f, moment)
 }
 
 fn write_date<W: fmt::Write>(f: &mut fmt::Formatter<W>, millis: i64) -> fmt::Result
-    ensures plain { WritesDate W.write_str_gives f.old result millis f.new }
-    ensures styled { WritesDateStyled W.write_str_gives f.old result millis f.new }
+    ensures { WritesDate W.write_str_gives f.old result millis f.new }
 {
     match moment_of(millis) {
         Some(moment) => write_moment(f, moment),
@@ -190,9 +189,14 @@ fn write_date<W: fmt::Write>(f: &mut fmt::Formatter<W>, millis: i64) -> fmt::Res
 
 /// The date text, or the milliseconds in decimal where there is none.
 impl fmt::Display for DateTime {
+    ghost output = { λ t. Some (shown_date (millis_of t)) };
+
+    ghost styled_output = { λ t s. Some (shown_date (millis_of t)) };
+
     fn fmt<W: fmt::Write>(&self, f: &mut fmt::Formatter<W>) -> fmt::Result
-        ensures plain { WritesDate W.write_str_gives f.old result (millis_of self.now) f.new }
-        ensures styled { WritesDateStyled W.write_str_gives f.old result (millis_of self.now) f.new }
+        ensures writes { DisplaysOnOk W.write_str_gives f.old result (Some (shown_date (millis_of self.now))) f.new }
+        ensures styled { DisplaysStyledOnOk W.write_str_gives f.old result (Some (shown_date (millis_of self.now))) f.new }
+        ensures dated { WritesDate W.write_str_gives f.old result (millis_of self.now) f.new }
     {
         write_date(f, self.0)
     }
