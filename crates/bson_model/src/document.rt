@@ -18,13 +18,16 @@ use bson_pairs::Pairs;
 pub use entry::{Entry, OccupiedEntry, VacantEntry};
 pub use iter::{IntoIter, Iter, Keys, Values};
 use std::alloc::{AllocError, Global};
+use thiserror::Error;
 
 /// Why a typed getter has no value.
-#[derive(Clone, Copy, Debug, PartialEq, Eq)]
+#[derive(Clone, Copy, Debug, PartialEq, Eq, Error)]
 pub enum ValueAccessError {
     /// There is no such key.
+    #[error("no value under the key")]
     NotPresent,
     /// A value of another kind stands under the key.
+    #[error("a value of another kind under the key")]
     UnexpectedType,
 }
 

@@ -5,8 +5,8 @@ ghost use Rattle.bson_model.specs.declared.extjson.de.Error.{Error as AnyError};
 ghost use Rattle.bson_model.specs.declared.extjson.ser.Mode.{Mode as AnyMode};
 
 use crate::document::ValueAccessError;
-use crate::extjson::de::Error;
 use crate::extjson::Mode;
+use crate::extjson::de::Error;
 use bson_base::laws;
 
 /// Two errors are equal where they are one, with all that they tell.
