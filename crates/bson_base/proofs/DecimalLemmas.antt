@@ -4,7 +4,7 @@ use Rattle.std.specs.Char.{is_ascii_digit, digit_value}
 use Rattle.std.proofs.lemmas.Bool.{cases_lt}
 use Rattle.std.proofs.Math.Nat.{pow-le-pow_right, pow-suc}
 use Rattle.std.proofs.Math.Seq.{drop-append-add}
-use Rattle.std.proofs.lemmas.List.{drop-append-le}
+use Rattle.std.proofs.lemmas.List.{drop-append-le, drop_all}
 use Rattle.bson_base.specs.Decimal.{value, value_after, all_digits, all_zeros, strip}
 use Rattle.bson_base.proofs.PrintedReads.{both, value_after-append}
 
@@ -55,10 +55,18 @@ small_step all n i c ds kept h digits is =
     let more = (one_more n i ds h digits).0 in
     kept ∙ ap (λ v. min v 100000) (more ∙ ap (λ d. value_after (n * 10 + (d - 48)) (drop (i + 1) ds)) is) ∙ sym (capped (n * 10 + (c - 48)) (drop (i + 1) ds))
 
-pub short_is_stripped : (t : List ℕ) → length t ≤ 1 → t ≡ strip t
-short_is_stripped [] h = refl
-short_is_stripped (c ∷ []) h = refl
-short_is_stripped (c ∷ d ∷ ds) h = absurd (omega arith)
+-- one digit stays
+some_stripped : (c : ℕ) (cs : List ℕ) → strip (c ∷ cs) ≡ [] → ⊥
+some_stripped c [] e = let n = ap length e in omega arith
+some_stripped c (d ∷ ds) e = by (c == 48) refl (some_stripped d ds) where
+  by : (x : Bool) → (c == 48) ≡ x → (strip (d ∷ ds) ≡ [] → ⊥) → ⊥
+  by true q later = later (rw q at e)
+  by false q later = let none : c ∷ d ∷ ds ≡ [] = rw q at e in let n = ap length none in omega arith
+
+-- only no digits leave none
+pub all_stripped : (t : List ℕ) (i : ℕ) → length t ≤ i → strip t ≡ strip (drop i t) → t ≡ strip t
+all_stripped [] i h e = refl
+all_stripped (c ∷ cs) i h e = absurd (some_stripped c cs (e ∙ ap strip (drop_all i (c ∷ cs) h)))
 
 -- ---- digits in two runs
 

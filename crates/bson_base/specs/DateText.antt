@@ -1,7 +1,7 @@
 -- The text of a moment (RFC 3339, section 5.6), against the proleptic Gregorian calendar.
 use Rattle.std.specs.Prelude.{◌≡◌, ℕ, ◌+◌, ◌*◌, ◌/◌, ◌%◌, ◌==◌, ◌&&◌, ◌||◌, ◌<◌, nat_lt, nat_le, Bool, if◌then◌else◌, ℤ, pos, neg_ℤ, unsigned_abs, ◌+ℤ◌, ◌-ℤ◌, ◌*ℤ◌, ◌≤ℤ◌, int_div, List, [], ◌∷◌, ◌++◌, Option, Some, None, Result, Ok, Err, IsOk}
 use Rattle.std.specs.Char.{is_ascii_digit, digit_value}
-use Rattle.std.specs.Fmt.{signed_decimal, IsPlainFormatter, HasWritten}
+use Rattle.std.specs.Fmt.{signed_decimal, HasWrittenStyled, IsFlush}
 use Rattle.std.specs.declared.fmt.Formatter.{Formatter}
 use Rattle.std.specs.declared.fmt.Error.{Error as FormatError}
 use Rattle.jiff_core.specs.Calendar.{IsCivilDate, days_in_month, days_from_civil}
@@ -58,9 +58,9 @@ pub record IsShownDate (millis : ℤ) (text : List ℕ) : Type 0 where
   pub date : HasDateText millis → IsDateText millis text
   pub number : ¬ HasDateText millis → text ≡ signed_decimal millis
 
--- the formatter g is f after writing that
+-- the formatter g is f after writing that, whatever options f has
 abbrev pub WritesDate : {W : Type 0} → (W → List ℕ → W → Type 0) → Formatter W → Result (Unit {0}) FormatError → ℤ → Formatter W → Type 0
-WritesDate took f r millis g = IsPlainFormatter f → IsOk r → (text : List ℕ) × IsShownDate millis text × HasWritten took f text g
+WritesDate took f r millis g = IsFlush f → IsOk r → (text : List ℕ) × IsShownDate millis text × HasWrittenStyled took f text g
 
 -- ---- the calendar
 

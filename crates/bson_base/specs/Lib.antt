@@ -11,6 +11,7 @@ pub mod Doubles
 pub mod Uuids
 pub mod Options
 pub mod DateText
+pub mod Dates
 pub mod Builder
 pub mod UuidReading
 pub mod VectorBytes

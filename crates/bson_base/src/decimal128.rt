@@ -10,9 +10,9 @@ mod parse;
 mod parts;
 mod print;
 
+use crate::plain::write_plainly;
 use parse::read_decimal;
 use parts::{Parts, bytes_of_number, number_of_bytes};
-use print::write_parts;
 use std::fmt;
 use std::str::FromStr;
 use thiserror::Error;
@@ -101,7 +101,9 @@ impl fmt::Display for Decimal128 {
 
     ghost output = { λ d. Some (decimal_text (decimal_bytes d)) };
 
+    ghost styled_output = { λ d s. Some (decimal_text (decimal_bytes d)) };
+
     fn fmt<W: fmt::Write>(&self, f: &mut fmt::Formatter<W>) -> fmt::Result {
-        write_parts(f, self.parts())
+        write_plainly(f, self.parts())
     }
 }

@@ -9,6 +9,7 @@ mod double;
 pub mod faulty;
 pub mod laws;
 pub mod oid;
+pub mod plain;
 mod pointer;
 mod regex;
 pub mod spec;

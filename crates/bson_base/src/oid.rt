@@ -3,7 +3,7 @@
 ghost use Rattle.std.specs.Prelude.{◌≡◌, ◌<◌, ◌≤◌, ◌++◌, ◌*◌, ℕ, List, length, pos, slice_index, take, IfOk, OnOk, Some, string_bytes, position, not};
 ghost use Rattle.bson_base.specs.Answer.{result_map};
 ghost use Rattle.std.specs.Int.{w32, to_be_bytes, from_be_bytes};
-ghost use Rattle.std.specs.Fmt.{WritesOnOk};
+ghost use Rattle.std.specs.Fmt.{WritesOnOk, WritesStyledOnOk};
 ghost use Rattle.std.specs.Str.{IsAscii};
 ghost use Rattle.hex.specs.Hex.{encode_lower, is_hex_digit as hex_digit};
 ghost use Rattle.bson_base.specs.ObjectIdText.{debug_text, first_other as first_other_of, object_id_of};
@@ -157,7 +157,8 @@ impl FromStr for ObjectId {
 }
 
 fn write_hex<W: fmt::Write>(f: &mut fmt::Formatter<W>, bytes: &[u8; 12]) -> fmt::Result
-    ensures { WritesOnOk W.write_str_gives f.old result (encode_lower bytes.now) f.new }
+    ensures plain { WritesOnOk W.write_str_gives f.old result (encode_lower bytes.now) f.new }
+    ensures styled { WritesStyledOnOk W.write_str_gives f.old result (encode_lower bytes.now) f.new }
 {
     let mut digits = [0u8; 24];
     let Ok(()) = hex::encode_to_slice(&bytes[..], &mut digits) else {
@@ -173,6 +174,8 @@ impl fmt::Display for ObjectId {
     ghost use Rattle.bson_base.specs.Scalars.{id_bytes};
 
     ghost output = { λ id. Some (encode_lower (id_bytes id)) };
+
+    ghost styled_output = { λ id s. Some (encode_lower (id_bytes id)) };
 
     fn fmt<W: fmt::Write>(&self, f: &mut fmt::Formatter<W>) -> fmt::Result {
         write_hex(f, &self.id)

@@ -4,6 +4,7 @@ ghost use Rattle.std.specs.Prelude.{◌≡◌, IfOk, string_bytes, chars, encode
 ghost use Rattle.bson_base.specs.Options.{sorted_text};
 ghost use Rattle.bson_base.specs.ScalarTexts.{regex_text};
 
+use crate::plain::write_plainly;
 use std::alloc::{AllocError, Global};
 use std::fmt;
 
@@ -42,9 +43,11 @@ impl Regex {
 impl fmt::Display for Regex {
     ghost output = { λ r. Some (regex_text r) };
 
+    ghost styled_output = { λ r s. Some (regex_text r) };
+
     fn fmt<W: fmt::Write>(&self, f: &mut fmt::Formatter<W>) -> fmt::Result {
         let (pattern, options) = (self.pattern.as_str(), self.options.as_str());
-        write!(f, "/{pattern}/{options}")
+        write_plainly(f, format_args!("/{pattern}/{options}"))
     }
 }
 

@@ -3,6 +3,7 @@
 ghost use Rattle.std.specs.Prelude.{Some};
 ghost use Rattle.bson_base.specs.ScalarTexts.{timestamp_text};
 
+use crate::plain::write_plainly;
 use std::fmt;
 
 /// A moment in a log: seconds and a number within the second, each 32 bits (bsonspec.org 1.1, element type 11).
@@ -18,8 +19,10 @@ pub struct Timestamp {
 impl fmt::Display for Timestamp {
     ghost output = { λ t. Some (timestamp_text t) };
 
+    ghost styled_output = { λ t s. Some (timestamp_text t) };
+
     fn fmt<W: fmt::Write>(&self, f: &mut fmt::Formatter<W>) -> fmt::Result {
         let (time, increment) = (self.time, self.increment);
-        write!(f, "Timestamp({time}, {increment})")
+        write_plainly(f, format_args!("Timestamp({time}, {increment})"))
     }
 }

@@ -4,6 +4,8 @@
 //! - `read`, `read_map`, `read_document`, with a JSON text: kind, text and canonical Extended JSON of what it reads as.
 //! - `canonical`, `relaxed`, with a value: its tree of Extended JSON.
 //! - `show`, with a value: its text. `show_alone`, with a document or a code with scope: the text of that by itself.
+//! - `show_wide`, with a value: its text where a width of 60 and a fill are asked for. `show_wide_content`: the same of what the value
+//!   holds, by itself, and `uuid_wide`, with a text, of the UUID that it reads as. Width and fill are to change nothing.
 //!
 //! - `decimal`, `decimal_bytes`, `moment`, `object_id`, `object_id_time`, `uuid`, `base64`, with a text: what it reads as, printed
 //!   in the form that the word says (an object id also as its digits and with its type's name).
@@ -24,6 +26,7 @@
 mod json;
 mod scalars;
 mod values;
+mod wide;
 
 use bson_model::Bson;
 use std::alloc::{AllocError, Global};
@@ -45,6 +48,8 @@ fn answer_value(alloc: Global, word: &str, value: Bson) -> Result<String, AllocE
         "relaxed" => json::relaxed(alloc, value),
         "show" => value.to_string(alloc),
         "show_alone" => show_alone(alloc, value),
+        "show_wide" => wide::value(alloc, &value),
+        "show_wide_content" => wide::content(alloc, &value),
         _ => String::from_str(alloc, "no such case"),
     }
 }
@@ -56,10 +61,12 @@ fn answer(alloc: Global, line: &str) -> Result<String, AllocError> {
         "read" => json::read(alloc, rest),
         "read_map" => json::read_map(alloc, rest),
         "read_document" => json::read_document(alloc, rest),
-        "canonical" | "relaxed" | "show" | "show_alone" => match values::value_of(alloc, rest)? {
-            Some(value) => answer_value(alloc, word, value),
-            None => String::from_str(alloc, "no value"),
-        },
+        "canonical" | "relaxed" | "show" | "show_alone" | "show_wide" | "show_wide_content" => {
+            match values::value_of(alloc, rest)? {
+                Some(value) => answer_value(alloc, word, value),
+                None => String::from_str(alloc, "no value"),
+            }
+        }
         _ => match scalars::answer(alloc, word, rest)? {
             Some(told) => Ok(told),
             None => String::from_str(alloc, "no such case"),

@@ -17,6 +17,7 @@ pub fn answer(alloc: Global, word: &str, rest: &str) -> Result<Option<String>, A
         "object_id" => object_id(alloc, rest),
         "object_id_time" => object_id_time(alloc, rest),
         "uuid" => uuid(alloc, rest),
+        "uuid_wide" => uuid_wide(alloc, rest),
         "base64" => base64(alloc, rest),
         "subtype" => subtype(alloc, rest),
         "tag" => tag(alloc, rest),
@@ -97,6 +98,14 @@ fn object_id_time(alloc: Global, text: &str) -> Result<String, AllocError> {
 fn uuid(alloc: Global, text: &str) -> Result<String, AllocError> {
     match Uuid::parse_str(text) {
         Ok(uuid) => uuid.to_string(alloc),
+        Err(error) => format!(in alloc; "{error:?}"),
+    }
+}
+
+/// The same in a field of 60 characters.
+fn uuid_wide(alloc: Global, text: &str) -> Result<String, AllocError> {
+    match Uuid::parse_str(text) {
+        Ok(uuid) => format!(in alloc; "{uuid:*>60}"),
         Err(error) => format!(in alloc; "{error:?}"),
     }
 }

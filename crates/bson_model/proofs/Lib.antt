@@ -3,7 +3,6 @@ pub mod DistinctLemmas
 pub mod EqualLemmas
 pub mod LayerLemmas
 pub mod JsonWriteLemmas
-pub mod DateTextLemmas
 pub mod SizeLemmas
 pub mod FiniteLemmas
 pub mod ShowLemmas

@@ -1,18 +1,14 @@
 -- Texts of values, part by part.
 use Rattle.std.proofs.Common.{◌≡◌, ℕ, ◌+◌, ◌<◌, ℤ, ◌≤ℤ◌, Bool, true, false, List, [], ◌∷◌, ◌++◌, map, length, get_or, drop, refl, sym, ap, ◌∙◌, arith}
-use Rattle.std.specs.Prelude.{codes, int_le, if◌then◌else◌, ◌&&◌}
-use Rattle.std.specs.Fmt.{signed_decimal, HasWritten, IsPlainFormatter}
+use Rattle.std.specs.Prelude.{codes}
+use Rattle.std.specs.Fmt.{HasWritten, IsPlainFormatter}
 use Rattle.std.specs.declared.fmt.Formatter.{Formatter}
 use Rattle.std.proofs.lemmas.List.{append_assoc, drop_more}
-use Rattle.jiff_core.proofs.SignedLemmas.{signed_arith}
-use Rattle.bson_base.specs.DateText.{IsShownDate}
 use Rattle.bson_base.specs.Value.{Value}
 use Rattle.bson_pairs.specs.Keyed.{Key}
-use Rattle.bson_model.specs.Dates.{date_text, has_date_text, shown_date}
 use Rattle.bson_model.specs.Display.{mark_before, quoted, shown, shown_document, shown_items, shown_members}
 use Rattle.bson_model.specs.View.{view, pair_view, items_of, members_of}
 use Rattle.bson_model.specs.declared.bson.Bson.{Bson}
-use Rattle.bson_model.proofs.DateTextLemmas.{date_text-is}
 
 pub shown_empty : (ps : List (Key × Value)) → ps ≡ [] → codes "{}" ≡ shown_document (members_of ps)
 shown_empty [] e = refl
@@ -44,26 +40,3 @@ pub members_more : (all t : List ℕ) (ps qs : List (Key × Bson)) (k : Key) (b 
 members_more all t ps qs k b first so is =
     so ∙ ap (λ rs. t ++ shown_members first (members_of (map pair_view rs))) is
     ∙ regroup t (mark_before first) (quoted k ++ codes ": ") (shown (view b)) (shown_members false (members_of (map pair_view qs)))
-
-both_le : (a b c d : ℤ) → (int_le a b && int_le c d) ≡ true → (a ≤ℤ b) × (c ≤ℤ d)
-both_le a b c d e = by (int_le a b) refl (int_le c d) refl e
-  where
-    by : (p : Bool) → int_le a b ≡ p → (q : Bool) → int_le c d ≡ q → (p && q) ≡ true → (a ≤ℤ b) × (c ≤ℤ d)
-    by true e true f h = (omega (arith, signed_arith), omega (arith, signed_arith))
-    by true e false f h = absurd (cc)
-    by false e q f h = absurd (cc)
-
-not_both : (a b c d : ℤ) → (int_le a b && int_le c d) ≡ false → ¬ ((a ≤ℤ b) × (c ≤ℤ d))
-not_both a b c d e h = by (int_le a b) refl (int_le c d) refl e
-  where
-    by : (p : Bool) → int_le a b ≡ p → (q : Bool) → int_le c d ≡ q → (p && q) ≡ false → ⊥
-    by true e true f h = cc
-    by true e false f k = omega (arith, signed_arith, h.1)
-    by false e q f k = omega (arith, signed_arith, h.0)
-
-pub shown_date-is : (z : ℤ) (t : List ℕ) → IsShownDate z t → t ≡ shown_date z
-shown_date-is z t h = by (has_date_text z) refl
-  where
-    by : (b : Bool) → has_date_text z ≡ b → t ≡ if b then date_text z else signed_decimal z
-    by true e = date_text-is z t (h.date (both_le _ _ _ _ e))
-    by false e = h.number (not_both _ _ _ _ e)

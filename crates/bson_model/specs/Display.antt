@@ -9,7 +9,7 @@ use Rattle.bson_base.specs.Decimal.{decimal_text}
 use Rattle.bson_base.specs.ObjectIdText.{debug_text}
 use Rattle.bson_base.specs.Tags.{subtype_byte}
 use Rattle.bson_base.specs.Value.{Scalar, double, string, binary, undefined, object_id, boolean, date_time, null, regex, db_pointer, code, symbol, int32, timestamp, int64, decimal, max_key, min_key, Value, scalar, array, document, scoped_code, Items, no_items, item, Members, no_members, member}
-use Rattle.bson_model.specs.Dates.{shown_date}
+use Rattle.bson_base.specs.Dates.{shown_date}
 
 -- between two quotes, without escapes
 abbrev pub quoted : List ℕ → List ℕ

@@ -13,7 +13,7 @@ use Rattle.bson_base.specs.Doubles.{is_nan, is_infinite, is_zero, is_negative}
 use Rattle.bson_base.specs.Options.{sorted_text}
 use Rattle.bson_base.specs.Tags.{subtype_byte}
 use Rattle.bson_base.specs.Value.{Scalar, double, string, binary, undefined, object_id, boolean, date_time, null, regex, db_pointer, code, symbol, int32, timestamp, int64, decimal, max_key, min_key, Value, scalar, array, document, scoped_code, Items, no_items, item, Members, no_members, member}
-use Rattle.bson_model.specs.Dates.{date_text}
+use Rattle.bson_base.specs.Dates.{date_text}
 use Rattle.bson_model.specs.JsonKeys.{Reserved, key_of, scope_key, of_id, of_symbol, of_regex, of_int, of_long, of_double, of_decimal, of_binary, of_code, of_timestamp, of_date, of_min, of_max, of_pointer, of_undefined}
 use Rattle.bson_model.specs.declared.extjson.de.Error.{Error}
 use Rattle.bson_model.specs.declared.extjson.de.Error.TheVariants.{InvalidObjectId, DeserializationError, FiniteDouble, Memory}

@@ -10,7 +10,6 @@ pub mod Extend
 pub mod Rest
 pub mod Entries
 pub mod JsonKeys
-pub mod Dates
 pub mod JsonWrite
 pub mod Display
 pub mod JsonTexts

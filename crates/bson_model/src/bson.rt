@@ -65,11 +65,11 @@ pub struct JavaScriptCodeWithScope {
 
 impl JavaScriptCodeWithScope {
     /// A copy with memory of its own. It fails where there is no memory.
-    pub fn try_clone(&self) -> Result<JavaScriptCodeWithScope, AllocError>
+    pub fn try_clone(&self, alloc: Global) -> Result<JavaScriptCodeWithScope, AllocError>
         ensures { IfOk result (λ c. scoped_code_tree c ≡ scoped_code_tree self.now) }
     {
         let scope = self.scope.try_clone()?;
-        let code = self.code.clone()?;
+        let code = String::from_str(alloc, &self.code)?;
         Ok(JavaScriptCodeWithScope { code, scope })
     }
 }

@@ -4,12 +4,13 @@ ghost use Rattle.std.specs.Prelude.{◌++◌, Some, true, codes, string_bytes, m
 ghost use Rattle.std.specs.Fmt.{WritesOnOk};
 ghost use Rattle.bson_base.specs.Scalars.{id_bytes, millis_of};
 ghost use Rattle.bson_base.specs.Value.{db_pointer};
-ghost use Rattle.bson_model.specs.Dates.{shown_date};
+ghost use Rattle.bson_base.specs.Dates.{shown_date};
 ghost use Rattle.bson_model.specs.Display.{call_of_text, mark_before, quoted, shown, shown_document, shown_double, shown_items, shown_members, shown_scalar};
 ghost use Rattle.bson_model.specs.View.{view, pairs_of, items_of, members_of};
 
 use crate::bson::{Bson, JavaScriptCodeWithScope};
 use crate::document::Document;
+use bson_base::plain::write_plainly;
 use bson_base::{DateTime, DbPointer, DoubleBits};
 use std::{fmt, str};
 
@@ -18,8 +19,10 @@ use std::{fmt, str};
 impl fmt::Display for Bson {
     ghost output = { λ v. Some (shown (view v)) };
 
+    ghost styled_output = { λ v s. Some (shown (view v)) };
+
     fn fmt<W: fmt::Write>(&self, f: &mut fmt::Formatter<W>) -> fmt::Result {
-        write_value(f, self)
+        write_plainly(f, ShownValue { value: self })
     }
 }
 
@@ -27,8 +30,10 @@ impl fmt::Display for Bson {
 impl fmt::Display for Document {
     ghost output = { λ d. Some (shown_document (members_of (pairs_of d))) };
 
+    ghost styled_output = { λ d s. Some (shown_document (members_of (pairs_of d))) };
+
     fn fmt<W: fmt::Write>(&self, f: &mut fmt::Formatter<W>) -> fmt::Result {
-        write_document(f, self)
+        write_plainly(f, ShownDocument { document: self })
     }
 }
 
@@ -36,8 +41,38 @@ impl fmt::Display for Document {
 impl fmt::Display for JavaScriptCodeWithScope {
     ghost output = { λ c. Some (string_bytes c.code) };
 
+    ghost styled_output = { λ c s. Some (string_bytes c.code) };
+
     fn fmt<W: fmt::Write>(&self, f: &mut fmt::Formatter<W>) -> fmt::Result {
         f.write_str(&self.code)
+    }
+}
+
+// A value as it is shown by a formatter without options.
+#[derive(Clone, Copy)]
+struct ShownValue<'a> {
+    value: &'a Bson,
+}
+
+impl<'a> fmt::Display for ShownValue<'a> {
+    ghost output = { λ s. Some (shown (view s.value.now)) };
+
+    fn fmt<W: fmt::Write>(&self, f: &mut fmt::Formatter<W>) -> fmt::Result {
+        write_value(f, self.value)
+    }
+}
+
+// The same of a document.
+#[derive(Clone, Copy)]
+struct ShownDocument<'a> {
+    document: &'a Document,
+}
+
+impl<'a> fmt::Display for ShownDocument<'a> {
+    ghost output = { λ s. Some (shown_document (members_of (pairs_of s.document.now))) };
+
+    fn fmt<W: fmt::Write>(&self, f: &mut fmt::Formatter<W>) -> fmt::Result {
+        write_document(f, self.document)
     }
 }
 

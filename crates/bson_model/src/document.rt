@@ -1,11 +1,11 @@
 //! Documents: lists of pairs of a key and a value.
-ghost use Rattle.std.specs.Prelude.{◌≡◌, unwrap_or, ◌↔◌, [], length, slice_get, string_bytes, map, MatchOption, IsTrue, IfOk, OnOk, OnErr};
+ghost use Rattle.std.specs.Prelude.{◌≡◌, None, unwrap_or, ◌↔◌, [], length, slice_get, string_bytes, map, MatchOption, IsTrue, IfOk, OnOk, OnErr};
 ghost use Rattle.std.specs.Option.{option_map, ForNone};
 ghost use Rattle.std.specs.Borrow.{sem};
 ghost use Rattle.std.specs.Map.{values_of};
 ghost use Rattle.bson_model.specs.Keyed.{get, has_key, put, without};
 ghost use Rattle.bson_model.specs.View.{view, pairs_of, items_of, members_of, IsTreeOf};
-ghost use Rattle.bson_model.specs.Extend.{put_all, PutsSome};
+ghost use Rattle.bson_model.specs.Extend.{put_all, PutsSome, PutsUpToNew};
 ghost use Rattle.bson_model.specs.Lending.{LendsValueAt, LendsValue, LendsOrInsertsValue};
 
 mod entry;
@@ -18,13 +18,16 @@ use bson_pairs::Pairs;
 pub use entry::{Entry, OccupiedEntry, VacantEntry};
 pub use iter::{IntoIter, Iter, Keys, Values};
 use std::alloc::{AllocError, Global};
+use thiserror::Error;
 
 /// Why a typed getter has no value.
-#[derive(Clone, Copy, Debug, PartialEq, Eq)]
+#[derive(Clone, Copy, Debug, PartialEq, Eq, Error)]
 pub enum ValueAccessError {
     /// There is no such key.
+    #[error("no value under the key")]
     NotPresent,
     /// A value of another kind stands under the key.
+    #[error("a value of another kind under the key")]
     UnexpectedType,
 }
 
@@ -103,11 +106,12 @@ impl Document {
     }
 
     /// Puts a value under a key, and gives back the value that was there. A key that is there keeps its place, and a new one
-    /// goes last. It fails where there is no memory for a new pair, and changes nothing then.
+    /// goes last. It fails only where the key is new and there is no memory for the pair, and changes nothing then.
     pub fn insert(&mut self, key: String, value: Bson) -> Result<Option<Bson>, AllocError>
         ensures before { IfOk result (λ before. option_map view before ≡ get (string_bytes key) (pairs_of self.old)) }
         ensures ok { OnOk result (pairs_of self.new ≡ put (string_bytes key) (view value) (pairs_of self.old)) }
         ensures err { OnErr result (self.new ≡ self.old) }
+        ensures absent { OnErr result (get (string_bytes key) (pairs_of self.old) ≡ None) }
     {
         self.pairs.insert(key, value)
     }
@@ -120,6 +124,7 @@ impl Document {
     ) -> Result<&mut Bson, AllocError>
         ensures* writes_back { sem 𝓛 (LendsOrInsertsValue self.entry (string_bytes key) result) }
         ensures value { IfOk result (λ v. view v.now ≡ unwrap_or (get (string_bytes key) (pairs_of self.old)) (view default)) }
+        ensures absent { OnErr result (get (string_bytes key) (pairs_of self.old) ≡ None) }
     {
         self.pairs.get_or_insert(key, default)
     }
@@ -135,6 +140,7 @@ impl Document {
         requires { ForNone (get (string_bytes key) (pairs_of self.old)) (F.pre default) }
         ensures* writes_back { sem 𝓛 (LendsOrInsertsValue self.entry (string_bytes key) result) }
         ensures value { IfOk result (λ v. MatchOption (get (string_bytes key) (pairs_of self.old)) (IsTreeOf (F.post default) (view v.now)) (λ w. view v.now ≡ w)) }
+        ensures absent { OnErr result (get (string_bytes key) (pairs_of self.old) ≡ None) }
     {
         if self.contains_key(key.as_str()) {
             self.get_or_insert(key, Bson::Null)
@@ -152,11 +158,12 @@ impl Document {
         self.pairs.remove(key)
     }
 
-    /// Puts each value under its key, one after the other, as `insert` does. Where there is no memory for one, the pairs before
-    /// it stay.
+    /// Puts each value under its key, one after the other, as `insert` does. Where there is no memory for one, its key is new,
+    /// and the pairs before it stay.
     pub fn extend(&mut self, pairs: Vec<(String, Bson)>) -> Result<(), AllocError>
         ensures ok { OnOk result (pairs_of self.new ≡ put_all pairs.items (pairs_of self.old)) }
         ensures err { OnErr result (PutsSome pairs.items (pairs_of self.old) (pairs_of self.new)) }
+        ensures absent { OnErr result (PutsUpToNew pairs.items (pairs_of self.old) (pairs_of self.new)) }
     {
         for pair in pairs {
             self.insert(pair.0, pair.1)?;

@@ -9,11 +9,15 @@ ghost use Rattle.bson_model.specs.View.{view, pairs_of, items_of, members_of};
 ghost use Rattle.bson_model.specs.declared.bson.Bson.{Bson as Tree};
 ghost use Rattle.bson_model.specs.declared.document.Document.{Document as Pairs};
 
+mod errors;
+mod feeding;
 mod grammar;
 mod written;
 
 use crate::bson::Bson;
 use crate::document::Document;
+pub use errors::{equal_errors, equal_modes};
+pub use feeding::{what_documents_feed, what_values_feed};
 pub use grammar::reading_is_the_grammar;
 use std::hash::Hash;
 pub use written::{date_texts, written_values};

@@ -1,6 +1,6 @@
 //! The typed getters that lend a value to be written to.
 
-use crate::fixtures::{each_kind, is};
+use crate::fixtures::{each_kind, holds, is};
 use bson_model::document::ValueAccessError;
 use bson_model::{DateTime, Decimal128, Document, DoubleBits, ObjectId};
 use std::process::Abort;
@@ -41,6 +41,7 @@ fn getters_that_lend_refuse(rt: HostRuntime) -> Result<(), Fail> {
     let mut all = each_kind(rt.alloc())?;
     refuse(&rt, &mut all, "uuid", ValueAccessError::UnexpectedType);
     refuse(&rt, &mut all, "absent", ValueAccessError::NotPresent);
+    holds(&rt, "all stays", all == each_kind(rt.alloc())?);
     Ok(())
 }
 

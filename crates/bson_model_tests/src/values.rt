@@ -278,7 +278,7 @@ fn copies_of_values_are_equal(rt: HostRuntime) -> Result<(), Fail> {
 #[test]
 fn code_is_copied(rt: HostRuntime) -> Result<(), Fail> {
     let code = scoped_code(rt.alloc())?;
-    let copied = code.try_clone()?;
+    let copied = code.try_clone(rt.alloc())?;
     assert_eq!(rt; copied, code);
     Ok(())
 }

@@ -1,6 +1,7 @@
 -- Keys beside values, place by place.
-use Rattle.std.proofs.Common.{◌≡◌, ◌&&◌, ℕ, zero, suc, ◌+◌, ◌<◌, List, [], ◌∷◌, ◌++◌, length, map, set, get_or, slice_get, remove, Option, Some, None, unwrap_or, Bool, true, false, cond, bytes_eq, String, string_bytes, MutBor, refl, sym, ap, ◌∙◌, subst, arith, true≢false}
+use Rattle.std.proofs.Common.{◌≡◌, ◌&&◌, ℕ, zero, suc, ◌+◌, ◌<◌, List, [], ◌∷◌, ◌++◌, length, map, set, get_or, slice_get, remove, Option, Some, None, Result, Ok, Err, unwrap_or, Bool, true, false, cond, bytes_eq, String, string_bytes, MutBor, refl, sym, ap, ◌∙◌, subst, arith, true≢false}
 use Rattle.std.specs.List.{zip, list_any, list_all, AllZip, position_from, position}
+use Rattle.std.specs.Result.{OnErr}
 use Rattle.std.specs.Option.{OnSome, IfSome, IsSome, option_copied_mut, option_map}
 use Rattle.std.proofs.lemmas.Option.{slice_get_past, slice_get_read, slice_get-map}
 use Rattle.std.specs.Map.{keys_of, values_of}
@@ -20,6 +21,10 @@ values_of-keyed [] [] e = refl
 values_of-keyed [] (v ∷ vs) e = absurd (omega arith)
 values_of-keyed (k ∷ ks) [] e = absurd (omega arith)
 values_of-keyed (k ∷ ks) (v ∷ vs) e = ap (λ l. v ∷ l) (values_of-keyed ks vs (omega arith))
+
+pub on_err : {T E : Type 0} (r : Result T E) {P : Type 0} → P → OnErr r P
+on_err (Ok x) p = tt
+on_err (Err e) p = p
 
 pub on_some : {T : Type 0} (r : Option T) {P : Type 0} → P → OnSome r P
 on_some None p = tt

@@ -1,5 +1,5 @@
 //! A list of pairs with distinct keys, which looks a key up by its hash.
-ghost use Rattle.std.specs.Prelude.{◌≡◌, refl, Some, unwrap_or, ◌<◌, ◌↔◌, ◌∷◌, [], length, slice_get, is_some, string_bytes, IsSome, IsOk, IfOk, OnOk, OnErr};
+ghost use Rattle.std.specs.Prelude.{◌≡◌, refl, Some, None, unwrap_or, ◌<◌, ◌↔◌, ◌∷◌, [], length, slice_get, is_some, string_bytes, IsSome, IsOk, IfOk, OnOk, OnErr};
 ghost use Rattle.std.specs.Option.{option_copied, option_copied_mut, option_map};
 ghost use Rattle.std.specs.Borrow.{sem};
 ghost use Rattle.std.specs.Map.{keys_of, values_of};
@@ -138,6 +138,7 @@ impl<V: Drop> Pairs<V> {
     pub fn get_or_insert(&mut self, key: String, default: V) -> Result<&mut V, AllocError>
         ensures* writes_back { sem 𝓛 (LendsOrInserts V.row self.entry (string_bytes key) result) }
         ensures value { IfOk result (λ v. v.now ≡ unwrap_or (get (string_bytes key) self.old) default) }
+        ensures absent { OnErr result (get (string_bytes key) self.old ≡ None) }
     {
         match self.keys.get_index_of(key.as_str()) {
             Some(at) => Ok(self.value_at_mut(at)),
@@ -154,6 +155,7 @@ impl<V: Drop> Pairs<V> {
         ensures before { IfOk result (λ before. before ≡ get (string_bytes key) self.old) }
         ensures ok { OnOk result (self.new ≡ put (string_bytes key) value self.old) }
         ensures err { OnErr result (self.new ≡ self.old) }
+        ensures absent { OnErr result (get (string_bytes key) self.old ≡ None) }
     {
         if let Some(at) = self.keys.get_index_of(key.as_str()) {
             return Ok(Some(mem::replace(&mut self.values[at], value)));

@@ -3,7 +3,7 @@
 #![tactic(auto)]
 
 ghost use Rattle.std.specs.Prelude.{◌≡◌};
-ghost use Rattle.std.specs.Fmt.{WritesOnOk};
+ghost use Rattle.std.specs.Fmt.{WritesOnOk, WritesStyledOnOk};
 ghost use Rattle.uuid_text.specs.UuidText.{hyphenated, uuid_of};
 
 use std::fmt;
@@ -21,10 +21,11 @@ pub fn parse(text: &str) -> Option<[u8; 16]>
     }
 }
 
-/// Writes the form with hyphens, in lower case.
+/// Writes the form with hyphens, in lower case, whatever options the formatter has.
 #[tactic(auto, unfolding(crate::specs::UuidText::hyphenated))]
 pub fn write_hyphenated<W: fmt::Write>(f: &mut fmt::Formatter<W>, bytes: [u8; 16]) -> fmt::Result
-    ensures { WritesOnOk W.write_str_gives f.old result (hyphenated bytes) f.new }
+    ensures plain { WritesOnOk W.write_str_gives f.old result (hyphenated bytes) f.new }
+    ensures styled { WritesStyledOnOk W.write_str_gives f.old result (hyphenated bytes) f.new }
 {
     let mut buffer = Uuid::encode_buffer();
     let text = Uuid::from_bytes(bytes)

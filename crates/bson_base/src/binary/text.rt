@@ -7,6 +7,7 @@ ghost use Rattle.base64.specs.Engines.{standard};
 ghost use Rattle.bson_base.specs.ScalarTexts.{binary_text, RefusesBase64};
 
 use super::{Binary, Error, Result};
+use crate::plain::write_plainly;
 use crate::spec::BinarySubtype;
 use base64::DecodeAllocError;
 use base64::display::Base64Display;
@@ -49,12 +50,28 @@ fn write_base64<W: fmt::Write>(f: &mut fmt::Formatter<W>, bytes: &[u8]) -> fmt::
     write!(f, ", {text})")
 }
 
+// A binary value as it is shown by a formatter without options.
+#[derive(Clone, Copy)]
+struct Shown<'a> {
+    binary: &'a Binary,
+}
+
+impl<'a> fmt::Display for Shown<'a> {
+    ghost output = { λ s. Some (binary_text s.binary.now) };
+
+    fn fmt<W: fmt::Write>(&self, f: &mut fmt::Formatter<W>) -> fmt::Result {
+        write_subtype(f, u8::from(self.binary.subtype))?;
+        write_base64(f, &self.binary.bytes)
+    }
+}
+
 /// The subtype in hexadecimal and the bytes in Base64.
 impl fmt::Display for Binary {
     ghost output = { λ b. Some (binary_text b) };
 
+    ghost styled_output = { λ b s. Some (binary_text b) };
+
     fn fmt<W: fmt::Write>(&self, f: &mut fmt::Formatter<W>) -> fmt::Result {
-        write_subtype(f, u8::from(self.subtype))?;
-        write_base64(f, &self.bytes)
+        write_plainly(f, Shown { binary: self })
     }
 }

@@ -1,15 +1,17 @@
 //! Date texts.
 
 ghost use Rattle.std.specs.Prelude.{◌≡◌, ◌≢◌, ◌<◌, ◌∷◌, ◌*ℤ◌, ◌+ℤ◌, pos, List, ℕ, IfOk, IfSome, IsSome, Some, Err, ◌↔◌, string_bytes};
-ghost use Rattle.std.specs.Fmt.{WritesOnOk};
+ghost use Rattle.std.specs.Fmt.{WritesOnOk, WritesStyledOnOk, DisplaysOnOk, DisplaysStyledOnOk};
 ghost use Rattle.jiff_core.specs.Calendar.{IsCivilDate, days_from_civil};
 ghost use Rattle.bson_base.specs.Answer.{result_map};
 ghost use Rattle.bson_base.specs.DateText.{date_of, fraction_text, HasDateText, IsDateText, moment_text, WritesDate, two as two_of};
+ghost use Rattle.bson_base.specs.Dates.{shown_date};
 ghost use Rattle.bson_base.specs.Scalars.{millis_of};
 
 use super::calendar::{CivilDay, civil_day};
 use super::parse::read_moment;
 use super::{DateTime, Error, Result};
+use crate::plain::write_plainly;
 use std::alloc::Global;
 use std::{fmt, str};
 
@@ -171,9 +173,9 @@ impl DateTime {
 }
 
 fn write_moment<W: fmt::Write>(f: &mut fmt::Formatter<W>, moment: Moment) -> fmt::Result
-    ensures { WritesOnOk W.write_str_gives f.old result (moment_text moment.year moment.month moment.day moment.clock) f.new }
+    ensures { WritesStyledOnOk W.write_str_gives f.old result (moment_text moment.year moment.month moment.day moment.clock) f.new }
 {
-    write!(f, "{moment}")
+    write_plainly(f, moment)
 }
 
 fn write_date<W: fmt::Write>(f: &mut fmt::Formatter<W>, millis: i64) -> fmt::Result
@@ -181,14 +183,20 @@ fn write_date<W: fmt::Write>(f: &mut fmt::Formatter<W>, millis: i64) -> fmt::Res
 {
     match moment_of(millis) {
         Some(moment) => write_moment(f, moment),
-        None => write!(f, "{millis}"),
+        None => write_plainly(f, millis),
     }
 }
 
 /// The date text, or the milliseconds in decimal where there is none.
 impl fmt::Display for DateTime {
+    ghost output = { λ t. Some (shown_date (millis_of t)) };
+
+    ghost styled_output = { λ t s. Some (shown_date (millis_of t)) };
+
     fn fmt<W: fmt::Write>(&self, f: &mut fmt::Formatter<W>) -> fmt::Result
-        ensures { WritesDate W.write_str_gives f.old result (millis_of self.now) f.new }
+        ensures writes { DisplaysOnOk W.write_str_gives f.old result (Some (shown_date (millis_of self.now))) f.new }
+        ensures styled { DisplaysStyledOnOk W.write_str_gives f.old result (Some (shown_date (millis_of self.now))) f.new }
+        ensures dated { WritesDate W.write_str_gives f.old result (millis_of self.now) f.new }
     {
         write_date(f, self.0)
     }

@@ -36,14 +36,12 @@ fn all_zeros(text: &[u8]) -> bool
 fn strip(text: &[u8]) -> &[u8]
     ensures { result.now ≡ stripped text.now }
 {
-    if text.len() <= 1 {
-        return text;
+    for (i, c) in text.iter().enumerate() {
+        if *c != b'0' || i + 1 == text.len() {
+            return &text[i..];
+        }
     }
-    if text[0] == b'0' {
-        strip(&text[1..])
-    } else {
-        text
-    }
+    text
 }
 
 /// A number followed by digits, at most 34 in all.

@@ -1,6 +1,6 @@
 //! The text of a decimal.
 
-ghost use Rattle.std.specs.Prelude.{◌≡◌, ◌<◌, ◌≤◌, ◌^◌, ◌+◌, ◌-◌, ◌∷◌, ◌++◌, length, replicate};
+ghost use Rattle.std.specs.Prelude.{◌≡◌, ◌<◌, ◌≤◌, ◌^◌, ◌+◌, ◌-◌, ◌∷◌, ◌++◌, length, replicate, Some};
 ghost use Rattle.std.specs.Fmt.{WritesOnOk, decimal};
 ghost use Rattle.std.specs.Str.{IsAscii};
 ghost use Rattle.bson_base.specs.Decimal.{digits_text, exponent_text, is_plain as is_plain_at, mantissa, minus_if as minus_of, print, with_dot};
@@ -113,8 +113,16 @@ fn write_finite<W: fmt::Write>(
     write_number(f, digits, exponent as usize)
 }
 
-/// Writes the text of a decimal.
-pub(crate) fn write_parts<W: fmt::Write>(f: &mut fmt::Formatter<W>, parts: Parts) -> fmt::Result
+/// The text of a decimal.
+impl fmt::Display for Parts {
+    ghost output = { λ parts. Some (print (meant parts)) };
+
+    fn fmt<W: fmt::Write>(&self, f: &mut fmt::Formatter<W>) -> fmt::Result {
+        write_parts(f, *self)
+    }
+}
+
+fn write_parts<W: fmt::Write>(f: &mut fmt::Formatter<W>, parts: Parts) -> fmt::Result
     ensures { WritesOnOk W.write_str_gives f.old result (print (meant parts)) f.new }
 {
     match parts {

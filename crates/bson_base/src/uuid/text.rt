@@ -26,6 +26,8 @@ impl Uuid {
 impl fmt::Display for Uuid {
     ghost output = { λ u. Some (hyphenated (uuid_bytes u)) };
 
+    ghost styled_output = { λ u s. Some (hyphenated (uuid_bytes u)) };
+
     fn fmt<W: fmt::Write>(&self, f: &mut fmt::Formatter<W>) -> fmt::Result {
         uuid_text::write_hyphenated(f, self.bytes())
     }

@@ -1,5 +1,5 @@
 //! A key's place in a document.
-ghost use Rattle.std.specs.Prelude.{◌≡◌, unwrap_or, string_bytes, MatchOption, IfOk};
+ghost use Rattle.std.specs.Prelude.{◌≡◌, None, unwrap_or, string_bytes, MatchOption, IfOk, OnErr};
 ghost use Rattle.std.specs.Option.{ForNone};
 ghost use Rattle.std.specs.Borrow.{sem};
 ghost use Rattle.bson_model.specs.Keyed.{get, has_key};
@@ -83,6 +83,7 @@ impl<'a> Entry<'a> {
     pub fn or_insert(self, default: Bson) -> Result<&'a mut Bson, AllocError>
         ensures* writes_back { sem 𝓛 (EntryLends self.entry result) }
         ensures value { IfOk result (λ v. view v.now ≡ unwrap_or (get (entry_key self.entry) (pairs_of (entry_document self.entry).now)) (view default)) }
+        ensures absent { OnErr result (get (entry_key self.entry) (pairs_of (entry_document self.entry).now) ≡ None) }
     {
         match self {
             Entry::Occupied(entry) => {
@@ -103,6 +104,7 @@ impl<'a> Entry<'a> {
         requires { ForNone (get (entry_key self) (pairs_of (entry_document self).now)) (F.pre default) }
         ensures* writes_back { sem 𝓛 (EntryLends self.entry result) }
         ensures value { IfOk result (λ v. MatchOption (get (entry_key self.entry) (pairs_of (entry_document self.entry).now)) (IsTreeOf (F.post default) (view v.now)) (λ w. view v.now ≡ w)) }
+        ensures absent { OnErr result (get (entry_key self.entry) (pairs_of (entry_document self.entry).now) ≡ None) }
     {
         match self {
             Entry::Occupied(entry) => {

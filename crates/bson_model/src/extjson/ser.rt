@@ -8,7 +8,7 @@ ghost use Rattle.serde_json.specs.View.{view as data_of, items_view, members_vie
 ghost use Rattle.bson_base.specs.Decimal.{decimal_text};
 ghost use Rattle.bson_base.specs.Scalars.{id_bytes, millis_of, decimal_bytes};
 ghost use Rattle.bson_base.specs.Tags.{subtype_byte};
-ghost use Rattle.bson_model.specs.Dates.{date_text as date_text_of};
+ghost use Rattle.bson_base.specs.Dates.{date_text as date_text_of};
 ghost use Rattle.bson_model.specs.JsonKeys as keys;
 ghost use Rattle.bson_model.specs.JsonWrite.{Writes, date_body as body_of, double_text as double_text_of, is_relaxed_date as is_relaxed, with_scope as with_scope_of, wrapped_text as wrapped_text_of, write, write_binary as binary_of, write_date as date_of, write_double as double_of, write_id as id_of, write_integer, write_items as items_of, write_members as members_written, write_millis as millis_of_date, write_pointer as pointer_of, write_regex as regex_of, write_timestamp as timestamp_of};
 ghost use Rattle.bson_model.specs.View.{view, pairs_of, items_of as trees_of, members_of};

@@ -2,7 +2,7 @@
 ghost use Rattle.std.specs.Prelude.{◌≡◌, is_some, not, List, ℕ, ℤ};
 ghost use Rattle.bson_base.specs.DateText.{IsDateText};
 ghost use Rattle.bson_base.specs.Value.{Value};
-ghost use Rattle.bson_model.specs.Dates.{date_text};
+ghost use Rattle.bson_base.specs.Dates.{date_text};
 ghost use Rattle.bson_model.specs.JsonWrite.{holds_finite, write};
 ghost use Rattle.bson_model.specs.declared.extjson.ser.Mode.{Mode};
 

@@ -1,5 +1,6 @@
 use Rattle.std.proofs.Common.{◌≡◌, unwrap_or, string_bytes, refl, sym, ap, ◌∙◌}
 use Rattle.std.proofs.lemmas.Result.{IfOk-weaker, on_err_weaker}
+use Rattle.std.specs.Option.{option_map}
 use Rattle.bson_pairs.specs.Keyed.{get}
 use Rattle.bson_model.specs.View.{view}
 use Rattle.bson_model.specs.declared.document.Document.{roll-Document}
@@ -18,5 +19,6 @@ returns c =
       record {
         writes_back = tt;
         value = IfOk-weaker c.get_or_insert.result _ _ (λ v e. ap view e ∙ unwrap-map view (get k ps) c.args.default ∙ ap (λ o. unwrap_or o (view c.args.default)) (sym (get-over view k ps))) c.get_or_insert.ensures.value;
+        absent = on_err_weaker c.get_or_insert.result (λ e. get-over view k ps ∙ ap (option_map view) e) c.get_or_insert.ensures.absent;
       },
     )

@@ -20,5 +20,6 @@ returns-else-contains_key g c =
       record {
         writes_back = tt;
         value = IfOk-weaker lent.result _ _ (λ v e. made (get k ps) _ (view v.now) c.default-value.result gone c.default-value.ensures e) lent.ensures.value;
+        absent = lent.ensures.absent;
       },
     )

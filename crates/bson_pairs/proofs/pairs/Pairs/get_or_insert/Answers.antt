@@ -18,7 +18,7 @@ returns-in-Some g c =
     let found = ap (λ q. get q c.args.self.now) (sym c.as_str.ensures.value) ∙ sym (ap (get k) c.self.view_is) ∙ get-found k i.keys.keys i.values.items at f c.self.invariant
     ∙ ap (λ xs. slice_get xs at) (sym (values_of-keyed i.keys.keys i.values.items c.self.invariant) ∙ ap values_of c.self.view_is) ∙ c.value_at_mut.ensures.value in (
       (refl, λ w _. subst (λ ps. set_at ps at w ≡ put k w ps) c.self.view_is (set_at-found k i.keys.keys i.values.items at w f c.self.invariant) ∙ ap (λ q. put q w c.args.self.now) c.as_str.ensures.value, tt),
-      record { writes_back = tt; value = sym (ap (λ o. unwrap_or o c.args.default) found) },
+      record { writes_back = tt; value = sym (ap (λ o. unwrap_or o c.args.default) found); absent = tt },
     )
 
 pub value_at_mut-requires-in-None : goal.value_at_mut-requires-in-None
@@ -41,5 +41,5 @@ returns g c =
     let ok = c.in_ok-insert-in-None.ensures.ok in
     let told = sym c.value_at_mut-in-None.ensures.value ∙ (λ j. slice_get (values_of ((ok ∙ put-new k c.args.default now gone) j)) (last j)) ∙ value-last k c.args.default now in (
       (refl, λ w _. (λ j. set_at (ok j) (last j) w) ∙ set_at-put-new k c.args.default w now gone, tt),
-      record { writes_back = tt; value = same_some c.value_at_mut-in-None.result.now c.args.default c.args.default told ∙ sym (ap (λ o. unwrap_or o c.args.default) gone) },
+      record { writes_back = tt; value = same_some c.value_at_mut-in-None.result.now c.args.default c.args.default told ∙ sym (ap (λ o. unwrap_or o c.args.default) gone); absent = tt },
     )

@@ -1,7 +1,7 @@
 use Rattle.std.proofs.Common.{◌≡◌, List, [], ◌∷◌, ◌++◌, ◌+◌, length, set, remove, slice_get, if◌then◌else◌, Some, string_bytes, refl, sym, ap, ◌∙◌, subst, arith, length-append}
 use Rattle.std.specs.Map.{values_of}
 use Rattle.bson_pairs.specs.Keyed.{Key, keyed, get, put, without, set_at}
-use Rattle.bson_pairs.proofs.KeyedLemmas.{FoundAt, Absent, found_at, absent_if, not_any, is_key, on_some, get-found, get-found_value, get-absent, put-found, put-absent, without-found, without-absent, set_at-found, set_at-keyed, keyed-push, values_of-keyed}
+use Rattle.bson_pairs.proofs.KeyedLemmas.{FoundAt, Absent, found_at, absent_if, not_any, is_key, on_some, get-found, get-found_value, get-absent, get-missing, put-found, put-absent, without-found, without-absent, set_at-found, set_at-keyed, keyed-push, values_of-keyed, on_err}
 use Rattle.bson_pairs.proofs.pairs.Pairs.insert.Goals as goal
 
 pub returns-in-Some-clause-before : goal.returns-in-Some-clause-before
@@ -48,3 +48,13 @@ returns-clause-ok g c =
     let k = string_bytes c.args.key in
     (λ j. keyed (keys_after g c j) (values_after g c j)) ∙ keyed-push i.keys.keys i.values.items c.args.key c.args.value c.self.invariant
     ∙ sym (put-absent k i.keys.keys i.values.items c.args.value (gone g c) c.self.invariant) ∙ ap (put k c.args.value) c.self.view_is
+
+pub returns-in_err-reserve-clause-absent : goal.returns-in_err-reserve-clause-absent
+returns-in_err-reserve-clause-absent g c =
+    let i = c.self.inside in
+    on_err _ (get-missing i.keys.keys i.values.items c.args.self.now c.as_str.result.now _ c.self.view_is c.as_str.ensures.value c.in_default.ensures.index)
+
+pub returns-in_err-insert-clause-absent : goal.returns-in_err-insert-clause-absent
+returns-in_err-insert-clause-absent g c =
+    let i = c.self.inside in
+    on_err _ (get-missing i.keys.keys i.values.items c.args.self.now c.as_str.result.now _ c.self.view_is c.as_str.ensures.value c.in_default.ensures.index)
