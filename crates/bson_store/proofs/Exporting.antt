@@ -80,7 +80,7 @@ pub sent_some : (old mid new : Tally) (bodies : List (List ℕ)) (b : List ℕ) 
 sent_some old mid new bodies b (none, before) one (n, begun) =
     let front = flat bodies in
     let e : take (length front + min n (length b)) (flat (bodies ++ b ∷ [])) ≡ front ++ take n b =
-        ap (take (length front + min n (length b))) (flat-last bodies b ∙ ap (λ l. front ++ l) (sym (nothing_more b))) ∙ begun_within front b [] n in
+    ap (take (length front + min n (length b))) (flat-last bodies b ∙ ap (λ l. front ++ l) (sym (nothing_more b))) ∙ begun_within front b [] n in
     (one ∙ ap (λ (m : ℕ). m + 1) none, (length front + min n (length b), subst (Appends old.taken new.taken) (sym e) (appends_twice old.taken mid.taken new.taken front (take n b) before begun)))
 
 -- ---- the bodies of a collection are its written documents
@@ -137,7 +137,7 @@ module _ {V N : Type 0} (tally : V → Tally) (failed : V → Bool) (name : V �
       let (taken, rest, whole, took) = h.some (starts begins) in
       let out = out_by true taken ends took in
       let begun : TakesBeginning (tally first).taken new.taken (flat (bodies_of n docs)) =
-          subst (TakesBeginning (tally first).taken new.taken) (sym (flat-append taken rest) ∙ ap flat whole) (begin_longer (tally first).taken new.taken (flat taken) (flat rest) out.1) in
+      subst (TakesBeginning (tally first).taken new.taken) (sym (flat-append taken rest) ∙ ap flat whole) (begin_longer (tally first).taken new.taken (flat taken) (flat rest) out.1) in
       record { same = h.same; exports = λ a s. (refl, (good, (out.0, subst (TakesBeginning (tally first).taken new.taken) (flat_written n docs a s) begun))) }
 
   pub table_failed : (docs after : List Doc) (n : List ℕ) (x : Fault) → IsName n → failed first ≡ false → failed last ≡ false → Visits Took first last n (Err x) docs after
@@ -146,7 +146,7 @@ module _ {V N : Type 0} (tally : V → Tally) (failed : V → Bool) (name : V �
       let (taken, rest, whole, took) = h.some (starts begins) in
       let out = out_by false taken ends took in
       let begun : TakesBeginning (tally first).taken new.taken (flat (bodies_of n docs)) =
-          subst (TakesBeginning (tally first).taken new.taken) (sym (flat-append taken rest) ∙ ap flat whole) (whole_begins (tally first).taken new.taken (flat taken) (flat rest) out.1) in
+      subst (TakesBeginning (tally first).taken new.taken) (sym (flat-append taken rest) ∙ ap flat whole) (whole_begins (tally first).taken new.taken (flat taken) (flat rest) out.1) in
       record { same = h.same; exports = λ a s. by a x h.faults (out.0, subst (TakesBeginning (tally first).taken new.taken) (flat_written n docs a s) begun) }
     where
       by : (a : Table) (x : Fault) → x ≢ faults.Places → (new.failures ≡ (tally first).failures) × TakesBeginning (tally first).taken new.taken (flat_map encode (list_of (state_of a) n))

@@ -6,6 +6,8 @@ mod calls;
 #[cfg(test)]
 mod documents;
 #[cfg(test)]
+mod exporting;
+#[cfg(test)]
 mod inserts;
 #[cfg(test)]
 mod levels;

@@ -3,5 +3,7 @@
 
 mod elements;
 mod form;
+#[cfg(test)]
+mod tests;
 
 pub use form::{is_written_form, written_element};
