@@ -4,7 +4,6 @@ ghost use Rattle.std.specs.Prelude.{◌≡◌, ◌++◌, ◌∷◌, [], ◌&&◌
 ghost use Rattle.sqlite_value.specs.Order.{column};
 ghost use Rattle.sqlite.specs.Held.{state};
 ghost use Rattle.sqlite.specs.State.{HasCleanDisk, Survives};
-ghost use Rattle.bson_table.specs.declared.opening.OpenError.TheVariants.{NotAStore};
 ghost use Rattle.bson_table.specs.Rows.{Doc, last_place};
 ghost use Rattle.bson_table.specs.Cells.{is_listed, int_in, doc_of};
 ghost use Rattle.bson_table.specs.Check.{IsGoodAfter};
@@ -69,7 +68,7 @@ fn is_good_after<C: RowCheck>(
 /// The verdict so far, unless the row hasn't the types, which decides it wherever the row stands.
 fn unless_mistyped(verdict: Result<(), OpenError>, row: &Row) -> Result<(), OpenError>
     ensures kept { IsTrue (is_listed row.now) → result ≡ verdict }
-    ensures mistyped { is_listed row.now ≡ false → result ≡ Err NotAStore }
+    ensures mistyped { is_listed row.now ≡ false → result ≡ Err OpenError.NotAStore }
 {
     if is_row(row) {
         verdict

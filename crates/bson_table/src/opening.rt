@@ -1,6 +1,6 @@
 //! Opening a database, whose table is tested row by row.
 
-ghost use Rattle.std.specs.Prelude.{◌≡◌, ◌⊎◌, List, IsTrue, IfErr, OnOk, OnErr, is_some};
+ghost use Rattle.std.specs.Prelude.{◌≡◌, ◌⊎◌, List, false, Err, IsTrue, IfErr, OnOk, OnErr, is_some};
 ghost use Rattle.sqlite_value.specs.Order.{column};
 ghost use Rattle.sqlite.specs.Held.{state};
 ghost use Rattle.sqlite.specs.State.{HasCleanDisk, Survives, IsLive};
@@ -74,6 +74,7 @@ pub(crate) fn prepare<S: Alter, C: RowCheck>(
     ensures opened { HasCleanDisk (state S.Store conn.new) → OnOk result (Opened (C.accepts check.now) (state S.Store conn.old) (state S.Store conn.new)) }
     ensures refused { HasCleanDisk (state S.Store conn.new) → IfErr result (λ e. Unopened (C.accepts check.now) (state S.Store conn.old) (state S.Store conn.new) e) }
     ensures kept { HasCleanDisk (state S.Store conn.new) → OnErr result (KeepsRows (state S.Store conn.old) (state S.Store conn.new)) }
+    ensures taken { (state S.Store conn.old).in_transaction ≡ false → HasNoTable (state S.Store conn.old) → IsTaken (state S.Store conn.old) → result ≡ Err OpenError.NotAStore }
     ensures crash { Survives (state S.Store conn.old) (state S.Store conn.new) (Makes (state S.Store conn.old)) }
 {
     if !conn.is_autocommit() {
@@ -100,7 +101,8 @@ fn has_table<S: Alter>(conn: &Connection<S>) -> bool
 
 /// Whether a view or an index has the name.
 fn is_taken<S: Alter>(conn: &Connection<S>) -> bool
-    ensures { IsTrue result → IsTaken (state S.Store conn.now) }
+    ensures taken { IsTrue result → IsTaken (state S.Store conn.now) }
+    ensures free { result ≡ false → ¬ IsTaken (state S.Store conn.now) }
 {
     let schema = conn.schema();
     schema.view_named(b"documents").is_some() || schema.index_named(b"documents").is_some()

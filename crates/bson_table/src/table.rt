@@ -1,11 +1,11 @@
 //! The table: a list of rows, of which each call is a change.
 
-ghost use Rattle.std.specs.Prelude.{◌≡◌, length, false, IfOk, IfErr, IsErrOf};
+ghost use Rattle.std.specs.Prelude.{◌≡◌, length, false, IfOk, IfErr, IsErrAnd, IsErrOf};
 ghost use Rattle.sqlite.specs.Held.{state};
 ghost use Rattle.sqlite.specs.State.{HasCleanDisk, Survives};
 ghost use Rattle.bson_table.specs.Rows.{without, replaced};
 ghost use Rattle.bson_table.specs.Moves.{Moves, WasOpen, MayLeave, Settles, Finds, Changes, Appends, Lists, Visits, appended, all_appended};
-ghost use Rattle.bson_table.specs.Open.{Opened, Unopened, KeepsRows, Makes};
+ghost use Rattle.bson_table.specs.Open.{Opened, Unopened, KeepsRows, Makes, HasNoTable, IsTaken};
 ghost use Rattle.sqlite_value.specs.Order.{column};
 ghost use Rattle.bson_table.specs.Cells.{int_in, bytes_in};
 
@@ -42,6 +42,7 @@ impl<S: Alter + Drop> Table<S> {
         ensures opened { IfOk result (λ t. HasCleanDisk (state_of S.Store t) → Opened (C.accepts check.now) (state S.Store connection) (state_of S.Store t)) }
         ensures refused { IfErr result (λ e. HasCleanDisk (state S.Store e.1) → Unopened (C.accepts check.now) (state S.Store connection) (state S.Store e.1) e.0) }
         ensures kept { IfErr result (λ e. HasCleanDisk (state S.Store e.1) → KeepsRows (state S.Store connection) (state S.Store e.1)) }
+        ensures taken { (state S.Store connection).in_transaction ≡ false → HasNoTable (state S.Store connection) → IsTaken (state S.Store connection) → IsErrAnd result (λ e. e.0 ≡ OpenError.NotAStore) }
         ensures crash { IfOk result (λ t. Survives (state S.Store connection) (state_of S.Store t) (Makes (state S.Store connection))) }
         ensures crash_refused { IfErr result (λ e. Survives (state S.Store connection) (state S.Store e.1) (Makes (state S.Store connection))) }
     {
