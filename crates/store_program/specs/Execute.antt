@@ -39,6 +39,12 @@ abbrev pub Tells : Result Answer Stop → Result (Unit {0}) Stop → Type 0
 Tells (Ok x) result = (result ≡ Ok tt) ⊎ ((e : StoreError) × (result ≡ Err (Refused e)))
 Tells (Err e) result = result ≡ Err e
 
+-- where a text couldn't be read the output is as it was
+abbrev pub SilentUnread : {A : Type 0} → Result (Unit {0}) Stop → A → A → Type 0
+SilentUnread (Ok x) old new = Unit {0}
+SilentUnread (Err (Refused e)) old new = Unit {0}
+SilentUnread (Err (Words w)) old new = new ≡ old
+
 -- by the status: it was accepted; nothing was done, or it was accepted and its answer not printed; nothing was done
 abbrev pub Ended : (Command → Type 0) → ℕ → Table → Table → Type 0
 Ended Meant status a b = ((status ≡ 0) × Accepts Meant a b) ⊎ (((status ≡ 1) × ((b ≡ a) ⊎ Accepts Meant a b)) ⊎ ((status ≡ 2) × (b ≡ a)))

@@ -4,7 +4,7 @@ ghost use Rattle.std.specs.Prelude.{◌≡◌, ◌≤◌, ◌<◌, ◌^◌, ◌-
 ghost use Rattle.bson_table.specs.Moves.{Moves};
 ghost use Rattle.bson_store.specs.Calls.{held};
 ghost use Rattle.store_program.specs.Commands.{IsAskedBy};
-ghost use Rattle.store_program.specs.Execute.{Tells, Prints, Executes};
+ghost use Rattle.store_program.specs.Execute.{Tells, Prints, SilentUnread, Executes};
 
 use crate::answer::Answer;
 use crate::changes::{insert, remove, replace, set, unset};
@@ -20,7 +20,8 @@ use store_words::{Call, Words, write_complaint, write_refusal};
 /// Prints what a command answers. Of one that isn't done nothing is printed.
 fn told<O: Sink>(alloc: Global, outcome: Result<Answer, Stop>, output: &mut O) -> Result<(), Stop>
     requires { O.failures output.old < 2 ^ 64 - 1 }
-    ensures { Tells outcome result }
+    ensures told { Tells outcome result }
+    ensures unread { SilentUnread result output.old output.new }
 {
     match outcome {
         Ok(answer) => match print(alloc, &answer, output) {
@@ -41,7 +42,8 @@ fn serve<S: Alter + Drop, I: Source, O: Sink>(
 ) -> Result<(), Stop>
     requires input { I.failures input.old < 2 ^ 64 - 1 }
     requires output { O.failures output.old < 2 ^ 64 - 1 }
-    ensures { Moves (held S.Store store.old) (held S.Store store.new) (Prints (IsAskedBy words.now) result) }
+    ensures step { Moves (held S.Store store.old) (held S.Store store.new) (Prints (IsAskedBy words.now) result) }
+    ensures unread { SilentUnread result output.old output.new }
 {
     let name = words.coll;
     let rest = words.rest;
@@ -67,7 +69,7 @@ fn serve<S: Alter + Drop, I: Source, O: Sink>(
 ///
 /// With 0 the command was accepted and its answer printed to `output`. With 1 it was refused, or its answer couldn't be
 /// printed, and the line `refused: KIND` went to `faults`. With 2 a text of the words or a line of the input can't be read, and
-/// the line that says so went to `faults`; the store is as it was. Where a write to `faults` fails nothing more is done.
+/// the line that says so went to `faults`; the store and `output` are as they were. Where a write to `faults` fails nothing more is done.
 pub fn execute<S: Alter + Drop, I: Source, O: Sink, F: Sink>(
     alloc: Global,
     store: &mut Store<S>,
@@ -81,6 +83,7 @@ pub fn execute<S: Alter + Drop, I: Source, O: Sink, F: Sink>(
     requires faults { F.failures faults.old < 2 ^ 64 - 1 }
     ensures status { result ≤ 2 }
     ensures silent { result ≡ 0 → faults.new ≡ faults.old }
+    ensures unread { result ≡ 2 → output.new ≡ output.old }
     ensures step { Moves (held S.Store store.old) (held S.Store store.new) (Executes (IsAskedBy words.now) result) }
 {
     match serve(alloc, store, words, input, output) {

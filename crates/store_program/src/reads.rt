@@ -5,7 +5,7 @@ ghost use Rattle.bson_table.specs.Moves.{Moves};
 ghost use Rattle.bson_store.specs.Calls.{held};
 ghost use Rattle.store_words.specs.declared.call.Call.TheVariants.{Get, Find, Count, Export, Dump, Collections};
 ghost use Rattle.store_program.specs.Commands.{IsCommandOf};
-ghost use Rattle.store_program.specs.Execute.{Performs, Prints};
+ghost use Rattle.store_program.specs.Execute.{Performs, Prints, SilentUnread};
 
 use crate::answer::{Answer, documents, names, number, tree, trees};
 use crate::stop::{Stop, USAGE};
@@ -39,7 +39,8 @@ pub fn export<S: Alter + Drop, O: Sink>(
     output: &mut O,
 ) -> Result<(), Stop>
     requires { O.failures output.old < 2 ^ 64 - 1 }
-    ensures { Moves (held S.Store store.old) (held S.Store store.new) (Prints (IsCommandOf Export name.now (map string_bytes words.now)) result) }
+    ensures step { Moves (held S.Store store.old) (held S.Store store.new) (Prints (IsCommandOf Export name.now (map string_bytes words.now)) result) }
+    ensures unread { SilentUnread result output.old output.new }
 {
     if !words.is_empty() {
         return Err(USAGE);
