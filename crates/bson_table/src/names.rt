@@ -7,12 +7,12 @@ use crate::visiting::Visit;
 use std::alloc::{AllocError, Global};
 use std::collections::BTreeSet;
 
-fn add_name(names: &mut BTreeSet<Vec<u8>>, alloc: Global, name: &[u8]) -> Result<bool, AllocError>
+fn add_name(names: &mut BTreeSet<Vec<u8>>, alloc: Global, name: &[u8]) -> Result<(), AllocError>
     ensures { IfOk result (λ _. (c : List ℕ) → has_name names.new.keys c ≡ bytes_eq c name.now || has_name names.old.keys c) }
 {
     let key = Vec::from_slice(alloc, name)?;
-    let is_new = names.insert(key)?;
-    Ok(is_new)
+    names.insert(key)?;
+    Ok(())
 }
 
 /// Takes each value as a name. It stops where memory runs out.
@@ -34,7 +34,7 @@ impl Visit for Names {
 
     fn visit(&mut self, name: &[u8]) -> bool {
         match add_name(&mut self.names, self.alloc, name) {
-            Ok(_) => true,
+            Ok(()) => true,
             Err(_) => {
                 self.failed = true;
                 false

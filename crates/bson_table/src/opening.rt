@@ -28,7 +28,8 @@ pub enum OpenError {
 }
 
 pub(crate) fn refusal(error: Error) -> OpenError
-    ensures { (result ≡ OpenError.Memory) ⊎ (result ≡ OpenError.Database) }
+    ensures other { (result ≡ OpenError.Memory) ⊎ (result ≡ OpenError.Database) }
+    ensures memory { error ≡ Error.SqliteFailure ErrorCode.OutOfMemory → result ≡ OpenError.Memory }
 {
     match error {
         Error::SqliteFailure(ErrorCode::OutOfMemory) => OpenError::Memory,

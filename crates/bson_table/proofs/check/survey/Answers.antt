@@ -41,7 +41,7 @@ returns-in-Err-SqlInputError-clause-crash g c =
 
 pub returns-in-Err-clause-refused : goal.returns-in-Err-clause-refused
 returns-in-Err-clause-refused g c clean =
-    refuses_other (g.C.RowCheck.accepts c.args.check.now) (state g.S.Store c.args.conn.now) (state g.S.Store c.query.follows.lender-at-none) c.refusal.result c.refusal.ensures
+    refuses_other (g.C.RowCheck.accepts c.args.check.now) (state g.S.Store c.args.conn.now) (state g.S.Store c.query.follows.lender-at-none) c.refusal.result c.refusal.ensures.other
 
 pub returns-in-Err-clause-kept : goal.returns-in-Err-clause-kept
 returns-in-Err-clause-kept g c clean settled =

@@ -6,4 +6,4 @@ use Rattle.bson_table.proofs.names.add_name.Goals as goal
 pub returns : goal.returns
 returns c n =
     let names = c.args.names.now.keys in
-    ap (λ ks. has_name ks n) c.in_ok-is_new.ensures.keys ∙ name_inserted c.in_ok-key.key names n ∙ ap (λ a. bytes_eq n a || has_name names n) c.in_ok-key.ensures.items
+    ap (λ ks. has_name ks n) c.in_ok-insert.ensures.keys ∙ name_inserted c.in_ok-key.key names n ∙ ap (λ a. bytes_eq n a || has_name names n) c.in_ok-key.ensures.items
