@@ -1,5 +1,5 @@
 -- What is told of a command that isn't done.
-use Rattle.std.proofs.Common.{◌≡◌, inl, inr, ℕ, List, Option, Result, Ok, Err, OnOk, OnErr}
+use Rattle.std.proofs.Common.{inl, inr, ℕ, List, Option, Result, Ok, Err, OnOk, OnErr}
 use Rattle.std.specs.Io.KnownBytes.{Appends}
 use Rattle.bson_base.specs.Device.{Counts, TakesBeginning}
 use Rattle.store_laws.specs.declared.error.ErrorKind.{ErrorKind}
