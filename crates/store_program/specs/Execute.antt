@@ -1,8 +1,13 @@
 -- What a command of the program does to the rows.
-use Rattle.std.specs.Prelude.{◌≡◌, ◌⊎◌, ℕ, List, Result, Ok, Err}
+use Rattle.std.specs.Prelude.{◌≡◌, ◌⊎◌, ◌+◌, ℕ, List, Option, Result, Ok, Err}
+use Rattle.std.specs.Io.KnownBytes.{Appends}
+use Rattle.bson_base.specs.Device.{TakesBeginning}
 use Rattle.bson_table.specs.Rows.{Doc}
 use Rattle.store_laws.specs.State.{Command, Reply}
 use Rattle.store_laws.specs.Table.{Table, Serves, IsRefusal}
+use Rattle.store_laws.specs.declared.error.ErrorKind.{ErrorKind}
+use Rattle.store_words.specs.Lines.{complaint_line, refusal_line}
+use Rattle.store_words.specs.declared.lines.Complaint.{Complaint}
 use Rattle.bson_store.specs.Shown.{Show}
 use Rattle.bson_store.specs.declared.error.StoreError.{StoreError}
 use Rattle.store_program.specs.declared.answer.Answer.{Answer}
@@ -44,6 +49,18 @@ abbrev pub SilentUnread : {A : Type 0} → Result (Unit {0}) Stop → A → A �
 SilentUnread (Ok x) old new = Unit {0}
 SilentUnread (Err (Refused e)) old new = Unit {0}
 SilentUnread (Err (Words w)) old new = new ≡ old
+
+-- a text went out, or a write failed, and a beginning of it went out
+abbrev pub Writes : ℕ → ℕ → Option (List ℕ) → Option (List ℕ) → List ℕ → Type 0
+Writes failed failing old new text = ((failing ≡ failed) × Appends old new text) ⊎ ((failing ≡ failed + 1) × TakesBeginning old new text)
+
+-- the line of a refusal went out so
+abbrev pub WritesRefusal : ℕ → ℕ → Option (List ℕ) → Option (List ℕ) → Type 0
+WritesRefusal failed failing old new = (k : ErrorKind) × (i : Option ℕ) × Writes failed failing old new (refusal_line k i)
+
+-- the line of a text that can't be read went out so
+abbrev pub WritesComplaint : ℕ → ℕ → Option (List ℕ) → Option (List ℕ) → Type 0
+WritesComplaint failed failing old new = (w : Complaint) × Writes failed failing old new (complaint_line w)
 
 -- by the status: it was accepted; nothing was done, or it was accepted and its answer not printed; nothing was done
 abbrev pub Ended : (Command → Type 0) → ℕ → Table → Table → Type 0

@@ -4,7 +4,7 @@ ghost use Rattle.std.specs.Prelude.{◌≡◌, ◌≤◌, ◌<◌, ◌^◌, ◌-
 ghost use Rattle.bson_table.specs.Moves.{Moves};
 ghost use Rattle.bson_store.specs.Calls.{held};
 ghost use Rattle.store_program.specs.Commands.{IsAskedBy};
-ghost use Rattle.store_program.specs.Execute.{Tells, Prints, SilentUnread, Executes};
+ghost use Rattle.store_program.specs.Execute.{Tells, Prints, SilentUnread, WritesRefusal, WritesComplaint, Executes};
 
 use crate::answer::Answer;
 use crate::changes::{insert, remove, replace, set, unset};
@@ -84,6 +84,8 @@ pub fn execute<S: Alter + Drop, I: Source, O: Sink, F: Sink>(
     ensures status { result ≤ 2 }
     ensures silent { result ≡ 0 → faults.new ≡ faults.old }
     ensures unread { result ≡ 2 → output.new ≡ output.old }
+    ensures refusal { result ≡ 1 → WritesRefusal (F.failures faults.old) (F.failures faults.new) (F.taken faults.old) (F.taken faults.new) }
+    ensures complaint { result ≡ 2 → WritesComplaint (F.failures faults.old) (F.failures faults.new) (F.taken faults.old) (F.taken faults.new) }
     ensures step { Moves (held S.Store store.old) (held S.Store store.new) (Executes (IsAskedBy words.now) result) }
 {
     match serve(alloc, store, words, input, output) {
