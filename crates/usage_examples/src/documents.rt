@@ -1,0 +1,33 @@
+//! A document as a tree and as bytes.
+
+use bson_model::{Bson, Document};
+use bson_raw::{RawDocument, RawDocumentBuf};
+use std::alloc::{AllocError, Global};
+use std::test::Fail;
+
+/// `{_id: 1, name: "Ada"}`
+fn ada(alloc: Global) -> Result<Document, AllocError> {
+    let mut document = Document::new(alloc);
+    document.insert(String::from_str(alloc, "_id")?, Bson::Int32(1))?;
+    let name = Bson::from_text(alloc, "Ada")?;
+    document.insert(String::from_str(alloc, "name")?, name)?;
+    Ok(document)
+}
+
+#[test]
+fn a_document_is_written_and_read_raw(rt: HostRuntime) -> Result<(), Fail> {
+    let alloc = rt.alloc();
+    let bytes = RawDocumentBuf::from_document(alloc, &ada(alloc)?)?.into_bytes();
+    let raw = RawDocument::from_bytes(bytes.as_slice())?;
+    assert_eq!(rt; raw.get_str(alloc, "name")?, "Ada");
+    Ok(())
+}
+
+#[test]
+fn bytes_become_a_document(rt: HostRuntime) -> Result<(), Fail> {
+    let alloc = rt.alloc();
+    let bytes = RawDocumentBuf::from_document(alloc, &ada(alloc)?)?.into_bytes();
+    let document = RawDocument::from_bytes(bytes.as_slice())?.to_document(alloc)?;
+    assert_eq!(rt; (document.len(), document.get_i32("_id")?), (2, 1));
+    Ok(())
+}
