@@ -10,12 +10,12 @@ ghost use Rattle.bson_written.specs.Written.{IsWrittenUnder};
 use crate::elements::{are_written, first_under, is_written};
 use bson_frame::Frame;
 
-/// The greatest number of levels of a document that is looked at, itself counted.
+/// How many levels may lie inside the outermost document that is looked at.
 const LEVELS: u32 = 100;
 
 /// True: the bytes are the written form of the document that they mean (bsonspec.org 1.1, "document"). No key stands twice, the
 /// keys of an array are its places in decimal, and nothing else has two written forms. False says nothing: that is told, too, of
-/// documents that have over 64 keys or 100 levels, and of regular expressions, pointers, code with scope and old binaries.
+/// documents that have over 64 keys or over 100 levels inside, and of regular expressions, pointers, code with scope and old binaries.
 ///
 /// It goes over the bytes once, and over the keys of a document once for each of its keys.
 pub fn is_written_form(bytes: &[u8]) -> bool
