@@ -114,7 +114,7 @@ ascending_from_sort xs ys moved sorted =
 pub ascending_stays : (cs : List ℕ) → NeverDescends cs → ascending cs ≡ cs
 ascending_stays cs up = same_order (ascending cs) cs (NeverDescends-ascending cs) up (λ n. count-ascending n cs)
 
-scalars-put_in_order : (c : ℕ) (ds : List ℕ) → scalar c ≡ true → scalars ds ≡ true → scalars (put_in_order c ds) ≡ true
+pub scalars-put_in_order : (c : ℕ) (ds : List ℕ) → scalar c ≡ true → scalars ds ≡ true → scalars (put_in_order c ds) ≡ true
 scalars-put_in_order c [] one rest = grind (arith, common_steps, one)
 scalars-put_in_order c (d ∷ ds) one rest =
     let first : scalar d ≡ true = and_left (scalar d) (scalars ds) rest in
@@ -122,7 +122,7 @@ scalars-put_in_order c (d ∷ ds) one rest =
     elim (leb c d) as (λ b. scalars (cond b (c ∷ d ∷ ds) (d ∷ put_in_order c ds)) ≡ true)
     [ true ↦ both (scalar c) (scalars (d ∷ ds)) one rest | false ↦ both (scalar d) (scalars (put_in_order c ds)) first others ]
 
-scalars-ascending : (cs : List ℕ) → scalars cs ≡ true → scalars (ascending cs) ≡ true
+pub scalars-ascending : (cs : List ℕ) → scalars cs ≡ true → scalars (ascending cs) ≡ true
 scalars-ascending [] all = refl
 scalars-ascending (c ∷ cs) all =
     scalars-put_in_order c (ascending cs) (and_left (scalar c) (scalars cs) all) (scalars-ascending cs (and_right (scalar c) (scalars cs) all))

@@ -35,3 +35,16 @@ WriteTakes old new (Err e) buf = Appends old new []
 -- a beginning of bs was taken
 abbrev pub TakesBeginning : Option (List ℕ) → Option (List ℕ) → List ℕ → Type 0
 TakesBeginning old new bs = (n : ℕ) × Appends old new (take n bs)
+
+-- what a source tells: how many of its calls have failed, and what it gave and has left, where it knows that
+pub record Feed : Type 0 where
+  pub failures : ℕ
+  pub supply : Supply
+
+-- no call failed, and the source gave these bytes
+abbrev pub Took : Feed → Feed → List ℕ → Type 0
+Took old new bytes = (new.failures ≡ old.failures) × Gives old.supply new.supply bytes
+
+-- no call failed, and the source gave these bytes, all that it had left
+abbrev pub TookAll : Feed → Feed → List ℕ → Type 0
+TookAll old new bytes = Took old new bytes × IsExhausted new.supply

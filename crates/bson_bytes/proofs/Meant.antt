@@ -1,8 +1,9 @@
 -- What bytes mean is clean and sound.
-use Rattle.std.proofs.Common.{◌≡◌, ℕ, ℤ, zero, suc, ◌+◌, ◌^◌, ◌<◌, ◌≤◌, ◌⊎◌, inl, inr, List, [], ◌∷◌, ◌++◌, length, drop, Bool, true, false, refl, sym, ap, ◌∙◌, subst, arith}
+use Rattle.std.proofs.Common.{◌≡◌, ℕ, ℤ, zero, suc, ◌+◌, ◌^◌, ◌<◌, ◌≤◌, ◌⊎◌, inl, inr, List, [], ◌∷◌, ◌++◌, length, drop, get_or, Bool, true, false, refl, sym, ap, ◌∙◌, subst, arith}
 use Rattle.std.specs.Prelude.{IsUtf8, slice_index, FitsSigned}
 use Rattle.std.specs.Str.{is_utf8}
-use Rattle.std.specs.Int.{w32, w64, from_le_bytes, cast_signed}
+use Rattle.std.specs.Int.{w8, w32, w64, from_le_bytes, cast_signed}
+use mir.Val.{Fits}
 use Rattle.std.proofs.Math.Facts.{sfits_to_z}
 use Rattle.std.proofs.lemmas.List.{length-drop}
 use Rattle.std.proofs.lemmas.Str.{IsUtf8-from_is_utf8, is_utf8-from_IsUtf8}
@@ -36,6 +37,11 @@ bytes_front : (xs ys : List ℕ) → AreBytes (xs ++ ys) → AreBytes xs
 bytes_front [] ys h = tt
 bytes_front (x ∷ xs) ys h = (h.0, bytes_front xs ys h.1)
 
+-- what a slice of bytes is known to hold, as the recursive fact
+pub are_bytes : (bs : List ℕ) → ((i : ℕ) → Fits w8 (get_or bs i 0)) → AreBytes bs
+are_bytes [] h = tt
+are_bytes (b ∷ bs) h = ((h 0).fits, are_bytes bs (λ i. h (suc i)))
+
 pub bytes_drop : (n : ℕ) (xs : List ℕ) → AreBytes xs → AreBytes (drop n xs)
 bytes_drop zero xs h = h
 bytes_drop (suc n) [] h = tt
@@ -46,10 +52,10 @@ byte_at i [] h = omega arith
 byte_at zero (x ∷ xs) h = h.0
 byte_at (suc i) (x ∷ xs) h = byte_at i xs h.1
 
-fits32 : (p : List ℕ) → AreBytes p → from_le_bytes w32 p < 2 ^ 32
+pub fits32 : (p : List ℕ) → AreBytes p → from_le_bytes w32 p < 2 ^ 32
 fits32 p h = omega (arith, byte_at 0 p h, byte_at 1 p h, byte_at 2 p h, byte_at 3 p h)
 
-fits64 : (p : List ℕ) → AreBytes p → from_le_bytes w64 p < 2 ^ 64
+pub fits64 : (p : List ℕ) → AreBytes p → from_le_bytes w64 p < 2 ^ 64
 fits64 p h = omega (arith, byte_at 0 p h, byte_at 1 p h, byte_at 2 p h, byte_at 3 p h, byte_at 4 p h, byte_at 5 p h, byte_at 6 p h, byte_at 7 p h)
 
 signed32 : (p : List ℕ) (z : ℤ) → AreBytes p → z ≡ cast_signed w32 (from_le_bytes w32 p) → FitsSigned w32 z
@@ -58,7 +64,7 @@ signed32 p z h is = subst (FitsSigned w32) (sym is) (sfits_to_z (record { fits =
 signed64 : (p : List ℕ) (z : ℤ) → AreBytes p → z ≡ cast_signed w64 (from_le_bytes w64 p) → FitsSigned w64 z
 signed64 p z h is = subst (FitsSigned w64) (sym is) (sfits_to_z (record { fits = fits64 p h }))
 
-subtype_back : (b : ℕ) → subtype_byte (subtype_of b) ≡ b
+pub subtype_back : (b : ℕ) → subtype_byte (subtype_of b) ≡ b
 subtype_back b = grind (arith, common_steps)
 
 -- ---- scalars

@@ -13,7 +13,7 @@ use Rattle.bson_frame.specs.Payload.{IsPayload}
 use Rattle.bson_frame.proofs.Frames.{frame_is_one}
 use Rattle.bson_frame.proofs.Payloads.{payload_by_itself}
 
-apart : {A : Type 0} (m n : ℕ) → m ≡ n → eqb m n ≡ false → A
+pub apart : {A : Type 0} (m n : ℕ) → m ≡ n → eqb m n ≡ false → A
 apart m n e f = absurd (true≢false (sym (eq-eqb m n e) ∙ f))
 
 truth_same : (a b : Bool) → truth a ≡ truth b → a ≡ b
@@ -108,11 +108,11 @@ one_scalar p _ _ g whole h k = apart _ _ (ap tag_byte g) refl
 
 -- ---- trees
 
-not_array : (s : Scalar) → scalar_kind s ≡ kinds.Array → ⊥
+pub not_array : (s : Scalar) → scalar_kind s ≡ kinds.Array → ⊥
 not_array (double n) e = apart _ _ (ap tag_byte e) refl
 not_array _ e = apart _ _ (ap tag_byte e) refl
 
-not_document : (s : Scalar) → scalar_kind s ≡ kinds.EmbeddedDocument → ⊥
+pub not_document : (s : Scalar) → scalar_kind s ≡ kinds.EmbeddedDocument → ⊥
 not_document (double n) e = apart _ _ (ap tag_byte e) refl
 not_document _ e = apart _ _ (ap tag_byte e) refl
 

@@ -1,10 +1,11 @@
 -- Putting the characters of a text in order makes no 00.
 use Rattle.std.proofs.Common.{◌≡◌, ℕ, zero, suc, ◌+◌, ◌/◌, ◌%◌, ◌<◌, Bool, true, false, cond, ltb, List, [], ◌∷◌, ◌++◌, refl, sym, subst, arith}
 use Rattle.std.specs.Prelude.{IsUtf8, chars, nat_le, ◌&&◌, if◌then◌else◌}
-use Rattle.std.proofs.Math.Utf8.{scalar, scalars, encode, encodes}
+use Rattle.std.proofs.Math.Utf8.{scalars, encode, encodes}
 use Rattle.std.proofs.lemmas.Str.{encodes-chars, scalars-chars, encode_ascii}
 use Rattle.bson_base.specs.Kinds.{HasNo00}
 use Rattle.bson_base.specs.Options.{put_in_order, ascending, sorted_text}
+use Rattle.bson_base.proofs.OptionsLemmas.{scalars-ascending}
 
 split : (a b : Bool) → a && b ≡ true → (a ≡ true) × (b ≡ true)
 split true b h = (refl, h)
@@ -65,21 +66,5 @@ no_zero_sorted t utf h = no_zero_encodes (ascending (chars t)) (no_zero_ascendin
 
 -- ---- and it makes a text
 
-scalars_put : (c : ℕ) (ds : List ℕ) → scalar c ≡ true → scalars ds ≡ true → scalars (put_in_order c ds) ≡ true
-scalars_put c [] h k = both (scalar c) true h refl
-scalars_put c (d ∷ ds) h k =
-    let parts = split (scalar d) (scalars ds) k in
-    by (nat_le c d) (both (scalar d) (scalars (put_in_order c ds)) parts.0 (scalars_put c ds h parts.1))
-  where
-    by : (b : Bool) → scalars (d ∷ put_in_order c ds) ≡ true → scalars (if b then c ∷ d ∷ ds else d ∷ put_in_order c ds) ≡ true
-    by true rest = both (scalar c) (scalars (d ∷ ds)) h k
-    by false rest = rest
-
-scalars_ascending : (cs : List ℕ) → scalars cs ≡ true → scalars (ascending cs) ≡ true
-scalars_ascending [] h = refl
-scalars_ascending (c ∷ cs) h =
-    let parts = split (scalar c) (scalars cs) h in
-    scalars_put c (ascending cs) parts.0 (scalars_ascending cs parts.1)
-
 pub text_sorted : (t : List ℕ) → IsUtf8 t → IsUtf8 (sorted_text t)
-text_sorted t utf = (ascending (chars t), (scalars_ascending (chars t) (scalars-chars t utf), refl))
+text_sorted t utf = (ascending (chars t), (scalars-ascending (chars t) (scalars-chars t utf), refl))

@@ -11,7 +11,7 @@ use Rattle.bson_bytes.proofs.Extents.{framed_envelope}
 use Rattle.bson_bytes.proofs.Lengths.{members_length}
 use Rattle.bson_bytes.proofs.Spelled.{IsCleanPart, spelled_members, framed_inside}
 
-without_absent : (k : List ℕ) (ms : Members) → look_up k ms ≡ None → without k ms ≡ ms
+pub without_absent : (k : List ℕ) (ms : Members) → look_up k ms ≡ None → without k ms ≡ ms
 without_absent k no_members e = refl
 without_absent k (member l v ms) e = by (bytes_eq k l) e (without_absent k ms)
   where

@@ -16,6 +16,7 @@ use Rattle.bson_frame.specs.declared.error.ErrorKind.{ErrorKind}
 use Rattle.bson_frame.specs.declared.error.ErrorKind.TheVariants.{MalformedValue, Utf8EncodingError, OutOfMemory}
 use Rattle.bson_frame.specs.Frame.{number, HasSize, IsCodeSize, IsTextSize, IsName}
 use Rattle.bson_frame.specs.Payload.{text_in, code_in, scope_in, IsEnvelope, CodeFault}
+use Rattle.bson_bytes.proofs.Options.{no_zero_both}
 
 abbrev pub IsCleanPart : Scalar → Type 0
 IsCleanPart s = IsPlainScalar s × IsCleanScalar s
@@ -37,11 +38,11 @@ scoped_sized t b rest h =
       there = omega (arith, l, length-append (scoped t (framed b)) rest);
     }
 
-code_back : (t scope : List ℕ) → code_in (scoped t scope) ≡ text_bytes t ++ scope
+pub code_back : (t scope : List ℕ) → code_in (scoped t scope) ≡ text_bytes t ++ scope
 unfolding scoped le32
 code_back t scope = refl
 
-scope_back : (t scope : List ℕ) → length t + 5 < 2 ^ 31 → scope_in (scoped t scope) ≡ scope
+pub scope_back : (t scope : List ℕ) → length t + 5 < 2 ^ 31 → scope_in (scoped t scope) ≡ scope
 scope_back t scope h = ap (λ (x : List ℕ). drop (number x + 4) x) (code_back t scope) ∙ sym (pointer_back t scope h)
 
 scoped_faultless : (t b : List ℕ) → length t + length b + 14 < 2 ^ 31 → IsUtf8 t → (kind : ErrorKind) → CodeFault (scoped t (framed b)) kind → ⊥
@@ -56,19 +57,15 @@ scoped_faultless t b h utf OutOfMemory fault = fault
 
 -- ---- keys of arrays
 
-no_zero_behind : (a b : List ℕ) → HasNo00 a → HasNo00 b → HasNo00 (a ++ b)
-no_zero_behind [] b h k = k
-no_zero_behind (x ∷ a) b h k = (h.0, no_zero_behind a b h.1 k)
-
 no_zero_digits : (i : ℕ) → i < 10 ^ 64 → HasNo00 (digits i)
-no_zero_digits i h = decimal_by_steps_wide (λ n ds. HasNo00 ds) (λ n small. (omega arith, tt)) (λ n ds more d. no_zero_behind ds ((48 + n % 10) ∷ []) d (omega arith, tt)) i h
+no_zero_digits i h = decimal_by_steps_wide (λ n ds. HasNo00 ds) (λ n small. (omega arith, tt)) (λ n ds more d. no_zero_both ds ((48 + n % 10) ∷ []) d (omega arith, tt)) i h
 
 pub digits_name : (i : ℕ) → i < 2 ^ 63 → IsName (digits i)
 digits_name i h = record { no_zero = no_zero_digits i (omega (arith, h)); text = IsUtf8-from_ascii (digits i) (IsAscii-decimal i (omega (arith, h))) }
 
 -- ---- elements
 
-element_parts : (tag : ℕ) (key payload more : List ℕ) → (tag ∷ (ended key ++ (payload ++ more))) ++ 0 ∷ [] ≡ tag ∷ (key ++ 0 ∷ (payload ++ (more ++ 0 ∷ [])))
+pub element_parts : (tag : ℕ) (key payload more : List ℕ) → (tag ∷ (ended key ++ (payload ++ more))) ++ 0 ∷ [] ≡ tag ∷ (key ++ 0 ∷ (payload ++ (more ++ 0 ∷ [])))
 unfolding ended
 element_parts tag key payload more = simp append_assoc
 

@@ -1,17 +1,16 @@
 -- Views of written values.
-use Rattle.std.proofs.Common.{◌≡◌, ℕ, ◌+◌, ◌<◌, ◌^◌, List, ◌++◌, length, drop, Option, Some, Result, Ok, Err, MatchResult, refl, sym, ap, ◌∙◌, subst, arith}
+use Rattle.std.proofs.Common.{◌≡◌, ℕ, ◌<◌, ◌^◌, List, drop, Option, Some, Result, Ok, Err, MatchResult, sym, ap, ◌∙◌, subst, arith}
 use Rattle.bson_base.specs.Value.{Value, array, document, scoped_code, value_kind}
-use Rattle.bson_bytes.specs.Encode.{le32, text_bytes, scoped, encode, value_bytes, value_size}
+use Rattle.bson_bytes.specs.Encode.{encode, value_bytes, value_size}
 use Rattle.bson_bytes.specs.Spells.{SpellsValue, SpellsItems, SpellsMembers}
-use Rattle.bson_bytes.proofs.Scalars.{pointer_back}
-use Rattle.bson_bytes.proofs.Spelled.{spelled_value}
+use Rattle.bson_bytes.proofs.Spelled.{spelled_value, scope_back}
 use Rattle.std.specs.Result.{result_ok}
 use Rattle.bson_frame.specs.declared.error.Error.{Error}
 use Rattle.bson_frame.specs.declared.error.ErrorKind.{ErrorKind}
 use Rattle.bson_frame.specs.declared.error.ErrorKind.TheVariants.{MalformedValue}
 use Rattle.bson_frame.specs.View.{IsBare}
-use Rattle.bson_frame.specs.Frame.{number, Element}
-use Rattle.bson_frame.specs.Payload.{code_in, scope_in, IsEnvelope, IsPayload, IsPayloadFault}
+use Rattle.bson_frame.specs.Frame.{Element}
+use Rattle.bson_frame.specs.Payload.{scope_in, IsEnvelope, IsPayload, IsPayloadFault}
 use Rattle.bson_meaning.specs.Views.{Shows}
 use Rattle.bson_meaning.proofs.Viewing.{payload_shown, no_payload_fault}
 use Rattle.bson_raw.specs.declared.bson_ref.RawBsonRef.{RawBsonRef}
@@ -25,13 +24,6 @@ use Rattle.bson_filter.proofs.Members.{array_bytes_pairs}
 use Rattle.store_laws.specs.Filter.{pairs}
 
 -- ---- what a view of a written payload is
-
-code_back : (t scope : List ℕ) → code_in (scoped t scope) ≡ text_bytes t ++ scope
-unfolding scoped le32
-code_back t scope = refl
-
-scope_back : (t scope : List ℕ) → length t + 5 < 2 ^ 31 → scope_in (scoped t scope) ≡ scope
-scope_back t scope h = ap (λ (x : List ℕ). drop (number x + 4) x) (code_back t scope) ∙ sym (pointer_back t scope h)
 
 held : (raw : RawBsonRef) (v : Value) (payload : List ℕ) → Shows raw v → Holds payload raw → payload ≡ value_bytes v → value_size v < 2 ^ 31 → Encodes raw v
 held (views.Array x) v payload s h w short = (s.0, s.2, h ∙ w ∙ ap value_bytes s.2)

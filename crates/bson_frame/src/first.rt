@@ -1,11 +1,13 @@
 //! The first frame of bytes.
 
-ghost use Rattle.std.specs.Prelude.{MatchResult};
-ghost use Rattle.bson_frame.specs.Frame.{IsFirstFrame, IsStructuralFault};
+ghost use Rattle.std.specs.Prelude.{◌≡◌, ◌↔◌, ◌∷◌, [], IsTrue, MatchOption, MatchResult};
+ghost use Rattle.bson_frame.specs.Frame.{HasNoFrame, IsFirstFrame, IsStructuralFault};
+ghost use Rattle.bson_frame.specs.Payload.{IsPayload};
 ghost use Rattle.bson_frame.specs.View.{element_of};
 
 use crate::error::ErrorKind;
 use crate::extent::{extent, name_at};
+use crate::laws::payload_by_itself;
 use crate::parts::Frame;
 use bson_base::ElementType;
 
@@ -31,4 +33,23 @@ pub fn frame(bytes: &[u8]) -> Result<Frame<'_>, ErrorKind>
         payload,
         rest,
     })
+}
+
+/// The first frame of bytes, if there is one; its payload has the size of its kind by itself, whatever follows it.
+pub fn sized_frame(bytes: &[u8]) -> Option<Frame<'_>>
+    ensures { MatchOption result (HasNoFrame bytes.now)
+        (λ f. IsFirstFrame bytes.now (element_of f) f.rest.now × IsPayload f.tag f.payload.now) }
+{
+    payload_by_itself();
+    match frame(bytes) {
+        Ok(frame) => Some(frame),
+        Err(_) => None,
+    }
+}
+
+/// Whether only the final 00 of a document is left (bsonspec.org 1.1, "document").
+pub fn is_end(bytes: &[u8]) -> bool
+    ensures { IsTrue result ↔ (bytes.now ≡ 0 ∷ []) }
+{
+    matches!(bytes, [0])
 }

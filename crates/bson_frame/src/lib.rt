@@ -14,6 +14,6 @@ pub use error::{
     Error, ErrorKind, Result, ValueAccessError, ValueAccessErrorKind, ValueAccessResult,
 };
 pub use extent::name_at;
-pub use first::frame;
+pub use first::{frame, is_end, sized_frame};
 pub use parts::Frame;
 pub use payload::{is_envelope, payload_fault, text_at};

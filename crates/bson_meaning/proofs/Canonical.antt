@@ -64,7 +64,7 @@ mutual
 
 -- ---- and back
 
-later : (q k : List ℕ) (v u : Value) (ms : Members) → look_up k ms ≡ None → look_up q ms ≡ Some u → look_up q (member k v ms) ≡ Some u
+pub later : (q k : List ℕ) (v u : Value) (ms : Members) → look_up k ms ≡ None → look_up q ms ≡ Some u → look_up q (member k v ms) ≡ Some u
 later q k v u ms absent e = by (bytes_eq q k) refl
   where
     by : (b : Bool) → bytes_eq q k ≡ b → cond b (Some v) (look_up q ms) ≡ Some u

@@ -7,9 +7,9 @@ use Rattle.std.specs.List.{sum_by}
 use Rattle.std.specs.Prelude.{IsUtf8, chars}
 use lib.Utf8.{encode, encodes}
 use Rattle.bson_base.specs.Options.{ascending, sorted_text}
-use Rattle.bson_base.proofs.OptionsLemmas.{same_order, count-ascending, NeverDescends-ascending}
+use Rattle.bson_base.proofs.OptionsLemmas.{same_order, count-ascending, NeverDescends-ascending, scalars-ascending}
 use Rattle.bson_meaning.specs.Counts.{count, StandAlike}
-use Rattle.bson_meaning.proofs.NormalScalars.{scalars_ascending, sorted_text_length}
+use Rattle.bson_meaning.proofs.NormalScalars.{sorted_text_length}
 
 -- ---- from character to character
 
@@ -65,7 +65,7 @@ alike_sorted s t h k =
     (λ n. count-ascending n (chars s) ∙ sym (counted n (chars s)) ∙ everywhere (chars s) (chars t) h k n ∙ counted n (chars t) ∙ sym (count-ascending n (chars t))))
 
 chars_sorted : (t : List ℕ) → IsUtf8 t → chars (sorted_text t) ≡ ascending (chars t)
-chars_sorted t u = chars-encodes (ascending (chars t)) (scalars_ascending (chars t) (scalars-chars t u))
+chars_sorted t u = chars-encodes (ascending (chars t)) (scalars-ascending (chars t) (scalars-chars t u))
 
 equally : (s t : List ℕ) → IsUtf8 s → IsUtf8 t → sorted_text s ≡ sorted_text t → (c : ℕ) → count c (chars s) ≡ count c (chars t)
 equally s t u v e c =

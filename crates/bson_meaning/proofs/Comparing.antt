@@ -1,8 +1,7 @@
 -- What the comparison of trees stands on: keys of both documents, and kinds whose values all have their normal form.
-use Rattle.std.proofs.Common.{◌≡◌, ◌↔◌, ℕ, List, ◌∷◌, Bool, true, false, cond, Option, Some, None, refl, ap, ◌∙◌, sym, subst}
+use Rattle.std.proofs.Common.{◌≡◌, ◌↔◌, ℕ, List, Bool, true, false, cond, Option, Some, None, refl, ap, ◌∙◌, sym, subst}
 use Rattle.std.specs.Prelude.{bytes_eq, is_some, IsSomeAnd}
-use Rattle.bson_base.specs.declared.spec.ElementType.{ElementType}
-use Rattle.bson_base.specs.Value.{Scalar, double, string, binary, undefined, object_id, boolean, date_time, null, regex, db_pointer, code, symbol, int32, timestamp, int64, decimal, max_key, min_key, scalar_kind, value_kind, Value, scalar, array, document, scoped_code, Members, no_members, member, look_up, has_key}
+use Rattle.bson_base.specs.Value.{Scalar, double, binary, regex, decimal, scalar_kind, value_kind, Value, scalar, array, document, scoped_code, Members, no_members, member, look_up, has_key}
 use Rattle.bson_model.specs.Equal.{Equal, SameKeys}
 use Rattle.bson_meaning.specs.Meaning.{normal_scalar, Same, SameUnder}
 use Rattle.bson_meaning.specs.Sames.{HasKeysOf, IsFixed}
@@ -50,7 +49,7 @@ same_documents ms ns under = (
 
 -- ---- kinds
 
-kind_kept : (s : Scalar) → scalar_kind (normal_scalar s) ≡ scalar_kind s
+pub kind_kept : (s : Scalar) → scalar_kind (normal_scalar s) ≡ scalar_kind s
 kind_kept (double n) = refl
 kind_kept (regex p o) = refl
 kind_kept (binary s bs) = refl

@@ -1,27 +1,27 @@
 -- The normal form of a decimal: taken twice it is taken once, and has 16 bytes.
-use Rattle.std.proofs.Common.{◌≡◌, ℕ, zero, suc, ◌+◌, ◌*◌, ◌/◌, ◌^◌, ◌<◌, List, [], ◌∷◌, length, true, false, refl, ap, ◌∙◌, arith}
+use Rattle.std.proofs.Common.{◌≡◌, ℕ, zero, suc, ◌*◌, ◌/◌, ◌^◌, ◌<◌, List, length, true, false, refl, ap, ◌∙◌, arith}
 use Rattle.std.proofs.Math.Nat.{pow-suc}
 use Rattle.bson_base.specs.Decimal.{number_of, bytes_of, sixteen_bytes, Decimal, not_a_number, infinity, finite, IsUnpacked, unpack, pack}
 use Rattle.bson_base.specs.Kinds.{AreBytes}
 use Rattle.bson_base.proofs.DecimalBits.{unpack_is, unpack-pack}
 use Rattle.bson_meaning.specs.Meaning.{normal_decimal}
 
-bytes_length : (k n : ℕ) → length (bytes_of k n) ≡ k
+pub bytes_length : (k n : ℕ) → length (bytes_of k n) ≡ k
 bytes_length zero n = refl
 bytes_length (suc k) n = ap suc (bytes_length k (n / 256))
 
-bytes_are : (k n : ℕ) → AreBytes (bytes_of k n)
+pub bytes_are : (k n : ℕ) → AreBytes (bytes_of k n)
 bytes_are zero n = tt
 bytes_are (suc k) n = (omega arith, bytes_are k (n / 256))
 
-number_again : (k n : ℕ) → n < 256 ^ k → number_of (bytes_of k n) ≡ n
+pub number_again : (k n : ℕ) → n < 256 ^ k → number_of (bytes_of k n) ≡ n
 number_again zero n h = omega arith
 number_again (suc k) n h =
     let p : 256 ^ suc k ≡ 256 ^ k * 256 = pow-suc 256 k in
     let q : number_of (bytes_of k (n / 256)) ≡ n / 256 = number_again k (n / 256) (omega arith) in
     omega arith
 
-pack_low : (d : Decimal) → IsUnpacked d → pack d < 2 ^ 128
+pub pack_low : (d : Decimal) → IsUnpacked d → pack d < 2 ^ 128
 pack_low not_a_number h = omega arith
 pack_low (infinity true) h = omega arith
 pack_low (infinity false) h = omega arith

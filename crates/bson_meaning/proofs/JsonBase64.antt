@@ -16,7 +16,7 @@ use Rattle.bson_base.specs.Kinds.{AreBytes}
 use Rattle.bson_base.proofs.PrintedReads.{both}
 use lib.Utf8.{next, scalar, scalars, scalar_cases, encode, encodes}
 
-are_joined : (a b : List ℕ) → AreBytes a → AreBytes b → AreBytes (a ++ b)
+pub are_joined : (a b : List ℕ) → AreBytes a → AreBytes b → AreBytes (a ++ b)
 are_joined [] b h k = k
 are_joined (x ∷ a) b h k = (h.0, are_joined a b h.1 k)
 
@@ -107,7 +107,7 @@ encodes_bytes (c ∷ cs) h =
     let p = both (scalar c) (scalars cs) h in
     are_joined (encode c) (encodes cs) (encode_bytes c p.0) (encodes_bytes cs p.1)
 
-each_byte : (bs : List ℕ) → AreBytes bs → IsBytes bs
+pub each_byte : (bs : List ℕ) → AreBytes bs → IsBytes bs
 each_byte [] h i = omega arith
 each_byte (b ∷ bs) h zero = h.0
 each_byte (b ∷ bs) h (suc i) = each_byte bs h.1 i

@@ -1,16 +1,17 @@
 -- What the texts of Extended JSON read as lies in the ranges of its kinds.
-use Rattle.std.proofs.Common.{◌≡◌, ℕ, zero, suc, ◌+◌, ◌*◌, ◌/◌, ◌%◌, ◌^◌, ◌<◌, ◌==◌, ◌||◌, ℤ, pos, negsuc, Bool, true, false, if◌then◌else◌, List, [], ◌∷◌, length, Option, Some, None, Ok, Err, refl, sym, ap, ◌∙◌, subst, arith}
-use Rattle.std.specs.Prelude.{codes, FitsSigned, int_le}
+use Rattle.std.proofs.Common.{◌≡◌, ℕ, ◌+◌, ◌*◌, ◌/◌, ◌%◌, ◌^◌, ◌<◌, ◌==◌, ◌||◌, ℤ, Bool, true, false, if◌then◌else◌, List, [], ◌∷◌, length, Option, Some, None, Ok, Err, refl, sym, ap, ◌∙◌, subst, arith}
+use Rattle.std.specs.Prelude.{codes, FitsSigned}
 use Rattle.std.specs.Int.{w32, w64}
-use Rattle.std.proofs.lemmas.Bool.{leb-true, eqb-true}
+use Rattle.std.proofs.lemmas.Bool.{eqb-true}
 use Rattle.hex.specs.Hex.{hex_digit_value}
-use Rattle.bson_base.specs.Decimal.{bytes_of, sixteen_bytes, cut, is_e, is_named, all_zeros}
+use Rattle.bson_base.specs.Decimal.{sixteen_bytes, cut, is_e, is_named, all_zeros}
 use Rattle.bson_base.specs.Kinds.{AreBytes}
 use Rattle.bson_base.specs.ObjectIdText.{object_id_of, even_text, first_other, digit_bytes, digit_value}
 use Rattle.bson_base.specs.declared.oid.Error.TheVariants.{InvalidHexStringLength}
-use Rattle.bson_base.proofs.PrintedReads.{both}
 use Rattle.bson_model.specs.JsonTexts.{int_of, long_of, integer_of, fits_32, fits_64, only, double_of, sign_bit, read_unsigned, read_numeral, is_numeral, signed, without_dot, byte_of, byte_from}
 use Rattle.bson_model.specs.declared.extjson.de.Error.TheVariants.{DeserializationError, FiniteDouble}
+use Rattle.bson_model.proofs.JsonTextsLemmas.{so_fits_64, so_fits_32}
+use Rattle.bson_meaning.proofs.Decimals.{bytes_length, bytes_are}
 
 -- ---- hexadecimal digits
 
@@ -70,21 +71,13 @@ kept p (Some y) z e = by (p y) refl e
     by true h f = let i : y ≡ z = cc in ap p (sym i) ∙ h
     by false h f = cc
 
-pub fits_64_so : (z : ℤ) → fits_64 z ≡ true → FitsSigned w64 z
-fits_64_so (pos n) e = let h = leb-true n 9223372036854775807 (both (int_le (negsuc 9223372036854775807) (pos n)) (int_le (pos n) (pos 9223372036854775807)) e).1 in omega (arith, h)
-fits_64_so (negsuc n) e = let h = leb-true n 9223372036854775807 (both (int_le (negsuc 9223372036854775807) (negsuc n)) (int_le (negsuc n) (pos 9223372036854775807)) e).0 in omega (arith, h)
-
-pub fits_32_so : (z : ℤ) → fits_32 z ≡ true → FitsSigned w32 z
-fits_32_so (pos n) e = let h = leb-true n 2147483647 (both (int_le (negsuc 2147483647) (pos n)) (int_le (pos n) (pos 2147483647)) e).1 in omega (arith, h)
-fits_32_so (negsuc n) e = let h = leb-true n 2147483647 (both (int_le (negsuc 2147483647) (negsuc n)) (int_le (negsuc n) (pos 2147483647)) e).0 in omega (arith, h)
-
 pub long_ranged : (t : List ℕ) (z : ℤ) → long_of t ≡ Some z → FitsSigned w64 z
 unfolding long_of
-long_ranged t z e = fits_64_so z (kept fits_64 (integer_of t) z e)
+long_ranged t z e = so_fits_64 z (kept fits_64 (integer_of t) z e)
 
 pub int_ranged : (t : List ℕ) (z : ℤ) → int_of t ≡ Some z → FitsSigned w32 z
 unfolding int_of
-int_ranged t z e = fits_32_so z (kept fits_32 (integer_of t) z e)
+int_ranged t z e = so_fits_32 z (kept fits_32 (integer_of t) z e)
 
 -- ---- doubles
 
@@ -116,14 +109,6 @@ double_ranged t n e = by (signed t) e
     by (s, u) f = unsigned_low s u n f
 
 -- ---- decimals
-
-bytes_length : (k n : ℕ) → length (bytes_of k n) ≡ k
-bytes_length zero n = refl
-bytes_length (suc k) n = ap suc (bytes_length k (n / 256))
-
-bytes_are : (k n : ℕ) → AreBytes (bytes_of k n)
-bytes_are zero n = tt
-bytes_are (suc k) n = (omega arith, bytes_are k (n / 256))
 
 pub sixteen_ranged : (n : ℕ) → (length (sixteen_bytes n) ≡ 16) × AreBytes (sixteen_bytes n)
 unfolding sixteen_bytes

@@ -1,11 +1,11 @@
 -- What is written as a text in Extended JSON reads back.
-use Rattle.std.proofs.Common.{◌≡◌, ℕ, zero, suc, ◌+◌, ◌*◌, ◌/◌, ◌%◌, ◌^◌, ◌<◌, ◌==◌, ℤ, pos, negsuc, nat_lt, Bool, true, false, not, List, [], ◌∷◌, length, Some, None, Ok, Err, if◌then◌else◌, refl, ap, ◌∙◌, arith}
+use Rattle.std.proofs.Common.{◌≡◌, ℕ, suc, ◌+◌, ◌*◌, ◌/◌, ◌%◌, ◌^◌, ◌<◌, ◌==◌, ℤ, pos, negsuc, nat_lt, Bool, true, false, not, List, [], ◌∷◌, length, Some, None, Ok, Err, if◌then◌else◌, refl, ap, ◌∙◌, arith}
 use Rattle.std.specs.Prelude.{slice_index, codes, FitsSigned}
 use Rattle.std.specs.Char.{is_ascii_digit}
 use Rattle.std.specs.Fmt.{decimal, signed_decimal}
 use Rattle.std.specs.Int.{w32, w64}
 use Rattle.std.specs.List.{prefix_len}
-use Rattle.base64.specs.GeneralPurpose.{encode_of, decode_of, IsBytes, IsConsistent}
+use Rattle.base64.specs.GeneralPurpose.{encode_of, decode_of, IsConsistent}
 use Rattle.base64.specs.Engines.{standard}
 use Rattle.base64.proofs.EngineFacts.{decode_of-encode_of}
 use Rattle.hex.specs.Hex.{encode_lower, encode_with, hex_digit_value, is_hex_digit, lower_digits}
@@ -16,6 +16,8 @@ use Rattle.bson_base.specs.ObjectIdText.{object_id_of, even_text, first_other, d
 use Rattle.bson_base.specs.declared.oid.Error.TheVariants.{InvalidHexStringLength}
 use Rattle.bson_base.proofs.PrintedReads.{both, digits-decimal, printed_reads}
 use Rattle.bson_model.specs.JsonTexts.{int_of, long_of, integer_of, signed, fits_32, fits_64, only, double_of, byte_of}
+use Rattle.bson_model.proofs.JsonTextsLemmas.{fits_64_so, fits_32_so}
+use Rattle.bson_meaning.proofs.JsonBase64.{each_byte}
 
 -- ---- two hexadecimal digits a byte
 
@@ -101,24 +103,16 @@ pub wider : (z : ℤ) → FitsSigned w32 z → FitsSigned w64 z
 wider (pos n) h = omega arith
 wider (negsuc n) h = omega arith
 
-in_64 : (z : ℤ) → FitsSigned w64 z → fits_64 z ≡ true
-in_64 (pos n) h = grind arith
-in_64 (negsuc n) h = grind arith
-
-in_32 : (z : ℤ) → FitsSigned w32 z → fits_32 z ≡ true
-in_32 (pos n) h = grind arith
-in_32 (negsuc n) h = grind arith
-
 kept : (p : ℤ → Bool) (z : ℤ) → p z ≡ true → only p (Some z) ≡ Some z
 kept p z h = rw h refl
 
 pub long_back : (z : ℤ) → FitsSigned w64 z → long_of (signed_decimal z) ≡ Some z
 unfolding long_of
-long_back z h = ap (only fits_64) (integer_back z h) ∙ kept fits_64 z (in_64 z h)
+long_back z h = ap (only fits_64) (integer_back z h) ∙ kept fits_64 z (fits_64_so z h)
 
 pub int_back : (z : ℤ) → FitsSigned w32 z → int_of (signed_decimal z) ≡ Some z
 unfolding int_of
-int_back z h = ap (only fits_32) (integer_back z (wider z h)) ∙ kept fits_32 z (in_32 z h)
+int_back z h = ap (only fits_32) (integer_back z (wider z h)) ∙ kept fits_32 z (fits_32_so z h)
 
 -- ---- decimals, Base64, doubles
 
@@ -128,16 +122,11 @@ decimal_back (infinity true) h = refl
 decimal_back (infinity false) h = refl
 decimal_back (finite s c e) h = printed_reads s c e h.0 (omega (arith, h.1))
 
-are_bytes : (bs : List ℕ) → AreBytes bs → IsBytes bs
-are_bytes [] h i = omega arith
-are_bytes (b ∷ bs) h zero = h.0
-are_bytes (b ∷ bs) h (suc i) = are_bytes bs h.1 i
-
 consistent : IsConsistent standard
 consistent = search
 
 pub base64_back : (bs : List ℕ) → AreBytes bs → decode_of standard (encode_of standard bs) ≡ Ok bs
-base64_back bs h = decode_of-encode_of standard bs consistent (are_bytes bs h)
+base64_back bs h = decode_of-encode_of standard bs consistent (each_byte bs h)
 
 pub zero_back : double_of (codes "0.0") ≡ Ok 0
 unfolding double_of

@@ -6,7 +6,7 @@ use Rattle.std.specs.declared.cmp.Ordering.TheVariants.{Less, Equal, Greater}
 use Rattle.std.specs.Ordering.{match_ordering}
 use Rattle.std.proofs.lemmas.Bool.{eqb-true, leb-true, leb-false}
 use Rattle.serde_json.specs.Data as tree
-use Rattle.serde_json.specs.Data.{Data, object, unsigned, number}
+use Rattle.serde_json.specs.Data.{Data, object}
 use Rattle.base64.specs.GeneralPurpose.{encode_of}
 use Rattle.base64.specs.Engines.{standard}
 use Rattle.bson_base.specs.Decimal.{number_of, sixteen_bytes, unpack, minus_if, decimal_text}
@@ -32,8 +32,10 @@ use Rattle.bson_meaning.proofs.Decimals.{normal_decimal_twice}
 use Rattle.bson_meaning.proofs.JsonReadBack.{byte_back, id_back, long_back, int_back, decimal_back, base64_back, zero_back, negative_zero_back, infinity_back, negative_infinity_back, nan_back, negative_nan_back}
 use Rattle.bson_meaning.proofs.JsonSame.{or_turned, or_twice, write_same}
 use Rattle.bson_meaning.proofs.Normal.{place_each}
-use Rattle.bson_meaning.proofs.NormalScalars.{byte_again, sorted_text_twice, sorted_text_plain, sorted_text_utf8, normal_double_twice}
+use Rattle.bson_meaning.proofs.NormalScalars.{sorted_text_twice, normal_double_twice}
 use Rattle.bson_meaning.proofs.Ordered.{Order, tied, equal_keys, ascending_asc, look_up-place, same_members}
+use Rattle.bson_bytes.proofs.Meant.{subtype_back}
+use Rattle.bson_bytes.proofs.Options.{text_sorted, no_zero_sorted}
 
 -- ---- scalars
 
@@ -184,7 +186,7 @@ scalar_comes : (s : Scalar) → IsRangedScalar s → (j : Data) → write_scalar
 unfolding reserved_of
 scalar_comes (double n) h j e = double_comes n h j e
 scalar_comes (string t) h j e = alone _ j _ (string t) e refl refl (λ p. tt)
-scalar_comes (binary s bs) h j e = alone _ j _ (binary (subtype_of (subtype_byte s)) bs) e (read_binary (subtype_byte s) bs h.0 h.1) (ap (λ b. binary (subtype_of b) bs) (byte_again (subtype_byte s))) (λ p. tt)
+scalar_comes (binary s bs) h j e = alone _ j _ (binary (subtype_of (subtype_byte s)) bs) e (read_binary (subtype_byte s) bs h.0 h.1) (ap (λ b. binary (subtype_of b) bs) (subtype_back (subtype_byte s))) (λ p. tt)
 scalar_comes undefined h j e = alone _ j _ undefined e refl refl (λ p. tt)
 scalar_comes (object_id bs) h j e = alone _ j _ (object_id bs) e (read_id bs h) refl (λ p. tt)
 scalar_comes (boolean b) h j e = alone _ j _ (boolean b) e refl refl (λ p. tt)
@@ -192,7 +194,7 @@ scalar_comes (date_time z) h j e = alone _ j _ (date_time z) e (read_date z h) r
 scalar_comes null h j e = alone _ j _ null e refl refl (λ p. tt)
 scalar_comes (regex p o) h j e = alone _ j _ (regex p (sorted_text (sorted_text o))) e (read_regex p o)
     (ap (regex p) (ap sorted_text (sorted_text_twice o h.1) ∙ sorted_text_twice o h.1))
-    (λ k. (k.0, sorted_text_plain (sorted_text o) (sorted_text_utf8 o h.1) (sorted_text_plain o h.1 k.1)))
+    (λ k. (k.0, no_zero_sorted (sorted_text o) (text_sorted o h.1) (no_zero_sorted o h.1 k.1)))
 scalar_comes (db_pointer t bs) h j e = alone _ j _ (db_pointer t bs) e (read_pointer t bs h) refl (λ p. tt)
 scalar_comes (code t) h j e = alone _ j _ (code t) e refl refl (λ p. tt)
 scalar_comes (symbol t) h j e = alone _ j _ (symbol t) e refl refl (λ p. tt)
@@ -286,7 +288,7 @@ over_turned : (b : Bool) (x : Value) (o p : Option Value) → (b ≡ true → o 
 over_turned true x o p h = ap (λ z. over z (Some x)) (h refl)
 over_turned false x o p h = refl
 
-chosen : (f : Value → Value) (b : Bool) (v : Value) (o : Option Value) → option_map f (cond b (Some v) o) ≡ cond b (Some (f v)) (option_map f o)
+pub chosen : (f : Value → Value) (b : Bool) (v : Value) (o : Option Value) → option_map f (cond b (Some v) o) ≡ cond b (Some (f v)) (option_map f o)
 chosen f true v o = refl
 chosen f false v o = refl
 

@@ -1,6 +1,5 @@
 -- What a value is written as goes by its meaning, and so does whether a reserved key stands in it.
-use Rattle.std.proofs.Common.{◌≡◌, ℕ, zero, suc, ◌*◌, ◌/◌, ◌^◌, ◌<◌, List, ◌++◌, Bool, true, false, cond, if◌then◌else◌, Option, Some, None, refl, ap, ◌∙◌, sym, subst, arith}
-use Rattle.std.proofs.Math.Nat.{pow-suc}
+use Rattle.std.proofs.Common.{◌≡◌, ℕ, List, ◌++◌, Bool, true, false, cond, if◌then◌else◌, Option, Some, None, refl, ap, ◌∙◌, sym, subst}
 use Rattle.std.specs.Prelude.{◌||◌, bytes_eq, codes, option_map, option_and_then}
 use Rattle.std.specs.declared.cmp.Ordering.{Ordering}
 use Rattle.std.specs.declared.cmp.Ordering.TheVariants.{Less, Equal, Greater}
@@ -8,7 +7,7 @@ use Rattle.std.specs.Ordering.{match_ordering, ordering_reverse}
 use Rattle.std.proofs.lemmas.Cmp.{nat_list_cmp_total}
 use Rattle.serde_json.specs.Data as tree
 use Rattle.serde_json.specs.Data.{Data, object}
-use Rattle.bson_base.specs.Decimal.{Decimal, not_a_number, infinity, finite, IsUnpacked, number_of, bytes_of, sixteen_bytes, pack, unpack, print, minus_if}
+use Rattle.bson_base.specs.Decimal.{IsUnpacked, number_of, sixteen_bytes, pack, unpack, print, minus_if}
 use Rattle.bson_base.specs.Doubles.{is_nan, is_infinite, is_zero, is_negative}
 use Rattle.bson_base.specs.Kinds.{IsRangedScalar, IsSound}
 use Rattle.bson_base.specs.Tags.{subtype_byte}
@@ -21,8 +20,10 @@ use Rattle.bson_meaning.specs.JsonReserved.{some_reserved, reserved_in, reserved
 use Rattle.bson_meaning.specs.Meaning.{normal_double, normal_decimal, normal_scalar, norm, norm_items, norm_members, place, asc, asc_items, asc_members, Same}
 use Rattle.bson_meaning.proofs.Canonical.{canonical_same}
 use Rattle.bson_meaning.proofs.Normal.{norm_distinct}
-use Rattle.bson_meaning.proofs.NormalScalars.{byte_again, sorted_text_twice}
+use Rattle.bson_meaning.proofs.NormalScalars.{sorted_text_twice}
 use Rattle.bson_meaning.proofs.Ordered.{Order, tied, turned, same_key, look_up-asc}
+use Rattle.bson_bytes.proofs.Meant.{subtype_back}
+use Rattle.bson_meaning.proofs.Decimals.{number_again, pack_low}
 
 -- ---- the normal form of a scalar
 
@@ -45,20 +46,6 @@ double_again n = by (is_nan n) refl
     by true e = quiet_told (is_negative n) ∙ sym (ap (told n) e)
     by false e = refl
 
-number_again : (k n : ℕ) → n < 256 ^ k → number_of (bytes_of k n) ≡ n
-number_again zero n h = omega arith
-number_again (suc k) n h =
-    let p : 256 ^ suc k ≡ 256 ^ k * 256 = pow-suc 256 k in
-    let q : number_of (bytes_of k (n / 256)) ≡ n / 256 = number_again k (n / 256) (omega arith) in
-    omega arith
-
-pack_low : (d : Decimal) → IsUnpacked d → pack d < 2 ^ 128
-pack_low not_a_number h = omega arith
-pack_low (infinity true) h = omega arith
-pack_low (infinity false) h = omega arith
-pack_low (finite true c e) h = omega (arith, h.0, h.1)
-pack_low (finite false c e) h = omega (arith, h.0, h.1)
-
 unpack_again : (bs : List ℕ) → unpack (number_of (normal_decimal bs)) ≡ unpack (number_of bs)
 unfolding normal_decimal sixteen_bytes
 unpack_again bs =
@@ -71,7 +58,7 @@ regex_tree p t = wrapped of_regex (both (codes "options") (tree.string t) (codes
 
 pub write_normal : (m : Mode) (s : Scalar) → IsRangedScalar s → write_scalar m (normal_scalar s) ≡ write_scalar m s
 write_normal m (double n) h = ap (option_map (wrapped_text of_double)) (double_again n)
-write_normal m (binary s bs) h = ap (λ b. Some (write_binary b bs)) (byte_again (subtype_byte s))
+write_normal m (binary s bs) h = ap (λ b. Some (write_binary b bs)) (subtype_back (subtype_byte s))
 write_normal m (regex p o) h = ap (λ t. Some (regex_tree p t)) (sorted_text_twice o h.1)
 write_normal m (decimal bs) h = ap (λ d. Some (wrapped_text of_decimal (print d))) (unpack_again bs)
 write_normal m _ h = refl

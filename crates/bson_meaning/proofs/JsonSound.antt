@@ -4,12 +4,11 @@ use Rattle.std.specs.Prelude.{◌&&◌, bytes_eq, codes, FitsSigned, IsUtf8}
 use Rattle.std.specs.Int.{w32, w64}
 use Rattle.std.proofs.lemmas.Bool.{ltb-true}
 use Rattle.serde_json.specs.Data as tree
-use Rattle.serde_json.specs.Data.{Data, Num, number, object, unsigned, negative, float}
+use Rattle.serde_json.specs.Data.{Data, number, object, unsigned, negative, float}
 use Rattle.serde_json.specs.Find.{as_i64}
 use Rattle.base64.specs.GeneralPurpose.{decode_of}
 use Rattle.base64.specs.Engines.{standard}
 use Rattle.bson_base.specs.DateText.{date_of}
-use Rattle.bson_base.specs.Decimal.{sixteen_bytes}
 use Rattle.bson_base.specs.Decimal as decimals
 use Rattle.bson_base.specs.Kinds.{AreBytes, HasNo00, IsPlainScalar, IsCleanScalar, IsRangedScalar, IsPlain, IsClean, IsSound}
 use Rattle.bson_base.specs.ObjectIdText.{object_id_of}
@@ -18,7 +17,7 @@ use Rattle.bson_base.specs.Tags.{subtype_of}
 use Rattle.bson_base.specs.Value.{Scalar, undefined, int32, int64, max_key, min_key, Value, scalar, document, Items, no_items, Members, no_members, look_up, EachPart, EachItem, EachMember, HasDistinctKeys, ItemsHaveDistinctKeys, MembersHaveDistinctKeys}
 use Rattle.bson_base.specs.declared.oid.Error as oid
 use Rattle.bson_model.specs.JsonKeys.{Reserved, any_reserved, key_of, reserved_of, scope_key, of_id, of_symbol, of_regex, of_int, of_long, of_double, of_decimal, of_binary, of_uuid, of_code, of_timestamp, of_date, of_min, of_max, of_pointer, of_undefined}
-use Rattle.bson_model.specs.JsonRead.{◌>>=◌, wanted, accepted, accepted_id, text_of, single, under, both, pair_of, below_32, u32_of, is_one, is_true, integer, whole, id_body, regex_body, int_body, long_body, double_body, decimal_body, base64_body, byte_body, binary_body, uuid_body, timestamp_body, date_body, pointer_body, constant, read_body, read_wrapped, with_scope, read, read_items, read_members, read_typed, read_scope}
+use Rattle.bson_model.specs.JsonRead.{◌>>=◌, accepted, text_of, single, under, both, pair_of, below_32, u32_of, is_one, is_true, integer, whole, id_body, regex_body, int_body, long_body, double_body, decimal_body, base64_body, byte_body, binary_body, uuid_body, timestamp_body, date_body, pointer_body, constant, read_body, read_wrapped, with_scope, read, read_items, read_members, read_typed, read_scope}
 use Rattle.bson_model.specs.JsonTexts.{fits_32, int_of, long_of, byte_of}
 use Rattle.bson_model.specs.declared.extjson.de.Error.{Error}
 use Rattle.bson_model.specs.declared.extjson.de.Error.TheVariants.{DeserializationError}
@@ -26,26 +25,18 @@ use Rattle.bson_meaning.specs.JsonTrees.{IsAbsent, IsJson, AreJson, IsJsonObject
 use Rattle.bson_meaning.specs.Meaning.{norm_members, asc_members}
 use Rattle.bson_meaning.proofs.JsonBase64.{base64_ranged}
 use Rattle.bson_meaning.proofs.JsonDates.{date_ranged}
-use Rattle.bson_meaning.proofs.JsonRanges.{id_ranged, int_ranged, long_ranged, double_ranged, byte_ranged, sixteen_ranged, fits_32_so}
+use Rattle.bson_meaning.proofs.JsonRanges.{id_ranged, int_ranged, long_ranged, double_ranged, byte_ranged, sixteen_ranged}
 use Rattle.bson_meaning.proofs.JsonReads.{bound}
 use Rattle.bson_meaning.proofs.JsonUuids.{uuid_ranged}
 use Rattle.bson_meaning.proofs.KeyLaw.{asc_distinct}
 use Rattle.bson_meaning.proofs.Normal.{normal_scalar_ranged, normal_scalar_plain, normal_scalar_clean, norm_each, asc_each, both_each}
-use Rattle.bson_meaning.proofs.NormalScalars.{byte_again, sorted_text_utf8}
+
+use Rattle.bson_bytes.proofs.Meant.{subtype_back}
+use Rattle.bson_model.proofs.JsonTextsLemmas.{so_fits_32}
+use Rattle.bson_bytes.proofs.Options.{text_sorted}
+use Rattle.bson_model.proofs.JsonGrammarLemmas.{wanted_ok, accepted_ok, accepted_id_ok}
 
 -- ---- steps that gave something
-
-wanted_ok : {A : Type 0} (o : Option A) (x : A) → wanted o ≡ Ok x → o ≡ Some x
-wanted_ok (Some y) x e = let i : y ≡ x = cc in ap Some i
-wanted_ok None x e = cc
-
-accepted_ok : {A E : Type 0} (r : Result A E) (x : A) → accepted r ≡ Ok x → r ≡ Ok x
-accepted_ok (Ok y) x e = let i : y ≡ x = cc in ap Ok i
-accepted_ok (Err y) x e = cc
-
-accepted_id_ok : {A : Type 0} (r : Result A oid.Error) (x : A) → accepted_id r ≡ Ok x → r ≡ Ok x
-accepted_id_ok (Ok y) x e = let i : y ≡ x = cc in ap Ok i
-accepted_id_ok (Err y) x e = cc
 
 same_ok : {A : Type 0} (x y : A) → ◌≡◌ {A = Result A Error} (Ok x) (Ok y) → x ≡ y
 same_ok x y e = cc
@@ -102,7 +93,7 @@ base64_body_ranged : (b : ℕ) → b < 256 → (j : Data) (s : Scalar) → IsJso
 base64_body_ranged b h j s u e =
     let a = bound (text_of j) _ s e in
     let c = bound (accepted (decode_of standard a.first)) _ s a.there in
-    subst IsRangedScalar (same_ok _ s c.there) (subst (λ n. n < 256) (sym (byte_again b)) h, base64_ranged a.first c.first (text_ranged j a.first u a.here) (accepted_ok (decode_of standard a.first) c.first c.here))
+    subst IsRangedScalar (same_ok _ s c.there) (subst (λ n. n < 256) (sym (subtype_back b)) h, base64_ranged a.first c.first (text_ranged j a.first u a.here) (accepted_ok (decode_of standard a.first) c.first c.here))
 
 binary_body_ranged : (j : Data) (s : Scalar) → IsJson j → binary_body j ≡ Ok s → IsRangedScalar s
 binary_body_ranged j s h e =
@@ -150,7 +141,7 @@ regex_body_ranged j p h e =
     let b = bound (text_of a.first.0) _ p a.there in
     let c = bound (text_of a.first.1) _ p b.there in
     subst (λ (r : List ℕ × List ℕ). IsUtf8 r.0 × IsUtf8 r.1) (same_ok _ p c.there)
-    (text_ranged a.first.1 c.first q.1 c.here, sorted_text_utf8 b.first (text_ranged a.first.0 b.first q.0 b.here))
+    (text_ranged a.first.1 c.first q.1 c.here, text_sorted b.first (text_ranged a.first.0 b.first q.0 b.here))
 
 pointer_body_ranged : (j : Data) (p : List ℕ × List ℕ) → IsJson j → pointer_body j ≡ Ok p → IsUtf8 p.0 × (length p.1 ≡ 12) × AreBytes p.1
 pointer_body_ranged j p h e =
@@ -193,7 +184,7 @@ integer_fine : (z : ℤ) → FitsSigned w64 z → Fine (integer z)
 integer_fine z h = by (fits_32 z) refl
   where
     by : (b : Bool) → fits_32 z ≡ b → Fine (if b then scalar (int32 z) else scalar (int64 z))
-    by true e = (fits_32_so z e, tt)
+    by true e = (so_fits_32 z e, tt)
     by false e = (h, tt)
 
 whole_fine : (o : Option ℤ) (v : Value) → ((z : ℤ) → o ≡ Some z → FitsSigned w64 z) → whole o ≡ Ok v → Fine v

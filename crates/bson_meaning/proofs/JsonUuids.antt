@@ -1,5 +1,5 @@
 -- What the text of a UUID reads as is bytes.
-use Rattle.std.proofs.Common.{◌≡◌, ℕ, zero, suc, ◌+◌, ◌*◌, ◌<◌, ◌==◌, ◌&&◌, Bool, true, false, if◌then◌else◌, List, [], ◌∷◌, ◌++◌, length, take, drop, Option, Some, None, Ok, refl, subst, arith}
+use Rattle.std.proofs.Common.{◌≡◌, ℕ, zero, suc, ◌+◌, ◌*◌, ◌<◌, ◌==◌, ◌&&◌, Bool, true, false, if◌then◌else◌, List, [], ◌∷◌, length, take, drop, Option, Some, None, Ok, refl, subst, arith}
 use Rattle.std.specs.Prelude.{slice_index}
 use Rattle.std.specs.List.{list_all}
 use Rattle.uuid.specs.Text.{by_index, byte_of_digits, close_brace, digits_of, has_hyphens, has_urn_prefix, is_hex_digit, open_brace, parsed, parsed_braced, parsed_hyphenated, parsed_simple, parsed_urn, value_of}
@@ -7,10 +7,7 @@ use Rattle.uuid_text.specs.UuidText.{uuid_of}
 use Rattle.bson_base.specs.Kinds.{AreBytes}
 use Rattle.bson_base.specs.ScalarTexts.{read_uuid, valid_uuid}
 use Rattle.bson_base.proofs.PrintedReads.{both}
-
-are_joined : (a b : List ℕ) → AreBytes a → AreBytes b → AreBytes (a ++ b)
-are_joined [] b h k = k
-are_joined (x ∷ a) b h k = (h.0, are_joined a b h.1 k)
+use Rattle.bson_meaning.proofs.JsonBase64.{are_joined}
 
 value_low : (c : ℕ) → is_hex_digit c ≡ true → value_of c < 16
 value_low c h = grind arith

@@ -10,34 +10,36 @@ use Rattle.bson_base.specs.Kinds.{IsPlainScalar, IsCleanScalar, IsRangedScalar}
 use Rattle.bson_base.specs.Tags.{subtype_byte, subtype_of}
 use Rattle.bson_meaning.specs.Meaning.{normal_scalar, norm, norm_items, norm_members, place, asc, asc_items, asc_members}
 use Rattle.bson_base.specs.Value.{Scalar, double, string, binary, regex, code, decimal, Value, scalar, array, document, scoped_code, Items, no_items, item, Members, no_members, member, look_up, EachPart, EachItem, EachMember, HasDistinctKeys, ItemsHaveDistinctKeys, MembersHaveDistinctKeys}
-use Rattle.bson_meaning.proofs.NormalScalars.{normal_double_twice, normal_double_fits, byte_again, sorted_text_twice, sorted_text_length, sorted_text_plain, sorted_text_utf8, sorted_text_clean}
+use Rattle.bson_meaning.proofs.NormalScalars.{normal_double_twice, normal_double_fits, sorted_text_twice, sorted_text_length, sorted_text_clean}
 use Rattle.bson_meaning.proofs.Decimals.{normal_decimal_length, normal_decimal_bytes, normal_decimal_twice}
 use Rattle.bson_meaning.proofs.Ordered.{tied, same_key, look_up-asc, look_up-norm}
+use Rattle.bson_bytes.proofs.Meant.{subtype_back}
+use Rattle.bson_bytes.proofs.Options.{text_sorted, no_zero_sorted}
 
 -- ---- scalars
 
 pub normal_scalar_twice : (s : Scalar) → IsRangedScalar s → normal_scalar (normal_scalar s) ≡ normal_scalar s
 normal_scalar_twice (double n) h = ap double (normal_double_twice n)
 normal_scalar_twice (regex p o) h = ap (regex p) (sorted_text_twice o h.1)
-normal_scalar_twice (binary s bs) h = ap (λ b. binary (subtype_of b) bs) (byte_again (subtype_byte s))
+normal_scalar_twice (binary s bs) h = ap (λ b. binary (subtype_of b) bs) (subtype_back (subtype_byte s))
 normal_scalar_twice (decimal bs) h = ap decimal (normal_decimal_twice bs)
 normal_scalar_twice _ h = refl
 
 pub normal_scalar_ranged : (s : Scalar) → IsRangedScalar s → IsRangedScalar (normal_scalar s)
 normal_scalar_ranged (double n) h = normal_double_fits n h
-normal_scalar_ranged (regex p o) h = (h.0, sorted_text_utf8 o h.1)
-normal_scalar_ranged (binary s bs) h = (subst (λ b. b < 256) (sym (byte_again (subtype_byte s))) h.0, h.1)
+normal_scalar_ranged (regex p o) h = (h.0, text_sorted o h.1)
+normal_scalar_ranged (binary s bs) h = (subst (λ b. b < 256) (sym (subtype_back (subtype_byte s))) h.0, h.1)
 normal_scalar_ranged (decimal bs) h = (normal_decimal_length bs, normal_decimal_bytes bs)
 normal_scalar_ranged (string t) h = h
 normal_scalar_ranged _ h = h
 
 pub normal_scalar_plain : (s : Scalar) → IsRangedScalar s → IsPlainScalar s → IsPlainScalar (normal_scalar s)
-normal_scalar_plain (regex p o) h k = (k.0, sorted_text_plain o h.1 k.1)
+normal_scalar_plain (regex p o) h k = (k.0, no_zero_sorted o h.1 k.1)
 normal_scalar_plain _ h k = tt
 
 pub normal_scalar_clean : (s : Scalar) → IsRangedScalar s → IsCleanScalar (normal_scalar s)
 normal_scalar_clean (regex p o) h = sorted_text_clean o h.1
-normal_scalar_clean (binary s bs) h = ap subtype_of (byte_again (subtype_byte s))
+normal_scalar_clean (binary s bs) h = ap subtype_of (subtype_back (subtype_byte s))
 normal_scalar_clean _ h = tt
 
 pub normal_scalar_size : (s : Scalar) → IsRangedScalar s → IsCleanScalar s → scalar_size (normal_scalar s) ≡ scalar_size s

@@ -1,14 +1,14 @@
 -- The normal form of a double, of a subtype and of options: taken twice it is taken once, and what it keeps.
-use Rattle.std.proofs.Common.{◌≡◌, ℕ, ◌+◌, ◌^◌, ◌<◌, List, [], ◌∷◌, ◌++◌, length, Bool, true, false, cond, if◌then◌else◌, leb, refl, ap, ◌∙◌, sym, subst, arith, length-append}
-use Rattle.std.proofs.lemmas.Str.{encodes-chars, scalars-chars, chars-encodes}
+use Rattle.std.proofs.Common.{◌≡◌, ℕ, ◌+◌, ◌^◌, ◌<◌, List, [], ◌∷◌, ◌++◌, length, Bool, true, false, cond, if◌then◌else◌, leb, refl, ap, ◌∙◌, sym, arith, length-append}
+use Rattle.std.proofs.lemmas.Str.{encodes-chars}
 use Rattle.std.specs.Prelude.{IsUtf8, chars, ◌&&◌}
-use lib.Utf8.{scalar, scalars, encode, encodes}
+use lib.Utf8.{encode, encodes}
 use Rattle.bson_base.specs.Doubles.{is_nan, is_negative}
 use Rattle.bson_base.specs.Kinds.{HasNo00, NeverDescends}
 use Rattle.bson_base.specs.Options.{put_in_order, ascending, sorted_text}
-use Rattle.bson_base.specs.Tags.{subtype_byte, subtype_of}
 use Rattle.bson_base.proofs.OptionsLemmas.{sorted_text-in_order, sorted_text-kept}
 use Rattle.bson_meaning.specs.Meaning.{normal_double}
+use Rattle.bson_bytes.proofs.Options.{no_zero_both, text_sorted}
 
 -- ---- doubles
 
@@ -41,30 +41,15 @@ normal_double_fits n h = by (is_nan n) (is_negative n)
 
 -- ---- subtypes
 
-pub byte_again : (b : ℕ) → subtype_byte (subtype_of b) ≡ b
-byte_again b = grind arith
-
 -- ---- options
 
-both_true : (a b : Bool) → (a && b) ≡ true → (a ≡ true) × (b ≡ true)
+pub both_true : (a b : Bool) → (a && b) ≡ true → (a ≡ true) × (b ≡ true)
 both_true true b e = (refl, e)
 both_true false b e = (cc, cc)
 
 and_true : (a b : Bool) → a ≡ true → b ≡ true → (a && b) ≡ true
 and_true true b h k = k
 and_true false b h k = h
-
-scalars_put : (c : ℕ) (ds : List ℕ) → scalar c ≡ true → scalars ds ≡ true → scalars (put_in_order c ds) ≡ true
-scalars_put c [] h k = and_true (scalar c) true h refl
-scalars_put c (d ∷ ds) h k = by (scalars_put c ds h (both_true (scalar d) (scalars ds) k).1) (leb c d)
-  where
-    by : scalars (put_in_order c ds) ≡ true → (b : Bool) → scalars (cond b (c ∷ d ∷ ds) (d ∷ put_in_order c ds)) ≡ true
-    by r true = and_true (scalar c) (scalars (d ∷ ds)) h k
-    by r false = and_true (scalar d) (scalars (put_in_order c ds)) (both_true (scalar d) (scalars ds) k).0 r
-
-pub scalars_ascending : (cs : List ℕ) → scalars cs ≡ true → scalars (ascending cs) ≡ true
-scalars_ascending [] h = refl
-scalars_ascending (c ∷ cs) h = let p = both_true (scalar c) (scalars cs) h in scalars_put c (ascending cs) p.0 (scalars_ascending cs p.1)
 
 length_put : (c : ℕ) (ds : List ℕ) → length (encodes (put_in_order c ds)) ≡ length (encode c) + length (encodes ds)
 length_put c [] = simp length-append
@@ -78,37 +63,27 @@ length_ascending : (cs : List ℕ) → length (encodes (ascending cs)) ≡ lengt
 length_ascending [] = refl
 length_ascending (c ∷ cs) = length_put c (ascending cs) ∙ ap (λ n. length (encode c) + n) (length_ascending cs) ∙ sym (length-append (encode c) (encodes cs))
 
-no_00_join : (a b : List ℕ) → HasNo00 a → HasNo00 b → HasNo00 (a ++ b)
-no_00_join [] b h k = k
-no_00_join (x ∷ a) b h k = (h.0, no_00_join a b h.1 k)
-
-no_00_parts : (a b : List ℕ) → HasNo00 (a ++ b) → HasNo00 a × HasNo00 b
+pub no_00_parts : (a b : List ℕ) → HasNo00 (a ++ b) → HasNo00 a × HasNo00 b
 no_00_parts [] b h = (tt, h)
 no_00_parts (x ∷ a) b h = let r = no_00_parts a b h.1 in ((h.0, r.0), r.1)
 
 no_00_put : (c : ℕ) (ds : List ℕ) → HasNo00 (encode c) → HasNo00 (encodes ds) → HasNo00 (encodes (put_in_order c ds))
-no_00_put c [] h k = no_00_join (encode c) [] h tt
+no_00_put c [] h k = no_zero_both (encode c) [] h tt
 no_00_put c (d ∷ ds) h k = by (no_00_put c ds h (no_00_parts (encode d) (encodes ds) k).1) (leb c d)
   where
     by : HasNo00 (encodes (put_in_order c ds)) → (b : Bool) → HasNo00 (encodes (cond b (c ∷ d ∷ ds) (d ∷ put_in_order c ds)))
-    by r true = no_00_join (encode c) (encodes (d ∷ ds)) h k
-    by r false = no_00_join (encode d) (encodes (put_in_order c ds)) (no_00_parts (encode d) (encodes ds) k).0 r
+    by r true = no_zero_both (encode c) (encodes (d ∷ ds)) h k
+    by r false = no_zero_both (encode d) (encodes (put_in_order c ds)) (no_00_parts (encode d) (encodes ds) k).0 r
 
 no_00_ascending : (cs : List ℕ) → HasNo00 (encodes cs) → HasNo00 (encodes (ascending cs))
 no_00_ascending [] h = tt
 no_00_ascending (c ∷ cs) h = let r = no_00_parts (encode c) (encodes cs) h in no_00_put c (ascending cs) r.0 (no_00_ascending cs r.1)
 
-pub sorted_text_utf8 : (t : List ℕ) → IsUtf8 t → IsUtf8 (sorted_text t)
-sorted_text_utf8 t u = (ascending (chars t), (scalars_ascending (chars t) (scalars-chars t u), refl))
-
 pub sorted_text_clean : (t : List ℕ) → IsUtf8 t → NeverDescends (chars (sorted_text t))
 sorted_text_clean t u = sorted_text-in_order t u
 
 pub sorted_text_twice : (t : List ℕ) → IsUtf8 t → sorted_text (sorted_text t) ≡ sorted_text t
-sorted_text_twice t u = sorted_text-kept (sorted_text t) (sorted_text_utf8 t u) (sorted_text_clean t u)
+sorted_text_twice t u = sorted_text-kept (sorted_text t) (text_sorted t u) (sorted_text_clean t u)
 
 pub sorted_text_length : (t : List ℕ) → IsUtf8 t → length (sorted_text t) ≡ length t
 sorted_text_length t u = length_ascending (chars t) ∙ ap length (encodes-chars t u)
-
-pub sorted_text_plain : (t : List ℕ) → IsUtf8 t → HasNo00 t → HasNo00 (sorted_text t)
-sorted_text_plain t u h = no_00_ascending (chars t) (subst HasNo00 (sym (encodes-chars t u)) h)

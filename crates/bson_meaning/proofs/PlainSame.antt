@@ -1,5 +1,5 @@
 -- What means the same as a plain value is plain, and documents of one value mean the same exactly where their values do.
-use Rattle.std.proofs.Common.{◌≡◌, ℕ, List, [], ◌∷◌, ◌++◌, Bool, true, false, cond, leb, Option, Some, None, refl, sym, subst}
+use Rattle.std.proofs.Common.{◌≡◌, ℕ, List, [], ◌∷◌, Bool, true, false, cond, leb, Option, Some, None, refl, sym, subst}
 use Rattle.std.specs.Prelude.{bytes_eq, IsSomeAnd, IsUtf8, chars, is_some}
 use lib.Utf8.{encode as encoded, encodes}
 use Rattle.std.proofs.lemmas.Str.{encodes-chars}
@@ -9,27 +9,21 @@ use Rattle.bson_base.specs.Value.{Scalar, regex, Value, scalar, array, document,
 use Rattle.bson_meaning.specs.Meaning.{normal_scalar, norm, asc, Same, SameItems, SameUnder}
 use Rattle.bson_meaning.proofs.Normal.{normal_scalar_plain, normal_scalar_clean, norm_each, asc_each, both_each}
 use Rattle.bson_meaning.proofs.Ordered.{equal_keys, same_key}
-
-join : (a b : List ℕ) → HasNo00 a → HasNo00 b → HasNo00 (a ++ b)
-join [] b h k = k
-join (x ∷ a) b h k = (h.0, join a b h.1 k)
-
-parts : (a b : List ℕ) → HasNo00 (a ++ b) → HasNo00 a × HasNo00 b
-parts [] b h = (tt, h)
-parts (x ∷ a) b h = let r = parts a b h.1 in ((h.0, r.0), r.1)
+use Rattle.bson_bytes.proofs.Options.{no_zero_both}
+use Rattle.bson_meaning.proofs.NormalScalars.{no_00_parts}
 
 placed_back : (c : ℕ) (ds : List ℕ) → HasNo00 (encodes (put_in_order c ds)) → HasNo00 (encoded c) × HasNo00 (encodes ds)
-placed_back c [] h = ((parts (encoded c) [] h).0, tt)
+placed_back c [] h = ((no_00_parts (encoded c) [] h).0, tt)
 placed_back c (d ∷ ds) h = by (placed_back c ds) (leb c d) h
   where
     by : (HasNo00 (encodes (put_in_order c ds)) → HasNo00 (encoded c) × HasNo00 (encodes ds)) → (b : Bool)
         → HasNo00 (encodes (cond b (c ∷ d ∷ ds) (d ∷ put_in_order c ds))) → HasNo00 (encoded c) × HasNo00 (encodes (d ∷ ds))
-    by f true h = parts (encoded c) (encodes (d ∷ ds)) h
-    by f false h = let p = parts (encoded d) (encodes (put_in_order c ds)) h in let r = f p.1 in (r.0, join (encoded d) (encodes ds) p.0 r.1)
+    by f true h = no_00_parts (encoded c) (encodes (d ∷ ds)) h
+    by f false h = let p = no_00_parts (encoded d) (encodes (put_in_order c ds)) h in let r = f p.1 in (r.0, no_zero_both (encoded d) (encodes ds) p.0 r.1)
 
 ordered_back : (cs : List ℕ) → HasNo00 (encodes (ascending cs)) → HasNo00 (encodes cs)
 ordered_back [] h = tt
-ordered_back (c ∷ cs) h = let r = placed_back c (ascending cs) h in join (encoded c) (encodes cs) r.0 (ordered_back cs r.1)
+ordered_back (c ∷ cs) h = let r = placed_back c (ascending cs) h in no_zero_both (encoded c) (encodes cs) r.0 (ordered_back cs r.1)
 
 sorted_back : (t : List ℕ) → IsUtf8 t → HasNo00 (sorted_text t) → HasNo00 t
 sorted_back t u h = subst HasNo00 (encodes-chars t u) (ordered_back (chars t) h)
@@ -38,7 +32,7 @@ normal_back : (s : Scalar) → IsRangedScalar s → IsPlainScalar (normal_scalar
 normal_back (regex p o) u h = (h.0, sorted_back o u.1 h.1)
 normal_back _ u h = tt
 
-key_at : (K : List ℕ → Type 0) (S : Scalar → Type 0) (ms : Members) (k : List ℕ) (v : Value) → EachMember K S ms → look_up k ms ≡ Some v → K k × EachPart K S v
+pub key_at : (K : List ℕ → Type 0) (S : Scalar → Type 0) (ms : Members) (k : List ℕ) (v : Value) → EachMember K S ms → look_up k ms ≡ Some v → K k × EachPart K S v
 key_at K S no_members k v h e = cc
 key_at K S (member l w ms) k v h e = by (bytes_eq k l) refl e (key_at K S ms k v h.2)
   where
@@ -46,7 +40,7 @@ key_at K S (member l w ms) k v h e = by (bytes_eq k l) refl e (key_at K S ms k v
     by true i e rest = let same : w ≡ v = cc in (subst K (sym (equal_keys k l i)) h.0, subst (EachPart K S) same h.1)
     by false i e rest = rest e
 
-some_found : {X : Type 0} (o : Option Value) (P : Value → Type 0) → ((v : Value) → o ≡ Some v → P v → X) → IsSomeAnd o P → X
+pub some_found : {X : Type 0} (o : Option Value) (P : Value → Type 0) → ((v : Value) → o ≡ Some v → P v → X) → IsSomeAnd o P → X
 some_found None P f h = absurd h
 some_found (Some v) P f h = f v refl h
 
@@ -80,7 +74,7 @@ plain_on v w s t h p = plain_same v w h s.ranged t.ranged p
 abbrev only : List ℕ → Value → Value
 only k v = document (member k v no_members)
 
-only_same : (k : List ℕ) (v w : Value) → Same v w → Same (only k v) (only k w)
+pub only_same : (k : List ℕ) (v w : Value) → Same v w → Same (only k v) (only k w)
 only_same k v w h = (λ l. by (bytes_eq l k), (subst (λ b. IsSomeAnd (cond b (Some w) None) (λ x. Same v x)) (sym (same_key k)) h, tt))
   where
     by : (b : Bool) → is_some (cond b (Some v) None) ≡ is_some (cond b (Some w) None)

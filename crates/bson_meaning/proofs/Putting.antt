@@ -1,5 +1,5 @@
 -- Pairs whose keys stand once, put one after the other, make their own list.
-use Rattle.std.proofs.Common.{◌≡◌, ℕ, List, [], ◌∷◌, ◌++◌, map, Bool, true, false, cond, Option, Some, None, bytes_eq, String, Global, refl, ap, ◌∙◌, sym, subst, append_assoc, append-nil, length, arith}
+use Rattle.std.proofs.Common.{◌≡◌, List, [], ◌∷◌, ◌++◌, map, Bool, true, false, cond, Option, Some, None, bytes_eq, String, Global, refl, ap, ◌∙◌, sym, subst, append_assoc, append-nil}
 use Rattle.std.specs.Option.{option_map}
 use Rattle.bson_base.specs.Value.{Value, item, member, MembersHaveDistinctKeys}
 use Rattle.bson_model.specs.Extend.{put_all}
@@ -9,7 +9,7 @@ use Rattle.bson_model.specs.View.{view, items_of, members_of}
 use Rattle.bson_model.specs.declared.bson.Bson.{Bson}
 use Rattle.bson_model.proofs.EqualLemmas.{look_up-members_of}
 use Rattle.bson_meaning.specs.Meaning.{norm, norm_items, norm_members, asc, asc_items}
-use Rattle.bson_meaning.specs.Pairs.{normal_pair, sorted_pair}
+use Rattle.bson_meaning.specs.Pairs.{normal_pair}
 use Rattle.bson_meaning.proofs.Ordered.{equal_keys, same_key}
 
 -- each key stands once, on this level
@@ -99,7 +99,3 @@ sorted_items (v ∷ vs) = ap (item (asc (view v))) (sorted_items vs)
 
 pub finished : {A B : Type 0} (f : A → B) (done : List B) (rest all : List A) → done ++ map f rest ≡ map f all → rest ≡ [] → done ≡ map f all
 finished f done rest all h e = sym (append-nil done) ∙ ap (λ xs. done ++ map f xs) (sym e) ∙ h
-
-pub no_more : {A : Type 0} (xs : List A) → length xs ≡ 0 → xs ≡ []
-no_more [] e = refl
-no_more (x ∷ xs) e = absurd (omega arith)

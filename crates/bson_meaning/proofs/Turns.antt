@@ -3,16 +3,13 @@ use Rattle.std.proofs.Common.{◌≡◌, ◌↔◌, ℕ, suc, List, [], ◌∷�
 use Rattle.std.proofs.lemmas.Bool.{eqb-true}
 use Rattle.std.specs.Prelude.{is_some, IsSomeAnd}
 use Rattle.bson_base.specs.Value.{Value, Members, look_up, has_key, levels, members_levels}
-use Rattle.bson_model.specs.Keyed.{Key, get}
+use Rattle.bson_model.specs.Keyed.{Key}
 use Rattle.bson_model.specs.Keyed as keyed
 use Rattle.bson_model.specs.View.{view, items_of, members_of}
 use Rattle.bson_model.specs.declared.bson.Bson.{Bson}
 use Rattle.bson_model.proofs.EqualLemmas.{look_up-members_of}
 use Rattle.bson_meaning.specs.Meaning.{Same, SameItems, SameUnder}
 use Rattle.bson_meaning.specs.Sames.{HasKeysOf}
-
-pub untrue : (b : Bool) → b ≡ false → IsTrue b → ⊥
-untrue b e h = cc
 
 pub has_members : (k : Key) (ps : List (Key × Value)) → has_key k (members_of ps) ≡ keyed.has_key k ps
 has_members k ps = ap is_some (look_up-members_of k ps)

@@ -1,5 +1,5 @@
 -- A view shows a value, element by element.
-use Rattle.std.proofs.Common.{◌≡◌, ◌↔◌, ℕ, zero, suc, ◌+◌, ◌-◌, ◌<◌, ◌≤◌, max, List, [], ◌∷◌, map, drop, Bool, true, false, cond, eqb, eq-eqb, IsTrue, length, Option, Some, None, Result, Ok, Err, bytes_eq, refl, ap, sym, ◌∙◌, subst, arith}
+use Rattle.std.proofs.Common.{◌≡◌, ◌↔◌, ℕ, suc, ◌+◌, ◌-◌, ◌<◌, ◌≤◌, max, List, [], ◌∷◌, map, drop, Bool, true, false, cond, eqb, eq-eqb, IsTrue, length, Option, Some, None, Ok, Err, bytes_eq, refl, ap, sym, ◌∙◌, subst, arith}
 use Rattle.std.proofs.lemmas.Bool.{eqb-true}
 use Rattle.std.specs.Prelude.{IsSomeAnd, is_some}
 use Rattle.bson_base.specs.declared.spec.ElementType.{ElementType}
@@ -9,8 +9,8 @@ use Rattle.bson_bytes.specs.Spells.{HoldsScalar, SpellsValue, SpellsItems, Spell
 use Rattle.bson_bytes.proofs.One.{end_no_frame, one_scalar}
 use Rattle.bson_frame.specs.declared.error.Error.{Error}
 use Rattle.bson_frame.specs.declared.error.ErrorKind.{ErrorKind}
-use Rattle.bson_frame.specs.Frame.{Element, IsFirstFrame}
-use Rattle.bson_frame.specs.Payload.{IsPayload, IsFaultless, IsPayloadFault, text_in, code_in, scope_in}
+use Rattle.bson_frame.specs.Frame.{Element}
+use Rattle.bson_frame.specs.Payload.{IsPayload, IsPayloadFault, text_in, code_in, scope_in}
 use Rattle.bson_frame.proofs.Frames.{frame_is_one}
 use Rattle.bson_frame.proofs.Payloads.{payload_by_itself}
 use Rattle.bson_model.specs.Equal.{SameKeys}
@@ -27,9 +27,10 @@ use Rattle.bson_meaning.specs.Meaning.{Same, SameItems, SameUnder}
 use Rattle.bson_meaning.specs.Sames.{HasKeysOf}
 use Rattle.bson_meaning.specs.Views.{ComparesPayload, shown, Shows, IsRest, IsItemsRest}
 use Rattle.bson_meaning.proofs.Comparing.{keys_under, same_documents}
-use Rattle.bson_meaning.proofs.Turns.{untrue}
+
 use Rattle.bson_meaning.proofs.Held.{scalar_apart}
 use Rattle.bson_meaning.proofs.Ordered.{equal_keys, same_key}
+use Rattle.bson_raw.proofs.Progress.{untrue}
 
 -- how many members there are
 abbrev pub number : Members → ℕ

@@ -1,34 +1,22 @@
 -- What a view of raw bytes spells.
 use Rattle.std.specs.Prelude.{◌≡◌, ◌↔◌, ℕ, List, drop, Bool, IsTrue, Option, Some, None}
-use Rattle.bson_base.specs.Scalars.{id_bytes, millis_of, decimal_bytes}
-use Rattle.bson_base.specs.Value.{Scalar, double, string, binary, undefined, object_id, boolean, date_time, null, regex, db_pointer, code, symbol, int32, timestamp, int64, decimal, max_key, min_key, Value, scalar, array, document, scoped_code, Items, no_items, Members, no_members, value_kind, HasDistinctKeys}
+use Rattle.bson_base.specs.Value.{Scalar, null, Value, scalar, array, document, scoped_code, Items, no_items, Members, no_members, value_kind, HasDistinctKeys}
 use Rattle.bson_bytes.specs.Spells.{SpellsValue, SpellsItems, SpellsMembers}
 use Rattle.bson_frame.specs.Frame.{Element}
 use Rattle.bson_meaning.specs.Meaning.{Same}
+use Rattle.bson_raw.specs.Raw.{RawValue, leaf, ref_value}
 use Rattle.bson_raw.specs.View.{bytes_of, array_bytes}
 use Rattle.bson_raw.specs.declared.bson_ref.RawBsonRef.{RawBsonRef}
 use Rattle.bson_raw.specs.declared.bson_ref.RawBsonRef.TheVariants as views
 
--- the scalar that a view shows; null for views of documents and arrays
+-- the scalar that a raw value is; null for documents and arrays
+abbrev pub scalar_in : RawValue → Scalar
+scalar_in (leaf s) = s
+scalar_in _ = null
+
+-- the scalar that a view shows
 abbrev pub shown : RawBsonRef → Scalar
-shown (views.Double x) = double x.0
-shown (views.String x) = string x.now
-shown (views.Boolean x) = boolean x
-shown (views.RegularExpression x) = regex x.pattern.now x.options.now
-shown (views.JavaScriptCode x) = code x.now
-shown (views.Int32 x) = int32 x
-shown (views.Int64 x) = int64 x
-shown (views.Timestamp x) = timestamp x.time x.increment
-shown (views.Binary x) = binary x.subtype x.bytes.now
-shown (views.ObjectId x) = object_id (id_bytes x)
-shown (views.DateTime x) = date_time (millis_of x)
-shown (views.Symbol x) = symbol x.now
-shown (views.Decimal128 x) = decimal (decimal_bytes x)
-shown views.Undefined = undefined
-shown views.MaxKey = max_key
-shown views.MinKey = min_key
-shown (views.DbPointer x) = db_pointer x.namespace.now (id_bytes x.id)
-shown _ = null
+shown raw = scalar_in (ref_value raw)
 
 -- the view shows the value, whose documents its bytes spell without a fault at any level
 abbrev pub Shows : RawBsonRef → Value → Type 0

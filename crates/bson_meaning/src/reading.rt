@@ -1,13 +1,11 @@
 //! The gate for bytes.
 
-ghost use Rattle.std.specs.Prelude.{◌≡◌, ◌↔◌, ◌≤◌, ◌∷◌, [], ℕ, List, length, IsTrue, MatchOption, MatchResult};
-ghost use Rattle.bson_frame.specs.Frame.{HasNoFrame, IsFirstFrame};
-ghost use Rattle.bson_frame.specs.View.{element_of};
+ghost use Rattle.std.specs.Prelude.{◌≡◌, ◌≤◌, ℕ, List, length, MatchOption, MatchResult};
 ghost use Rattle.bson_frame.specs.Payload.{IsPayload, IsFaultless, scope_in};
 ghost use Rattle.bson_base.specs.declared.spec.ElementType.TheVariants.{JavaScriptCodeWithScope};
 ghost use Rattle.bson_meaning.specs.Gate.{HoldsDocument, IsCounted, IsRefused, Passes, ReadsElements, ReadsPayload};
 
-use bson_frame::{Frame, frame, payload_fault, text_at};
+use bson_frame::{Frame, is_end, payload_fault, sized_frame, text_at};
 use bson_model::ElementType;
 use thiserror::Error;
 
@@ -83,25 +81,6 @@ fn test_elements(elements: &[u8], inner: u32) -> Result<(), GateError>
         rest = frame.rest;
     }
     Ok(())
-}
-
-/// The first frame; its payload has the size of its kind by itself.
-fn sized_frame(bytes: &[u8]) -> Option<Frame<'_>>
-    ensures { MatchOption result (HasNoFrame bytes.now)
-        (λ f. IsFirstFrame bytes.now (element_of f) f.rest.now × IsPayload f.tag f.payload.now) }
-{
-    bson_frame::laws::payload_by_itself();
-    match frame(bytes) {
-        Ok(frame) => Some(frame),
-        Err(_) => None,
-    }
-}
-
-/// Whether only the last byte of a document is left.
-fn is_end(bytes: &[u8]) -> bool
-    ensures { IsTrue result ↔ (bytes.now ≡ 0 ∷ []) }
-{
-    matches!(bytes, [0])
 }
 
 #[cycle(elements)]

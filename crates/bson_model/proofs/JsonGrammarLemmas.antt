@@ -4,7 +4,7 @@ use Rattle.std.proofs.lemmas.Slice.Eq.{bytes_eq-Decides}
 use Rattle.base64.specs.GeneralPurpose.{decode_of}
 use Rattle.base64.specs.Engines.{standard}
 use Rattle.serde_json.specs.Data as tree
-use Rattle.serde_json.specs.Data.{Num, unsigned, negative, float, Data, number, string as text, object}
+use Rattle.serde_json.specs.Data.{unsigned, Data, number, string as text, object}
 use Rattle.serde_json.specs.Find.{as_i64}
 use Rattle.bson_base.specs.DateText.{date_of}
 use Rattle.bson_base.specs.Decimal.{read as decimal_of, sixteen_bytes}
@@ -29,15 +29,15 @@ bind_ok : {A B : Type 0} (r : Result A Error) (f : A → Result B Error) (y : B)
 bind_ok (Ok x) f y h = (x, refl, h)
 bind_ok (Err e) f y h = absurd (cc h)
 
-wanted_ok : {A : Type 0} (o : Option A) (x : A) → wanted o ≡ Ok x → o ≡ Some x
+pub wanted_ok : {A : Type 0} (o : Option A) (x : A) → wanted o ≡ Ok x → o ≡ Some x
 wanted_ok (Some y) x h = cc h
 wanted_ok None x h = absurd (cc h)
 
-accepted_ok : {A E : Type 0} (r : Result A E) (x : A) → accepted r ≡ Ok x → r ≡ Ok x
+pub accepted_ok : {A E : Type 0} (r : Result A E) (x : A) → accepted r ≡ Ok x → r ≡ Ok x
 accepted_ok (Ok y) x h = cc h
 accepted_ok (Err e) x h = absurd (cc h)
 
-accepted_id_ok : {A : Type 0} (r : Result A oid.Error) (x : A) → accepted_id r ≡ Ok x → r ≡ Ok x
+pub accepted_id_ok : {A : Type 0} (r : Result A oid.Error) (x : A) → accepted_id r ≡ Ok x → r ≡ Ok x
 accepted_id_ok (Ok y) x h = cc h
 accepted_id_ok (Err e) x h = absurd (cc h)
 

@@ -64,19 +64,19 @@ integer_none t h = by (is_digits (signed t).1) refl
 
 -- ---- ranges
 
-fits_32_so : (z : ℤ) → FitsSigned w32 z → fits_32 z ≡ true
+pub fits_32_so : (z : ℤ) → FitsSigned w32 z → fits_32 z ≡ true
 fits_32_so (pos n) h = let k : n < 2 ^ 31 = h.sfits in grind arith
 fits_32_so (negsuc n) h = let k : n < 2 ^ 31 = h.sfits in grind arith
 
-so_fits_32 : (z : ℤ) → fits_32 z ≡ true → FitsSigned w32 z
+pub so_fits_32 : (z : ℤ) → fits_32 z ≡ true → FitsSigned w32 z
 so_fits_32 (pos n) h = record { sfits = grind arith }
 so_fits_32 (negsuc n) h = record { sfits = grind arith }
 
-fits_64_so : (z : ℤ) → FitsSigned w64 z → fits_64 z ≡ true
+pub fits_64_so : (z : ℤ) → FitsSigned w64 z → fits_64 z ≡ true
 fits_64_so (pos n) h = let k : n < 2 ^ 63 = h.sfits in grind arith
 fits_64_so (negsuc n) h = let k : n < 2 ^ 63 = h.sfits in grind arith
 
-so_fits_64 : (z : ℤ) → fits_64 z ≡ true → FitsSigned w64 z
+pub so_fits_64 : (z : ℤ) → fits_64 z ≡ true → FitsSigned w64 z
 so_fits_64 (pos n) h = record { sfits = grind arith }
 so_fits_64 (negsuc n) h = record { sfits = grind arith }
 

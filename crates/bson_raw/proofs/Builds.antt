@@ -1,5 +1,5 @@
 -- Buffers that are built of several values.
-use Rattle.std.proofs.Common.{◌≡◌, ℕ, List, [], ◌∷◌, length, inl, inr, refl, sym, subst, arith}
+use Rattle.std.proofs.Common.{◌≡◌, ℕ, List, [], ◌∷◌, inl, inr, refl, sym, subst}
 use Rattle.bson_bytes.specs.Writing.{IsRefusal, Refuses}
 use Rattle.bson_frame.specs.declared.error.Error.{Error}
 use Rattle.bson_frame.specs.declared.error.ErrorKind.{ErrorKind}
@@ -39,7 +39,3 @@ want_for P k e = subst (λ (x : ErrorKind). Refuses P x) (sym e) tt
 pub no_memory : (bytes : List ℕ) (all : List (List ℕ × RawValue)) (e : Error) → IsBare OutOfMemory e → StopsAt bytes all e
 no_memory bytes [] e b = b
 no_memory bytes (p ∷ pairs) e b = inl (want_for (CanTake bytes p.0 p.1 → ⊥) e.kind b.0, b.1)
-
-pub nothing_left : {A : Type 0} (xs : List A) → length xs ≡ 0 → xs ≡ []
-nothing_left [] h = refl
-nothing_left (x ∷ xs) h = absurd (omega (arith, h))

@@ -14,7 +14,8 @@ use Rattle.bson_raw.specs.Raw as raws
 use Rattle.bson_raw.specs.Raw.{RawValue}
 use Rattle.bson_raw.specs.Convert.{Stands, elements_of, HasFaultInside, Way, here, past, into, elements_in, IsFirstFault, HasFault, HasFaultIn, IsValueOf, MeansItems, ConvertsMembers, ConvertsItems, ConvertsValue, Tells}
 use Rattle.bson_raw.proofs.Progress.{told_on}
-use Rattle.bson_raw.proofs.Walks.{FramesAreOne, end_has_no_frame}
+use Rattle.bson_raw.proofs.Walks.{FramesAreOne}
+use Rattle.bson_bytes.proofs.One.{end_no_frame}
 
 -- a payload that spells a value has no fault of its own
 pub no_fault : (tag : ElementType) (payload : List ℕ) (v : Value) → value_kind v ≡ tag → SpellsValue payload v → IsFaultless tag payload
@@ -52,13 +53,13 @@ IsSpelled e = (v : Value) × (value_kind v ≡ e.tag) × SpellsValue e.payload v
 
 module _ (one : FramesAreOne) where
   pub members_front : (bytes : List ℕ) (e : Element) (rest : List ℕ) → IsFirstFrame bytes e rest → (ms : Members) → SpellsMembers bytes ms → IsSpelled e × ((after : Members) × SpellsMembers rest after)
-  members_front bytes e rest first no_members h = absurd (end_has_no_frame bytes e rest h first)
+  members_front bytes e rest first no_members h = absurd (end_no_frame bytes e rest h first)
   members_front bytes e rest first (member k v ms) h =
       let same = one bytes h.0 e h.1 rest h.2 first in
       (subst IsSpelled same.0 (v, h.4, h.5), (ms, subst (λ (b : List ℕ). SpellsMembers b ms) same.1 h.6))
 
   items_front : (bytes : List ℕ) (e : Element) (rest : List ℕ) → IsFirstFrame bytes e rest → (vs : Items) → SpellsItems bytes vs → IsSpelled e × ((after : Items) × SpellsItems rest after)
-  items_front bytes e rest first no_items h = absurd (end_has_no_frame bytes e rest h first)
+  items_front bytes e rest first no_items h = absurd (end_no_frame bytes e rest h first)
   items_front bytes e rest first (item v vs) h =
       let same = one bytes h.0 e h.1 rest h.2 first in
       (subst IsSpelled same.0 (v, h.3, h.4), (vs, subst (λ (b : List ℕ). SpellsItems b vs) same.1 h.5))

@@ -7,7 +7,7 @@ use Rattle.bson_base.specs.declared.spec.BinarySubtype.{BinarySubtype}
 use Rattle.bson_base.specs.Kinds.{HasNo00}
 use Rattle.bson_base.specs.Tags.{tag_byte, subtype_byte}
 use Rattle.bson_base.specs.Value.{binary}
-use Rattle.bson_bytes.specs.Encode.{le32, ended, framed, text_bytes, scoped, is_old, inner, scalar_bytes, scalar_size}
+use Rattle.bson_bytes.specs.Encode.{le32, ended, framed, text_bytes, scoped, inner, scalar_bytes, scalar_size}
 use Rattle.bson_bytes.specs.Writing.{IsRefusal, Refuses, StartsWith}
 use Rattle.bson_frame.specs.declared.error.Error.{Error}
 use Rattle.bson_frame.specs.declared.error.ErrorKind.{ErrorKind}
@@ -22,20 +22,13 @@ use Rattle.bson_raw.specs.Append.{element_for, element_bytes, body_of, with_elem
 use Rattle.bson_raw.specs.Raw.{RawValue, raw_kind, raw_payload, IsPlainRaw, ref_value}
 use Rattle.bson_raw.specs.Value.{kind_of}
 use Rattle.bson_raw.specs.Written.{CanWrite, Closes}
+use Rattle.bson_bytes.proofs.Lengths.{text_length, ended_length, inner_length}
 
 -- ---- lengths
 
 pub le32_length : (n : ℕ) → length (le32 n) ≡ 4
 unfolding le32
 le32_length n = refl
-
-pub text_length : (t : List ℕ) → length (text_bytes t) ≡ length t + 5
-unfolding text_bytes
-text_length t = omega (arith, length-append (le32 (length t + 1)) (t ++ 0 ∷ []), length-append t (0 ∷ []), le32_length (length t + 1))
-
-pub ended_length : (t : List ℕ) → length (ended t) ≡ length t + 1
-unfolding ended
-ended_length t = omega (arith, length-append t (0 ∷ []))
 
 pub framed_length : (elements : List ℕ) → length (framed elements) ≡ length elements + 5
 unfolding framed
@@ -76,10 +69,6 @@ long_pointer t bs r h = refused_for (2 ^ 31 ≤ length t + 5) (Unit {0} × (leng
 chosen_length : (old : Bool) (bs : List ℕ) → length (if old then le32 (length bs) ++ bs else bs) + 5 ≡ length bs + (if old then 9 else 5)
 chosen_length true bs = omega (arith, length-append (le32 (length bs)) bs, le32_length (length bs))
 chosen_length false bs = refl
-
-inner_length : (s : BinarySubtype) (bs : List ℕ) → length (inner s bs) + 5 ≡ length bs + (if is_old s then 9 else 5)
-unfolding inner
-inner_length s bs = chosen_length (is_old s) bs
 
 pub binary_length : (s : BinarySubtype) (bs : List ℕ) → length (scalar_bytes (binary s bs)) ≡ scalar_size (binary s bs)
 binary_length s bs = omega (arith, length-append (le32 (length (inner s bs))) (subtype_byte s ∷ inner s bs), le32_length (length (inner s bs)), inner_length s bs)

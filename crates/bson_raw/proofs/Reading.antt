@@ -6,7 +6,8 @@ use Rattle.bson_frame.proofs.Payloads.{number_front}
 use Rattle.bson_frame.specs.Frame.{number}
 use Rattle.bson_raw.specs.declared.read_error.ReadError.{ReadError}
 use Rattle.bson_raw.specs.declared.read_error.ReadError.TheVariants.{Reader, EndInside, BadLength, Raw, Memory}
-use Rattle.bson_raw.specs.Input.{Feed, Took, IsInputLength, ReadsRest, ReadsBytes}
+use Rattle.bson_base.specs.Device.{Feed, Took}
+use Rattle.bson_raw.specs.Input.{IsInputLength, ReadsRest, ReadsBytes}
 
 took_both : (old mid new : Feed) (xs ys : List ℕ) → Took old mid xs → Took mid new ys → Took old new (xs ++ ys)
 took_both old mid new xs ys first second = (second.0 ∙ first.0, Gives-trans old.supply mid.supply new.supply xs ys first.1 second.1)

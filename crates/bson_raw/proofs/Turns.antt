@@ -9,7 +9,8 @@ use Rattle.bson_raw.specs.declared.element.RawElement.{RawElement}
 use Rattle.bson_raw.specs.declared.walk.RawIter.{RawIter}
 use Rattle.bson_raw.specs.View.{parts_of, left_of}
 use Rattle.bson_raw.specs.Walk.{IsWalk, walk_items, IsItem, IsSized, IsFound, steps_from, raw_steps, ends_at}
-use Rattle.bson_raw.proofs.Walks.{FramesAreOne, FaultsAreOne, PayloadsAlone, end_has_no_frame}
+use Rattle.bson_raw.proofs.Walks.{FramesAreOne, FaultsAreOne, PayloadsAlone}
+use Rattle.bson_bytes.proofs.One.{end_no_frame}
 
 -- these items of the walk are still to come
 abbrev pub IsLeft : Option (List ℕ) → List (Result Element ErrorKind) → Type 0
@@ -28,7 +29,7 @@ pub record IsTurn (items : List (Result Element ErrorKind)) (x : Result RawEleme
 module _ (one : FramesAreOne) (kind : FaultsAreOne) (alone : PayloadsAlone) where
   walk_at_element : (bytes : List ℕ) (e : Element) (rest : List ℕ) (elements : List Element) (fault : Option ErrorKind) → IsFirstFrame bytes e rest → IsWalk bytes elements fault
       → (more : List Element) × (elements ≡ e ∷ more) × IsWalk rest more fault
-  walk_at_element bytes e rest [] None h w = absurd (end_has_no_frame bytes e rest w h)
+  walk_at_element bytes e rest [] None h w = absurd (end_no_frame bytes e rest w h)
   walk_at_element bytes e rest [] (Some k) h w = absurd (w.1.no_frame e rest h)
   walk_at_element bytes e rest (f ∷ more) fault h w =
       let same = one bytes f e w.0 rest w.1 h in
@@ -43,7 +44,7 @@ module _ (one : FramesAreOne) (kind : FaultsAreOne) (alone : PayloadsAlone) wher
   walk_at_end : (bytes : List ℕ) (elements : List Element) (fault : Option ErrorKind) → bytes ≡ 0 ∷ [] → IsWalk bytes elements fault → walk_items elements fault ≡ []
   walk_at_end bytes [] None e w = refl
   walk_at_end bytes [] (Some j) e w = absurd (w.0 e)
-  walk_at_end bytes (f ∷ more) fault e w = absurd (end_has_no_frame bytes f w.0 e w.1)
+  walk_at_end bytes (f ∷ more) fault e w = absurd (end_no_frame bytes f w.0 e w.1)
 
   pub turn : (s t : Option (List ℕ)) (x : Result RawElement Error) (items : List (Result Element ErrorKind)) → steps_from s (Some x) t → IsLeft s items → IsTurn items x t
   turn None t x items h l = let bad = h.0 in absurd cc

@@ -1,5 +1,5 @@
 -- Walks: bytes have one, it is short, and it ends in its fault.
-use Rattle.std.proofs.Common.{◌≡◌, ◌≢◌, ℕ, zero, suc, ◌+◌, ◌-◌, ◌*◌, ◌/◌, ◌≤◌, List, [], ◌∷◌, ◌++◌, length, drop, slice_get, Option, Some, None, Err, ◌⊎◌, inl, inr, refl, sym, ap, ◌∙◌, subst, arith}
+use Rattle.std.proofs.Common.{◌≡◌, ◌≢◌, ℕ, zero, suc, ◌+◌, ◌-◌, ◌*◌, ◌/◌, ◌≤◌, List, [], ◌∷◌, ◌++◌, length, drop, slice_get, Option, Some, None, Err, ◌⊎◌, inl, inr, refl, sym, ap, subst, arith}
 use Rattle.std.proofs.lemmas.List.{length-append, length-drop}
 use Rattle.bson_base.specs.Tags.{tag_byte}
 use Rattle.bson_base.specs.declared.spec.ElementType.{ElementType}
@@ -8,6 +8,7 @@ use Rattle.bson_frame.specs.declared.error.ErrorKind.{ErrorKind}
 use Rattle.bson_frame.specs.Frame.{Element, IsFirstFrame, IsStructuralFault}
 use Rattle.bson_frame.specs.Payload.{IsPayload}
 use Rattle.bson_raw.specs.Walk.{IsWalk, IsDocumentWalk, walk_items}
+use Rattle.bson_bytes.proofs.One.{end_no_frame}
 
 -- what the lower crate's laws say
 abbrev pub FramesAreOne : Type 0
@@ -59,20 +60,14 @@ kind_is_not_zero kinds.Decimal128 e = absurd (omega (arith, e))
 kind_is_not_zero kinds.MaxKey e = absurd (omega (arith, e))
 kind_is_not_zero kinds.MinKey e = absurd (omega (arith, e))
 
-pub end_has_no_frame : (bytes : List ℕ) (e : Element) (rest : List ℕ) → bytes ≡ 0 ∷ [] → IsFirstFrame bytes e rest → ⊥
-end_has_no_frame bytes e rest end h =
-    let both : 0 ∷ [] ≡ tag_byte e.tag ∷ (e.key ++ 0 ∷ (e.payload ++ rest)) = sym end ∙ h.parts in
-    let heads : tag_byte e.tag ≡ 0 = cc in
-    kind_is_not_zero e.tag heads
-
 pub walk_is_one : FramesAreOne → FaultsAreOne → (bytes : List ℕ) (es fs : List Element) (a b : Option ErrorKind) → IsWalk bytes es a → IsWalk bytes fs b → (es ≡ fs) × (a ≡ b)
 walk_is_one one kind bytes [] [] None None v w = (refl, refl)
 walk_is_one one kind bytes [] [] None (Some k) v w = absurd (w.0 v)
 walk_is_one one kind bytes [] [] (Some j) None v w = absurd (v.0 w)
 walk_is_one one kind bytes [] [] (Some j) (Some k) v w = (refl, ap (λ (x : ErrorKind). Some x) (kind bytes j k v.1 w.1))
-walk_is_one one kind bytes [] (f ∷ fs) None b v w = absurd (end_has_no_frame bytes f w.0 v w.1)
+walk_is_one one kind bytes [] (f ∷ fs) None b v w = absurd (end_no_frame bytes f w.0 v w.1)
 walk_is_one one kind bytes [] (f ∷ fs) (Some j) b v w = absurd (v.1.no_frame f w.0 w.1)
-walk_is_one one kind bytes (e ∷ es) [] a None v w = absurd (end_has_no_frame bytes e v.0 w v.1)
+walk_is_one one kind bytes (e ∷ es) [] a None v w = absurd (end_no_frame bytes e v.0 w v.1)
 walk_is_one one kind bytes (e ∷ es) [] a (Some k) v w = absurd (w.1.no_frame e v.0 v.1)
 walk_is_one one kind bytes (e ∷ es) (f ∷ fs) a b v w =
     let same = one bytes e f v.0 w.0 v.1 w.1 in
@@ -91,7 +86,7 @@ fault_is_last (e ∷ elements) fault (suc k) kind h = omega (arith, fault_is_las
 pub empty_walk : (bytes : List ℕ) (elements : List Element) (fault : Option ErrorKind) → IsWalk bytes elements fault → bytes ≡ 0 ∷ [] → walk_items elements fault ≡ []
 empty_walk bytes [] None w h = refl
 empty_walk bytes [] (Some kind) w h = absurd (w.0 h)
-empty_walk bytes (e ∷ elements) fault w h = absurd (end_has_no_frame bytes e w.0 h w.1)
+empty_walk bytes (e ∷ elements) fault w h = absurd (end_no_frame bytes e w.0 h w.1)
 
 pub no_items : (bytes : List ℕ) (elements : List Element) (fault : Option ErrorKind) → IsWalk bytes elements fault → walk_items elements fault ≡ [] → bytes ≡ 0 ∷ []
 no_items bytes [] None w h = w

@@ -1,7 +1,7 @@
 -- What reading one document does to a source.
 use Rattle.std.specs.Prelude.{◌≡◌, ◌≢◌, ℕ, ◌+◌, ◌<◌, ◌≤◌, List, ◌++◌, drop, length, Result, Ok, Err, Vec, ◌⊎◌}
 use Rattle.std.specs.declared.alloc.Global.{Global}
-use Rattle.bson_base.specs.Device.{Supply, Gives, IsExhausted}
+use Rattle.bson_base.specs.Device.{Feed, Took, TookAll}
 use Rattle.bson_base.specs.Value.{Members}
 use Rattle.bson_bytes.specs.Spells.{Means}
 use Rattle.bson_frame.specs.Frame.{number}
@@ -14,19 +14,6 @@ use Rattle.bson_model.specs.View.{members_of, pairs_of}
 use Rattle.bson_raw.specs.declared.read_error.ReadError.{ReadError}
 use Rattle.bson_raw.specs.declared.read_error.ReadError.TheVariants.{Reader, EndInside, BadLength, Raw, Memory}
 use Rattle.bson_raw.specs.Convert.{HasFault}
-
--- what a source tells: how many of its calls have failed, and what it gave and has left, where it knows that
-pub record Feed : Type 0 where
-  pub failures : ℕ
-  pub supply : Supply
-
--- no call failed, and the source gave these bytes
-abbrev pub Took : Feed → Feed → List ℕ → Type 0
-Took old new bytes = (new.failures ≡ old.failures) × Gives old.supply new.supply bytes
-
--- no call failed, and the source gave these bytes, all that it had left
-abbrev pub TookAll : Feed → Feed → List ℕ → Type 0
-TookAll old new bytes = Took old new bytes × IsExhausted new.supply
 
 -- a length that the document of an input may declare
 abbrev pub IsInputLength : ℕ → Type 0

@@ -1,6 +1,5 @@
 -- The trees of a collection, as a visitor makes them.
-use Rattle.std.proofs.Common.{◌≡◌, ◌≢◌, ◌⊎◌, inl, inr, ℕ, suc, ◌+◌, zero-add, List, [], ◌∷◌, ◌++◌, length, map, Bool, true, false, IsTrue, Option, Some, None, is_some, Result, Ok, Err, refl, ap, ◌∙◌, sym, subst, arith}
-use Rattle.std.proofs.lemmas.List.{append-nil}
+use Rattle.std.proofs.Common.{◌≡◌, ◌⊎◌, inl, inr, ℕ, suc, ◌+◌, zero-add, List, [], ◌∷◌, ◌++◌, length, map, Bool, true, false, Option, Some, None, is_some, Result, Ok, Err, refl, ap, ◌∙◌, sym, subst, arith}
 use Rattle.serde_json.specs.Data.{Data}
 use Rattle.serde_json.specs.View.{view as data_of}
 use Rattle.serde_json.specs.declared.value.Value.{Value as Json}
@@ -20,7 +19,7 @@ use Rattle.store_laws.specs.declared.error.ErrorKind.TheVariants as kind
 use Rattle.bson_store.specs.Shown.{Show}
 use Rattle.bson_store.specs.Calls.{Does}
 use Rattle.bson_store.specs.Dump.{Adds, Gives, TookTrees}
-use Rattle.bson_store.specs.Refusals.{as_json_list, kind_of_fault, refusal, refusal_at, reply_by}
+use Rattle.bson_store.specs.Refusals.{kind_of_fault, refusal, refusal_at}
 use Rattle.bson_store.specs.declared.dump.Trees.{Trees}
 use Rattle.bson_store.specs.declared.error.StoreError.{StoreError}
 use Rattle.bson_store.proofs.Adding.{kept_there}
@@ -88,7 +87,7 @@ parted (x ∷ xs) ys (d ∷ ds) h =
     let p = parted xs ys ds rest in
     record { front = d ∷ p.front; back = p.back; split = ap (λ l. d ∷ l) p.split; written = ap (λ y. y ∷ xs) one ∙ ap (λ l. encode d ∷ l) p.written }
 
-front_kept : (front back : Documents) → AreKept (front ++ back) → AreKept front
+pub front_kept : (front back : Documents) → AreKept (front ++ back) → AreKept front
 front_kept [] back h = tt
 front_kept (d ∷ front) back h = (h.0, front_kept front back h.1)
 

@@ -5,7 +5,7 @@ use Rattle.std.specs.Io.KnownBytes.{Consumes, IsAtEnd}
 use Rattle.serde_json.specs.Data.{Data}
 use Rattle.serde_json.specs.View.{view as tree_of}
 use Rattle.serde_json.specs.declared.value.Value.{Value as Json}
-use Rattle.bson_base.specs.Device.{Supply, Gives}
+use Rattle.bson_base.specs.Device.{Supply, Gives, Feed, TookAll}
 use Rattle.bson_base.specs.Kinds.{AreBytes}
 use Rattle.bson_base.specs.Value.{Members, has_key}
 use Rattle.bson_bytes.specs.Encode.{size}
@@ -25,7 +25,7 @@ use Rattle.store_streams.specs.declared.error.StreamError.{StreamError}
 use Rattle.store_streams.specs.declared.error.StreamError.TheVariants as streams
 use Rattle.store_streams.specs.declared.input.ReadAllError.{ReadAllError}
 use Rattle.store_streams.specs.declared.input.ReadAllError.TheVariants as reads
-use Rattle.store_streams.specs.Feed.{Feed, ReadsAll, StopsReading}
+use Rattle.store_streams.specs.Feed.{StopsReading}
 use Rattle.store_streams.specs.Judging.{Judges}
 use Rattle.store_streams.proofs.Streams.{any_stream}
 use Rattle.bson_store.specs.Calls.{Does}
@@ -112,8 +112,8 @@ import_unread docs n old new reads.Reader good h = (good, refl, h, refl)
 import_unread docs n old new reads.Memory good h = (good, refl, h, refl)
 
 -- memory was wanted once all was read
-memory_left : (docs after : List Doc) (n bytes : List ℕ) (old new : Feed) → IsName n → ReadsAll old new bytes → after ≡ docs → ImportRefused n old new kind.Memory None docs after
-memory_left docs after n bytes old new good all same = (good, refl, (all.0, (bytes, all.1)), same)
+memory_left : (docs after : List Doc) (n bytes : List ℕ) (old new : Feed) → IsName n → TookAll old new bytes → after ≡ docs → ImportRefused n old new kind.Memory None docs after
+memory_left docs after n bytes old new good all same = (good, refl, (bytes, all.0), same)
 
 of_documents : (docs after : List Doc) (n : List ℕ) (old new : Feed) (k : ErrorKind) (i : Option ℕ) → IsOfDocuments k → Takes n old new (refused k i) docs after → ImportRefused n old new k i docs after
 of_documents docs after n old new kind.BadName i told h = absurd told
@@ -121,12 +121,12 @@ of_documents docs after n old new kind.Reader i told h = absurd told
 of_documents docs after n old new kind.Memory i told h = absurd told
 of_documents docs after n old new _ i told h = h
 
-pub import_refused : (docs : List Doc) (n bytes : List ℕ) (old new : Feed) (x : StreamError) → IsName n → AreBytes bytes → ReadsAll old new bytes → Judges (ReadsStream bytes) (Err x) → Imports n old new (Err (refusal_of_stream x)) docs docs
+pub import_refused : (docs : List Doc) (n bytes : List ℕ) (old new : Feed) (x : StreamError) → IsName n → AreBytes bytes → TookAll old new bytes → Judges (ReadsStream bytes) (Err x) → Imports n old new (Err (refusal_of_stream x)) docs docs
 import_refused docs n bytes old new (streams.Refused k i) good range all h =
     of_documents docs docs n old new k (Some i) (first_is 0 h.0 h.1 k i (stream_read bytes h.0 h.1 range h.2).1 h.3) (good, (bytes, all, many_refused docs n (ReadsStream bytes) (streams.Refused k i) good h))
 import_refused docs n bytes old new streams.Memory good range all h = memory_left docs docs n bytes old new good all refl
 
-pub import_added : (docs after : List Doc) (n bytes : List ℕ) (old new : Feed) (rows : Vec Written Global) (r : Result ℕ StoreError) → IsName n → AreBytes bytes → ReadsAll old new bytes → Judges (ReadsStream bytes) (Ok rows)
+pub import_added : (docs after : List Doc) (n bytes : List ℕ) (old new : Feed) (rows : Vec Written Global) (r : Result ℕ StoreError) → IsName n → AreBytes bytes → TookAll old new bytes → Judges (ReadsStream bytes) (Ok rows)
     → AddsAll n rows.items r docs after → Imports n old new r docs after
 import_added docs after n bytes old new rows (Ok k) good range all h added = (good, (bytes, all, many_added docs after n (ReadsStream bytes) rows (Ok k) (stream_sound bytes range) h added))
 import_added docs after n bytes old new rows (Err e) good range all h added = by e added.fault added.same (many_added docs after n (ReadsStream bytes) rows (Err e) (stream_sound bytes range) h added)
@@ -143,7 +143,7 @@ import_added docs after n bytes old new rows (Err e) good range all h added = by
 -- ---- from memory
 
 -- a source that never fails and gives what it has left
-pub from_memory : (docs after : List Doc) (n bytes : List ℕ) (old new : Feed) (r : Result ℕ StoreError) → old.failures ≡ 0 → new.failures ≡ 0 → ((bs : List ℕ) → ReadsAll old new bs → bs ≡ bytes)
+pub from_memory : (docs after : List Doc) (n bytes : List ℕ) (old new : Feed) (r : Result ℕ StoreError) → old.failures ≡ 0 → new.failures ≡ 0 → ((bs : List ℕ) → TookAll old new bs → bs ≡ bytes)
     → Imports n old new r docs after → DoesMany n (ReadsStream bytes) (reply_by as_number r) docs after
 from_memory docs after n bytes old new r before now whole h = by r h
   where

@@ -6,7 +6,7 @@ use Rattle.bson_base.specs.Value.{Members, document}
 use Rattle.bson_bytes.specs.Encode.{encode}
 use Rattle.bson_filter.specs.Filters.{filter_of, path_of}
 use Rattle.bson_table.specs.Rows.{Doc}
-use Rattle.bson_table.specs.Moves.{Moves, Visits, bodies_of}
+use Rattle.bson_table.specs.Moves.{Moves, Visits}
 use Rattle.bson_table.specs.declared.fault.Fault.{Fault}
 use Rattle.store_laws.specs.Filter.{Filter, Selects}
 use Rattle.store_laws.specs.Reading.{Documents}
@@ -26,6 +26,7 @@ use Rattle.bson_store.specs.declared.picking.Projections.{Projections}
 use Rattle.bson_store.proofs.Exporting.{bodies_are}
 use Rattle.bson_store.proofs.Moving.{moved}
 use Rattle.bson_store.proofs.Serving.{answers_stay, denied, undecided}
+use Rattle.bson_store.proofs.Dumping.{front_kept}
 
 -- ---- one document more
 
@@ -126,10 +127,6 @@ front_of (x ∷ xs) ys (d ∷ ds) h =
     let tail : xs ++ ys ≡ map encode ds = cc in
     front_behind d x xs ds head (front_of xs ys ds tail)
 
-kept_front : (front back : Documents) → AreKept (front ++ back) → AreKept front
-kept_front [] back h = tt
-kept_front (d ∷ front) back h = (h.0, kept_front front back h.1)
-
 -- what a picker has taken since it was the first
 abbrev pub Took : {T : Type 0} → (T → T → Documents → Type 0) → Picker T → Picker T → List (List ℕ) → Type 0
 Took took first v bodies = (v.filter.now ≡ first.filter.now) × Gives (took first.taker v.taker) (filter_of v.filter.now) bodies v.fault
@@ -165,7 +162,7 @@ module _ {T : Type 0} (took : T → T → Documents → Type 0) (first last : Pi
         taken = λ a s. tt;
         denied = λ a s.
             let p = front_of w.0 w.1 (documents_of a n) (w.2 ∙ bodies_are n a docs s.each) in
-            let k = kept_front p.front p.back (subst AreKept p.split (kept_of a n s.good)) in
+            let k = front_kept p.front p.back (subst AreKept p.split (kept_of a n s.good)) in
             let t = w.3.1 p.front k p.bodies_are in
             subst (λ o. MatchOption o (Taken (took first.taker last.taker) (filter_of last.filter.now) p.front) IsDenied) is t;
       }

@@ -2,7 +2,7 @@
 use Rattle.std.proofs.lemmas.Int.{ints}
 use Rattle.std.proofs.Math.Dec.{leb}
 use Rattle.std.proofs.lemmas.Bool.Decides.{leb_tells}
-use Rattle.std.proofs.Common.{◌≡◌, ◌≢◌, ◌⊎◌, inl, inr, ℕ, ◌+◌, ℤ, pos, ◌+ℤ◌, ◌<ℤ◌, ◌^◌, suc, ◌<◌, ◌≤◌, List, [], ◌∷◌, ◌++◌, Bool, true, false, cond, IsTrue, Option, Some, None, Ok, Err, is_some, nat_lt, refl, ap, ◌∙◌, sym, subst, arith, append-nil}
+use Rattle.std.proofs.Common.{◌≡◌, ◌≢◌, ◌⊎◌, inl, inr, ℕ, ◌+◌, ℤ, pos, ◌+ℤ◌, ◌<ℤ◌, ◌^◌, suc, ◌<◌, ◌≤◌, List, [], ◌∷◌, ◌++◌, Bool, true, false, cond, Option, Some, None, Ok, Err, is_some, nat_lt, refl, ap, ◌∙◌, sym, subst, arith, append-nil}
 use Rattle.std.specs.Prelude.{IsUtf8}
 use Rattle.std.specs.List.{find}
 use Rattle.std.specs.Option.{option_map}
@@ -55,9 +55,6 @@ pub denied : (docs : List Doc) (c : Command) (x : Fault) → x ≢ faults.Places
 denied docs c faults.Memory other undecided a s = (a, s, (Some memory, ((refl, refl), stays a, undecided)))
 denied docs c faults.Database other undecided a s = (a, s, (Some database, ((refl, refl), stays a, undecided)))
 denied docs c faults.Places other undecided a s = absurd (other refl)
-
-pub untrue : (b : Bool) → b ≡ false → IsTrue b → ⊥
-untrue b e h = cc
 
 pub undecided : (n : List ℕ) (c : Call) → IsName n → (IsDecidedCall c → ⊥) → IsDecided (on n c) → ⊥
 undecided n c good call (inl bad) = bad good

@@ -15,6 +15,7 @@ use Rattle.bson_table.specs.Rows.{Doc, is_named}
 use Rattle.bson_table.specs.Rows as table
 use Rattle.store_documents.specs.Bodies.{IsKeyOf}
 use Rattle.bson_store.specs.Shown.{IsRowOf, AreRowsOf, Rises, Show}
+use Rattle.bson_meaning.proofs.NormalScalars.{both_true}
 
 -- ---- places
 
@@ -62,10 +63,6 @@ shows_more ds a r d s is place good = record {
 }
 
 -- ---- looking up by name and key
-
-both_true : (a b : Bool) → (a && b) ≡ true → (a ≡ true) × (b ≡ true)
-both_true true b h = (refl, h)
-both_true false b h = cc
 
 named_is : (n k : List ℕ) (d : Doc) → is_named n k d ≡ true → (d.coll ≡ n) × (d.idkey ≡ k)
 named_is n k d h = let p = both_true (bytes_eq d.coll n) (bytes_eq d.idkey k) h in (equal_keys d.coll n p.0, equal_keys d.idkey k p.1)

@@ -12,7 +12,8 @@ use Rattle.store_laws.specs.declared.error.ErrorKind.{ErrorKind}
 use Rattle.store_laws.specs.declared.error.ErrorKind.TheVariants.{BadName, DuplicateId, Memory, Reader}
 use Rattle.store_streams.specs.declared.input.ReadAllError.TheVariants as reads
 use Rattle.store_streams.specs.declared.keys.Keys.{Keys}
-use Rattle.store_streams.specs.Feed.{Feed, ReadsAll, StopsReading}
+use Rattle.bson_base.specs.Device.{Feed, TookAll}
+use Rattle.store_streams.specs.Feed.{StopsReading}
 use Rattle.store_streams.specs.Judging.{AreRowsOf}
 use Rattle.store_streams.specs.Keys.{first_taken, has_met}
 use Rattle.bson_store.specs.Calls.{Does}
@@ -27,7 +28,7 @@ DoesMany n Reads r old new = (ds : Documents) × (stop : Option ErrorKind) × (m
 
 -- the reader was read to its end, and the reply is that to its bytes
 abbrev pub Takes : List ℕ → Feed → Feed → model.Reply → List Doc → List Doc → Type 0
-Takes n old new r docs after = model.IsName n × ((bytes : List ℕ) × ReadsAll old new bytes × DoesMany n (ReadsStream bytes) r docs after)
+Takes n old new r docs after = model.IsName n × ((bytes : List ℕ) × TookAll old new bytes × DoesMany n (ReadsStream bytes) r docs after)
 
 -- under a bad name nothing is read; `Reader` tells that a read failed, and no other kind does
 abbrev pub ImportRefused : List ℕ → Feed → Feed → ErrorKind → Option ℕ → List Doc → List Doc → Type 0

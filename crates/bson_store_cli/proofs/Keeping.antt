@@ -14,7 +14,7 @@ use Rattle.store_laws.specs.declared.error.ErrorKind.{ErrorKind}
 use Rattle.store_laws.specs.declared.error.ErrorKind.TheVariants.{DuplicateId, Memory, Database}
 use Rattle.store_laws.proofs.States.{list_of-store}
 use Rattle.store_laws.proofs.Rows.{list_of-state_of}
-use Rattle.store_streams.specs.Feed.{Feed, ReadsAll}
+use Rattle.bson_base.specs.Device.{Feed, TookAll}
 use Rattle.bson_store.specs.Shown.{Show}
 use Rattle.bson_store.specs.Calls.{DoesBytes}
 use Rattle.bson_store_cli.specs.Pipe.{KeepsInput, RefusesInput}
@@ -72,7 +72,7 @@ inserted bytes after x reads (b, shown, (None, (inr bad, follows, may))) = absur
 inserted bytes after (unreadable k) reads (b, shown, (None, (inl (good, (es, answers, put)), follows, may))) = let e = answers.0 in cc
 inserted bytes after (readable d) reads (b, shown, (None, (inl (good, (es, answers, put)), follows, may))) = judged bytes after d b es reads shown put (refusal_of d) refl answers
 
-pub input_kept : (s t : State) (old new : Feed) (bytes : List ℕ) → HasCleanDisk t → Stands s [] → ReadsAll old new bytes → Moves s t (DoesBytes name (insert in_bytes) bytes done) → KeepsInput old new t
+pub input_kept : (s t : State) (old new : Feed) (bytes : List ℕ) → HasCleanDisk t → Stands s [] → TookAll old new bytes → Moves s t (DoesBytes name (insert in_bytes) bytes done) → KeepsInput old new t
 input_kept s t old new bytes clean empty all moves =
     let m = (moves clean).1 [] empty in
     let i = inserted bytes m.0 m.2.0 (m.2.1 is_name) (m.2.2 [] no_rows) in
@@ -81,7 +81,7 @@ input_kept s t old new bytes clean empty all moves =
 -- ---- an insert that is refused
 
 -- nothing is denied where the bytes are refused, and the places of no rows suffice
-denied : (kind : ErrorKind) (w : Denial) (old new : Feed) (bytes : List ℕ) (place : Option ℕ) (x : Reading) → ReadsAll old new bytes → ReadsBytes bytes x
+denied : (kind : ErrorKind) (w : Denial) (old new : Feed) (bytes : List ℕ) (place : Option ℕ) (x : Reading) → TookAll old new bytes → ReadsBytes bytes x
     → refused kind place ≡ refused (kind_of_denial w) None → MayBeDenied (Some w) [] (on name (insert in_bytes x)) → RefusesInput kind old new
 denied kind memory old new bytes place (unreadable k) all reads e may = absurd (may (inr tt))
 denied kind database old new bytes place (unreadable k) all reads e may = absurd (may (inr tt))
@@ -90,7 +90,7 @@ denied kind memory old new bytes place (readable d) all reads e may = let is : M
 denied kind database old new bytes place (readable d) all reads e may = let is : Database ≡ kind = cc in subst (λ k. RefusesInput k old new) is (inr (d, (bytes, all, reads)))
 denied kind places old new bytes place (readable d) all reads e may = absurd (omega (arith, may.1.0))
 
-not_judged : (kind : ErrorKind) (old new : Feed) (bytes : List ℕ) (place : Option ℕ) (d : Members) (es : Documents) → ReadsAll old new bytes → ReadsBytes bytes (readable d)
+not_judged : (kind : ErrorKind) (old new : Feed) (bytes : List ℕ) (place : Option ℕ) (d : Members) (es : Documents) → TookAll old new bytes → ReadsBytes bytes (readable d)
     → (o : Option ErrorKind) → refusal_of d ≡ o → AnswersAs o d (list_of (state_of []) name) (refused kind place) es → RefusesInput kind old new
 not_judged kind old new bytes place d es all reads None e (inl taken) = absurd (none_is_taken d (list_of (state_of []) name) (list_of-state_of [] name) taken.0)
 not_judged kind old new bytes place d es all reads None e (inr free) = let f = free.1.0 in cc
@@ -99,7 +99,7 @@ not_judged kind old new bytes place d es all reads (Some k) e refuses =
     let is : k ≡ kind = cc in
     input_refused kind old new (bytes, all, inr (d, reads, e ∙ ap (λ (x : ErrorKind). Some x) is))
 
-not_inserted : (kind : ErrorKind) (old new : Feed) (bytes : List ℕ) (place : Option ℕ) (after : List Doc) (x : Reading) → ReadsAll old new bytes → ReadsBytes bytes x
+not_inserted : (kind : ErrorKind) (old new : Feed) (bytes : List ℕ) (place : Option ℕ) (after : List Doc) (x : Reading) → TookAll old new bytes → ReadsBytes bytes x
     → Served x (refused kind place) after → RefusesInput kind old new
 not_inserted kind old new bytes place after x all reads (b, shown, (Some w, (turn, follows, may))) = denied kind w old new bytes place x all reads turn.0 may
 not_inserted kind old new bytes place after x all reads (b, shown, (None, (inr bad, follows, may))) = absurd (bad.0 is_name)
@@ -110,7 +110,7 @@ not_inserted kind old new bytes place after (unreadable k) all reads (b, shown, 
 not_inserted kind old new bytes place after (readable d) all reads (b, shown, (None, (inl (good, (es, answers, put)), follows, may))) =
     not_judged kind old new bytes place d es all reads (refusal_of d) refl answers
 
-pub input_not_kept : (s t : State) (old new : Feed) (bytes : List ℕ) (kind : ErrorKind) (place : Option ℕ) → HasCleanDisk t → Stands s [] → ReadsAll old new bytes
+pub input_not_kept : (s t : State) (old new : Feed) (bytes : List ℕ) (kind : ErrorKind) (place : Option ℕ) → HasCleanDisk t → Stands s [] → TookAll old new bytes
     → Moves s t (DoesBytes name (insert in_bytes) bytes (refused kind place)) → RefusesInput kind old new
 input_not_kept s t old new bytes kind place clean empty all moves =
     let m = (moves clean).1 [] empty in

@@ -10,7 +10,7 @@ use Rattle.store_laws.specs.Reading.{kind_of, readable, unreadable, ReadsBytes}
 use Rattle.store_laws.specs.State.{id_key, refusal_of}
 use Rattle.store_laws.specs.declared.error.ErrorKind.{ErrorKind}
 use Rattle.store_laws.specs.declared.error.ErrorKind.TheVariants.{NoId, TooLong, Memory, Database, Reader, Writer}
-use Rattle.store_streams.specs.Feed.{Feed}
+use Rattle.bson_base.specs.Device.{Feed}
 use Rattle.bson_store_cli.specs.Pipe.{ReadsRefused, RefusesInput}
 
 -- why bytes are refused, or the document that they mean

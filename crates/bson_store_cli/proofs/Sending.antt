@@ -9,7 +9,7 @@ use Rattle.store_laws.specs.State.{list_of, refusal_of}
 use Rattle.store_laws.specs.Table.{Table, state_of}
 use Rattle.store_laws.specs.declared.error.ErrorKind.{ErrorKind}
 use Rattle.store_laws.specs.declared.error.ErrorKind.TheVariants.{BadName, Memory, Database, Reader, Writer}
-use Rattle.store_streams.specs.Feed.{Feed}
+use Rattle.bson_base.specs.Device.{Feed}
 use Rattle.bson_store.specs.Export.{Tally, Delivers, ExportRefused, Sends}
 use Rattle.bson_store.specs.declared.error.StoreError.{StoreError}
 use Rattle.bson_store_cli.specs.Pipe.{ReadsDocument, KeepsInput, RefusesInput, Exchanges}

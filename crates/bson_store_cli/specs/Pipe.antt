@@ -1,7 +1,7 @@
 -- What the program does to its input, its output and the device that faults are told to.
 use Rattle.std.specs.Prelude.{◌≡◌, ◌⊎◌, ℕ, ◌+◌, List, [], ◌∷◌, Some, None, Result, Ok, Err, codes}
 use Rattle.std.specs.Io.KnownBytes.{Appends}
-use Rattle.bson_base.specs.Device.{TakesBeginning}
+use Rattle.bson_base.specs.Device.{TakesBeginning, Feed, TookAll}
 use Rattle.bson_base.specs.Value.{Members}
 use Rattle.bson_bytes.specs.Encode.{encode}
 use Rattle.sqlite.specs.State.{State}
@@ -12,7 +12,7 @@ use Rattle.store_laws.specs.State.{list_of, refusal_of}
 use Rattle.store_laws.specs.Table.{Table, state_of}
 use Rattle.store_laws.specs.declared.error.ErrorKind.{ErrorKind}
 use Rattle.store_laws.specs.declared.error.ErrorKind.TheVariants.{Memory, Database, Reader, Writer}
-use Rattle.store_streams.specs.Feed.{Feed, ReadsAll, StopsReading}
+use Rattle.store_streams.specs.Feed.{StopsReading}
 use Rattle.store_streams.specs.declared.input.ReadAllError.{ReadAllError}
 use Rattle.store_streams.specs.declared.input.ReadAllError.TheVariants as reading
 use Rattle.store_words.specs.Lines.{refusal_line}
@@ -33,11 +33,11 @@ kind_of_reading reading.Memory = Memory
 
 -- all of the input was read, and it means the document
 abbrev pub ReadsDocument : Feed → Feed → Members → Type 0
-ReadsDocument old new d = (bytes : List ℕ) × ReadsAll old new bytes × ReadsBytes bytes (readable d)
+ReadsDocument old new d = (bytes : List ℕ) × TookAll old new bytes × ReadsBytes bytes (readable d)
 
 -- all of it was read, and it can't be read as a document for this reason, or means one that isn't kept for it
 abbrev pub ReadsRefused : Feed → Feed → ErrorKind → Type 0
-ReadsRefused old new kind = (bytes : List ℕ) × ReadsAll old new bytes × (ReadsBytes bytes (unreadable kind) ⊎ ((d : Members) × ReadsBytes bytes (readable d) × (refusal_of d ≡ Some kind)))
+ReadsRefused old new kind = (bytes : List ℕ) × TookAll old new bytes × (ReadsBytes bytes (unreadable kind) ⊎ ((d : Members) × ReadsBytes bytes (readable d) × (refusal_of d ≡ Some kind)))
 
 -- the rows are those of a table whose list under the program's name is the document alone
 abbrev pub HasAlone : State → Members → Type 0

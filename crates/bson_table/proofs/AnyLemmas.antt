@@ -15,7 +15,7 @@ use Rattle.sqlite.specs.Command.TheVariants.{Select, Rows}
 use Rattle.sqlite.specs.Effect.{Database, RefusesToRead}
 use Rattle.sqlite_trees.specs.declared.error.StoreError.{StoreError}
 use Rattle.sqlite_trees.specs.declared.error.StoreError.TheVariants.{OutOfMemory, Io, Corrupt, Full, Broken, Unstorable}
-use Rattle.sqlite.specs.Listing.{understood, reads_listing, if_select, is_select, listing_schema}
+use Rattle.sqlite.specs.Listing.{understood, reads_listing, listing_schema}
 use Rattle.sqlite.specs.Held.{Held, state}
 use Rattle.sqlite.specs.Given.{HasBegun, HasGiven, Returns}
 use Rattle.sqlite.specs.State.{State, Shown, ShowsRows, CommitsShowing, FailsToQuery, FailsToShow, IsNotRun, QueriesRow, store_error, IsUnchanged, Survives}
@@ -23,11 +23,7 @@ use Rattle.sqlite.proofs.StateLemmas.{survives_weaker}
 use Rattle.bson_table.specs.Rows.{Doc, Shows}
 use Rattle.bson_table.specs.Visit.{IsRead}
 use Rattle.bson_table.proofs.StatementLemmas.{undone_keeps, unchanged_shows, undone_shows}
-use Rattle.bson_table.proofs.PlainLemmas.{Asks, Bare, bare_if}
-
-if_select_is : (x : Result Compiled CompileError) (c : Compiled) → if_select x ≡ Ok c → x ≡ Ok c
-if_select_is (Err e) c h = absurd (cc)
-if_select_is (Ok d) c h = elim (cases_Bool (is_select d.command)) [ inl hit ↦ rw hit at h | inr miss ↦ absurd (let e = rw miss at h in cc) ]
+use Rattle.bson_table.proofs.PlainLemmas.{Asks, Bare, bare_if, if_select_is}
 
 -- no refusal has the name of an answer with no rows
 not_read : (limit : Option ℕ) (command : Command) (db : Database) (params : Row) → RefusesToRead limit command db params QueryReturnedNoRows → ⊥

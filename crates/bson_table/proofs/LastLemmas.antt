@@ -1,16 +1,12 @@
 -- The greatest place.
-use Rattle.std.proofs.Common.{codes, ap₂, Equal, suc, add-one, ◌≡◌, ◌≢◌, ◌<ℤ◌, ◌≤ℤ◌, ◌+ℤ◌, ℕ, ℤ, pos, List, [], ◌∷◌, map, filter, true, false, Option, None, Some, Ok, refl, sym, ap, subst, ◌∙◌, arith, is_lt, slice_get, take}
+use Rattle.std.proofs.Common.{codes, suc, add-one, ◌≡◌, ◌≢◌, ◌<ℤ◌, ◌≤ℤ◌, ◌+ℤ◌, ℕ, ℤ, pos, List, [], ◌∷◌, map, filter, true, false, Option, None, Some, Ok, refl, sym, ap, subst, ◌∙◌, arith, slice_get, take}
 use Rattle.std.specs.List.{AllByRecursion}
 use Rattle.std.specs.List.Sorted.{IsPermutation, IsSorted}
-use Rattle.std.specs.Ordering.{int_cmp, ordering_then}
 use Rattle.std.proofs.lemmas.Int.{ints}
-use Rattle.std.proofs.lemmas.Bool.Decides.{nat_tests}
 use Rattle.std.proofs.lemmas.List.Sorted.{All-permutation, IsPermutation-sym, IsPermutation-map, IsPermutation-trans, length_permutation}
 use Rattle.std.proofs.lemmas.List.Elements.{All-from_recursion, recursion_from_All}
-use Rattle.sqlite.specs.declared.types.Value.{Value}
 use Rattle.sqlite.specs.declared.types.Value.TheVariants.{Null, Int}
-use Rattle.sqlite.specs.Order.{Row, value_cmp, column}
-use Rattle.sqlite_value.proofs.OrderLemmas.{then-Equal, value_cmp-Int}
+use Rattle.sqlite.specs.Order.{Row, column}
 use Rattle.sqlite_value.specs.declared.keys.Key.{Key}
 use Rattle.sqlite.specs.Collation.TheVariants.{Binary}
 use Rattle.sqlite_rules.specs.Edit.{id_in}
@@ -27,9 +23,10 @@ use Rattle.sqlite.proofs.Callers.{IsPlain, reads_as, first_as, command_of}
 use Rattle.bson_table.specs.Schema.{documents_schema}
 use Rattle.bson_table.specs.Visit.{IsSelect}
 use Rattle.bson_table.specs.Rows.{Doc, stored, IsRising, Shows, last_place}
-use Rattle.bson_table.proofs.AnswerLemmas.{passes, matches_are}
+use Rattle.bson_table.proofs.AnswerLemmas.{passes, matches_are, map_map}
 use Rattle.bson_table.proofs.LastPlaceLemmas.{below_next}
 use Rattle.bson_table.proofs.Texts.{plain_query, program}
+use Rattle.bson_table.proofs.ReadLemmas.{not_below}
 
 abbrev pub greatest_text : List ℕ
 greatest_text = codes "SELECT place FROM documents ORDER BY place DESC LIMIT 1"
@@ -58,9 +55,6 @@ key_of o = id_in (column o.0 0)
 -- an output of the query has its place as its key and as its one column
 abbrev IsPlaced : Output → Type 0
 IsPlaced o = (column o.0 0 ≡ Int (key_of o)) × (column o.1 0 ≡ Int (key_of o))
-
-not_below : (a b : ℤ) (u v : Value) → u ≡ Int a → v ≡ Int b → is_lt (ordering_then (value_cmp u v) Equal) ≡ false → b ≤ℤ a
-not_below a b u v p q h = let e : is_lt (int_cmp a b) ≡ false = ap is_lt (sym (then-Equal (value_cmp u v) ∙ ap₂ value_cmp p q ∙ value_cmp-Int a b)) ∙ h in grind (arith, ints, nat_tests)
 
 all_down : (a b : ℤ) (os : List Output) → b ≤ℤ a → AllByRecursion (λ o. key_of o ≤ℤ b) os → AllByRecursion (λ o. key_of o ≤ℤ a) os
 all_down a b [] h k = tt
@@ -112,10 +106,6 @@ first_is (d ∷ docs) (x ∷ xs) up p s =
 first_of_page : (xs : List Row) → slice_get (take 1 xs) 0 ≡ slice_get xs 0
 first_of_page [] = refl
 first_of_page (x ∷ xs) = refl
-
-map_map : {A B C : Type 0} (f : B → C) (g : A → B) (xs : List A) → map f (map g xs) ≡ map (λ x. f (g x)) xs
-map_map f g [] = refl
-map_map f g (x ∷ xs) = ap (λ ys. f (g x) ∷ ys) (map_map f g xs)
 
 keeps_all : (rows : List Row) → filter (passes [] []) rows ≡ rows
 keeps_all [] = refl

@@ -19,17 +19,13 @@ use Rattle.bson_table.specs.Rows.{Doc, stored, HasRows, Shows, IsRising}
 use Rattle.bson_table.specs.Open.{all_text, Reads}
 use Rattle.bson_table.specs.Check.{AreGood}
 use Rattle.bson_table.proofs.Texts.{all_query, all_is, all_plain, program}
-use Rattle.bson_table.proofs.AnswerLemmas.{matches_are, passes as keeps}
+use Rattle.bson_table.proofs.AnswerLemmas.{matches_are, passes as keeps, map_map}
 use Rattle.bson_table.proofs.TypedLemmas.{IsTyped, typed_row}
 use Rattle.bson_table.proofs.ListedRows.{put_down, put_down_is}
 use Rattle.bson_table.proofs.CheckLemmas.{good_rises}
 
 abbrev cols : Row → Row
 cols r = (output all_query ([] ∷ r ∷ [])).1
-
-map_map : {A B C : Type 0} (f : B → C) (g : A → B) (xs : List A) → map f (map g xs) ≡ map (λ x. f (g x)) xs
-map_map f g [] = refl
-map_map f g (x ∷ xs) = ap (λ ys. f (g x) ∷ ys) (map_map f g xs)
 
 keeps_all : (rows : List Row) → filter (keeps [] []) rows ≡ rows
 keeps_all [] = refl

@@ -21,7 +21,7 @@ use Rattle.bson_table.specs.Names.{has_name, is_same_name, names_text}
 use Rattle.bson_table.proofs.Texts.{plain_query, program, by_place}
 use Rattle.bson_table.proofs.AnswerLemmas.{outputs_of}
 use Rattle.bson_table.proofs.ReadLemmas.{in_order, same_bytes}
-use Rattle.bson_table.proofs.SeenLemmas.{flip}
+use Rattle.bson_table.proofs.SeenLemmas.{flip, or_swap}
 
 abbrev pub name_cmp : Vec ℕ Global → Vec ℕ Global → Ordering
 name_cmp x y = slice_cmp nat_cmp x.items y.items
@@ -35,12 +35,6 @@ same_of (x ∷ a) (y ∷ b) h = go (eqb x y) refl (λ rest. same_of a b rest)
     go : (e : Bool) → eqb x y ≡ e → (bytes_eq a b ≡ true → a ≡ b) → x ∷ a ≡ y ∷ b
     go true p more = let q : x ≡ y = grind (arith, nat_tests) in ap₂ (λ z zs. z ∷ zs) q (more (rw p at h))
     go false p more = absurd (let e = rw p at h in cc)
-
-or_swap : (a b c : Bool) → a || (b || c) ≡ b || (a || c)
-or_swap true true c = refl
-or_swap true false c = refl
-or_swap false true c = refl
-or_swap false false c = refl
 
 or_twice : (a c : Bool) → a || c ≡ a || (a || c)
 or_twice true c = refl

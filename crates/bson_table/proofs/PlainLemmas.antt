@@ -58,7 +58,7 @@ pub all_asks : Asks (first all_text)
 unfolding everything
 all_asks = (refl, refl)
 
-if_select_is : (x : Result Compiled CompileError) (c : Compiled) → if_select x ≡ Ok c → x ≡ Ok c
+pub if_select_is : (x : Result Compiled CompileError) (c : Compiled) → if_select x ≡ Ok c → x ≡ Ok c
 if_select_is (Err e) c h = absurd (cc)
 if_select_is (Ok d) c h = elim (cases_Bool (is_select d.command)) [ inl hit ↦ rw hit at h | inr miss ↦ absurd (let e = rw miss at h in cc) ]
 

@@ -25,7 +25,7 @@ use Rattle.sqlite.specs.State.{State, Shown}
 use Rattle.sqlite.proofs.Callers.{reads_as, command_of}
 use Rattle.bson_table.specs.Schema.{documents_schema}
 use Rattle.bson_table.specs.Rows.{Doc, stored, Shows, IsRising, is_named, is_in}
-use Rattle.bson_table.proofs.AnswerLemmas.{Outputs, outputs_of, equal_is}
+use Rattle.bson_table.proofs.AnswerLemmas.{Outputs, outputs_of, equal_is, map_map}
 use Rattle.bson_table.proofs.SortLemmas.{same_order, Strict, Rises}
 use Rattle.bson_table.proofs.Texts.{plain_query, program, equals, by_place, find_text, find_is, find_plain}
 
@@ -64,10 +64,6 @@ in_test coll more d = and_true _ ∙ equal_is (Text d.coll) (Text coll) (bytes_e
 
 -- ---- rows in order
 
-map_map : {A B C : Type 0} (f : B → C) (g : A → B) (xs : List A) → map f (map g xs) ≡ map (λ x. f (g x)) xs
-map_map f g [] = refl
-map_map f g (x ∷ xs) = ap (λ ys. f (g x) ∷ ys) (map_map f g xs)
-
 -- what an output is sorted by
 abbrev key_of : Output → ℤ
 key_of o = id_in (column o.0 0)
@@ -75,7 +71,7 @@ key_of o = id_in (column o.0 0)
 abbrev IsPlaced : Output → Type 0
 IsPlaced o = column o.0 0 ≡ Int (key_of o)
 
-not_below : (a b : ℤ) (u v : Value) → u ≡ Int a → v ≡ Int b → is_lt (ordering_then (value_cmp u v) Equal) ≡ false → b ≤ℤ a
+pub not_below : (a b : ℤ) (u v : Value) → u ≡ Int a → v ≡ Int b → is_lt (ordering_then (value_cmp u v) Equal) ≡ false → b ≤ℤ a
 not_below a b u v p q h = let e : is_lt (int_cmp a b) ≡ false = ap is_lt (sym (then-Equal (value_cmp u v) ∙ ap₂ value_cmp p q ∙ value_cmp-Int a b)) ∙ h in grind (arith, ints, nat_tests)
 
 module _ (terms project : List Term) (params : Row) (t : Doc → Bool) where

@@ -42,7 +42,7 @@ and_swap true false = refl
 and_swap false true = refl
 and_swap false false = refl
 
-or_swap : (a b c : Bool) → a || (b || c) ≡ b || (a || c)
+pub or_swap : (a b c : Bool) → a || (b || c) ≡ b || (a || c)
 or_swap true true c = refl
 or_swap true false c = refl
 or_swap false true c = refl

@@ -1,8 +1,7 @@
 -- Payloads are the written forms of what they hold.
-use Rattle.std.proofs.Common.{◌≡◌, ◌≢◌, ◌==◌, ℕ, ℤ, zero, suc, ◌+◌, ◌-◌, ◌^◌, ◌<◌, ◌≤◌, List, [], ◌∷◌, ◌++◌, length, take, drop, get_or, Bool, true, false, refl, sym, ap, ◌∙◌, subst, arith}
+use Rattle.std.proofs.Common.{◌≡◌, ◌≢◌, ◌==◌, ℕ, ℤ, zero, suc, ◌+◌, ◌-◌, ◌<◌, ◌≤◌, List, [], ◌∷◌, ◌++◌, length, take, drop, get_or, Bool, false, refl, sym, ap, ◌∙◌, arith}
 use Rattle.std.specs.Prelude.{slice_index, if◌then◌else◌}
-use Rattle.std.specs.Int.{w8, w32, w64, from_le_bytes, cast_signed, cast_unsigned}
-use mir.Val.{Fits}
+use Rattle.std.specs.Int.{w32, w64, from_le_bytes, cast_signed, cast_unsigned}
 use Rattle.std.proofs.lemmas.Grind.{common_steps}
 use Rattle.std.proofs.lemmas.Int.{of_z-to_z}
 use Rattle.std.proofs.lemmas.List.{length-drop, length-append, length-take-le}
@@ -10,17 +9,14 @@ use Rattle.std.proofs.lemmas.Nat.{le_bytes_4, le_bytes_8}
 use Rattle.bson_base.specs.declared.spec.BinarySubtype.{BinarySubtype}
 use Rattle.bson_base.specs.declared.spec.BinarySubtype.TheVariants as subtypes
 use Rattle.bson_base.specs.Kinds.{AreBytes}
-use Rattle.bson_base.specs.Tags.{subtype_of, subtype_byte}
+use Rattle.bson_base.specs.Tags.{subtype_byte}
 use Rattle.bson_base.specs.Value.{Scalar, double, string, binary, undefined, object_id, boolean, date_time, null, regex, db_pointer, code, symbol, int32, timestamp, int64, decimal, max_key, min_key, scalar_kind}
 use Rattle.bson_bytes.specs.Encode.{le32, le64, text_bytes, framed, inner, is_old, scalar_bytes, truth}
 use Rattle.bson_bytes.specs.Spells.{HoldsScalar, settle_scalar}
 use Rattle.bson_frame.specs.Frame.{number, IsTextSize, IsDocumentSize, IsBinarySize}
 use Rattle.bson_frame.specs.Payload.{IsPayload, text_in}
 use Rattle.bson_written.specs.Written.{HasOneForm, IsNewBinary}
-
-pub are_bytes : (bs : List ℕ) → ((i : ℕ) → Fits w8 (get_or bs i 0)) → AreBytes bs
-are_bytes [] h = tt
-are_bytes (b ∷ bs) h = ((h 0).fits, are_bytes bs (λ i. h (suc i)))
+use Rattle.bson_bytes.proofs.Meant.{subtype_back, bytes_drop, fits32, fits64}
 
 byte_at : (bs : List ℕ) → AreBytes bs → (i : ℕ) → get_or bs i 0 < 256
 byte_at [] h i = omega arith
@@ -77,12 +73,6 @@ framed_back p body are size is =
 
 -- ---- scalars
 
-fits32 : (p : List ℕ) → AreBytes p → from_le_bytes w32 p < 2 ^ 32
-fits32 p h = omega (arith, byte_at p h 0, byte_at p h 1, byte_at p h 2, byte_at p h 3)
-
-fits64 : (p : List ℕ) → AreBytes p → from_le_bytes w64 p < 2 ^ 64
-fits64 p h = omega (arith, byte_at p h 0, byte_at p h 1, byte_at p h 2, byte_at p h 3, byte_at p h 4, byte_at p h 5, byte_at p h 6, byte_at p h 7)
-
 four_back : (p : List ℕ) (n : ℕ) → AreBytes p → length p ≡ 4 → n ≡ from_le_bytes w32 p → p ≡ le32 n
 unfolding le32
 four_back p n are long is = sym (le_bytes_4 p n long (byte_at p are) is)
@@ -97,15 +87,10 @@ signed_four p z are long is = four_back p (cast_unsigned w32 z) are long (ap (ca
 signed_eight : (p : List ℕ) (z : ℤ) → AreBytes p → length p ≡ 8 → z ≡ cast_signed w64 (from_le_bytes w64 p) → p ≡ le64 (cast_unsigned w64 z)
 signed_eight p z are long is = eight_back p (cast_unsigned w64 z) are long (ap (cast_unsigned w64) is ∙ of_z-to_z w64 (from_le_bytes w64 p) (fits64 p are))
 
-bytes_behind : (n : ℕ) (xs : List ℕ) → AreBytes xs → AreBytes (drop n xs)
-bytes_behind zero xs h = h
-bytes_behind (suc n) [] h = tt
-bytes_behind (suc n) (x ∷ xs) h = bytes_behind n xs h.1
-
 timestamp_back : (p : List ℕ) (t i : ℕ) → AreBytes p → length p ≡ 8 → i ≡ from_le_bytes w32 p → t ≡ from_le_bytes w32 (drop 4 p) → p ≡ le32 i ++ le32 t
 timestamp_back p t i are long front behind =
     in_front p are (omega (arith, long)) ∙ ap (λ (x : ℕ). le32 x ++ drop 4 p) (sym front)
-    ∙ ap (λ (x : List ℕ). le32 i ++ x) (four_back (drop 4 p) t (bytes_behind 4 p are) (length-drop 4 p ∙ omega (arith, long)) behind)
+    ∙ ap (λ (x : List ℕ). le32 i ++ x) (four_back (drop 4 p) t (bytes_drop 4 p are) (length-drop 4 p ∙ omega (arith, long)) behind)
 
 one_back : (p : List ℕ) (b : Bool) → length p ≡ 1 → slice_index p 0 ≡ truth b → p ≡ truth b ∷ []
 one_back (x ∷ []) b long is = ap (λ (y : ℕ). y ∷ []) is
@@ -137,9 +122,6 @@ scalar_back p max_key are size holds one = (refl, nothing_back p size)
 scalar_back p min_key are size holds one = (refl, nothing_back p size)
 
 -- ---- binaries
-
-subtype_back : (b : ℕ) → subtype_byte (subtype_of b) ≡ b
-subtype_back b = grind (arith, common_steps)
 
 not_old : (s : BinarySubtype) → (subtype_byte s ≡ 2 → ⊥) → is_old s ≡ false
 not_old subtypes.BinaryOld h = absurd (h refl)

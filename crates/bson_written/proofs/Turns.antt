@@ -1,16 +1,22 @@
 -- One turn over elements.
-use Rattle.std.proofs.Common.{◌≡◌, ◌≢◌, ℕ, suc, List, [], ◌∷◌, ◌++◌, drop, length, Bool, true, false, Decides, Option, Some, None, unwrap_or, refl, sym, ap, ◌∙◌, ◌+◌, add-one, subst, append_assoc}
-use Rattle.std.specs.Prelude.{if◌then◌else◌, decimal as digits}
+use Rattle.std.proofs.Common.{◌≡◌, ℕ, suc, List, [], ◌∷◌, ◌++◌, Bool, true, false, ◌||◌, Decides, Option, Some, None, unwrap_or, refl, sym, ap, ◌∙◌, ◌+◌, add-one, subst}
+use Rattle.std.specs.Prelude.{if◌then◌else◌, decimal as digits, Result, Ok, Err, OnOk}
+use Rattle.std.specs.Result.{is_err}
+use Rattle.std.specs.Borrow.{Bor}
+use Rattle.std.specs.List.{list_any}
+use mathlib.Core.Bool.{true≢false}
 use Rattle.std.specs.Str.{bytes_eq}
 use Rattle.std.proofs.lemmas.Slice.Eq.{bytes_eq-Decides}
 use Rattle.bson_base.specs.Tags.{tag_byte}
-use Rattle.bson_base.specs.Value.{Value, value_kind, Items, no_items, item, Members, no_members, member, look_up, without}
+use Rattle.bson_base.specs.Value.{Value, value_kind, no_items, item, Members, no_members, member, look_up, without}
 use Rattle.bson_bytes.specs.Encode.{ended, value_bytes, items_bytes, members_bytes}
 use Rattle.bson_bytes.specs.Spells.{SpellsValue, SpellsItems, SpellsMembers, settle_value, settle_items, settle}
 use Rattle.bson_bytes.proofs.One.{end_no_frame}
 use Rattle.bson_frame.specs.Frame.{Element, IsFirstFrame}
 use Rattle.bson_frame.proofs.Frames.{frame_is_one}
-use Rattle.bson_written.specs.Written.{AreItemsWritten, AreWritten, IsAbsent, IsFirstUnder, IsWritten, IsWrittenUnder}
+use Rattle.bson_written.specs.Written.{AreAbsent, AreItemsWritten, AreWritten, IsAbsent, IsFirstUnder, IsWritten, IsWrittenUnder}
+use Rattle.bson_bytes.proofs.Settled.{without_absent}
+use Rattle.bson_bytes.proofs.Spelled.{element_parts}
 
 -- ---- absent keys
 
@@ -31,6 +37,32 @@ absent_more k bytes next e first other rest (member l v ms) h =
     let same = frame_is_one bytes h.0 e h.1 next h.2 first in
     let key : l ≡ e.key = h.3 ∙ ap (λ (f : Element). f.key) same.0 in
     other_key k l v ms (λ is. other (sym key ∙ is)) (rest ms (subst (λ (r : List ℕ). SpellsMembers r ms) same.1 h.6))
+
+-- ---- the keys that were met
+
+-- what holds where there is no error
+pub if_no_error : {A E X : Type 0} (r : Result A E) → is_err r ≡ false → OnOk r X → X
+if_no_error (Ok x) none told = told
+if_no_error (Err e) none told = absurd (true≢false none)
+
+pub end_absent_all : (keys : List (Bor (List ℕ))) (bytes : List ℕ) → bytes ≡ 0 ∷ [] → AreAbsent keys bytes
+end_absent_all [] bytes is = tt
+end_absent_all (met ∷ keys) bytes is = (end_absent met.now bytes is, end_absent_all keys bytes is)
+
+neither : (a b : Bool) → a || b ≡ false → (a ≡ false) × (b ≡ false)
+neither true b h = absurd (true≢false h)
+neither false b h = (refl, h)
+
+pub absent_all_more : (keys : List (Bor (List ℕ))) (bytes next : List ℕ) (e : Element) → IsFirstFrame bytes e next
+    → list_any (λ (met : Bor (List ℕ)). bytes_eq met.now e.key) keys ≡ false → AreAbsent keys next → AreAbsent keys bytes
+absent_all_more [] bytes next e first new rest = tt
+absent_all_more (met ∷ keys) bytes next e first new rest =
+    let n = neither (bytes_eq met.now e.key) (list_any (λ (k : Bor (List ℕ)). bytes_eq k.now e.key) keys) new in
+    (absent_more met.now bytes next e first (λ is. true≢false (sym ((bytes_eq-Decides met.now e.key).1 (sym is)) ∙ n.0)) rest.0, absent_all_more keys bytes next e first n.1 rest.1)
+
+pub absent_front : (keys : List (Bor (List ℕ))) (last : Bor (List ℕ)) (bytes : List ℕ) → AreAbsent (keys ++ last ∷ []) bytes → AreAbsent keys bytes × IsAbsent last.now bytes
+absent_front [] last bytes all = (tt, all.0)
+absent_front (met ∷ keys) last bytes all = let more = absent_front keys last bytes all.1 in ((all.0, more.0), more.1)
 
 -- ---- the first of a key
 
@@ -66,24 +98,12 @@ under k elements e first written ms h =
 
 -- ---- members
 
-without_absent : (k : List ℕ) (ms : Members) → look_up k ms ≡ None → without k ms ≡ ms
-without_absent k no_members e = refl
-without_absent k (member l v ms) e = by (bytes_eq k l) e (without_absent k ms)
-  where
-    by : (b : Bool) → (if b then Some v else look_up k ms) ≡ None → (look_up k ms ≡ None → without k ms ≡ ms) → (if b then without k ms else member l v (without k ms)) ≡ member l v ms
-    by true e rest = cc
-    by false e rest = ap (member l v) (rest e)
-
 settled : (k : List ℕ) (v : Value) (ms : Members) → settle_value v ≡ v → settle ms ≡ ms → look_up k ms ≡ None → settle (member k v ms) ≡ member k v ms
 settled k v ms value rest none =
     let absent : look_up k (settle ms) ≡ None = ap (look_up k) rest ∙ none in
     ap (λ (o : Option Value). member k (unwrap_or o (settle_value v)) (without k (settle ms))) absent
     ∙ ap (λ (w : Value). member k w (without k (settle ms))) value
     ∙ ap (λ (ns : Members). member k v (without k ns)) rest ∙ ap (member k v) (without_absent k ms none)
-
-element_parts : (tag : ℕ) (key payload more : List ℕ) → (tag ∷ (ended key ++ (payload ++ more))) ++ 0 ∷ [] ≡ tag ∷ (key ++ 0 ∷ (payload ++ (more ++ 0 ∷ [])))
-unfolding ended
-element_parts tag key payload more = simp append_assoc
 
 -- an element whose payload and whose rest are written
 module _ (bytes next : List ℕ) (e : Element) (first : IsFirstFrame bytes e next) (k : List ℕ) (v : Value) (more : List ℕ)

@@ -1,28 +1,17 @@
 -- Payloads of each kind.
-use Rattle.std.proofs.Common.{◌≡◌, ℕ, List, [], ◌∷◌, ◌++◌, length, take, drop, ◌-◌, Bool, true, false, eqb, refl, sym, ap, ◌∙◌, subst, eq-eqb, arith}
+use Rattle.std.proofs.Common.{◌≡◌, ℕ, List, length, take, drop, ◌-◌, refl, sym, ap, ◌∙◌, subst, arith}
 use Rattle.std.proofs.lemmas.List.{length-drop, take_all}
-use mathlib.Core.Bool.{true≢false}
 use Rattle.bson_base.specs.declared.spec.ElementType.{ElementType}
 use Rattle.bson_base.specs.declared.spec.ElementType.TheVariants as kinds
 use Rattle.bson_base.specs.Kinds.{AreBytes}
 use Rattle.bson_base.specs.Tags.{tag_byte}
-use Rattle.bson_base.specs.Value.{Scalar, double, binary, scalar_kind, value_kind, Value, scalar, array, document, scoped_code, Members}
+use Rattle.bson_base.specs.Value.{binary, scalar, array, document, scoped_code, Members}
 use Rattle.bson_bytes.specs.Encode.{encode, items_bytes, members_bytes}
-use Rattle.bson_bytes.specs.Spells.{Means, SpellsValue, settle}
+use Rattle.bson_bytes.specs.Spells.{Means}
 use Rattle.bson_frame.specs.Payload.{IsPayload}
 use Rattle.bson_written.specs.Written.{AreItemsWritten, AreWritten, HasOneForm, IsNewBinary, IsWritten}
 use Rattle.bson_written.proofs.Payloads.{binary_back, framed_back, scalar_back}
-
-apart : {A : Type 0} (m n : ℕ) → m ≡ n → eqb m n ≡ false → A
-apart m n e f = absurd (true≢false (sym (eq-eqb m n e) ∙ f))
-
-not_array : (s : Scalar) → scalar_kind s ≡ kinds.Array → ⊥
-not_array (double n) e = apart _ _ (ap tag_byte e) refl
-not_array _ e = apart _ _ (ap tag_byte e) refl
-
-not_document : (s : Scalar) → scalar_kind s ≡ kinds.EmbeddedDocument → ⊥
-not_document (double n) e = apart _ _ (ap tag_byte e) refl
-not_document _ e = apart _ _ (ap tag_byte e) refl
+use Rattle.bson_bytes.proofs.One.{apart, not_array, not_document}
 
 -- what stands behind the first four bytes
 pub all_behind : (p : List ℕ) → take (length p - 4) (drop 4 p) ≡ drop 4 p

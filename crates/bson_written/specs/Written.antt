@@ -1,5 +1,6 @@
 -- Bytes that are the written form of what they spell: nothing of it has to be settled.
 use Rattle.std.specs.Prelude.{◌≡◌, ◌≢◌, ℕ, List, [], ◌∷◌, ◌++◌, Some, None, slice_index}
+use Rattle.std.specs.Borrow.{Bor}
 use Rattle.bson_base.specs.declared.spec.BinarySubtype.TheVariants as subtypes
 use Rattle.bson_base.specs.declared.spec.ElementType.{ElementType}
 use Rattle.bson_base.specs.declared.spec.ElementType.TheVariants as kinds
@@ -24,6 +25,11 @@ AreItemsWritten i elements = (vs : Items) → SpellsItems elements vs → (settl
 -- no element has the key
 abbrev pub IsAbsent : List ℕ → List ℕ → Type 0
 IsAbsent k elements = (ms : Members) → SpellsMembers elements ms → look_up k ms ≡ None
+
+-- no element has any of the keys
+abbrev pub AreAbsent : List (Bor (List ℕ)) → List ℕ → Type 0
+AreAbsent [] elements = Unit {0}
+AreAbsent (met ∷ keys) elements = IsAbsent met.now elements × AreAbsent keys elements
 
 -- A scalar of this kind has one payload: its options have no order, nothing is put in twice, and it holds no name.
 abbrev pub HasOneForm : ElementType → Type 0

@@ -1,57 +1,27 @@
 //! Elements, one after the other, down to the final 00.
 
-ghost use Rattle.std.specs.Prelude.{◌≡◌, ◌↔◌, ◌∷◌, [], decimal, IsTrue, IfSome};
-ghost use Rattle.bson_frame.specs.Frame.{IsFirstFrame};
+ghost use Rattle.std.specs.Prelude.{◌≡◌, not, bytes_eq, decimal, IsTrue, IfSome};
+ghost use Rattle.std.specs.List.{list_any};
 ghost use Rattle.bson_frame.specs.Payload.{IsPayload};
 ghost use Rattle.bson_frame.specs.View.{element_of};
-ghost use Rattle.bson_written.specs.Written.{AreItemsWritten, AreWritten, HasOneForm, IsAbsent, IsFirstUnder, IsNewBinary, IsWritten};
+ghost use Rattle.bson_written.specs.Written.{AreItemsWritten, AreWritten, HasOneForm, IsFirstUnder, IsNewBinary, IsWritten};
 
+use arrayvec::ArrayVec;
 use bson_base::ElementType;
-use bson_frame::{Frame, frame};
+use bson_frame::{Frame, is_end, sized_frame};
 use itoa::Buffer;
 
-/// How many elements are searched for a key.
+/// How many elements of a document are looked at for keys.
 const MOST_KEYS: usize = 64;
 
 /// The subtype of old binaries, whose length stands twice (bsonspec.org 1.1, "subtype").
 const OLD: u8 = 2;
 
-/// Whether only the final 00 of a document is left.
-fn is_end(bytes: &[u8]) -> bool
-    ensures { IsTrue result ↔ (bytes.now ≡ 0 ∷ []) }
+/// Whether none of the keys is this one.
+fn is_new(key: &str, keys: &[&str]) -> bool
+    ensures { result ≡ not (list_any (λ met. bytes_eq met.now key.now) keys.now) }
 {
-    matches!(bytes, [0])
-}
-
-/// The first frame; its payload has the size of its kind by itself.
-fn sized_frame(bytes: &[u8]) -> Option<Frame<'_>>
-    ensures { IfSome result (λ f. IsFirstFrame bytes.now (element_of f) f.rest.now × IsPayload f.tag f.payload.now) }
-{
-    bson_frame::laws::payload_by_itself();
-    match frame(bytes) {
-        Ok(frame) => Some(frame),
-        Err(_) => None,
-    }
-}
-
-/// True: no element has the key.
-fn is_absent(key: &str, elements: &[u8]) -> bool
-    ensures { IsTrue result → IsAbsent key.now elements.now }
-{
-    let mut rest = elements;
-    for _ in 0..MOST_KEYS {
-        if is_end(rest) {
-            return true;
-        }
-        let Ok(frame) = frame(rest) else {
-            return false;
-        };
-        if frame.key == key {
-            return false;
-        }
-        rest = frame.rest;
-    }
-    false
+    !keys.contains(&key)
 }
 
 /// The first element of a key.
@@ -104,12 +74,16 @@ fn is_new_binary(payload: &[u8]) -> bool
 pub(crate) fn are_written(elements: &[u8], inner: u32) -> bool
     ensures { IsTrue result → AreWritten elements.now }
 {
+    let mut keys: ArrayVec<&str, MOST_KEYS> = ArrayVec::new();
     let mut rest = elements;
     while !is_end(rest) {
         let Some(frame) = sized_frame(rest) else {
             return false;
         };
-        if !is_written(frame.tag, frame.payload, inner) || !is_absent(frame.key, frame.rest) {
+        if !is_written(frame.tag, frame.payload, inner) || !is_new(frame.key, keys.as_slice()) {
+            return false;
+        }
+        if keys.try_push(frame.key).is_err() {
             return false;
         }
         rest = frame.rest;

@@ -1,8 +1,6 @@
 -- What bytes are read as.
-use Rattle.std.proofs.Common.{◌≡◌, ◌⊎◌, inl, inr, ℕ, suc, List, [], ◌∷◌, get_or, refl, subst}
+use Rattle.std.proofs.Common.{◌≡◌, ◌⊎◌, inl, inr, ℕ, List, refl, subst}
 use Rattle.std.specs.Prelude.{Result, Ok, Err, IfOk, MatchResult}
-use mir.Val.{Fits}
-use Rattle.std.specs.Int.{w8}
 use Rattle.bson_base.specs.Kinds.{AreBytes}
 use Rattle.bson_base.specs.Value.{Members}
 use Rattle.bson_bytes.specs.Encode.{encode}
@@ -18,10 +16,6 @@ use Rattle.store_laws.specs.declared.error.ErrorKind.TheVariants.{Memory}
 use Rattle.store_laws.proofs.Readings.{bytes_read}
 use Rattle.store_laws.proofs.Restore.{written_reads}
 use Rattle.store_documents.specs.Answers.{AnswersBytes}
-
-pub are_bytes : (bs : List ℕ) → ((i : ℕ) → Fits w8 (get_or bs i 0)) → AreBytes bs
-are_bytes [] h = tt
-are_bytes (b ∷ bs) h = ((h 0).fits, are_bytes bs (λ i. h (suc i)))
 
 -- why there is no document, or that memory was wanted
 abbrev pub Fails : List ℕ → ErrorKind → Type 0

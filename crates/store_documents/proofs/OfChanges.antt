@@ -3,7 +3,7 @@ use Rattle.std.proofs.Common.{◌≡◌, ◌⊎◌, inl, inr, ℕ, ◌<◌, ◌�
 use Rattle.std.specs.Prelude.{bytes_eq, is_some}
 use Rattle.bson_base.specs.Kinds.{IsPlain}
 use Rattle.bson_base.specs.Value.{Value, document, Members, no_members, member, has_key, levels, look_up, put, without, MembersHaveDistinctKeys}
-use Rattle.bson_bytes.specs.Encode.{size, members_size}
+use Rattle.bson_bytes.specs.Encode.{size}
 use Rattle.bson_meaning.specs.Gate.{level_limit, size_limit}
 use Rattle.bson_meaning.proofs.Ordered.{equal_keys}
 use Rattle.bson_model.specs.View.{members_of}
@@ -15,6 +15,7 @@ use Rattle.store_laws.specs.declared.error.ErrorKind.{ErrorKind}
 use Rattle.store_laws.specs.declared.error.ErrorKind.TheVariants.{TooDeep, Nul, TooLong, Memory}
 use Rattle.store_laws.proofs.Levels.{clean_plain, read_without}
 use Rattle.store_documents.specs.Bodies.{IsUnwritten}
+use Rattle.store_laws.proofs.Kept.{without_size}
 
 -- why a changed document can't be kept
 abbrev pub Refused : Members → ErrorKind → Type 0
@@ -60,14 +61,6 @@ there_is k d ps b is same = is ∙ sym (ap is_some (look_up-members_of k ps)) �
 
 pub value_put : (k l : List ℕ) (v w : Value) (ps qs : List (List ℕ × Value)) → k ≡ l → v ≡ w → qs ≡ put_pair k v ps → members_of qs ≡ put l w (members_of ps)
 value_put k l v w ps qs i j is = ap members_of is ∙ members_of_put k v ps ∙ ap (λ x. put x v (members_of ps)) i ∙ ap (λ x. put l x (members_of ps)) j
-
-without_size : (k : List ℕ) (d : Members) → members_size (without k d) ≤ members_size d
-without_size k no_members = omega arith
-without_size k (member l v ms) = by (without_size k ms) (bytes_eq k l)
-  where
-    by : members_size (without k ms) ≤ members_size ms → (b : Bool) → members_size (cond b (without k ms) (member l v (without k ms))) ≤ members_size (member l v ms)
-    by h true = omega (arith, h)
-    by h false = omega (arith, h)
 
 -- a kept document without a member can be written
 pub written_without : (k : List ℕ) (d : Members) (x : ErrorKind) → IsKept d → IsUnwritten (without k d) x → x ≡ Memory

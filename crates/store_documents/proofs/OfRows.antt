@@ -1,36 +1,24 @@
 -- Rows that a store can have written.
-use Rattle.std.proofs.Common.{◌≡◌, ◌↔◌, ◌⊎◌, inl, inr, ℕ, List, Bool, true, false, IsTrue, cond, Some, None, refl, ap, ◌∙◌, sym}
-use Rattle.std.specs.Prelude.{nat_lt, IsUtf8, Err}
-use Rattle.std.proofs.lemmas.Bool.{le-ltb}
-use borrow.Author.Tests.{ltb-false}
-use Rattle.bson_base.specs.Value.{Members, has_key}
-use Rattle.bson_bytes.specs.Encode.{encode, size}
-use Rattle.bson_meaning.specs.Gate.{size_limit}
+use Rattle.std.proofs.Common.{◌≡◌, ◌↔◌, ◌⊎◌, inl, inr, ℕ, List, Bool, false, IsTrue, Some, None, ap, ◌∙◌, sym}
+use Rattle.std.specs.Prelude.{IsUtf8, Err}
+use Rattle.bson_base.specs.Value.{Members}
+use Rattle.bson_bytes.specs.Encode.{encode}
 use Rattle.bson_meaning.specs.Meaning.{key}
 use Rattle.store_laws.specs.Reading.{IsRead, readable, ReadsBytes}
-use Rattle.store_laws.specs.State.{id_key, IsKept, IsName, refusal_of}
+use Rattle.store_laws.specs.State.{IsName, refusal_of}
 use Rattle.store_laws.specs.Table.{own_id}
 use Rattle.store_laws.specs.declared.error.ErrorKind.{ErrorKind}
-use Rattle.store_laws.specs.declared.error.ErrorKind.TheVariants.{NoId, TooLong, Memory}
+use Rattle.store_laws.specs.declared.error.ErrorKind.TheVariants.{Memory}
 use Rattle.store_documents.specs.Bodies.{AnswersKept, IsRow}
 use Rattle.store_documents.proofs.OfBytes.{Fails, read_same, wants_memory}
+use Rattle.store_laws.proofs.Kept.{accepted}
+use Rattle.store_laws.proofs.Restore.{not_refused}
 
 pub bad_name : (n k b : List ℕ) → (IsName n × IsUtf8 n → ⊥) → IsRow n k b → ⊥
 bad_name n k b bad row = bad (row.name, row.utf8)
 
 pub unread : (n k b : List ℕ) (x : ErrorKind) → Fails b x → (x ≡ Memory → ⊥) → IsRow n k b → ⊥
 unread n k b x fails other row = other (wants_memory b row.document x row.kept row.body fails)
-
-accepted : (d : Members) → IsRead d → refusal_of d ≡ None → IsKept d
-accepted d read none = by (has_key id_key d) (nat_lt size_limit (size d)) refl refl none
-  where
-    by : (a b : Bool) → has_key id_key d ≡ a → nat_lt size_limit (size d) ≡ b → cond a (cond b (Some TooLong) None) (Some NoId) ≡ None → IsKept d
-    by true true i j e = cc
-    by true false i j e = record { read = read; identified = i; small = ltb-false size_limit (size d) j }
-    by false b i j e = cc
-
-not_refused : (d : Members) → IsKept d → refusal_of d ≡ None
-not_refused d kept = rw (kept.identified, le-ltb size_limit (size d) kept.small) refl
 
 -- what the bytes are read as isn't written
 pub unwritten : (n k b : List ℕ) (d : Members) (x : ErrorKind) → ReadsBytes b (readable d) → (refusal_of d ≡ Some x) ⊎ (x ≡ Memory) → (x ≡ Memory → ⊥) → IsRow n k b → ⊥

@@ -9,6 +9,7 @@ use Rattle.store_laws.specs.State.{only}
 use Rattle.bson_base.specs.Value.{Scalar, Value, document, Members, no_members, member, look_up, put, without, HasDistinctKeys, MembersHaveDistinctKeys, EachPart, EachMember}
 use Rattle.bson_meaning.proofs.Ordered.{equal_keys, same_key, twice_asked, either_first, headed}
 use Rattle.store_laws.proofs.Documents.{same_under}
+use Rattle.bson_meaning.proofs.Canonical.{later}
 
 clash : (q k l : List ℕ) → bytes_eq k l ≡ false → bytes_eq q l ≡ true → bytes_eq q k ≡ true → ⊥
 clash q k l n a b =
@@ -76,13 +77,6 @@ look_up-only q ks (member l v ms) = by (look_up-only q ks ms) (list_any (bytes_e
     by r false e = left (bytes_eq q l) refl e r
 
 -- ---- documents from what stands under their keys
-
-later : (q k : List ℕ) (v u : Value) (ms : Members) → look_up k ms ≡ None → look_up q ms ≡ Some u → look_up q (member k v ms) ≡ Some u
-later q k v u ms absent e = by (bytes_eq q k) refl
-  where
-    by : (b : Bool) → bytes_eq q k ≡ b → cond b (Some v) (look_up q ms) ≡ Some u
-    by true h = let n : None ≡ Some u = sym absent ∙ ap (λ m. look_up m ms) (sym (equal_keys q k h)) ∙ e in cc
-    by false h = e
 
 each_under : (ms ns : Members) → MembersHaveDistinctKeys ms → ((q : List ℕ) (u : Value) → look_up q ms ≡ Some u → IsSomeAnd (look_up q ns) (Same u)) → SameUnder ms ns
 each_under no_members ns d f = tt

@@ -18,6 +18,7 @@ use Rattle.store_laws.proofs.Edits.{look_up-put, look_up-without}
 use Rattle.store_laws.proofs.Levels.{set_read, read_without}
 use Rattle.store_laws.proofs.Selecting.{Distinct?, look_up_distinct, carried, exchanged}
 use Rattle.store_laws.proofs.States.{list_of-store, never_empty}
+use Rattle.bson_meaning.proofs.PlainSame.{some_found}
 
 -- ---- ids
 
@@ -130,7 +131,7 @@ pub record AreGood (ds : Documents) : Type 0 where
   pub own : HaveOwnIds ds
 
 -- a document that isn't refused is kept
-accepted : (d : Members) → IsRead d → refusal_of d ≡ None → IsKept d
+pub accepted : (d : Members) → IsRead d → refusal_of d ≡ None → IsKept d
 accepted d r e = by (has_key id_key d) refl (ltb size_limit (size d)) refl e
   where
     by : (b : Bool) → has_key id_key d ≡ b → (c : Bool) → ltb size_limit (size d) ≡ c → cond b (cond c (Some TooLong) None) (Some NoId) ≡ None → IsKept d
@@ -149,7 +150,7 @@ own_option : (o : Option Value) → Distinct? o → SameOption o o
 own_option None h = tt
 own_option (Some v) h = same_canonical v v h refl
 
-without_size : (k : List ℕ) (d : Members) → members_size (without k d) ≤ members_size d
+pub without_size : (k : List ℕ) (d : Members) → members_size (without k d) ≤ members_size d
 without_size k no_members = omega arith
 without_size k (member l v ms) = by (without_size k ms) (bytes_eq k l)
   where
@@ -180,10 +181,6 @@ when_not P A B f g (inr (n, b)) = g n b
 match_is : {X K : Type 0} (o : Option K) (A : Type 0) (P : K → Type 0) → (o ≡ None → A → X) → ((k : K) → P k → X) → MatchOption o A P → X
 match_is None A P f g a = f refl a
 match_is (Some k) A P f g a = g k a
-
-some_is : {X : Type 0} (o : Option Value) (P : Value → Type 0) → ((v : Value) → o ≡ Some v → P v → X) → IsSomeAnd o P → X
-some_is None P f h = absurd h
-some_is (Some v) P f h = f v refl h
 
 at_good : {X : Type 0} (id : Value) (ds : Documents) (P : Documents → Members → Documents → Type 0) (Q : Type 0) → AreGood ds
     → ((front : Documents) (d : Members) (back : Documents) → AreGood (front ++ d ∷ back) → HasId id d → P front d back → X) → (Q → X) → AtId id ds P Q → X
@@ -219,7 +216,7 @@ answers_good r (insert form (readable d)) ds es c g h =
 answers_good r (insert form (unreadable k)) ds es c g h = stays ds g h.1
 answers_good r (replace form (readable e)) ds es c g h =
     match_is (refusal_of e) _ _
-    (λ q t. some_is (look_up id_key e) _ (λ id is u. at_good id ds _ _ g
+    (λ q t. some_found (look_up id_key e) _ (λ id is u. at_good id ds _ _ g
     (λ front d back good has w. subst AreGood (sym w.1) (changed front d back e good (accepted e c q) (id_here id d e is has))) (λ w. stays ds g w.1) u) t)
     (λ k t. stays ds g t.1) h
 answers_good r (replace form (unreadable k)) ds es c g h = stays ds g h.1

@@ -8,7 +8,7 @@ use Rattle.store_laws.specs.State.{id_key, SomeHasId, IsTaken, IsName, AreKept, 
 use Rattle.store_laws.specs.Table.{Row, Table, state_of, documents_of, IsAlone, AreRows, own_id}
 use Rattle.bson_meaning.proofs.Ordered.{equal_keys, same_key}
 use Rattle.store_laws.proofs.Ids.{own_of, own_is, has_written, key_long, plain_of, written_has}
-use Rattle.store_laws.proofs.Rows.{list_of-state_of, rows_not_empty}
+use Rattle.store_laws.proofs.Rows.{list_of-state_of, rows_not_empty, own_row}
 
 rows_kept : (rs : Table) (n : List ℕ) → AreRows rs → AreKept (documents_of rs n)
 rows_kept [] n h = tt
@@ -70,9 +70,6 @@ some_later r id q rs h = by (bytes_eq r.name q.name)
     by true = inr h
     by false = h
 
-own_first : (r : Row) (rs : Table) → documents_of (r ∷ rs) r.name ≡ r.document ∷ documents_of rs r.name
-own_first r rs = ap (λ b. cond b (r.document ∷ documents_of rs r.name) (documents_of rs r.name)) (same_key r.name)
-
 -- what holds of each list holds of each list without the first row
 rest_kept : (r : Row) (rs : Table) (n : List ℕ) → AreKept (documents_of (r ∷ rs) n) → AreKept (documents_of rs n)
 rest_kept r rs n h = by (bytes_eq n r.name) h
@@ -100,7 +97,7 @@ alone_of r k [] kept none = tt
 alone_of r k (q ∷ rs) kept none = (λ e same. none (taken e same (look_up id_key r.document) refl), alone_of r k rs (λ n. rest_kept q rs n (kept n)) (λ t. none (still (look_up id_key r.document) t)))
   where
     other : IsKept q.document
-    other = (subst AreKept (own_first q rs) (kept q.name)).0
+    other = (subst AreKept (own_row q rs) (kept q.name)).0
 
     taken : q.name ≡ r.name → key (own_id q.document) ≡ key (own_id r.document) → (o : Option Value) → look_up id_key r.document ≡ o → IsSomeAnd o (λ id. SomeHasId id (documents_of (q ∷ rs) r.name))
     taken e same None i = let no : true ≡ false = sym k.identified ∙ ap is_some i in cc
@@ -115,9 +112,9 @@ alone_of r k (q ∷ rs) kept none = (λ e same. none (taken e same (look_up id_k
 rows_from : (rs : Table) → ((n : List ℕ) → AreKept (documents_of rs n)) → ((n : List ℕ) → HaveOwnIds (documents_of rs n)) → ((n : List ℕ) → documents_of rs n ≢ [] → IsName n) → AreRows rs
 rows_from [] kept own named = tt
 rows_from (r ∷ rs) kept own named =
-    let k = subst AreKept (own_first r rs) (kept r.name) in
-    let o = subst HaveOwnIds (own_first r rs) (own r.name) in (
-      named r.name (λ e. let no : r.document ∷ documents_of rs r.name ≡ [] = sym (own_first r rs) ∙ e in cc),
+    let k = subst AreKept (own_row r rs) (kept r.name) in
+    let o = subst HaveOwnIds (own_row r rs) (own r.name) in (
+      named r.name (λ e. let no : r.document ∷ documents_of rs r.name ≡ [] = sym (own_row r rs) ∙ e in cc),
       k.0,
       alone_of r k.0 rs (λ n. rest_kept r rs n (kept n)) o.0,
       rows_from rs (λ n. rest_kept r rs n (kept n)) (λ n. rest_own r rs n (own n)) (λ n some. named n (rest_some r rs n some)),

@@ -2,12 +2,12 @@
 use Rattle.std.proofs.Common.{◌≡◌, ◌⊎◌, inl, inr, ℕ, ◌≤◌, List, [], ◌∷◌, ◌++◌, Option, Some, None, Result, Ok, Err, refl, ap, ◌∙◌, sym, subst, arith}
 use Rattle.serde_json.specs.Data as tree
 use Rattle.serde_json.specs.Data.{Data, object}
-use Rattle.bson_base.specs.Kinds.{AreBytes, IsPlain}
+use Rattle.bson_base.specs.Kinds.{AreBytes}
 use Rattle.bson_base.specs.Value.{Value, document, Members, levels}
 use Rattle.bson_bytes.specs.Spells.{settle}
 use Rattle.bson_model.specs.JsonRead.{read, read_members}
 use Rattle.bson_model.specs.declared.extjson.de.Error.{Error}
-use Rattle.bson_meaning.specs.Gate.{level_limit, IsCounted, IsRefused}
+use Rattle.bson_meaning.specs.Gate.{level_limit, IsFaultyOrDeep}
 use Rattle.bson_meaning.specs.JsonTrees.{IsJson, IsJsonObject}
 use Rattle.bson_meaning.specs.declared.reading.GateError.{GateError}
 use Rattle.bson_meaning.specs.declared.reading.GateError.TheVariants as gate
@@ -20,7 +20,8 @@ use Rattle.bson_bytes.proofs.One.{one_meaning}
 use Rattle.bson_meaning.proofs.Heights.{settled_low}
 use Rattle.bson_meaning.proofs.Held.{one_answer as one_of_the_gate}
 use Rattle.bson_meaning.proofs.JsonSound.{value_sound, document_sound}
-use Rattle.store_laws.proofs.Restore.{canonical_read}
+use Rattle.store_laws.proofs.Restore.{canonical_read, fit}
+use Rattle.bson_meaning.proofs.OneRefusal.{one_refusal as one_of_gate}
 
 -- ---- bytes
 
@@ -113,54 +114,19 @@ one_document bytes d e h k = one_meaning bytes d e h.1 k.1
 pub not_both : (bytes : List ℕ) (d : Members) (k : ErrorKind) → ReadsBytes bytes (readable d) → ReadsBytes bytes (unreadable k) → ⊥
 not_both bytes d k h r = one_of_the_gate bytes r.0 h.0 r.1
 
-counted_end : (bytes : List ℕ) → IsCounted bytes → IsRefused bytes gate.EndInside → ⊥
-counted_end bytes c (inl few) = omega (arith, few, c.0, c.2)
-counted_end bytes c (inr few) = omega (arith, few.2, c.2)
-
-counted_bad : (bytes : List ℕ) → IsCounted bytes → IsRefused bytes gate.BadLength → ⊥
-counted_bad bytes c (four, inl low) = omega (arith, low, c.0)
-counted_bad bytes c (four, inr (inl high)) = omega (arith, high, c.1)
-counted_bad bytes c (four, inr (inr more)) = omega (arith, more, c.2)
-
-end_bad : (bytes : List ℕ) → IsRefused bytes gate.EndInside → IsRefused bytes gate.BadLength → ⊥
-end_bad bytes (inl few) (four, h) = omega (arith, few, four)
-end_bad bytes (inr few) (four, inl low) = omega (arith, few.0, low)
-end_bad bytes (inr few) (four, inr (inl high)) = omega (arith, few.1, high)
-end_bad bytes (inr few) (four, inr (inr more)) = omega (arith, few.2, more)
-
-one_gate : (bytes : List ℕ) (e f : GateError) → IsRefused bytes e → IsRefused bytes f → (e ≡ f) ⊎ (MayBoth (kind_of e) × MayBoth (kind_of f))
-one_gate bytes gate.EndInside gate.EndInside h k = inl refl
-one_gate bytes gate.BadLength gate.BadLength h k = inl refl
-one_gate bytes gate.NotTerminated gate.NotTerminated h k = inl refl
-one_gate bytes gate.Faulty gate.Faulty h k = inl refl
-one_gate bytes gate.TooDeep gate.TooDeep h k = inl refl
-one_gate bytes gate.Faulty gate.TooDeep h k = inr (tt, tt)
-one_gate bytes gate.TooDeep gate.Faulty h k = inr (tt, tt)
-one_gate bytes gate.EndInside gate.BadLength h k = absurd (end_bad bytes h k)
-one_gate bytes gate.EndInside gate.NotTerminated h k = absurd (counted_end bytes k.0 h)
-one_gate bytes gate.EndInside gate.Faulty h k = absurd (counted_end bytes k.0 h)
-one_gate bytes gate.EndInside gate.TooDeep h k = absurd (counted_end bytes k.0 h)
-one_gate bytes gate.BadLength gate.EndInside h k = absurd (end_bad bytes k h)
-one_gate bytes gate.BadLength gate.NotTerminated h k = absurd (counted_bad bytes k.0 h)
-one_gate bytes gate.BadLength gate.Faulty h k = absurd (counted_bad bytes k.0 h)
-one_gate bytes gate.BadLength gate.TooDeep h k = absurd (counted_bad bytes k.0 h)
-one_gate bytes gate.NotTerminated gate.EndInside h k = absurd (counted_end bytes h.0 k)
-one_gate bytes gate.NotTerminated gate.BadLength h k = absurd (counted_bad bytes h.0 k)
-one_gate bytes gate.NotTerminated gate.Faulty h k = absurd (h.1 k.1.ended)
-one_gate bytes gate.NotTerminated gate.TooDeep h k = absurd (h.1 k.1.ended)
-one_gate bytes gate.Faulty gate.EndInside h k = absurd (counted_end bytes h.0 k)
-one_gate bytes gate.Faulty gate.BadLength h k = absurd (counted_bad bytes h.0 k)
-one_gate bytes gate.Faulty gate.NotTerminated h k = absurd (k.1 h.1.ended)
-one_gate bytes gate.TooDeep gate.EndInside h k = absurd (counted_end bytes h.0 k)
-one_gate bytes gate.TooDeep gate.BadLength h k = absurd (counted_bad bytes h.0 k)
-one_gate bytes gate.TooDeep gate.NotTerminated h k = absurd (k.1 h.1.ended)
+may_both : (e : GateError) → IsFaultyOrDeep e → MayBoth (kind_of e)
+may_both gate.Faulty h = tt
+may_both gate.TooDeep h = tt
+may_both gate.EndInside h = absurd h
+may_both gate.BadLength h = absurd h
+may_both gate.NotTerminated h = absurd h
 
 pub one_refusal : (bytes : List ℕ) (k l : ErrorKind) → ReadsBytes bytes (unreadable k) → ReadsBytes bytes (unreadable l) → (k ≡ l) ⊎ (MayBoth k × MayBoth l)
-one_refusal bytes k l (e, r, i) (f, s, j) = by (one_gate bytes e f r s)
+one_refusal bytes k l (e, r, i) (f, s, j) = by (one_of_gate bytes e f r s)
   where
-    by : (e ≡ f) ⊎ (MayBoth (kind_of e) × MayBoth (kind_of f)) → (k ≡ l) ⊎ (MayBoth k × MayBoth l)
+    by : (e ≡ f) ⊎ (IsFaultyOrDeep e × IsFaultyOrDeep f) → (k ≡ l) ⊎ (MayBoth k × MayBoth l)
     by (inl same) = inl (i ∙ ap kind_of same ∙ sym j)
-    by (inr both) = inr (subst MayBoth (sym i) both.0, subst MayBoth (sym j) both.1)
+    by (inr both) = inr (subst MayBoth (sym i) (may_both e both.0), subst MayBoth (sym j) (may_both f both.1))
 
 -- ---- one reading of a tree
 
@@ -173,15 +139,10 @@ unfit_one e TooDeep _ h j = absurd j
 unfit_one e Nul _ h j = absurd j
 unfit_one e _ _ h j = absurd h
 
-fit_not : (e : Members) (k : ErrorKind) → levels (document e) ≤ level_limit → IsPlain (document e) → IsUnfit e k → ⊥
-fit_not e TooDeep low plain h = omega (arith, h, low)
-fit_not e Nul low plain h = h.1 plain
-fit_not e _ low plain h = h
-
 kept_one : (r : Result Members Error) (a b : Reading) → KeepsRead r a → KeepsRead r b → a ≡ b
 kept_one (Ok e) (readable c) (readable d) h j = ap readable (h.2 ∙ sym j.2)
-kept_one (Ok e) (readable c) (unreadable k) h j = absurd (fit_not e k h.0 h.1 j)
-kept_one (Ok e) (unreadable k) (readable d) h j = absurd (fit_not e k j.0 j.1 h)
+kept_one (Ok e) (readable c) (unreadable k) h j = absurd (fit e k h.0 h.1 j)
+kept_one (Ok e) (unreadable k) (readable d) h j = absurd (fit e k j.0 j.1 h)
 kept_one (Ok e) (unreadable k) (unreadable l) h j = ap unreadable (unfit_one e k l h j)
 kept_one (Err x) a b h j = h ∙ sym j
 

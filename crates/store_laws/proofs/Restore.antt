@@ -30,7 +30,7 @@ use Rattle.bson_bytes.proofs.Spelled.{framed_inside, spelled_members}
 use Rattle.bson_frame.proofs.Frames.{front_is_one}
 use Rattle.bson_meaning.proofs.Canonical.{canonical, canonical_items, canonical_members, look_up-canonical, same_canonical}
 use Rattle.bson_meaning.proofs.Held.{one_answer as one_of_the_gate}
-use Rattle.bson_meaning.proofs.JsonReads.{mapped, AllCome, canonical_comes}
+use Rattle.bson_meaning.proofs.JsonReads.{mapped, AllCome, canonical_comes, chosen}
 use Rattle.bson_meaning.proofs.JsonSound.{kept_sound, kept_clean}
 use Rattle.bson_meaning.proofs.KeyLaw.{key_size}
 use Rattle.bson_meaning.proofs.Normal.{norm_twice}
@@ -42,10 +42,6 @@ use Rattle.store_laws.proofs.Levels.{canonical_levels, clean_plain}
 use Rattle.store_laws.proofs.States.{list_of-store}
 
 -- ---- the normal form of a kept document is kept
-
-chosen : (f : Value → Value) (b : Bool) (v : Value) (o : Option Value) → option_map f (cond b (Some v) o) ≡ cond b (Some (f v)) (option_map f o)
-chosen f true v o = refl
-chosen f false v o = refl
 
 canonical_place : (k : List ℕ) (u : Value) (ms : Members) → canonical_members (place k u ms) ≡ place k (canonical u) (canonical_members ms)
 canonical_place k u ms = same_members _ _ (ascending_asc (norm_members (place k u ms))) (ascending_place k (canonical u) (canonical_members ms) (ascending_asc (norm_members ms)))
@@ -106,7 +102,7 @@ own_canonical (d ∷ ds) h o = (
 
 -- ---- documents with ids of their own go into an empty list
 
-not_refused : (d : Members) → IsKept d → refusal_of d ≡ None
+pub not_refused : (d : Members) → IsKept d → refusal_of d ≡ None
 not_refused d k = ap (λ b. cond b (cond (nat_lt size_limit (size d)) (Some TooLong) None) (Some NoId)) k.identified ∙ by (nat_lt size_limit (size d)) refl
   where
     by : (b : Bool) → nat_lt size_limit (size d) ≡ b → cond b (Some TooLong) None ≡ None
@@ -259,7 +255,7 @@ tree_is m d j = by (has_reserved d) (write m (document d)) refl refl
     by false None e f h = cc
     by false (Some i) e f h = let k : i ≡ j = cc in record { free = e; there = f ∙ ap Some k }
 
-fit : (e : Members) (k : ErrorKind) → levels (document e) ≤ level_limit → IsPlain (document e) → IsUnfit e k → ⊥
+pub fit : (e : Members) (k : ErrorKind) → levels (document e) ≤ level_limit → IsPlain (document e) → IsUnfit e k → ⊥
 fit e TooDeep low plain h = omega (arith, h, low)
 fit e Nul low plain h = h.1 plain
 fit e _ low plain h = h

@@ -41,7 +41,7 @@ state_is a b n ds here there = same_lists _ _ (rows_not_empty b) (λ m. never_em
     by m true e = ap (documents_of b) (equal_keys m n e) ∙ here
     by m false e = there m e ∙ sym (list_of-state_of a m)
 
-own_row : (r : Row) (rs : Table) → documents_of (r ∷ rs) r.name ≡ r.document ∷ documents_of rs r.name
+pub own_row : (r : Row) (rs : Table) → documents_of (r ∷ rs) r.name ≡ r.document ∷ documents_of rs r.name
 own_row r rs = ap (λ b. cond b (r.document ∷ documents_of rs r.name) (documents_of rs r.name)) (same_key r.name)
 
 other_row : (m : List ℕ) (r : Row) (rs : Table) → bytes_eq m r.name ≡ false → documents_of (r ∷ rs) m ≡ documents_of rs m

@@ -1,13 +1,14 @@
 -- A filter selects both or neither of two values that mean the same.
-use Rattle.std.proofs.Common.{◌≡◌, ◌↔◌, inl, inr, ℕ, suc, List, [], ◌∷◌, Bool, true, false, cond, Option, Some, None, refl, ap, ◌∙◌, sym, subst}
+use Rattle.std.proofs.Common.{◌≡◌, ◌↔◌, inl, inr, ℕ, suc, List, [], ◌∷◌, Bool, true, false, cond, Option, Some, None, refl, ◌∙◌, sym, subst}
 use Rattle.std.specs.Prelude.{bytes_eq, is_some, IsSomeAnd, option_and_then, decimal as digits}
 use Rattle.store_laws.specs.Filter.{keyed, pairs, at, Filter, equals, exists, is_of, no, all_of, any_of, Filters, no_filters, filter, IsSoundFilter, AreSoundFilters, Selects, SelectsAll, SelectsAny, SameFilter, SameFilters}
 use Rattle.bson_model.specs.Equal.{SameKeys}
-use Rattle.bson_meaning.specs.Meaning.{normal_scalar, Same, SameItems, SameUnder}
+use Rattle.bson_meaning.specs.Meaning.{Same, SameItems, SameUnder}
 use Rattle.store_laws.specs.Same.{SameOption}
-use Rattle.bson_base.specs.Value.{Scalar, double, Value, scalar, array, document, scoped_code, Items, no_items, item, Members, no_members, member, look_up, scalar_kind, value_kind, HasDistinctKeys, ItemsHaveDistinctKeys, MembersHaveDistinctKeys}
+use Rattle.bson_base.specs.Value.{Value, scalar, array, document, scoped_code, Items, no_items, item, Members, no_members, member, look_up, value_kind, HasDistinctKeys, ItemsHaveDistinctKeys, MembersHaveDistinctKeys}
 use Rattle.bson_meaning.proofs.Ordered.{equal_keys}
 use Rattle.bson_meaning.proofs.Canonical.{canonical, canonical_same, same_canonical}
+use Rattle.bson_meaning.proofs.Comparing.{same_kind}
 
 -- ---- what stands under a key
 
@@ -93,17 +94,6 @@ at_distinct (k ∷ path) v h = on (look_up k (pairs v)) (at_distinct path) (pair
     on (Some x) f r = f x r
 
 -- ---- filters
-
-normal_kind : (s : Scalar) → scalar_kind (normal_scalar s) ≡ scalar_kind s
-normal_kind (double n) = refl
-normal_kind _ = refl
-
-pub same_kind : (v w : Value) → Same v w → value_kind v ≡ value_kind w
-same_kind (scalar s) (scalar t) h = sym (normal_kind s) ∙ ap scalar_kind h ∙ normal_kind t
-same_kind (array vs) (array ws) h = refl
-same_kind (document ms) (document ns) h = refl
-same_kind (scoped_code t ms) (scoped_code u ns) h = refl
-same_kind _ _ h = absurd h
 
 -- a value stands at both or at neither, and what is said of the one is said of the other
 pub carried : (o p : Option Value) (P Q : Value → Type 0) → SameOption o p → Distinct? o → Distinct? p

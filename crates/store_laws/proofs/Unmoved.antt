@@ -1,36 +1,32 @@
 -- Where the state stays, every row stays as it was.
-use Rattle.std.proofs.Common.{◌≡◌, inl, inr, ℕ, List, [], ◌∷◌, ◌++◌, length, cond, ap, ◌∙◌, sym, arith, append-nil, length-append}
+use Rattle.std.proofs.Common.{◌≡◌, inl, inr, ℕ, List, [], ◌∷◌, ◌++◌, length, ap, ◌∙◌, sym, arith, append-nil, length-append}
 use Rattle.std.proofs.lemmas.List.{append_cancel_left}
 use Rattle.bson_base.specs.Value.{Members}
 use Rattle.store_laws.specs.State.{list_of}
 use Rattle.store_laws.specs.Table.{Row, Table, state_of, documents_of, with_document, Follows}
-use Rattle.bson_meaning.proofs.Ordered.{same_key}
-use Rattle.store_laws.proofs.Rows.{list_of-state_of, documents_of-append}
+use Rattle.store_laws.proofs.Rows.{list_of-state_of, documents_of-append, own_row}
 
 -- the same documents under each name
 alike : (a b : Table) → state_of b ≡ state_of a → (n : List ℕ) → documents_of b n ≡ documents_of a n
 alike a b e n = sym (list_of-state_of b n) ∙ ap (λ s. list_of s n) e ∙ list_of-state_of a n
 
-own : (r : Row) (rs : Table) → documents_of (r ∷ rs) r.name ≡ r.document ∷ documents_of rs r.name
-own r rs = ap (λ b. cond b (r.document ∷ documents_of rs r.name) (documents_of rs r.name)) (same_key r.name)
-
 none_new : (a new : Table) → ((n : List ℕ) → documents_of (a ++ new) n ≡ documents_of a n) → a ++ new ≡ a
 none_new a [] f = append-nil a
-none_new a (r ∷ new) f = absurd (omega (arith, ap length (sym (documents_of-append a (r ∷ new) r.name) ∙ f r.name), length-append (documents_of a r.name) (documents_of (r ∷ new) r.name), ap length (own r new)))
+none_new a (r ∷ new) f = absurd (omega (arith, ap length (sym (documents_of-append a (r ∷ new) r.name) ∙ f r.name), length-append (documents_of a r.name) (documents_of (r ∷ new) r.name), ap length (own_row r new)))
 
 none_gone : (front : Table) (r : Row) (back : Table) → ((n : List ℕ) → documents_of (front ++ back) n ≡ documents_of (front ++ r ∷ back) n) → ⊥
 none_gone front r back f =
     let e : documents_of back r.name ≡ documents_of (r ∷ back) r.name =
     append_cancel_left (documents_of front r.name) (documents_of back r.name) (documents_of (r ∷ back) r.name)
     (sym (documents_of-append front back r.name) ∙ f r.name ∙ documents_of-append front (r ∷ back) r.name) in
-    omega (arith, ap length (e ∙ own r back))
+    omega (arith, ap length (e ∙ own_row r back))
 
 same_document : (front : Table) (r : Row) (back : Table) (d : Members) → ((n : List ℕ) → documents_of (front ++ with_document d r ∷ back) n ≡ documents_of (front ++ r ∷ back) n) → d ≡ r.document
 same_document front r back d f =
     let e : documents_of (with_document d r ∷ back) r.name ≡ documents_of (r ∷ back) r.name =
     append_cancel_left (documents_of front r.name) (documents_of (with_document d r ∷ back) r.name) (documents_of (r ∷ back) r.name)
     (sym (documents_of-append front (with_document d r ∷ back) r.name) ∙ f r.name ∙ documents_of-append front (r ∷ back) r.name) in
-    let g : d ∷ documents_of back r.name ≡ r.document ∷ documents_of back r.name = sym (own (with_document d r) back) ∙ e ∙ own r back in
+    let g : d ∷ documents_of back r.name ≡ r.document ∷ documents_of back r.name = sym (own_row (with_document d r) back) ∙ e ∙ own_row r back in
     cc
 
 pub unmoved : (a b : Table) → Follows a b → state_of b ≡ state_of a → b ≡ a

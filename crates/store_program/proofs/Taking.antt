@@ -8,7 +8,7 @@ use Rattle.store_laws.specs.State.{import, Command, on, Reply, number, refused}
 use Rattle.store_laws.specs.Table.{Table}
 use Rattle.store_laws.specs.declared.error.ErrorKind.{ErrorKind}
 use Rattle.store_laws.specs.declared.error.ErrorKind.TheVariants as kind
-use Rattle.store_streams.specs.Feed.{Feed}
+use Rattle.bson_base.specs.Device.{Feed}
 use Rattle.bson_store.specs.Shown.{Show}
 use Rattle.bson_store.specs.Many.{DoesMany, Takes, ImportRefused, Imports}
 use Rattle.bson_store.specs.Refusals.{reply_by, as_number}

@@ -1,33 +1,22 @@
 -- Documents that go into a list go by the written keys of their ids.
-use Rattle.std.proofs.Common.{◌≡◌, ◌⊎◌, inl, inr, ℕ, suc, ◌+◌, ◌<◌, ◌≤◌, add-zero, zero-add, List, [], ◌∷◌, ◌++◌, length, map, append_assoc, Bool, true, false, ◌||◌, cond, ltb, Option, Some, None, refl, ap, ap₂, sym, ◌∙◌, subst, is_some, arith}
+use Rattle.std.proofs.Common.{◌≡◌, inl, inr, ℕ, suc, ◌+◌, add-zero, zero-add, [], ◌∷◌, ◌++◌, length, map, append_assoc, Bool, true, false, ◌||◌, cond, Option, Some, None, refl, ap, sym, ◌∙◌, subst, is_some, arith}
 use Rattle.std.specs.Prelude.{MatchOption, IsSomeAnd}
 use Rattle.std.specs.List.{list_any}
 use Rattle.std.specs.Str.{bytes_eq}
-use Rattle.std.proofs.lemmas.Bool.{ltb-false}
 use Rattle.std.proofs.lemmas.List.{append-nil, map-append}
 use Rattle.std.proofs.lemmas.Slice.Eq.{bytes_eq-Decides}
-use Rattle.bson_base.specs.Kinds.{IsSound}
-use Rattle.bson_base.specs.Value.{Value, Members, look_up, has_key}
-use Rattle.bson_bytes.specs.Encode.{size}
-use Rattle.bson_meaning.specs.Gate.{size_limit}
+use Rattle.bson_base.specs.Value.{Value, Members, look_up}
 use Rattle.bson_meaning.specs.Meaning.{key, Same}
-use Rattle.store_laws.specs.Reading.{Documents, IsRead, AreRead}
-use Rattle.store_laws.specs.State.{id_key, SomeHasId, IsTaken, Reply, number, refused, refusal_of, or_later, first_refusal, Appends, IsKept, AreKept}
-use Rattle.store_laws.specs.Table.{only_id, own_id}
+use Rattle.store_laws.specs.Reading.{Documents, AreRead}
+use Rattle.store_laws.specs.State.{id_key, SomeHasId, IsTaken, number, refused, refusal_of, or_later, first_refusal, Appends, IsKept, AreKept}
+use Rattle.store_laws.specs.Table.{own_id}
 use Rattle.store_laws.specs.declared.error.ErrorKind.{ErrorKind}
-use Rattle.store_laws.specs.declared.error.ErrorKind.TheVariants.{NoId, TooLong, DuplicateId}
-use Rattle.store_laws.proofs.Ids.{Own, own_of, own_is, key_long, plain_of, has_written, written_has}
+use Rattle.store_laws.specs.declared.error.ErrorKind.TheVariants.{DuplicateId}
+use Rattle.store_laws.proofs.Ids.{own_of, own_is, key_long, plain_of, has_written, written_has}
 use Rattle.store_streams.specs.Keys.{first_taken, keys_of}
+use Rattle.store_laws.proofs.Kept.{accepted}
 
 -- ---- what isn't refused is kept
-
-accepted : (d : Members) → IsRead d → refusal_of d ≡ None → IsKept d
-accepted d r e = by (has_key id_key d) refl (ltb size_limit (size d)) refl e
-  where
-    by : (b : Bool) → has_key id_key d ≡ b → (c : Bool) → ltb size_limit (size d) ≡ c → cond b (cond c (Some TooLong) None) (Some NoId) ≡ None → IsKept d
-    by true h false s n = record { read = r; identified = h; small = ltb-false size_limit (size d) s }
-    by true h true s n = cc
-    by false h c s n = cc
 
 pub all_accepted : (i : ℕ) (ds : Documents) → AreRead ds → first_refusal i ds None ≡ None → AreKept ds
 all_accepted i [] r e = tt

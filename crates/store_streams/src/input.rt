@@ -1,7 +1,8 @@
 //! All that a source gives.
 
 ghost use Rattle.std.specs.Prelude.{◌<◌, ◌^◌, ◌-◌, IfOk, IfErr, vec_len};
-ghost use Rattle.store_streams.specs.Feed.{ReadsAll, StopsReading};
+ghost use Rattle.bson_base.specs.Device.{TookAll};
+ghost use Rattle.store_streams.specs.Feed.{StopsReading};
 
 use bson_base::{Source, read_full};
 use std::alloc::{AllocError, Global};
@@ -43,7 +44,7 @@ fn room(alloc: Global) -> Result<Vec<u8>, AllocError>
 /// `Reader` nothing is said of how far the source was read; with `Memory` no read failed.
 pub fn read_all<S: Source>(alloc: Global, source: &mut S) -> Result<Vec<u8>, ReadAllError>
     requires { S.failures source.old < 2 ^ 64 - 1 }
-    ensures ok { IfOk result (λ bytes. ReadsAll (record { failures = S.failures source.old; supply = S.supply source.old })
+    ensures ok { IfOk result (λ bytes. TookAll (record { failures = S.failures source.old; supply = S.supply source.old })
         (record { failures = S.failures source.new; supply = S.supply source.new }) bytes.items) }
     ensures err { IfErr result (λ error. StopsReading error (record { failures = S.failures source.old; supply = S.supply source.old })
         (record { failures = S.failures source.new; supply = S.supply source.new })) }

@@ -6,8 +6,9 @@ use Rattle.bson_model.specs.Rest.{iter_rest}
 use Rattle.bson_model.specs.View.{view, pairs_of, members_of}
 use Rattle.bson_model.proofs.EqualLemmas.{look_up-members_of}
 use Rattle.bson_meaning.proofs.Comparing.{same_documents}
-use Rattle.bson_meaning.proofs.Turns.{items_end, levels_more, under_more, under_other, under_none, untrue}
+use Rattle.bson_meaning.proofs.Turns.{items_end, levels_more, under_more, under_other, under_none}
 use Rattle.bson_meaning.proofs.compare.+same.Goals as goal
+use Rattle.bson_raw.proofs.Progress.{untrue}
 
 pub same_documents-returns-then-same_under : goal.same_documents-returns-then-same_under
 same_documents-returns-then-same_under t c =

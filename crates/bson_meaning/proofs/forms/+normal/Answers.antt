@@ -1,12 +1,13 @@
-use Rattle.std.proofs.Common.{◌≡◌, map, [], ap, sym, ◌∙◌, string_bytes, subst}
+use Rattle.std.proofs.Common.{map, [], ap, sym, ◌∙◌, string_bytes, subst}
 use Rattle.std.proofs.lemmas.Result.{IfOk-weaker}
 use Rattle.std.specs.Vec.Iter.{into_iter_items}
 use Rattle.bson_base.specs.Value.{scoped_code}
 use Rattle.bson_model.specs.View.{view, pairs_of, items_of, members_of}
 use Rattle.bson_model.proofs.ViewLemmas.{view-WithScope}
 use Rattle.bson_meaning.specs.Meaning.{norm}
-use Rattle.bson_meaning.proofs.Putting.{KeysOnce, keys_once, once_changed, put_all_once, normal_members, normal_items, finished, no_more}
+use Rattle.bson_meaning.proofs.Putting.{KeysOnce, keys_once, once_changed, put_all_once, normal_members, normal_items, finished}
 use Rattle.bson_meaning.proofs.forms.+normal.Goals as goal
+use Rattle.std.proofs.lemmas.List.{nil_from_length}
 
 pub normal_document-returns : goal.normal_document-returns
 normal_document-returns t c =
@@ -18,7 +19,7 @@ normal_document-returns t c =
 pub normal_items-returns : goal.normal_items-returns
 normal_items-returns t c =
     let all = c.args.items.items in
-    ap items_of (finished (λ b. norm (view b)) (map view c.loop-item.normal.items) (into_iter_items c.loop-item.item-iterator) all c.loop-item.invariant.0 (no_more (into_iter_items c.loop-item.item-iterator) (c.loop-item.invariant.1 ∙ c.in-None.ensures.steps.0))) ∙ normal_items all
+    ap items_of (finished (λ b. norm (view b)) (map view c.loop-item.normal.items) (into_iter_items c.loop-item.item-iterator) all c.loop-item.invariant.0 (nil_from_length (into_iter_items c.loop-item.item-iterator) (c.loop-item.invariant.1 ∙ c.in-None.ensures.steps.0))) ∙ normal_items all
 
 pub normal_value-returns-in_ok-scope-in-JavaScriptCodeWithScope : goal.normal_value-returns-in_ok-scope-in-JavaScriptCodeWithScope
 normal_value-returns-in_ok-scope-in-JavaScriptCodeWithScope t c =

@@ -1,12 +1,12 @@
-use Rattle.std.proofs.Common.{rules, ◌≡◌, true, false, sym, ◌∙◌, subst, arith, drop, ◌-◌}
-use Rattle.bson_base.specs.Value.{levels}
+use Rattle.std.proofs.Common.{rules, true, false, subst, arith, drop, ◌-◌}
 use Rattle.bson_frame.specs.Payload.{IsFaultless}
 use Rattle.bson_frame.specs.View.{element_of}
 use Rattle.bson_meaning.specs.Gate.{ReadsElements}
 use Rattle.bson_meaning.proofs.Progress.{progress_no_frame, progress_more}
 use Rattle.bson_meaning.proofs.Held.{element_fault, scalar_read, nests_zero, held_reads}
-use Rattle.bson_meaning.proofs.Turns.{untrue}
+
 use Rattle.bson_meaning.proofs.reading.+elements.Goals as goal
+use Rattle.bson_raw.proofs.Progress.{untrue}
 
 pub test_elements-returns-in_default : goal.test_elements-returns-in_default
 test_elements-returns-in_default t c =

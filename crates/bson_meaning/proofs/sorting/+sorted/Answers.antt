@@ -1,13 +1,14 @@
-use Rattle.std.proofs.Common.{◌≡◌, map, [], ap, sym, ◌∙◌, string_bytes, subst}
+use Rattle.std.proofs.Common.{map, [], ap, sym, ◌∙◌, string_bytes, subst}
 use Rattle.std.proofs.lemmas.Result.{IfOk-weaker}
 use Rattle.std.specs.Vec.Iter.{into_iter_items}
 use Rattle.bson_base.specs.Value.{scoped_code}
 use Rattle.bson_model.specs.View.{view, pairs_of, items_of, members_of}
 use Rattle.bson_model.proofs.ViewLemmas.{view-WithScope}
 use Rattle.bson_meaning.specs.Meaning.{asc}
-use Rattle.bson_meaning.proofs.Putting.{KeysOnce, keys_once, once_changed, put_all_once, sorted_items, finished, no_more}
+use Rattle.bson_meaning.proofs.Putting.{KeysOnce, keys_once, once_changed, put_all_once, sorted_items, finished}
 use Rattle.bson_meaning.proofs.InOrder.{sorted_once, keys_stay, sorted_members}
 use Rattle.bson_meaning.proofs.sorting.+sorted.Goals as goal
+use Rattle.std.proofs.lemmas.List.{nil_from_length}
 
 pub sorted_document-returns : goal.sorted_document-returns
 sorted_document-returns t c =
@@ -21,7 +22,7 @@ sorted_document-returns t c =
 pub sorted_items-returns : goal.sorted_items-returns
 sorted_items-returns t c =
     let all = c.args.items.items in
-    ap items_of (finished (λ b. asc (view b)) (map view c.loop-item.sorted.items) (into_iter_items c.loop-item.item-iterator) all c.loop-item.invariant.0 (no_more (into_iter_items c.loop-item.item-iterator) (c.loop-item.invariant.1 ∙ c.in-None.ensures.steps.0))) ∙ sorted_items all
+    ap items_of (finished (λ b. asc (view b)) (map view c.loop-item.sorted.items) (into_iter_items c.loop-item.item-iterator) all c.loop-item.invariant.0 (nil_from_length (into_iter_items c.loop-item.item-iterator) (c.loop-item.invariant.1 ∙ c.in-None.ensures.steps.0))) ∙ sorted_items all
 
 pub sorted_value-returns-in_ok-scope-in-JavaScriptCodeWithScope : goal.sorted_value-returns-in_ok-scope-in-JavaScriptCodeWithScope
 sorted_value-returns-in_ok-scope-in-JavaScriptCodeWithScope t c =

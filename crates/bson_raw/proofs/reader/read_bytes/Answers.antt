@@ -1,5 +1,5 @@
 use Rattle.bson_raw.proofs.Reading.{bytes_read}
-use Rattle.bson_raw.specs.Input.{Feed}
+use Rattle.bson_base.specs.Device.{Feed}
 use Rattle.bson_raw.proofs.reader.read_bytes.Goals as goal
 
 pub returns : goal.returns

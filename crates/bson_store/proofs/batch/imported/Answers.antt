@@ -1,6 +1,6 @@
 use Rattle.std.proofs.Common.{Some, drop, take, ap, refl, subst, sym, ◌∙◌}
 use Rattle.store_laws.specs.Reading.{ReadsStream}
-use Rattle.store_streams.specs.Feed.{Feed}
+use Rattle.bson_base.specs.Device.{Feed}
 use Rattle.bson_store.specs.Calls.{held}
 use Rattle.bson_store.specs.Many.{DoesMany, Imports}
 use Rattle.bson_store.specs.Refusals.{as_number, reply_by}
@@ -20,4 +20,4 @@ returns g c =
     let all = ap (λ at. drop at s.bytes.now) c.new-source.ensures.at ∙ c.new-source.ensures.bytes in
     moved (held g.S.Store c.args.store.now) (held g.S.Store c.import.new.self) (Imports n old new c.import.result) (Imported n bytes c.counted.result) c.import.ensures
     (λ docs after h. subst (λ q. DoesMany n (ReadsStream bytes) q docs after) (sym c.counted.ensures)
-    (from_memory docs after n bytes old new c.import.result refl refl (λ bs all_read. whole_slice (drop s.at s.bytes.now) new.supply.left bs all_read.1.1 all_read.2 ∙ all) h))
+    (from_memory docs after n bytes old new c.import.result refl refl (λ bs all_read. whole_slice (drop s.at s.bytes.now) new.supply.left bs all_read.0.1.1 all_read.1 ∙ all) h))

@@ -1,10 +1,11 @@
 use Rattle.std.proofs.Common.{◌∷◌, [], length, ap, ◌∙◌, arith, length-append}
 use Rattle.std.specs.Vec.Iter.{into_iter_items}
-use Rattle.bson_meaning.proofs.Putting.{no_more}
+
 use Rattle.bson_store.specs.Calls.{held}
 use Rattle.bson_store.specs.declared.command.Reply.{Reply}
 use Rattle.bson_store.proofs.Going.{so_far_start, so_far_more, so_far_all, lists_moved}
 use Rattle.bson_store.proofs.batch.run.Goals as goal
+use Rattle.std.proofs.lemmas.List.{nil_from_length}
 
 pub loop-command-init : goal.loop-command-init
 loop-command-init g c =
@@ -38,11 +39,11 @@ pub returns-clause-tables : goal.returns-clause-tables
 returns-clause-tables g c =
     let l = c.loop-command in
     so_far_all (held g.S.Store c.args.store.now) (held g.S.Store l.store) c.args.commands.items (into_iter_items l.command-iterator) l.replies.items
-    (no_more (into_iter_items l.command-iterator) (l.invariant.1 ∙ c.in-None.ensures.steps.0)) l.invariant.0
+    (nil_from_length (into_iter_items l.command-iterator) (l.invariant.1 ∙ c.in-None.ensures.steps.0)) l.invariant.0
 
 pub returns-clause-lists : goal.returns-clause-lists
 returns-clause-lists g c =
     let l = c.loop-command in
     lists_moved (held g.S.Store c.args.store.now) (held g.S.Store l.store) c.args.commands.items l.replies.items
     (so_far_all (held g.S.Store c.args.store.now) (held g.S.Store l.store) c.args.commands.items (into_iter_items l.command-iterator) l.replies.items
-    (no_more (into_iter_items l.command-iterator) (l.invariant.1 ∙ c.in-None.ensures.steps.0)) l.invariant.0)
+    (nil_from_length (into_iter_items l.command-iterator) (l.invariant.1 ∙ c.in-None.ensures.steps.0)) l.invariant.0)

@@ -1,7 +1,7 @@
 use Rattle.std.proofs.lemmas.Result.{err_from_is_err_and}
 use Rattle.sqlite.specs.Steps.{over_memory}
 use Rattle.sqlite.proofs.Callers.{memory_is_clean}
-use Rattle.store_streams.specs.Feed.{Feed}
+use Rattle.bson_base.specs.Device.{Feed}
 use Rattle.bson_store.specs.Calls.{connection_of, held}
 use Rattle.bson_store.specs.Export.{Tally}
 use Rattle.bson_store_cli.proofs.Sending.{nothing_out, all_out, some_out}

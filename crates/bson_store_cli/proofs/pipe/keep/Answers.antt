@@ -3,7 +3,7 @@ use Rattle.sqlite.specs.Steps.{over_memory}
 use Rattle.sqlite.proofs.Callers.{memory_is_clean}
 use Rattle.bson_table.specs.Moves.{Moves}
 use Rattle.store_laws.specs.State.{in_bytes, insert, done, refused}
-use Rattle.store_streams.specs.Feed.{Feed}
+use Rattle.bson_base.specs.Device.{Feed}
 use Rattle.bson_store.specs.Calls.{connection_of, held, DoesBytes}
 use Rattle.bson_store_cli.proofs.Keeping.{name, input_kept, input_not_kept}
 use Rattle.bson_store_cli.proofs.pipe.keep.Goals as goal

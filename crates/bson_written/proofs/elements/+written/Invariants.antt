@@ -1,5 +1,5 @@
 use Rattle.std.proofs.Common.{◌+◌, ◌*◌, length}
-use Rattle.bson_written.specs.Written.{AreItemsWritten, AreWritten}
+use Rattle.bson_written.specs.Written.{AreAbsent, AreItemsWritten, AreWritten}
 use Rattle.bson_written.proofs.elements.+written.Given as goal
 
 abbrev pub decreases-are_items_written : goal.decreases-are_items_written
@@ -17,8 +17,8 @@ decreases-is_written l = 3 * l.inner + 1
 abbrev pub invariant-are_items_written-loop-place : goal.invariant-are_items_written-loop-place
 invariant-are_items_written-loop-place l = AreItemsWritten l.place l.rest → AreItemsWritten 0 l.elements
 
-abbrev pub invariant-are_written-loop-rest : goal.invariant-are_written-loop-rest
-invariant-are_written-loop-rest l = AreWritten l.rest → AreWritten l.elements
+abbrev pub invariant-are_written-loop-keys : goal.invariant-are_written-loop-keys
+invariant-are_written-loop-keys l = AreAbsent l.keys.items l.rest → AreWritten l.rest → AreWritten l.elements
 
-abbrev pub decreases-are_written-loop-rest : goal.decreases-are_written-loop-rest
-decreases-are_written-loop-rest l = length l.rest
+abbrev pub decreases-are_written-loop-keys : goal.decreases-are_written-loop-keys
+decreases-are_written-loop-keys l = length l.rest

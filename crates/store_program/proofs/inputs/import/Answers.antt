@@ -1,5 +1,5 @@
 use Rattle.std.proofs.Common.{map, string_bytes, refl}
-use Rattle.store_streams.specs.Feed.{Feed}
+use Rattle.bson_base.specs.Device.{Feed}
 use Rattle.bson_store.specs.Calls.{held}
 use Rattle.store_words.specs.declared.call.Call.TheVariants as words
 use Rattle.store_program.specs.Commands.{IsCommandOf}

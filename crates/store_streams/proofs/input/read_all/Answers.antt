@@ -8,9 +8,9 @@ returns-in_err-extend_from_slice-clause-err g c =
     let supply = g.S.Source.supply in
     let p = err_from_is_err_and c.from_residual-in_err-extend_from_slice.result c.from_residual-in_err-extend_from_slice.ensures.1 in
     rw (p.1, p.2) (
-      c.in-Ok.ensures.counts ∙ c.loop-n.invariant.fine,
+      c.loop-n.bytes.items ++ take c.in-Ok.n c.read_full.new.buf,
       (
-        c.loop-n.bytes.items ++ take c.in-Ok.n c.read_full.new.buf,
+        c.in-Ok.ensures.counts ∙ c.loop-n.invariant.fine,
         Gives-trans (supply c.args.source.now) (supply c.loop-n.source) (supply c.read_full.new.source) c.loop-n.bytes.items (take c.in-Ok.n c.read_full.new.buf) c.loop-n.invariant.so_far c.in-Ok.ensures.bytes,
       ),
     )

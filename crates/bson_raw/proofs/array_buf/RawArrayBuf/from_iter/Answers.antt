@@ -6,8 +6,9 @@ use Rattle.bson_raw.specs.Append.{empty_bytes}
 use Rattle.bson_raw.specs.Buffer.{array_buffer_bytes, next_place}
 use Rattle.bson_raw.specs.Pairs.{placed}
 use Rattle.bson_raw.specs.Raw.{own_value}
-use Rattle.bson_raw.proofs.Builds.{OnTheWay, begins, goes_on, stops, ends, no_memory, nothing_left}
+use Rattle.bson_raw.proofs.Builds.{OnTheWay, begins, goes_on, stops, ends, no_memory}
 use Rattle.bson_raw.proofs.array_buf.RawArrayBuf.from_iter.Goals as goal
+use Rattle.std.proofs.lemmas.List.{nil_from_length}
 
 pub returns-in_err-array-clause-bytes : goal.returns-in_err-array-clause-bytes
 returns-in_err-array-clause-bytes c =
@@ -49,7 +50,7 @@ returns-in_err-push-clause-bytes c =
 pub returns-clause-bytes : goal.returns-clause-bytes
 returns-clause-bytes c =
     let it = c.loop-value.value-iterator in
-    let none : into_iter_items it ≡ [] = nothing_left (into_iter_items it) (omega (arith, c.in-None.ensures.steps.0, it.rest.ok.0)) in
+    let none : into_iter_items it ≡ [] = nil_from_length (into_iter_items it) (omega (arith, c.in-None.ensures.steps.0, it.rest.ok.0)) in
     ends (placed 0 c.args.values.items) _ (array_buffer_bytes c.loop-value.array) c.loop-value.invariant.way (ap (λ l. placed (next_place c.loop-value.array) l) none)
 
 pub returns-clause-place : goal.returns-clause-place

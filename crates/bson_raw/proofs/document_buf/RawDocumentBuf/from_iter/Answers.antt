@@ -6,8 +6,9 @@ use Rattle.bson_raw.specs.Append.{CanTake, element_for, with_element, empty_byte
 use Rattle.bson_raw.specs.Buffer.{buffer_bytes}
 use Rattle.bson_raw.specs.Pairs.{pair_of}
 use Rattle.bson_raw.specs.Raw.{RawValue, own_value}
-use Rattle.bson_raw.proofs.Builds.{OnTheWay, begins, goes_on, stops, ends, no_memory, nothing_left}
+use Rattle.bson_raw.proofs.Builds.{OnTheWay, begins, goes_on, stops, ends, no_memory}
 use Rattle.bson_raw.proofs.document_buf.RawDocumentBuf.from_iter.Goals as goal
+use Rattle.std.proofs.lemmas.List.{nil_from_length}
 
 pub returns-in_err-document : goal.returns-in_err-document
 returns-in_err-document c =
@@ -42,5 +43,5 @@ loop-key-preserved c =
 pub returns : goal.returns
 returns c =
     let it = c.loop-key.key-iterator in
-    let none : into_iter_items it ≡ [] = nothing_left (into_iter_items it) (omega (arith, c.in-None.ensures.steps.0, it.rest.ok.0)) in
+    let none : into_iter_items it ≡ [] = nil_from_length (into_iter_items it) (omega (arith, c.in-None.ensures.steps.0, it.rest.ok.0)) in
     ends (map pair_of c.args.pairs.items) _ (buffer_bytes c.loop-key.document) c.loop-key.invariant (ap (λ l. map pair_of l) none)

@@ -3,7 +3,7 @@ use Rattle.std.proofs.lemmas.Result.{err_from_is_err_and}
 use Rattle.store_documents.specs.Names.{name_bytes}
 use Rattle.store_laws.specs.declared.error.ErrorKind.TheVariants as kind
 use Rattle.store_laws.specs.Reading.{ReadsStream}
-use Rattle.store_streams.specs.Feed.{Feed}
+use Rattle.bson_base.specs.Device.{Feed}
 use Rattle.store_streams.specs.Judging.{Judges}
 use Rattle.bson_store.specs.Calls.{held}
 use Rattle.bson_store.specs.Many.{AddsAll, Imports}

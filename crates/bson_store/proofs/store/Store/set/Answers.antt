@@ -5,7 +5,7 @@ use Rattle.store_documents.specs.Names.{name_bytes}
 use Rattle.bson_model.specs.View.{view}
 use Rattle.store_laws.specs.State as model
 use Rattle.bson_store.proofs.Exits.{bad_moves, stays_moves, unlooked_moves, none_moves, there_moves, rewritten_moves, unchanged_moves}
-use Rattle.bson_store.proofs.Serving.{untrue}
+
 use Rattle.bson_table.specs.Rows.{replaced}
 use Rattle.serde_json.specs.View.{view as data_of}
 use Rattle.store_laws.specs.Reading.{read_value}
@@ -13,6 +13,7 @@ use Rattle.store_laws.specs.State.{IsValue}
 use Rattle.store_laws.proofs.Readings.{value_read}
 use Rattle.bson_store.proofs.Setting.{set_bad_key, set_unread, set_refused, set_remakes}
 use Rattle.bson_store.proofs.store.Store.set.Goals as goal
+use Rattle.bson_raw.proofs.Progress.{untrue}
 
 pub returns-in_err-name : goal.returns-in_err-name
 returns-in_err-name g c =

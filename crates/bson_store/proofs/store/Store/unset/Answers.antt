@@ -5,10 +5,11 @@ use Rattle.store_documents.specs.Names.{name_bytes}
 use Rattle.bson_model.specs.View.{view}
 use Rattle.store_laws.specs.State as model
 use Rattle.bson_store.proofs.Exits.{bad_moves, stays_moves, unlooked_moves, none_moves, there_moves, rewritten_moves, unchanged_moves}
-use Rattle.bson_store.proofs.Serving.{untrue}
+
 use Rattle.bson_table.specs.Rows.{replaced}
 use Rattle.bson_store.proofs.Setting.{unset_bad_key, unset_refused, unset_stays, unset_remakes}
 use Rattle.bson_store.proofs.store.Store.unset.Goals as goal
+use Rattle.bson_raw.proofs.Progress.{untrue}
 
 pub returns-in_err-name : goal.returns-in_err-name
 returns-in_err-name g c =
