@@ -16,3 +16,4 @@ pub mod ComesBack
 mod BorrowedEqual
 mod OwnedEqual
 mod NoFaults
+mod Sized

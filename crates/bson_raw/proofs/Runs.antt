@@ -12,7 +12,7 @@ use Rattle.bson_raw.specs.View.{parts_of, left_of}
 use Rattle.bson_raw.specs.Value.{Answers}
 use Rattle.bson_raw.specs.Walk.{IsWalk, walk_items, IsItem, IsNext, steps_from, raw_steps, items_left}
 use Rattle.bson_raw.specs.Read.{IsRead, ReadsNext}
-use Rattle.bson_raw.proofs.Walks.{PayloadsAlone, frame_len}
+use Rattle.bson_raw.proofs.Walks.{frame_len}
 
 -- each item leaves fewer to come
 fewer : (s t : Option (List ℕ)) (x : Result RawElement Error) → steps_from s (Some x) t → suc (items_left t) ≤ items_left s
@@ -84,7 +84,7 @@ pub raw_reads : (s : RawIter) (item : Option (Result RawElement Error)) (t : Raw
 raw_reads s item t h = (item, h, reads_itself (left_of s) (left_of t) item h)
 
 -- an element that came, read
-pub element_read : PayloadsAlone → (s t : Option (List ℕ)) (e : RawElement) (result : Result RawBsonRef Error) → steps_from s (Some (Ok e)) t → Answers (parts_of e) result → IsRead (Ok (parts_of e)) result
-element_read alone None t e result h a = let bad = h.0 in absurd cc
-element_read alone (Some bytes) t e (Ok v) h a = a (alone bytes (parts_of e) e.frame.rest.now h.0)
-element_read alone (Some bytes) t e (Err x) h a = a (alone bytes (parts_of e) e.frame.rest.now h.0)
+pub element_read : (s t : Option (List ℕ)) (e : RawElement) (result : Result RawBsonRef Error) → steps_from s (Some (Ok e)) t → Answers (parts_of e) result → IsRead (Ok (parts_of e)) result
+element_read None t e result h a = let bad = h.0 in absurd cc
+element_read (Some bytes) t e (Ok v) h a = a
+element_read (Some bytes) t e (Err x) h a = a

@@ -8,8 +8,8 @@ use Rattle.bson_frame.specs.Frame.{Element, IsFirstFrame, IsStructuralFault}
 use Rattle.bson_raw.specs.declared.element.RawElement.{RawElement}
 use Rattle.bson_raw.specs.declared.walk.RawIter.{RawIter}
 use Rattle.bson_raw.specs.View.{parts_of, left_of}
-use Rattle.bson_raw.specs.Walk.{IsWalk, walk_items, IsItem, IsSized, IsFound, steps_from, raw_steps, ends_at}
-use Rattle.bson_raw.proofs.Walks.{FramesAreOne, FaultsAreOne, PayloadsAlone}
+use Rattle.bson_raw.specs.Walk.{IsWalk, walk_items, IsItem, IsFound, steps_from, raw_steps, ends_at}
+use Rattle.bson_raw.proofs.Walks.{FramesAreOne, FaultsAreOne}
 use Rattle.bson_bytes.proofs.One.{end_no_frame}
 
 -- these items of the walk are still to come
@@ -23,10 +23,9 @@ pub record IsTurn (items : List (Result Element ErrorKind)) (x : Result RawEleme
   pub more : List (Result Element ErrorKind)
   pub split : items ≡ first ∷ more
   pub is_item : IsItem first x
-  pub sized : IsSized x
   pub others : IsLeft left more
 
-module _ (one : FramesAreOne) (kind : FaultsAreOne) (alone : PayloadsAlone) where
+module _ (one : FramesAreOne) (kind : FaultsAreOne) where
   walk_at_element : (bytes : List ℕ) (e : Element) (rest : List ℕ) (elements : List Element) (fault : Option ErrorKind) → IsFirstFrame bytes e rest → IsWalk bytes elements fault
       → (more : List Element) × (elements ≡ e ∷ more) × IsWalk rest more fault
   walk_at_element bytes e rest [] None h w = absurd (end_no_frame bytes e rest w h)
@@ -55,7 +54,6 @@ module _ (one : FramesAreOne) (kind : FaultsAreOne) (alone : PayloadsAlone) wher
         more = walk_items at.0 l.1;
         split = l.3 ∙ ap (λ (x : List Element). walk_items x l.1) at.1;
         is_item = refl;
-        sized = alone bytes (parts_of e) e.frame.rest.now h.0;
         others = subst (λ (x : Option (List ℕ)). IsLeft x (walk_items at.0 l.1)) (sym h.1) (at.0, l.1, at.2, refl);
       }
   turn (Some bytes) t (Err e) items h l = record {
@@ -63,7 +61,6 @@ module _ (one : FramesAreOne) (kind : FaultsAreOne) (alone : PayloadsAlone) wher
     more = [];
     split = l.3 ∙ walk_at_fault bytes e.kind l.0 l.1 h.0 h.1 l.2;
     is_item = (refl, h.2);
-    sized = tt;
     others = subst (λ (x : Option (List ℕ)). IsLeft x []) (sym h.3) refl;
   }
 
@@ -80,7 +77,7 @@ module _ (one : FramesAreOne) (kind : FaultsAreOne) (alone : PayloadsAlone) wher
   nth_found [] s t u (Some x) zero items l y h m =
       let at_s = subst (λ (i : RawIter). raw_steps i (Some x) u) (sym y) h in
       let here = turn (left_of s) (left_of u) x items at_s l in
-      subst (λ (i : List (Result Element ErrorKind)). IsFound (slice_get i zero) (Some x)) (sym here.split) (here.is_item, here.sized)
+      subst (λ (i : List (Result Element ErrorKind)). IsFound (slice_get i zero) (Some x)) (sym here.split) here.is_item
   nth_found [] s t u (Some x) (suc n) items l y h m = absurd (omega (arith, m))
   nth_found (z ∷ xs) s t u None zero items l y h m = absurd (omega (arith, m))
   nth_found (z ∷ xs) s t u (Some x) zero items l y h m = absurd (omega (arith, m))
@@ -108,7 +105,7 @@ module _ (key : List ℕ) (items left : List (Result Element ErrorKind)) (same :
   found : (x : Result RawElement Error) (t : Option (List ℕ)) (turn : IsTurn left x t) → ends_at key turn.first ≡ true → IsFound (find (ends_at key) items) (Some x)
   found x t turn test =
       let here : find (ends_at key) items ≡ Some turn.first = at_first turn.first turn.more turn.split ∙ ap (λ (b : Bool). cond b (Some turn.first) (find (ends_at key) turn.more)) test in
-      subst (λ (r : Option (Result Element ErrorKind)). IsFound r (Some x)) (sym here) (turn.is_item, turn.sized)
+      subst (λ (r : Option (Result Element ErrorKind)). IsFound r (Some x)) (sym here) turn.is_item
 
   -- the element that came has the key
   pub found_element : (e : RawElement) (t : Option (List ℕ)) (turn : IsTurn left (Ok e) t) → bytes_eq (parts_of e).key key ≡ true → IsFound (find (ends_at key) items) (Some (Ok e))

@@ -6,7 +6,6 @@ use Rattle.bson_base.specs.declared.spec.ElementType.{ElementType}
 use Rattle.bson_base.specs.declared.spec.ElementType.TheVariants as kinds
 use Rattle.bson_frame.specs.declared.error.ErrorKind.{ErrorKind}
 use Rattle.bson_frame.specs.Frame.{Element, IsFirstFrame, IsStructuralFault}
-use Rattle.bson_frame.specs.Payload.{IsPayload}
 use Rattle.bson_raw.specs.Walk.{IsWalk, IsDocumentWalk, walk_items}
 use Rattle.bson_bytes.proofs.One.{end_no_frame}
 
@@ -16,9 +15,6 @@ FramesAreOne = (bytes : List ℕ) (e f : Element) (r s : List ℕ) → IsFirstFr
 
 abbrev pub FaultsAreOne : Type 0
 FaultsAreOne = (bytes : List ℕ) (j k : ErrorKind) → IsStructuralFault bytes j → IsStructuralFault bytes k → j ≡ k
-
-abbrev pub PayloadsAlone : Type 0
-PayloadsAlone = (bytes : List ℕ) (e : Element) (rest : List ℕ) → IsFirstFrame bytes e rest → IsPayload e.tag e.payload
 
 abbrev pub FrameOrFault : Type 0
 FrameOrFault = (bytes : List ℕ) → ((e : Element) × (rest : List ℕ) × IsFirstFrame bytes e rest) ⊎ ((kind : ErrorKind) × IsStructuralFault bytes kind)

@@ -80,13 +80,17 @@ pub record IsValue (tag : ElementType) (payload : List ℕ) (value : RawBsonRef)
   pub holds : Holds payload value
   pub faultless : IsFaultless tag payload
 
--- a payload of this kind was read: its value, or its fault
+-- a payload was read: its value, or its fault
+abbrev pub IsDecoded : ElementType → List ℕ → Result RawBsonRef ErrorKind → Type 0
+IsDecoded tag payload result = MatchResult result (IsValue tag payload) (IsPayloadFault tag payload)
+
+-- the same of bytes that are a payload of this kind
 abbrev pub Decodes : ElementType → List ℕ → Result RawBsonRef ErrorKind → Type 0
-Decodes tag payload result = IsPayload tag payload → MatchResult result (IsValue tag payload) (IsPayloadFault tag payload)
+Decodes tag payload result = IsPayload tag payload → IsDecoded tag payload result
 
 -- an element was read: its value, or its payload fault under its key
 abbrev pub Answers : Element → Result RawBsonRef Error → Type 0
-Answers e result = IsPayload e.tag e.payload → MatchResult result (IsValue e.tag e.payload)
+Answers e result = MatchResult result (IsValue e.tag e.payload)
     (λ x. (kind : ErrorKind) × IsPayloadFault e.tag e.payload kind × IsFaultUnder e.key kind x)
 
 -- ---- the value, if it is of this kind

@@ -5,7 +5,6 @@ use Rattle.std.specs.Str.{bytes_eq}
 use Rattle.bson_frame.specs.declared.error.ErrorKind.{ErrorKind}
 use Rattle.bson_frame.specs.declared.error.Error.{Error}
 use Rattle.bson_frame.specs.Frame.{Element, IsFirstFrame, IsStructuralFault}
-use Rattle.bson_frame.specs.Payload.{IsPayload}
 use Rattle.bson_frame.specs.View.{fault_key, IsBare}
 use Rattle.bson_raw.specs.declared.element.RawElement.{RawElement}
 use Rattle.bson_raw.specs.declared.walk.RawIter.{RawIter}
@@ -56,17 +55,12 @@ found_under key elements fault = find (ends_at key) (walk_items elements fault)
 abbrev pub found_at : ℕ → List Element → Option ErrorKind → Option (Result Element ErrorKind)
 found_at index elements fault = slice_get (walk_items elements fault) index
 
--- an item whose payload has its kind's size
-abbrev pub IsSized : Result RawElement Error → Type 0
-IsSized (Ok x) = IsPayload (parts_of x).tag (parts_of x).payload
-IsSized (Err x) = Unit {0}
-
 -- what was found, as it is yielded
 abbrev pub IsFound : Option (Result Element ErrorKind) → Option (Result RawElement Error) → Type 0
 IsFound None None = Unit {0}
 IsFound None (Some x) = ⊥
 IsFound (Some i) None = ⊥
-IsFound (Some i) (Some x) = IsItem i x × IsSized x
+IsFound (Some i) (Some x) = IsItem i x
 
 -- ---- the iterator
 

@@ -68,7 +68,6 @@ impl<'a> RawArray<'a> {
     {
         bson_frame::laws::one_first_frame();
         bson_frame::laws::one_structural_fault();
-        bson_frame::laws::payload_by_itself();
         self.document.iter_elements().nth(index)
     }
 

@@ -26,7 +26,6 @@ impl<'a> Iterator for RawArrayIter<'a> {
     ghost remaining = { λ s. at_most (items_left (values_left s)) };
 
     fn next(&mut self) -> Option<Result<RawBsonRef<'a>, Error>> {
-        bson_frame::laws::payload_by_itself();
         match self.raw.next()? {
             Ok(element) => match element.value(self.alloc) {
                 Ok(value) => Some(Ok(value)),

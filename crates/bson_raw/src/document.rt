@@ -98,7 +98,6 @@ impl<'a> RawDocument<'a> {
     {
         bson_frame::laws::one_first_frame();
         bson_frame::laws::one_structural_fault();
-        bson_frame::laws::payload_by_itself();
         for item in self.iter_elements() {
             match item {
                 Ok(element) => {

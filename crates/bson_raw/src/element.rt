@@ -1,24 +1,28 @@
 //! Elements whose values aren't read yet.
 
 ghost use Rattle.std.specs.Prelude.{◌≡◌, length};
+ghost use Rattle.bson_frame.specs.Payload.{IsPayload};
 ghost use Rattle.bson_frame.specs.View.{IsFaultUnder};
 
 use crate::bson_ref::RawBsonRef;
 use crate::convert::tree_of;
 use crate::decode::value_of;
+use crate::laws::payload_of_an_element;
 use bson_base::ElementType;
 use bson_frame::{Error, ErrorKind, Frame};
 use bson_model::Bson;
 use std::alloc::Global;
 
-/// An element whose value isn't read yet (bsonspec.org 1.1, "element").
+/// An element whose value isn't read yet (bsonspec.org 1.1, "element"). Its payload has the size of its kind, as the walk
+/// gives no other.
 #[derive(Clone, Copy, Debug)]
 pub struct RawElement<'a> {
     pub(crate) frame: Frame<'a>,
+    pub ghost sized: { ∥ IsPayload frame.tag frame.payload.now ∥₁ },
 }
 
 impl<'a> RawElement<'a> {
-    ghost use Rattle.bson_raw.specs.Value.{Decodes, Answers};
+    ghost use Rattle.bson_raw.specs.Value.{Answers, IsDecoded};
     ghost use Rattle.bson_raw.specs.View.{parts_of};
 
     /// The key.
@@ -45,8 +49,9 @@ impl<'a> RawElement<'a> {
     /// The value, or the kind of the payload fault: `Utf8EncodingError` where a text isn't UTF-8, else `MalformedValue`. Takes
     /// no memory.
     pub fn value_or_kind(&self) -> Result<RawBsonRef<'a>, ErrorKind>
-        ensures { Decodes (parts_of self.now).tag (parts_of self.now).payload result }
+        ensures { IsDecoded (parts_of self.now).tag (parts_of self.now).payload result }
     {
+        payload_of_an_element(self);
         value_of(self.frame.tag, self.frame.payload)
     }
 
@@ -64,11 +69,10 @@ impl<'a> RawElement<'a> {
 
 /// To a tree.
 impl RawElement<'_> {
-    ghost use Rattle.std.specs.Prelude.{IfErr};
+    ghost use Rattle.std.specs.Prelude.{IfErr, MatchResult};
     ghost use Rattle.bson_base.specs.Value.{Value, value_kind};
     ghost use Rattle.bson_bytes.specs.Spells.{SpellsValue};
-    ghost use Rattle.bson_frame.specs.Payload.{IsPayload};
-    ghost use Rattle.bson_raw.specs.Convert.{ConvertsElement, Tells};
+    ghost use Rattle.bson_raw.specs.Convert.{HasFaultIn, IsValueOf, Tells};
     ghost use Rattle.bson_raw.specs.View.{parts_of};
 
     /// The value that the payload means, as a tree.
@@ -77,9 +81,8 @@ impl RawElement<'_> {
     /// `MalformedValue`, or `Utf8EncodingError` where a text isn't UTF-8, under the key of the element whose payload is
     /// faulty, or under none where bytes begin with no element. `OutOfMemory`, under no key, where a growth was refused.
     pub fn to_bson(&self, alloc: Global) -> Result<Bson, Error>
-        ensures tree { ConvertsElement (parts_of self.now) result }
-        ensures none { IsPayload (parts_of self.now).tag (parts_of self.now).payload
-            → IfErr result (Tells (λ _ _. (v : Value) → value_kind v ≡ (parts_of self.now).tag → SpellsValue (parts_of self.now).payload v → ⊥)) }
+        ensures tree { MatchResult result (IsValueOf (parts_of self.now)) (Tells (HasFaultIn (parts_of self.now))) }
+        ensures none { IfErr result (Tells (λ _ _. (v : Value) → value_kind v ≡ (parts_of self.now).tag → SpellsValue (parts_of self.now).payload v → ⊥)) }
     {
         bson_frame::laws::one_first_frame();
         let value = self.value(alloc)?;

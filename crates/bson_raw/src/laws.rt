@@ -7,7 +7,7 @@ ghost use Rattle.bson_frame.specs.Frame.{Element};
 ghost use Rattle.bson_frame.specs.declared.error.Error.{Error as Fault};
 ghost use Rattle.bson_frame.specs.declared.error.ErrorKind.{ErrorKind as Kind};
 ghost use Rattle.bson_raw.specs.Walk.{IsWalk, IsDocumentWalk, walk_items, raw_steps, items_left};
-ghost use Rattle.bson_raw.specs.View.{left_of, pairs_left, values_left};
+ghost use Rattle.bson_raw.specs.View.{left_of, pairs_left, parts_of, values_left};
 ghost use Rattle.bson_raw.specs.Convert.{HasFault};
 ghost use Rattle.bson_raw.specs.Read.{pair_steps, value_steps};
 ghost use Rattle.bson_raw.specs.declared.array_iter.RawArrayIter.{RawArrayIter as Values};
@@ -21,13 +21,14 @@ ghost use Rattle.bson_base.specs.Value.{document, Members};
 ghost use Rattle.bson_bytes.specs.Encode.{encode, size};
 ghost use Rattle.bson_bytes.specs.Spells.{Means};
 ghost use Rattle.bson_bytes.specs.Writing.{CanBeWritten, IsRefusal};
-ghost use Rattle.bson_frame.specs.Payload.{IsEnvelope, IsFaultless};
+ghost use Rattle.bson_frame.specs.Payload.{IsEnvelope, IsFaultless, IsPayload};
 ghost use Rattle.bson_model.specs.Trees.{document_tree};
 ghost use Rattle.bson_model.specs.View.{pairs_of, members_of};
 
 pub mod equality;
 
 use crate::document_buf::RawDocumentBuf;
+use crate::element::RawElement;
 use bson_model::Document;
 use std::alloc::Global;
 
@@ -82,6 +83,11 @@ pub fn iter_ends()
 pub fn array_iter_ends()
     ensures { (s t : Values) (items : List (Result Value Fault)) → Yields value_steps s items t
         → length items ≤ items_left (values_left s) }
+{}
+
+/// The payload of an element has the size of its kind by itself.
+pub fn payload_of_an_element(element: &RawElement<'_>)
+    ensures { IsPayload (parts_of element.now).tag (parts_of element.now).payload }
 {}
 
 /// Bytes that pass as a document come back from its buffer as they were; others are refused.

@@ -1,7 +1,6 @@
 //! Copies of values that own their bytes.
 
 ghost use Rattle.std.specs.Prelude.{◌≡◌, IfOk, string_bytes};
-ghost use Rattle.bson_frame.specs.Payload.{IsPayload};
 ghost use Rattle.bson_raw.specs.Buffer.{buffer_bytes};
 ghost use Rattle.bson_raw.specs.Copied.{CopyAnswers};
 ghost use Rattle.bson_raw.specs.Places.{ArrayGoesOn};
@@ -89,7 +88,7 @@ impl<'a> RawBsonRef<'a> {
 impl<'a> RawElement<'a> {
     /// A copy of the value that owns its bytes, or the payload fault under its key. Want of memory stands under no key.
     pub fn to_raw_bson(&self, alloc: Global) -> Result<RawBson, Error>
-        ensures value { IsPayload (parts_of self.now).tag (parts_of self.now).payload → CopyAnswers (parts_of self.now) result }
+        ensures value { CopyAnswers (parts_of self.now) result }
         ensures place { IfOk result ArrayGoesOn }
     {
         match self.value(alloc) {

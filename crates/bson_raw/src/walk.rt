@@ -23,6 +23,7 @@ impl<'a> Iterator for RawIter<'a> {
     ghost remaining = { λ s. at_most (items_left (left_of s)) };
 
     fn next(&mut self) -> Option<Result<RawElement<'a>, Error>> {
+        bson_frame::laws::payload_by_itself();
         let bytes = self.rest?;
         if let [0] = bytes {
             self.rest = None;

@@ -16,7 +16,7 @@ returns-then-eq c = λ elements fault w.
     let items = walk_items elements fault in
     let inv = c.loop-item.invariant items (elements, fault, w, refl) in
     let step = rw c.in-Ok.is at c.in-Some.ensures.steps in
-    let here = turn c.one_first_frame.ensures c.one_structural_fault.ensures c.payload_by_itself.ensures (left_of c.loop-item.item-iterator) (left_of c.next.new.self) _ inv.0 step inv.1 in
+    let here = turn c.one_first_frame.ensures c.one_structural_fault.ensures (left_of c.loop-item.item-iterator) (left_of c.next.new.self) _ inv.0 step inv.1 in
     let key = c.args.key.now in
     let test : bytes_eq c.in-Ok.element.frame.key.now key ≡ true = ap (λ (x : List ℕ). bytes_eq x key) (sym c.key.ensures) ∙ sym c.if-eq.ensures in
     found_element key items inv.0 inv.2 c.in-Ok.element (left_of c.next.new.self) here test
@@ -25,7 +25,7 @@ pub loop-item-preserved : goal.loop-item-preserved
 loop-item-preserved c = λ items l.
     let inv = c.loop-item.invariant items l in
     let step = rw c.in-Ok.is at c.in-Some.ensures.steps in
-    let here = turn c.one_first_frame.ensures c.one_structural_fault.ensures c.payload_by_itself.ensures (left_of c.loop-item.item-iterator) (left_of c.next.new.self) _ inv.0 step inv.1 in
+    let here = turn c.one_first_frame.ensures c.one_structural_fault.ensures (left_of c.loop-item.item-iterator) (left_of c.next.new.self) _ inv.0 step inv.1 in
     let key = c.args.key.now in
     let test : bytes_eq c.in-Ok.element.frame.key.now key ≡ false = ap (λ (x : List ℕ). bytes_eq x key) (sym c.key.ensures) ∙ sym c.if-eq.ensures in
     (here.more, here.others, passed_element key items inv.0 inv.2 c.in-Ok.element (left_of c.next.new.self) here test)
@@ -35,11 +35,11 @@ returns-in-Err c = λ elements fault w.
     let items = walk_items elements fault in
     let inv = c.loop-item.invariant items (elements, fault, w, refl) in
     let step = rw c.in-Err.is at c.in-Some.ensures.steps in
-    let here = turn c.one_first_frame.ensures c.one_structural_fault.ensures c.payload_by_itself.ensures (left_of c.loop-item.item-iterator) (left_of c.next.new.self) _ inv.0 step inv.1 in
+    let here = turn c.one_first_frame.ensures c.one_structural_fault.ensures (left_of c.loop-item.item-iterator) (left_of c.next.new.self) _ inv.0 step inv.1 in
     found_fault c.args.key.now items inv.0 inv.2 c.in-Err.e (left_of c.next.new.self) here
 
 pub returns : goal.returns
 returns c = λ elements fault w.
     let items = walk_items elements fault in
     let inv = c.loop-item.invariant items (elements, fault, w, refl) in
-    found_nothing c.args.key.now items inv.0 inv.2 (turn_end c.one_first_frame.ensures c.one_structural_fault.ensures c.payload_by_itself.ensures (left_of c.loop-item.item-iterator) (left_of c.next.new.self) inv.0 c.in-None.ensures.steps inv.1)
+    found_nothing c.args.key.now items inv.0 inv.2 (turn_end c.one_first_frame.ensures c.one_structural_fault.ensures (left_of c.loop-item.item-iterator) (left_of c.next.new.self) inv.0 c.in-None.ensures.steps inv.1)
