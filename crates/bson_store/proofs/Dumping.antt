@@ -1,13 +1,14 @@
--- The trees of a collection, as a visitor makes them.
+-- The trees of a collection, as a visitor makes them and hands them on.
 use Rattle.std.proofs.Common.{◌≡◌, ◌⊎◌, inl, inr, ℕ, suc, ◌+◌, zero-add, List, [], ◌∷◌, ◌++◌, length, map, Bool, true, false, Option, Some, None, is_some, Result, Ok, Err, refl, ap, ◌∙◌, sym, subst, arith}
+use Rattle.std.specs.Prelude.{MatchOption}
 use Rattle.serde_json.specs.Data.{Data}
 use Rattle.serde_json.specs.View.{view as data_of}
-use Rattle.serde_json.specs.declared.value.Value.{Value as Json}
+use Rattle.sqlite.specs.State.{State}
 use Rattle.bson_base.specs.Value.{Members}
 use Rattle.bson_bytes.specs.Encode.{encode}
 use Rattle.bson_model.specs.declared.extjson.ser.Mode.TheVariants.{Canonical}
 use Rattle.bson_table.specs.Rows.{Doc}
-use Rattle.bson_table.specs.Moves.{Visits, bodies_of}
+use Rattle.bson_table.specs.Moves.{Moves, Visits}
 use Rattle.bson_table.specs.declared.fault.Fault.{Fault}
 use Rattle.bson_table.specs.declared.fault.Fault.TheVariants as faults
 use Rattle.store_laws.specs.Reading.{Documents}
@@ -18,13 +19,15 @@ use Rattle.store_laws.specs.declared.error.ErrorKind.{ErrorKind}
 use Rattle.store_laws.specs.declared.error.ErrorKind.TheVariants as kind
 use Rattle.bson_store.specs.Shown.{Show}
 use Rattle.bson_store.specs.Calls.{Does}
-use Rattle.bson_store.specs.Dump.{Adds, Gives, TookTrees}
-use Rattle.bson_store.specs.Refusals.{kind_of_fault, refusal, refusal_at}
+use Rattle.bson_store.specs.Dump.{HandedOn, HandsOn, HandsTrees, Stops, TellsTree, TakesAll}
+use Rattle.bson_store.specs.Refusals.{IsDenied, kind_of_fault, refusal}
+use Rattle.bson_store.specs.declared.dump.Teller.{Teller}
 use Rattle.bson_store.specs.declared.dump.Trees.{Trees}
 use Rattle.bson_store.specs.declared.error.StoreError.{StoreError}
 use Rattle.bson_store.proofs.Adding.{kept_there}
 use Rattle.bson_store.proofs.Exporting.{bodies_are}
-use Rattle.bson_store.proofs.Serving.{answers_stay, denied, undecided, memory_other}
+use Rattle.bson_store.proofs.Moving.{rests, moved}
+use Rattle.bson_store.proofs.Serving.{bad_name, denied, memory_other, stay, undecided}
 
 abbrev Told : Type 0
 Told = Result (List Data) (ErrorKind × ℕ)
@@ -116,65 +119,68 @@ kept_last (e ∷ front) d h = kept_last front d h.1
 
 -- ---- one body more
 
-map_last : (xs : List Json) (x : Json) → map data_of (xs ++ x ∷ []) ≡ map data_of xs ++ data_of x ∷ []
-map_last [] x = refl
-map_last (y ∷ xs) x = ap (λ l. data_of y ∷ l) (map_last xs x)
+-- the place behind a list
+longer : (js : List Data) (j : Data) → length (js ++ j ∷ []) ≡ length js + 1
+longer [] j = refl
+longer (x ∷ js) j = omega (arith, ap suc (longer js j))
 
-map_length : (xs : List Json) → length (map data_of xs) ≡ length xs
-map_length [] = refl
-map_length (x ∷ xs) = ap suc (map_length xs)
-
-pub has_none : (o : Option StoreError) → is_some o ≡ false → o ≡ None
-has_none None h = refl
-has_none (Some e) h = cc
+-- what is told of a beginning of the documents is told of them all
+stops_longer : (refuses : StoreError → Type 0) (ds more : Documents) (e : StoreError) → Stops refuses ds e → Stops refuses (ds ++ more) e
+stops_longer refuses ds more e (inl h) = inl h
+stops_longer refuses ds more e (inr (inl h)) = inr (inl h)
+stops_longer refuses ds more e (inr (inr h)) = inr (inr (by (trees_of 0 ds) refl h))
+  where
+    by : (o : Told) → trees_of 0 ds ≡ o → trees_reply o ≡ refused e.kind e.document → trees_reply (trees_of 0 (ds ++ more)) ≡ refused e.kind e.document
+    by (Ok js) is t = cc
+    by (Err x) is t = ap trees_reply (trees_stay 0 ds more x is) ∙ t
 
 -- a visitor that has a refusal keeps it
-pub took_stays : (v w : Trees) (bodies : List (List ℕ)) (body : List ℕ) → w ≡ v → is_some v.refusal ≡ true → TookTrees v bodies → TookTrees w (bodies ++ body ∷ [])
-took_stays v w bodies body same some took ds kept is = subst (λ x. Gives x ds x.refusal) (sym same) (by v.refusal refl some)
-  where
-    p : LastOf bodies body ds
-    p = last_of bodies body ds is
-
-    before : Gives v p.front v.refusal
-    before = took p.front (front_kept p.front (p.d ∷ []) (subst AreKept p.split kept)) p.written
-
-    still : (x : ErrorKind × ℕ) (o : Result (List Data) (ErrorKind × ℕ)) (e : StoreError) → trees_of 0 p.front ≡ o → trees_reply o ≡ refused e.kind e.document → trees_reply (trees_of 0 ds) ≡ refused e.kind e.document
-    still x (Ok js) e h i = cc
-    still x (Err y) e h i = ap (λ l. trees_reply (trees_of 0 l)) p.split ∙ ap trees_reply (trees_stay 0 p.front (p.d ∷ []) y h) ∙ i
-
-    by : (o : Option StoreError) → v.refusal ≡ o → is_some o ≡ true → Gives v ds o
-    by None e s = cc
-    by (Some e) is s = at (subst (Gives v p.front) is before)
-      where
-        at : (e ≡ refusal kind.Memory) ⊎ (trees_reply (trees_of 0 p.front) ≡ refused e.kind e.document) → (e ≡ refusal kind.Memory) ⊎ (trees_reply (trees_of 0 ds) ≡ refused e.kind e.document)
-        at (inl h) = inl h
-        at (inr h) = inr (still (kind.Memory, 0) (trees_of 0 p.front) e refl h)
-
--- what the visitor had before this body
-had : (v : Trees) (bodies : List (List ℕ)) (body : List ℕ) (ds : Documents) (p : LastOf bodies body ds) → v.refusal ≡ None → TookTrees v bodies → AreKept ds → trees_of 0 p.front ≡ Ok (map data_of v.trees.items)
-had v bodies body ds p none took kept = subst (Gives v p.front) none (took p.front (front_kept p.front (p.d ∷ []) (subst AreKept p.split kept)) p.written)
-
--- the body's tree came last
-pub took_one : (v w : Trees) (bodies : List (List ℕ)) (body : List ℕ) → v.refusal ≡ None → w.refusal ≡ None → ((d : Members) → IsKept d → body ≡ encode d → Adds v.trees.items w.trees.items (tree_of Canonical d) (Ok tt))
-    → TookTrees v bodies → TookTrees w (bodies ++ body ∷ [])
-took_one v w bodies body none still adds took ds kept is =
+pub handed_stays : (took : List Data → Type 0) (refuses : StoreError → Type 0) (i : ℕ) (bodies : List (List ℕ)) (body : List ℕ) (o : Option StoreError) → is_some o ≡ true
+    → HandedOn took refuses i bodies o → HandedOn took refuses i (bodies ++ body ∷ []) o
+handed_stays took refuses i bodies body None some h ds kept is = absurd (cc)
+handed_stays took refuses i bodies body (Some e) some h ds kept is =
     let p = last_of bodies body ds is in
-    let a = adds p.d (kept_last p.front p.d (subst AreKept p.split kept)) p.last in
-    subst (Gives w ds) (sym still)
-    (ap (trees_of 0) p.split ∙ trees_longer 0 p.front p.d (map data_of v.trees.items) (data_of a.0) (had v bodies body ds p none took kept) a.2 ∙ ap Ok (sym (ap (map data_of) a.1 ∙ map_last v.trees.items a.0)))
+    let before : Stops refuses p.front e = h p.front (front_kept p.front (p.d ∷ []) (subst AreKept p.split kept)) p.written in
+    subst (λ l. Stops refuses l e) (sym p.split) (stops_longer refuses p.front (p.d ∷ []) e before)
 
--- the body has no tree
-pub took_none : (v w : Trees) (bodies : List (List ℕ)) (body : List ℕ) (e : StoreError) (js : List Json) → v.refusal ≡ None → w.refusal ≡ Some e
-    → ((d : Members) → IsKept d → body ≡ encode d → Adds v.trees.items js (tree_of Canonical d) (Err e)) → TookTrees v bodies → TookTrees w (bodies ++ body ∷ [])
-took_none v w bodies body e js none now adds took ds kept is = subst (Gives w ds) (sym now) (by (adds p.d (kept_last p.front p.d (subst AreKept p.split kept)) p.last))
+-- the body's tree was taken
+pub handed_one : (old new : List Data → Type 0) (refuses : StoreError → Type 0) (i next : ℕ) (bodies : List (List ℕ)) (body : List ℕ) (o : Option StoreError) → is_some o ≡ false
+    → ((out : List Data) (d : Members) → IsKept d → body ≡ encode d → old out → HandsOn new refuses out i (tree_of Canonical d) (Ok next)) → HandedOn old refuses i bodies o → HandedOn new refuses next (bodies ++ body ∷ []) o
+handed_one old new refuses i next bodies body (Some e) none hands h ds kept is = absurd (cc)
+handed_one old new refuses i next bodies body None none hands h ds kept is =
+    let p = last_of bodies body ds is in
+    let k = subst AreKept p.split kept in
+    let t = h p.front (front_kept p.front (p.d ∷ []) k) p.written in
+    let r = hands t.0 p.d (kept_last p.front p.d k) p.last t.2.0 in
+    (t.0 ++ r.0 ∷ [], ap (trees_of 0) p.split ∙ trees_longer 0 p.front p.d t.0 r.0 t.1 r.1, (r.2, r.3 ∙ ap (λ (m : ℕ). m + 1) t.2.1 ∙ sym (longer t.0 r.0)))
+
+-- the body has no tree, or it is refused
+pub handed_none : (old new : List Data → Type 0) (refuses : StoreError → Type 0) (i next : ℕ) (bodies : List (List ℕ)) (body : List ℕ) (o : Option StoreError) (e : StoreError) → is_some o ≡ false
+    → ((out : List Data) (d : Members) → IsKept d → body ≡ encode d → old out → HandsOn new refuses out i (tree_of Canonical d) (Err e)) → HandedOn old refuses i bodies o → HandedOn new refuses next (bodies ++ body ∷ []) (Some e)
+handed_none old new refuses i next bodies body (Some x) e none hands h ds kept is = absurd (cc)
+handed_none old new refuses i next bodies body None e none hands h ds kept is = by (hands t.0 p.d (kept_last p.front p.d k) p.last t.2.0)
   where
     p : LastOf bodies body ds
     p = last_of bodies body ds is
 
-    by : (e ≡ refusal kind.Memory) ⊎ ((k : ErrorKind) × (tree_of Canonical p.d ≡ Err k) × (e ≡ refusal_at k (length v.trees.items))) → (e ≡ refusal kind.Memory) ⊎ (trees_reply (trees_of 0 ds) ≡ refused e.kind e.document)
-    by (inl h) = inl h
-    by (inr (k, t, h)) = inr
-        (ap (λ l. trees_reply (trees_of 0 l)) p.split ∙ ap trees_reply (trees_stop 0 p.front p.d (map data_of v.trees.items) k (had v bodies body ds p none took kept) t) ∙ ap (λ n. refused k (Some n)) (zero-add (length (map data_of v.trees.items)) ∙ map_length v.trees.items) ∙ sym (ap (λ (x : StoreError). refused x.kind x.document) h))
+    k : AreKept (p.front ++ p.d ∷ [])
+    k = subst AreKept p.split kept
+
+    t : TakesAll (λ js. old js × (i ≡ length js)) p.front
+    t = h p.front (front_kept p.front (p.d ∷ []) k) p.written
+
+    by : HandsOn new refuses t.0 i (tree_of Canonical p.d) (Err e) → Stops refuses ds e
+    by (inl x) = inl x
+    by (inr (inl x)) = inr (inl x)
+    by (inr (inr (x, tells, at))) = inr (inr
+        (ap (λ l. trees_reply (trees_of 0 l)) p.split ∙ ap trees_reply (trees_stop 0 p.front p.d t.0 x t.1 tells) ∙ ap (λ n. refused x (Some n)) (zero-add (length t.0) ∙ sym t.2.1) ∙ sym (ap (λ (y : StoreError). refused y.kind y.document) at)))
+
+-- ---- one tree
+
+-- the body has none
+pub untold : (took : List Data → Type 0) (refuses : StoreError → Type 0) (out : List Data) (i : ℕ) (r : Result Data ErrorKind) (e : StoreError) → TellsTree r i (Err e) → HandsOn took refuses out i r (Err e)
+untold took refuses out i r e (inl h) = inl (faults.Memory, memory_other, h)
+untold took refuses out i r e (inr h) = inr (inr h)
 
 -- ---- exits
 
@@ -184,44 +190,70 @@ dump_open n good = undecided n dump good (λ x. x)
 answered : (l : Documents) (r : Reply) → trees_reply (trees_of 0 l) ≡ r → Answers dump l r l
 answered l r h = (sym h, refl)
 
-pub undumped : (n : List ℕ) (v w : Trees) (x : Fault) (docs after : List Doc) → IsName n → Visits TookTrees v w n (Err x) docs after → Does (on n dump) (refused (kind_of_fault x) None) docs after
-undumped n v w x docs after good h = rw h.same (denied docs (on n dump) x h.faults (dump_open n good))
+handed_nothing : (took : List Data → Type 0) (refuses : StoreError → Type 0) (i : ℕ) → took [] → i ≡ 0 → HandedOn took refuses i [] None
+handed_nothing took refuses i start at [] kept is = ([], refl, (start, at))
+handed_nothing took refuses i start at (d ∷ ds) kept is = absurd (cc)
 
--- a new visitor has taken nothing
-pub took_nothing : (v : Trees) → v.trees.items ≡ [] → v.refusal ≡ None → TookTrees v []
-took_nothing v none fine [] kept is = subst (Gives v []) (sym fine) (ap (λ l. Ok (map data_of l)) (sym none))
-took_nothing v none fine (d ∷ ds) kept is = cc
+-- under a bad name nothing is asked
+pub unnamed : {T : Type 0} (took : T → List Data → Type 0) (refuses : StoreError → Type 0) (s : State) (n : List ℕ) → (IsName n → ⊥) → Moves s s (HandsTrees took refuses n (Err (refusal kind.BadName)))
+unnamed took refuses s n bad = rests s (HandsTrees took refuses n (Err (refusal kind.BadName))) (λ docs. record { same = refl; handed = λ a _. inl (bad, refl) })
 
-dumped_in : (n : List ℕ) (w : Trees) (docs : List Doc) → IsName n → w.refusal ≡ None → TookTrees w (bodies_of n docs) → Does (on n dump) (json_list (map data_of w.trees.items)) docs docs
-dumped_in n w docs good fine took = answers_stay docs n dump (json_list (map data_of w.trees.items)) good
-    (λ a s. answered (documents_of a n) (json_list (map data_of w.trees.items)) (ap trees_reply (subst (Gives w (documents_of a n)) fine (took (documents_of a n) (kept_there docs a n s) (bodies_are n a docs s.each)))))
+-- what a visitor has handed on since it was the first
+abbrev pub Took : {T : Type 0} → (T → T → List Data → Type 0) → (StoreError → Type 0) → Teller T → Teller T → List (List ℕ) → Type 0
+Took took refuses first v bodies = HandedOn (took first.taker v.taker) refuses v.place bodies v.refusal
 
-pub dumped : (n : List ℕ) (v w : Trees) (all : Bool) (docs after : List Doc) → IsName n → v.trees.items ≡ [] → v.refusal ≡ None → w.refusal ≡ None → (all ≡ false → is_some w.refusal ≡ true) → Visits TookTrees v w n (Ok all) docs after
-    → Does (on n dump) (json_list (map data_of w.trees.items)) docs after
-dumped n v w true docs after good none fine ended stopped h = rw h.same (dumped_in n w docs good ended (h.whole (took_nothing v none fine) refl))
-dumped n v w false docs after good none fine ended stopped h = (let no : is_some w.refusal ≡ true = stopped refl in let none : is_some w.refusal ≡ false = ap is_some ended in cc)
+module _ {T : Type 0} (took : T → T → List Data → Type 0) (refuses : StoreError → Type 0) (first last : Teller T) (n : List ℕ) (docs after : List Doc) (start : took first.taker first.taker []) (at : first.place ≡ 0) (fine : first.refusal ≡ None) (good : IsName n) where
+  starts : Took took refuses first first []
+  starts = subst (λ o. HandedOn (took first.taker first.taker) refuses first.place [] o) (sym fine) (handed_nothing (took first.taker first.taker) refuses first.place start at)
 
-refused_in : (n : List ℕ) (w : Trees) (docs : List Doc) (e : StoreError) → IsName n → w.refusal ≡ Some e → (taken : List (List ℕ)) (rest : List (List ℕ)) → taken ++ rest ≡ bodies_of n docs → TookTrees w taken
-    → Does (on n dump) (refused e.kind e.document) docs docs
-refused_in n w docs e good is taken rest parts took a s = at (subst (Gives w p.front) is (took p.front (front_kept p.front p.back (subst AreKept p.split kept)) p.written))
+  -- the table refused
+  pub unhanded : (x : Fault) → Visits (Took took refuses first) first last n (Err x) docs after → HandsTrees (took first.taker) refuses n (Err (refusal (kind_of_fault x))) docs after
+  unhanded x h = record { same = h.same; handed = λ a s. inr (good, inl (x, h.faults, refl)) }
+
+  -- all trees were taken
+  pub handed : (all : Bool) → last.refusal ≡ None → (all ≡ false → is_some last.refusal ≡ true) → Visits (Took took refuses first) first last n (Ok all) docs after → HandsTrees (took first.taker) refuses n (Ok last.taker) docs after
+  handed false none stopped h = let some : is_some last.refusal ≡ true = stopped refl in let no_one : is_some last.refusal ≡ false = ap is_some none in absurd (cc)
+  handed true none stopped h = record {
+    same = h.same;
+    handed = λ a s.
+        let l = documents_of a n in
+        let t : TakesAll (λ js. took first.taker last.taker js × (last.place ≡ length js)) l =
+        subst (λ o. MatchOption o (TakesAll (λ js. took first.taker last.taker js × (last.place ≡ length js)) l) (Stops refuses l)) none (h.whole starts refl l (kept_there docs a n s) (bodies_are n a docs s.each)) in
+        (good, (t.0, t.1, t.2.0));
+  }
+
+  -- some document stopped it
+  pub stopped_at : (all : Bool) (e : StoreError) → last.refusal ≡ Some e → Visits (Took took refuses first) first last n (Ok all) docs after → HandsTrees (took first.taker) refuses n (Err e) docs after
+  stopped_at all e is h =
+      let w = h.some starts in
+      record {
+        same = h.same;
+        handed = λ a s.
+            let p = parted w.0 w.1 (documents_of a n) (w.2 ∙ bodies_are n a docs s.each) in
+            let t : Stops refuses p.front e =
+            subst (λ o. MatchOption o (TakesAll (λ js. took first.taker last.taker js × (last.place ≡ length js)) p.front) (Stops refuses p.front)) is (w.3 p.front (front_kept p.front p.back (subst AreKept p.split (kept_there docs a n s))) p.written) in
+            inr (good, subst (λ l. Stops refuses l e) (sym p.split) (stops_longer refuses p.front p.back e t));
+      }
+
+-- ---- all trees as the answer of a dump
+
+abbrev pub HasTrees : Trees → List Data → Type 0
+HasTrees v js = map data_of v.trees.items ≡ js
+
+pub dumped_moves : (s t : State) (n : List ℕ) (v : Trees) → Moves s t (HandsTrees HasTrees IsDenied n (Ok v)) → Moves s t (Does (on n dump) (json_list (map data_of v.trees.items)))
+dumped_moves s t n v m =
+    let r = json_list (map data_of v.trees.items) in
+    moved s t (HandsTrees HasTrees IsDenied n (Ok v)) (Does (on n dump) r) m
+    (λ docs after h. rw h.same (λ a shown. let k = h.handed a shown in (a, shown, stay a n dump r k.0 (answered (documents_of a n) r (ap trees_reply k.1.1 ∙ ap json_list (sym k.1.2))))))
+
+undumped : (docs : List Doc) (n : List ℕ) (e : StoreError) → ((a : Table) → Show docs a → ((IsName n → ⊥) × (e ≡ refusal kind.BadName)) ⊎ (IsName n × Stops IsDenied (documents_of a n) e)) → Does (on n dump) (refused e.kind e.document) docs docs
+undumped docs n e h a s = by (h a s)
   where
-    l : Documents
-    l = documents_of a n
+    by : ((IsName n → ⊥) × (e ≡ refusal kind.BadName)) ⊎ (IsName n × Stops IsDenied (documents_of a n) e) → (b : Table) × Show docs b × Rattle.store_laws.specs.Table.Serves a (on n dump) (refused e.kind e.document) b
+    by (inl (bad, is)) = rw is (bad_name docs n dump bad a s)
+    by (inr (good, inl d)) = rw d.2 (denied docs (on n dump) d.0 d.1 (dump_open n good) a s)
+    by (inr (good, inr (inl d))) = rw d.2 (denied docs (on n dump) d.0 d.1 (dump_open n good) a s)
+    by (inr (good, inr (inr t))) = (a, s, stay a n dump (refused e.kind e.document) good (answered (documents_of a n) (refused e.kind e.document) t))
 
-    kept : AreKept l
-    kept = kept_there docs a n s
-
-    p : Parted taken rest l
-    p = parted taken rest l (parts ∙ bodies_are n a docs s.each)
-
-    on_all : (o : Result (List Data) (ErrorKind × ℕ)) → trees_of 0 p.front ≡ o → trees_reply o ≡ refused e.kind e.document → trees_reply (trees_of 0 l) ≡ refused e.kind e.document
-    on_all (Ok js) h i = cc
-    on_all (Err y) h i = ap (λ m. trees_reply (trees_of 0 m)) p.split ∙ ap trees_reply (trees_stay 0 p.front p.back y h) ∙ i
-
-    at : (e ≡ refusal kind.Memory) ⊎ (trees_reply (trees_of 0 p.front) ≡ refused e.kind e.document) → (b : Table) × Show docs b × Rattle.store_laws.specs.Table.Serves a (on n dump) (refused e.kind e.document) b
-    at (inl h) = rw h (denied docs (on n dump) faults.Memory memory_other (dump_open n good) a s)
-    at (inr h) = (a, s, Rattle.bson_store.proofs.Serving.stay a n dump (refused e.kind e.document) good (answered l (refused e.kind e.document) (on_all (trees_of 0 p.front) refl h)))
-
-pub not_dumped : (n : List ℕ) (v w : Trees) (all : Bool) (e : StoreError) (docs after : List Doc) → IsName n → v.trees.items ≡ [] → v.refusal ≡ None → w.refusal ≡ Some e → Visits TookTrees v w n (Ok all) docs after
-    → Does (on n dump) (refused e.kind e.document) docs after
-not_dumped n v w all e docs after good none fine told h = let x = h.some (took_nothing v none fine) in rw h.same (refused_in n w docs e good told x.0 x.1 x.2 x.3)
+pub undumped_moves : (s t : State) (n : List ℕ) (e : StoreError) → Moves s t (HandsTrees HasTrees IsDenied n (Err e)) → Moves s t (Does (on n dump) (refused e.kind e.document))
+undumped_moves s t n e m = moved s t (HandsTrees HasTrees IsDenied n (Err e)) (Does (on n dump) (refused e.kind e.document)) m (λ docs after h. rw h.same (undumped docs n e h.handed))

@@ -1,15 +1,17 @@
--- The trees of a collection, as they are made.
-use Rattle.std.specs.Prelude.{◌≡◌, ◌⊎◌, ℕ, List, [], ◌∷◌, ◌++◌, length, Option, Some, None, Result, Ok, Err, map}
+-- The trees of a collection, as they are made and handed on.
+use Rattle.std.specs.Prelude.{◌≡◌, ◌⊎◌, ℕ, ◌+◌, List, [], ◌∷◌, ◌++◌, length, Option, Result, Ok, Err, map, MatchOption, MatchResult}
 use Rattle.serde_json.specs.Data.{Data}
 use Rattle.serde_json.specs.View.{view as tree_of}
 use Rattle.serde_json.specs.declared.value.Value.{Value as Json}
 use Rattle.bson_bytes.specs.Encode.{encode}
+use Rattle.bson_table.specs.Rows.{Doc}
 use Rattle.store_laws.specs.Reading.{Documents}
-use Rattle.store_laws.specs.State.{AreKept, refused, trees_of, trees_reply}
+use Rattle.store_laws.specs.State.{AreKept, IsName, refused, trees_of, trees_reply}
+use Rattle.store_laws.specs.Table.{Table, documents_of}
 use Rattle.store_laws.specs.declared.error.ErrorKind.{ErrorKind}
-use Rattle.store_laws.specs.declared.error.ErrorKind.TheVariants.{Memory}
-use Rattle.bson_store.specs.Refusals.{refusal, refusal_at}
-use Rattle.bson_store.specs.declared.dump.Trees.{Trees}
+use Rattle.store_laws.specs.declared.error.ErrorKind.TheVariants.{BadName, Memory}
+use Rattle.bson_store.specs.Refusals.{IsDenied, refusal, refusal_at}
+use Rattle.bson_store.specs.Shown.{Show}
 use Rattle.bson_store.specs.declared.error.StoreError.{StoreError}
 
 -- the refusal of the document at a place; want of memory has none
@@ -22,16 +24,28 @@ abbrev pub TellsTree : Result Data ErrorKind → ℕ → Result Json StoreError 
 TellsTree r i (Ok j) = r ≡ Ok (tree_of j)
 TellsTree r i (Err e) = (e ≡ refusal Memory) ⊎ ((k : ErrorKind) × (r ≡ Err k) × (e ≡ refusal_at k i))
 
--- the tree comes last
-abbrev pub Adds : List Json → List Json → Result Data ErrorKind → Result (Unit {0}) StoreError → Type 0
-Adds old new r (Ok x) = (j : Json) × (new ≡ old ++ j ∷ []) × (r ≡ Ok (tree_of j))
-Adds old new r (Err e) = (e ≡ refusal Memory) ⊎ ((k : ErrorKind) × (r ≡ Err k) × (e ≡ refusal_at k (length old)))
+-- The tree that is wanted was taken behind these; or what stands in its place is told, or it is refused, or memory or the
+-- database was wanting.
+abbrev pub HandsOn : (List Data → Type 0) → (StoreError → Type 0) → List Data → ℕ → Result Data ErrorKind → Result ℕ StoreError → Type 0
+HandsOn took refuses out i r (Ok next) = (j : Data) × (r ≡ Ok j) × took (out ++ j ∷ []) × (next ≡ i + 1)
+HandsOn took refuses out i r (Err e) = IsDenied e ⊎ (refuses e ⊎ ((k : ErrorKind) × (r ≡ Err k) × (e ≡ refusal_at k i)))
 
--- These are the trees of the documents; or the first of them that has none is told, or want of memory.
-abbrev pub Gives : Trees → Documents → Option StoreError → Type 0
-Gives v ds None = trees_of 0 ds ≡ Ok (map tree_of v.trees.items)
-Gives v ds (Some e) = (e ≡ refusal Memory) ⊎ (trees_reply (trees_of 0 ds) ≡ refused e.kind e.document)
+-- the trees of all these documents were taken
+abbrev pub TakesAll : (List Data → Type 0) → Documents → Type 0
+TakesAll took ds = (js : List Data) × (trees_of 0 ds ≡ Ok js) × took js
 
--- the bodies that were taken are the written forms of these documents
-abbrev pub TookTrees : Trees → List (List ℕ) → Type 0
-TookTrees v bodies = (ds : Documents) → AreKept ds → bodies ≡ map encode ds → Gives v ds v.refusal
+-- the first of the documents that has no tree is told, or some tree is refused, or memory or the database was wanting
+abbrev pub Stops : (StoreError → Type 0) → Documents → StoreError → Type 0
+Stops refuses ds e = IsDenied e ⊎ (refuses e ⊎ (trees_reply (trees_of 0 ds) ≡ refused e.kind e.document))
+
+-- whatever documents the bodies were written for, the trees of them all were taken, and so many they are, unless there is a refusal
+abbrev pub HandedOn : (List Data → Type 0) → (StoreError → Type 0) → ℕ → List (List ℕ) → Option StoreError → Type 0
+HandedOn took refuses i bodies refusal = (ds : Documents) → AreKept ds → bodies ≡ map encode ds
+    → MatchOption refusal (TakesAll (λ js. took js × (i ≡ length js)) ds) (Stops refuses ds)
+
+-- whatever table the rows show, the trees of its list were taken; or the name is bad, or it is told why they weren't; the rows stay
+pub record HandsTrees {T : Type 0} (took : T → List Data → Type 0) (refuses : StoreError → Type 0) (n : List ℕ) (result : Result T StoreError) (docs after : List Doc) : Type 0 where
+  pub same : after ≡ docs
+  pub handed : (a : Table) → Show docs a → MatchResult result
+      (λ t. IsName n × TakesAll (took t) (documents_of a n))
+      (λ e. ((IsName n → ⊥) × (e ≡ refusal BadName)) ⊎ (IsName n × Stops refuses (documents_of a n) e))

@@ -1,13 +1,15 @@
-//! All documents of a collection as Extended JSON.
+//! All documents of a collection as Extended JSON, one at a time or all at once.
 
-ghost use Rattle.std.specs.Prelude.{◌≡◌, [], None};
+ghost use Rattle.std.specs.Prelude.{◌≡◌, ◌++◌, ◌∷◌, [], List, IfErr, OnOk};
+ghost use Rattle.serde_json.specs.Data.{Data};
+ghost use Rattle.serde_json.specs.View.{view as data_of};
 ghost use Rattle.bson_base.specs.Value.{Members};
 ghost use Rattle.bson_bytes.specs.Encode.{encode};
 ghost use Rattle.bson_model.specs.declared.extjson.ser.Mode.TheVariants.{Canonical};
 ghost use Rattle.bson_table.specs.Moves.{Moves};
 ghost use Rattle.store_laws.specs.State.{IsKept, dump, on, tree_of};
 ghost use Rattle.bson_store.specs.Calls.{held, Does};
-ghost use Rattle.bson_store.specs.Dump.{Adds, TellsTree, told_at};
+ghost use Rattle.bson_store.specs.Dump.{HandsOn, HandsTrees, TellsTree, told_at};
 ghost use Rattle.bson_store.specs.Refusals.{as_json_list, reply_by};
 
 use crate::error::StoreError;
@@ -19,6 +21,22 @@ use sqlite::Alter;
 use std::alloc::Global;
 use store_documents::json_of;
 use store_laws::ErrorKind;
+
+/// What is done with the trees of a collection's documents, which come one at a time.
+pub trait TakeJson {
+    ghost use Rattle.bson_store.specs.declared.error.StoreError.{StoreError};
+
+    /// Since it was the first, the second has taken these trees, in this order.
+    ghost took: { Self → Self → List Data → Type 0 };
+
+    /// What it refuses a tree by.
+    ghost refuses: { StoreError → Type 0 };
+
+    /// Takes a tree.
+    fn take(&mut self, tree: Value) -> Result<(), StoreError>
+        ensures took { (first : Self) (out : List Data) → took first self.old out → OnOk result (took first self.new (out ++ data_of tree ∷ [])) }
+        ensures refused { IfErr result refuses };
+}
 
 /// The refusal of the document at a place; want of memory has none.
 fn refused_at(kind: ErrorKind, document: u64) -> StoreError
@@ -43,43 +61,40 @@ fn tree_at(alloc: Global, body: &[u8], place: u64) -> Result<Value, StoreError>
     }
 }
 
-/// The trees of the bodies that the table hands out, one body at a time. After the first that has no tree none are asked for.
+/// Hands the tree of the body at a place on, and answers the place behind it.
+fn hand_on<T: TakeJson>(
+    alloc: Global,
+    taker: &mut T,
+    body: &[u8],
+    place: u64,
+) -> Result<u64, StoreError>
+    ensures { (first : T) (out : List Data) (d : Members) → IsKept d → body.now ≡ encode d → T.took first taker.old out
+        → HandsOn (T.took first taker.new) T.refuses out place (tree_of Canonical d) result }
+{
+    let tree = tree_at(alloc, body, place)?;
+    taker.take(tree)?;
+    match place.checked_add(1) {
+        Some(next) => Ok(next),
+        // There are fewer places for rows than numbers.
+        None => Err(StoreError::from(ErrorKind::Database)),
+    }
+}
+
+/// Hands the trees of the bodies on that the table hands out, one body at a time. After the first that has no tree, or that is
+/// refused, none are asked for.
 #[derive(Drop)]
-pub struct Trees {
-    pub trees: Vec<Value>,
-    pub refusal: Option<StoreError>,
+pub struct Teller<T> {
+    pub taker: T,
     pub alloc: Global,
+    pub place: u64,
+    pub refusal: Option<StoreError>,
 }
 
-impl Trees {
-    pub fn new(alloc: Global) -> Trees
-        ensures trees { result.trees.items ≡ [] }
-        ensures refusal { result.refusal ≡ None }
-    {
-        Trees {
-            trees: Vec::new(alloc),
-            refusal: None,
-            alloc,
-        }
-    }
-
-    /// Puts the tree of a body last.
-    fn add(&mut self, body: &[u8]) -> Result<(), StoreError>
-        ensures tree { (d : Members) → IsKept d → body.now ≡ encode d → Adds self.old.trees.items self.new.trees.items (tree_of Canonical d) result }
-        ensures refusal { self.new.refusal ≡ self.old.refusal }
-    {
-        let place = self.trees.len() as u64;
-        let json = tree_at(self.alloc, body, place)?;
-        self.trees.push(json)?;
-        Ok(())
-    }
-}
-
-impl Visit for Trees {
+impl<T: TakeJson> Visit for Teller<T> {
     ghost use Rattle.std.specs.Prelude.{IsSome};
-    ghost use Rattle.bson_store.specs.Dump.{TookTrees};
+    ghost use Rattle.bson_store.specs.Dump.{HandedOn};
 
-    ghost took = { λ _ v bodies. TookTrees v bodies };
+    ghost took = { λ first v bodies. HandedOn (T.took first.taker v.taker) T.refuses v.place bodies v.refusal };
 
     ghost is_done = { λ v. IsSome v.refusal };
 
@@ -87,8 +102,11 @@ impl Visit for Trees {
         if self.refusal.is_some() {
             return false;
         }
-        match self.add(body) {
-            Ok(()) => true,
+        match hand_on(self.alloc, &mut self.taker, body, self.place) {
+            Ok(next) => {
+                self.place = next;
+                true
+            }
             Err(error) => {
                 self.refusal = Some(error);
                 false
@@ -97,7 +115,57 @@ impl Visit for Trees {
     }
 }
 
+/// All trees.
+#[derive(Drop)]
+pub struct Trees {
+    pub trees: Vec<Value>,
+}
+
+impl TakeJson for Trees {
+    ghost use Rattle.std.specs.Prelude.{◌≡◌, map};
+    ghost use Rattle.serde_json.specs.View.{view as data_of};
+    ghost use Rattle.bson_store.specs.Refusals.{IsDenied};
+
+    ghost took = { λ _ t out. map data_of t.trees.items ≡ out };
+
+    ghost refuses = { λ e. IsDenied e };
+
+    fn take(&mut self, tree: Value) -> Result<(), StoreError> {
+        self.trees.push(tree)?;
+        Ok(())
+    }
+}
+
 impl<S: Alter + Drop> Store<S> {
+    /// Hands the documents of the collection `name` to `taker`, one after the other, as Extended JSON in canonical mode (MongoDB
+    /// Extended JSON v2), and gives the taker back. One document is held at a time.
+    ///
+    /// Refused by BadName; by ReservedKey and FiniteDouble of the first document that has no such tree, of the two by
+    /// ReservedKey, and `document` tells which it is; by what the taker refuses a tree by; and by Memory and Database. The
+    /// taker was then handed a beginning of the trees, and is dropped.
+    pub fn each_json<T: TakeJson + Drop>(&mut self, name: &str, taker: T) -> Result<T, StoreError>
+        ensures { T.took taker taker [] → Moves (held S.Store self.old) (held S.Store self.new) (HandsTrees (T.took taker) T.refuses name.now result) }
+    {
+        let name = good_name(name)?;
+        let mut teller = Teller {
+            taker,
+            alloc: self.alloc,
+            place: 0,
+            refusal: None,
+        };
+        self.table.visit_bodies(name.as_str(), &mut teller)?;
+        let Teller {
+            taker,
+            alloc: _,
+            place: _,
+            refusal,
+        } = teller;
+        match refusal {
+            None => Ok(taker),
+            Some(error) => Err(error),
+        }
+    }
+
     /// The documents of the collection `name` as Extended JSON in canonical mode (MongoDB Extended JSON v2), in order.
     ///
     /// Refused by BadName; by ReservedKey and FiniteDouble of the first document that has no such tree, of the two by
@@ -105,20 +173,8 @@ impl<S: Alter + Drop> Store<S> {
     pub fn dump_json(&mut self, name: &str) -> Result<Vec<Value>, StoreError>
         ensures { Moves (held S.Store self.old) (held S.Store self.new) (Does (on name.now dump) (reply_by as_json_list result)) }
     {
-        let name = good_name(name)?;
-        let mut visitor = Trees::new(self.alloc);
-        let coll = name.as_str();
-        let all = self.table.visit_bodies(coll, &mut visitor)?;
-        // A visitor that was not handed all bodies has a refusal.
-        let _ = all;
-        let Trees {
-            trees,
-            refusal,
-            alloc: _,
-        } = visitor;
-        match refusal {
-            None => Ok(trees),
-            Some(error) => Err(error),
-        }
+        let trees = Vec::new(self.alloc);
+        let all = self.each_json(name, Trees { trees })?;
+        Ok(all.trees)
     }
 }

@@ -27,6 +27,7 @@ pub use bson_raw::{
     RawRegexRef,
 };
 pub use command::{Command, Reply};
+pub use dump::TakeJson;
 pub use error::StoreError;
 pub use store::Store;
 pub use store_laws::{ErrorKind, laws};

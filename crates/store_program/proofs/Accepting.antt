@@ -8,7 +8,7 @@ use Rattle.bson_bytes.specs.Encode.{encode}
 use Rattle.bson_meaning.specs.Meaning.{norm, asc}
 use Rattle.bson_table.specs.Moves.{Moves}
 use Rattle.store_laws.specs.Reading.{Documents, Reading, readable, unreadable, ReadsTree}
-use Rattle.store_laws.specs.State.{State, id_key, store, Call, insert, replace, set, unset, remove, get_raw, get_json, find, count, project, import, export, dump, Command, on, collections, Reply, done, bytes, refused, refusal_of, first_refusal, When, Refuses, Appends, AtId, PutsBack, Answers, IsTaken, IsName, Step}
+use Rattle.store_laws.specs.State.{State, id_key, store, Call, insert, replace, set, unset, remove, get_raw, get_json, find, count, project, import, export, dump, Command, on, collections, Reply, done, bytes, json_list, refused, trees_reply, refusal_of, first_refusal, When, Refuses, Appends, AtId, PutsBack, Answers, IsTaken, IsName, Step}
 use Rattle.store_laws.specs.Run.{Denial, Turn}
 use Rattle.store_laws.specs.Table.{Table, state_of, documents_of, IsRefusal, Serves}
 use Rattle.store_laws.specs.declared.error.ErrorKind.{ErrorKind}
@@ -18,10 +18,11 @@ use Rattle.store_laws.proofs.States.{stored_again}
 use Rattle.store_laws.proofs.Unmoved.{unmoved}
 use Rattle.bson_store.specs.Shown.{Show}
 use Rattle.bson_store.specs.Calls.{Does, DoesTree}
+use Rattle.bson_store.specs.Dump.{HandsTrees}
 use Rattle.bson_store.specs.Export.{Tally, Sends}
 use Rattle.bson_store.specs.Refusals.{reply_by}
 use Rattle.bson_store.specs.declared.error.StoreError.{StoreError}
-use Rattle.bson_store.proofs.Moving.{rests, moved}
+use Rattle.bson_store.proofs.Moving.{rests, moved, moved_twice}
 use Rattle.bson_store.proofs.Serving.{stay}
 use Rattle.store_program.specs.Answers.{answer_by}
 use Rattle.store_program.specs.Execute.{Performs, Prints}
@@ -139,3 +140,14 @@ sent s t Meant n old new meant m = moved s t (Sends n old new (Ok tt)) (Prints M
 
 pub not_sent : (s t : Connected) (Meant : Command → Type 0) (n : List ℕ) (old new : Tally) (e : StoreError) → Moves s t (Sends n old new (Err e)) → Moves s t (Prints Meant (Err (Refused e)))
 not_sent s t Meant n old new e m = moved s t (Sends n old new (Err e)) (Prints Meant (Err (Refused e))) m (λ docs after h a shown. (a, subst (λ d. Show d a) (sym h.same) shown, inl refl))
+
+-- the trees of a list were asked for, and then all printed
+pub dumped : {T U : Type 0} (s t u : Connected) (Meant : Command → Type 0) (n : List ℕ) (asked : T → List Data → Type 0) (printed : U → List Data → Type 0) (P Q : StoreError → Type 0) (x : T) (y : U) → Meant (on n dump)
+    → Moves s t (HandsTrees asked P n (Ok x)) → Moves t u (HandsTrees printed Q n (Ok y)) → Moves s u (Prints Meant (Ok tt))
+dumped s t u Meant n asked printed P Q x y meant m k = moved_twice s t u (HandsTrees asked P n (Ok x)) (HandsTrees printed Q n (Ok y)) (Prints Meant (Ok tt)) m k (λ docs mid after h l a shown.
+    let here : Show mid a = subst (λ d. Show d a) (sym h.same) shown in
+    let r = l.handed a here in (
+      a,
+      subst (λ d. Show d a) (sym l.same) here,
+      (on n dump, meant, json_list r.1.0, (λ no. no), stay a n dump (json_list r.1.0) r.0 (sym (ap trees_reply r.1.1), refl)),
+    ))

@@ -4,7 +4,7 @@ use Rattle.std.specs.declared.alloc.Global.{Global}
 use Rattle.serde_json.specs.declared.value.Value.{Value as Json}
 use Rattle.bson_store.specs.declared.error.StoreError.{StoreError}
 use Rattle.store_program.specs.declared.answer.Answer.{Answer}
-use Rattle.store_program.specs.declared.answer.Answer.TheVariants.{Nothing, Flag, Number, Tree, Trees, Documents, Names}
+use Rattle.store_program.specs.declared.answer.Answer.TheVariants.{Nothing, Flag, Number, Tree, Documents, Names}
 use Rattle.store_program.specs.declared.stop.Stop.{Stop}
 use Rattle.store_program.specs.declared.stop.Stop.TheVariants.{Refused}
 
@@ -24,9 +24,6 @@ as_tree j = Tree j
 
 abbrev pub as_number : ℕ → Answer
 as_number n = Number n
-
-abbrev pub as_trees : Vec Json Global → Answer
-as_trees v = Trees v
 
 abbrev pub as_documents : Vec (Vec ℕ Global) Global → Answer
 as_documents v = Documents v

@@ -1,7 +1,7 @@
 //! What a command answers.
 
 ghost use Rattle.std.specs.Prelude.{◌≡◌};
-ghost use Rattle.store_program.specs.Answers.{answer_by, as_nothing, as_flag, as_number, as_tree, as_trees, as_documents, as_names};
+ghost use Rattle.store_program.specs.Answers.{answer_by, as_nothing, as_flag, as_number, as_tree, as_documents, as_names};
 
 use crate::stop::Stop;
 use bson_store::StoreError;
@@ -18,8 +18,6 @@ pub enum Answer {
     Number(u64),
     /// A JSON tree, on one line.
     Tree(Value),
-    /// JSON trees, one a line.
-    Trees(Vec<Value>),
     /// Written documents, one after the other.
     Documents(Vec<Vec<u8>>),
     /// Names, one a line.
@@ -62,16 +60,6 @@ pub fn number(outcome: Result<u64, StoreError>) -> Result<Answer, Stop>
 {
     match outcome {
         Ok(number) => Ok(Answer::Number(number)),
-        Err(error) => Err(Stop::Refused(error)),
-    }
-}
-
-/// Documents as trees.
-pub fn trees(outcome: Result<Vec<Value>, StoreError>) -> Result<Answer, Stop>
-    ensures { result ≡ answer_by as_trees outcome }
-{
-    match outcome {
-        Ok(trees) => Ok(Answer::Trees(trees)),
         Err(error) => Err(Stop::Refused(error)),
     }
 }

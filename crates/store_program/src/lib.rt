@@ -3,6 +3,7 @@
 
 mod answer;
 mod changes;
+mod dumping;
 mod inputs;
 mod printing;
 mod program;

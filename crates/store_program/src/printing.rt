@@ -10,22 +10,12 @@ use std::alloc::Global;
 use store_words::{write_flag, write_line, write_number};
 
 /// Writes a tree on one line.
-fn print_tree<O: Sink>(alloc: Global, tree: &Value, output: &mut O) -> Result<(), StoreError>
+pub fn print_tree<O: Sink>(alloc: Global, tree: &Value, output: &mut O) -> Result<(), StoreError>
     requires { O.failures output.old < 2 ^ 64 - 1 }
     ensures { OnOk result (O.failures output.new ≡ O.failures output.old) }
 {
     let text = tree.to_string(alloc)?;
     write_line(output, text.as_str())?;
-    Ok(())
-}
-
-/// Writes trees, one a line.
-fn print_trees<O: Sink>(alloc: Global, trees: &[Value], output: &mut O) -> Result<(), StoreError>
-    requires { O.failures output.old < 2 ^ 64 - 1 }
-{
-    for tree in trees {
-        print_tree(alloc, tree, output)?;
-    }
     Ok(())
 }
 
@@ -58,7 +48,6 @@ pub fn print<O: Sink>(alloc: Global, answer: &Answer, output: &mut O) -> Result<
         Answer::Flag(flag) => Ok(write_flag(output, *flag)?),
         Answer::Number(number) => Ok(write_number(output, *number)?),
         Answer::Tree(tree) => print_tree(alloc, tree, output),
-        Answer::Trees(trees) => print_trees(alloc, trees.as_slice(), output),
         Answer::Documents(documents) => print_documents(documents.as_slice(), output),
         Answer::Names(names) => print_names(names.as_slice(), output),
     }

@@ -58,7 +58,7 @@ fn serve<S: Alter + Drop, I: Source, O: Sink>(
         Call::Count => told(alloc, count(alloc, store, name, rest), output),
         Call::Import => told(alloc, import(store, name, rest, input), output),
         Call::Export => export(store, name, rest, output),
-        Call::Dump => told(alloc, dump(store, name, rest), output),
+        Call::Dump => dump(alloc, store, name, rest, output),
         Call::Load => told(alloc, load(alloc, store, name, rest, input), output),
         Call::Collections => told(alloc, collections(store, name, rest), output),
     }

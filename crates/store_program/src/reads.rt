@@ -7,7 +7,8 @@ ghost use Rattle.store_words.specs.declared.call.Call.TheVariants.{Get, Find, Co
 ghost use Rattle.store_program.specs.Commands.{IsCommandOf};
 ghost use Rattle.store_program.specs.Execute.{Performs, Prints, SilentUnread};
 
-use crate::answer::{Answer, documents, names, number, tree, trees};
+use crate::answer::{Answer, documents, names, number, tree};
+use crate::dumping::{Judge, Printer};
 use crate::stop::{Stop, USAGE};
 use crate::texts::{filter_of, id_of, mode_of};
 use bson_store::{Sink, Store};
@@ -83,18 +84,30 @@ pub fn count<S: Alter + Drop>(
     number(store.count(name, &filter))
 }
 
-/// `dump COLL`: the documents as canonical Extended JSON.
-pub fn dump<S: Alter + Drop>(
+/// `dump COLL`: the documents as canonical Extended JSON, which go out one a line. A document that has no such form is told before
+/// anything is printed: the collection is gone through twice, with one document held at a time.
+pub fn dump<S: Alter + Drop, O: Sink>(
+    alloc: Global,
     store: &mut Store<S>,
     name: &str,
     words: &[String],
-) -> Result<Answer, Stop>
-    ensures { Moves (held S.Store store.old) (held S.Store store.new) (Performs (IsCommandOf Dump name.now (map string_bytes words.now)) result) }
+    output: &mut O,
+) -> Result<(), Stop>
+    requires { O.failures output.old < 2 ^ 64 - 1 }
+    ensures step { Moves (held S.Store store.old) (held S.Store store.new) (Prints (IsCommandOf Dump name.now (map string_bytes words.now)) result) }
+    ensures unread { SilentUnread result output.old output.new }
 {
     if !words.is_empty() {
         return Err(USAGE);
     }
-    trees(store.dump_json(name))
+    store.each_json(name, Judge)?;
+    let printer = Printer {
+        output,
+        alloc,
+        failed: false,
+    };
+    store.each_json(name, printer)?;
+    Ok(())
 }
 
 /// `collections`: the names that hold a document.

@@ -47,6 +47,20 @@ fn a_failing_output(rt: HostRuntime) -> Result<(), Fail> {
     prints(&rt, alloc, &mut store, "unset|c|1|a", "false\n")
 }
 
+#[test]
+fn a_dump_to_a_failing_output(rt: HostRuntime) -> Result<(), Fail> {
+    let alloc = rt.alloc();
+    let mut store = new_store(alloc)?;
+    does(&rt, alloc, &mut store, "insert|c|{\"_id\":1}")?;
+    does(&rt, alloc, &mut store, "insert|c|{\"_id\":2}")?;
+    // At the first byte, in the second line, and at the last line feed.
+    fails_after(&rt, alloc, &mut store, "dump|c", 0)?;
+    fails_after(&rt, alloc, &mut store, "dump|c", 30)?;
+    fails_after(&rt, alloc, &mut store, "dump|c", 53)?;
+    let all = "{\"_id\":{\"$numberInt\":\"1\"}}\n{\"_id\":{\"$numberInt\":\"2\"}}\n";
+    prints(&rt, alloc, &mut store, "dump|c", all)
+}
+
 /// With faults that fail after so many bytes, the status is the same, and so much of the line went out.
 fn tells_a_beginning(
     rt: &impl Abort,

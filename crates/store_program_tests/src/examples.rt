@@ -204,6 +204,26 @@ fn reserved_keys(rt: HostRuntime) -> Result<(), Fail> {
     answers(&rt, alloc, &mut store, "export|again", &[], all)
 }
 
+/// Nothing is printed of a collection whose second document has no text, and the refusal is told of that one.
+fn prints_nothing(rt: &impl Abort, alloc: Global, bytes: &[u8], told: &str) -> Result<(), Fail> {
+    let mut store = new_store(alloc)?;
+    does(rt, alloc, &mut store, "insert|c|{\"_id\":0}")?;
+    answers(rt, alloc, &mut store, "import|c", bytes, (0, b"1\n", ""))?;
+    does(rt, alloc, &mut store, "insert|c|{\"_id\":2}")?;
+    refuses(rt, alloc, &mut store, "dump|c", told)
+}
+
+#[test]
+fn dumps_that_are_refused(rt: HostRuntime) -> Result<(), Fail> {
+    let alloc = rt.alloc();
+    let double = "refused: FiniteDouble document 1\n";
+    prints_nothing(&rt, alloc, WITH_DOUBLE, double)?;
+    let reserved = "refused: ReservedKey document 1\n";
+    prints_nothing(&rt, alloc, RESERVED, reserved)?;
+    let mut store = new_store(alloc)?;
+    refuses(&rt, alloc, &mut store, "dump|", "refused: BadName\n")
+}
+
 #[test]
 fn places(rt: HostRuntime) -> Result<(), Fail> {
     let alloc = rt.alloc();

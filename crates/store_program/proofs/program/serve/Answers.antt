@@ -57,7 +57,7 @@ returns-in-Import-clause-step g c =
 pub returns-in-Dump-clause-step : goal.returns-in-Dump-clause-step
 returns-in-Dump-clause-step g c =
     let asked = c.args.words.now in
-    told_asked (held g.S.Store c.args.store.now) (held g.S.Store c.dump.new.store) words.Dump asked.call asked.coll.now (map string_bytes asked.rest.now) c.dump.result c.told-in-Dump.result c.in-Dump.is c.told-in-Dump.ensures.told c.dump.ensures
+    as_asked (held g.S.Store c.args.store.now) (held g.S.Store c.dump.new.store) words.Dump asked.call asked.coll.now (map string_bytes asked.rest.now) c.dump.result c.in-Dump.is c.dump.ensures.step
 
 pub returns-in-Load-clause-step : goal.returns-in-Load-clause-step
 returns-in-Load-clause-step g c =

@@ -1,0 +1,47 @@
+//! Documents as lines of JSON, printed while the store hands them out.
+
+ghost use Rattle.std.specs.Prelude.{◌≡◌, ◌<◌, ◌^◌, ◌-◌, false};
+
+use crate::printing::print_tree;
+use bson_store::{ErrorKind, Sink, StoreError, TakeJson};
+use serde_json::Value;
+use std::alloc::Global;
+
+/// Lets the trees go: what is asked of them is whether there are any.
+#[derive(Clone, Copy, Drop)]
+pub struct Judge;
+
+impl TakeJson for Judge {
+    ghost took = { λ _ _ _. Unit {0} };
+
+    ghost refuses = { λ _. Unit {0} };
+
+    fn take(&mut self, _tree: Value) -> Result<(), StoreError> {
+        Ok(())
+    }
+}
+
+/// Prints the trees, one a line, until that fails.
+#[derive(Drop)]
+pub struct Printer<'w, O: Sink> {
+    pub output: &'w mut O,
+    pub alloc: Global,
+    pub failed: bool,
+    ghost ready: { failed ≡ false → O.failures output.now < 2 ^ 64 - 1 },
+}
+
+impl<'w, O: Sink> TakeJson for Printer<'w, O> {
+    ghost took = { λ _ _ _. Unit {0} };
+
+    ghost refuses = { λ _. Unit {0} };
+
+    fn take(&mut self, tree: Value) -> Result<(), StoreError> {
+        if self.failed {
+            return Err(StoreError::from(ErrorKind::Writer));
+        }
+        self.failed = true;
+        print_tree(self.alloc, &tree, self.output)?;
+        self.failed = false;
+        Ok(())
+    }
+}
