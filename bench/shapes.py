@@ -1,9 +1,10 @@
-"""Writes one BSON document of an extreme shape to standard output: shapes.py keys|repeated|levels COUNT.
+"""Writes one BSON document of an extreme shape to standard output: shapes.py SHAPE COUNT.
 
-keys: COUNT different keys; repeated: one key COUNT times; levels: documents in one another, COUNT levels, with a text of
-16 MB in the innermost one.
+keys: COUNT different keys; ascending, descending, shuffled: COUNT different keys of equal length in this order; repeated: one
+key COUNT times; levels: documents in one another, COUNT levels, with a text of 16 MB in the innermost one.
 """
 
+import random
 import struct
 import sys
 
@@ -14,6 +15,24 @@ def document(body):
 
 def keys(count):
     return document(b"".join(b"\x10key%d\0" % i + struct.pack("<i", i) for i in range(count)))
+
+
+def in_order(numbers):
+    return document(b"".join(b"\x10k%07d\0" % i + struct.pack("<i", i) for i in numbers))
+
+
+def ascending(count):
+    return in_order(range(count))
+
+
+def descending(count):
+    return in_order(reversed(range(count)))
+
+
+def shuffled(count):
+    numbers = list(range(count))
+    random.Random(1).shuffle(numbers)
+    return in_order(numbers)
 
 
 def repeated(count):
@@ -28,5 +47,5 @@ def levels(count):
     return inner
 
 
-SHAPES = {"keys": keys, "repeated": repeated, "levels": levels}
-sys.stdout.buffer.write(SHAPES[sys.argv[1]](int(sys.argv[2])))
+SHAPES = [keys, ascending, descending, shuffled, repeated, levels]
+sys.stdout.buffer.write({shape.__name__: shape for shape in SHAPES}[sys.argv[1]](int(sys.argv[2])))

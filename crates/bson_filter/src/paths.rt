@@ -1,14 +1,14 @@
 //! Look-ups along a path.
 
-ghost use Rattle.std.specs.Prelude.{◌≡◌, ◌≤◌, ◌+◌, ◌-◌, ◌*◌, ◌/◌, length, IfSome};
+ghost use Rattle.std.specs.Prelude.{◌≡◌, ◌≤◌, ◌+◌, ◌-◌, ◌*◌, ◌/◌, length};
 ghost use Rattle.bson_base.specs.Value.{document as tree, look_up as member_under, Members, Value};
 ghost use Rattle.bson_bytes.specs.Encode.{encode};
-ghost use Rattle.bson_frame.specs.Payload.{IsPayload};
 ghost use Rattle.bson_raw.specs.View.{bytes_of, parts_of};
 ghost use Rattle.bson_filter.specs.Filters.{path_of};
 ghost use Rattle.bson_filter.specs.Views.{ComeBack, ComesBack, document_room, Encodes, Finds, FindsElement, HoldsPairs, IsWrittenFor, OfWritten, room, room_of, taken};
 ghost use Rattle.store_laws.specs.Filter.{at, frames, pairs, place_of};
 
+use bson_raw::laws::payload_of_an_element;
 use bson_raw::{RawBsonRef, RawDocument, RawElement};
 
 /// The value at a path of keys, and how many elements were met at all steps of the path together: up to and with the one that
@@ -68,7 +68,6 @@ fn find<'a>(document: RawDocument<'a>, key: &str) -> (Option<RawElement<'a>>, u6
     ensures found { (ms : Members) → bytes_of document.entry ≡ encode ms → ComeBack ms → FindsElement result.0 (member_under key.now ms) }
     ensures met { (ms : Members) → bytes_of document.entry ≡ encode ms → ComeBack ms → result.1 ≡ place_of key.now ms }
     ensures few { 2 * result.1 + 4 + taken result.0 ≤ length (bytes_of document.entry) }
-    ensures sized { IfSome result.0 (λ e. IsPayload (parts_of e).tag (parts_of e).payload) }
 {
     let mut met = 0;
     for item in document.iter_elements() {
@@ -85,10 +84,10 @@ fn find<'a>(document: RawDocument<'a>, key: &str) -> (Option<RawElement<'a>>, u6
 
 /// The value of an element, unless its payload has a fault.
 fn value_of<'a>(element: &RawElement<'a>) -> Option<RawBsonRef<'a>>
-    requires { IsPayload (parts_of element.now).tag (parts_of element.now).payload }
     ensures written { (v : Value) → IsWrittenFor (parts_of element.now) v → ComesBack v → Finds result (Some v) }
     ensures room { room_of result ≤ length (parts_of element.now).payload }
 {
+    payload_of_an_element(element);
     match element.value_or_kind() {
         Ok(value) => Some(value),
         Err(_) => None,

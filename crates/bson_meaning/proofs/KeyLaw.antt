@@ -132,6 +132,16 @@ mutual
   equal_under no_members ns h = tt
   equal_under (member k v ms) ns h = (some_and_map (look_up k ns) _ _ (equal_same v) h.0, equal_under ms ns h.1)
 
+-- a key has as many bytes as the normal form, whose keys are in some order
+pub key_length : (d : Members) → IsSound (document d) → length (key d) ≡ size (norm_members d)
+key_length d s = encode_length (canonical_members d) ∙ ap (λ n. n + 5) (asc_members_size (norm_members d) (norm_distinct_members d s.distinct))
+
+pub key_exceeds : (d : Members) → IsSound (document d) → 2147483647 < size (norm_members d) → 2147483647 < length (key d)
+key_exceeds d s h = omega (arith, key_length d s, h)
+
+pub key_within : (d : Members) → IsSound (document d) → 2147483647 < length (key d) → 2147483647 < size (norm_members d)
+key_within d s h = omega (arith, key_length d s, h)
+
 -- ---- keys that can be written
 
 pub key_fits : (d m : Members) → m ≡ canonical_members d → CanBeWritten (document m) → length (key d) ≤ 2147483647

@@ -12,7 +12,6 @@ use Rattle.bson_frame.specs.declared.error.ErrorKind.{ErrorKind}
 use Rattle.bson_frame.specs.Frame.{Element}
 use Rattle.bson_frame.specs.Payload.{IsPayload, IsPayloadFault, text_in, code_in, scope_in}
 use Rattle.bson_frame.proofs.Frames.{frame_is_one}
-use Rattle.bson_frame.proofs.Payloads.{payload_by_itself}
 use Rattle.bson_model.specs.Equal.{SameKeys}
 use Rattle.bson_model.specs.Keyed.{Key}
 use Rattle.bson_model.specs.View.{view, items_of, members_of}
@@ -151,10 +150,6 @@ compares_raw e raw w b sized is c v kind spelled d = c v (payload_shown e.payloa
 
 pub compares_fault : (e : Element) (fault : ErrorKind) (w : Value) (b : Bool) → IsPayloadFault e.tag e.payload fault → ComparesPayload e w b
 compares_fault e fault w b f v kind spelled d = absurd (no_payload_fault e v fault kind spelled f)
-
-pub sized : (s t : Option (List ℕ)) (x : RawElement) → steps_from s (Some (Ok x)) t → IsPayload (parts_of x).tag (parts_of x).payload
-sized None t x h = let bad = h.0 in absurd cc
-sized (Some bytes) t x h = payload_by_itself bytes (parts_of x) x.frame.rest.now h.0
 
 -- ---- as many keys
 

@@ -1,15 +1,16 @@
 //! Keys of meaning.
 
-ghost use Rattle.std.specs.Prelude.{◌≡◌, ◌≢◌, ◌↔◌, ◌<◌, ◌≤◌, Err, length, IfOk, OnOk};
+ghost use Rattle.std.specs.Prelude.{◌≡◌, ◌≢◌, ◌↔◌, ◌<◌, ◌≤◌, Err, length, IfOk, IsTrue, OnOk};
 ghost use Rattle.bson_base.specs.Kinds.{IsPlain, IsSound};
 ghost use Rattle.bson_base.specs.Value.{document as tree, Members, MembersHaveDistinctKeys};
-ghost use Rattle.bson_bytes.specs.Encode.{encode};
+ghost use Rattle.bson_bytes.specs.Encode.{encode, size};
 ghost use Rattle.bson_bytes.specs.Writing.{CanBeWritten};
 ghost use Rattle.bson_model.specs.Trees.{document_tree};
 ghost use Rattle.bson_model.specs.View.{pairs_of, members_of};
 ghost use Rattle.bson_meaning.specs.Meaning.{key as key_of, norm_members, asc_members, Same};
 
 use crate::forms::normal_document;
+use crate::lengths::normal_length;
 use crate::plain::has_plain_members;
 use crate::sorting::sorted_document;
 use crate::sound::soundness_of_document;
@@ -18,6 +19,9 @@ use bson_frame::ErrorKind;
 use bson_model::Document;
 use std::alloc::{AllocError, Global};
 use thiserror::Error;
+
+/// The greatest length of a key.
+const LIMIT: usize = 2147483647;
 
 /// Why a document has no key.
 #[derive(Clone, Copy, Debug, PartialEq, Eq, Error)]
@@ -50,9 +54,10 @@ pub fn meaning_key(alloc: Global, document: &Document) -> Result<Vec<u8>, KeyErr
     ensures fits { OnOk result (length (key_of (members_of (pairs_of document.now))) ≤ 2147483647) }
     ensures plain { OnOk result (IsPlain (tree (members_of (pairs_of document.now)))) }
 
-    // The order of refusals: a 00 comes before the length.
+    // Each refusal comes exactly where it is due, and a 00 before the length; want of memory comes after both.
     ensures not_plain { (result ≡ Err KeyError.NotPlain) ↔ (IsPlain (tree (members_of (pairs_of document.now))) → ⊥) }
-    ensures too_long { result ≡ Err KeyError.TooLong → 2147483647 < length (key_of (members_of (pairs_of document.now))) }
+    ensures too_long { (result ≡ Err KeyError.TooLong)
+        ↔ IsPlain (tree (members_of (pairs_of document.now))) × (2147483647 < length (key_of (members_of (pairs_of document.now)))) }
 
     // What keys are for, for every other document.
     ensures tells { (e : Members) → IsPlain (tree e) → IsSound (tree e) → length (key_of e) ≤ 2147483647
@@ -62,8 +67,18 @@ pub fn meaning_key(alloc: Global, document: &Document) -> Result<Vec<u8>, KeyErr
         return Err(KeyError::NotPlain);
     }
     soundness_of_document(document);
+    if is_too_long(document) {
+        return Err(KeyError::TooLong);
+    }
     let canonical = canonical(alloc, document)?;
     written(alloc, &canonical)
+}
+
+/// Whether the key would be over 2147483647 bytes.
+fn is_too_long(document: &Document) -> bool
+    ensures { IsTrue result ↔ (2147483647 < size (norm_members (members_of (pairs_of document.now)))) }
+{
+    normal_length(document) > LIMIT
 }
 
 /// The normal form with its keys in order.

@@ -6,6 +6,7 @@ mod forms;
 pub mod json_laws;
 mod key;
 pub mod laws;
+mod lengths;
 mod levels;
 mod options;
 mod plain;

@@ -3,7 +3,6 @@
 ghost use Rattle.std.specs.Prelude.{◌≡◌, ◌↔◌, ◌≤◌, drop, map, Some, None, IsTrue, MatchOption};
 ghost use Rattle.bson_base.specs.Value.{HasDistinctKeys, ItemsHaveDistinctKeys, MembersHaveDistinctKeys, Items, levels, look_up, Members, members_levels, scalar, Value};
 ghost use Rattle.bson_bytes.specs.Spells.{SpellsItems, SpellsMembers};
-ghost use Rattle.bson_frame.specs.Payload.{IsPayload};
 ghost use Rattle.bson_model.specs.Equal.{SameKeys};
 ghost use Rattle.bson_model.specs.View.{view, pairs_of, items_of, members_of};
 ghost use Rattle.bson_raw.specs.View.{bytes_of, array_bytes, parts_of};
@@ -14,6 +13,7 @@ use crate::options::same_options;
 use crate::scalars::{normal_decimal, normal_double, normal_subtype};
 use bson_model::laws::distinct_keys;
 use bson_model::{Bson, Document};
+use bson_raw::laws::payload_of_an_element;
 use bson_raw::{RawArray, RawBsonRef, RawDocument, RawElement};
 
 /// Whether a view means the same as a value, where the view has no fault and no key twice at any level; of other views nothing
@@ -102,8 +102,9 @@ fn same_elements(raw: RawArray<'_>, items: &[Bson]) -> bool
 #[cycle(views)]
 fn same_element(element: &RawElement<'_>, value: &Bson) -> bool
     requires { HasDistinctKeys (view value.now) }
-    ensures { IsPayload (parts_of element.now).tag (parts_of element.now).payload → ComparesPayload (parts_of element.now) (view value.now) result }
+    ensures { ComparesPayload (parts_of element.now) (view value.now) result }
 {
+    payload_of_an_element(element);
     match element.value_or_kind() {
         Ok(raw) => same_value(raw, value),
         Err(_) => false,

@@ -8,6 +8,7 @@ use Rattle.bson_pairs.specs.Keyed.{Key}
 use Rattle.bson_model.specs.View.{view, pair_view}
 use Rattle.bson_model.specs.declared.bson.Bson.{Bson}
 use Rattle.bson_model.specs.declared.document.iter.Iter.{Iter}
+use Rattle.bson_model.specs.declared.document.iter.Ascending.{Ascending}
 use Rattle.bson_model.specs.declared.document.iter.IntoIter.{IntoIter}
 use Rattle.bson_model.specs.declared.document.iter.Keys.{Keys}
 use Rattle.bson_model.specs.declared.document.iter.Values.{Values}
@@ -23,6 +24,10 @@ owned_pair p = (string_bytes p.0, view p.1)
 -- the pairs that an `Iter` has left
 abbrev pub iter_rest : Iter → List (Key × Value)
 iter_rest s = map pair_view s.pairs
+
+-- the pairs that an `Ascending` has left
+abbrev pub ascending_rest : Ascending → List (Key × Value)
+ascending_rest s = map pair_view s.pairs
 
 -- the pairs that an `IntoIter` has left
 abbrev pub into_iter_rest : IntoIter → List (Key × Value)

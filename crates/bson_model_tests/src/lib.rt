@@ -13,4 +13,6 @@ mod getters;
 #[cfg(test)]
 mod lending;
 #[cfg(test)]
+mod order;
+#[cfg(test)]
 mod values;

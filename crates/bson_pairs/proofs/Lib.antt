@@ -1,3 +1,6 @@
 pub mod KeyedLemmas
-pub mod NextLemmas
 pub mod DistinctLemmas
+pub mod IndexLemmas
+pub mod SearchLemmas
+pub mod GrowthLemmas
+pub mod PickLemmas

@@ -4,5 +4,6 @@ pub mod Keyed
 pub mod Over
 pub mod Same
 pub mod Ascending
-pub mod Next
+pub mod Index
+pub mod Putting
 pub mod Lending

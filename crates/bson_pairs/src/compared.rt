@@ -1,11 +1,10 @@
 //! Equality and hashing of pairs, in which their order does not count.
 ghost use Rattle.std.specs.Prelude.{◌≡◌, string_bytes};
 ghost use Rattle.std.specs.List.{list_all};
-ghost use Rattle.std.specs.Option.{option_copied, option_map};
-ghost use Rattle.bson_pairs.specs.Keyed.{key_bytes, get, has_key};
+ghost use Rattle.std.specs.Option.{option_copied};
+ghost use Rattle.bson_pairs.specs.Keyed.{get, has_key};
 ghost use Rattle.bson_pairs.specs.Same.{same_at, pairs_eq, pairs_eq_partial, pairs_eq_equiv};
-ghost use Rattle.bson_pairs.specs.Ascending.{ascending, pairs_writes, pairs_writes_respect};
-ghost use Rattle.bson_pairs.specs.Next.{is_above, lesser, next_key, above, first_pair};
+ghost use Rattle.bson_pairs.specs.Ascending.{pairs_writes, pairs_writes_respect};
 
 use crate::pairs::Pairs;
 use std::hash::{Hash, Hasher};
@@ -82,72 +81,16 @@ impl<V: Eq> Eq for Pairs<V> {
     ghost laws = { pairs_eq_equiv V.eq V.Eq.laws };
 }
 
-// Whether a key is above the given one, if there is one.
-fn is_key_above(after: Option<&str>, key: &str) -> bool
-    ensures { result ≡ is_above (option_copied after.entry) key.now }
-{
-    match after {
-        Some(after) => after < key,
-        None => true,
-    }
-}
-
-// The lesser of a key and of another, if there is one.
-fn lesser_key<'a>(key: &'a str, other: Option<&'a str>) -> Option<&'a str>
-    ensures { option_copied result ≡ lesser key.now (option_copied other.entry) }
-{
-    match other {
-        Some(other) => Some(if key < other { key } else { other }),
-        None => Some(key),
-    }
-}
-
-// The least of the keys that are above the given one.
-fn next_key_above<'a>(keys: &'a [String], after: Option<&str>) -> Option<&'a str>
-    ensures { option_copied result ≡ next_key (option_copied after.entry) (key_bytes keys.now) }
-{
-    let mut next = None;
-    for i in (0..keys.len()).rev() {
-        let key = keys[i].as_str();
-        if is_key_above(after, key) {
-            next = lesser_key(key, next);
-        }
-    }
-    next
-}
-
-impl<V> Pairs<V> {
-    // The pair with the least key above the given one.
-    fn next_above(&self, after: Option<&str>) -> Option<(&str, &V)>
-        ensures { option_map (λ p. (p.0.now, p.1.now)) result ≡ first_pair (above (option_copied after.entry) (ascending self.now)) }
-    {
-        match next_key_above(self.keys(), after) {
-            Some(key) => match self.get(key) {
-                Some(value) => Some((key, value)),
-                None => None,
-            },
-            None => None,
-        }
-    }
-}
-
-/// The pairs are fed ascending by their keys. Each one is looked for among all, so that no memory is taken.
+/// The pairs are fed ascending by their keys, without memory.
 impl<V: Hash> Hash for Pairs<V> {
     ghost hash_input = { pairs_writes V.hash_input };
 
     ghost respects_eq = { pairs_writes_respect V.eq V.hash_input V.respects_eq };
 
     fn hash<H: Hasher>(&self, state: &mut H) {
-        let mut after = None;
-        for i in 0..self.len() {
-            match self.next_above(after) {
-                Some((key, value)) => {
-                    key.hash(state);
-                    value.hash(state);
-                    after = Some(key);
-                }
-                None => return,
-            }
+        for (key, value) in self.ascending() {
+            key.as_str().hash(state);
+            value.hash(state);
         }
     }
 }

@@ -4,7 +4,6 @@ ghost use Rattle.std.specs.Iterator.{at_most};
 ghost use Rattle.std.specs.Map.Iter.{TakesFirst};
 ghost use Rattle.bson_pairs.specs.Keyed.{keyed, lent_pair, owned_pair};
 
-use indexmap::set;
 use std::marker::Model;
 use std::{slice, vec};
 
@@ -57,7 +56,7 @@ impl<'a, V> Iterator for Iter<'a, V> {
 /// The pairs by value, in their order.
 #[derive(Drop)]
 pub struct IntoIter<V> {
-    keys: set::IntoIter<String>,
+    keys: vec::IntoIter<String>,
     values: vec::IntoIter<V>,
 }
 
@@ -70,18 +69,18 @@ impl<V> Model for IntoIter<V> {
 
     ghost coded = { keyed_code V.code };
 
-    ghost view = { λ a. keyed a.keys (into_iter_items a.values) };
+    ghost view = { λ a. keyed (into_iter_items a.keys) (into_iter_items a.values) };
 
-    ghost invariant = { λ a. length (into_iter_items a.values) ≡ length a.keys };
+    ghost invariant = { λ a. length (into_iter_items a.values) ≡ length (into_iter_items a.keys) };
 }
 
 impl<V> IntoIter<V> {
-    pub(crate) fn new(keys: set::IntoIter<String>, values: Vec<V>) -> Self
-        requires { length values.items ≡ length keys }
-        ensures { result ≡ keyed keys values.items }
+    pub(crate) fn new(keys: Vec<String>, values: Vec<V>) -> Self
+        requires { length values.items ≡ length keys.items }
+        ensures { result ≡ keyed keys.items values.items }
     {
         IntoIter {
-            keys,
+            keys: keys.into_iter(),
             values: values.into_iter(),
         }
     }

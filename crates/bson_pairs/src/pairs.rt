@@ -1,22 +1,32 @@
-//! A list of pairs with distinct keys, which looks a key up by its hash.
+//! A list of pairs with distinct keys, which looks a key up by an index.
 ghost use Rattle.std.specs.Prelude.{◌≡◌, refl, Some, None, unwrap_or, ◌<◌, ◌↔◌, ◌∷◌, [], length, slice_get, is_some, string_bytes, IsSome, IsOk, IfOk, OnOk, OnErr};
 ghost use Rattle.std.specs.Option.{option_copied, option_copied_mut, option_map};
 ghost use Rattle.std.specs.Borrow.{sem};
 ghost use Rattle.std.specs.Map.{keys_of, values_of};
 ghost use Rattle.std.specs.List.{list_all, zip};
-ghost use Rattle.bson_pairs.specs.Keyed.{key_bytes, get, has_key, put, without, set_at, HasDistinctKeys};
+ghost use Rattle.bson_pairs.specs.Ascending.{ascending};
+ghost use Rattle.bson_pairs.specs.Index.{index_of, place_of, seen_places, AtMostDigits};
+ghost use Rattle.bson_pairs.specs.Keyed.{key_bytes, keyed, get, has_key, put, without, set_at, HasDistinctKeys};
+ghost use Rattle.bson_pairs.specs.Putting.{put_each, PutsBeforeNew};
 ghost use Rattle.bson_pairs.specs.Lending.{LendsAt, LendsUnder, LendsValueOf, LendsOrInserts};
 
+use crate::ascending::Ascending;
+use crate::growing::GrowingPairs;
+use crate::growing_keys::{GrowingKeys, tree_of};
 use crate::iter::{IntoIter, Iter};
-use indexmap::IndexSet;
+use crate::keys::Keys;
 use std::alloc::{AllocError, Global};
+use std::collections::BTreeMap;
 use std::marker::Model;
 use std::{fmt, mem};
+
+// A list of more pairs goes by a tree of places.
+const MOST_ONE_BY_ONE: usize = 1024;
 
 /// Contracts see the list of the pairs, each key as its bytes.
 #[derive(Drop)]
 pub struct Pairs<V> {
-    keys: IndexSet<String>,
+    keys: Keys,
     values: Vec<V>,
 }
 
@@ -28,9 +38,9 @@ impl<V> Model for Pairs<V> {
 
     ghost coded = { keyed_code V.code };
 
-    ghost view = { λ p. keyed p.keys.keys p.values.items };
+    ghost view = { λ p. keyed p.keys p.values.items };
 
-    ghost invariant = { λ p. length p.values.items ≡ length p.keys.keys };
+    ghost invariant = { λ p. length p.values.items ≡ length p.keys };
 }
 
 impl<V> Pairs<V> {
@@ -38,9 +48,17 @@ impl<V> Pairs<V> {
         ensures { result ≡ [] }
     {
         Pairs {
-            keys: IndexSet::new(alloc),
+            keys: Keys::new(alloc),
             values: Vec::new(alloc),
         }
+    }
+
+    // The pairs of these keys and values.
+    pub(crate) fn from_parts(keys: Keys, values: Vec<V>) -> Pairs<V>
+        requires { length values.items ≡ length keys }
+        ensures { result ≡ keyed keys values.items }
+    {
+        Pairs { keys, values }
     }
 
     pub fn len(&self) -> usize
@@ -75,12 +93,23 @@ impl<V> Pairs<V> {
         Iter::new(self.keys.as_slice(), self.values.as_slice())
     }
 
+    /// The pairs, ascending by the bytes of their keys. It takes no memory.
+    pub fn ascending(&self) -> Ascending<'_, V>
+        ensures { result ≡ ascending self.now }
+    {
+        Ascending::new(
+            self.keys.order(),
+            self.keys.as_slice(),
+            self.values.as_slice(),
+        )
+    }
+
     /// The pairs by value, in their order.
     pub fn into_iter(self) -> IntoIter<V>
         ensures { result ≡ self }
     {
         let Pairs { keys, values } = self;
-        IntoIter::new(keys.into_iter(), values)
+        IntoIter::new(keys.into_parts().0, values)
     }
 
     /// A copy of the keys, with these values.
@@ -88,8 +117,16 @@ impl<V> Pairs<V> {
         requires { length values.items ≡ length self.now }
         ensures { IfOk result (λ p. p ≡ zip (keys_of self.now) values.items) }
     {
-        let keys = self.keys.clone()?;
+        let keys = self.keys.try_clone()?;
         Ok(Pairs { keys, values })
+    }
+
+    /// The place of a key, and the number of keys that were compared. It takes no memory.
+    pub fn find_index(&self, key: &str) -> (Option<usize>, u64)
+        ensures index { result.0 ≡ place_of key.now self.now }
+        ensures compared { AtMostDigits result.1 (length self.now) }
+    {
+        self.keys.find(key)
     }
 
     pub fn get(&self, key: &str) -> Option<&V>
@@ -157,24 +194,68 @@ impl<V: Drop> Pairs<V> {
         ensures err { OnErr result (self.new ≡ self.old) }
         ensures absent { OnErr result (get (string_bytes key) self.old ≡ None) }
     {
-        if let Some(at) = self.keys.get_index_of(key.as_str()) {
-            return Ok(Some(mem::replace(&mut self.values[at], value)));
+        match self.keys.spot(key.as_str()) {
+            Ok(at) => Ok(Some(mem::replace(&mut self.values[at], value))),
+            Err(place) => {
+                self.values.reserve(1)?;
+                self.keys.insert_at(place, key)?;
+                self.values.push(value)?;
+                Ok(None)
+            }
         }
-        self.values.reserve(1)?;
-        self.keys.insert(key)?;
-        self.values.push(value)?;
-        Ok(None)
+    }
+
+    // Puts each value under its key, one after the other, as `insert` does.
+    fn put_each(&mut self, pairs: Vec<(String, V)>) -> Result<(), AllocError>
+        ensures ok { OnOk result (self.new ≡ put_each pairs.items self.old) }
+        ensures err { OnErr result (PutsBeforeNew pairs.items self.old self.new) }
+    {
+        for pair in pairs {
+            self.insert(pair.0, pair.1)?;
+        }
+        Ok(())
+    }
+
+    // The same, by a tree of the keys' places.
+    fn put_each_by(
+        &mut self,
+        tree: BTreeMap<String, usize>,
+        pairs: Vec<(String, V)>,
+    ) -> Result<(), AllocError>
+        requires { seen_places tree.entries ≡ index_of (keys_of self.old) }
+        ensures ok { OnOk result (self.new ≡ put_each pairs.items self.old) }
+        ensures err { OnErr result (PutsBeforeNew pairs.items self.old self.new) }
+    {
+        let none = Pairs::new(self.allocator());
+        let Pairs { keys, values } = mem::replace(self, none);
+        let mut growing = GrowingPairs::new(GrowingKeys::new(keys, tree), values);
+        let put = growing.put_each(pairs);
+        *self = growing.finish();
+        put
+    }
+
+    /// Puts each value under its key, one after the other, as `insert` does. Where there is no memory for one, its key is new,
+    /// and the pairs before it stay. A long list goes by a tree, so that many new keys, in whatever order, don't move the
+    /// index each time; without memory for that it goes as `insert` does.
+    pub fn extend(&mut self, pairs: Vec<(String, V)>) -> Result<(), AllocError>
+        ensures ok { OnOk result (self.new ≡ put_each pairs.items self.old) }
+        ensures err { OnErr result (PutsBeforeNew pairs.items self.old self.new) }
+    {
+        if pairs.len() <= MOST_ONE_BY_ONE {
+            return self.put_each(pairs);
+        }
+        match tree_of(self.allocator(), self.keys()) {
+            Ok(tree) => self.put_each_by(tree, pairs),
+            Err(_) => self.put_each(pairs),
+        }
     }
 
     pub fn remove(&mut self, key: &str) -> Option<V>
         ensures value { result ≡ get key.now self.old }
         ensures rest { self.new ≡ without key.now self.old }
     {
-        match self.keys.get_index_of(key) {
-            Some(at) => {
-                let _ = self.keys.shift_remove_index(at);
-                Some(self.values.remove(at))
-            }
+        match self.keys.remove(key) {
+            Some(at) => Some(self.values.remove(at)),
             None => None,
         }
     }

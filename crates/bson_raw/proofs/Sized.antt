@@ -7,7 +7,7 @@ use Rattle.std.specs.Prelude.{IsUtf8}
 use Rattle.bson_base.specs.declared.spec.ElementType.{ElementType}
 use Rattle.bson_base.specs.declared.spec.ElementType.TheVariants as kinds
 use Rattle.bson_base.specs.Kinds.{HasNo00}
-use Rattle.bson_frame.specs.Frame.{IsName, IsRegexSize}
+use Rattle.bson_frame.specs.Frame.{IsRegexSize}
 use Rattle.bson_frame.specs.Payload.{IsPayload}
 
 -- the bytes in front of the first 00, and those behind it

@@ -6,6 +6,7 @@ ghost use Rattle.bson_base.specs.Options.{sorted_text};
 ghost use Rattle.bson_frame.specs.Frame.{IsFirstFrame, IsStructuralFault};
 ghost use Rattle.bson_frame.specs.Payload.{IsPayload};
 ghost use Rattle.bson_frame.specs.View.{element_of, fault_key};
+ghost use Rattle.bson_model.specs.Extend.{put_all};
 ghost use Rattle.bson_model.specs.Keyed.{put};
 ghost use Rattle.bson_model.specs.View.{pairs_of, view};
 ghost use Rattle.bson_raw.specs.Convert.{ConvertsMembers, ConvertsItems, ConvertsElement, ConvertsValue, IsScopedOf, HasFault, Tells};
@@ -50,35 +51,36 @@ pub(crate) fn elements(document: RawDocument<'_>) -> &[u8]
     elements
 }
 
-/// Puts a value under a key. A key that is there keeps its place, and its value goes.
-fn put_pair(
+/// Puts a pair last, to be put into a document with the others.
+fn keep_pair(
     alloc: Global,
-    document: &mut Document,
+    pairs: &mut Vec<(String, Bson)>,
     key: &str,
     value: Bson,
 ) -> Result<(), AllocError>
-    ensures { OnOk result (pairs_of document.new ≡ put key.now (view value) (pairs_of document.old)) }
+    ensures { OnOk result (put_all pairs.new.items [] ≡ put key.now (view value) (put_all pairs.old.items [])) }
 {
     let key = String::from_str(alloc, key)?;
-    document.insert(key, value)?;
+    pairs.push((key, value))?;
     Ok(())
 }
 
-/// The document of these elements.
+/// The document of these elements. Its pairs are put together at the end, so that many keys in whatever order take no more
+/// than their sorting.
 #[cycle(convert)]
 pub(crate) fn document_of(alloc: Global, elements: &[u8]) -> Result<Document, Error>
     ensures { ConvertsMembers elements.now result }
 {
     bson_frame::laws::payload_by_itself();
-    let mut document = Document::new(alloc);
+    let mut pairs = Vec::new(alloc);
     let mut rest = elements;
     while !is_end(rest) {
         let frame = next_frame(rest)?;
         let value = element_tree(alloc, &frame)?;
-        put_pair(alloc, &mut document, frame.key, value)?;
+        keep_pair(alloc, &mut pairs, frame.key, value)?;
         rest = frame.rest;
     }
-    Ok(document)
+    Ok(Document::from_pairs(alloc, pairs)?)
 }
 
 /// The array of these elements, whatever their keys.

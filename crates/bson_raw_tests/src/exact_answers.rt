@@ -116,3 +116,39 @@ fn a_fault_behind_a_good_envelope(rt: HostRuntime) {
     assert_eq!(rt; told, Some(ReadError::Raw(unwritable())));
     assert_eq!(rt; reader.at, 8);
 }
+
+#[test]
+fn a_fault_inside_a_value_is_told_by_its_tree(rt: HostRuntime) -> Result<(), Fail> {
+    let value = first(&IN_AN_ARRAY)?.and_then(|e| e.value(rt.alloc()).ok());
+    let told = value.and_then(|v| v.to_bson(rt.alloc()).err());
+    assert_eq!(rt; told, Some(under(rt.alloc(), "0")?));
+    Ok(())
+}
+
+#[test]
+fn a_fault_is_told_by_a_look_up(rt: HostRuntime) -> Result<(), Fail> {
+    let told = RawDocument::from_bytes(&NO_BOOLEAN)?
+        .get(rt.alloc(), "a")
+        .err();
+    assert_eq!(rt; told, Some(under(rt.alloc(), "a")?));
+    Ok(())
+}
+
+#[test]
+fn a_fault_is_told_by_the_tree_of_a_buffer(rt: HostRuntime) -> Result<(), Fail> {
+    let buffer = RawDocument::from_bytes(&NO_BOOLEAN)?.to_raw_document_buf(rt.alloc())?;
+    let owned = RawBson::from(buffer.try_clone()?).to_bson(rt.alloc()).err();
+    let told = (buffer.to_document().err(), owned);
+    let want = (Some(under(rt.alloc(), "a")?), Some(under(rt.alloc(), "a")?));
+    assert_eq!(rt; told, want);
+    Ok(())
+}
+
+#[test]
+fn a_document_that_cannot_be_written(rt: HostRuntime) -> Result<(), Fail> {
+    let mut document = Document::new(rt.alloc());
+    document.insert(String::from_str(rt.alloc(), "a\0")?, Bson::Null)?;
+    let told = RawDocumentBuf::from_document(rt.alloc(), &document).err();
+    assert_eq!(rt; told, Some(unwritable()));
+    Ok(())
+}

@@ -2,7 +2,8 @@
 
 use crate::letters::document_of;
 use bson_base::{BinarySubtype, DateTime, ObjectId, Timestamp};
-use bson_raw::{RawBsonRef, RawDocument};
+use bson_raw::{RawBsonRef, RawDocument, ValueAccessError, ValueAccessErrorKind};
+use std::process::Abort;
 use std::test::Fail;
 
 // One element of each kind that a getter takes, in the order of the getters.
@@ -145,5 +146,70 @@ fn parts_of_an_array(rt: HostRuntime) -> Result<(), Fail> {
     assert!(rt; array.get_document(alloc, 2)?.is_empty());
     let inner = array.get_array(alloc, 3)?;
     assert_eq!(rt; inner.get(alloc, 0)?, Some(RawBsonRef::Null));
+    Ok(())
+}
+
+/// Asserts that a getter met a value of another kind, and under which key.
+fn is_another_kind(rt: &impl Abort, got: Option<ValueAccessError>, key: &str) {
+    let told = got.is_some_and(|e| e.key() == key
+        && e.kind == ValueAccessErrorKind::UnexpectedType);
+    assert!(rt; told, "no refusal under {key}");
+}
+
+#[test]
+fn other_kinds_than_numbers_and_parts(rt: HostRuntime) -> Result<(), Fail> {
+    let alloc = rt.alloc();
+    let bytes = document_of(alloc, &ONE_OF_EACH)?;
+    let document = RawDocument::from_bytes(&bytes)?;
+    is_another_kind(&rt, document.get_f64(alloc, "11").err(), "11");
+    is_another_kind(&rt, document.get_str(alloc, "8").err(), "8");
+    is_another_kind(&rt, document.get_document(alloc, "3").err(), "3");
+    is_another_kind(&rt, document.get_array(alloc, "2").err(), "2");
+    is_another_kind(&rt, document.get_binary(alloc, "5").err(), "5");
+    is_another_kind(&rt, document.get_object_id(alloc, "4").err(), "4");
+    Ok(())
+}
+
+#[test]
+fn other_kinds_than_moments_and_integers(rt: HostRuntime) -> Result<(), Fail> {
+    let alloc = rt.alloc();
+    let bytes = document_of(alloc, &ONE_OF_EACH)?;
+    let document = RawDocument::from_bytes(&bytes)?;
+    is_another_kind(&rt, document.get_bool(alloc, "10").err(), "10");
+    is_another_kind(&rt, document.get_datetime(alloc, "9").err(), "9");
+    is_another_kind(&rt, document.get_regex(alloc, "1").err(), "1");
+    is_another_kind(&rt, document.get_timestamp(alloc, "7").err(), "7");
+    is_another_kind(&rt, document.get_i32(alloc, "11").err(), "11");
+    is_another_kind(&rt, document.get_i64(alloc, "10").err(), "10");
+    Ok(())
+}
+
+#[test]
+fn items_of_other_kinds_than_numbers_and_parts(rt: HostRuntime) -> Result<(), Fail> {
+    let alloc = rt.alloc();
+    let items = document_of(alloc, &ONE_OF_EACH)?;
+    let bytes = document_of(alloc, &[(4, "a", &items)])?;
+    let array = RawDocument::from_bytes(&bytes)?.get_array(alloc, "a")?;
+    is_another_kind(&rt, array.get_f64(alloc, 11).err(), "11");
+    is_another_kind(&rt, array.get_str(alloc, 8).err(), "8");
+    is_another_kind(&rt, array.get_document(alloc, 3).err(), "3");
+    is_another_kind(&rt, array.get_array(alloc, 2).err(), "2");
+    is_another_kind(&rt, array.get_binary(alloc, 5).err(), "5");
+    is_another_kind(&rt, array.get_object_id(alloc, 4).err(), "4");
+    Ok(())
+}
+
+#[test]
+fn items_of_other_kinds_than_moments_and_integers(rt: HostRuntime) -> Result<(), Fail> {
+    let alloc = rt.alloc();
+    let items = document_of(alloc, &ONE_OF_EACH)?;
+    let bytes = document_of(alloc, &[(4, "a", &items)])?;
+    let array = RawDocument::from_bytes(&bytes)?.get_array(alloc, "a")?;
+    is_another_kind(&rt, array.get_bool(alloc, 10).err(), "10");
+    is_another_kind(&rt, array.get_datetime(alloc, 9).err(), "9");
+    is_another_kind(&rt, array.get_regex(alloc, 1).err(), "1");
+    is_another_kind(&rt, array.get_timestamp(alloc, 7).err(), "7");
+    is_another_kind(&rt, array.get_i32(alloc, 11).err(), "11");
+    is_another_kind(&rt, array.get_i64(alloc, 10).err(), "10");
     Ok(())
 }

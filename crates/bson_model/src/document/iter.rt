@@ -3,7 +3,8 @@ ghost use Rattle.std.specs.Prelude.{◌≡◌, string_bytes};
 ghost use Rattle.std.specs.Iterator.{YieldsFirstBy, item_count};
 ghost use Rattle.std.specs.Map.{keys_of, values_of};
 ghost use Rattle.bson_model.specs.View.{view, pairs_of};
-ghost use Rattle.bson_model.specs.Rest.{lent_pair, owned_pair, iter_rest, into_iter_rest, keys_rest, values_rest};
+ghost use Rattle.bson_model.specs.Keyed.{ascending};
+ghost use Rattle.bson_model.specs.Rest.{lent_pair, owned_pair, iter_rest, ascending_rest, into_iter_rest, keys_rest, values_rest};
 
 use crate::bson::Bson;
 use crate::document::Document;
@@ -21,6 +22,24 @@ impl<'a> Iterator for Iter<'a> {
     ghost next_gives = { YieldsFirstBy lent_pair iter_rest };
 
     ghost remaining = { item_count iter_rest };
+
+    fn next(&mut self) -> Option<(&'a String, &'a Bson)> {
+        self.pairs.next()
+    }
+}
+
+/// The pairs of a document by `&`, ascending by the bytes of their keys. `ascending_rest` is the list of those that are left.
+#[derive(Drop)]
+pub struct Ascending<'a> {
+    pairs: bson_pairs::Ascending<'a, Bson>,
+}
+
+impl<'a> Iterator for Ascending<'a> {
+    type Item = (&'a String, &'a Bson);
+
+    ghost next_gives = { YieldsFirstBy lent_pair ascending_rest };
+
+    ghost remaining = { item_count ascending_rest };
 
     fn next(&mut self) -> Option<(&'a String, &'a Bson)> {
         self.pairs.next()
@@ -88,6 +107,15 @@ impl Document {
     {
         Iter {
             pairs: self.pairs.iter(),
+        }
+    }
+
+    /// The pairs, ascending by the bytes of their keys. It takes no memory.
+    pub fn ascending(&self) -> Ascending<'_>
+        ensures { ascending_rest result ≡ ascending (pairs_of self.now) }
+    {
+        Ascending {
+            pairs: self.pairs.ascending(),
         }
     }
 

@@ -2,7 +2,6 @@ use Rattle.std.proofs.Common.{◌≡◌, ◌∙◌, List, ℕ, Some, true, false
 use Rattle.std.specs.Str.{bytes_eq}
 use Rattle.bson_raw.specs.View.{bytes_of, left_of, parts_of}
 use Rattle.bson_raw.specs.Walk.{steps_from}
-use Rattle.bson_meaning.proofs.Viewing.{sized}
 use Rattle.bson_filter.proofs.Looking.{start, start_room, here, here_met, passed, nowhere, all_met, no_fault, step_room}
 use Rattle.bson_filter.proofs.paths.find.Goals as goal
 
@@ -39,11 +38,6 @@ returns-then-eq-clause-few c =
     let step = subst (λ i. steps_from (left_of c.loop-item.item-iterator) (Some i) (left_of c.next.new.self)) c.in-Ok.is c.in-Some.ensures.steps in
     let room = step_room (left_of c.loop-item.item-iterator) (left_of c.next.new.self) c.in-Ok.element step in
     omega (arith, room, c.loop-item.invariant.1)
-
-pub returns-then-eq-clause-sized : goal.returns-then-eq-clause-sized
-returns-then-eq-clause-sized c =
-    let step = subst (λ i. steps_from (left_of c.loop-item.item-iterator) (Some i) (left_of c.next.new.self)) c.in-Ok.is c.in-Some.ensures.steps in
-    sized (left_of c.loop-item.item-iterator) (left_of c.next.new.self) c.in-Ok.element step
 
 pub loop-item-preserved : goal.loop-item-preserved
 loop-item-preserved c =

@@ -7,11 +7,11 @@ use Rattle.bson_raw.specs.View.{left_of, parts_of}
 use Rattle.bson_raw.specs.Walk.{steps_from}
 use Rattle.bson_raw.specs.declared.element.RawElement.{RawElement}
 use Rattle.bson_meaning.specs.Views.{ComparesPayload}
-use Rattle.bson_meaning.proofs.Viewing.{compares_raw, sized, members_none, members_many, members_other, members_more, members_end, members_wrong, items_longer, items_other, items_more, items_wrong, items_done, items_over, items_closed, number_length}
+use Rattle.bson_meaning.proofs.Viewing.{compares_raw, members_none, members_many, members_other, members_more, members_end, members_wrong, items_longer, items_other, items_more, items_wrong, items_done, items_over, items_closed, number_length}
 use Rattle.bson_meaning.proofs.views.+views.Goals as goal
 
 pub same_element-returns-in-Ok : goal.same_element-returns-in-Ok
-same_element-returns-in-Ok t c = λ size. compares_raw (parts_of c.args.element.now) c.in-Ok.raw (view c.args.value.now) c.same_value.result size (c.in-Ok.ensures size) c.same_value.ensures
+same_element-returns-in-Ok t c = compares_raw (parts_of c.args.element.now) c.in-Ok.raw (view c.args.value.now) c.same_value.result c.payload_of_an_element.ensures c.in-Ok.ensures c.same_value.ensures
 
 pub same_members-returns-in_default : goal.same_members-returns-in_default
 same_members-returns-in_default t c =
@@ -42,7 +42,7 @@ same_members-returns-then-not-same_element t c =
     let step = subst (λ i. steps_from (left_of c.loop-item.item-iterator) (Some i) (left_of c.next.new.self)) c.in-Ok.is c.in-Some.ensures.steps in
     let w = view c.in-Some-value_under.value.now in
     let found : look_up (parts_of c.in-Ok.element).key ns ≡ Some w = ap (λ k. look_up k ns) (sym c.key.ensures) ∙ c.in-Some-value_under.ensures.0 in
-    let told = c.same_element.ensures (sized (left_of c.loop-item.item-iterator) (left_of c.next.new.self) c.in-Ok.element step) in
+    let told = c.same_element.ensures in
     λ ms h d. (λ f. absurd cc, λ g. absurd (members_other (left_of c.loop-item.item-iterator) (left_of c.next.new.self) c.loop-item.left len ms ns c.in-Ok.element step (c.loop-item.invariant.0 ms h d) w c.same_element.result told found c.if-not-same_element.true g.1))
 
 pub same_members-loop-item-preserved : goal.same_members-loop-item-preserved
@@ -52,7 +52,7 @@ same_members-loop-item-preserved t c =
     let step = subst (λ i. steps_from (left_of c.loop-item.item-iterator) (Some i) (left_of c.next.new.self)) c.in-Ok.is c.in-Some.ensures.steps in
     let w = view c.in-Some-value_under.value.now in
     let found : look_up (parts_of c.in-Ok.element).key ns ≡ Some w = ap (λ k. look_up k ns) (sym c.key.ensures) ∙ c.in-Some-value_under.ensures.0 in
-    let told = c.same_element.ensures (sized (left_of c.loop-item.item-iterator) (left_of c.next.new.self) c.in-Ok.element step) in
+    let told = c.same_element.ensures in
     (λ ms h d. members_more (left_of c.loop-item.item-iterator) (left_of c.next.new.self) c.loop-item.left len ms ns c.in-Ok.element step (c.loop-item.invariant.0 ms h d) w c.same_element.result told found c.if-not-same_element.false (omega (arith, c.if-left-eq0.false)), tt, tt)
 
 pub same_members-returns : goal.same_members-returns
@@ -83,7 +83,7 @@ same_elements-returns-then-not-same_element t c =
     let w = view c.in-Some-split_first.value.now in
     let ws = items_of (map view c.in-Some-split_first.others.now) in
     let split : others ≡ item w ws = ap (λ vs. items_of (map view vs)) c.in-Some-split_first.ensures.cases.0 in
-    let told = c.same_element.ensures (sized (left_of c.loop-item.item-iterator) (left_of c.next.new.self) c.in-Ok-item.element step) in
+    let told = c.same_element.ensures in
     λ vs h d. (λ f. absurd cc, λ g. absurd (items_other (left_of c.loop-item.item-iterator) (left_of c.next.new.self) vs target others c.in-Ok-item.element step (c.loop-item.invariant.0 vs h d) w ws c.same_element.result told split c.if-not-same_element.true g))
 
 pub same_elements-loop-item-preserved : goal.same_elements-loop-item-preserved
@@ -94,7 +94,7 @@ same_elements-loop-item-preserved t c =
     let w = view c.in-Some-split_first.value.now in
     let ws = items_of (map view c.in-Some-split_first.others.now) in
     let split : others ≡ item w ws = ap (λ vs. items_of (map view vs)) c.in-Some-split_first.ensures.cases.0 in
-    let told = c.same_element.ensures (sized (left_of c.loop-item.item-iterator) (left_of c.next.new.self) c.in-Ok-item.element step) in
+    let told = c.same_element.ensures in
     let distinct = subst ItemsHaveDistinctKeys split c.loop-item.invariant.1 in
     let low : max (levels w) (items_levels ws) ≤ items_levels target = subst (λ vs. items_levels vs ≤ items_levels target) split c.loop-item.invariant.2 in (
       λ vs h d. items_more (left_of c.loop-item.item-iterator) (left_of c.next.new.self) vs target others c.in-Ok-item.element step (c.loop-item.invariant.0 vs h d) w ws c.same_element.result told split c.if-not-same_element.false,

@@ -21,11 +21,8 @@ use Rattle.std.specs.formers.vec.Vec as vec
 use Rattle.std.specs.declared.alloc.Global.{Global}
 use Rattle.std.specs.contracts.alloc.Global as heap
 use Rattle.std.specs.contracts.impls.GlobalAllocator.TheImpl.{ghosts}
-use Rattle.std.specs.declared.hash.FoldHasher.{FoldHasher}
-use Rattle.std.specs.declared.hash.BuildHasherDefault.{BuildHasherDefault}
 use Rattle.std.specs.Map.{keys_of, values_of}
 use Rattle.bson_pairs.specs.Entries.{entry, on_value, entries_puts, values_listed}
-use Rattle.indexmap.specs.IndexSet.{IndexSet}
 use Rattle.bson_pairs.specs.Keyed.{Key, key_code, key_bytes, get}
 use Rattle.bson_pairs.specs.Over.{get-over, keys_of-over}
 use Rattle.bson_pairs.specs.Same.{same_at, pairs_eq}
@@ -51,7 +48,7 @@ pub the_items_listed : (X : Type 0) (d : List (Key × X)) → listed _ (children
 the_items_listed X d = values_listed Key X d
 
 abbrev Keys : Type 0
-Keys = IndexSet (String Global) (BuildHasherDefault FoldHasher)
+Keys = List (String Global)
 
 abbrev fields : Former {0}
 fields = via (pair (const Keys) (vec.the_former this Global)) Inside (λ X a. (a.keys, a.values)) (λ X v. record { keys = v.0; values = v.1 }) (λ X a. refl) (λ X v. refl)
@@ -70,9 +67,9 @@ zip-held X (k ∷ ks) (v ∷ vs) e = λ i. (one_more (zip-held X ks vs (omega ar
 module _ (R R' : RattleType) (h : R.Denot → R'.Denot) where
   pub the_places : Alike R R' h → Alike (C.the_row R) (C.the_row R') ((the_former this).map R.Denot R'.Denot h)
   the_places a = view_places_where fields (the_former this) (λ X. view X)
-      (λ X Y k u. zip-map k (key_bytes u.keys.keys) u.values.items)
-      (λ X u. length u.values.items ≡ length u.keys.keys) (λ X Y k u e. sym (length-map u.values.items k) ∙ e)
-      (λ X u e. zip-held X (key_bytes u.keys.keys) u.values.items (e ∙ sym (length-map u.keys.keys _)))
+      (λ X Y k u. zip-map k (key_bytes u.keys) u.values.items)
+      (λ X u. length u.values.items ≡ length u.keys) (λ X Y k u e. sym (length-map u.values.items k) ∙ e)
+      (λ X u e. zip-held X (key_bytes u.keys) u.values.items (e ∙ sym (length-map u.keys _)))
       R.Denot R'.Denot h (C.the_row R).coded (C.the_row R').coded
       (invariant R.Denot) (invariant R'.Denot) (λ u. ℕ_set _ _) (λ u. ℕ_set _ _)
       (λ u e. length-map u.values.items h ∙ e) (λ u e. sym (length-map u.values.items h) ∙ e) (λ u e. e)

@@ -4,6 +4,7 @@ use Rattle.bson_base.specs.Scalars.{id_bytes, millis_of, decimal_bytes}
 use Rattle.bson_base.specs.Value.{double, string, binary, undefined, object_id, boolean, date_time, null, regex, db_pointer, code, symbol, int32, timestamp, int64, decimal, max_key, min_key, scalar, array, document, scoped_code, put}
 use Rattle.bson_bytes.specs.Spells.{SpellsItems, SpellsMembers}
 use Rattle.bson_frame.specs.View.{element_of}
+use Rattle.bson_model.specs.Extend.{put_all}
 use Rattle.bson_model.specs.View.{view, members_of, pairs_of}
 use Rattle.bson_model.specs.declared.bson.Bson.{the_lemmas}
 use Rattle.bson_raw.proofs.Converting.{inner_shorter, element_converted}
@@ -119,7 +120,7 @@ pub array_of-returns : goal.array_of-returns
 array_of-returns t c = items_done c.args.elements.now c.loop-rest.rest.now c.loop-rest.items.items c.loop-rest.invariant (c.is_end.ensures.0 (search rules))
 
 pub document_of-loop-rest-init : goal.document_of-loop-rest-init
-document_of-loop-rest-init t c = rw c.new-document.ensures (members_start c.args.elements.now)
+document_of-loop-rest-init t c = rw c.new-pairs.ensures.items (members_start c.args.elements.now)
 
 pub document_of-returns-in_err-frame : goal.document_of-returns-in_err-frame
 document_of-returns-in_err-frame t c =
@@ -146,10 +147,12 @@ document_of-loop-rest-preserved t c =
     let e = element_of c.in_ok-frame.frame in
     let after = c.in_ok-frame.frame.rest.now in
     let v = c.in_ok-value.ensures (c.payload_by_itself.ensures c.loop-rest.rest.now e after c.in_ok-frame.ensures) in
-    let ps = pairs_of c.loop-rest.document in
+    let ps = put_all c.loop-rest.pairs.items [] in
     let tree = view c.in_ok-value.value in
-    members_more c.args.elements.now c.loop-rest.rest.now (members_of ps) (members_of (pairs_of c.put_pair.new.document)) e after v.0 c.loop-rest.invariant c.in_ok-frame.ensures v.1 v.2
-    (ap members_of c.in_ok-put_pair.ensures ∙ members_of_put c.in_ok-frame.frame.key.now tree ps ∙ ap (λ u. put c.in_ok-frame.frame.key.now u (members_of ps)) v.3)
+    members_more c.args.elements.now c.loop-rest.rest.now (members_of ps) (members_of (put_all c.keep_pair.new.pairs.items [])) e after v.0 c.loop-rest.invariant c.in_ok-frame.ensures v.1 v.2
+    (ap members_of c.in_ok-keep_pair.ensures ∙ members_of_put c.in_ok-frame.frame.key.now tree ps ∙ ap (λ u. put c.in_ok-frame.frame.key.now u (members_of ps)) v.3)
 
 pub document_of-returns : goal.document_of-returns
-document_of-returns t c = members_done c.args.elements.now c.loop-rest.rest.now (members_of (pairs_of c.loop-rest.document)) c.loop-rest.invariant (c.is_end.ensures.0 (search rules))
+document_of-returns t c =
+    let done = members_done c.args.elements.now c.loop-rest.rest.now (members_of (put_all c.loop-rest.pairs.items [])) c.loop-rest.invariant (c.is_end.ensures.0 (search rules)) in
+    (done.0, done.1, ap members_of c.in_ok-from_pairs.ensures ∙ done.2)

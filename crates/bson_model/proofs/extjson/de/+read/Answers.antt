@@ -1,8 +1,8 @@
-use Rattle.std.proofs.Common.{◌≡◌, [], Ok, ap, rules, string_bytes, option_map, sym, ◌∙◌}
+use Rattle.std.proofs.Common.{◌≡◌, [], Ok, ap, rules, string_bytes, option_map, subst, sym, ◌∙◌}
 use Rattle.std.proofs.lemmas.List.{nil_from_length}
 use Rattle.serde_json.specs.View.{view as tree_of}
 use Rattle.bson_model.specs.View.{view, pairs_of, members_of}
-use Rattle.bson_model.proofs.JsonReadLemmas.{Gives-err, Fails-along, none_left, typed_two, after_text, after_text_fails, items_step, items_end, members_step, members_end}
+use Rattle.bson_model.proofs.JsonReadLemmas.{Gives-err, Fails-along, none_left, typed_two, after_text, after_text_fails, items_step, items_end, SoFar, members_begin, members_step, members_end}
 use Rattle.bson_model.proofs.extjson.de.+read.Goals as goal
 
 pub read_items-loop-item-preserved : goal.read_items-loop-item-preserved
@@ -13,6 +13,9 @@ pub read_items-returns : goal.read_items-returns
 read_items-returns t c =
     let left = c.loop-item.item-iterator.rest in
     items_end _ _ _ c.loop-item.invariant (nil_from_length left.items (sym left.ok.0 ∙ c.in-None.ensures.steps.0))
+
+pub read_members-loop-key-init : goal.read_members-loop-key-init
+read_members-loop-key-init t c = subst (SoFar c.args.members.entries c.into_iter-key-iterator.result) (sym c.new-document.ensures) (members_begin _ _ c.into_iter-key-iterator.ensures.into_iter_gives.0)
 
 pub read_members-loop-key-preserved : goal.read_members-loop-key-preserved
 read_members-loop-key-preserved t c =

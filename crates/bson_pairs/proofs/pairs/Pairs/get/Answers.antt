@@ -8,11 +8,11 @@ pub returns-in-Some : goal.returns-in-Some
 returns-in-Some g c =
     let i = c.self.inside in
     let k = c.args.key.now in
-    let f = found_at (is_key k) i.keys.keys c.in-Some.at c.in-Some.ensures.index in
-    ap Some c.index.ensures ∙ sym (get-found_value k i.keys.keys i.values.items c.in-Some.at _ f c.self.invariant) ∙ ap (get k) c.self.view_is
+    let f = found_at (is_key k) i.keys c.in-Some.at c.in-Some.ensures.index in
+    ap Some c.index.ensures ∙ sym (get-found_value k i.keys i.values.items c.in-Some.at _ f c.self.invariant) ∙ ap (get k) c.self.view_is
 
 pub returns-in-None : goal.returns-in-None
 returns-in-None g c =
     let i = c.self.inside in
     let k = c.args.key.now in
-    sym (get-absent k i.keys.keys i.values.items (absent_if (is_key k) i.keys.keys c.in-None.ensures.index)) ∙ ap (get k) c.self.view_is
+    sym (get-absent k i.keys i.values.items (absent_if (is_key k) i.keys c.in-None.ensures.index)) ∙ ap (get k) c.self.view_is

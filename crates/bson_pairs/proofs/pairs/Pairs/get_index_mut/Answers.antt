@@ -10,11 +10,11 @@ pub returns : goal.returns
 returns g c =
     let i = c.self.inside in
     let at = c.args.index in
-    let written : (w : g.row.V.Denot) → keyed i.keys.keys (set i.values.items at w) ≡ set_at c.args.self.now at w = λ w. sym (set_at-keyed i.keys.keys i.values.items at w) ∙ ap (λ ps. set_at ps at w) c.self.view_is in (
+    let written : (w : g.row.V.Denot) → keyed i.keys (set i.values.items at w) ≡ set_at c.args.self.now at w = λ w. sym (set_at-keyed i.keys i.values.items at w) ∙ ap (λ ps. set_at ps at w) c.self.view_is in (
       (λ j. read_of (ghost_name_of c.get_mut.result) (λ w. written w j) (c.self.view_is j)),
       record {
         writes_back = tt;
         value = as_item c.get_mut.result i.values.items at i.values.len c.get_mut.ensures.variant c.get_mut.ensures.value i.values.ok.0
-            ∙ ap (λ xs. slice_get xs at) (sym (values_of-keyed i.keys.keys i.values.items c.self.invariant) ∙ ap values_of c.self.view_is);
+            ∙ ap (λ xs. slice_get xs at) (sym (values_of-keyed i.keys i.values.items c.self.invariant) ∙ ap values_of c.self.view_is);
       },
     )

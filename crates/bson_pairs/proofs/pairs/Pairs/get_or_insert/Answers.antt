@@ -7,17 +7,17 @@ use Rattle.bson_pairs.proofs.pairs.Pairs.get_or_insert.Goals as goal
 pub value_at_mut-requires : goal.value_at_mut-requires
 value_at_mut-requires g c =
     let i = c.self.inside in
-    subst (λ n. c.in-Some.at < n) (sym (length-pairs i.keys.keys i.values.items c.args.self.now c.self.invariant c.self.view_is ∙ c.self.invariant)) c.in-Some.ensures.within
+    subst (λ n. c.in-Some.at < n) (sym (length-pairs i.keys i.values.items c.args.self.now c.self.invariant c.self.view_is ∙ c.self.invariant)) c.in-Some.ensures.within
 
 pub returns-in-Some : goal.returns-in-Some
 returns-in-Some g c =
     let i = c.self.inside in
     let k = c.as_str.result.now in
     let at = c.in-Some.at in
-    let f = found_at (is_key k) i.keys.keys at c.in-Some.ensures.index in
-    let found = ap (λ q. get q c.args.self.now) (sym c.as_str.ensures.value) ∙ sym (ap (get k) c.self.view_is) ∙ get-found k i.keys.keys i.values.items at f c.self.invariant
-    ∙ ap (λ xs. slice_get xs at) (sym (values_of-keyed i.keys.keys i.values.items c.self.invariant) ∙ ap values_of c.self.view_is) ∙ c.value_at_mut.ensures.value in (
-      (refl, λ w _. subst (λ ps. set_at ps at w ≡ put k w ps) c.self.view_is (set_at-found k i.keys.keys i.values.items at w f c.self.invariant) ∙ ap (λ q. put q w c.args.self.now) c.as_str.ensures.value, tt),
+    let f = found_at (is_key k) i.keys at c.in-Some.ensures.index in
+    let found = ap (λ q. get q c.args.self.now) (sym c.as_str.ensures.value) ∙ sym (ap (get k) c.self.view_is) ∙ get-found k i.keys i.values.items at f c.self.invariant
+    ∙ ap (λ xs. slice_get xs at) (sym (values_of-keyed i.keys i.values.items c.self.invariant) ∙ ap values_of c.self.view_is) ∙ c.value_at_mut.ensures.value in (
+      (refl, λ w _. subst (λ ps. set_at ps at w ≡ put k w ps) c.self.view_is (set_at-found k i.keys i.values.items at w f c.self.invariant) ∙ ap (λ q. put q w c.args.self.now) c.as_str.ensures.value, tt),
       record { writes_back = tt; value = sym (ap (λ o. unwrap_or o c.args.default) found); absent = tt },
     )
 
@@ -26,8 +26,8 @@ value_at_mut-requires-in-None g c =
     let i = c.self.inside in
     let now = c.args.self.now in
     let k = string_bytes c.args.key in
-    let gone = get-missing i.keys.keys i.values.items now c.as_str.result.now k c.self.view_is c.as_str.ensures.value c.in-None.ensures.index in
-    let last : c.len-at.result ≡ length now = c.len-at.ensures ∙ i.values.ok.0 ∙ sym (length-pairs i.keys.keys i.values.items now c.self.invariant c.self.view_is) in
+    let gone = get-missing i.keys i.values.items now c.as_str.result.now k c.self.view_is c.as_str.ensures.value c.in-None.ensures.index in
+    let last : c.len-at.result ≡ length now = c.len-at.ensures ∙ i.values.ok.0 ∙ sym (length-pairs i.keys i.values.items now c.self.invariant c.self.view_is) in
     let grown : length c.insert.new.self ≡ length now + 1 = ap length (c.in_ok-insert-in-None.ensures.ok ∙ put-new k c.args.default now gone) ∙ length-append now ((k, c.args.default) ∷ []) in
     omega (arith, last, grown)
 
@@ -36,8 +36,8 @@ returns g c =
     let i = c.self.inside in
     let now = c.args.self.now in
     let k = string_bytes c.args.key in
-    let gone = get-missing i.keys.keys i.values.items now c.as_str.result.now k c.self.view_is c.as_str.ensures.value c.in-None.ensures.index in
-    let last : c.len-at.result ≡ length now = c.len-at.ensures ∙ i.values.ok.0 ∙ sym (length-pairs i.keys.keys i.values.items now c.self.invariant c.self.view_is) in
+    let gone = get-missing i.keys i.values.items now c.as_str.result.now k c.self.view_is c.as_str.ensures.value c.in-None.ensures.index in
+    let last : c.len-at.result ≡ length now = c.len-at.ensures ∙ i.values.ok.0 ∙ sym (length-pairs i.keys i.values.items now c.self.invariant c.self.view_is) in
     let ok = c.in_ok-insert-in-None.ensures.ok in
     let told = sym c.value_at_mut-in-None.ensures.value ∙ (λ j. slice_get (values_of ((ok ∙ put-new k c.args.default now gone) j)) (last j)) ∙ value-last k c.args.default now in (
       (refl, λ w _. (λ j. set_at (ok j) (last j) w) ∙ set_at-put-new k c.args.default w now gone, tt),

@@ -9,9 +9,9 @@ use Rattle.bson_pairs.proofs.pairs.Pairs.keys.Goals as goal
 pub returns-clause-keys : goal.returns-clause-keys
 returns-clause-keys g c =
     let i = c.self.inside in
-    ap key_bytes c.as_slice.ensures.keys ∙ sym (keys_of-keyed i.keys.keys i.values.items c.self.invariant) ∙ ap keys_of c.self.view_is
+    ap key_bytes c.as_slice.ensures.keys ∙ sym (keys_of-keyed i.keys i.values.items c.self.invariant) ∙ ap keys_of c.self.view_is
 
 pub returns-clause-distinct : goal.returns-clause-distinct
 returns-clause-distinct g c =
     let i = c.self.inside in
-    subst (IsDistinct bytes_eq) (sym (keys_of-keyed i.keys.keys i.values.items c.self.invariant) ∙ ap keys_of c.self.view_is) (distinct-key_bytes i.keys.keys c.as_slice.ensures.unique)
+    subst (IsDistinct bytes_eq) (sym (keys_of-keyed i.keys i.values.items c.self.invariant) ∙ ap keys_of c.self.view_is) c.as_slice.ensures.distinct

@@ -5,4 +5,4 @@ use Rattle.bson_pairs.proofs.pairs.Pairs.len.Goals as goal
 pub returns : goal.returns
 returns g c =
     let v = c.self.inside.values in
-    c.len.ensures ∙ v.ok.0 ∙ sym (length-keyed c.self.inside.keys.keys v.items c.self.invariant) ∙ ap length c.self.view_is
+    c.len.ensures ∙ v.ok.0 ∙ sym (length-keyed c.self.inside.keys v.items c.self.invariant) ∙ ap length c.self.view_is

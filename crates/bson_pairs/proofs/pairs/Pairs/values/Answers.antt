@@ -6,4 +6,4 @@ use Rattle.bson_pairs.proofs.pairs.Pairs.values.Goals as goal
 pub returns : goal.returns
 returns g c =
     let i = c.self.inside in
-    c.as_slice.ensures.value ∙ sym (values_of-keyed i.keys.keys i.values.items c.self.invariant) ∙ ap values_of c.self.view_is
+    c.as_slice.ensures.value ∙ sym (values_of-keyed i.keys i.values.items c.self.invariant) ∙ ap values_of c.self.view_is

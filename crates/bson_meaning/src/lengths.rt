@@ -1,0 +1,113 @@
+//! How many bytes the normal form of a tree is written as, without making it.
+
+ghost use Rattle.std.specs.Prelude.{◌≡◌, ◌^◌, ◌-◌, decimal, length, map, min, string_bytes};
+ghost use Rattle.bson_base.specs.Value.{binary as with_subtype, regex as expression};
+ghost use Rattle.bson_bytes.specs.Encode.{items_size, members_size, scalar_size, size, value_size};
+ghost use Rattle.bson_model.specs.View.{view, pairs_of, items_of, members_of};
+ghost use Rattle.bson_meaning.specs.Meaning.{norm, norm_items, norm_members, normal_scalar};
+ghost use Rattle.bson_meaning.specs.Sames.{IsScalar};
+
+use crate::scalars::normal_subtype;
+use bson_model::{Binary, BinarySubtype, Bson, Document, Regex};
+use itoa::Buffer;
+
+/// How many bytes the normal form of a document is written as (bsonspec.org 1.1, "document"). No tree that fits into a machine
+/// takes more than `usize::MAX`; it would be answered for such. Takes no memory.
+pub(crate) fn normal_length(document: &Document) -> usize
+    ensures { result ≡ min (size (norm_members (members_of (pairs_of document.now)))) (2 ^ 64 - 1) }
+{
+    length_of_members(document).saturating_add(5)
+}
+
+#[cycle(lengths)]
+fn length_of_value(value: &Bson) -> usize
+    ensures { result ≡ min (value_size (norm (view value.now))) (2 ^ 64 - 1) }
+{
+    match value {
+        Bson::Array(items) => length_of_items(items.as_slice()).saturating_add(5),
+        Bson::Document(document) => length_of_members(document).saturating_add(5),
+        Bson::JavaScriptCodeWithScope(code) => length_of_members(&code.scope)
+            .saturating_add(code.code.len())
+            .saturating_add(14),
+        scalar => length_of_scalar(scalar),
+    }
+}
+
+#[cycle(lengths)]
+fn length_of_members(document: &Document) -> usize
+    ensures { result ≡ min (members_size (norm_members (members_of (pairs_of document.now)))) (2 ^ 64 - 1) }
+{
+    let mut length: usize = 0;
+    for (key, value) in document {
+        let element = length_of_value(value)
+            .saturating_add(key.len())
+            .saturating_add(2);
+        length = length.saturating_add(element);
+    }
+    length
+}
+
+/// The keys of an array are the places in decimal.
+#[cycle(lengths)]
+fn length_of_items(items: &[Bson]) -> usize
+    ensures { result ≡ min (items_size 0 (norm_items (items_of (map view items.now)))) (2 ^ 64 - 1) }
+{
+    let mut length: usize = 0;
+    for i in 0..items.len() {
+        let element = length_of_value(&items[i])
+            .saturating_add(length_of_place(i))
+            .saturating_add(2);
+        length = length.saturating_add(element);
+    }
+    length
+}
+
+fn length_of_place(place: usize) -> usize
+    ensures { result ≡ length (decimal place) }
+{
+    Buffer::new().format(place).len()
+}
+
+fn length_of_scalar(value: &Bson) -> usize
+    requires { IsScalar (view value.now) }
+    ensures { result ≡ min (value_size (norm (view value.now))) (2 ^ 64 - 1) }
+{
+    match value {
+        Bson::Double(_) | Bson::DateTime(_) | Bson::Timestamp(_) | Bson::Int64(_) => 8,
+        Bson::String(text) | Bson::JavaScriptCode(text) | Bson::Symbol(text) => text.len() + 5,
+        Bson::Binary(binary) => length_of_binary(binary),
+        Bson::RegularExpression(regex) => length_of_regex(regex),
+        Bson::DbPointer(pointer) => pointer
+            .namespace
+            .len()
+            .saturating_add(pointer.id.bytes().len())
+            .saturating_add(5),
+        Bson::ObjectId(id) => id.bytes().len(),
+        Bson::Decimal128(_) => 16,
+        Bson::Int32(_) => 4,
+        Bson::Boolean(_) => 1,
+        _ => 0,
+    }
+}
+
+/// An old binary has its length once more (bsonspec.org 1.1, "subtype").
+fn length_of_binary(binary: &Binary) -> usize
+    ensures { result ≡ scalar_size (normal_scalar (with_subtype binary.now.subtype binary.now.bytes.items)) }
+{
+    if normal_subtype(binary.subtype) == BinarySubtype::BinaryOld {
+        binary.bytes.len() + 9
+    } else {
+        binary.bytes.len() + 5
+    }
+}
+
+/// Options in order take as many bytes as they took.
+fn length_of_regex(regex: &Regex) -> usize
+    ensures { result ≡ min (scalar_size (normal_scalar (expression (string_bytes regex.now.pattern) (string_bytes regex.now.options)))) (2 ^ 64 - 1) }
+{
+    regex
+        .pattern
+        .len()
+        .saturating_add(regex.options.len())
+        .saturating_add(2)
+}

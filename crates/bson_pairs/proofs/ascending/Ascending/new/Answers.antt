@@ -1,0 +1,19 @@
+use Rattle.std.proofs.Common.{◌<◌, length, All, sym, ap, ◌∙◌, subst}
+use Rattle.std.proofs.Math.ListN.{length-map}
+use Rattle.std.proofs.lemmas.List.Elements.{All-from_recursion}
+use Rattle.bson_pairs.specs.Index.{places_of, pick}
+use Rattle.bson_pairs.specs.Keyed.{key_bytes, keyed}
+use Rattle.bson_pairs.proofs.IndexLemmas.{places_within}
+use Rattle.bson_pairs.proofs.PickLemmas.{pick-index, texts_within}
+use Rattle.bson_pairs.proofs.ascending.Ascending.new.Goals as goal
+
+pub invariant_of-result : goal.invariant_of-result
+invariant_of-result g c =
+    let ks = c.args.keys.now in
+    (subst (All (λ i. i < length ks)) (sym (c.iter.ensures.rest ∙ c.requires.places)) (texts_within ks), c.requires.lengths)
+
+pub returns : goal.returns
+returns g c =
+    let ks = c.args.keys.now in
+    let vs = c.args.values.now in
+    ap (pick (keyed ks vs)) (c.iter.ensures.rest ∙ c.requires.places) ∙ pick-index ks vs c.requires.lengths
