@@ -9,3 +9,4 @@ pub mod ShowLemmas
 pub mod JsonTextsLemmas
 pub mod JsonReadLemmas
 pub mod JsonGrammarLemmas
+pub mod Seen
