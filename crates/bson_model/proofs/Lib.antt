@@ -10,3 +10,4 @@ pub mod JsonTextsLemmas
 pub mod JsonReadLemmas
 pub mod JsonGrammarLemmas
 pub mod ExtendLemmas
+pub mod Seen

@@ -76,6 +76,7 @@ impl Document {
     }
 
     /// The value under a key.
+    #[tactic(auto, using(crate::proofs::Seen::seen_under))]
     pub fn get(&self, key: &str) -> Option<&Bson>
         ensures { option_map (λ v. view v.now) result ≡ get key.now (pairs_of self.now) }
     {
@@ -107,6 +108,7 @@ impl Document {
     }
 
     /// The value of the pair at a place, to be written to.
+    #[tactic(auto, using(crate::proofs::Seen::seen_at, crate::proofs::Seen::set_seen))]
     pub fn get_index_mut(&mut self, index: usize) -> Option<&mut Bson>
         ensures* writes_back { sem 𝓛 (LendsValueAt self.entry index result) }
         ensures value { option_map (λ v. view v.now) result ≡ slice_get (values_of (pairs_of self.old)) index }
@@ -126,6 +128,7 @@ impl Document {
     }
 
     // The value under the key, after `default` was put last where there was none.
+    #[tactic(auto, using(crate::proofs::Seen::seen_or_default, crate::proofs::Seen::put_seen, crate::proofs::Seen::seen_absent))]
     pub(crate) fn get_or_insert(
         &mut self,
         key: String,
@@ -160,6 +163,7 @@ impl Document {
     }
 
     /// Takes the pair of a key out, and gives its value. The others keep their order.
+    #[tactic(auto, using(crate::proofs::Seen::seen_out, crate::proofs::Seen::seen_rest))]
     pub fn remove(&mut self, key: &str) -> Option<Bson>
         ensures value { option_map view result ≡ get key.now (pairs_of self.old) }
         ensures rest { pairs_of self.new ≡ without key.now (pairs_of self.old) }
