@@ -148,11 +148,13 @@ fn many_pairs_at_once_are_as_by_insert(rt: HostRuntime) -> Result<(), Fail> {
 
 // That the pairs ascend by their keys, and that each is found.
 fn ascends(rt: &impl Abort, document: &Document) {
-    let mut before = "";
+    let mut before: Option<&String> = None;
     for (key, value) in document.ascending() {
-        holds(rt, "ascending", before < key.as_str());
+        if let Some(before) = before {
+            holds(rt, "ascending", before < key);
+        }
         is(rt, "the value", document.get(key.as_str()), Some(value));
-        before = key.as_str();
+        before = Some(key);
     }
 }
 

@@ -1,8 +1,9 @@
 //! From bytes to trees. Elements are read from the front, once each, and the reader goes into an array, a document or a scope
 //! where it meets it; so the fault that is told is the first in the order of the bytes.
 
-ghost use Rattle.std.specs.Prelude.{◌≡◌, ◌≢◌, ◌↔◌, ◌∷◌, ◌+◌, [], drop, length, string_bytes, IfOk, IsTrue, MatchResult, OnOk};
+ghost use Rattle.std.specs.Prelude.{◌≡◌, ◌≢◌, ℕ, List, ◌<◌, ◌↔◌, ◌∷◌, ◌+◌, [], drop, length, string_bytes, IfOk, IsTrue, MatchResult, OnOk};
 ghost use Rattle.bson_base.specs.Options.{sorted_text};
+ghost use Rattle.bson_base.specs.Value.{Value};
 ghost use Rattle.bson_frame.specs.Frame.{IsFirstFrame, IsStructuralFault};
 ghost use Rattle.bson_frame.specs.Payload.{IsPayload};
 ghost use Rattle.bson_frame.specs.View.{element_of, fault_key};
@@ -51,6 +52,23 @@ pub(crate) fn elements(document: RawDocument<'_>) -> &[u8]
     elements
 }
 
+// So many pairs are put into a document as they come.
+const FIRST_PAIRS: usize = 64;
+
+/// Puts a value under a key. A key that is there keeps its place, and its value goes.
+fn put_pair(
+    alloc: Global,
+    document: &mut Document,
+    key: &str,
+    value: Bson,
+) -> Result<(), AllocError>
+    ensures { OnOk result (pairs_of document.new ≡ put key.now (view value) (pairs_of document.old)) }
+{
+    let key = String::from_str(alloc, key)?;
+    document.insert(key, value)?;
+    Ok(())
+}
+
 /// Puts a pair last, to be put into a document with the others.
 fn keep_pair(
     alloc: Global,
@@ -58,29 +76,50 @@ fn keep_pair(
     key: &str,
     value: Bson,
 ) -> Result<(), AllocError>
-    ensures { OnOk result (put_all pairs.new.items [] ≡ put key.now (view value) (put_all pairs.old.items [])) }
+    ensures { OnOk result ((ps : List (List ℕ × Value)) → put_all pairs.new.items ps ≡ put key.now (view value) (put_all pairs.old.items ps)) }
 {
     let key = String::from_str(alloc, key)?;
     pairs.push((key, value))?;
     Ok(())
 }
 
-/// The document of these elements. Its pairs are put together at the end, so that many keys in whatever order take no more
-/// than their sorting.
+/// Puts a pair into the document, or keeps it for the end where the document has many already.
+fn take_pair(
+    alloc: Global,
+    document: &mut Document,
+    more: &mut Vec<(String, Bson)>,
+    key: &str,
+    value: Bson,
+) -> Result<(), AllocError>
+    requires { length (pairs_of document.old) < 64 → more.old.items ≡ [] }
+    ensures taken { OnOk result (put_all more.new.items (pairs_of document.new) ≡ put key.now (view value) (put_all more.old.items (pairs_of document.old))) }
+    ensures kept { OnOk result (length (pairs_of document.new) < 64 → more.new.items ≡ []) }
+{
+    if document.len() < FIRST_PAIRS {
+        put_pair(alloc, document, key, value)
+    } else {
+        keep_pair(alloc, more, key, value)
+    }
+}
+
+/// The document of these elements. Many pairs are put together at the end, so that they take no more than their sorting, in
+/// whatever order of keys.
 #[cycle(convert)]
 pub(crate) fn document_of(alloc: Global, elements: &[u8]) -> Result<Document, Error>
     ensures { ConvertsMembers elements.now result }
 {
     bson_frame::laws::payload_by_itself();
-    let mut pairs = Vec::new(alloc);
+    let mut document = Document::new(alloc);
+    let mut more = Vec::new(alloc);
     let mut rest = elements;
     while !is_end(rest) {
         let frame = next_frame(rest)?;
         let value = element_tree(alloc, &frame)?;
-        keep_pair(alloc, &mut pairs, frame.key, value)?;
+        take_pair(alloc, &mut document, &mut more, frame.key, value)?;
         rest = frame.rest;
     }
-    Ok(Document::from_pairs(alloc, pairs)?)
+    document.extend(more)?;
+    Ok(document)
 }
 
 /// The array of these elements, whatever their keys.

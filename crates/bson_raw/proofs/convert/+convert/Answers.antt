@@ -120,19 +120,22 @@ pub array_of-returns : goal.array_of-returns
 array_of-returns t c = items_done c.args.elements.now c.loop-rest.rest.now c.loop-rest.items.items c.loop-rest.invariant (c.is_end.ensures.0 (search rules))
 
 pub document_of-loop-rest-init : goal.document_of-loop-rest-init
-document_of-loop-rest-init t c = rw c.new-pairs.ensures.items (members_start c.args.elements.now)
+document_of-loop-rest-init t c = record {
+  read = rw (c.new-more.ensures.items, c.new-document.ensures) (members_start c.args.elements.now);
+  kept = λ h. c.new-more.ensures.items;
+}
 
 pub document_of-returns-in_err-frame : goal.document_of-returns-in_err-frame
 document_of-returns-in_err-frame t c =
     let p = err_from_is_err_and c.from_residual.result c.from_residual.ensures.1 in
     let more : c.loop-rest.rest.now ≢ 0 ∷ [] = λ is. untrue c.is_end.result c.loop-rest-test.true (c.is_end.ensures.1 is) in
-    rw (p.1, p.2) (no_frame c.args.elements.now c.loop-rest.rest.now c.in_err-frame.field-0.0 c.loop-rest.invariant.faults more c.in_err-frame.ensures)
+    rw (p.1, p.2) (no_frame c.args.elements.now c.loop-rest.rest.now c.in_err-frame.field-0.0 c.loop-rest.invariant.read.faults more c.in_err-frame.ensures)
 
 pub document_of-element_tree-requires : goal.document_of-element_tree-requires
 document_of-element_tree-requires t c =
     let e = element_of c.in_ok-frame.frame in
     let after = c.in_ok-frame.frame.rest.now in
-    (omega (arith, frame_longer c.loop-rest.rest.now e after c.in_ok-frame.ensures, c.loop-rest.invariant.shorter), c.payload_by_itself.ensures c.loop-rest.rest.now e after c.in_ok-frame.ensures)
+    (omega (arith, frame_longer c.loop-rest.rest.now e after c.in_ok-frame.ensures, c.loop-rest.invariant.read.shorter), c.payload_by_itself.ensures c.loop-rest.rest.now e after c.in_ok-frame.ensures)
 
 pub document_of-returns-in_err-value : goal.document_of-returns-in_err-value
 document_of-returns-in_err-value t c =
@@ -140,19 +143,26 @@ document_of-returns-in_err-value t c =
     let e = element_of c.in_ok-frame.frame in
     let after = c.in_ok-frame.frame.rest.now in
     let payload = c.payload_by_itself.ensures c.loop-rest.rest.now e after c.in_ok-frame.ensures in
-    rw (p.1, p.2) (faulty_element c.args.elements.now c.loop-rest.rest.now e after c.in_err-value.field-0.0 c.loop-rest.invariant.faults c.in_ok-frame.ensures (c.in_err-value.ensures payload))
+    rw (p.1, p.2) (faulty_element c.args.elements.now c.loop-rest.rest.now e after c.in_err-value.field-0.0 c.loop-rest.invariant.read.faults c.in_ok-frame.ensures (c.in_err-value.ensures payload))
 
 pub document_of-loop-rest-preserved : goal.document_of-loop-rest-preserved
 document_of-loop-rest-preserved t c =
     let e = element_of c.in_ok-frame.frame in
     let after = c.in_ok-frame.frame.rest.now in
     let v = c.in_ok-value.ensures (c.payload_by_itself.ensures c.loop-rest.rest.now e after c.in_ok-frame.ensures) in
-    let ps = put_all c.loop-rest.pairs.items [] in
+    let ps = put_all c.loop-rest.more.items (pairs_of c.loop-rest.document) in
     let tree = view c.in_ok-value.value in
-    members_more c.args.elements.now c.loop-rest.rest.now (members_of ps) (members_of (put_all c.keep_pair.new.pairs.items [])) e after v.0 c.loop-rest.invariant c.in_ok-frame.ensures v.1 v.2
-    (ap members_of c.in_ok-keep_pair.ensures ∙ members_of_put c.in_ok-frame.frame.key.now tree ps ∙ ap (λ u. put c.in_ok-frame.frame.key.now u (members_of ps)) v.3)
+    record {
+      read = members_more c.args.elements.now c.loop-rest.rest.now (members_of ps) (members_of (put_all c.take_pair.new.more.items (pairs_of c.take_pair.new.document))) e after v.0 c.loop-rest.invariant.read c.in_ok-frame.ensures v.1 v.2
+          (ap members_of c.in_ok-take_pair.ensures.taken ∙ members_of_put c.in_ok-frame.frame.key.now tree ps ∙ ap (λ u. put c.in_ok-frame.frame.key.now u (members_of ps)) v.3);
+      kept = c.in_ok-take_pair.ensures.kept;
+    }
+
+pub document_of-take_pair-requires : goal.document_of-take_pair-requires
+document_of-take_pair-requires t c = c.loop-rest.invariant.kept
 
 pub document_of-returns : goal.document_of-returns
 document_of-returns t c =
-    let done = members_done c.args.elements.now c.loop-rest.rest.now (members_of (put_all c.loop-rest.pairs.items [])) c.loop-rest.invariant (c.is_end.ensures.0 (search rules)) in
-    (done.0, done.1, ap members_of c.in_ok-from_pairs.ensures ∙ done.2)
+    let ps = put_all c.loop-rest.more.items (pairs_of c.loop-rest.document) in
+    let done = members_done c.args.elements.now c.loop-rest.rest.now (members_of ps) c.loop-rest.invariant.read (c.is_end.ensures.0 (search rules)) in
+    (done.0, done.1, ap members_of c.in_ok-extend.ensures.ok ∙ done.2)

@@ -1,6 +1,6 @@
-use Rattle.std.proofs.Common.{◌+◌, length, []}
+use Rattle.std.proofs.Common.{◌≡◌, ◌<◌, ◌+◌, length, []}
 use Rattle.bson_model.specs.Extend.{put_all}
-use Rattle.bson_model.specs.View.{members_of}
+use Rattle.bson_model.specs.View.{members_of, pairs_of}
 use Rattle.bson_raw.proofs.Converting.{inner_length}
 use Rattle.bson_raw.proofs.Progress.{MembersTo, ItemsTo}
 use Rattle.bson_raw.specs.View.{bytes_of}
@@ -22,7 +22,10 @@ abbrev pub decreases-scoped_of : goal.decreases-scoped_of
 decreases-scoped_of l = length (bytes_of l.value.scope)
 
 abbrev pub invariant-document_of-loop-rest : goal.invariant-document_of-loop-rest
-invariant-document_of-loop-rest l = MembersTo l.elements l.rest (members_of (put_all l.pairs.items []))
+invariant-document_of-loop-rest l = record {
+  read : MembersTo l.elements l.rest (members_of (put_all l.more.items (pairs_of l.document)));
+  kept : length (pairs_of l.document) < 64 → l.more.items ≡ [];
+}
 
 abbrev pub decreases-document_of-loop-rest : goal.decreases-document_of-loop-rest
 decreases-document_of-loop-rest l = length l.rest
