@@ -1,4 +1,4 @@
-"""Tells for each call how many levels of documents fit on a stack of 8 MB: python3 bench/levels.py PROGRAM. A call that ends the
+"""Tells for each call how many levels of documents fit on a stack of 8 MB: python3 -I bench/levels.py PROGRAM (-I since select.py lies beside it). A call that ends the
 process with a signal before it tells its line didn't fit; up to MOST levels are tried."""
 import resource
 import subprocess
