@@ -3,7 +3,7 @@ use Rattle.std.proofs.lemmas.Result.{err_from_is_err_and, on_ok_weaker}
 use Rattle.bson_model.specs.View.{pairs_of, members_of}
 use Rattle.bson_meaning.specs.declared.key.KeyError.TheVariants.{Memory}
 use Rattle.bson_meaning.proofs.KeyLaw.{key_law, key_exceeds, key_fits, key_long, key_within}
-use Rattle.bson_meaning.proofs.Turns.{untrue}
+use Rattle.bson_raw.proofs.Progress.{untrue}
 use Rattle.bson_meaning.proofs.key.meaning_key.Goals as goal
 
 pub returns-clause-fits : goal.returns-clause-fits
