@@ -20,4 +20,4 @@ returns-in-Ok-meaning_key c d kept w =
 pub returns : goal.returns
 returns c d kept w =
     alone_refused d (element_of c.args.id.now) kept w c.as_slice.result.now (members_of (pairs_of c.in_ok-document.document)) c.in-Err.error c.key_refusal.result (c.as_slice.ensures.value ∙ c.in-Ok.ensures)
-    c.in_ok-document.ensures c.key_refusal.ensures (λ e. c.in-Err.ensures.not_plain.0 (ap Err e)) (λ e. c.in-Err.ensures.too_long (ap Err e))
+    c.in_ok-document.ensures c.key_refusal.ensures (λ e. c.in-Err.ensures.not_plain.0 (ap Err e)) (λ e. (c.in-Err.ensures.too_long.0 (ap Err e)).1)
