@@ -22,5 +22,5 @@ pub mod Progress
 pub mod Held
 pub mod Heights
 pub mod Viewing
-mod PlainSame
-mod OneRefusal
+pub mod PlainSame
+pub mod OneRefusal

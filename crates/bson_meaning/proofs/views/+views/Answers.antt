@@ -5,7 +5,6 @@ use Rattle.bson_model.specs.View.{view, pairs_of, items_of, members_of}
 use Rattle.bson_model.specs.declared.bson.Bson.{Bson}
 use Rattle.bson_raw.specs.View.{left_of, parts_of}
 use Rattle.bson_raw.specs.Walk.{steps_from}
-use Rattle.bson_raw.specs.declared.element.RawElement.{RawElement}
 use Rattle.bson_meaning.specs.Views.{ComparesPayload}
 use Rattle.bson_meaning.proofs.Viewing.{compares_raw, members_none, members_many, members_other, members_more, members_end, members_wrong, items_longer, items_other, items_more, items_wrong, items_done, items_over, items_closed, number_length}
 use Rattle.bson_meaning.proofs.views.+views.Goals as goal
