@@ -1,6 +1,6 @@
 //! A program that tells how far an export gets where memory is refused: it fills a store in memory, takes memory as often as the
 //! number in its input says, and then exports to a writer that takes no memory. Under `rt try --fail-alloc N` that number decides
-//! which allocation of the export is refused, so that all of them can be tried with one build; `.ci/refused` does so.
+//! which allocation of the export is refused, so that all of them can be tried with one build; `.ci/refused_memory` does so.
 #![tactic(auto)]
 
 ghost use Rattle.std.specs.Prelude.{◌<◌, ◌^◌, ◌-◌};

@@ -1,6 +1,5 @@
 use Rattle.std.proofs.Common.{◌∷◌, [], length, ap, ◌∙◌, arith, length-append}
 use Rattle.std.specs.Vec.Iter.{into_iter_items}
-
 use Rattle.bson_store.specs.Calls.{held}
 use Rattle.bson_store.specs.declared.command.Reply.{Reply}
 use Rattle.bson_store.proofs.Going.{so_far_start, so_far_more, so_far_all, lists_moved}

@@ -1,4 +1,3 @@
-
 use Rattle.bson_store.proofs.import.judged.Goals as goal
 use Rattle.bson_bytes.proofs.Meant.{are_bytes}
 

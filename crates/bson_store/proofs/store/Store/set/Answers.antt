@@ -5,7 +5,6 @@ use Rattle.store_documents.specs.Names.{name_bytes}
 use Rattle.bson_model.specs.View.{view}
 use Rattle.store_laws.specs.State as model
 use Rattle.bson_store.proofs.Exits.{bad_moves, stays_moves, unlooked_moves, none_moves, there_moves, rewritten_moves, unchanged_moves}
-
 use Rattle.bson_table.specs.Rows.{replaced}
 use Rattle.serde_json.specs.View.{view as data_of}
 use Rattle.store_laws.specs.Reading.{read_value}

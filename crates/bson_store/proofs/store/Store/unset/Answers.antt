@@ -5,7 +5,6 @@ use Rattle.store_documents.specs.Names.{name_bytes}
 use Rattle.bson_model.specs.View.{view}
 use Rattle.store_laws.specs.State as model
 use Rattle.bson_store.proofs.Exits.{bad_moves, stays_moves, unlooked_moves, none_moves, there_moves, rewritten_moves, unchanged_moves}
-
 use Rattle.bson_table.specs.Rows.{replaced}
 use Rattle.bson_store.proofs.Setting.{unset_bad_key, unset_refused, unset_stays, unset_remakes}
 use Rattle.bson_store.proofs.store.Store.unset.Goals as goal
