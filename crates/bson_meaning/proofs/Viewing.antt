@@ -26,7 +26,6 @@ use Rattle.bson_meaning.specs.Meaning.{Same, SameItems, SameUnder}
 use Rattle.bson_meaning.specs.Sames.{HasKeysOf}
 use Rattle.bson_meaning.specs.Views.{ComparesPayload, shown, Shows, IsRest, IsItemsRest}
 use Rattle.bson_meaning.proofs.Comparing.{keys_under, same_documents}
-
 use Rattle.bson_meaning.proofs.Held.{scalar_apart}
 use Rattle.bson_meaning.proofs.Ordered.{equal_keys, same_key}
 use Rattle.bson_raw.proofs.Progress.{untrue}

@@ -4,7 +4,6 @@ use Rattle.bson_frame.specs.View.{element_of}
 use Rattle.bson_meaning.specs.Gate.{ReadsElements}
 use Rattle.bson_meaning.proofs.Progress.{progress_no_frame, progress_more}
 use Rattle.bson_meaning.proofs.Held.{element_fault, scalar_read, nests_zero, held_reads}
-
 use Rattle.bson_meaning.proofs.reading.+elements.Goals as goal
 use Rattle.bson_raw.proofs.Progress.{untrue}
 

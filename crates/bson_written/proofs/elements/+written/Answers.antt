@@ -5,7 +5,6 @@ use Rattle.std.specs.List.{list_any}
 use Rattle.std.specs.Str.{bytes_eq}
 use Rattle.bson_frame.specs.View.{element_of}
 use Rattle.bson_written.specs.Written.{AreAbsent, AreItemsWritten, AreWritten}
-
 use Rattle.bson_written.proofs.Turns.{absent_all_more, absent_front, end_absent_all, end_items_written, end_written, if_no_error, items_written_more, written_more}
 use Rattle.bson_written.proofs.Values.{all_behind, array_written, binary_written, document_written, scalar_written}
 use Rattle.bson_written.proofs.elements.+written.Goals as goal

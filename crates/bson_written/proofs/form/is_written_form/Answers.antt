@@ -1,6 +1,5 @@
 use Rattle.std.proofs.Common.{subst}
 use Rattle.bson_written.specs.Written.{AreWritten}
-
 use Rattle.bson_written.proofs.Values.{all_behind, form}
 use Rattle.bson_written.proofs.form.is_written_form.Goals as goal
 use Rattle.bson_bytes.proofs.Meant.{are_bytes}

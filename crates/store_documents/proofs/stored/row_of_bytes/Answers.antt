@@ -1,7 +1,6 @@
 use Rattle.std.proofs.lemmas.Result.{err_from_is_err_and}
 use Rattle.bson_bytes.specs.Spells.{settle}
 use Rattle.bson_model.specs.View.{members_of, pairs_of}
-
 use Rattle.store_documents.proofs.OfStored.{by_tree, meant, wants}
 use Rattle.store_documents.proofs.stored.row_of_bytes.Goals as goal
 use Rattle.bson_bytes.proofs.Meant.{are_bytes}
