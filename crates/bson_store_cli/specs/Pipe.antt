@@ -27,10 +27,6 @@ Tells line old new = ((new.failures ≡ old.failures) × Appends old.taken new.t
 
 -- ---- the document
 
-abbrev pub kind_of_reading : ReadAllError → ErrorKind
-kind_of_reading reading.Reader = Reader
-kind_of_reading reading.Memory = Memory
-
 -- all of the input was read, and it means the document
 abbrev pub ReadsDocument : Feed → Feed → Members → Type 0
 ReadsDocument old new d = (bytes : List ℕ) × TookAll old new bytes × ReadsBytes bytes (readable d)

@@ -5,7 +5,8 @@ ghost use Rattle.sqlite.specs.Steps.{over_memory};
 ghost use Rattle.store_laws.specs.declared.error.ErrorKind.TheVariants.{Memory, Database};
 ghost use Rattle.bson_table.specs.Moves.{Stands};
 ghost use Rattle.bson_store.specs.Calls.{held};
-ghost use Rattle.bson_store_cli.specs.Pipe.{kind_of_reading, KeepsInput, RefusesInput, Exchanges, Pipes};
+ghost use Rattle.bson_store.specs.Refusals.{kind_of_reading};
+ghost use Rattle.bson_store_cli.specs.Pipe.{KeepsInput, RefusesInput, Exchanges, Pipes};
 
 use bson_store::{ErrorKind, Sink, Source, Store};
 use sqlite::{Connection, MemStore};
