@@ -11,7 +11,7 @@ use Rattle.std.specs.List.{sum_by}
 use Rattle.std.specs.List.Sorted.{IsPermutation, IsSorted, IsNonDecreasing}
 use Rattle.std.specs.Ordering.{nat_cmp}
 use Rattle.bson_base.specs.Kinds.{NeverDescends}
-use Rattle.bson_base.specs.Options.{put_in_order, ascending, sorted_text}
+use Rattle.bson_base.specs.Options.{put_in_order, ascending_codes, sorted_text}
 
 and_left : (a b : Bool) → a && b ≡ true → a ≡ true
 and_left true b h = refl
@@ -73,9 +73,9 @@ count-put_in_order n c (d ∷ ds) =
     omega (arith, count-cons n d (put_in_order c ds), count-put_in_order n c ds, count-cons n c ds, count-cons n c (d ∷ ds), count-cons n d ds) in
     elim (leb c d) as (λ b. count n (cond b (c ∷ d ∷ ds) (d ∷ put_in_order c ds)) ≡ count n (c ∷ d ∷ ds)) [ true ↦ refl | false ↦ passed ]
 
-pub count-ascending : (n : ℕ) (cs : List ℕ) → count n (ascending cs) ≡ count n cs
+pub count-ascending : (n : ℕ) (cs : List ℕ) → count n (ascending_codes cs) ≡ count n cs
 count-ascending n [] = refl
-count-ascending n (c ∷ cs) = omega (arith, count-put_in_order n c (ascending cs), count-cons n c (ascending cs), count-cons n c cs, count-ascending n cs)
+count-ascending n (c ∷ cs) = omega (arith, count-put_in_order n c (ascending_codes cs), count-cons n c (ascending_codes cs), count-cons n c cs, count-ascending n cs)
 
 after_front : (c d e : ℕ) (es : List ℕ) → d ≤ c → d ≤ e → NeverDescends (put_in_order c (e ∷ es)) → NeverDescends (d ∷ put_in_order c (e ∷ es))
 after_front c d e es p q =
@@ -93,9 +93,9 @@ NeverDescends-put_in_order c (d ∷ e ∷ es) up =
     ]
     refl
 
-pub NeverDescends-ascending : (cs : List ℕ) → NeverDescends (ascending cs)
+pub NeverDescends-ascending : (cs : List ℕ) → NeverDescends (ascending_codes cs)
 NeverDescends-ascending [] = tt
-NeverDescends-ascending (c ∷ cs) = NeverDescends-put_in_order c (ascending cs) (NeverDescends-ascending cs)
+NeverDescends-ascending (c ∷ cs) = NeverDescends-put_in_order c (ascending_codes cs) (NeverDescends-ascending cs)
 
 pub never_descends : (xs : List ℕ) → IsNonDecreasing xs → NeverDescends xs
 never_descends [] up = tt
@@ -105,14 +105,14 @@ never_descends (x ∷ y ∷ ys) up =
     (up 0 1 0 (omega arith) (omega arith), never_descends (y ∷ ys) rest)
 
 -- what a sort leaves is the numbers in order
-pub ascending_from_sort : (xs ys : List ℕ) → IsPermutation xs ys → IsSorted nat_cmp ys → ys ≡ ascending xs
+pub ascending_from_sort : (xs ys : List ℕ) → IsPermutation xs ys → IsSorted nat_cmp ys → ys ≡ ascending_codes xs
 ascending_from_sort xs ys moved sorted =
-    same_order ys (ascending xs) (never_descends ys (IsNonDecreasingBy-from_sort (λ x. x) ys sorted)) (NeverDescends-ascending xs)
+    same_order ys (ascending_codes xs) (never_descends ys (IsNonDecreasingBy-from_sort (λ x. x) ys sorted)) (NeverDescends-ascending xs)
     (λ n. sum_by-IsPermutation (one_at n) xs ys moved ∙ sym (count-ascending n xs))
 
 -- numbers in order stay as they are
-pub ascending_stays : (cs : List ℕ) → NeverDescends cs → ascending cs ≡ cs
-ascending_stays cs up = same_order (ascending cs) cs (NeverDescends-ascending cs) up (λ n. count-ascending n cs)
+pub ascending_stays : (cs : List ℕ) → NeverDescends cs → ascending_codes cs ≡ cs
+ascending_stays cs up = same_order (ascending_codes cs) cs (NeverDescends-ascending cs) up (λ n. count-ascending n cs)
 
 pub scalars-put_in_order : (c : ℕ) (ds : List ℕ) → scalar c ≡ true → scalars ds ≡ true → scalars (put_in_order c ds) ≡ true
 scalars-put_in_order c [] one rest = grind (arith, common_steps, one)
@@ -122,14 +122,14 @@ scalars-put_in_order c (d ∷ ds) one rest =
     elim (leb c d) as (λ b. scalars (cond b (c ∷ d ∷ ds) (d ∷ put_in_order c ds)) ≡ true)
     [ true ↦ both (scalar c) (scalars (d ∷ ds)) one rest | false ↦ both (scalar d) (scalars (put_in_order c ds)) first others ]
 
-pub scalars-ascending : (cs : List ℕ) → scalars cs ≡ true → scalars (ascending cs) ≡ true
+pub scalars-ascending : (cs : List ℕ) → scalars cs ≡ true → scalars (ascending_codes cs) ≡ true
 scalars-ascending [] all = refl
 scalars-ascending (c ∷ cs) all =
-    scalars-put_in_order c (ascending cs) (and_left (scalar c) (scalars cs) all) (scalars-ascending cs (and_right (scalar c) (scalars cs) all))
+    scalars-put_in_order c (ascending_codes cs) (and_left (scalar c) (scalars cs) all) (scalars-ascending cs (and_right (scalar c) (scalars cs) all))
 
 pub sorted_text-in_order : (text : List ℕ) → IsUtf8 text → NeverDescends (chars (sorted_text text))
 sorted_text-in_order text utf =
-    subst NeverDescends (sym (chars-encodes (ascending (chars text)) (scalars-ascending (chars text) (scalars-chars text utf)))) (NeverDescends-ascending (chars text))
+    subst NeverDescends (sym (chars-encodes (ascending_codes (chars text)) (scalars-ascending (chars text) (scalars-chars text utf)))) (NeverDescends-ascending (chars text))
 
 pub sorted_text-kept : (text : List ℕ) → IsUtf8 text → NeverDescends (chars text) → sorted_text text ≡ text
 sorted_text-kept text utf up = ap encodes (ascending_stays (chars text) up) ∙ encodes-chars text utf

@@ -8,7 +8,7 @@ use Rattle.std.proofs.lemmas.Fmt.{decimal_by_steps_wide, length-decimal-le_wide}
 use Rattle.std.specs.Prelude.{IsTrue}
 use Rattle.bson_base.specs.Answer.{result_map}
 use Rattle.bson_base.proofs.DecimalBits.{unpack-pack}
-use Rattle.bson_base.specs.Decimal.{Decimal, not_a_number, infinity, finite, is_finite, IsUnpacked, pack, unpack, cut, is_e, is_dot, all_digits, value_after, value, strip, upward, downward, read_exponent, checked_digits, read_coefficient, ◌>>=◌, shorten, in_range, with_places, read_cut, read_number, read_unsigned, read, print, with_dot, exponent_text, is_plain, digits_text}
+use Rattle.bson_base.specs.Decimal.{Decimal, not_a_number, infinity, finite, is_finite, IsUnpacked, pack, unpack, cut, is_e, is_dot, all_digits, value_after, value, strip, upward, downward, read_exponent, checked_digits, read_coefficient, ◌>>=◌, shorten, in_range, with_places, read_cut, read_number, read_unsigned_decimal, read, print, with_dot, exponent_text, is_plain, digits_text}
 
 pub both : (a b : Bool) → a && b ≡ true → (a ≡ true) × (b ≡ true)
 both true b h = (refl, h)
@@ -332,7 +332,7 @@ begins-dotted (suc k) n ds rest d =
           begins-along (with_dot (suc k) ds) (48 ∷ 46 ∷ (replicate m 48 ++ ds)) rest (with_dot-before (suc k) ds (omega arith) before) front
     ]
 
-not_special : (s : Bool) (c : ℕ) (cs : List ℕ) → is_ascii_digit c ≡ true → read_unsigned s (c ∷ cs) ≡ result_map pack (read_number s (c ∷ cs))
+not_special : (s : Bool) (c : ℕ) (cs : List ℕ) → is_ascii_digit c ≡ true → read_unsigned_decimal s (c ∷ cs) ≡ result_map pack (read_number s (c ∷ cs))
 not_special s c cs h =
     let own : to_ascii_lowercase c ≡ c = grind arith in
     let n : (c == 110) ≡ false = grind arith in
@@ -340,7 +340,7 @@ not_special s c cs h =
     let i : (c == 105) ≡ false = grind arith in
     rw (own, n, z, i) refl
 
-unsigned_read : (c : ℕ) (cs : List ℕ) → is_ascii_digit c ≡ true → read (c ∷ cs) ≡ read_unsigned false (c ∷ cs)
+unsigned_read : (c : ℕ) (cs : List ℕ) → is_ascii_digit c ≡ true → read (c ∷ cs) ≡ read_unsigned_decimal false (c ∷ cs)
 unsigned_read c cs h =
     let plus : (c == 43) ≡ false = grind arith in
     let minus : (c == 45) ≡ false = grind arith in
@@ -358,7 +358,7 @@ begins-text c b wide =
 read_begun : (t : List ℕ) → Begins t → (read t ≡ result_map pack (read_number false t)) × (read (45 ∷ t) ≡ result_map pack (read_number true t))
 read_begun t b = (
   ap read b.whole ∙ unsigned_read b.head b.tail b.digit ∙ not_special false b.head b.tail b.digit ∙ ap (λ u. result_map pack (read_number false u)) (sym b.whole),
-  ap (read_unsigned true) b.whole ∙ not_special true b.head b.tail b.digit ∙ ap (λ u. result_map pack (read_number true u)) (sym b.whole),
+  ap (read_unsigned_decimal true) b.whole ∙ not_special true b.head b.tail b.digit ∙ ap (λ u. result_map pack (read_number true u)) (sym b.whole),
 )
 
 -- every printed finite decimal reads back to its sign, coefficient and exponent

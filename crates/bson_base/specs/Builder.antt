@@ -36,8 +36,8 @@ abbrev pub with_millisecond : {Y M D : Type 0} → DateTimeBuilder Y M D → ℕ
 with_millisecond b n = record b { millisecond = Some n }
 
 -- a part that wasn't told is 0
-abbrev pub told : Option ℕ → ℕ
-told part = unwrap_or part 0
+abbrev pub told_or_zero : Option ℕ → ℕ
+told_or_zero part = unwrap_or part 0
 
 -- the millisecond of the day
 unfoldable pub clock_of : ℕ → ℕ → ℕ → ℕ → Option ℕ
@@ -47,4 +47,4 @@ clock_of h m s ms =
 -- what is built: a day of the calendar from -9999 to 9999, and a time of day
 abbrev pub built : DateTimeBuilder Year Month Day → Result ℤ Error
 built b = valid (day_number b.year.0 b.month.0 b.day.0 >>= λ day.
-    clock_of (told b.hour) (told b.minute) (told b.second) (told b.millisecond) >>= λ clock. Some (day *ℤ pos 86_400_000 +ℤ pos clock))
+    clock_of (told_or_zero b.hour) (told_or_zero b.minute) (told_or_zero b.second) (told_or_zero b.millisecond) >>= λ clock. Some (day *ℤ pos 86_400_000 +ℤ pos clock))

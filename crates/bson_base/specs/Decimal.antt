@@ -8,11 +8,23 @@ use Rattle.bson_base.specs.Answer.{result_map}
 use Rattle.bson_base.specs.declared.decimal128.ParseError.{ParseError}
 use Rattle.bson_base.specs.declared.decimal128.ParseError.TheVariants.{EmptyExponent, InvalidExponent, InvalidCoefficient, Overflow, Underflow, InexactRounding}
 
+-- the digits of a coefficient
+abbrev pub digit_limit : ℕ
+digit_limit = 34
+
+-- what is added to an exponent in the 128 bits
+abbrev pub exponent_bias : ℕ
+exponent_bias = 6176
+
+-- the greatest exponent, with that bias
+abbrev pub greatest_exponent : ℕ
+greatest_exponent = 12287
+
 pub data Decimal : Type 0 where
   not_a_number : Decimal
   -- whether it is negative
   infinity : Bool → Decimal
-  -- whether it is negative, the coefficient, and the exponent with the bias of 6176
+  -- whether it is negative, the coefficient, and the exponent with its bias
   finite : Bool → ℕ → ℕ → Decimal
 
 -- ---- the 128 bits as a number
@@ -23,39 +35,39 @@ number_of [] = 0
 number_of (b ∷ bs) = b + 256 * number_of bs
 
 -- the first k bytes of a number, the lowest first
-abbrev pub bytes_of : ℕ → ℕ → List ℕ
-bytes_of zero n = []
-bytes_of (suc k) n = n % 256 ∷ bytes_of k (n / 256)
+abbrev pub low_bytes : ℕ → ℕ → List ℕ
+low_bytes zero n = []
+low_bytes (suc k) n = n % 256 ∷ low_bytes k (n / 256)
 
 -- its 16 bytes
 unfoldable pub sixteen_bytes : ℕ → List ℕ
-sixteen_bytes n = bytes_of 16 n
+sixteen_bytes n = low_bytes 16 n
 
 -- a coefficient over the limit counts as 0
 abbrev pub limited : ℕ → ℕ
 limited c = if nat_lt c (10 ^ 34) then c else 0
 
-abbrev pub is_negative : ℕ → Bool
-is_negative n = n / 2 ^ 127 == 1
+abbrev pub is_negative_decimal : ℕ → Bool
+is_negative_decimal n = n / 2 ^ 127 == 1
 
 unfoldable pub unpack : ℕ → Decimal
 unpack n =
-    if n / 2 ^ 123 % 16 == 15 then (if n / 2 ^ 122 % 2 == 1 then not_a_number else infinity (is_negative n))
-    else if n / 2 ^ 125 % 4 == 3 then finite (is_negative n) 0 (n / 2 ^ 111 % 2 ^ 14)
-    else finite (is_negative n) (limited (n % 2 ^ 113)) (n / 2 ^ 113 % 2 ^ 14)
+    if n / 2 ^ 123 % 16 == 15 then (if n / 2 ^ 122 % 2 == 1 then not_a_number else infinity (is_negative_decimal n))
+    else if n / 2 ^ 125 % 4 == 3 then finite (is_negative_decimal n) 0 (n / 2 ^ 111 % 2 ^ 14)
+    else finite (is_negative_decimal n) (limited (n % 2 ^ 113)) (n / 2 ^ 113 % 2 ^ 14)
 
-abbrev pub sign_bit : Bool → ℕ
-sign_bit s = if s then 2 ^ 127 else 0
+abbrev pub decimal_sign_bit : Bool → ℕ
+decimal_sign_bit s = if s then 2 ^ 127 else 0
 
 -- the first form; a NaN is quiet and positive
 abbrev pub pack : Decimal → ℕ
 pack not_a_number = 31 * 2 ^ 122
-pack (infinity s) = sign_bit s + 30 * 2 ^ 122
-pack (finite s c e) = sign_bit s + e * 2 ^ 113 + c
+pack (infinity s) = decimal_sign_bit s + 30 * 2 ^ 122
+pack (finite s c e) = decimal_sign_bit s + e * 2 ^ 113 + c
 
 -- a NaN with its sign, and whether it signals
 abbrev pub pack_nan : Bool → Bool → ℕ
-pack_nan s q = sign_bit s + 31 * 2 ^ 122 + (if q then 2 ^ 121 else 0)
+pack_nan s q = decimal_sign_bit s + 31 * 2 ^ 122 + (if q then 2 ^ 121 else 0)
 
 -- what every unpacked decimal is
 abbrev pub IsUnpacked : Decimal → Type 0
@@ -79,9 +91,9 @@ with_dot k ds =
     else if nat_le (length ds) k then 48 ∷ 46 ∷ (replicate (k - length ds) 48 ++ ds)
     else take (length ds - k) ds ++ 46 ∷ drop (length ds - k) ds
 
--- what stands behind `E`: the exponent of the first digit, which has the bias of 6176
+-- what stands behind `E`: the exponent of the first digit, which has the bias
 abbrev pub exponent_text : ℕ → List ℕ
-exponent_text x = if nat_le 6176 x then 43 ∷ decimal (x - 6176) else 45 ∷ decimal (6176 - x)
+exponent_text x = if nat_le exponent_bias x then 43 ∷ decimal (x - exponent_bias) else 45 ∷ decimal (exponent_bias - x)
 
 -- the first digit, and the others behind a dot
 abbrev pub mantissa : List ℕ → List ℕ
@@ -89,10 +101,10 @@ mantissa ds = with_dot (length ds - 1) ds
 
 -- an exponent of at most 0, and of the first digit of at least -6
 abbrev pub is_plain : ℕ → ℕ → Bool
-is_plain e d = nat_le e 6176 && nat_le 6176 (e + d + 5)
+is_plain e d = nat_le e exponent_bias && nat_le exponent_bias (e + d + 5)
 
 abbrev pub digits_text : ℕ → List ℕ → List ℕ
-digits_text e ds = if is_plain e (length ds) then with_dot (6176 - e) ds else mantissa ds ++ 69 ∷ exponent_text (e + length ds - 1)
+digits_text e ds = if is_plain e (length ds) then with_dot (exponent_bias - e) ds else mantissa ds ++ 69 ∷ exponent_text (e + length ds - 1)
 
 abbrev pub print : Decimal → List ℕ
 print not_a_number = codes "NaN"
@@ -103,7 +115,17 @@ print (finite s c e) = minus_if s ++ digits_text e (decimal c)
 abbrev pub decimal_text : List ℕ → List ℕ
 decimal_text bytes = print (unpack (number_of bytes))
 
--- ---- reading: an exponent has a bias of 65536 until it is in range
+-- ---- reading: an exponent has a bias of its own until it is in range, so that none is under 0
+
+abbrev pub reading_bias : ℕ
+reading_bias = 65536
+
+-- the least and the greatest exponent of a decimal, with that bias
+abbrev pub least_in_range : ℕ
+least_in_range = 59360
+
+abbrev pub greatest_in_range : ℕ
+greatest_in_range = 71647
 
 -- what stands before the first character that p finds, and what behind it
 abbrev pub cut : (ℕ → Bool) → List ℕ → List ℕ × Option (List ℕ)
@@ -149,13 +171,13 @@ abbrev pub ◌>>=◌ : {A B : Type 0} → Result A ParseError → (A → Result 
 -- the exponent: digits up to 32767, or below zero up to 32768
 
 abbrev pub upward : List ℕ → Result ℕ ParseError
-upward ds = if nat_lt 0 (length ds) && all_digits ds && nat_le (value ds) 32767 then Ok (65536 + value ds) else Err InvalidExponent
+upward ds = if nat_lt 0 (length ds) && all_digits ds && nat_le (value ds) 32767 then Ok (reading_bias + value ds) else Err InvalidExponent
 
 abbrev pub downward : List ℕ → Result ℕ ParseError
-downward ds = if nat_lt 0 (length ds) && all_digits ds && nat_le (value ds) 32768 then Ok (65536 - value ds) else Err InvalidExponent
+downward ds = if nat_lt 0 (length ds) && all_digits ds && nat_le (value ds) 32768 then Ok (reading_bias - value ds) else Err InvalidExponent
 
 abbrev pub read_exponent : Option (List ℕ) → Result ℕ ParseError
-read_exponent None = Ok 65536
+read_exponent None = Ok reading_bias
 read_exponent (Some []) = Err EmptyExponent
 read_exponent (Some (c ∷ cs)) = if c == 43 then upward cs else if c == 45 then downward cs else upward (c ∷ cs)
 
@@ -176,9 +198,9 @@ lift k ds x = if nat_lt 32767 (length ds - k) || nat_lt 98303 (x + (length ds - 
 unfoldable pub drop_tail : ℕ → List ℕ → ℕ → Result (List ℕ × ℕ) ParseError
 drop_tail k ds x = if all_zeros (drop k ds) then lift k ds x else Err InexactRounding
 
--- at most 34 digits, and the exponent that goes with them
+-- no more digits than there may be, and the exponent that goes with them
 abbrev pub shorten : List ℕ → ℕ → Result (List ℕ × ℕ) ParseError
-shorten ds x = if nat_le (length ds) 34 then Ok (ds, x) else drop_tail 34 ds x
+shorten ds x = if nat_le (length ds) digit_limit then Ok (ds, x) else drop_tail digit_limit ds x
 
 -- without the last m digits, which are zeros, and with the least exponent
 abbrev pub drop_last : Bool → List ℕ → ℕ → Result Decimal ParseError
@@ -187,25 +209,25 @@ drop_last s ds m =
     else if all_zeros (drop (length ds - m) ds) then Ok (finite s (value (take (length ds - m) ds)) 0)
     else Err InexactRounding
 
--- an exponent under -6176 drops digits
+-- an exponent under the least drops digits
 abbrev pub raise : Bool → List ℕ → ℕ → Result Decimal ParseError
-raise s ds x = if value ds == 0 then Ok (finite s 0 0) else drop_last s ds (59360 - x)
+raise s ds x = if value ds == 0 then Ok (finite s 0 0) else drop_last s ds (least_in_range - x)
 
 -- with m zeros more, and with the greatest exponent
 abbrev pub append_zeros : Bool → List ℕ → ℕ → Result Decimal ParseError
-append_zeros s ds m = if nat_le (length ds + m) 34 then Ok (finite s (value (ds ++ replicate m 48)) 12287) else Err Overflow
+append_zeros s ds m = if nat_le (length ds + m) digit_limit then Ok (finite s (value (ds ++ replicate m 48)) greatest_exponent) else Err Overflow
 
--- one over 6111 appends zeros
+-- one over the greatest appends zeros
 abbrev pub lower : Bool → List ℕ → ℕ → Result Decimal ParseError
-lower s ds x = if value ds == 0 then Ok (finite s 0 12287) else append_zeros s ds (x - 71647)
+lower s ds x = if value ds == 0 then Ok (finite s 0 greatest_exponent) else append_zeros s ds (x - greatest_in_range)
 
 abbrev pub in_range : Bool → List ℕ × ℕ → Result Decimal ParseError
 in_range s (ds, x) =
-    if nat_lt x 59360 then raise s ds x
-    else if nat_lt 71647 x then lower s ds x
-    else Ok (finite s (value ds) (x - 59360))
+    if nat_lt x least_in_range then raise s ds x
+    else if nat_lt greatest_in_range x then lower s ds x
+    else Ok (finite s (value ds) (x - least_in_range))
 
--- 34 digits, and an exponent from -6176 to 6111
+-- few enough digits, and an exponent in range
 abbrev pub fit : Bool → List ℕ → ℕ → Result Decimal ParseError
 fit s ds x = shorten ds x >>= in_range s
 
@@ -225,8 +247,8 @@ abbrev pub is_named : List ℕ → List ℕ → Bool
 is_named t name = bytes_eq (str_to_ascii_lowercase t) name
 
 -- a text behind its sign: the 128 bits
-abbrev pub read_unsigned : Bool → List ℕ → Result ℕ ParseError
-read_unsigned s t =
+abbrev pub read_unsigned_decimal : Bool → List ℕ → Result ℕ ParseError
+read_unsigned_decimal s t =
     if is_named t (codes "nan") then Ok (pack_nan s false)
     else if is_named t (codes "snan") then Ok (pack_nan s true)
     else if is_named t (codes "inf") || is_named t (codes "infinity") then Ok (pack (infinity s))
@@ -234,5 +256,5 @@ read_unsigned s t =
 
 -- the 128 bits that a text reads as
 abbrev pub read : List ℕ → Result ℕ ParseError
-read [] = read_unsigned false []
-read (c ∷ cs) = if c == 43 then read_unsigned false cs else if c == 45 then read_unsigned true cs else read_unsigned false (c ∷ cs)
+read [] = read_unsigned_decimal false []
+read (c ∷ cs) = if c == 43 then read_unsigned_decimal false cs else if c == 45 then read_unsigned_decimal true cs else read_unsigned_decimal false (c ∷ cs)

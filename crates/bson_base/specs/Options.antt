@@ -7,10 +7,10 @@ put_in_order c [] = c ∷ []
 put_in_order c (d ∷ ds) = if nat_le c d then c ∷ d ∷ ds else d ∷ put_in_order c ds
 
 -- the numbers ascending, each as often as it stands there
-abbrev pub ascending : List ℕ → List ℕ
-ascending [] = []
-ascending (c ∷ cs) = put_in_order c (ascending cs)
+abbrev pub ascending_codes : List ℕ → List ℕ
+ascending_codes [] = []
+ascending_codes (c ∷ cs) = put_in_order c (ascending_codes cs)
 
 -- the text with its characters ascending
 abbrev pub sorted_text : List ℕ → List ℕ
-sorted_text t = encode_utf8_all (ascending (chars t))
+sorted_text t = encode_utf8_all (ascending_codes (chars t))

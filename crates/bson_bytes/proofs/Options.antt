@@ -4,7 +4,7 @@ use Rattle.std.specs.Prelude.{IsUtf8, chars, nat_le, ◌&&◌, if◌then◌else�
 use Rattle.std.proofs.Math.Utf8.{scalars, encode, encodes}
 use Rattle.std.proofs.lemmas.Str.{encodes-chars, scalars-chars, encode_ascii}
 use Rattle.bson_base.specs.Kinds.{HasNo00}
-use Rattle.bson_base.specs.Options.{put_in_order, ascending, sorted_text}
+use Rattle.bson_base.specs.Options.{put_in_order, ascending_codes, sorted_text}
 use Rattle.bson_base.proofs.OptionsLemmas.{scalars-ascending}
 
 split : (a b : Bool) → a && b ≡ true → (a ≡ true) × (b ≡ true)
@@ -57,14 +57,14 @@ no_zero_put c (d ∷ ds) h k = by (nat_le c d) (no_zero_put c ds h k.1)
     by true rest = (h, k)
     by false rest = (k.0, rest)
 
-no_zero_ascending : (cs : List ℕ) → HasNo00 cs → HasNo00 (ascending cs)
+no_zero_ascending : (cs : List ℕ) → HasNo00 cs → HasNo00 (ascending_codes cs)
 no_zero_ascending [] h = tt
-no_zero_ascending (c ∷ cs) h = no_zero_put c (ascending cs) h.0 (no_zero_ascending cs h.1)
+no_zero_ascending (c ∷ cs) h = no_zero_put c (ascending_codes cs) h.0 (no_zero_ascending cs h.1)
 
 pub no_zero_sorted : (t : List ℕ) → IsUtf8 t → HasNo00 t → HasNo00 (sorted_text t)
-no_zero_sorted t utf h = no_zero_encodes (ascending (chars t)) (no_zero_ascending (chars t) (no_zero_characters (chars t) (subst HasNo00 (sym (encodes-chars t utf)) h)))
+no_zero_sorted t utf h = no_zero_encodes (ascending_codes (chars t)) (no_zero_ascending (chars t) (no_zero_characters (chars t) (subst HasNo00 (sym (encodes-chars t utf)) h)))
 
 -- ---- and it makes a text
 
 pub text_sorted : (t : List ℕ) → IsUtf8 t → IsUtf8 (sorted_text t)
-text_sorted t utf = (ascending (chars t), (scalars-ascending (chars t) (scalars-chars t utf), refl))
+text_sorted t utf = (ascending_codes (chars t), (scalars-ascending (chars t) (scalars-chars t utf), refl))

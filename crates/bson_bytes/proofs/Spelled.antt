@@ -14,7 +14,7 @@ use Rattle.bson_bytes.proofs.Parts.{each_part}
 use Rattle.bson_bytes.proofs.Scalars.{IsTold, scalar_sized, scalar_faultless, scalar_held, text_back, pointer_back}
 use Rattle.bson_frame.specs.declared.error.ErrorKind.{ErrorKind}
 use Rattle.bson_frame.specs.declared.error.ErrorKind.TheVariants.{MalformedValue, Utf8EncodingError, OutOfMemory}
-use Rattle.bson_frame.specs.Frame.{number, HasSize, IsCodeSize, IsTextSize, IsName}
+use Rattle.bson_frame.specs.Frame.{number, HasSize, IsCodeSize, IsTextSize, IsCstring}
 use Rattle.bson_frame.specs.Payload.{text_in, code_in, scope_in, IsEnvelope, CodeFault}
 use Rattle.bson_bytes.proofs.Options.{no_zero_both}
 
@@ -60,7 +60,7 @@ scoped_faultless t b h utf OutOfMemory fault = fault
 no_zero_digits : (i : ℕ) → i < 10 ^ 64 → HasNo00 (digits i)
 no_zero_digits i h = decimal_by_steps_wide (λ n ds. HasNo00 ds) (λ n small. (omega arith, tt)) (λ n ds more d. no_zero_both ds ((48 + n % 10) ∷ []) d (omega arith, tt)) i h
 
-pub digits_name : (i : ℕ) → i < 2 ^ 63 → IsName (digits i)
+pub digits_name : (i : ℕ) → i < 2 ^ 63 → IsCstring (digits i)
 digits_name i h = record { no_zero = no_zero_digits i (omega (arith, h)); text = IsUtf8-from_ascii (digits i) (IsAscii-decimal i (omega (arith, h))) }
 
 -- ---- elements

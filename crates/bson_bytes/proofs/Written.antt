@@ -7,7 +7,7 @@ use Rattle.bson_base.specs.Kinds.{IsPlain}
 use Rattle.bson_base.specs.Tags.{tag_byte}
 use Rattle.bson_base.specs.Value.{Value, value_kind, array, Items, item, no_items}
 use Rattle.bson_bytes.specs.Encode.{le32, ended, framed, scoped, text_bytes, value_bytes, value_size, items_bytes}
-use Rattle.bson_bytes.specs.Writing.{CanBeWritten, IsRefusal, Refuses, StartsWith}
+use Rattle.bson_bytes.specs.Writing.{CanBeWritten, IsWriteRefusal, RefusesWriting, StartsWith}
 use Rattle.bson_bytes.proofs.Extents.{framed_envelope}
 use Rattle.bson_frame.specs.Payload.{IsEnvelope}
 use Rattle.bson_bytes.proofs.Writing.{ItemsTo}
@@ -52,10 +52,10 @@ short_ok r v old whole after start s e n plain h =
 
 -- where put_length refuses, it is
 pub long_refused : (r : Result (Unit {0}) Error) (v : Value) (old whole after : List ℕ) (start : ℕ) → start ≡ length old → whole ≡ old ++ (room ++ after) → value_size v ≡ length after + 4
-    → IfErr r (λ e. IsBare MalformedValue e × (start + 2 ^ 31 ≤ length whole)) → IfErr r (IsRefusal (CanBeWritten v → ⊥))
+    → IfErr r (λ e. IsBare MalformedValue e × (start + 2 ^ 31 ≤ length whole)) → IfErr r (IsWriteRefusal (CanBeWritten v → ⊥))
 long_refused r v old whole after start s e n h =
     let l = ap length e in
-    let told : (f : Error) → IsBare MalformedValue f × (start + 2 ^ 31 ≤ length whole) → IsRefusal (CanBeWritten v → ⊥) f = λ f b.
+    let told : (f : Error) → IsBare MalformedValue f × (start + 2 ^ 31 ≤ length whole) → IsWriteRefusal (CanBeWritten v → ⊥) f = λ f b.
     let too_long : CanBeWritten v → ⊥ = λ can. omega (arith, can.1, b.1, s, l, n, length-append {A = ℕ} old (room ++ after)) in
     let is = b.0.0 in (rw is too_long, b.0.1) in
     IfErr-weaker r _ _ told h
@@ -84,10 +84,10 @@ pub next_item : (whole : Items) (xs : List Bson) (i : ℕ) (b : Bson) (begun out
     → ItemsTo whole i (item (view b) (items_of (map view (drop (i + 1) xs)))) begun out
 next_item whole xs i b begun out h is to = subst (λ vs. ItemsTo whole i vs begun out) (items_from xs i b h is) to
 
-pub item_refused : (whole rest : Items) (i : ℕ) (v : Value) (begun out : List ℕ) (e : Error) → ItemsTo whole i (item v rest) begun out → IsRefusal (CanBeWritten v → ⊥) e → IsRefusal (CanBeWritten (array whole) → ⊥) e
+pub item_refused : (whole rest : Items) (i : ℕ) (v : Value) (begun out : List ℕ) (e : Error) → ItemsTo whole i (item v rest) begun out → IsWriteRefusal (CanBeWritten v → ⊥) e → IsWriteRefusal (CanBeWritten (array whole) → ⊥) e
 item_refused whole rest i v begun out e to h = (weaker e.kind h.0, h.1)
   where
-    weaker : (kind : ErrorKind) → Refuses (CanBeWritten v → ⊥) kind → Refuses (CanBeWritten (array whole) → ⊥) kind
+    weaker : (kind : ErrorKind) → RefusesWriting (CanBeWritten v → ⊥) kind → RefusesWriting (CanBeWritten (array whole) → ⊥) kind
     weaker MalformedValue never = λ can. never ((to.back can.0).0, omega (arith, can.1, to.smaller))
     weaker Utf8EncodingError never = never
     weaker OutOfMemory never = tt

@@ -9,14 +9,14 @@ use Rattle.bson_frame.specs.declared.error.ErrorKind.TheVariants.{MalformedValue
 use Rattle.bson_frame.specs.View.{fault_key}
 
 -- what the kind of an error says where a tree is written
-abbrev pub Refuses : Type 0 → ErrorKind → Type 0
-Refuses Reason MalformedValue = Reason
-Refuses Reason Utf8EncodingError = ⊥
-Refuses Reason OutOfMemory = Unit {0}
+abbrev pub RefusesWriting : Type 0 → ErrorKind → Type 0
+RefusesWriting Reason MalformedValue = Reason
+RefusesWriting Reason Utf8EncodingError = ⊥
+RefusesWriting Reason OutOfMemory = Unit {0}
 
 -- MalformedValue for this reason alone, or want of memory; no key is told
-abbrev pub IsRefusal : Type 0 → Error → Type 0
-IsRefusal Reason e = Refuses Reason e.kind × (fault_key e ≡ None)
+abbrev pub IsWriteRefusal : Type 0 → Error → Type 0
+IsWriteRefusal Reason e = RefusesWriting Reason e.kind × (fault_key e ≡ None)
 
 -- the bytes from before stand in front
 abbrev pub StartsWith : List ℕ → List ℕ → Type 0

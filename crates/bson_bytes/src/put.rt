@@ -8,15 +8,12 @@ ghost use Rattle.bson_base.specs.Scalars.{id_bytes};
 ghost use Rattle.bson_base.specs.Tags.{tag_byte};
 ghost use Rattle.bson_base.specs.Value.{binary, regex, timestamp, db_pointer};
 ghost use Rattle.bson_bytes.specs.Encode.{le32, ended, inner, text_bytes, scalar_bytes, scalar_size};
-ghost use Rattle.bson_bytes.specs.Writing.{IsRefusal, StartsWith};
+ghost use Rattle.bson_bytes.specs.Writing.{IsWriteRefusal, StartsWith};
 ghost use Rattle.bson_frame.specs.View.{IsBare};
 ghost use Rattle.bson_frame.specs.declared.error.ErrorKind.TheVariants.{MalformedValue, OutOfMemory};
 
 use bson_base::{BinarySubtype, ElementType, ObjectId, Timestamp};
-use bson_frame::{Error, ErrorKind, Result};
-
-/// The greatest number of bytes that a length can tell: it is a signed number of 32 bits.
-pub(crate) const MAX: usize = 2147483647;
+use bson_frame::{Error, ErrorKind, LENGTH_LIMIT, Result};
 
 /// The refusal of a 00 where none may stand, or of too many bytes.
 pub(crate) fn refusal() -> Error
@@ -40,10 +37,10 @@ pub fn write_bytes(bytes: &[u8], out: &mut Vec<u8>) -> Result<()>
 pub fn write_text(text: &str, out: &mut Vec<u8>) -> Result<()>
     ensures ok { OnOk result (out.new.items ≡ out.old.items ++ text_bytes text.now) }
     ensures short { OnOk result (length text.now + 5 < 2 ^ 31) }
-    ensures refused { IfErr result (IsRefusal (2 ^ 31 ≤ length text.now + 5)) }
+    ensures refused { IfErr result (IsWriteRefusal (2 ^ 31 ≤ length text.now + 5)) }
     ensures kept { OnErr result (StartsWith out.new.items out.old.items) }
 {
-    if text.len() + 5 > MAX {
+    if text.len() + 5 > LENGTH_LIMIT {
         return Err(refusal());
     }
     let length = text.len() as u32 + 1;
@@ -64,7 +61,7 @@ fn has_no_zero(bytes: &[u8]) -> bool
 pub fn write_name(name: &str, out: &mut Vec<u8>) -> Result<()>
     ensures ok { OnOk result (out.new.items ≡ out.old.items ++ ended name.now) }
     ensures plain { OnOk result (HasNo00 name.now) }
-    ensures refused { IfErr result (IsRefusal (HasNo00 name.now → ⊥)) }
+    ensures refused { IfErr result (IsWriteRefusal (HasNo00 name.now → ⊥)) }
     ensures kept { OnErr result (StartsWith out.new.items out.old.items) }
 {
     if !has_no_zero(name.as_bytes()) {
@@ -80,7 +77,7 @@ pub fn write_name(name: &str, out: &mut Vec<u8>) -> Result<()>
 pub fn write_front(kind: ElementType, key: &str, out: &mut Vec<u8>) -> Result<()>
     ensures ok { OnOk result (out.new.items ≡ out.old.items ++ tag_byte kind ∷ ended key.now) }
     ensures plain { OnOk result (HasNo00 key.now) }
-    ensures refused { IfErr result (IsRefusal (HasNo00 key.now → ⊥)) }
+    ensures refused { IfErr result (IsWriteRefusal (HasNo00 key.now → ⊥)) }
     ensures kept { OnErr result (StartsWith out.new.items out.old.items) }
 {
     write_bytes(&[kind.tag()], out)?;
@@ -107,7 +104,7 @@ pub fn write_place(kind: ElementType, place: usize, out: &mut Vec<u8>) -> Result
 pub fn write_binary(subtype: BinarySubtype, bytes: &[u8], out: &mut Vec<u8>) -> Result<()>
     ensures ok { OnOk result (out.new.items ≡ out.old.items ++ scalar_bytes (binary subtype bytes.now)) }
     ensures short { OnOk result (scalar_size (binary subtype bytes.now) < 2 ^ 31) }
-    ensures refused { IfErr result (IsRefusal (2 ^ 31 ≤ scalar_size (binary subtype bytes.now))) }
+    ensures refused { IfErr result (IsWriteRefusal (2 ^ 31 ≤ scalar_size (binary subtype bytes.now))) }
     ensures kept { OnErr result (StartsWith out.new.items out.old.items) }
 {
     let front: usize = if subtype == BinarySubtype::BinaryOld {
@@ -115,7 +112,7 @@ pub fn write_binary(subtype: BinarySubtype, bytes: &[u8], out: &mut Vec<u8>) -> 
     } else {
         5
     };
-    if bytes.len() + front > MAX {
+    if bytes.len() + front > LENGTH_LIMIT {
         return Err(refusal());
     }
     let length = (bytes.len() + front - 5) as u32;
@@ -133,7 +130,7 @@ pub fn write_binary(subtype: BinarySubtype, bytes: &[u8], out: &mut Vec<u8>) -> 
 pub fn write_regex(pattern: &str, options: &str, out: &mut Vec<u8>) -> Result<()>
     ensures ok { OnOk result (out.new.items ≡ out.old.items ++ scalar_bytes (regex pattern.now options.now)) }
     ensures plain { OnOk result (IsPlainScalar (regex pattern.now options.now)) }
-    ensures refused { IfErr result (IsRefusal (IsPlainScalar (regex pattern.now options.now) → ⊥)) }
+    ensures refused { IfErr result (IsWriteRefusal (IsPlainScalar (regex pattern.now options.now) → ⊥)) }
     ensures kept { OnErr result (StartsWith out.new.items out.old.items) }
 {
     write_name(pattern, out)?;
@@ -156,7 +153,7 @@ pub fn write_timestamp(value: Timestamp, out: &mut Vec<u8>) -> Result<()>
 pub fn write_pointer(namespace: &str, id: ObjectId, out: &mut Vec<u8>) -> Result<()>
     ensures ok { OnOk result (out.new.items ≡ out.old.items ++ scalar_bytes (db_pointer namespace.now (id_bytes id))) }
     ensures short { OnOk result (length namespace.now + 5 < 2 ^ 31) }
-    ensures refused { IfErr result (IsRefusal (2 ^ 31 ≤ length namespace.now + 5)) }
+    ensures refused { IfErr result (IsWriteRefusal (2 ^ 31 ≤ length namespace.now + 5)) }
     ensures kept { OnErr result (StartsWith out.new.items out.old.items) }
 {
     write_text(namespace, out)?;
@@ -188,7 +185,7 @@ pub fn put_length(out: &mut Vec<u8>, start: usize) -> Result<()>
     ensures kept { OnErr result (out.new.items ≡ out.old.items) }
 {
     let length = out.len() - start;
-    if length > MAX {
+    if length > LENGTH_LIMIT {
         return Err(refusal());
     }
     put_number(out, start, length as u32);

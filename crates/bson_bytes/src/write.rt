@@ -4,16 +4,16 @@ ghost use Rattle.std.specs.Prelude.{◌≡◌, ◌+◌, ◌<◌, ◌≤◌, ◌^
 ghost use Rattle.bson_base.specs.Kinds.{HasNo00, IsPlain, IsPlainScalar};
 ghost use Rattle.bson_base.specs.Value.{array};
 ghost use Rattle.bson_bytes.specs.Encode.{value_bytes, value_size, items_bytes, items_size, members_bytes, members_size, encode, framed, scoped};
-ghost use Rattle.bson_bytes.specs.Writing.{CanBeWritten, IsRefusal, StartsWith};
+ghost use Rattle.bson_bytes.specs.Writing.{CanBeWritten, IsWriteRefusal, StartsWith};
 ghost use Rattle.bson_frame.specs.Payload.{IsEnvelope};
 ghost use Rattle.bson_model.specs.Trees.{document_tree, scoped_code_tree};
 ghost use Rattle.bson_model.specs.View.{view, pairs_of, items_of, members_of};
 
 use crate::put::{
-    MAX, put_length, refusal, write_binary, write_bytes, write_front, write_place, write_pointer,
+    put_length, refusal, write_binary, write_bytes, write_front, write_place, write_pointer,
     write_regex, write_text, write_timestamp,
 };
-use bson_frame::Result;
+use bson_frame::{LENGTH_LIMIT, Result};
 use bson_model::{Bson, Document, JavaScriptCodeWithScope};
 use std::alloc::Global;
 
@@ -23,7 +23,7 @@ use std::alloc::Global;
 fn put_value(value: &Bson, out: &mut Vec<u8>) -> Result<()>
     ensures ok { OnOk result (out.new.items ≡ out.old.items ++ value_bytes (view value.now)) }
     ensures plain { OnOk result (IsPlain (view value.now)) }
-    ensures refused { IfErr result (IsRefusal (CanBeWritten (view value.now) → ⊥)) }
+    ensures refused { IfErr result (IsWriteRefusal (CanBeWritten (view value.now) → ⊥)) }
     ensures kept { OnErr result (StartsWith out.new.items out.old.items) }
 {
     match value {
@@ -54,7 +54,7 @@ fn put_value(value: &Bson, out: &mut Vec<u8>) -> Result<()>
 pub fn write_document(document: &Document, out: &mut Vec<u8>) -> Result<()>
     ensures ok { OnOk result (out.new.items ≡ out.old.items ++ encode (members_of (pairs_of document.now))) }
     ensures fits { OnOk result (CanBeWritten (document_tree document.now)) }
-    ensures refused { IfErr result (IsRefusal (CanBeWritten (document_tree document.now) → ⊥)) }
+    ensures refused { IfErr result (IsWriteRefusal (CanBeWritten (document_tree document.now) → ⊥)) }
     ensures kept { OnErr result (StartsWith out.new.items out.old.items) }
 {
     let start = out.len();
@@ -72,7 +72,7 @@ pub fn write_document(document: &Document, out: &mut Vec<u8>) -> Result<()>
 pub fn write_scoped(code: &JavaScriptCodeWithScope, out: &mut Vec<u8>) -> Result<()>
     ensures ok { OnOk result (out.new.items ≡ out.old.items ++ value_bytes (scoped_code_tree code.now)) }
     ensures fits { OnOk result (CanBeWritten (scoped_code_tree code.now)) }
-    ensures refused { IfErr result (IsRefusal (CanBeWritten (scoped_code_tree code.now) → ⊥)) }
+    ensures refused { IfErr result (IsWriteRefusal (CanBeWritten (scoped_code_tree code.now) → ⊥)) }
     ensures kept { OnErr result (StartsWith out.new.items out.old.items) }
 {
     let start = out.len();
@@ -87,7 +87,7 @@ pub fn write_scoped(code: &JavaScriptCodeWithScope, out: &mut Vec<u8>) -> Result
 pub fn write_items(items: &[Bson], out: &mut Vec<u8>) -> Result<()>
     ensures ok { OnOk result (out.new.items ≡ out.old.items ++ framed (items_bytes 0 (items_of (map view items.now)))) }
     ensures fits { OnOk result (CanBeWritten (array (items_of (map view items.now)))) }
-    ensures refused { IfErr result (IsRefusal (CanBeWritten (array (items_of (map view items.now))) → ⊥)) }
+    ensures refused { IfErr result (IsWriteRefusal (CanBeWritten (array (items_of (map view items.now))) → ⊥)) }
     ensures kept { OnErr result (StartsWith out.new.items out.old.items) }
 {
     let start = out.len();
@@ -106,12 +106,12 @@ pub fn write_items(items: &[Bson], out: &mut Vec<u8>) -> Result<()>
 pub fn write_value(value: &Bson, out: &mut Vec<u8>) -> Result<()>
     ensures ok { OnOk result (out.new.items ≡ out.old.items ++ value_bytes (view value.now)) }
     ensures fits { OnOk result (CanBeWritten (view value.now)) }
-    ensures refused { IfErr result (IsRefusal (CanBeWritten (view value.now) → ⊥)) }
+    ensures refused { IfErr result (IsWriteRefusal (CanBeWritten (view value.now) → ⊥)) }
     ensures kept { OnErr result (StartsWith out.new.items out.old.items) }
 {
     let start = out.len();
     put_value(value, out)?;
-    if out.len() - start > MAX {
+    if out.len() - start > LENGTH_LIMIT {
         return Err(refusal());
     }
     Ok(())
@@ -123,7 +123,7 @@ pub fn encode_document(alloc: Global, document: &Document) -> Result<Vec<u8>>
     ensures ok { IfOk result (λ b. b.items ≡ encode (members_of (pairs_of document.now))) }
     ensures envelope { IfOk result (λ b. IsEnvelope b.items) }
     ensures fits { OnOk result (CanBeWritten (document_tree document.now)) }
-    ensures refused { IfErr result (IsRefusal (CanBeWritten (document_tree document.now) → ⊥)) }
+    ensures refused { IfErr result (IsWriteRefusal (CanBeWritten (document_tree document.now) → ⊥)) }
 {
     let mut out = Vec::new(alloc);
     write_document(document, &mut out)?;
@@ -135,7 +135,7 @@ pub fn encode_items(alloc: Global, items: &[Bson]) -> Result<Vec<u8>>
     ensures ok { IfOk result (λ b. b.items ≡ value_bytes (array (items_of (map view items.now)))) }
     ensures envelope { IfOk result (λ b. IsEnvelope b.items) }
     ensures fits { OnOk result (CanBeWritten (array (items_of (map view items.now)))) }
-    ensures refused { IfErr result (IsRefusal (CanBeWritten (array (items_of (map view items.now))) → ⊥)) }
+    ensures refused { IfErr result (IsWriteRefusal (CanBeWritten (array (items_of (map view items.now))) → ⊥)) }
 {
     let mut out = Vec::new(alloc);
     write_items(items, &mut out)?;

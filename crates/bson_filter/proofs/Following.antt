@@ -8,7 +8,7 @@ use Rattle.bson_raw.specs.declared.bson_ref.RawBsonRef.{RawBsonRef}
 use Rattle.bson_filter.specs.Filters.{path_of}
 use Rattle.bson_filter.specs.Views.{Encodes, ComesBack, Finds}
 use Rattle.bson_filter.proofs.Members.{pairs_back, found_back}
-use Rattle.store_laws.specs.Filter.{pairs, at, frames, place_of, Path}
+use Rattle.store_laws.specs.Filter.{pairs, at, frames, place_among, Path}
 
 -- what stands at the path stands at the rest of it in the value that the view is of
 pub record OnTheWay (whole : Value) (path rest : Path) (raw : RawBsonRef) (met : ℕ) : Type 0 where
@@ -25,7 +25,7 @@ onward whole path i key k raw met e h named way =
     let split : path_of (drop i path) ≡ string_bytes key ∷ path_of (drop (i + 1) path) = ap path_of (drop-cons path i key h) ∙ rw (← e, add-one) in
     subst (λ (r : Path). OnTheWay whole (path_of path) r raw met) (split ∙ ap (λ (x : List ℕ). x ∷ path_of (drop (i + 1) path)) (sym named)) way
 
-module _ (whole : Value) (path : Path) (raw : RawBsonRef) (met : ℕ) (k : List ℕ) (more : Path) (way : OnTheWay whole path (k ∷ more) raw met) (found : Option RawBsonRef) (finds : Finds found (look_up k (pairs way.value))) (n : ℕ) (count : n ≡ place_of k (pairs way.value)) where
+module _ (whole : Value) (path : Path) (raw : RawBsonRef) (met : ℕ) (k : List ℕ) (more : Path) (way : OnTheWay whole path (k ∷ more) raw met) (found : Option RawBsonRef) (finds : Finds found (look_up k (pairs way.value))) (n : ℕ) (count : n ≡ place_among k (pairs way.value)) where
   pub stopped : found ≡ None → at whole path ≡ None
   stopped e =
       let none : look_up k (pairs way.value) ≡ None = subst (λ (o : Option RawBsonRef). Finds o (look_up k (pairs way.value))) e finds in
@@ -34,13 +34,13 @@ module _ (whole : Value) (path : Path) (raw : RawBsonRef) (met : ℕ) (k : List 
   pub stopped_met : found ≡ None → met + n ≡ frames whole path
   stopped_met e =
       let none : look_up k (pairs way.value) ≡ None = subst (λ (o : Option RawBsonRef). Finds o (look_up k (pairs way.value))) e finds in
-      let c : frames whole path ≡ met + (place_of k (pairs way.value) + 0) = way.count ∙ ap (λ (o : Option Value). met + (place_of k (pairs way.value) + unwrap_or (option_map (λ w. frames w more) o) 0)) none in
+      let c : frames whole path ≡ met + (place_among k (pairs way.value) + 0) = way.count ∙ ap (λ (o : Option Value). met + (place_among k (pairs way.value) + unwrap_or (option_map (λ w. frames w more) o) 0)) none in
       omega (arith, c, count)
 
   pub stepped : (raw_next : RawBsonRef) → found ≡ Some raw_next → OnTheWay whole path more raw_next (met + n)
   stepped raw_next e =
       let there : Finds (Some raw_next) (look_up k (pairs way.value)) = subst (λ (o : Option RawBsonRef). Finds o (look_up k (pairs way.value))) e finds in
-      let c : frames whole path ≡ met + (place_of k (pairs way.value) + frames there.0 more) = way.count ∙ ap (λ (o : Option Value). met + (place_of k (pairs way.value) + unwrap_or (option_map (λ w. frames w more) o) 0)) there.1 in
+      let c : frames whole path ≡ met + (place_among k (pairs way.value) + frames there.0 more) = way.count ∙ ap (λ (o : Option Value). met + (place_among k (pairs way.value) + unwrap_or (option_map (λ w. frames w more) o) 0)) there.1 in
       record {
         value = there.0;
         encodes = there.2;

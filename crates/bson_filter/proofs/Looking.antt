@@ -11,7 +11,7 @@ use Rattle.bson_raw.specs.View.{parts_of}
 use Rattle.bson_raw.specs.Walk.{steps_from}
 use Rattle.bson_filter.specs.Views.{ComeBack, IsWrittenFor, FindsElement}
 use Rattle.bson_filter.proofs.Members.{next, none_left}
-use Rattle.store_laws.specs.Filter.{place_of}
+use Rattle.store_laws.specs.Filter.{place_among}
 
 -- these members are still to come
 abbrev pub IsAhead : Option (List ℕ) → Members → Type 0
@@ -57,7 +57,7 @@ pub record Progress (key : List ℕ) (whole : Members) (s : Option (List ℕ)) (
   pub ahead : IsAhead s rest
   pub back : ComeBack rest
   pub found : look_up key whole ≡ look_up key rest
-  pub place : place_of key whole ≡ met + place_of key rest
+  pub place : place_among key whole ≡ met + place_among key rest
 
 pub start : (key bytes : List ℕ) (whole : Members) (s : Option (List ℕ)) → bytes ≡ encode whole → s ≡ Some (drop 4 bytes) → ComeBack whole → Progress key whole s 0
 start key bytes whole s is from back = record {
@@ -75,14 +75,14 @@ module _ (key : List ℕ) (whole : Members) (s t : Option (List ℕ)) (met : ℕ
   looked : look_up key whole ≡ cond (bytes_eq key (parts_of x).key) (Some one.value) (look_up key one.more)
   looked = p.found ∙ ap (look_up key) one.is
 
-  counted : place_of key whole ≡ met + cond (bytes_eq key (parts_of x).key) 1 (suc (place_of key one.more))
-  counted = p.place ∙ ap (λ (ms : Members). met + place_of key ms) one.is
+  counted : place_among key whole ≡ met + cond (bytes_eq key (parts_of x).key) 1 (suc (place_among key one.more))
+  counted = p.place ∙ ap (λ (ms : Members). met + place_among key ms) one.is
 
   pub here : bytes_eq key (parts_of x).key ≡ true → FindsElement (Some x) (look_up key whole)
   here e = (one.value, looked ∙ ap (λ b. cond b (Some one.value) (look_up key one.more)) e, one.written)
 
-  pub here_met : bytes_eq key (parts_of x).key ≡ true → met + 1 ≡ place_of key whole
-  here_met e = sym (counted ∙ ap (λ b. met + cond b 1 (suc (place_of key one.more))) e)
+  pub here_met : bytes_eq key (parts_of x).key ≡ true → met + 1 ≡ place_among key whole
+  here_met e = sym (counted ∙ ap (λ b. met + cond b 1 (suc (place_among key one.more))) e)
 
   pub passed : bytes_eq key (parts_of x).key ≡ false → Progress key whole t (met + 1)
   passed e = record {
@@ -90,7 +90,7 @@ module _ (key : List ℕ) (whole : Members) (s t : Option (List ℕ)) (met : ℕ
     ahead = one.ahead;
     back = one.others;
     found = looked ∙ ap (λ b. cond b (Some one.value) (look_up key one.more)) e;
-    place = let n = counted ∙ ap (λ b. met + cond b 1 (suc (place_of key one.more))) e in omega (arith, n);
+    place = let n = counted ∙ ap (λ b. met + cond b 1 (suc (place_among key one.more))) e in omega (arith, n);
   }
 
 module _ (key : List ℕ) (whole : Members) (s t : Option (List ℕ)) (met : ℕ) (step : steps_from s None t) (p : Progress key whole s met) where
@@ -100,8 +100,8 @@ module _ (key : List ℕ) (whole : Members) (s t : Option (List ℕ)) (met : ℕ
   pub nowhere : look_up key whole ≡ None
   nowhere = p.found ∙ ap (look_up key) over
 
-  pub all_met : met ≡ place_of key whole
-  all_met = let n = p.place ∙ ap (λ (ms : Members). met + place_of key ms) over in omega (arith, n)
+  pub all_met : met ≡ place_among key whole
+  all_met = let n = p.place ∙ ap (λ (ms : Members). met + place_among key ms) over in omega (arith, n)
 
 -- ---- how many bytes there are
 

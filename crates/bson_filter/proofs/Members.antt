@@ -12,16 +12,16 @@ use Rattle.bson_frame.specs.Frame.{Element, IsFirstFrame, HasNoFrame}
 use Rattle.bson_frame.specs.Payload.{IsEnvelope}
 use Rattle.bson_frame.proofs.Frames.{frame_is_one}
 use Rattle.bson_filter.specs.Views.{ComesBack, ComeBack, IsWrittenFor}
-use Rattle.store_laws.specs.Filter.{keyed, pairs, at, Path}
+use Rattle.store_laws.specs.Filter.{under_places, pairs, at, Path}
 
 -- ---- the pairs of a value
 
-keyed_bytes : (i : ℕ) (vs : Items) → members_bytes (keyed i vs) ≡ items_bytes i vs
+keyed_bytes : (i : ℕ) (vs : Items) → members_bytes (under_places i vs) ≡ items_bytes i vs
 keyed_bytes i no_items = refl
 keyed_bytes i (item v vs) = ap (λ (x : List ℕ). tag_byte (value_kind v) ∷ (ended (digits i) ++ (value_bytes v ++ x))) (keyed_bytes (suc i) vs)
 
 -- an array is written as the document of its pairs
-pub array_bytes_pairs : (vs : Items) → value_bytes (array vs) ≡ encode (keyed 0 vs)
+pub array_bytes_pairs : (vs : Items) → value_bytes (array vs) ≡ encode (under_places 0 vs)
 array_bytes_pairs vs = ap framed (sym (keyed_bytes 0 vs))
 
 members_back : (ms : Members) → EachMember HasNo00 IsCleanPart ms → EachMember IsUtf8 IsRangedScalar ms → MembersHaveDistinctKeys ms → members_size ms < 2 ^ 31 → ComeBack ms
@@ -32,7 +32,7 @@ members_back (member k v ms) clean ranged distinct short = (
   members_back ms clean.2 ranged.2 distinct.2 (omega (arith, short)),
 )
 
-items_back : (i : ℕ) (vs : Items) → EachItem HasNo00 IsCleanPart vs → EachItem IsUtf8 IsRangedScalar vs → ItemsHaveDistinctKeys vs → items_size i vs < 2 ^ 31 → i + items_size i vs < 2 ^ 32 → ComeBack (keyed i vs)
+items_back : (i : ℕ) (vs : Items) → EachItem HasNo00 IsCleanPart vs → EachItem IsUtf8 IsRangedScalar vs → ItemsHaveDistinctKeys vs → items_size i vs < 2 ^ 31 → i + items_size i vs < 2 ^ 32 → ComeBack (under_places i vs)
 items_back i no_items clean ranged distinct short small = tt
 items_back i (item v vs) clean ranged distinct short small = (
   digits_name i (omega (arith, small)),

@@ -6,7 +6,7 @@ use Rattle.std.proofs.Math.Seq.{drop-cons}
 use Rattle.bson_base.specs.declared.spec.ElementType.{ElementType}
 use Rattle.bson_base.specs.Value.{Value, value_kind, HasDistinctKeys}
 use Rattle.bson_meaning.specs.Meaning.{Same}
-use Rattle.bson_meaning.specs.Views.{Shows}
+use Rattle.bson_meaning.specs.Views.{ShowsValue}
 use Rattle.bson_raw.specs.declared.bson_ref.RawBsonRef.{RawBsonRef}
 use Rattle.bson_raw.specs.Value.{kind_of}
 use Rattle.bson_filter.specs.declared.filter.Filter.{Filter}
@@ -23,7 +23,7 @@ asked_found b P o v e h = subst (λ (x : Option Value). IsTrue b ↔ IsSomeAnd x
 pub asked_nothing : (P : Value → Type 0) (o : Option Value) → o ≡ None → IsTrue false ↔ IsSomeAnd o P
 asked_nothing P o e = subst (λ (x : Option Value). IsTrue false ↔ IsSomeAnd x P) (sym e) (λ h. absurd cc, λ h. absurd h)
 
-pub means_same : (b : Bool) (raw : RawBsonRef) (d w : Value) (path : Path) → ComesBack d → Finds (Some raw) (at d path) → ((v : Value) → Shows raw v → HasDistinctKeys v → IsTrue b ↔ Same v w)
+pub means_same : (b : Bool) (raw : RawBsonRef) (d w : Value) (path : Path) → ComesBack d → Finds (Some raw) (at d path) → ((v : Value) → ShowsValue raw v → HasDistinctKeys v → IsTrue b ↔ Same v w)
     → IsTrue b ↔ IsSomeAnd (at d path) (λ v. Same v w)
 means_same b raw d w path back f told =
     let there = at_back path d f.0 back f.1 in

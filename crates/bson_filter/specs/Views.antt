@@ -3,7 +3,7 @@ use Rattle.std.specs.Prelude.{◌≡◌, ℕ, ◌-◌, ◌<◌, ◌^◌, List, l
 use Rattle.bson_base.specs.Kinds.{IsClean, IsSound}
 use Rattle.bson_base.specs.Value.{Value, scalar, array, document, scoped_code, Items, Members, no_members, member, value_kind}
 use Rattle.bson_bytes.specs.Encode.{encode, value_bytes, value_size}
-use Rattle.bson_frame.specs.Frame.{Element, IsName}
+use Rattle.bson_frame.specs.Frame.{Element, IsCstring}
 use Rattle.bson_meaning.specs.Views.{shown}
 use Rattle.bson_raw.specs.View.{bytes_of, array_bytes, parts_of}
 use Rattle.bson_raw.specs.declared.bson_ref.RawBsonRef.{RawBsonRef}
@@ -39,7 +39,7 @@ pub record ComesBack (v : Value) : Type 0 where
 -- members of such values, under keys that are names
 abbrev pub ComeBack : Members → Type 0
 ComeBack no_members = Unit {0}
-ComeBack (member k v ms) = IsName k × ComesBack v × ComeBack ms
+ComeBack (member k v ms) = IsCstring k × ComesBack v × ComeBack ms
 
 -- the view is of a value without pairs, or the document has the pairs of the value
 abbrev pub HoldsPairs : Option RawDocument → Value → Type 0

@@ -6,7 +6,7 @@ ghost use Rattle.bson_bytes.specs.Encode.{encode};
 ghost use Rattle.bson_raw.specs.View.{bytes_of, parts_of};
 ghost use Rattle.bson_filter.specs.Filters.{path_of};
 ghost use Rattle.bson_filter.specs.Views.{ComeBack, ComesBack, document_room, Encodes, Finds, FindsElement, HoldsPairs, IsWrittenFor, OfWritten, room, room_of, taken};
-ghost use Rattle.store_laws.specs.Filter.{at, frames, pairs, place_of};
+ghost use Rattle.store_laws.specs.Filter.{at, frames, pairs, place_among};
 
 use bson_raw::laws::payload_of_an_element;
 use bson_raw::{RawBsonRef, RawDocument, RawElement};
@@ -38,7 +38,7 @@ pub fn look_up<'a>(document: RawDocument<'a>, path: &[String]) -> (Option<RawBso
 /// One step of a path: the value under the key, and how many elements were met.
 fn look_in<'a>(value: RawBsonRef<'a>, key: &str) -> (Option<RawBsonRef<'a>>, u64)
     ensures found { (v : Value) → Encodes value.entry v → ComesBack v → Finds result.0 (member_under key.now (pairs v)) }
-    ensures met { (v : Value) → Encodes value.entry v → ComesBack v → result.1 ≡ place_of key.now (pairs v) }
+    ensures met { (v : Value) → Encodes value.entry v → ComesBack v → result.1 ≡ place_among key.now (pairs v) }
     ensures few { 2 * result.1 + room_of result.0 ≤ room value.entry }
 {
     let Some(document) = elements_of(value) else {
@@ -66,7 +66,7 @@ fn elements_of(value: RawBsonRef<'_>) -> Option<RawDocument<'_>>
 /// The first element with the key, and how many elements were met.
 fn find<'a>(document: RawDocument<'a>, key: &str) -> (Option<RawElement<'a>>, u64)
     ensures found { (ms : Members) → bytes_of document.entry ≡ encode ms → ComeBack ms → FindsElement result.0 (member_under key.now ms) }
-    ensures met { (ms : Members) → bytes_of document.entry ≡ encode ms → ComeBack ms → result.1 ≡ place_of key.now ms }
+    ensures met { (ms : Members) → bytes_of document.entry ≡ encode ms → ComeBack ms → result.1 ≡ place_among key.now ms }
     ensures few { 2 * result.1 + 4 + taken result.0 ≤ length (bytes_of document.entry) }
 {
     let mut met = 0;

@@ -12,7 +12,7 @@ use Rattle.bson_base.specs.Tags.{tag_byte}
 use Rattle.bson_base.specs.Kinds.{HasNo00}
 use Rattle.bson_frame.specs.declared.error.ErrorKind.{ErrorKind}
 use Rattle.bson_frame.specs.declared.error.ErrorKind.TheVariants.{MalformedValue, Utf8EncodingError, OutOfMemory}
-use Rattle.bson_frame.specs.Frame.{number, IsName, IsTextSize, IsDocumentSize, IsBinarySize, IsCodeSize, IsPointerSize, IsRegexSize, HasSize, Element, IsFirstFrame, IsStructuralFault}
+use Rattle.bson_frame.specs.Frame.{number, IsCstring, IsTextSize, IsDocumentSize, IsBinarySize, IsCodeSize, IsPointerSize, IsRegexSize, HasSize, Element, IsFirstFrame, IsStructuralFault}
 use Rattle.bson_frame.specs.Reader.{NameFault, IsNeverWhole, RegexFault, SizeFault}
 use Rattle.bson_frame.proofs.Names.{no_pattern, no_options}
 use Rattle.bson_frame.proofs.Frames.{nothing, no_key, unknown_tag, no_size}
@@ -34,7 +34,7 @@ pub record NameAt (bytes : List ℕ) : Type 0 where
   pub name : List ℕ
   pub rest : List ℕ
   pub parts : bytes ≡ name ++ 0 ∷ rest
-  pub is_name : IsName name
+  pub is_name : IsCstring name
 
 run_behind : (b : ℕ) (bytes : List ℕ) → RunAt bytes ⊎ HasNo00 bytes → RunAt (suc b ∷ bytes) ⊎ HasNo00 (suc b ∷ bytes)
 run_behind b bytes (inl r) = inl (record { run = suc b ∷ r.run; rest = r.rest; parts = ap (λ (x : List ℕ). suc b ∷ x) r.parts; no_zero = (omega arith, r.no_zero) })

@@ -7,7 +7,7 @@ use Rattle.bson_base.specs.Tags.{tag_byte}
 use Rattle.bson_frame.specs.declared.error.ErrorKind.{ErrorKind}
 use Rattle.bson_frame.specs.declared.error.ErrorKind.TheVariants.{MalformedValue, Utf8EncodingError, OutOfMemory}
 use Rattle.bson_base.specs.Kinds.{HasNo00}
-use Rattle.bson_frame.specs.Frame.{IsName, IsRegexSize, HasSize, Element, IsFirstFrame, HasNoFrame, HasNoTextInRegex, HasNoTextInPlace, IsStructuralFault}
+use Rattle.bson_frame.specs.Frame.{IsCstring, IsRegexSize, HasSize, Element, IsFirstFrame, HasNoFrame, HasNoTextInRegex, HasNoTextInPlace, IsStructuralFault}
 use Rattle.bson_frame.specs.Reader.{NameFault, IsNeverWhole, SizeFault}
 use Rattle.bson_frame.proofs.Tags.{tag_from_byte}
 use Rattle.bson_frame.proofs.Names.{no_run, no_name, rest_is_one, name_is_one}
@@ -44,18 +44,18 @@ no_key b after Utf8EncodingError t = record {
 }
 no_key b after OutOfMemory h = absurd h
 
-unknown_text : (b : ℕ) (key value : List ℕ) → IsName key → ((tag : ElementType) → tag_byte tag ≢ b) → HasNoTextInPlace (b ∷ (key ++ 0 ∷ value)) → ⊥
+unknown_text : (b : ℕ) (key value : List ℕ) → IsCstring key → ((tag : ElementType) → tag_byte tag ≢ b) → HasNoTextInPlace (b ∷ (key ++ 0 ∷ value)) → ⊥
 unknown_text b key value n h (inl t) = no_name (key ++ 0 ∷ value) key value t n refl
 unknown_text b key value n h (inr t) = h kinds.RegularExpression (sym t.is_regex)
 
-pub unknown_tag : (b : ℕ) (after key value : List ℕ) → IsName key → after ≡ key ++ 0 ∷ value → ((tag : ElementType) → tag_byte tag ≢ b) → IsStructuralFault (b ∷ after) MalformedValue
+pub unknown_tag : (b : ℕ) (after key value : List ℕ) → IsCstring key → after ≡ key ++ 0 ∷ value → ((tag : ElementType) → tag_byte tag ≢ b) → IsStructuralFault (b ∷ after) MalformedValue
 unknown_tag b after key value n e h = record {
   no_frame = λ f r first. h f.tag (sym (tag_is b after f r first));
   reason = λ t. unknown_text b key value n h (subst (λ (x : List ℕ). HasNoTextInPlace (b ∷ x)) e t);
 }
 
 -- what a first frame says of a value behind a key
-module _ (b : ℕ) (after key value : List ℕ) (tag : ElementType) (n : IsName key) (e : after ≡ key ++ 0 ∷ value) (t : tag_byte tag ≡ b) where
+module _ (b : ℕ) (after key value : List ℕ) (tag : ElementType) (n : IsCstring key) (e : after ≡ key ++ 0 ∷ value) (t : tag_byte tag ≡ b) where
   same_value : (f : Element) (r : List ℕ) → IsFirstFrame (b ∷ after) f r → value ≡ f.payload ++ r
   same_value f r first = rest_is_one after key f.key value (f.payload ++ r) n first.key_name e (after_tag b after f r first)
 

@@ -8,12 +8,20 @@ use Rattle.bson_base.specs.Kinds.{HasNo00}
 use Rattle.bson_frame.specs.declared.error.ErrorKind.{ErrorKind}
 use Rattle.bson_frame.specs.declared.error.ErrorKind.TheVariants.{MalformedValue, Utf8EncodingError, OutOfMemory}
 
+-- the greatest number of bytes that a length tells, since it is a signed number of 32 bits (bsonspec.org 1.1, "int32")
+abbrev pub length_limit : ℕ
+length_limit = 2147483647
+
+-- the greatest number of bytes of a document that is taken from a reader, tested or kept: 16 MiB
+abbrev pub size_limit : ℕ
+size_limit = 16777216
+
 -- the number in the first four bytes, the lowest first
 abbrev pub number : List ℕ → ℕ
 number bytes = from_le_bytes w32 bytes
 
 -- a key, a pattern or options, without the 00 behind it: a text without 00 (bsonspec.org 1.1, "cstring")
-pub record IsName (run : List ℕ) : Type 0 where
+pub record IsCstring (run : List ℕ) : Type 0 where
   pub no_zero : HasNo00 run
   pub text : IsUtf8 run
 
@@ -55,8 +63,8 @@ pub record IsRegexSize (bytes : List ℕ) (size : ℕ) : Type 0 where
   pub options : List ℕ
   pub rest : List ℕ
   pub parts : bytes ≡ pattern ++ 0 ∷ (options ++ 0 ∷ rest)
-  pub pattern_name : IsName pattern
-  pub options_name : IsName options
+  pub pattern_name : IsCstring pattern
+  pub options_name : IsCstring options
   pub declared : size ≡ length pattern + length options + 2
 
 -- a payload of this kind at the front of bytes takes size bytes
@@ -92,7 +100,7 @@ pub record Element : Type 0 where
 -- bytes begin with the element, and this follows it
 pub record IsFirstFrame (bytes : List ℕ) (e : Element) (rest : List ℕ) : Type 0 where
   pub parts : bytes ≡ tag_byte e.tag ∷ (e.key ++ 0 ∷ (e.payload ++ rest))
-  pub key_name : IsName e.key
+  pub key_name : IsCstring e.key
   pub size : HasSize e.tag (e.payload ++ rest) (length e.payload)
 
 abbrev pub HasNoFrame : List ℕ → Type 0
@@ -113,7 +121,7 @@ pub record NameThenNoText (bytes : List ℕ) : Type 0 where
   pub name : List ℕ
   pub rest : List ℕ
   pub parts : bytes ≡ name ++ 0 ∷ rest
-  pub is_name : IsName name
+  pub is_name : IsCstring name
   pub then : StartsWithNoText rest
 
 -- the pattern, or the options behind it, aren't UTF-8
@@ -125,7 +133,7 @@ pub record HasNoTextBehindKey (tag : ℕ) (bytes : List ℕ) : Type 0 where
   pub key : List ℕ
   pub rest : List ℕ
   pub parts : bytes ≡ key ++ 0 ∷ rest
-  pub is_name : IsName key
+  pub is_name : IsCstring key
   pub is_regex : tag ≡ tag_byte kinds.RegularExpression
   pub then : HasNoTextInRegex rest
 

@@ -2,7 +2,7 @@
 
 ghost use Rattle.std.specs.Prelude.{◌≡◌, ◌<◌, ◌≤◌, ◌^◌, ◌++◌, ◌∷◌, ◌⊎◌, length, MatchOption, MatchResult};
 ghost use Rattle.bson_base.specs.Kinds.{HasNo00};
-ghost use Rattle.bson_frame.specs.Frame.{number, IsName, IsTextSize, IsDocumentSize, IsBinarySize, IsCodeSize, IsPointerSize, IsRegexSize, HasSize};
+ghost use Rattle.bson_frame.specs.Frame.{number, IsCstring, IsTextSize, IsDocumentSize, IsBinarySize, IsCodeSize, IsPointerSize, IsRegexSize, HasSize};
 ghost use Rattle.bson_frame.specs.Reader.{NameFault, IsWhole, IsNeverWhole, GivesSize, RegexFault, SizeFault};
 ghost use Rattle.bson_frame.specs.declared.error.ErrorKind.TheVariants.{MalformedValue};
 
@@ -26,7 +26,7 @@ fn split_at_zero(bytes: &[u8]) -> Option<(&[u8], &[u8])>
 /// `Utf8EncodingError` if the bytes up to the first 00 aren't UTF-8, and `MalformedValue` if there is no 00.
 pub fn name_at(bytes: &[u8]) -> Result<(&str, &[u8]), ErrorKind>
     ensures { MatchResult result
-        (λ r. IsName r.0.now × (bytes.now ≡ r.0.now ++ 0 ∷ r.1.now)) (NameFault bytes.now) }
+        (λ r. IsCstring r.0.now × (bytes.now ≡ r.0.now ++ 0 ∷ r.1.now)) (NameFault bytes.now) }
 {
     let Some((run, rest)) = split_at_zero(bytes) else {
         return Err(ErrorKind::MalformedValue);

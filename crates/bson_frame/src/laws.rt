@@ -1,7 +1,7 @@
 //! Laws of frames.
 
 ghost use Rattle.std.specs.Prelude.{◌≡◌, ◌⊎◌, ◌++◌, ◌∷◌, ◌↔◌, IsTrue, List, ℕ};
-ghost use Rattle.bson_frame.specs.Frame.{IsFirstFrame, IsStructuralFault, Element, IsName};
+ghost use Rattle.bson_frame.specs.Frame.{IsFirstFrame, IsStructuralFault, Element, IsCstring};
 ghost use Rattle.bson_frame.specs.Payload.{IsPayload};
 ghost use Rattle.bson_frame.specs.View.{asked_key, element_of, fault_key, reason_of};
 ghost use Rattle.bson_frame.specs.declared.error.Error.{Error as AnyError};
@@ -37,7 +37,7 @@ pub fn payload_by_itself()
 
 /// Bytes have at most one name in front.
 pub fn one_name()
-    ensures { (a b x y : List ℕ) → IsName a → IsName b → a ++ 0 ∷ x ≡ b ++ 0 ∷ y → (a ≡ b) × (x ≡ y) }
+    ensures { (a b x y : List ℕ) → IsCstring a → IsCstring b → a ++ 0 ∷ x ≡ b ++ 0 ∷ y → (a ≡ b) × (x ≡ y) }
 {}
 
 /// Errors are equal where they tell the same: the kind, the key and what was found there.

@@ -7,6 +7,7 @@ pub mod error;
 mod extent;
 mod first;
 pub mod laws;
+mod limits;
 mod parts;
 mod payload;
 
@@ -15,5 +16,6 @@ pub use error::{
 };
 pub use extent::name_at;
 pub use first::{frame, is_end, sized_frame};
+pub use limits::{LENGTH_LIMIT, SIZE_LIMIT};
 pub use parts::Frame;
 pub use payload::{is_envelope, payload_fault, text_at};

@@ -6,7 +6,7 @@ use Rattle.std.proofs.lemmas.Str.{chars_past_char, IsUtf8-past_char, length-enco
 use Rattle.std.specs.List.{sum_by}
 use Rattle.std.specs.Prelude.{IsUtf8, chars}
 use lib.Utf8.{encode, encodes}
-use Rattle.bson_base.specs.Options.{ascending, sorted_text}
+use Rattle.bson_base.specs.Options.{ascending_codes, sorted_text}
 use Rattle.bson_base.proofs.OptionsLemmas.{same_order, count-ascending, NeverDescends-ascending, scalars-ascending}
 use Rattle.bson_meaning.specs.Counts.{count, StandAlike}
 use Rattle.bson_meaning.proofs.NormalScalars.{sorted_text_length}
@@ -61,15 +61,15 @@ everywhere xs ys h k c = by (count c xs) (count c ys) refl refl
 
 pub alike_sorted : (s t : List ℕ) → StandAlike (chars s) (chars t) (chars t) → StandAlike (chars t) (chars s) (chars s) → sorted_text s ≡ sorted_text t
 alike_sorted s t h k =
-    ap encodes (same_order (ascending (chars s)) (ascending (chars t)) (NeverDescends-ascending (chars s)) (NeverDescends-ascending (chars t))
+    ap encodes (same_order (ascending_codes (chars s)) (ascending_codes (chars t)) (NeverDescends-ascending (chars s)) (NeverDescends-ascending (chars t))
     (λ n. count-ascending n (chars s) ∙ sym (counted n (chars s)) ∙ everywhere (chars s) (chars t) h k n ∙ counted n (chars t) ∙ sym (count-ascending n (chars t))))
 
-chars_sorted : (t : List ℕ) → IsUtf8 t → chars (sorted_text t) ≡ ascending (chars t)
-chars_sorted t u = chars-encodes (ascending (chars t)) (scalars-ascending (chars t) (scalars-chars t u))
+chars_sorted : (t : List ℕ) → IsUtf8 t → chars (sorted_text t) ≡ ascending_codes (chars t)
+chars_sorted t u = chars-encodes (ascending_codes (chars t)) (scalars-ascending (chars t) (scalars-chars t u))
 
 equally : (s t : List ℕ) → IsUtf8 s → IsUtf8 t → sorted_text s ≡ sorted_text t → (c : ℕ) → count c (chars s) ≡ count c (chars t)
 equally s t u v e c =
-    let same : ascending (chars s) ≡ ascending (chars t) = sym (chars_sorted s u) ∙ ap chars e ∙ chars_sorted t v in
+    let same : ascending_codes (chars s) ≡ ascending_codes (chars t) = sym (chars_sorted s u) ∙ ap chars e ∙ chars_sorted t v in
     counted c (chars s) ∙ sym (count-ascending c (chars s)) ∙ ap (λ cs. sum_by (one_at c) cs) same ∙ count-ascending c (chars t) ∙ sym (counted c (chars t))
 
 alike : (xs ys cs : List ℕ) → ((c : ℕ) → count c xs ≡ count c ys) → StandAlike xs ys cs

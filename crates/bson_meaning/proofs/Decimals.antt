@@ -1,24 +1,24 @@
 -- The normal form of a decimal: taken twice it is taken once, and has 16 bytes.
 use Rattle.std.proofs.Common.{◌≡◌, ℕ, zero, suc, ◌*◌, ◌/◌, ◌^◌, ◌<◌, List, length, true, false, refl, ap, ◌∙◌, arith}
 use Rattle.std.proofs.Math.Nat.{pow-suc}
-use Rattle.bson_base.specs.Decimal.{number_of, bytes_of, sixteen_bytes, Decimal, not_a_number, infinity, finite, IsUnpacked, unpack, pack}
+use Rattle.bson_base.specs.Decimal.{number_of, low_bytes, sixteen_bytes, Decimal, not_a_number, infinity, finite, IsUnpacked, unpack, pack}
 use Rattle.bson_base.specs.Kinds.{AreBytes}
 use Rattle.bson_base.proofs.DecimalBits.{unpack_is, unpack-pack}
 use Rattle.bson_meaning.specs.Meaning.{normal_decimal}
 
-pub bytes_length : (k n : ℕ) → length (bytes_of k n) ≡ k
+pub bytes_length : (k n : ℕ) → length (low_bytes k n) ≡ k
 bytes_length zero n = refl
 bytes_length (suc k) n = ap suc (bytes_length k (n / 256))
 
-pub bytes_are : (k n : ℕ) → AreBytes (bytes_of k n)
+pub bytes_are : (k n : ℕ) → AreBytes (low_bytes k n)
 bytes_are zero n = tt
 bytes_are (suc k) n = (omega arith, bytes_are k (n / 256))
 
-pub number_again : (k n : ℕ) → n < 256 ^ k → number_of (bytes_of k n) ≡ n
+pub number_again : (k n : ℕ) → n < 256 ^ k → number_of (low_bytes k n) ≡ n
 number_again zero n h = omega arith
 number_again (suc k) n h =
     let p : 256 ^ suc k ≡ 256 ^ k * 256 = pow-suc 256 k in
-    let q : number_of (bytes_of k (n / 256)) ≡ n / 256 = number_again k (n / 256) (omega arith) in
+    let q : number_of (low_bytes k (n / 256)) ≡ n / 256 = number_again k (n / 256) (omega arith) in
     omega arith
 
 pub pack_low : (d : Decimal) → IsUnpacked d → pack d < 2 ^ 128
@@ -41,4 +41,4 @@ unfolding normal_decimal sixteen_bytes
 normal_decimal_twice bs =
     let d = unpack (number_of bs) in
     let u : IsUnpacked d = unpack_is (number_of bs) in
-    ap (λ n. bytes_of 16 (pack (unpack n))) (number_again 16 (pack d) (pack_low d u)) ∙ ap (λ x. bytes_of 16 (pack x)) (unpack-pack d u)
+    ap (λ n. low_bytes 16 (pack (unpack n))) (number_again 16 (pack d) (pack_low d u)) ∙ ap (λ x. low_bytes 16 (pack x)) (unpack-pack d u)

@@ -11,7 +11,7 @@ use Rattle.std.proofs.lemmas.List.Sorted.{IsPermutation-map, IsPermutation-sym, 
 use Rattle.std.proofs.lemmas.List.Sums.{sum_by-cons}
 use Rattle.bson_base.specs.Value.{Value, look_up, MembersHaveDistinctKeys}
 use Rattle.bson_model.specs.Keyed.{Key, get}
-use Rattle.bson_model.specs.Rest.{owned_pair}
+use Rattle.bson_model.specs.Rest.{owned_member}
 use Rattle.bson_model.specs.View.{members_of}
 use Rattle.bson_model.specs.declared.bson.Bson.{Bson}
 use Rattle.bson_model.proofs.EqualLemmas.{look_up-members_of}
@@ -29,7 +29,7 @@ Rises [] = Unit {0}
 Rises (p ∷ []) = Unit {0}
 Rises (p ∷ q ∷ ps) = (is_lt (Order q.0 p.0) ≡ false) × Rises (q ∷ ps)
 
-from_sort : (xs : List (String Global × Bson)) → IsSortedByKey (λ p. string_bytes p.0) (slice_cmp nat_cmp) xs → Rises (map owned_pair xs)
+from_sort : (xs : List (String Global × Bson)) → IsSortedByKey (λ p. string_bytes p.0) (slice_cmp nat_cmp) xs → Rises (map owned_member xs)
 from_sort [] h = tt
 from_sort (x ∷ []) h = tt
 from_sort (x ∷ y ∷ xs) h = (h 0 x (omega arith) (omega arith), from_sort (y ∷ xs) later)
@@ -141,21 +141,21 @@ found_alike ps qs moved once once' k = by (get k ps) (get k qs) refl refl
 -- ---- together
 
 -- what a sort by keys makes of pairs: they stand once, and are the members in order
-pub sorted_once : (xs ys : List (String Global × Bson)) → IsPermutation xs ys → IsSortedByKey (λ p. string_bytes p.0) (slice_cmp nat_cmp) ys → KeysOnce (map owned_pair xs)
-    → IsAscending (members_of (map owned_pair ys))
+pub sorted_once : (xs ys : List (String Global × Bson)) → IsPermutation xs ys → IsSortedByKey (λ p. string_bytes p.0) (slice_cmp nat_cmp) ys → KeysOnce (map owned_member xs)
+    → IsAscending (members_of (map owned_member ys))
 sorted_once xs ys moved sorted once =
-    let moved' = IsPermutation-map owned_pair xs ys moved in
-    ascending_of (map owned_pair ys) (from_sort ys sorted)
-    (λ k. omega (arith, sum_by-IsPermutation (one_at k) (map owned_pair xs) (map owned_pair ys) moved', at_most_one k (map owned_pair xs) once))
+    let moved' = IsPermutation-map owned_member xs ys moved in
+    ascending_of (map owned_member ys) (from_sort ys sorted)
+    (λ k. omega (arith, sum_by-IsPermutation (one_at k) (map owned_member xs) (map owned_member ys) moved', at_most_one k (map owned_member xs) once))
 
-pub keys_stay : (ys : List (String Global × Bson)) → IsAscending (members_of (map owned_pair ys)) → KeysOnce (map owned_pair ys)
-keys_stay ys h = once_of (map owned_pair ys) h
+pub keys_stay : (ys : List (String Global × Bson)) → IsAscending (members_of (map owned_member ys)) → KeysOnce (map owned_member ys)
+keys_stay ys h = once_of (map owned_member ys) h
 
-pub sorted_members : (ps : Pairs) (xs ys : List (String Global × Bson)) → IsPermutation xs ys → map owned_pair xs ≡ map sorted_pair ps → MembersHaveDistinctKeys (members_of ps)
-    → IsAscending (members_of (map owned_pair ys)) → members_of (map owned_pair ys) ≡ asc_members (members_of ps)
+pub sorted_members : (ps : Pairs) (xs ys : List (String Global × Bson)) → IsPermutation xs ys → map owned_member xs ≡ map sorted_pair ps → MembersHaveDistinctKeys (members_of ps)
+    → IsAscending (members_of (map owned_member ys)) → members_of (map owned_member ys) ≡ asc_members (members_of ps)
 sorted_members ps xs ys moved e distinct up =
     let once = subst KeysOnce (sym e) (once_changed asc ps (keys_once ps distinct)) in
     same_members _ _ up (ascending_asc (members_of ps))
-    (λ q. look_up-members_of q (map owned_pair ys)
-    ∙ found_alike (map owned_pair xs) (map owned_pair ys) (IsPermutation-map owned_pair xs ys moved) once (once_of (map owned_pair ys) up) q
+    (λ q. look_up-members_of q (map owned_member ys)
+    ∙ found_alike (map owned_member xs) (map owned_member ys) (IsPermutation-map owned_member xs ys moved) once (once_of (map owned_member ys) up) q
     ∙ ap (get q) e ∙ get_changed asc q ps ∙ ap (option_map asc) (sym (look_up-members_of q ps)) ∙ sym (look_up-asc q (members_of ps)))

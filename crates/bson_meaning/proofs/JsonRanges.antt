@@ -8,7 +8,7 @@ use Rattle.bson_base.specs.Decimal.{sixteen_bytes, cut, is_e, is_named, all_zero
 use Rattle.bson_base.specs.Kinds.{AreBytes}
 use Rattle.bson_base.specs.ObjectIdText.{object_id_of, even_text, first_other, digit_bytes, digit_value}
 use Rattle.bson_base.specs.declared.oid.Error.TheVariants.{InvalidHexStringLength}
-use Rattle.bson_model.specs.JsonTexts.{int_of, long_of, integer_of, fits_32, fits_64, only, double_of, sign_bit, read_unsigned, read_numeral, is_numeral, signed, without_dot, byte_of, byte_from}
+use Rattle.bson_model.specs.JsonTexts.{int_of, long_of, integer_of, fits_32, fits_64, only_where, double_of, double_sign_bit, read_unsigned_double, read_numeral, is_numeral, signed, without_dot, byte_of, byte_from}
 use Rattle.bson_model.specs.declared.extjson.de.Error.TheVariants.{DeserializationError, FiniteDouble}
 use Rattle.bson_model.proofs.JsonTextsLemmas.{so_fits_64, so_fits_32}
 use Rattle.bson_meaning.proofs.Decimals.{bytes_length, bytes_are}
@@ -63,7 +63,7 @@ id_ranged t bs e = by (length t % 2 == 1) e
 
 -- ---- whole numbers
 
-kept : (p : ℤ → Bool) (o : Option ℤ) (z : ℤ) → only p o ≡ Some z → p z ≡ true
+kept : (p : ℤ → Bool) (o : Option ℤ) (z : ℤ) → only_where p o ≡ Some z → p z ≡ true
 kept p None z e = cc
 kept p (Some y) z e = by (p y) refl e
   where
@@ -81,31 +81,31 @@ int_ranged t z e = so_fits_32 z (kept fits_32 (integer_of t) z e)
 
 -- ---- doubles
 
-sign_low : (s : Bool) (n : ℕ) → n < 2 ^ 63 → sign_bit s + n < 2 ^ 64
+sign_low : (s : Bool) (n : ℕ) → n < 2 ^ 63 → double_sign_bit s + n < 2 ^ 64
 sign_low true n h = omega arith
 sign_low false n h = omega arith
 
 numeral_low : (s : Bool) (p : List ℕ × Option (List ℕ)) (n : ℕ) → read_numeral s p ≡ Ok n → n < 2 ^ 64
 numeral_low s (t, o) n e = by (is_numeral (t, o)) (all_zeros (without_dot t)) e
   where
-    by : (b c : Bool) → (if b then (if c then Ok (sign_bit s) else Err FiniteDouble) else Err DeserializationError) ≡ Ok n → n < 2 ^ 64
-    by true true f = let i : sign_bit s ≡ n = cc in let l = sign_low s 0 (omega arith) in omega arith
+    by : (b c : Bool) → (if b then (if c then Ok (double_sign_bit s) else Err FiniteDouble) else Err DeserializationError) ≡ Ok n → n < 2 ^ 64
+    by true true f = let i : double_sign_bit s ≡ n = cc in let l = sign_low s 0 (omega arith) in omega arith
     by true false f = cc
     by false c f = cc
 
-unsigned_low : (s : Bool) (t : List ℕ) (n : ℕ) → read_unsigned (s, t) ≡ Ok n → n < 2 ^ 64
+unsigned_low : (s : Bool) (t : List ℕ) (n : ℕ) → read_unsigned_double (s, t) ≡ Ok n → n < 2 ^ 64
 unsigned_low s t n e = by (is_named t (codes "nan")) (is_named t (codes "inf") || is_named t (codes "infinity")) e
   where
-    by : (b c : Bool) → (if b then Ok (sign_bit s + 0x7FF8_0000_0000_0000) else if c then Ok (sign_bit s + 0x7FF0_0000_0000_0000) else read_numeral s (cut is_e t)) ≡ Ok n → n < 2 ^ 64
-    by true c f = let i : sign_bit s + 0x7FF8_0000_0000_0000 ≡ n = cc in let l = sign_low s 0x7FF8_0000_0000_0000 (omega arith) in omega arith
-    by false true f = let i : sign_bit s + 0x7FF0_0000_0000_0000 ≡ n = cc in let l = sign_low s 0x7FF0_0000_0000_0000 (omega arith) in omega arith
+    by : (b c : Bool) → (if b then Ok (double_sign_bit s + 0x7FF8_0000_0000_0000) else if c then Ok (double_sign_bit s + 0x7FF0_0000_0000_0000) else read_numeral s (cut is_e t)) ≡ Ok n → n < 2 ^ 64
+    by true c f = let i : double_sign_bit s + 0x7FF8_0000_0000_0000 ≡ n = cc in let l = sign_low s 0x7FF8_0000_0000_0000 (omega arith) in omega arith
+    by false true f = let i : double_sign_bit s + 0x7FF0_0000_0000_0000 ≡ n = cc in let l = sign_low s 0x7FF0_0000_0000_0000 (omega arith) in omega arith
     by false false f = numeral_low s (cut is_e t) n f
 
 pub double_ranged : (t : List ℕ) (n : ℕ) → double_of t ≡ Ok n → n < 2 ^ 64
 unfolding double_of
 double_ranged t n e = by (signed t) e
   where
-    by : (p : Bool × List ℕ) → read_unsigned p ≡ Ok n → n < 2 ^ 64
+    by : (p : Bool × List ℕ) → read_unsigned_double p ≡ Ok n → n < 2 ^ 64
     by (s, u) f = unsigned_low s u n f
 
 -- ---- decimals

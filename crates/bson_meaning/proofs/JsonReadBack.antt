@@ -15,7 +15,7 @@ use Rattle.bson_base.specs.Kinds.{AreBytes}
 use Rattle.bson_base.specs.ObjectIdText.{object_id_of, even_text, first_other, digit_bytes}
 use Rattle.bson_base.specs.declared.oid.Error.TheVariants.{InvalidHexStringLength}
 use Rattle.bson_base.proofs.PrintedReads.{both, digits-decimal, printed_reads}
-use Rattle.bson_model.specs.JsonTexts.{int_of, long_of, integer_of, signed, fits_32, fits_64, only, double_of, byte_of}
+use Rattle.bson_model.specs.JsonTexts.{int_of, long_of, integer_of, signed, fits_32, fits_64, only_where, double_of, byte_of}
 use Rattle.bson_model.proofs.JsonTextsLemmas.{fits_64_so, fits_32_so}
 use Rattle.bson_meaning.proofs.JsonBase64.{each_byte}
 
@@ -103,16 +103,16 @@ pub wider : (z : ℤ) → FitsSigned w32 z → FitsSigned w64 z
 wider (pos n) h = omega arith
 wider (negsuc n) h = omega arith
 
-kept : (p : ℤ → Bool) (z : ℤ) → p z ≡ true → only p (Some z) ≡ Some z
+kept : (p : ℤ → Bool) (z : ℤ) → p z ≡ true → only_where p (Some z) ≡ Some z
 kept p z h = rw h refl
 
 pub long_back : (z : ℤ) → FitsSigned w64 z → long_of (signed_decimal z) ≡ Some z
 unfolding long_of
-long_back z h = ap (only fits_64) (integer_back z h) ∙ kept fits_64 z (fits_64_so z h)
+long_back z h = ap (only_where fits_64) (integer_back z h) ∙ kept fits_64 z (fits_64_so z h)
 
 pub int_back : (z : ℤ) → FitsSigned w32 z → int_of (signed_decimal z) ≡ Some z
 unfolding int_of
-int_back z h = ap (only fits_32) (integer_back z (wider z h)) ∙ kept fits_32 z (fits_32_so z h)
+int_back z h = ap (only_where fits_32) (integer_back z (wider z h)) ∙ kept fits_32 z (fits_32_so z h)
 
 -- ---- decimals, Base64, doubles
 

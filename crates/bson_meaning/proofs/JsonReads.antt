@@ -348,7 +348,7 @@ all_come js ms c = record {
 
 scope_reads : (t : List ℕ) (js : tree.Members) (ns : Members) → read_members js ≡ Ok ns → read (with_scope t js) ≡ Ok (scoped_code t ns)
 unfolding reserved_of
-scope_reads t js ns e = ap (λ (r : Result Members Error). (r >>= λ ms. Ok (Some ms)) >>= λ o. Ok (reading.with_scope t o)) e
+scope_reads t js ns e = ap (λ (r : Result Members Error). (r >>= λ ms. Ok (Some ms)) >>= λ o. Ok (reading.code_and_scope t o)) e
 
 document_reads : (js : tree.Members) (ns : Members) → any_reserved js ≡ false → read_members js ≡ Ok ns → read (object js) ≡ Ok (document ns)
 document_reads js ns n e =

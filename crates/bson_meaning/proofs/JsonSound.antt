@@ -17,11 +17,11 @@ use Rattle.bson_base.specs.Tags.{subtype_of}
 use Rattle.bson_base.specs.Value.{Scalar, undefined, int32, int64, max_key, min_key, Value, scalar, document, Items, no_items, Members, no_members, look_up, EachPart, EachItem, EachMember, HasDistinctKeys, ItemsHaveDistinctKeys, MembersHaveDistinctKeys}
 use Rattle.bson_base.specs.declared.oid.Error as oid
 use Rattle.bson_model.specs.JsonKeys.{Reserved, any_reserved, key_of, reserved_of, scope_key, of_id, of_symbol, of_regex, of_int, of_long, of_double, of_decimal, of_binary, of_uuid, of_code, of_timestamp, of_date, of_min, of_max, of_pointer, of_undefined}
-use Rattle.bson_model.specs.JsonRead.{◌>>=◌, accepted, text_of, single, under, both, pair_of, below_32, u32_of, is_one, is_true, integer, whole, id_body, regex_body, int_body, long_body, double_body, decimal_body, base64_body, byte_body, binary_body, uuid_body, timestamp_body, date_body, pointer_body, constant, read_body, read_wrapped, with_scope, read, read_items, read_members, read_typed, read_scope}
+use Rattle.bson_model.specs.JsonRead.{◌>>=◌, accepted, text_of, single, under, bodies_under, bodies_in, below_32, u32_of, is_one, is_true, integer, whole, id_body, regex_body, int_body, long_body, double_body, decimal_body, base64_body, byte_body, binary_body, uuid_body, timestamp_body, read_date_body, pointer_body, constant, read_body, read_wrapped, code_and_scope, read, read_items, read_members, read_typed, read_scope}
 use Rattle.bson_model.specs.JsonTexts.{fits_32, int_of, long_of, byte_of}
 use Rattle.bson_model.specs.declared.extjson.de.Error.{Error}
 use Rattle.bson_model.specs.declared.extjson.de.Error.TheVariants.{DeserializationError}
-use Rattle.bson_meaning.specs.JsonTrees.{IsAbsent, IsJson, AreJson, IsJsonObject}
+use Rattle.bson_meaning.specs.JsonTrees.{LacksKey, IsJson, AreJson, IsJsonObject}
 use Rattle.bson_meaning.specs.Meaning.{norm_members, asc_members}
 use Rattle.bson_meaning.proofs.JsonBase64.{base64_ranged}
 use Rattle.bson_meaning.proofs.JsonDates.{date_ranged}
@@ -58,7 +58,7 @@ under_json : (k : List ℕ) (i j : Data) → IsJson i → under k i ≡ Ok j →
 under_json k (object js) j h e = single_json k js j h e
 under_json k _ j h e = cc
 
-pair_json : (k l : List ℕ) (js : tree.Members) (p : Data × Data) → IsJsonObject js → pair_of k l js ≡ Ok p → IsJson p.0 × IsJson p.1
+pair_json : (k l : List ℕ) (js : tree.Members) (p : Data × Data) → IsJsonObject js → bodies_in k l js ≡ Ok p → IsJson p.0 × IsJson p.1
 pair_json k l (tree.member m i (tree.member n j tree.no_members)) p h e = by (bytes_eq m k && bytes_eq n l) e
   where
     by : (b : Bool) → (if b then Ok (i, j) else Err DeserializationError) ≡ Ok p → IsJson p.0 × IsJson p.1
@@ -66,7 +66,7 @@ pair_json k l (tree.member m i (tree.member n j tree.no_members)) p h e = by (by
     by false f = cc
 pair_json k l _ p h e = cc
 
-both_json : (k l : List ℕ) (j : Data) (p : Data × Data) → IsJson j → both k l j ≡ Ok p → IsJson p.0 × IsJson p.1
+both_json : (k l : List ℕ) (j : Data) (p : Data × Data) → IsJson j → bodies_under k l j ≡ Ok p → IsJson p.0 × IsJson p.1
 both_json k l (object js) p h e = pair_json k l js p h e
 both_json k l _ p h e = cc
 
@@ -96,7 +96,7 @@ base64_body_ranged b h j s u e =
 
 binary_body_ranged : (j : Data) (s : Scalar) → IsJson j → binary_body j ≡ Ok s → IsRangedScalar s
 binary_body_ranged j s h e =
-    let a = bound (both (codes "base64") (codes "subType") j) _ s e in
+    let a = bound (bodies_under (codes "base64") (codes "subType") j) _ s e in
     let b = bound (byte_body a.first.1) _ s a.there in
     let t = bound (text_of a.first.1) _ b.first b.here in
     base64_body_ranged b.first (byte_ranged t.first b.first (wanted_ok (byte_of t.first) b.first t.there)) a.first.0 s (both_json (codes "base64") (codes "subType") j a.first h a.here).0 b.there
@@ -122,12 +122,12 @@ u32_low _ n e = cc
 
 timestamp_body_ranged : (j : Data) (p : ℕ × ℕ) → timestamp_body j ≡ Ok p → (p.0 < 2 ^ 32) × (p.1 < 2 ^ 32)
 timestamp_body_ranged j p e =
-    let a = bound (both (codes "i") (codes "t") j) _ p e in
+    let a = bound (bodies_under (codes "i") (codes "t") j) _ p e in
     let b = bound (u32_of a.first.0) _ p a.there in
     let c = bound (u32_of a.first.1) _ p b.there in
     subst (λ (q : ℕ × ℕ). (q.0 < 2 ^ 32) × (q.1 < 2 ^ 32)) (same_ok _ p c.there) (u32_low a.first.1 c.first c.here, u32_low a.first.0 b.first b.here)
 
-date_body_ranged : (j : Data) (z : ℤ) → IsJson j → date_body j ≡ Ok z → FitsSigned w64 z
+date_body_ranged : (j : Data) (z : ℤ) → IsJson j → read_date_body j ≡ Ok z → FitsSigned w64 z
 date_body_ranged (tree.string t) z h e = date_ranged t z (accepted_ok (date_of t) z e)
 date_body_ranged (number n) z h e = h z (wanted_ok (as_i64 n) z e)
 date_body_ranged (object js) z h e = let a = bound (single (key_of of_long) js) long_body z e in long_body_ranged a.first z a.there
@@ -135,7 +135,7 @@ date_body_ranged _ z h e = cc
 
 regex_body_ranged : (j : Data) (p : List ℕ × List ℕ) → IsJson j → regex_body j ≡ Ok p → IsUtf8 p.0 × IsUtf8 p.1
 regex_body_ranged j p h e =
-    let a = bound (both (codes "options") (codes "pattern") j) _ p e in
+    let a = bound (bodies_under (codes "options") (codes "pattern") j) _ p e in
     let q = both_json (codes "options") (codes "pattern") j a.first h a.here in
     let b = bound (text_of a.first.0) _ p a.there in
     let c = bound (text_of a.first.1) _ p b.there in
@@ -144,7 +144,7 @@ regex_body_ranged j p h e =
 
 pointer_body_ranged : (j : Data) (p : List ℕ × List ℕ) → IsJson j → pointer_body j ≡ Ok p → IsUtf8 p.0 × (length p.1 ≡ 12) × AreBytes p.1
 pointer_body_ranged j p h e =
-    let a = bound (both (codes "$id") (codes "$ref") j) _ p e in
+    let a = bound (bodies_under (codes "$id") (codes "$ref") j) _ p e in
     let q = both_json (codes "$id") (codes "$ref") j a.first h a.here in
     let b = bound (under (key_of of_id) a.first.0 >>= id_body) _ p a.there in
     let i = bound (under (key_of of_id) a.first.0) id_body b.first b.here in
@@ -168,7 +168,7 @@ body_ranged of_binary j s h e = binary_body_ranged j s h e
 body_ranged of_uuid j s h e = uuid_body_ranged j s e
 body_ranged of_code j s h e = let a = bound (text_of j) _ s e in subst IsRangedScalar (same_ok _ s a.there) (text_ranged j a.first h a.here)
 body_ranged of_timestamp j s h e = let a = bound (timestamp_body j) _ s e in subst IsRangedScalar (same_ok _ s a.there) (timestamp_body_ranged j a.first a.here)
-body_ranged of_date j s h e = let a = bound (date_body j) _ s e in subst IsRangedScalar (same_ok _ s a.there) (date_body_ranged j a.first h a.here)
+body_ranged of_date j s h e = let a = bound (read_date_body j) _ s e in subst IsRangedScalar (same_ok _ s a.there) (date_body_ranged j a.first h a.here)
 body_ranged of_min j s h e = constant_ranged (is_one j) min_key s tt e
 body_ranged of_max j s h e = constant_ranged (is_one j) max_key s tt e
 body_ranged of_pointer j s h e = let a = bound (pointer_body j) _ s e in subst IsRangedScalar (same_ok _ s a.there) (pointer_body_ranged j a.first h a.here)
@@ -198,7 +198,7 @@ either : {X : Type 0} (b : Bool) (r s : Result Value Error) (v : Value) → (r �
 either true r s v f g e = f e
 either false r s v f g e = g e
 
-absent : (k : List ℕ) (js : tree.Members) (ms : Members) → IsAbsent k js → read_members js ≡ Ok ms → look_up k ms ≡ None
+absent : (k : List ℕ) (js : tree.Members) (ms : Members) → LacksKey k js → read_members js ≡ Ok ms → look_up k ms ≡ None
 absent k tree.no_members ms a e = ap (look_up k) (sym (same_ok no_members ms e))
 absent k (tree.member l j js) ms a e =
     let v = bound (read j) _ ms e in
@@ -209,7 +209,7 @@ abbrev FineScope : Option Members → Type 0
 FineScope None = Unit {0}
 FineScope (Some ms) = EachMember IsUtf8 IsRangedScalar ms × MembersHaveDistinctKeys ms
 
-scope_fine : (t : List ℕ) (o : Option Members) → IsUtf8 t → FineScope o → Fine (with_scope t o)
+scope_fine : (t : List ℕ) (o : Option Members) → IsUtf8 t → FineScope o → Fine (code_and_scope t o)
 scope_fine t None u h = (u, tt)
 scope_fine t (Some ms) u h = ((u, h.0), h.1)
 
@@ -245,9 +245,9 @@ mutual
   fine_typed tree.no_members v h e = cc
   fine_typed (tree.member k j tree.no_members) v h e = wrapped_fine (reserved_of k) j v h.2 e
   fine_typed (tree.member k j (tree.member l i tree.no_members)) v h e =
-      either (bytes_eq k (key_of of_code) && bytes_eq l scope_key) (text_of j >>= λ t. read_scope i >>= λ o. Ok (with_scope t o)) (Err DeserializationError) v
-      (λ f. let a = bound (text_of j) (λ t. read_scope i >>= λ o. Ok (with_scope t o)) v f in
-      let b = bound (read_scope i) (λ o. Ok (with_scope a.first o)) v a.there in
+      either (bytes_eq k (key_of of_code) && bytes_eq l scope_key) (text_of j >>= λ t. read_scope i >>= λ o. Ok (code_and_scope t o)) (Err DeserializationError) v
+      (λ f. let a = bound (text_of j) (λ t. read_scope i >>= λ o. Ok (code_and_scope t o)) v f in
+      let b = bound (read_scope i) (λ o. Ok (code_and_scope a.first o)) v a.there in
       subst Fine (same_ok _ v b.there) (scope_fine a.first b.first (text_ranged j a.first h.2 a.here) (fine_scope i b.first h.3.2 b.here)))
       (λ f. cc) e
   fine_typed (tree.member k j (tree.member l i (tree.member m g js))) v h e = cc

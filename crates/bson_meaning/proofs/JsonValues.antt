@@ -12,7 +12,7 @@ use Rattle.serde_json.specs.Data.{Members, no_members, member, string}
 use Rattle.serde_json.specs.View.{view, items_view, members_view}
 use Rattle.serde_json.specs.declared.value.Value.{Value, the_lemmas}
 use Rattle.serde_json.specs.declared.value.Value as values
-use Rattle.bson_meaning.specs.JsonTrees.{IsAbsent, IsJson, AreJson, IsJsonObject}
+use Rattle.bson_meaning.specs.JsonTrees.{LacksKey, IsJson, AreJson, IsJsonObject}
 use Rattle.bson_meaning.proofs.Ordered.{differ}
 
 abbrev pub Entry : Type 0
@@ -34,7 +34,7 @@ AreHeld (member k j js) = IsUtf8 k × IsJson j × AreHeld js
 pub held_more : (es left : List Entry) (e : Entry) → es ≡ e ∷ left → IsJson (view e.1) → AreHeld (members_view left) → AreHeld (members_view es)
 held_more es left e f h g = subst (λ xs. AreHeld (members_view xs)) (sym f) (IsUtf8-string_bytes e.0, h, g)
 
-absent : (k : String Global) (es : List Entry) → AllByRecursion (λ l. string_cmp k l ≡ Less) (keys_of es) → IsAbsent (string_bytes k) (members_view es)
+absent : (k : String Global) (es : List Entry) → AllByRecursion (λ l. string_cmp k l ≡ Less) (keys_of es) → LacksKey (string_bytes k) (members_view es)
 absent k [] h = tt
 absent k (e ∷ es) h = (differ (string_bytes k) (string_bytes e.0) h.0, absent k es h.1)
 

@@ -5,7 +5,7 @@ use Rattle.std.specs.Prelude.{IsUtf8, chars, ◌&&◌}
 use lib.Utf8.{encode, encodes}
 use Rattle.bson_base.specs.Doubles.{is_nan, is_negative}
 use Rattle.bson_base.specs.Kinds.{HasNo00, NeverDescends}
-use Rattle.bson_base.specs.Options.{put_in_order, ascending, sorted_text}
+use Rattle.bson_base.specs.Options.{put_in_order, ascending_codes, sorted_text}
 use Rattle.bson_base.proofs.OptionsLemmas.{sorted_text-in_order, sorted_text-kept}
 use Rattle.bson_meaning.specs.Meaning.{normal_double}
 use Rattle.bson_bytes.proofs.Options.{no_zero_both, text_sorted}
@@ -59,9 +59,9 @@ length_put c (d ∷ ds) = by (length_put c ds) (leb c d)
     by e true = simp length-append
     by e false = length-append (encode d) (encodes (put_in_order c ds)) ∙ ap (λ n. length (encode d) + n) e ∙ omega (arith, length-append (encode d) (encodes ds))
 
-length_ascending : (cs : List ℕ) → length (encodes (ascending cs)) ≡ length (encodes cs)
+length_ascending : (cs : List ℕ) → length (encodes (ascending_codes cs)) ≡ length (encodes cs)
 length_ascending [] = refl
-length_ascending (c ∷ cs) = length_put c (ascending cs) ∙ ap (λ n. length (encode c) + n) (length_ascending cs) ∙ sym (length-append (encode c) (encodes cs))
+length_ascending (c ∷ cs) = length_put c (ascending_codes cs) ∙ ap (λ n. length (encode c) + n) (length_ascending cs) ∙ sym (length-append (encode c) (encodes cs))
 
 pub no_00_parts : (a b : List ℕ) → HasNo00 (a ++ b) → HasNo00 a × HasNo00 b
 no_00_parts [] b h = (tt, h)
@@ -75,9 +75,9 @@ no_00_put c (d ∷ ds) h k = by (no_00_put c ds h (no_00_parts (encode d) (encod
     by r true = no_zero_both (encode c) (encodes (d ∷ ds)) h k
     by r false = no_zero_both (encode d) (encodes (put_in_order c ds)) (no_00_parts (encode d) (encodes ds) k).0 r
 
-no_00_ascending : (cs : List ℕ) → HasNo00 (encodes cs) → HasNo00 (encodes (ascending cs))
+no_00_ascending : (cs : List ℕ) → HasNo00 (encodes cs) → HasNo00 (encodes (ascending_codes cs))
 no_00_ascending [] h = tt
-no_00_ascending (c ∷ cs) h = let r = no_00_parts (encode c) (encodes cs) h in no_00_put c (ascending cs) r.0 (no_00_ascending cs r.1)
+no_00_ascending (c ∷ cs) h = let r = no_00_parts (encode c) (encodes cs) h in no_00_put c (ascending_codes cs) r.0 (no_00_ascending cs r.1)
 
 pub sorted_text_clean : (t : List ℕ) → IsUtf8 t → NeverDescends (chars (sorted_text t))
 sorted_text_clean t u = sorted_text-in_order t u

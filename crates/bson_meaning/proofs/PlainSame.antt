@@ -4,7 +4,7 @@ use Rattle.std.specs.Prelude.{bytes_eq, IsSomeAnd, IsUtf8, chars, is_some}
 use lib.Utf8.{encode as encoded, encodes}
 use Rattle.std.proofs.lemmas.Str.{encodes-chars}
 use Rattle.bson_base.specs.Kinds.{HasNo00, IsPlainScalar, IsCleanScalar, IsRangedScalar, IsSound, IsPlain, IsClean}
-use Rattle.bson_base.specs.Options.{put_in_order, ascending, sorted_text}
+use Rattle.bson_base.specs.Options.{put_in_order, ascending_codes, sorted_text}
 use Rattle.bson_base.specs.Value.{Scalar, regex, Value, scalar, array, document, scoped_code, Items, no_items, item, Members, no_members, member, look_up, EachPart, EachItem, EachMember}
 use Rattle.bson_meaning.specs.Meaning.{normal_scalar, norm, asc, Same, SameItems, SameUnder}
 use Rattle.bson_meaning.proofs.Normal.{normal_scalar_plain, normal_scalar_clean, norm_each, asc_each, both_each}
@@ -21,9 +21,9 @@ placed_back c (d ∷ ds) h = by (placed_back c ds) (leb c d) h
     by f true h = no_00_parts (encoded c) (encodes (d ∷ ds)) h
     by f false h = let p = no_00_parts (encoded d) (encodes (put_in_order c ds)) h in let r = f p.1 in (r.0, no_zero_both (encoded d) (encodes ds) p.0 r.1)
 
-ordered_back : (cs : List ℕ) → HasNo00 (encodes (ascending cs)) → HasNo00 (encodes cs)
+ordered_back : (cs : List ℕ) → HasNo00 (encodes (ascending_codes cs)) → HasNo00 (encodes cs)
 ordered_back [] h = tt
-ordered_back (c ∷ cs) h = let r = placed_back c (ascending cs) h in no_zero_both (encoded c) (encodes cs) r.0 (ordered_back cs r.1)
+ordered_back (c ∷ cs) h = let r = placed_back c (ascending_codes cs) h in no_zero_both (encoded c) (encodes cs) r.0 (ordered_back cs r.1)
 
 sorted_back : (t : List ℕ) → IsUtf8 t → HasNo00 (sorted_text t) → HasNo00 t
 sorted_back t u h = subst HasNo00 (encodes-chars t u) (ordered_back (chars t) h)

@@ -4,7 +4,7 @@ use Rattle.std.specs.Option.{option_map}
 use Rattle.bson_base.specs.Value.{Value, item, member, MembersHaveDistinctKeys}
 use Rattle.bson_model.specs.Extend.{put_all}
 use Rattle.bson_model.specs.Keyed.{Key, get, put}
-use Rattle.bson_model.specs.Rest.{owned_pair}
+use Rattle.bson_model.specs.Rest.{owned_member}
 use Rattle.bson_model.specs.View.{view, items_of, members_of}
 use Rattle.bson_model.specs.declared.bson.Bson.{Bson}
 use Rattle.bson_model.proofs.EqualLemmas.{look_up-members_of}
@@ -73,12 +73,12 @@ put_new k v (p ∷ ps) h = by (put_new k v ps) (bytes_eq k p.0) h
     by more true e = cc
     by more false e = ap (λ l. p ∷ l) (more e)
 
-pub put_all_once : (xs : List (String Global × Bson)) (ps : List (Key × Value)) → KeysOnce (ps ++ map owned_pair xs) → put_all xs ps ≡ ps ++ map owned_pair xs
+pub put_all_once : (xs : List (String Global × Bson)) (ps : List (Key × Value)) → KeysOnce (ps ++ map owned_member xs) → put_all xs ps ≡ ps ++ map owned_member xs
 put_all_once [] ps h = sym (append-nil ps)
 put_all_once (x ∷ xs) ps h =
-    let p : Key × Value = owned_pair x in
-    let new : put p.0 p.1 ps ≡ ps ++ p ∷ [] = put_new p.0 p.1 ps (not_before ps p (map owned_pair xs) h) in
-    let joined : (ps ++ p ∷ []) ++ map owned_pair xs ≡ ps ++ p ∷ map owned_pair xs = append_assoc ps (p ∷ []) (map owned_pair xs) in
+    let p : Key × Value = owned_member x in
+    let new : put p.0 p.1 ps ≡ ps ++ p ∷ [] = put_new p.0 p.1 ps (not_before ps p (map owned_member xs) h) in
+    let joined : (ps ++ p ∷ []) ++ map owned_member xs ≡ ps ++ p ∷ map owned_member xs = append_assoc ps (p ∷ []) (map owned_member xs) in
     ap (put_all xs) new ∙ put_all_once xs (ps ++ p ∷ []) (subst KeysOnce (sym joined) h) ∙ joined
 
 -- ---- in the words of the tree

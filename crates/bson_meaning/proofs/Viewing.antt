@@ -24,7 +24,7 @@ use Rattle.bson_raw.specs.View.{parts_of}
 use Rattle.bson_raw.specs.Walk.{steps_from}
 use Rattle.bson_meaning.specs.Meaning.{Same, SameItems, SameUnder}
 use Rattle.bson_meaning.specs.Sames.{HasKeysOf}
-use Rattle.bson_meaning.specs.Views.{ComparesPayload, shown, Shows, IsRest, IsItemsRest}
+use Rattle.bson_meaning.specs.Views.{ComparesPayload, shown, ShowsValue, IsRest, IsItemsRest}
 use Rattle.bson_meaning.proofs.Comparing.{keys_under, same_documents}
 use Rattle.bson_meaning.proofs.Held.{scalar_apart}
 use Rattle.bson_meaning.proofs.Ordered.{equal_keys, same_key}
@@ -62,7 +62,7 @@ scope_shown payload text bytes (array vs) d e k h = absurd (cc)
 scope_shown payload text bytes (document ms) d e k h = absurd (cc)
 scope_shown payload text bytes (scalar s) d e k h = absurd (scalar_apart s kinds.JavaScriptCodeWithScope k refl)
 
-pub payload_shown : (payload : List ℕ) (tag : ElementType) (raw : RawBsonRef) (v : Value) → IsPayload tag payload → IsValue tag payload raw → value_kind v ≡ tag → SpellsValue payload v → Shows raw v
+pub payload_shown : (payload : List ℕ) (tag : ElementType) (raw : RawBsonRef) (v : Value) → IsPayload tag payload → IsValue tag payload raw → value_kind v ≡ tag → SpellsValue payload v → ShowsValue raw v
 payload_shown payload tag (views.Array x) v sized is k h = array_shown payload _ v is.holds (k ∙ sym is.kind) h
 payload_shown payload tag (views.Document x) v sized is k h = document_shown payload _ v is.holds (k ∙ sym is.kind) h
 payload_shown payload tag (views.JavaScriptCodeWithScope x) v sized is k h = scope_shown payload _ _ v is.holds.0 is.holds.1 (k ∙ sym is.kind) h
@@ -144,7 +144,7 @@ last_item (Some bytes) t (item v vs) h r = absurd (end_no_frame bytes r.0 r.1 h.
 
 -- ---- a payload that is compared
 
-pub compares_raw : (e : Element) (raw : RawBsonRef) (w : Value) (b : Bool) → IsPayload e.tag e.payload → IsValue e.tag e.payload raw → ((v : Value) → Shows raw v → HasDistinctKeys v → IsTrue b ↔ Same v w) → ComparesPayload e w b
+pub compares_raw : (e : Element) (raw : RawBsonRef) (w : Value) (b : Bool) → IsPayload e.tag e.payload → IsValue e.tag e.payload raw → ((v : Value) → ShowsValue raw v → HasDistinctKeys v → IsTrue b ↔ Same v w) → ComparesPayload e w b
 compares_raw e raw w b sized is c v kind spelled d = c v (payload_shown e.payload e.tag raw v sized is kind spelled) d
 
 pub compares_fault : (e : Element) (fault : ErrorKind) (w : Value) (b : Bool) → IsPayloadFault e.tag e.payload fault → ComparesPayload e w b

@@ -4,14 +4,10 @@ use Rattle.bson_base.specs.declared.spec.ElementType.{ElementType}
 use Rattle.bson_base.specs.declared.spec.ElementType.TheVariants as kinds
 use Rattle.bson_base.specs.Value.{value_kind, Value, document, levels, Members, members_levels}
 use Rattle.bson_bytes.specs.Spells.{SpellsMembers, SpellsValue, IsFaulty}
-use Rattle.bson_frame.specs.Frame.{number, Element, IsFirstFrame}
+use Rattle.bson_frame.specs.Frame.{number, size_limit, Element, IsFirstFrame}
 use Rattle.bson_frame.specs.Payload.{IsEnvelope, IsFaultless, scope_in}
 use Rattle.bson_meaning.specs.declared.reading.GateError.{GateError}
 use Rattle.bson_meaning.specs.declared.reading.GateError.TheVariants.{EndInside, BadLength, NotTerminated, Faulty, TooDeep}
-
--- the greatest number of bytes of an input
-abbrev pub size_limit : ℕ
-size_limit = 16777216
 
 -- how many documents, arrays and scopes may lie inside each other, the outermost document counted
 abbrev pub level_limit : ℕ

@@ -6,9 +6,9 @@ use Rattle.serde_json.specs.Data.{Data, null, boolean, number, string, array, ob
 use Rattle.serde_json.specs.Find.{as_i64}
 
 -- the key is none of these
-abbrev pub IsAbsent : List ℕ → Members → Type 0
-IsAbsent k no_members = Unit {0}
-IsAbsent k (member l j js) = (bytes_eq k l ≡ false) × IsAbsent k js
+abbrev pub LacksKey : List ℕ → Members → Type 0
+LacksKey k no_members = Unit {0}
+LacksKey k (member l j js) = (bytes_eq k l ≡ false) × LacksKey k js
 
 abbrev mutual
   pub IsJson : Data → Type 0
@@ -25,4 +25,4 @@ abbrev mutual
 
   pub IsJsonObject : Members → Type 0
   IsJsonObject no_members = Unit {0}
-  IsJsonObject (member k j js) = IsUtf8 k × IsAbsent k js × IsJson j × IsJsonObject js
+  IsJsonObject (member k j js) = IsUtf8 k × LacksKey k js × IsJson j × IsJsonObject js

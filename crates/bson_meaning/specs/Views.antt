@@ -19,11 +19,11 @@ abbrev pub shown : RawBsonRef → Scalar
 shown raw = scalar_in (ref_value raw)
 
 -- the view shows the value, whose documents its bytes spell without a fault at any level
-abbrev pub Shows : RawBsonRef → Value → Type 0
-Shows (views.Array x) v = (vs : Items) × SpellsItems (drop 4 (array_bytes x)) vs × (v ≡ array vs)
-Shows (views.Document x) v = (ms : Members) × SpellsMembers (drop 4 (bytes_of x)) ms × (v ≡ document ms)
-Shows (views.JavaScriptCodeWithScope x) v = (ms : Members) × SpellsMembers (drop 4 (bytes_of x.scope)) ms × (v ≡ scoped_code x.code.now ms)
-Shows raw v = v ≡ scalar (shown raw)
+abbrev pub ShowsValue : RawBsonRef → Value → Type 0
+ShowsValue (views.Array x) v = (vs : Items) × SpellsItems (drop 4 (array_bytes x)) vs × (v ≡ array vs)
+ShowsValue (views.Document x) v = (ms : Members) × SpellsMembers (drop 4 (bytes_of x)) ms × (v ≡ document ms)
+ShowsValue (views.JavaScriptCodeWithScope x) v = (ms : Members) × SpellsMembers (drop 4 (bytes_of x.scope)) ms × (v ≡ scoped_code x.code.now ms)
+ShowsValue raw v = v ≡ scalar (shown raw)
 
 -- no document, array or scope
 abbrev pub ShowsScalar : RawBsonRef → Type 0

@@ -2,7 +2,7 @@
 
 ghost use Rattle.std.specs.Prelude.{◌≡◌, map, IfOk};
 ghost use Rattle.bson_base.specs.Value.{HasDistinctKeys, ItemsHaveDistinctKeys, MembersHaveDistinctKeys};
-ghost use Rattle.bson_model.specs.Rest.{owned_pair};
+ghost use Rattle.bson_model.specs.Rest.{owned_member};
 ghost use Rattle.bson_model.specs.View.{view, pairs_of, items_of, members_of};
 ghost use Rattle.bson_meaning.specs.Meaning.{norm, norm_items, norm_members};
 ghost use Rattle.bson_meaning.specs.Pairs.{normal_pair};
@@ -72,7 +72,7 @@ pub(crate) fn normal_document(alloc: Global, document: Document) -> Result<Docum
 #[cycle(normal)]
 fn normal_pairs(alloc: Global, document: Document) -> Result<Vec<(String, Bson)>, AllocError>
     requires { MembersHaveDistinctKeys (members_of (pairs_of document)) }
-    ensures { IfOk result (λ v. map owned_pair v.items ≡ map normal_pair (pairs_of document)) }
+    ensures { IfOk result (λ v. map owned_member v.items ≡ map normal_pair (pairs_of document)) }
 {
     let mut pairs = Vec::with_capacity(alloc, document.len())?;
     for (key, value) in document {

@@ -5,6 +5,7 @@ ghost use Rattle.bson_base.specs.Kinds.{IsPlain, IsSound};
 ghost use Rattle.bson_base.specs.Value.{document as tree, Members, MembersHaveDistinctKeys};
 ghost use Rattle.bson_bytes.specs.Encode.{encode, size};
 ghost use Rattle.bson_bytes.specs.Writing.{CanBeWritten};
+ghost use Rattle.bson_frame.specs.Frame.{length_limit};
 ghost use Rattle.bson_model.specs.Trees.{document_tree};
 ghost use Rattle.bson_model.specs.View.{pairs_of, members_of};
 ghost use Rattle.bson_meaning.specs.Meaning.{key as key_of, norm_members, asc_members, Same};
@@ -15,13 +16,10 @@ use crate::plain::has_plain_members;
 use crate::sorting::sorted_document;
 use crate::sound::soundness_of_document;
 use bson_bytes::encode_document;
-use bson_frame::ErrorKind;
+use bson_frame::{ErrorKind, LENGTH_LIMIT};
 use bson_model::Document;
 use std::alloc::{AllocError, Global};
 use thiserror::Error;
-
-/// The greatest length of a key.
-const LIMIT: usize = 2147483647;
 
 /// Why a document has no key.
 #[derive(Clone, Copy, Debug, PartialEq, Eq, Error)]
@@ -51,16 +49,16 @@ impl From<AllocError> for KeyError {
 /// same, as long as neither is refused.
 pub fn meaning_key(alloc: Global, document: &Document) -> Result<Vec<u8>, KeyError>
     ensures bytes { IfOk result (λ k. k.items ≡ key_of (members_of (pairs_of document.now))) }
-    ensures fits { OnOk result (length (key_of (members_of (pairs_of document.now))) ≤ 2147483647) }
+    ensures fits { OnOk result (length (key_of (members_of (pairs_of document.now))) ≤ length_limit) }
     ensures plain { OnOk result (IsPlain (tree (members_of (pairs_of document.now)))) }
 
     // Each refusal comes exactly where it is due, and a 00 before the length; want of memory comes after both.
     ensures not_plain { (result ≡ Err KeyError.NotPlain) ↔ (IsPlain (tree (members_of (pairs_of document.now))) → ⊥) }
     ensures too_long { (result ≡ Err KeyError.TooLong)
-        ↔ IsPlain (tree (members_of (pairs_of document.now))) × (2147483647 < length (key_of (members_of (pairs_of document.now)))) }
+        ↔ IsPlain (tree (members_of (pairs_of document.now))) × (length_limit < length (key_of (members_of (pairs_of document.now)))) }
 
     // What keys are for, for every other document.
-    ensures tells { (e : Members) → IsPlain (tree e) → IsSound (tree e) → length (key_of e) ≤ 2147483647
+    ensures tells { (e : Members) → IsPlain (tree e) → IsSound (tree e) → length (key_of e) ≤ length_limit
         → OnOk result ((key_of (members_of (pairs_of document.now)) ≡ key_of e) ↔ Same (tree (members_of (pairs_of document.now))) (tree e)) }
 {
     if !has_plain_members(document) {
@@ -76,9 +74,9 @@ pub fn meaning_key(alloc: Global, document: &Document) -> Result<Vec<u8>, KeyErr
 
 /// Whether the key would be over 2147483647 bytes.
 fn is_too_long(document: &Document) -> bool
-    ensures { IsTrue result ↔ (2147483647 < size (norm_members (members_of (pairs_of document.now)))) }
+    ensures { IsTrue result ↔ (length_limit < size (norm_members (members_of (pairs_of document.now)))) }
 {
-    normal_length(document) > LIMIT
+    normal_length(document) > LENGTH_LIMIT
 }
 
 /// The normal form with its keys in order.

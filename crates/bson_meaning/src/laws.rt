@@ -6,6 +6,7 @@ ghost use Rattle.bson_base.specs.Kinds.{IsClean, IsPlain, IsSound};
 ghost use Rattle.bson_base.specs.Value.{document, levels, member, Members, no_members, Value};
 ghost use Rattle.bson_bytes.specs.Encode.{size};
 ghost use Rattle.bson_bytes.specs.Spells.{Means};
+ghost use Rattle.bson_frame.specs.Frame.{length_limit};
 ghost use Rattle.bson_model.specs.Equal.{Equal};
 ghost use Rattle.bson_meaning.specs.Gate.{IsFaultyOrDeep, IsRefused, level_limit, Passes};
 ghost use Rattle.bson_meaning.specs.Meaning.{asc, norm, norm_members, asc_members, key, Same};
@@ -41,7 +42,7 @@ pub fn normal_forms()
 /// Keys are equal exactly for documents of the same meaning.
 pub fn keys_tell()
     ensures { (d e : Members) → IsPlain (document d) → IsSound (document d) → IsPlain (document e) → IsSound (document e)
-        → length (key d) ≤ 2147483647 → length (key e) ≤ 2147483647 → (key d ≡ key e) ↔ Same (document d) (document e) }
+        → length (key d) ≤ length_limit → length (key e) ≤ length_limit → (key d ≡ key e) ↔ Same (document d) (document e) }
 {}
 
 /// The key of a clean document has as many bytes as the document.

@@ -5,7 +5,7 @@ ghost use Rattle.bson_frame.specs.Payload.{IsPayload, IsFaultless, scope_in};
 ghost use Rattle.bson_base.specs.declared.spec.ElementType.TheVariants.{JavaScriptCodeWithScope};
 ghost use Rattle.bson_meaning.specs.Gate.{HoldsDocument, IsCounted, IsRefused, Passes, ReadsElements, ReadsPayload};
 
-use bson_frame::{Frame, is_end, payload_fault, sized_frame, text_at};
+use bson_frame::{Frame, SIZE_LIMIT, is_end, payload_fault, sized_frame, text_at};
 use bson_model::ElementType;
 use thiserror::Error;
 
@@ -28,9 +28,6 @@ pub enum GateError {
     #[error("more than 100 levels")]
     TooDeep,
 }
-
-/// The greatest length of an input.
-const LIMIT: usize = 16777216;
 
 /// How many levels there may be inside the outermost document.
 const INNER_LEVELS: u32 = 99;
@@ -56,7 +53,7 @@ fn test_length(bytes: &[u8]) -> Result<(), GateError>
         return Err(GateError::EndInside);
     };
     let declared = u32::from_le_bytes([*a, *b, *c, *d]) as usize;
-    if declared < 5 || declared > LIMIT || bytes.len() > declared {
+    if declared < 5 || declared > SIZE_LIMIT || bytes.len() > declared {
         return Err(GateError::BadLength);
     }
     if bytes.len() < declared {

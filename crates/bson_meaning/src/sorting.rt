@@ -5,7 +5,7 @@ ghost use Rattle.std.specs.Cmp.Lexicographic.{slice_cmp};
 ghost use Rattle.std.specs.List.Sorted.{IsPermutation, IsSortedByKey};
 ghost use Rattle.std.specs.Ordering.{nat_cmp};
 ghost use Rattle.bson_base.specs.Value.{HasDistinctKeys, ItemsHaveDistinctKeys, MembersHaveDistinctKeys};
-ghost use Rattle.bson_model.specs.Rest.{owned_pair};
+ghost use Rattle.bson_model.specs.Rest.{owned_member};
 ghost use Rattle.bson_model.specs.View.{view, pairs_of, items_of, members_of};
 ghost use Rattle.bson_meaning.specs.Meaning.{asc, asc_items, asc_members};
 ghost use Rattle.bson_meaning.specs.Pairs.{sorted_pair};
@@ -46,7 +46,7 @@ pub(crate) fn sorted_document(alloc: Global, document: Document) -> Result<Docum
 #[cycle(sorted)]
 fn sorted_pairs(alloc: Global, document: Document) -> Result<Vec<(String, Bson)>, AllocError>
     requires { MembersHaveDistinctKeys (members_of (pairs_of document)) }
-    ensures { IfOk result (λ v. map owned_pair v.items ≡ map sorted_pair (pairs_of document)) }
+    ensures { IfOk result (λ v. map owned_member v.items ≡ map sorted_pair (pairs_of document)) }
 {
     let mut pairs = Vec::with_capacity(alloc, document.len())?;
     for (key, value) in document {

@@ -7,7 +7,7 @@ ghost use Rattle.bson_model.specs.Equal.{SameKeys};
 ghost use Rattle.bson_model.specs.View.{view, pairs_of, items_of, members_of};
 ghost use Rattle.bson_raw.specs.View.{bytes_of, array_bytes, parts_of};
 ghost use Rattle.bson_meaning.specs.Meaning.{Same, SameItems, SameUnder};
-ghost use Rattle.bson_meaning.specs.Views.{ComparesPayload, shown, Shows, ShowsFixed, ShowsNumber, ShowsScalar};
+ghost use Rattle.bson_meaning.specs.Views.{ComparesPayload, shown, ShowsValue, ShowsFixed, ShowsNumber, ShowsScalar};
 
 use crate::options::same_options;
 use crate::scalars::{normal_decimal, normal_double, normal_subtype};
@@ -19,7 +19,7 @@ use bson_raw::{RawArray, RawBsonRef, RawDocument, RawElement};
 /// Whether a view means the same as a value, where the view has no fault and no key twice at any level; of other views nothing
 /// is said. Each key is looked up by its hash. Takes no memory.
 pub fn same_as_raw(raw: RawBsonRef<'_>, value: &Bson) -> bool
-    ensures { (v : Value) → Shows raw.entry v → HasDistinctKeys v → IsTrue result ↔ Same v (view value.now) }
+    ensures { (v : Value) → ShowsValue raw.entry v → HasDistinctKeys v → IsTrue result ↔ Same v (view value.now) }
 {
     distinct_keys(value);
     same_value(raw, value)
@@ -28,7 +28,7 @@ pub fn same_as_raw(raw: RawBsonRef<'_>, value: &Bson) -> bool
 #[cycle(views)]
 fn same_value(raw: RawBsonRef<'_>, value: &Bson) -> bool
     requires { HasDistinctKeys (view value.now) }
-    ensures { (v : Value) → Shows raw.entry v → HasDistinctKeys v → IsTrue result ↔ Same v (view value.now) }
+    ensures { (v : Value) → ShowsValue raw.entry v → HasDistinctKeys v → IsTrue result ↔ Same v (view value.now) }
 {
     match raw {
         RawBsonRef::Array(array) => match value {

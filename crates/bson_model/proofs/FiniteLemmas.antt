@@ -5,7 +5,7 @@ use Rattle.serde_json.specs.Data as json
 use Rattle.serde_json.specs.Data.{Data}
 use Rattle.bson_base.specs.Doubles.{is_nan, is_infinite, is_zero}
 use Rattle.bson_base.specs.Value.{Scalar, double, Value, scalar, array, document, scoped_code, Items, no_items, item, Members, no_members, member}
-use Rattle.bson_model.specs.JsonWrite.{double_text, holds_finite, is_finite, items_hold_finite, members_hold_finite, scalar_is_finite, unsigned_text, with_scope, write, write_items, write_members, write_scalar}
+use Rattle.bson_model.specs.JsonWrite.{double_text, holds_finite, is_finite_and_not_zero, items_hold_finite, members_hold_finite, scalar_is_finite, unsigned_text, with_scope, write, write_items, write_members, write_scalar}
 use Rattle.bson_model.specs.declared.extjson.ser.Mode.{Mode}
 
 some_mapped : {A B : Type 0} (f : A → B) (o : Option A) → is_some (option_map f o) ≡ is_some o
@@ -18,7 +18,7 @@ text_there false true c s t u = refl
 text_there false false true s t u = refl
 text_there false false false s t u = refl
 
-double_there : (n : ℕ) → is_some (unsigned_text n) ≡ not (is_finite n)
+double_there : (n : ℕ) → is_some (unsigned_text n) ≡ not (is_finite_and_not_zero n)
 double_there n = text_there (is_nan n) (is_infinite n) (is_zero n) (codes "NaN") (codes "Infinity") (codes "0.0")
 
 scalar_there : (m : Mode) (s : Scalar) → is_some (write_scalar m s) ≡ not (scalar_is_finite s)

@@ -19,7 +19,7 @@ use Rattle.bson_base.specs.declared.spec.BinarySubtype.TheVariants.{Uuid}
 use Rattle.bson_base.proofs.PrintedReads.{both as both_true}
 use Rattle.bson_model.specs.JsonGrammar.{one, two, ReadsDate, ReadsBody, Reads, ReadsItems, ReadsMembers, ReadsTyped, ReadsScope}
 use Rattle.bson_model.specs.JsonKeys.{Reserved, of_id, of_symbol, of_regex, of_int, of_long, of_double, of_decimal, of_binary, of_uuid, of_code, of_timestamp, of_date, of_min, of_max, of_pointer, of_undefined, key_of, scope_key, reserved_of, any_reserved}
-use Rattle.bson_model.specs.JsonRead.{◌>>=◌, wanted, accepted, accepted_id, text_of, single, under, pair_of, both, u32_from, u32_of, is_one, is_true, integer, whole, id_body, regex_body, int_body, long_body, double_body, decimal_body, byte_body, base64_body, binary_body, uuid_body, timestamp_body, date_body, pointer_body, constant, read_body, read_wrapped, with_scope, read, read_items, read_members, read_typed, read_scope}
+use Rattle.bson_model.specs.JsonRead.{◌>>=◌, wanted, accepted, accepted_id, text_of, single, under, bodies_in, bodies_under, u32_from, u32_of, is_one, is_true, integer, whole, id_body, regex_body, int_body, long_body, double_body, decimal_body, byte_body, base64_body, binary_body, uuid_body, timestamp_body, read_date_body, pointer_body, constant, read_body, read_wrapped, code_and_scope, read, read_items, read_members, read_typed, read_scope}
 use Rattle.bson_model.specs.JsonTexts.{int_of, long_of, double_of, byte_of}
 use Rattle.bson_model.specs.declared.extjson.de.Error.{Error}
 
@@ -64,7 +64,7 @@ under_ok k (object js) j h = ap object (single_ok k js j h)
 under_ok k _ j h = absurd (cc h)
 
 pair_by : (b : Bool) (k l m n : List ℕ) (i j : Data) (p : Data × Data) → (bytes_eq m k && bytes_eq n l) ≡ b
-    → pair_of k l (tree.member m i (tree.member n j tree.no_members)) ≡ Ok p → tree.member m i (tree.member n j tree.no_members) ≡ tree.member k p.0 (tree.member l p.1 tree.no_members)
+    → bodies_in k l (tree.member m i (tree.member n j tree.no_members)) ≡ Ok p → tree.member m i (tree.member n j tree.no_members) ≡ tree.member k p.0 (tree.member l p.1 tree.no_members)
 pair_by true k l m n i j p e h =
     let t = both_true (bytes_eq m k) (bytes_eq n l) e in
     let first : m ≡ k = same_key m k t.0 in
@@ -73,13 +73,13 @@ pair_by true k l m n i j p e h =
     rw (first, second, sym got) refl
 pair_by false k l m n i j p e h = absurd (cc (rw e at h))
 
-pair_ok : (k l : List ℕ) (js : tree.Members) (p : Data × Data) → pair_of k l js ≡ Ok p → js ≡ tree.member k p.0 (tree.member l p.1 tree.no_members)
+pair_ok : (k l : List ℕ) (js : tree.Members) (p : Data × Data) → bodies_in k l js ≡ Ok p → js ≡ tree.member k p.0 (tree.member l p.1 tree.no_members)
 pair_ok k l tree.no_members p h = absurd (cc h)
 pair_ok k l (tree.member m i tree.no_members) p h = absurd (cc h)
 pair_ok k l (tree.member m i (tree.member n j tree.no_members)) p h = pair_by (bytes_eq m k && bytes_eq n l) k l m n i j p refl h
 pair_ok k l (tree.member m i (tree.member n j (tree.member o d ms))) p h = absurd (cc h)
 
-both_ok : (k l : List ℕ) (j : Data) (p : Data × Data) → both k l j ≡ Ok p → j ≡ two k p.0 l p.1
+both_ok : (k l : List ℕ) (j : Data) (p : Data × Data) → bodies_under k l j ≡ Ok p → j ≡ two k p.0 l p.1
 both_ok k l (object js) p h = ap object (pair_ok k l js p h)
 both_ok k l _ p h = absurd (cc h)
 
@@ -120,7 +120,7 @@ long_so j z h = let a = text_body (λ t. wanted (long_of t)) j z h in (a.0, a.1,
 regex_so : (j : Data) (s : Scalar) → read_body of_regex j ≡ Ok s → ReadsBody of_regex j s
 regex_so j s h =
     let a = bind_ok (regex_body j) (λ r. Ok (regex r.0 r.1)) s h in
-    let b = bind_ok (both (codes "options") (codes "pattern") j) (λ p. text_of p.0 >>= λ o. text_of p.1 >>= λ t. Ok (t, sorted_text o)) a.0 a.1 in
+    let b = bind_ok (bodies_under (codes "options") (codes "pattern") j) (λ p. text_of p.0 >>= λ o. text_of p.1 >>= λ t. Ok (t, sorted_text o)) a.0 a.1 in
     let c = text_body (λ o. text_of b.0.1 >>= λ t. Ok (t, sorted_text o)) b.0.0 a.0 b.2 in
     let d = text_body (λ t. Ok (t, sorted_text c.0)) b.0.1 a.0 c.2 in
     let pair : (d.0, sorted_text c.0) ≡ a.0 = cc d.2 in
@@ -135,7 +135,7 @@ base64_so u j s h =
 
 binary_so : (j : Data) (s : Scalar) → binary_body j ≡ Ok s → ReadsBody of_binary j s
 binary_so j s h =
-    let a = bind_ok (both (codes "base64") (codes "subType") j) (λ p. byte_body p.1 >>= λ b. base64_body (subtype_of b) p.0) s h in
+    let a = bind_ok (bodies_under (codes "base64") (codes "subType") j) (λ p. byte_body p.1 >>= λ b. base64_body (subtype_of b) p.0) s h in
     let b = bind_ok (byte_body a.0.1) (λ b. base64_body (subtype_of b) a.0.0) s a.2 in
     let c = text_body (λ t. wanted (byte_of t)) a.0.1 b.0 b.1 in
     let d = base64_so (subtype_of b.0) a.0.0 s b.2 in
@@ -159,7 +159,7 @@ decimal_so j s h =
 timestamp_so : (j : Data) (s : Scalar) → read_body of_timestamp j ≡ Ok s → ReadsBody of_timestamp j s
 timestamp_so j s h =
     let a = bind_ok (timestamp_body j) (λ t. Ok (timestamp t.0 t.1)) s h in
-    let b = bind_ok (both (codes "i") (codes "t") j) (λ p. u32_of p.0 >>= λ i. u32_of p.1 >>= λ t. Ok (t, i)) a.0 a.1 in
+    let b = bind_ok (bodies_under (codes "i") (codes "t") j) (λ p. u32_of p.0 >>= λ i. u32_of p.1 >>= λ t. Ok (t, i)) a.0 a.1 in
     let c = bind_ok (u32_of b.0.0) (λ i. u32_of b.0.1 >>= λ t. Ok (t, i)) a.0 b.2 in
     let d = bind_ok (u32_of b.0.1) (λ t. Ok (t, c.0)) a.0 c.2 in
     let i = u32_ok b.0.0 c.0 c.1 in
@@ -168,7 +168,7 @@ timestamp_so j s h =
     let is : s ≡ timestamp a.0.0 a.0.1 = cc a.2 in
     (d.0, c.0, both_ok (codes "i") (codes "t") j b.0 b.1 ∙ (λ k. two (codes "i") (i.0 k) (codes "t") (t.0 k)), i.1, t.1, is ∙ ap (λ p. timestamp p.0 p.1) (sym pair))
 
-date_so : (j : Data) (z : ℤ) → date_body j ≡ Ok z → ReadsDate j z
+date_so : (j : Data) (z : ℤ) → read_date_body j ≡ Ok z → ReadsDate j z
 date_so (text t) z h = accepted_ok (date_of t) z h
 date_so (number n) z h = wanted_ok (as_i64 n) z h
 date_so (object js) z h =
@@ -180,7 +180,7 @@ date_so _ z h = absurd (cc h)
 pointer_so : (j : Data) (s : Scalar) → read_body of_pointer j ≡ Ok s → ReadsBody of_pointer j s
 pointer_so j s h =
     let a = bind_ok (pointer_body j) (λ p. Ok (db_pointer p.0 p.1)) s h in
-    let b = bind_ok (both (codes "$id") (codes "$ref") j) (λ p. under (key_of of_id) p.0 >>= id_body >>= λ bs. text_of p.1 >>= λ t. Ok (t, bs)) a.0 a.1 in
+    let b = bind_ok (bodies_under (codes "$id") (codes "$ref") j) (λ p. under (key_of of_id) p.0 >>= id_body >>= λ bs. text_of p.1 >>= λ t. Ok (t, bs)) a.0 a.1 in
     let c = bind_ok (under (key_of of_id) b.0.0 >>= id_body) (λ bs. text_of b.0.1 >>= λ t. Ok (t, bs)) a.0 b.2 in
     let d = bind_ok (under (key_of of_id) b.0.0) id_body c.0 c.1 in
     let e = id_so d.0 c.0 d.2 in
@@ -205,7 +205,7 @@ body_so of_binary j s h = binary_so j s h
 body_so of_uuid j s h = uuid_so j s h
 body_so of_code j s h = let a = text_body (λ t. Ok (code t)) j s h in (a.0, a.1, cc a.2)
 body_so of_timestamp j s h = timestamp_so j s h
-body_so of_date j s h = let a = bind_ok (date_body j) (λ z. Ok (date_time z)) s h in (a.0, date_so j a.0 a.1, cc a.2)
+body_so of_date j s h = let a = bind_ok (read_date_body j) (λ z. Ok (date_time z)) s h in (a.0, date_so j a.0 a.1, cc a.2)
 body_so of_min j s h = let a = constant_ok (is_one j) min_key s h in (one_ok j a.0, a.1)
 body_so of_max j s h = let a = constant_ok (is_one j) max_key s h in (one_ok j a.0, a.1)
 body_so of_pointer j s h = pointer_so j s h
@@ -213,10 +213,10 @@ body_so of_undefined j s h = let a = constant_ok (is_true j) undefined s h in (t
 
 -- ---- and back
 
-date_back : (j : Data) (z : ℤ) → ReadsDate j z → date_body j ≡ Ok z
+date_back : (j : Data) (z : ℤ) → ReadsDate j z → read_date_body j ≡ Ok z
 date_back (text t) z h = rw h refl
 date_back (number n) z h = rw h refl
-date_back (object js) z h = ap date_body h.1 ∙ rw h.2 refl
+date_back (object js) z h = ap read_date_body h.1 ∙ rw h.2 refl
 date_back _ z h = absurd h
 
 body_back : (r : Reserved) (j : Data) (s : Scalar) → ReadsBody r j s → read_body r j ≡ Ok s
@@ -258,14 +258,14 @@ object_by true js v e typed members h = rw e (typed (rw e at h))
 object_by false js v e typed members h = rw e (let a = bind_ok (read_members js) (λ ms. Ok (document ms)) v (rw e at h) in (a.0, members a.0 a.1, cc a.2))
 
 abbrev ScopeGoes : Data → Type 0
-ScopeGoes i = (t : List ℕ) (o : Option Members) (v : Value) → read_scope i ≡ Ok o → v ≡ with_scope t o → ReadsScope t i v
+ScopeGoes i = (t : List ℕ) (o : Option Members) (v : Value) → read_scope i ≡ Ok o → v ≡ code_and_scope t o → ReadsScope t i v
 
 two_by : (b : Bool) (k l : List ℕ) (j i : Data) (v : Value) → (bytes_eq k (key_of of_code) && bytes_eq l scope_key) ≡ b → ScopeGoes i
     → read_typed (tree.member k j (tree.member l i tree.no_members)) ≡ Ok v → ReadsTyped (tree.member k j (tree.member l i tree.no_members)) v
 two_by true k l j i v e scope h =
     let keys = both_true (bytes_eq k (key_of of_code)) (bytes_eq l scope_key) e in
-    let a = text_body (λ t. read_scope i >>= λ o. Ok (with_scope t o)) j v (rw e at h) in
-    let b = bind_ok (read_scope i) (λ o. Ok (with_scope a.0 o)) v a.2 in
+    let a = text_body (λ t. read_scope i >>= λ o. Ok (code_and_scope t o)) j v (rw e at h) in
+    let b = bind_ok (read_scope i) (λ o. Ok (code_and_scope a.0 o)) v a.2 in
     (a.0, same_key k (key_of of_code) keys.0, same_key l scope_key keys.1, a.1, scope a.0 b.0 v b.1 (cc b.2))
 two_by false k l j i v e scope h = absurd (cc (rw e at h))
 
@@ -302,12 +302,12 @@ mutual
   typed_so (tree.member k j (tree.member l i tree.no_members)) v h = two_by (bytes_eq k (key_of of_code) && bytes_eq l scope_key) k l j i v refl (scope_so i) h
   typed_so (tree.member k j (tree.member l i (tree.member m d js))) v h = absurd (cc h)
 
-  scope_so : (i : Data) (t : List ℕ) (o : Option Members) (v : Value) → read_scope i ≡ Ok o → v ≡ with_scope t o → ReadsScope t i v
-  scope_so tree.null t o v h e = let none : o ≡ None = cc h in e ∙ ap (with_scope t) none
+  scope_so : (i : Data) (t : List ℕ) (o : Option Members) (v : Value) → read_scope i ≡ Ok o → v ≡ code_and_scope t o → ReadsScope t i v
+  scope_so tree.null t o v h e = let none : o ≡ None = cc h in e ∙ ap (code_and_scope t) none
   scope_so (object js) t o v h e =
       let a = bind_ok (read_members js) (λ ms. Ok (Some ms)) o h in
       let some : o ≡ Some a.0 = cc a.2 in
-      (a.0, members_so js a.0 a.1, e ∙ ap (with_scope t) some)
+      (a.0, members_so js a.0 a.1, e ∙ ap (code_and_scope t) some)
   scope_so _ t o v h e = absurd (cc h)
 
 -- ---- and back
@@ -349,7 +349,7 @@ mutual
   typed_back (tree.member k j (tree.member l i tree.no_members)) v h = rw (h.1, h.2, h.3) (scope_back h.0 i v h.4)
   typed_back (tree.member k j (tree.member l i (tree.member m d js))) v h = absurd h
 
-  scope_back : (t : List ℕ) (i : Data) (v : Value) → ReadsScope t i v → (read_scope i >>= λ o. Ok (with_scope t o)) ≡ Ok v
+  scope_back : (t : List ℕ) (i : Data) (v : Value) → ReadsScope t i v → (read_scope i >>= λ o. Ok (code_and_scope t o)) ≡ Ok v
   scope_back t tree.null v h = rw h refl
   scope_back t (object js) v h = rw (members_back js h.0 h.1, h.2) refl
   scope_back t (tree.boolean b) v h = absurd h

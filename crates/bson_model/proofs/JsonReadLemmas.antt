@@ -14,7 +14,7 @@ use Rattle.serde_json.specs.declared.value.Value as json
 use Rattle.bson_base.specs.Value.{Value, Items, no_items, item, Members, no_members, member}
 use Rattle.bson_pairs.specs.Keyed.{Key, put}
 use Rattle.bson_model.specs.JsonKeys.{key_of, of_code, scope_key}
-use Rattle.bson_model.specs.JsonRead.{◌>>=◌, Fails, Gives, read, read_items, read_members, read_typed, text_of, read_scope, with_scope}
+use Rattle.bson_model.specs.JsonRead.{◌>>=◌, Fails, GivesReading, read, read_items, read_members, read_typed, text_of, read_scope, code_and_scope}
 use Rattle.bson_model.specs.View.{view, items_of, members_of}
 use Rattle.bson_model.specs.declared.bson.Bson.{Bson}
 use Rattle.bson_model.specs.declared.extjson.de.Error.{Error}
@@ -35,7 +35,7 @@ Fails-along DeserializationError r s same h = same ∙ h
 Fails-along FiniteDouble r s same h = same ∙ h
 
 -- the exit of a `?`
-pub Gives-err : {X Y : Type 0} (seen : X → Y) (r : Result X Error) (x : Error) (s : Result Y Error) → IsErrAnd r (λ y. y ≡ x) → Fails x s → Gives seen r s
+pub Gives-err : {X Y : Type 0} (seen : X → Y) (r : Result X Error) (x : Error) (s : Result Y Error) → IsErrAnd r (λ y. y ≡ x) → Fails x s → GivesReading seen r s
 Gives-err seen r x s is fails =
     let p = err_from_is_err_and r is in
     rw (p.1, p.2) fails
@@ -190,7 +190,7 @@ members_fail e all left more ps k v so first fails =
 
 pub typed_two : (es fs gs : List Entry) (k l : String Global) (v w : json.Value)
     → es ≡ (k, v) ∷ fs → fs ≡ (l, w) ∷ gs → gs ≡ [] → bytes_eq (string_bytes k) (key_of of_code) ≡ true → bytes_eq (string_bytes l) scope_key ≡ true
-    → read_typed (members_view es) ≡ (text_of (tree_of v) >>= λ s. read_scope (tree_of w) >>= λ o. Ok (with_scope s o))
+    → read_typed (members_view es) ≡ (text_of (tree_of v) >>= λ s. read_scope (tree_of w) >>= λ o. Ok (code_and_scope s o))
 typed_two es fs gs k l v w first second third code scope = rw (first, second, third, code, scope) refl
 
 pub none_left : {A : Type 0} (r : Option A) (xs ys : List Entry) (Q : A → Type 0) → is_some r ≡ false → MatchOption r ((xs ≡ []) × (ys ≡ [])) Q → xs ≡ []
@@ -198,8 +198,8 @@ none_left None xs ys Q h m = m.0
 none_left (Some x) xs ys Q h m = cc h
 
 pub after_text : (s : List ℕ) (d e : Data) (o : Option Members) → text_of d ≡ Ok s → read_scope e ≡ Ok o
-    → (text_of d >>= λ u. read_scope e >>= λ p. Ok (with_scope u p)) ≡ Ok (with_scope s o)
+    → (text_of d >>= λ u. read_scope e >>= λ p. Ok (code_and_scope u p)) ≡ Ok (code_and_scope s o)
 after_text s d e o code scope = rw (code, scope) refl
 
-pub after_text_fails : (x : Error) (s : List ℕ) (d e : Data) → text_of d ≡ Ok s → Fails x (read_scope e) → Fails x (text_of d >>= λ u. read_scope e >>= λ p. Ok (with_scope u p))
-after_text_fails x s d e code scope = rw code (Fails-bind x (read_scope e) (λ p. Ok (with_scope s p)) scope)
+pub after_text_fails : (x : Error) (s : List ℕ) (d e : Data) → text_of d ≡ Ok s → Fails x (read_scope e) → Fails x (text_of d >>= λ u. read_scope e >>= λ p. Ok (code_and_scope u p))
+after_text_fails x s d e code scope = rw code (Fails-bind x (read_scope e) (λ p. Ok (code_and_scope s p)) scope)

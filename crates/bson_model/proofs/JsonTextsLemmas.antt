@@ -5,7 +5,7 @@ use Rattle.std.specs.Char.{is_ascii_digit, digit_value}
 use Rattle.std.specs.Str.Parse.{AllDigits, IsNumeral, digits_value_after, starts_with_minus, without_leading_sign, signed_digits_value}
 use Rattle.bson_base.specs.Decimal.{all_digits, value_after}
 use Rattle.bson_base.proofs.PrintedReads.{both}
-use Rattle.bson_model.specs.JsonTexts.{signed, is_digits, with_sign, integer_of, fits_32, fits_64, only, int_of, long_of}
+use Rattle.bson_model.specs.JsonTexts.{signed, is_digits, with_sign, integer_of, fits_32, fits_64, only_where, int_of, long_of}
 use Rattle.bson_model.specs.JsonRead.{wanted}
 use Rattle.bson_model.specs.declared.extjson.de.Error.TheVariants.{DeserializationError}
 
@@ -83,23 +83,23 @@ so_fits_64 (negsuc n) h = record { sfits = grind arith }
 -- ---- what `parse` reads
 
 module _ (F : ℤ → Type 0) (fits : ℤ → Bool) (so : (z : ℤ) → F z → fits z ≡ true) (back : (z : ℤ) → fits z ≡ true → F z) where
-  read_some : (t : List ℕ) (z : ℤ) → (IsNumeral 10 (without_leading_sign t) × F (signed_digits_value 10 t)) × (z ≡ signed_digits_value 10 t) → only fits (integer_of t) ≡ Some z
+  read_some : (t : List ℕ) (z : ℤ) → (IsNumeral 10 (without_leading_sign t) × F (signed_digits_value 10 t)) × (z ≡ signed_digits_value 10 t) → only_where fits (integer_of t) ≡ Some z
   read_some t z h = rw (integer_some t h.0.0, so (signed_digits_value 10 t) h.0.1) (ap Some (sym h.1))
 
-  out_of_range : (t : List ℕ) → (F (signed_digits_value 10 t) → ⊥) → only fits (Some (signed_digits_value 10 t)) ≡ None
+  out_of_range : (t : List ℕ) → (F (signed_digits_value 10 t) → ⊥) → only_where fits (Some (signed_digits_value 10 t)) ≡ None
   out_of_range t h = by (fits (signed_digits_value 10 t)) refl
     where
-      by : (b : Bool) → fits (signed_digits_value 10 t) ≡ b → only fits (Some (signed_digits_value 10 t)) ≡ None
+      by : (b : Bool) → fits (signed_digits_value 10 t) ≡ b → only_where fits (Some (signed_digits_value 10 t)) ≡ None
       by true e = absurd (h (back (signed_digits_value 10 t) e))
       by false e = rw e refl
 
-  read_none : (t : List ℕ) → (IsNumeral 10 (without_leading_sign t) × F (signed_digits_value 10 t) → ⊥) → only fits (integer_of t) ≡ None
+  read_none : (t : List ℕ) → (IsNumeral 10 (without_leading_sign t) × F (signed_digits_value 10 t) → ⊥) → only_where fits (integer_of t) ≡ None
   read_none t h = by (is_digits (signed t).1) refl
     where
-      by : (b : Bool) → is_digits (signed t).1 ≡ b → only fits (integer_of t) ≡ None
+      by : (b : Bool) → is_digits (signed t).1 ≡ b → only_where fits (integer_of t) ≡ None
       by true e =
           let n = numeral (without_leading_sign t) (sym (ap (λ s. is_digits s.1) (signed_is t)) ∙ e) in
-          ap (only fits) (integer_some t n) ∙ out_of_range t (λ f. h (n, f))
+          ap (only_where fits) (integer_some t n) ∙ out_of_range t (λ f. h (n, f))
       by false e = rw e refl
 
 pub int_some : (t : List ℕ) (z : ℤ) → (IsNumeral 10 (without_leading_sign t) × FitsSigned w32 (signed_digits_value 10 t)) × (z ≡ signed_digits_value 10 t) → Ok z ≡ wanted (int_of t)

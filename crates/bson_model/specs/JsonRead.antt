@@ -64,13 +64,13 @@ under k (object js) = single k js
 under k _ = Err DeserializationError
 
 -- the bodies of an object with these two keys alone
-abbrev pub pair_of : List ℕ → List ℕ → tree.Members → Result (Data × Data) Error
-pair_of k l (tree.member m i (tree.member n j tree.no_members)) = if bytes_eq m k && bytes_eq n l then Ok (i, j) else Err DeserializationError
-pair_of k l _ = Err DeserializationError
+abbrev pub bodies_in : List ℕ → List ℕ → tree.Members → Result (Data × Data) Error
+bodies_in k l (tree.member m i (tree.member n j tree.no_members)) = if bytes_eq m k && bytes_eq n l then Ok (i, j) else Err DeserializationError
+bodies_in k l _ = Err DeserializationError
 
-abbrev pub both : List ℕ → List ℕ → Data → Result (Data × Data) Error
-both k l (object js) = pair_of k l js
-both k l _ = Err DeserializationError
+abbrev pub bodies_under : List ℕ → List ℕ → Data → Result (Data × Data) Error
+bodies_under k l (object js) = bodies_in k l js
+bodies_under k l _ = Err DeserializationError
 
 abbrev pub below_32 : ℕ → Option ℕ
 below_32 n = if nat_lt n (2 ^ 32) then Some n else None
@@ -110,7 +110,7 @@ id_body j = text_of j >>= λ t. accepted_id (object_id_of t)
 
 -- pattern and options
 abbrev pub regex_body : Data → Result (List ℕ × List ℕ) Error
-regex_body j = both (codes "options") (codes "pattern") j >>= λ p. text_of p.0 >>= λ o. text_of p.1 >>= λ t. Ok (t, sorted_text o)
+regex_body j = bodies_under (codes "options") (codes "pattern") j >>= λ p. text_of p.0 >>= λ o. text_of p.1 >>= λ t. Ok (t, sorted_text o)
 
 abbrev pub int_body : Data → Result ℤ Error
 int_body j = text_of j >>= λ t. wanted (int_of t)
@@ -133,24 +133,24 @@ abbrev pub byte_body : Data → Result ℕ Error
 byte_body j = text_of j >>= λ t. wanted (byte_of t)
 
 abbrev pub binary_body : Data → Result Scalar Error
-binary_body j = both (codes "base64") (codes "subType") j >>= λ p. byte_body p.1 >>= λ b. base64_body (subtype_of b) p.0
+binary_body j = bodies_under (codes "base64") (codes "subType") j >>= λ p. byte_body p.1 >>= λ b. base64_body (subtype_of b) p.0
 
 abbrev pub uuid_body : Data → Result Scalar Error
 uuid_body j = text_of j >>= λ t. accepted (read_uuid t) >>= λ bs. Ok (binary Uuid bs)
 
 -- time and increment
 abbrev pub timestamp_body : Data → Result (ℕ × ℕ) Error
-timestamp_body j = both (codes "i") (codes "t") j >>= λ p. u32_of p.0 >>= λ i. u32_of p.1 >>= λ t. Ok (t, i)
+timestamp_body j = bodies_under (codes "i") (codes "t") j >>= λ p. u32_of p.0 >>= λ i. u32_of p.1 >>= λ t. Ok (t, i)
 
-abbrev pub date_body : Data → Result ℤ Error
-date_body (text t) = accepted (date_of t)
-date_body (number n) = wanted (as_i64 n)
-date_body (object js) = single (key_of of_long) js >>= long_body
-date_body _ = Err DeserializationError
+abbrev pub read_date_body : Data → Result ℤ Error
+read_date_body (text t) = accepted (date_of t)
+read_date_body (number n) = wanted (as_i64 n)
+read_date_body (object js) = single (key_of of_long) js >>= long_body
+read_date_body _ = Err DeserializationError
 
 -- name and object id
 abbrev pub pointer_body : Data → Result (List ℕ × List ℕ) Error
-pointer_body j = both (codes "$id") (codes "$ref") j >>= λ p. under (key_of of_id) p.0 >>= id_body >>= λ bs. text_of p.1 >>= λ t. Ok (t, bs)
+pointer_body j = bodies_under (codes "$id") (codes "$ref") j >>= λ p. under (key_of of_id) p.0 >>= id_body >>= λ bs. text_of p.1 >>= λ t. Ok (t, bs)
 
 -- one value, where its body is right
 abbrev pub constant : Bool → Scalar → Result Scalar Error
@@ -168,7 +168,7 @@ read_body of_binary j = binary_body j
 read_body of_uuid j = uuid_body j
 read_body of_code j = text_of j >>= λ t. Ok (code t)
 read_body of_timestamp j = timestamp_body j >>= λ t. Ok (timestamp t.0 t.1)
-read_body of_date j = date_body j >>= λ z. Ok (date_time z)
+read_body of_date j = read_date_body j >>= λ z. Ok (date_time z)
 read_body of_min j = constant (is_one j) min_key
 read_body of_max j = constant (is_one j) max_key
 read_body of_pointer j = pointer_body j >>= λ p. Ok (db_pointer p.0 p.1)
@@ -183,9 +183,9 @@ read_wrapped None j = Err DeserializationError
 read_wrapped (Some r) j = scalar_of (read_body r j)
 
 -- code beside what its scope reads as, where it has one
-abbrev pub with_scope : List ℕ → Option Members → Value
-with_scope t (Some ms) = scoped_code t ms
-with_scope t None = scalar (code t)
+abbrev pub code_and_scope : List ℕ → Option Members → Value
+code_and_scope t (Some ms) = scoped_code t ms
+code_and_scope t None = scalar (code t)
 
 -- ---- values
 
@@ -212,7 +212,7 @@ abbrev mutual
   read_typed tree.no_members = Err DeserializationError
   read_typed (tree.member k j tree.no_members) = read_wrapped (reserved_of k) j
   read_typed (tree.member k j (tree.member l i tree.no_members)) =
-      if bytes_eq k (key_of of_code) && bytes_eq l scope_key then (text_of j >>= λ t. read_scope i >>= λ o. Ok (with_scope t o)) else Err DeserializationError
+      if bytes_eq k (key_of of_code) && bytes_eq l scope_key then (text_of j >>= λ t. read_scope i >>= λ o. Ok (code_and_scope t o)) else Err DeserializationError
   read_typed (tree.member k j (tree.member l i (tree.member m h js))) = Err DeserializationError
 
   -- the members of a scope, where there is one
@@ -234,6 +234,6 @@ Fails DeserializationError r = r ≡ Err DeserializationError
 Fails FiniteDouble r = r ≡ Err FiniteDouble
 
 -- The answer x, seen by `view`, is what reading gives, unless memory ran out.
-abbrev pub Gives : {X Y : Type 0} → (X → Y) → Result X Error → Result Y Error → Type 0
-Gives view (Ok x) r = r ≡ Ok (view x)
-Gives view (Err e) r = Fails e r
+abbrev pub GivesReading : {X Y : Type 0} → (X → Y) → Result X Error → Result Y Error → Type 0
+GivesReading view (Ok x) r = r ≡ Ok (view x)
+GivesReading view (Err e) r = Fails e r

@@ -30,30 +30,30 @@ fits_32 z = int_le (negsuc 2147483647) z && int_le z (pos 2147483647)
 abbrev pub fits_64 : ℤ → Bool
 fits_64 z = int_le (negsuc 9223372036854775807) z && int_le z (pos 9223372036854775807)
 
-abbrev pub only : (ℤ → Bool) → Option ℤ → Option ℤ
-only p None = None
-only p (Some z) = if p z then Some z else None
+abbrev pub only_where : (ℤ → Bool) → Option ℤ → Option ℤ
+only_where p None = None
+only_where p (Some z) = if p z then Some z else None
 
 -- of 32 bits
 unfoldable pub int_of : List ℕ → Option ℤ
-int_of t = only fits_32 (integer_of t)
+int_of t = only_where fits_32 (integer_of t)
 
 -- of 64 bits
 unfoldable pub long_of : List ℕ → Option ℤ
-long_of t = only fits_64 (integer_of t)
+long_of t = only_where fits_64 (integer_of t)
 
 -- ---- doubles: of the finite ones the zeros alone
 
-abbrev pub sign_bit : Bool → ℕ
-sign_bit s = if s then 2 ^ 63 else 0
+abbrev pub double_sign_bit : Bool → ℕ
+double_sign_bit s = if s then 2 ^ 63 else 0
 
-abbrev pub joined : List ℕ × Option (List ℕ) → List ℕ
-joined (whole, None) = whole
-joined (whole, Some part) = whole ++ part
+abbrev pub joined_parts : List ℕ × Option (List ℕ) → List ℕ
+joined_parts (whole, None) = whole
+joined_parts (whole, Some part) = whole ++ part
 
 -- what stands before the exponent, without its first dot
 abbrev pub without_dot : List ℕ → List ℕ
-without_dot t = joined (cut is_dot t)
+without_dot t = joined_parts (cut is_dot t)
 
 -- behind `e`: a sign or none, and digits
 abbrev pub is_exponent : Option (List ℕ) → Bool
@@ -67,19 +67,19 @@ is_numeral (front, behind) = is_digits (without_dot front) && is_exponent behind
 -- the zero of the sign where all digits before the exponent are 0
 abbrev pub read_numeral : Bool → List ℕ × Option (List ℕ) → Result ℕ Error
 read_numeral s n =
-    if is_numeral n then (if all_zeros (without_dot n.0) then Ok (sign_bit s) else Err FiniteDouble)
+    if is_numeral n then (if all_zeros (without_dot n.0) then Ok (double_sign_bit s) else Err FiniteDouble)
     else Err DeserializationError
 
 -- what stands behind the sign
-abbrev pub read_unsigned : Bool × List ℕ → Result ℕ Error
-read_unsigned (s, t) =
-    if is_named t (codes "nan") then Ok (sign_bit s + 0x7FF8_0000_0000_0000)
-    else if is_named t (codes "inf") || is_named t (codes "infinity") then Ok (sign_bit s + 0x7FF0_0000_0000_0000)
+abbrev pub read_unsigned_double : Bool × List ℕ → Result ℕ Error
+read_unsigned_double (s, t) =
+    if is_named t (codes "nan") then Ok (double_sign_bit s + 0x7FF8_0000_0000_0000)
+    else if is_named t (codes "inf") || is_named t (codes "infinity") then Ok (double_sign_bit s + 0x7FF0_0000_0000_0000)
     else read_numeral s (cut is_e t)
 
 -- the pattern of 64 bits
 unfoldable pub double_of : List ℕ → Result ℕ Error
-double_of t = read_unsigned (signed t)
+double_of t = read_unsigned_double (signed t)
 
 -- ---- a byte
 

@@ -4,20 +4,20 @@ use Rattle.bson_model.specs.declared.extjson.de.keys.Wrapper.{Wrapper}
 use Rattle.bson_model.specs.declared.extjson.de.keys.Wrapper.TheVariants as wrapper
 
 -- the reserved key that a wrapper has
-abbrev pub meant : Wrapper → Reserved
-meant wrapper.Oid = of_id
-meant wrapper.Symbol = of_symbol
-meant wrapper.RegularExpression = of_regex
-meant wrapper.NumberInt = of_int
-meant wrapper.NumberLong = of_long
-meant wrapper.NumberDouble = of_double
-meant wrapper.NumberDecimal = of_decimal
-meant wrapper.Binary = of_binary
-meant wrapper.Uuid = of_uuid
-meant wrapper.Code = of_code
-meant wrapper.Timestamp = of_timestamp
-meant wrapper.Date = of_date
-meant wrapper.MinKey = of_min
-meant wrapper.MaxKey = of_max
-meant wrapper.DbPointer = of_pointer
-meant wrapper.Undefined = of_undefined
+abbrev pub reserved_key : Wrapper → Reserved
+reserved_key wrapper.Oid = of_id
+reserved_key wrapper.Symbol = of_symbol
+reserved_key wrapper.RegularExpression = of_regex
+reserved_key wrapper.NumberInt = of_int
+reserved_key wrapper.NumberLong = of_long
+reserved_key wrapper.NumberDouble = of_double
+reserved_key wrapper.NumberDecimal = of_decimal
+reserved_key wrapper.Binary = of_binary
+reserved_key wrapper.Uuid = of_uuid
+reserved_key wrapper.Code = of_code
+reserved_key wrapper.Timestamp = of_timestamp
+reserved_key wrapper.Date = of_date
+reserved_key wrapper.MinKey = of_min
+reserved_key wrapper.MaxKey = of_max
+reserved_key wrapper.DbPointer = of_pointer
+reserved_key wrapper.Undefined = of_undefined

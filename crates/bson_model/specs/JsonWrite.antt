@@ -121,22 +121,22 @@ abbrev mutual
   write_members m (member k v ms) found = option_and_then (λ j. write_members m ms (json.put k j found)) (write m v)
 
 -- What a writer answers, seen by `seen`, is what is to be written. It refuses what has no form, and else for want of memory alone.
-abbrev pub Refuses : {X : Type 0} → Error → Option X → Type 0
-Refuses Memory w = Unit {0}
-Refuses FiniteDouble w = w ≡ None
-Refuses (InvalidObjectId e) w = ⊥
-Refuses DeserializationError w = ⊥
+abbrev pub RefusesForm : {X : Type 0} → Error → Option X → Type 0
+RefusesForm Memory w = Unit {0}
+RefusesForm FiniteDouble w = w ≡ None
+RefusesForm (InvalidObjectId e) w = ⊥
+RefusesForm DeserializationError w = ⊥
 
-abbrev pub Writes : {X Y : Type 0} → (X → Y) → Result X Error → Option Y → Type 0
-Writes seen (Ok x) w = w ≡ Some (seen x)
-Writes seen (Err e) w = Refuses e w
+abbrev pub WritesForm : {X Y : Type 0} → (X → Y) → Result X Error → Option Y → Type 0
+WritesForm seen (Ok x) w = w ≡ Some (seen x)
+WritesForm seen (Err e) w = RefusesForm e w
 
 -- whether a finite double that isn't zero stands in the value
-abbrev pub is_finite : ℕ → Bool
-is_finite n = not (is_nan n || is_infinite n || is_zero n)
+abbrev pub is_finite_and_not_zero : ℕ → Bool
+is_finite_and_not_zero n = not (is_nan n || is_infinite n || is_zero n)
 
 abbrev pub scalar_is_finite : Scalar → Bool
-scalar_is_finite (double n) = is_finite n
+scalar_is_finite (double n) = is_finite_and_not_zero n
 scalar_is_finite _ = false
 
 abbrev mutual

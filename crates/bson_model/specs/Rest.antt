@@ -14,12 +14,12 @@ use Rattle.bson_model.specs.declared.document.iter.Keys.{Keys}
 use Rattle.bson_model.specs.declared.document.iter.Values.{Values}
 
 -- a pair that is lent by `&`, with its value seen
-abbrev pub lent_pair : Bor (String Global) × Bor Bson → Key × Value
-lent_pair p = (string_bytes p.0.now, view p.1.now)
+abbrev pub lent_member : Bor (String Global) × Bor Bson → Key × Value
+lent_member p = (string_bytes p.0.now, view p.1.now)
 
 -- a pair by value, with its value seen
-abbrev pub owned_pair : String Global × Bson → Key × Value
-owned_pair p = (string_bytes p.0, view p.1)
+abbrev pub owned_member : String Global × Bson → Key × Value
+owned_member p = (string_bytes p.0, view p.1)
 
 -- the pairs that an `Iter` has left
 abbrev pub iter_rest : Iter → List (Key × Value)

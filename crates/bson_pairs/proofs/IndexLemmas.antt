@@ -20,7 +20,7 @@ use Rattle.std.proofs.lemmas.Map.Text.{is_eq-slice_cmp}
 use Rattle.std.proofs.lemmas.Option.{slice_get_within, slice_get-map, get_or_from_slice_get}
 use Rattle.std.proofs.lemmas.Slice.Eq.{bytes_eq-Decides}
 use Rattle.bson_pairs.specs.Ascending.{key_cmp, ascending, find-ascending, is_sorted-ascending, same_ascending}
-use Rattle.bson_pairs.specs.Index.{numbered_from, index_of, places_of, is_key, lowered, StandsAt, GoesAt}
+use Rattle.bson_pairs.specs.Index.{numbered_from, index_of, places_of, is_key, lowered, IsIndexedAt, GoesAt}
 use Rattle.bson_pairs.specs.Keyed.{Key, key_bytes, get}
 use Rattle.bson_pairs.specs.Over.{over, get-over}
 
@@ -372,7 +372,7 @@ distinct-remove ks k i d is =
 
 -- ---- what the calls say
 
-module _ (ts : List (String Global)) (k : Key) (order : List ℕ) (j x : ℕ) (is : order ≡ places_of (key_bytes ts)) (s : StandsAt k j (key_bytes ts)) (read : x ≡ get_or order j x) where
+module _ (ts : List (String Global)) (k : Key) (order : List ℕ) (j x : ℕ) (is : order ≡ places_of (key_bytes ts)) (s : IsIndexedAt k j (key_bytes ts)) (read : x ≡ get_or order j x) where
   pub found_entry : slice_get (index_of (key_bytes ts)) j ≡ Some (k, x)
   found_entry =
       let es = index_of (key_bytes ts) in
@@ -403,7 +403,7 @@ pushed ts us t order places at n is d goes long grown put =
       subst (IsDistinct bytes_eq) (sym whole) (distinct-push (key_bytes ts) k d goes.1),
     )
 
-pub removed : (ts us : List (String Global)) (k : Key) (order places : List ℕ) (j x : ℕ) → order ≡ places_of (key_bytes ts) → IsDistinct bytes_eq (key_bytes ts) → StandsAt k j (key_bytes ts) → x ≡ get_or order j x
+pub removed : (ts us : List (String Global)) (k : Key) (order places : List ℕ) (j x : ℕ) → order ≡ places_of (key_bytes ts) → IsDistinct bytes_eq (key_bytes ts) → IsIndexedAt k j (key_bytes ts) → x ≡ get_or order j x
     → us ≡ remove ts x → places ≡ map (lowered x) (remove order j) → (places ≡ places_of (key_bytes us)) × IsDistinct bytes_eq (key_bytes us)
 removed ts us k order places j x is d s read shrunk taken =
     let whole : key_bytes us ≡ remove (key_bytes ts) x = ap key_bytes shrunk ∙ map-remove string_bytes ts x in (

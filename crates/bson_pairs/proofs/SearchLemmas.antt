@@ -6,7 +6,7 @@ use Rattle.std.proofs.Math.Nat.{pow-succ'}
 use Rattle.std.proofs.lemmas.Option.{slice_get_within}
 use Rattle.bson_pairs.proofs.IndexLemmas.{is_sorted-index, above_from, below_to, absent_between, goes_between, same_key}
 use Rattle.bson_pairs.specs.Ascending.{key_cmp}
-use Rattle.bson_pairs.specs.Index.{index_of, AtMostDigits, GoesAt, StandsAt}
+use Rattle.bson_pairs.specs.Index.{index_of, AtMostDigits, GoesAt, IsIndexedAt}
 use Rattle.bson_pairs.specs.Keyed.{Key}
 
 -- k isn't below `low` nor from `high` on, after so many comparisons
@@ -73,7 +73,7 @@ search_right ks k l i low high compared m s more is at greater =
       few = step ks k low high compared (high - (m + 1)) s more (omega arith);
     }
 
-pub search_found : (ks : List Key) (k l : Key) (i m : ℕ) → slice_get (index_of ks) m ≡ Some (l, i) → key_cmp k l ≡ Equal → StandsAt k m ks
+pub search_found : (ks : List Key) (k l : Key) (i m : ℕ) → slice_get (index_of ks) m ≡ Some (l, i) → key_cmp k l ≡ Equal → IsIndexedAt k m ks
 search_found ks k l i m at equal = (i, subst (λ l. slice_get (index_of ks) m ≡ Some (l, i)) (sym (same_key k l equal)) at)
 
 pub search_end : (ks : List Key) (k : Key) (low high compared : ℕ) → Searching ks k low high compared → high ≤ low → GoesAt k low ks

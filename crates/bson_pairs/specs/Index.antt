@@ -33,8 +33,8 @@ abbrev pub AtMostDigits : ℕ → ℕ → Type 0
 AtMostDigits c n = (d : ℕ) → n < 2 ^ d → c ≤ d
 
 -- k stands at j in the index of these keys
-abbrev pub StandsAt : Key → ℕ → List Key → Type 0
-StandsAt k j ks = (i : ℕ) × (slice_get (index_of ks) j ≡ Some (k, i))
+abbrev pub IsIndexedAt : Key → ℕ → List Key → Type 0
+IsIndexedAt k j ks = (i : ℕ) × (slice_get (index_of ks) j ≡ Some (k, i))
 
 -- k isn't among these keys, and would stand at j in their index
 abbrev pub GoesAt : Key → ℕ → List Key → Type 0

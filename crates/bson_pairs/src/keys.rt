@@ -2,7 +2,7 @@
 ghost use Rattle.std.specs.Prelude.{◌≡◌, ◌<◌, Some, None, ◌∷◌, ◌++◌, [], length, map, bytes_eq, string_bytes, MatchOption, IfSome, IfOk, IfErr, OnOk, OnErr, remove};
 ghost use Rattle.std.specs.List.{AllZip, IsDistinct, position};
 ghost use Rattle.bson_pairs.specs.Keyed.{key_bytes};
-ghost use Rattle.bson_pairs.specs.Index.{places_of, is_key, AtMostDigits, StandsAt, GoesAt, lowered};
+ghost use Rattle.bson_pairs.specs.Index.{places_of, is_key, AtMostDigits, IsIndexedAt, GoesAt, lowered};
 
 use std::alloc::{AllocError, Global};
 use std::cmp::Ordering;
@@ -33,7 +33,7 @@ impl Model for Keys {
 // Where a key stands in this index, or where it would go, and how many keys were compared.
 fn search(texts: &[String], order: &[usize], key: &str) -> (Result<usize, usize>, u64)
     requires { order.now ≡ places_of (key_bytes texts.now) }
-    ensures stands { IfOk result.0 (λ j. StandsAt key.now j (key_bytes texts.now)) }
+    ensures stands { IfOk result.0 (λ j. IsIndexedAt key.now j (key_bytes texts.now)) }
     ensures within { IfOk result.0 (λ j. j < length order.now) }
     ensures goes { IfErr result.0 (λ j. GoesAt key.now j (key_bytes texts.now)) }
     ensures compared { AtMostDigits result.1 (length order.now) }

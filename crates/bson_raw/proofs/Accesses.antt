@@ -7,15 +7,15 @@ use Rattle.bson_frame.specs.declared.error.ValueAccessErrorKind.TheVariants as r
 use Rattle.bson_frame.specs.Frame.{Element}
 use Rattle.bson_raw.specs.declared.bson_ref.RawBsonRef.{RawBsonRef}
 use Rattle.bson_raw.specs.Read.{GetAnswer}
-use Rattle.bson_raw.specs.Access.{Takes, Refuses, AccessAnswer, any_value}
+use Rattle.bson_raw.specs.Access.{TakesValue, RefusesAccess, AccessAnswer, any_value}
 
-pub takes_any : (found : Option (Result Element ErrorKind)) (v : RawBsonRef) → GetAnswer found (Ok (Some v)) → Takes any_value found (Some v)
+pub takes_any : (found : Option (Result Element ErrorKind)) (v : RawBsonRef) → GetAnswer found (Ok (Some v)) → TakesValue any_value found (Some v)
 takes_any None v h = absurd h
 takes_any (Some (Ok e)) v h = record { element = e; is_found = refl; value = v; is_value = h; picked = refl }
 takes_any (Some (Err kind)) v h = absurd h
 
 -- a refusal that doesn't look at the value
-passes : {T : Type 0} (pick : RawBsonRef → Option T) (found : Option (Result Element ErrorKind)) (kind : ValueAccessErrorKind) → Refuses any_value found kind → Refuses pick found kind
+passes : {T : Type 0} (pick : RawBsonRef → Option T) (found : Option (Result Element ErrorKind)) (kind : ValueAccessErrorKind) → RefusesAccess any_value found kind → RefusesAccess pick found kind
 passes pick found refusals.NotPresent h = h
 passes pick found refusals.UnexpectedType h = absurd (let bad = h.picked in cc)
 passes pick found (refusals.InvalidBson e) h = h

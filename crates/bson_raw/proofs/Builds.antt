@@ -1,6 +1,6 @@
 -- Buffers that are built of several values.
 use Rattle.std.proofs.Common.{◌≡◌, ℕ, List, [], ◌∷◌, inl, inr, refl, sym, subst}
-use Rattle.bson_bytes.specs.Writing.{IsRefusal, Refuses}
+use Rattle.bson_bytes.specs.Writing.{IsWriteRefusal, RefusesWriting}
 use Rattle.bson_frame.specs.declared.error.Error.{Error}
 use Rattle.bson_frame.specs.declared.error.ErrorKind.{ErrorKind}
 use Rattle.bson_frame.specs.declared.error.ErrorKind.TheVariants.{OutOfMemory}
@@ -27,14 +27,14 @@ goes_on all p left bytes new way h = record {
 }
 
 pub stops : (all : List (List ℕ × RawValue)) (p : List ℕ × RawValue) (left : List (List ℕ × RawValue)) (bytes : List ℕ) (e : Error) → OnTheWay all (p ∷ left) bytes
-    → IsRefusal (CanTake bytes p.0 p.1 → ⊥) e → StopsAt empty_bytes all e
+    → IsWriteRefusal (CanTake bytes p.0 p.1 → ⊥) e → StopsAt empty_bytes all e
 stops all p left bytes e way h = way.stopped e (inl h)
 
 pub ends : (all left : List (List ℕ × RawValue)) (bytes : List ℕ) → OnTheWay all left bytes → left ≡ [] → AllTaken empty_bytes all bytes
 ends all left bytes way e = way.taken bytes (subst (λ (x : List (List ℕ × RawValue)). AllTaken bytes x bytes) (sym e) refl)
 
-want_for : (P : Type 0) (k : ErrorKind) → k ≡ OutOfMemory → Refuses P k
-want_for P k e = subst (λ (x : ErrorKind). Refuses P x) (sym e) tt
+want_for : (P : Type 0) (k : ErrorKind) → k ≡ OutOfMemory → RefusesWriting P k
+want_for P k e = subst (λ (x : ErrorKind). RefusesWriting P x) (sym e) tt
 
 pub no_memory : (bytes : List ℕ) (all : List (List ℕ × RawValue)) (e : Error) → IsBare OutOfMemory e → StopsAt bytes all e
 no_memory bytes [] e b = b

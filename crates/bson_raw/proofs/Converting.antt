@@ -15,7 +15,7 @@ use Rattle.bson_frame.specs.declared.error.Error.{Error}
 use Rattle.bson_frame.specs.Frame.{Element}
 use Rattle.bson_frame.specs.View.{fault_key}
 use Rattle.bson_model.specs.declared.bson.Bson.{Bson}
-use Rattle.bson_raw.specs.Convert.{Stands, elements_of, elements_in, HasFaultIn, HasFaultInside, IsValueOf, ConvertsValue, Tells}
+use Rattle.bson_raw.specs.Convert.{SpellsRawValue, elements_of, elements_in, HasFaultIn, HasFaultInside, IsValueOf, ConvertsValue, TellsFault}
 use Rattle.bson_raw.proofs.Progress.{told_on}
 
 -- how many bytes a value has inside that are read once more
@@ -45,7 +45,7 @@ module _ (tag : ElementType) (payload : List ℕ) where
   by_scalar s v kind holds faultless is = subst IsSpelled (sym is) (kind, (subst (λ (t : ElementType). IsFaultless t payload) (sym kind) faultless, holds))
 
   -- the tree that a value spells is one that its payload spells
-  pub spelled : (r : RawBsonRef) (v : Value) → kind_of r ≡ tag → Holds payload r → IsFaultless tag payload → Stands (ref_value r) v → IsSpelled v
+  pub spelled : (r : RawBsonRef) (v : Value) → kind_of r ≡ tag → Holds payload r → IsFaultless tag payload → SpellsRawValue (ref_value r) v → IsSpelled v
   spelled (values.Double x) v kind holds faultless is = by_scalar (double x.0) v kind holds faultless is
   spelled (values.String x) v kind holds faultless is = by_scalar (string x.now) v kind holds faultless is
   spelled (values.Array x) v kind holds faultless (vs, is, spells) = subst IsSpelled (sym is) (kind, subst (λ b. SpellsItems (drop 4 b) vs) holds spells)
@@ -80,7 +80,7 @@ module _ (tag : ElementType) (payload : List ℕ) where
   same_inside r kind holds = inside_of r holds ∙ ap (λ (t : ElementType). elements_in t payload) kind
 
 -- what a value's conversion answers is what its element's does
-pub element_converted : (e : Element) (r : RawBsonRef) (result : Result Bson Error) → IsValue e.tag e.payload r → ConvertsValue (ref_value r) result → MatchResult result (IsValueOf e) (Tells (HasFaultIn e))
+pub element_converted : (e : Element) (r : RawBsonRef) (result : Result Bson Error) → IsValue e.tag e.payload r → ConvertsValue (ref_value r) result → MatchResult result (IsValueOf e) (TellsFault (HasFaultIn e))
 element_converted e r (Ok b) is (v, stands, seen) =
     let s = spelled e.tag e.payload r v is.kind is.holds is.faultless stands in
     (v, s.0, s.1, seen)

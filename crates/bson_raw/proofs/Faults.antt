@@ -12,7 +12,7 @@ use Rattle.bson_model.specs.declared.bson.Bson.{Bson}
 use Rattle.bson_model.specs.declared.document.Document.{Document}
 use Rattle.bson_raw.specs.Raw as raws
 use Rattle.bson_raw.specs.Raw.{RawValue}
-use Rattle.bson_raw.specs.Convert.{Stands, elements_of, HasFaultInside, Way, here, past, into, elements_in, IsFirstFault, HasFault, HasFaultIn, IsValueOf, MeansItems, ConvertsMembers, ConvertsItems, ConvertsValue, Tells}
+use Rattle.bson_raw.specs.Convert.{SpellsRawValue, elements_of, HasFaultInside, Way, here, past, into, elements_in, IsFirstFault, HasFault, HasFaultIn, IsValueOf, MeansItems, ConvertsMembers, ConvertsItems, ConvertsValue, TellsFault}
 use Rattle.bson_raw.proofs.Progress.{told_on}
 use Rattle.bson_raw.proofs.Walks.{FramesAreOne}
 use Rattle.bson_bytes.proofs.One.{end_no_frame}
@@ -96,18 +96,18 @@ module _ (one : FramesAreOne) where
   pub inside_faulty : (e : Element) (inner : List ℕ) → elements_in e.tag e.payload ≡ Some inner → IsSpelled e → (way : Way) (key : Option (List ℕ)) (kind : ErrorKind) → IsFirstFault inner way key kind → ⊥
   inside_faulty e inner is spelled way key kind fault = not_inside inner (inside_front e inner is spelled) (spells_no_members way inner key kind fault) (spells_no_items way inner key kind fault)
 
-  pub no_document : (bytes inner : List ℕ) (result : Result Document Error) → inner ≡ drop 4 bytes → ConvertsMembers inner result → IfErr result (Tells (λ _ _. IsFaulty bytes))
+  pub no_document : (bytes inner : List ℕ) (result : Result Document Error) → inner ≡ drop 4 bytes → ConvertsMembers inner result → IfErr result (TellsFault (λ _ _. IsFaulty bytes))
   no_document bytes inner (Ok d) is h = tt
   no_document bytes inner (Err x) is h =
       told_on (HasFault inner) (λ _ _. IsFaulty bytes) (λ key kind fault ms spells. spells_no_members fault.0 inner key kind fault.1 ms (subst (λ (b : List ℕ). SpellsMembers b ms) (sym is) spells)) (fault_key x) x.kind h
 
-  pub no_array : (bytes inner : List ℕ) (result : Result (Vec Bson Global) Error) → inner ≡ drop 4 bytes → ConvertsItems inner result → IfErr result (Tells (λ _ _. (items : Items) → MeansItems bytes items → ⊥))
+  pub no_array : (bytes inner : List ℕ) (result : Result (Vec Bson Global) Error) → inner ≡ drop 4 bytes → ConvertsItems inner result → IfErr result (TellsFault (λ _ _. (items : Items) → MeansItems bytes items → ⊥))
   no_array bytes inner (Ok a) is h = tt
   no_array bytes inner (Err x) is h =
       told_on (HasFault inner) (λ _ _. (items : Items) → MeansItems bytes items → ⊥)
       (λ key kind fault items means. spells_no_items fault.0 inner key kind fault.1 means.0 (subst (λ (b : List ℕ). SpellsItems b means.0) (sym is) means.2)) (fault_key x) x.kind h
 
-  pub no_value : (e : Element) (result : Result Bson Error) → MatchResult result (IsValueOf e) (Tells (HasFaultIn e)) → IfErr result (Tells (λ _ _. (v : Value) → value_kind v ≡ e.tag → SpellsValue e.payload v → ⊥))
+  pub no_value : (e : Element) (result : Result Bson Error) → MatchResult result (IsValueOf e) (TellsFault (HasFaultIn e)) → IfErr result (TellsFault (λ _ _. (v : Value) → value_kind v ≡ e.tag → SpellsValue e.payload v → ⊥))
   no_value e (Ok b) h = tt
   no_value e (Err x) h = told_on (HasFaultIn e) (λ _ _. (v : Value) → value_kind v ≡ e.tag → SpellsValue e.payload v → ⊥) (λ key kind fault v same spells. by v same spells kind key fault) (fault_key x) x.kind h
     where
@@ -116,15 +116,15 @@ module _ (one : FramesAreOne) where
       by v same spells kind key (inr (inner, faultless, is, (way, fault))) =
           not_inside inner (inside_front e inner is (v, same, spells)) (spells_no_members way inner key kind fault) (spells_no_items way inner key kind fault)
 
-  inside_stands : (r : RawValue) (inner : List ℕ) (v : Value) → elements_of r ≡ Some inner → Stands r v → IsInside inner
+  inside_stands : (r : RawValue) (inner : List ℕ) (v : Value) → elements_of r ≡ Some inner → SpellsRawValue r v → IsInside inner
   inside_stands (raws.leaf s) inner v is h = absurd (cc)
   inside_stands (raws.array bs) inner v is (vs, same, spells) = in_items _ inner vs is spells
   inside_stands (raws.document bs) inner v is (ms, same, spells) = in_members _ inner ms is spells
   inside_stands (raws.scoped_code t bs) inner v is (ms, same, spells) = in_members _ inner ms is spells
 
-  pub no_tree : (r : RawValue) (result : Result Bson Error) → ConvertsValue r result → IfErr result (Tells (λ _ _. (v : Value) → Stands r v → ⊥))
+  pub no_tree : (r : RawValue) (result : Result Bson Error) → ConvertsValue r result → IfErr result (TellsFault (λ _ _. (v : Value) → SpellsRawValue r v → ⊥))
   no_tree r (Ok b) h = tt
-  no_tree r (Err x) h = told_on (HasFaultInside r) (λ _ _. (v : Value) → Stands r v → ⊥) (λ key kind fault v stands. by v stands kind key fault) (fault_key x) x.kind h
+  no_tree r (Err x) h = told_on (HasFaultInside r) (λ _ _. (v : Value) → SpellsRawValue r v → ⊥) (λ key kind fault v stands. by v stands kind key fault) (fault_key x) x.kind h
     where
-      by : (v : Value) → Stands r v → (kind : ErrorKind) (key : Option (List ℕ)) → HasFaultInside r key kind → ⊥
+      by : (v : Value) → SpellsRawValue r v → (kind : ErrorKind) (key : Option (List ℕ)) → HasFaultInside r key kind → ⊥
       by v stands kind key (inner, is, (way, fault)) = not_inside inner (inside_stands r inner v is stands) (spells_no_members way inner key kind fault) (spells_no_items way inner key kind fault)

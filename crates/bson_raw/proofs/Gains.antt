@@ -8,9 +8,9 @@ use Rattle.bson_base.specs.Tags.{tag_byte}
 use Rattle.bson_bytes.specs.Encode.{le32, ended, framed}
 use Rattle.bson_frame.specs.declared.error.Error.{Error}
 use Rattle.bson_frame.specs.declared.error.ErrorKind.{ErrorKind}
-use Rattle.bson_frame.specs.Frame.{HasSize, IsCodeSize, Element, IsFirstFrame, IsName}
+use Rattle.bson_frame.specs.Frame.{HasSize, IsCodeSize, Element, IsFirstFrame, IsCstring}
 use Rattle.bson_frame.specs.Payload.{IsEnvelope}
-use Rattle.bson_raw.specs.Append.{element_for, Appends, element_bytes, body_of, with_element, IsLongEnough, EndsLongEnough, Gains}
+use Rattle.bson_raw.specs.Append.{element_for, AppendsElement, element_bytes, body_of, with_element, IsLongEnough, EndsLongEnough, Gains}
 use Rattle.bson_raw.specs.Raw.{RawValue}
 use Rattle.bson_raw.specs.Walk.{IsWalk}
 use Rattle.bson_raw.specs.Written.{IsFormed}
@@ -84,7 +84,7 @@ walk_goes_on elements bytes more others fault ends w v = walk_beside elements by
 
 -- ---- an element that was put into a document
 
-put_frame : (e : Element) → IsName e.key → HasSize e.tag (e.payload ++ 0 ∷ []) (length e.payload) → IsFirstFrame (element_bytes e ++ 0 ∷ []) e (0 ∷ [])
+put_frame : (e : Element) → IsCstring e.key → HasSize e.tag (e.payload ++ 0 ∷ []) (length e.payload) → IsFirstFrame (element_bytes e ++ 0 ∷ []) e (0 ∷ [])
 unfolding ended
 put_frame e named sized =
     let grouped : (tag_byte e.tag ∷ ((e.key ++ 0 ∷ []) ++ e.payload)) ++ 0 ∷ [] ≡ tag_byte e.tag ∷ (e.key ++ 0 ∷ (e.payload ++ 0 ∷ [])) = simp append_assoc in
@@ -96,7 +96,7 @@ without_length old e =
     let elements : List ℕ = body_of old ++ element_bytes e in
     drop_at (le32 (length elements + 5)) (elements ++ 0 ∷ []) 4 (le32_length (length elements + 5)) ∙ append_assoc (body_of old) (element_bytes e) (0 ∷ [])
 
-pub gains : (old new : List ℕ) (e : Element) → IsEnvelope old → new ≡ with_element old e → IsName e.key → HasSize e.tag (e.payload ++ 0 ∷ []) (length e.payload) → Gains old new e
+pub gains : (old new : List ℕ) (e : Element) → IsEnvelope old → new ≡ with_element old e → IsCstring e.key → HasSize e.tag (e.payload ++ 0 ∷ []) (length e.payload) → Gains old new e
 gains old new e env is named sized = λ elements w ends.
     let more : List ℕ = element_bytes e ++ 0 ∷ [] in
     let on = walk_goes_on elements (drop 4 old) more (e ∷ []) None ends w (0 ∷ [], put_frame e named sized, refl) in
@@ -105,7 +105,7 @@ gains old new e env is named sized = λ elements w ends.
     let after : drop 4 new ≡ on.0 ++ more = ap (λ (x : List ℕ). drop 4 x) is ∙ without_length old e ∙ ap (λ (x : List ℕ). x ++ more) body in
     subst (λ (x : List ℕ). IsWalk x (elements ++ e ∷ []) None) (sym after) on.2
 
-pub gains_where_taken : (old new key : List ℕ) (v : RawValue) (result : Result (Unit {0}) Error) → IsEnvelope old → IsUtf8 key → IsFormed v → Appends old new key v result
+pub gains_where_taken : (old new key : List ℕ) (v : RawValue) (result : Result (Unit {0}) Error) → IsEnvelope old → IsUtf8 key → IsFormed v → AppendsElement old new key v result
     → OnOk result (Gains old new (element_for key v))
 gains_where_taken old new key v (Ok x) env text formed h =
     gains old new (element_for key v) env h.1 (record { no_zero = (h.0).key_plain; text = text }) (payload_sized v formed (can_write old key v env h.0))

@@ -11,7 +11,7 @@ use Rattle.std.specs.Prelude.{IsTrue}
 use Rattle.bson_frame.specs.Frame.{Element, IsFirstFrame, IsStructuralFault}
 use Rattle.bson_model.specs.declared.bson.Bson.{Bson}
 use Rattle.bson_model.specs.View.{view, items_of}
-use Rattle.bson_raw.specs.Convert.{here, past, into, HasFault, HasFaultIn, Told, Tells}
+use Rattle.bson_raw.specs.Convert.{here, past, into, HasFault, HasFaultIn, Told, TellsFault}
 use Rattle.bson_raw.proofs.Settling.{put_all, put_all_settles}
 
 -- a frame has two bytes more than its payload and what follows it
@@ -45,11 +45,11 @@ told A key Utf8EncodingError is h = subst (λ (k : Option (List ℕ)). A k Utf8E
 told A key OutOfMemory is h = is
 
 -- no frame where one must be
-pub no_frame : (bytes rest : List ℕ) (x : Error) → LeadsOn bytes rest → rest ≢ 0 ∷ [] → IsStructuralFault rest x.kind × (fault_key x ≡ None) → Tells (HasFault bytes) x
+pub no_frame : (bytes rest : List ℕ) (x : Error) → LeadsOn bytes rest → rest ≢ 0 ∷ [] → IsStructuralFault rest x.kind × (fault_key x ≡ None) → TellsFault (HasFault bytes) x
 no_frame bytes rest x on more h = told (HasFault bytes) (fault_key x) x.kind h.1 (on None x.kind (here, (more, h.0)))
 
 -- a fault in the value of an element
-pub faulty_element : (bytes rest : List ℕ) (e : Element) (after : List ℕ) (x : Error) → LeadsOn bytes rest → IsFirstFrame rest e after → Tells (HasFaultIn e) x → Tells (HasFault bytes) x
+pub faulty_element : (bytes rest : List ℕ) (e : Element) (after : List ℕ) (x : Error) → LeadsOn bytes rest → IsFirstFrame rest e after → TellsFault (HasFaultIn e) x → TellsFault (HasFault bytes) x
 faulty_element bytes rest e after x on first h = told_on (HasFaultIn e) (HasFault bytes) (λ key kind fault. on key kind (fault_in_first rest e after first key kind fault)) (fault_key x) x.kind h
 
 pub untrue : (b : Bool) → b ≡ false → IsTrue b → ⊥

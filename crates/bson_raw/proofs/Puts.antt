@@ -8,7 +8,7 @@ use Rattle.bson_base.specs.Kinds.{HasNo00}
 use Rattle.bson_base.specs.Tags.{tag_byte, subtype_byte}
 use Rattle.bson_base.specs.Value.{binary}
 use Rattle.bson_bytes.specs.Encode.{le32, ended, framed, text_bytes, scoped, inner, scalar_bytes, scalar_size}
-use Rattle.bson_bytes.specs.Writing.{IsRefusal, Refuses, StartsWith}
+use Rattle.bson_bytes.specs.Writing.{IsWriteRefusal, RefusesWriting, StartsWith}
 use Rattle.bson_frame.specs.declared.error.Error.{Error}
 use Rattle.bson_frame.specs.declared.error.ErrorKind.{ErrorKind}
 use Rattle.bson_frame.specs.declared.error.ErrorKind.TheVariants.{MalformedValue, Utf8EncodingError, OutOfMemory}
@@ -18,7 +18,7 @@ use Rattle.bson_frame.specs.View.{IsBare}
 use Rattle.bson_frame.proofs.Payloads.{number_front}
 use Rattle.bson_raw.specs.declared.bson_ref.RawBsonRef.{RawBsonRef}
 use Rattle.bson_raw.specs.declared.bson_ref.RawBsonRef.TheVariants as refs
-use Rattle.bson_raw.specs.Append.{element_for, element_bytes, body_of, with_element, CanTake, Appends}
+use Rattle.bson_raw.specs.Append.{element_for, element_bytes, body_of, with_element, CanTake, AppendsElement}
 use Rattle.bson_raw.specs.Raw.{RawValue, raw_kind, raw_payload, IsPlainRaw, ref_value}
 use Rattle.bson_raw.specs.Value.{kind_of}
 use Rattle.bson_raw.specs.Written.{CanWrite, Closes}
@@ -40,30 +40,30 @@ scoped_length t scope = omega (arith, length-append (le32 (length (text_bytes t 
 
 -- ---- refusals
 
-refuses_for : (P Q : Type 0) (k : ErrorKind) → (P → Q) → Refuses P k → Refuses Q k
+refuses_for : (P Q : Type 0) (k : ErrorKind) → (P → Q) → RefusesWriting P k → RefusesWriting Q k
 refuses_for P Q MalformedValue f h = f h
 refuses_for P Q Utf8EncodingError f h = h
 refuses_for P Q OutOfMemory f h = h
 
-pub refusal_for : (P Q : Type 0) (e : Error) → (P → Q) → IsRefusal P e → IsRefusal Q e
+pub refusal_for : (P Q : Type 0) (e : Error) → (P → Q) → IsWriteRefusal P e → IsWriteRefusal Q e
 refusal_for P Q e f h = (refuses_for P Q e.kind f h.0, h.1)
 
-malformed_for : (Q : Type 0) (k : ErrorKind) → k ≡ MalformedValue → Q → Refuses Q k
-malformed_for Q k e h = subst (λ (x : ErrorKind). Refuses Q x) (sym e) h
+malformed_for : (Q : Type 0) (k : ErrorKind) → k ≡ MalformedValue → Q → RefusesWriting Q k
+malformed_for Q k e h = subst (λ (x : ErrorKind). RefusesWriting Q x) (sym e) h
 
-pub bare_refusal : (Q : Type 0) (e : Error) → IsBare MalformedValue e → Q → IsRefusal Q e
+pub bare_refusal : (Q : Type 0) (e : Error) → IsBare MalformedValue e → Q → IsWriteRefusal Q e
 bare_refusal Q e b h = (malformed_for Q e.kind b.0 h, b.1)
 
 -- ---- payloads
 
-pub refused_for : (P Q : Type 0) (r : Result (Unit {0}) Error) → (P → Q) → IfErr r (IsRefusal P) → IfErr r (IsRefusal Q)
+pub refused_for : (P Q : Type 0) (r : Result (Unit {0}) Error) → (P → Q) → IfErr r (IsWriteRefusal P) → IfErr r (IsWriteRefusal Q)
 refused_for P Q (Ok x) f h = tt
 refused_for P Q (Err e) f h = refusal_for P Q e f h
 
-pub long_text : (t : List ℕ) (r : Result (Unit {0}) Error) → IfErr r (IsRefusal (2 ^ 31 ≤ length t + 5)) → IfErr r (IsRefusal (Unit {0} × (length (text_bytes t) < 2 ^ 31) → ⊥))
+pub long_text : (t : List ℕ) (r : Result (Unit {0}) Error) → IfErr r (IsWriteRefusal (2 ^ 31 ≤ length t + 5)) → IfErr r (IsWriteRefusal (Unit {0} × (length (text_bytes t) < 2 ^ 31) → ⊥))
 long_text t r h = refused_for (2 ^ 31 ≤ length t + 5) (Unit {0} × (length (text_bytes t) < 2 ^ 31) → ⊥) r (λ long can. omega (arith, long, can.1, text_length t)) h
 
-pub long_pointer : (t bs : List ℕ) (r : Result (Unit {0}) Error) → IfErr r (IsRefusal (2 ^ 31 ≤ length t + 5)) → IfErr r (IsRefusal (Unit {0} × (length (text_bytes t ++ bs) < 2 ^ 31) → ⊥))
+pub long_pointer : (t bs : List ℕ) (r : Result (Unit {0}) Error) → IfErr r (IsWriteRefusal (2 ^ 31 ≤ length t + 5)) → IfErr r (IsWriteRefusal (Unit {0} × (length (text_bytes t ++ bs) < 2 ^ 31) → ⊥))
 long_pointer t bs r h = refused_for (2 ^ 31 ≤ length t + 5) (Unit {0} × (length (text_bytes t ++ bs) < 2 ^ 31) → ⊥) r (λ long can. omega (arith, long, can.1, text_length t, length-append (text_bytes t) bs)) h
 
 chosen_length : (old : Bool) (bs : List ℕ) → length (if old then le32 (length bs) ++ bs else bs) + 5 ≡ length bs + (if old then 9 else 5)
@@ -73,7 +73,7 @@ chosen_length false bs = refl
 pub binary_length : (s : BinarySubtype) (bs : List ℕ) → length (scalar_bytes (binary s bs)) ≡ scalar_size (binary s bs)
 binary_length s bs = omega (arith, length-append (le32 (length (inner s bs))) (subtype_byte s ∷ inner s bs), le32_length (length (inner s bs)), inner_length s bs)
 
-pub long_binary : (s : BinarySubtype) (bs : List ℕ) (r : Result (Unit {0}) Error) → IfErr r (IsRefusal (2 ^ 31 ≤ scalar_size (binary s bs))) → IfErr r (IsRefusal (Unit {0} × (length (scalar_bytes (binary s bs)) < 2 ^ 31) → ⊥))
+pub long_binary : (s : BinarySubtype) (bs : List ℕ) (r : Result (Unit {0}) Error) → IfErr r (IsWriteRefusal (2 ^ 31 ≤ scalar_size (binary s bs))) → IfErr r (IsWriteRefusal (Unit {0} × (length (scalar_bytes (binary s bs)) < 2 ^ 31) → ⊥))
 long_binary s bs r h = refused_for (2 ^ 31 ≤ scalar_size (binary s bs)) (Unit {0} × (length (scalar_bytes (binary s bs)) < 2 ^ 31) → ⊥) r (λ long can. omega (arith, long, can.1, binary_length s bs)) h
 
 -- a code with scope, in three pieces and its length
@@ -91,13 +91,13 @@ module _ (old a b m t scope : List ℕ) (ea : a ≡ old ++ 0 ∷ 0 ∷ 0 ∷ 0 �
   scoped_put new start r at puts = puts old (0 ∷ 0 ∷ 0 ∷ 0 ∷ []) (text_bytes t ++ scope) pieces (sym at) refl
 
   pub long_scoped : (start : ℕ) (r : Result (Unit {0}) Error) → start ≡ length old → IfErr r (λ e. IsBare MalformedValue e × (start + 2 ^ 31 ≤ length m))
-      → IfErr r (IsRefusal (Unit {0} × (length (scoped t scope) < 2 ^ 31) → ⊥))
+      → IfErr r (IsWriteRefusal (Unit {0} × (length (scoped t scope) < 2 ^ 31) → ⊥))
   long_scoped start (Ok x) at h = tt
   long_scoped start (Err e) at h =
       let total : length m ≡ length old + length t + length scope + 9 = omega (arith, ap length pieces, length-append old ((0 ∷ 0 ∷ 0 ∷ 0 ∷ []) ++ (text_bytes t ++ scope)), length-append (text_bytes t) scope, text_length t) in
       bare_refusal (Unit {0} × (length (scoped t scope) < 2 ^ 31) → ⊥) e h.0 (λ can. omega (arith, h.1, can.1, total, scoped_length t scope, at))
 
-pub long_code : (t scope : List ℕ) (e : Error) → IsRefusal (2 ^ 31 ≤ length t + 5) e → IsRefusal (Unit {0} × (length (scoped t scope) < 2 ^ 31) → ⊥) e
+pub long_code : (t scope : List ℕ) (e : Error) → IsWriteRefusal (2 ^ 31 ≤ length t + 5) e → IsWriteRefusal (Unit {0} × (length (scoped t scope) < 2 ^ 31) → ⊥) e
 long_code t scope e h = refusal_for (2 ^ 31 ≤ length t + 5) (Unit {0} × (length (scoped t scope) < 2 ^ 31) → ⊥) e (λ long can. omega (arith, long, can.1, scoped_length t scope)) h
 
 -- ---- a document's parts
@@ -204,7 +204,7 @@ module _ (old key : List ℕ) (v : RawValue) (env : IsEnvelope old) where
       let grouped : elements ++ 0 ∷ [] ≡ body ++ tag ∷ (k ++ (p ++ 0 ∷ [])) = simp append_assoc in
       ap (λ (n : ℕ). le32 n ++ (body ++ tag ∷ rest_of)) size ∙ ap (λ (x : List ℕ). le32 (length elements + 5) ++ x) (sym grouped)
 
-  pub closes_to : (new : List ℕ) (result : Result (Unit {0}) Error) → HasNo00 key → IsPlainRaw v → Closes (take 4 old) (body_of old) rest_of (tag_byte (raw_kind v)) new result → Appends old new key v result
+  pub closes_to : (new : List ℕ) (result : Result (Unit {0}) Error) → HasNo00 key → IsPlainRaw v → Closes (take 4 old) (body_of old) rest_of (tag_byte (raw_kind v)) new result → AppendsElement old new key v result
   closes_to new (Ok x) k p h =
       let size = with_element_length old key v env in
       let body = body_length old env in
@@ -231,7 +231,7 @@ framed_envelope body lt =
       ended = ap (λ (k : ℕ). get_or (head ++ (body ++ 0 ∷ [])) (k - 1) 0) len ∙ ap (λ (x : List ℕ). get_or x (size - 1) 0) (sym (append_assoc head body (0 ∷ []))) ∙ last;
     }
 
-pub envelope_kept : (old new key : List ℕ) (v : RawValue) (result : Result (Unit {0}) Error) → IsEnvelope old → Appends old new key v result → IsEnvelope new
+pub envelope_kept : (old new key : List ℕ) (v : RawValue) (result : Result (Unit {0}) Error) → IsEnvelope old → AppendsElement old new key v result → IsEnvelope new
 envelope_kept old new key v (Ok x) env h = subst IsEnvelope (sym h.1) (framed_envelope (body_of old ++ element_bytes (element_for key v)) (h.0).fits)
 envelope_kept old new key v (Err e) env h = subst IsEnvelope (sym h.1) env
 

@@ -7,12 +7,12 @@ use Rattle.bson_frame.specs.Frame.{number}
 use Rattle.bson_raw.specs.declared.read_error.ReadError.{ReadError}
 use Rattle.bson_raw.specs.declared.read_error.ReadError.TheVariants.{Reader, EndInside, BadLength, Raw, Memory}
 use Rattle.bson_base.specs.Device.{Feed, Took}
-use Rattle.bson_raw.specs.Input.{IsInputLength, ReadsRest, ReadsBytes}
+use Rattle.bson_raw.specs.Input.{IsInputLength, ReadsRest, TakesDeclared}
 
 took_both : (old mid new : Feed) (xs ys : List ℕ) → Took old mid xs → Took mid new ys → Took old new (xs ++ ys)
 took_both old mid new xs ys first second = (second.0 ∙ first.0, Gives-trans old.supply mid.supply new.supply xs ys first.1 second.1)
 
-pub bytes_read : (old mid new : Feed) (head : List ℕ) (n : ℕ) (result : Result (Vec ℕ Global) ReadError) → length head ≡ 4 → Took old mid head → n ≡ number head → IsInputLength n → ReadsRest mid new head n result → ReadsBytes old new result
+pub bytes_read : (old mid new : Feed) (head : List ℕ) (n : ℕ) (result : Result (Vec ℕ Global) ReadError) → length head ≡ 4 → Took old mid head → n ≡ number head → IsInputLength n → ReadsRest mid new head n result → TakesDeclared old new result
 bytes_read old mid new head n (Ok all) four first is fits (rest, second, whole, len) =
     let same : number all.items ≡ number head = ap number whole ∙ number_front head rest (omega (arith, four)) in
     (subst (Took old new) (sym whole) (took_both old mid new head rest first second), (subst IsInputLength (is ∙ sym same) fits, len ∙ is ∙ sym same))

@@ -9,9 +9,9 @@ use Rattle.bson_raw.specs.declared.element.RawElement.{RawElement}
 use Rattle.bson_raw.specs.declared.bson_ref.RawBsonRef.{RawBsonRef}
 use Rattle.bson_raw.specs.declared.walk.RawIter.{RawIter}
 use Rattle.bson_raw.specs.View.{parts_of, left_of}
-use Rattle.bson_raw.specs.Value.{Answers}
+use Rattle.bson_raw.specs.Value.{ReadsElement}
 use Rattle.bson_raw.specs.Walk.{IsWalk, walk_items, IsItem, IsNext, steps_from, raw_steps, items_left}
-use Rattle.bson_raw.specs.Read.{IsRead, ReadsNext}
+use Rattle.bson_raw.specs.Read.{IsItemRead, ReadsNext}
 use Rattle.bson_raw.proofs.Walks.{frame_len}
 
 -- each item leaves fewer to come
@@ -84,7 +84,7 @@ pub raw_reads : (s : RawIter) (item : Option (Result RawElement Error)) (t : Raw
 raw_reads s item t h = (item, h, reads_itself (left_of s) (left_of t) item h)
 
 -- an element that came, read
-pub element_read : (s t : Option (List ℕ)) (e : RawElement) (result : Result RawBsonRef Error) → steps_from s (Some (Ok e)) t → Answers (parts_of e) result → IsRead (Ok (parts_of e)) result
+pub element_read : (s t : Option (List ℕ)) (e : RawElement) (result : Result RawBsonRef Error) → steps_from s (Some (Ok e)) t → ReadsElement (parts_of e) result → IsItemRead (Ok (parts_of e)) result
 element_read None t e result h a = let bad = h.0 in absurd cc
 element_read (Some bytes) t e (Ok v) h a = a
 element_read (Some bytes) t e (Err x) h a = a

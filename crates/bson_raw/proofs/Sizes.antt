@@ -8,7 +8,7 @@ use Rattle.bson_base.specs.declared.spec.BinarySubtype.{BinarySubtype}
 use Rattle.bson_base.specs.Tags.{subtype_byte}
 use Rattle.bson_base.specs.Value.{double, string, binary, undefined, object_id, boolean, date_time, null, regex, db_pointer, code, symbol, int32, timestamp, int64, decimal, max_key, min_key}
 use Rattle.bson_bytes.specs.Encode.{le32, le64, ended, text_bytes, scoped, inner, scalar_bytes}
-use Rattle.bson_frame.specs.Frame.{number, HasSize, IsTextSize, IsDocumentSize, IsBinarySize, IsCodeSize, IsRegexSize, IsPointerSize, IsName}
+use Rattle.bson_frame.specs.Frame.{number, HasSize, IsTextSize, IsDocumentSize, IsBinarySize, IsCodeSize, IsRegexSize, IsPointerSize, IsCstring}
 use Rattle.bson_frame.specs.Payload.{IsEnvelope}
 use Rattle.bson_frame.proofs.Frames.{front_is_one}
 use Rattle.bson_frame.proofs.Payloads.{number_front}
@@ -125,7 +125,7 @@ binary_whole s bs lt =
     let n : number ((head ++ subtype_byte s ∷ i) ++ 0 ∷ []) ≡ length i = ap number (append_assoc head (subtype_byte s ∷ i) (0 ∷ [])) ∙ number_written (length i) ((subtype_byte s ∷ i) ++ 0 ∷ []) (omega (arith, size)) in
     record { declared = omega (arith, n, size); fits = omega (arith, n, size) }
 
-regex_whole : (p o : List ℕ) → IsName p → IsName o → IsRegexSize ((ended p ++ ended o) ++ 0 ∷ []) (length (ended p ++ ended o))
+regex_whole : (p o : List ℕ) → IsCstring p → IsCstring o → IsRegexSize ((ended p ++ ended o) ++ 0 ∷ []) (length (ended p ++ ended o))
 unfolding ended
 regex_whole p o pattern options =
     let grouped : ((p ++ 0 ∷ []) ++ (o ++ 0 ∷ [])) ++ 0 ∷ [] ≡ p ++ 0 ∷ (o ++ 0 ∷ (0 ∷ [])) = simp append_assoc in

@@ -24,7 +24,7 @@ abbrev pub any_value : RawBsonRef → Option RawBsonRef
 any_value v = Some v
 
 -- an element was found, and of its value the getter takes this
-pub record Takes {T : Type 0} (pick : RawBsonRef → Option T) (found : Option (Result Element ErrorKind)) (taken : Option T) : Type 0 where
+pub record TakesValue {T : Type 0} (pick : RawBsonRef → Option T) (found : Option (Result Element ErrorKind)) (taken : Option T) : Type 0 where
   pub element : Element
   pub is_found : found ≡ Some (Ok element)
   pub value : RawBsonRef
@@ -32,11 +32,11 @@ pub record Takes {T : Type 0} (pick : RawBsonRef → Option T) (found : Option (
   pub picked : pick value ≡ taken
 
 -- why a getter refuses: nothing was found, a value of another kind, or a fault
-abbrev pub Refuses : {T : Type 0} → (RawBsonRef → Option T) → Option (Result Element ErrorKind) → ValueAccessErrorKind → Type 0
-Refuses pick found refusals.NotPresent = found ≡ None
-Refuses pick found refusals.UnexpectedType = Takes pick found None
-Refuses pick found (refusals.InvalidBson x) = GetAnswer found (Err x)
-Refuses pick found refusals.OutOfMemory = ⊥
+abbrev pub RefusesAccess : {T : Type 0} → (RawBsonRef → Option T) → Option (Result Element ErrorKind) → ValueAccessErrorKind → Type 0
+RefusesAccess pick found refusals.NotPresent = found ≡ None
+RefusesAccess pick found refusals.UnexpectedType = TakesValue pick found None
+RefusesAccess pick found (refusals.InvalidBson x) = GetAnswer found (Err x)
+RefusesAccess pick found refusals.OutOfMemory = ⊥
 
 -- want of memory doesn't stand inside another refusal
 abbrev pub HasNoWant : ValueAccessErrorKind → Type 0
@@ -44,10 +44,10 @@ HasNoWant (refusals.InvalidBson x) = x.kind ≢ faults.OutOfMemory
 HasNoWant kind = Unit {0}
 
 -- a refusal of this kind under the key, or want of memory in its place, under the empty key
-abbrev pub IsRefusal : List ℕ → ValueAccessErrorKind → ValueAccessError → Type 0
-IsRefusal key kind e = ((e.kind ≡ kind) × (asked_key e ≡ key) × HasNoWant kind) ⊎ ((e.kind ≡ refusals.OutOfMemory) × (asked_key e ≡ []))
+abbrev pub IsAccessRefusal : List ℕ → ValueAccessErrorKind → ValueAccessError → Type 0
+IsAccessRefusal key kind e = ((e.kind ≡ kind) × (asked_key e ≡ key) × HasNoWant kind) ⊎ ((e.kind ≡ refusals.OutOfMemory) × (asked_key e ≡ []))
 
 -- what a getter answers: what it takes of the value that was found, or why it takes nothing
 abbrev pub AccessAnswer : {T : Type 0} → (RawBsonRef → Option T) → List ℕ → Option (Result Element ErrorKind) → Result T ValueAccessError → Type 0
-AccessAnswer pick key found (Ok x) = Takes pick found (Some x)
-AccessAnswer pick key found (Err e) = (kind : ValueAccessErrorKind) × Refuses pick found kind × IsRefusal key kind e
+AccessAnswer pick key found (Ok x) = TakesValue pick found (Some x)
+AccessAnswer pick key found (Err e) = (kind : ValueAccessErrorKind) × RefusesAccess pick found kind × IsAccessRefusal key kind e

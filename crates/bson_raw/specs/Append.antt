@@ -4,7 +4,7 @@ use Rattle.bson_base.specs.declared.spec.ElementType.TheVariants as kinds
 use Rattle.bson_base.specs.Kinds.{HasNo00}
 use Rattle.bson_base.specs.Tags.{tag_byte}
 use Rattle.bson_bytes.specs.Encode.{ended, framed}
-use Rattle.bson_bytes.specs.Writing.{IsRefusal}
+use Rattle.bson_bytes.specs.Writing.{IsWriteRefusal}
 use Rattle.bson_frame.specs.declared.error.Error.{Error}
 use Rattle.bson_frame.specs.declared.error.ErrorKind.TheVariants.{OutOfMemory}
 use Rattle.bson_frame.specs.Frame.{Element}
@@ -34,9 +34,9 @@ pub record CanTake (bytes : List ℕ) (key : List ℕ) (v : RawValue) : Type 0 w
   pub fits : length (with_element bytes (element_for key v)) < 2 ^ 31
 
 -- a value was put into a document under a key, or the document is as before
-abbrev pub Appends : List ℕ → List ℕ → List ℕ → RawValue → Result (Unit {0}) Error → Type 0
-Appends old new key v (Ok x) = CanTake old key v × (new ≡ with_element old (element_for key v))
-Appends old new key v (Err e) = IsRefusal (CanTake old key v → ⊥) e × (new ≡ old)
+abbrev pub AppendsElement : List ℕ → List ℕ → List ℕ → RawValue → Result (Unit {0}) Error → Type 0
+AppendsElement old new key v (Ok x) = CanTake old key v × (new ≡ with_element old (element_for key v))
+AppendsElement old new key v (Err e) = IsWriteRefusal (CanTake old key v → ⊥) e × (new ≡ old)
 
 -- ---- the walk afterwards
 
@@ -64,7 +64,7 @@ AllTaken old (p ∷ pairs) new = CanTake old p.0 p.1 × AllTaken (with_element o
 -- the first that isn't taken, or want of memory
 abbrev pub StopsAt : List ℕ → List (List ℕ × RawValue) → Error → Type 0
 StopsAt old [] e = IsBare OutOfMemory e
-StopsAt old (p ∷ pairs) e = IsRefusal (CanTake old p.0 p.1 → ⊥) e ⊎ (CanTake old p.0 p.1 × StopsAt (with_element old (element_for p.0 p.1)) pairs e)
+StopsAt old (p ∷ pairs) e = IsWriteRefusal (CanTake old p.0 p.1 → ⊥) e ⊎ (CanTake old p.0 p.1 × StopsAt (with_element old (element_for p.0 p.1)) pairs e)
 
 -- the bytes of the empty document
 abbrev pub empty_bytes : List ℕ

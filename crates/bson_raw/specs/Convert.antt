@@ -58,8 +58,8 @@ Told Fault key MalformedValue = Fault key MalformedValue
 Told Fault key Utf8EncodingError = Fault key Utf8EncodingError
 Told Fault key OutOfMemory = key ≡ None
 
-abbrev pub Tells : (Option (List ℕ) → ErrorKind → Type 0) → Error → Type 0
-Tells Fault e = Told Fault (fault_key e) e.kind
+abbrev pub TellsFault : (Option (List ℕ) → ErrorKind → Type 0) → Error → Type 0
+TellsFault Fault e = Told Fault (fault_key e) e.kind
 
 -- ---- trees
 
@@ -87,15 +87,15 @@ elements_of (raws.document bs) = Some (drop 4 bs)
 elements_of (raws.scoped_code t bs) = Some (drop 4 bs)
 
 -- a raw value spells a tree: what it holds, and what the elements inside spell
-abbrev pub Stands : RawValue → Value → Type 0
-Stands (raws.leaf s) v = v ≡ scalar s
-Stands (raws.array bs) v = (vs : Items) × (v ≡ array vs) × SpellsItems (drop 4 bs) vs
-Stands (raws.document bs) v = (ms : Members) × (v ≡ document ms) × SpellsMembers (drop 4 bs) ms
-Stands (raws.scoped_code t bs) v = (ms : Members) × (v ≡ scoped_code t ms) × SpellsMembers (drop 4 bs) ms
+abbrev pub SpellsRawValue : RawValue → Value → Type 0
+SpellsRawValue (raws.leaf s) v = v ≡ scalar s
+SpellsRawValue (raws.array bs) v = (vs : Items) × (v ≡ array vs) × SpellsItems (drop 4 bs) vs
+SpellsRawValue (raws.document bs) v = (ms : Members) × (v ≡ document ms) × SpellsMembers (drop 4 bs) ms
+SpellsRawValue (raws.scoped_code t bs) v = (ms : Members) × (v ≡ scoped_code t ms) × SpellsMembers (drop 4 bs) ms
 
 -- a raw value spells the tree of a value
 abbrev pub IsBsonOf : RawValue → Bson → Type 0
-IsBsonOf r b = (v : Value) × Stands r v × (view b ≡ settle_value v)
+IsBsonOf r b = (v : Value) × SpellsRawValue r v × (view b ≡ settle_value v)
 
 -- the first fault of a raw value
 abbrev pub HasFaultInside : RawValue → Option (List ℕ) → ErrorKind → Type 0
@@ -104,16 +104,16 @@ HasFaultInside r key kind = (inner : List ℕ) × (elements_of r ≡ Some inner)
 -- ---- what the conversions answer
 
 abbrev pub ConvertsMembers : List ℕ → Result Document Error → Type 0
-ConvertsMembers bytes result = MatchResult result (IsDocumentOf bytes) (Tells (HasFault bytes))
+ConvertsMembers bytes result = MatchResult result (IsDocumentOf bytes) (TellsFault (HasFault bytes))
 
 abbrev pub ConvertsItems : List ℕ → Result (Vec Bson Global) Error → Type 0
-ConvertsItems bytes result = MatchResult result (IsArrayOf bytes) (Tells (HasFault bytes))
+ConvertsItems bytes result = MatchResult result (IsArrayOf bytes) (TellsFault (HasFault bytes))
 
 abbrev pub ConvertsElement : Element → Result Bson Error → Type 0
-ConvertsElement e result = IsPayload e.tag e.payload → MatchResult result (IsValueOf e) (Tells (HasFaultIn e))
+ConvertsElement e result = IsPayload e.tag e.payload → MatchResult result (IsValueOf e) (TellsFault (HasFaultIn e))
 
 abbrev pub ConvertsValue : RawValue → Result Bson Error → Type 0
-ConvertsValue r result = MatchResult result (IsBsonOf r) (Tells (HasFaultInside r))
+ConvertsValue r result = MatchResult result (IsBsonOf r) (TellsFault (HasFaultInside r))
 
 -- the bytes of an array mean the items
 abbrev pub MeansItems : List ℕ → Items → Type 0

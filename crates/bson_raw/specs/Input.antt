@@ -4,7 +4,7 @@ use Rattle.std.specs.declared.alloc.Global.{Global}
 use Rattle.bson_base.specs.Device.{Feed, Took, TookAll}
 use Rattle.bson_base.specs.Value.{Members}
 use Rattle.bson_bytes.specs.Spells.{Means}
-use Rattle.bson_frame.specs.Frame.{number}
+use Rattle.bson_frame.specs.Frame.{number, size_limit}
 use Rattle.bson_frame.specs.Payload.{IsEnvelope}
 use Rattle.bson_frame.specs.View.{fault_key, IsBare}
 use Rattle.bson_frame.specs.declared.error.Error.{Error as Fault}
@@ -17,7 +17,7 @@ use Rattle.bson_raw.specs.Convert.{HasFault}
 
 -- a length that the document of an input may declare
 abbrev pub IsInputLength : ℕ → Type 0
-IsInputLength n = (5 ≤ n) × (n ≤ 16777216)
+IsInputLength n = (5 ≤ n) × (n ≤ size_limit)
 
 -- the bytes of one document: as many as the first four declare
 abbrev pub AreDeclared : List ℕ → Type 0
@@ -58,21 +58,21 @@ ReadsRest old new head n (Err Memory) = new.failures ≡ old.failures
 ReadsRest old new head n (Err _) = ⊥
 
 -- the declared bytes of one document
-abbrev pub ReadsBytes : Feed → Feed → Result (Vec ℕ Global) ReadError → Type 0
-ReadsBytes old new (Ok all) = Took old new all.items × AreDeclared all.items
-ReadsBytes old new (Err Reader) = new.failures ≡ old.failures + 1
-ReadsBytes old new (Err EndInside) = (bytes : List ℕ) × TookAll old new bytes × EndInDocument bytes
-ReadsBytes old new (Err BadLength) = (bytes : List ℕ) × Took old new bytes × (length bytes ≡ 4) × (IsInputLength (number bytes) → ⊥)
-ReadsBytes old new (Err (Raw e)) = ⊥
-ReadsBytes old new (Err Memory) = new.failures ≡ old.failures
+abbrev pub TakesDeclared : Feed → Feed → Result (Vec ℕ Global) ReadError → Type 0
+TakesDeclared old new (Ok all) = Took old new all.items × AreDeclared all.items
+TakesDeclared old new (Err Reader) = new.failures ≡ old.failures + 1
+TakesDeclared old new (Err EndInside) = (bytes : List ℕ) × TookAll old new bytes × EndInDocument bytes
+TakesDeclared old new (Err BadLength) = (bytes : List ℕ) × Took old new bytes × (length bytes ≡ 4) × (IsInputLength (number bytes) → ⊥)
+TakesDeclared old new (Err (Raw e)) = ⊥
+TakesDeclared old new (Err Memory) = new.failures ≡ old.failures
 
 -- a refused conversion, as a reader tells it
-abbrev pub IsRefusal : Fault → ReadError → Type 0
-IsRefusal e told = ((e.kind ≡ OutOfMemory) × (told ≡ Memory)) ⊎ ((e.kind ≢ OutOfMemory) × (told ≡ Raw e))
+abbrev pub IsConversionRefusal : Fault → ReadError → Type 0
+IsConversionRefusal e told = ((e.kind ≡ OutOfMemory) × (told ≡ Memory)) ⊎ ((e.kind ≢ OutOfMemory) × (told ≡ Raw e))
 
 -- what bytes are read as
-abbrev pub ReadsBody : List ℕ → Result Document ReadError → Type 0
-ReadsBody bytes (Ok d) = Means bytes (members_of (pairs_of d))
-ReadsBody bytes (Err (Raw e)) = IsRawFault bytes e
-ReadsBody bytes (Err Memory) = Unit {0}
-ReadsBody bytes (Err _) = ⊥
+abbrev pub ReadsDeclared : List ℕ → Result Document ReadError → Type 0
+ReadsDeclared bytes (Ok d) = Means bytes (members_of (pairs_of d))
+ReadsDeclared bytes (Err (Raw e)) = IsRawFault bytes e
+ReadsDeclared bytes (Err Memory) = Unit {0}
+ReadsDeclared bytes (Err _) = ⊥

@@ -5,8 +5,8 @@ use Rattle.std.specs.declared.alloc.Global.{Global}
 use Rattle.bson_raw.specs.declared.bson.RawBson.{RawBson}
 use Rattle.bson_raw.specs.Raw.{RawValue, own_value}
 
-abbrev pub pair_of : String Global × RawBson → List ℕ × RawValue
-pair_of p = (string_bytes p.0, own_value p.1)
+abbrev pub raw_pair : String Global × RawBson → List ℕ × RawValue
+raw_pair p = (string_bytes p.0, own_value p.1)
 
 -- the values of an array from the place i on, under their places in decimal
 abbrev pub placed : ℕ → List RawBson → List (List ℕ × RawValue)

@@ -121,9 +121,9 @@ abbrev pub regex_in : Scalar → Option (List ℕ × List ℕ)
 regex_in (regex p o) = Some (p, o)
 regex_in v = None
 
-abbrev pub code_in : Scalar → Option (List ℕ)
-code_in (code t) = Some t
-code_in v = None
+abbrev pub code_scalar : Scalar → Option (List ℕ)
+code_scalar (code t) = Some t
+code_scalar v = None
 
 abbrev pub null_in : Scalar → Option (Unit {0})
 null_in null = Some tt

@@ -16,18 +16,18 @@ use Rattle.bson_raw.specs.Value.{IsValue}
 use Rattle.bson_raw.specs.Walk.{raw_steps}
 
 -- an item of a walk was read: the element's value, its payload fault under its key, or the structural fault under none
-abbrev pub IsRead : Result Element ErrorKind → Result RawBsonRef Error → Type 0
-IsRead (Ok e) (Ok v) = IsValue e.tag e.payload v
-IsRead (Ok e) (Err x) = (kind : ErrorKind) × IsPayloadFault e.tag e.payload kind × IsFaultUnder e.key kind x
-IsRead (Err kind) (Ok v) = ⊥
-IsRead (Err kind) (Err x) = IsBare kind x
+abbrev pub IsItemRead : Result Element ErrorKind → Result RawBsonRef Error → Type 0
+IsItemRead (Ok e) (Ok v) = IsValue e.tag e.payload v
+IsItemRead (Ok e) (Err x) = (kind : ErrorKind) × IsPayloadFault e.tag e.payload kind × IsFaultUnder e.key kind x
+IsItemRead (Err kind) (Ok v) = ⊥
+IsItemRead (Err kind) (Err x) = IsBare kind x
 
 -- the same, with the key beside the value
 abbrev pub IsPairRead : Result Element ErrorKind → Result (Bor (List ℕ) × RawBsonRef) Error → Type 0
-IsPairRead (Ok e) (Ok p) = (p.0.now ≡ e.key) × IsRead (Ok e) (Ok p.1)
-IsPairRead (Ok e) (Err x) = IsRead (Ok e) (Err x)
+IsPairRead (Ok e) (Ok p) = (p.0.now ≡ e.key) × IsItemRead (Ok e) (Ok p.1)
+IsPairRead (Ok e) (Err x) = IsItemRead (Ok e) (Err x)
 IsPairRead (Err kind) (Ok p) = ⊥
-IsPairRead (Err kind) (Err x) = IsRead (Err kind) (Err x)
+IsPairRead (Err kind) (Err x) = IsItemRead (Err kind) (Err x)
 
 -- what a look-up answers: nothing where nothing was found, else what was found, read
 abbrev pub GetAnswer : Option (Result Element ErrorKind) → Result (Option RawBsonRef) Error → Type 0
@@ -35,8 +35,8 @@ GetAnswer None (Ok None) = Unit {0}
 GetAnswer None (Ok (Some v)) = ⊥
 GetAnswer None (Err x) = ⊥
 GetAnswer (Some i) (Ok None) = ⊥
-GetAnswer (Some i) (Ok (Some v)) = IsRead i (Ok v)
-GetAnswer (Some i) (Err x) = IsRead i (Err x)
+GetAnswer (Some i) (Ok (Some v)) = IsItemRead i (Ok v)
+GetAnswer (Some i) (Err x) = IsItemRead i (Err x)
 
 -- ---- the iterators over values
 
@@ -60,4 +60,4 @@ abbrev pub pair_steps : Iter → Option (Result (Bor (List ℕ) × RawBsonRef) E
 pair_steps s item t = reading_steps IsPairRead s.raw item t.raw
 
 abbrev pub value_steps : RawArrayIter → Option (Result RawBsonRef Error) → RawArrayIter → Type 0
-value_steps s item t = reading_steps IsRead s.raw item t.raw
+value_steps s item t = reading_steps IsItemRead s.raw item t.raw

@@ -13,7 +13,7 @@ use Rattle.bson_model.specs.declared.bson.Bson.{Bson}
 use Rattle.bson_raw.specs.declared.bson.RawBson.{RawBson}
 use Rattle.bson_raw.specs.declared.write_error.WriteError.{WriteError}
 use Rattle.bson_raw.specs.declared.write_error.WriteError.TheVariants.{Writer, Raw, Memory}
-use Rattle.bson_raw.specs.Convert.{ConvertsValue, Stands, Tells}
+use Rattle.bson_raw.specs.Convert.{ConvertsValue, SpellsRawValue, TellsFault}
 use Rattle.bson_raw.specs.Raw.{RawValue, leaf, array, document, scoped_code, own_value}
 
 -- the tree with what stands inside written
@@ -32,12 +32,12 @@ CanBeRaw (values.scoped_code t ms) = CanBeWritten (values.document ms)
 
 -- a document went out; or nothing did, as it can't be written or for want of memory; or a beginning, as a call of the device
 -- failed. A device tells how many of its calls failed, and the bytes that it took, where it knows them.
-abbrev pub Sends : Members → ℕ → ℕ → Option (List ℕ) → Option (List ℕ) → Result (Unit {0}) WriteError → Type 0
-Sends d failures now old new (Ok x) = CanBeWritten (values.document d) × (now ≡ failures) × Appends old new (encode d)
-Sends d failures now old new (Err Writer) = CanBeWritten (values.document d) × (now ≡ failures + 1) × TakesBeginning old new (encode d)
-Sends d failures now old new (Err (Raw e)) = (CanBeWritten (values.document d) → ⊥) × IsBare MalformedValue e × (now ≡ failures) × (new ≡ old)
-Sends d failures now old new (Err Memory) = (now ≡ failures) × (new ≡ old)
+abbrev pub SendsDocument : Members → ℕ → ℕ → Option (List ℕ) → Option (List ℕ) → Result (Unit {0}) WriteError → Type 0
+SendsDocument d failures now old new (Ok x) = CanBeWritten (values.document d) × (now ≡ failures) × Appends old new (encode d)
+SendsDocument d failures now old new (Err Writer) = CanBeWritten (values.document d) × (now ≡ failures + 1) × TakesBeginning old new (encode d)
+SendsDocument d failures now old new (Err (Raw e)) = (CanBeWritten (values.document d) → ⊥) × IsBare MalformedValue e × (now ≡ failures) × (new ≡ old)
+SendsDocument d failures now old new (Err Memory) = (now ≡ failures) × (new ≡ old)
 
 -- a value converts as one that borrows the same
 abbrev pub ConvertsOwned : RawBson → Result Bson Error → Type 0
-ConvertsOwned v result = ConvertsValue (own_value v) result × IfErr result (Tells (λ _ _. (w : Value) → Stands (own_value v) w → ⊥))
+ConvertsOwned v result = ConvertsValue (own_value v) result × IfErr result (TellsFault (λ _ _. (w : Value) → SpellsRawValue (own_value v) w → ⊥))

@@ -89,8 +89,8 @@ abbrev pub Decodes : ElementType → List ℕ → Result RawBsonRef ErrorKind �
 Decodes tag payload result = IsPayload tag payload → IsDecoded tag payload result
 
 -- an element was read: its value, or its payload fault under its key
-abbrev pub Answers : Element → Result RawBsonRef Error → Type 0
-Answers e result = MatchResult result (IsValue e.tag e.payload)
+abbrev pub ReadsElement : Element → Result RawBsonRef Error → Type 0
+ReadsElement e result = MatchResult result (IsValue e.tag e.payload)
     (λ x. (kind : ErrorKind) × IsPayloadFault e.tag e.payload kind × IsFaultUnder e.key kind x)
 
 -- ---- the value, if it is of this kind

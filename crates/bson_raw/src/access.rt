@@ -5,7 +5,7 @@ ghost use Rattle.bson_frame.specs.Frame.{Element};
 ghost use Rattle.bson_frame.specs.declared.error.ErrorKind.{ErrorKind as Kind};
 ghost use Rattle.bson_raw.specs.Walk.{IsFound};
 ghost use Rattle.bson_raw.specs.Read.{GetAnswer};
-ghost use Rattle.bson_raw.specs.Access.{AccessAnswer, any_value, HasNoWant, IsRefusal, asked_text};
+ghost use Rattle.bson_raw.specs.Access.{AccessAnswer, any_value, HasNoWant, IsAccessRefusal, asked_text};
 ghost use Rattle.bson_raw.specs.Value.{as_f64, as_str, as_document, as_array, as_binary, as_object_id, as_bool, as_datetime, as_regex, as_timestamp, as_i32, as_i64};
 ghost use Rattle.std.specs.Prelude.{◌≡◌, string_bytes};
 
@@ -38,7 +38,7 @@ impl<'k> Asked<'k> {
     /// A refusal of what was asked for; want of memory in its place where its key finds none.
     fn refusal(self, alloc: Global, kind: ValueAccessErrorKind) -> ValueAccessError
         requires { HasNoWant kind }
-        ensures { IsRefusal (asked_text self.entry) kind result }
+        ensures { IsAccessRefusal (asked_text self.entry) kind result }
     {
         match self.text(alloc) {
             Ok(key) => ValueAccessError::new(key, kind),

@@ -4,9 +4,9 @@ ghost use Rattle.std.specs.Prelude.{◌≡◌, ◌+◌, ◌<◌, ◌≤◌, ◌^
 ghost use Rattle.bson_base.specs.Kinds.{HasNo00};
 ghost use Rattle.bson_base.specs.Tags.{tag_byte};
 ghost use Rattle.bson_bytes.specs.Encode.{ended};
-ghost use Rattle.bson_bytes.specs.Writing.{IsRefusal, StartsWith};
+ghost use Rattle.bson_bytes.specs.Writing.{IsWriteRefusal, StartsWith};
 ghost use Rattle.bson_frame.specs.Payload.{IsEnvelope};
-ghost use Rattle.bson_raw.specs.Append.{Appends, Gains, element_for};
+ghost use Rattle.bson_raw.specs.Append.{AppendsElement, Gains, element_for};
 ghost use Rattle.bson_raw.specs.Raw.{RawValue, ref_value, raw_kind, raw_payload, IsPlainRaw};
 ghost use Rattle.bson_raw.specs.Written.{CanWrite, IsFormed, scoped_value, Closes};
 
@@ -20,7 +20,7 @@ use bson_frame::Result;
 /// Appends the payload of a code with scope (bsonspec.org 1.1, "code_w_s").
 fn write_scoped(code: RawJavaScriptCodeWithScopeRef<'_>, out: &mut Vec<u8>) -> Result<()>
     ensures ok { OnOk result (out.new.items ≡ out.old.items ++ raw_payload (scoped_value code.entry)) }
-    ensures refused { IfErr result (IsRefusal (CanWrite (scoped_value code.entry) → ⊥)) }
+    ensures refused { IfErr result (IsWriteRefusal (CanWrite (scoped_value code.entry) → ⊥)) }
     ensures kept { OnErr result (StartsWith out.new.items out.old.items) }
 {
     let start = out.len();
@@ -36,7 +36,7 @@ fn write_payload(value: RawBsonRef<'_>, out: &mut Vec<u8>) -> Result<()>
     ensures ok { OnOk result (out.new.items ≡ out.old.items ++ raw_payload (ref_value value.entry)) }
     ensures plain { OnOk result (IsPlainRaw (ref_value value.entry)) }
     ensures formed { IsFormed (ref_value value.entry) }
-    ensures refused { IfErr result (IsRefusal (CanWrite (ref_value value.entry) → ⊥)) }
+    ensures refused { IfErr result (IsWriteRefusal (CanWrite (ref_value value.entry) → ⊥)) }
     ensures kept { OnErr result (StartsWith out.new.items out.old.items) }
 {
     match value {
@@ -69,7 +69,7 @@ fn write_rest(key: &str, value: RawBsonRef<'_>, out: &mut Vec<u8>) -> Result<()>
     ensures ok { OnOk result (out.new.items ≡ out.old.items ++ (ended key.now ++ (raw_payload (ref_value value.entry) ++ 0 ∷ []))) }
     ensures plain { OnOk result (HasNo00 key.now × IsPlainRaw (ref_value value.entry)) }
     ensures formed { OnOk result (IsFormed (ref_value value.entry)) }
-    ensures refused { IfErr result (IsRefusal (HasNo00 key.now → CanWrite (ref_value value.entry) → ⊥)) }
+    ensures refused { IfErr result (IsWriteRefusal (HasNo00 key.now → CanWrite (ref_value value.entry) → ⊥)) }
     ensures kept { OnErr result (StartsWith out.new.items out.old.items) }
 {
     write_name(key, out)?;
@@ -101,7 +101,7 @@ fn close(bytes: &mut Vec<u8>, end: usize, tag: u8) -> Result<()>
 /// the key, a pattern or options, and where the document would be over 2147483647 bytes. A refusal changes nothing.
 pub(crate) fn append_to(bytes: &mut Vec<u8>, key: &str, value: RawBsonRef<'_>) -> Result<()>
     requires { IsEnvelope bytes.old.items }
-    ensures bytes { Appends bytes.old.items bytes.new.items key.now (ref_value value.entry) result }
+    ensures bytes { AppendsElement bytes.old.items bytes.new.items key.now (ref_value value.entry) result }
     ensures walk { OnOk result (Gains bytes.old.items bytes.new.items (element_for key.now (ref_value value.entry))) }
 {
     let end = bytes.len();

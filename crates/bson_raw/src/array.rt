@@ -28,7 +28,7 @@ pub struct RawArray<'a> {
 
 impl<'a> RawArray<'a> {
     ghost use Rattle.bson_raw.specs.Access.{AccessAnswer};
-    ghost use Rattle.bson_raw.specs.Read.{GetAnswer, IsRead, value_steps};
+    ghost use Rattle.bson_raw.specs.Read.{GetAnswer, IsItemRead, value_steps};
     ghost use Rattle.bson_raw.specs.Value.{as_f64, as_str, as_document, as_array, as_binary, as_object_id, as_bool, as_datetime, as_regex, as_timestamp, as_i32, as_i64};
     ghost use Rattle.bson_raw.specs.View.{array_bytes, values_left};
     ghost use Rattle.bson_raw.specs.Walk.{IsDocumentWalk, YieldsWalk, IsFound, found_at};
@@ -53,7 +53,7 @@ impl<'a> RawArray<'a> {
     pub fn iter(self, alloc: Global) -> RawArrayIter<'a>
         ensures start { values_left result ≡ Some (drop 4 (array_bytes self.entry)) }
         ensures walk { (items : List (Result Value Fault)) → Drains value_steps result items
-            → YieldsWalk IsRead (array_bytes self.entry) items }
+            → YieldsWalk IsItemRead (array_bytes self.entry) items }
     {
         RawArrayIter {
             raw: self.document.iter_elements(),
@@ -218,7 +218,7 @@ impl RawArray<'_> {
     ghost use Rattle.std.specs.Prelude.{IfErr, MatchResult, map};
     ghost use Rattle.bson_base.specs.Value.{Items};
     ghost use Rattle.bson_model.specs.View.{items_of, view};
-    ghost use Rattle.bson_raw.specs.Convert.{HasFault, MeansItems, Tells};
+    ghost use Rattle.bson_raw.specs.Convert.{HasFault, MeansItems, TellsFault};
     ghost use Rattle.bson_raw.specs.View.{array_bytes};
 
     /// The items that the bytes mean, in their order, whatever their keys.
@@ -226,8 +226,8 @@ impl RawArray<'_> {
     /// Errors are those of `RawDocument::to_document`: the first fault at any depth, or `OutOfMemory`.
     pub fn to_array(self, alloc: Global) -> Result<Array, Error>
         ensures tree { MatchResult result (λ a. MeansItems (array_bytes self.entry) (items_of (map view a.items)))
-            (Tells (HasFault (drop 4 (array_bytes self.entry)))) }
-        ensures none { IfErr result (Tells (λ _ _. (items : Items) → MeansItems (array_bytes self.entry) items → ⊥)) }
+            (TellsFault (HasFault (drop 4 (array_bytes self.entry)))) }
+        ensures none { IfErr result (TellsFault (λ _ _. (items : Items) → MeansItems (array_bytes self.entry) items → ⊥)) }
     {
         bson_frame::laws::one_first_frame();
         array_of(alloc, elements(self.document))

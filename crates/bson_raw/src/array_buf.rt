@@ -26,11 +26,11 @@ pub struct RawArrayBuf {
 }
 
 impl RawArrayBuf {
-    ghost use Rattle.bson_raw.specs.Append.{Appends, Builds, Gains, element_for};
+    ghost use Rattle.bson_raw.specs.Append.{AppendsElement, Builds, Gains, element_for};
     ghost use Rattle.bson_raw.specs.Buffer.{array_buffer_bytes, next_place};
     ghost use Rattle.bson_raw.specs.Pairs.{placed};
     ghost use Rattle.bson_raw.specs.Raw.{own_value};
-    ghost use Rattle.bson_raw.specs.Read.{IsRead, value_steps};
+    ghost use Rattle.bson_raw.specs.Read.{IsItemRead, value_steps};
     ghost use Rattle.bson_raw.specs.View.{array_bytes, values_left};
     ghost use Rattle.bson_raw.specs.Walk.{YieldsWalk};
     ghost use Rattle.bson_raw.specs.declared.bson_ref.RawBsonRef.{RawBsonRef as Value};
@@ -79,7 +79,7 @@ impl RawArrayBuf {
     /// `MalformedValue`, under no key, where a 00 stands in a pattern or options, and where the array would be over 2147483647
     /// bytes. A refusal changes nothing.
     pub fn push(&mut self, value: RawBson) -> Result<(), Error>
-        ensures value { Appends (array_buffer_bytes self.old) (array_buffer_bytes self.new) (decimal (next_place self.old)) (own_value value) result }
+        ensures value { AppendsElement (array_buffer_bytes self.old) (array_buffer_bytes self.new) (decimal (next_place self.old)) (own_value value) result }
         ensures walk { OnOk result (Gains (array_buffer_bytes self.old) (array_buffer_bytes self.new) (element_for (decimal (next_place self.old)) (own_value value))) }
         ensures place { next_place self.new ≡ (if is_ok result then next_place self.old + 1 else next_place self.old) }
     {
@@ -108,7 +108,7 @@ impl RawArrayBuf {
     pub fn iter(&self) -> RawArrayIter<'_>
         ensures start { values_left result ≡ Some (drop 4 (array_buffer_bytes self.now)) }
         ensures walk { (items : List (Result Value Fault)) → Drains value_steps result items
-            → YieldsWalk IsRead (array_buffer_bytes self.now) items }
+            → YieldsWalk IsItemRead (array_buffer_bytes self.now) items }
     {
         self.as_ref().iter(*self.document.bytes.allocator())
     }

@@ -10,7 +10,7 @@ ghost use Rattle.bson_base.specs.Vectors.{vector_value};
 ghost use Rattle.bson_model.specs.Kinds as kinds;
 ghost use Rattle.bson_raw.specs.Buffer.{buffer_bytes, array_buffer_bytes};
 ghost use Rattle.bson_raw.specs.Places.{SamePlace};
-ghost use Rattle.bson_raw.specs.Raw.{ref_value, own_value, raw_kind, leaf, scoped_code, of_leaf, array_in, document_in, scoped_in, binary_in, regex_in, null_in, code_in};
+ghost use Rattle.bson_raw.specs.Raw.{ref_value, own_value, raw_kind, leaf, scoped_code, of_leaf, array_in, document_in, scoped_in, binary_in, regex_in, null_in, code_scalar};
 ghost use Rattle.bson_raw.specs.View.{bytes_of, array_bytes};
 
 use crate::array::RawArray;
@@ -398,7 +398,7 @@ impl RawBson {
 
     /// The value, if it is code without a scope.
     pub fn as_javascript(&self) -> Option<&str>
-        ensures { option_map (λ s. s.now) result ≡ of_leaf code_in (own_value self.now) }
+        ensures { option_map (λ s. s.now) result ≡ of_leaf code_scalar (own_value self.now) }
     {
         match self {
             RawBson::JavaScriptCode(value) => Some(value.as_str()),

@@ -316,7 +316,7 @@ impl<'a> RawBsonRef<'a> {
 impl RawBsonRef<'_> {
     ghost use Rattle.std.specs.Prelude.{IfErr};
     ghost use Rattle.bson_base.specs.Value.{Value};
-    ghost use Rattle.bson_raw.specs.Convert.{ConvertsValue, Stands, Tells};
+    ghost use Rattle.bson_raw.specs.Convert.{ConvertsValue, SpellsRawValue, TellsFault};
     ghost use Rattle.bson_raw.specs.Raw.{ref_value};
 
     /// The tree of the value: documents, arrays and scopes inside are converted, and the options of a regular expression put
@@ -325,7 +325,7 @@ impl RawBsonRef<'_> {
     /// Errors are those of `RawDocument::to_document`: the first fault at any depth, or `OutOfMemory`.
     pub fn to_bson(self, alloc: Global) -> Result<Bson, Error>
         ensures tree { ConvertsValue (ref_value self.entry) result }
-        ensures none { IfErr result (Tells (λ _ _. (v : Value) → Stands (ref_value self.entry) v → ⊥)) }
+        ensures none { IfErr result (TellsFault (λ _ _. (v : Value) → SpellsRawValue (ref_value self.entry) v → ⊥)) }
     {
         bson_frame::laws::one_first_frame();
         tree_of(alloc, self)

@@ -10,7 +10,7 @@ ghost use Rattle.bson_frame.specs.View.{element_of, fault_key};
 ghost use Rattle.bson_model.specs.Extend.{put_all};
 ghost use Rattle.bson_model.specs.Keyed.{put};
 ghost use Rattle.bson_model.specs.View.{pairs_of, view};
-ghost use Rattle.bson_raw.specs.Convert.{ConvertsMembers, ConvertsItems, ConvertsElement, ConvertsValue, IsScopedOf, HasFault, Tells};
+ghost use Rattle.bson_raw.specs.Convert.{ConvertsMembers, ConvertsItems, ConvertsElement, ConvertsValue, IsScopedOf, HasFault, TellsFault};
 ghost use Rattle.bson_raw.specs.Raw.{ref_value};
 ghost use Rattle.bson_raw.specs.View.{bytes_of};
 
@@ -191,7 +191,7 @@ fn scoped_of(
     alloc: Global,
     value: RawJavaScriptCodeWithScopeRef<'_>,
 ) -> Result<JavaScriptCodeWithScope, Error>
-    ensures { MatchResult result (IsScopedOf value.entry) (Tells (HasFault (drop 4 (bytes_of value.entry.scope)))) }
+    ensures { MatchResult result (IsScopedOf value.entry) (TellsFault (HasFault (drop 4 (bytes_of value.entry.scope)))) }
 {
     let scope = document_of(alloc, elements(value.scope))?;
     let code = String::from_str(alloc, value.code)?;

@@ -258,7 +258,7 @@ impl RawDocument<'_> {
     ghost use Rattle.std.specs.Prelude.{IfErr};
     ghost use Rattle.bson_bytes.specs.Spells.{Means, IsFaulty};
     ghost use Rattle.bson_model.specs.View.{members_of, pairs_of};
-    ghost use Rattle.bson_raw.specs.Convert.{HasFault, Tells};
+    ghost use Rattle.bson_raw.specs.Convert.{HasFault, TellsFault};
     ghost use Rattle.bson_raw.specs.View.{bytes_of};
 
     /// The document that the bytes mean: a repeated key has its last value in the place of its first, and the options of a
@@ -269,8 +269,8 @@ impl RawDocument<'_> {
     /// bytes begin with no element. `OutOfMemory`, under no key, where a growth was refused.
     pub fn to_document(self, alloc: Global) -> Result<Document, Error>
         ensures tree { MatchResult result (λ d. Means (bytes_of self.entry) (members_of (pairs_of d)))
-            (Tells (HasFault (drop 4 (bytes_of self.entry)))) }
-        ensures none { IfErr result (Tells (λ _ _. IsFaulty (bytes_of self.entry))) }
+            (TellsFault (HasFault (drop 4 (bytes_of self.entry)))) }
+        ensures none { IfErr result (TellsFault (λ _ _. IsFaulty (bytes_of self.entry))) }
     {
         bson_frame::laws::one_first_frame();
         document_of(alloc, elements(self))

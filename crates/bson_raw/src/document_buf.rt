@@ -25,9 +25,9 @@ pub struct RawDocumentBuf {
 
 impl RawDocumentBuf {
     ghost use Rattle.bson_frame.specs.View.{IsBare};
-    ghost use Rattle.bson_raw.specs.Append.{Appends, Builds, Gains, element_for};
+    ghost use Rattle.bson_raw.specs.Append.{AppendsElement, Builds, Gains, element_for};
     ghost use Rattle.bson_raw.specs.Buffer.{buffer_bytes};
-    ghost use Rattle.bson_raw.specs.Pairs.{pair_of};
+    ghost use Rattle.bson_raw.specs.Pairs.{raw_pair};
     ghost use Rattle.bson_raw.specs.Raw.{ref_value, own_value};
     ghost use Rattle.bson_raw.specs.Read.{IsPairRead, pair_steps};
     ghost use Rattle.bson_raw.specs.View.{bytes_of, left_of, pairs_left};
@@ -78,7 +78,7 @@ impl RawDocumentBuf {
     /// The first refusal ends it and is answered: `MalformedValue`, under no key, where a 00 stands in a key, a pattern or
     /// options, and where the document would be over 2147483647 bytes; `OutOfMemory` where a growth is refused.
     pub fn from_iter(alloc: Global, pairs: Vec<(String, RawBson)>) -> Result<RawDocumentBuf, Error>
-        ensures { Builds buffer_bytes (map pair_of pairs.items) result }
+        ensures { Builds buffer_bytes (map raw_pair pairs.items) result }
     {
         let mut document = RawDocumentBuf::new(alloc)?;
         for (key, value) in pairs {
@@ -92,7 +92,7 @@ impl RawDocumentBuf {
     /// `MalformedValue`, under no key, where a 00 stands in the key, a pattern or options, and where the document would be over
     /// 2147483647 bytes. A refusal changes nothing.
     pub fn append_ref(&mut self, key: &str, value: RawBsonRef<'_>) -> Result<(), Error>
-        ensures bytes { Appends (buffer_bytes self.old) (buffer_bytes self.new) key.now (ref_value value.entry) result }
+        ensures bytes { AppendsElement (buffer_bytes self.old) (buffer_bytes self.new) key.now (ref_value value.entry) result }
         ensures walk { OnOk result (Gains (buffer_bytes self.old) (buffer_bytes self.new) (element_for key.now (ref_value value.entry))) }
     {
         append_to(&mut self.bytes, key, value)
@@ -100,7 +100,7 @@ impl RawDocumentBuf {
 
     /// Puts a value last, under a key, as `append_ref` does.
     pub fn append(&mut self, key: &str, value: RawBson) -> Result<(), Error>
-        ensures bytes { Appends (buffer_bytes self.old) (buffer_bytes self.new) key.now (own_value value) result }
+        ensures bytes { AppendsElement (buffer_bytes self.old) (buffer_bytes self.new) key.now (own_value value) result }
         ensures walk { OnOk result (Gains (buffer_bytes self.old) (buffer_bytes self.new) (element_for key.now (own_value value))) }
     {
         self.append_ref(key, value.as_raw_bson_ref())

@@ -22,7 +22,7 @@ pub struct RawElement<'a> {
 }
 
 impl<'a> RawElement<'a> {
-    ghost use Rattle.bson_raw.specs.Value.{Answers, IsDecoded};
+    ghost use Rattle.bson_raw.specs.Value.{ReadsElement, IsDecoded};
     ghost use Rattle.bson_raw.specs.View.{parts_of};
 
     /// The key.
@@ -58,7 +58,7 @@ impl<'a> RawElement<'a> {
     /// The value, or the payload fault under its key. Memory is taken for that key alone; where it finds none, the fault is
     /// want of memory, under no key.
     pub fn value(&self, alloc: Global) -> Result<RawBsonRef<'a>, Error>
-        ensures { Answers (parts_of self.now) result }
+        ensures { ReadsElement (parts_of self.now) result }
     {
         match self.value_or_kind() {
             Ok(value) => Ok(value),
@@ -72,7 +72,7 @@ impl RawElement<'_> {
     ghost use Rattle.std.specs.Prelude.{IfErr, MatchResult};
     ghost use Rattle.bson_base.specs.Value.{Value, value_kind};
     ghost use Rattle.bson_bytes.specs.Spells.{SpellsValue};
-    ghost use Rattle.bson_raw.specs.Convert.{HasFaultIn, IsValueOf, Tells};
+    ghost use Rattle.bson_raw.specs.Convert.{HasFaultIn, IsValueOf, TellsFault};
     ghost use Rattle.bson_raw.specs.View.{parts_of};
 
     /// The value that the payload means, as a tree.
@@ -81,8 +81,8 @@ impl RawElement<'_> {
     /// `MalformedValue`, or `Utf8EncodingError` where a text isn't UTF-8, under the key of the element whose payload is
     /// faulty, or under none where bytes begin with no element. `OutOfMemory`, under no key, where a growth was refused.
     pub fn to_bson(&self, alloc: Global) -> Result<Bson, Error>
-        ensures tree { MatchResult result (IsValueOf (parts_of self.now)) (Tells (HasFaultIn (parts_of self.now))) }
-        ensures none { IfErr result (Tells (λ _ _. (v : Value) → value_kind v ≡ (parts_of self.now).tag → SpellsValue (parts_of self.now).payload v → ⊥)) }
+        ensures tree { MatchResult result (IsValueOf (parts_of self.now)) (TellsFault (HasFaultIn (parts_of self.now))) }
+        ensures none { IfErr result (TellsFault (λ _ _. (v : Value) → value_kind v ≡ (parts_of self.now).tag → SpellsValue (parts_of self.now).payload v → ⊥)) }
     {
         bson_frame::laws::one_first_frame();
         let value = self.value(alloc)?;

@@ -20,7 +20,7 @@ ghost use Rattle.bson_base.specs.Kinds.{IsClean, IsSound};
 ghost use Rattle.bson_base.specs.Value.{document, Members};
 ghost use Rattle.bson_bytes.specs.Encode.{encode, size};
 ghost use Rattle.bson_bytes.specs.Spells.{Means};
-ghost use Rattle.bson_bytes.specs.Writing.{CanBeWritten, IsRefusal};
+ghost use Rattle.bson_bytes.specs.Writing.{CanBeWritten, IsWriteRefusal};
 ghost use Rattle.bson_frame.specs.Payload.{IsEnvelope, IsFaultless, IsPayload};
 ghost use Rattle.bson_model.specs.Trees.{document_tree};
 ghost use Rattle.bson_model.specs.View.{pairs_of, members_of};
@@ -127,7 +127,7 @@ pub fn documents_have_no_fault()
 pub fn documents_come_back(alloc: Global, document: &Document) -> bson_frame::Result<Document>
     ensures { IsClean (document_tree document.now) → IsSound (document_tree document.now)
         → MatchResult result (λ back. members_of (pairs_of back) ≡ members_of (pairs_of document.now))
-        (IsRefusal (CanBeWritten (document_tree document.now) → ⊥)) }
+        (IsWriteRefusal (CanBeWritten (document_tree document.now) → ⊥)) }
 {
     bson_bytes::laws::trees_come_back();
     bson_bytes::laws::one_meaning();

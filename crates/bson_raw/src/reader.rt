@@ -2,18 +2,15 @@
 
 ghost use Rattle.std.specs.Prelude.{◌≡◌, ◌<◌, ◌≤◌, ◌^◌, ◌-◌, length, MatchResult};
 ghost use Rattle.bson_frame.specs.Frame.{number};
-ghost use Rattle.bson_raw.specs.Input.{IsInputLength, IsRefusal, ReadsDocument, ReadsHead, ReadsRest, ReadsBytes, ReadsBody};
+ghost use Rattle.bson_raw.specs.Input.{IsInputLength, IsConversionRefusal, ReadsDocument, ReadsHead, ReadsRest, TakesDeclared, ReadsDeclared};
 ghost use Rattle.bson_raw.specs.declared.read_error.ReadError.TheVariants.{BadLength};
 
 use crate::document::RawDocument;
 use crate::read_error::ReadError;
 use bson_base::{Source, read_full};
-use bson_frame::{Error, ErrorKind};
+use bson_frame::{Error, ErrorKind, SIZE_LIMIT};
 use bson_model::Document;
 use std::alloc::Global;
-
-/// The greatest length of a document that is read.
-const LIMIT: u32 = 16777216;
 
 /// The first four bytes.
 fn read_head<R: Source>(reader: &mut R) -> Result<[u8; 4], ReadError>
@@ -42,7 +39,7 @@ fn declared(head: [u8; 4]) -> Result<usize, ReadError>
     if number < 5 {
         return Err(ReadError::BadLength);
     }
-    if number > LIMIT {
+    if number > SIZE_LIMIT as u32 {
         return Err(ReadError::BadLength);
     }
     Ok(number as usize)
@@ -77,7 +74,7 @@ fn read_rest<R: Source>(
 /// The bytes of one document.
 fn read_bytes<R: Source>(alloc: Global, reader: &mut R) -> Result<Vec<u8>, ReadError>
     requires { R.failures reader.old < 2 ^ 64 - 1 }
-    ensures { ReadsBytes (record { failures = R.failures reader.old; supply = R.supply reader.old })
+    ensures { TakesDeclared (record { failures = R.failures reader.old; supply = R.supply reader.old })
         (record { failures = R.failures reader.new; supply = R.supply reader.new }) result }
 {
     let head = read_head(reader)?;
@@ -87,7 +84,7 @@ fn read_bytes<R: Source>(alloc: Global, reader: &mut R) -> Result<Vec<u8>, ReadE
 
 /// A refused conversion, as the reader's caller is told it.
 fn refusal(e: Error) -> ReadError
-    ensures { IsRefusal e result }
+    ensures { IsConversionRefusal e result }
 {
     match e.kind {
         ErrorKind::OutOfMemory => ReadError::Memory,
@@ -97,7 +94,7 @@ fn refusal(e: Error) -> ReadError
 
 /// The document that bytes mean.
 fn document_in(alloc: Global, bytes: &[u8]) -> Result<Document, ReadError>
-    ensures { ReadsBody bytes.now result }
+    ensures { ReadsDeclared bytes.now result }
 {
     match RawDocument::from_bytes(bytes) {
         Ok(raw) => match raw.to_document(alloc) {

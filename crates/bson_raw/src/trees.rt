@@ -2,12 +2,12 @@
 
 ghost use Rattle.std.specs.Prelude.{◌≡◌, IfOk, IfErr, OnOk, MatchResult, drop};
 ghost use Rattle.bson_bytes.specs.Encode.{encode};
-ghost use Rattle.bson_bytes.specs.Writing.{CanBeWritten, IsRefusal};
+ghost use Rattle.bson_bytes.specs.Writing.{CanBeWritten, IsWriteRefusal};
 ghost use Rattle.bson_bytes.specs.Spells.{Means, IsFaulty};
 ghost use Rattle.bson_model.specs.View.{view, pairs_of, members_of};
 ghost use Rattle.bson_model.specs.Trees.{document_tree};
 ghost use Rattle.bson_raw.specs.Buffer.{buffer_bytes};
-ghost use Rattle.bson_raw.specs.Convert.{HasFault, Tells};
+ghost use Rattle.bson_raw.specs.Convert.{HasFault, TellsFault};
 ghost use Rattle.bson_raw.specs.Places.{ArrayGoesOn};
 ghost use Rattle.bson_raw.specs.Raw.{own_value};
 ghost use Rattle.bson_raw.specs.Trees.{raw_of, CanBeRaw, ConvertsOwned};
@@ -28,7 +28,7 @@ impl RawDocumentBuf {
     pub fn from_document(alloc: Global, document: &Document) -> Result<RawDocumentBuf, Error>
         ensures ok { IfOk result (λ d. buffer_bytes d ≡ encode (members_of (pairs_of document.now))) }
         ensures fits { OnOk result (CanBeWritten (document_tree document.now)) }
-        ensures refused { IfErr result (IsRefusal (CanBeWritten (document_tree document.now) → ⊥)) }
+        ensures refused { IfErr result (IsWriteRefusal (CanBeWritten (document_tree document.now) → ⊥)) }
     {
         let bytes = encode_document(alloc, document)?;
         Ok(RawDocumentBuf { bytes })
@@ -37,8 +37,8 @@ impl RawDocumentBuf {
     /// The document that the bytes mean, as `RawDocument::to_document` gives it, and its errors.
     pub fn to_document(&self) -> Result<Document, Error>
         ensures tree { MatchResult result (λ d. Means (buffer_bytes self.now) (members_of (pairs_of d)))
-            (Tells (HasFault (drop 4 (buffer_bytes self.now)))) }
-        ensures none { IfErr result (Tells (λ _ _. IsFaulty (buffer_bytes self.now))) }
+            (TellsFault (HasFault (drop 4 (buffer_bytes self.now)))) }
+        ensures none { IfErr result (TellsFault (λ _ _. IsFaulty (buffer_bytes self.now))) }
     {
         self.as_ref().to_document(*self.bytes.allocator())
     }
@@ -53,7 +53,7 @@ impl RawBson {
         ensures ok { IfOk result (λ v. own_value v ≡ raw_of (view value)) }
         ensures place { IfOk result ArrayGoesOn }
         ensures fits { OnOk result (CanBeRaw (view value)) }
-        ensures refused { IfErr result (IsRefusal (CanBeRaw (view value) → ⊥)) }
+        ensures refused { IfErr result (IsWriteRefusal (CanBeRaw (view value) → ⊥)) }
     {
         match value {
             Bson::Double(x) => Ok(RawBson::Double(x)),

@@ -2,7 +2,7 @@
 
 ghost use Rattle.std.specs.Prelude.{◌<◌, ◌-◌, ◌^◌};
 ghost use Rattle.bson_model.specs.View.{pairs_of, members_of};
-ghost use Rattle.bson_raw.specs.Trees.{Sends};
+ghost use Rattle.bson_raw.specs.Trees.{SendsDocument};
 
 use crate::write_error::WriteError;
 use bson_base::{Sink, write_all};
@@ -21,7 +21,7 @@ pub fn to_writer<W: Sink>(
     writer: &mut W,
 ) -> Result<(), WriteError>
     requires { W.failures writer.old < 2 ^ 64 - 1 }
-    ensures { Sends (members_of (pairs_of document.now)) (W.failures writer.old) (W.failures writer.new) (W.taken writer.old) (W.taken writer.new) result }
+    ensures { SendsDocument (members_of (pairs_of document.now)) (W.failures writer.old) (W.failures writer.new) (W.taken writer.old) (W.taken writer.new) result }
 {
     match encode_document(alloc, document) {
         Ok(bytes) => match write_all(writer, &bytes) {

@@ -9,19 +9,19 @@ use Rattle.bson_bytes.specs.Encode.{encode}
 use Rattle.bson_meaning.specs.Meaning.{key}
 use Rattle.bson_table.specs.Rows.{Doc, docs_from}
 use Rattle.bson_table.specs.Rows as table
-use Rattle.bson_table.specs.Moves.{Appends as PutsRows, IsRoomFor, all_appended}
+use Rattle.bson_table.specs.Moves.{AddsRows as PutsRows, IsRoomFor, all_appended}
 use Rattle.bson_table.specs.declared.fault.Fault.{Fault}
 use Rattle.bson_table.specs.declared.fault.Fault.TheVariants as faults
 use Rattle.store_documents.specs.declared.write.Written.{Written}
 use Rattle.store_laws.specs.Reading.{Documents, AreRead}
 use Rattle.store_laws.specs.State.{list_of, store, import, on, Reply, number, refused, first_refusal, Appends, Answers, IsName, AreKept, Step}
 use Rattle.store_laws.specs.Run.{places, IsDecided}
-use Rattle.store_laws.specs.Table.{Row, Table, state_of, documents_of, greatest, last_place, own_id, AreOf, TakePlaces}
+use Rattle.store_laws.specs.Table.{Row, Table, state_of, documents_of, greatest, greatest_place, own_id, AreOf, TakePlaces}
 use Rattle.store_laws.specs.declared.error.ErrorKind.{ErrorKind}
 use Rattle.store_laws.specs.declared.error.ErrorKind.TheVariants.{DuplicateId, Places}
 use Rattle.store_laws.proofs.Keys.{rows_are_a_state}
 use Rattle.store_laws.proofs.Rows.{list_of-state_of, rows_last}
-use Rattle.store_streams.specs.Judging.{AreRowsOf as AreWritten}
+use Rattle.store_streams.specs.Judging.{AreWrittenRows as AreWritten}
 use Rattle.store_streams.specs.Keys.{first_taken, keys_of}
 use Rattle.store_streams.proofs.Appending.{all_accepted, appending_all}
 use Rattle.bson_store.specs.Shown.{AreRowsOf, Rises, Show}
@@ -48,7 +48,7 @@ documents_back : (g : ℕ) (n : List ℕ) (ds : Documents) → map (λ (r : Row)
 documents_back g n [] = refl
 documents_back g n (d ∷ ds) = ap (λ x. d ∷ x) (documents_back (suc g) n ds)
 
-take_places : (g : ℕ) (n : List ℕ) (ds : Documents) → g + length ds ≤ last_place → TakePlaces g (rows_at g n ds)
+take_places : (g : ℕ) (n : List ℕ) (ds : Documents) → g + length ds ≤ greatest_place → TakePlaces g (rows_at g n ds)
 take_places g n [] h = tt
 take_places g n (d ∷ ds) h = (refl, omega (arith, h), take_places (suc g) n ds (omega (arith, h)))
 
@@ -119,13 +119,13 @@ step_all docs a n ds ws good s c free =
       ),
     )
 
-room_is : (l : ℤ) (g k : ℕ) → l ≡ pos g → (l +ℤ pos k) <ℤ pos (2 ^ 63) → g + k ≤ last_place
+room_is : (l : ℤ) (g k : ℕ) → l ≡ pos g → (l +ℤ pos k) <ℤ pos (2 ^ 63) → g + k ≤ greatest_place
 room_is l g k e h = let i = subst (λ z. (z +ℤ pos k) <ℤ pos (2 ^ 63)) e h in omega (arith, ints, i)
 
-full_is : (l : ℤ) (g k : ℕ) → l ≡ pos g → ((l +ℤ pos k) <ℤ pos (2 ^ 63) → ⊥) → last_place < g + k
-full_is l g k e h = by (leb_tells (g + k) last_place)
+full_is : (l : ℤ) (g k : ℕ) → l ≡ pos g → ((l +ℤ pos k) <ℤ pos (2 ^ 63) → ⊥) → greatest_place < g + k
+full_is l g k e h = by (leb_tells (g + k) greatest_place)
   where
-    by : ((leb (g + k) last_place ≡ true) × (g + k ≤ last_place)) ⊎ ((leb (g + k) last_place ≡ false) × (last_place < g + k)) → last_place < g + k
+    by : ((leb (g + k) greatest_place ≡ true) × (g + k ≤ greatest_place)) ⊎ ((leb (g + k) greatest_place ≡ false) × (greatest_place < g + k)) → greatest_place < g + k
     by (inl i) = let low : (l +ℤ pos k) <ℤ pos (2 ^ 63) = omega (arith, ints, e, i.1) in absurd (h low)
     by (inr i) = i.1
 
@@ -137,7 +137,7 @@ go_in docs n ds ws good text c free room a s =
     let last = last_greatest a docs s in
     let first : table.last_place docs +ℤ pos 1 ≡ pos (suc g) = ap (λ z. z +ℤ pos 1) last ∙ next_place g in
     let step = step_all docs a n ds ws good s c free in
-    let below : g + length ds ≤ last_place = room_is (table.last_place docs) g (length ds) last (subst (λ k. IsRoomFor k docs) (as_many ws ds c.rows) room) in
+    let below : g + length ds ≤ greatest_place = room_is (table.last_place docs) g (length ds) last (subst (λ k. IsRoomFor k docs) (as_many ws ds c.rows) room) in
     let all : max 0 g ≡ g = omega arith in (
       a ++ new,
       record {
@@ -151,7 +151,7 @@ go_in docs n ds ws good text c free room a s =
 no_places : (docs : List Doc) (n : List ℕ) (ds : Documents) (ws : List Written) → IsName n → Come ds ws → None ≡ first_taken 0 (keys_in n docs) (keys_of_rows ws) → (IsRoomFor (length (map row_of ws)) docs → ⊥)
     → Does (on n (import ds None)) (refused Places None) docs docs
 no_places docs n ds ws good c free full a s =
-    let g : last_place < greatest a + length ds = full_is (table.last_place docs) (greatest a) (length ds) (last_greatest a docs s) (λ room. full (subst (λ k. IsRoomFor k docs) (sym (as_many ws ds c.rows)) room)) in
+    let g : greatest_place < greatest a + length ds = full_is (table.last_place docs) (greatest a) (length ds) (last_greatest a docs s) (λ room. full (subst (λ k. IsRoomFor k docs) (sym (as_many ws ds c.rows)) room)) in
     (a, s, (Some places, ((refl, refl), stays a, (import_open n ds None good, (g, number (length ds), state_of (a ++ rows_at (greatest a) n ds), step_all docs a n ds ws good s c free, λ x. x)))))
 
 -- ---- exits

@@ -5,8 +5,8 @@ use Rattle.serde_json.specs.Data.{Data}
 use Rattle.sqlite.specs.State.{State}
 use Rattle.bson_base.specs.Kinds.{IsSound}
 use Rattle.bson_base.specs.Value.{Value, Members}
-use Rattle.bson_table.specs.Rows.{Doc, replaced, without}
-use Rattle.bson_table.specs.Moves.{Moves, Finds, Changes, Appends, appended}
+use Rattle.bson_table.specs.Rows.{Doc, replaced, without_place}
+use Rattle.bson_table.specs.Moves.{Moves, FindsRow, Changes, AddsRows, appended}
 use Rattle.bson_table.specs.declared.fault.Fault.{Fault}
 use Rattle.bson_table.specs.declared.row.Found.{Found}
 use Rattle.store_documents.specs.Answers.{AnswersBytes, AnswersTree}
@@ -56,9 +56,9 @@ pub there_moves : (s t : State) (n nb : List ℕ) (id : Value) (f : Option Found
 there_moves s t n nb id f x c q e i good open_call answered m =
     moved s t (Looks nb id (Ok f)) (Does (on n c) q) m (λ docs after h. there docs after n id x c q good open_call (looks_as n nb id f (Some x) docs after e i h) answered)
 
-pub removed_moves : (s t u : State) (n nb : List ℕ) (id : Value) (f : Option Found) (x : Found) → nb ≡ n → f ≡ Some x → IsName n → Moves s t (Looks nb id (Ok f)) → Moves t u (Changes (without x.place) (Ok tt)) → Moves s u (Does (on n (remove id)) done)
+pub removed_moves : (s t u : State) (n nb : List ℕ) (id : Value) (f : Option Found) (x : Found) → nb ≡ n → f ≡ Some x → IsName n → Moves s t (Looks nb id (Ok f)) → Moves t u (Changes (without_place x.place) (Ok tt)) → Moves s u (Does (on n (remove id)) done)
 removed_moves s t u n nb id f x e i good m k =
-    moved_twice s t u (Looks nb id (Ok f)) (Changes (without x.place) (Ok tt)) (Does (on n (remove id)) done) m k (λ docs mid after h l. removed docs mid after n id x good (looks_as n nb id f (Some x) docs mid e i h) l)
+    moved_twice s t u (Looks nb id (Ok f)) (Changes (without_place x.place) (Ok tt)) (Does (on n (remove id)) done) m k (λ docs mid after h l. removed docs mid after n id x good (looks_as n nb id f (Some x) docs mid e i h) l)
 
 pub rewritten_moves : (s t u : State) (n nb : List ℕ) (id : Value) (f : Option Found) (x : Found) (c : Call) (q : Reply) (b : List ℕ) → nb ≡ n → f ≡ Some x → IsName n → (IsSound id → IsCall c) → Remakes id c q x b
     → Moves s t (Looks nb id (Ok f)) → Moves t u (Changes (replaced x.place b) (Ok tt)) → Moves s u (Does (on n c) q)
@@ -102,44 +102,44 @@ read_tree s t n nb j call d r e reads m = moved s t (DoesRead nb call d r) (Does
 pub unwritten_insert : (s : State) (n : List ℕ) (d : Members) (k : ErrorKind) → IsName n → AnswersWritten d (Err k) → Moves s s (DoesRead n insert d (refused k None))
 unwritten_insert s n d k good h = rests s (DoesRead n insert d (refused k None)) (λ docs. insert_unwritten docs n d k good h)
 
-pub unfound_insert : (s t : State) (n k : List ℕ) (d : Members) (x : Fault) → IsName n → Moves s t (Finds n k (Err x)) → Moves s t (DoesRead n insert d (refused (kind_of_fault x) None))
-unfound_insert s t n k d x good m = moved s t (Finds n k (Err x)) (DoesRead n insert d (refused (kind_of_fault x) None)) m (λ docs after h. insert_unfound docs after n k d x good h)
+pub unfound_insert : (s t : State) (n k : List ℕ) (d : Members) (x : Fault) → IsName n → Moves s t (FindsRow n k (Err x)) → Moves s t (DoesRead n insert d (refused (kind_of_fault x) None))
+unfound_insert s t n k d x good m = moved s t (FindsRow n k (Err x)) (DoesRead n insert d (refused (kind_of_fault x) None)) m (λ docs after h. insert_unfound docs after n k d x good h)
 
-pub duplicate_insert : (s t : State) (n : List ℕ) (d : Members) (w : Written) (f : Option Found) (x : Found) → IsName n → IsRead d → AnswersWritten d (Ok w) → f ≡ Some x → Moves s t (Finds n w.key.items (Ok f)) → Moves s t (DoesRead n insert d (refused kind.DuplicateId None))
+pub duplicate_insert : (s t : State) (n : List ℕ) (d : Members) (w : Written) (f : Option Found) (x : Found) → IsName n → IsRead d → AnswersWritten d (Ok w) → f ≡ Some x → Moves s t (FindsRow n w.key.items (Ok f)) → Moves s t (DoesRead n insert d (refused kind.DuplicateId None))
 duplicate_insert s t n d w f x good read written e m =
-    moved s t (Finds n w.key.items (Ok f)) (DoesRead n insert d (refused kind.DuplicateId None)) m
-    (λ docs after h. duplicate docs after n w.key.items w.body.items d x good (written_fits d w read written) (subst (λ o. Finds n w.key.items (Ok o) docs after) e h))
+    moved s t (FindsRow n w.key.items (Ok f)) (DoesRead n insert d (refused kind.DuplicateId None)) m
+    (λ docs after h. duplicate docs after n w.key.items w.body.items d x good (written_fits d w read written) (subst (λ o. FindsRow n w.key.items (Ok o) docs after) e h))
 
-pub put_moves : (s t u : State) (n : List ℕ) (d : Members) (w : Written) (f : Option Found) → IsName n → IsUtf8 n → IsRead d → AnswersWritten d (Ok w) → f ≡ None → Moves s t (Finds n w.key.items (Ok f)) → Moves t u (Appends 1 (appended n w.key.items w.body.items) (Ok tt)) → Moves s u (DoesRead n insert d done)
+pub put_moves : (s t u : State) (n : List ℕ) (d : Members) (w : Written) (f : Option Found) → IsName n → IsUtf8 n → IsRead d → AnswersWritten d (Ok w) → f ≡ None → Moves s t (FindsRow n w.key.items (Ok f)) → Moves t u (AddsRows 1 (appended n w.key.items w.body.items) (Ok tt)) → Moves s u (DoesRead n insert d done)
 put_moves s t u n d w f good text read written e m k =
-    moved_twice s t u (Finds n w.key.items (Ok f)) (Appends 1 (appended n w.key.items w.body.items) (Ok tt)) (DoesRead n insert d done) m k
-    (λ docs mid after h l. put_in docs mid after n w.key.items w.body.items d good text (written_fits d w read written) (subst (λ o. Finds n w.key.items (Ok o) docs mid) e h) l)
+    moved_twice s t u (FindsRow n w.key.items (Ok f)) (AddsRows 1 (appended n w.key.items w.body.items) (Ok tt)) (DoesRead n insert d done) m k
+    (λ docs mid after h l. put_in docs mid after n w.key.items w.body.items d good text (written_fits d w read written) (subst (λ o. FindsRow n w.key.items (Ok o) docs mid) e h) l)
 
-pub not_put_moves : (s t u : State) (n : List ℕ) (d : Members) (w : Written) (f : Option Found) (x : Fault) → IsName n → IsRead d → AnswersWritten d (Ok w) → f ≡ None → Moves s t (Finds n w.key.items (Ok f)) → Moves t u (Appends 1 (appended n w.key.items w.body.items) (Err x)) → Moves s u (DoesRead n insert d (refused (kind_of_fault x) None))
+pub not_put_moves : (s t u : State) (n : List ℕ) (d : Members) (w : Written) (f : Option Found) (x : Fault) → IsName n → IsRead d → AnswersWritten d (Ok w) → f ≡ None → Moves s t (FindsRow n w.key.items (Ok f)) → Moves t u (AddsRows 1 (appended n w.key.items w.body.items) (Err x)) → Moves s u (DoesRead n insert d (refused (kind_of_fault x) None))
 not_put_moves s t u n d w f x good read written e m k =
-    moved_twice s t u (Finds n w.key.items (Ok f)) (Appends 1 (appended n w.key.items w.body.items) (Err x)) (DoesRead n insert d (refused (kind_of_fault x) None)) m k
-    (λ docs mid after h l. not_put_in docs mid after n w.key.items w.body.items d x good (written_fits d w read written) (subst (λ o. Finds n w.key.items (Ok o) docs mid) e h) l)
+    moved_twice s t u (FindsRow n w.key.items (Ok f)) (AddsRows 1 (appended n w.key.items w.body.items) (Err x)) (DoesRead n insert d (refused (kind_of_fault x) None)) m k
+    (λ docs mid after h l. not_put_in docs mid after n w.key.items w.body.items d x good (written_fits d w read written) (subst (λ o. FindsRow n w.key.items (Ok o) docs mid) e h) l)
 
 -- ---- replacements
 
 pub unwritten_replace : (s : State) (n : List ℕ) (d : Members) (k : ErrorKind) → IsName n → AnswersWritten d (Err k) → Moves s s (DoesRead n replace d (refused k None))
 unwritten_replace s n d k good h = rests s (DoesRead n replace d (refused k None)) (λ docs. replace_unwritten docs n d k good h)
 
-pub unfound_replace : (s t : State) (n : List ℕ) (d : Members) (w : Written) (x : Fault) → IsName n → IsRead d → AnswersWritten d (Ok w) → Moves s t (Finds n w.key.items (Err x)) → Moves s t (DoesRead n replace d (refused (kind_of_fault x) None))
+pub unfound_replace : (s t : State) (n : List ℕ) (d : Members) (w : Written) (x : Fault) → IsName n → IsRead d → AnswersWritten d (Ok w) → Moves s t (FindsRow n w.key.items (Err x)) → Moves s t (DoesRead n replace d (refused (kind_of_fault x) None))
 unfound_replace s t n d w x good read written m =
-    moved s t (Finds n w.key.items (Err x)) (DoesRead n replace d (refused (kind_of_fault x) None)) m (λ docs after h. replace_unfound docs after n w.key.items w.body.items d x good (written_fits d w read written) h)
+    moved s t (FindsRow n w.key.items (Err x)) (DoesRead n replace d (refused (kind_of_fault x) None)) m (λ docs after h. replace_unfound docs after n w.key.items w.body.items d x good (written_fits d w read written) h)
 
-pub none_replace : (s t : State) (n : List ℕ) (d : Members) (w : Written) (f : Option Found) → IsName n → IsRead d → AnswersWritten d (Ok w) → f ≡ None → Moves s t (Finds n w.key.items (Ok f)) → Moves s t (DoesRead n replace d (refused kind.NotFound None))
+pub none_replace : (s t : State) (n : List ℕ) (d : Members) (w : Written) (f : Option Found) → IsName n → IsRead d → AnswersWritten d (Ok w) → f ≡ None → Moves s t (FindsRow n w.key.items (Ok f)) → Moves s t (DoesRead n replace d (refused kind.NotFound None))
 none_replace s t n d w f good read written e m =
-    moved s t (Finds n w.key.items (Ok f)) (DoesRead n replace d (refused kind.NotFound None)) m
-    (λ docs after h. replace_none docs after n w.key.items w.body.items d good (written_fits d w read written) (subst (λ o. Finds n w.key.items (Ok o) docs after) e h))
+    moved s t (FindsRow n w.key.items (Ok f)) (DoesRead n replace d (refused kind.NotFound None)) m
+    (λ docs after h. replace_none docs after n w.key.items w.body.items d good (written_fits d w read written) (subst (λ o. FindsRow n w.key.items (Ok o) docs after) e h))
 
-pub place_moves : (s t u : State) (n : List ℕ) (d : Members) (w : Written) (f : Option Found) (x : Found) → IsName n → IsRead d → AnswersWritten d (Ok w) → f ≡ Some x → Moves s t (Finds n w.key.items (Ok f)) → Moves t u (Changes (replaced x.place w.body.items) (Ok tt)) → Moves s u (DoesRead n replace d done)
+pub place_moves : (s t u : State) (n : List ℕ) (d : Members) (w : Written) (f : Option Found) (x : Found) → IsName n → IsRead d → AnswersWritten d (Ok w) → f ≡ Some x → Moves s t (FindsRow n w.key.items (Ok f)) → Moves t u (Changes (replaced x.place w.body.items) (Ok tt)) → Moves s u (DoesRead n replace d done)
 place_moves s t u n d w f x good read written e m k =
-    moved_twice s t u (Finds n w.key.items (Ok f)) (Changes (replaced x.place w.body.items) (Ok tt)) (DoesRead n replace d done) m k
-    (λ docs mid after h l. put_in_place docs mid after n w.key.items w.body.items d x good (written_fits d w read written) (subst (λ o. Finds n w.key.items (Ok o) docs mid) e h) l)
+    moved_twice s t u (FindsRow n w.key.items (Ok f)) (Changes (replaced x.place w.body.items) (Ok tt)) (DoesRead n replace d done) m k
+    (λ docs mid after h l. put_in_place docs mid after n w.key.items w.body.items d x good (written_fits d w read written) (subst (λ o. FindsRow n w.key.items (Ok o) docs mid) e h) l)
 
-pub not_place_moves : (s t u : State) (n : List ℕ) (d : Members) (w : Written) (f : Option Found) (x : Found) (y : Fault) → IsName n → IsRead d → AnswersWritten d (Ok w) → f ≡ Some x → Moves s t (Finds n w.key.items (Ok f)) → Moves t u (Changes (replaced x.place w.body.items) (Err y)) → Moves s u (DoesRead n replace d (refused (kind_of_fault y) None))
+pub not_place_moves : (s t u : State) (n : List ℕ) (d : Members) (w : Written) (f : Option Found) (x : Found) (y : Fault) → IsName n → IsRead d → AnswersWritten d (Ok w) → f ≡ Some x → Moves s t (FindsRow n w.key.items (Ok f)) → Moves t u (Changes (replaced x.place w.body.items) (Err y)) → Moves s u (DoesRead n replace d (refused (kind_of_fault y) None))
 not_place_moves s t u n d w f x y good read written e m k =
-    moved_twice s t u (Finds n w.key.items (Ok f)) (Changes (replaced x.place w.body.items) (Err y)) (DoesRead n replace d (refused (kind_of_fault y) None)) m k
-    (λ docs mid after h l. not_put_in_place docs mid after n w.key.items w.body.items d x y good (written_fits d w read written) (subst (λ o. Finds n w.key.items (Ok o) docs mid) e h) l)
+    moved_twice s t u (FindsRow n w.key.items (Ok f)) (Changes (replaced x.place w.body.items) (Err y)) (DoesRead n replace d (refused (kind_of_fault y) None)) m k
+    (λ docs mid after h l. not_put_in_place docs mid after n w.key.items w.body.items d x y good (written_fits d w read written) (subst (λ o. FindsRow n w.key.items (Ok o) docs mid) e h) l)

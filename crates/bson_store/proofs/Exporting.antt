@@ -23,7 +23,7 @@ use Rattle.store_laws.proofs.Rows.{list_of-state_of}
 use Rattle.bson_store.specs.Shown.{AreRowsOf, Show}
 use Rattle.bson_store.specs.Calls.{Does}
 use Rattle.bson_store.specs.Refusals.{refusal, kind_of_fault}
-use Rattle.bson_store.specs.Export.{Tally, ExportRefused, Exports, Sends, Sent}
+use Rattle.bson_store.specs.Export.{Tally, ExportRefused, Exports, SendsCollection, Sent}
 use Rattle.bson_store.specs.declared.error.StoreError.{StoreError}
 use Rattle.bson_store.proofs.Serving.{bad_name, answers_stay, denied, undecided, memory_other}
 
@@ -113,7 +113,7 @@ flat_written n docs a s = ap flat (bodies_are n a docs s.each) ∙ flat_map_is (
 
 -- ---- exits
 
-pub sends_none : (docs : List Doc) (n : List ℕ) (t : Tally) → (IsName n → ⊥) → Sends n t t (Err (refusal kind.BadName)) docs docs
+pub sends_none : (docs : List Doc) (n : List ℕ) (t : Tally) → (IsName n → ⊥) → SendsCollection n t t (Err (refusal kind.BadName)) docs docs
 sends_none docs n t bad = record { same = refl; exports = λ a s. (refl, (bad, refl)) }
 
 -- A visitor of a collection's bodies, which has sent what it was handed. Its writer is known again by a name.
@@ -132,7 +132,7 @@ module _ {V N : Type 0} (tally : V → Tally) (failed : V → Bool) (name : V �
   out_by b bodies is took = subst (λ t. Sent (tally first) t b bodies) (sym (back took.0)) (subst (λ x. Sent (tally first) (tally last) x bodies) is took.1)
 
   pub writer_failed : (docs after : List Doc) (n : List ℕ) (r : Result Bool Fault) → IsName n → failed first ≡ false → failed last ≡ true → Visits Took first last n r docs after
-      → Sends n (tally first) new (Err (refusal kind.Writer)) docs after
+      → SendsCollection n (tally first) new (Err (refusal kind.Writer)) docs after
   writer_failed docs after n r good begins ends h =
       let (taken, rest, whole, took) = h.some (starts begins) in
       let out = out_by true taken ends took in
@@ -141,7 +141,7 @@ module _ {V N : Type 0} (tally : V → Tally) (failed : V → Bool) (name : V �
       record { same = h.same; exports = λ a s. (refl, (good, (out.0, subst (TakesBeginning (tally first).taken new.taken) (flat_written n docs a s) begun))) }
 
   pub table_failed : (docs after : List Doc) (n : List ℕ) (x : Fault) → IsName n → failed first ≡ false → failed last ≡ false → Visits Took first last n (Err x) docs after
-      → Sends n (tally first) new (Err (refusal (kind_of_fault x))) docs after
+      → SendsCollection n (tally first) new (Err (refusal (kind_of_fault x))) docs after
   table_failed docs after n x good begins ends h =
       let (taken, rest, whole, took) = h.some (starts begins) in
       let out = out_by false taken ends took in
@@ -156,7 +156,7 @@ module _ {V N : Type 0} (tally : V → Tally) (failed : V → Bool) (name : V �
       by a faults.Places other out = absurd (other refl)
 
   pub all_sent : (docs after : List Doc) (n : List ℕ) (b : Bool) → IsName n → failed first ≡ false → failed last ≡ false → (b ≡ false → failed last ≡ true) → Visits Took first last n (Ok b) docs after
-      → Sends n (tally first) new (Ok tt) docs after
+      → SendsCollection n (tally first) new (Ok tt) docs after
   all_sent docs after n true good begins ends stopped h =
       let out = out_by false (bodies_of n docs) ends (h.whole (starts begins) refl) in
       record { same = h.same; exports = λ a s. (good, (out.0, subst (Appends (tally first).taken new.taken) (flat_written n docs a s) out.1)) }
@@ -175,7 +175,7 @@ sent_in docs n out old new before after h a s = answers_stay docs n export (byte
         let k : Appends (Some []) (Some out) (flat_map encode (list_of (state_of b) n)) = subst (λ o. Appends o (Some out) (flat_map encode (list_of (state_of b) n))) before (subst (λ o. Appends old.taken o (flat_map encode (list_of (state_of b) n))) after e.1.1) in
         k ∙ ap (flat_map encode) (list_of-state_of b n)
 
-pub sent : (docs after : List Doc) (n out : List ℕ) (old new : Tally) → old.taken ≡ Some [] → new.taken ≡ Some out → Sends n old new (Ok tt) docs after → Does (on n export) (bytes out) docs after
+pub sent : (docs after : List Doc) (n out : List ℕ) (old new : Tally) → old.taken ≡ Some [] → new.taken ≡ Some out → SendsCollection n old new (Ok tt) docs after → Does (on n export) (bytes out) docs after
 sent docs after n out old new before now h = rw h.same (sent_in docs n out old new before now h.exports)
 
 not_sent_in : (docs : List Doc) (n : List ℕ) (old new : Tally) (e : StoreError) → ((a : Table) → Show docs a → Exports (state_of a) n old new (Err e)) → e.kind ≢ kind.Writer → Does (on n export) (refused e.kind e.document) docs docs
@@ -188,7 +188,7 @@ not_sent_in docs n old new e h other a s = let k = h a s in rw k.0 (at_kind e.ki
     at_kind kind.BadName other h = bad_name docs n export h.0 a s
     at_kind _ other h = absurd h.1
 
-pub not_sent : (docs after : List Doc) (n : List ℕ) (old new : Tally) (e : StoreError) → Sends n old new (Err e) docs after → e.kind ≢ kind.Writer → Does (on n export) (refused e.kind e.document) docs after
+pub not_sent : (docs after : List Doc) (n : List ℕ) (old new : Tally) (e : StoreError) → SendsCollection n old new (Err e) docs after → e.kind ≢ kind.Writer → Does (on n export) (refused e.kind e.document) docs after
 not_sent docs after n old new e h other = rw h.same (not_sent_in docs n old new e h.exports other)
 
 sink_failed_in : (docs : List Doc) (n : List ℕ) (old new : Tally) (e : StoreError) → ((a : Table) → Show docs a → Exports (state_of a) n old new (Err e)) → e.kind ≡ kind.Writer → Does (on n export) (refused kind.Memory None) docs docs
@@ -199,5 +199,5 @@ sink_failed_in docs n old new e h is a s = denied docs (on n export) faults.Memo
     at_kind kind.BadName is h = cc
     at_kind _ is h = h.0
 
-pub sink_failed : (docs after : List Doc) (n : List ℕ) (old new : Tally) (e : StoreError) → Sends n old new (Err e) docs after → e.kind ≡ kind.Writer → Does (on n export) (refused kind.Memory None) docs after
+pub sink_failed : (docs after : List Doc) (n : List ℕ) (old new : Tally) (e : StoreError) → SendsCollection n old new (Err e) docs after → e.kind ≡ kind.Writer → Does (on n export) (refused kind.Memory None) docs after
 sink_failed docs after n old new e h is = rw h.same (sink_failed_in docs n old new e h.exports is)

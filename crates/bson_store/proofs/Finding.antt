@@ -9,8 +9,8 @@ use Rattle.bson_base.specs.Kinds.{IsPlain, IsSound}
 use Rattle.bson_base.specs.Value.{Value, Members}
 use Rattle.bson_bytes.specs.Encode.{encode}
 use Rattle.bson_meaning.specs.Meaning.{key}
-use Rattle.bson_table.specs.Rows.{Doc, is_named, is_at, without}
-use Rattle.bson_table.specs.Moves.{Finds, Changes, kept, seen}
+use Rattle.bson_table.specs.Rows.{Doc, is_row_named, is_at, without_place}
+use Rattle.bson_table.specs.Moves.{FindsRow, Changes, kept, seen}
 use Rattle.bson_table.specs.declared.fault.Fault.{Fault}
 use Rattle.bson_table.specs.declared.fault.Fault.TheVariants as faults
 use Rattle.bson_table.specs.declared.row.Found.{Found}
@@ -60,19 +60,19 @@ long_looks docs n id sound long = record {
 pub memory_looks : (docs : List Doc) (n : List ℕ) (id : Value) → Looks n id (Err (refusal Memory)) docs docs
 memory_looks docs n id = record { same = refl; found = tt; denied = (faults.Memory, memory_other, refl) }
 
-look_finds : (docs : List Doc) (n k : List ℕ) (id : Value) (f : Option Found) → IsKeyOf k id → option_map kept f ≡ option_map seen (find (is_named n k) docs) → FindsIn docs n id f
-look_finds docs n k id f w told = by f (find (is_named n k) docs) refl told
+look_finds : (docs : List Doc) (n k : List ℕ) (id : Value) (f : Option Found) → IsKeyOf k id → option_map kept f ≡ option_map seen (find (is_row_named n k) docs) → FindsIn docs n id f
+look_finds docs n k id f w told = by f (find (is_row_named n k) docs) refl told
   where
-    by : (f : Option Found) (o : Option Doc) → find (is_named n k) docs ≡ o → option_map kept f ≡ option_map seen o → FindsIn docs n id f
+    by : (f : Option Found) (o : Option Doc) → find (is_row_named n k) docs ≡ o → option_map kept f ≡ option_map seen o → FindsIn docs n id f
     by None None e h = λ a s. absent n k id docs a w s.each s.good e
     by None (Some d) e h = cc
     by (Some x) None e h = cc
     by (Some x) (Some d) e h = (k, d, w, e, cc)
 
-pub found_looks : (docs after : List Doc) (n k : List ℕ) (id : Value) (f : Option Found) → IsKeyOf k id → Finds n k (Ok f) docs after → Looks n id (Ok f) docs after
+pub found_looks : (docs after : List Doc) (n k : List ℕ) (id : Value) (f : Option Found) → IsKeyOf k id → FindsRow n k (Ok f) docs after → Looks n id (Ok f) docs after
 found_looks docs after n k id f w h = record { same = h.same; found = look_finds docs n k id f w h.found; denied = tt }
 
-pub unfound_looks : (docs after : List Doc) (n k : List ℕ) (id : Value) (x : Fault) → Finds n k (Err x) docs after → Looks n id (Err (refusal (kind_of_fault x))) docs after
+pub unfound_looks : (docs after : List Doc) (n k : List ℕ) (id : Value) (x : Fault) → FindsRow n k (Err x) docs after → Looks n id (Err (refusal (kind_of_fault x))) docs after
 unfound_looks docs after n k id x h = record { same = h.same; found = tt; denied = (x, h.faults, refl) }
 
 -- ---- exits
@@ -137,12 +137,12 @@ at_other d r z p is e other = by (int_eq d.place z) refl
     by false i = refl
 
 -- rows of which none is at the place stay
-stay_below : (m : ℕ) (z : ℤ) (p : ℕ) (rs : Table) (ds : List Doc) → AreRowsOf rs ds → Rises m rs → z ≡ pos p → p ≤ m → without z ds ≡ ds
+stay_below : (m : ℕ) (z : ℤ) (p : ℕ) (rs : Table) (ds : List Doc) → AreRowsOf rs ds → Rises m rs → z ≡ pos p → p ≤ m → without_place z ds ≡ ds
 stay_below m z p [] [] each rises is h = refl
 stay_below m z p [] (d ∷ ds) each rises is h = absurd each
 stay_below m z p (r ∷ rs) [] each rises is h = absurd each
 stay_below m z p (r ∷ rs) (d ∷ ds) each rises is h =
-    ap (λ b. cond (not b) (d ∷ without z ds) (without z ds)) (at_other d r z p each.0.place is (λ e. omega (arith, e, h, rises.0)))
+    ap (λ b. cond (not b) (d ∷ without_place z ds) (without_place z ds)) (at_other d r z p each.0.place is (λ e. omega (arith, e, h, rises.0)))
     ∙ ap (λ x. d ∷ x) (stay_below r.place z p rs ds each.1 rises.1 is (omega (arith, h, rises.0)))
 
 pub above : (m : ℕ) (front : Table) (r : Row) (back : Table) → Rises m (front ++ r ∷ back) → m < r.place
@@ -151,14 +151,14 @@ above m (q ∷ front) r back rises = let p = above q.place front r back rises.1 
 
 -- the row of a table between others goes
 gone : (m : ℕ) (front : Table) (r : Row) (back : Table) (before : List Doc) (d : Doc) (behind : List Doc) → AreRowsOf front before → IsRowOf r d → AreRowsOf back behind → Rises m (front ++ r ∷ back)
-    → without d.place (before ++ d ∷ behind) ≡ before ++ behind
+    → without_place d.place (before ++ d ∷ behind) ≡ before ++ behind
 gone m [] r back [] d behind fronts is backs rises =
-    ap (λ b. cond (not b) (d ∷ without d.place behind) (without d.place behind)) (at_place d d.place refl) ∙ stay_below r.place d.place r.place back behind backs rises.1 is.place (omega arith)
+    ap (λ b. cond (not b) (d ∷ without_place d.place behind) (without_place d.place behind)) (at_place d d.place refl) ∙ stay_below r.place d.place r.place back behind backs rises.1 is.place (omega arith)
 gone m [] r back (e ∷ before) d behind fronts is backs rises = absurd fronts
 gone m (q ∷ front) r back [] d behind fronts is backs rises = absurd fronts
 gone m (q ∷ front) r back (e ∷ before) d behind fronts is backs rises =
     let up = above q.place front r back rises.1 in
-    ap (λ b. cond (not b) (e ∷ without d.place (before ++ d ∷ behind)) (without d.place (before ++ d ∷ behind))) (at_other e q d.place r.place fronts.0.place is.place (λ x. omega (arith, x, up)))
+    ap (λ b. cond (not b) (e ∷ without_place d.place (before ++ d ∷ behind)) (without_place d.place (before ++ d ∷ behind))) (at_other e q d.place r.place fronts.0.place is.place (λ x. omega (arith, x, up)))
     ∙ ap (λ x. e ∷ x) (gone q.place front r back before d behind fronts.1 is backs rises.1)
 
 lower : (m n : ℕ) (rs : Table) → n ≤ m → Rises m rs → Rises n rs
@@ -182,13 +182,13 @@ remove_step n id a front r back good split name at =
       ),
     )
 
-removed_at : (docs : List Doc) (n : List ℕ) (id : Value) (f : Found) → IsName n → FindsIn docs n id (Some f) → Does (on n (remove id)) done docs (without f.place docs)
+removed_at : (docs : List Doc) (n : List ℕ) (id : Value) (f : Found) → IsName n → FindsIn docs n id (Some f) → Does (on n (remove id)) done docs (without_place f.place docs)
 removed_at ds n id f good h a s =
     let p = found n h.0 id ds a h.1 h.2 s.each s.good h.3 in
     let step = remove_step n id a p.front p.r p.back good p.split p.name (stands_at n h.0 id ds a h.1 p) in
     let rises = subst (Rises 0) p.split s.rising in
     let place : f.place ≡ h.1.place = ap (λ x. x.0) h.4 in
-    let left : without f.place ds ≡ p.before ++ p.behind = ap (λ z. without z ds) place ∙ ap (without h.1.place) p.parted ∙ gone 0 p.front p.r p.back p.before h.1 p.behind p.front_each p.each p.back_each rises in (
+    let left : without_place f.place ds ≡ p.before ++ p.behind = ap (λ z. without_place z ds) place ∙ ap (without_place h.1.place) p.parted ∙ gone 0 p.front p.r p.back p.before h.1 p.behind p.front_each p.each p.back_each rises in (
       p.front ++ p.back,
       record {
         each = subst (AreRowsOf (p.front ++ p.back)) (sym left) (each_more p.front p.back p.before p.behind p.front_each p.back_each);
@@ -198,7 +198,7 @@ removed_at ds n id f good h a s =
       (None, (step, inr (p.front, p.r, p.back, p.split, inl refl), tt)),
     )
 
-pub removed : (docs mid after : List Doc) (n : List ℕ) (id : Value) (f : Found) → IsName n → Looks n id (Ok (Some f)) docs mid → Changes (without f.place) (Ok tt) mid after → Does (on n (remove id)) done docs after
+pub removed : (docs mid after : List Doc) (n : List ℕ) (id : Value) (f : Found) → IsName n → Looks n id (Ok (Some f)) docs mid → Changes (without_place f.place) (Ok tt) mid after → Does (on n (remove id)) done docs after
 removed docs mid after n id f good look h = rw (h.done, look.same) (removed_at docs n id f good look.found)
 
 -- the table refuses a change

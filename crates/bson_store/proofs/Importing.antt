@@ -9,7 +9,7 @@ use Rattle.bson_base.specs.Device.{Supply, Gives, Feed, TookAll}
 use Rattle.bson_base.specs.Kinds.{AreBytes}
 use Rattle.bson_base.specs.Value.{Members, has_key}
 use Rattle.bson_bytes.specs.Encode.{size}
-use Rattle.bson_meaning.specs.Gate.{size_limit}
+use Rattle.bson_frame.specs.Frame.{size_limit}
 use Rattle.bson_meaning.specs.JsonTrees.{IsJson}
 use Rattle.bson_table.specs.Rows.{Doc}
 use Rattle.bson_table.specs.declared.fault.Fault.{Fault}
@@ -29,7 +29,7 @@ use Rattle.store_streams.specs.Feed.{StopsReading}
 use Rattle.store_streams.specs.Judging.{Judges}
 use Rattle.store_streams.proofs.Streams.{any_stream}
 use Rattle.bson_store.specs.Calls.{Does}
-use Rattle.bson_store.specs.Many.{AddsAll, DoesMany, IsAddFault, ImportRefused, Imports, Takes}
+use Rattle.bson_store.specs.Many.{AddsAll, DoesMany, IsAddFault, ImportRefused, Imports, TakesStream}
 use Rattle.bson_store.specs.Refusals.{as_number, kind_of_fault, kind_of_reading, refusal, refusal_of_stream, reply_by}
 use Rattle.bson_store.specs.declared.error.StoreError.{StoreError}
 use Rattle.bson_store.proofs.Adding.{import_open}
@@ -115,7 +115,7 @@ import_unread docs n old new reads.Memory good h = (good, refl, h, refl)
 memory_left : (docs after : List Doc) (n bytes : List ℕ) (old new : Feed) → IsName n → TookAll old new bytes → after ≡ docs → ImportRefused n old new kind.Memory None docs after
 memory_left docs after n bytes old new good all same = (good, refl, (bytes, all.0), same)
 
-of_documents : (docs after : List Doc) (n : List ℕ) (old new : Feed) (k : ErrorKind) (i : Option ℕ) → IsOfDocuments k → Takes n old new (refused k i) docs after → ImportRefused n old new k i docs after
+of_documents : (docs after : List Doc) (n : List ℕ) (old new : Feed) (k : ErrorKind) (i : Option ℕ) → IsOfDocuments k → TakesStream n old new (refused k i) docs after → ImportRefused n old new k i docs after
 of_documents docs after n old new kind.BadName i told h = absurd told
 of_documents docs after n old new kind.Reader i told h = absurd told
 of_documents docs after n old new kind.Memory i told h = absurd told
@@ -147,7 +147,7 @@ pub from_memory : (docs after : List Doc) (n bytes : List ℕ) (old new : Feed) 
     → Imports n old new r docs after → DoesMany n (ReadsStream bytes) (reply_by as_number r) docs after
 from_memory docs after n bytes old new r before now whole h = by r h
   where
-    took : (q : Reply) → Takes n old new q docs after → DoesMany n (ReadsStream bytes) q docs after
+    took : (q : Reply) → TakesStream n old new q docs after → DoesMany n (ReadsStream bytes) q docs after
     took q h = subst (λ bs. DoesMany n (ReadsStream bs) q docs after) (whole h.1.0 h.1.1) h.1.2
 
     wanted_here : IsName n → after ≡ docs → DoesMany n (ReadsStream bytes) (refused kind.Memory None) docs after

@@ -6,8 +6,8 @@ use Rattle.std.specs.Option.{option_map}
 use Rattle.std.specs.Str.{bytes_eq}
 use Rattle.bson_meaning.proofs.Ordered.{equal_keys, same_key}
 use Rattle.bson_meaning.specs.Meaning.{key}
-use Rattle.bson_table.specs.Rows.{Doc, is_in, is_named}
-use Rattle.bson_table.specs.Moves.{Finds, kept, seen}
+use Rattle.bson_table.specs.Rows.{Doc, is_in, is_row_named}
+use Rattle.bson_table.specs.Moves.{FindsRow, kept, seen}
 use Rattle.bson_table.specs.declared.fault.Fault.{Fault}
 use Rattle.bson_table.specs.declared.fault.Fault.TheVariants as faults
 use Rattle.bson_table.specs.declared.row.Found.{Found}
@@ -16,7 +16,7 @@ use Rattle.store_laws.specs.Reading.{Documents}
 use Rattle.store_laws.specs.Table.{Table, documents_of, own_id}
 use Rattle.store_laws.specs.declared.error.ErrorKind.TheVariants.{Memory}
 use Rattle.store_streams.specs.declared.keys.Keys.{Keys}
-use Rattle.store_streams.specs.Judging.{AreRowsOf as AreWritten}
+use Rattle.store_streams.specs.Judging.{AreWrittenRows as AreWritten}
 use Rattle.store_streams.specs.Keys.{first_taken, has_met, keys_of}
 use Rattle.store_streams.proofs.Taken.{ComeTo, come_start, come_more, come_there, come_again, come_end}
 use Rattle.bson_store.specs.Shown.{AreRowsOf}
@@ -37,16 +37,16 @@ bytes_eq_back x y = by (bytes_eq x y) refl (bytes_eq y x) refl
     by false e true i = sym e ∙ ap (bytes_eq x) (equal_keys y x i) ∙ same_key x
 
 -- a key is in the collection where its row is found
-pub named_there : (n k : List ℕ) (docs : List Doc) → is_some (find (is_named n k) docs) ≡ list_any (bytes_eq k) (keys_in n docs)
+pub named_there : (n k : List ℕ) (docs : List Doc) → is_some (find (is_row_named n k) docs) ≡ list_any (bytes_eq k) (keys_in n docs)
 named_there n k [] = refl
 named_there n k (d ∷ docs) = by (bytes_eq d.coll n) (named_there n k docs)
   where
-    at : (b : Bool) → is_some (find (is_named n k) docs) ≡ list_any (bytes_eq k) (keys_in n docs) → is_some (cond b (Some d) (find (is_named n k) docs)) ≡ b || list_any (bytes_eq k) (keys_in n docs)
+    at : (b : Bool) → is_some (find (is_row_named n k) docs) ≡ list_any (bytes_eq k) (keys_in n docs) → is_some (cond b (Some d) (find (is_row_named n k) docs)) ≡ b || list_any (bytes_eq k) (keys_in n docs)
     at true rest = refl
     at false rest = rest
 
-    by : (b : Bool) → is_some (find (is_named n k) docs) ≡ list_any (bytes_eq k) (keys_in n docs)
-        → is_some (cond (b && bytes_eq d.idkey k) (Some d) (find (is_named n k) docs)) ≡ list_any (bytes_eq k) (map (λ (x : Doc). x.idkey) (cond b (d ∷ filter (is_in n) docs) (filter (is_in n) docs)))
+    by : (b : Bool) → is_some (find (is_row_named n k) docs) ≡ list_any (bytes_eq k) (keys_in n docs)
+        → is_some (cond (b && bytes_eq d.idkey k) (Some d) (find (is_row_named n k) docs)) ≡ list_any (bytes_eq k) (map (λ (x : Doc). x.idkey) (cond b (d ∷ filter (is_in n) docs) (filter (is_in n) docs)))
     by true rest = at (bytes_eq d.idkey k) rest ∙ ap (λ b. b || list_any (bytes_eq k) (keys_in n docs)) (bytes_eq_back d.idkey k)
     by false rest = rest
 
@@ -72,30 +72,30 @@ row_keys_are (w ∷ ws) (d ∷ ds) h = ap (λ k. k ∷ keys_of_rows ws) h.1 ∙ 
 
 -- ---- one key
 
-pub meets_unfound : (n k : List ℕ) (met : Keys) (x : Fault) (docs after : List Doc) → Finds n k (Err x) docs after → Meets n k met (Err (refusal (kind_of_fault x))) docs after
+pub meets_unfound : (n k : List ℕ) (met : Keys) (x : Fault) (docs after : List Doc) → FindsRow n k (Err x) docs after → Meets n k met (Err (refusal (kind_of_fault x))) docs after
 meets_unfound n k met x docs after h = record { same = h.same; there = tt; denied = (x, h.faults, refl) }
 
-some_named : (n k : List ℕ) (x : Found) (docs : List Doc) → option_map kept (Some x) ≡ option_map seen (find (is_named n k) docs) → list_any (bytes_eq k) (keys_in n docs) ≡ true
-some_named n k x docs h = sym (named_there n k docs) ∙ ap is_some (some_is (find (is_named n k) docs) (kept x) h).1
+some_named : (n k : List ℕ) (x : Found) (docs : List Doc) → option_map kept (Some x) ≡ option_map seen (find (is_row_named n k) docs) → list_any (bytes_eq k) (keys_in n docs) ≡ true
+some_named n k x docs h = sym (named_there n k docs) ∙ ap is_some (some_is (find (is_row_named n k) docs) (kept x) h).1
 
-none_named : (n k : List ℕ) (docs : List Doc) → option_map kept None ≡ option_map seen (find (is_named n k) docs) → list_any (bytes_eq k) (keys_in n docs) ≡ false
-none_named n k docs h = sym (named_there n k docs) ∙ ap is_some (none_is (find (is_named n k) docs) h)
+none_named : (n k : List ℕ) (docs : List Doc) → option_map kept None ≡ option_map seen (find (is_row_named n k) docs) → list_any (bytes_eq k) (keys_in n docs) ≡ false
+none_named n k docs h = sym (named_there n k docs) ∙ ap is_some (none_is (find (is_row_named n k) docs) h)
 
-pub meets_found : (n k : List ℕ) (met : Keys) (f : Option Found) (x : Found) (docs after : List Doc) → f ≡ Some x → Finds n k (Ok f) docs after → Meets n k met (Ok true) docs after
+pub meets_found : (n k : List ℕ) (met : Keys) (f : Option Found) (x : Found) (docs after : List Doc) → f ≡ Some x → FindsRow n k (Ok f) docs after → Meets n k met (Ok true) docs after
 meets_found n k met f x docs after is h =
-    let e = some_named n k x docs (subst (λ o. option_map kept o ≡ option_map seen (find (is_named n k) docs)) is h.found) in
+    let e = some_named n k x docs (subst (λ o. option_map kept o ≡ option_map seen (find (is_row_named n k) docs)) is h.found) in
     record { same = h.same; there = sym (ap (λ b. b || has_met met k) e); denied = tt }
 
-pub meets_memory : (n k : List ℕ) (met : Keys) (f : Option Found) (docs after : List Doc) → Finds n k (Ok f) docs after → Meets n k met (Err (refusal Memory)) docs after
+pub meets_memory : (n k : List ℕ) (met : Keys) (f : Option Found) (docs after : List Doc) → FindsRow n k (Ok f) docs after → Meets n k met (Err (refusal Memory)) docs after
 meets_memory n k met f docs after h = record { same = h.same; there = tt; denied = (faults.Memory, memory_other, refl) }
 
 not_twice : (b c : Bool) → b ≡ not c → not b ≡ c
 not_twice b true e = ap not e
 not_twice b false e = ap not e
 
-pub meets_new : (n k : List ℕ) (met : Keys) (f : Option Found) (is_new : Bool) (docs after : List Doc) → f ≡ None → is_new ≡ not (has_met met k) → Finds n k (Ok f) docs after → Meets n k met (Ok (not is_new)) docs after
+pub meets_new : (n k : List ℕ) (met : Keys) (f : Option Found) (is_new : Bool) (docs after : List Doc) → f ≡ None → is_new ≡ not (has_met met k) → FindsRow n k (Ok f) docs after → Meets n k met (Ok (not is_new)) docs after
 meets_new n k met f is_new docs after is fresh h =
-    let e = none_named n k docs (subst (λ o. option_map kept o ≡ option_map seen (find (is_named n k) docs)) is h.found) in
+    let e = none_named n k docs (subst (λ o. option_map kept o ≡ option_map seen (find (is_row_named n k) docs)) is h.found) in
     record { same = h.same; there = not_twice is_new (has_met met k) fresh ∙ sym (ap (λ b. b || has_met met k) e); denied = tt }
 
 -- ---- one key after the other

@@ -19,7 +19,7 @@ use Rattle.store_laws.specs.Table.{Row, Table, documents_of, state_of}
 use Rattle.store_laws.specs.declared.error.ErrorKind.TheVariants.{Memory}
 use Rattle.store_laws.proofs.Rows.{list_of-state_of}
 use Rattle.bson_store.specs.Calls.{Does}
-use Rattle.bson_store.specs.Export.{bytes_of}
+use Rattle.bson_store.specs.Export.{bytes_of_each}
 use Rattle.bson_store.specs.Questions.{as_names}
 use Rattle.bson_store.specs.Refusals.{kind_of_fault, refusal, reply_by}
 use Rattle.bson_store.specs.Shown.{AreRowsOf, Show}
@@ -34,16 +34,16 @@ name_cmp x y = slice_cmp nat_cmp x.items y.items
 
 -- ---- the names of a set in its order
 
-all_after : (x : Name) (xs : List Name) → AllByRecursion (λ y. name_cmp x y ≡ Less) xs → AllAfter x.items (bytes_of xs)
+all_after : (x : Name) (xs : List Name) → AllByRecursion (λ y. name_cmp x y ≡ Less) xs → AllAfter x.items (bytes_of_each xs)
 all_after x [] h = tt
 all_after x (y ∷ xs) h = (h.0, all_after x xs h.1)
 
-pub in_order : (xs : List Name) → IsStrictlySortedBy name_cmp xs → AreAscending (bytes_of xs)
+pub in_order : (xs : List Name) → IsStrictlySortedBy name_cmp xs → AreAscending (bytes_of_each xs)
 unfolding IsStrictlySortedBy
 in_order [] h = tt
 in_order (x ∷ xs) h = (all_after x xs h.0, in_order xs h.1)
 
-bytes_of-append : (xs ys : List Name) → bytes_of (xs ++ ys) ≡ bytes_of xs ++ bytes_of ys
+bytes_of-append : (xs ys : List Name) → bytes_of_each (xs ++ ys) ≡ bytes_of_each xs ++ bytes_of_each ys
 bytes_of-append [] ys = refl
 bytes_of-append (x ∷ xs) ys = ap (λ l. x.items ∷ l) (bytes_of-append xs ys)
 
@@ -63,7 +63,7 @@ named_among (y ∷ front) x back = by (bytes_eq x.items y.items) (named_among fr
 pub record SoFar (all left : List Name) (texts : List (String Global)) : Type 0 where
   pub front : List Name
   pub split : all ≡ front ++ left
-  pub same : map string_bytes texts ≡ bytes_of front
+  pub same : map string_bytes texts ≡ bytes_of_each front
 
 pub so_far_start : (all left : List Name) (texts : List (String Global)) → left ≡ all → texts ≡ [] → SoFar all left texts
 so_far_start all left texts is none = record { front = []; split = sym is; same = ap (map string_bytes) none }
@@ -75,15 +75,15 @@ so_far_more all left rest x texts more is put h = record {
   same = put ∙ ap (λ l. l ++ x.items ∷ []) h.same ∙ sym (bytes_of-append h.front (x ∷ []));
 }
 
-pub so_far_all : (all left : List Name) (texts : List (String Global)) → left ≡ [] → SoFar all left texts → map string_bytes texts ≡ bytes_of all
-so_far_all all left texts none h = h.same ∙ ap bytes_of (sym (append-nil h.front) ∙ ap (λ l. h.front ++ l) (sym none) ∙ sym h.split)
+pub so_far_all : (all left : List Name) (texts : List (String Global)) → left ≡ [] → SoFar all left texts → map string_bytes texts ≡ bytes_of_each all
+so_far_all all left texts none h = h.same ∙ ap bytes_of_each (sym (append-nil h.front) ∙ ap (λ l. h.front ++ l) (sym none) ∙ sym h.split)
 
 pub so_far_utf8 : (all left rest : List Name) (x : Name) (texts : List (String Global)) → left ≡ x ∷ rest → SoFar all left texts → ((n : List ℕ) → IsTrue (has_name all n) → IsUtf8 n) → IsUtf8 x.items
 so_far_utf8 all left rest x texts is h texts_all = texts_all x.items (subst (λ l. IsTrue (has_name l x.items)) (sym (h.split ∙ ap (λ l. h.front ++ l) is)) (named_among h.front x rest))
 
 -- ---- the names that hold a document
 
-has_bytes : (n : List ℕ) (xs : List Name) → list_any (bytes_eq n) (bytes_of xs) ≡ has_name xs n
+has_bytes : (n : List ℕ) (xs : List Name) → list_any (bytes_eq n) (bytes_of_each xs) ≡ has_name xs n
 has_bytes n [] = refl
 has_bytes n (x ∷ xs) = ap (λ b. bytes_eq n x.items || b) (has_bytes n xs)
 
@@ -123,7 +123,7 @@ listed_in docs ns asc each a s = (
 untold_in : (docs : List Doc) (e : StoreError) → (((n : List ℕ) → IsTrue (list_any (is_in n) docs) → IsUtf8 n) → e ≡ refusal Memory) → Does collections (refused e.kind e.document) docs docs
 untold_in docs e h a s = rw (h (λ n t. texts_in n a docs s.each t)) (denied docs collections faults.Memory memory_other (λ d. d) a s)
 
-pub told : (docs after : List Doc) (set : BTreeSet Name) (r : Result (Vec (String Global) Global) StoreError) → IfOk r (λ v. map string_bytes v.items ≡ bytes_of set.keys) → IfOk r (λ v. AreAscending (map string_bytes v.items))
+pub told : (docs after : List Doc) (set : BTreeSet Name) (r : Result (Vec (String Global) Global) StoreError) → IfOk r (λ v. map string_bytes v.items ≡ bytes_of_each set.keys) → IfOk r (λ v. AreAscending (map string_bytes v.items))
     → (((n : List ℕ) → IsTrue (has_name set.keys n) → IsUtf8 n) → IfErr r (λ e. e ≡ refusal Memory)) → Lists (Ok set) docs after → Does collections (reply_by as_names r) docs after
 told docs after set (Ok v) same asc refuses h = rw h.same (listed_in docs (map string_bytes v.items) asc (λ n. ap (list_any (bytes_eq n)) same ∙ has_bytes n set.keys ∙ h.names n))
 told docs after set (Err e) same asc refuses h = rw h.same (untold_in docs e (λ texts. refuses (λ n t. texts n (subst IsTrue (h.names n) t))))

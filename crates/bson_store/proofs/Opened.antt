@@ -2,7 +2,7 @@
 use Rattle.std.proofs.Common.{◌≡◌, ℕ, ℤ, pos, negsuc, ◌<ℤ◌, ◌<◌, List, [], ◌∷◌, ◌++◌, Bool, true, false, ◌||◌, refl, ap, ◌∙◌, sym, subst, arith, append_assoc}
 use Rattle.std.proofs.lemmas.Int.{ints}
 use Rattle.std.specs.List.{list_any}
-use Rattle.bson_table.specs.Rows.{Doc, is_named}
+use Rattle.bson_table.specs.Rows.{Doc, is_row_named}
 use Rattle.bson_table.specs.Rows as table
 use Rattle.bson_table.specs.Check.{AreGoodAfter, AreGood}
 use Rattle.store_documents.specs.Bodies.{IsRow}
@@ -14,7 +14,7 @@ use Rattle.bson_store.proofs.Tables.{is_named_so}
 -- a row whose collection and key the later ones don't have
 abbrev Apart : Doc → List Doc → Type 0
 Apart d [] = Unit {0}
-Apart d (e ∷ docs) = (is_named e.coll e.idkey d ≡ false) × Apart d docs
+Apart d (e ∷ docs) = (is_row_named e.coll e.idkey d ≡ false) × Apart d docs
 
 none_in : (p : Doc → Bool) (a : List Doc) (d : Doc) (b : List Doc) → list_any p (a ++ d ∷ b) ≡ false → p d ≡ false
 none_in p [] d b h = by (p d) h
@@ -31,7 +31,7 @@ none_in p (x ∷ a) d b h = by (p x) h (none_in p a d b)
 apart : (d : Doc) (seen a b docs : List Doc) → seen ≡ a ++ d ∷ b → AreGoodAfter IsRow seen docs → Apart d docs
 apart d seen a b [] split good = tt
 apart d seen a b (e ∷ docs) split good = (
-  none_in (is_named e.coll e.idkey) a d b (subst (λ s. list_any (is_named e.coll e.idkey) s ≡ false) split good.0.fresh),
+  none_in (is_row_named e.coll e.idkey) a d b (subst (λ s. list_any (is_row_named e.coll e.idkey) s ≡ false) split good.0.fresh),
   apart d (seen ++ e ∷ []) a (b ++ e ∷ []) docs (ap (λ s. s ++ e ∷ []) split ∙ append_assoc a (d ∷ b) (e ∷ [])) good.1,
 )
 

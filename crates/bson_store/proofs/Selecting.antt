@@ -14,8 +14,8 @@ use Rattle.store_laws.specs.Run.{IsDecidedCall}
 use Rattle.store_laws.specs.State.{Answers, AreKept, Call, IsKept, IsName, Picks, Reply, on, only, refused}
 use Rattle.store_laws.specs.Table.{AreRows, Table, documents_of}
 use Rattle.bson_store.specs.Calls.{Does}
-use Rattle.bson_store.specs.Export.{bytes_of}
-use Rattle.bson_store.specs.Questions.{Gives, Picked, Turns}
+use Rattle.bson_store.specs.Export.{bytes_of_each}
+use Rattle.bson_store.specs.Questions.{GivesPicked, Picked, Turns}
 use Rattle.bson_store.specs.Refusals.{IsDenied, kind_of_fault, refusal}
 use Rattle.bson_store.specs.Shown.{Show}
 use Rattle.bson_store.specs.declared.error.StoreError.{StoreError}
@@ -81,7 +81,7 @@ kept_last ds bodies b l kept = kept_parts l.front l.last (subst AreKept l.split 
 
 -- a body was handed on
 pub gave_more : (old new : Documents → Type 0) (f : Filter) (bodies : List (List ℕ)) (b : List ℕ) (fault : Option StoreError) → ((out : Documents) (d : Members) → IsKept d → b ≡ encode d → old out → Turns new f out d)
-    → Gives old f bodies fault → Gives new f (bodies ++ b ∷ []) fault
+    → GivesPicked old f bodies fault → GivesPicked new f (bodies ++ b ∷ []) fault
 gave_more old new f bodies b fault turns h ds kept is =
     let l = last_of ds bodies b is in
     let k = kept_last ds bodies b l kept in
@@ -92,12 +92,12 @@ gave_more old new f bodies b fault turns h ds kept is =
     by l turns (Some e) t = t
 
 -- a body was refused
-pub gave_fault : (took : Documents → Type 0) (f : Filter) (bodies : List (List ℕ)) (b : List ℕ) (e : StoreError) → ((d : Members) → IsKept d → b ≡ encode d → IsDenied e) → Gives took f (bodies ++ b ∷ []) (Some e)
+pub gave_fault : (took : Documents → Type 0) (f : Filter) (bodies : List (List ℕ)) (b : List ℕ) (e : StoreError) → ((d : Members) → IsKept d → b ≡ encode d → IsDenied e) → GivesPicked took f (bodies ++ b ∷ []) (Some e)
 gave_fault took f bodies b e h ds kept is = let l = last_of ds bodies b is in h l.last (kept_last ds bodies b l kept).1 l.body_is
 
 -- ---- all bodies of a collection
 
-gives_none : (took : Documents → Type 0) (f : Filter) → took [] → Gives took f [] None
+gives_none : (took : Documents → Type 0) (f : Filter) → took [] → GivesPicked took f [] None
 gives_none took f t [] kept is = ([], refl, t)
 gives_none took f t (d ∷ ds) kept is = absurd (cc)
 
@@ -129,11 +129,11 @@ front_of (x ∷ xs) ys (d ∷ ds) h =
 
 -- what a picker has taken since it was the first
 abbrev pub Took : {T : Type 0} → (T → T → Documents → Type 0) → Picker T → Picker T → List (List ℕ) → Type 0
-Took took first v bodies = (v.filter.now ≡ first.filter.now) × Gives (took first.taker v.taker) (filter_of v.filter.now) bodies v.fault
+Took took first v bodies = (v.filter.now ≡ first.filter.now) × GivesPicked (took first.taker v.taker) (filter_of v.filter.now) bodies v.fault
 
 module _ {T : Type 0} (took : T → T → Documents → Type 0) (first last : Picker T) (n : List ℕ) (docs after : List Doc) (start : took first.taker first.taker []) (faultless : first.fault ≡ None) where
   starts : Took took first first []
-  starts = (refl, subst (λ o. Gives (took first.taker first.taker) (filter_of first.filter.now) [] o) (sym faultless) (gives_none (took first.taker first.taker) (filter_of first.filter.now) start))
+  starts = (refl, subst (λ o. GivesPicked (took first.taker first.taker) (filter_of first.filter.now) [] o) (sym faultless) (gives_none (took first.taker first.taker) (filter_of first.filter.now) start))
 
   -- the table refused
   pub untaken : (x : Fault) → Visits (Took took first) first last n (Err x) docs after → Picked (took first.taker) n (filter_of first.filter.now) (Err (refusal (kind_of_fault x))) docs after
@@ -190,13 +190,13 @@ unpicked_moves took s u n nb f e c is good open_call m =
 -- ---- what each question keeps
 
 abbrev pub HasCopies : Copies → Documents → Type 0
-HasCopies t out = bytes_of t.bodies.items ≡ map encode out
+HasCopies t out = bytes_of_each t.bodies.items ≡ map encode out
 
 abbrev pub HasCounted : Count → Documents → Type 0
 HasCounted t out = t.number ≡ length out
 
 abbrev pub HasProjected : List (String Global) → Projections → Documents → Type 0
-HasProjected keys t out = (t.keys.now ≡ keys) × (bytes_of t.bodies.items ≡ map (λ d. encode (only (path_of t.keys.now) d)) out)
+HasProjected keys t out = (t.keys.now ≡ keys) × (bytes_of_each t.bodies.items ≡ map (λ d. encode (only (path_of t.keys.now) d)) out)
 
-pub projected : (keys : List (String Global)) (t : Projections) (out : Documents) → HasProjected keys t out → bytes_of t.bodies.items ≡ map (λ d. encode (only (path_of keys) d)) out
+pub projected : (keys : List (String Global)) (t : Projections) (out : Documents) → HasProjected keys t out → bytes_of_each t.bodies.items ≡ map (λ d. encode (only (path_of keys) d)) out
 projected keys t out h = h.1 ∙ ap (λ ks. map (λ d. encode (only (path_of ks) d)) out) h.0

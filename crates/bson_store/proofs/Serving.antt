@@ -9,12 +9,12 @@ use Rattle.std.specs.Option.{option_map}
 use Rattle.std.proofs.lemmas.Bool.{le-ltb}
 use Rattle.bson_base.specs.Value.{Value, Members, look_up, has_key}
 use Rattle.bson_bytes.specs.Encode.{encode, size}
-use Rattle.bson_meaning.specs.Gate.{size_limit}
+use Rattle.bson_frame.specs.Frame.{size_limit}
 use Rattle.bson_meaning.specs.Meaning.{key}
 use Rattle.bson_meaning.proofs.KeyLaw.{same_itself}
-use Rattle.bson_table.specs.Rows.{Doc, is_named}
+use Rattle.bson_table.specs.Rows.{Doc, is_row_named}
 use Rattle.bson_table.specs.Rows as table
-use Rattle.bson_table.specs.Moves.{Finds, Appends, IsRoomFor, appended, kept, seen}
+use Rattle.bson_table.specs.Moves.{FindsRow, AddsRows, IsRoomFor, appended, kept, seen}
 use Rattle.bson_table.specs.declared.fault.Fault.{Fault}
 use Rattle.bson_table.specs.declared.fault.Fault.TheVariants as faults
 use Rattle.bson_table.specs.declared.row.Found.{Found}
@@ -23,7 +23,7 @@ use Rattle.store_documents.specs.declared.write.Written.{Written}
 use Rattle.store_laws.specs.Reading.{Documents, readable, IsRead}
 use Rattle.store_laws.specs.State.{id_key, list_of, store, HasId, SomeHasId, NoneHasId, Form, in_bytes, in_json, Call, insert, Command, on, Reply, done, refused, refusal_of, Answers, IsName, IsKept, Step}
 use Rattle.store_laws.specs.Run.{memory, database, places, IsDecided, IsDecidedCall, IsUnread}
-use Rattle.store_laws.specs.Table.{Row, Table, state_of, documents_of, greatest, last_place, Follows, Serves}
+use Rattle.store_laws.specs.Table.{Row, Table, state_of, documents_of, greatest, greatest_place, Follows, Serves}
 use Rattle.store_laws.specs.declared.error.ErrorKind.{ErrorKind}
 use Rattle.store_laws.specs.declared.error.ErrorKind.TheVariants.{BadName, NoId, TooLong, DuplicateId, Places}
 use Rattle.store_laws.proofs.Rows.{rows_not_empty, list_of-state_of, rows_last}
@@ -134,7 +134,7 @@ insert_unwritten docs n d k good (inr is) f = rw is (denied docs (on n (insert f
 insert_denied : (docs : List Doc) (n : List ℕ) (d : Members) (x : Fault) → IsName n → x ≢ faults.Places → DoesRead n insert d (refused (kind_of_fault x) None) docs docs
 insert_denied docs n d x good other f = denied docs (on n (insert f (readable d))) x other (undecided n (insert f (readable d)) good (read_open f d))
 
-pub insert_unfound : (docs after : List Doc) (n k : List ℕ) (d : Members) (x : Fault) → IsName n → Finds n k (Err x) docs after → DoesRead n insert d (refused (kind_of_fault x) None) docs after
+pub insert_unfound : (docs after : List Doc) (n k : List ℕ) (d : Members) (x : Fault) → IsName n → FindsRow n k (Err x) docs after → DoesRead n insert d (refused (kind_of_fault x) None) docs after
 insert_unfound docs after n k d x good h = rw h.same (insert_denied docs n d x good h.faults)
 
 duplicate_answers : (f : Form) (d : Members) (id : Value) (l : Documents) → look_up id_key d ≡ Some id → size d ≤ size_limit → SomeHasId id l → Answers (insert f (readable d)) l (refused DuplicateId None) l
@@ -148,22 +148,22 @@ pub none_is : (o : Option Doc) → None ≡ option_map seen o → o ≡ None
 none_is None h = refl
 none_is (Some e) h = cc
 
-duplicate_of : (docs : List Doc) (n k b : List ℕ) (d : Members) (e : Doc) → IsName n → Fits d k b → find (is_named n k) docs ≡ Some e → DoesRead n insert d (refused DuplicateId None) docs docs
+duplicate_of : (docs : List Doc) (n k b : List ℕ) (d : Members) (e : Doc) → IsName n → Fits d k b → find (is_row_named n k) docs ≡ Some e → DoesRead n insert d (refused DuplicateId None) docs docs
 duplicate_of docs n k b d e good fits is f =
     answers_stay docs n (insert f (readable d)) (refused DuplicateId None) good
     (λ a s. let p = found n k fits.id docs a e fits.key s.each s.good is in
     let q = stands_at n k fits.id docs a e p in
     duplicate_answers f d fits.id (documents_of a n) fits.has fits.short (subst (SomeHasId fits.id) (sym q.split) (some_behind fits.id (documents_of p.front n) p.r.document (documents_of p.back n) q.has)))
 
-pub duplicate : (docs after : List Doc) (n k b : List ℕ) (d : Members) (x : Found) → IsName n → Fits d k b → Finds n k (Ok (Some x)) docs after → DoesRead n insert d (refused DuplicateId None) docs after
+pub duplicate : (docs after : List Doc) (n k b : List ℕ) (d : Members) (x : Found) → IsName n → Fits d k b → FindsRow n k (Ok (Some x)) docs after → DoesRead n insert d (refused DuplicateId None) docs after
 duplicate docs after n k b d x good fits h =
-    let e = some_is (find (is_named n k) docs) (kept x) h.found in
+    let e = some_is (find (is_row_named n k) docs) (kept x) h.found in
     rw h.same (duplicate_of docs n k b d e.0 good fits e.1)
 
 insert_answers : (f : Form) (d : Members) (id : Value) (l : Documents) → look_up id_key d ≡ Some id → size d ≤ size_limit → (SomeHasId id l → ⊥) → Answers (insert f (readable d)) l done (l ++ d ∷ [])
 insert_answers f d id l has short free = rw (has, le-ltb size_limit (size d) short) (inr (free, (refl, refl)))
 
-step_in : (f : Form) (docs : List Doc) (n k b : List ℕ) (d : Members) (a : Table) (r : Row) → IsName n → Fits d k b → find (is_named n k) docs ≡ None → Show docs a → r.name ≡ n → r.document ≡ d
+step_in : (f : Form) (docs : List Doc) (n k b : List ℕ) (d : Members) (a : Table) (r : Row) → IsName n → Fits d k b → find (is_row_named n k) docs ≡ None → Show docs a → r.name ≡ n → r.document ≡ d
     → Step (state_of a) (on n (insert f (readable d))) done (state_of (a ++ r ∷ []))
 step_in f docs n k b d a r good h free s name is =
     let l = list_of (state_of a) n in
@@ -180,21 +180,21 @@ step_in f docs n k b d a r good h free s name is =
 pub next_place : (g : ℕ) → pos g +ℤ pos 1 ≡ pos (suc g)
 next_place g = ap pos (omega arith)
 
-room_is : (l : ℤ) (g : ℕ) → l ≡ pos g → (l +ℤ pos 1) <ℤ pos (2 ^ 63) → g < last_place
+room_is : (l : ℤ) (g : ℕ) → l ≡ pos g → (l +ℤ pos 1) <ℤ pos (2 ^ 63) → g < greatest_place
 room_is l g e h = let i = subst (λ z. (z +ℤ pos 1) <ℤ pos (2 ^ 63)) e h in omega (arith, ints, i)
 
-full_is : (l : ℤ) (g : ℕ) → l ≡ pos g → ((l +ℤ pos 1) <ℤ pos (2 ^ 63) → ⊥) → last_place < g + 1
-full_is l g e h = by (leb_tells (g + 1) last_place)
+full_is : (l : ℤ) (g : ℕ) → l ≡ pos g → ((l +ℤ pos 1) <ℤ pos (2 ^ 63) → ⊥) → greatest_place < g + 1
+full_is l g e h = by (leb_tells (g + 1) greatest_place)
   where
-    by : ((leb (g + 1) last_place ≡ true) × (g + 1 ≤ last_place)) ⊎ ((leb (g + 1) last_place ≡ false) × (last_place < g + 1)) → last_place < g + 1
+    by : ((leb (g + 1) greatest_place ≡ true) × (g + 1 ≤ greatest_place)) ⊎ ((leb (g + 1) greatest_place ≡ false) × (greatest_place < g + 1)) → greatest_place < g + 1
     by (inl k) = let low : (l +ℤ pos 1) <ℤ pos (2 ^ 63) = omega (arith, ints, e, k.1) in absurd (h low)
     by (inr k) = k.1
 
-goes_in : (f : Form) (docs : List Doc) (n k b : List ℕ) (d : Members) → IsName n → IsUtf8 n → Fits d k b → find (is_named n k) docs ≡ None → IsRoomFor 1 docs → Does (on n (insert f (readable d))) done docs (appended n k b docs)
+goes_in : (f : Form) (docs : List Doc) (n k b : List ℕ) (d : Members) → IsName n → IsUtf8 n → Fits d k b → find (is_row_named n k) docs ≡ None → IsRoomFor 1 docs → Does (on n (insert f (readable d))) done docs (appended n k b docs)
 goes_in f docs n k b d good text h free room a s =
     let r : Row = record { place = suc (greatest a); name = n; document = d } in
     let last = last_greatest a docs s in
-    let below : greatest a < last_place = room_is (table.last_place docs) (greatest a) last room in
+    let below : greatest a < greatest_place = room_is (table.last_place docs) (greatest a) last room in
     let step = step_in f docs n k b d a r good h free s refl refl in
     let one : IsRowOf r (record { place = table.last_place docs +ℤ pos 1; coll = n; idkey = k; body = b }) = record {
       place = ap (λ z. z +ℤ pos 1) last ∙ next_place (greatest a);
@@ -208,20 +208,20 @@ goes_in f docs n k b d good text h free room a s =
       (None, (step, inl (r ∷ [], refl, (refl, omega (arith, below), tt)), tt)),
     )
 
-no_place : (f : Form) (docs : List Doc) (n k b : List ℕ) (d : Members) → IsName n → Fits d k b → find (is_named n k) docs ≡ None → (IsRoomFor 1 docs → ⊥) → Does (on n (insert f (readable d))) (refused Places None) docs docs
+no_place : (f : Form) (docs : List Doc) (n k b : List ℕ) (d : Members) → IsName n → Fits d k b → find (is_row_named n k) docs ≡ None → (IsRoomFor 1 docs → ⊥) → Does (on n (insert f (readable d))) (refused Places None) docs docs
 no_place f docs n k b d good h free full a s =
     let r : Row = record { place = suc (greatest a); name = n; document = d } in
-    let g : last_place < greatest a + 1 = full_is (table.last_place docs) (greatest a) (last_greatest a docs s) full in
+    let g : greatest_place < greatest a + 1 = full_is (table.last_place docs) (greatest a) (last_greatest a docs s) full in
     (a, s, (Some places, ((refl, refl), stays a, (undecided n (insert f (readable d)) good (read_open f d), (g, done, state_of (a ++ r ∷ []), step_in f docs n k b d a r good h free s refl refl, λ x. x)))))
 
-pub put_in : (docs mid after : List Doc) (n k b : List ℕ) (d : Members) → IsName n → IsUtf8 n → Fits d k b → Finds n k (Ok None) docs mid → Appends 1 (appended n k b) (Ok tt) mid after → DoesRead n insert d done docs after
+pub put_in : (docs mid after : List Doc) (n k b : List ℕ) (d : Members) → IsName n → IsUtf8 n → Fits d k b → FindsRow n k (Ok None) docs mid → AddsRows 1 (appended n k b) (Ok tt) mid after → DoesRead n insert d done docs after
 put_in docs mid after n k b d good text fits none h f =
     let room = subst (IsRoomFor 1) none.same h.room in
-    rw (h.done, none.same) (goes_in f docs n k b d good text fits (none_is (find (is_named n k) docs) none.found) room)
+    rw (h.done, none.same) (goes_in f docs n k b d good text fits (none_is (find (is_row_named n k) docs) none.found) room)
 
 -- the table refuses a row more
-pub not_put_in : (docs mid after : List Doc) (n k b : List ℕ) (d : Members) (x : Fault) → IsName n → Fits d k b → Finds n k (Ok None) docs mid → Appends 1 (appended n k b) (Err x) mid after → DoesRead n insert d (refused (kind_of_fault x) None) docs after
+pub not_put_in : (docs mid after : List Doc) (n k b : List ℕ) (d : Members) (x : Fault) → IsName n → Fits d k b → FindsRow n k (Ok None) docs mid → AddsRows 1 (appended n k b) (Err x) mid after → DoesRead n insert d (refused (kind_of_fault x) None) docs after
 not_put_in docs mid after n k b d faults.Memory good fits none h f = rw (h.refused, none.same) (insert_denied docs n d faults.Memory good memory_other f)
 not_put_in docs mid after n k b d faults.Database good fits none h f = rw (h.refused, none.same) (insert_denied docs n d faults.Database good (λ e. cc) f)
 not_put_in docs mid after n k b d faults.Places good fits none h f =
-    rw (h.refused, none.same) (no_place f docs n k b d good fits (none_is (find (is_named n k) docs) none.found) (λ room. h.full refl (subst (IsRoomFor 1) (sym none.same) room)))
+    rw (h.refused, none.same) (no_place f docs n k b d good fits (none_is (find (is_row_named n k) docs) none.found) (λ room. h.full refl (subst (IsRoomFor 1) (sym none.same) room)))

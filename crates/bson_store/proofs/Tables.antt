@@ -11,7 +11,7 @@ use Rattle.store_laws.proofs.Ids.{has_written, written_has}
 use Rattle.store_laws.proofs.Rows.{documents_of-append}
 use Rattle.store_laws.proofs.Keys.{rows_are_a_state, a_state_has_rows}
 use Rattle.store_laws.proofs.Kept.{step_good}
-use Rattle.bson_table.specs.Rows.{Doc, is_named}
+use Rattle.bson_table.specs.Rows.{Doc, is_row_named}
 use Rattle.bson_table.specs.Rows as table
 use Rattle.store_documents.specs.Bodies.{IsKeyOf}
 use Rattle.bson_store.specs.Shown.{IsRowOf, AreRowsOf, Rises, Show}
@@ -64,29 +64,29 @@ shows_more ds a r d s is place good = record {
 
 -- ---- looking up by name and key
 
-named_is : (n k : List ℕ) (d : Doc) → is_named n k d ≡ true → (d.coll ≡ n) × (d.idkey ≡ k)
+named_is : (n k : List ℕ) (d : Doc) → is_row_named n k d ≡ true → (d.coll ≡ n) × (d.idkey ≡ k)
 named_is n k d h = let p = both_true (bytes_eq d.coll n) (bytes_eq d.idkey k) h in (equal_keys d.coll n p.0, equal_keys d.idkey k p.1)
 
-pub is_named_so : (n k : List ℕ) (d : Doc) → d.coll ≡ n → d.idkey ≡ k → is_named n k d ≡ true
+pub is_named_so : (n k : List ℕ) (d : Doc) → d.coll ≡ n → d.idkey ≡ k → is_row_named n k d ≡ true
 is_named_so n k d h i = ap (λ m. bytes_eq m n && bytes_eq d.idkey k) h ∙ ap (λ b. b && bytes_eq d.idkey k) (same_key n) ∙ ap (λ m. bytes_eq m k) i ∙ same_key k
 
 -- where a row of the name has the id, the row of bytes is named
-has_named : (n k : List ℕ) (id : Value) (r : Row) (d : Doc) → IsKeyOf k id → IsKept r.document → IsRowOf r d → n ≡ r.name → HasId id r.document → is_named n k d ≡ true
+has_named : (n k : List ℕ) (id : Value) (r : Row) (d : Doc) → IsKeyOf k id → IsKept r.document → IsRowOf r d → n ≡ r.name → HasId id r.document → is_row_named n k d ≡ true
 has_named n k id r d w kept is name has =
     is_named_so n k d (is.name ∙ sym name) (is.key ∙ sym (has_written r.document id kept w.sound has).keys ∙ sym w.key)
 
 -- no row of bytes of the name and key: no document with the id
-pub absent : (n k : List ℕ) (id : Value) (ds : List Doc) (a : Table) → IsKeyOf k id → AreRowsOf a ds → AreRows a → find (is_named n k) ds ≡ None → NoneHasId id (documents_of a n)
+pub absent : (n k : List ℕ) (id : Value) (ds : List Doc) (a : Table) → IsKeyOf k id → AreRowsOf a ds → AreRows a → find (is_row_named n k) ds ≡ None → NoneHasId id (documents_of a n)
 absent n k id [] [] w each good none = tt
 absent n k id (d ∷ ds) [] w each good none = absurd each
 absent n k id [] (r ∷ rs) w each good none = absurd each
-absent n k id (d ∷ ds) (r ∷ rs) w each good none = here (is_named n k d) refl none (absent n k id ds rs w each.1 good.3)
+absent n k id (d ∷ ds) (r ∷ rs) w each good none = here (is_row_named n k d) refl none (absent n k id ds rs w each.1 good.3)
   where
-    by : (b : Bool) → bytes_eq n r.name ≡ b → is_named n k d ≡ false → NoneHasId id (documents_of rs n) → NoneHasId id (cond b (r.document ∷ documents_of rs n) (documents_of rs n))
+    by : (b : Bool) → bytes_eq n r.name ≡ b → is_row_named n k d ≡ false → NoneHasId id (documents_of rs n) → NoneHasId id (cond b (r.document ∷ documents_of rs n) (documents_of rs n))
     by true e other rest = (λ has. let passes = has_named n k id r d w good.1 each.0 (equal_keys n r.name e) has in cc, rest)
     by false e other rest = rest
 
-    here : (b : Bool) → is_named n k d ≡ b → cond b (Some d) (find (is_named n k) ds) ≡ None → (find (is_named n k) ds ≡ None → NoneHasId id (documents_of rs n)) → NoneHasId id (documents_of (r ∷ rs) n)
+    here : (b : Bool) → is_row_named n k d ≡ b → cond b (Some d) (find (is_row_named n k) ds) ≡ None → (find (is_row_named n k) ds ≡ None → NoneHasId id (documents_of rs n)) → NoneHasId id (documents_of (r ∷ rs) n)
     here true e h rest = cc
     here false e h rest = by (bytes_eq n r.name) refl e (rest h)
 
@@ -106,16 +106,16 @@ pub record Stands (n k : List ℕ) (id : Value) (ds : List Doc) (a : Table) (d :
   pub has : HasId id r.document
   pub none : NoneHasId id (documents_of front n)
 
-pub found : (n k : List ℕ) (id : Value) (ds : List Doc) (a : Table) (d : Doc) → IsKeyOf k id → AreRowsOf a ds → AreRows a → find (is_named n k) ds ≡ Some d → Stands n k id ds a d
+pub found : (n k : List ℕ) (id : Value) (ds : List Doc) (a : Table) (d : Doc) → IsKeyOf k id → AreRowsOf a ds → AreRows a → find (is_row_named n k) ds ≡ Some d → Stands n k id ds a d
 found n k id [] [] d w each good h = cc
 found n k id (e ∷ ds) [] d w each good h = absurd each
 found n k id [] (r ∷ rs) d w each good h = absurd each
-found n k id (e ∷ ds) (r ∷ rs) d w each good h = here (is_named n k e) refl h (found n k id ds rs d w each.1 good.3)
+found n k id (e ∷ ds) (r ∷ rs) d w each good h = here (is_row_named n k e) refl h (found n k id ds rs d w each.1 good.3)
   where
     same : Some e ≡ Some d → e ≡ d
     same h = cc
 
-    at_once : is_named n k e ≡ true → e ≡ d → Stands n k id (e ∷ ds) (r ∷ rs) d
+    at_once : is_row_named n k e ≡ true → e ≡ d → Stands n k id (e ∷ ds) (r ∷ rs) d
     at_once passes is =
         let p = named_is n k e passes in
         record {
@@ -134,11 +134,11 @@ found n k id (e ∷ ds) (r ∷ rs) d w each good h = here (is_named n k e) refl 
           none = tt;
         }
 
-    by : (b : Bool) → bytes_eq n r.name ≡ b → is_named n k e ≡ false → (fs : Table) → NoneHasId id (documents_of fs n) → NoneHasId id (cond b (r.document ∷ documents_of fs n) (documents_of fs n))
+    by : (b : Bool) → bytes_eq n r.name ≡ b → is_row_named n k e ≡ false → (fs : Table) → NoneHasId id (documents_of fs n) → NoneHasId id (cond b (r.document ∷ documents_of fs n) (documents_of fs n))
     by true i other fs rest = (λ has. let passes = has_named n k id r e w good.1 each.0 (equal_keys n r.name i) has in cc, rest)
     by false i other fs rest = rest
 
-    later : is_named n k e ≡ false → Stands n k id ds rs d → Stands n k id (e ∷ ds) (r ∷ rs) d
+    later : is_row_named n k e ≡ false → Stands n k id ds rs d → Stands n k id (e ∷ ds) (r ∷ rs) d
     later other s = record {
       front = r ∷ s.front;
       r = s.r;
@@ -155,7 +155,7 @@ found n k id (e ∷ ds) (r ∷ rs) d w each good h = here (is_named n k e) refl 
       none = by (bytes_eq n r.name) refl other s.front s.none;
     }
 
-    here : (b : Bool) → is_named n k e ≡ b → cond b (Some e) (find (is_named n k) ds) ≡ Some d → (find (is_named n k) ds ≡ Some d → Stands n k id ds rs d) → Stands n k id (e ∷ ds) (r ∷ rs) d
+    here : (b : Bool) → is_row_named n k e ≡ b → cond b (Some e) (find (is_row_named n k) ds) ≡ Some d → (find (is_row_named n k) ds ≡ Some d → Stands n k id ds rs d) → Stands n k id (e ∷ ds) (r ∷ rs) d
     here true i h rest = at_once i (same h)
     here false i h rest = later i (rest h)
 

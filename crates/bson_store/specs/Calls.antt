@@ -3,7 +3,7 @@ use Rattle.std.specs.Prelude.{◌≡◌, ℕ, List, Option, Some, None, Result, 
 use Rattle.std.specs.List.{find}
 use Rattle.serde_json.specs.Data.{Data}
 use Rattle.bson_base.specs.Value.{Value, Members}
-use Rattle.bson_table.specs.Rows.{Doc, is_named}
+use Rattle.bson_table.specs.Rows.{Doc, is_row_named}
 use Rattle.bson_table.specs.Moves.{kept, seen}
 use Rattle.bson_table.specs.declared.row.Found.{Found}
 use Rattle.store_laws.specs.Reading.{Reading, ReadsBytes, ReadsTree, readable}
@@ -16,15 +16,15 @@ use Rattle.bson_store.specs.declared.error.StoreError.{StoreError}
 use Rattle.sqlite_trees.specs.declared.store.Store.{Ghosts}
 use Rattle.sqlite.specs.State.{State}
 use Rattle.sqlite.specs.Held.{Held}
-use Rattle.bson_table.specs.Table.{connection_of as table_connection, state_of}
+use Rattle.bson_table.specs.Table.{connection_of as table_connection, table_state}
 use Rattle.bson_store.specs.declared.store.Store.{Store}
 
 -- a store's connection, and its state
-abbrev pub connection_of : {S : Type 0} → Store S → Held S
-connection_of s = table_connection s.table
+abbrev pub store_connection : {S : Type 0} → Store S → Held S
+store_connection s = table_connection s.table
 
 abbrev pub held : {S : Type 0} → Ghosts S → Store S → State
-held g s = state_of g s.table
+held g s = table_state g s.table
 
 -- whatever table the rows showed, they show one now that the command took it to
 abbrev pub Does : model.Command → model.Reply → List Doc → List Doc → Type 0
@@ -45,7 +45,7 @@ DoesRead n call d r old new = (f : model.Form) → Does (model.on n (call f (rea
 -- an id's look-up: no document has it, or one has it, whose row is the first of the collection under its key
 abbrev pub FindsIn : List Doc → List ℕ → Value → Option Found → Type 0
 FindsIn docs n id None = (a : Table) → Show docs a → model.NoneHasId id (documents_of a n)
-FindsIn docs n id (Some f) = (k : List ℕ) × (d : Doc) × IsKeyOf k id × (find (is_named n k) docs ≡ Some d) × (kept f ≡ seen d)
+FindsIn docs n id (Some f) = (k : List ℕ) × (d : Doc) × IsKeyOf k id × (find (is_row_named n k) docs ≡ Some d) × (kept f ≡ seen d)
 
 pub record Looks (n : List ℕ) (id : Value) (result : Result (Option Found) StoreError) (docs after : List Doc) : Type 0 where
   pub same : after ≡ docs

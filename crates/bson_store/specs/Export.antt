@@ -38,13 +38,13 @@ Exports s n old new (Ok x) = IsName n × Delivers (flat_map encode (list_of s n)
 Exports s n old new (Err e) = (e.document ≡ None) × ExportRefused s n old new e.kind
 
 -- whatever table the rows show, its list goes out, and the rows stay
-pub record Sends (n : List ℕ) (old new : Tally) (result : Result (Unit {0}) StoreError) (docs after : List Doc) : Type 0 where
+pub record SendsCollection (n : List ℕ) (old new : Tally) (result : Result (Unit {0}) StoreError) (docs after : List Doc) : Type 0 where
   pub same : after ≡ docs
   pub exports : (a : Table) → Show docs a → Exports (state_of a) n old new result
 
 -- the bodies of a collection, one after the other
-abbrev pub bytes_of : List (Vec ℕ Global) → List (List ℕ)
-bytes_of = map (λ (v : Vec ℕ Global). v.items)
+abbrev pub bytes_of_each : List (Vec ℕ Global) → List (List ℕ)
+bytes_of_each = map (λ (v : Vec ℕ Global). v.items)
 
 -- bodies went out one after the other, or a beginning of them did and a write failed
 abbrev pub Sent : Tally → Tally → Bool → List (List ℕ) → Type 0

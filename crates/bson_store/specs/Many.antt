@@ -14,7 +14,7 @@ use Rattle.store_streams.specs.declared.input.ReadAllError.TheVariants as reads
 use Rattle.store_streams.specs.declared.keys.Keys.{Keys}
 use Rattle.bson_base.specs.Device.{Feed, TookAll}
 use Rattle.store_streams.specs.Feed.{StopsReading}
-use Rattle.store_streams.specs.Judging.{AreRowsOf}
+use Rattle.store_streams.specs.Judging.{AreWrittenRows}
 use Rattle.store_streams.specs.Keys.{first_taken, has_met}
 use Rattle.bson_store.specs.Calls.{Does}
 use Rattle.bson_store.specs.Refusals.{IsDenied, as_number, kind_of_fault, refusal, refusal_at, reply_by}
@@ -27,18 +27,18 @@ abbrev pub DoesMany : List ℕ → (Documents → Option ErrorKind → Type 0) �
 DoesMany n Reads r old new = (ds : Documents) × (stop : Option ErrorKind) × (model.IsName n → Reads ds stop) × Does (model.on n (model.import ds stop)) r old new
 
 -- the reader was read to its end, and the reply is that to its bytes
-abbrev pub Takes : List ℕ → Feed → Feed → model.Reply → List Doc → List Doc → Type 0
-Takes n old new r docs after = model.IsName n × ((bytes : List ℕ) × TookAll old new bytes × DoesMany n (ReadsStream bytes) r docs after)
+abbrev pub TakesStream : List ℕ → Feed → Feed → model.Reply → List Doc → List Doc → Type 0
+TakesStream n old new r docs after = model.IsName n × ((bytes : List ℕ) × TookAll old new bytes × DoesMany n (ReadsStream bytes) r docs after)
 
 -- under a bad name nothing is read; `Reader` tells that a read failed, and no other kind does
 abbrev pub ImportRefused : List ℕ → Feed → Feed → ErrorKind → Option ℕ → List Doc → List Doc → Type 0
 ImportRefused n old new BadName place docs after = (model.IsName n → ⊥) × (place ≡ None) × (new ≡ old) × (after ≡ docs)
 ImportRefused n old new Reader place docs after = model.IsName n × (place ≡ None) × StopsReading reads.Reader old new × (after ≡ docs)
 ImportRefused n old new Memory place docs after = model.IsName n × (place ≡ None) × StopsReading reads.Memory old new × (after ≡ docs)
-ImportRefused n old new kind place docs after = Takes n old new (model.refused kind place) docs after
+ImportRefused n old new kind place docs after = TakesStream n old new (model.refused kind place) docs after
 
 abbrev pub Imports : List ℕ → Feed → Feed → Result ℕ StoreError → List Doc → List Doc → Type 0
-Imports n old new (Ok count) docs after = Takes n old new (model.number count) docs after
+Imports n old new (Ok count) docs after = TakesStream n old new (model.number count) docs after
 Imports n old new (Err e) docs after = ImportRefused n old new e.kind e.document docs after
 
 -- ---- the keys of what comes in
@@ -74,4 +74,4 @@ IsAddFault e = ((x : Fault) × (e ≡ refusal (kind_of_fault x))) ⊎ ((i : ℕ)
 pub record AddsAll (n : List ℕ) (rows : List Written) (result : Result ℕ StoreError) (docs after : List Doc) : Type 0 where
   pub same : OnErr result (after ≡ docs)
   pub fault : IfErr result IsAddFault
-  pub does : (ds : Documents) → AreRead ds → model.first_refusal 0 ds None ≡ None → AreRowsOf rows ds → Does (model.on n (model.import ds None)) (reply_by as_number result) docs after
+  pub does : (ds : Documents) → AreRead ds → model.first_refusal 0 ds None ≡ None → AreWrittenRows rows ds → Does (model.on n (model.import ds None)) (reply_by as_number result) docs after

@@ -10,13 +10,13 @@ use Rattle.store_laws.specs.Filter.{Filter, Selects}
 use Rattle.store_laws.specs.Reading.{Documents}
 use Rattle.store_laws.specs.State.{AreKept, Picks, When, Reply, bytes_list, names}
 use Rattle.store_laws.specs.Table.{Table, documents_of}
-use Rattle.bson_store.specs.Export.{bytes_of}
+use Rattle.bson_store.specs.Export.{bytes_of_each}
 use Rattle.bson_store.specs.Refusals.{IsDenied}
 use Rattle.bson_store.specs.Shown.{Show}
 use Rattle.bson_store.specs.declared.error.StoreError.{StoreError}
 
 abbrev pub as_list : Vec (Vec ℕ Global) Global → Reply
-as_list v = bytes_list (bytes_of v.items)
+as_list v = bytes_list (bytes_of_each v.items)
 
 abbrev pub as_names : Vec (String Global) Global → Reply
 as_names v = names (map string_bytes v.items)
@@ -32,8 +32,8 @@ abbrev pub Turns : (Documents → Type 0) → Filter → Documents → Members �
 Turns took f out d = When (Selects f (document d)) (took (out ++ d ∷ [])) (took out)
 
 -- Whatever documents the bodies were written for, those that the filter selects were taken, unless there was a fault.
-abbrev pub Gives : (Documents → Type 0) → Filter → List (List ℕ) → Option StoreError → Type 0
-Gives took f bodies fault = (ds : Documents) → AreKept ds → bodies ≡ map encode ds → MatchOption fault ((out : Documents) × Picks f ds out × took out) IsDenied
+abbrev pub GivesPicked : (Documents → Type 0) → Filter → List (List ℕ) → Option StoreError → Type 0
+GivesPicked took f bodies fault = (ds : Documents) → AreKept ds → bodies ≡ map encode ds → MatchOption fault ((out : Documents) × Picks f ds out × took out) IsDenied
 
 -- whatever table the rows show, what the filter selects of a collection was taken; the rows stay
 pub record Picked {T : Type 0} (took : T → Documents → Type 0) (n : List ℕ) (f : Filter) (result : Result T StoreError) (docs after : List Doc) : Type 0 where

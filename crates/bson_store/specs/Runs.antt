@@ -11,7 +11,7 @@ use Rattle.store_laws.specs.Run.{Denials, Run, SparesDecided}
 use Rattle.store_laws.specs.Table.{Table, RunThrough, state_of}
 use Rattle.bson_store.specs.Shown.{Show}
 use Rattle.bson_store.specs.Calls.{Does}
-use Rattle.bson_store.specs.Export.{bytes_of}
+use Rattle.bson_store.specs.Export.{bytes_of_each}
 use Rattle.bson_store.specs.Many.{DoesMany}
 use Rattle.bson_store.specs.declared.command.Command.{Command}
 use Rattle.bson_store.specs.declared.command.Command.TheVariants.{InsertRaw, InsertJson, ReplaceRaw, ReplaceJson, Set, Unset, Remove, GetRaw, GetJson, Collections, Find, Project, Export, Import, LoadJson, DumpJson}
@@ -54,7 +54,7 @@ reply_of Done = model.done
 reply_of (Flag b) = model.flag b
 reply_of (Count i) = model.number i
 reply_of (Bytes v) = model.bytes v.items
-reply_of (BytesList v) = model.bytes_list (bytes_of v.items)
+reply_of (BytesList v) = model.bytes_list (bytes_of_each v.items)
 reply_of (Json j) = model.json (tree_of j)
 reply_of (JsonList v) = model.json_list (map tree_of v.items)
 reply_of (Names v) = model.names (map string_bytes v.items)

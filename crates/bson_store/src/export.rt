@@ -1,7 +1,7 @@
 //! The written documents of a collection, one after the other.
 
 ghost use Rattle.std.specs.Prelude.{◌≡◌, ◌<◌, ◌^◌, ◌-◌, ◌∷◌, ◌++◌, [], false, OnOk};
-ghost use Rattle.bson_store.specs.Export.{bytes_of};
+ghost use Rattle.bson_store.specs.Export.{bytes_of_each};
 
 use bson_base::write_all;
 use bson_model::Sink;
@@ -10,7 +10,7 @@ use std::alloc::{AllocError, Global};
 
 /// Puts a copy of a body last.
 pub(crate) fn add(bodies: &mut Vec<Vec<u8>>, alloc: Global, body: &[u8]) -> Result<(), AllocError>
-    ensures { OnOk result (bytes_of bodies.new.items ≡ bytes_of bodies.old.items ++ body.now ∷ []) }
+    ensures { OnOk result (bytes_of_each bodies.new.items ≡ bytes_of_each bodies.old.items ++ body.now ∷ []) }
 {
     let copy = Vec::from_slice(alloc, body)?;
     bodies.push(copy)?;

@@ -3,7 +3,7 @@
 ghost use Rattle.std.specs.Prelude.{◌≡◌, ◌||◌, ◌<◌, ◌^◌, ◌-◌, ℕ, List, length, map, false, Some, None, IfOk};
 ghost use Rattle.std.specs.Str.{bytes_eq};
 ghost use Rattle.serde_json.specs.View.{view as tree_of};
-ghost use Rattle.bson_table.specs.Moves.{Appends, Moves, all_appended};
+ghost use Rattle.bson_table.specs.Moves.{AddsRows, Moves, all_appended};
 ghost use Rattle.store_documents.specs.Names.{name_bytes};
 ghost use Rattle.bson_base.specs.Kinds.{AreBytes};
 ghost use Rattle.store_laws.specs.Reading.{AreAllJson, ReadsStream, ReadsTrees};
@@ -103,7 +103,7 @@ impl<S: Alter + Drop> Store<S> {
 
     /// Writes all rows, in one transaction.
     fn write_all(&mut self, coll: &str, rows: &[NewRow]) -> Result<(), Fault>
-        ensures { Moves (held S.Store self.old) (held S.Store self.new) (Appends (length rows.now) (all_appended coll.now rows.now) result) }
+        ensures { Moves (held S.Store self.old) (held S.Store self.new) (AddsRows (length rows.now) (all_appended coll.now rows.now) result) }
     {
         self.table.append_all(coll, rows)
     }

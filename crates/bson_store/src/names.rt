@@ -4,7 +4,7 @@ ghost use Rattle.std.specs.Prelude.{◌≡◌, ◌++◌, ◌∷◌, [], ℕ, Lis
 ghost use Rattle.bson_table.specs.Names.{has_name};
 ghost use Rattle.store_laws.specs.State.{AreAscending};
 ghost use Rattle.store_laws.specs.declared.error.ErrorKind.TheVariants.{Memory};
-ghost use Rattle.bson_store.specs.Export.{bytes_of};
+ghost use Rattle.bson_store.specs.Export.{bytes_of_each};
 ghost use Rattle.bson_store.specs.Refusals.{refusal};
 
 use crate::error::StoreError;
@@ -29,7 +29,7 @@ fn add_name(names: &mut Vec<String>, name: Vec<u8>) -> Result<(), StoreError>
 
 /// The names of a set in its order, which is that of their bytes.
 pub(crate) fn names_of(alloc: Global, set: BTreeSet<Vec<u8>>) -> Result<Vec<String>, StoreError>
-    ensures same { IfOk result (λ names. map string_bytes names.items ≡ bytes_of set.keys) }
+    ensures same { IfOk result (λ names. map string_bytes names.items ≡ bytes_of_each set.keys) }
     ensures ascending { IfOk result (λ names. AreAscending (map string_bytes names.items)) }
     ensures refused { ((n : List ℕ) → IsTrue (has_name set.keys n) → IsUtf8 n) → IfErr result (λ e. e ≡ refusal Memory) }
 {

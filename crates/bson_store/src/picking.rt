@@ -8,7 +8,7 @@ ghost use Rattle.bson_filter.specs.Views.{OfWritten};
 ghost use Rattle.bson_raw.specs.View.{bytes_of as view_bytes};
 ghost use Rattle.store_laws.specs.Reading.{Documents};
 ghost use Rattle.store_laws.specs.State.{IsKept, only};
-ghost use Rattle.bson_store.specs.Export.{bytes_of};
+ghost use Rattle.bson_store.specs.Export.{bytes_of_each};
 ghost use Rattle.bson_store.specs.Questions.{IsPick, Turns};
 ghost use Rattle.bson_store.specs.Refusals.{IsDenied};
 
@@ -42,9 +42,9 @@ pub struct Copies {
 impl Take for Copies {
     ghost use Rattle.std.specs.Prelude.{◌≡◌, map};
     ghost use Rattle.bson_bytes.specs.Encode.{encode};
-    ghost use Rattle.bson_store.specs.Export.{bytes_of};
+    ghost use Rattle.bson_store.specs.Export.{bytes_of_each};
 
-    ghost took = { λ _ t out. bytes_of t.bodies.items ≡ map encode out };
+    ghost took = { λ _ t out. bytes_of_each t.bodies.items ≡ map encode out };
 
     fn take(&mut self, document: RawDocument<'_>) -> Result<(), StoreError> {
         add(&mut self.bodies, self.alloc, document.as_bytes())?;
@@ -88,10 +88,10 @@ impl<'a> Take for Projections<'a> {
     ghost use Rattle.bson_bytes.specs.Encode.{encode};
     ghost use Rattle.bson_filter.specs.Filters.{path_of};
     ghost use Rattle.store_laws.specs.State.{only};
-    ghost use Rattle.bson_store.specs.Export.{bytes_of};
+    ghost use Rattle.bson_store.specs.Export.{bytes_of_each};
 
     ghost took = { λ first t out. (t.keys.now ≡ first.keys.now)
-        × (bytes_of t.bodies.items ≡ map (λ d. encode (only (path_of t.keys.now) d)) out) };
+        × (bytes_of_each t.bodies.items ≡ map (λ d. encode (only (path_of t.keys.now) d)) out) };
 
     fn take(&mut self, document: RawDocument<'_>) -> Result<(), StoreError> {
         add_projection(&mut self.bodies, self.alloc, document, self.keys)?;
@@ -106,7 +106,7 @@ fn add_projection(
     document: RawDocument<'_>,
     keys: &[String],
 ) -> Result<(), AllocError>
-    ensures { OfWritten (view_bytes document.entry) (λ d. OnOk result (bytes_of bodies.new.items ≡ bytes_of bodies.old.items ++ encode (only (path_of keys.now) d) ∷ [])) }
+    ensures { OfWritten (view_bytes document.entry) (λ d. OnOk result (bytes_of_each bodies.new.items ≡ bytes_of_each bodies.old.items ++ encode (only (path_of keys.now) d) ∷ [])) }
 {
     let body = project(alloc, document, keys)?;
     bodies.push(body)?;
@@ -151,10 +151,10 @@ pub struct Picker<'a, T> {
 impl<'a, T: Take> Visit for Picker<'a, T> {
     ghost use Rattle.std.specs.Prelude.{◌≡◌, ◌≢◌, None};
     ghost use Rattle.bson_filter.specs.Filters.{filter_of};
-    ghost use Rattle.bson_store.specs.Questions.{Gives};
+    ghost use Rattle.bson_store.specs.Questions.{GivesPicked};
 
     ghost took = { λ first v bodies. (v.filter.now ≡ first.filter.now)
-        × Gives (T.took first.taker v.taker) (filter_of v.filter.now) bodies v.fault };
+        × GivesPicked (T.took first.taker v.taker) (filter_of v.filter.now) bodies v.fault };
 
     ghost is_done = { λ v. v.fault ≢ None };
 

@@ -9,10 +9,10 @@ ghost use Rattle.serde_json.specs.View.{view as tree_of};
 ghost use Rattle.bson_base.specs.Kinds.{HasNo00};
 ghost use Rattle.bson_base.specs.Value.{Members};
 ghost use Rattle.bson_model.specs.View.{pairs_of, members_of, view};
-ghost use Rattle.bson_table.specs.Moves.{Appends, Changes, Moves, appended};
+ghost use Rattle.bson_table.specs.Moves.{AddsRows, Changes, Moves, appended};
 ghost use Rattle.bson_table.specs.Rows.{replaced};
-ghost use Rattle.bson_store.specs.Calls.{connection_of, held, Does, DoesBytes, DoesTree, DoesRead, Looks};
-ghost use Rattle.bson_store.specs.Export.{Sends};
+ghost use Rattle.bson_store.specs.Calls.{store_connection, held, Does, DoesBytes, DoesTree, DoesRead, Looks};
+ghost use Rattle.bson_store.specs.Export.{SendsCollection};
 ghost use Rattle.bson_store.specs.Refusals.{refusal, reply_by, as_done, as_flag, as_bytes, as_json};
 ghost use Rattle.store_documents.specs.Bodies.{AnswersWritten};
 ghost use Rattle.store_documents.specs.Names.{name_bytes};
@@ -89,7 +89,7 @@ impl<S: Alter + Drop> Store<S> {
 
     /// Gives the connection back.
     pub fn close(self) -> Connection<S>
-        ensures { result ≡ connection_of self }
+        ensures { result ≡ store_connection self }
     {
         let Store { table, alloc: _ } = self;
         table.close()
@@ -97,7 +97,7 @@ impl<S: Alter + Drop> Store<S> {
 
     /// Writes a row behind all others.
     fn put_last(&mut self, coll: &str, key: &[u8], body: &[u8]) -> Result<(), Fault>
-        ensures { Moves (held S.Store self.old) (held S.Store self.new) (Appends 1 (appended coll.now key.now body.now) result) }
+        ensures { Moves (held S.Store self.old) (held S.Store self.new) (AddsRows 1 (appended coll.now key.now body.now) result) }
     {
         self.table.append(coll, key, body)
     }
@@ -323,7 +323,7 @@ impl<S: Alter + Drop> Store<S> {
     /// Database. A beginning may have been written.
     pub fn export<W: Sink>(&mut self, name: &str, writer: &mut W) -> Result<(), StoreError>
         requires { W.failures writer.old < 2 ^ 64 - 1 }
-        ensures { Moves (held S.Store self.old) (held S.Store self.new) (Sends name.now (record { failures = W.failures writer.old; taken = W.taken writer.old })
+        ensures { Moves (held S.Store self.old) (held S.Store self.new) (SendsCollection name.now (record { failures = W.failures writer.old; taken = W.taken writer.old })
             (record { failures = W.failures writer.new; taken = W.taken writer.new }) result) }
     {
         let name = good_name(name)?;

@@ -3,10 +3,10 @@ use Rattle.std.proofs.Common.{◌≡◌, ◌≢◌, ◌⊎◌, inl, inr, ℕ, Li
 use Rattle.std.specs.Prelude.{nat_lt}
 use Rattle.bson_base.specs.Value.{Members, has_key}
 use Rattle.bson_bytes.specs.Encode.{size}
-use Rattle.bson_meaning.specs.Gate.{size_limit}
+use Rattle.bson_frame.specs.Frame.{size_limit}
 use Rattle.bson_meaning.specs.declared.reading.GateError.{GateError}
 use Rattle.bson_meaning.specs.declared.reading.GateError.TheVariants as gate
-use Rattle.store_laws.specs.Reading.{kind_of, readable, unreadable, ReadsBytes}
+use Rattle.store_laws.specs.Reading.{kind_of_gate_error, readable, unreadable, ReadsBytes}
 use Rattle.store_laws.specs.State.{id_key, refusal_of}
 use Rattle.store_laws.specs.declared.error.ErrorKind.{ErrorKind}
 use Rattle.store_laws.specs.declared.error.ErrorKind.TheVariants.{NoId, TooLong, Memory, Database, Reader, Writer}
@@ -21,7 +21,7 @@ AreRefused bytes kind = ReadsBytes bytes (unreadable kind) ⊎ ((d : Members) ×
 abbrev pub IsOfInput : ErrorKind → Type 0
 IsOfInput kind = (kind ≢ Memory) × (kind ≢ Database) × (kind ≢ Reader) × (kind ≢ Writer)
 
-of_bytes : (e : GateError) (kind : ErrorKind) → kind ≡ kind_of e → IsOfInput kind
+of_bytes : (e : GateError) (kind : ErrorKind) → kind ≡ kind_of_gate_error e → IsOfInput kind
 of_bytes gate.EndInside kind is = ((λ x. cc), (λ x. cc), (λ x. cc), (λ x. cc))
 of_bytes gate.BadLength kind is = ((λ x. cc), (λ x. cc), (λ x. cc), (λ x. cc))
 of_bytes gate.NotTerminated kind is = ((λ x. cc), (λ x. cc), (λ x. cc), (λ x. cc))

@@ -10,9 +10,9 @@ use Rattle.store_laws.specs.Table.{Table, state_of}
 use Rattle.store_laws.specs.declared.error.ErrorKind.{ErrorKind}
 use Rattle.store_laws.specs.declared.error.ErrorKind.TheVariants.{BadName, Memory, Database, Reader, Writer}
 use Rattle.bson_base.specs.Device.{Feed}
-use Rattle.bson_store.specs.Export.{Tally, Delivers, ExportRefused, Sends}
+use Rattle.bson_store.specs.Export.{Tally, Delivers, ExportRefused, SendsCollection}
 use Rattle.bson_store.specs.declared.error.StoreError.{StoreError}
-use Rattle.bson_store_cli.specs.Pipe.{ReadsDocument, KeepsInput, RefusesInput, Exchanges}
+use Rattle.bson_store_cli.specs.Pipe.{ReadsInput, KeepsInput, RefusesInput, Exchanges}
 use Rattle.bson_store_cli.proofs.Refusing.{of_input}
 use Rattle.bson_store_cli.proofs.Keeping.{name, is_name}
 
@@ -30,12 +30,12 @@ nothing_out _ old new out h = (h, refl)
 one_written : (a : Table) (d : Members) → list_of (state_of a) name ≡ d ∷ [] → flat_map encode (list_of (state_of a) name) ≡ encode d
 one_written a d is = ap (flat_map encode) is ∙ append-nil (encode d)
 
-pub all_out : (s t : State) (old new : Feed) (before after : Tally) → HasCleanDisk t → KeepsInput old new s → Moves s t (Sends name before after (Ok tt)) → Exchanges old new before after (Ok tt)
+pub all_out : (s t : State) (old new : Feed) (before after : Tally) → HasCleanDisk t → KeepsInput old new s → Moves s t (SendsCollection name before after (Ok tt)) → Exchanges old new before after (Ok tt)
 all_out s t old new before after clean (d, reads, kept, (docs, a, stands, shown, is)) moves =
     let m = (moves clean).1 docs stands in
     (d, reads, kept, subst (λ bs. Delivers bs before after (Ok tt)) (one_written a d is) (m.2.exports a shown).1)
 
-cut_short : (kind : ErrorKind) (a : Table) (d : Members) (old new : Feed) (before after : Tally) → ReadsDocument old new d → refusal_of d ≡ None → list_of (state_of a) name ≡ d ∷ []
+cut_short : (kind : ErrorKind) (a : Table) (d : Members) (old new : Feed) (before after : Tally) → ReadsInput old new d → refusal_of d ≡ None → list_of (state_of a) name ≡ d ∷ []
     → ExportRefused (state_of a) name before after kind → Exchanges old new before after (Err kind)
 cut_short BadName a d old new before after reads kept is h = absurd (h.0 is_name)
 cut_short Memory a d old new before after reads kept is h = inr (d, reads, inr (kept, subst (λ bs. Delivers bs before after (Err Memory)) (one_written a d is) h.1))
@@ -43,7 +43,7 @@ cut_short Database a d old new before after reads kept is h = inr (d, reads, inr
 cut_short Writer a d old new before after reads kept is h = (d, reads, kept, subst (λ bs. Delivers bs before after (Err Writer)) (one_written a d is) h.1)
 cut_short _ a d old new before after reads kept is h = absurd h.1
 
-pub some_out : (s t : State) (old new : Feed) (before after : Tally) (e : StoreError) → HasCleanDisk t → KeepsInput old new s → Moves s t (Sends name before after (Err e))
+pub some_out : (s t : State) (old new : Feed) (before after : Tally) (e : StoreError) → HasCleanDisk t → KeepsInput old new s → Moves s t (SendsCollection name before after (Err e))
     → Exchanges old new before after (Err e.kind)
 some_out s t old new before after e clean (d, reads, kept, (docs, a, stands, shown, is)) moves =
     let m = (moves clean).1 docs stands in

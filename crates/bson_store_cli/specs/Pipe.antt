@@ -22,14 +22,14 @@ use Rattle.bson_store.specs.Export.{Tally, Delivers}
 -- ---- the line
 
 -- the line went out, or a call failed and a beginning did
-abbrev pub Tells : List ℕ → Tally → Tally → Type 0
-Tells line old new = ((new.failures ≡ old.failures) × Appends old.taken new.taken line) ⊎ ((new.failures ≡ old.failures + 1) × TakesBeginning old.taken new.taken line)
+abbrev pub TellsLine : List ℕ → Tally → Tally → Type 0
+TellsLine line old new = ((new.failures ≡ old.failures) × Appends old.taken new.taken line) ⊎ ((new.failures ≡ old.failures + 1) × TakesBeginning old.taken new.taken line)
 
 -- ---- the document
 
 -- all of the input was read, and it means the document
-abbrev pub ReadsDocument : Feed → Feed → Members → Type 0
-ReadsDocument old new d = (bytes : List ℕ) × TookAll old new bytes × ReadsBytes bytes (readable d)
+abbrev pub ReadsInput : Feed → Feed → Members → Type 0
+ReadsInput old new d = (bytes : List ℕ) × TookAll old new bytes × ReadsBytes bytes (readable d)
 
 -- all of it was read, and it can't be read as a document for this reason, or means one that isn't kept for it
 abbrev pub ReadsRefused : Feed → Feed → ErrorKind → Type 0
@@ -41,13 +41,13 @@ HasAlone s d = (docs : List Doc) × (a : Table) × Stands s docs × Show docs a 
 
 -- the document of the input is kept, alone
 abbrev pub KeepsInput : Feed → Feed → State → Type 0
-KeepsInput old new s = (d : Members) × ReadsDocument old new d × (refusal_of d ≡ None) × HasAlone s d
+KeepsInput old new s = (d : Members) × ReadsInput old new d × (refusal_of d ≡ None) × HasAlone s d
 
 -- why it is not
 abbrev pub RefusesInput : ErrorKind → Feed → Feed → Type 0
 RefusesInput Reader old new = StopsReading reading.Reader old new
-RefusesInput Memory old new = StopsReading reading.Memory old new ⊎ ((d : Members) × ReadsDocument old new d)
-RefusesInput Database old new = (new ≡ old) ⊎ ((d : Members) × ReadsDocument old new d)
+RefusesInput Memory old new = StopsReading reading.Memory old new ⊎ ((d : Members) × ReadsInput old new d)
+RefusesInput Database old new = (new ≡ old) ⊎ ((d : Members) × ReadsInput old new d)
 RefusesInput kind old new = ReadsRefused old new kind
 
 -- ---- the program
@@ -55,13 +55,13 @@ RefusesInput kind old new = ReadsRefused old new kind
 -- Once a document was read, memory was wanted or the database refused: nothing went out, or the document is kept, and a
 -- beginning of it did.
 abbrev pub Denies : ErrorKind → Feed → Feed → Tally → Tally → Type 0
-Denies kind old new before after = (d : Members) × ReadsDocument old new d × ((after ≡ before) ⊎ ((refusal_of d ≡ None) × Delivers (encode d) before after (Err kind)))
+Denies kind old new before after = (d : Members) × ReadsInput old new d × ((after ≡ before) ⊎ ((refusal_of d ≡ None) × Delivers (encode d) before after (Err kind)))
 
 -- All was read, it means a document that is kept, and this went out as it is written; or why not. Only where Writer, Memory or
 -- Database is told may something have gone out. The database can refuse before the first byte is read.
 abbrev pub Exchanges : Feed → Feed → Tally → Tally → Result (Unit {0}) ErrorKind → Type 0
-Exchanges old new before after (Ok x) = (d : Members) × ReadsDocument old new d × (refusal_of d ≡ None) × Delivers (encode d) before after (Ok x)
-Exchanges old new before after (Err Writer) = (d : Members) × ReadsDocument old new d × (refusal_of d ≡ None) × Delivers (encode d) before after (Err Writer)
+Exchanges old new before after (Ok x) = (d : Members) × ReadsInput old new d × (refusal_of d ≡ None) × Delivers (encode d) before after (Ok x)
+Exchanges old new before after (Err Writer) = (d : Members) × ReadsInput old new d × (refusal_of d ≡ None) × Delivers (encode d) before after (Err Writer)
 Exchanges old new before after (Err Memory) = (StopsReading reading.Memory old new × (after ≡ before)) ⊎ Denies Memory old new before after
 Exchanges old new before after (Err Database) = ((new ≡ old) × (after ≡ before)) ⊎ Denies Database old new before after
 Exchanges old new before after (Err Reader) = StopsReading reading.Reader old new × (after ≡ before)
@@ -76,4 +76,4 @@ pub record Devices : Type 0 where
 -- status 0: it is done, and nothing is told; status 1: it was refused, and the line tells why
 abbrev pub Pipes : Devices → Devices → ℕ → Type 0
 Pipes old new status = ((status ≡ 0) × Exchanges old.input new.input old.output new.output (Ok tt) × (new.faults ≡ old.faults))
-    ⊎ ((kind : ErrorKind) × (status ≡ 1) × Exchanges old.input new.input old.output new.output (Err kind) × Tells (refusal_line kind None) old.faults new.faults)
+    ⊎ ((kind : ErrorKind) × (status ≡ 1) × Exchanges old.input new.input old.output new.output (Err kind) × TellsLine (refusal_line kind None) old.faults new.faults)

@@ -21,7 +21,7 @@ use Rattle.sqlite.specs.Given.{HasBegun, HasGiven, Returns}
 use Rattle.sqlite.specs.State.{State, Shown, ShowsRows, CommitsShowing, FailsToQuery, FailsToShow, IsNotRun, QueriesRow, store_error, IsUnchanged, Survives}
 use Rattle.sqlite.proofs.StateLemmas.{survives_weaker}
 use Rattle.bson_table.specs.Rows.{Doc, Shows}
-use Rattle.bson_table.specs.Visit.{IsRead}
+use Rattle.bson_table.specs.Visit.{ReadsRows}
 use Rattle.bson_table.proofs.StatementLemmas.{undone_keeps, unchanged_shows, undone_shows}
 use Rattle.bson_table.proofs.PlainLemmas.{Asks, Bare, bare_if, if_select_is}
 
@@ -84,11 +84,11 @@ module _ (text : List ℕ) (asked : Asks (first text)) where
       (subst (λ k. FailsToShow old new text ran.0 (timed params ran.0.formats ran.1.now) e k) (bare old.now.schema ran.0 ran.1.is).0 ran.2).3.0.was_open
 
   -- what is read, whatever the rows are
-  pub is_read : {X : Type 0} (params : Row) (old new : State) (rows : X → List Row) (r : Result X Error) → IfOk r (λ x. Shown text params old new (rows x)) → IfErr r (FailsToQuery text params old new) → IsRead old new r
+  pub is_read : {X : Type 0} (params : Row) (old new : State) (rows : X → List Row) (r : Result X Error) → IfOk r (λ x. Shown text params old new (rows x)) → IfErr r (FailsToQuery text params old new) → ReadsRows old new r
   is_read params old new rows (Ok x) h k = record { unchanged = shown_same params old new (rows x) h; refused = tt }
   is_read params old new rows (Err e) h k = record { unchanged = tt; refused = λ still. (refused_was_open params old new e k still, λ docs shows. refused_shows_still params old new docs e k shows still) }
 
-  pub read_err : {A E : Type 0} (params : Row) (old new : State) (why : Error) (r : Result A E) → IsErr r → FailsToQuery text params old new why → IsRead old new r
+  pub read_err : {A E : Type 0} (params : Row) (old new : State) (why : Error) (r : Result A E) → IsErr r → FailsToQuery text params old new why → ReadsRows old new r
   read_err params old new why (Ok x) is k = absurd (let e = is in cc)
   read_err params old new why (Err e) is k = record { unchanged = tt; refused = λ still. (refused_was_open params old new why k still, λ docs shows. refused_shows_still params old new docs why k shows still) }
 

@@ -24,7 +24,7 @@ use Rattle.sqlite.specs.State.{State, mode_of, Executes, CommitsBy}
 use Rattle.sqlite.specs.Listing.{understood}
 use Rattle.sqlite.proofs.Callers.{runs_as, one_step, one_permutation, statement_of}
 use Rattle.bson_table.specs.Schema.{documents, documents_schema}
-use Rattle.bson_table.specs.Rows.{Doc, stored, HasRows, Shows, is_at, without, replaced}
+use Rattle.bson_table.specs.Rows.{Doc, stored, HasRows, Shows, is_at, without_place, replaced}
 use Rattle.bson_table.proofs.RowLemmas.{cast_null, cast_int}
 use Rattle.bson_table.proofs.PlaceLemmas.{at_place, rising_without, rising_replaced}
 use Rattle.bson_table.proofs.AnswerLemmas.{outputs_of, equal_is}
@@ -63,16 +63,16 @@ module _ (p : ℤ) (more : Row) where
 abbrev pub delete_command : Rattle.sqlite.specs.Command.Command
 delete_command = Delete 0 (program (plain_query (equals 0 0 ∷ []) (col 1 0 ∷ []) []))
 
-none_without : (p : ℤ) (docs : List Doc) → filter (is_at p) docs ≡ [] → without p docs ≡ docs
+none_without : (p : ℤ) (docs : List Doc) → filter (is_at p) docs ≡ [] → without_place p docs ≡ docs
 none_without p [] h = refl
 none_without p (d ∷ docs) h = go (is_at p d) refl (none_without p docs)
   where
-    go : (b : Bool) → is_at p d ≡ b → (filter (is_at p) docs ≡ [] → without p docs ≡ docs) → without p (d ∷ docs) ≡ d ∷ docs
+    go : (b : Bool) → is_at p d ≡ b → (filter (is_at p) docs ≡ [] → without_place p docs ≡ docs) → without_place p (d ∷ docs) ≡ d ∷ docs
     go true e k = absurd (let x = rw e at h in cc)
     go false e k = rw e (ap (λ ds. d ∷ ds) (k (rw e at h)))
 
 pub deletes : (limit : Option ℕ) (mode : Mode) (text : List ℕ) (p : ℤ) (docs : List Doc) (db : Database) (tally : Tally) (after : Database) → db.schema ≡ documents_schema → HasRows db.trees docs
-    → Does limit mode (Int p ∷ []) db text None delete_command (Ok (tally, after)) → (after.schema ≡ documents_schema) × HasRows after.trees (without p docs)
+    → Does limit mode (Int p ∷ []) db text None delete_command (Ok (tally, after)) → (after.schema ≡ documents_schema) × HasRows after.trees (without_place p docs)
 deletes limit mode text p docs db tally after has rows h =
     let done = went (subst (λ s. Does limit mode (Int p ∷ []) (record db { schema = s }) text None delete_command (Ok (tally, after))) has h) in
     let now = ap (λ (x : Tally × Database). x.1) (same_value (went (went done.2).2).2) in
@@ -82,14 +82,14 @@ deletes limit mode text p docs db tally after has rows h =
     let edit : Edit = edit_of db.trees documents (ids_of from.0) Given 0 [] in
     let made = (one_step documents_schema _ db.trees written.0 edit refl written.1).rows in
     let found = by_place p [] (col 1 0 ∷ []) docs (record db { schema = documents_schema }) from.0 rows from.1 in
-    let left : IsPermutation (map stored (without p docs)) (edited db.trees edit) = elim found [
+    let left : IsPermutation (map stored (without_place p docs)) (edited db.trees edit) = elim found [
       | inl none ↦ rw (none.1, none_without p docs none.0) rows.rows
       | inr one ↦ rw (one.3, one.2) (gone_perm p docs (db.trees 0) rows.rows)
     ] in
     let is = ap (λ (x : Database). x.trees 0) now ∙ ap (λ (t : Trees). t 0) trees ∙ made in (
       ap (λ (x : Database). x.schema) now,
       record {
-        rows = subst (λ rs. IsPermutation (map stored (without p docs)) rs) (sym is) left;
+        rows = subst (λ rs. IsPermutation (map stored (without_place p docs)) rs) (sym is) left;
         rising = rising_without p docs rows.rising;
       },
     )
@@ -133,7 +133,7 @@ updates limit mode text p body docs db tally after has rows h =
     )
 
 module _ (p : ℤ) (old new : State) (docs : List Doc) (h : Shows old docs) where
-  pub removes : (r : Result ℕ Error) → Executes delete_text (Int p ∷ []) old new r → OnOk r (Shows new (without p docs))
+  pub removes : (r : Result ℕ Error) → Executes delete_text (Int p ∷ []) old new r → OnOk r (Shows new (without_place p docs))
   removes (Err e) ran = tt
   removes (Ok count) ran =
       let w = runs_as delete_text (Int p ∷ []) old new documents_schema h.schema delete_command delete_is delete_plain count ran in
@@ -141,11 +141,11 @@ module _ (p : ℤ) (old new : State) (docs : List Doc) (h : Shows old docs) wher
       let auto = h.autocommit in
       record { is_open = w.shown.is_open; autocommit = w.shown.mode ∙ auto; settled = sym (w.shown.committed_is ∙ rw auto); schema = made.0; table = made.1 }
 
-  pub remove_commits : (db : Trees) → CommitsBy delete_text (Int p ∷ []) old db → HasRows db (without p docs)
+  pub remove_commits : (db : Trees) → CommitsBy delete_text (Int p ∷ []) old db → HasRows db (without_place p docs)
   remove_commits db commits =
       let c = commits_as delete_text (Int p ∷ []) old db documents_schema delete_command h.schema delete_is delete_plain (λ e. cc) (λ name e. cc) commits in
       let made = deletes old.step_limit (mode_of old) (statement_of delete_text (understood documents_schema delete_text)) p docs old.now c.0 c.1 h.schema h.table c.2 in
-      subst (λ t. HasRows t (without p docs)) (sym c.4) made.1
+      subst (λ t. HasRows t (without_place p docs)) (sym c.4) made.1
 
   pub rewrites : (body : List ℕ) (r : Result ℕ Error) → Executes update_text (Int p ∷ Blob body ∷ []) old new r → OnOk r (Shows new (replaced p body docs))
   rewrites body (Err e) ran = tt

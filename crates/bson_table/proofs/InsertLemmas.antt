@@ -19,7 +19,7 @@ use Rattle.sqlite.specs.Listing.{understood}
 use Rattle.bson_table.proofs.StatementLemmas.{commits_as}
 use Rattle.sqlite.proofs.Callers.{runs_as, one_step, statement_of}
 use Rattle.bson_table.specs.Schema.{documents, documents_schema}
-use Rattle.bson_table.specs.Rows.{Doc, stored, AreBelow, HasRows, Shows, Inside, Keeps}
+use Rattle.bson_table.specs.Rows.{Doc, stored, AreBelow, HasRows, Shows, Inside, KeepsCommitted}
 use Rattle.std.specs.List.Sorted.{IsPermutation}
 use Rattle.sqlite_trees.specs.Tree.{put_row}
 use Rattle.bson_table.proofs.PermLemmas.{add_perm}
@@ -105,10 +105,10 @@ module _ (d : Doc) (old new : State) (first docs : List Doc) (h : Inside old fir
         first_table = subst (λ (x : Database). HasRows x.trees first) (sym shown.committed_is) h.first_table;
       }
 
-  same_keeps : IsUnchanged old new → Keeps new first
+  same_keeps : IsUnchanged old new → KeepsCommitted new first
   same_keeps u = record { schema = ap (λ (x : Database). x.schema) u.0.committed_is ∙ h.first_schema; table = subst (λ (x : Database). HasRows x.trees first) (sym u.0.committed_is) h.first_table }
 
-  undone_keeps : IsRolledBack old new → IsTrue new.is_open → Keeps new first
+  undone_keeps : IsRolledBack old new → IsTrue new.is_open → KeepsCommitted new first
   undone_keeps u still =
       let back = (u.undone still).1 in
       record { schema = ap (λ (x : Database). x.schema) back ∙ h.first_schema; table = subst (λ (x : Database). HasRows x.trees first) (sym back) h.first_table }
@@ -117,7 +117,7 @@ module _ (d : Doc) (old new : State) (first docs : List Doc) (h : Inside old fir
   put_added (Ok count) below ran = put_ok count below ran
   put_added (Err e) below ran = tt
 
-  pub put_refused : (sql : List ℕ) (params : Row) (r : Result ℕ Error) → ExecutesInside 0 sql params old new r → IsTrue new.is_open → OnErr r (Keeps new first)
+  pub put_refused : (sql : List ℕ) (params : Row) (r : Result ℕ Error) → ExecutesInside 0 sql params old new r → IsTrue new.is_open → OnErr r (KeepsCommitted new first)
   put_refused sql params (Ok count) ran still = tt
   put_refused sql params (Err e) (inl ran) still = elim ran.1 [ inl same ↦ same_keeps same | inr undone ↦ undone_keeps undone still ]
   put_refused sql params (Err e) (inr barred) still = same_keeps barred.2

@@ -6,7 +6,7 @@ use Rattle.std.specs.List.Sorted.{IsPermutation}
 use Rattle.std.proofs.lemmas.List.Sorted.{IsPermutation-refl, IsPermutation-sym, IsPermutation-cons, IsPermutation-middle, IsPermutation-trans, IsPermutation-to_front, All-permutation}
 use Rattle.std.proofs.lemmas.List.Elements.{All-from_recursion, recursion_from_All}
 use Rattle.sqlite.specs.declared.types.Value.TheVariants.{Int}
-use Rattle.bson_table.specs.Rows.{Doc, stored, IsRising, AreBelow, is_at, without, replaced}
+use Rattle.bson_table.specs.Rows.{Doc, stored, IsRising, AreBelow, is_at, without_place, replaced}
 use Rattle.bson_table.proofs.PlaceLemmas.{below_is, without_is, put_back}
 use Rattle.sqlite_trees.proofs.ListLemmas.{IsPermutation-filter}
 use Rattle.sqlite.specs.Order.{Row, value_cmp}
@@ -47,7 +47,7 @@ add_perm d docs rows below h =
     (IsPermutation-trans (stored d ∷ map stored docs) (stored d ∷ rows) (put_row (stored d) rows) (IsPermutation-cons (stored d) (map stored docs) rows h) (put_perm (stored d) rows fresh)))
 
 -- a row that is taken out
-pub gone_perm : (p : ℤ) (docs : List Doc) (rows : List Row) → IsPermutation (map stored docs) rows → IsPermutation (map stored (without p docs)) (without_rowid p rows)
+pub gone_perm : (p : ℤ) (docs : List Doc) (rows : List Row) → IsPermutation (map stored docs) rows → IsPermutation (map stored (without_place p docs)) (without_rowid p rows)
 gone_perm p docs rows h = subst (λ xs. IsPermutation xs (without_rowid p rows)) (without_is p docs) (without_perm p (map stored docs) rows h)
 
 untied : (p : ℤ) (rows : List Row) → AllByRecursion (λ r. value_cmp (rowid r) (Int p) ≡ Equal → ⊥) (without_rowid p rows)
@@ -64,7 +64,7 @@ pub back_perm : (p : ℤ) (body : List ℕ) (d : Doc) (docs : List Doc) (rows : 
     → IsPermutation (map stored (replaced p body docs)) (put_row (stored (record d { body = body })) (without_rowid p rows))
 back_perm p body d docs rows up one at h =
     let new = stored (record d { body = body }) in
-    let left = map stored (without p docs) in
+    let left = map stored (without_place p docs) in
     let free = λ (rs : List Row). subst (λ q. AllByRecursion (λ (r : Row). value_cmp (rowid r) (Int q) ≡ Equal → ⊥) (without_rowid p rs)) (sym at) (untied p rs) in
     let sorted = subst (λ xs. IsPermutation (new ∷ left) xs) (put_back p body d docs up one at) (put_perm new left (subst (AllByRecursion (λ (r : Row). value_cmp (rowid r) (Int d.place) ≡ Equal → ⊥)) (without_is p docs) (free (map stored docs)))) in
     IsPermutation-trans (map stored (replaced p body docs)) (new ∷ left) (put_row new (without_rowid p rows)) (IsPermutation-sym (new ∷ left) (map stored (replaced p body docs)) sorted)

@@ -9,7 +9,7 @@ use Rattle.sqlite.specs.declared.types.Value.TheVariants.{Int}
 use Rattle.sqlite_value.specs.Order.{value_cmp}
 use Rattle.sqlite_value.proofs.OrderLemmas.{value_cmp-Int}
 use Rattle.sqlite_trees.specs.Tree.{put_row, has_rowid, without_rowid}
-use Rattle.bson_table.specs.Rows.{Doc, stored, IsRising, is_at, without, with_body, replaced}
+use Rattle.bson_table.specs.Rows.{Doc, stored, IsRising, is_at, without_place, with_body, replaced}
 
 -- three ways that two places compare
 pub way : (a b : ℤ) → (a <ℤ b) ⊎ ((a ≡ b) ⊎ (b <ℤ a))
@@ -39,17 +39,17 @@ at_same p d h = let e : int_cmp d.place p ≡ Equal = rw h (itself p) in ap is_e
 pub rowid_is : (p : ℤ) (d : Doc) → has_rowid p (stored d) ≡ is_at p d
 rowid_is p d = ap is_eq (value_cmp-Int d.place p)
 
-pub without_is : (p : ℤ) (docs : List Doc) → without_rowid p (map stored docs) ≡ map stored (without p docs)
+pub without_is : (p : ℤ) (docs : List Doc) → without_rowid p (map stored docs) ≡ map stored (without_place p docs)
 without_is p [] = refl
 without_is p (d ∷ docs) = go (is_at p d) (rowid_is p d) (without_is p docs)
   where
-    go : (b : Bool) → has_rowid p (stored d) ≡ b → without_rowid p (map stored docs) ≡ map stored (without p docs)
-        → cond (not (has_rowid p (stored d))) (stored d ∷ without_rowid p (map stored docs)) (without_rowid p (map stored docs)) ≡ map stored (cond (not b) (d ∷ without p docs) (without p docs))
+    go : (b : Bool) → has_rowid p (stored d) ≡ b → without_rowid p (map stored docs) ≡ map stored (without_place p docs)
+        → cond (not (has_rowid p (stored d))) (stored d ∷ without_rowid p (map stored docs)) (without_rowid p (map stored docs)) ≡ map stored (cond (not b) (d ∷ without_place p docs) (without_place p docs))
     go true e h = rw e h
     go false e h = rw e (ap (λ rows. stored d ∷ rows) h)
 
 -- past the place, no row is at it
-pub past : (p : ℤ) (docs : List Doc) → AllByRecursion (λ d. p <ℤ d.place) docs → (filter (is_at p) docs ≡ []) × (without p docs ≡ docs) × ((body : List ℕ) → replaced p body docs ≡ docs)
+pub past : (p : ℤ) (docs : List Doc) → AllByRecursion (λ d. p <ℤ d.place) docs → (filter (is_at p) docs ≡ []) × (without_place p docs ≡ docs) × ((body : List ℕ) → replaced p body docs ≡ docs)
 past p [] h = (refl, refl, λ body. refl)
 past p (d ∷ docs) h = let more = past p docs h.1 in let off = not_at_above p d h.0 in (rw off more.0, rw off (ap (λ ds. d ∷ ds) more.1), λ body. rw off (ap (λ ds. d ∷ ds) (more.2 body)))
 
@@ -71,7 +71,7 @@ at_place p (d ∷ docs) up = elim (way d.place p) [
 
 -- a row that is taken out and put back with another body keeps its place
 pub put_back : (p : ℤ) (body : List ℕ) (d : Doc) (docs : List Doc) → IsRising docs → filter (is_at p) docs ≡ d ∷ [] → d.place ≡ p
-    → put_row (stored (record d { body = body })) (map stored (without p docs)) ≡ map stored (replaced p body docs)
+    → put_row (stored (record d { body = body })) (map stored (without_place p docs)) ≡ map stored (replaced p body docs)
 put_back p body d [] up one at = absurd (cc)
 put_back p body d (x ∷ docs) up one at = elim (way x.place p) [
   | inl low ↦
@@ -91,19 +91,19 @@ put_back p body d (x ∷ docs) up one at = elim (way x.place p) [
     first x [] h = refl
     first x (y ∷ docs) h = rw (above_is y.place x.place h.0) refl
 
-pub rising_without : (p : ℤ) (docs : List Doc) → IsRising docs → IsRising (without p docs)
+pub rising_without : (p : ℤ) (docs : List Doc) → IsRising docs → IsRising (without_place p docs)
 rising_without p [] up = tt
 rising_without p (d ∷ docs) up = go (is_at p d) (rising_without p docs up.1)
   where
-    kept : (ds : List Doc) → AllByRecursion (λ b. d.place <ℤ b.place) ds → AllByRecursion (λ b. d.place <ℤ b.place) (without p ds)
+    kept : (ds : List Doc) → AllByRecursion (λ b. d.place <ℤ b.place) ds → AllByRecursion (λ b. d.place <ℤ b.place) (without_place p ds)
     kept [] h = tt
     kept (e ∷ ds) h = at (is_at p e) (kept ds h.1)
       where
-        at : (b : Bool) → AllByRecursion (λ b. d.place <ℤ b.place) (without p ds) → AllByRecursion (λ b. d.place <ℤ b.place) (cond (not b) (e ∷ without p ds) (without p ds))
+        at : (b : Bool) → AllByRecursion (λ b. d.place <ℤ b.place) (without_place p ds) → AllByRecursion (λ b. d.place <ℤ b.place) (cond (not b) (e ∷ without_place p ds) (without_place p ds))
         at true k = k
         at false k = (h.0, k)
 
-    go : (b : Bool) → IsRising (without p docs) → IsRising (cond (not b) (d ∷ without p docs) (without p docs))
+    go : (b : Bool) → IsRising (without_place p docs) → IsRising (cond (not b) (d ∷ without_place p docs) (without_place p docs))
     go true h = h
     go false h = (kept docs up.0, h)
 

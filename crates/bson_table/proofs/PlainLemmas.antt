@@ -21,7 +21,7 @@ use Rattle.sqlite.specs.Listing.{understood, reads_listing, if_select, is_select
 use Rattle.sqlite.specs.State.{State, Shown, ShowsRows, CommitsShowing, FailsToQuery, FailsToShow, IsNotRun, IsUnchanged, Survives, store_error}
 use Rattle.sqlite.proofs.StateLemmas.{survives_weaker}
 use Rattle.std.proofs.Common.{IsTrue}
-pub use Rattle.bson_table.specs.Visit.{asks, Asks}
+pub use Rattle.bson_table.specs.Visit.{asks, AsksForRows}
 use Rattle.bson_table.proofs.StatementLemmas.{undone_keeps}
 use Rattle.bson_table.specs.Open.{all_text}
 
@@ -41,7 +41,7 @@ shows_none schema base _ h = absurd (cc)
 same_compiled : {a b : Compiled} → ◌≡◌ {A = Result Compiled CompileError} (Ok a) (Ok b) → a ≡ b
 same_compiled e = cc
 
-pub bare_if : (schema : Schema) (text : List ℕ) (f : Result Parsed CompileError) → first text ≡ f → Asks f → (c : Compiled) → compiled schema text ≡ Ok c → Bare c
+pub bare_if : (schema : Schema) (text : List ℕ) (f : Result Parsed CompileError) → first text ≡ f → AsksForRows f → (c : Compiled) → compiled schema text ≡ Ok c → Bare c
 unfolding compiled planned meaning
 bare_if schema text (Err e) is h c k = absurd h
 bare_if schema text (Ok p) is h c k =
@@ -54,7 +54,7 @@ bare_if schema text (Ok p) is h c k =
     go (Err e) f k = absurd (cc)
     go (Ok it) f k = let e = same_compiled k in subst Bare e (refl, f)
 
-pub all_asks : Asks (first all_text)
+pub all_asks : AsksForRows (first all_text)
 unfolding everything
 all_asks = (refl, refl)
 

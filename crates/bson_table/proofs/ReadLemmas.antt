@@ -24,7 +24,7 @@ use Rattle.sqlite.specs.Given.{IsPlain}
 use Rattle.sqlite.specs.State.{State, Shown}
 use Rattle.sqlite.proofs.Callers.{reads_as, command_of}
 use Rattle.bson_table.specs.Schema.{documents_schema}
-use Rattle.bson_table.specs.Rows.{Doc, stored, Shows, IsRising, is_named, is_in}
+use Rattle.bson_table.specs.Rows.{Doc, stored, Shows, IsRising, is_row_named, is_in}
 use Rattle.bson_table.proofs.AnswerLemmas.{Outputs, outputs_of, equal_is, map_map}
 use Rattle.bson_table.proofs.SortLemmas.{same_order, Strict, Rises}
 use Rattle.bson_table.proofs.Texts.{plain_query, program, equals, by_place, find_text, find_is, find_plain}
@@ -54,7 +54,7 @@ and_true : (b : Bool) → b && true ≡ b
 and_true true = refl
 and_true false = refl
 
-pub named_test : (coll idkey : List ℕ) (d : Doc) → list_all (holds ((Text coll ∷ Blob idkey ∷ []) ∷ stored d ∷ [])) (equals 2 0 ∷ equals 3 1 ∷ []) ≡ is_named coll idkey d
+pub named_test : (coll idkey : List ℕ) (d : Doc) → list_all (holds ((Text coll ∷ Blob idkey ∷ []) ∷ stored d ∷ [])) (equals 2 0 ∷ equals 3 1 ∷ []) ≡ is_row_named coll idkey d
 named_test coll idkey d =
     rw (equal_is (Text d.coll) (Text coll) (bytes_eq d.coll coll) refl refl (text_test d.coll coll), equal_is (Blob d.idkey) (Blob idkey) (bytes_eq d.idkey idkey) refl refl (blob_test d.idkey idkey))
     (ap (λ b. bytes_eq d.coll coll && b) (and_true (bytes_eq d.idkey idkey)))
@@ -131,13 +131,13 @@ answers_of sql params old new docs names terms project order rows h is plain s =
     reads_as sql params old new documents_schema h.schema (Select (program (plain_query terms project order)) names) is.0 plain is.1 rows s
 
 pub named_rows : (coll idkey : List ℕ) (old new : State) (docs : List Doc) (rows : List Row) → Shows old docs → Shown find_text (Text coll ∷ Blob idkey ∷ []) old new rows
-    → rows ≡ map (λ d. Int d.place ∷ Blob d.body ∷ []) (filter (is_named coll idkey) docs)
+    → rows ≡ map (λ d. Int d.place ∷ Blob d.body ∷ []) (filter (is_row_named coll idkey) docs)
 named_rows coll idkey old new docs rows h s =
     let params = Text coll ∷ Blob idkey ∷ [] in
     let terms = equals 2 0 ∷ equals 3 1 ∷ [] in
     let project = col 1 0 ∷ col 1 4 ∷ [] in
-    in_order terms project params (is_named coll idkey) docs rows h.table.rising
-    (outputs_of terms project by_place params (is_named coll idkey) docs old.now rows h.table (named_test coll idkey) (answers_of find_text params old new docs _ terms project by_place rows h find_is find_plain s))
+    in_order terms project params (is_row_named coll idkey) docs rows h.table.rising
+    (outputs_of terms project by_place params (is_row_named coll idkey) docs old.now rows h.table (named_test coll idkey) (answers_of find_text params old new docs _ terms project by_place rows h find_is find_plain s))
 
 abbrev pub found_row : Doc → Row
 found_row d = Int d.place ∷ Blob d.body ∷ []

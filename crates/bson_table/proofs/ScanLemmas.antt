@@ -17,7 +17,7 @@ use Rattle.sqlite.proofs.Callers.{IsPlain, command_of, reads_as, begins_as}
 use Rattle.sqlite_tied.specs.Compute.{everything}
 use Rattle.bson_table.specs.Schema.{documents_schema}
 use Rattle.bson_table.specs.Rows.{Doc, stored, Shows, is_in}
-use Rattle.bson_table.specs.Visit.{IsSelect, TookAll, TookSome, value_of, scan_text}
+use Rattle.bson_table.specs.Visit.{IsSelect, TookRows, TookSome, first_value, scan_text}
 use Rattle.bson_table.specs.Moves.{bodies_of}
 use Rattle.bson_table.proofs.Texts.{plain_query, program, by_place}
 use Rattle.bson_table.proofs.AnswerLemmas.{outputs_of, equal_is}
@@ -54,29 +54,29 @@ scan_plain : IsPlain (understood documents_schema scan_text)
 unfolding understood everything
 scan_plain = (refl, refl)
 
-values_are : (docs : List Doc) → map value_of (map (λ (d : Doc). Blob d.body ∷ []) docs) ≡ map (λ (d : Doc). d.body) docs
+values_are : (docs : List Doc) → map first_value (map (λ (d : Doc). Blob d.body ∷ []) docs) ≡ map (λ (d : Doc). d.body) docs
 values_are [] = refl
 values_are (d ∷ docs) = ap (λ vs. d.body ∷ vs) (values_are docs)
 
-some_values : (taken rest : List Row) → map value_of (taken ++ rest) ≡ map value_of taken ++ map value_of rest
+some_values : (taken rest : List Row) → map first_value (taken ++ rest) ≡ map first_value taken ++ map first_value rest
 some_values [] rest = refl
-some_values (r ∷ taken) rest = ap (λ vs. value_of r ∷ vs) (some_values taken rest)
+some_values (r ∷ taken) rest = ap (λ vs. first_value r ∷ vs) (some_values taken rest)
 
 module _ {V : Type 0} (took : V → List (List ℕ) → Type 0) (v : V) (coll : List ℕ) (old : State) (docs : List Doc) (h : Shows old docs) where
-  pub whole_scan : (new : State) → TookAll took v scan_text (Text coll ∷ []) old new → took v (bodies_of coll docs)
+  pub whole_scan : (new : State) → TookRows took v scan_text (Text coll ∷ []) old new → took v (bodies_of coll docs)
   whole_scan new t =
       let params = Text coll ∷ [] in
       let project = col 1 4 ∷ [] in
       let answer = reads_as scan_text params old new documents_schema h.schema (Select (program scan_query) (codes "body" ∷ [])) scan_is.0 scan_plain scan_is.1 t.0 t.1 in
       let all = in_order scan_terms project params (is_in coll) docs t.0 h.table.rising (outputs_of scan_terms project by_place params (is_in coll) docs old.now t.0 h.table (scan_test coll) answer) in
-      subst (λ vs. took v vs) (ap (map value_of) all ∙ values_are (filter (is_in coll) docs)) t.2
+      subst (λ vs. took v vs) (ap (map first_value) all ∙ values_are (filter (is_in coll) docs)) t.2
 
   pub some_scan : TookSome took v scan_text (Text coll ∷ []) old → (taken : List (List ℕ)) × (rest : List (List ℕ)) × (taken ++ rest ≡ bodies_of coll docs) × took v taken
-  some_scan (rows, inl none, t) = ([], bodies_of coll docs, refl, subst (λ (rs : List Row). took v (map value_of rs)) none t)
+  some_scan (rows, inl none, t) = ([], bodies_of coll docs, refl, subst (λ (rs : List Row). took v (map first_value rs)) none t)
   some_scan (rows, inr begun, t) =
       let params = Text coll ∷ [] in
       let project = col 1 4 ∷ [] in
       let got = begins_as scan_text params old old documents_schema h.schema (Select (program scan_query) (codes "body" ∷ [])) scan_is.0 scan_plain scan_is.1 rows begun.1 in
       let all = in_order scan_terms project params (is_in coll) docs (rows ++ got.1.0) h.table.rising
       (outputs_of scan_terms project by_place params (is_in coll) docs old.now (rows ++ got.1.0) h.table (scan_test coll) (record { typed = got.0; answer = got.1.1 })) in
-      (map value_of rows, map value_of got.1.0, sym (some_values rows got.1.0) ∙ ap (map value_of) all ∙ values_are (filter (is_in coll) docs), t)
+      (map first_value rows, map first_value got.1.0, sym (some_values rows got.1.0) ∙ ap (map first_value) all ∙ values_are (filter (is_in coll) docs), t)

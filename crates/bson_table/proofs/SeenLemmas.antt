@@ -5,7 +5,7 @@ use Rattle.std.specs.Ordering.{nat_cmp, ordering_then}
 use Rattle.std.specs.Cmp.Lexicographic.{slice_cmp}
 use Rattle.std.proofs.lemmas.Bool.Decides.{nat_tests}
 use Rattle.std.specs.BTreeSet.{insert_key}
-use Rattle.bson_table.specs.Rows.{Doc, is_named}
+use Rattle.bson_table.specs.Rows.{Doc, is_row_named}
 use Rattle.bson_table.specs.Seen.{Pair, has_pair, HasSeen}
 use Rattle.bson_table.proofs.ReadLemmas.{same_bytes}
 
@@ -70,7 +70,7 @@ any_last p (e ∷ docs) d = ap (λ b. p e || b) (any_last p docs d) ∙ or_swap 
 -- one more row
 pub seen_more : (old new : List Pair) (docs : List Doc) (d : Doc) → HasSeen old docs → ((c k : List ℕ) → has_pair new c k ≡ (bytes_eq c d.coll && bytes_eq k d.idkey) || has_pair old c k) → HasSeen new (docs ++ d ∷ [])
 seen_more old new docs d h added c k =
-    added c k ∙ ap₂ (λ p q. p || q) (ap₂ (λ p q. p && q) (flip c d.coll) (flip k d.idkey)) (h c k) ∙ sym (any_last (is_named c k) docs d)
+    added c k ∙ ap₂ (λ p q. p || q) (ap₂ (λ p q. p && q) (flip c d.coll) (flip k d.idkey)) (h c k) ∙ sym (any_last (is_row_named c k) docs d)
 
 pub was_absent : (b r : Bool) → r ≡ not b → r ≡ true → b ≡ false
 was_absent true r e t = absurd (cc)

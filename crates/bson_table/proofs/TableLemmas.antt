@@ -13,8 +13,8 @@ use Rattle.bson_table.specs.declared.row.Found.{Found}
 use Rattle.bson_table.specs.Fault.{fault_of}
 use Rattle.bson_table.specs.Rows.{Doc, HasRows, Shows, AreBelow, last_place}
 use Rattle.bson_table.specs.Cells.{int_in, bytes_in}
-use Rattle.bson_table.specs.Moves.{Stands, Visits, Appends, appended, bodies_of, kept, seen}
-use Rattle.bson_table.specs.Visit.{TookSome, value_of, scan_text}
+use Rattle.bson_table.specs.Moves.{Stands, Visits, AddsRows, appended, bodies_of, kept, seen}
+use Rattle.bson_table.specs.Visit.{TookSome, first_value, scan_text}
 use Rattle.bson_table.specs.declared.fault.Fault.{Fault}
 use Rattle.bson_table.proofs.ScanLemmas.{some_scan}
 use Rattle.bson_table.proofs.StatementLemmas.{unchanged_shows}
@@ -76,10 +76,10 @@ visits_refused took first last coll old docs stands (Err e) why is some = record
 }
   where
     begun : TookSome took last scan_text (Text coll ∷ []) old → (taken : List (List ℕ)) × (rest : List (List ℕ)) × (taken ++ rest ≡ bodies_of coll docs) × took last taken
-    begun (rows, inl none, t) = ([], bodies_of coll docs, refl, subst (λ (rs : List Row). took last (map value_of rs)) none t)
+    begun (rows, inl none, t) = ([], bodies_of coll docs, refl, subst (λ (rs : List Row). took last (map first_value rs)) none t)
     begun (rows, inr given, t) = some_scan took last coll old docs (stands given.0) (rows, inr given, t)
 
-pub appends_err : (n : ℕ) (change : List Doc → List Doc) (docs : List Doc) (r : Result (Unit {0}) Fault) (why : Error) → IsErrAnd r (λ e. e ≡ fault_of why) → Appends n change r docs docs
+pub appends_err : (n : ℕ) (change : List Doc → List Doc) (docs : List Doc) (r : Result (Unit {0}) Fault) (why : Error) → IsErrAnd r (λ e. e ≡ fault_of why) → AddsRows n change r docs docs
 appends_err n change docs (Ok u) why is = absurd is
 appends_err n change docs (Err e) why is = record { done = tt; room = tt; refused = refl; full = λ places. absurd (not_places why (sym is ∙ places)) }
 

@@ -9,7 +9,7 @@ use Rattle.sqlite_trees.specs.declared.store.Store as store
 use Rattle.sqlite.specs.State.{State, Shown, ShowsRows, Begins, IsUnchanged}
 use Rattle.sqlite.specs.Clock.{timed}
 use Rattle.sqlite.proofs.Callers.{given_begin, unchanged_then}
-use Rattle.bson_table.specs.Visit.{IsSelect, TookSome, value_of}
+use Rattle.bson_table.specs.Visit.{IsSelect, TookSome, first_value}
 use Rattle.bson_table.proofs.AnyLemmas.{bare}
 
 -- a beginning stays one where nothing has changed
@@ -26,12 +26,12 @@ begins_before sql params old new rows same h =
     )
 
 pub took_some : {S V : Type 0} (g : store.Ghosts S) (took : V → List (List ℕ) → Type 0) (v : V) (sql : List ℕ) (params : Row) (old : State) (h : Held S) (given : List Row)
-    → HasGiven g sql params h given → IsUnchanged old (state g h) → took v (map value_of given) → TookSome took v sql params old
+    → HasGiven g sql params h given → IsUnchanged old (state g h) → took v (map first_value given) → TookSome took v sql params old
 took_some g took v sql params old h given has same t = (given, inr (same.0.was_open, begins_before sql params old (state g h) given same (given_begin g sql params h given has)), t)
 
-pub values_on : (rows : List Row) (r : Row) → map value_of (rows ++ r ∷ []) ≡ map value_of rows ++ value_of r ∷ []
+pub values_on : (rows : List Row) (r : Row) → map first_value (rows ++ r ∷ []) ≡ map first_value rows ++ first_value r ∷ []
 values_on [] r = refl
-values_on (x ∷ rows) r = ap (λ vs. value_of x ∷ vs) (values_on rows r)
+values_on (x ∷ rows) r = ap (λ vs. first_value x ∷ vs) (values_on rows r)
 
 -- the answer is seen from the state before the query
 pub shown_before : (sql : List ℕ) (params : Row) (old mid new : State) (rows : List Row) → IsSelect sql → IsUnchanged old mid → Shown sql params mid new rows → Shown sql params old new rows

@@ -7,7 +7,7 @@ use Rattle.sqlite.specs.State.{State, HasCleanDisk, Survives, Executes, IsNotRun
 use Rattle.sqlite.proofs.StateLemmas.{survives_then, survives_weaker}
 use Rattle.bson_table.specs.Rows.{Doc, Shows}
 use Rattle.bson_table.specs.Moves.{Stands}
-use Rattle.bson_table.specs.Written.{IsWritten}
+use Rattle.bson_table.specs.Written.{WritesRows}
 use Rattle.bson_table.proofs.StatementLemmas.{unchanged_shows, undone_shows, refused_shows}
 
 module _ (sql : List ℕ) (params : Row) (old new : State) where
@@ -18,7 +18,7 @@ module _ (sql : List ℕ) (params : Row) (old new : State) where
   not_prepared e (inr failed) still = (failed.3.was_open still, λ docs h. undone_shows old new docs h failed.3 still)
 
   module _ (mid : State) (change : List Doc → List Doc) (same : IsUnchanged old mid) where
-    pub written_by : (r : Result ℕ Error) → Executes sql params mid new r → ((docs : List Doc) → Shows mid docs → OnOk r (Shows new (change docs))) → IsWritten old new change r
+    pub written_by : (r : Result ℕ Error) → Executes sql params mid new r → ((docs : List Doc) → Shows mid docs → OnOk r (Shows new (change docs))) → WritesRows old new change r
     written_by (Ok count) ran ok = record { done = (same.0.was_open, λ docs h. ok docs (unchanged_shows old mid docs h same)); refused = tt }
     written_by (Err e) ran ok = record { done = tt; refused = λ still. (same.0.was_open, λ docs h. refused_shows sql params mid new docs e ran (unchanged_shows old mid docs h same) still) }
 
@@ -26,7 +26,7 @@ module _ (sql : List ℕ) (params : Row) (old new : State) where
 pub crash_before : (old new : State) (P : List Doc → Trees → Type 0) → Survives old new (λ _. ⊥) → Survives old new (λ db. (docs : List Doc) → Stands old docs → P docs db)
 crash_before old new P = survives_weaker old new _ _ (λ _ db none. absurd none)
 
-pub written_err : {A E : Type 0} (old new : State) (change : List Doc → List Doc) (r : Result A E) → IsErr r → (IsTrue new.is_open → IsTrue old.is_open × ((docs : List Doc) → Shows old docs → Shows new docs)) → IsWritten old new change r
+pub written_err : {A E : Type 0} (old new : State) (change : List Doc → List Doc) (r : Result A E) → IsErr r → (IsTrue new.is_open → IsTrue old.is_open × ((docs : List Doc) → Shows old docs → Shows new docs)) → WritesRows old new change r
 written_err old new change (Ok x) is why = absurd (let e = is in cc)
 written_err old new change (Err e) is why = record { done = tt; refused = why }
 

@@ -1,13 +1,13 @@
 -- Which rows a store can have written.
 use Rattle.std.specs.Prelude.{◌≡◌, ◌++◌, ◌∷◌, [], ◌<ℤ◌, ℕ, ℤ, List, false}
 use Rattle.std.specs.List.{list_any}
-use Rattle.bson_table.specs.Rows.{Doc, is_named, last_place}
+use Rattle.bson_table.specs.Rows.{Doc, is_row_named, last_place}
 
 module _ (accepts : List ℕ → List ℕ → List ℕ → Type 0) where
   -- after these rows: it has a greater place, its collection and key are new, and what it holds is accepted
   pub record IsGoodAfter (seen : List Doc) (d : Doc) : Type 0 where
     pub above : last_place seen <ℤ d.place
-    pub fresh : list_any (is_named d.coll d.idkey) seen ≡ false
+    pub fresh : list_any (is_row_named d.coll d.idkey) seen ≡ false
     pub accepted : accepts d.coll d.idkey d.body
 
   abbrev pub AreGoodAfter : List Doc → List Doc → Type 0

@@ -9,7 +9,7 @@ use Rattle.bson_table.specs.declared.fault.Fault.{Fault}
 use Rattle.bson_table.specs.declared.fault.Fault.TheVariants.{Places}
 use Rattle.bson_table.specs.declared.row.Found.{Found}
 use Rattle.bson_table.specs.declared.row.NewRow.{NewRow}
-use Rattle.bson_table.specs.Rows.{Doc, Shows, HasRows, is_named, is_in, last_place, docs_from}
+use Rattle.bson_table.specs.Rows.{Doc, Shows, HasRows, is_row_named, is_in, last_place, docs_from}
 use Rattle.bson_table.specs.Names.{has_name}
 
 -- what a connection shows while it is open
@@ -50,9 +50,9 @@ abbrev pub seen : Doc → ℤ × List ℕ
 seen d = (d.place, d.body)
 
 -- the first row with this collection and key is found, or that there is none
-pub record Finds (coll idkey : List ℕ) (result : Result (Option Found) Fault) (docs after : List Doc) : Type 0 where
+pub record FindsRow (coll idkey : List ℕ) (result : Result (Option Found) Fault) (docs after : List Doc) : Type 0 where
   pub same : after ≡ docs
-  pub found : IfOk result (λ f. option_map kept f ≡ option_map seen (find (is_named coll idkey) docs))
+  pub found : IfOk result (λ f. option_map kept f ≡ option_map seen (find (is_row_named coll idkey) docs))
   pub faults : IfErr result (λ e. e ≢ Places)
 
 -- the rows are changed so, or the call is refused
@@ -62,7 +62,7 @@ pub record Changes (change : List Doc → List Doc) (result : Result (Unit {0}) 
   pub faults : IfErr result (λ e. e ≢ Places)
 
 -- so many rows come after the others, or the call is refused
-pub record Appends (n : ℕ) (change : List Doc → List Doc) (result : Result (Unit {0}) Fault) (docs after : List Doc) : Type 0 where
+pub record AddsRows (n : ℕ) (change : List Doc → List Doc) (result : Result (Unit {0}) Fault) (docs after : List Doc) : Type 0 where
   pub done : OnOk result (after ≡ change docs)
   pub room : OnOk result (IsRoomFor n docs)
   pub refused : OnErr result (after ≡ docs)

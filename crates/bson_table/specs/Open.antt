@@ -28,8 +28,8 @@ abbrev pub HasNoTable : State → Type 0
 HasNoTable s = table_named s.now.schema table_name ≡ None
 
 -- a view or an index has the name
-abbrev pub IsTaken : State → Type 0
-IsTaken s = (view_named s.now.schema table_name ≢ None) ⊎ (index_named s.now.schema table_name ≢ None)
+abbrev pub IsNameTaken : State → Type 0
+IsNameTaken s = (view_named s.now.schema table_name ≢ None) ⊎ (index_named s.now.schema table_name ≢ None)
 
 -- the table is read by the four columns, with these rows, and nothing changes
 pub record Reads (old new : State) (docs : List Doc) : Type 0 where
@@ -73,7 +73,7 @@ module _ (accepts : List ℕ → List ℕ → List ℕ → Type 0) where
 
   -- when each refusal comes
   abbrev pub Unopened : State → State → OpenError → Type 0
-  Unopened old new NotAStore = (HasTable old × ReadsNot old new) ⊎ (HasNoTable old × IsTaken old)
+  Unopened old new NotAStore = (HasTable old × ReadsNot old new) ⊎ (HasNoTable old × IsNameTaken old)
   Unopened old new (BadRow place) = HasTable old × ((docs : List Doc) × Reads old new docs × IsFirstBad accepts docs place)
   Unopened old new Memory = Unit {0}
   Unopened old new Database = Unit {0}

@@ -51,8 +51,8 @@ abbrev pub is_at : ℤ → Doc → Bool
 is_at place d = int_eq d.place place
 
 -- the rows without the one at this place
-abbrev pub without : ℤ → List Doc → List Doc
-without place = filter (λ d. not (is_at place d))
+abbrev pub without_place : ℤ → List Doc → List Doc
+without_place place = filter (λ d. not (is_at place d))
 
 abbrev pub with_body : ℤ → List ℕ → Doc → Doc
 with_body place body d = if is_at place d then record d { body = body } else d
@@ -61,8 +61,8 @@ with_body place body d = if is_at place d then record d { body = body } else d
 abbrev pub replaced : ℤ → List ℕ → List Doc → List Doc
 replaced place body = map (with_body place body)
 
-abbrev pub is_named : List ℕ → List ℕ → Doc → Bool
-is_named coll idkey d = bytes_eq d.coll coll && bytes_eq d.idkey idkey
+abbrev pub is_row_named : List ℕ → List ℕ → Doc → Bool
+is_row_named coll idkey d = bytes_eq d.coll coll && bytes_eq d.idkey idkey
 
 abbrev pub is_in : List ℕ → Doc → Bool
 is_in coll d = bytes_eq d.coll coll
@@ -77,7 +77,7 @@ pub record Inside (s : State) (first docs : List Doc) : Type 0 where
   pub first_table : HasRows s.committed.trees first
 
 -- what a rollback goes back to, whatever the transaction has come to
-pub record Keeps (s : State) (first : List Doc) : Type 0 where
+pub record KeepsCommitted (s : State) (first : List Doc) : Type 0 where
   pub schema : s.committed.schema ≡ documents_schema
   pub table : HasRows s.committed.trees first
 

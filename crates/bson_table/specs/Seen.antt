@@ -3,7 +3,7 @@ use Rattle.std.specs.Prelude.{◌≡◌, ◌&&◌, ℕ, Bool, List, bytes_eq}
 use Rattle.std.specs.List.{list_any}
 use Rattle.std.specs.declared.alloc.Global.{Global}
 use Rattle.std.specs.Prelude.{Vec}
-use Rattle.bson_table.specs.Rows.{Doc, is_named}
+use Rattle.bson_table.specs.Rows.{Doc, is_row_named}
 
 abbrev pub Pair : Type 0
 Pair = Vec ℕ Global × Vec ℕ Global
@@ -13,4 +13,4 @@ has_pair keys coll idkey = list_any (λ (p : Pair). bytes_eq idkey p.0.items && 
 
 -- the pairs are those of these rows
 abbrev pub HasSeen : List Pair → List Doc → Type 0
-HasSeen keys docs = (coll idkey : List ℕ) → has_pair keys coll idkey ≡ list_any (is_named coll idkey) docs
+HasSeen keys docs = (coll idkey : List ℕ) → has_pair keys coll idkey ≡ list_any (is_row_named coll idkey) docs

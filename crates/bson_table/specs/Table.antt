@@ -7,5 +7,5 @@ use Rattle.bson_table.specs.declared.table.Table.{Table}
 abbrev pub connection_of : {S : Type 0} → Table S → Held S
 connection_of t = t.conn
 
-abbrev pub state_of : {S : Type 0} → Ghosts S → Table S → State
-state_of g t = state g t.conn
+abbrev pub table_state : {S : Type 0} → Ghosts S → Table S → State
+table_state g t = state g t.conn

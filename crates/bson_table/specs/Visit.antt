@@ -15,26 +15,26 @@ asks (written.Select s) = true
 asks _ = false
 
 -- a SELECT with no time in it
-abbrev pub Asks : Result Parsed CompileError → Type 0
-Asks (Ok p) = (asks p.statement ≡ true) × (p.formats ≡ [])
-Asks (Err e) = ⊥
+abbrev pub AsksForRows : Result Parsed CompileError → Type 0
+AsksForRows (Ok p) = (asks p.statement ≡ true) × (p.formats ≡ [])
+AsksForRows (Err e) = ⊥
 
 abbrev pub IsSelect : List ℕ → Type 0
-IsSelect text = Asks (first text)
+IsSelect text = AsksForRows (first text)
 
 -- the first value of a row
-abbrev pub value_of : Row → List ℕ
-value_of r = bytes_in (column r 0)
+abbrev pub first_value : Row → List ℕ
+first_value r = bytes_in (column r 0)
 
 -- the visitor has taken the whole answer, or a beginning of one
-abbrev pub TookAll : {V : Type 0} → (V → List (List ℕ) → Type 0) → V → List ℕ → Row → State → State → Type 0
-TookAll took v sql params old new = (rows : List Row) × Shown sql params old new rows × took v (map value_of rows)
+abbrev pub TookRows : {V : Type 0} → (V → List (List ℕ) → Type 0) → V → List ℕ → Row → State → State → Type 0
+TookRows took v sql params old new = (rows : List Row) × Shown sql params old new rows × took v (map first_value rows)
 
 abbrev pub TookSome : {V : Type 0} → (V → List (List ℕ) → Type 0) → V → List ℕ → Row → State → Type 0
-TookSome took v sql params old = (rows : List Row) × ((rows ≡ []) ⊎ (IsTrue old.is_open × Begins sql params old rows)) × took v (map value_of rows)
+TookSome took v sql params old = (rows : List Row) × ((rows ≡ []) ⊎ (IsTrue old.is_open × Begins sql params old rows)) × took v (map first_value rows)
 
 -- a read that is answered leaves everything; one that is refused leaves the rows, or the connection is shut
-pub record IsRead {A E : Type 0} (old new : State) (result : Result A E) : Type 0 where
+pub record ReadsRows {A E : Type 0} (old new : State) (result : Result A E) : Type 0 where
   pub unchanged : OnOk result (IsUnchanged old new)
   pub refused : OnErr result (IsTrue new.is_open → IsTrue old.is_open × ((docs : List Doc) → Shows old docs → Shows new docs))
 

@@ -4,6 +4,6 @@ use Rattle.sqlite.specs.State.{State}
 use Rattle.bson_table.specs.Rows.{Doc, Shows}
 
 -- the rows are changed so; a refused one leaves the rows, or the connection is shut
-pub record IsWritten {A E : Type 0} (old new : State) (change : List Doc → List Doc) (result : Result A E) : Type 0 where
+pub record WritesRows {A E : Type 0} (old new : State) (change : List Doc → List Doc) (result : Result A E) : Type 0 where
   pub done : OnOk result (IsTrue old.is_open × ((docs : List Doc) → Shows old docs → Shows new (change docs)))
   pub refused : OnErr result (IsTrue new.is_open → IsTrue old.is_open × ((docs : List Doc) → Shows old docs → Shows new docs))

@@ -6,7 +6,7 @@ ghost use Rattle.sqlite.specs.Held.{state};
 ghost use Rattle.sqlite.specs.State.{HasCleanDisk, Survives, IsLive};
 ghost use Rattle.sqlite_schema.specs.Names.{table_named, index_named, view_named};
 ghost use Rattle.bson_table.specs.Cells.{is_listed, int_in, bytes_in};
-ghost use Rattle.bson_table.specs.Open.{Refuses, Passes, Opened, Unopened, KeepsRows, Makes, table_name, HasNoTable, IsTaken};
+ghost use Rattle.bson_table.specs.Open.{Refuses, Passes, Opened, Unopened, KeepsRows, Makes, table_name, HasNoTable, IsNameTaken};
 
 use crate::check::{RowCheck, survey};
 use crate::statements::create;
@@ -75,7 +75,7 @@ pub(crate) fn prepare<S: Alter, C: RowCheck>(
     ensures opened { HasCleanDisk (state S.Store conn.new) → OnOk result (Opened (C.accepts check.now) (state S.Store conn.old) (state S.Store conn.new)) }
     ensures refused { HasCleanDisk (state S.Store conn.new) → IfErr result (λ e. Unopened (C.accepts check.now) (state S.Store conn.old) (state S.Store conn.new) e) }
     ensures kept { HasCleanDisk (state S.Store conn.new) → OnErr result (KeepsRows (state S.Store conn.old) (state S.Store conn.new)) }
-    ensures taken { (state S.Store conn.old).in_transaction ≡ false → HasNoTable (state S.Store conn.old) → IsTaken (state S.Store conn.old) → result ≡ Err OpenError.NotAStore }
+    ensures taken { (state S.Store conn.old).in_transaction ≡ false → HasNoTable (state S.Store conn.old) → IsNameTaken (state S.Store conn.old) → result ≡ Err OpenError.NotAStore }
     ensures crash { Survives (state S.Store conn.old) (state S.Store conn.new) (Makes (state S.Store conn.old)) }
 {
     if !conn.is_autocommit() {
@@ -102,8 +102,8 @@ fn has_table<S: Alter>(conn: &Connection<S>) -> bool
 
 /// Whether a view or an index has the name.
 fn is_taken<S: Alter>(conn: &Connection<S>) -> bool
-    ensures taken { IsTrue result → IsTaken (state S.Store conn.now) }
-    ensures free { result ≡ false → ¬ IsTaken (state S.Store conn.now) }
+    ensures taken { IsTrue result → IsNameTaken (state S.Store conn.now) }
+    ensures free { result ≡ false → ¬ IsNameTaken (state S.Store conn.now) }
 {
     let schema = conn.schema();
     schema.view_named(b"documents").is_some() || schema.index_named(b"documents").is_some()

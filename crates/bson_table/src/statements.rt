@@ -4,10 +4,10 @@ ghost use Rattle.std.specs.Prelude.{◌≡◌, ◌≢◌, ◌+ℤ◌, ◌<ℤ◌
 ghost use Rattle.sqlite.specs.declared.types.Value.TheVariants.{Int, Blob};
 ghost use Rattle.sqlite.specs.Held.{state};
 ghost use Rattle.sqlite.specs.State.{HasCleanDisk, Survives};
-ghost use Rattle.bson_table.specs.Rows.{Doc, IsBlank, AreBelow, HasRows, Shows, Inside, Keeps, docs_from, without, replaced, is_named, last_place};
+ghost use Rattle.bson_table.specs.Rows.{Doc, IsBlank, AreBelow, HasRows, Shows, Inside, KeepsCommitted, docs_from, without_place, replaced, is_row_named, last_place};
 ghost use Rattle.bson_table.specs.Moves.{Stands};
-ghost use Rattle.bson_table.specs.Visit.{IsRead};
-ghost use Rattle.bson_table.specs.Written.{IsWritten};
+ghost use Rattle.bson_table.specs.Visit.{ReadsRows};
+ghost use Rattle.bson_table.specs.Written.{WritesRows};
 
 use crate::opening::place_in;
 use crate::row::NewRow;
@@ -37,7 +37,7 @@ pub(crate) fn add<'a, S: Alter>(
 ) -> Result<usize, Error>
     requires last { HasCleanDisk (state S.Store conn.old) → (docs : List Doc) → Shows (state S.Store conn.old) docs → AreBelow place docs }
     ensures written { HasCleanDisk (state S.Store conn.new) → IsTrue (state S.Store conn.old).is_open
-        → IsWritten (state S.Store conn.old) (state S.Store conn.new) (λ docs. docs ++ record { place = place; coll = coll.now; idkey = idkey.now; body = body.now } ∷ []) result }
+        → WritesRows (state S.Store conn.old) (state S.Store conn.new) (λ docs. docs ++ record { place = place; coll = coll.now; idkey = idkey.now; body = body.now } ∷ []) result }
     ensures crash { Survives (state S.Store conn.old) (state S.Store conn.new)
         (λ trees. (docs : List Doc) → Shows (state S.Store conn.old) docs → HasRows trees (docs ++ record { place = place; coll = coll.now; idkey = idkey.now; body = body.now } ∷ [])) }
 {
@@ -54,8 +54,8 @@ pub(crate) fn add<'a, S: Alter>(
 
 /// Removes the row at a place.
 pub(crate) fn remove_at<S: Alter>(conn: &mut Connection<S>, place: i64) -> Result<usize, Error>
-    ensures written { HasCleanDisk (state S.Store conn.new) → IsWritten (state S.Store conn.old) (state S.Store conn.new) (without place) result }
-    ensures crash { Survives (state S.Store conn.old) (state S.Store conn.new) (λ trees. (docs : List Doc) → Stands (state S.Store conn.old) docs → HasRows trees (without place docs)) }
+    ensures written { HasCleanDisk (state S.Store conn.new) → WritesRows (state S.Store conn.old) (state S.Store conn.new) (without_place place) result }
+    ensures crash { Survives (state S.Store conn.old) (state S.Store conn.new) (λ trees. (docs : List Doc) → Stands (state S.Store conn.old) docs → HasRows trees (without_place place docs)) }
 {
     let statement = conn.prepare("DELETE FROM documents WHERE place = ?1")?;
     statement.execute(conn, &[ValueRef::Int(place)])
@@ -67,7 +67,7 @@ pub(crate) fn rewrite_at<S: Alter>(
     place: i64,
     body: &[u8],
 ) -> Result<usize, Error>
-    ensures written { HasCleanDisk (state S.Store conn.new) → IsWritten (state S.Store conn.old) (state S.Store conn.new) (replaced place body.now) result }
+    ensures written { HasCleanDisk (state S.Store conn.new) → WritesRows (state S.Store conn.old) (state S.Store conn.new) (replaced place body.now) result }
     ensures crash { Survives (state S.Store conn.old) (state S.Store conn.new) (λ trees. (docs : List Doc) → Stands (state S.Store conn.old) docs → HasRows trees (replaced place body.now docs)) }
 {
     let statement = conn.prepare("UPDATE documents SET body = ?2 WHERE place = ?1")?;
@@ -81,8 +81,8 @@ pub(crate) fn named<'a, S: Alter>(
     idkey: &'a [u8],
 ) -> Result<Vec<Row>, Error>
     ensures rows { HasCleanDisk (state S.Store conn.new) → (docs : List Doc) → Shows (state S.Store conn.old) docs
-        → IfOk result (λ rows. rows.items ≡ map (λ d. Int d.place ∷ Blob d.body ∷ []) (filter (is_named coll.now idkey.now) docs)) }
-    ensures read { HasCleanDisk (state S.Store conn.new) → IsRead (state S.Store conn.old) (state S.Store conn.new) result }
+        → IfOk result (λ rows. rows.items ≡ map (λ d. Int d.place ∷ Blob d.body ∷ []) (filter (is_row_named coll.now idkey.now) docs)) }
+    ensures read { HasCleanDisk (state S.Store conn.new) → ReadsRows (state S.Store conn.old) (state S.Store conn.new) result }
     ensures crash { Survives (state S.Store conn.old) (state S.Store conn.new) (λ _. ⊥) }
 {
     conn.query_all(
@@ -94,7 +94,7 @@ pub(crate) fn named<'a, S: Alter>(
 /// The greatest place, or 0 of a table with no rows.
 pub(crate) fn greatest<S: Alter>(conn: &mut Connection<S>) -> Result<i64, Error>
     ensures place { HasCleanDisk (state S.Store conn.new) → (docs : List Doc) → Shows (state S.Store conn.old) docs → IfOk result (λ place. place ≡ last_place docs) }
-    ensures read { HasCleanDisk (state S.Store conn.new) → IsRead (state S.Store conn.old) (state S.Store conn.new) result }
+    ensures read { HasCleanDisk (state S.Store conn.new) → ReadsRows (state S.Store conn.old) (state S.Store conn.new) result }
     ensures crash { Survives (state S.Store conn.old) (state S.Store conn.new) (λ _. ⊥) }
 {
     match conn.query_row(
@@ -119,7 +119,7 @@ fn put<'a, 't, S: Alter>(
     ensures added { HasCleanDisk (state S.Store tx.new.conn.now) → (first docs : List Doc) → Inside (state S.Store tx.old.conn.now) first docs → AreBelow place docs
         → OnOk result (Inside (state S.Store tx.new.conn.now) first (docs ++ record { place = place; coll = coll.now; idkey = idkey.now; body = body.now } ∷ [])) }
     ensures refused { HasCleanDisk (state S.Store tx.new.conn.now) → (first docs : List Doc) → Inside (state S.Store tx.old.conn.now) first docs
-        → IsTrue (state S.Store tx.new.conn.now).is_open → OnErr result (Keeps (state S.Store tx.new.conn.now) first) }
+        → IsTrue (state S.Store tx.new.conn.now).is_open → OnErr result (KeepsCommitted (state S.Store tx.new.conn.now) first) }
     ensures crash { Survives (state S.Store tx.old.conn.now) (state S.Store tx.new.conn.now) (λ _. ⊥) }
 {
     tx.execute(

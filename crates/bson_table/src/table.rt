@@ -3,9 +3,9 @@
 ghost use Rattle.std.specs.Prelude.{◌≡◌, length, false, IfOk, IfErr, IsErrAnd, IsErrOf};
 ghost use Rattle.sqlite.specs.Held.{state};
 ghost use Rattle.sqlite.specs.State.{HasCleanDisk, Survives};
-ghost use Rattle.bson_table.specs.Rows.{without, replaced};
-ghost use Rattle.bson_table.specs.Moves.{Moves, WasOpen, MayLeave, Settles, Finds, Changes, Appends, Lists, Visits, appended, all_appended};
-ghost use Rattle.bson_table.specs.Open.{Opened, Unopened, KeepsRows, Makes, HasNoTable, IsTaken};
+ghost use Rattle.bson_table.specs.Rows.{without_place, replaced};
+ghost use Rattle.bson_table.specs.Moves.{Moves, WasOpen, MayLeave, Settles, FindsRow, Changes, AddsRows, Lists, Visits, appended, all_appended};
+ghost use Rattle.bson_table.specs.Open.{Opened, Unopened, KeepsRows, Makes, HasNoTable, IsNameTaken};
 ghost use Rattle.sqlite_value.specs.Order.{column};
 ghost use Rattle.bson_table.specs.Cells.{int_in, bytes_in};
 
@@ -31,7 +31,7 @@ pub struct Table<S: Alter> {
 }
 
 impl<S: Alter + Drop> Table<S> {
-    ghost use Rattle.bson_table.specs.Table.{connection_of, state_of};
+    ghost use Rattle.bson_table.specs.Table.{connection_of, table_state};
 
     /// Opens the table, which is made where the database has none. A refusal gives the connection back, with its rows as they were.
     pub fn open<C: RowCheck>(
@@ -39,11 +39,11 @@ impl<S: Alter + Drop> Table<S> {
         mut connection: Connection<S>,
         check: &C,
     ) -> Result<Table<S>, (OpenError, Connection<S>)>
-        ensures opened { IfOk result (λ t. HasCleanDisk (state_of S.Store t) → Opened (C.accepts check.now) (state S.Store connection) (state_of S.Store t)) }
+        ensures opened { IfOk result (λ t. HasCleanDisk (table_state S.Store t) → Opened (C.accepts check.now) (state S.Store connection) (table_state S.Store t)) }
         ensures refused { IfErr result (λ e. HasCleanDisk (state S.Store e.1) → Unopened (C.accepts check.now) (state S.Store connection) (state S.Store e.1) e.0) }
         ensures kept { IfErr result (λ e. HasCleanDisk (state S.Store e.1) → KeepsRows (state S.Store connection) (state S.Store e.1)) }
-        ensures taken { (state S.Store connection).in_transaction ≡ false → HasNoTable (state S.Store connection) → IsTaken (state S.Store connection) → IsErrAnd result (λ e. e.0 ≡ OpenError.NotAStore) }
-        ensures crash { IfOk result (λ t. Survives (state S.Store connection) (state_of S.Store t) (Makes (state S.Store connection))) }
+        ensures taken { (state S.Store connection).in_transaction ≡ false → HasNoTable (state S.Store connection) → IsNameTaken (state S.Store connection) → IsErrAnd result (λ e. e.0 ≡ OpenError.NotAStore) }
+        ensures crash { IfOk result (λ t. Survives (state S.Store connection) (table_state S.Store t) (Makes (state S.Store connection))) }
         ensures crash_refused { IfErr result (λ e. Survives (state S.Store connection) (state S.Store e.1) (Makes (state S.Store connection))) }
     {
         match prepare(alloc, &mut connection, check) {
@@ -65,9 +65,9 @@ impl<S: Alter + Drop> Table<S> {
 
     /// The first row of the collection with this key.
     pub fn named(&mut self, coll: &str, idkey: &[u8]) -> Result<Option<Found>, Fault>
-        ensures moves { Moves (state_of S.Store self.old) (state_of S.Store self.new) (Finds coll.now idkey.now result) }
-        ensures open { WasOpen (state_of S.Store self.old) (state_of S.Store self.new) result }
-        ensures crash { Survives (state_of S.Store self.old) (state_of S.Store self.new) (λ _. ⊥) }
+        ensures moves { Moves (table_state S.Store self.old) (table_state S.Store self.new) (FindsRow coll.now idkey.now result) }
+        ensures open { WasOpen (table_state S.Store self.old) (table_state S.Store self.new) result }
+        ensures crash { Survives (table_state S.Store self.old) (table_state S.Store self.new) (λ _. ⊥) }
     {
         let rows = statements::named(&mut self.conn, coll, idkey)?;
         match rows.first() {
@@ -78,11 +78,11 @@ impl<S: Alter + Drop> Table<S> {
 
     /// Adds a row to the collection, at the place after the greatest one.
     pub fn append(&mut self, coll: &str, idkey: &[u8], body: &[u8]) -> Result<(), Fault>
-        ensures moves { Moves (state_of S.Store self.old) (state_of S.Store self.new) (Appends 1 (appended coll.now idkey.now body.now) result) }
-        ensures open { WasOpen (state_of S.Store self.old) (state_of S.Store self.new) result }
-        ensures crash { Survives (state_of S.Store self.old) (state_of S.Store self.new) (MayLeave (appended coll.now idkey.now body.now) (state_of S.Store self.old)) }
-        ensures settled { Settles (appended coll.now idkey.now body.now) (state_of S.Store self.old) (state_of S.Store self.new) result }
-        ensures full { IsErrOf result Fault.Places → Survives (state_of S.Store self.old) (state_of S.Store self.new) (λ _. ⊥) }
+        ensures moves { Moves (table_state S.Store self.old) (table_state S.Store self.new) (AddsRows 1 (appended coll.now idkey.now body.now) result) }
+        ensures open { WasOpen (table_state S.Store self.old) (table_state S.Store self.new) result }
+        ensures crash { Survives (table_state S.Store self.old) (table_state S.Store self.new) (MayLeave (appended coll.now idkey.now body.now) (table_state S.Store self.old)) }
+        ensures settled { Settles (appended coll.now idkey.now body.now) (table_state S.Store self.old) (table_state S.Store self.new) result }
+        ensures full { IsErrOf result Fault.Places → Survives (table_state S.Store self.old) (table_state S.Store self.new) (λ _. ⊥) }
     {
         let last = statements::greatest(&mut self.conn)?;
         let Some(place) = last.checked_add(1) else {
@@ -94,11 +94,11 @@ impl<S: Alter + Drop> Table<S> {
 
     /// Adds rows to the collection, at the places after the greatest one: all of them or, where the call is refused, none.
     pub fn append_all(&mut self, coll: &str, rows: &[NewRow]) -> Result<(), Fault>
-        ensures moves { Moves (state_of S.Store self.old) (state_of S.Store self.new) (Appends (length rows.now) (all_appended coll.now rows.now) result) }
-        ensures open { WasOpen (state_of S.Store self.old) (state_of S.Store self.new) result }
-        ensures crash { Survives (state_of S.Store self.old) (state_of S.Store self.new) (MayLeave (all_appended coll.now rows.now) (state_of S.Store self.old)) }
-        ensures settled { Settles (all_appended coll.now rows.now) (state_of S.Store self.old) (state_of S.Store self.new) result }
-        ensures full { IsErrOf result Fault.Places → Survives (state_of S.Store self.old) (state_of S.Store self.new) (λ _. ⊥) }
+        ensures moves { Moves (table_state S.Store self.old) (table_state S.Store self.new) (AddsRows (length rows.now) (all_appended coll.now rows.now) result) }
+        ensures open { WasOpen (table_state S.Store self.old) (table_state S.Store self.new) result }
+        ensures crash { Survives (table_state S.Store self.old) (table_state S.Store self.new) (MayLeave (all_appended coll.now rows.now) (table_state S.Store self.old)) }
+        ensures settled { Settles (all_appended coll.now rows.now) (table_state S.Store self.old) (table_state S.Store self.new) result }
+        ensures full { IsErrOf result Fault.Places → Survives (table_state S.Store self.old) (table_state S.Store self.new) (λ _. ⊥) }
     {
         let last = statements::greatest(&mut self.conn)?;
         if last.checked_add(rows.len() as i64).is_none() {
@@ -110,10 +110,10 @@ impl<S: Alter + Drop> Table<S> {
 
     /// Puts another body in the place of a row's.
     pub fn rewrite_at(&mut self, found: &Found, body: &[u8]) -> Result<(), Fault>
-        ensures moves { Moves (state_of S.Store self.old) (state_of S.Store self.new) (Changes (replaced found.now.place body.now) result) }
-        ensures open { WasOpen (state_of S.Store self.old) (state_of S.Store self.new) result }
-        ensures crash { Survives (state_of S.Store self.old) (state_of S.Store self.new) (MayLeave (replaced found.now.place body.now) (state_of S.Store self.old)) }
-        ensures settled { Settles (replaced found.now.place body.now) (state_of S.Store self.old) (state_of S.Store self.new) result }
+        ensures moves { Moves (table_state S.Store self.old) (table_state S.Store self.new) (Changes (replaced found.now.place body.now) result) }
+        ensures open { WasOpen (table_state S.Store self.old) (table_state S.Store self.new) result }
+        ensures crash { Survives (table_state S.Store self.old) (table_state S.Store self.new) (MayLeave (replaced found.now.place body.now) (table_state S.Store self.old)) }
+        ensures settled { Settles (replaced found.now.place body.now) (table_state S.Store self.old) (table_state S.Store self.new) result }
     {
         statements::rewrite_at(&mut self.conn, found.place, body)?;
         Ok(())
@@ -121,10 +121,10 @@ impl<S: Alter + Drop> Table<S> {
 
     /// Removes a row. The others keep their places.
     pub fn remove_at(&mut self, found: &Found) -> Result<(), Fault>
-        ensures moves { Moves (state_of S.Store self.old) (state_of S.Store self.new) (Changes (without found.now.place) result) }
-        ensures open { WasOpen (state_of S.Store self.old) (state_of S.Store self.new) result }
-        ensures crash { Survives (state_of S.Store self.old) (state_of S.Store self.new) (MayLeave (without found.now.place) (state_of S.Store self.old)) }
-        ensures settled { Settles (without found.now.place) (state_of S.Store self.old) (state_of S.Store self.new) result }
+        ensures moves { Moves (table_state S.Store self.old) (table_state S.Store self.new) (Changes (without_place found.now.place) result) }
+        ensures open { WasOpen (table_state S.Store self.old) (table_state S.Store self.new) result }
+        ensures crash { Survives (table_state S.Store self.old) (table_state S.Store self.new) (MayLeave (without_place found.now.place) (table_state S.Store self.old)) }
+        ensures settled { Settles (without_place found.now.place) (table_state S.Store self.old) (table_state S.Store self.new) result }
     {
         statements::remove_at(&mut self.conn, found.place)?;
         Ok(())
@@ -132,9 +132,9 @@ impl<S: Alter + Drop> Table<S> {
 
     /// The collections that have a row, ascending by the bytes of their names.
     pub fn collections(&mut self) -> Result<BTreeSet<Vec<u8>>, Fault>
-        ensures moves { Moves (state_of S.Store self.old) (state_of S.Store self.new) (Lists result) }
-        ensures open { WasOpen (state_of S.Store self.old) (state_of S.Store self.new) result }
-        ensures crash { Survives (state_of S.Store self.old) (state_of S.Store self.new) (λ _. ⊥) }
+        ensures moves { Moves (table_state S.Store self.old) (table_state S.Store self.new) (Lists result) }
+        ensures open { WasOpen (table_state S.Store self.old) (table_state S.Store self.new) result }
+        ensures crash { Survives (table_state S.Store self.old) (table_state S.Store self.new) (λ _. ⊥) }
     {
         let mut visitor = Names {
             names: BTreeSet::new(self.alloc),
@@ -161,10 +161,10 @@ impl<S: Alter + Drop> Table<S> {
     /// Hands each body of a collection to a visitor, in order of place, until it asks for no more: one row is read at a
     /// time, outside any transaction. True: all were taken. Other calls come after it only.
     pub fn visit_bodies<V: Visit>(&mut self, coll: &str, visitor: &mut V) -> Result<bool, Fault>
-        ensures moves { Moves (state_of S.Store self.old) (state_of S.Store self.new) (Visits (V.took visitor.old) visitor.old visitor.new coll.now result) }
+        ensures moves { Moves (table_state S.Store self.old) (table_state S.Store self.new) (Visits (V.took visitor.old) visitor.old visitor.new coll.now result) }
         ensures stopped { IfOk result (λ all. all ≡ false → V.is_done visitor.new) }
-        ensures open { WasOpen (state_of S.Store self.old) (state_of S.Store self.new) result }
-        ensures crash { Survives (state_of S.Store self.old) (state_of S.Store self.new) (λ _. ⊥) }
+        ensures open { WasOpen (table_state S.Store self.old) (table_state S.Store self.new) result }
+        ensures crash { Survives (table_state S.Store self.old) (table_state S.Store self.new) (λ _. ⊥) }
     {
         let all = visit_values(
             &mut self.conn,

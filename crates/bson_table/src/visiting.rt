@@ -4,7 +4,7 @@ ghost use Rattle.std.specs.Prelude.{◌≡◌, ℕ, List, [], ◌∷◌, ◌++�
 ghost use Rattle.sqlite.specs.Values.{bound};
 ghost use Rattle.sqlite.specs.Held.{state};
 ghost use Rattle.sqlite.specs.State.{HasCleanDisk, Survives};
-ghost use Rattle.bson_table.specs.Visit.{IsSelect, IsRead, TookAll, TookSome};
+ghost use Rattle.bson_table.specs.Visit.{IsSelect, ReadsRows, TookRows, TookSome};
 
 use crate::opening::bytes_at;
 use sqlite::types::ValueRef;
@@ -34,10 +34,10 @@ pub(crate) fn visit_values<S: Alter, V: Visit>(
 ) -> Result<bool, Error>
     requires { IsSelect sql.now }
     ensures whole { HasCleanDisk (state S.Store conn.new) → V.took visitor.old visitor.old []
-        → IfOk result (λ all. IsTrue all → TookAll (V.took visitor.old) visitor.new sql.now (bound params.now) (state S.Store conn.old) (state S.Store conn.new)) }
+        → IfOk result (λ all. IsTrue all → TookRows (V.took visitor.old) visitor.new sql.now (bound params.now) (state S.Store conn.old) (state S.Store conn.new)) }
     ensures some { HasCleanDisk (state S.Store conn.new) → V.took visitor.old visitor.old [] → TookSome (V.took visitor.old) visitor.new sql.now (bound params.now) (state S.Store conn.old) }
     ensures stopped { IfOk result (λ all. all ≡ false → V.is_done visitor.new) }
-    ensures read { HasCleanDisk (state S.Store conn.new) → IsRead (state S.Store conn.old) (state S.Store conn.new) result }
+    ensures read { HasCleanDisk (state S.Store conn.new) → ReadsRows (state S.Store conn.old) (state S.Store conn.new) result }
     ensures crash { Survives (state S.Store conn.old) (state S.Store conn.new) (λ _. ⊥) }
 {
     let mut rows = conn.query(sql, params)?;

@@ -6,7 +6,7 @@ use Rattle.std.proofs.Math.Dec.{leb}
 use Rattle.bson_base.specs.Kinds.{IsPlain}
 use Rattle.bson_base.specs.Value.{Value, document, Members, look_up}
 use Rattle.bson_bytes.specs.Encode.{encode, size}
-use Rattle.bson_meaning.specs.Gate.{size_limit}
+use Rattle.bson_frame.specs.Frame.{size_limit}
 use Rattle.bson_meaning.specs.Meaning.{key}
 use Rattle.bson_meaning.specs.declared.key.KeyError.{KeyError}
 use Rattle.bson_meaning.specs.declared.key.KeyError.TheVariants as faults

@@ -9,7 +9,7 @@ use Rattle.bson_meaning.specs.Gate.{IsRefused, Passes}
 use Rattle.bson_meaning.specs.declared.reading.GateError.{GateError}
 use Rattle.bson_model.specs.View.{members_of, pairs_of}
 use Rattle.bson_model.specs.declared.document.Document.{Document}
-use Rattle.store_laws.specs.Reading.{kind_of, readable, unreadable, IsRead, ReadsBytes}
+use Rattle.store_laws.specs.Reading.{kind_of_gate_error, readable, unreadable, IsRead, ReadsBytes}
 use Rattle.store_laws.specs.State.{IsKept}
 use Rattle.store_laws.specs.declared.error.ErrorKind.{ErrorKind}
 use Rattle.store_laws.specs.declared.error.ErrorKind.TheVariants.{Memory}
@@ -21,7 +21,7 @@ use Rattle.store_documents.specs.Answers.{AnswersBytes}
 abbrev pub Fails : List ℕ → ErrorKind → Type 0
 Fails bytes k = ReadsBytes bytes (unreadable k) ⊎ ((k ≡ Memory) × (d : Members) × ReadsBytes bytes (readable d))
 
-pub gate_fails : (bytes : List ℕ) (e : GateError) (k : ErrorKind) → IsRefused bytes e → k ≡ kind_of e → Fails bytes k
+pub gate_fails : (bytes : List ℕ) (e : GateError) (k : ErrorKind) → IsRefused bytes e → k ≡ kind_of_gate_error e → Fails bytes k
 gate_fails bytes e k h is = inl (e, h, is)
 
 pub memory_fails : (bytes : List ℕ) (k : ErrorKind) → Passes bytes → k ≡ Memory → Fails bytes k

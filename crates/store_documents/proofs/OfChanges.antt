@@ -4,7 +4,8 @@ use Rattle.std.specs.Prelude.{bytes_eq, is_some}
 use Rattle.bson_base.specs.Kinds.{IsPlain}
 use Rattle.bson_base.specs.Value.{Value, document, Members, no_members, member, has_key, levels, look_up, put, without, MembersHaveDistinctKeys}
 use Rattle.bson_bytes.specs.Encode.{size}
-use Rattle.bson_meaning.specs.Gate.{level_limit, size_limit}
+use Rattle.bson_frame.specs.Frame.{size_limit}
+use Rattle.bson_meaning.specs.Gate.{level_limit}
 use Rattle.bson_meaning.proofs.Ordered.{equal_keys}
 use Rattle.bson_model.specs.View.{members_of}
 use Rattle.bson_model.specs.Keyed.{has_key as has_pair, put as put_pair, without as without_pair}

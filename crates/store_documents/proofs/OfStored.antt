@@ -10,8 +10,8 @@ use Rattle.bson_bytes.specs.Spells.{Means, SpellsMembers, settle}
 use Rattle.bson_bytes.proofs.Lengths.{encode_length, framed_length}
 use Rattle.bson_bytes.proofs.One.{one_meaning}
 use Rattle.bson_bytes.proofs.Settled.{comes_back}
-use Rattle.bson_frame.specs.Frame.{Element}
-use Rattle.bson_meaning.specs.Gate.{Passes, size_limit}
+use Rattle.bson_frame.specs.Frame.{Element, size_limit}
+use Rattle.bson_meaning.specs.Gate.{Passes}
 use Rattle.bson_meaning.specs.Meaning.{key}
 use Rattle.bson_meaning.specs.declared.key.KeyError.{KeyError}
 use Rattle.bson_meaning.specs.declared.key.KeyError.TheVariants as faults

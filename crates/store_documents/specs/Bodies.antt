@@ -4,7 +4,8 @@ use Rattle.std.specs.declared.alloc.Global.{Global}
 use Rattle.bson_base.specs.Kinds.{IsPlain, IsSound}
 use Rattle.bson_base.specs.Value.{Value, document, Members, has_key, levels, without}
 use Rattle.bson_bytes.specs.Encode.{encode, size}
-use Rattle.bson_meaning.specs.Gate.{size_limit, level_limit}
+use Rattle.bson_frame.specs.Frame.{length_limit, size_limit}
+use Rattle.bson_meaning.specs.Gate.{level_limit}
 use Rattle.bson_meaning.specs.Meaning.{key}
 use Rattle.bson_meaning.specs.declared.key.KeyError.{KeyError}
 use Rattle.bson_meaning.specs.declared.key.KeyError.TheVariants as faults
@@ -22,7 +23,7 @@ use Rattle.store_documents.specs.declared.write.Written.{Written}
 pub record IsKeyOf (k : List ℕ) (id : Value) : Type 0 where
   pub sound : IsSound id
   pub plain : IsPlain id
-  pub short : length (key (only_id id)) ≤ 2147483647
+  pub short : length (key (only_id id)) ≤ length_limit
   pub key : k ≡ key (only_id id)
 
 -- what is told for an `_id` that has no key; none that is kept is such

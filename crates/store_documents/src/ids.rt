@@ -2,6 +2,7 @@
 
 ghost use Rattle.std.specs.Prelude.{◌≡◌, ◌<◌, length, IfOk, Err};
 ghost use Rattle.bson_base.specs.Kinds.{IsPlain, IsSound};
+ghost use Rattle.bson_frame.specs.Frame.{length_limit};
 ghost use Rattle.bson_meaning.specs.Meaning.{key};
 ghost use Rattle.bson_meaning.specs.declared.key.KeyError.TheVariants as KeyErrors;
 ghost use Rattle.bson_model.specs.View.{view, members_of, pairs_of};
@@ -35,7 +36,7 @@ pub fn key_of_id(alloc: Global, id: &Bson) -> Result<Vec<u8>, KeyError>
     ensures ok { IfOk result (λ k. IsKeyOf k.items (view id.now)) }
     ensures sound { IsSound (view id.now) }
     ensures not_plain { result ≡ Err KeyErrors.NotPlain → IsPlain (view id.now) → ⊥ }
-    ensures too_long { result ≡ Err KeyErrors.TooLong → 2147483647 < length (key (only_id (view id.now))) }
+    ensures too_long { result ≡ Err KeyErrors.TooLong → length_limit < length (key (only_id (view id.now))) }
 {
     soundness(id);
     let document = id_alone(alloc, id)?;

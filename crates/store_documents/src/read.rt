@@ -8,7 +8,7 @@ ghost use Rattle.bson_bytes.specs.Spells.{Means};
 ghost use Rattle.bson_meaning.specs.Meaning.{asc_members, norm_members};
 ghost use Rattle.bson_model.specs.View.{members_of, pairs_of};
 ghost use Rattle.bson_model.specs.declared.extjson.de.Error.TheVariants as json_faults;
-ghost use Rattle.store_laws.specs.Reading.{IsRead, IsUnfit, Keeps, ReadsTree, kind_of, readable, unreadable};
+ghost use Rattle.store_laws.specs.Reading.{IsRead, IsUnfit, Keeps, ReadsTree, kind_of_gate_error, readable, unreadable};
 ghost use Rattle.store_laws.specs.declared.error.ErrorKind.TheVariants.{JsonRefused, Memory, NotAnObject};
 ghost use Rattle.store_documents.specs.Answers.{AnswersBytes, AnswersTree, AnswersValue};
 
@@ -28,7 +28,7 @@ pub(crate) const LEVELS: usize = 100;
 
 /// The refusal for a test of the gate.
 pub(crate) fn gate_refusal(error: GateError) -> ErrorKind
-    ensures { result ≡ kind_of error }
+    ensures { result ≡ kind_of_gate_error error }
 {
     match error {
         GateError::EndInside => ErrorKind::EndInside,

@@ -16,9 +16,6 @@ use bson_model::Document;
 use std::alloc::Global;
 use store_laws::ErrorKind;
 
-/// The greatest number of bytes of a document that is kept.
-const LIMIT: usize = 16777216;
-
 /// A document as it is kept.
 #[derive(Debug, Drop)]
 pub struct Written {
@@ -63,7 +60,7 @@ pub(crate) fn body_of(alloc: Global, document: &Document) -> Result<Vec<u8>, Err
         return Err(ErrorKind::Nul);
     }
     let bytes = encoded(alloc, document)?;
-    if bytes.len() > LIMIT {
+    if bytes.len() > frames::SIZE_LIMIT {
         return Err(ErrorKind::TooLong);
     }
     Ok(bytes)

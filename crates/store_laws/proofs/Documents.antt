@@ -4,7 +4,7 @@ use Rattle.std.specs.Prelude.{MatchOption, nat_lt}
 use Rattle.bson_bytes.specs.Encode.{size}
 use Rattle.store_laws.specs.Filter.{Filter, SameFilter}
 use Rattle.bson_meaning.specs.Meaning.{Same}
-use Rattle.bson_meaning.specs.Gate.{size_limit}
+use Rattle.bson_frame.specs.Frame.{size_limit}
 use Rattle.store_laws.specs.Reading.{Documents, IsRead, AreRead}
 use Rattle.store_laws.specs.Same.{SameOption, SameDocuments}
 use Rattle.store_laws.specs.State.{id_key, HasId, SomeHasId, NoneHasId, IsTaken, AtId, When, refusal_of, Picks}

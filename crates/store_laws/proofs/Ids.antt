@@ -4,7 +4,7 @@ use Rattle.std.specs.Prelude.{bytes_eq, IsSomeAnd, IsUtf8, option_map, unwrap_or
 use Rattle.bson_base.specs.Kinds.{HasNo00, IsPlainScalar, IsCleanScalar, IsRangedScalar, IsSound, IsPlain, IsClean}
 use Rattle.bson_base.specs.Value.{Value, document, Members, no_members, member, look_up}
 use Rattle.bson_bytes.specs.Encode.{value_size, members_size, encode, size}
-use Rattle.bson_meaning.specs.Gate.{size_limit}
+use Rattle.bson_frame.specs.Frame.{size_limit}
 use Rattle.bson_meaning.specs.Meaning.{key, Same}
 use Rattle.store_laws.specs.State.{id_key, HasId, IsKept}
 use Rattle.store_laws.specs.Table.{only_id, own_id}

@@ -4,7 +4,8 @@ use Rattle.std.specs.Prelude.{bytes_eq, is_some, IsSomeAnd, MatchOption}
 use Rattle.std.proofs.lemmas.Bool.{ltb-false}
 use Rattle.bson_base.specs.Value.{Value, document, Members, no_members, member, look_up, has_key, without, put, levels, HasDistinctKeys}
 use Rattle.bson_bytes.specs.Encode.{size, members_size}
-use Rattle.bson_meaning.specs.Gate.{size_limit, level_limit}
+use Rattle.bson_frame.specs.Frame.{size_limit}
+use Rattle.bson_meaning.specs.Gate.{level_limit}
 use Rattle.bson_meaning.specs.Meaning.{Same}
 use Rattle.store_laws.specs.Reading.{Documents, readable, unreadable, IsRead, AreRead}
 use Rattle.store_laws.specs.Same.{SameDocuments, SameOption}

@@ -11,8 +11,8 @@ use Rattle.bson_meaning.specs.Gate.{level_limit, IsFaultyOrDeep}
 use Rattle.bson_meaning.specs.JsonTrees.{IsJson, IsJsonObject}
 use Rattle.bson_meaning.specs.declared.reading.GateError.{GateError}
 use Rattle.bson_meaning.specs.declared.reading.GateError.TheVariants as gate
-use Rattle.store_laws.specs.Reading.{Documents, Reading, readable, unreadable, kind_of, ReadsBytes, IsUnfit, KeepsRead, ReadsTree, value_of, read_value, ReadsEach, IsUncut, Cuts, ReadsStream, ReadsTrees, IsRead, AreRead, IsReadingKind, IsReading, IsStop, AreAllJson, MayBoth}
-use Rattle.store_laws.specs.State.{IsValue}
+use Rattle.store_laws.specs.Reading.{Documents, Reading, readable, unreadable, kind_of_gate_error, ReadsBytes, IsUnfit, KeepsRead, ReadsTree, value_of, read_value, ReadsEach, IsUncut, Cuts, ReadsStream, ReadsTrees, IsRead, AreRead, IsReadingKind, IsReading, IsStop, AreAllJson, MayBoth}
+use Rattle.store_laws.specs.State.{IsSoundIfAny}
 use Rattle.store_laws.specs.declared.error.ErrorKind.{ErrorKind}
 use Rattle.store_laws.specs.declared.error.ErrorKind.TheVariants.{EndInside, BadLength, TooDeep, Nul}
 use Rattle.bson_bytes.proofs.Meant.{meaning_is_clean, meaning_is_sound}
@@ -25,7 +25,7 @@ use Rattle.bson_meaning.proofs.OneRefusal.{one_refusal as one_of_gate}
 
 -- ---- bytes
 
-gate_kind : (e : GateError) → IsReadingKind (kind_of e)
+gate_kind : (e : GateError) → IsReadingKind (kind_of_gate_error e)
 gate_kind gate.EndInside = tt
 gate_kind gate.BadLength = tt
 gate_kind gate.NotTerminated = tt
@@ -57,10 +57,10 @@ pub tree_read : (j : Data) (a : Reading) → IsJson j → ReadsTree j a → IsRe
 tree_read (object js) a i h = kept_reading js (read_members js) a refl i h
 tree_read _ a i h = subst IsReading (sym h) tt
 
-pub value_read : (j : Data) → IsJson j → IsValue (read_value j)
+pub value_read : (j : Data) → IsJson j → IsSoundIfAny (read_value j)
 value_read j i = by (read j) refl
   where
-    by : (r : Result Value Error) → read j ≡ r → IsValue (value_of r)
+    by : (r : Result Value Error) → read j ≡ r → IsSoundIfAny (value_of r)
     by (Ok v) e = value_sound j v i e
     by (Err x) e = tt
 
@@ -114,7 +114,7 @@ one_document bytes d e h k = one_meaning bytes d e h.1 k.1
 pub not_both : (bytes : List ℕ) (d : Members) (k : ErrorKind) → ReadsBytes bytes (readable d) → ReadsBytes bytes (unreadable k) → ⊥
 not_both bytes d k h r = one_of_the_gate bytes r.0 h.0 r.1
 
-may_both : (e : GateError) → IsFaultyOrDeep e → MayBoth (kind_of e)
+may_both : (e : GateError) → IsFaultyOrDeep e → MayBoth (kind_of_gate_error e)
 may_both gate.Faulty h = tt
 may_both gate.TooDeep h = tt
 may_both gate.EndInside h = absurd h
@@ -125,7 +125,7 @@ pub one_refusal : (bytes : List ℕ) (k l : ErrorKind) → ReadsBytes bytes (unr
 one_refusal bytes k l (e, r, i) (f, s, j) = by (one_of_gate bytes e f r s)
   where
     by : (e ≡ f) ⊎ (IsFaultyOrDeep e × IsFaultyOrDeep f) → (k ≡ l) ⊎ (MayBoth k × MayBoth l)
-    by (inl same) = inl (i ∙ ap kind_of same ∙ sym j)
+    by (inl same) = inl (i ∙ ap kind_of_gate_error same ∙ sym j)
     by (inr both) = inr (subst MayBoth (sym i) (may_both e both.0), subst MayBoth (sym j) (may_both f both.1))
 
 -- ---- one reading of a tree

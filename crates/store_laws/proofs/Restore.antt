@@ -10,11 +10,11 @@ use Rattle.bson_base.specs.Kinds.{IsPlain, IsSound}
 use Rattle.bson_base.specs.Value.{Value, scalar, array, document, scoped_code, Items, no_items, item, Members, no_members, member, look_up, levels}
 use Rattle.bson_bytes.specs.Encode.{members_bytes, encode, size}
 use Rattle.bson_bytes.specs.Spells.{SpellsMembers, Means}
-use Rattle.bson_frame.specs.Frame.{number as declared}
+use Rattle.bson_frame.specs.Frame.{number as declared, size_limit}
 use Rattle.bson_model.specs.JsonWrite.{write, write_members}
 use Rattle.bson_model.specs.declared.extjson.ser.Mode.{Mode}
 use Rattle.bson_model.specs.declared.extjson.ser.Mode.TheVariants.{Canonical}
-use Rattle.bson_meaning.specs.Gate.{size_limit, level_limit, IsCounted, Passes}
+use Rattle.bson_meaning.specs.Gate.{level_limit, IsCounted, Passes}
 use Rattle.bson_meaning.specs.JsonReserved.{has_reserved}
 use Rattle.bson_meaning.specs.Meaning.{norm, norm_members, place, asc, asc_items, asc_members, Same}
 use Rattle.store_laws.specs.Reading.{Documents, Reading, readable, unreadable, ReadsBytes, IsUnfit, KeepsRead, ReadsTree, ReadsEach, IsUncut, Cuts, ReadsStream, ReadsTrees, IsRead, AreRead}

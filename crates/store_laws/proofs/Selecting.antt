@@ -1,7 +1,7 @@
 -- A filter selects both or neither of two values that mean the same.
 use Rattle.std.proofs.Common.{◌≡◌, ◌↔◌, inl, inr, ℕ, suc, List, [], ◌∷◌, Bool, true, false, cond, Option, Some, None, refl, ◌∙◌, sym, subst}
 use Rattle.std.specs.Prelude.{bytes_eq, is_some, IsSomeAnd, option_and_then, decimal as digits}
-use Rattle.store_laws.specs.Filter.{keyed, pairs, at, Filter, equals, exists, is_of, no, all_of, any_of, Filters, no_filters, filter, IsSoundFilter, AreSoundFilters, Selects, SelectsAll, SelectsAny, SameFilter, SameFilters}
+use Rattle.store_laws.specs.Filter.{under_places, pairs, at, Filter, equals, exists, is_of, no, all_of, any_of, Filters, no_filters, filter, IsSoundFilter, AreSoundFilters, Selects, SelectsAll, SelectsAny, SameFilter, SameFilters}
 use Rattle.bson_model.specs.Equal.{SameKeys}
 use Rattle.bson_meaning.specs.Meaning.{Same, SameItems, SameUnder}
 use Rattle.store_laws.specs.Same.{SameOption}
@@ -32,11 +32,11 @@ joined (Some v) (Some w) h f = f v refl
 pub same_look_up : (ms ns : Members) (q : List ℕ) → SameKeys ms ns → SameUnder ms ns → SameOption (look_up q ms) (look_up q ns)
 same_look_up ms ns q keys under = joined (look_up q ms) (look_up q ns) (keys q) (under_key ms ns under q)
 
-same_keyed : (i : ℕ) (vs ws : Items) (q : List ℕ) → SameItems vs ws → SameOption (look_up q (keyed i vs)) (look_up q (keyed i ws))
+same_keyed : (i : ℕ) (vs ws : Items) (q : List ℕ) → SameItems vs ws → SameOption (look_up q (under_places i vs)) (look_up q (under_places i ws))
 same_keyed i no_items no_items q h = tt
 same_keyed i (item v vs) (item w ws) q h = by (bytes_eq q (digits i)) (same_keyed (suc i) vs ws q h.1)
   where
-    by : (b : Bool) → SameOption (look_up q (keyed (suc i) vs)) (look_up q (keyed (suc i) ws)) → SameOption (cond b (Some v) (look_up q (keyed (suc i) vs))) (cond b (Some w) (look_up q (keyed (suc i) ws)))
+    by : (b : Bool) → SameOption (look_up q (under_places (suc i) vs)) (look_up q (under_places (suc i) ws)) → SameOption (cond b (Some v) (look_up q (under_places (suc i) vs))) (cond b (Some w) (look_up q (under_places (suc i) ws)))
     by true r = h.0
     by false r = r
 same_keyed i _ _ q h = absurd h
@@ -71,11 +71,11 @@ look_up_distinct (member k v ms) q h = by (bytes_eq q k) (look_up_distinct ms q 
     by true r = h.1
     by false r = r
 
-keyed_distinct : (i : ℕ) (vs : Items) (q : List ℕ) → ItemsHaveDistinctKeys vs → Distinct? (look_up q (keyed i vs))
+keyed_distinct : (i : ℕ) (vs : Items) (q : List ℕ) → ItemsHaveDistinctKeys vs → Distinct? (look_up q (under_places i vs))
 keyed_distinct i no_items q h = tt
 keyed_distinct i (item v vs) q h = by (bytes_eq q (digits i)) (keyed_distinct (suc i) vs q h.1)
   where
-    by : (b : Bool) → Distinct? (look_up q (keyed (suc i) vs)) → Distinct? (cond b (Some v) (look_up q (keyed (suc i) vs)))
+    by : (b : Bool) → Distinct? (look_up q (under_places (suc i) vs)) → Distinct? (cond b (Some v) (look_up q (under_places (suc i) vs)))
     by true r = h.0
     by false r = r
 

@@ -9,7 +9,8 @@ use Rattle.bson_bytes.specs.Encode.{encode, size}
 use Rattle.bson_model.specs.JsonWrite.{write}
 use Rattle.bson_model.specs.declared.extjson.ser.Mode.{Mode}
 use Rattle.bson_model.specs.declared.extjson.ser.Mode.TheVariants.{Canonical}
-use Rattle.bson_meaning.specs.Gate.{size_limit, level_limit}
+use Rattle.bson_frame.specs.Frame.{size_limit}
+use Rattle.bson_meaning.specs.Gate.{level_limit}
 use Rattle.bson_meaning.specs.JsonReserved.{has_reserved}
 use Rattle.bson_meaning.specs.Meaning.{Same}
 use Rattle.store_laws.specs.Reading.{Documents, Reading, readable, unreadable, IsRead, AreRead, IsReading, IsReadingKind, IsStop}

@@ -4,10 +4,10 @@ use Rattle.serde_json.specs.Data.{Data, object}
 use Rattle.bson_base.specs.Kinds.{IsPlain, IsClean, IsSound}
 use Rattle.bson_base.specs.Value.{Value, document, Members, levels}
 use Rattle.bson_bytes.specs.Spells.{Means}
-use Rattle.bson_frame.specs.Frame.{number}
+use Rattle.bson_frame.specs.Frame.{number, size_limit}
 use Rattle.bson_model.specs.JsonRead.{read, read_members}
 use Rattle.bson_model.specs.declared.extjson.de.Error.{Error}
-use Rattle.bson_meaning.specs.Gate.{size_limit, level_limit, IsCounted, IsRefused, Passes}
+use Rattle.bson_meaning.specs.Gate.{level_limit, IsCounted, IsRefused, Passes}
 use Rattle.bson_meaning.specs.JsonTrees.{IsJson}
 use Rattle.bson_meaning.specs.Meaning.{norm_members, asc_members}
 use Rattle.bson_meaning.specs.declared.reading.GateError.{GateError}
@@ -26,16 +26,16 @@ pub data Reading : Type 0 where
 -- ---- one document
 
 -- the kind that is told for a test of the gate
-abbrev pub kind_of : GateError → ErrorKind
-kind_of gate.EndInside = EndInside
-kind_of gate.BadLength = BadLength
-kind_of gate.NotTerminated = NotTerminated
-kind_of gate.Faulty = Faulty
-kind_of gate.TooDeep = TooDeep
+abbrev pub kind_of_gate_error : GateError → ErrorKind
+kind_of_gate_error gate.EndInside = EndInside
+kind_of_gate_error gate.BadLength = BadLength
+kind_of_gate_error gate.NotTerminated = NotTerminated
+kind_of_gate_error gate.Faulty = Faulty
+kind_of_gate_error gate.TooDeep = TooDeep
 
 abbrev pub ReadsBytes : List ℕ → Reading → Type 0
 ReadsBytes bytes (readable d) = Passes bytes × Means bytes d
-ReadsBytes bytes (unreadable k) = (e : GateError) × IsRefused bytes e × (k ≡ kind_of e)
+ReadsBytes bytes (unreadable k) = (e : GateError) × IsRefused bytes e × (k ≡ kind_of_gate_error e)
 
 -- over 100 levels; or no more, and a 00 in a key, a pattern or options
 abbrev pub IsUnfit : Members → ErrorKind → Type 0

@@ -5,23 +5,23 @@ use Rattle.bson_bytes.specs.Encode.{encode}
 use Rattle.store_laws.specs.Filter.{Path}
 use Rattle.store_laws.specs.State.{id_key}
 
-abbrev pub one : Value
-one = scalar (int32 (pos 1))
+abbrev pub int_one : Value
+int_one = scalar (int32 (pos 1))
 
 abbrev pub a_text : Value
 a_text = scalar (string (codes "a"))
 
 -- {_id: 1, v: ["a"]}
 abbrev pub with_array : Members
-with_array = member id_key one (member (codes "v") (array (item a_text no_items)) no_members)
+with_array = member id_key int_one (member (codes "v") (array (item a_text no_items)) no_members)
 
 -- {_id: 1, a: value}
 abbrev pub with_a : Value → Members
-with_a v = member id_key one (member (codes "a") v no_members)
+with_a v = member id_key int_one (member (codes "a") v no_members)
 
 -- {_id: 1}
 abbrev pub with_id : Members
-with_id = member id_key one no_members
+with_id = member id_key int_one no_members
 
 -- {_id: 2}
 abbrev pub with_two : Members

@@ -14,7 +14,8 @@ use Rattle.bson_bytes.specs.Encode.{encode, size}
 use Rattle.bson_model.specs.JsonWrite.{write}
 use Rattle.bson_model.specs.declared.extjson.ser.Mode.{Mode}
 use Rattle.bson_model.specs.declared.extjson.ser.Mode.TheVariants.{Canonical}
-use Rattle.bson_meaning.specs.Gate.{size_limit, level_limit}
+use Rattle.bson_frame.specs.Frame.{size_limit}
+use Rattle.bson_meaning.specs.Gate.{level_limit}
 use Rattle.bson_meaning.specs.JsonReserved.{has_reserved}
 use Rattle.bson_meaning.specs.Meaning.{norm, asc, Same}
 use Rattle.store_laws.specs.Filter.{Filter, Selects, IsSoundFilter}
@@ -279,15 +280,15 @@ pub record IsStore (s : State) : Type 0 where
 
 -- ---- what every command is
 
-abbrev pub IsValue : Option Value → Type 0
-IsValue None = Unit {0}
-IsValue (Some v) = IsSound v
+abbrev pub IsSoundIfAny : Option Value → Type 0
+IsSoundIfAny None = Unit {0}
+IsSoundIfAny (Some v) = IsSound v
 
 -- what comes in is as it is read, and values and keys are such as are spoken of
 abbrev pub IsCall : Call → Type 0
 IsCall (insert f a) = IsReading a
 IsCall (replace f a) = IsReading a
-IsCall (set id k a) = IsSound id × IsUtf8 k × IsValue a
+IsCall (set id k a) = IsSound id × IsUtf8 k × IsSoundIfAny a
 IsCall (unset id k) = IsSound id
 IsCall (remove id) = IsSound id
 IsCall (get_raw id) = IsSound id

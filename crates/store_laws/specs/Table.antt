@@ -40,13 +40,13 @@ abbrev pub greatest : Table → ℕ
 greatest [] = 0
 greatest (r ∷ rs) = max r.place (greatest rs)
 
-abbrev pub last_place : ℕ
-last_place = 9223372036854775807
+abbrev pub greatest_place : ℕ
+greatest_place = 9223372036854775807
 
 -- the places after n, one after the other, and none past the last
 abbrev pub TakePlaces : ℕ → Table → Type 0
 TakePlaces n [] = Unit {0}
-TakePlaces n (r ∷ rs) = (r.place ≡ suc n) × (r.place ≤ last_place) × TakePlaces (suc n) rs
+TakePlaces n (r ∷ rs) = (r.place ≡ suc n) × (r.place ≤ greatest_place) × TakePlaces (suc n) rs
 
 -- Rows came behind the last, at the places after the greatest one; or one row went, or has another document. Every other row is as it was.
 abbrev pub Follows : Table → Table → Type 0
@@ -70,7 +70,7 @@ IsRefusal _ = ⊥
 
 -- the greatest place plus the new documents passes the last place there is, and the step alone would refuse nothing
 abbrev pub WantsPlaces : Table → Command → Type 0
-WantsPlaces a c = (last_place < greatest a + new_documents c) × (r : Reply) × (t : State) × Step (state_of a) c r t × (IsRefusal r → ⊥)
+WantsPlaces a c = (greatest_place < greatest a + new_documents c) × (r : Reply) × (t : State) × Step (state_of a) c r t × (IsRefusal r → ⊥)
 
 -- nothing is denied of a command that is decided before anything grows, and places are where the table wants them
 abbrev pub MayBeDenied : Option Denial → Table → Command → Type 0

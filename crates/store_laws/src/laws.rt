@@ -7,14 +7,14 @@ ghost use Rattle.serde_json.specs.Data.{Data, object, Members as JsonMembers};
 ghost use Rattle.bson_base.specs.Kinds.{AreBytes, IsPlain, IsSound};
 ghost use Rattle.bson_base.specs.Value.{Value, document, Members, no_members};
 ghost use Rattle.bson_bytes.specs.Encode.{encode, size};
-ghost use Rattle.bson_meaning.specs.Gate.{size_limit};
+ghost use Rattle.bson_frame.specs.Frame.{length_limit, size_limit};
 ghost use Rattle.bson_meaning.specs.JsonTrees.{IsJson};
 ghost use Rattle.bson_meaning.specs.Meaning.{Same, asc_members, key, norm_members};
 ghost use Rattle.store_laws.specs.Filter.{at, equals, is_of, no, any_of, no_filters, Filter, Path, SameFilter, Selects, IsSoundFilter, frames};
-ghost use Rattle.store_laws.specs.Rows.{one, a_text, with_array, with_a, with_id, with_two, to_v, broken_stream};
+ghost use Rattle.store_laws.specs.Rows.{int_one, a_text, with_array, with_a, with_id, with_two, to_v, broken_stream};
 ghost use Rattle.store_laws.specs.declared.error.ErrorKind.TheVariants.{BadKey, JsonRefused, EndInside, BadLength, NoId, DuplicateId};
 ghost use Rattle.store_laws.specs.Reading.{Documents, Reading, readable, unreadable, read_value, ReadsBytes, ReadsTree, Cuts, ReadsStream, ReadsTrees, AreAllJson, AreRead, IsReading, IsStop, MayBoth};
-ghost use Rattle.store_laws.specs.State.{State, HasId, id_key, Call, in_bytes, in_json, replace, set, unset, import, export, first_refusal, done, flag, refused, dump, Command, on, Reply, number, bytes, json_list, Answers, IsName, Step, IsCommand, AreCommands, IsKept, AreKept, HaveOwnIds, IsStore, IsValue, list_of, store};
+ghost use Rattle.store_laws.specs.State.{State, HasId, id_key, Call, in_bytes, in_json, replace, set, unset, import, export, first_refusal, done, flag, refused, dump, Command, on, Reply, number, bytes, json_list, Answers, IsName, Step, IsCommand, AreCommands, IsKept, AreKept, HaveOwnIds, IsStore, IsSoundIfAny, list_of, store};
 ghost use Rattle.store_laws.specs.declared.error.ErrorKind.{ErrorKind as Kind};
 ghost use Rattle.store_laws.specs.Same.{SameStates, SameCommand, SameCommands, SameReply, SameReplies};
 ghost use Rattle.store_laws.specs.Run.{Denials, Run, SparesDecided, IsUnread, asked, told};
@@ -23,7 +23,7 @@ ghost use Rattle.store_laws.specs.Table.{Follows, Row, Table, state_of, document
 /// A filter selects both or neither of two values of the same meaning, and so do two filters of one shape with values of the
 /// same meaning.
 pub fn filters_go_by_meaning()
-    ensures one { (f : Filter) (v w : Value) → IsSoundFilter f → IsSound v → IsSound w → Same v w
+    ensures int_one { (f : Filter) (v w : Value) → IsSoundFilter f → IsSound v → IsSound w → Same v w
         → Selects f v ↔ Selects f w }
     ensures two { (f g : Filter) (v w : Value) → SameFilter f g → IsSound v → IsSound w → Same v w
         → Selects f v ↔ Selects g w }
@@ -88,7 +88,7 @@ pub fn tables_run_as_states()
 pub fn readings_are_sound()
     ensures bytes { (bs : List ℕ) (a : Reading) → AreBytes bs → ReadsBytes bs a → IsReading a }
     ensures tree { (j : Data) (a : Reading) → IsJson j → ReadsTree j a → IsReading a }
-    ensures value { (j : Data) → IsJson j → IsValue (read_value j) }
+    ensures value { (j : Data) → IsJson j → IsSoundIfAny (read_value j) }
     ensures stream { (bs : List ℕ) (ds : Documents) (stop : Option Kind) → AreBytes bs → ReadsStream bs ds stop → AreRead ds × IsStop stop }
     ensures trees { (js : List Data) (ds : Documents) (stop : Option Kind) → AreAllJson js → ReadsTrees js ds stop → AreRead ds × IsStop stop }
 {}
@@ -177,12 +177,12 @@ pub fn worked_rows()
     ensures cut { Cuts broken_stream (encode with_id ∷ []) (Some BadLength) }
     ensures empty { ReadsStream [] [] None }
     ensures few { ReadsStream (0x1F ∷ 0 ∷ 0 ∷ []) [] (Some EndInside) }
-    ensures set_a { Answers (set one (codes "a") (Some a_text)) (with_a one ∷ with_two ∷ []) done (with_a a_text ∷ with_two ∷ []) }
-    ensures set_id { Answers (set one id_key (Some a_text)) (with_a one ∷ []) (refused BadKey None) (with_a one ∷ []) }
-    ensures set_none { Answers (set one (codes "a") None) [] (refused JsonRefused None) [] }
-    ensures unset_a { Answers (unset one (codes "a")) (with_a one ∷ []) (flag true) (with_id ∷ []) }
-    ensures unset_again { Answers (unset one (codes "a")) (with_id ∷ []) (flag false) (with_id ∷ []) }
-    ensures in_its_place { Answers (replace in_bytes (readable (with_a one))) (with_id ∷ with_two ∷ []) done (with_a one ∷ with_two ∷ []) }
+    ensures set_a { Answers (set int_one (codes "a") (Some a_text)) (with_a int_one ∷ with_two ∷ []) done (with_a a_text ∷ with_two ∷ []) }
+    ensures set_id { Answers (set int_one id_key (Some a_text)) (with_a int_one ∷ []) (refused BadKey None) (with_a int_one ∷ []) }
+    ensures set_none { Answers (set int_one (codes "a") None) [] (refused JsonRefused None) [] }
+    ensures unset_a { Answers (unset int_one (codes "a")) (with_a int_one ∷ []) (flag true) (with_id ∷ []) }
+    ensures unset_again { Answers (unset int_one (codes "a")) (with_id ∷ []) (flag false) (with_id ∷ []) }
+    ensures in_its_place { Answers (replace in_bytes (readable (with_a int_one))) (with_id ∷ with_two ∷ []) done (with_a int_one ∷ with_two ∷ []) }
     ensures again { Answers (import (with_two ∷ with_id ∷ []) None) (with_id ∷ []) (refused DuplicateId (Some 1)) (with_id ∷ []) }
 {}
 
@@ -192,7 +192,7 @@ pub fn ids_go_by_keys()
     ensures plain { (d : Members) (id : Value) → IsKept d → IsSound id → HasId id d → IsPlain id }
     ensures short { (d : Members) (id : Value) → IsKept d → IsSound id → HasId id d → length (key (only_id id)) ≤ size_limit }
     ensures keys { (d : Members) (id : Value) → IsKept d → IsSound id → HasId id d → key (only_id id) ≡ key (own_id d) }
-    ensures back { (d : Members) (id : Value) → IsKept d → IsSound id → IsPlain id → length (key (only_id id)) ≤ 2147483647
+    ensures back { (d : Members) (id : Value) → IsKept d → IsSound id → IsPlain id → length (key (only_id id)) ≤ length_limit
         → key (only_id id) ≡ key (own_id d) → HasId id d }
 {}
 

@@ -19,7 +19,7 @@ use Rattle.store_laws.proofs.Unmoved.{unmoved}
 use Rattle.bson_store.specs.Shown.{Show}
 use Rattle.bson_store.specs.Calls.{Does, DoesTree}
 use Rattle.bson_store.specs.Dump.{HandsTrees}
-use Rattle.bson_store.specs.Export.{Tally, Sends}
+use Rattle.bson_store.specs.Export.{Tally, SendsCollection}
 use Rattle.bson_store.specs.Refusals.{reply_by}
 use Rattle.bson_store.specs.declared.error.StoreError.{StoreError}
 use Rattle.bson_store.proofs.Moving.{rests, moved, moved_twice}
@@ -131,15 +131,15 @@ pub tree_performs : {A : Type 0} (s t : Connected) (Meant : Command → Type 0) 
 tree_performs s t Meant n call j f g outcome result meant accepts is m = subst (λ p. Moves s t (Performs Meant p)) (sym is) (tree_asked s t Meant n call j f g outcome meant accepts m)
 
 -- an export went out, or was refused
-pub sent : (s t : Connected) (Meant : Command → Type 0) (n : List ℕ) (old new : Tally) → Meant (on n export) → Moves s t (Sends n old new (Ok tt)) → Moves s t (Prints Meant (Ok tt))
-sent s t Meant n old new meant m = moved s t (Sends n old new (Ok tt)) (Prints Meant (Ok tt)) m (λ docs after h a shown. let out = bytes (flat_map encode (documents_of a n)) in (
+pub sent : (s t : Connected) (Meant : Command → Type 0) (n : List ℕ) (old new : Tally) → Meant (on n export) → Moves s t (SendsCollection n old new (Ok tt)) → Moves s t (Prints Meant (Ok tt))
+sent s t Meant n old new meant m = moved s t (SendsCollection n old new (Ok tt)) (Prints Meant (Ok tt)) m (λ docs after h a shown. let out = bytes (flat_map encode (documents_of a n)) in (
   a,
   subst (λ d. Show d a) (sym h.same) shown,
   (on n export, meant, out, (λ no. no), stay a n export out (h.exports a shown).0 (refl, refl)),
 ))
 
-pub not_sent : (s t : Connected) (Meant : Command → Type 0) (n : List ℕ) (old new : Tally) (e : StoreError) → Moves s t (Sends n old new (Err e)) → Moves s t (Prints Meant (Err (Refused e)))
-not_sent s t Meant n old new e m = moved s t (Sends n old new (Err e)) (Prints Meant (Err (Refused e))) m (λ docs after h a shown. (a, subst (λ d. Show d a) (sym h.same) shown, inl refl))
+pub not_sent : (s t : Connected) (Meant : Command → Type 0) (n : List ℕ) (old new : Tally) (e : StoreError) → Moves s t (SendsCollection n old new (Err e)) → Moves s t (Prints Meant (Err (Refused e)))
+not_sent s t Meant n old new e m = moved s t (SendsCollection n old new (Err e)) (Prints Meant (Err (Refused e))) m (λ docs after h a shown. (a, subst (λ d. Show d a) (sym h.same) shown, inl refl))
 
 -- the trees of a list were asked for, and then all printed
 pub dumped : {T U : Type 0} (s t u : Connected) (Meant : Command → Type 0) (n : List ℕ) (asked : T → List Data → Type 0) (printed : U → List Data → Type 0) (P Q : StoreError → Type 0) (x : T) (y : U) → Meant (on n dump)

@@ -10,7 +10,7 @@ use Rattle.store_laws.specs.declared.error.ErrorKind.{ErrorKind}
 use Rattle.store_laws.specs.declared.error.ErrorKind.TheVariants as kind
 use Rattle.bson_base.specs.Device.{Feed}
 use Rattle.bson_store.specs.Shown.{Show}
-use Rattle.bson_store.specs.Many.{DoesMany, Takes, ImportRefused, Imports}
+use Rattle.bson_store.specs.Many.{DoesMany, TakesStream, ImportRefused, Imports}
 use Rattle.bson_store.specs.Refusals.{reply_by, as_number}
 use Rattle.bson_store.specs.declared.error.StoreError.{StoreError}
 use Rattle.bson_store.proofs.Moving.{moved}
@@ -36,12 +36,12 @@ many_refused : (n : List ℕ) (Reads : Documents → Option ErrorKind → Type 0
 many_refused n Reads k i docs after (ds, stop, reads, does) a shown = let y = does a shown in (y.0, y.1, rows_stay a y.0 (on n (import ds stop)) k i y.2)
 
 loaded : (s t : Connected) (Meant : Command → Type 0) (n : List ℕ) (Reads : Documents → Option ErrorKind → Type 0) (outcome : Result ℕ StoreError) → Allows Meant n
-    → Moves s t (DoesMany n Reads (reply_by as_number outcome)) → Moves s t (Performs Meant (answer_by answers.as_number outcome))
-loaded s t Meant n Reads (Ok i) allows m = moved s t (DoesMany n Reads (number i)) (Performs Meant (Ok (answers.as_number i))) m (λ docs after h. many_taken Meant n Reads i docs after allows h)
+    → Moves s t (DoesMany n Reads (reply_by as_number outcome)) → Moves s t (Performs Meant (answer_by answers.number_answer outcome))
+loaded s t Meant n Reads (Ok i) allows m = moved s t (DoesMany n Reads (number i)) (Performs Meant (Ok (answers.number_answer i))) m (λ docs after h. many_taken Meant n Reads i docs after allows h)
 loaded s t Meant n Reads (Err e) allows m = moved s t (DoesMany n Reads (refused e.kind e.document)) (Performs Meant (Err (Refused e))) m (λ docs after h. many_refused n Reads e.kind e.document docs after h)
 
 pub load_performs : (s t : Connected) (Meant : Command → Type 0) (n : List ℕ) (Reads : Documents → Option ErrorKind → Type 0) (outcome : Result ℕ StoreError) (result : Result Answer Stop) → Allows Meant n
-    → result ≡ answer_by answers.as_number outcome → Moves s t (DoesMany n Reads (reply_by as_number outcome)) → Moves s t (Performs Meant result)
+    → result ≡ answer_by answers.number_answer outcome → Moves s t (DoesMany n Reads (reply_by as_number outcome)) → Moves s t (Performs Meant result)
 load_performs s t Meant n Reads outcome result allows is m = subst (λ p. Moves s t (Performs Meant p)) (sym is) (loaded s t Meant n Reads outcome allows m)
 
 unmoved : (docs after : List Doc) → after ≡ docs → Comes Stays docs after
@@ -56,10 +56,10 @@ import_refused n old new k i docs after (good, (bytes, all, many)) = many_refuse
 taken_in : (Meant : Command → Type 0) (n : List ℕ) (old new : Feed) (i : ℕ) (docs after : List Doc) → Allows Meant n → Imports n old new (Ok i) docs after → Comes (Accepts Meant) docs after
 taken_in Meant n old new i docs after allows (good, (bytes, all, many)) = many_taken Meant n _ i docs after allows many
 
-imported : (s t : Connected) (Meant : Command → Type 0) (n : List ℕ) (old new : Feed) (outcome : Result ℕ StoreError) → Allows Meant n → Moves s t (Imports n old new outcome) → Moves s t (Performs Meant (answer_by answers.as_number outcome))
-imported s t Meant n old new (Ok i) allows m = moved s t (Imports n old new (Ok i)) (Performs Meant (Ok (answers.as_number i))) m (λ docs after h. taken_in Meant n old new i docs after allows h)
+imported : (s t : Connected) (Meant : Command → Type 0) (n : List ℕ) (old new : Feed) (outcome : Result ℕ StoreError) → Allows Meant n → Moves s t (Imports n old new outcome) → Moves s t (Performs Meant (answer_by answers.number_answer outcome))
+imported s t Meant n old new (Ok i) allows m = moved s t (Imports n old new (Ok i)) (Performs Meant (Ok (answers.number_answer i))) m (λ docs after h. taken_in Meant n old new i docs after allows h)
 imported s t Meant n old new (Err e) allows m = moved s t (Imports n old new (Err e)) (Performs Meant (Err (Refused e))) m (λ docs after h. import_refused n old new e.kind e.document docs after h)
 
-pub import_performs : (s t : Connected) (Meant : Command → Type 0) (n : List ℕ) (old new : Feed) (outcome : Result ℕ StoreError) (result : Result Answer Stop) → Allows Meant n → result ≡ answer_by answers.as_number outcome
+pub import_performs : (s t : Connected) (Meant : Command → Type 0) (n : List ℕ) (old new : Feed) (outcome : Result ℕ StoreError) (result : Result Answer Stop) → Allows Meant n → result ≡ answer_by answers.number_answer outcome
     → Moves s t (Imports n old new outcome) → Moves s t (Performs Meant result)
 import_performs s t Meant n old new outcome result allows is m = subst (λ p. Moves s t (Performs Meant p)) (sym is) (imported s t Meant n old new outcome allows m)

@@ -5,10 +5,10 @@ use Rattle.bson_base.specs.Device.{Counts, TakesBeginning}
 use Rattle.store_laws.specs.declared.error.ErrorKind.{ErrorKind}
 use Rattle.store_words.specs.Lines.{complaint_line, refusal_line}
 use Rattle.store_words.specs.declared.lines.Complaint.{Complaint}
-use Rattle.store_program.specs.Execute.{Writes, WritesComplaint, WritesRefusal}
+use Rattle.store_program.specs.Execute.{PrintsText, WritesComplaint, WritesRefusal}
 
 writes : {A E : Type 0} (r : Result A E) (failed failing : ℕ) (old new : Option (List ℕ)) (text : List ℕ) → Counts failed failing r → OnOk r (Appends old new text) → OnErr r (TakesBeginning old new text)
-    → Writes failed failing old new text
+    → PrintsText failed failing old new text
 writes (Ok x) failed failing old new text counts whole part = inl (counts, whole)
 writes (Err e) failed failing old new text counts whole part = inr (counts, part)
 

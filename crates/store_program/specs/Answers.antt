@@ -16,17 +16,17 @@ answer_by f (Err e) = Err (Refused e)
 abbrev pub as_nothing : Unit {0} → Answer
 as_nothing x = Nothing
 
-abbrev pub as_flag : Bool → Answer
-as_flag b = Flag b
+abbrev pub flag_answer : Bool → Answer
+flag_answer b = Flag b
 
 abbrev pub as_tree : Json → Answer
 as_tree j = Tree j
 
-abbrev pub as_number : ℕ → Answer
-as_number n = Number n
+abbrev pub number_answer : ℕ → Answer
+number_answer n = Number n
 
 abbrev pub as_documents : Vec (Vec ℕ Global) Global → Answer
 as_documents v = Documents v
 
-abbrev pub as_names : Vec (String Global) Global → Answer
-as_names v = Names v
+abbrev pub names_answer : Vec (String Global) Global → Answer
+names_answer v = Names v

@@ -24,9 +24,9 @@ mode_of [] = Canonical
 mode_of (form ∷ forms) = Relaxed
 
 -- the key that the words behind an id begin with
-abbrev pub key_of : List (List ℕ) → List ℕ
-key_of [] = []
-key_of (key ∷ more) = key
+abbrev pub first_key : List (List ℕ) → List ℕ
+first_key [] = []
+first_key (key ∷ more) = key
 
 -- the call of a document, which the only text stands for
 abbrev pub IsOfTree : (Reading → model.Call) → List ℕ → List (List ℕ) → model.Command → Type 0
@@ -47,7 +47,7 @@ IsCommandOf Insert n texts c = IsOfTree (model.insert model.in_json) n texts c
 IsCommandOf Replace n texts c = IsOfTree (model.replace model.in_json) n texts c
 IsCommandOf Get n texts c = IsOfId (λ id more. model.get_json (mode_of more) id) n texts c
 IsCommandOf Set n texts c = IsOfSet n texts c
-IsCommandOf Unset n texts c = IsOfId (λ id more. model.unset id (key_of more)) n texts c
+IsCommandOf Unset n texts c = IsOfId (λ id more. model.unset id (first_key more)) n texts c
 IsCommandOf Remove n texts c = IsOfId (λ id more. model.remove id) n texts c
 IsCommandOf Find n texts c = (f : Filter) × (c ≡ model.on n (model.find f))
 IsCommandOf Count n texts c = (f : Filter) × (c ≡ model.on n (model.count f))

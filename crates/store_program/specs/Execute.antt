@@ -51,16 +51,16 @@ SilentUnread (Err (Refused e)) old new = Unit {0}
 SilentUnread (Err (Words w)) old new = new ≡ old
 
 -- a text went out, or a write failed, and a beginning of it went out
-abbrev pub Writes : ℕ → ℕ → Option (List ℕ) → Option (List ℕ) → List ℕ → Type 0
-Writes failed failing old new text = ((failing ≡ failed) × Appends old new text) ⊎ ((failing ≡ failed + 1) × TakesBeginning old new text)
+abbrev pub PrintsText : ℕ → ℕ → Option (List ℕ) → Option (List ℕ) → List ℕ → Type 0
+PrintsText failed failing old new text = ((failing ≡ failed) × Appends old new text) ⊎ ((failing ≡ failed + 1) × TakesBeginning old new text)
 
 -- the line of a refusal went out so
 abbrev pub WritesRefusal : ℕ → ℕ → Option (List ℕ) → Option (List ℕ) → Type 0
-WritesRefusal failed failing old new = (k : ErrorKind) × (i : Option ℕ) × Writes failed failing old new (refusal_line k i)
+WritesRefusal failed failing old new = (k : ErrorKind) × (i : Option ℕ) × PrintsText failed failing old new (refusal_line k i)
 
 -- the line of a text that can't be read went out so
 abbrev pub WritesComplaint : ℕ → ℕ → Option (List ℕ) → Option (List ℕ) → Type 0
-WritesComplaint failed failing old new = (w : Complaint) × Writes failed failing old new (complaint_line w)
+WritesComplaint failed failing old new = (w : Complaint) × PrintsText failed failing old new (complaint_line w)
 
 -- by the status: it was accepted; nothing was done, or it was accepted and its answer not printed; nothing was done
 abbrev pub Ended : (Command → Type 0) → ℕ → Table → Table → Type 0

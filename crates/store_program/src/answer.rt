@@ -1,7 +1,7 @@
 //! What a command answers.
 
 ghost use Rattle.std.specs.Prelude.{◌≡◌};
-ghost use Rattle.store_program.specs.Answers.{answer_by, as_nothing, as_flag, as_number, as_tree, as_documents, as_names};
+ghost use Rattle.store_program.specs.Answers.{answer_by, as_nothing, flag_answer, number_answer, as_tree, as_documents, names_answer};
 
 use crate::stop::Stop;
 use bson_store::StoreError;
@@ -36,7 +36,7 @@ pub fn nothing(outcome: Result<(), StoreError>) -> Result<Answer, Stop>
 
 /// Whether something was there.
 pub fn flag(outcome: Result<bool, StoreError>) -> Result<Answer, Stop>
-    ensures { result ≡ answer_by as_flag outcome }
+    ensures { result ≡ answer_by flag_answer outcome }
 {
     match outcome {
         Ok(flag) => Ok(Answer::Flag(flag)),
@@ -56,7 +56,7 @@ pub fn tree(outcome: Result<Value, StoreError>) -> Result<Answer, Stop>
 
 /// How many there are.
 pub fn number(outcome: Result<u64, StoreError>) -> Result<Answer, Stop>
-    ensures { result ≡ answer_by as_number outcome }
+    ensures { result ≡ answer_by number_answer outcome }
 {
     match outcome {
         Ok(number) => Ok(Answer::Number(number)),
@@ -76,7 +76,7 @@ pub fn documents(outcome: Result<Vec<Vec<u8>>, StoreError>) -> Result<Answer, St
 
 /// Names of collections.
 pub fn names(outcome: Result<Vec<String>, StoreError>) -> Result<Answer, Stop>
-    ensures { result ≡ answer_by as_names outcome }
+    ensures { result ≡ answer_by names_answer outcome }
 {
     match outcome {
         Ok(names) => Ok(Answer::Names(names)),

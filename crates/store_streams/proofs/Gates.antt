@@ -13,12 +13,12 @@ use Rattle.bson_base.specs.Value.{Value, scalar, array, document, scoped_code, v
 use Rattle.bson_bytes.specs.Spells.{SpellsValue, SpellsMembers}
 use Rattle.bson_frame.specs.declared.error.ErrorKind.{ErrorKind}
 use Rattle.bson_frame.specs.declared.error.ErrorKind.TheVariants.{MalformedValue, Utf8EncodingError, OutOfMemory}
-use Rattle.bson_frame.specs.Frame.{number, IsTextSize, Element, IsFirstFrame, IsStructuralFault}
+use Rattle.bson_frame.specs.Frame.{number, IsTextSize, Element, IsFirstFrame, IsStructuralFault, size_limit}
 use Rattle.bson_frame.specs.Reader.{IsNeverWhole}
 use Rattle.bson_frame.specs.Payload.{IsPayload, IsTextAt, text_in, IsEnvelope, IsNoText, IsOldMisfit, code_in, scope_in, CodeFault, IsPayloadFault, IsFaultless}
 use Rattle.bson_frame.proofs.Decisions.{frame_or_fault}
 use Rattle.bson_frame.proofs.Payloads.{payload_by_itself}
-use Rattle.bson_meaning.specs.Gate.{size_limit, HoldsDocument, IsCounted, IsRefused, Passes, ReadsElements, ReadsPayload}
+use Rattle.bson_meaning.specs.Gate.{HoldsDocument, IsCounted, IsRefused, Passes, ReadsElements, ReadsPayload}
 use Rattle.bson_meaning.specs.declared.reading.GateError.{GateError}
 use Rattle.bson_meaning.specs.declared.reading.GateError.TheVariants as gate
 use Rattle.bson_meaning.proofs.Held.{scalar_read, nests_zero, held_reads, element_fault}

@@ -13,7 +13,7 @@ use Rattle.store_laws.specs.declared.error.ErrorKind.TheVariants.{Memory}
 use Rattle.store_documents.specs.Bodies.{AnswersKept, AnswersWritten}
 use Rattle.store_documents.specs.declared.write.Written.{Written}
 use Rattle.store_streams.specs.declared.error.StreamError.TheVariants as errors
-use Rattle.store_streams.specs.Judging.{AnswersFront, AnswersRow, Judges, RefusesFront, refusal_at}
+use Rattle.store_streams.specs.Judging.{AnswersFront, AnswersRow, Judges, RefusesFront, stream_refusal}
 use Rattle.store_streams.proofs.SoFar.{SoFar, so_far_refused, so_far_stopped}
 use Rattle.store_streams.proofs.Streams.{any_stream, any_trees, stream_more, stream_unread, stream_uncut, trees_more, trees_unread}
 
@@ -65,7 +65,7 @@ pub judged_memory : (Whole Rest : Documents → Option ErrorKind → Type 0) (ro
 judged_memory Whole Rest rows place s any = (s.done ++ any.0, any.1, s.reads any.0 any.1 any.2)
 
 pub judged_refused : (Whole Rest : Documents → Option ErrorKind → Type 0) (rows : List Written) (place : ℕ) (k : ErrorKind) → SoFar Whole Rest rows place
-    → (ds : Documents) × (stop : Option ErrorKind) × Rest ds stop → RefusesFront Rest k → Judges Whole (Err (refusal_at k place))
+    → (ds : Documents) × (stop : Option ErrorKind) × Rest ds stop → RefusesFront Rest k → Judges Whole (Err (stream_refusal k place))
 judged_refused Whole Rest rows place Memory s any h = judged_memory Whole Rest rows place s any
 judged_refused Whole Rest rows place _ s any (inl h) = so_far_stopped Whole Rest rows place _ s h
 judged_refused Whole Rest rows place _ s any (inr (d, more, stop, h, why)) = so_far_refused Whole Rest rows place _ d more stop s h why

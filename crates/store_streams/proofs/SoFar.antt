@@ -10,7 +10,7 @@ use Rattle.store_laws.specs.Table.{own_id}
 use Rattle.store_laws.specs.declared.error.ErrorKind.{ErrorKind}
 use Rattle.store_documents.specs.declared.write.Written.{Written}
 use Rattle.store_streams.specs.declared.error.StreamError.TheVariants.{Refused, Memory}
-use Rattle.store_streams.specs.Judging.{AreRowsOf, Judges}
+use Rattle.store_streams.specs.Judging.{AreWrittenRows, Judges}
 
 -- Some documents, so many, were read and kept: what the rest reads as stands behind them in what the whole reads as, and is
 -- refused where it is.
@@ -18,12 +18,12 @@ pub record SoFar (Whole Rest : Documents → Option ErrorKind → Type 0) (rows 
   pub done : Documents
   pub reads : (more : Documents) (stop : Option ErrorKind) → Rest more stop → Whole (done ++ more) stop
   pub kept : (more : Documents) (stop : Option ErrorKind) → first_refusal 0 (done ++ more) stop ≡ first_refusal place more stop
-  pub are_rows : AreRowsOf rows done
+  pub are_rows : AreWrittenRows rows done
 
 pub so_far_start : (Whole : Documents → Option ErrorKind → Type 0) → SoFar Whole Whole [] 0
 so_far_start Whole = record { done = []; reads = λ more stop h. h; kept = λ more stop. refl; are_rows = tt }
 
-rows_more : (rows : List Written) (done : Documents) (w : Written) (d : Members) → AreRowsOf rows done → w.body.items ≡ encode d → w.key.items ≡ key (own_id d) → AreRowsOf (rows ++ w ∷ []) (done ++ d ∷ [])
+rows_more : (rows : List Written) (done : Documents) (w : Written) (d : Members) → AreWrittenRows rows done → w.body.items ≡ encode d → w.key.items ≡ key (own_id d) → AreWrittenRows (rows ++ w ∷ []) (done ++ d ∷ [])
 rows_more [] [] w d h body is = (body, is, tt)
 rows_more (r ∷ rows) (e ∷ done) w d h body is = (h.0, h.1, rows_more rows done w d h.2 body is)
 rows_more [] (e ∷ done) w d h body is = absurd h
@@ -59,4 +59,4 @@ so_far_stopped Whole Rest rows place k s h = (s.done ++ [], Some k, s.reads [] (
 
 -- nothing more
 pub so_far_done : (Whole Rest : Documents → Option ErrorKind → Type 0) (rows : Vec Written Global) (place : ℕ) → SoFar Whole Rest rows.items place → Rest [] None → Judges Whole (Ok rows)
-so_far_done Whole Rest rows place s h = (s.done ++ [], s.reads [] None h, s.kept [] None, subst (AreRowsOf rows.items) (sym (append-nil s.done)) s.are_rows)
+so_far_done Whole Rest rows place s h = (s.done ++ [], s.reads [] None h, s.kept [] None, subst (AreWrittenRows rows.items) (sym (append-nil s.done)) s.are_rows)

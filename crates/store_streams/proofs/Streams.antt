@@ -5,10 +5,10 @@ use Rattle.std.proofs.lemmas.List.{length-take-le, take-append-drop}
 use Rattle.serde_json.specs.Data.{Data}
 use Rattle.bson_base.specs.Value.{Members}
 use Rattle.bson_bytes.specs.Spells.{settle}
-use Rattle.bson_frame.specs.Frame.{number}
+use Rattle.bson_frame.specs.Frame.{number, size_limit}
 use Rattle.bson_frame.proofs.Payloads.{number_front}
-use Rattle.bson_meaning.specs.Gate.{size_limit, IsCounted}
-use Rattle.store_laws.specs.Reading.{Documents, Reading, readable, unreadable, kind_of, ReadsBytes, ReadsTree, ReadsEach, IsUncut, Cuts, ReadsStream, ReadsTrees}
+use Rattle.bson_meaning.specs.Gate.{IsCounted}
+use Rattle.store_laws.specs.Reading.{Documents, Reading, readable, unreadable, kind_of_gate_error, ReadsBytes, ReadsTree, ReadsEach, IsUncut, Cuts, ReadsStream, ReadsTrees}
 use Rattle.store_laws.specs.declared.error.ErrorKind.{ErrorKind}
 use Rattle.store_laws.specs.declared.error.ErrorKind.TheVariants.{EndInside, BadLength}
 use Rattle.store_laws.proofs.Plain.{any_tree}
@@ -21,7 +21,7 @@ any_bytes bytes = by (gate_tells bytes)
   where
     by : GateTells bytes → (a : Reading) × ReadsBytes bytes a
     by (inl p) = (readable (settle p.2.0), (p, (p.2.0, p.1, p.2.1, refl)))
-    by (inr (e, r)) = (unreadable (kind_of e), (e, r, refl))
+    by (inr (e, r)) = (unreadable (kind_of_gate_error e), (e, r, refl))
 
 -- ---- many
 

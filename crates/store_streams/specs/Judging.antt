@@ -15,9 +15,9 @@ use Rattle.store_streams.specs.declared.error.StreamError.{StreamError}
 use Rattle.store_streams.specs.declared.error.StreamError.TheVariants.{Refused, Memory}
 
 -- the refusal of the document at the place; want of memory has none
-abbrev pub refusal_at : ErrorKind → ℕ → StreamError
-refusal_at kinds.Memory i = Memory
-refusal_at k i = Refused k i
+abbrev pub stream_refusal : ErrorKind → ℕ → StreamError
+stream_refusal kinds.Memory i = Memory
+stream_refusal k i = Refused k i
 
 -- the row of one document, or why there is none, or memory was wanted
 abbrev pub AnswersRow : (Reading → Type 0) → Result Written ErrorKind → Type 0
@@ -37,14 +37,14 @@ AnswersFront bytes (Ok r) = (d : Members) × ((more : Documents) (stop : Option 
 AnswersFront bytes (Err k) = RefusesFront (ReadsStream bytes) k
 
 -- the rows are the documents in their order, as they are written, under the keys of their ids
-abbrev pub AreRowsOf : List Written → Documents → Type 0
-AreRowsOf [] [] = Unit {0}
-AreRowsOf (w ∷ ws) (d ∷ ds) = (w.body.items ≡ encode d) × (w.key.items ≡ key (own_id d)) × AreRowsOf ws ds
-AreRowsOf _ _ = ⊥
+abbrev pub AreWrittenRows : List Written → Documents → Type 0
+AreWrittenRows [] [] = Unit {0}
+AreWrittenRows (w ∷ ws) (d ∷ ds) = (w.body.items ≡ encode d) × (w.key.items ≡ key (own_id d)) × AreWrittenRows ws ds
+AreWrittenRows _ _ = ⊥
 
 -- The input reads as documents that can all be kept, and these are their rows. Or this is the first of its refusals, with its
 -- place. Or memory was wanted for what the input reads as.
 abbrev pub Judges : (Documents → Option ErrorKind → Type 0) → Result (Vec Written Global) StreamError → Type 0
-Judges Reads (Ok rows) = (ds : Documents) × Reads ds None × (first_refusal 0 ds None ≡ None) × AreRowsOf rows.items ds
+Judges Reads (Ok rows) = (ds : Documents) × Reads ds None × (first_refusal 0 ds None ≡ None) × AreWrittenRows rows.items ds
 Judges Reads (Err (Refused k i)) = (ds : Documents) × (stop : Option ErrorKind) × Reads ds stop × (first_refusal 0 ds stop ≡ Some (k, i))
 Judges Reads (Err Memory) = (ds : Documents) × (stop : Option ErrorKind) × Reads ds stop

@@ -45,11 +45,11 @@ impl<T: Drop> From<AllocFailed<T>> for StreamError {
 
 impl StreamError {
     ghost use Rattle.std.specs.Prelude.{◌≡◌};
-    ghost use Rattle.store_streams.specs.Judging.{refusal_at};
+    ghost use Rattle.store_streams.specs.Judging.{stream_refusal};
 
     /// The refusal of a document at its place; want of memory has none.
     pub(crate) fn at(kind: ErrorKind, document: u64) -> StreamError
-        ensures { result ≡ refusal_at kind document }
+        ensures { result ≡ stream_refusal kind document }
     {
         match kind {
             ErrorKind::Memory => StreamError::Memory,

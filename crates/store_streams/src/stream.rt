@@ -6,15 +6,13 @@ ghost use Rattle.store_laws.specs.Reading.{IsUncut, ReadsBytes, ReadsStream};
 ghost use Rattle.store_streams.specs.Judging.{AnswersFront, AnswersRow, Judges};
 
 use crate::error::StreamError;
+use bson_frame::SIZE_LIMIT;
 use std::alloc::Global;
 use store_documents::{Written, row_of_bytes};
 use store_laws::ErrorKind;
 
 /// The least length that a document declares: that of one without elements.
 const SHORTEST: usize = 5;
-
-/// The greatest length of a document that is taken.
-const LONGEST: usize = 16777216;
 
 /// Cuts the first document off by its declared length (bsonspec.org 1.1, "document"), which counts itself. `EndInside` where
 /// there are fewer than four bytes, or fewer than declared; `BadLength` where the length is under 5 or over 16777216.
@@ -25,7 +23,7 @@ fn cut(bytes: &[u8]) -> Result<(&[u8], &[u8]), ErrorKind>
         return Err(ErrorKind::EndInside);
     };
     let declared = u32::from_le_bytes([*a, *b, *c, *d]) as usize;
-    if declared < SHORTEST || declared > LONGEST {
+    if declared < SHORTEST || declared > SIZE_LIMIT {
         return Err(ErrorKind::BadLength);
     }
     if bytes.len() < declared {

@@ -12,10 +12,10 @@ use Rattle.store_words.specs.declared.texts.TextError.{TextError}
 use Rattle.store_words.specs.declared.texts.TextError.TheVariants.{Unreadable, Memory}
 
 -- the tree of the text, or there is none; or memory was wanted
-abbrev pub AnswersJson : List ℕ → Result Json TextError → Type 0
-AnswersJson text (Ok j) = tree_of text ≡ Some (data_of j)
-AnswersJson text (Err Unreadable) = tree_of text ≡ None
-AnswersJson text (Err Memory) = Unit {0}
+abbrev pub AnswersText : List ℕ → Result Json TextError → Type 0
+AnswersText text (Ok j) = tree_of text ≡ Some (data_of j)
+AnswersText text (Err Unreadable) = tree_of text ≡ None
+AnswersText text (Err Memory) = Unit {0}
 
 -- the tree stands for no value
 abbrev pub HasNoValue : Data → Type 0

@@ -1,7 +1,7 @@
 //! What the texts among the words stand for.
 
 ghost use Rattle.std.specs.Prelude.{◌≡◌, MatchResult};
-ghost use Rattle.store_words.specs.Texts.{AnswersId, AnswersJson};
+ghost use Rattle.store_words.specs.Texts.{AnswersId, AnswersText};
 
 use bson_model::{Bson, extjson};
 use serde_json::Value;
@@ -74,7 +74,7 @@ impl From<extjson::de::Error> for TextError {
 
 /// The tree of a JSON text (RFC 8259).
 pub fn read_json(alloc: Global, text: &str) -> Result<Value, TextError>
-    ensures { AnswersJson text.now result }
+    ensures { AnswersText text.now result }
 {
     let tree = Value::from_str(alloc, text)?;
     Ok(tree)

@@ -3,12 +3,19 @@
 ghost use Rattle.std.specs.Prelude.{◌≡◌, ◌<◌, ◌≤◌, ◌^◌, ◌+◌, ◌-◌, ℕ, Bool, true, min, length, option_map, IfOk, replicate};
 ghost use Rattle.std.specs.Str.{str_to_ascii_lowercase};
 ghost use Rattle.bson_base.specs.Answer.{result_map};
-ghost use Rattle.bson_base.specs.Decimal.{all_digits as are_digits, append_zeros as appended, checked_digits as checked, cut, downward as downward_of, drop_last as without_last, drop_tail as without_tail, finite as finite_of, fit as fitted, in_range as ranged, is_dot, is_e, is_named as is_named_by, lift as lifted, lower as lowered, marks, pack, raise as raised, read, read_coefficient as coefficient_of, read_cut as read_of_cut, read_exponent as exponent_of, read_number as number_read, read_unsigned as unsigned_read, shorten as shortened, strip as stripped, upward as upward_of, value as value_of, value_after as value_behind, with_places as placed};
+ghost use Rattle.bson_base.specs.Decimal.{all_digits as are_digits, append_zeros as appended, checked_digits as checked, cut, digit_limit, downward as downward_of, drop_last as without_last, drop_tail as without_tail, finite as finite_of, fit as fitted, greatest_in_range, in_range as ranged, is_dot, is_e, is_named as is_named_by, least_in_range, lift as lifted, lower as lowered, marks, pack, raise as raised, read, read_coefficient as coefficient_of, read_cut as read_of_cut, read_exponent as exponent_of, read_number as number_read, read_unsigned_decimal as unsigned_read, shorten as shortened, strip as stripped, upward as upward_of, value as value_of, value_after as value_behind, with_places as placed};
 ghost use Rattle.bson_base.specs.DecimalParts.{digits_of, IsFinite, IsPackable, IsShortened, meant, packed};
 
 use super::ParseError;
 use super::digits::{Digits, all_digits};
-use super::parts::Parts;
+use super::parts::{DIGITS, GREATEST_EXPONENT, Parts};
+
+/// What is added to an exponent while a text is read, so that none is under 0.
+const READING_BIAS: u32 = 65536;
+/// The least exponent of a decimal, with that bias.
+const LEAST_IN_RANGE: u32 = 59360;
+/// The greatest exponent of a decimal, with that bias.
+const GREATEST_IN_RANGE: u32 = 71647;
 
 type Shortened<'a> = Result<(Digits<'a>, u32), ParseError>;
 
@@ -43,7 +50,7 @@ fn upward(digits: &[u8]) -> Result<u32, ParseError>
     }
     let n = small_value(digits);
     if n <= 32767 {
-        Ok(65536 + n)
+        Ok(READING_BIAS + n)
     } else {
         Err(ParseError::InvalidExponent)
     }
@@ -57,7 +64,7 @@ fn downward(digits: &[u8]) -> Result<u32, ParseError>
     }
     let n = small_value(digits);
     if n <= 32768 {
-        Ok(65536 - n)
+        Ok(READING_BIAS - n)
     } else {
         Err(ParseError::InvalidExponent)
     }
@@ -68,7 +75,7 @@ fn read_exponent(text: Option<&[u8]>) -> Result<u32, ParseError>
     ensures bound { IfOk result (λ x. x < 98304) }
 {
     match text {
-        None => Ok(65536),
+        None => Ok(READING_BIAS),
         Some([]) => Err(ParseError::EmptyExponent),
         Some([first, rest @ ..]) => {
             if *first == b'+' {
@@ -78,7 +85,7 @@ fn read_exponent(text: Option<&[u8]>) -> Result<u32, ParseError>
             } else {
                 match text {
                     Some(whole) => upward(whole),
-                    None => Ok(65536),
+                    None => Ok(READING_BIAS),
                 }
             }
         }
@@ -145,12 +152,12 @@ fn shorten(digits: Digits<'_>, exponent: u32) -> Shortened<'_>
     requires all { are_digits (digits_of digits) ≡ true }
     requires low { exponent < 98304 }
     ensures value { result_map (λ p. (digits_of p.0, p.1)) result ≡ shortened (digits_of digits.entry) exponent }
-    ensures digits { IfOk result (λ p. IsShortened 34 (digits_of p.0) p.1) }
+    ensures digits { IfOk result (λ p. IsShortened digit_limit (digits_of p.0) p.1) }
 {
-    if digits.len() <= 34 {
+    if digits.len() <= DIGITS {
         return Ok((digits, exponent));
     }
-    drop_tail(digits, 34, exponent)
+    drop_tail(digits, DIGITS, exponent)
 }
 
 fn finite(negative: bool, coefficient: u128, exponent: u16) -> Parts
@@ -168,7 +175,7 @@ fn finite(negative: bool, coefficient: u128, exponent: u16) -> Parts
 
 /// Without the last digits, which have to be zeros.
 fn drop_last(negative: bool, digits: Digits<'_>, missing: usize) -> Result<Parts, ParseError>
-    requires few { length (digits_of digits) ≤ 34 }
+    requires few { length (digits_of digits) ≤ digit_limit }
     requires all { are_digits (digits_of digits) ≡ true }
     ensures value { result_map meant result ≡ without_last negative (digits_of digits.entry) missing }
     ensures finite { IfOk result IsFinite }
@@ -185,22 +192,22 @@ fn drop_last(negative: bool, digits: Digits<'_>, missing: usize) -> Result<Parts
 }
 
 fn raise(negative: bool, digits: Digits<'_>, exponent: u32) -> Result<Parts, ParseError>
-    requires few { length (digits_of digits) ≤ 34 }
+    requires few { length (digits_of digits) ≤ digit_limit }
     requires all { are_digits (digits_of digits) ≡ true }
-    requires low { exponent < 59360 }
+    requires low { exponent < least_in_range }
     ensures value { result_map meant result ≡ raised negative (digits_of digits.entry) exponent }
     ensures finite { IfOk result IsFinite }
 {
     if digits.value() == 0 {
         Ok(finite(negative, 0, 0))
     } else {
-        drop_last(negative, digits, 59360 - exponent as usize)
+        drop_last(negative, digits, (LEAST_IN_RANGE - exponent) as usize)
     }
 }
 
 /// A number followed by so many zeros, at most 34 digits in all.
 fn times_ten(start: u128, before: usize, zeros: usize) -> u128
-    requires few { before + zeros ≤ 34 }
+    requires few { before + zeros ≤ digit_limit }
     requires low { start < 10 ^ before }
     ensures value { result ≡ value_behind start (replicate zeros 48) }
     ensures bound { result < 10 ^ 34 }
@@ -213,48 +220,48 @@ fn times_ten(start: u128, before: usize, zeros: usize) -> u128
 }
 
 fn append_zeros(negative: bool, digits: Digits<'_>, zeros: usize) -> Result<Parts, ParseError>
-    requires few { length (digits_of digits) ≤ 34 }
+    requires few { length (digits_of digits) ≤ digit_limit }
     requires low { zeros < 2 ^ 20 }
     requires all { are_digits (digits_of digits) ≡ true }
     ensures value { result_map meant result ≡ appended negative (digits_of digits.entry) zeros }
     ensures finite { IfOk result IsFinite }
 {
-    if digits.len() + zeros <= 34 {
+    if digits.len() + zeros <= DIGITS {
         let coefficient = times_ten(digits.value(), digits.len(), zeros);
-        Ok(finite(negative, coefficient, 12287))
+        Ok(finite(negative, coefficient, GREATEST_EXPONENT))
     } else {
         Err(ParseError::Overflow)
     }
 }
 
 fn lower(negative: bool, digits: Digits<'_>, exponent: u32) -> Result<Parts, ParseError>
-    requires few { length (digits_of digits) ≤ 34 }
+    requires few { length (digits_of digits) ≤ digit_limit }
     requires all { are_digits (digits_of digits) ≡ true }
-    requires high { 71647 < exponent }
+    requires high { greatest_in_range < exponent }
     requires fits { exponent < 98304 }
     ensures value { result_map meant result ≡ lowered negative (digits_of digits.entry) exponent }
     ensures finite { IfOk result IsFinite }
 {
     if digits.value() == 0 {
-        Ok(finite(negative, 0, 12287))
+        Ok(finite(negative, 0, GREATEST_EXPONENT))
     } else {
-        append_zeros(negative, digits, (exponent - 71647) as usize)
+        append_zeros(negative, digits, (exponent - GREATEST_IN_RANGE) as usize)
     }
 }
 
 fn in_range(negative: bool, digits: Digits<'_>, exponent: u32) -> Result<Parts, ParseError>
-    requires few { length (digits_of digits) ≤ 34 }
+    requires few { length (digits_of digits) ≤ digit_limit }
     requires all { are_digits (digits_of digits) ≡ true }
     requires fits { exponent < 98304 }
     ensures value { result_map meant result ≡ ranged negative (digits_of digits.entry, exponent) }
     ensures finite { IfOk result IsFinite }
 {
-    if exponent < 59360 {
+    if exponent < LEAST_IN_RANGE {
         raise(negative, digits, exponent)
-    } else if 71647 < exponent {
+    } else if GREATEST_IN_RANGE < exponent {
         lower(negative, digits, exponent)
     } else {
-        Ok(finite(negative, digits.value(), (exponent - 59360) as u16))
+        Ok(finite(negative, digits.value(), (exponent - LEAST_IN_RANGE) as u16))
     }
 }
 

@@ -1,8 +1,15 @@
 //! A decimal's sign, coefficient and exponent, and its 128 bits.
 
 ghost use Rattle.std.specs.Prelude.{◌≡◌};
-ghost use Rattle.bson_base.specs.Decimal.{limited as limited_of, number_of, sign_bit as sign_bit_of, sixteen_bytes, unpack};
+ghost use Rattle.bson_base.specs.Decimal.{limited as limited_of, number_of, decimal_sign_bit as sign_bit_of, sixteen_bytes, unpack};
 ghost use Rattle.bson_base.specs.DecimalParts.{IsPackable, meant, packed};
+
+/// The digits of a coefficient (IEEE 754-2008, decimal128).
+pub(super) const DIGITS: usize = 34;
+/// What is added to an exponent in the 128 bits.
+pub(super) const BIAS: usize = 6176;
+/// The greatest exponent, with that bias.
+pub(super) const GREATEST_EXPONENT: u16 = 12287;
 
 /// The parts of a decimal.
 #[derive(Clone, Copy)]
@@ -17,7 +24,7 @@ pub(crate) enum Parts {
     Finite {
         negative: bool,
         coefficient: u128,
-        /// With the bias of 6176.
+        /// With its bias.
         exponent: u16,
     },
 }

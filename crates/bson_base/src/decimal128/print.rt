@@ -6,7 +6,7 @@ ghost use Rattle.std.specs.Str.{IsAscii};
 ghost use Rattle.bson_base.specs.Decimal.{digits_text, exponent_text, is_plain as is_plain_at, mantissa, minus_if as minus_of, print, with_dot};
 ghost use Rattle.bson_base.specs.DecimalParts.{meant};
 
-use super::parts::Parts;
+use super::parts::{BIAS, Parts};
 use std::fmt;
 
 /// At most five zeros, since a plain text has no more in front.
@@ -47,10 +47,10 @@ fn write_dotted<W: fmt::Write>(
 fn write_exponent<W: fmt::Write>(f: &mut fmt::Formatter<W>, exponent: usize) -> fmt::Result
     ensures { WritesOnOk W.write_str_gives f.old result (69 ∷ exponent_text exponent) f.new }
 {
-    if exponent >= 6176 {
-        write!(f, "E+{}", exponent - 6176)
+    if exponent >= BIAS {
+        write!(f, "E+{}", exponent - BIAS)
     } else {
-        write!(f, "E-{}", 6176 - exponent)
+        write!(f, "E-{}", BIAS - exponent)
     }
 }
 
@@ -58,7 +58,7 @@ fn is_plain(exponent: usize, len: usize) -> bool
     requires { len + exponent < 2 ^ 32 }
     ensures { result ≡ is_plain_at exponent len }
 {
-    exponent <= 6176 && 6176 <= exponent + len + 5
+    exponent <= BIAS && BIAS <= exponent + len + 5
 }
 
 fn write_scientific<W: fmt::Write>(
@@ -87,7 +87,7 @@ fn write_number<W: fmt::Write>(
     ensures { WritesOnOk W.write_str_gives f.old result (digits_text exponent digits.now) f.new }
 {
     if is_plain(exponent, digits.len()) {
-        write_dotted(f, digits, 6176 - exponent)
+        write_dotted(f, digits, BIAS - exponent)
     } else {
         write_scientific(f, digits, exponent)
     }

@@ -4,7 +4,7 @@ ghost use Rattle.std.specs.Iterator.{YieldsFirstBy, item_count};
 ghost use Rattle.std.specs.Map.{keys_of, values_of};
 ghost use Rattle.bson_model.specs.View.{view, pairs_of};
 ghost use Rattle.bson_model.specs.Keyed.{ascending};
-ghost use Rattle.bson_model.specs.Rest.{lent_pair, owned_pair, iter_rest, ascending_rest, into_iter_rest, keys_rest, values_rest};
+ghost use Rattle.bson_model.specs.Rest.{lent_member, owned_member, iter_rest, ascending_rest, into_iter_rest, keys_rest, values_rest};
 
 use crate::bson::Bson;
 use crate::document::Document;
@@ -19,7 +19,7 @@ pub struct Iter<'a> {
 impl<'a> Iterator for Iter<'a> {
     type Item = (&'a String, &'a Bson);
 
-    ghost next_gives = { YieldsFirstBy lent_pair iter_rest };
+    ghost next_gives = { YieldsFirstBy lent_member iter_rest };
 
     ghost remaining = { item_count iter_rest };
 
@@ -37,7 +37,7 @@ pub struct Ascending<'a> {
 impl<'a> Iterator for Ascending<'a> {
     type Item = (&'a String, &'a Bson);
 
-    ghost next_gives = { YieldsFirstBy lent_pair ascending_rest };
+    ghost next_gives = { YieldsFirstBy lent_member ascending_rest };
 
     ghost remaining = { item_count ascending_rest };
 
@@ -55,7 +55,7 @@ pub struct IntoIter {
 impl Iterator for IntoIter {
     type Item = (String, Bson);
 
-    ghost next_gives = { YieldsFirstBy owned_pair into_iter_rest };
+    ghost next_gives = { YieldsFirstBy owned_member into_iter_rest };
 
     ghost remaining = { item_count into_iter_rest };
 

@@ -5,7 +5,7 @@ ghost use Rattle.serde_json.specs.View.{view as tree_of, number_view, items_view
 ghost use Rattle.bson_model.specs.Keyed.{put};
 ghost use Rattle.bson_model.specs.View.{view, pairs_of, items_of, members_of};
 ghost use Rattle.bson_model.specs.JsonKeys.{any_reserved};
-ghost use Rattle.bson_model.specs.JsonRead.{Gives, read as value_of, read_items as items_read, read_members as members_read, read_typed as typed_of, read_scope as scope_of, text_of as spec_text, whole, with_scope as spec_scoped, integer as integer_of};
+ghost use Rattle.bson_model.specs.JsonRead.{GivesReading, read as value_of, read_items as items_read, read_members as members_read, read_typed as typed_of, read_scope as scope_of, text_of as spec_text, whole, code_and_scope as spec_scoped, integer as integer_of};
 ghost use Rattle.serde_json.specs.Find.{as_i64};
 
 mod bodies;
@@ -98,7 +98,7 @@ fn integer(n: i64) -> Bson
 }
 
 fn read_number(n: Number) -> Result<Bson>
-    ensures { Gives view result (whole (as_i64 (number_view n))) }
+    ensures { GivesReading view result (whole (as_i64 (number_view n))) }
 {
     match n.as_i64() {
         Some(n) => Ok(integer(n)),
@@ -124,7 +124,7 @@ fn add(document: &mut Document, key: String, value: Bson) -> std::result::Result
 
 #[cycle(read)]
 fn read(alloc: Global, value: Value) -> Result<Bson>
-    ensures { Gives view result (value_of (tree_of value)) }
+    ensures { GivesReading view result (value_of (tree_of value)) }
 {
     match value {
         Value::Null => Ok(Bson::Null),
@@ -144,7 +144,7 @@ fn read(alloc: Global, value: Value) -> Result<Bson>
 
 #[cycle(read)]
 fn read_items(alloc: Global, items: Vec<Value>) -> Result<Vec<Bson>>
-    ensures { Gives (λ v. items_of (map view v.items)) result (items_read (items_view items.items)) }
+    ensures { GivesReading (λ v. items_of (map view v.items)) result (items_read (items_view items.items)) }
 {
     let mut values = Vec::new(alloc);
     for item in items {
@@ -155,7 +155,7 @@ fn read_items(alloc: Global, items: Vec<Value>) -> Result<Vec<Bson>>
 
 #[cycle(read)]
 fn read_members(alloc: Global, members: Map<String, Value>) -> Result<Document>
-    ensures { Gives (λ d. members_of (pairs_of d)) result (members_read (members_view members.entries)) }
+    ensures { GivesReading (λ d. members_of (pairs_of d)) result (members_read (members_view members.entries)) }
 {
     let mut document = Document::new(alloc);
     for (key, value) in members {
@@ -167,7 +167,7 @@ fn read_members(alloc: Global, members: Map<String, Value>) -> Result<Document>
 // An object with a reserved key.
 #[cycle(read)]
 fn read_typed(alloc: Global, members: Map<String, Value>) -> Result<Bson>
-    ensures { Gives view result (typed_of (members_view members.entries)) }
+    ensures { GivesReading view result (typed_of (members_view members.entries)) }
 {
     let mut entries = members.into_iter();
     let Some((key, value)) = entries.next() else {
@@ -189,7 +189,7 @@ fn read_typed(alloc: Global, members: Map<String, Value>) -> Result<Bson>
 
 #[cycle(read)]
 fn read_scope(alloc: Global, scope: Value) -> Result<Option<Document>>
-    ensures { Gives (λ o. option_map (λ d. members_of (pairs_of d)) o) result (scope_of (tree_of scope)) }
+    ensures { GivesReading (λ o. option_map (λ d. members_of (pairs_of d)) o) result (scope_of (tree_of scope)) }
 {
     match scope {
         Value::Null => Ok(None),
@@ -203,14 +203,14 @@ impl Bson {
     ghost use Rattle.serde_json.specs.View.{view as tree_of, members_view};
     ghost use Rattle.serde_json.specs.Data.{object};
     ghost use Rattle.bson_model.specs.View.{view};
-    ghost use Rattle.bson_model.specs.JsonRead.{Gives, read};
+    ghost use Rattle.bson_model.specs.JsonRead.{GivesReading, read};
 
     /// The value that a JSON tree stands for (MongoDB Extended JSON v2, "Parsing"). `InvalidObjectId` tells a text under
     /// `$oid` that is no object id, `FiniteDouble` a number that is no signed integer of 64 bits or a numeral under
     /// `$numberDouble` that is not zero, `DeserializationError` any other fault of a typed value, `Memory` a refused growth.
     /// Of several faults the first one in the order of keys is told, a further key before the fault of a body.
     pub fn try_from_value(alloc: Global, json: Value) -> Result<Bson>
-        ensures { Gives view result (read (tree_of json)) }
+        ensures { GivesReading view result (read (tree_of json)) }
     {
         read(alloc, json)
     }
@@ -218,7 +218,7 @@ impl Bson {
     /// The value that a JSON object stands for: a typed value where it has a reserved key, else a document. The errors are
     /// those of `try_from_value`.
     pub fn try_from_map(alloc: Global, map: Map<String, Value>) -> Result<Bson>
-        ensures { Gives view result (read (object (members_view map.entries))) }
+        ensures { GivesReading view result (read (object (members_view map.entries))) }
     {
         read(alloc, Value::Object(map))
     }
@@ -228,12 +228,12 @@ impl Document {
     ghost use Rattle.std.specs.Prelude.{◌≡◌};
     ghost use Rattle.serde_json.specs.View.{members_view};
     ghost use Rattle.bson_model.specs.View.{pairs_of, members_of};
-    ghost use Rattle.bson_model.specs.JsonRead.{Gives, read_members};
+    ghost use Rattle.bson_model.specs.JsonRead.{GivesReading, read_members};
 
     /// The document of a JSON object, whose own keys are never taken for reserved ones; those of the objects below are. The
     /// errors are those of `Bson::try_from_value`.
     pub fn try_from_map(alloc: Global, map: Map<String, Value>) -> Result<Document>
-        ensures { Gives (λ d. members_of (pairs_of d)) result (read_members (members_view map.entries)) }
+        ensures { GivesReading (λ d. members_of (pairs_of d)) result (read_members (members_view map.entries)) }
     {
         read_members(alloc, map)
     }

@@ -10,7 +10,7 @@ ghost use Rattle.bson_base.specs.Scalars.{id_bytes, millis_of, decimal_bytes};
 ghost use Rattle.bson_base.specs.Tags.{subtype_byte};
 ghost use Rattle.bson_base.specs.Dates.{date_text as date_text_of};
 ghost use Rattle.bson_model.specs.JsonKeys as keys;
-ghost use Rattle.bson_model.specs.JsonWrite.{Writes, date_body as body_of, double_text as double_text_of, is_relaxed_date as is_relaxed, with_scope as with_scope_of, wrapped_text as wrapped_text_of, write, write_binary as binary_of, write_date as date_of, write_double as double_of, write_id as id_of, write_integer, write_items as items_of, write_members as members_written, write_millis as millis_of_date, write_pointer as pointer_of, write_regex as regex_of, write_timestamp as timestamp_of};
+ghost use Rattle.bson_model.specs.JsonWrite.{WritesForm, date_body as body_of, double_text as double_text_of, is_relaxed_date as is_relaxed, with_scope as with_scope_of, wrapped_text as wrapped_text_of, write, write_binary as binary_of, write_date as date_of, write_double as double_of, write_id as id_of, write_integer, write_items as items_of, write_members as members_written, write_millis as millis_of_date, write_pointer as pointer_of, write_regex as regex_of, write_timestamp as timestamp_of};
 ghost use Rattle.bson_model.specs.View.{view, pairs_of, items_of as trees_of, members_of};
 
 use super::de::Error;
@@ -34,7 +34,7 @@ impl Bson {
     /// The tree in canonical Extended JSON. `FiniteDouble` where a finite double other than the zeros stands in the value, `Memory`
     /// where a growth was refused.
     pub fn into_canonical_extjson(self, alloc: Global) -> Result<Value, Error>
-        ensures { Writes data_of result (write Mode.Canonical (view self)) }
+        ensures { WritesForm data_of result (write Mode.Canonical (view self)) }
     {
         write_value(alloc, self, Mode::Canonical)
     }
@@ -42,7 +42,7 @@ impl Bson {
     /// The tree in relaxed Extended JSON. `FiniteDouble` where a finite double other than the zeros stands in the value, `Memory`
     /// where a growth was refused.
     pub fn into_relaxed_extjson(self, alloc: Global) -> Result<Value, Error>
-        ensures { Writes data_of result (write Mode.Relaxed (view self)) }
+        ensures { WritesForm data_of result (write Mode.Relaxed (view self)) }
     {
         write_value(alloc, self, Mode::Relaxed)
     }
@@ -50,7 +50,7 @@ impl Bson {
 
 #[cycle(write)]
 fn write_value(alloc: Global, value: Bson, mode: Mode) -> Result<Value, Error>
-    ensures { Writes data_of result (write mode (view value)) }
+    ensures { WritesForm data_of result (write mode (view value)) }
 {
     match value {
         Bson::Double(double) => write_double(alloc, double),
@@ -82,7 +82,7 @@ fn write_value(alloc: Global, value: Bson, mode: Mode) -> Result<Value, Error>
 
 #[cycle(write)]
 fn write_items(alloc: Global, items: Vec<Bson>, mode: Mode) -> Result<Vec<Value>, Error>
-    ensures { Writes (λ v. items_view v.items) result (items_of mode (trees_of (map view items.items))) }
+    ensures { WritesForm (λ v. items_view v.items) result (items_of mode (trees_of (map view items.items))) }
 {
     let mut values = Vec::new(alloc);
     for item in items {
@@ -93,7 +93,7 @@ fn write_items(alloc: Global, items: Vec<Bson>, mode: Mode) -> Result<Vec<Value>
 
 #[cycle(write)]
 fn write_members(alloc: Global, document: Document, mode: Mode) -> Result<Map<String, Value>, Error>
-    ensures { Writes (λ m. members_view m.entries) result (members_written mode (members_of (pairs_of document)) no_members) }
+    ensures { WritesForm (λ m. members_view m.entries) result (members_written mode (members_of (pairs_of document)) no_members) }
 {
     let mut members = Map::new(alloc);
     for (key, value) in document.pairs.into_iter() {
@@ -167,7 +167,7 @@ fn double_text(double: DoubleBits) -> Option<&'static str>
 }
 
 fn write_double(alloc: Global, double: DoubleBits) -> Result<Value, Error>
-    ensures { Writes data_of result (double_of double.0) }
+    ensures { WritesForm data_of result (double_of double.0) }
 {
     match double_text(double) {
         Some(text) => Ok(wrapped_text(alloc, "$numberDouble", String::from_str(alloc, text)?)?),

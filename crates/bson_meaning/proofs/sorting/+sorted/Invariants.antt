@@ -1,7 +1,7 @@
 use Rattle.std.proofs.Common.{◌≡◌, length, map, ◌++◌, ◌+◌, ◌*◌, ◌≤◌}
 use Rattle.std.specs.Vec.Iter.{into_iter_items, into_iter_len}
 use Rattle.bson_base.specs.Value.{levels, items_levels, members_levels, ItemsHaveDistinctKeys, MembersHaveDistinctKeys}
-use Rattle.bson_model.specs.Rest.{owned_pair, into_iter_rest}
+use Rattle.bson_model.specs.Rest.{owned_member, into_iter_rest}
 use Rattle.bson_model.specs.View.{view, pairs_of, items_of, members_of}
 use Rattle.bson_meaning.specs.Meaning.{asc}
 use Rattle.bson_meaning.specs.Pairs.{sorted_pair}
@@ -30,7 +30,7 @@ invariant-sorted_items-loop-item l =
 
 abbrev pub invariant-sorted_pairs-loop-key : goal.invariant-sorted_pairs-loop-key
 invariant-sorted_pairs-loop-key l =
-    (map owned_pair l.pairs.items ++ map sorted_pair (into_iter_rest l.key-iterator) ≡ map sorted_pair (pairs_of l.fn.document))
+    (map owned_member l.pairs.items ++ map sorted_pair (into_iter_rest l.key-iterator) ≡ map sorted_pair (pairs_of l.fn.document))
     × MembersHaveDistinctKeys (members_of (into_iter_rest l.key-iterator))
     × (members_levels (members_of (into_iter_rest l.key-iterator)) ≤ members_levels (members_of (pairs_of l.fn.document)))
     × (goal.iterator-sorted_pairs-loop-key).can_next l.key-iterator

@@ -7,9 +7,9 @@ ghost use Rattle.bson_base.specs.Scalars.{id_bytes, millis_of, decimal_bytes};
 ghost use Rattle.bson_base.specs.Value.{binary};
 ghost use Rattle.bson_model.specs.View.{view};
 ghost use Rattle.bson_model.specs.JsonKeys.{reserved_of};
-ghost use Rattle.bson_model.specs.JsonWrappers.{meant};
+ghost use Rattle.bson_model.specs.JsonWrappers.{reserved_key};
 ghost use Rattle.bson_model.specs.declared.extjson.de.Error.TheVariants.{DeserializationError};
-ghost use Rattle.bson_model.specs.JsonRead.{accepted, Gives, base64_body, binary_body, both as both_of, byte_body as byte_of, date_body, decimal_body, double_body as double_of, id_body, int_body as int_of, is_one as one_of, is_true as true_of, long_body as long_of, pair_of, pointer_body, read_body as body_read, read_wrapped as wrapped_of, regex_body, scalar_of, single, text_of as text_read, timestamp_body, u32_from, u32_of, under as under_of, uuid_body, wanted};
+ghost use Rattle.bson_model.specs.JsonRead.{accepted, GivesReading, base64_body, binary_body, bodies_under as both_of, byte_body as byte_of, read_date_body, decimal_body, double_body as double_of, id_body, int_body as int_of, is_one as one_of, is_true as true_of, long_body as long_of, bodies_in, pointer_body, read_body as body_read, read_wrapped as wrapped_of, regex_body, scalar_of, single, text_of as text_read, timestamp_body, u32_from, u32_of, under as under_of, uuid_body, wanted};
 
 use super::keys::{Wrapper, wrapper_of};
 use super::texts::{read_byte, read_double, read_int, read_long};
@@ -23,7 +23,7 @@ use serde_json::{Map, Number, Value};
 use std::alloc::Global;
 
 pub(super) fn text_of(value: Value) -> Result<String>
-    ensures { Gives (λ t. string_bytes t) result (text_read (tree_of value)) }
+    ensures { GivesReading (λ t. string_bytes t) result (text_read (tree_of value)) }
 {
     match value {
         Value::String(text) => Ok(text),
@@ -33,7 +33,7 @@ pub(super) fn text_of(value: Value) -> Result<String>
 
 // The body of an object with this key alone.
 fn single(members: Map<String, Value>, key: &str) -> Result<Value>
-    ensures { Gives (λ v. tree_of v) result (single key.now (members_view members.entries)) }
+    ensures { GivesReading (λ v. tree_of v) result (single key.now (members_view members.entries)) }
 {
     let mut entries = members.into_iter();
     let Some((first, value)) = entries.next() else {
@@ -50,7 +50,7 @@ fn single(members: Map<String, Value>, key: &str) -> Result<Value>
 }
 
 fn under(value: Value, key: &str) -> Result<Value>
-    ensures { Gives (λ v. tree_of v) result (under_of key.now (tree_of value)) }
+    ensures { GivesReading (λ v. tree_of v) result (under_of key.now (tree_of value)) }
 {
     match value {
         Value::Object(members) => single(members, key),
@@ -60,7 +60,7 @@ fn under(value: Value, key: &str) -> Result<Value>
 
 // The bodies of an object with these two keys alone, the first one below the second.
 fn pair(members: Map<String, Value>, first: &str, second: &str) -> Result<(Value, Value)>
-    ensures { Gives (λ p. (tree_of p.0, tree_of p.1)) result (pair_of first.now second.now (members_view members.entries)) }
+    ensures { GivesReading (λ p. (tree_of p.0, tree_of p.1)) result (bodies_in first.now second.now (members_view members.entries)) }
 {
     let mut entries = members.into_iter();
     let Some((key, value)) = entries.next() else {
@@ -80,7 +80,7 @@ fn pair(members: Map<String, Value>, first: &str, second: &str) -> Result<(Value
 }
 
 fn both(value: Value, first: &str, second: &str) -> Result<(Value, Value)>
-    ensures { Gives (λ p. (tree_of p.0, tree_of p.1)) result (both_of first.now second.now (tree_of value)) }
+    ensures { GivesReading (λ p. (tree_of p.0, tree_of p.1)) result (both_of first.now second.now (tree_of value)) }
 {
     match value {
         Value::Object(members) => pair(members, first, second),
@@ -89,14 +89,14 @@ fn both(value: Value, first: &str, second: &str) -> Result<(Value, Value)>
 }
 
 fn object_id(value: Value) -> Result<ObjectId>
-    ensures { Gives (λ i. id_bytes i) result (id_body (tree_of value)) }
+    ensures { GivesReading (λ i. id_bytes i) result (id_body (tree_of value)) }
 {
     let text = text_of(value)?;
     Ok(ObjectId::parse_str(&text)?)
 }
 
 fn regex(alloc: Global, value: Value) -> Result<Regex>
-    ensures { Gives (λ r. (string_bytes r.pattern, string_bytes r.options)) result (regex_body (tree_of value)) }
+    ensures { GivesReading (λ r. (string_bytes r.pattern, string_bytes r.options)) result (regex_body (tree_of value)) }
 {
     let (options, pattern) = both(value, "options", "pattern")?;
     let options = text_of(options)?;
@@ -105,28 +105,28 @@ fn regex(alloc: Global, value: Value) -> Result<Regex>
 }
 
 fn int(value: Value) -> Result<i32>
-    ensures { Gives (λ z. z) result (int_of (tree_of value)) }
+    ensures { GivesReading (λ z. z) result (int_of (tree_of value)) }
 {
     let text = text_of(value)?;
     read_int(&text)
 }
 
 fn long(value: Value) -> Result<i64>
-    ensures { Gives (λ z. z) result (long_of (tree_of value)) }
+    ensures { GivesReading (λ z. z) result (long_of (tree_of value)) }
 {
     let text = text_of(value)?;
     read_long(&text)
 }
 
 fn double(value: Value) -> Result<u64>
-    ensures { Gives (λ n. n) result (double_of (tree_of value)) }
+    ensures { GivesReading (λ n. n) result (double_of (tree_of value)) }
 {
     let text = text_of(value)?;
     read_double(&text)
 }
 
 fn decimal(value: Value) -> Result<Decimal128>
-    ensures { Gives (λ d. decimal_bytes d) result (decimal_body (tree_of value)) }
+    ensures { GivesReading (λ d. decimal_bytes d) result (decimal_body (tree_of value)) }
 {
     let text = text_of(value)?;
     match text.parse::<Decimal128>() {
@@ -136,14 +136,14 @@ fn decimal(value: Value) -> Result<Decimal128>
 }
 
 fn byte(value: Value) -> Result<u8>
-    ensures { Gives (λ b. b) result (byte_of (tree_of value)) }
+    ensures { GivesReading (λ b. b) result (byte_of (tree_of value)) }
 {
     let text = text_of(value)?;
     read_byte(&text)
 }
 
 fn bytes(alloc: Global, value: Value, subtype: BinarySubtype) -> Result<Binary>
-    ensures { Gives (λ b. binary b.subtype b.bytes.items) result (base64_body subtype (tree_of value)) }
+    ensures { GivesReading (λ b. binary b.subtype b.bytes.items) result (base64_body subtype (tree_of value)) }
 {
     let text = text_of(value)?;
     match Binary::from_base64(alloc, &text, Some(subtype)) {
@@ -154,7 +154,7 @@ fn bytes(alloc: Global, value: Value, subtype: BinarySubtype) -> Result<Binary>
 }
 
 fn binary_value(alloc: Global, value: Value) -> Result<Binary>
-    ensures { Gives (λ b. binary b.subtype b.bytes.items) result (binary_body (tree_of value)) }
+    ensures { GivesReading (λ b. binary b.subtype b.bytes.items) result (binary_body (tree_of value)) }
 {
     let (base64, subtype) = both(value, "base64", "subType")?;
     let subtype = BinarySubtype::from(byte(subtype)?);
@@ -162,7 +162,7 @@ fn binary_value(alloc: Global, value: Value) -> Result<Binary>
 }
 
 fn uuid(alloc: Global, value: Value) -> Result<Binary>
-    ensures { Gives (λ b. binary b.subtype b.bytes.items) result (uuid_body (tree_of value)) }
+    ensures { GivesReading (λ b. binary b.subtype b.bytes.items) result (uuid_body (tree_of value)) }
 {
     let text = text_of(value)?;
     match Uuid::parse_str(&text) {
@@ -183,7 +183,7 @@ fn u32_from(n: Number) -> Option<u32>
 }
 
 fn unsigned(value: Value) -> Result<u32>
-    ensures { Gives (λ n. n) result (u32_of (tree_of value)) }
+    ensures { GivesReading (λ n. n) result (u32_of (tree_of value)) }
 {
     let Value::Number(n) = value else {
         return Err(Error::DeserializationError);
@@ -195,7 +195,7 @@ fn unsigned(value: Value) -> Result<u32>
 }
 
 fn timestamp(value: Value) -> Result<Timestamp>
-    ensures { Gives (λ t. (t.time, t.increment)) result (timestamp_body (tree_of value)) }
+    ensures { GivesReading (λ t. (t.time, t.increment)) result (timestamp_body (tree_of value)) }
 {
     let (increment, time) = both(value, "i", "t")?;
     let increment = unsigned(increment)?;
@@ -204,7 +204,7 @@ fn timestamp(value: Value) -> Result<Timestamp>
 }
 
 fn date_of_text(text: &str) -> Result<DateTime>
-    ensures { Gives (λ d. millis_of d) result (accepted (date_of text.now)) }
+    ensures { GivesReading (λ d. millis_of d) result (accepted (date_of text.now)) }
 {
     match DateTime::parse_rfc3339_str(text) {
         Ok(date) => Ok(date),
@@ -213,7 +213,7 @@ fn date_of_text(text: &str) -> Result<DateTime>
 }
 
 fn date_of_number(n: Number) -> Result<DateTime>
-    ensures { Gives (λ d. millis_of d) result (wanted (as_i64 (number_view n))) }
+    ensures { GivesReading (λ d. millis_of d) result (wanted (as_i64 (number_view n))) }
 {
     match n.as_i64() {
         Some(millis) => Ok(DateTime::from_millis(millis)),
@@ -222,7 +222,7 @@ fn date_of_number(n: Number) -> Result<DateTime>
 }
 
 fn date(value: Value) -> Result<DateTime>
-    ensures { Gives (λ d. millis_of d) result (date_body (tree_of value)) }
+    ensures { GivesReading (λ d. millis_of d) result (read_date_body (tree_of value)) }
 {
     match value {
         Value::String(text) => date_of_text(&text),
@@ -236,7 +236,7 @@ fn date(value: Value) -> Result<DateTime>
 }
 
 fn pointer(value: Value) -> Result<DbPointer>
-    ensures { Gives (λ p. (string_bytes p.namespace, id_bytes p.id)) result (pointer_body (tree_of value)) }
+    ensures { GivesReading (λ p. (string_bytes p.namespace, id_bytes p.id)) result (pointer_body (tree_of value)) }
 {
     let (id, namespace) = both(value, "$id", "$ref")?;
     let id = object_id(under(id, "$oid")?)?;
@@ -264,7 +264,7 @@ fn is_true(value: Value) -> bool
 
 // The value of a key that stands for one value alone, where its body is right.
 fn constant(is_right: bool, constant: Bson) -> Result<Bson>
-    ensures { Gives view result (if is_right then Ok (view constant) else Err DeserializationError) }
+    ensures { GivesReading view result (if is_right then Ok (view constant) else Err DeserializationError) }
 {
     if is_right {
         Ok(constant)
@@ -274,7 +274,7 @@ fn constant(is_right: bool, constant: Bson) -> Result<Bson>
 }
 
 fn read_body(alloc: Global, wrapper: Wrapper, value: Value) -> Result<Bson>
-    ensures { Gives view result (scalar_of (body_read (meant wrapper) (tree_of value))) }
+    ensures { GivesReading view result (scalar_of (body_read (reserved_key wrapper) (tree_of value))) }
 {
     match wrapper {
         Wrapper::Oid => Ok(Bson::ObjectId(object_id(value)?)),
@@ -298,7 +298,7 @@ fn read_body(alloc: Global, wrapper: Wrapper, value: Value) -> Result<Bson>
 
 /// The value of a wrapper with one key.
 pub(super) fn read_wrapped(alloc: Global, key: &str, value: Value) -> Result<Bson>
-    ensures { Gives view result (wrapped_of (reserved_of key.now) (tree_of value)) }
+    ensures { GivesReading view result (wrapped_of (reserved_of key.now) (tree_of value)) }
 {
     match wrapper_of(key) {
         Some(wrapper) => read_body(alloc, wrapper, value),

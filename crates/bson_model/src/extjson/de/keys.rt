@@ -2,7 +2,7 @@
 ghost use Rattle.std.specs.Prelude.{◌≡◌};
 ghost use Rattle.std.specs.Option.{option_map};
 ghost use Rattle.bson_model.specs.JsonKeys.{reserved_of, is_reserved as reserves};
-ghost use Rattle.bson_model.specs.JsonWrappers.{meant};
+ghost use Rattle.bson_model.specs.JsonWrappers.{reserved_key};
 
 /// The kinds of typed values, by their keys.
 #[derive(Clone, Copy, Drop)]
@@ -27,7 +27,7 @@ pub(super) enum Wrapper {
 
 #[tactic(auto, unfolding(crate::specs::JsonKeys::reserved_of))]
 pub(super) fn wrapper_of(key: &str) -> Option<Wrapper>
-    ensures { option_map meant result ≡ reserved_of key.now }
+    ensures { option_map reserved_key result ≡ reserved_of key.now }
 {
     match key {
         "$oid" => Some(Wrapper::Oid),

@@ -2,7 +2,7 @@ use Rattle.std.proofs.lemmas.Result.{err_from_is_err_and}
 use Rattle.sqlite.specs.Steps.{over_memory}
 use Rattle.sqlite.proofs.Callers.{memory_is_clean}
 use Rattle.bson_base.specs.Device.{Feed}
-use Rattle.bson_store.specs.Calls.{connection_of, held}
+use Rattle.bson_store.specs.Calls.{store_connection, held}
 use Rattle.bson_store.specs.Export.{Tally}
 use Rattle.bson_store_cli.proofs.Sending.{nothing_out, all_out, some_out}
 use Rattle.bson_store_cli.proofs.pipe.exchange.Goals as goal
@@ -21,7 +21,7 @@ returns-in-Ok g c =
     let new : Feed = record { failures = g.I.Source.failures c.keep.new.input; supply = g.I.Source.supply c.keep.new.input } in
     let before : Tally = record { failures = g.O.Sink.failures c.args.output.now; taken = g.O.Sink.taken c.args.output.now } in
     let after : Tally = record { failures = g.O.Sink.failures c.export.new.writer; taken = g.O.Sink.taken c.export.new.writer } in
-    all_out (held over_memory c.in_ok-store.store) (held over_memory c.export.new.self) old new before after (memory_is_clean (connection_of c.export.new.self)) c.in_ok-store.ensures.ok c.in-Ok.ensures
+    all_out (held over_memory c.in_ok-store.store) (held over_memory c.export.new.self) old new before after (memory_is_clean (store_connection c.export.new.self)) c.in_ok-store.ensures.ok c.in-Ok.ensures
 
 pub returns : goal.returns
 returns g c =
@@ -29,4 +29,4 @@ returns g c =
     let new : Feed = record { failures = g.I.Source.failures c.keep.new.input; supply = g.I.Source.supply c.keep.new.input } in
     let before : Tally = record { failures = g.O.Sink.failures c.args.output.now; taken = g.O.Sink.taken c.args.output.now } in
     let after : Tally = record { failures = g.O.Sink.failures c.export.new.writer; taken = g.O.Sink.taken c.export.new.writer } in
-    some_out (held over_memory c.in_ok-store.store) (held over_memory c.export.new.self) old new before after c.in-Err.error (memory_is_clean (connection_of c.export.new.self)) c.in_ok-store.ensures.ok c.in-Err.ensures
+    some_out (held over_memory c.in_ok-store.store) (held over_memory c.export.new.self) old new before after c.in-Err.error (memory_is_clean (store_connection c.export.new.self)) c.in_ok-store.ensures.ok c.in-Err.ensures

@@ -5,7 +5,7 @@ use Rattle.sqlite.specs.Values.{bound}
 use Rattle.sqlite.specs.State.{HasCleanDisk, IsUnchanged, Survives, CommitsShowing, FailsToQuery}
 use Rattle.sqlite.specs.Held.{state}
 use Rattle.sqlite.specs.Given.{HasGiven}
-use Rattle.bson_table.specs.Visit.{TookAll, value_of}
+use Rattle.bson_table.specs.Visit.{TookRows, first_value}
 use Rattle.bson_table.proofs.AnyLemmas.{leaves_nothing, begun_any, read_err}
 use Rattle.bson_table.proofs.VisitLemmas.{took_some, shown_before, values_on}
 use Rattle.bson_table.proofs.visiting.visit_values.Goals as goal
@@ -53,7 +53,7 @@ returns-in_default-clause-whole g c clean none =
     let was = c.rows.invariant.given (omega (arith, late, moved.survives.clean)) in
     let shown = (rw (c.in_ok-row.was, c.in_default.is) at (moved.ok late)) c.args.sql.now (bound c.args.params.now) was.0 was.1 in
     let all = shown_before c.args.sql.now (bound c.args.params.now) (state g.S.Store c.args.conn.now) (state g.S.Store c.rows.rows.conn.now) (state g.S.Store now) was.0 c.requires was.2 shown in
-    let took : TookAll (g.V.Visit.took c.args.visitor.now) c.rows.visitor c.args.sql.now (bound c.args.params.now) (state g.S.Store c.args.conn.now) (state g.S.Store now) = (was.0, all, was.3 none) in
+    let took : TookRows (g.V.Visit.took c.args.visitor.now) c.rows.visitor c.args.sql.now (bound c.args.params.now) (state g.S.Store c.args.conn.now) (state g.S.Store now) = (was.0, all, was.3 none) in
     search rules
 
 pub returns-in_default-clause-some : goal.returns-in_default-clause-some
@@ -93,6 +93,6 @@ rows-preserved g c =
           let was = c.rows.invariant.given (omega (arith, late, moved.survives.clean)) in
           let on : HasGiven g.S.Store sql params now (was.0 ++ row ∷ []) = (rw (c.in_ok-row.was, c.in-Some.is) at (moved.ok late)) sql params was.0 was.1 in
           let still : IsUnchanged mid (state g.S.Store now) = rw c.in_ok-row.was at (moved.same late) in
-          let one = ap (λ (b : List ℕ). map value_of was.0 ++ b ∷ []) c.bytes_at.ensures ∙ sym (values_on was.0 row) in
-          (was.0 ++ row ∷ [], on, unchanged_then old mid (state g.S.Store now) was.2 still, λ none. subst (λ (vs : List (List ℕ)). g.V.Visit.took c.args.visitor.now c.visit-wants.new.self vs) one (c.visit-wants.ensures.took c.args.visitor.now (map value_of was.0) (was.3 none)));
+          let one = ap (λ (b : List ℕ). map first_value was.0 ++ b ∷ []) c.bytes_at.ensures ∙ sym (values_on was.0 row) in
+          (was.0 ++ row ∷ [], on, unchanged_then old mid (state g.S.Store now) was.2 still, λ none. subst (λ (vs : List (List ℕ)). g.V.Visit.took c.args.visitor.now c.visit-wants.new.self vs) one (c.visit-wants.ensures.took c.args.visitor.now (map first_value was.0) (was.3 none)));
     }

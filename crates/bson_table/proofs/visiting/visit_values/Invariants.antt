@@ -4,7 +4,7 @@ use Rattle.sqlite.specs.Values.{bound}
 use Rattle.sqlite.specs.State.{HasCleanDisk, IsUnchanged, Survives}
 use Rattle.sqlite.specs.Held.{state}
 use Rattle.sqlite.specs.Given.{HasGiven}
-use Rattle.bson_table.specs.Visit.{value_of}
+use Rattle.bson_table.specs.Visit.{first_value}
 use Rattle.bson_table.proofs.visiting.visit_values.Given as goal
 
 abbrev pub invariant-rows : goal.invariant-rows
@@ -15,5 +15,5 @@ invariant-rows g l =
       same : l.rows.conn.ghost_name ≡ l.initial.rows.conn.ghost_name;
       stopped : l.wants ≡ false → g.V.Visit.is_done l.visitor;
       survives : Survives old now (λ _. ⊥);
-      given : HasCleanDisk now → (given : List Row) × HasGiven g.S.Store l.sql (bound l.params) l.rows.conn.now given × IsUnchanged old now × (g.V.Visit.took l.fn.visitor l.fn.visitor [] → g.V.Visit.took l.fn.visitor l.visitor (map value_of given));
+      given : HasCleanDisk now → (given : List Row) × HasGiven g.S.Store l.sql (bound l.params) l.rows.conn.now given × IsUnchanged old now × (g.V.Visit.took l.fn.visitor l.fn.visitor [] → g.V.Visit.took l.fn.visitor l.visitor (map first_value given));
     }

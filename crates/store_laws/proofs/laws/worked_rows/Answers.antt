@@ -2,7 +2,7 @@ use Rattle.std.proofs.Common.{◌∷◌, [], inl, inr, Some, None, refl, arith}
 use Rattle.std.specs.Prelude.{codes}
 use Rattle.std.specs.Fmt.{digits}
 use Rattle.bson_bytes.specs.Encode.{le32, le64, text_bytes, ended, framed}
-use Rattle.store_laws.specs.Rows.{with_a, with_id, with_two, one}
+use Rattle.store_laws.specs.Rows.{with_a, with_id, with_two, int_one}
 use Rattle.store_laws.specs.State.{IsFreeKey}
 use Rattle.store_laws.specs.declared.error.ErrorKind.TheVariants.{EndInside}
 use Rattle.store_laws.proofs.laws.worked_rows.Goals as goal
@@ -32,7 +32,7 @@ returns c = record {
     free,
     inl (
       [],
-      with_a one,
+      with_a int_one,
       with_two ∷ [],
       record { split = refl; before = tt; has = refl },
       inr (λ h. omega (arith, h), inl (((omega arith, (omega arith, (omega arith, tt))), tt, ((omega arith, tt), tt, tt)), inr (λ h. omega (arith, h), (refl, refl)))),
@@ -40,7 +40,7 @@ returns c = record {
   );
   set_id = inr (λ f. f.0 refl, (refl, refl));
   set_none = inl (free, (refl, refl));
-  unset_a = inl (free, inl ([], with_a one, [], record { split = refl; before = tt; has = refl }, (refl, refl)));
+  unset_a = inl (free, inl ([], with_a int_one, [], record { split = refl; before = tt; has = refl }, (refl, refl)));
   unset_again = inl (free, inl ([], with_id, [], record { split = refl; before = tt; has = refl }, (refl, refl)));
   in_its_place = inl ([], with_id, with_two ∷ [], record { split = refl; before = tt; has = refl }, (refl, refl));
   again = inr (λ t. elim t [ inl e ↦ cc | inr x ↦ x ], inl (inl refl, (refl, refl)));

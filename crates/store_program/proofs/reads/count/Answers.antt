@@ -12,5 +12,5 @@ use Rattle.store_program.proofs.reads.count.Goals as goal
 pub returns : goal.returns
 returns g c =
     let n = c.args.name.now in
-    performs (held g.S.Store c.args.store.now) (held g.S.Store c.count.new.self) (IsCommandOf words.Count n (map string_bytes c.args.words.now)) (model.on n (model.count (filter_of c.in_ok-filter.filter))) as_number answers.as_number c.count.result c.number.result
+    performs (held g.S.Store c.args.store.now) (held g.S.Store c.count.new.self) (IsCommandOf words.Count n (map string_bytes c.args.words.now)) (model.on n (model.count (filter_of c.in_ok-filter.filter))) as_number answers.number_answer c.count.result c.number.result
     ((filter_of c.in_ok-filter.filter, refl)) (λ x no. no) c.number.ensures c.count.ensures

@@ -2,7 +2,7 @@ use Rattle.std.proofs.Common.{◌≡◌, [], Err, length, sym, ◌∙◌, subst,
 use Rattle.std.proofs.lemmas.List.{nil_from_length}
 use Rattle.std.proofs.lemmas.Result.{err_from_is_err_and}
 use Rattle.store_laws.specs.Reading.{ReadsStream}
-use Rattle.store_streams.specs.Judging.{Judges, refusal_at}
+use Rattle.store_streams.specs.Judging.{Judges, stream_refusal}
 use Rattle.store_streams.proofs.Going.{judged_memory, judged_refused}
 use Rattle.store_streams.proofs.SoFar.{so_far_pushed, so_far_done}
 use Rattle.store_streams.proofs.Streams.{any_stream, stream_end}
@@ -24,7 +24,7 @@ returns-in-Err c =
     let rows = c.loop-rest.rows.items in
     let place : c.len.result ≡ length rows = c.len.ensures ∙ c.loop-rest.rows.ok.0 in
     let told = judged_refused (ReadsStream c.args.bytes.now) (ReadsStream c.loop-rest.rest.now) rows (length rows) c.in-Err.kind c.loop-rest.invariant (any_stream c.loop-rest.rest.now) c.in-Err.ensures.answer in
-    subst (λ e. Judges (ReadsStream c.args.bytes.now) (Err e)) (sym c.at.ensures) (subst (λ n. Judges (ReadsStream c.args.bytes.now) (Err (refusal_at c.in-Err.kind n))) (sym place) told)
+    subst (λ e. Judges (ReadsStream c.args.bytes.now) (Err e)) (sym c.at.ensures) (subst (λ n. Judges (ReadsStream c.args.bytes.now) (Err (stream_refusal c.in-Err.kind n))) (sym place) told)
 
 pub returns : goal.returns
 returns c =

@@ -5,7 +5,7 @@ use Rattle.std.proofs.lemmas.Result.{err_from_is_err_and}
 use Rattle.serde_json.specs.View.{view}
 use Rattle.serde_json.specs.declared.value.Value.{Value}
 use Rattle.store_laws.specs.Reading.{ReadsTrees}
-use Rattle.store_streams.specs.Judging.{Judges, RefusesFront, refusal_at}
+use Rattle.store_streams.specs.Judging.{Judges, RefusesFront, stream_refusal}
 use Rattle.store_streams.proofs.Going.{tree_refused, judged_memory, judged_refused}
 use Rattle.store_streams.proofs.SoFar.{so_far_pushed, so_far_done}
 use Rattle.store_streams.proofs.Streams.{any_trees, trees_end, trees_more}
@@ -38,7 +38,7 @@ returns-in-Err c =
     let place : c.len.result ≡ length rows = c.len.ensures ∙ c.loop-json.rows.ok.0 in
     let front = subst (λ us. RefusesFront (ReadsTrees (map view us)) c.in-Err.kind) (sym first) (tree_refused (view c.in-Some.json) (map view ws) c.in-Err.kind c.in-Err.ensures) in
     let told = judged_refused (ReadsTrees all) (ReadsTrees (map view vs)) rows (length rows) c.in-Err.kind c.loop-json.invariant (any_trees (map view vs)) front in
-    subst (λ e. Judges (ReadsTrees all) (Err e)) (sym c.at.ensures) (subst (λ n. Judges (ReadsTrees all) (Err (refusal_at c.in-Err.kind n))) (sym place) told)
+    subst (λ e. Judges (ReadsTrees all) (Err e)) (sym c.at.ensures) (subst (λ n. Judges (ReadsTrees all) (Err (stream_refusal c.in-Err.kind n))) (sym place) told)
 
 pub returns : goal.returns
 returns c =

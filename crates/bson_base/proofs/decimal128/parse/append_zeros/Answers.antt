@@ -5,10 +5,10 @@ use Rattle.bson_base.proofs.DecimalLemmas.{value_after-zeros}
 use Rattle.bson_base.proofs.decimal128.parse.append_zeros.Goals as goal
 
 pub times_ten-coefficient-requires-clause-low : goal.times_ten-coefficient-requires-clause-low
-times_ten-coefficient-requires-clause-low c = rw c.len-then-len-zeros-le34.ensures c.value.ensures.small
+times_ten-coefficient-requires-clause-low c = rw c.len-then-len-zeros-le-DIGITS.ensures c.value.ensures.small
 
-pub returns-then-len-zeros-le34-clause-value : goal.returns-then-len-zeros-le34-clause-value
-returns-then-len-zeros-le34-clause-value c =
+pub returns-then-len-zeros-le-DIGITS-clause-value : goal.returns-then-len-zeros-le-DIGITS-clause-value
+returns-then-len-zeros-le-DIGITS-clause-value c =
     let ds = digits_of c.args.digits in
     let short : length ds + c.args.zeros ≤ 34 = omega arith in
     let t : nat_le (length ds + c.args.zeros) 34 ≡ true = grind arith in

@@ -1,5 +1,5 @@
 use Rattle.std.proofs.Common.{◌≡◌, ◌<◌, ◌^◌, Some, None, length, IfOk, IfErr, position, refl, sym, ap, ◌∙◌, subst}
-use Rattle.bson_pairs.specs.Index.{is_key, places_of, StandsAt, GoesAt}
+use Rattle.bson_pairs.specs.Index.{is_key, places_of, IsIndexedAt, GoesAt}
 use Rattle.bson_pairs.specs.Keyed.{key_bytes}
 use Rattle.bson_pairs.proofs.IndexLemmas.{found_position, found_within, gone_position, order_length}
 use Rattle.bson_pairs.proofs.keys.Keys.find.Goals as goal
@@ -8,14 +8,14 @@ pub returns-in-Ok-default-clause-index : goal.returns-in-Ok-default-clause-index
 returns-in-Ok-default-clause-index c =
     let i = c.self.inside in
     let k = c.args.key.now in
-    let stands = subst (λ us. StandsAt k c.in-Ok-default.at (key_bytes us)) c.as_slice.ensures.value (subst (λ r. IfOk r (λ j. StandsAt k j (key_bytes c.as_slice.result.now))) c.in-Ok-default.is-0 c.search.ensures.stands) in
+    let stands = subst (λ us. IsIndexedAt k c.in-Ok-default.at (key_bytes us)) c.as_slice.ensures.value (subst (λ r. IfOk r (λ j. IsIndexedAt k j (key_bytes c.as_slice.result.now))) c.in-Ok-default.is-0 c.search.ensures.stands) in
     found_position i.texts.items k i.order.items c.in-Ok-default.at c.index.result.now c.self.invariant.0 stands c.index.ensures ∙ ap (position (is_key k)) c.self.view_is
 
 pub returns-in-Ok-default-clause-within : goal.returns-in-Ok-default-clause-within
 returns-in-Ok-default-clause-within c =
     let i = c.self.inside in
     let k = c.args.key.now in
-    let stands = subst (λ us. StandsAt k c.in-Ok-default.at (key_bytes us)) c.as_slice.ensures.value (subst (λ r. IfOk r (λ j. StandsAt k j (key_bytes c.as_slice.result.now))) c.in-Ok-default.is-0 c.search.ensures.stands) in
+    let stands = subst (λ us. IsIndexedAt k c.in-Ok-default.at (key_bytes us)) c.as_slice.ensures.value (subst (λ r. IfOk r (λ j. IsIndexedAt k j (key_bytes c.as_slice.result.now))) c.in-Ok-default.is-0 c.search.ensures.stands) in
     subst (λ l. c.index.result.now < length l) c.self.view_is (found_within i.texts.items k i.order.items c.in-Ok-default.at c.index.result.now c.self.invariant.0 stands c.index.ensures)
 
 pub returns-in-Ok-default-clause-compared : goal.returns-in-Ok-default-clause-compared

@@ -1,6 +1,6 @@
 use Rattle.std.proofs.Common.{length, map, Ok, Err, ap, refl, ◌∙◌}
 use Rattle.std.proofs.lemmas.Result.{err_from_is_err_and}
-use Rattle.bson_table.specs.Moves.{Appends, all_appended}
+use Rattle.bson_table.specs.Moves.{AddsRows, all_appended}
 use Rattle.bson_table.specs.declared.fault.Fault.TheVariants as faults
 use Rattle.store_documents.specs.Names.{name_bytes}
 use Rattle.store_laws.specs.declared.error.ErrorKind.TheVariants.{DuplicateId}
@@ -49,7 +49,7 @@ returns-in_err-write_all g c =
     let e = refusal (kind_of_fault x) in
     let p = err_from_is_err_and c.from_residual-in_err-write_all.result c.from_residual-in_err-write_all.ensures.1 in
     rw (p.1, p.2)
-    (moved_twice (held g.S.Store c.args.self.now) (held g.S.Store c.first_taken.new.self) (held g.S.Store c.write_all.new.self) (FindsTaken n rows (Ok o)) (Appends (length (map row_of rows)) (all_appended n (map row_of rows)) (Err x)) (AddsAll n rows (Err e))
+    (moved_twice (held g.S.Store c.args.self.now) (held g.S.Store c.first_taken.new.self) (held g.S.Store c.write_all.new.self) (FindsTaken n rows (Ok o)) (AddsRows (length (map row_of rows)) (all_appended n (map row_of rows)) (Err x)) (AddsAll n rows (Err e))
     (rw (c.as_str-coll.ensures.text, c.as_slice.ensures.value) at c.in_ok-taken.ensures) (rw (c.as_str-coll.ensures.text, c.as_slice-2.ensures.value, c.in_ok-new.ensures) at c.in_err-write_all.ensures)
     (λ docs mid after h l. not_added docs mid after n rows o x e (rw c.as_str-coll.ensures.text at c.as_str-coll.ensures.named) c.in_default.is refl h l))
 
@@ -58,7 +58,7 @@ returns g c =
     let n = name_bytes c.args.name in
     let rows = c.args.rows.items in
     let o = c.in_ok-taken.taken in
-    moved_twice (held g.S.Store c.args.self.now) (held g.S.Store c.first_taken.new.self) (held g.S.Store c.write_all.new.self) (FindsTaken n rows (Ok o)) (Appends (length (map row_of rows)) (all_appended n (map row_of rows)) (Ok tt)) (AddsAll n rows (Ok c.len.result))
+    moved_twice (held g.S.Store c.args.self.now) (held g.S.Store c.first_taken.new.self) (held g.S.Store c.write_all.new.self) (FindsTaken n rows (Ok o)) (AddsRows (length (map row_of rows)) (all_appended n (map row_of rows)) (Ok tt)) (AddsAll n rows (Ok c.len.result))
     (rw (c.as_str-coll.ensures.text, c.as_slice.ensures.value) at c.in_ok-taken.ensures) (rw (c.as_str-coll.ensures.text, c.as_slice-2.ensures.value, c.in_ok-new.ensures) at c.in_ok-write_all.ensures)
     (λ docs mid after h l. added docs mid after n rows o c.len.result (rw c.as_str-coll.ensures.text at c.as_str-coll.ensures.named) (rw c.as_str-coll.ensures.text at c.as_str-coll.utf8) c.in_default.is
     (c.len.ensures ∙ c.in_ok-new.new.ok.0 ∙ ap length c.in_ok-new.ensures) h l)

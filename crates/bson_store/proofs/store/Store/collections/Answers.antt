@@ -1,7 +1,7 @@
 use Rattle.std.proofs.Common.{None, Ok, Err}
 use Rattle.std.proofs.lemmas.Result.{err_from_is_err_and}
 use Rattle.bson_table.specs.Moves.{Lists}
-use Rattle.bson_table.specs.Table.{state_of}
+use Rattle.bson_table.specs.Table.{table_state}
 use Rattle.store_laws.specs.State as model
 use Rattle.bson_store.specs.Calls.{Does, held}
 use Rattle.bson_store.specs.Questions.{as_names}
@@ -15,9 +15,9 @@ returns-in_err-names g c =
     let p = err_from_is_err_and c.from_residual.result c.from_residual.ensures.1 in
     let x = c.in_err-names.field-0.0 in
     rw (p.1, p.2)
-    (moved (held g.S.Store c.args.self.now) (state_of g.S.Store c.collections.new.self) (Lists (Err x)) (Does model.collections (model.refused (kind_of_fault x) None)) c.in_err-names.ensures.moves (λ docs after h. unlisted docs after x h))
+    (moved (held g.S.Store c.args.self.now) (table_state g.S.Store c.collections.new.self) (Lists (Err x)) (Does model.collections (model.refused (kind_of_fault x) None)) c.in_err-names.ensures.moves (λ docs after h. unlisted docs after x h))
 
 pub returns : goal.returns
 returns g c =
-    moved (held g.S.Store c.args.self.now) (state_of g.S.Store c.collections.new.self) (Lists (Ok c.in_ok-names.names)) (Does model.collections (reply_by as_names c.names_of.result)) c.in_ok-names.ensures.moves
+    moved (held g.S.Store c.args.self.now) (table_state g.S.Store c.collections.new.self) (Lists (Ok c.in_ok-names.names)) (Does model.collections (reply_by as_names c.names_of.result)) c.in_ok-names.ensures.moves
     (λ docs after h. told docs after c.in_ok-names.names c.names_of.result c.names_of.ensures.same c.names_of.ensures.ascending c.names_of.ensures.refused h)

@@ -1,7 +1,7 @@
 use Rattle.std.proofs.Common.{Ok, Err, None, refl, subst, sym}
 use Rattle.std.proofs.lemmas.Result.{err_from_is_err_and}
 use Rattle.bson_table.specs.Moves.{Visits}
-use Rattle.bson_table.specs.Table.{state_of}
+use Rattle.bson_table.specs.Table.{table_state}
 use Rattle.store_documents.specs.Names.{name_bytes}
 use Rattle.store_laws.specs.State.{IsName}
 use Rattle.bson_store.specs.Calls.{held}
@@ -27,7 +27,7 @@ returns-in_err-visit_bodies g c start =
     let n = name_bytes c.in_ok-name.name in
     let x = c.in_err-visit_bodies.field-0.0 in
     rw (p.1, p.2)
-    (moved (held g.S.Store c.args.self.now) (state_of g.S.Store c.visit_bodies.new.self) (Visits (Took took refuses first) first last n (Err x)) (HandsTrees (took c.args.taker) refuses c.args.name.now (Err (refusal (kind_of_fault x))))
+    (moved (held g.S.Store c.args.self.now) (table_state g.S.Store c.visit_bodies.new.self) (Visits (Took took refuses first) first last n (Err x)) (HandsTrees (took c.args.taker) refuses c.args.name.now (Err (refusal (kind_of_fault x))))
     (rw c.as_str.ensures.text at c.in_err-visit_bodies.ensures.moves)
     (λ docs after h. subst (λ m. HandsTrees (took c.args.taker) refuses m (Err (refusal (kind_of_fault x))) docs after) c.in_ok-name.ensures.0 (unhanded took refuses first last n docs after start refl refl (subst IsName (sym c.in_ok-name.ensures.0) c.in_ok-name.ensures.1) x h)))
 
@@ -39,7 +39,7 @@ returns-in-None g c start =
     let last = c.visit_bodies.new.visitor in
     let n = name_bytes c.in_ok-name.name in
     let all = c.in_ok-visit_bodies.field-0 in
-    moved (held g.S.Store c.args.self.now) (state_of g.S.Store c.visit_bodies.new.self) (Visits (Took took refuses first) first last n (Ok all)) (HandsTrees (took c.args.taker) refuses c.args.name.now (Ok last.taker))
+    moved (held g.S.Store c.args.self.now) (table_state g.S.Store c.visit_bodies.new.self) (Visits (Took took refuses first) first last n (Ok all)) (HandsTrees (took c.args.taker) refuses c.args.name.now (Ok last.taker))
     (rw c.as_str.ensures.text at c.in_ok-visit_bodies.ensures.moves)
     (λ docs after h. subst (λ m. HandsTrees (took c.args.taker) refuses m (Ok last.taker) docs after) c.in_ok-name.ensures.0
     (handed took refuses first last n docs after start refl refl (subst IsName (sym c.in_ok-name.ensures.0) c.in_ok-name.ensures.1) all c.in-None.is c.in_ok-visit_bodies.ensures.stopped h))
@@ -52,7 +52,7 @@ returns-in-Some g c start =
     let last = c.visit_bodies.new.visitor in
     let n = name_bytes c.in_ok-name.name in
     let all = c.in_ok-visit_bodies.field-0 in
-    moved (held g.S.Store c.args.self.now) (state_of g.S.Store c.visit_bodies.new.self) (Visits (Took took refuses first) first last n (Ok all)) (HandsTrees (took c.args.taker) refuses c.args.name.now (Err c.in-Some.error))
+    moved (held g.S.Store c.args.self.now) (table_state g.S.Store c.visit_bodies.new.self) (Visits (Took took refuses first) first last n (Ok all)) (HandsTrees (took c.args.taker) refuses c.args.name.now (Err c.in-Some.error))
     (rw c.as_str.ensures.text at c.in_ok-visit_bodies.ensures.moves)
     (λ docs after h. subst (λ m. HandsTrees (took c.args.taker) refuses m (Err c.in-Some.error) docs after) c.in_ok-name.ensures.0
     (stopped_at took refuses first last n docs after start refl refl (subst IsName (sym c.in_ok-name.ensures.0) c.in_ok-name.ensures.1) all c.in-Some.error c.in-Some.is h))

@@ -2,7 +2,7 @@ use Rattle.std.proofs.Common.{Ok, Err, None, refl}
 use Rattle.std.proofs.lemmas.Result.{err_from_is_err_and}
 use Rattle.bson_filter.specs.Filters.{filter_of}
 use Rattle.bson_table.specs.Moves.{Visits}
-use Rattle.bson_table.specs.Table.{state_of}
+use Rattle.bson_table.specs.Table.{table_state}
 use Rattle.store_documents.specs.Names.{name_bytes}
 use Rattle.bson_store.specs.Calls.{held}
 use Rattle.bson_store.specs.Questions.{Picked}
@@ -21,7 +21,7 @@ returns-in_err-visit_bodies g c =
     let n = name_bytes c.args.name in
     let x = c.in_err-visit_bodies.field-0.0 in
     rw (p.1, p.2)
-    (moved (held g.S.Store c.args.self.now) (state_of g.S.Store c.visit_bodies.new.self) (Visits (Took took first) first last n (Err x)) (Picked (took c.args.taker) n (filter_of c.args.filter.now) (Err (refusal (kind_of_fault x))))
+    (moved (held g.S.Store c.args.self.now) (table_state g.S.Store c.visit_bodies.new.self) (Visits (Took took first) first last n (Err x)) (Picked (took c.args.taker) n (filter_of c.args.filter.now) (Err (refusal (kind_of_fault x))))
     (rw c.as_str.ensures.text at c.in_err-visit_bodies.ensures.moves)
     (λ docs after h. untaken took first last n docs after c.requires refl x h))
 
@@ -32,7 +32,7 @@ returns-in-None g c =
     let last = c.visit_bodies.new.visitor in
     let n = name_bytes c.args.name in
     let all = c.in_ok-visit_bodies.field-0 in
-    moved (held g.S.Store c.args.self.now) (state_of g.S.Store c.visit_bodies.new.self) (Visits (Took took first) first last n (Ok all)) (Picked (took c.args.taker) n (filter_of c.args.filter.now) (Ok last.taker))
+    moved (held g.S.Store c.args.self.now) (table_state g.S.Store c.visit_bodies.new.self) (Visits (Took took first) first last n (Ok all)) (Picked (took c.args.taker) n (filter_of c.args.filter.now) (Ok last.taker))
     (rw c.as_str.ensures.text at c.in_ok-visit_bodies.ensures.moves)
     (λ docs after h. taken took first last n docs after c.requires refl all c.in-None.is c.in_ok-visit_bodies.ensures.stopped h)
 
@@ -43,6 +43,6 @@ returns-in-Some g c =
     let last = c.visit_bodies.new.visitor in
     let n = name_bytes c.args.name in
     let all = c.in_ok-visit_bodies.field-0 in
-    moved (held g.S.Store c.args.self.now) (state_of g.S.Store c.visit_bodies.new.self) (Visits (Took took first) first last n (Ok all)) (Picked (took c.args.taker) n (filter_of c.args.filter.now) (Err c.in-Some.error))
+    moved (held g.S.Store c.args.self.now) (table_state g.S.Store c.visit_bodies.new.self) (Visits (Took took first) first last n (Ok all)) (Picked (took c.args.taker) n (filter_of c.args.filter.now) (Err c.in-Some.error))
     (rw c.as_str.ensures.text at c.in_ok-visit_bodies.ensures.moves)
     (λ docs after h. refused_one took first last n docs after c.requires refl all c.in-Some.error c.in-Some.is h)

@@ -1,12 +1,12 @@
 use Rattle.std.proofs.Common.{inr, refl}
 use Rattle.std.proofs.lemmas.Result.{err_from_is_err_and}
 use Rattle.bson_store.specs.Calls.{held}
-use Rattle.bson_table.specs.Table.{state_of}
+use Rattle.bson_table.specs.Table.{table_state}
 use Rattle.store_documents.specs.Names.{name_bytes}
 use Rattle.bson_model.specs.View.{view}
 use Rattle.store_laws.specs.State as model
 use Rattle.bson_store.proofs.Exits.{bad_moves, unlooked_moves, none_moves, removed_moves, unchanged_moves}
-use Rattle.bson_table.specs.Rows.{without}
+use Rattle.bson_table.specs.Rows.{without_place}
 use Rattle.bson_store.proofs.store.Store.remove.Goals as goal
 
 pub returns-in_err-name : goal.returns-in_err-name
@@ -21,11 +21,11 @@ returns-in_default g c =
 pub returns-in_err-remove_at : goal.returns-in_err-remove_at
 returns-in_err-remove_at g c =
     let p = err_from_is_err_and c.from_residual-in_err-remove_at.result c.from_residual-in_err-remove_at.ensures.1 in
-    rw (p.1, p.2) (unchanged_moves (held g.S.Store c.args.self.now) (held g.S.Store c.row_of.new.self) (state_of g.S.Store c.remove_at.new.self) c.args.name.now (name_bytes c.in_ok-name.name) (view c.args.id.now) c.in_ok-found.field-0 c.in-Some.found (model.remove (view c.args.id.now)) (without c.in-Some.found.place) c.in_err-remove_at.field-0.0 c.in_ok-name.ensures.0 c.in-Some.is c.in_ok-name.ensures.1 (λ x. x) c.in_ok-found.ensures c.in_err-remove_at.ensures.moves)
+    rw (p.1, p.2) (unchanged_moves (held g.S.Store c.args.self.now) (held g.S.Store c.row_of.new.self) (table_state g.S.Store c.remove_at.new.self) c.args.name.now (name_bytes c.in_ok-name.name) (view c.args.id.now) c.in_ok-found.field-0 c.in-Some.found (model.remove (view c.args.id.now)) (without_place c.in-Some.found.place) c.in_err-remove_at.field-0.0 c.in_ok-name.ensures.0 c.in-Some.is c.in_ok-name.ensures.1 (λ x. x) c.in_ok-found.ensures c.in_err-remove_at.ensures.moves)
 
 pub returns : goal.returns
 returns g c =
-    removed_moves (held g.S.Store c.args.self.now) (held g.S.Store c.row_of.new.self) (state_of g.S.Store c.remove_at.new.self) c.args.name.now (name_bytes c.in_ok-name.name) (view c.args.id.now) c.in_ok-found.field-0 c.in-Some.found c.in_ok-name.ensures.0 c.in-Some.is c.in_ok-name.ensures.1 c.in_ok-found.ensures c.in_ok-remove_at.ensures.moves
+    removed_moves (held g.S.Store c.args.self.now) (held g.S.Store c.row_of.new.self) (table_state g.S.Store c.remove_at.new.self) c.args.name.now (name_bytes c.in_ok-name.name) (view c.args.id.now) c.in_ok-found.field-0 c.in-Some.found c.in_ok-name.ensures.0 c.in-Some.is c.in_ok-name.ensures.1 c.in_ok-found.ensures c.in_ok-remove_at.ensures.moves
 
 pub returns-in_err-found : goal.returns-in_err-found
 returns-in_err-found g c =

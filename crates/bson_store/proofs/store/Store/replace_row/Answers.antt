@@ -1,6 +1,6 @@
 use Rattle.std.proofs.lemmas.Result.{err_from_is_err_and}
 use Rattle.bson_store.specs.Calls.{held}
-use Rattle.bson_table.specs.Table.{state_of}
+use Rattle.bson_table.specs.Table.{table_state}
 use Rattle.store_documents.specs.Names.{name_bytes}
 use Rattle.bson_store.proofs.Exits.{unfound_replace, none_replace, place_moves, not_place_moves}
 use Rattle.bson_store.proofs.store.Store.replace_row.Goals as goal
@@ -8,17 +8,17 @@ use Rattle.bson_store.proofs.store.Store.replace_row.Goals as goal
 pub returns-in_err-found : goal.returns-in_err-found
 returns-in_err-found g c d read told =
     let p = err_from_is_err_and c.from_residual.result c.from_residual.ensures.1 in
-    rw (p.1, p.2) (unfound_replace (held g.S.Store c.args.self.now) (state_of g.S.Store c.named.new.self) (name_bytes c.args.name) d c.args.row.now c.in_err-found.field-0.0 (rw c.as_str-coll.ensures.text at c.as_str-coll.ensures.named) read told (rw (c.as_str-coll.ensures.text, c.as_slice-key.ensures.value) at c.in_err-found.ensures.moves))
+    rw (p.1, p.2) (unfound_replace (held g.S.Store c.args.self.now) (table_state g.S.Store c.named.new.self) (name_bytes c.args.name) d c.args.row.now c.in_err-found.field-0.0 (rw c.as_str-coll.ensures.text at c.as_str-coll.ensures.named) read told (rw (c.as_str-coll.ensures.text, c.as_slice-key.ensures.value) at c.in_err-found.ensures.moves))
 
 pub returns-in_default : goal.returns-in_default
 returns-in_default g c d read told =
-    rw c.from.ensures (none_replace (held g.S.Store c.args.self.now) (state_of g.S.Store c.named.new.self) (name_bytes c.args.name) d c.args.row.now c.in_ok-found.field-0 (rw c.as_str-coll.ensures.text at c.as_str-coll.ensures.named) read told c.in_default.is (rw (c.as_str-coll.ensures.text, c.as_slice-key.ensures.value) at c.in_ok-found.ensures.moves))
+    rw c.from.ensures (none_replace (held g.S.Store c.args.self.now) (table_state g.S.Store c.named.new.self) (name_bytes c.args.name) d c.args.row.now c.in_ok-found.field-0 (rw c.as_str-coll.ensures.text at c.as_str-coll.ensures.named) read told c.in_default.is (rw (c.as_str-coll.ensures.text, c.as_slice-key.ensures.value) at c.in_ok-found.ensures.moves))
 
 pub returns-in_err-put_back : goal.returns-in_err-put_back
 returns-in_err-put_back g c d read told =
     let p = err_from_is_err_and c.from_residual-in_err-put_back.result c.from_residual-in_err-put_back.ensures.1 in
-    rw (p.1, p.2) (not_place_moves (held g.S.Store c.args.self.now) (state_of g.S.Store c.named.new.self) (held g.S.Store c.put_back.new.self) (name_bytes c.args.name) d c.args.row.now c.in_ok-found.field-0 c.in-Some.found c.in_err-put_back.field-0.0 (rw c.as_str-coll.ensures.text at c.as_str-coll.ensures.named) read told c.in-Some.is (rw (c.as_str-coll.ensures.text, c.as_slice-key.ensures.value) at c.in_ok-found.ensures.moves) (rw c.as_slice-body.ensures.value at c.in_err-put_back.ensures))
+    rw (p.1, p.2) (not_place_moves (held g.S.Store c.args.self.now) (table_state g.S.Store c.named.new.self) (held g.S.Store c.put_back.new.self) (name_bytes c.args.name) d c.args.row.now c.in_ok-found.field-0 c.in-Some.found c.in_err-put_back.field-0.0 (rw c.as_str-coll.ensures.text at c.as_str-coll.ensures.named) read told c.in-Some.is (rw (c.as_str-coll.ensures.text, c.as_slice-key.ensures.value) at c.in_ok-found.ensures.moves) (rw c.as_slice-body.ensures.value at c.in_err-put_back.ensures))
 
 pub returns : goal.returns
 returns g c d read told =
-    place_moves (held g.S.Store c.args.self.now) (state_of g.S.Store c.named.new.self) (held g.S.Store c.put_back.new.self) (name_bytes c.args.name) d c.args.row.now c.in_ok-found.field-0 c.in-Some.found (rw c.as_str-coll.ensures.text at c.as_str-coll.ensures.named) read told c.in-Some.is (rw (c.as_str-coll.ensures.text, c.as_slice-key.ensures.value) at c.in_ok-found.ensures.moves) (rw c.as_slice-body.ensures.value at c.in_ok-put_back.ensures)
+    place_moves (held g.S.Store c.args.self.now) (table_state g.S.Store c.named.new.self) (held g.S.Store c.put_back.new.self) (name_bytes c.args.name) d c.args.row.now c.in_ok-found.field-0 c.in-Some.found (rw c.as_str-coll.ensures.text at c.as_str-coll.ensures.named) read told c.in-Some.is (rw (c.as_str-coll.ensures.text, c.as_slice-key.ensures.value) at c.in_ok-found.ensures.moves) (rw c.as_slice-body.ensures.value at c.in_ok-put_back.ensures)

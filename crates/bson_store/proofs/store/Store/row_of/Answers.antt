@@ -1,6 +1,6 @@
 use Rattle.std.proofs.Common.{Ok, Err, None, ap}
 use Rattle.bson_store.specs.Calls.{held}
-use Rattle.bson_table.specs.Table.{state_of}
+use Rattle.bson_table.specs.Table.{table_state}
 use Rattle.store_documents.specs.Names.{name_bytes}
 use Rattle.bson_model.specs.View.{view}
 use Rattle.bson_store.specs.Calls.{Looks}
@@ -18,4 +18,4 @@ returns-in-Err-TooLong g c =
 
 pub returns : goal.returns
 returns g c =
-    moved (held g.S.Store c.args.self.now) (state_of g.S.Store c.named.new.self) _ (Looks (name_bytes c.args.name) (view c.args.id.now) (Ok c.in_ok-found.found)) (rw (c.as_str-coll.ensures.text, c.as_slice-key.ensures.value) at c.in_ok-found.ensures.moves) (λ docs after h. found_looks docs after (name_bytes c.args.name) c.in-Ok.key.items (view c.args.id.now) c.in_ok-found.found c.in-Ok.ensures.ok h)
+    moved (held g.S.Store c.args.self.now) (table_state g.S.Store c.named.new.self) _ (Looks (name_bytes c.args.name) (view c.args.id.now) (Ok c.in_ok-found.found)) (rw (c.as_str-coll.ensures.text, c.as_slice-key.ensures.value) at c.in_ok-found.ensures.moves) (λ docs after h. found_looks docs after (name_bytes c.args.name) c.in-Ok.key.items (view c.args.id.now) c.in_ok-found.found c.in-Ok.ensures.ok h)

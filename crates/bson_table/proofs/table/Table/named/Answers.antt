@@ -1,6 +1,6 @@
 use Rattle.std.proofs.Common.{◌≡◌, Some, None, option_map, slice_get, find, refl, sym, ap, ◌∙◌, arith, rules}
 use Rattle.sqlite.specs.Held.{state}
-use Rattle.bson_table.specs.Rows.{is_named}
+use Rattle.bson_table.specs.Rows.{is_row_named}
 use Rattle.bson_table.proofs.ReadLemmas.{found_row, first_found}
 use Rattle.bson_table.proofs.TableLemmas.{stands_still, found_is, found_none}
 use Rattle.bson_table.proofs.table.Table.named.Goals as goal
@@ -13,7 +13,7 @@ returns-in-Some-clause-moves g c clean =
     let row = c.in-Some.row.now in (
       omega (arith, clean, c.named.ensures.crash.clean),
       λ docs stands.
-          let test = is_named c.args.coll.now c.args.idkey.now in
+          let test = is_row_named c.args.coll.now c.args.idkey.now in
           let items = c.deref.ensures.value ∙ c.in_ok-rows.ensures.rows clean docs (stands u.0.was_open) in
           let first : slice_get c.deref.result.now 0 ≡ Some row = (let v = c.in-Some.ensures.value in search rules) in
           let is : option_map found_row (find test docs) ≡ Some row = sym (first_found test docs) ∙ ap (λ rows. slice_get rows 0) (sym items) ∙ first in
@@ -27,7 +27,7 @@ returns-clause-moves g c clean =
     let u = (c.in_ok-rows.ensures.read clean).unchanged in (
       omega (arith, clean, c.named.ensures.crash.clean),
       λ docs stands.
-          let test = is_named c.args.coll.now c.args.idkey.now in
+          let test = is_row_named c.args.coll.now c.args.idkey.now in
           let items = c.deref.ensures.value ∙ c.in_ok-rows.ensures.rows clean docs (stands u.0.was_open) in
           let first : slice_get c.deref.result.now 0 ≡ None = sym c.in-None.ensures.value in
           let is : option_map found_row (find test docs) ≡ None = sym (first_found test docs) ∙ ap (λ rows. slice_get rows 0) (sym items) ∙ first in
