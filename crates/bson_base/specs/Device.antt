@@ -1,5 +1,5 @@
 -- What a call does to a device: how often it failed, and the bytes that it gave or took, where it knows them.
-use Rattle.std.specs.Prelude.{◌≡◌, ℕ, ◌+◌, List, [], Option, Result, Ok, Err, take}
+use Rattle.std.specs.Prelude.{◌≡◌, ◌⊎◌, ℕ, ◌+◌, List, [], Option, Result, Ok, Err, take}
 use Rattle.std.specs.Io.KnownBytes.{Appends, Consumes, IsAtEnd}
 
 -- the count of failures rises by one exactly at a failure
@@ -35,6 +35,15 @@ WriteTakes old new (Err e) buf = Appends old new []
 -- a beginning of bs was taken
 abbrev pub TakesBeginning : Option (List ℕ) → Option (List ℕ) → List ℕ → Type 0
 TakesBeginning old new bs = (n : ℕ) × Appends old new (take n bs)
+
+-- what a sink tells: how many of its calls have failed, and what it took, where it knows that
+pub record Tally : Type 0 where
+  pub failures : ℕ
+  pub taken : Option (List ℕ)
+
+-- a text was taken, or a call failed and a beginning of it was
+abbrev pub TakesText : Tally → Tally → List ℕ → Type 0
+TakesText old new text = ((new.failures ≡ old.failures) × Appends old.taken new.taken text) ⊎ ((new.failures ≡ old.failures + 1) × TakesBeginning old.taken new.taken text)
 
 -- what a source tells: how many of its calls have failed, and what it gave and has left, where it knows that
 pub record Feed : Type 0 where

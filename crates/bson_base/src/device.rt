@@ -2,7 +2,7 @@
 
 ghost use Rattle.std.specs.Prelude.{◌≡◌, ℕ, ◌^◌, ◌-◌, ◌<◌, ◌≤◌, List, [], Option, Some, None, length, take, drop, IfOk, OnOk, OnErr};
 ghost use Rattle.std.specs.Io.KnownBytes.{Appends};
-ghost use Rattle.bson_base.specs.Device.{Counts, Supply, Gives, IsExhausted, ReadGives, WriteTakes, TakesBeginning};
+ghost use Rattle.bson_base.specs.Device.{Counts, Feed, Tally, Gives, IsExhausted, ReadGives, WriteTakes, TakesBeginning};
 
 use std::alloc::Global;
 use std::io::{Read, Write};
@@ -15,38 +15,32 @@ pub struct DeviceFault;
 
 /// What gives bytes.
 pub trait Source {
-    // How many calls have failed.
-    ghost failures: { Self → ℕ };
-
-    // The bytes given so far and those left, where they are known.
-    ghost supply: { Self → Supply };
+    // How many calls have failed, and the bytes given so far and those left, where they are known.
+    ghost feed: { Self → Feed };
 
     /// Gives up to as many bytes as `buf` has room for, and says how many; none only at the end, or where there is no
     /// room. Whoever calls it sees to it that fewer than 2⁶⁴ - 1 calls have failed.
     fn read(&mut self, buf: &mut [u8]) -> Result<usize, DeviceFault>
-        requires { failures self.old < 2 ^ 64 - 1 }
-        ensures counts { Counts (failures self.old) (failures self.new) result }
+        requires { (feed self.old).failures < 2 ^ 64 - 1 }
+        ensures counts { Counts (feed self.old).failures (feed self.new).failures result }
         ensures bound { IfOk result (λ n. n ≤ length buf.new) }
-        ensures bytes { ReadGives (supply self.old) (supply self.new) result buf.new }
-        ensures end { IfOk result (λ n. n ≡ 0 → 0 < length buf.new → IsExhausted (supply self.new)) };
+        ensures bytes { ReadGives (feed self.old).supply (feed self.new).supply result buf.new }
+        ensures end { IfOk result (λ n. n ≡ 0 → 0 < length buf.new → IsExhausted (feed self.new).supply) };
 }
 
 /// What takes bytes.
 pub trait Sink {
-    // How many calls have failed.
-    ghost failures: { Self → ℕ };
-
-    // The bytes taken so far, where they are known.
-    ghost taken: { Self → Option (List ℕ) };
+    // How many calls have failed, and the bytes taken so far, where they are known.
+    ghost tally: { Self → Tally };
 
     /// Takes bytes from the front of `buf`, and says how many: at least one, where there are any. Whoever calls it sees
     /// to it that fewer than 2⁶⁴ - 1 calls have failed.
     fn write(&mut self, buf: &[u8]) -> Result<usize, DeviceFault>
-        requires { failures self.old < 2 ^ 64 - 1 }
-        ensures counts { Counts (failures self.old) (failures self.new) result }
+        requires { (tally self.old).failures < 2 ^ 64 - 1 }
+        ensures counts { Counts (tally self.old).failures (tally self.new).failures result }
         ensures bound { IfOk result (λ n. n ≤ length buf.now) }
         ensures some { IfOk result (λ n. 0 < length buf.now → 0 < n) }
-        ensures bytes { WriteTakes (taken self.old) (taken self.new) result buf.now };
+        ensures bytes { WriteTakes (tally self.old).taken (tally self.new).taken result buf.now };
 }
 
 /// Bytes in memory, which are read from the front and never fail.
@@ -70,9 +64,7 @@ impl<'a> SliceSource<'a> {
 }
 
 impl Source for SliceSource<'_> {
-    ghost failures = { λ _. 0 };
-
-    ghost supply = { λ s. record { given = Some (take s.at s.bytes.now); left = Some (drop s.at s.bytes.now) } };
+    ghost feed = { λ s. record { failures = 0; supply = record { given = Some (take s.at s.bytes.now); left = Some (drop s.at s.bytes.now) } } };
 
     fn read(&mut self, buf: &mut [u8]) -> Result<usize, DeviceFault> {
         let rest = &self.bytes[self.at..];
@@ -106,9 +98,7 @@ impl VecSink {
 }
 
 impl Sink for VecSink {
-    ghost failures = { λ s. s.failed };
-
-    ghost taken = { λ s. Some s.bytes.items };
+    ghost tally = { λ s. record { failures = s.failed; taken = Some s.bytes.items } };
 
     fn write(&mut self, buf: &[u8]) -> Result<usize, DeviceFault> {
         match self.bytes.extend_from_slice(buf) {
@@ -142,9 +132,7 @@ impl<T> Counted<T> {
 }
 
 impl<T: Read> Source for Counted<T> {
-    ghost failures = { λ c. c.failed };
-
-    ghost supply = { λ c. record { given = None; left = T.remaining c.device } };
+    ghost feed = { λ c. record { failures = c.failed; supply = record { given = None; left = T.remaining c.device } } };
 
     fn read(&mut self, buf: &mut [u8]) -> Result<usize, DeviceFault> {
         match self.device.read(buf) {
@@ -158,9 +146,7 @@ impl<T: Read> Source for Counted<T> {
 }
 
 impl<T: Write> Sink for Counted<T> {
-    ghost failures = { λ c. c.failed };
-
-    ghost taken = { λ c. T.contents c.device };
+    ghost tally = { λ c. record { failures = c.failed; taken = T.contents c.device } };
 
     fn write(&mut self, buf: &[u8]) -> Result<usize, DeviceFault> {
         match self.device.write(buf) {
@@ -181,10 +167,10 @@ impl<T: Write> Sink for Counted<T> {
 
 /// Writes all of `bytes`, or tells the first failure, after which a beginning of them was taken.
 pub fn write_all<S: Sink>(sink: &mut S, bytes: &[u8]) -> Result<(), DeviceFault>
-    requires { S.failures sink.old < 2 ^ 64 - 1 }
-    ensures counts { Counts (S.failures sink.old) (S.failures sink.new) result }
-    ensures ok { OnOk result (Appends (S.taken sink.old) (S.taken sink.new) bytes.now) }
-    ensures err { OnErr result (TakesBeginning (S.taken sink.old) (S.taken sink.new) bytes.now) }
+    requires { (S.tally sink.old).failures < 2 ^ 64 - 1 }
+    ensures counts { Counts (S.tally sink.old).failures (S.tally sink.new).failures result }
+    ensures ok { OnOk result (Appends (S.tally sink.old).taken (S.tally sink.new).taken bytes.now) }
+    ensures err { OnErr result (TakesBeginning (S.tally sink.old).taken (S.tally sink.new).taken bytes.now) }
 {
     let mut at = 0usize;
     while at < bytes.len() {
@@ -196,11 +182,11 @@ pub fn write_all<S: Sink>(sink: &mut S, bytes: &[u8]) -> Result<(), DeviceFault>
 /// Reads until `buf` is full or the source is at its end, and says how many bytes were read. After a failure `buf` may
 /// hold some of them.
 pub fn read_full<S: Source>(source: &mut S, buf: &mut [u8]) -> Result<usize, DeviceFault>
-    requires { S.failures source.old < 2 ^ 64 - 1 }
-    ensures counts { Counts (S.failures source.old) (S.failures source.new) result }
+    requires { (S.feed source.old).failures < 2 ^ 64 - 1 }
+    ensures counts { Counts (S.feed source.old).failures (S.feed source.new).failures result }
     ensures bound { IfOk result (λ n. n ≤ length buf.new) }
-    ensures bytes { IfOk result (λ n. Gives (S.supply source.old) (S.supply source.new) (take n buf.new)) }
-    ensures end { IfOk result (λ n. n < length buf.new → IsExhausted (S.supply source.new)) }
+    ensures bytes { IfOk result (λ n. Gives (S.feed source.old).supply (S.feed source.new).supply (take n buf.new)) }
+    ensures end { IfOk result (λ n. n < length buf.new → IsExhausted (S.feed source.new).supply) }
 {
     let mut at = 0usize;
     while at < buf.len() {

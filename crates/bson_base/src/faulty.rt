@@ -37,11 +37,7 @@ impl<'a> FaultySource<'a> {
 }
 
 impl Source for FaultySource<'_> {
-    ghost use Rattle.bson_base.specs.Device.{Supply};
-
-    ghost failures = { λ s. s.failed };
-
-    ghost supply = { λ s. record { given = Some (take s.at s.bytes.now); left = Some (drop s.at s.bytes.now) } };
+    ghost feed = { λ s. record { failures = s.failed; supply = record { given = Some (take s.at s.bytes.now); left = Some (drop s.at s.bytes.now) } } };
 
     fn read(&mut self, buf: &mut [u8]) -> Result<usize, DeviceFault> {
         if self.calls == 0 {
@@ -85,9 +81,7 @@ impl FaultySink {
 }
 
 impl Sink for FaultySink {
-    ghost failures = { λ s. s.failed };
-
-    ghost taken = { λ s. Some s.bytes.items };
+    ghost tally = { λ s. record { failures = s.failed; taken = Some s.bytes.items } };
 
     fn write(&mut self, buf: &[u8]) -> Result<usize, DeviceFault> {
         if buf.is_empty() {

@@ -8,7 +8,7 @@ use Rattle.bson_base.specs.Value.{Value, value_kind, HasDistinctKeys}
 use Rattle.bson_meaning.specs.Meaning.{Same}
 use Rattle.bson_meaning.specs.Views.{ShowsValue}
 use Rattle.bson_raw.specs.declared.bson_ref.RawBsonRef.{RawBsonRef}
-use Rattle.bson_raw.specs.Value.{kind_of}
+use Rattle.bson_raw.specs.ReadValue.{kind_of}
 use Rattle.bson_filter.specs.declared.filter.Filter.{Filter}
 use Rattle.bson_filter.specs.Filters.{filter_of, tests_of}
 use Rattle.bson_filter.specs.Views.{ComesBack, Finds}

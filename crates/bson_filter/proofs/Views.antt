@@ -17,7 +17,7 @@ use Rattle.bson_raw.specs.declared.bson_ref.RawBsonRef.{RawBsonRef}
 use Rattle.bson_raw.specs.declared.bson_ref.RawBsonRef.TheVariants as views
 use Rattle.bson_raw.specs.declared.document.RawDocument.{RawDocument}
 use Rattle.bson_raw.specs.declared.array.RawArray.{RawArray}
-use Rattle.bson_raw.specs.Value.{kind_of, Holds, IsValue, as_array}
+use Rattle.bson_raw.specs.ReadValue.{kind_of, Holds, IsValue, as_array}
 use Rattle.bson_raw.specs.View.{bytes_of, array_bytes}
 use Rattle.bson_filter.specs.Views.{Encodes, ComesBack, HoldsPairs, IsWrittenFor}
 use Rattle.bson_filter.proofs.Members.{array_bytes_pairs}

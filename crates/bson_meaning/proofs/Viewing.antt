@@ -19,7 +19,7 @@ use Rattle.bson_model.specs.declared.bson.Bson.{Bson}
 use Rattle.bson_raw.specs.declared.bson_ref.RawBsonRef.{RawBsonRef}
 use Rattle.bson_raw.specs.declared.bson_ref.RawBsonRef.TheVariants as views
 use Rattle.bson_raw.specs.declared.element.RawElement.{RawElement}
-use Rattle.bson_raw.specs.Value.{IsValue}
+use Rattle.bson_raw.specs.ReadValue.{IsValue}
 use Rattle.bson_raw.specs.View.{parts_of}
 use Rattle.bson_raw.specs.Walk.{steps_from}
 use Rattle.bson_meaning.specs.Meaning.{Same, SameItems, SameUnder}

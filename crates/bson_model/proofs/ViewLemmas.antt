@@ -11,7 +11,7 @@ use Rattle.bson_base.specs.declared.oid.ObjectId.{ObjectId}
 use Rattle.bson_base.specs.declared.spec.BinarySubtype.{BinarySubtype}
 use Rattle.bson_base.specs.declared.spec.BinarySubtype.TheVariants.{Generic}
 use Rattle.bson_base.specs.declared.timestamp.Timestamp.{Timestamp}
-use Rattle.bson_model.specs.Kinds.{as_binary, as_binary_generic}
+use Rattle.bson_model.specs.Accessors.{as_binary, as_binary_generic}
 use Rattle.bson_model.specs.Trees.{f64_tree, text_tree, bool_tree, i32_tree, i64_tree, timestamp_tree, binary_tree, object_id_tree, date_time_tree, decimal128_tree}
 use Rattle.bson_model.specs.View.{view, items_of, members_of, pairs_of}
 use Rattle.bson_model.specs.declared.document.Document.{Document}

@@ -1,7 +1,7 @@
 pub mod Keyed
 pub mod View
 pub mod Trees
-pub mod Kinds
+pub mod Accessors
 pub mod Rows
 pub mod Equal
 pub mod Laws

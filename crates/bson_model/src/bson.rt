@@ -8,7 +8,7 @@ ghost use Rattle.bson_base.specs.Vectors.{vector_value};
 ghost use Rattle.bson_base.specs.Value.{value_kind, scalar, array, binary, string, null, object_id};
 ghost use Rattle.bson_model.specs.View.{view, pairs_of, items_of, members_of};
 ghost use Rattle.bson_model.specs.Trees.{array_tree, binary_tree, bool_tree, date_time_tree, db_pointer_tree, decimal128_tree, document_tree, f64_tree, i32_tree, i64_tree, object_id_tree, option_tree, regex_tree, scoped_code_tree, text_tree, timestamp_tree, u32_tree};
-ghost use Rattle.bson_model.specs.Kinds as kinds;
+ghost use Rattle.bson_model.specs.Accessors as kinds;
 ghost use Rattle.bson_model.specs.Rows.{binary_row, bytes_row, with_bytes};
 
 use crate::copy::{copy_items, copy_value};

@@ -205,7 +205,7 @@ impl Document {
 impl Document {
     ghost use Rattle.std.specs.Borrow.{bool as truth_row, i32 as i32_row, i64 as i64_row};
     ghost use Rattle.bson_base.specs.Scalars.{id_bytes, millis_of, decimal_bytes};
-    ghost use Rattle.bson_model.specs.Kinds.{typed, map_ok, as_f64, as_decimal128, as_str, as_array, as_document, as_bool, as_i32, as_i64, as_timestamp, as_binary_generic, as_object_id, as_datetime, has_null};
+    ghost use Rattle.bson_model.specs.Accessors.{typed, map_ok, as_f64, as_decimal128, as_str, as_array, as_document, as_bool, as_i32, as_i64, as_timestamp, as_binary_generic, as_object_id, as_datetime, has_null};
     ghost use Rattle.bson_model.specs.Rows.{double_row, decimal128_row, text_row, array_row, timestamp_row, bytes_row, object_id_row, date_time_row};
     ghost use Rattle.bson_model.specs.Trees.{f64_tree, decimal128_tree, text_tree, array_tree, bool_tree, i32_tree, i64_tree, timestamp_tree, generic_tree, object_id_tree, date_time_tree};
     ghost use Rattle.bson_model.specs.Lending.{LendsPart};

@@ -8,7 +8,7 @@ use Rattle.bson_frame.specs.Frame.{number}
 use Rattle.bson_frame.specs.Payload.{code_in, scope_in, IsFaultless}
 use Rattle.bson_raw.specs.declared.bson_ref.RawBsonRef.{RawBsonRef}
 use Rattle.bson_raw.specs.declared.bson_ref.RawBsonRef.TheVariants as values
-use Rattle.bson_raw.specs.Value.{IsValue, Holds, kind_of}
+use Rattle.bson_raw.specs.ReadValue.{IsValue, Holds, kind_of}
 use Rattle.bson_raw.specs.Raw.{ref_value}
 use Rattle.bson_raw.specs.View.{bytes_of, array_bytes}
 use Rattle.bson_frame.specs.declared.error.Error.{Error}

@@ -20,7 +20,7 @@ use Rattle.bson_raw.specs.declared.bson_ref.RawBsonRef.{RawBsonRef}
 use Rattle.bson_raw.specs.declared.bson_ref.RawBsonRef.TheVariants as refs
 use Rattle.bson_raw.specs.Append.{element_for, element_bytes, body_of, with_element, CanTake, AppendsElement}
 use Rattle.bson_raw.specs.Raw.{RawValue, raw_kind, raw_payload, IsPlainRaw, ref_value}
-use Rattle.bson_raw.specs.Value.{kind_of}
+use Rattle.bson_raw.specs.ReadValue.{kind_of}
 use Rattle.bson_raw.specs.Written.{CanWrite, Closes}
 use Rattle.bson_bytes.proofs.Lengths.{text_length, ended_length, inner_length}
 

@@ -9,7 +9,7 @@ use Rattle.bson_raw.specs.declared.element.RawElement.{RawElement}
 use Rattle.bson_raw.specs.declared.bson_ref.RawBsonRef.{RawBsonRef}
 use Rattle.bson_raw.specs.declared.walk.RawIter.{RawIter}
 use Rattle.bson_raw.specs.View.{parts_of, left_of}
-use Rattle.bson_raw.specs.Value.{ReadsElement}
+use Rattle.bson_raw.specs.ReadValue.{ReadsElement}
 use Rattle.bson_raw.specs.Walk.{IsWalk, walk_items, IsItem, IsNext, steps_from, raw_steps, items_left}
 use Rattle.bson_raw.specs.Read.{IsItemRead, ReadsNext}
 use Rattle.bson_raw.proofs.Walks.{frame_len}

@@ -11,7 +11,7 @@ use Rattle.bson_frame.specs.View.{asked_key}
 use Rattle.bson_raw.specs.declared.access.Asked.{Asked}
 use Rattle.bson_raw.specs.declared.access.Asked.TheVariants.{Key, Place}
 use Rattle.bson_raw.specs.declared.bson_ref.RawBsonRef.{RawBsonRef}
-use Rattle.bson_raw.specs.Value.{IsValue}
+use Rattle.bson_raw.specs.ReadValue.{IsValue}
 use Rattle.bson_raw.specs.Read.{GetAnswer}
 
 -- the key of a refusal: of an array the index in decimal

@@ -9,7 +9,7 @@ use Rattle.bson_frame.specs.View.{IsBare, IsFaultUnder}
 use Rattle.bson_raw.specs.declared.bson.RawBson.{RawBson}
 use Rattle.bson_raw.specs.declared.bson_ref.RawBsonRef.{RawBsonRef}
 use Rattle.bson_raw.specs.Raw.{ref_value, own_value}
-use Rattle.bson_raw.specs.Value.{IsValue}
+use Rattle.bson_raw.specs.ReadValue.{IsValue}
 
 -- the payload fault under its key, or want of memory
 abbrev pub IsCopyRefusal : Element → Error → Type 0

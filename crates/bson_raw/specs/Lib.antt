@@ -1,6 +1,6 @@
 pub mod View
 pub mod Walk
-pub mod Value
+pub mod ReadValue
 pub mod Read
 pub mod Access
 pub mod Buffer

@@ -12,7 +12,7 @@ use Rattle.bson_raw.specs.declared.walk.RawIter.{RawIter}
 use Rattle.bson_raw.specs.declared.values.Iter.{Iter}
 use Rattle.bson_raw.specs.declared.array_iter.RawArrayIter.{RawArrayIter}
 use Rattle.bson_raw.specs.View.{parts_of}
-use Rattle.bson_raw.specs.Value.{IsValue}
+use Rattle.bson_raw.specs.ReadValue.{IsValue}
 use Rattle.bson_raw.specs.Walk.{raw_steps}
 
 -- an item of a walk was read: the element's value, its payload fault under its key, or the structural fault under none

@@ -1,7 +1,7 @@
 -- Trees as raw values, and the writing of a tree to a device.
 use Rattle.std.specs.Prelude.{◌≡◌, ℕ, ◌+◌, List, Option, Result, Ok, Err, IfErr}
 use Rattle.std.specs.Io.KnownBytes.{Appends}
-use Rattle.bson_base.specs.Device.{TakesBeginning}
+use Rattle.bson_base.specs.Device.{Tally, TakesBeginning}
 use Rattle.bson_base.specs.Value as values
 use Rattle.bson_base.specs.Value.{Value, Members}
 use Rattle.bson_bytes.specs.Encode.{framed, items_bytes, encode}
@@ -32,11 +32,11 @@ CanBeRaw (values.scoped_code t ms) = CanBeWritten (values.document ms)
 
 -- a document went out; or nothing did, as it can't be written or for want of memory; or a beginning, as a call of the device
 -- failed. A device tells how many of its calls failed, and the bytes that it took, where it knows them.
-abbrev pub SendsDocument : Members → ℕ → ℕ → Option (List ℕ) → Option (List ℕ) → Result (Unit {0}) WriteError → Type 0
-SendsDocument d failures now old new (Ok x) = CanBeWritten (values.document d) × (now ≡ failures) × Appends old new (encode d)
-SendsDocument d failures now old new (Err Writer) = CanBeWritten (values.document d) × (now ≡ failures + 1) × TakesBeginning old new (encode d)
-SendsDocument d failures now old new (Err (Raw e)) = (CanBeWritten (values.document d) → ⊥) × IsBare MalformedValue e × (now ≡ failures) × (new ≡ old)
-SendsDocument d failures now old new (Err Memory) = (now ≡ failures) × (new ≡ old)
+abbrev pub SendsDocument : Members → Tally → Tally → Result (Unit {0}) WriteError → Type 0
+SendsDocument d old new (Ok x) = CanBeWritten (values.document d) × (new.failures ≡ old.failures) × Appends old.taken new.taken (encode d)
+SendsDocument d old new (Err Writer) = CanBeWritten (values.document d) × (new.failures ≡ old.failures + 1) × TakesBeginning old.taken new.taken (encode d)
+SendsDocument d old new (Err (Raw e)) = (CanBeWritten (values.document d) → ⊥) × IsBare MalformedValue e × (new ≡ old)
+SendsDocument d old new (Err Memory) = new ≡ old
 
 -- a value converts as one that borrows the same
 abbrev pub ConvertsOwned : RawBson → Result Bson Error → Type 0

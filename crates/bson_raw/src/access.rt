@@ -6,7 +6,7 @@ ghost use Rattle.bson_frame.specs.declared.error.ErrorKind.{ErrorKind as Kind};
 ghost use Rattle.bson_raw.specs.Walk.{IsFound};
 ghost use Rattle.bson_raw.specs.Read.{GetAnswer};
 ghost use Rattle.bson_raw.specs.Access.{AccessAnswer, any_value, HasNoWant, IsAccessRefusal, asked_text};
-ghost use Rattle.bson_raw.specs.Value.{as_f64, as_str, as_document, as_array, as_binary, as_object_id, as_bool, as_datetime, as_regex, as_timestamp, as_i32, as_i64};
+ghost use Rattle.bson_raw.specs.ReadValue.{as_f64, as_str, as_document, as_array, as_binary, as_object_id, as_bool, as_datetime, as_regex, as_timestamp, as_i32, as_i64};
 ghost use Rattle.std.specs.Prelude.{◌≡◌, string_bytes};
 
 use crate::array::RawArray;

@@ -29,7 +29,7 @@ pub struct RawArray<'a> {
 impl<'a> RawArray<'a> {
     ghost use Rattle.bson_raw.specs.Access.{AccessAnswer};
     ghost use Rattle.bson_raw.specs.Read.{GetAnswer, IsItemRead, value_steps};
-    ghost use Rattle.bson_raw.specs.Value.{as_f64, as_str, as_document, as_array, as_binary, as_object_id, as_bool, as_datetime, as_regex, as_timestamp, as_i32, as_i64};
+    ghost use Rattle.bson_raw.specs.ReadValue.{as_f64, as_str, as_document, as_array, as_binary, as_object_id, as_bool, as_datetime, as_regex, as_timestamp, as_i32, as_i64};
     ghost use Rattle.bson_raw.specs.View.{array_bytes, values_left};
     ghost use Rattle.bson_raw.specs.Walk.{IsDocumentWalk, YieldsWalk, IsFound, found_at};
     ghost use Rattle.bson_raw.specs.declared.bson_ref.RawBsonRef.{RawBsonRef as Value};

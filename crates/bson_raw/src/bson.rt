@@ -7,7 +7,7 @@ ghost use Rattle.bson_base.specs.Scalars.{id_bytes, millis_of};
 ghost use Rattle.bson_base.specs.Value.{string, binary};
 ghost use Rattle.bson_base.specs.VectorBytes.{vector_bytes};
 ghost use Rattle.bson_base.specs.Vectors.{vector_value};
-ghost use Rattle.bson_model.specs.Kinds as kinds;
+ghost use Rattle.bson_model.specs.Accessors as kinds;
 ghost use Rattle.bson_raw.specs.Buffer.{buffer_bytes, array_buffer_bytes};
 ghost use Rattle.bson_raw.specs.Places.{SamePlace};
 ghost use Rattle.bson_raw.specs.Raw.{ref_value, own_value, raw_kind, leaf, scoped_code, of_leaf, array_in, document_in, scoped_in, binary_in, regex_in, null_in, code_scalar};

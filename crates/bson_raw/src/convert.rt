@@ -18,19 +18,9 @@ use crate::bson_ref::{RawBsonRef, RawDbPointerRef, RawJavaScriptCodeWithScopeRef
 use crate::decode::value_of;
 use crate::document::RawDocument;
 use crate::element::fault_under;
-use bson_frame::{Error, Frame, frame};
+use bson_frame::{Error, Frame, frame, is_end};
 use bson_model::{Array, Bson, DbPointer, Document, JavaScriptCodeWithScope, Regex};
 use std::alloc::{AllocError, Global};
-
-/// Whether only the final 00 of a document is left.
-fn is_end(bytes: &[u8]) -> bool
-    ensures { IsTrue result ↔ (bytes.now ≡ 0 ∷ []) }
-{
-    match bytes {
-        [0] => true,
-        _ => false,
-    }
-}
 
 /// The next element, or the structural fault.
 fn next_frame(bytes: &[u8]) -> Result<Frame<'_>, Error>

@@ -1,7 +1,7 @@
 //! Values read from payloads.
 
 ghost use Rattle.bson_base.specs.declared.spec.ElementType.TheVariants as kinds;
-ghost use Rattle.bson_raw.specs.Value.{Decodes};
+ghost use Rattle.bson_raw.specs.ReadValue.{Decodes};
 
 use crate::array::RawArray;
 use crate::bson_ref::{

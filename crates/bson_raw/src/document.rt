@@ -33,7 +33,7 @@ impl<'a> RawDocument<'a> {
     ghost use Rattle.bson_frame.specs.View.{IsBare};
     ghost use Rattle.bson_raw.specs.Access.{AccessAnswer};
     ghost use Rattle.bson_raw.specs.Read.{GetAnswer, IsPairRead, pair_steps};
-    ghost use Rattle.bson_raw.specs.Value.{as_f64, as_str, as_document, as_array, as_binary, as_object_id, as_bool, as_datetime, as_regex, as_timestamp, as_i32, as_i64};
+    ghost use Rattle.bson_raw.specs.ReadValue.{as_f64, as_str, as_document, as_array, as_binary, as_object_id, as_bool, as_datetime, as_regex, as_timestamp, as_i32, as_i64};
     ghost use Rattle.bson_raw.specs.View.{bytes_of, left_of, pairs_left};
     ghost use Rattle.bson_raw.specs.Walk.{IsDocumentWalk, YieldsWalk, IsItem, IsFound, found_under, raw_steps};
     ghost use Rattle.bson_raw.specs.declared.bson_ref.RawBsonRef.{RawBsonRef as Value};

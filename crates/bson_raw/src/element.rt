@@ -22,7 +22,7 @@ pub struct RawElement<'a> {
 }
 
 impl<'a> RawElement<'a> {
-    ghost use Rattle.bson_raw.specs.Value.{ReadsElement, IsDecoded};
+    ghost use Rattle.bson_raw.specs.ReadValue.{ReadsElement, IsDecoded};
     ghost use Rattle.bson_raw.specs.View.{parts_of};
 
     /// The key.

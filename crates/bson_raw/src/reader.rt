@@ -14,9 +14,9 @@ use std::alloc::Global;
 
 /// The first four bytes.
 fn read_head<R: Source>(reader: &mut R) -> Result<[u8; 4], ReadError>
-    requires { R.failures reader.old < 2 ^ 64 - 1 }
-    ensures { ReadsHead (record { failures = R.failures reader.old; supply = R.supply reader.old })
-        (record { failures = R.failures reader.new; supply = R.supply reader.new }) result }
+    requires { (R.feed reader.old).failures < 2 ^ 64 - 1 }
+    ensures { ReadsHead (R.feed reader.old)
+        (R.feed reader.new) result }
 {
     let mut head = [0u8; 4];
     match read_full(reader, &mut head) {
@@ -52,10 +52,10 @@ fn read_rest<R: Source>(
     head: [u8; 4],
     declared: usize,
 ) -> Result<Vec<u8>, ReadError>
-    requires failures { R.failures reader.old < 2 ^ 64 - 1 }
+    requires failures { (R.feed reader.old).failures < 2 ^ 64 - 1 }
     requires declared { 4 ≤ declared }
-    ensures { ReadsRest (record { failures = R.failures reader.old; supply = R.supply reader.old })
-        (record { failures = R.failures reader.new; supply = R.supply reader.new }) head declared result }
+    ensures { ReadsRest (R.feed reader.old)
+        (R.feed reader.new) head declared result }
 {
     let mut bytes = vec![in alloc; 0u8; declared]?;
     let (front, rest) = bytes.split_at_mut(4);
@@ -73,9 +73,9 @@ fn read_rest<R: Source>(
 
 /// The bytes of one document.
 fn read_bytes<R: Source>(alloc: Global, reader: &mut R) -> Result<Vec<u8>, ReadError>
-    requires { R.failures reader.old < 2 ^ 64 - 1 }
-    ensures { TakesDeclared (record { failures = R.failures reader.old; supply = R.supply reader.old })
-        (record { failures = R.failures reader.new; supply = R.supply reader.new }) result }
+    requires { (R.feed reader.old).failures < 2 ^ 64 - 1 }
+    ensures { TakesDeclared (R.feed reader.old)
+        (R.feed reader.new) result }
 {
     let head = read_head(reader)?;
     let declared = declared(head)?;
@@ -114,9 +114,9 @@ fn document_in(alloc: Global, bytes: &[u8]) -> Result<Document, ReadError>
 /// document, which took as many as are declared: `MalformedValue` under no key where the last isn't 00, else the fault that
 /// `to_document` tells; `Memory` where a growth was refused.
 pub fn from_reader<R: Source>(alloc: Global, reader: &mut R) -> Result<Document, ReadError>
-    requires { R.failures reader.old < 2 ^ 64 - 1 }
-    ensures { ReadsDocument (record { failures = R.failures reader.old; supply = R.supply reader.old })
-        (record { failures = R.failures reader.new; supply = R.supply reader.new }) result }
+    requires { (R.feed reader.old).failures < 2 ^ 64 - 1 }
+    ensures { ReadsDocument (R.feed reader.old)
+        (R.feed reader.new) result }
 {
     let bytes = read_bytes(alloc, reader)?;
     document_in(alloc, &bytes)

@@ -20,8 +20,8 @@ pub fn to_writer<W: Sink>(
     document: &Document,
     writer: &mut W,
 ) -> Result<(), WriteError>
-    requires { W.failures writer.old < 2 ^ 64 - 1 }
-    ensures { SendsDocument (members_of (pairs_of document.now)) (W.failures writer.old) (W.failures writer.new) (W.taken writer.old) (W.taken writer.new) result }
+    requires { (W.tally writer.old).failures < 2 ^ 64 - 1 }
+    ensures { SendsDocument (members_of (pairs_of document.now)) (W.tally writer.old) (W.tally writer.new) result }
 {
     match encode_document(alloc, document) {
         Ok(bytes) => match write_all(writer, &bytes) {

@@ -7,7 +7,7 @@ use Rattle.std.proofs.lemmas.Bool.Decides.{leb_tells}
 use Rattle.std.specs.Str.{bytes_eq}
 use Rattle.std.specs.List.{flat_map}
 use Rattle.std.specs.Io.KnownBytes.{Appends}
-use Rattle.bson_base.specs.Device.{TakesBeginning}
+use Rattle.bson_base.specs.Device.{TakesBeginning, Tally}
 use Rattle.bson_bytes.specs.Encode.{encode}
 use Rattle.bson_meaning.proofs.Ordered.{equal_keys}
 use Rattle.bson_table.specs.Rows.{Doc, is_in}
@@ -23,7 +23,7 @@ use Rattle.store_laws.proofs.Rows.{list_of-state_of}
 use Rattle.bson_store.specs.Shown.{AreRowsOf, Show}
 use Rattle.bson_store.specs.Calls.{Does}
 use Rattle.bson_store.specs.Refusals.{refusal, kind_of_fault}
-use Rattle.bson_store.specs.Export.{Tally, ExportRefused, Exports, SendsCollection, Sent}
+use Rattle.bson_store.specs.Export.{ExportRefused, Exports, SendsCollection, Sent}
 use Rattle.bson_store.specs.declared.error.StoreError.{StoreError}
 use Rattle.bson_store.proofs.Serving.{bad_name, answers_stay, denied, undecided, memory_other}
 

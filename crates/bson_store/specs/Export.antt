@@ -3,7 +3,7 @@ use Rattle.std.specs.Prelude.{◌≡◌, ℕ, ◌+◌, List, Option, None, Resul
 use Rattle.std.specs.List.{flat_map}
 use Rattle.std.specs.Io.KnownBytes.{Appends}
 use Rattle.std.specs.declared.alloc.Global.{Global}
-use Rattle.bson_base.specs.Device.{TakesBeginning}
+use Rattle.bson_base.specs.Device.{TakesBeginning, Tally}
 use Rattle.bson_bytes.specs.Encode.{encode}
 use Rattle.bson_table.specs.Rows.{Doc}
 use Rattle.store_laws.specs.State.{State, list_of, IsName}
@@ -12,11 +12,6 @@ use Rattle.store_laws.specs.declared.error.ErrorKind.{ErrorKind}
 use Rattle.store_laws.specs.declared.error.ErrorKind.TheVariants.{BadName, Memory, Database, Writer}
 use Rattle.bson_store.specs.Shown.{Show}
 use Rattle.bson_store.specs.declared.error.StoreError.{StoreError}
-
--- what a sink tells: how many of its calls have failed, and the bytes that it took, where it knows them
-pub record Tally : Type 0 where
-  pub failures : ℕ
-  pub taken : Option (List ℕ)
 
 -- All of bs went out; or a beginning of it did, and a call of the sink failed where `Writer` is told, and none where `Memory` or
 -- `Database` is.

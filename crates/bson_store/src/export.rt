@@ -22,15 +22,15 @@ pub(crate) fn add(bodies: &mut Vec<Vec<u8>>, alloc: Global, body: &[u8]) -> Resu
 pub struct Sender<'w, W: Sink> {
     pub writer: &'w mut W,
     pub failed: bool,
-    ghost ready: { failed ≡ false → W.failures writer.now < 2 ^ 64 - 1 },
+    ghost ready: { failed ≡ false → (W.tally writer.now).failures < 2 ^ 64 - 1 },
 }
 
 impl<'w, W: Sink> Visit for Sender<'w, W> {
     ghost use Rattle.std.specs.Prelude.{◌≡◌, true};
     ghost use Rattle.bson_store.specs.Export.{Sent};
 
-    ghost took = { λ first v bodies. (first.writer.ghost_name ≡ v.writer.ghost_name) × Sent (record { failures = W.failures first.writer.now; taken = W.taken first.writer.now })
-        (record { failures = W.failures v.writer.now; taken = W.taken v.writer.now }) v.failed bodies };
+    ghost took = { λ first v bodies. (first.writer.ghost_name ≡ v.writer.ghost_name) × Sent (W.tally first.writer.now)
+        (W.tally v.writer.now) v.failed bodies };
 
     ghost is_done = { λ v. v.failed ≡ true };
 

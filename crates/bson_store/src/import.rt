@@ -131,9 +131,9 @@ impl<S: Alter + Drop> Store<S> {
     /// but never in the place of BadName. `document` tells which document was refused. Of the reader nothing is said after
     /// Reader; with any other refusal none of its reads failed.
     pub fn import<R: Source>(&mut self, name: &str, reader: &mut R) -> Result<u64, StoreError>
-        requires { R.failures reader.old < 2 ^ 64 - 1 }
-        ensures { Moves (held S.Store self.old) (held S.Store self.new) (Imports name.now (record { failures = R.failures reader.old; supply = R.supply reader.old })
-            (record { failures = R.failures reader.new; supply = R.supply reader.new }) result) }
+        requires { (R.feed reader.old).failures < 2 ^ 64 - 1 }
+        ensures { Moves (held S.Store self.old) (held S.Store self.new) (Imports name.now (R.feed reader.old)
+            (R.feed reader.new) result) }
     {
         let name = good_name(name)?;
         let bytes = read_all(self.alloc, reader)?;

@@ -322,9 +322,9 @@ impl<S: Alter + Drop> Store<S> {
     /// Refused by BadName, and then nothing is written; by Writer, where a write failed or took nothing; and by Memory and
     /// Database. A beginning may have been written.
     pub fn export<W: Sink>(&mut self, name: &str, writer: &mut W) -> Result<(), StoreError>
-        requires { W.failures writer.old < 2 ^ 64 - 1 }
-        ensures { Moves (held S.Store self.old) (held S.Store self.new) (SendsCollection name.now (record { failures = W.failures writer.old; taken = W.taken writer.old })
-            (record { failures = W.failures writer.new; taken = W.taken writer.new }) result) }
+        requires { (W.tally writer.old).failures < 2 ^ 64 - 1 }
+        ensures { Moves (held S.Store self.old) (held S.Store self.new) (SendsCollection name.now (W.tally writer.old)
+            (W.tally writer.new) result) }
     {
         let name = good_name(name)?;
         let mut sender = Sender {

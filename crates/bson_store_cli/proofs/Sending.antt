@@ -9,8 +9,8 @@ use Rattle.store_laws.specs.State.{list_of, refusal_of}
 use Rattle.store_laws.specs.Table.{Table, state_of}
 use Rattle.store_laws.specs.declared.error.ErrorKind.{ErrorKind}
 use Rattle.store_laws.specs.declared.error.ErrorKind.TheVariants.{BadName, Memory, Database, Reader, Writer}
-use Rattle.bson_base.specs.Device.{Feed}
-use Rattle.bson_store.specs.Export.{Tally, Delivers, ExportRefused, SendsCollection}
+use Rattle.bson_base.specs.Device.{Feed, Tally}
+use Rattle.bson_store.specs.Export.{Delivers, ExportRefused, SendsCollection}
 use Rattle.bson_store.specs.declared.error.StoreError.{StoreError}
 use Rattle.bson_store_cli.specs.Pipe.{ReadsInput, KeepsInput, RefusesInput, Exchanges}
 use Rattle.bson_store_cli.proofs.Refusing.{of_input}

@@ -1,7 +1,6 @@
 -- What the program does to its input, its output and the device that faults are told to.
-use Rattle.std.specs.Prelude.{◌≡◌, ◌⊎◌, ℕ, ◌+◌, List, [], ◌∷◌, Some, None, Result, Ok, Err, codes}
-use Rattle.std.specs.Io.KnownBytes.{Appends}
-use Rattle.bson_base.specs.Device.{TakesBeginning, Feed, TookAll}
+use Rattle.std.specs.Prelude.{◌≡◌, ◌⊎◌, ℕ, List, [], ◌∷◌, Some, None, Result, Ok, Err, codes}
+use Rattle.bson_base.specs.Device.{Feed, TookAll, Tally, TakesText}
 use Rattle.bson_base.specs.Value.{Members}
 use Rattle.bson_bytes.specs.Encode.{encode}
 use Rattle.sqlite.specs.State.{State}
@@ -17,13 +16,7 @@ use Rattle.store_streams.specs.declared.input.ReadAllError.{ReadAllError}
 use Rattle.store_streams.specs.declared.input.ReadAllError.TheVariants as reading
 use Rattle.store_words.specs.Lines.{refusal_line}
 use Rattle.bson_store.specs.Shown.{Show}
-use Rattle.bson_store.specs.Export.{Tally, Delivers}
-
--- ---- the line
-
--- the line went out, or a call failed and a beginning did
-abbrev pub TellsLine : List ℕ → Tally → Tally → Type 0
-TellsLine line old new = ((new.failures ≡ old.failures) × Appends old.taken new.taken line) ⊎ ((new.failures ≡ old.failures + 1) × TakesBeginning old.taken new.taken line)
+use Rattle.bson_store.specs.Export.{Delivers}
 
 -- ---- the document
 
@@ -76,4 +69,4 @@ pub record Devices : Type 0 where
 -- status 0: it is done, and nothing is told; status 1: it was refused, and the line tells why
 abbrev pub Pipes : Devices → Devices → ℕ → Type 0
 Pipes old new status = ((status ≡ 0) × Exchanges old.input new.input old.output new.output (Ok tt) × (new.faults ≡ old.faults))
-    ⊎ ((kind : ErrorKind) × (status ≡ 1) × Exchanges old.input new.input old.output new.output (Err kind) × TellsLine (refusal_line kind None) old.faults new.faults)
+    ⊎ ((kind : ErrorKind) × (status ≡ 1) × Exchanges old.input new.input old.output new.output (Err kind) × TakesText old.faults new.faults (refusal_line kind None))

@@ -11,7 +11,7 @@ use store_words::{Complaint, Words, read_words, write_complaint, write_refusal};
 
 /// Tells a refusal, and answers the status of one.
 fn refuse<F: Sink>(faults: &mut F, kind: ErrorKind) -> u8
-    requires { F.failures faults.old < 2 ^ 64 - 1 }
+    requires { (F.tally faults.old).failures < 2 ^ 64 - 1 }
 {
     let _ = write_refusal(faults, kind, None);
     1
@@ -19,7 +19,7 @@ fn refuse<F: Sink>(faults: &mut F, kind: ErrorKind) -> u8
 
 /// Tells that the words are no line of the table of commands, and answers the status of that.
 fn misuse<F: Sink>(faults: &mut F) -> u8
-    requires { F.failures faults.old < 2 ^ 64 - 1 }
+    requires { (F.tally faults.old).failures < 2 ^ 64 - 1 }
 {
     let _ = write_complaint(faults, Complaint::Usage);
     2
@@ -27,7 +27,7 @@ fn misuse<F: Sink>(faults: &mut F) -> u8
 
 /// What is told where the words can't be had: want of memory, or that some word is no text.
 pub fn unread<F: Sink>(error: io::Error, faults: &mut F) -> u8
-    requires { F.failures faults.old < 2 ^ 64 - 1 }
+    requires { (F.tally faults.old).failures < 2 ^ 64 - 1 }
 {
     match error.kind() {
         io::ErrorKind::OutOfMemory => refuse(faults, ErrorKind::Memory),
@@ -58,9 +58,9 @@ fn over<I: Source, O: Sink, F: Sink>(
     output: &mut O,
     faults: &mut F,
 ) -> u8
-    requires input { I.failures input.old < 2 ^ 64 - 1 }
-    requires output { O.failures output.old < 2 ^ 64 - 1 }
-    requires faults { F.failures faults.old < 2 ^ 64 - 1 }
+    requires input { (I.feed input.old).failures < 2 ^ 64 - 1 }
+    requires output { (O.tally output.old).failures < 2 ^ 64 - 1 }
+    requires faults { (F.tally faults.old).failures < 2 ^ 64 - 1 }
 {
     match Store::open(alloc, connection) {
         Ok(mut store) => {
@@ -84,9 +84,9 @@ pub fn serve<I: Source, O: Sink, F: Sink>(
     output: &mut O,
     faults: &mut F,
 ) -> u8
-    requires input { I.failures input.old < 2 ^ 64 - 1 }
-    requires output { O.failures output.old < 2 ^ 64 - 1 }
-    requires faults { F.failures faults.old < 2 ^ 64 - 1 }
+    requires input { (I.feed input.old).failures < 2 ^ 64 - 1 }
+    requires output { (O.tally output.old).failures < 2 ^ 64 - 1 }
+    requires faults { (F.tally faults.old).failures < 2 ^ 64 - 1 }
 {
     let Some(words) = read_words(words) else {
         return misuse(faults);

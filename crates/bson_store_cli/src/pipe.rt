@@ -46,11 +46,11 @@ fn kind_of_reading(error: ReadAllError) -> ErrorKind
 
 /// Keeps the document of the input in a new store, which is there before the first byte is read.
 fn keep<I: Source>(alloc: Global, input: &mut I) -> Result<Store<MemStore>, ErrorKind>
-    requires { I.failures input.old < 2 ^ 64 - 1 }
-    ensures ok { IfOk result (λ store. KeepsInput (record { failures = I.failures input.old; supply = I.supply input.old })
-        (record { failures = I.failures input.new; supply = I.supply input.new }) (held over_memory store)) }
-    ensures err { IfErr result (λ kind. RefusesInput kind (record { failures = I.failures input.old; supply = I.supply input.old })
-        (record { failures = I.failures input.new; supply = I.supply input.new })) }
+    requires { (I.feed input.old).failures < 2 ^ 64 - 1 }
+    ensures ok { IfOk result (λ store. KeepsInput (I.feed input.old)
+        (I.feed input.new) (held over_memory store)) }
+    ensures err { IfErr result (λ kind. RefusesInput kind (I.feed input.old)
+        (I.feed input.new)) }
 {
     let mut store = new_store(alloc)?;
     let bytes = match read_all(alloc, input) {
@@ -69,12 +69,12 @@ fn exchange<I: Source, O: Sink>(
     input: &mut I,
     output: &mut O,
 ) -> Result<(), ErrorKind>
-    requires input { I.failures input.old < 2 ^ 64 - 1 }
-    requires output { O.failures output.old < 2 ^ 64 - 1 }
-    ensures { Exchanges (record { failures = I.failures input.old; supply = I.supply input.old })
-        (record { failures = I.failures input.new; supply = I.supply input.new })
-        (record { failures = O.failures output.old; taken = O.taken output.old })
-        (record { failures = O.failures output.new; taken = O.taken output.new }) result }
+    requires input { (I.feed input.old).failures < 2 ^ 64 - 1 }
+    requires output { (O.tally output.old).failures < 2 ^ 64 - 1 }
+    ensures { Exchanges (I.feed input.old)
+        (I.feed input.new)
+        (O.tally output.old)
+        (O.tally output.new) result }
 {
     let mut store = keep(alloc, input)?;
     match store.export(NAME, output) {
@@ -96,18 +96,18 @@ pub fn pipe<I: Source, O: Sink, F: Sink>(
     output: &mut O,
     faults: &mut F,
 ) -> u8
-    requires input { I.failures input.old < 2 ^ 64 - 1 }
-    requires output { O.failures output.old < 2 ^ 64 - 1 }
-    requires faults { F.failures faults.old < 2 ^ 64 - 1 }
+    requires input { (I.feed input.old).failures < 2 ^ 64 - 1 }
+    requires output { (O.tally output.old).failures < 2 ^ 64 - 1 }
+    requires faults { (F.tally faults.old).failures < 2 ^ 64 - 1 }
     ensures { Pipes (record {
-      input = record { failures = I.failures input.old; supply = I.supply input.old };
-      output = record { failures = O.failures output.old; taken = O.taken output.old };
-      faults = record { failures = F.failures faults.old; taken = F.taken faults.old };
+      input = I.feed input.old;
+      output = O.tally output.old;
+      faults = F.tally faults.old;
     })
         (record {
-          input = record { failures = I.failures input.new; supply = I.supply input.new };
-          output = record { failures = O.failures output.new; taken = O.taken output.new };
-          faults = record { failures = F.failures faults.new; taken = F.taken faults.new };
+          input = I.feed input.new;
+          output = O.tally output.new;
+          faults = F.tally faults.new;
         }) result }
 {
     match exchange(alloc, input, output) {

@@ -11,9 +11,7 @@ pub struct Counting {
 impl Sink for Counting {
     ghost use Rattle.std.specs.Prelude.{None};
 
-    ghost failures = { λ _. 0 };
-
-    ghost taken = { λ _. None };
+    ghost tally = { λ _. record { failures = 0; taken = None } };
 
     fn write(&mut self, buf: &[u8]) -> Result<usize, DeviceFault> {
         self.bytes = self.bytes.saturating_add(buf.len() as u64);

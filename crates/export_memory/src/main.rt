@@ -15,7 +15,7 @@ use std::process::ExitCode;
 
 /// The decimal number at the beginning of the input, of at most eight digits; 0 where there is none.
 fn number_in<I: Source>(input: &mut I) -> usize
-    requires { I.failures input.old < 2 ^ 64 - 1 }
+    requires { (I.feed input.old).failures < 2 ^ 64 - 1 }
 {
     let mut digits = [0u8; 8];
     let given = input.read(&mut digits).unwrap_or(0);

@@ -1,6 +1,7 @@
 -- What a refused call leaves, and calls of the store as commands of the program.
 use Rattle.std.proofs.Common.{◌≡◌, ◌⊎◌, inl, inr, ℕ, List, [], ◌∷◌, ◌++◌, Option, Some, None, Result, Ok, Err, MatchOption, IsSomeAnd, refl, sym, ap, ◌∙◌, subst}
 use Rattle.std.specs.List.{flat_map}
+use Rattle.bson_base.specs.Device.{Tally}
 use Rattle.sqlite.specs.State.{State as Connected}
 use Rattle.serde_json.specs.Data.{Data}
 use Rattle.bson_base.specs.Value.{Value, Members, look_up, put}
@@ -19,7 +20,7 @@ use Rattle.store_laws.proofs.Unmoved.{unmoved}
 use Rattle.bson_store.specs.Shown.{Show}
 use Rattle.bson_store.specs.Calls.{Does, DoesTree}
 use Rattle.bson_store.specs.Dump.{HandsTrees}
-use Rattle.bson_store.specs.Export.{Tally, SendsCollection}
+use Rattle.bson_store.specs.Export.{SendsCollection}
 use Rattle.bson_store.specs.Refusals.{reply_by}
 use Rattle.bson_store.specs.declared.error.StoreError.{StoreError}
 use Rattle.bson_store.proofs.Moving.{rests, moved, moved_twice}

@@ -1,7 +1,6 @@
 -- What a command of the program does to the rows.
-use Rattle.std.specs.Prelude.{◌≡◌, ◌⊎◌, ◌+◌, ℕ, List, Option, Result, Ok, Err}
-use Rattle.std.specs.Io.KnownBytes.{Appends}
-use Rattle.bson_base.specs.Device.{TakesBeginning}
+use Rattle.std.specs.Prelude.{◌≡◌, ◌⊎◌, ℕ, List, Option, Result, Ok, Err}
+use Rattle.bson_base.specs.Device.{Tally, TakesText}
 use Rattle.bson_table.specs.Rows.{Doc}
 use Rattle.store_laws.specs.State.{Command, Reply}
 use Rattle.store_laws.specs.Table.{Table, Serves, IsRefusal}
@@ -50,17 +49,13 @@ SilentUnread (Ok x) old new = Unit {0}
 SilentUnread (Err (Refused e)) old new = Unit {0}
 SilentUnread (Err (Words w)) old new = new ≡ old
 
--- a text went out, or a write failed, and a beginning of it went out
-abbrev pub PrintsText : ℕ → ℕ → Option (List ℕ) → Option (List ℕ) → List ℕ → Type 0
-PrintsText failed failing old new text = ((failing ≡ failed) × Appends old new text) ⊎ ((failing ≡ failed + 1) × TakesBeginning old new text)
-
--- the line of a refusal went out so
-abbrev pub WritesRefusal : ℕ → ℕ → Option (List ℕ) → Option (List ℕ) → Type 0
-WritesRefusal failed failing old new = (k : ErrorKind) × (i : Option ℕ) × PrintsText failed failing old new (refusal_line k i)
+-- the line of a refusal went out, or a write failed and a beginning of it did
+abbrev pub WritesRefusal : Tally → Tally → Type 0
+WritesRefusal old new = (k : ErrorKind) × (i : Option ℕ) × TakesText old new (refusal_line k i)
 
 -- the line of a text that can't be read went out so
-abbrev pub WritesComplaint : ℕ → ℕ → Option (List ℕ) → Option (List ℕ) → Type 0
-WritesComplaint failed failing old new = (w : Complaint) × PrintsText failed failing old new (complaint_line w)
+abbrev pub WritesComplaint : Tally → Tally → Type 0
+WritesComplaint old new = (w : Complaint) × TakesText old new (complaint_line w)
 
 -- by the status: it was accepted; nothing was done, or it was accepted and its answer not printed; nothing was done
 abbrev pub Ended : (Command → Type 0) → ℕ → Table → Table → Type 0

@@ -27,7 +27,7 @@ pub struct Printer<'w, O: Sink> {
     pub output: &'w mut O,
     pub alloc: Global,
     pub failed: bool,
-    ghost ready: { failed ≡ false → O.failures output.now < 2 ^ 64 - 1 },
+    ghost ready: { failed ≡ false → (O.tally output.now).failures < 2 ^ 64 - 1 },
 }
 
 impl<'w, O: Sink> TakeJson for Printer<'w, O> {

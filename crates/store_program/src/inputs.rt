@@ -21,7 +21,7 @@ pub fn import<S: Alter + Drop, I: Source>(
     words: &[String],
     input: &mut I,
 ) -> Result<Answer, Stop>
-    requires { I.failures input.old < 2 ^ 64 - 1 }
+    requires { (I.feed input.old).failures < 2 ^ 64 - 1 }
     ensures { Moves (held S.Store store.old) (held S.Store store.new) (Performs (IsCommandOf Import name.now (map string_bytes words.now)) result) }
 {
     if !words.is_empty() {
@@ -38,7 +38,7 @@ pub fn load<S: Alter + Drop, I: Source>(
     words: &[String],
     input: &mut I,
 ) -> Result<Answer, Stop>
-    requires { I.failures input.old < 2 ^ 64 - 1 }
+    requires { (I.feed input.old).failures < 2 ^ 64 - 1 }
     ensures { Moves (held S.Store store.old) (held S.Store store.new) (Performs (IsCommandOf Load name.now (map string_bytes words.now)) result) }
 {
     if !words.is_empty() {

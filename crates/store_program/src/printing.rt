@@ -11,8 +11,8 @@ use store_words::{write_flag, write_line, write_number};
 
 /// Writes a tree on one line.
 pub fn print_tree<O: Sink>(alloc: Global, tree: &Value, output: &mut O) -> Result<(), StoreError>
-    requires { O.failures output.old < 2 ^ 64 - 1 }
-    ensures { OnOk result (O.failures output.new ≡ O.failures output.old) }
+    requires { (O.tally output.old).failures < 2 ^ 64 - 1 }
+    ensures { OnOk result ((O.tally output.new).failures ≡ (O.tally output.old).failures) }
 {
     let text = tree.to_string(alloc)?;
     write_line(output, text.as_str())?;
@@ -21,7 +21,7 @@ pub fn print_tree<O: Sink>(alloc: Global, tree: &Value, output: &mut O) -> Resul
 
 /// Writes documents, one after the other.
 fn print_documents<O: Sink>(documents: &[Vec<u8>], output: &mut O) -> Result<(), StoreError>
-    requires { O.failures output.old < 2 ^ 64 - 1 }
+    requires { (O.tally output.old).failures < 2 ^ 64 - 1 }
 {
     for document in documents {
         write_all(output, document.as_slice())?;
@@ -31,7 +31,7 @@ fn print_documents<O: Sink>(documents: &[Vec<u8>], output: &mut O) -> Result<(),
 
 /// Writes names, one a line.
 fn print_names<O: Sink>(names: &[String], output: &mut O) -> Result<(), StoreError>
-    requires { O.failures output.old < 2 ^ 64 - 1 }
+    requires { (O.tally output.old).failures < 2 ^ 64 - 1 }
 {
     for name in names {
         write_line(output, name.as_str())?;
@@ -41,7 +41,7 @@ fn print_names<O: Sink>(names: &[String], output: &mut O) -> Result<(), StoreErr
 
 /// Writes an answer. Refused by Writer, where a write failed, and by Memory, where it was wanted for a text.
 pub fn print<O: Sink>(alloc: Global, answer: &Answer, output: &mut O) -> Result<(), StoreError>
-    requires { O.failures output.old < 2 ^ 64 - 1 }
+    requires { (O.tally output.old).failures < 2 ^ 64 - 1 }
 {
     match answer {
         Answer::Nothing => Ok(()),

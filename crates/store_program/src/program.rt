@@ -19,7 +19,7 @@ use store_words::{Call, Words, write_complaint, write_refusal};
 
 /// Prints what a command answers. Of one that isn't done nothing is printed.
 fn told<O: Sink>(alloc: Global, outcome: Result<Answer, Stop>, output: &mut O) -> Result<(), Stop>
-    requires { O.failures output.old < 2 ^ 64 - 1 }
+    requires { (O.tally output.old).failures < 2 ^ 64 - 1 }
     ensures told { Tells outcome result }
     ensures unread { SilentUnread result output.old output.new }
 {
@@ -40,8 +40,8 @@ fn serve<S: Alter + Drop, I: Source, O: Sink>(
     input: &mut I,
     output: &mut O,
 ) -> Result<(), Stop>
-    requires input { I.failures input.old < 2 ^ 64 - 1 }
-    requires output { O.failures output.old < 2 ^ 64 - 1 }
+    requires input { (I.feed input.old).failures < 2 ^ 64 - 1 }
+    requires output { (O.tally output.old).failures < 2 ^ 64 - 1 }
     ensures step { Moves (held S.Store store.old) (held S.Store store.new) (Prints (IsAskedBy words.now) result) }
     ensures unread { SilentUnread result output.old output.new }
 {
@@ -78,14 +78,14 @@ pub fn execute<S: Alter + Drop, I: Source, O: Sink, F: Sink>(
     output: &mut O,
     faults: &mut F,
 ) -> u8
-    requires input { I.failures input.old < 2 ^ 64 - 1 }
-    requires output { O.failures output.old < 2 ^ 64 - 1 }
-    requires faults { F.failures faults.old < 2 ^ 64 - 1 }
+    requires input { (I.feed input.old).failures < 2 ^ 64 - 1 }
+    requires output { (O.tally output.old).failures < 2 ^ 64 - 1 }
+    requires faults { (F.tally faults.old).failures < 2 ^ 64 - 1 }
     ensures status { result ≤ 2 }
     ensures silent { result ≡ 0 → faults.new ≡ faults.old }
     ensures unread { result ≡ 2 → output.new ≡ output.old }
-    ensures refusal { result ≡ 1 → WritesRefusal (F.failures faults.old) (F.failures faults.new) (F.taken faults.old) (F.taken faults.new) }
-    ensures complaint { result ≡ 2 → WritesComplaint (F.failures faults.old) (F.failures faults.new) (F.taken faults.old) (F.taken faults.new) }
+    ensures refusal { result ≡ 1 → WritesRefusal (F.tally faults.old) (F.tally faults.new) }
+    ensures complaint { result ≡ 2 → WritesComplaint (F.tally faults.old) (F.tally faults.new) }
     ensures step { Moves (held S.Store store.old) (held S.Store store.new) (Executes (IsAskedBy words.now) result) }
 {
     match serve(alloc, store, words, input, output) {

@@ -39,7 +39,7 @@ pub fn export<S: Alter + Drop, O: Sink>(
     words: &[String],
     output: &mut O,
 ) -> Result<(), Stop>
-    requires { O.failures output.old < 2 ^ 64 - 1 }
+    requires { (O.tally output.old).failures < 2 ^ 64 - 1 }
     ensures step { Moves (held S.Store store.old) (held S.Store store.new) (Prints (IsCommandOf Export name.now (map string_bytes words.now)) result) }
     ensures unread { SilentUnread result output.old output.new }
 {
@@ -93,7 +93,7 @@ pub fn dump<S: Alter + Drop, O: Sink>(
     words: &[String],
     output: &mut O,
 ) -> Result<(), Stop>
-    requires { O.failures output.old < 2 ^ 64 - 1 }
+    requires { (O.tally output.old).failures < 2 ^ 64 - 1 }
     ensures step { Moves (held S.Store store.old) (held S.Store store.new) (Prints (IsCommandOf Dump name.now (map string_bytes words.now)) result) }
     ensures unread { SilentUnread result output.old output.new }
 {

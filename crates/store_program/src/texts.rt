@@ -72,7 +72,7 @@ pub fn filter_of(alloc: Global, text: &str) -> Result<Filter, Stop> {
 
 /// The trees of the input's lines, which is read to its end.
 pub fn trees_in<I: Source>(alloc: Global, input: &mut I) -> Result<Vec<Value>, Stop>
-    requires { I.failures input.old < 2 ^ 64 - 1 }
+    requires { (I.feed input.old).failures < 2 ^ 64 - 1 }
 {
     let bytes = match read_all(alloc, input) {
         Ok(bytes) => bytes,

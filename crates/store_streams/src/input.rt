@@ -43,11 +43,11 @@ fn room(alloc: Global) -> Result<Vec<u8>, AllocError>
 /// Reads a source to its end, and answers all that it had left. An interrupted call is a failure like any other. After
 /// `Reader` nothing is said of how far the source was read; with `Memory` no read failed.
 pub fn read_all<S: Source>(alloc: Global, source: &mut S) -> Result<Vec<u8>, ReadAllError>
-    requires { S.failures source.old < 2 ^ 64 - 1 }
-    ensures ok { IfOk result (λ bytes. TookAll (record { failures = S.failures source.old; supply = S.supply source.old })
-        (record { failures = S.failures source.new; supply = S.supply source.new }) bytes.items) }
-    ensures err { IfErr result (λ error. StopsReading error (record { failures = S.failures source.old; supply = S.supply source.old })
-        (record { failures = S.failures source.new; supply = S.supply source.new })) }
+    requires { (S.feed source.old).failures < 2 ^ 64 - 1 }
+    ensures ok { IfOk result (λ bytes. TookAll (S.feed source.old)
+        (S.feed source.new) bytes.items) }
+    ensures err { IfErr result (λ error. StopsReading error (S.feed source.old)
+        (S.feed source.new)) }
 {
     let mut chunk = room(alloc)?;
     let mut bytes = Vec::new(alloc);

@@ -26,10 +26,10 @@ pub enum Complaint {
 
 /// Writes texts, one after the other.
 fn write_parts<S: Sink>(sink: &mut S, parts: &[&str]) -> Result<(), DeviceFault>
-    requires { S.failures sink.old < 2 ^ 64 - 1 }
-    ensures counts { Counts (S.failures sink.old) (S.failures sink.new) result }
-    ensures ok { OnOk result (Appends (S.taken sink.old) (S.taken sink.new) (joined parts.now)) }
-    ensures err { OnErr result (TakesBeginning (S.taken sink.old) (S.taken sink.new) (joined parts.now)) }
+    requires { (S.tally sink.old).failures < 2 ^ 64 - 1 }
+    ensures counts { Counts (S.tally sink.old).failures (S.tally sink.new).failures result }
+    ensures ok { OnOk result (Appends (S.tally sink.old).taken (S.tally sink.new).taken (joined parts.now)) }
+    ensures err { OnErr result (TakesBeginning (S.tally sink.old).taken (S.tally sink.new).taken (joined parts.now)) }
 {
     for part in parts {
         write_all(sink, part.as_bytes())?;
@@ -39,20 +39,20 @@ fn write_parts<S: Sink>(sink: &mut S, parts: &[&str]) -> Result<(), DeviceFault>
 
 /// Writes a text and a line feed. After a failure a beginning of the line was written.
 pub fn write_line<S: Sink>(sink: &mut S, text: &str) -> Result<(), DeviceFault>
-    requires { S.failures sink.old < 2 ^ 64 - 1 }
-    ensures counts { Counts (S.failures sink.old) (S.failures sink.new) result }
-    ensures ok { OnOk result (Appends (S.taken sink.old) (S.taken sink.new) (line text.now)) }
-    ensures err { OnErr result (TakesBeginning (S.taken sink.old) (S.taken sink.new) (line text.now)) }
+    requires { (S.tally sink.old).failures < 2 ^ 64 - 1 }
+    ensures counts { Counts (S.tally sink.old).failures (S.tally sink.new).failures result }
+    ensures ok { OnOk result (Appends (S.tally sink.old).taken (S.tally sink.new).taken (line text.now)) }
+    ensures err { OnErr result (TakesBeginning (S.tally sink.old).taken (S.tally sink.new).taken (line text.now)) }
 {
     write_parts(sink, &[text, "\n"])
 }
 
 /// Writes a number in decimal and a line feed. After a failure a beginning of the line was written.
 pub fn write_number<S: Sink>(sink: &mut S, number: u64) -> Result<(), DeviceFault>
-    requires { S.failures sink.old < 2 ^ 64 - 1 }
-    ensures counts { Counts (S.failures sink.old) (S.failures sink.new) result }
-    ensures ok { OnOk result (Appends (S.taken sink.old) (S.taken sink.new) (line (decimal number))) }
-    ensures err { OnErr result (TakesBeginning (S.taken sink.old) (S.taken sink.new) (line (decimal number))) }
+    requires { (S.tally sink.old).failures < 2 ^ 64 - 1 }
+    ensures counts { Counts (S.tally sink.old).failures (S.tally sink.new).failures result }
+    ensures ok { OnOk result (Appends (S.tally sink.old).taken (S.tally sink.new).taken (line (decimal number))) }
+    ensures err { OnErr result (TakesBeginning (S.tally sink.old).taken (S.tally sink.new).taken (line (decimal number))) }
 {
     let mut digits = Buffer::new();
     write_line(sink, digits.format(number))
@@ -60,10 +60,10 @@ pub fn write_number<S: Sink>(sink: &mut S, number: u64) -> Result<(), DeviceFaul
 
 /// Writes `true` or `false` and a line feed. After a failure a beginning of the line was written.
 pub fn write_flag<S: Sink>(sink: &mut S, flag: bool) -> Result<(), DeviceFault>
-    requires { S.failures sink.old < 2 ^ 64 - 1 }
-    ensures counts { Counts (S.failures sink.old) (S.failures sink.new) result }
-    ensures ok { OnOk result (Appends (S.taken sink.old) (S.taken sink.new) (line (flag_text flag))) }
-    ensures err { OnErr result (TakesBeginning (S.taken sink.old) (S.taken sink.new) (line (flag_text flag))) }
+    requires { (S.tally sink.old).failures < 2 ^ 64 - 1 }
+    ensures counts { Counts (S.tally sink.old).failures (S.tally sink.new).failures result }
+    ensures ok { OnOk result (Appends (S.tally sink.old).taken (S.tally sink.new).taken (line (flag_text flag))) }
+    ensures err { OnErr result (TakesBeginning (S.tally sink.old).taken (S.tally sink.new).taken (line (flag_text flag))) }
 {
     write_line(sink, if flag { "true" } else { "false" })
 }
@@ -75,10 +75,10 @@ pub fn write_refusal<S: Sink>(
     kind: ErrorKind,
     document: Option<u64>,
 ) -> Result<(), DeviceFault>
-    requires { S.failures sink.old < 2 ^ 64 - 1 }
-    ensures counts { Counts (S.failures sink.old) (S.failures sink.new) result }
-    ensures ok { OnOk result (Appends (S.taken sink.old) (S.taken sink.new) (refusal_line kind document)) }
-    ensures err { OnErr result (TakesBeginning (S.taken sink.old) (S.taken sink.new) (refusal_line kind document)) }
+    requires { (S.tally sink.old).failures < 2 ^ 64 - 1 }
+    ensures counts { Counts (S.tally sink.old).failures (S.tally sink.new).failures result }
+    ensures ok { OnOk result (Appends (S.tally sink.old).taken (S.tally sink.new).taken (refusal_line kind document)) }
+    ensures err { OnErr result (TakesBeginning (S.tally sink.old).taken (S.tally sink.new).taken (refusal_line kind document)) }
 {
     let name = kind.name();
     let mut digits = Buffer::new();
@@ -96,10 +96,10 @@ pub fn write_refusal<S: Sink>(
 /// Writes the line that tells what is wrong with the words, as `words: usage`. After a failure a beginning of the line was
 /// written.
 pub fn write_complaint<S: Sink>(sink: &mut S, complaint: Complaint) -> Result<(), DeviceFault>
-    requires { S.failures sink.old < 2 ^ 64 - 1 }
-    ensures counts { Counts (S.failures sink.old) (S.failures sink.new) result }
-    ensures ok { OnOk result (Appends (S.taken sink.old) (S.taken sink.new) (complaint_line complaint)) }
-    ensures err { OnErr result (TakesBeginning (S.taken sink.old) (S.taken sink.new) (complaint_line complaint)) }
+    requires { (S.tally sink.old).failures < 2 ^ 64 - 1 }
+    ensures counts { Counts (S.tally sink.old).failures (S.tally sink.new).failures result }
+    ensures ok { OnOk result (Appends (S.tally sink.old).taken (S.tally sink.new).taken (complaint_line complaint)) }
+    ensures err { OnErr result (TakesBeginning (S.tally sink.old).taken (S.tally sink.new).taken (complaint_line complaint)) }
 {
     match complaint {
         Complaint::Usage => write_line(sink, "words: usage"),

@@ -5,8 +5,8 @@ use Rattle.bson_base.proofs.device.read_full.Given as goal
 abbrev pub invariant-loop-at : goal.invariant-loop-at
 invariant-loop-at g l = record {
   within : l.at ≤ length l.buf;
-  fine : g.S.Source.failures l.source ≡ g.S.Source.failures l.fn.source;
-  so_far : Gives (g.S.Source.supply l.fn.source) (g.S.Source.supply l.source) (take l.at l.buf);
+  fine : (g.S.Source.feed l.source).failures ≡ (g.S.Source.feed l.fn.source).failures;
+  so_far : Gives (g.S.Source.feed l.fn.source).supply (g.S.Source.feed l.source).supply (take l.at l.buf);
 }
 
 abbrev pub decreases-loop-at : goal.decreases-loop-at

@@ -10,12 +10,12 @@ loop-at-preserved g c =
     let l = c.loop-at in
     let bytes = c.args.bytes.now in
     let n = c.in_ok-at.field-0 in
-    let taken = g.S.Sink.taken in
+    let tally = g.S.Sink.tally in
     let here = take_rest bytes l.at n l.invariant.within c.in_ok-at.ensures.bound in
     record {
       within = grind (arith, c.in_ok-at.ensures.bound);
       fine = c.in_ok-at.ensures.counts ∙ l.invariant.fine;
-      so_far = subst (Appends (taken c.args.sink.now) (taken c.write.new.self)) (sym (take-add l.at n bytes))
-          (Appends-trans (taken c.args.sink.now) (taken l.sink) (taken c.write.new.self) (take l.at bytes) (take n (drop l.at bytes)) l.invariant.so_far
-          (subst (Appends (taken l.sink) (taken c.write.new.self)) here c.in_ok-at.ensures.bytes));
+      so_far = subst (Appends (tally c.args.sink.now).taken (tally c.write.new.self).taken) (sym (take-add l.at n bytes))
+          (Appends-trans (tally c.args.sink.now).taken (tally l.sink).taken (tally c.write.new.self).taken (take l.at bytes) (take n (drop l.at bytes)) l.invariant.so_far
+          (subst (Appends (tally l.sink).taken (tally c.write.new.self).taken) here c.in_ok-at.ensures.bytes));
     }

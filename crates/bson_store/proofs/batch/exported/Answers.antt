@@ -1,8 +1,9 @@
 use Rattle.std.proofs.Common.{ap, refl, Some, None, Ok, Err}
+use Rattle.bson_base.specs.Device.{Tally}
 use Rattle.store_laws.specs.State as model
 use Rattle.store_laws.specs.declared.error.ErrorKind.TheVariants as kind
 use Rattle.bson_store.specs.Calls.{held, Does}
-use Rattle.bson_store.specs.Export.{Tally, SendsCollection}
+use Rattle.bson_store.specs.Export.{SendsCollection}
 use Rattle.bson_store.proofs.Moving.{moved}
 use Rattle.bson_store.proofs.Exporting.{sent, not_sent, sink_failed}
 use Rattle.bson_store.proofs.batch.exported.Goals as goal

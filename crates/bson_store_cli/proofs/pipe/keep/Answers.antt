@@ -10,8 +10,8 @@ use Rattle.bson_store_cli.proofs.pipe.keep.Goals as goal
 
 pub returns-in-Ok-insert_raw-clause-ok : goal.returns-in-Ok-insert_raw-clause-ok
 returns-in-Ok-insert_raw-clause-ok g c =
-    let old : Feed = record { failures = g.I.Source.failures c.args.input.now; supply = g.I.Source.supply c.args.input.now } in
-    let new : Feed = record { failures = g.I.Source.failures c.read_all.new.source; supply = g.I.Source.supply c.read_all.new.source } in
+    let old : Feed = g.I.Source.feed c.args.input.now in
+    let new : Feed = g.I.Source.feed c.read_all.new.source in
     let s = held over_memory c.in_ok-store.store in
     let t = held over_memory c.insert_raw.new.self in
     let moves = subst (λ (bytes : List ℕ). Moves s t (DoesBytes name (insert in_bytes) bytes done)) c.deref.ensures.value c.in-Ok-insert_raw.ensures in
@@ -19,8 +19,8 @@ returns-in-Ok-insert_raw-clause-ok g c =
 
 pub returns-in-Err-insert_raw-clause-err : goal.returns-in-Err-insert_raw-clause-err
 returns-in-Err-insert_raw-clause-err g c =
-    let old : Feed = record { failures = g.I.Source.failures c.args.input.now; supply = g.I.Source.supply c.args.input.now } in
-    let new : Feed = record { failures = g.I.Source.failures c.read_all.new.source; supply = g.I.Source.supply c.read_all.new.source } in
+    let old : Feed = g.I.Source.feed c.args.input.now in
+    let new : Feed = g.I.Source.feed c.read_all.new.source in
     let s = held over_memory c.in_ok-store.store in
     let t = held over_memory c.insert_raw.new.self in
     let e = c.in-Err-insert_raw.error in

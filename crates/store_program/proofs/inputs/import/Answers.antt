@@ -8,7 +8,7 @@ use Rattle.store_program.proofs.inputs.import.Goals as goal
 
 pub returns : goal.returns
 returns g c =
-    let old : Feed = record { failures = g.I.Source.failures c.args.input.now; supply = g.I.Source.supply c.args.input.now } in
-    let new : Feed = record { failures = g.I.Source.failures c.import.new.reader; supply = g.I.Source.supply c.import.new.reader } in
+    let old : Feed = g.I.Source.feed c.args.input.now in
+    let new : Feed = g.I.Source.feed c.import.new.reader in
     import_performs (held g.S.Store c.args.store.now) (held g.S.Store c.import.new.self) (IsCommandOf words.Import c.args.name.now (map string_bytes c.args.words.now)) c.args.name.now old new c.import.result c.number.result
     (λ ds stop. (ds, stop, refl)) c.number.ensures c.import.ensures

@@ -3,4 +3,4 @@ use Rattle.store_program.proofs.printing.print_names.Given as goal
 
 -- no write has failed
 abbrev pub invariant-loop-name : goal.invariant-loop-name
-invariant-loop-name g l = g.O.Sink.failures l.output ≡ g.O.Sink.failures l.initial.output
+invariant-loop-name g l = (g.O.Sink.tally l.output).failures ≡ (g.O.Sink.tally l.initial.output).failures

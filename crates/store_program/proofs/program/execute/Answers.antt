@@ -18,11 +18,11 @@ returns-in-Err-Words-clause-step g c =
 pub returns-in-Err-Refused-clause-refusal : goal.returns-in-Err-Refused-clause-refusal
 returns-in-Err-Refused-clause-refusal g c = λ is.
     let told = c.write_refusal in
-    refusal_told c.in-Err-Refused.error.kind c.in-Err-Refused.error.document told.result (g.F.Sink.failures c.args.faults.now) (g.F.Sink.failures told.new.sink) (g.F.Sink.taken c.args.faults.now) (g.F.Sink.taken told.new.sink)
+    refusal_told c.in-Err-Refused.error.kind c.in-Err-Refused.error.document told.result (g.F.Sink.tally c.args.faults.now) (g.F.Sink.tally told.new.sink)
     told.ensures.counts told.ensures.ok told.ensures.err
 
 pub returns-in-Err-Words-clause-complaint : goal.returns-in-Err-Words-clause-complaint
 returns-in-Err-Words-clause-complaint g c = λ is.
     let told = c.write_complaint in
-    complaint_told c.in-Err-Words.complaint told.result (g.F.Sink.failures c.args.faults.now) (g.F.Sink.failures told.new.sink) (g.F.Sink.taken c.args.faults.now) (g.F.Sink.taken told.new.sink)
+    complaint_told c.in-Err-Words.complaint told.result (g.F.Sink.tally c.args.faults.now) (g.F.Sink.tally told.new.sink)
     told.ensures.counts told.ensures.ok told.ensures.err

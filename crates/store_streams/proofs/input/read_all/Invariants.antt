@@ -4,8 +4,8 @@ use Rattle.store_streams.proofs.input.read_all.Given as goal
 
 abbrev pub invariant-loop-n : goal.invariant-loop-n
 invariant-loop-n g l = record {
-  fine : g.S.Source.failures l.source ≡ g.S.Source.failures l.fn.source;
-  so_far : Gives (g.S.Source.supply l.fn.source) (g.S.Source.supply l.source) l.bytes.items;
+  fine : (g.S.Source.feed l.source).failures ≡ (g.S.Source.feed l.fn.source).failures;
+  so_far : Gives (g.S.Source.feed l.fn.source).supply (g.S.Source.feed l.source).supply l.bytes.items;
   room : 0 < vec_len l.chunk;
 }
 

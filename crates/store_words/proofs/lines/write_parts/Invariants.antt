@@ -5,6 +5,6 @@ use Rattle.store_words.proofs.lines.write_parts.Given as goal
 
 abbrev pub invariant-loop-part : goal.invariant-loop-part
 invariant-loop-part g l = record {
-  fine : g.S.Sink.failures l.sink ≡ g.S.Sink.failures l.fn.sink;
-  went : Appends (g.S.Sink.taken l.fn.sink) (g.S.Sink.taken l.sink) (joined (take l.part-index l.parts));
+  fine : (g.S.Sink.tally l.sink).failures ≡ (g.S.Sink.tally l.fn.sink).failures;
+  went : Appends (g.S.Sink.tally l.fn.sink).taken (g.S.Sink.tally l.sink).taken (joined (take l.part-index l.parts));
 }

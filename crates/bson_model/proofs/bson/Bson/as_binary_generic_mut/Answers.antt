@@ -1,7 +1,7 @@
 use Rattle.std.proofs.Common.{◌≡◌, refl, sym, ap, ◌∙◌, Vec, ℕ, Global}
 use Rattle.bson_base.specs.Value.{scalar, binary}
 use Rattle.bson_pairs.proofs.KeyedLemmas.{on_some_weaker}
-use Rattle.bson_model.specs.Kinds.{as_binary_generic}
+use Rattle.bson_model.specs.Accessors.{as_binary_generic}
 use Rattle.bson_model.specs.Rows.{with_bytes}
 use Rattle.bson_model.specs.Trees.{binary_tree}
 use Rattle.bson_model.proofs.ViewLemmas.{view-Binary, is_binary, is_generic}

@@ -1,7 +1,7 @@
 use Rattle.std.proofs.Common.{◌≡◌, refl, sym, ap, ◌∙◌, true≢false}
 use Rattle.bson_pairs.specs.Keyed.{put}
 use Rattle.bson_pairs.proofs.KeyedLemmas.{on_some_use, put-same}
-use Rattle.bson_model.specs.Kinds.{typed, or_unexpected, as_datetime}
+use Rattle.bson_model.specs.Accessors.{typed, or_unexpected, as_datetime}
 use Rattle.bson_model.specs.View.{view, pairs_of}
 use Rattle.bson_model.specs.declared.bson.Bson as bson
 use Rattle.bson_model.proofs.ViewLemmas.{view-DateTime}

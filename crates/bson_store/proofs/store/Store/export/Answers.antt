@@ -1,8 +1,9 @@
 use Rattle.std.proofs.Common.{rules, Err, refl, ap}
 use Rattle.std.proofs.lemmas.Result.{err_from_is_err_and}
+use Rattle.bson_base.specs.Device.{Tally}
 use Rattle.store_laws.specs.declared.error.ErrorKind.TheVariants as kind
 use Rattle.bson_store.specs.Calls.{held}
-use Rattle.bson_store.specs.Export.{Tally, SendsCollection}
+use Rattle.bson_store.specs.Export.{SendsCollection}
 use Rattle.bson_store.specs.Refusals.{refusal}
 use Rattle.bson_store.specs.declared.export.Sender.{Sender}
 use Rattle.bson_table.specs.Table.{table_state}
@@ -13,12 +14,12 @@ use Rattle.bson_store.proofs.store.Store.export.Goals as goal
 pub returns-in_err-name : goal.returns-in_err-name
 returns-in_err-name g c =
     let p = err_from_is_err_and c.from_residual.result c.from_residual.ensures.1 in
-    let t : Tally = record { failures = g.W.Sink.failures c.args.writer.now; taken = g.W.Sink.taken c.args.writer.now } in
+    let t : Tally = g.W.Sink.tally c.args.writer.now in
     rw (p.1, p.2, c.in_err-name.ensures.0) (rests (held g.S.Store c.args.self.now) (SendsCollection c.args.name.now t t (Err (refusal kind.BadName))) (λ docs. sends_none docs c.args.name.now t c.in_err-name.ensures.1))
 
 pub returns-then-sender : goal.returns-then-sender
 returns-then-sender g c =
-    let of_writer : g.row.W.Denot → Tally = λ w. record { failures = g.W.Sink.failures w; taken = g.W.Sink.taken w } in
+    let of_writer : g.row.W.Denot → Tally = λ w. g.W.Sink.tally w in
     let tally : Sender g.row.W.Denot g.W.Sink → Tally = λ v. of_writer v.writer.now in
     rw c.from.ensures
     (moved (held g.S.Store c.args.self.now) (table_state g.S.Store c.visit_bodies-sent.new.self) _ _ (rw c.as_str.ensures.text at c.visit_bodies-sent.ensures.moves)
@@ -27,7 +28,7 @@ returns-then-sender g c =
 pub returns-in_err-sent : goal.returns-in_err-sent
 returns-in_err-sent g c =
     let p = err_from_is_err_and c.from_residual-in_err-sent.result c.from_residual-in_err-sent.ensures.1 in
-    let of_writer : g.row.W.Denot → Tally = λ w. record { failures = g.W.Sink.failures w; taken = g.W.Sink.taken w } in
+    let of_writer : g.row.W.Denot → Tally = λ w. g.W.Sink.tally w in
     let tally : Sender g.row.W.Denot g.W.Sink → Tally = λ v. of_writer v.writer.now in
     rw (p.1, p.2)
     (moved (held g.S.Store c.args.self.now) (table_state g.S.Store c.visit_bodies-sent.new.self) _ _ (rw c.as_str.ensures.text at c.in_err-sent.ensures.moves)
@@ -35,7 +36,7 @@ returns-in_err-sent g c =
 
 pub returns : goal.returns
 returns g c =
-    let of_writer : g.row.W.Denot → Tally = λ w. record { failures = g.W.Sink.failures w; taken = g.W.Sink.taken w } in
+    let of_writer : g.row.W.Denot → Tally = λ w. g.W.Sink.tally w in
     let tally : Sender g.row.W.Denot g.W.Sink → Tally = λ v. of_writer v.writer.now in
     moved (held g.S.Store c.args.self.now) (table_state g.S.Store c.visit_bodies-sent.new.self) _ _ (rw c.as_str.ensures.text at c.in_ok-sent.ensures.moves)
     (λ docs after h. all_sent tally (λ v. v.failed) (λ v. v.writer.ghost_name) _ _ _ (λ e. ap of_writer (search rules)) docs after c.args.name.now c.in_ok-sent.field-0 c.in_ok-name.ensures.1 refl c.if-sender.false c.in_ok-sent.ensures.stopped (rw c.in_ok-name.ensures.0 at h))

@@ -15,7 +15,7 @@ use Rattle.bson_store.proofs.store.Store.import.Goals as goal
 pub returns-in_err-name : goal.returns-in_err-name
 returns-in_err-name g c =
     let n = c.args.name.now in
-    let f : Feed = record { failures = g.R.Source.failures c.args.reader.now; supply = g.R.Source.supply c.args.reader.now } in
+    let f : Feed = g.R.Source.feed c.args.reader.now in
     let p = err_from_is_err_and c.from_residual.result c.from_residual.ensures.1 in
     rw (p.1, p.2, c.in_err-name.ensures.0) (rests (held g.S.Store c.args.self.now) (Imports n f f (Err (refusal kind.BadName))) (λ docs. import_unnamed docs n f c.in_err-name.ensures.1))
 
@@ -23,8 +23,8 @@ pub returns-in_err-bytes : goal.returns-in_err-bytes
 returns-in_err-bytes g c =
     let n = c.args.name.now in
     let x = c.in_err-bytes.field-0.0 in
-    let old : Feed = record { failures = g.R.Source.failures c.args.reader.now; supply = g.R.Source.supply c.args.reader.now } in
-    let new : Feed = record { failures = g.R.Source.failures c.read_all.new.source; supply = g.R.Source.supply c.read_all.new.source } in
+    let old : Feed = g.R.Source.feed c.args.reader.now in
+    let new : Feed = g.R.Source.feed c.read_all.new.source in
     let p = err_from_is_err_and c.from_residual-in_err-bytes.result c.from_residual-in_err-bytes.ensures.1 in
     rw (p.1, p.2) (rests (held g.S.Store c.args.self.now) (Imports n old new (Err (refusal (kind_of_reading x)))) (λ docs. import_unread docs n old new x c.in_ok-name.ensures.1 c.in_err-bytes.ensures.err))
 
@@ -33,8 +33,8 @@ returns-in_err-rows g c =
     let n = c.args.name.now in
     let x = c.in_err-rows.field-0.0 in
     let bytes = c.in_ok-bytes.bytes.items in
-    let old : Feed = record { failures = g.R.Source.failures c.args.reader.now; supply = g.R.Source.supply c.args.reader.now } in
-    let new : Feed = record { failures = g.R.Source.failures c.read_all.new.source; supply = g.R.Source.supply c.read_all.new.source } in
+    let old : Feed = g.R.Source.feed c.args.reader.now in
+    let new : Feed = g.R.Source.feed c.read_all.new.source in
     let p = err_from_is_err_and c.from_residual-in_err-rows.result c.from_residual-in_err-rows.ensures.1 in
     rw (p.1, p.2)
     (rests (held g.S.Store c.args.self.now) (Imports n old new (Err (refusal_of_stream x)))
@@ -45,8 +45,8 @@ returns g c =
     let n = c.args.name.now in
     let bytes = c.in_ok-bytes.bytes.items in
     let rows = c.in_ok-rows.rows in
-    let old : Feed = record { failures = g.R.Source.failures c.args.reader.now; supply = g.R.Source.supply c.args.reader.now } in
-    let new : Feed = record { failures = g.R.Source.failures c.read_all.new.source; supply = g.R.Source.supply c.read_all.new.source } in
+    let old : Feed = g.R.Source.feed c.args.reader.now in
+    let new : Feed = g.R.Source.feed c.read_all.new.source in
     moved (held g.S.Store c.args.self.now) (held g.S.Store c.add_all.new.self) (AddsAll (name_bytes c.in_ok-name.name) rows.items c.add_all.result) (Imports n old new c.add_all.result) c.add_all.ensures
     (λ docs after h. import_added docs after n bytes old new rows c.add_all.result c.in_ok-name.ensures.1 (rw c.as_slice-stream.ensures.value at c.judged.ensures.range) c.in_ok-bytes.ensures.ok (rw c.as_slice-stream.ensures.value at c.in_ok-rows.ensures.rows)
     (subst (λ m. AddsAll m rows.items c.add_all.result docs after) c.in_ok-name.ensures.0 h))
