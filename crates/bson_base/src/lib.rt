@@ -13,6 +13,7 @@ pub mod plain;
 mod pointer;
 mod regex;
 pub mod spec;
+pub mod texts;
 mod timestamp;
 pub mod uuid;
 

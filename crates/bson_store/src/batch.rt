@@ -131,14 +131,8 @@ fn execute<S: Alter + Drop>(store: &mut Store<S>, command: Command) -> Reply
             id,
             key,
             value,
-        } => {
-            let key = key.as_str();
-            done(store.set(name.as_str(), &id, key, value))
-        },
-        Command::Unset { name, id, key } => {
-            let key = key.as_str();
-            flag(store.unset(name.as_str(), &id, key))
-        },
+        } => done(store.set(name.as_str(), &id, key.as_str(), value)),
+        Command::Unset { name, id, key } => flag(store.unset(name.as_str(), &id, key.as_str())),
         Command::Remove { name, id } => done(store.remove(name.as_str(), &id)),
         Command::GetRaw { name, id } => written(store.get_raw(name.as_str(), &id)),
         Command::GetJson { name, id, mode } => json(store.get_json(name.as_str(), &id, mode)),
@@ -146,8 +140,7 @@ fn execute<S: Alter + Drop>(store: &mut Store<S>, command: Command) -> Reply
         Command::Find { name, filter } => list(store.find(name.as_str(), &filter)),
         Command::Count { name, filter } => counted(store.count(name.as_str(), &filter)),
         Command::Project { name, filter, keys } => {
-            let keys = keys.as_slice();
-            list(store.project(name.as_str(), &filter, keys))
+            list(store.project(name.as_str(), &filter, keys.as_slice()))
         }
         Command::Export { name } => exported(store, name.as_str()),
         Command::Import { name, bytes } => imported(store, name.as_str(), bytes.as_slice()),

@@ -4,33 +4,13 @@ ghost use Rattle.std.specs.Prelude.{◌≡◌, ◌<◌, ◌≤◌, ◌^◌, ◌+
 ghost use Rattle.bson_base.specs.Decimal.{all_digits as are_digits, all_zeros as are_zeros, strip as stripped, value as value_of, value_after as value_behind};
 ghost use Rattle.bson_base.specs.DecimalParts.{digits_of};
 
+use crate::texts::{all_digits, all_zeros};
+
 /// Digits in two runs, one behind the other.
 #[derive(Clone, Copy)]
 pub(crate) struct Digits<'a> {
     pub(crate) whole: &'a [u8],
     pub(crate) part: &'a [u8],
-}
-
-pub(crate) fn all_digits(text: &[u8]) -> bool
-    ensures { result ≡ are_digits text.now }
-{
-    for c in text {
-        if !c.is_ascii_digit() {
-            return false;
-        }
-    }
-    true
-}
-
-fn all_zeros(text: &[u8]) -> bool
-    ensures { result ≡ are_zeros text.now }
-{
-    for c in text {
-        if *c != b'0' {
-            return false;
-        }
-    }
-    true
 }
 
 fn strip(text: &[u8]) -> &[u8]

@@ -7,8 +7,9 @@ ghost use Rattle.bson_base.specs.Decimal.{all_digits as are_digits, append_zeros
 ghost use Rattle.bson_base.specs.DecimalParts.{digits_of, IsFinite, IsPackable, IsShortened, meant, packed};
 
 use super::ParseError;
-use super::digits::{Digits, all_digits};
+use super::digits::Digits;
 use super::parts::{DIGITS, GREATEST_EXPONENT, Parts};
+use crate::texts::{all_digits, cut_at, is_named};
 
 /// What is added to an exponent while a text is read, so that none is under 0.
 const READING_BIAS: u32 = 65536;
@@ -18,17 +19,6 @@ const LEAST_IN_RANGE: u32 = 59360;
 const GREATEST_IN_RANGE: u32 = 71647;
 
 type Shortened<'a> = Result<(Digits<'a>, u32), ParseError>;
-
-fn cut_at(text: &[u8], mark: u8, other: u8) -> (&[u8], Option<&[u8]>)
-    ensures { (result.0.now, option_map (λ s. s.now) result.1) ≡ cut (marks mark other) text.now }
-{
-    for (i, c) in text.iter().enumerate() {
-        if *c == mark || *c == other {
-            return (&text[..i], Some(&text[i + 1..]));
-        }
-    }
-    (text, None)
-}
 
 /// The value of digits, or 100000 where it is more.
 fn small_value(digits: &[u8]) -> u32
@@ -300,13 +290,6 @@ fn read_number(negative: bool, text: &[u8]) -> Result<Parts, ParseError>
     let exponent = read_exponent(behind)?;
     let (digits, places) = read_coefficient(front)?;
     with_places(negative, exponent, digits, places)
-}
-
-fn is_named(text: &[u8], name: &[u8]) -> bool
-    requires { str_to_ascii_lowercase name.now ≡ name.now }
-    ensures { result ≡ is_named_by text.now name.now }
-{
-    text.eq_ignore_ascii_case(name)
 }
 
 fn read_unsigned(negative: bool, text: &[u8]) -> Result<Parts, ParseError>

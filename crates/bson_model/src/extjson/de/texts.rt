@@ -1,12 +1,12 @@
 //! The texts in Extended JSON that no scalar has by itself: whole numbers, doubles, and a byte in hexadecimal.
 ghost use Rattle.std.specs.Prelude.{◌≡◌, ◌++◌, option_map};
-ghost use Rattle.std.specs.Str.{str_to_ascii_lowercase};
 ghost use Rattle.hex.specs.Hex.{hex_digit_value};
 ghost use Rattle.bson_base.specs.Decimal.{all_digits as are_digits, all_zeros as are_zeros, cut, is_dot, is_e, is_named as is_named_by, marks};
 ghost use Rattle.bson_model.specs.JsonTexts.{byte_of, double_of, int_of, is_digits as digits_alone, is_exponent as exponent_of, long_of, read_numeral as numeral_read, read_unsigned_double as unsigned_of, double_sign_bit as bit_of, signed, without_dot};
 ghost use Rattle.bson_model.specs.JsonRead.{wanted};
 
 use super::{Error, Result};
+use bson_base::texts::{all_digits, all_zeros, cut_at, is_named};
 
 const SIGN: u64 = 0x8000_0000_0000_0000;
 
@@ -47,39 +47,6 @@ fn split_sign(text: &[u8]) -> (bool, &[u8])
     }
 }
 
-fn cut_at(text: &[u8], mark: u8, other: u8) -> (&[u8], Option<&[u8]>)
-    ensures { (result.0.now, option_map (λ s. s.now) result.1) ≡ cut (marks mark other) text.now }
-{
-    for (i, c) in text.iter().enumerate() {
-        if *c == mark || *c == other {
-            return (&text[..i], Some(&text[i + 1..]));
-        }
-    }
-    (text, None)
-}
-
-fn all_digits(text: &[u8]) -> bool
-    ensures { result ≡ are_digits text.now }
-{
-    for c in text {
-        if !c.is_ascii_digit() {
-            return false;
-        }
-    }
-    true
-}
-
-fn all_zeros(text: &[u8]) -> bool
-    ensures { result ≡ are_zeros text.now }
-{
-    for c in text {
-        if *c != b'0' {
-            return false;
-        }
-    }
-    true
-}
-
 fn is_digits(text: &[u8]) -> bool
     ensures { result ≡ digits_alone text.now }
 {
@@ -93,13 +60,6 @@ fn is_exponent(text: Option<&[u8]>) -> bool
         Some(text) => is_digits(split_sign(text).1),
         None => true,
     }
-}
-
-fn is_named(text: &[u8], name: &[u8]) -> bool
-    requires { str_to_ascii_lowercase name.now ≡ name.now }
-    ensures { result ≡ is_named_by text.now name.now }
-{
-    text.eq_ignore_ascii_case(name)
 }
 
 fn sign_bit(negative: bool) -> u64

@@ -1,6 +1,6 @@
 use Rattle.std.proofs.Common.{◌≡◌, ◌++◌, take, drop}
 use Rattle.bson_base.specs.Decimal.{cut, marks}
-use Rattle.bson_model.proofs.extjson.de.texts.cut_at.Given as goal
+use Rattle.bson_base.proofs.texts.cut_at.Given as goal
 
 abbrev pub invariant-loop-i : goal.invariant-loop-i
 invariant-loop-i l =
