@@ -50,7 +50,7 @@ pub fn write_text(text: &str, out: &mut Vec<u8>) -> Result<()>
 }
 
 /// Whether no byte is 00.
-fn has_no_zero(bytes: &[u8]) -> bool
+pub fn has_no_zero(bytes: &[u8]) -> bool
     ensures { IsTrue result ↔ HasNo00 bytes.now }
 {
     !bytes.contains(&0)

@@ -6,7 +6,6 @@ ghost use Rattle.sqlite.specs.State.{HasCleanDisk};
 ghost use Rattle.bson_table.specs.Open.{KeepsRows};
 ghost use Rattle.bson_store.specs.Opening.{Opens, RefusesToOpen};
 ghost use Rattle.serde_json.specs.View.{view as tree_of};
-ghost use Rattle.bson_base.specs.Kinds.{HasNo00};
 ghost use Rattle.bson_base.specs.Value.{Members};
 ghost use Rattle.bson_model.specs.View.{pairs_of, members_of, view};
 ghost use Rattle.bson_table.specs.Moves.{AddsRows, Changes, Moves, appended};
@@ -23,6 +22,7 @@ ghost use Rattle.store_laws.specs.declared.error.ErrorKind.TheVariants.{BadName}
 use crate::error::StoreError;
 use crate::export::Sender;
 use crate::row_test::RowTest;
+use bson_bytes::put::has_no_zero;
 use bson_meaning::KeyError;
 use bson_meaning::laws::values_are_json;
 use bson_model::extjson::Mode;
@@ -45,12 +45,6 @@ pub(crate) fn good_name(name: &str) -> Result<Name<'_>, StoreError>
         Some(name) => Ok(name),
         None => Err(StoreError::from(ErrorKind::BadName)),
     }
-}
-
-fn has_no_zero(bytes: &[u8]) -> bool
-    ensures { IsTrue result ↔ HasNo00 bytes.now }
-{
-    !bytes.contains(&0)
 }
 
 /// Whether a key can be set: it isn't `_id` and holds no 00.

@@ -1,5 +1,5 @@
 -- What a query over the table answers.
-use Rattle.std.proofs.Common.{◌≡◌, List, [], ◌∷◌, ◌++◌, map, filter, flat_map, Bool, true, false, cond, if◌then◌else◌, refl, ap, subst, ◌∙◌, Some, is_eq}
+use Rattle.std.proofs.Common.{◌≡◌, List, [], ◌∷◌, ◌++◌, map, filter, flat_map, Bool, true, false, ◌&&◌, cond, if◌then◌else◌, refl, ap, subst, ◌∙◌, Some, is_eq}
 use Rattle.std.specs.List.{list_all}
 use Rattle.std.specs.List.Sorted.{IsPermutation, IsSorted}
 use Rattle.std.proofs.lemmas.List.Sorted.{IsPermutation-map, IsPermutation-trans}
@@ -21,6 +21,10 @@ use Rattle.bson_table.specs.Rows.{Doc, stored, HasRows}
 use Rattle.bson_table.proofs.Texts.{plain_query, program}
 
 -- = on two values that are not NULL, as a test
+pub and_true : (b : Bool) → b && true ≡ b
+and_true true = refl
+and_true false = refl
+
 pub truth_is : (b : Bool) → is_true (from_truth (Some b)) ≡ b
 truth_is true = refl
 truth_is false = refl

@@ -27,15 +27,11 @@ use Rattle.bson_table.specs.Schema.{documents, documents_schema}
 use Rattle.bson_table.specs.Rows.{Doc, stored, HasRows, Shows, is_at, without_place, replaced}
 use Rattle.bson_table.proofs.RowLemmas.{cast_null, cast_int}
 use Rattle.bson_table.proofs.PlaceLemmas.{at_place, rising_without, rising_replaced}
-use Rattle.bson_table.proofs.AnswerLemmas.{outputs_of, equal_is}
+use Rattle.bson_table.proofs.AnswerLemmas.{and_true, outputs_of, equal_is}
 use Rattle.bson_table.proofs.StatementLemmas.{commits_as}
 use Rattle.bson_table.proofs.PermLemmas.{gone_perm, back_perm}
 use Rattle.bson_table.proofs.InsertLemmas.{went, same_value}
 use Rattle.bson_table.proofs.Texts.{plain_query, program, equals, delete_text, delete_is, delete_plain, update_text, update_is, update_plain}
-
-and_true : (b : Bool) → b && true ≡ b
-and_true true = refl
-and_true false = refl
 
 empty_list : {X : Type 0} (xs ys : List X) → xs ≡ [] → IsPermutation xs ys → ys ≡ []
 empty_list xs [] e h = refl

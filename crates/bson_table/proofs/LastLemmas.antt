@@ -26,7 +26,7 @@ use Rattle.bson_table.specs.Rows.{Doc, stored, IsRising, Shows, last_place}
 use Rattle.bson_table.proofs.AnswerLemmas.{passes, matches_are, map_map}
 use Rattle.bson_table.proofs.LastPlaceLemmas.{below_next}
 use Rattle.bson_table.proofs.Texts.{plain_query, program}
-use Rattle.bson_table.proofs.ReadLemmas.{not_below}
+use Rattle.bson_table.proofs.ReadLemmas.{key_of, not_below}
 
 abbrev pub greatest_text : List ℕ
 greatest_text = codes "SELECT place FROM documents ORDER BY place DESC LIMIT 1"
@@ -48,9 +48,6 @@ greatest_asks = (refl, refl)
 pub desc_plain : IsPlain (understood documents_schema greatest_text)
 unfolding understood everything
 desc_plain = (refl, refl)
-
-abbrev key_of : Output → ℤ
-key_of o = id_in (column o.0 0)
 
 -- an output of the query has its place as its key and as its one column
 abbrev IsPlaced : Output → Type 0

@@ -25,7 +25,7 @@ use Rattle.sqlite.specs.State.{State, Shown}
 use Rattle.sqlite.proofs.Callers.{reads_as, command_of}
 use Rattle.bson_table.specs.Schema.{documents_schema}
 use Rattle.bson_table.specs.Rows.{Doc, stored, Shows, IsRising, is_row_named, is_in}
-use Rattle.bson_table.proofs.AnswerLemmas.{Outputs, outputs_of, equal_is, map_map}
+use Rattle.bson_table.proofs.AnswerLemmas.{and_true, Outputs, outputs_of, equal_is, map_map}
 use Rattle.bson_table.proofs.SortLemmas.{same_order, Strict, Rises}
 use Rattle.bson_table.proofs.Texts.{plain_query, program, equals, by_place, find_text, find_is, find_plain}
 
@@ -50,10 +50,6 @@ blob_test a b = ap is_eq (value_cmp-Blob a b) ∙ same_bytes a b
 
 -- ---- the tests of the queries, on documents
 
-and_true : (b : Bool) → b && true ≡ b
-and_true true = refl
-and_true false = refl
-
 pub named_test : (coll idkey : List ℕ) (d : Doc) → list_all (holds ((Text coll ∷ Blob idkey ∷ []) ∷ stored d ∷ [])) (equals 2 0 ∷ equals 3 1 ∷ []) ≡ is_row_named coll idkey d
 named_test coll idkey d =
     rw (equal_is (Text d.coll) (Text coll) (bytes_eq d.coll coll) refl refl (text_test d.coll coll), equal_is (Blob d.idkey) (Blob idkey) (bytes_eq d.idkey idkey) refl refl (blob_test d.idkey idkey))
@@ -65,7 +61,7 @@ in_test coll more d = and_true _ ∙ equal_is (Text d.coll) (Text coll) (bytes_e
 -- ---- rows in order
 
 -- what an output is sorted by
-abbrev key_of : Output → ℤ
+abbrev pub key_of : Output → ℤ
 key_of o = id_in (column o.0 0)
 
 abbrev IsPlaced : Output → Type 0

@@ -20,7 +20,7 @@ use Rattle.bson_table.specs.Rows.{Doc, stored, Shows, is_in}
 use Rattle.bson_table.specs.Visit.{IsSelect, TookRows, TookSome, first_value, scan_text}
 use Rattle.bson_table.specs.Moves.{bodies_of}
 use Rattle.bson_table.proofs.Texts.{plain_query, program, by_place}
-use Rattle.bson_table.proofs.AnswerLemmas.{outputs_of, equal_is}
+use Rattle.bson_table.proofs.AnswerLemmas.{and_true, outputs_of, equal_is}
 use Rattle.bson_table.proofs.ReadLemmas.{in_order, text_test}
 
 -- the + is written as coalesce(coll, NULL)
@@ -33,10 +33,6 @@ scan_query = plain_query scan_terms (col 1 4 ∷ []) by_place
 coalesced : (a : List ℕ) → binary Coalesce (Text a) Null ≡ Text a
 unfolding binary
 coalesced a = refl
-
-and_true : (b : Bool) → b && true ≡ b
-and_true true = refl
-and_true false = refl
 
 scan_test : (coll : List ℕ) (d : Doc) → list_all (holds ((Text coll ∷ []) ∷ stored d ∷ [])) scan_terms ≡ is_in coll d
 scan_test coll d =

@@ -15,6 +15,7 @@ use Rattle.sqlite_tied.specs.Compute.{everything}
 use Rattle.sqlite.specs.Listing.{understood, reads_listing}
 use Rattle.sqlite.proofs.Callers.{IsPlain, command_of, statement_of}
 use Rattle.bson_table.specs.Schema.{documents, documents_schema, no_schema}
+use Rattle.bson_table.specs.Open.{all_text}
 use Rattle.bson_table.specs.Visit.{IsSelect}
 
 abbrev pub create_text : List ℕ
@@ -90,9 +91,6 @@ find_is = (refl, refl)
 pub find_plain : IsPlain (understood documents_schema find_text)
 unfolding understood everything
 find_plain = (refl, refl)
-
-abbrev pub all_text : List ℕ
-all_text = codes "SELECT place, coll, idkey, body FROM documents ORDER BY place"
 
 abbrev pub all_query : Query
 all_query = plain_query [] (col 1 0 ∷ col 1 2 ∷ col 1 3 ∷ col 1 4 ∷ []) by_place

@@ -1,9 +1,10 @@
 //! Names of collections.
 
 ghost use Rattle.std.specs.Prelude.{◌≡◌, ◌↔◌, IsSome, IsTrue, IfSome};
-ghost use Rattle.bson_base.specs.Kinds.{HasNo00};
 ghost use Rattle.store_laws.specs.State.{IsName};
 ghost use Rattle.store_documents.specs.Propositions.{name_is_one};
+
+use bson_bytes::put::has_no_zero;
 
 /// The name of a collection: a text that isn't empty and holds no byte 00.
 #[derive(Clone, Copy, Debug)]
@@ -34,12 +35,6 @@ impl<'a> Name<'a> {
     {
         self.text
     }
-}
-
-fn has_no_zero(bytes: &[u8]) -> bool
-    ensures { IsTrue result ↔ HasNo00 bytes.now }
-{
-    !bytes.contains(&0)
 }
 
 /// Whether a collection can have the bytes as its name.

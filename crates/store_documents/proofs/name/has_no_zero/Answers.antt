@@ -1,5 +1,0 @@
-use Rattle.bson_bytes.proofs.Zeros.{no_zero_told}
-use Rattle.store_documents.proofs.name.has_no_zero.Goals as goal
-
-pub returns : goal.returns
-returns c = rw c.contains.ensures.value (no_zero_told c.args.bytes.now)
