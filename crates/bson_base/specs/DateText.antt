@@ -49,9 +49,16 @@ pub record IsDateText (millis : ℤ) (text : List ℕ) : Type 0 where
 abbrev pub IsTextDay : ℤ → Type 0
 IsTextDay day = (neg_ℤ (pos 719_528) ≤ℤ day) × (day ≤ℤ pos 2_932_896)
 
--- from 0000-01-01T00:00:00Z to 9999-12-31T23:59:59.999Z
+-- 0000-01-01T00:00:00Z, the first moment that has a text
+abbrev pub first_text : ℤ
+first_text = neg_ℤ (pos 62_167_219_200_000)
+
+-- 9999-12-31T23:59:59.999Z, the last one
+abbrev pub last_text : ℤ
+last_text = pos 253_402_300_799_999
+
 abbrev pub HasDateText : ℤ → Type 0
-HasDateText z = (neg_ℤ (pos 62_167_219_200_000) ≤ℤ z) × (z ≤ℤ pos 253_402_300_799_999)
+HasDateText z = (first_text ≤ℤ z) × (z ≤ℤ last_text)
 
 -- what Display writes: the date text, or the milliseconds where there is none
 pub record IsShownDate (millis : ℤ) (text : List ℕ) : Type 0 where

@@ -3,7 +3,7 @@
 use Rattle.std.specs.Prelude.{ℕ, zero, suc, ◌+◌, ◌/◌, ◌%◌, ℤ, pos, ◌*ℤ◌, ◌-ℤ◌, neg_ℤ, unsigned_abs, int_lt, int_le, ◌&&◌, Bool, if◌then◌else◌, List}
 use Rattle.std.specs.Fmt.{signed_decimal}
 use Rattle.jiff_core.specs.Calendar.{days_from_civil}
-use Rattle.bson_base.specs.DateText.{moment_text}
+use Rattle.bson_base.specs.DateText.{first_text, last_text, moment_text}
 
 -- the milliseconds at which a month begins
 unfoldable pub month_start : ℕ → ℕ → ℤ
@@ -35,7 +35,7 @@ date_text z = text_in_year (year_from 9999 0 z) z
 
 -- from 0000-01-01T00:00:00Z to 9999-12-31T23:59:59.999Z
 abbrev pub has_date_text : ℤ → Bool
-has_date_text z = int_le (neg_ℤ (pos 62_167_219_200_000)) z && int_le z (pos 253_402_300_799_999)
+has_date_text z = int_le first_text z && int_le z last_text
 
 -- what Display writes: the date text, or the milliseconds where there is none
 abbrev pub shown_date : ℤ → List ℕ

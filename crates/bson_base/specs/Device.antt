@@ -1,6 +1,8 @@
 -- What a call does to a device: how often it failed, and the bytes that it gave or took, where it knows them.
 use Rattle.std.specs.Prelude.{◌≡◌, ◌⊎◌, ℕ, ◌+◌, List, [], Option, Result, Ok, Err, take}
 use Rattle.std.specs.Io.KnownBytes.{Appends, Consumes, IsAtEnd}
+use Rattle.bson_base.specs.declared.whole.ReadAllError.{ReadAllError}
+use Rattle.bson_base.specs.declared.whole.ReadAllError.TheVariants.{Reader, Memory}
 
 -- the count of failures rises by one exactly at a failure
 abbrev pub Counts : {A E : Type 0} → ℕ → ℕ → Result A E → Type 0
@@ -57,3 +59,8 @@ Took old new bytes = (new.failures ≡ old.failures) × Gives old.supply new.sup
 -- no call failed, and the source gave these bytes, all that it had left
 abbrev pub TookAll : Feed → Feed → List ℕ → Type 0
 TookAll old new bytes = Took old new bytes × IsExhausted new.supply
+
+-- a call failed, or memory was wanted for what the source gave
+abbrev pub StopsReading : ReadAllError → Feed → Feed → Type 0
+StopsReading Reader old new = new.failures ≡ old.failures + 1
+StopsReading Memory old new = (bytes : List ℕ) × Took old new bytes

@@ -12,7 +12,8 @@ mod print;
 
 use crate::plain::write_plainly;
 use parse::read_decimal;
-use parts::{Parts, bytes_of_number, number_of_bytes};
+use parts::Parts;
+pub use parts::{bytes_of_number, limited, number_of_bytes};
 use std::fmt;
 use std::str::FromStr;
 use thiserror::Error;

@@ -16,6 +16,7 @@ pub mod spec;
 pub mod texts;
 mod timestamp;
 pub mod uuid;
+mod whole;
 
 pub use binary::Binary;
 pub use datetime::DateTime;
@@ -28,3 +29,4 @@ pub use regex::Regex;
 pub use spec::{BinarySubtype, ElementType};
 pub use timestamp::Timestamp;
 pub use uuid::Uuid;
+pub use whole::{ReadAllError, read_all};

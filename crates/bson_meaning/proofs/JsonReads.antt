@@ -30,7 +30,7 @@ use Rattle.bson_meaning.specs.Meaning.{normal_double, normal_decimal, normal_sca
 use Rattle.bson_meaning.proofs.Canonical.{canonical, canonical_items, canonical_members, look_up-canonical, same_canonical}
 use Rattle.bson_meaning.proofs.Decimals.{normal_decimal_twice}
 use Rattle.bson_meaning.proofs.JsonReadBack.{byte_back, id_back, long_back, int_back, decimal_back, base64_back, zero_back, negative_zero_back, infinity_back, negative_infinity_back, nan_back, negative_nan_back}
-use Rattle.bson_meaning.proofs.JsonSame.{or_turned, or_twice, write_same}
+use Rattle.bson_meaning.proofs.JsonSame.{quiet, or_turned, or_twice, write_same}
 use Rattle.bson_meaning.proofs.Normal.{place_each}
 use Rattle.bson_meaning.proofs.NormalScalars.{sorted_text_twice, normal_double_twice}
 use Rattle.bson_meaning.proofs.Ordered.{Order, tied, equal_keys, ascending_asc, look_up-place, same_members}
@@ -88,9 +88,6 @@ unfolding reserved_of normal_decimal
 read_decimal bs = ap (λ r. scalar_of ((accepted r >>= λ n. Ok (sixteen_bytes n)) >>= λ x. Ok (decimal x))) (decimal_back (unpack (number_of bs)) (unpack_is (number_of bs)))
 
 -- ---- doubles
-
-abbrev quiet : Bool → ℕ
-quiet c = if c then 0xFFF8_0000_0000_0000 else 0x7FF8_0000_0000_0000
 
 nan_signed : (c : Bool) → double_of (minus_if c ++ codes "NaN") ≡ Ok (quiet c)
 nan_signed true = negative_nan_back

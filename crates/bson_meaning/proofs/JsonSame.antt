@@ -27,7 +27,7 @@ use Rattle.bson_meaning.proofs.Decimals.{number_again, pack_low}
 
 -- ---- the normal form of a scalar
 
-abbrev quiet : Bool → ℕ
+abbrev pub quiet : Bool → ℕ
 quiet c = if c then 0xFFF8_0000_0000_0000 else 0x7FF8_0000_0000_0000
 
 abbrev told : ℕ → Bool → Option (List ℕ)

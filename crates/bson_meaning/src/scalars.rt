@@ -1,11 +1,12 @@
 //! The normal form of scalars.
 
 ghost use Rattle.std.specs.Prelude.{◌≡◌};
-ghost use Rattle.bson_base.specs.Decimal.{limited as limited_of, number_of, pack, sixteen_bytes, unpack};
+ghost use Rattle.bson_base.specs.Decimal.{pack, unpack};
 ghost use Rattle.bson_base.specs.Scalars.{decimal_bytes};
 ghost use Rattle.bson_base.specs.Tags.{subtype_of, subtype_byte};
 ghost use Rattle.bson_meaning.specs.Meaning.{normal_double as double_normal, normal_decimal as decimal_normal};
 
+use bson_base::decimal128::{bytes_of_number, limited, number_of_bytes};
 use bson_model::{BinarySubtype, Decimal128, DoubleBits};
 
 const QUIET: u64 = 0x7FF8_0000_0000_0000;
@@ -39,22 +40,7 @@ pub(crate) fn normal_subtype(subtype: BinarySubtype) -> BinarySubtype
 pub(crate) fn normal_decimal(decimal: &Decimal128) -> Decimal128
     ensures { decimal_bytes result ≡ decimal_normal (decimal_bytes decimal.now) }
 {
-    Decimal128::from_bytes(bytes_of_number(normal_bits(number_of_bytes(decimal.bytes()))))
-}
-
-/// The number of 16 bytes, the lowest first.
-fn number_of_bytes(bytes: [u8; 16]) -> u128
-    ensures { result ≡ number_of bytes }
-{
-    u128::from_le_bytes(bytes)
-}
-
-/// The 16 bytes of a number, the lowest first.
-#[tactic(auto, unfolding(bson_base::specs::Decimal::sixteen_bytes))]
-fn bytes_of_number(number: u128) -> [u8; 16]
-    ensures { result ≡ sixteen_bytes number }
-{
-    number.to_le_bytes()
+    Decimal128::from_bytes(bytes_of_number(normal_bits(number_of_bytes(&decimal.bytes()))))
 }
 
 /// The first form of 128 bits: where the coefficient is over its limit it is 0, and every NaN is the quiet positive one
@@ -75,12 +61,4 @@ fn normal_bits(bits: u128) -> u128
     } else {
         sign + bits / (1 << 113) % (1 << 14) * (1 << 113) + limited(bits % (1 << 113))
     }
-}
-
-const LIMIT: u128 = 10_000_000_000_000_000_000_000_000_000_000_000;
-
-fn limited(coefficient: u128) -> u128
-    ensures { result ≡ limited_of coefficient }
-{
-    if coefficient < LIMIT { coefficient } else { 0 }
 }

@@ -8,6 +8,7 @@ use Rattle.hex.specs.Hex.{encode_lower}
 use Rattle.serde_json.specs.Data as json
 use Rattle.serde_json.specs.Data.{Data, number, object, unsigned}
 use Rattle.serde_json.specs.Find.{of_integer}
+use Rattle.bson_base.specs.DateText.{last_text}
 use Rattle.bson_base.specs.Decimal.{decimal_text, minus_if}
 use Rattle.bson_base.specs.Doubles.{is_nan, is_infinite, is_zero, is_negative}
 use Rattle.bson_base.specs.Options.{sorted_text}
@@ -52,7 +53,7 @@ write_integer Relaxed r z = number (of_integer z)
 
 -- from 1970-01-01T00:00:00Z to 9999-12-31T23:59:59.999Z
 abbrev pub is_relaxed_date : ℤ → Bool
-is_relaxed_date z = int_le (pos 0) z && int_le z (pos 253_402_300_799_999)
+is_relaxed_date z = int_le (pos 0) z && int_le z last_text
 
 abbrev pub write_millis : ℤ → Data
 write_millis z = wrapped_text of_long (signed_decimal z)

@@ -9,6 +9,7 @@ use Rattle.std.proofs.lemmas.Iterator.Adapters.{position_from-zero}
 use Rattle.std.specs.declared.alloc.Global.{Global}
 pub use Rattle.bson_pairs.specs.Over.{over, get-over}
 use Rattle.bson_pairs.specs.Keyed.{Key, key_bytes, keyed, get, put, without, set_at}
+use Rattle.bson_pairs.specs.Index.{is_key}
 
 pub length-keyed : {V : Type 0} (ks : List (String Global)) (vs : List V) → length vs ≡ length ks → length (keyed ks vs) ≡ length vs
 length-keyed [] [] e = refl
@@ -76,10 +77,6 @@ module _ {A : Type 0} (p : A → Bool) where
   pub not_any : (xs : List A) → Absent xs → list_any p xs ≡ false
   not_any [] a = refl
   not_any (x ∷ xs) a = rw (a.0) (not_any xs a.1)
-
--- whether the text is k
-abbrev pub is_key : Key → String Global → Bool
-is_key k s = bytes_eq k (string_bytes s)
 
 module _ {V : Type 0} (k : Key) where
   pub get-found : (ks : List (String Global)) (vs : List V) (n : ℕ) → FoundAt (is_key k) ks n → length vs ≡ length ks → get k (keyed ks vs) ≡ slice_get vs n

@@ -6,6 +6,7 @@ use Rattle.bson_base.specs.declared.spec.ElementType.{ElementType}
 use Rattle.bson_base.specs.declared.spec.ElementType.TheVariants as kinds
 use Rattle.bson_base.specs.Tags.{tag_byte}
 use Rattle.bson_bytes.specs.Encode.{le32, ended, framed}
+use Rattle.bson_bytes.proofs.Lengths.{le32_length}
 use Rattle.bson_frame.specs.declared.error.Error.{Error}
 use Rattle.bson_frame.specs.declared.error.ErrorKind.{ErrorKind}
 use Rattle.bson_frame.specs.Frame.{HasSize, IsCodeSize, Element, IsFirstFrame, IsCstring}
@@ -14,7 +15,7 @@ use Rattle.bson_raw.specs.Append.{element_for, AppendsElement, element_bytes, bo
 use Rattle.bson_raw.specs.Raw.{RawValue}
 use Rattle.bson_raw.specs.Walk.{IsWalk}
 use Rattle.bson_raw.specs.Written.{IsFormed}
-use Rattle.bson_raw.proofs.Puts.{le32_length, can_write}
+use Rattle.bson_raw.proofs.Puts.{can_write}
 use Rattle.bson_raw.proofs.Sizes.{size_beside, payload_sized}
 
 -- ---- only the last element can be too short

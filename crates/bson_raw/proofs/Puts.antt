@@ -22,13 +22,9 @@ use Rattle.bson_raw.specs.Append.{element_for, element_bytes, body_of, with_elem
 use Rattle.bson_raw.specs.Raw.{RawValue, raw_kind, raw_payload, IsPlainRaw, ref_value}
 use Rattle.bson_raw.specs.ReadValue.{kind_of}
 use Rattle.bson_raw.specs.Written.{CanWrite, Closes}
-use Rattle.bson_bytes.proofs.Lengths.{text_length, ended_length, inner_length}
+use Rattle.bson_bytes.proofs.Lengths.{le32_length, text_length, ended_length, inner_length}
 
 -- ---- lengths
-
-pub le32_length : (n : ℕ) → length (le32 n) ≡ 4
-unfolding le32
-le32_length n = refl
 
 pub framed_length : (elements : List ℕ) → length (framed elements) ≡ length elements + 5
 unfolding framed

@@ -5,7 +5,7 @@ use Rattle.std.specs.Io.KnownBytes.{Consumes, IsAtEnd}
 use Rattle.serde_json.specs.Data.{Data}
 use Rattle.serde_json.specs.View.{view as tree_of}
 use Rattle.serde_json.specs.declared.value.Value.{Value as Json}
-use Rattle.bson_base.specs.Device.{Supply, Gives, Feed, TookAll}
+use Rattle.bson_base.specs.Device.{Supply, Gives, Feed, TookAll, StopsReading}
 use Rattle.bson_base.specs.Kinds.{AreBytes}
 use Rattle.bson_base.specs.Value.{Members, has_key}
 use Rattle.bson_bytes.specs.Encode.{size}
@@ -23,9 +23,8 @@ use Rattle.store_laws.specs.declared.error.ErrorKind.TheVariants as kind
 use Rattle.store_laws.proofs.Readings.{stream_read, trees_read}
 use Rattle.store_streams.specs.declared.error.StreamError.{StreamError}
 use Rattle.store_streams.specs.declared.error.StreamError.TheVariants as streams
-use Rattle.store_streams.specs.declared.input.ReadAllError.{ReadAllError}
-use Rattle.store_streams.specs.declared.input.ReadAllError.TheVariants as reads
-use Rattle.store_streams.specs.Feed.{StopsReading}
+use Rattle.bson_base.specs.declared.whole.ReadAllError.{ReadAllError}
+use Rattle.bson_base.specs.declared.whole.ReadAllError.TheVariants as reads
 use Rattle.store_streams.specs.Judging.{Judges}
 use Rattle.store_streams.proofs.Streams.{any_stream}
 use Rattle.bson_store.specs.Calls.{Does}

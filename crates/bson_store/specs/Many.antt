@@ -10,10 +10,9 @@ use Rattle.store_laws.specs.Reading.{Documents, AreRead, ReadsStream}
 use Rattle.store_laws.specs.State as model
 use Rattle.store_laws.specs.declared.error.ErrorKind.{ErrorKind}
 use Rattle.store_laws.specs.declared.error.ErrorKind.TheVariants.{BadName, DuplicateId, Memory, Reader}
-use Rattle.store_streams.specs.declared.input.ReadAllError.TheVariants as reads
+use Rattle.bson_base.specs.declared.whole.ReadAllError.TheVariants as reads
 use Rattle.store_streams.specs.declared.keys.Keys.{Keys}
-use Rattle.bson_base.specs.Device.{Feed, TookAll}
-use Rattle.store_streams.specs.Feed.{StopsReading}
+use Rattle.bson_base.specs.Device.{Feed, TookAll, StopsReading}
 use Rattle.store_streams.specs.Judging.{AreWrittenRows}
 use Rattle.store_streams.specs.Keys.{first_taken, has_met}
 use Rattle.bson_store.specs.Calls.{Does}

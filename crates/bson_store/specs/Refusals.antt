@@ -12,8 +12,8 @@ use Rattle.store_laws.specs.declared.error.ErrorKind.{ErrorKind}
 use Rattle.store_laws.specs.declared.error.ErrorKind.TheVariants.{NotAStore, BadRow, Memory, Database, Places, Reader}
 use Rattle.store_streams.specs.declared.error.StreamError.{StreamError}
 use Rattle.store_streams.specs.declared.error.StreamError.TheVariants as streams
-use Rattle.store_streams.specs.declared.input.ReadAllError.{ReadAllError}
-use Rattle.store_streams.specs.declared.input.ReadAllError.TheVariants as reads
+use Rattle.bson_base.specs.declared.whole.ReadAllError.{ReadAllError}
+use Rattle.bson_base.specs.declared.whole.ReadAllError.TheVariants as reads
 use Rattle.bson_store.specs.declared.error.StoreError.{StoreError}
 
 abbrev pub kind_of_fault : Fault → ErrorKind

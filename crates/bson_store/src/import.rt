@@ -16,6 +16,7 @@ ghost use Rattle.store_laws.specs.declared.error.ErrorKind.TheVariants.{Duplicat
 
 use crate::error::StoreError;
 use crate::store::{Store, good_name};
+use bson_base::read_all;
 use bson_meaning::laws::values_are_json;
 use bson_model::Source;
 use bson_table::{Fault, NewRow};
@@ -24,7 +25,7 @@ use sqlite::Alter;
 use std::alloc::{AllocError, Global};
 use store_documents::{Name, Written};
 use store_laws::ErrorKind;
-use store_streams::{Keys, StreamError, judge_stream, judge_trees, read_all};
+use store_streams::{Keys, StreamError, judge_stream, judge_trees};
 
 /// JSON trees are such as the reader knows. It costs a walk through them.
 fn are_json(trees: &[Value])

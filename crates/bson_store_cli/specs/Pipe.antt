@@ -1,6 +1,6 @@
 -- What the program does to its input, its output and the device that faults are told to.
 use Rattle.std.specs.Prelude.{◌≡◌, ◌⊎◌, ℕ, List, [], ◌∷◌, Some, None, Result, Ok, Err, codes}
-use Rattle.bson_base.specs.Device.{Feed, TookAll, Tally, TakesText}
+use Rattle.bson_base.specs.Device.{Feed, TookAll, Tally, TakesText, StopsReading}
 use Rattle.bson_base.specs.Value.{Members}
 use Rattle.bson_bytes.specs.Encode.{encode}
 use Rattle.sqlite.specs.State.{State}
@@ -11,9 +11,8 @@ use Rattle.store_laws.specs.State.{list_of, refusal_of}
 use Rattle.store_laws.specs.Table.{Table, state_of}
 use Rattle.store_laws.specs.declared.error.ErrorKind.{ErrorKind}
 use Rattle.store_laws.specs.declared.error.ErrorKind.TheVariants.{Memory, Database, Reader, Writer}
-use Rattle.store_streams.specs.Feed.{StopsReading}
-use Rattle.store_streams.specs.declared.input.ReadAllError.{ReadAllError}
-use Rattle.store_streams.specs.declared.input.ReadAllError.TheVariants as reading
+use Rattle.bson_base.specs.declared.whole.ReadAllError.{ReadAllError}
+use Rattle.bson_base.specs.declared.whole.ReadAllError.TheVariants as reading
 use Rattle.store_words.specs.Lines.{refusal_line}
 use Rattle.bson_store.specs.Shown.{Show}
 use Rattle.bson_store.specs.Export.{Delivers}

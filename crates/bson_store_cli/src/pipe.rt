@@ -8,10 +8,10 @@ ghost use Rattle.bson_store.specs.Calls.{held};
 ghost use Rattle.bson_store.specs.Refusals.{kind_of_reading};
 ghost use Rattle.bson_store_cli.specs.Pipe.{KeepsInput, RefusesInput, Exchanges, Pipes};
 
+use bson_base::{ReadAllError, read_all};
 use bson_store::{ErrorKind, Sink, Source, Store};
 use sqlite::{Connection, MemStore};
 use std::alloc::Global;
-use store_streams::{ReadAllError, read_all};
 use store_words::write_refusal;
 
 /// The collection that the document is kept in.

@@ -1,13 +1,13 @@
 //! Streams and trees with their exact answers, and readers that go slowly or fail.
 
-use bson_base::SliceSource;
 use bson_base::faulty::FaultySource;
+use bson_base::{ReadAllError, SliceSource, read_all};
 use serde_json::Value;
 use std::alloc::{AllocError, Global};
 use std::process::Abort;
 use std::test::Fail;
 use store_laws::ErrorKind;
-use store_streams::{Keys, ReadAllError, StreamError, judge_stream, judge_trees, read_all};
+use store_streams::{Keys, StreamError, judge_stream, judge_trees};
 
 /// {_id: 1, hello: "world"}
 const HELLO: &[u8] = b"\x1F\0\0\0\x10_id\0\x01\0\0\0\x02hello\0\x06\0\0\0world\0\0";

@@ -7,12 +7,12 @@ ghost use Rattle.bson_model.specs.View.{view};
 ghost use Rattle.store_program.specs.Commands.{IsIdText, mode_of};
 
 use crate::stop::{Stop, USAGE, refused};
+use bson_base::{ReadAllError, read_all};
 use bson_filter::Filter;
 use bson_store::extjson::Mode;
 use bson_store::{Bson, ErrorKind, Source};
 use serde_json::Value;
 use std::alloc::Global;
-use store_streams::{ReadAllError, read_all};
 use store_words::{
     Complaint, LinesError, RELAXED, TextError, read_filter, read_id, read_json, read_lines,
 };

@@ -1,15 +1,13 @@
-//! Streams of documents and lists of JSON trees as they come in: read to the end, cut, judged and written, with no table.
+//! Streams of documents and lists of JSON trees as they come in: cut, judged and written, with no table.
 #![tactic(auto)]
 
 mod error;
-mod input;
 mod keys;
 pub mod laws;
 mod stream;
 mod trees;
 
 pub use error::StreamError;
-pub use input::{ReadAllError, read_all};
 pub use keys::Keys;
 pub use stream::judge_stream;
 pub use trees::judge_trees;

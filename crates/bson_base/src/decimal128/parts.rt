@@ -83,7 +83,8 @@ impl Parts {
 
 const LIMIT: u128 = 10_000_000_000_000_000_000_000_000_000_000_000;
 
-fn limited(coefficient: u128) -> u128
+/// A coefficient, which counts as 0 where it is over its limit (IEEE 754-2008, 3.5.2).
+pub fn limited(coefficient: u128) -> u128
     ensures { result ≡ limited_of coefficient }
 {
     if coefficient < LIMIT { coefficient } else { 0 }
@@ -96,7 +97,7 @@ fn sign_bit(negative: bool) -> u128
 }
 
 /// The number of 16 bytes, the lowest first.
-pub(crate) fn number_of_bytes(bytes: &[u8; 16]) -> u128
+pub fn number_of_bytes(bytes: &[u8; 16]) -> u128
     ensures { result ≡ number_of bytes.now }
 {
     u128::from_le_bytes(*bytes)
@@ -104,7 +105,7 @@ pub(crate) fn number_of_bytes(bytes: &[u8; 16]) -> u128
 
 /// The 16 bytes of a number, the lowest first.
 #[tactic(auto, unfolding(crate::specs::Decimal::sixteen_bytes))]
-pub(crate) fn bytes_of_number(number: u128) -> [u8; 16]
+pub fn bytes_of_number(number: u128) -> [u8; 16]
     ensures { result ≡ sixteen_bytes number }
 {
     number.to_le_bytes()

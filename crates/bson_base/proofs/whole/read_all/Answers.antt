@@ -1,7 +1,7 @@
 use Rattle.std.proofs.Common.{◌∙◌, ◌++◌, take}
 use Rattle.std.proofs.lemmas.Result.{err_from_is_err_and}
 use Rattle.bson_base.proofs.DeviceLemmas.{Gives-trans}
-use Rattle.store_streams.proofs.input.read_all.Goals as goal
+use Rattle.bson_base.proofs.whole.read_all.Goals as goal
 
 pub returns-in_err-extend_from_slice-clause-err : goal.returns-in_err-extend_from_slice-clause-err
 returns-in_err-extend_from_slice-clause-err g c =

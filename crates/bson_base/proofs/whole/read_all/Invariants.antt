@@ -1,6 +1,6 @@
 use Rattle.std.proofs.Common.{◌≡◌, ◌<◌, ◌-◌, ◌^◌, vec_len}
 use Rattle.bson_base.specs.Device.{Gives}
-use Rattle.store_streams.proofs.input.read_all.Given as goal
+use Rattle.bson_base.proofs.whole.read_all.Given as goal
 
 abbrev pub invariant-loop-n : goal.invariant-loop-n
 invariant-loop-n g l = record {

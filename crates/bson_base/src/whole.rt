@@ -1,10 +1,9 @@
 //! All that a source gives.
 
 ghost use Rattle.std.specs.Prelude.{◌<◌, ◌^◌, ◌-◌, IfOk, IfErr, vec_len};
-ghost use Rattle.bson_base.specs.Device.{TookAll};
-ghost use Rattle.store_streams.specs.Feed.{StopsReading};
+ghost use Rattle.bson_base.specs.Device.{StopsReading, TookAll};
 
-use bson_base::{Source, read_full};
+use crate::device::{Source, read_full};
 use std::alloc::{AllocError, Global};
 use thiserror::Error;
 
@@ -24,7 +23,7 @@ pub enum ReadAllError {
 
 impl From<AllocError> for ReadAllError {
     ghost use Rattle.std.specs.Prelude.{◌≡◌};
-    ghost use Rattle.store_streams.specs.declared.input.ReadAllError.TheVariants.{Memory};
+    ghost use Rattle.bson_base.specs.declared.whole.ReadAllError.TheVariants.{Memory};
 
     ghost from_gives = { λ _ e. e ≡ Memory };
 
