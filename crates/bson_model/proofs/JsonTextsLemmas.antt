@@ -1,12 +1,16 @@
 -- Whole numbers: `parse` of std reads what `integer_of` does.
-use Rattle.std.proofs.Common.{◌≡◌, ℕ, ◌+◌, ◌*◌, ◌<◌, ◌^◌, ◌==◌, nat_lt, Bool, true, false, List, [], ◌∷◌, length, ℤ, pos, negsuc, Some, None, Ok, Err, FitsSigned, refl, sym, ap, ◌∙◌, arith}
+use Rattle.std.proofs.Common.{◌≡◌, ℕ, ◌+◌, ◌*◌, ◌/◌, ◌%◌, ◌<◌, ◌^◌, ◌==◌, nat_lt, Bool, true, false, if◌then◌else◌, List, [], ◌∷◌, length, slice_index_or, ℤ, pos, negsuc, Option, Some, None, Result, Ok, Err, FitsSigned, refl, sym, ap, ◌∙◌, arith}
 use Rattle.std.specs.Int.{w32, w64}
 use Rattle.std.specs.Char.{is_ascii_digit, digit_value}
 use Rattle.std.specs.Str.Parse.{AllDigits, IsNumeral, digits_value_after, starts_with_minus, without_leading_sign, signed_digits_value}
+use Rattle.hex.specs.Hex.{decode_pairs, decode_sized, hex_digit_value}
+use Rattle.hex.specs.declared.error.FromHexError.{FromHexError}
+use Rattle.hex.specs.declared.error.FromHexError.TheVariants.{OddLength, InvalidStringLength}
 use Rattle.bson_base.specs.Decimal.{all_digits, value_after}
 use Rattle.bson_base.proofs.PrintedReads.{both}
-use Rattle.bson_model.specs.JsonTexts.{signed, is_digits, with_sign, integer_of, fits_32, fits_64, only_where, int_of, long_of}
+use Rattle.bson_model.specs.JsonTexts.{signed, is_digits, with_sign, integer_of, fits_32, fits_64, only_where, int_of, long_of, byte_from, byte_of}
 use Rattle.bson_model.specs.JsonRead.{wanted}
+use Rattle.bson_model.specs.declared.extjson.de.Error.{Error}
 use Rattle.bson_model.specs.declared.extjson.de.Error.TheVariants.{DeserializationError}
 
 -- ---- digits
@@ -117,3 +121,30 @@ long_some t z h = ap wanted (sym (read_some (FitsSigned w64) fits_64 fits_64_so 
 pub long_none : (t : List ℕ) → (IsNumeral 10 (without_leading_sign t) × FitsSigned w64 (signed_digits_value 10 t) → ⊥) → Err DeserializationError ≡ wanted (long_of t)
 unfolding long_of
 long_none t h = ap wanted (sym (read_none (FitsSigned w64) fits_64 fits_64_so so_fits_64 t h))
+
+-- ---- a byte
+
+-- what is made of the kit's answer
+abbrev pub byte_told : Result (List ℕ) FromHexError → Result ℕ Error
+byte_told (Ok bs) = Ok (slice_index_or bs 0 0)
+byte_told (Err e) = Err DeserializationError
+
+two_digits : (h l : ℕ) (o p : Option ℕ) → hex_digit_value h ≡ o → hex_digit_value l ≡ p → byte_told (decode_pairs 0 (h ∷ l ∷ [])) ≡ wanted (byte_from (hex_digit_value h) (hex_digit_value l))
+unfolding decode_pairs
+two_digits h l (Some x) (Some y) e f = rw (e, f) refl
+two_digits h l (Some x) None e f = rw (e, f) refl
+two_digits h l None p e f = rw e refl
+
+pub byte_read : (t : List ℕ) → byte_told (decode_sized t 1) ≡ wanted (byte_of t)
+unfolding byte_of
+byte_read [] = refl
+byte_read (h ∷ []) = refl
+byte_read (h ∷ l ∷ []) = two_digits h l (hex_digit_value h) (hex_digit_value l) refl refl
+byte_read (h ∷ l ∷ c ∷ cs) = by (length (h ∷ l ∷ c ∷ cs) % 2 == 1) refl
+  where
+    by : (odd : Bool) → (length (h ∷ l ∷ c ∷ cs) % 2 == 1) ≡ odd
+        → byte_told (if odd then Err OddLength else if length (h ∷ l ∷ c ∷ cs) / 2 == 1 then decode_pairs 0 (h ∷ l ∷ c ∷ cs) else Err InvalidStringLength) ≡ Err DeserializationError
+    by true e = refl
+    by false e =
+        let long : (length (h ∷ l ∷ c ∷ cs) / 2 == 1) ≡ false = grind (arith, e) in
+        rw long refl

@@ -14,8 +14,7 @@ use Rattle.bson_frame.proofs.Frames.{front_is_one}
 use Rattle.bson_frame.proofs.Payloads.{number_front}
 use Rattle.bson_raw.specs.Raw.{RawValue, leaf, array, document, scoped_code, raw_kind, raw_payload}
 use Rattle.bson_raw.specs.Written.{CanWrite, IsFormed}
-use Rattle.bson_raw.proofs.Puts.{le32_length}
-use Rattle.bson_bytes.proofs.Lengths.{text_length}
+use Rattle.bson_bytes.proofs.Lengths.{le32_length, text_length}
 
 -- ---- what follows doesn't count
 

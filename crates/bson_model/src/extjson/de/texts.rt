@@ -1,12 +1,12 @@
 //! The texts in Extended JSON that no scalar has by itself: whole numbers, doubles, and a byte in hexadecimal.
 ghost use Rattle.std.specs.Prelude.{◌≡◌, ◌++◌, option_map};
-ghost use Rattle.hex.specs.Hex.{hex_digit_value};
 ghost use Rattle.bson_base.specs.Decimal.{all_digits as are_digits, all_zeros as are_zeros, cut, is_dot, is_e, is_named as is_named_by, marks};
 ghost use Rattle.bson_model.specs.JsonTexts.{byte_of, double_of, int_of, is_digits as digits_alone, is_exponent as exponent_of, long_of, read_numeral as numeral_read, read_unsigned_double as unsigned_of, double_sign_bit as bit_of, signed, without_dot};
 ghost use Rattle.bson_model.specs.JsonRead.{wanted};
 
 use super::{Error, Result};
 use bson_base::texts::{all_digits, all_zeros, cut_at, is_named};
+use hex::FromHex;
 
 const SIGN: u64 = 0x8000_0000_0000_0000;
 
@@ -133,27 +133,12 @@ pub(super) fn read_double(text: &str) -> Result<u64>
     read_unsigned(negative, rest)
 }
 
-fn hex_digit(c: u8) -> Option<u8>
-    ensures { result ≡ hex_digit_value c }
-{
-    match c {
-        b'A'..=b'F' => Some(c - 55),
-        b'a'..=b'f' => Some(c - 87),
-        b'0'..=b'9' => Some(c - 48),
-        _ => None,
-    }
-}
-
 /// The byte of two hexadecimal digits.
-#[tactic(auto, unfolding(crate::specs::JsonTexts::byte_of))]
 pub(super) fn read_byte(text: &str) -> Result<u8>
     ensures { result ≡ wanted (byte_of text.now) }
 {
-    match text.as_bytes() {
-        [high, low] => match (hex_digit(*high), hex_digit(*low)) {
-            (Some(high), Some(low)) => Ok(high * 16 + low),
-            _ => Err(Error::DeserializationError),
-        },
-        _ => Err(Error::DeserializationError),
+    match <[u8; 1]>::from_hex(text) {
+        Ok(bytes) => Ok(bytes[0]),
+        Err(_) => Err(Error::DeserializationError),
     }
 }
