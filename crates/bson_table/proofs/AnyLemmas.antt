@@ -23,7 +23,7 @@ use Rattle.sqlite.proofs.StateLemmas.{survives_weaker}
 use Rattle.bson_table.specs.Rows.{Doc, Shows}
 use Rattle.bson_table.specs.Visit.{ReadsRows}
 use Rattle.bson_table.proofs.StatementLemmas.{undone_keeps, unchanged_shows, undone_shows}
-use Rattle.bson_table.proofs.PlainLemmas.{Asks, Bare, bare_if, if_select_is}
+use Rattle.bson_table.proofs.PlainLemmas.{AsksForRows, Bare, bare_if, if_select_is}
 
 -- no refusal has the name of an answer with no rows
 not_read : (limit : Option ℕ) (command : Command) (db : Database) (params : Row) → RefusesToRead limit command db params QueryReturnedNoRows → ⊥
@@ -41,7 +41,7 @@ not_stored Full h = cc
 not_stored Broken h = cc
 not_stored Unstorable h = cc
 
-module _ (text : List ℕ) (asked : Asks (first text)) where
+module _ (text : List ℕ) (asked : AsksForRows (first text)) where
   pub bare : (schema : Schema) (c : Compiled) → understood schema text ≡ Ok c → Bare c
   unfolding understood
   bare schema c h = elim (cases_Bool (reads_listing schema text)) [

@@ -23,7 +23,7 @@ ghost use Rattle.store_laws.specs.Table.{Follows, Row, Table, state_of, document
 /// A filter selects both or neither of two values of the same meaning, and so do two filters of one shape with values of the
 /// same meaning.
 pub fn filters_go_by_meaning()
-    ensures int_one { (f : Filter) (v w : Value) → IsSoundFilter f → IsSound v → IsSound w → Same v w
+    ensures one { (f : Filter) (v w : Value) → IsSoundFilter f → IsSound v → IsSound w → Same v w
         → Selects f v ↔ Selects f w }
     ensures two { (f g : Filter) (v w : Value) → SameFilter f g → IsSound v → IsSound w → Same v w
         → Selects f v ↔ Selects g w }
