@@ -7,6 +7,7 @@ pub mod Comparing
 pub mod Characters
 pub mod Turns
 pub mod InTurn
+pub mod InOrderBytes
 pub mod JsonSame
 pub mod JsonReadBack
 pub mod JsonReads

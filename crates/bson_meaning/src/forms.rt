@@ -61,7 +61,7 @@ fn normal_items(alloc: Global, items: Vec<Bson>) -> Result<Vec<Bson>, AllocError
 }
 
 #[cycle(normal)]
-pub(crate) fn normal_document(alloc: Global, document: Document) -> Result<Document, AllocError>
+fn normal_document(alloc: Global, document: Document) -> Result<Document, AllocError>
     requires { MembersHaveDistinctKeys (members_of (pairs_of document)) }
     ensures { IfOk result (λ d. members_of (pairs_of d) ≡ norm_members (members_of (pairs_of document))) }
 {

@@ -33,7 +33,7 @@ pub fn sort_keys(alloc: Global, value: Bson) -> Result<Bson, AllocError>
 }
 
 #[cycle(sorted)]
-pub(crate) fn sorted_document(alloc: Global, document: Document) -> Result<Document, AllocError>
+fn sorted_document(alloc: Global, document: Document) -> Result<Document, AllocError>
     requires { MembersHaveDistinctKeys (members_of (pairs_of document)) }
     ensures { IfOk result (λ d. members_of (pairs_of d) ≡ asc_members (members_of (pairs_of document))) }
 {
