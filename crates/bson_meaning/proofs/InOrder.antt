@@ -1,15 +1,16 @@
 -- Pairs that were sorted by their keys are the members of the document in order.
 use Rattle.std.proofs.Common.{◌≡◌, ℕ, zero, suc, ◌+◌, ◌<◌, ◌≤◌, List, [], ◌∷◌, map, length, get_or, Bool, true, false, cond, Option, Some, None, bytes_eq, String, Global, string_bytes, refl, ap, ◌∙◌, sym, subst, arith}
 use Rattle.std.specs.Cmp.Lexicographic.{slice_cmp}
-use Rattle.std.specs.List.{All, sum_by}
+use Rattle.std.specs.List.{All, IsDistinct, sum_by}
 use Rattle.std.specs.List.Sorted.{IsPermutation, IsSortedByKey}
+use Rattle.std.specs.Map.{keys_of}
 use Rattle.std.specs.Option.{option_map}
 use Rattle.std.specs.Ordering.{nat_cmp, is_lt}
 use Rattle.std.specs.declared.cmp.Ordering.{Ordering}
 use Rattle.std.specs.declared.cmp.Ordering.TheVariants.{Less, Equal, Greater}
 use Rattle.std.proofs.lemmas.List.Sorted.{IsPermutation-map, IsPermutation-sym, All-permutation, sum_by-IsPermutation}
 use Rattle.std.proofs.lemmas.List.Sums.{sum_by-cons}
-use Rattle.bson_base.specs.Value.{Value, look_up, MembersHaveDistinctKeys}
+use Rattle.bson_base.specs.Value.{Value, look_up}
 use Rattle.bson_model.specs.Keyed.{Key, get}
 use Rattle.bson_model.specs.Rest.{owned_member}
 use Rattle.bson_model.specs.View.{members_of}
@@ -151,7 +152,7 @@ sorted_once xs ys moved sorted once =
 pub keys_stay : (ys : List (String Global × Bson)) → IsAscending (members_of (map owned_member ys)) → KeysOnce (map owned_member ys)
 keys_stay ys h = once_of (map owned_member ys) h
 
-pub sorted_members : (ps : Pairs) (xs ys : List (String Global × Bson)) → IsPermutation xs ys → map owned_member xs ≡ map sorted_pair ps → MembersHaveDistinctKeys (members_of ps)
+pub sorted_members : (ps : Pairs) (xs ys : List (String Global × Bson)) → IsPermutation xs ys → map owned_member xs ≡ map sorted_pair ps → IsDistinct bytes_eq (keys_of ps)
     → IsAscending (members_of (map owned_member ys)) → members_of (map owned_member ys) ≡ asc_members (members_of ps)
 sorted_members ps xs ys moved e distinct up =
     let once = subst KeysOnce (sym e) (once_changed asc ps (keys_once ps distinct)) in

@@ -6,6 +6,8 @@ pub mod Normal
 pub mod Comparing
 pub mod Characters
 pub mod Turns
+pub mod InTurn
+pub mod InOrderBytes
 pub mod JsonSame
 pub mod JsonReadBack
 pub mod JsonReads

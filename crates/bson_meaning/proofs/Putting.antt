@@ -1,12 +1,15 @@
 -- Pairs whose keys stand once, put one after the other, make their own list.
 use Rattle.std.proofs.Common.{◌≡◌, List, [], ◌∷◌, ◌++◌, map, Bool, true, false, cond, Option, Some, None, bytes_eq, String, Global, refl, ap, ◌∙◌, sym, subst, append_assoc, append-nil}
+use Rattle.std.specs.List.{IsDistinct}
+use Rattle.std.specs.Map.{keys_of}
 use Rattle.std.specs.Option.{option_map}
-use Rattle.bson_base.specs.Value.{Value, item, member, MembersHaveDistinctKeys}
+use Rattle.bson_base.specs.Value.{Value, item, member}
 use Rattle.bson_model.specs.Extend.{put_all}
 use Rattle.bson_model.specs.Keyed.{Key, get, put}
 use Rattle.bson_model.specs.Rest.{owned_member}
 use Rattle.bson_model.specs.View.{view, items_of, members_of}
 use Rattle.bson_model.specs.declared.bson.Bson.{Bson}
+use Rattle.bson_model.proofs.DistinctLemmas.{none_there}
 use Rattle.bson_model.proofs.EqualLemmas.{look_up-members_of}
 use Rattle.bson_meaning.specs.Meaning.{norm, norm_items, norm_members, asc, asc_items}
 use Rattle.bson_meaning.specs.Pairs.{normal_pair}
@@ -17,9 +20,10 @@ abbrev pub KeysOnce : List (Key × Value) → Type 0
 KeysOnce [] = Unit {0}
 KeysOnce (p ∷ ps) = (get p.0 ps ≡ None) × KeysOnce ps
 
-pub keys_once : (ps : List (Key × Value)) → MembersHaveDistinctKeys (members_of ps) → KeysOnce ps
+pub keys_once : (ps : List (Key × Value)) → IsDistinct bytes_eq (keys_of ps) → KeysOnce ps
+unfolding IsDistinct
 keys_once [] h = tt
-keys_once (p ∷ ps) h = (sym (look_up-members_of p.0 ps) ∙ h.0, keys_once ps h.2)
+keys_once (p ∷ ps) h = (sym (look_up-members_of p.0 ps) ∙ none_there p.0 ps h.0, keys_once ps h.1)
 
 -- ---- another value under each key
 

@@ -5,16 +5,16 @@ ghost use Rattle.bson_model.specs.View.{view, pairs_of, items_of, members_of};
 ghost use Rattle.bson_model.specs.Equal.{SameKeys};
 ghost use Rattle.bson_model.specs.Trees.{regex_tree, binary_tree};
 ghost use Rattle.bson_meaning.specs.Meaning.{Same, SameItems, SameUnder};
-ghost use Rattle.bson_meaning.specs.Sames.{HasKeysOf, IsScalar};
+ghost use Rattle.bson_meaning.specs.Sames.{IsScalar};
 
 use crate::options::same_options;
 use crate::scalars::{normal_decimal, normal_double, normal_subtype};
-use bson_model::laws::equality_of_trees;
+use bson_model::laws::{distinct_keys_of_level, equality_of_trees};
 use bson_model::{Binary, Bson, Document, Regex};
 
 /// Whether two values mean the same: their normal forms are equal, with documents compared as maps at every depth.
 ///
-/// Each key is looked up by its hash, so the order of keys costs nothing.
+/// The keys of a document are compared as they ascend, so their order costs nothing, and no key is looked up.
 #[cycle(same)]
 pub fn same_meaning(value: &Bson, other: &Bson) -> bool
     ensures { IsTrue result ↔ Same (view value.now) (view other.now) }
@@ -55,37 +55,25 @@ fn same_items(items: &[Bson], others: &[Bson]) -> bool
     left.is_empty()
 }
 
+/// Both documents are walked with their keys ascending, pair beside pair. It takes no memory.
 #[cycle(same)]
 fn same_documents(document: &Document, other: &Document) -> bool
     ensures { IsTrue result ↔ SameKeys (members_of (pairs_of document.now)) (members_of (pairs_of other.now)) × SameUnder (members_of (pairs_of document.now)) (members_of (pairs_of other.now)) }
 {
-    same_under(document, other) && has_keys_of(other, document)
-}
-
-#[cycle(same)]
-fn same_under(document: &Document, other: &Document) -> bool
-    ensures { IsTrue result ↔ SameUnder (members_of (pairs_of document.now)) (members_of (pairs_of other.now)) }
-{
-    for (key, value) in document {
-        let Some(found) = other.get(key.as_str()) else {
+    distinct_keys_of_level(document);
+    let mut others = other.ascending();
+    for (key, value) in document.ascending() {
+        let Some((name, found)) = others.next() else {
             return false;
         };
+        if key.as_str() != name.as_str() {
+            return false;
+        }
         if !same_meaning(value, found) {
             return false;
         }
     }
-    true
-}
-
-fn has_keys_of(document: &Document, other: &Document) -> bool
-    ensures { IsTrue result ↔ HasKeysOf (members_of (pairs_of document.now)) (members_of (pairs_of other.now)) }
-{
-    for (key, _) in document {
-        if !other.contains_key(key.as_str()) {
-            return false;
-        }
-    }
-    true
+    others.next().is_none()
 }
 
 fn same_scalar(value: &Bson, other: &Bson) -> bool

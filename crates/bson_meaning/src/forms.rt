@@ -1,7 +1,6 @@
 //! The normal form of a tree.
 
 ghost use Rattle.std.specs.Prelude.{◌≡◌, map, IfOk};
-ghost use Rattle.bson_base.specs.Value.{HasDistinctKeys, ItemsHaveDistinctKeys, MembersHaveDistinctKeys};
 ghost use Rattle.bson_model.specs.Rest.{owned_member};
 ghost use Rattle.bson_model.specs.View.{view, pairs_of, items_of, members_of};
 ghost use Rattle.bson_meaning.specs.Meaning.{norm, norm_items, norm_members};
@@ -9,39 +8,23 @@ ghost use Rattle.bson_meaning.specs.Pairs.{normal_pair};
 ghost use Rattle.bson_meaning.specs.Sames.{IsScalar};
 
 use crate::scalars::{normal_decimal, normal_double, normal_subtype};
-use bson_model::laws::{distinct_keys, distinct_keys_of_document};
+use bson_model::laws::distinct_keys_of_level;
 use bson_model::{Binary, Bson, Document, JavaScriptCodeWithScope, Regex};
 use std::alloc::{AllocError, Global};
 
 /// The normal form of a value: a NaN is the quiet one of its sign, a decimal the first form of what it means, the options of a
 /// regular expression are in order, and a subtype is what its byte stands for. The error is a refused growth; the value is
 /// dropped then.
-pub fn normalize(alloc: Global, value: Bson) -> Result<Bson, AllocError>
-    ensures { IfOk result (λ v. view v ≡ norm (view value)) }
-{
-    distinct_keys(&value);
-    normal_value(alloc, value)
-}
-
-/// The normal form of a document, which is one too. The error is a refused growth; the document is dropped then.
-pub fn normalize_document(alloc: Global, document: Document) -> Result<Document, AllocError>
-    ensures { IfOk result (λ d. members_of (pairs_of d) ≡ norm_members (members_of (pairs_of document))) }
-{
-    distinct_keys_of_document(&document);
-    normal_document(alloc, document)
-}
-
 #[cycle(normal)]
-pub(crate) fn normal_value(alloc: Global, value: Bson) -> Result<Bson, AllocError>
-    requires { HasDistinctKeys (view value) }
+pub fn normalize(alloc: Global, value: Bson) -> Result<Bson, AllocError>
     ensures { IfOk result (λ v. view v ≡ norm (view value)) }
 {
     match value {
         Bson::Array(items) => Ok(Bson::Array(normal_items(alloc, items)?)),
-        Bson::Document(document) => Ok(Bson::Document(normal_document(alloc, document)?)),
+        Bson::Document(document) => Ok(Bson::Document(normalize_document(alloc, document)?)),
         Bson::JavaScriptCodeWithScope(code) => {
             let JavaScriptCodeWithScope { code, scope } = code;
-            let scope = normal_document(alloc, scope)?;
+            let scope = normalize_document(alloc, scope)?;
             Ok(Bson::JavaScriptCodeWithScope(JavaScriptCodeWithScope { code, scope }))
         }
         scalar => normal_scalar(alloc, scalar),
@@ -50,33 +33,32 @@ pub(crate) fn normal_value(alloc: Global, value: Bson) -> Result<Bson, AllocErro
 
 #[cycle(normal)]
 fn normal_items(alloc: Global, items: Vec<Bson>) -> Result<Vec<Bson>, AllocError>
-    requires { ItemsHaveDistinctKeys (items_of (map view items.items)) }
     ensures { IfOk result (λ v. items_of (map view v.items) ≡ norm_items (items_of (map view items.items))) }
 {
     let mut normal = Vec::with_capacity(alloc, items.len())?;
     for item in items {
-        normal.push(normal_value(alloc, item)?)?;
+        normal.push(normalize(alloc, item)?)?;
     }
     Ok(normal)
 }
 
+/// The normal form of a document, which is one too. The error is a refused growth; the document is dropped then.
 #[cycle(normal)]
-pub(crate) fn normal_document(alloc: Global, document: Document) -> Result<Document, AllocError>
-    requires { MembersHaveDistinctKeys (members_of (pairs_of document)) }
+pub fn normalize_document(alloc: Global, document: Document) -> Result<Document, AllocError>
     ensures { IfOk result (λ d. members_of (pairs_of d) ≡ norm_members (members_of (pairs_of document))) }
 {
+    distinct_keys_of_level(&document);
     let pairs = normal_pairs(alloc, document)?;
     Document::from_pairs(alloc, pairs)
 }
 
 #[cycle(normal)]
 fn normal_pairs(alloc: Global, document: Document) -> Result<Vec<(String, Bson)>, AllocError>
-    requires { MembersHaveDistinctKeys (members_of (pairs_of document)) }
     ensures { IfOk result (λ v. map owned_member v.items ≡ map normal_pair (pairs_of document)) }
 {
     let mut pairs = Vec::with_capacity(alloc, document.len())?;
     for (key, value) in document {
-        pairs.push((key, normal_value(alloc, value)?))?;
+        pairs.push((key, normalize(alloc, value)?))?;
     }
     Ok(pairs)
 }

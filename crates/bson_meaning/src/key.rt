@@ -2,20 +2,17 @@
 
 ghost use Rattle.std.specs.Prelude.{◌≡◌, ◌≢◌, ◌↔◌, ◌<◌, ◌≤◌, Err, length, IfOk, IsTrue, OnOk};
 ghost use Rattle.bson_base.specs.Kinds.{IsPlain, IsSound};
-ghost use Rattle.bson_base.specs.Value.{document as tree, Members, MembersHaveDistinctKeys};
-ghost use Rattle.bson_bytes.specs.Encode.{encode, size};
+ghost use Rattle.bson_base.specs.Value.{document as tree, Members};
+ghost use Rattle.bson_bytes.specs.Encode.{size};
 ghost use Rattle.bson_bytes.specs.Writing.{CanBeWritten};
 ghost use Rattle.bson_frame.specs.Frame.{length_limit};
-ghost use Rattle.bson_model.specs.Trees.{document_tree};
 ghost use Rattle.bson_model.specs.View.{pairs_of, members_of};
 ghost use Rattle.bson_meaning.specs.Meaning.{key as key_of, norm_members, asc_members, Same};
 
-use crate::forms::normal_document;
 use crate::lengths::normal_length;
 use crate::plain::has_plain_members;
-use crate::sorting::sorted_document;
 use crate::sound::soundness_of_document;
-use bson_bytes::encode_document;
+use crate::writing::encode_in_order;
 use bson_frame::{ErrorKind, LENGTH_LIMIT};
 use bson_model::Document;
 use std::alloc::{AllocError, Global};
@@ -68,8 +65,7 @@ pub fn meaning_key(alloc: Global, document: &Document) -> Result<Vec<u8>, KeyErr
     if is_too_long(document) {
         return Err(KeyError::TooLong);
     }
-    let canonical = canonical(alloc, document)?;
-    written(alloc, &canonical)
+    written(alloc, document)
 }
 
 /// Whether the key would be over 2147483647 bytes.
@@ -79,24 +75,14 @@ fn is_too_long(document: &Document) -> bool
     normal_length(document) > LENGTH_LIMIT
 }
 
-/// The normal form with its keys in order.
-fn canonical(alloc: Global, document: &Document) -> Result<Document, AllocError>
-    requires { MembersHaveDistinctKeys (members_of (pairs_of document.now)) }
-    ensures { IfOk result (λ d. members_of (pairs_of d) ≡ asc_members (norm_members (members_of (pairs_of document.now)))) }
-{
-    let copy = document.try_clone()?;
-    let normal = normal_document(alloc, copy)?;
-    sorted_document(alloc, normal)
-}
-
-/// The bytes of a document without a 00 in a key, a pattern or options.
+/// The bytes of the normal form with its keys in order, of a document without a 00 in a key, a pattern or options.
 fn written(alloc: Global, document: &Document) -> Result<Vec<u8>, KeyError>
-    ensures bytes { IfOk result (λ k. k.items ≡ encode (members_of (pairs_of document.now))) }
-    ensures fits { OnOk result (CanBeWritten (document_tree document.now)) }
+    ensures bytes { IfOk result (λ k. k.items ≡ key_of (members_of (pairs_of document.now))) }
+    ensures fits { OnOk result (CanBeWritten (tree (asc_members (norm_members (members_of (pairs_of document.now)))))) }
     ensures never_not_plain { result ≢ Err KeyError.NotPlain }
-    ensures too_long { result ≡ Err KeyError.TooLong → CanBeWritten (document_tree document.now) → ⊥ }
+    ensures too_long { result ≡ Err KeyError.TooLong → CanBeWritten (tree (asc_members (norm_members (members_of (pairs_of document.now))))) → ⊥ }
 {
-    match encode_document(alloc, document) {
+    match encode_in_order(alloc, document) {
         Ok(bytes) => Ok(bytes),
         Err(error) => match error.kind {
             ErrorKind::OutOfMemory => Err(KeyError::Memory),

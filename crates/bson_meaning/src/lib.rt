@@ -15,6 +15,7 @@ mod scalars;
 mod sorting;
 mod sound;
 mod views;
+mod writing;
 
 pub use compare::same_meaning;
 pub use forms::{normalize, normalize_document};

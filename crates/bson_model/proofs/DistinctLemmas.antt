@@ -21,7 +21,7 @@ more_distinct vs i d h a b =
     let P : List Bson → Type 0 = λ l. ItemsHaveDistinctKeys (items_of (map view l)) in
     subst P (sym (take_more vs i d h)) (push_distinct (take i vs) (get_or vs i d) a b)
 
-none_there : (k : Key) (ps : List (Key × Value)) → AllByRecursion (λ l. bytes_eq k l ≡ false) (keys_of ps) → look_up k (members_of ps) ≡ None
+pub none_there : (k : Key) (ps : List (Key × Value)) → AllByRecursion (λ l. bytes_eq k l ≡ false) (keys_of ps) → look_up k (members_of ps) ≡ None
 none_there k [] h = refl
 none_there k (p ∷ ps) h = ap (λ b. if b then Some p.1 else look_up k (members_of ps)) h.0 ∙ none_there k ps h.1
 
@@ -30,7 +30,11 @@ unfolding IsDistinct
 members_distinct [] h g = tt
 members_distinct (p ∷ ps) h g = (none_there p.0 ps h.0, g.0, members_distinct ps h.1 g.1)
 
+-- the keys of a document, whose values are seen as trees
+pub level_distinct : (d : Document) → IsDistinct bytes_eq (keys_of d.pairs) → IsDistinct bytes_eq (keys_of (pairs_of d))
+level_distinct d h = subst (IsDistinct bytes_eq) (sym (keys_of-over view d.pairs)) h
+
 pub document_distinct : (d : Document) → IsDistinct bytes_eq (keys_of d.pairs) → ItemsHaveDistinctKeys (items_of (map view (values_of d.pairs))) → MembersHaveDistinctKeys (members_of (pairs_of d))
 document_distinct d h g =
     let P : List Value → Type 0 = λ l. ItemsHaveDistinctKeys (items_of l) in
-    members_distinct (pairs_of d) (subst (IsDistinct bytes_eq) (sym (keys_of-over view d.pairs)) h) (subst P (sym (values_of-over view d.pairs)) g)
+    members_distinct (pairs_of d) (level_distinct d h) (subst P (sym (values_of-over view d.pairs)) g)

@@ -1,8 +1,10 @@
 //! What no single call promises: the laws of equality and hashing, and that no key stands twice. Each function is called for
 //! its fact alone.
-ghost use Rattle.std.specs.Prelude.{◌≡◌, ◌↔◌, IsTrue, map};
+ghost use Rattle.std.specs.Prelude.{◌≡◌, ◌↔◌, IsTrue, bytes_eq, map};
 ghost use Rattle.bson_model.specs.Equal.{Equal};
 ghost use Rattle.std.specs.Cmp.{IsEquivalence};
+ghost use Rattle.std.specs.List.{IsDistinct};
+ghost use Rattle.std.specs.Map.{keys_of};
 ghost use Rattle.bson_base.specs.Value.{document, HasDistinctKeys, ItemsHaveDistinctKeys, MembersHaveDistinctKeys};
 ghost use Rattle.bson_model.specs.Laws.{bson_eq, document_eq, bson_writes, document_writes};
 ghost use Rattle.bson_model.specs.View.{view, pairs_of, items_of, members_of};
@@ -107,4 +109,11 @@ pub fn distinct_keys_of_document(document: &Document)
 {
     let _keys = document.pairs.keys();
     distinct_keys_of_items(document.pairs.values());
+}
+
+/// No key stands twice among the document's own; of the documents inside nothing is said. It looks at no pair.
+pub fn distinct_keys_of_level(document: &Document)
+    ensures { IsDistinct bytes_eq (keys_of (pairs_of document.now)) }
+{
+    let _keys = document.pairs.keys();
 }

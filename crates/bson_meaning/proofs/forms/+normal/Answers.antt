@@ -9,11 +9,11 @@ use Rattle.bson_meaning.proofs.Putting.{KeysOnce, keys_once, once_changed, put_a
 use Rattle.bson_meaning.proofs.forms.+normal.Goals as goal
 use Rattle.std.proofs.lemmas.List.{nil_from_length}
 
-pub normal_document-returns : goal.normal_document-returns
-normal_document-returns t c =
+pub normalize_document-returns : goal.normalize_document-returns
+normalize_document-returns t c =
     let ps = pairs_of c.args.document in
     let items = c.in_ok-pairs.pairs.items in
-    let once = subst KeysOnce (sym c.in_ok-pairs.ensures) (once_changed norm ps (keys_once ps c.requires)) in
+    let once = subst KeysOnce (sym c.in_ok-pairs.ensures) (once_changed norm ps (keys_once ps c.distinct_keys_of_level.ensures)) in
     IfOk-weaker c.from_pairs.result _ _ (λ d e. ap members_of (e ∙ put_all_once items [] once ∙ c.in_ok-pairs.ensures) ∙ normal_members ps) c.from_pairs.ensures
 
 pub normal_items-returns : goal.normal_items-returns
@@ -21,8 +21,8 @@ normal_items-returns t c =
     let all = c.args.items.items in
     ap items_of (finished (λ b. norm (view b)) (map view c.loop-item.normal.items) (into_iter_items c.loop-item.item-iterator) all c.loop-item.invariant.0 (nil_from_length (into_iter_items c.loop-item.item-iterator) (c.loop-item.invariant.1 ∙ c.in-None.ensures.steps.0))) ∙ normal_items all
 
-pub normal_value-returns-in_ok-scope-in-JavaScriptCodeWithScope : goal.normal_value-returns-in_ok-scope-in-JavaScriptCodeWithScope
-normal_value-returns-in_ok-scope-in-JavaScriptCodeWithScope t c =
+pub normalize-returns-in_ok-scope-in-JavaScriptCodeWithScope : goal.normalize-returns-in_ok-scope-in-JavaScriptCodeWithScope
+normalize-returns-in_ok-scope-in-JavaScriptCodeWithScope t c =
     let old = c.in-JavaScriptCodeWithScope.code in
     let scope = c.in_ok-scope-in-JavaScriptCodeWithScope in
     view-WithScope (record { code = old.code; scope = scope.scope }) ∙ ap (scoped_code (string_bytes old.code)) scope.ensures

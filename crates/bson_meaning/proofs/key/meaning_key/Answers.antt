@@ -1,13 +1,12 @@
-use Rattle.std.proofs.Common.{◌≡◌, refl}
-use Rattle.std.proofs.lemmas.Result.{err_from_is_err_and, on_ok_weaker}
+use Rattle.std.proofs.Common.{refl}
+use Rattle.std.proofs.lemmas.Result.{on_ok_weaker}
 use Rattle.bson_model.specs.View.{pairs_of, members_of}
-use Rattle.bson_meaning.specs.declared.key.KeyError.TheVariants.{Memory}
 use Rattle.bson_meaning.proofs.KeyLaw.{key_law, key_exceeds, key_fits, key_long, key_within}
 use Rattle.bson_raw.proofs.Progress.{untrue}
 use Rattle.bson_meaning.proofs.key.meaning_key.Goals as goal
 
 pub returns-clause-fits : goal.returns-clause-fits
-returns-clause-fits c = on_ok_weaker c.written.result (key_fits (members_of (pairs_of c.args.document.now)) _ c.in_ok-canonical.ensures) c.written.ensures.fits
+returns-clause-fits c = on_ok_weaker c.written.result (key_fits (members_of (pairs_of c.args.document.now)) _ refl) c.written.ensures.fits
 
 pub returns-then-is_too_long-clause-too_long : goal.returns-then-is_too_long-clause-too_long
 returns-then-is_too_long-clause-too_long c =
@@ -16,21 +15,12 @@ returns-then-is_too_long-clause-too_long c =
     let long = key_exceeds d c.soundness_of_document.ensures (c.is_too_long.ensures.0 c.if-is_too_long.true) in
     (λ _. (plain, long), λ _. refl)
 
-pub returns-in_err-canonical-clause-too_long : goal.returns-in_err-canonical-clause-too_long
-returns-in_err-canonical-clause-too_long c =
-    let d = members_of (pairs_of c.args.document.now) in
-    let told = err_from_is_err_and c.from_residual.result c.from_residual.ensures.1 in
-    let memory : told.0 ≡ Memory = told.2 in (
-      λ e. let was = told.1 in absurd cc,
-      λ h. absurd (untrue c.is_too_long.result c.if-is_too_long.false (c.is_too_long.ensures.1 (key_within d c.soundness_of_document.ensures h.1))),
-    )
-
 pub returns-clause-too_long : goal.returns-clause-too_long
 returns-clause-too_long c =
     let d = members_of (pairs_of c.args.document.now) in
     let sound = c.soundness_of_document.ensures in
     let plain = c.has_plain_members.ensures.0 c.if-not-has_plain_members.false in (
-      λ e. (plain, key_long d _ c.in_ok-canonical.ensures plain sound (c.written.ensures.too_long e)),
+      λ e. (plain, key_long d _ refl plain sound (c.written.ensures.too_long e)),
       λ h. absurd (untrue c.is_too_long.result c.if-is_too_long.false (c.is_too_long.ensures.1 (key_within d sound h.1))),
     )
 
@@ -39,4 +29,4 @@ returns-clause-tells c = λ e p t n.
     let sound = c.soundness_of_document.ensures in
     let d = members_of (pairs_of c.args.document.now) in
     let plain = c.has_plain_members.ensures.0 c.if-not-has_plain_members.false in
-    on_ok_weaker c.written.result (λ fits. key_law d e plain sound p t (key_fits d _ c.in_ok-canonical.ensures fits) n) c.written.ensures.fits
+    on_ok_weaker c.written.result (λ fits. key_law d e plain sound p t (key_fits d _ refl fits) n) c.written.ensures.fits

@@ -10,22 +10,22 @@ use Rattle.bson_meaning.proofs.InOrder.{sorted_once, keys_stay, sorted_members}
 use Rattle.bson_meaning.proofs.sorting.+sorted.Goals as goal
 use Rattle.std.proofs.lemmas.List.{nil_from_length}
 
-pub sorted_document-returns : goal.sorted_document-returns
-sorted_document-returns t c =
+pub sorted-returns : goal.sorted-returns
+sorted-returns t c =
     let ps = pairs_of c.args.document in
     let xs = c.in_ok-pairs.pairs.items in
     let ys = c.sort_by_keys.new.pairs.items in
-    let once = subst KeysOnce (sym c.in_ok-pairs.ensures) (once_changed asc ps (keys_once ps c.requires)) in
+    let once = subst KeysOnce (sym c.in_ok-pairs.ensures) (once_changed asc ps (keys_once ps c.distinct_keys_of_level.ensures)) in
     let up = sorted_once xs ys c.sort_by_keys.ensures.permutation c.sort_by_keys.ensures.sorted once in
-    IfOk-weaker c.from_pairs.result _ _ (λ d e. ap members_of (e ∙ put_all_once ys [] (keys_stay ys up)) ∙ sorted_members ps xs ys c.sort_by_keys.ensures.permutation c.in_ok-pairs.ensures c.requires up) c.from_pairs.ensures
+    IfOk-weaker c.from_pairs.result _ _ (λ d e. ap members_of (e ∙ put_all_once ys [] (keys_stay ys up)) ∙ sorted_members ps xs ys c.sort_by_keys.ensures.permutation c.in_ok-pairs.ensures c.distinct_keys_of_level.ensures up) c.from_pairs.ensures
 
 pub sorted_items-returns : goal.sorted_items-returns
 sorted_items-returns t c =
     let all = c.args.items.items in
     ap items_of (finished (λ b. asc (view b)) (map view c.loop-item.sorted.items) (into_iter_items c.loop-item.item-iterator) all c.loop-item.invariant.0 (nil_from_length (into_iter_items c.loop-item.item-iterator) (c.loop-item.invariant.1 ∙ c.in-None.ensures.steps.0))) ∙ sorted_items all
 
-pub sorted_value-returns-in_ok-scope-in-JavaScriptCodeWithScope : goal.sorted_value-returns-in_ok-scope-in-JavaScriptCodeWithScope
-sorted_value-returns-in_ok-scope-in-JavaScriptCodeWithScope t c =
+pub sort_keys-returns-in_ok-scope-in-JavaScriptCodeWithScope : goal.sort_keys-returns-in_ok-scope-in-JavaScriptCodeWithScope
+sort_keys-returns-in_ok-scope-in-JavaScriptCodeWithScope t c =
     let old = c.in-JavaScriptCodeWithScope.code in
     let scope = c.in_ok-scope-in-JavaScriptCodeWithScope in
     view-WithScope (record { code = old.code; scope = scope.scope }) ∙ ap (scoped_code (string_bytes old.code)) scope.ensures

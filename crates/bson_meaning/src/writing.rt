@@ -1,0 +1,146 @@
+//! The bytes of a tree's normal form with its keys in order. Neither is made: the pairs are written as their keys ascend.
+//!
+//! Where a call is refused, a part of its bytes may have been appended.
+
+ghost use Rattle.std.specs.Prelude.{◌≡◌, ◌++◌, map, IfErr, IfOk, OnOk};
+ghost use Rattle.bson_base.specs.Kinds.{IsPlain};
+ghost use Rattle.bson_base.specs.Value.{array, document as tree, value_kind};
+ghost use Rattle.bson_bytes.specs.Encode.{encode, framed, items_bytes, members_bytes, value_bytes};
+ghost use Rattle.bson_bytes.specs.Writing.{CanBeWritten, IsWriteRefusal};
+ghost use Rattle.bson_model.specs.Trees.{regex_tree, scoped_code_tree};
+ghost use Rattle.bson_model.specs.View.{view, pairs_of, items_of, members_of};
+ghost use Rattle.bson_meaning.specs.Meaning.{asc, asc_items, asc_members, norm, norm_items, norm_members};
+ghost use Rattle.bson_meaning.specs.Sames.{IsScalar};
+
+use crate::scalars::{normal_decimal, normal_double, normal_subtype};
+use bson_bytes::put::{
+    put_length, write_binary, write_bytes, write_front, write_place, write_regex, write_text,
+};
+use bson_bytes::write_value;
+use bson_frame::Result;
+use bson_model::{Bson, Document, ElementType, JavaScriptCodeWithScope, Regex};
+use std::alloc::Global;
+
+/// The bytes of a document. `MalformedValue` where a 00 stands in a key, a pattern or options, and where the bytes are over
+/// 2147483647; `OutOfMemory` where a growth is refused. No key is told.
+pub(crate) fn encode_in_order(alloc: Global, document: &Document) -> Result<Vec<u8>>
+    ensures ok { IfOk result (λ b. b.items ≡ encode (asc_members (norm_members (members_of (pairs_of document.now))))) }
+    ensures fits { OnOk result (CanBeWritten (tree (asc_members (norm_members (members_of (pairs_of document.now)))))) }
+    ensures refused { IfErr result (IsWriteRefusal (CanBeWritten (tree (asc_members (norm_members (members_of (pairs_of document.now))))) → ⊥)) }
+{
+    let mut out = Vec::new(alloc);
+    write_in_order(document, &mut out)?;
+    Ok(out)
+}
+
+/// Appends a document. Refused as `encode_in_order` is.
+#[cycle(in_order)]
+fn write_in_order(document: &Document, out: &mut Vec<u8>) -> Result<()>
+    ensures ok { OnOk result (out.new.items ≡ out.old.items ++ encode (asc_members (norm_members (members_of (pairs_of document.now))))) }
+    ensures fits { OnOk result (CanBeWritten (tree (asc_members (norm_members (members_of (pairs_of document.now)))))) }
+    ensures refused { IfErr result (IsWriteRefusal (CanBeWritten (tree (asc_members (norm_members (members_of (pairs_of document.now))))) → ⊥)) }
+{
+    let start = out.len();
+    write_bytes(&[0, 0, 0, 0], out)?;
+    write_members(document, out)?;
+    write_bytes(&[0], out)?;
+    put_length(out, start)
+}
+
+/// Appends the elements of a document.
+#[cycle(in_order)]
+fn write_members(document: &Document, out: &mut Vec<u8>) -> Result<()>
+    ensures ok { OnOk result (out.new.items ≡ out.old.items ++ members_bytes (asc_members (norm_members (members_of (pairs_of document.now))))) }
+    ensures plain { OnOk result (IsPlain (tree (asc_members (norm_members (members_of (pairs_of document.now)))))) }
+    ensures refused { IfErr result (IsWriteRefusal (CanBeWritten (tree (asc_members (norm_members (members_of (pairs_of document.now))))) → ⊥)) }
+{
+    for (key, value) in document.ascending() {
+        write_front(normal_kind(value), key.as_str(), out)?;
+        write_normal(value, out)?;
+    }
+    Ok(())
+}
+
+/// Appends an array.
+#[cycle(in_order)]
+fn write_items(items: &[Bson], out: &mut Vec<u8>) -> Result<()>
+    ensures ok { OnOk result (out.new.items ≡ out.old.items ++ framed (items_bytes 0 (asc_items (norm_items (items_of (map view items.now)))))) }
+    ensures fits { OnOk result (CanBeWritten (array (asc_items (norm_items (items_of (map view items.now)))))) }
+    ensures refused { IfErr result (IsWriteRefusal (CanBeWritten (array (asc_items (norm_items (items_of (map view items.now))))) → ⊥)) }
+{
+    let start = out.len();
+    write_bytes(&[0, 0, 0, 0], out)?;
+    for i in 0..items.len() {
+        let item = &items[i];
+        write_place(normal_kind(item), i, out)?;
+        write_normal(item, out)?;
+    }
+    write_bytes(&[0], out)?;
+    put_length(out, start)
+}
+
+/// Appends a code and its scope.
+#[cycle(in_order)]
+fn write_scoped(code: &JavaScriptCodeWithScope, out: &mut Vec<u8>) -> Result<()>
+    ensures ok { OnOk result (out.new.items ≡ out.old.items ++ value_bytes (asc (norm (scoped_code_tree code.now)))) }
+    ensures fits { OnOk result (CanBeWritten (asc (norm (scoped_code_tree code.now)))) }
+    ensures refused { IfErr result (IsWriteRefusal (CanBeWritten (asc (norm (scoped_code_tree code.now))) → ⊥)) }
+{
+    let start = out.len();
+    write_bytes(&[0, 0, 0, 0], out)?;
+    write_text(code.code.as_str(), out)?;
+    write_in_order(&code.scope, out)?;
+    put_length(out, start)
+}
+
+/// Appends the payload of a value. It may be too long for a length to tell where no length counts it.
+#[cycle(in_order)]
+fn write_normal(value: &Bson, out: &mut Vec<u8>) -> Result<()>
+    ensures ok { OnOk result (out.new.items ≡ out.old.items ++ value_bytes (asc (norm (view value.now)))) }
+    ensures plain { OnOk result (IsPlain (asc (norm (view value.now)))) }
+    ensures refused { IfErr result (IsWriteRefusal (CanBeWritten (asc (norm (view value.now))) → ⊥)) }
+{
+    match value {
+        Bson::Array(items) => write_items(items.as_slice(), out),
+        Bson::Document(document) => write_in_order(document, out),
+        Bson::JavaScriptCodeWithScope(code) => write_scoped(code, out),
+        scalar => write_scalar(scalar, out),
+    }
+}
+
+/// Appends the payload of a scalar.
+fn write_scalar(value: &Bson, out: &mut Vec<u8>) -> Result<()>
+    requires { IsScalar (view value.now) }
+    ensures ok { OnOk result (out.new.items ≡ out.old.items ++ value_bytes (asc (norm (view value.now)))) }
+    ensures plain { OnOk result (IsPlain (asc (norm (view value.now)))) }
+    ensures refused { IfErr result (IsWriteRefusal (CanBeWritten (asc (norm (view value.now))) → ⊥)) }
+{
+    match value {
+        Bson::Double(double) => write_value(&Bson::Double(normal_double(*double)), out),
+        Bson::RegularExpression(regex) => write_expression(regex, out),
+        Bson::Binary(binary) => {
+            write_binary(normal_subtype(binary.subtype), binary.bytes.as_slice(), out)
+        }
+        Bson::Decimal128(decimal) => write_value(&Bson::Decimal128(normal_decimal(decimal)), out),
+        fixed => write_value(fixed, out),
+    }
+}
+
+/// Appends a regular expression. A copy of its options is put in order.
+fn write_expression(regex: &Regex, out: &mut Vec<u8>) -> Result<()>
+    ensures ok { OnOk result (out.new.items ≡ out.old.items ++ value_bytes (asc (norm (regex_tree regex.now)))) }
+    ensures plain { OnOk result (IsPlain (asc (norm (regex_tree regex.now)))) }
+    ensures refused { IfErr result (IsWriteRefusal (CanBeWritten (asc (norm (regex_tree regex.now))) → ⊥)) }
+{
+    let alloc = *out.allocator();
+    let options = String::from_str(alloc, regex.options.as_str())?;
+    let in_order = Regex::new(alloc, String::new(alloc), options)?;
+    write_regex(regex.pattern.as_str(), in_order.options.as_str(), out)
+}
+
+/// The kind of a value, which is that of its normal form.
+fn normal_kind(value: &Bson) -> ElementType
+    ensures { result ≡ value_kind (asc (norm (view value.now))) }
+{
+    value.element_type()
+}
