@@ -7,7 +7,7 @@ use Rattle.std.specs.Ordering.{match_ordering}
 use Rattle.std.specs.Prelude.{bytes_eq, is_some, IsSomeAnd}
 use Rattle.std.specs.declared.cmp.Ordering.{Ordering}
 use Rattle.std.specs.declared.cmp.Ordering.TheVariants.{Less, Equal, Greater}
-use Rattle.bson_base.specs.Value.{Value, Members, no_members, member, look_up, levels, members_levels}
+use Rattle.bson_base.specs.Value.{Value, Members, no_members, member, look_up, levels, members_levels, MembersHaveDistinctKeys}
 use Rattle.bson_model.specs.Equal.{SameKeys}
 use Rattle.bson_model.specs.Keyed.{Key, ascending}
 use Rattle.bson_model.specs.View.{members_of}
@@ -109,14 +109,18 @@ some_same (Some v) None u a e = absurd a
 some_same (Some v) (Some w) u a e = let i : v ≡ u = cc in subst (λ x. Same x w) i a
 
 -- each key of this level stands once
-abbrev StandOnce : Members → Type 0
+abbrev pub StandOnce : Members → Type 0
 StandOnce no_members = Unit {0}
 StandOnce (member k v ms) = (look_up k ms ≡ None) × StandOnce ms
 
-stand_once : (ps : List (Key × Value)) → IsDistinct bytes_eq (keys_of ps) → StandOnce (members_of ps)
+pub stand_once : (ps : List (Key × Value)) → IsDistinct bytes_eq (keys_of ps) → StandOnce (members_of ps)
 unfolding IsDistinct
 stand_once [] h = tt
 stand_once (p ∷ ps) h = (none_there p.0 ps h.0, stand_once ps h.1)
+
+pub once_here : (ms : Members) → MembersHaveDistinctKeys ms → StandOnce ms
+once_here no_members d = tt
+once_here (member k v ms) d = (d.0, once_here ms d.2)
 
 under_each : (ms ns : Members) → StandOnce ms → ((q : List ℕ) (u : Value) → look_up q ms ≡ Some u → IsSomeAnd (look_up q ns) (Same u)) → SameUnder ms ns
 under_each no_members ns once f = tt

@@ -27,6 +27,7 @@ use Rattle.bson_meaning.specs.Sames.{HasKeysOf}
 use Rattle.bson_meaning.specs.Views.{ComparesPayload, shown, ShowsValue, IsRest, IsItemsRest}
 use Rattle.bson_meaning.proofs.Comparing.{keys_under, same_documents}
 use Rattle.bson_meaning.proofs.Held.{scalar_apart}
+use Rattle.bson_meaning.proofs.InTurn.{StandOnce}
 use Rattle.bson_meaning.proofs.Ordered.{equal_keys, same_key}
 use Rattle.bson_raw.proofs.Progress.{untrue}
 
@@ -187,9 +188,9 @@ keys_without : (k : List ℕ) (ms ns : Members) → look_up k ms ≡ None → Ha
 keys_without k no_members ns e h = tt
 keys_without k (member q v ms) ns e h = let d = not_first k q v ms e in (still_there q k ns d.0 h.0, keys_without k ms ns d.1 h.1)
 
-pub at_most : (ms ns : Members) → MembersHaveDistinctKeys ms → HasKeysOf ms ns → number ms ≤ number ns
+pub at_most : (ms ns : Members) → StandOnce ms → HasKeysOf ms ns → number ms ≤ number ns
 at_most no_members ns d h = omega arith
-at_most (member k v ms) ns d h = omega (arith, at_most ms (dropped k ns) d.2 (keys_without k ms ns d.0 h.1), one_less k ns h.0)
+at_most (member k v ms) ns d h = omega (arith, at_most ms (dropped k ns) d.1 (keys_without k ms ns d.0 h.1), one_less k ns h.0)
 
 weaker : (k : List ℕ) (v : Value) (ms ns : Members) → HasKeysOf ns ms → HasKeysOf ns (member k v ms)
 weaker k v ms no_members h = tt
@@ -204,15 +205,15 @@ put_back k ms (member l w ns) t h = by (put_back k ms ns t) (bytes_eq k l) refl 
     by more false e h = (h.0, more h.1)
 
 -- as many distinct keys, all of them there: there are no others
-keys_back : (ms ns : Members) → MembersHaveDistinctKeys ms → HasKeysOf ms ns → number ms ≡ number ns → HasKeysOf ns ms
+keys_back : (ms ns : Members) → StandOnce ms → HasKeysOf ms ns → number ms ≡ number ns → HasKeysOf ns ms
 keys_back no_members no_members d h e = tt
 keys_back no_members (member l w ns) d h e = absurd (omega (arith, e))
 keys_back (member k v ms) ns d h e =
     let less = one_less k ns h.0 in
-    let rest = keys_back ms (dropped k ns) d.2 (keys_without k ms ns d.0 h.1) (omega (arith, e, less)) in
+    let rest = keys_back ms (dropped k ns) d.1 (keys_without k ms ns d.0 h.1) (omega (arith, e, less)) in
     put_back k (member k v ms) ns (ap (λ b. is_some (cond b (Some v) (look_up k ms))) (same_key k)) (weaker k v ms (dropped k ns) rest)
 
-pub counted_same : (ms ns : Members) (left : ℕ) (b : Bool) → MembersHaveDistinctKeys ms → MembersHaveDistinctKeys ns → SameUnder ms ns → number ms + left ≡ number ns → b ≡ eqb left 0 → IsTrue b ↔ (SameKeys ms ns × SameUnder ms ns)
+pub counted_same : (ms ns : Members) (left : ℕ) (b : Bool) → StandOnce ms → StandOnce ns → SameUnder ms ns → number ms + left ≡ number ns → b ≡ eqb left 0 → IsTrue b ↔ (SameKeys ms ns × SameUnder ms ns)
 counted_same ms ns left b d e under count test = (
   λ t. let none : left ≡ 0 = eqb-true left 0 (sym test ∙ t) in (same_documents ms ns under).0 (keys_back ms ns d (keys_under ms ns under) (omega (arith, none, count))),
   λ h.
@@ -246,7 +247,7 @@ module _ (s t : Option (List ℕ)) (left len : ℕ) (all ns : Members) (x : RawE
   pub members_none : look_up (parts_of x).key ns ≡ None → SameUnder all ns → ⊥
   members_none e h = subst (λ o. IsSomeAnd o (Same next.value)) e (under h).0
 
-  pub members_many : MembersHaveDistinctKeys all → len ≡ number ns → left ≡ 0 → SameUnder all ns → ⊥
+  pub members_many : StandOnce all → len ≡ number ns → left ≡ 0 → SameUnder all ns → ⊥
   members_many d e z h = omega (arith, l.4, ap number next.is, at_most all ns d (keys_under all ns h), e, z)
 
   module _ (w : Value) (b : Bool) (c : ComparesPayload (parts_of x) w b) (found : look_up (parts_of x).key ns ≡ Some w) where
@@ -265,7 +266,7 @@ module _ (s t : Option (List ℕ)) (left len : ℕ) (all ns : Members) (x : RawE
       omega (arith, l.4, ap number next.is, some),
     )
 
-pub members_end : (s t : Option (List ℕ)) (left len : ℕ) (all ns : Members) (b : Bool) → steps_from s None t → MembersLeft s left len all ns → MembersHaveDistinctKeys all → MembersHaveDistinctKeys ns → len ≡ number ns → b ≡ eqb left 0
+pub members_end : (s t : Option (List ℕ)) (left len : ℕ) (all ns : Members) (b : Bool) → steps_from s None t → MembersLeft s left len all ns → StandOnce all → StandOnce ns → len ≡ number ns → b ≡ eqb left 0
     → IsTrue b ↔ (SameKeys all ns × SameUnder all ns)
 members_end s t left len all ns b step l d e same test =
     let r = last_member s t l.0 step l.1 in
@@ -324,14 +325,6 @@ found_levels k (member l v ns) w h = by (found_levels k ns w) (bytes_eq k l) h
     by : (look_up k ns ≡ Some w → levels w ≤ members_levels ns) → (b : Bool) → cond b (Some v) (look_up k ns) ≡ Some w → levels w ≤ max (levels v) (members_levels ns)
     by more true e = let same : v ≡ w = cc in subst (λ u. levels u ≤ max (levels v) (members_levels ns)) same (omega arith)
     by more false e = omega (arith, more e)
-
-pub found_distinct : (k : List ℕ) (ns : Members) (w : Value) → MembersHaveDistinctKeys ns → look_up k ns ≡ Some w → HasDistinctKeys w
-found_distinct k no_members w d h = cc
-found_distinct k (member l v ns) w d h = by (found_distinct k ns w d.2) (bytes_eq k l) h
-  where
-    by : (look_up k ns ≡ Some w → HasDistinctKeys w) → (b : Bool) → cond b (Some v) (look_up k ns) ≡ Some w → HasDistinctKeys w
-    by more true e = let same : v ≡ w = cc in subst HasDistinctKeys same d.1
-    by more false e = more e
 
 pub number_length : (ps : List (Key × Value)) → number (members_of ps) ≡ length ps
 number_length [] = refl

@@ -11,23 +11,15 @@ ghost use Rattle.bson_meaning.specs.Views.{ComparesPayload, shown, ShowsValue, S
 
 use crate::options::same_options;
 use crate::scalars::{normal_decimal, normal_double, normal_subtype};
-use bson_model::laws::distinct_keys;
+use bson_model::laws::distinct_keys_of_level;
 use bson_model::{Bson, Document};
 use bson_raw::laws::payload_of_an_element;
 use bson_raw::{RawArray, RawBsonRef, RawDocument, RawElement};
 
 /// Whether a view means the same as a value, where the view has no fault and no key twice at any level; of other views nothing
-/// is said. Each key is looked up by its hash. Takes no memory.
-pub fn same_as_raw(raw: RawBsonRef<'_>, value: &Bson) -> bool
-    ensures { (v : Value) → ShowsValue raw.entry v → HasDistinctKeys v → IsTrue result ↔ Same v (view value.now) }
-{
-    distinct_keys(value);
-    same_value(raw, value)
-}
-
+/// is said. Each key is looked up in the index of its document. Takes no memory.
 #[cycle(views)]
-fn same_value(raw: RawBsonRef<'_>, value: &Bson) -> bool
-    requires { HasDistinctKeys (view value.now) }
+pub fn same_as_raw(raw: RawBsonRef<'_>, value: &Bson) -> bool
     ensures { (v : Value) → ShowsValue raw.entry v → HasDistinctKeys v → IsTrue result ↔ Same v (view value.now) }
 {
     match raw {
@@ -51,10 +43,10 @@ fn same_value(raw: RawBsonRef<'_>, value: &Bson) -> bool
 
 #[cycle(views)]
 fn same_members(raw: RawDocument<'_>, document: &Document) -> bool
-    requires { MembersHaveDistinctKeys (members_of (pairs_of document.now)) }
     ensures { (ms : Members) → SpellsMembers (drop 4 (bytes_of raw.entry)) ms → MembersHaveDistinctKeys ms
         → IsTrue result ↔ SameKeys ms (members_of (pairs_of document.now)) × SameUnder ms (members_of (pairs_of document.now)) }
 {
+    distinct_keys_of_level(document);
     let mut left = document.len();
     for item in raw.iter_elements() {
         let Ok(element) = item else {
@@ -76,7 +68,6 @@ fn same_members(raw: RawDocument<'_>, document: &Document) -> bool
 
 #[cycle(views)]
 fn same_elements(raw: RawArray<'_>, items: &[Bson]) -> bool
-    requires { ItemsHaveDistinctKeys (items_of (map view items.now)) }
     ensures { (vs : Items) → SpellsItems (drop 4 (array_bytes raw.entry)) vs → ItemsHaveDistinctKeys vs
         → IsTrue result ↔ SameItems vs (items_of (map view items.now)) }
 {
@@ -101,22 +92,20 @@ fn same_elements(raw: RawArray<'_>, items: &[Bson]) -> bool
 
 #[cycle(views)]
 fn same_element(element: &RawElement<'_>, value: &Bson) -> bool
-    requires { HasDistinctKeys (view value.now) }
     ensures { ComparesPayload (parts_of element.now) (view value.now) result }
 {
     payload_of_an_element(element);
     match element.value_or_kind() {
-        Ok(raw) => same_value(raw, value),
+        Ok(raw) => same_as_raw(raw, value),
         Err(_) => false,
     }
 }
 
 /// The value under a key.
 fn value_under<'a>(document: &'a Document, key: &str) -> Option<&'a Bson>
-    requires { MembersHaveDistinctKeys (members_of (pairs_of document.now)) }
     ensures { MatchOption result (look_up key.now (members_of (pairs_of document.now)) ≡ None)
         (λ v. (look_up key.now (members_of (pairs_of document.now)) ≡ Some (view v.now))
-        × (levels (view v.now) ≤ members_levels (members_of (pairs_of document.now))) × HasDistinctKeys (view v.now)) }
+        × (levels (view v.now) ≤ members_levels (members_of (pairs_of document.now)))) }
 {
     match document.get(key) {
         Some(value) => Some(value),

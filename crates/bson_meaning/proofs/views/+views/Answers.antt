@@ -1,16 +1,14 @@
-use Rattle.std.proofs.Common.{◌≡◌, ℕ, List, ◌∷◌, map, length, drop, true, false, Some, None, Result, Ok, Err, IsTrue, sym, ap, subst, ◌∙◌, arith, refl, max, ◌≤◌}
-use Rattle.bson_base.specs.Value.{look_up, no_items, item, levels, items_levels, ItemsHaveDistinctKeys}
-use Rattle.bson_frame.specs.declared.error.Error.{Error}
+use Rattle.std.proofs.Common.{◌≡◌, map, length, Some, None, sym, ap, subst, ◌∙◌, arith, refl, max, ◌≤◌}
+use Rattle.bson_base.specs.Value.{look_up, item, levels, items_levels}
 use Rattle.bson_model.specs.View.{view, pairs_of, items_of, members_of}
-use Rattle.bson_model.specs.declared.bson.Bson.{Bson}
 use Rattle.bson_raw.specs.View.{left_of, parts_of}
 use Rattle.bson_raw.specs.Walk.{steps_from}
-use Rattle.bson_meaning.specs.Views.{ComparesPayload}
+use Rattle.bson_meaning.proofs.InTurn.{once_here, stand_once}
 use Rattle.bson_meaning.proofs.Viewing.{compares_raw, members_none, members_many, members_other, members_more, members_end, members_wrong, items_longer, items_other, items_more, items_wrong, items_done, items_over, items_closed, number_length}
 use Rattle.bson_meaning.proofs.views.+views.Goals as goal
 
 pub same_element-returns-in-Ok : goal.same_element-returns-in-Ok
-same_element-returns-in-Ok t c = compares_raw (parts_of c.args.element.now) c.in-Ok.raw (view c.args.value.now) c.same_value.result c.payload_of_an_element.ensures c.in-Ok.ensures c.same_value.ensures
+same_element-returns-in-Ok t c = compares_raw (parts_of c.args.element.now) c.in-Ok.raw (view c.args.value.now) c.same_as_raw.result c.payload_of_an_element.ensures c.in-Ok.ensures c.same_as_raw.ensures
 
 pub same_members-returns-in_default : goal.same_members-returns-in_default
 same_members-returns-in_default t c =
@@ -32,7 +30,7 @@ same_members-returns-then-left-eq0 t c =
     let ns = members_of (pairs_of c.args.document.now) in
     let len = length (pairs_of c.args.document.now) in
     let step = subst (λ i. steps_from (left_of c.loop-item.item-iterator) (Some i) (left_of c.next.new.self)) c.in-Ok.is c.in-Some.ensures.steps in
-    λ ms h d. (λ f. absurd cc, λ g. absurd (members_many (left_of c.loop-item.item-iterator) (left_of c.next.new.self) c.loop-item.left len ms ns c.in-Ok.element step (c.loop-item.invariant.0 ms h d) d (sym (number_length (pairs_of c.args.document.now))) c.if-left-eq0.true g.1))
+    λ ms h d. (λ f. absurd cc, λ g. absurd (members_many (left_of c.loop-item.item-iterator) (left_of c.next.new.self) c.loop-item.left len ms ns c.in-Ok.element step (c.loop-item.invariant.0 ms h d) (once_here ms d) (sym (number_length (pairs_of c.args.document.now))) c.if-left-eq0.true g.1))
 
 pub same_members-returns-then-not-same_element : goal.same_members-returns-then-not-same_element
 same_members-returns-then-not-same_element t c =
@@ -58,7 +56,7 @@ pub same_members-returns : goal.same_members-returns
 same_members-returns t c =
     let ns = members_of (pairs_of c.args.document.now) in
     let len = length (pairs_of c.args.document.now) in
-    λ ms h d. members_end (left_of c.loop-item.item-iterator) (left_of c.next.new.self) c.loop-item.left len ms ns _ c.in-None.ensures.steps (c.loop-item.invariant.0 ms h d) d c.requires (sym (number_length (pairs_of c.args.document.now))) refl
+    λ ms h d. members_end (left_of c.loop-item.item-iterator) (left_of c.next.new.self) c.loop-item.left len ms ns _ c.in-None.ensures.steps (c.loop-item.invariant.0 ms h d) (once_here ms d) (stand_once (pairs_of c.args.document.now) c.distinct_keys_of_level.ensures) (sym (number_length (pairs_of c.args.document.now))) refl
 
 pub same_elements-returns-in_default-item : goal.same_elements-returns-in_default-item
 same_elements-returns-in_default-item t c =
@@ -94,10 +92,8 @@ same_elements-loop-item-preserved t c =
     let ws = items_of (map view c.in-Some-split_first.others.now) in
     let split : others ≡ item w ws = ap (λ vs. items_of (map view vs)) c.in-Some-split_first.ensures.cases.0 in
     let told = c.same_element.ensures in
-    let distinct = subst ItemsHaveDistinctKeys split c.loop-item.invariant.1 in
-    let low : max (levels w) (items_levels ws) ≤ items_levels target = subst (λ vs. items_levels vs ≤ items_levels target) split c.loop-item.invariant.2 in (
+    let low : max (levels w) (items_levels ws) ≤ items_levels target = subst (λ vs. items_levels vs ≤ items_levels target) split c.loop-item.invariant.1 in (
       λ vs h d. items_more (left_of c.loop-item.item-iterator) (left_of c.next.new.self) vs target others c.in-Ok-item.element step (c.loop-item.invariant.0 vs h d) w ws c.same_element.result told split c.if-not-same_element.false,
-      distinct.1,
       omega (arith, low),
       tt,
       tt,

@@ -1,4 +1,4 @@
-use Rattle.std.proofs.Common.{◌≡◌, length, map, ◌+◌, ◌*◌, ◌≤◌, drop}
+use Rattle.std.proofs.Common.{length, map, ◌+◌, ◌*◌, ◌≤◌, drop}
 use Rattle.bson_base.specs.Value.{Items, Members, levels, items_levels, members_levels, ItemsHaveDistinctKeys, MembersHaveDistinctKeys}
 use Rattle.bson_bytes.specs.Spells.{SpellsItems, SpellsMembers}
 use Rattle.bson_model.specs.View.{view, pairs_of, items_of, members_of}
@@ -6,8 +6,8 @@ use Rattle.bson_raw.specs.View.{bytes_of, array_bytes, left_of}
 use Rattle.bson_meaning.proofs.Viewing.{MembersLeft, ItemsLeft}
 use Rattle.bson_meaning.proofs.views.+views.Given as goal
 
-abbrev pub decreases-same_value : goal.decreases-same_value
-decreases-same_value l = 3 * levels (view l.value.now)
+abbrev pub decreases-same_as_raw : goal.decreases-same_as_raw
+decreases-same_as_raw l = 3 * levels (view l.value.now)
 
 abbrev pub decreases-same_element : goal.decreases-same_element
 decreases-same_element l = 3 * levels (view l.value.now) + 1
@@ -27,7 +27,6 @@ invariant-same_members-loop-item l =
 abbrev pub invariant-same_elements-loop-item : goal.invariant-same_elements-loop-item
 invariant-same_elements-loop-item l =
     ((all : Items) → SpellsItems (drop 4 (array_bytes l.raw)) all → ItemsHaveDistinctKeys all → ItemsLeft (left_of l.item-iterator) all (items_of (map view l.items)) (items_of (map view l.left)))
-    × ItemsHaveDistinctKeys (items_of (map view l.left))
     × (items_levels (items_of (map view l.left)) ≤ items_levels (items_of (map view l.items)))
     × (goal.iterator-same_elements-loop-item).can_next l.item-iterator
     × (goal.iterator-same_elements-loop-item).is_finite l.item-iterator
