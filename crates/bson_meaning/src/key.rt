@@ -11,7 +11,6 @@ ghost use Rattle.bson_meaning.specs.Meaning.{key as key_of, norm_members, asc_me
 
 use crate::lengths::normal_length;
 use crate::plain::has_plain_members;
-use crate::sound::soundness_of_document;
 use crate::writing::encode_in_order;
 use bson_frame::{ErrorKind, LENGTH_LIMIT};
 use bson_model::Document;
@@ -61,16 +60,16 @@ pub fn meaning_key(alloc: Global, document: &Document) -> Result<Vec<u8>, KeyErr
     if !has_plain_members(document) {
         return Err(KeyError::NotPlain);
     }
-    soundness_of_document(document);
     if is_too_long(document) {
         return Err(KeyError::TooLong);
     }
     written(alloc, document)
 }
 
-/// Whether the key would be over 2147483647 bytes.
+/// Whether the key would be over 2147483647 bytes. What counts them tells that the document is sound.
 fn is_too_long(document: &Document) -> bool
-    ensures { IsTrue result ↔ (length_limit < size (norm_members (members_of (pairs_of document.now)))) }
+    ensures long { IsTrue result ↔ (length_limit < size (norm_members (members_of (pairs_of document.now)))) }
+    ensures sound { IsSound (tree (members_of (pairs_of document.now))) }
 {
     normal_length(document) > LENGTH_LIMIT
 }

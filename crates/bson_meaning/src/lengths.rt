@@ -1,44 +1,61 @@
 //! How many bytes the normal form of a tree is written as, without making it.
 
-ghost use Rattle.std.specs.Prelude.{◌≡◌, ◌^◌, ◌-◌, decimal, length, map, min, string_bytes};
-ghost use Rattle.bson_base.specs.Value.{binary as with_subtype, regex as expression};
+ghost use Rattle.std.specs.Prelude.{◌≡◌, ◌^◌, ◌-◌, decimal, length, map, min, string_bytes, IsUtf8};
+ghost use Rattle.bson_base.specs.Kinds.{IsRangedScalar, IsSound};
+ghost use Rattle.bson_base.specs.Value.{binary as with_subtype, document as tree, regex as expression, EachItem, EachMember, EachPart, HasDistinctKeys, ItemsHaveDistinctKeys, MembersHaveDistinctKeys};
 ghost use Rattle.bson_bytes.specs.Encode.{items_size, members_size, scalar_size, size, value_size};
 ghost use Rattle.bson_model.specs.View.{view, pairs_of, items_of, members_of};
 ghost use Rattle.bson_meaning.specs.Meaning.{norm, norm_items, norm_members, normal_scalar};
 ghost use Rattle.bson_meaning.specs.Sames.{IsScalar};
 
 use crate::scalars::normal_subtype;
+use crate::sound::{ranged_scalar, text};
+use bson_model::laws::distinct_keys_of_level;
 use bson_model::{Binary, BinarySubtype, Bson, Document, Regex};
 use itoa::Buffer;
 
 /// How many bytes the normal form of a document is written as (bsonspec.org 1.1, "document"). No tree that fits into a machine
-/// takes more than `usize::MAX`; it would be answered for such. Takes no memory.
+/// takes more than `usize::MAX`; it would be answered for such. Takes no memory. As it goes through the whole document, it
+/// tells that the document is sound.
 pub(crate) fn normal_length(document: &Document) -> usize
-    ensures { result ≡ min (size (norm_members (members_of (pairs_of document.now)))) (2 ^ 64 - 1) }
+    ensures length { result ≡ min (size (norm_members (members_of (pairs_of document.now)))) (2 ^ 64 - 1) }
+    ensures sound { IsSound (tree (members_of (pairs_of document.now))) }
 {
     length_of_members(document).saturating_add(5)
 }
 
 #[cycle(lengths)]
 fn length_of_value(value: &Bson) -> usize
-    ensures { result ≡ min (value_size (norm (view value.now))) (2 ^ 64 - 1) }
+    ensures length { result ≡ min (value_size (norm (view value.now))) (2 ^ 64 - 1) }
+    ensures ranged { EachPart IsUtf8 IsRangedScalar (view value.now) }
+    ensures distinct { HasDistinctKeys (view value.now) }
 {
     match value {
         Bson::Array(items) => length_of_items(items.as_slice()).saturating_add(5),
         Bson::Document(document) => length_of_members(document).saturating_add(5),
-        Bson::JavaScriptCodeWithScope(code) => length_of_members(&code.scope)
-            .saturating_add(code.code.len())
-            .saturating_add(14),
-        scalar => length_of_scalar(scalar),
+        Bson::JavaScriptCodeWithScope(code) => {
+            text(code.code.as_str());
+            length_of_members(&code.scope)
+                .saturating_add(code.code.len())
+                .saturating_add(14)
+        }
+        scalar => {
+            ranged_scalar(scalar);
+            length_of_scalar(scalar)
+        }
     }
 }
 
 #[cycle(lengths)]
 fn length_of_members(document: &Document) -> usize
-    ensures { result ≡ min (members_size (norm_members (members_of (pairs_of document.now)))) (2 ^ 64 - 1) }
+    ensures length { result ≡ min (members_size (norm_members (members_of (pairs_of document.now)))) (2 ^ 64 - 1) }
+    ensures ranged { EachMember IsUtf8 IsRangedScalar (members_of (pairs_of document.now)) }
+    ensures distinct { MembersHaveDistinctKeys (members_of (pairs_of document.now)) }
 {
+    distinct_keys_of_level(document);
     let mut length: usize = 0;
     for (key, value) in document {
+        text(key.as_str());
         let element = length_of_value(value)
             .saturating_add(key.len())
             .saturating_add(2);
@@ -50,7 +67,9 @@ fn length_of_members(document: &Document) -> usize
 /// The keys of an array are the places in decimal.
 #[cycle(lengths)]
 fn length_of_items(items: &[Bson]) -> usize
-    ensures { result ≡ min (items_size 0 (norm_items (items_of (map view items.now)))) (2 ^ 64 - 1) }
+    ensures length { result ≡ min (items_size 0 (norm_items (items_of (map view items.now)))) (2 ^ 64 - 1) }
+    ensures ranged { EachItem IsUtf8 IsRangedScalar (items_of (map view items.now)) }
+    ensures distinct { ItemsHaveDistinctKeys (items_of (map view items.now)) }
 {
     let mut length: usize = 0;
     for i in 0..items.len() {

@@ -60,7 +60,7 @@ fn ranged_members(document: &Document)
     }
 }
 
-fn ranged_scalar(value: &Bson)
+pub(crate) fn ranged_scalar(value: &Bson)
     requires { IsScalar (view value.now) }
     ensures { EachPart IsUtf8 IsRangedScalar (view value.now) }
 {
@@ -92,7 +92,7 @@ fn ranged_scalar(value: &Bson)
     }
 }
 
-fn text(text: &str)
+pub(crate) fn text(text: &str)
     ensures { IsUtf8 text.now }
 {
     let _ = text;
