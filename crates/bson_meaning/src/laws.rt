@@ -1,13 +1,16 @@
 //! Laws of meaning. Each function below does nothing, and its contract is the law. It is said of sound values: their numbers
 //! and texts are those of their kinds, and no key stands twice. Every value at hand is sound, which `soundness` tells.
 
-ghost use Rattle.std.specs.Prelude.{◌≡◌, ◌↔◌, ◌≤◌, ◌⊎◌, IsTrue, List, ℕ, length};
+ghost use Rattle.std.specs.Prelude.{MatchResult, ◌≡◌, ◌↔◌, ◌≤◌, ◌⊎◌, IsTrue, List, ℕ, length};
 ghost use Rattle.bson_base.specs.Kinds.{IsClean, IsPlain, IsSound};
 ghost use Rattle.bson_base.specs.Value.{document, levels, member, Members, no_members, Value};
 ghost use Rattle.bson_bytes.specs.Encode.{size};
 ghost use Rattle.bson_bytes.specs.Spells.{Means};
+ghost use Rattle.bson_bytes.specs.Writing.{CanBeWritten, IsWriteRefusal};
 ghost use Rattle.bson_frame.specs.Frame.{length_limit};
 ghost use Rattle.bson_model.specs.Equal.{Equal};
+ghost use Rattle.bson_model.specs.Trees.{document_tree};
+ghost use Rattle.bson_model.specs.View.{members_of, pairs_of};
 ghost use Rattle.bson_meaning.specs.Gate.{IsFaultyOrDeep, IsRefused, level_limit, Passes};
 ghost use Rattle.bson_meaning.specs.Meaning.{asc, norm, norm_members, asc_members, key, Same};
 ghost use Rattle.bson_meaning.specs.declared.key.KeyError.{KeyError as AnyKeyError};
@@ -20,6 +23,9 @@ pub use crate::json_laws::{
 use crate::key::KeyError;
 use crate::reading::GateError;
 pub use crate::sound::{soundness, soundness_of_document};
+use bson_model::Document;
+use bson_raw::RawDocumentBuf;
+use std::alloc::Global;
 
 /// Meaning the same is an equivalence.
 pub fn same_is_an_equivalence()
@@ -82,3 +88,18 @@ pub fn equal_errors()
     ensures keys { (x y : AnyKeyError) → IsTrue (⟦<KeyError as PartialEq>⟧.eq x y) ↔ (x ≡ y) }
     ensures gate { (x y : AnyGateError) → IsTrue (⟦<GateError as PartialEq>⟧.eq x y) ↔ (x ≡ y) }
 {}
+
+/// A clean document that is written into a buffer comes back from it. It is refused where it has no written form, or a growth
+/// is refused, and for no other reason.
+pub fn documents_come_back(alloc: Global, document: &Document) -> bson_frame::Result<Document>
+    ensures { IsClean (document_tree document.now) → MatchResult result (λ back. members_of (pairs_of back) ≡ members_of (pairs_of document.now))
+        (IsWriteRefusal (CanBeWritten (document_tree document.now) → ⊥)) }
+{
+    soundness_of_document(document);
+    bson_bytes::laws::trees_come_back();
+    bson_bytes::laws::one_meaning();
+    match RawDocumentBuf::from_document(alloc, document) {
+        Ok(buffer) => buffer.to_document(),
+        Err(e) => Err(e),
+    }
+}

@@ -2,7 +2,7 @@
 
 use crate::fixtures::{each_kind, holds, is};
 use bson_model::document::ValueAccessError;
-use bson_model::{DateTime, Decimal128, Document, DoubleBits, ObjectId};
+use bson_model::{Bson, DateTime, Decimal128, Document, DoubleBits, ObjectId};
 use std::process::Abort;
 use std::test::Fail;
 
@@ -128,5 +128,18 @@ fn parts_are_written_in_place(rt: HostRuntime) -> Result<(), Fail> {
     is(&rt, "document", pairs, Ok(0));
     let bytes = all.get_binary_generic("binary").map(|b| b.len());
     is(&rt, "binary", bytes, Ok(0));
+    Ok(())
+}
+
+#[test]
+fn a_lent_document_alone_is_written(rt: HostRuntime) -> Result<(), Fail> {
+    let mut all = each_kind(rt.alloc())?;
+    let mut wanted = each_kind(rt.alloc())?;
+    let key = String::from_str(rt.alloc(), "document")?;
+    drop(wanted.insert(key, Bson::Document(Document::new(rt.alloc())))?);
+    if let Ok(lent) = all.get_document_mut("document") {
+        lent.clear();
+    }
+    holds(&rt, "the others stay", all == wanted);
     Ok(())
 }

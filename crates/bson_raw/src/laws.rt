@@ -20,17 +20,12 @@ ghost use Rattle.bson_base.specs.Kinds.{IsClean, IsSound};
 ghost use Rattle.bson_base.specs.Value.{document, Members};
 ghost use Rattle.bson_bytes.specs.Encode.{encode, size};
 ghost use Rattle.bson_bytes.specs.Spells.{Means};
-ghost use Rattle.bson_bytes.specs.Writing.{CanBeWritten, IsWriteRefusal};
 ghost use Rattle.bson_frame.specs.Payload.{IsEnvelope, IsFaultless, IsPayload};
-ghost use Rattle.bson_model.specs.Trees.{document_tree};
-ghost use Rattle.bson_model.specs.View.{pairs_of, members_of};
 
 pub mod equality;
 
 use crate::document_buf::RawDocumentBuf;
 use crate::element::RawElement;
-use bson_model::Document;
-use std::alloc::Global;
 
 /// Bytes have a walk.
 pub fn a_walk()
@@ -120,19 +115,4 @@ pub fn documents_have_no_fault()
 {
     bson_frame::laws::one_first_frame();
     bson_bytes::laws::trees_come_back();
-}
-
-/// A clean document that is written into a buffer comes back from it. It is refused where it has no written form, or a growth
-/// is refused, and for no other reason.
-pub fn documents_come_back(alloc: Global, document: &Document) -> bson_frame::Result<Document>
-    ensures { IsClean (document_tree document.now) → IsSound (document_tree document.now)
-        → MatchResult result (λ back. members_of (pairs_of back) ≡ members_of (pairs_of document.now))
-        (IsWriteRefusal (CanBeWritten (document_tree document.now) → ⊥)) }
-{
-    bson_bytes::laws::trees_come_back();
-    bson_bytes::laws::one_meaning();
-    match RawDocumentBuf::from_document(alloc, document) {
-        Ok(buffer) => buffer.to_document(),
-        Err(e) => Err(e),
-    }
 }

@@ -1,7 +1,7 @@
 //! The exact answer of calls that memory suffices for, where want of memory could be told as well.
 
 use bson_base::{Regex, SliceSource};
-use bson_model::{Bson, Document};
+use bson_model::{Bson, Document, JavaScriptCodeWithScope};
 use bson_raw::{
     Error, ErrorKind, RawArrayBuf, RawBson, RawDocument, RawDocumentBuf, RawElement, ReadError,
     from_reader,
@@ -32,6 +32,13 @@ fn pattern_with_a_zero(alloc: Global) -> Result<Regex, Fail> {
         pattern: String::from_str(alloc, "p\0")?,
         options: String::new(alloc),
     })
+}
+
+/// A document with a 00 in a key.
+fn key_with_a_zero(alloc: Global) -> Result<Document, Fail> {
+    let mut document = Document::new(alloc);
+    document.insert(String::from_str(alloc, "a\0")?, Bson::Null)?;
+    Ok(document)
 }
 
 fn first(bytes: &[u8]) -> Result<Option<RawElement<'_>>, Fail> {
@@ -102,9 +109,27 @@ fn a_value_that_cannot_be_pushed(rt: HostRuntime) -> Result<(), Fail> {
 
 #[test]
 fn a_tree_that_cannot_be_written(rt: HostRuntime) -> Result<(), Fail> {
-    let mut document = Document::new(rt.alloc());
-    document.insert(String::from_str(rt.alloc(), "a\0")?, Bson::Null)?;
+    let document = key_with_a_zero(rt.alloc())?;
     let told = RawBson::from_bson(rt.alloc(), Bson::Document(document)).err();
+    assert_eq!(rt; told, Some(unwritable()));
+    Ok(())
+}
+
+#[test]
+fn an_array_that_cannot_be_written(rt: HostRuntime) -> Result<(), Fail> {
+    let mut items = Vec::new(rt.alloc());
+    items.push(Bson::Document(key_with_a_zero(rt.alloc())?))?;
+    let told = RawBson::from_bson(rt.alloc(), Bson::Array(items)).err();
+    assert_eq!(rt; told, Some(unwritable()));
+    Ok(())
+}
+
+#[test]
+fn a_scope_that_cannot_be_written(rt: HostRuntime) -> Result<(), Fail> {
+    let code = String::from_str(rt.alloc(), "f()")?;
+    let scope = key_with_a_zero(rt.alloc())?;
+    let value = Bson::JavaScriptCodeWithScope(JavaScriptCodeWithScope { code, scope });
+    let told = RawBson::from_bson(rt.alloc(), value).err();
     assert_eq!(rt; told, Some(unwritable()));
     Ok(())
 }

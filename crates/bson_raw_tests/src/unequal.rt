@@ -121,6 +121,15 @@ fn values(rt: HostRuntime) {
 }
 
 #[test]
+fn texts(rt: HostRuntime) -> Result<(), Fail> {
+    differ(&rt, &RawBsonRef::from("a"), &RawBsonRef::from("b"));
+    let a = String::from_str(rt.alloc(), "a")?;
+    let b = String::from_str(rt.alloc(), "b")?;
+    differ(&rt, &RawBson::Symbol(a), &RawBson::Symbol(b));
+    Ok(())
+}
+
+#[test]
 fn faults(rt: HostRuntime) -> Result<(), Fail> {
     let bare = Error::new(None, ErrorKind::MalformedValue);
     differ(&rt, &bare, &malformed(rt.alloc(), "a")?);

@@ -30,11 +30,11 @@ returns-in-ReplaceJson g c =
 
 pub returns-in-Set : goal.returns-in-Set
 returns-in-Set g c =
-    rw c.in-Set.is (obeys (held g.S.Store c.args.store.now) (held g.S.Store c.set.new.self) (commands.Set c.in-Set.name c.in-Set.id c.in-Set.key c.in-Set.value) (model.on (string_bytes c.in-Set.name) (model.set (view c.in-Set.id) (string_bytes c.in-Set.key) (read_value (data_of c.in-Set.value)))) c.done-in-Set.result (reply_by as_done c.set.result) refl c.done-in-Set.ensures (rw (c.as_str-key.ensures.value, c.as_str-in-Set.ensures.value) at c.set.ensures))
+    rw c.in-Set.is (obeys (held g.S.Store c.args.store.now) (held g.S.Store c.set.new.self) (commands.Set c.in-Set.name c.in-Set.id c.in-Set.key c.in-Set.value) (model.on (string_bytes c.in-Set.name) (model.set (view c.in-Set.id) (string_bytes c.in-Set.key) (read_value (data_of c.in-Set.value)))) c.done-in-Set.result (reply_by as_done c.set.result) refl c.done-in-Set.ensures (rw (c.as_str-in-Set-2.ensures.value, c.as_str-in-Set.ensures.value) at c.set.ensures))
 
 pub returns-in-Unset : goal.returns-in-Unset
 returns-in-Unset g c =
-    rw c.in-Unset.is (obeys (held g.S.Store c.args.store.now) (held g.S.Store c.unset.new.self) (commands.Unset c.in-Unset.name c.in-Unset.id c.in-Unset.key) (model.on (string_bytes c.in-Unset.name) (model.unset (view c.in-Unset.id) (string_bytes c.in-Unset.key))) c.flag.result (reply_by as_flag c.unset.result) refl c.flag.ensures (rw (c.as_str-key-in-Unset.ensures.value, c.as_str-in-Unset.ensures.value) at c.unset.ensures))
+    rw c.in-Unset.is (obeys (held g.S.Store c.args.store.now) (held g.S.Store c.unset.new.self) (commands.Unset c.in-Unset.name c.in-Unset.id c.in-Unset.key) (model.on (string_bytes c.in-Unset.name) (model.unset (view c.in-Unset.id) (string_bytes c.in-Unset.key))) c.flag.result (reply_by as_flag c.unset.result) refl c.flag.ensures (rw (c.as_str-in-Unset-2.ensures.value, c.as_str-in-Unset.ensures.value) at c.unset.ensures))
 
 pub returns-in-Remove : goal.returns-in-Remove
 returns-in-Remove g c =
@@ -66,7 +66,7 @@ returns-in-Count g c =
 
 pub returns-in-Project : goal.returns-in-Project
 returns-in-Project g c =
-    rw c.in-Project.is (obeys (held g.S.Store c.args.store.now) (held g.S.Store c.project.new.self) (commands.Project c.in-Project.name c.in-Project.filter c.in-Project.keys) (model.on (string_bytes c.in-Project.name) (model.project (filter_of c.in-Project.filter) (path_of c.in-Project.keys.items))) c.list-in-Project.result (reply_by as_list c.project.result) refl c.list-in-Project.ensures (rw (c.as_slice-keys.ensures.value, c.as_str-in-Project.ensures.value) at c.project.ensures))
+    rw c.in-Project.is (obeys (held g.S.Store c.args.store.now) (held g.S.Store c.project.new.self) (commands.Project c.in-Project.name c.in-Project.filter c.in-Project.keys) (model.on (string_bytes c.in-Project.name) (model.project (filter_of c.in-Project.filter) (path_of c.in-Project.keys.items))) c.list-in-Project.result (reply_by as_list c.project.result) refl c.list-in-Project.ensures (rw (c.as_slice-in-Project.ensures.value, c.as_str-in-Project.ensures.value) at c.project.ensures))
 
 pub returns-in-Import : goal.returns-in-Import
 returns-in-Import g c =
