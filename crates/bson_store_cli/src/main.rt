@@ -3,15 +3,12 @@
 #![tactic(auto)]
 
 mod database;
-mod pipe;
-#[cfg(test)]
-mod tests;
 
 use bson_store::Counted;
 use database::serve;
-use pipe::pipe;
 use std::process::ExitCode;
 use std::{env, io};
+use store_pipe::pipe;
 
 /// The words behind the program's name.
 fn words_of(rt: &HostRuntime) -> io::Result<Vec<String>> {

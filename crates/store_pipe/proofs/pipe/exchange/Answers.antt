@@ -3,8 +3,8 @@ use Rattle.sqlite.specs.Steps.{over_memory}
 use Rattle.sqlite.proofs.Callers.{memory_is_clean}
 use Rattle.bson_base.specs.Device.{Feed, Tally}
 use Rattle.bson_store.specs.Calls.{store_connection, held}
-use Rattle.bson_store_cli.proofs.Sending.{nothing_out, all_out, some_out}
-use Rattle.bson_store_cli.proofs.pipe.exchange.Goals as goal
+use Rattle.store_pipe.proofs.Sending.{nothing_out, all_out, some_out}
+use Rattle.store_pipe.proofs.pipe.exchange.Goals as goal
 
 pub returns-in_err-store : goal.returns-in_err-store
 returns-in_err-store g c =

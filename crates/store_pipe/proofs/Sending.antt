@@ -12,9 +12,9 @@ use Rattle.store_laws.specs.declared.error.ErrorKind.TheVariants.{BadName, Memor
 use Rattle.bson_base.specs.Device.{Feed, Tally}
 use Rattle.bson_store.specs.Export.{Delivers, ExportRefused, SendsCollection}
 use Rattle.bson_store.specs.declared.error.StoreError.{StoreError}
-use Rattle.bson_store_cli.specs.Pipe.{ReadsInput, KeepsInput, RefusesInput, Exchanges}
-use Rattle.bson_store_cli.proofs.Refusing.{of_input}
-use Rattle.bson_store_cli.proofs.Keeping.{name, is_name}
+use Rattle.store_pipe.specs.Pipe.{ReadsInput, KeepsInput, RefusesInput, Exchanges}
+use Rattle.store_pipe.proofs.Refusing.{of_input}
+use Rattle.store_pipe.proofs.Keeping.{name, is_name}
 
 -- where the document of the input is not kept, nothing goes out
 pub nothing_out : (kind : ErrorKind) (old new : Feed) (out : Tally) → RefusesInput kind old new → Exchanges old new out out (Err kind)

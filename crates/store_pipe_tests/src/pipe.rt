@@ -1,11 +1,11 @@
 //! The program over inputs in memory, and over devices that fail.
 
-use crate::pipe::pipe;
 use bson_base::faulty::{FaultySink, FaultySource};
 use bson_store::{SliceSource, VecSink};
 use std::alloc::Global;
 use std::process::Abort;
 use std::test::Fail;
+use store_pipe::pipe;
 
 /// `{_id: 1, hello: "world"}`, the sample of the repository.
 const HELLO: [u8; 31] = [

@@ -11,7 +11,7 @@ use Rattle.store_laws.specs.State.{id_key, refusal_of}
 use Rattle.store_laws.specs.declared.error.ErrorKind.{ErrorKind}
 use Rattle.store_laws.specs.declared.error.ErrorKind.TheVariants.{NoId, TooLong, Memory, Database, Reader, Writer}
 use Rattle.bson_base.specs.Device.{Feed}
-use Rattle.bson_store_cli.specs.Pipe.{ReadsRefused, RefusesInput}
+use Rattle.store_pipe.specs.Pipe.{ReadsRefused, RefusesInput}
 
 -- why bytes are refused, or the document that they mean
 abbrev pub AreRefused : List ℕ → ErrorKind → Type 0

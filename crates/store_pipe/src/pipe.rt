@@ -6,7 +6,7 @@ ghost use Rattle.store_laws.specs.declared.error.ErrorKind.TheVariants.{Memory, 
 ghost use Rattle.bson_table.specs.Moves.{Stands};
 ghost use Rattle.bson_store.specs.Calls.{held};
 ghost use Rattle.bson_store.specs.Refusals.{kind_of_reading};
-ghost use Rattle.bson_store_cli.specs.Pipe.{KeepsInput, RefusesInput, Exchanges, Pipes};
+ghost use Rattle.store_pipe.specs.Pipe.{KeepsInput, RefusesInput, Exchanges, Pipes};
 
 use bson_base::{ReadAllError, read_all};
 use bson_store::{ErrorKind, Sink, Source, Store};

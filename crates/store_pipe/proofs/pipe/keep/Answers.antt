@@ -5,8 +5,8 @@ use Rattle.bson_table.specs.Moves.{Moves}
 use Rattle.store_laws.specs.State.{in_bytes, insert, done, refused}
 use Rattle.bson_base.specs.Device.{Feed}
 use Rattle.bson_store.specs.Calls.{store_connection, held, DoesBytes}
-use Rattle.bson_store_cli.proofs.Keeping.{name, input_kept, input_not_kept}
-use Rattle.bson_store_cli.proofs.pipe.keep.Goals as goal
+use Rattle.store_pipe.proofs.Keeping.{name, input_kept, input_not_kept}
+use Rattle.store_pipe.proofs.pipe.keep.Goals as goal
 
 pub returns-in-Ok-insert_raw-clause-ok : goal.returns-in-Ok-insert_raw-clause-ok
 returns-in-Ok-insert_raw-clause-ok g c =

@@ -2,8 +2,8 @@ use Rattle.sqlite.specs.Held.{state}
 use Rattle.sqlite.specs.Steps.{over_memory}
 use Rattle.sqlite.proofs.Callers.{memory_is_clean}
 use Rattle.bson_store.specs.Calls.{store_connection, held}
-use Rattle.bson_store_cli.proofs.Opening.{opened_empty, not_opened}
-use Rattle.bson_store_cli.proofs.pipe.new_store.Goals as goal
+use Rattle.store_pipe.proofs.Opening.{opened_empty, not_opened}
+use Rattle.store_pipe.proofs.pipe.new_store.Goals as goal
 
 pub returns-in-Ok-open-clause-empty : goal.returns-in-Ok-open-clause-empty
 returns-in-Ok-open-clause-empty c =

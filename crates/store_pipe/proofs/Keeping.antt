@@ -17,8 +17,8 @@ use Rattle.store_laws.proofs.Rows.{list_of-state_of}
 use Rattle.bson_base.specs.Device.{Feed, TookAll}
 use Rattle.bson_store.specs.Shown.{Show}
 use Rattle.bson_store.specs.Calls.{DoesBytes}
-use Rattle.bson_store_cli.specs.Pipe.{KeepsInput, RefusesInput}
-use Rattle.bson_store_cli.proofs.Refusing.{input_refused}
+use Rattle.store_pipe.specs.Pipe.{KeepsInput, RefusesInput}
+use Rattle.store_pipe.proofs.Refusing.{input_refused}
 
 -- the collection's name
 abbrev pub name : List ℕ

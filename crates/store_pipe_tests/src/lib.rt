@@ -1,0 +1,5 @@
+//! Tests of `pipe`.
+#![tactic(auto)]
+
+#[cfg(test)]
+mod pipe;
