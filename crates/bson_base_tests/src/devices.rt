@@ -20,9 +20,9 @@ fn ends_of_slices(rt: HostRuntime) {
     let first = source.read(&mut buf);
     let none = source.read(&mut []);
     let second = source.read(&mut buf);
-    assert_eq!(rt; &buf, b"dec");
-    let end = source.read(&mut buf);
-    assert_eq!(rt; [first, none, second, end], [Ok(3), Ok(0), Ok(2), Ok(0)]);
+    let left = buf;
+    let told = (first, none, second, source.read(&mut buf));
+    assert!(rt; left == *b"dec" && told == (Ok(3), Ok(0), Ok(2), Ok(0)));
 }
 
 #[test]
@@ -48,8 +48,8 @@ fn a_failing_read(rt: HostRuntime) {
     let mut buf = [0; 3];
     let before = read_full(&mut source, &mut buf);
     let failing = read_full(&mut source, &mut buf);
-    assert_eq!(rt; (before, failing), (Ok(3), Err(DeviceFault)));
-    assert_eq!(rt; (source.at, source.failed), (4, 1));
+    let told = (before, failing, source.at, source.failed);
+    assert!(rt; told == (Ok(3), Err(DeviceFault), 4, 1));
 }
 
 #[test]
@@ -57,8 +57,8 @@ fn writes_to_memory(rt: HostRuntime) {
     let mut sink = VecSink::new(rt.alloc());
     let some = write_all(&mut sink, b"abc");
     let none = write_all(&mut sink, b"");
-    assert_eq!(rt; (some, none, sink.failed), (Ok(()), Ok(()), 0));
-    assert_eq!(rt; sink.bytes.as_slice(), b"abc".as_slice());
+    let told = (some, none, sink.failed, sink.bytes.as_slice());
+    assert!(rt; told == (Ok(()), Ok(()), 0, b"abc".as_slice()));
 }
 
 #[test]
@@ -66,11 +66,8 @@ fn slow_and_failing_writes(rt: HostRuntime) {
     let mut sink = FaultySink::new(rt.alloc(), 4);
     let before = write_all(&mut sink, b"abc");
     let failing = write_all(&mut sink, b"def");
-    assert_eq!(rt;
-        (before, failing, sink.failed),
-        (Ok(()), Err(DeviceFault), 1)
-    );
-    assert_eq!(rt; sink.bytes.as_slice(), b"abcd".as_slice());
+    let told = (before, failing, sink.failed, sink.bytes.as_slice());
+    assert!(rt; told == (Ok(()), Err(DeviceFault), 1, b"abcd".as_slice()));
 }
 
 #[test]
@@ -78,7 +75,7 @@ fn readers_of_std(rt: HostRuntime) {
     let mut source = Counted::new(BYTES);
     let mut buf = [0; 8];
     let read = read_full(&mut source, &mut buf);
-    assert_eq!(rt; (read, source.failed), (Ok(5), 0));
+    assert!(rt; (read, source.failed) == (Ok(5), 0));
 }
 
 #[test]
@@ -95,8 +92,6 @@ fn a_full_writer_of_std(rt: HostRuntime) {
     let mut full = Counted::new(&mut room[..]);
     let before = full.write(BYTES);
     let failing = full.write(BYTES);
-    assert_eq!(rt;
-        (before, failing, full.failed),
-        (Ok(3), Err(DeviceFault), 1)
-    );
+    let told = (before, failing, full.failed);
+    assert!(rt; told == (Ok(3), Err(DeviceFault), 1));
 }

@@ -12,8 +12,10 @@ fn is(rt: &impl Abort, bits: u64, want: [bool; 4]) {
         double.is_infinite(),
         double.is_negative(),
     ];
-    assert_eq!(rt; double.to_bits(), bits);
-    assert_eq!(rt; told, want, "the pattern {bits}");
+    assert!(rt;
+        double.to_bits() == bits && told == want,
+        "the pattern {bits}"
+    );
 }
 
 #[test]

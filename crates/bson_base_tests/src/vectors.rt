@@ -1,4 +1,5 @@
-//! Vectors of numbers and their bytes (the vector specification of the BSON drivers).
+//! Vectors of numbers: copies, and what is no vector (the vector specification of the BSON drivers). What bytes hold is told by lines of
+//! bson_cases.
 
 use bson_base::binary::{Error, PackedBitVector, Vector};
 use bson_base::{Binary, BinarySubtype};
@@ -6,85 +7,72 @@ use std::alloc::Global;
 use std::process::Abort;
 use std::test::Fail;
 
-/// Asserts the bytes of a vector, and that it is read from them.
-fn is(rt: &impl Abort, alloc: Global, vector: &Vector, want: &[u8]) -> Result<(), Fail> {
-    let binary = Binary::from_vector(alloc, vector)?;
-    let told = (binary.subtype, binary.bytes.as_slice());
-    assert!(rt; told == (BinarySubtype::Vector, want));
-    assert!(rt; Vector::from_binary(alloc, &binary) == Ok(vector.try_clone(alloc)?));
-    copies(rt, alloc, vector, &binary)
+/// Asserts that a copy is equal.
+fn is_same<T: PartialEq>(rt: &impl Abort, one: &T, copy: &T) {
+    assert!(rt; one == copy, "a copy that isn't equal");
 }
 
-fn copies(rt: &impl Abort, alloc: Global, vector: &Vector, binary: &Binary) -> Result<(), Fail> {
-    assert!(rt; vector.try_clone(alloc)? == *vector);
-    assert!(rt; binary.try_clone(alloc)? == *binary);
+/// Asserts that the vector of these bytes is copied.
+fn is_copied(rt: &impl Abort, alloc: Global, bytes: &[u8]) -> Result<(), Fail> {
+    let vector = Vector::from_bytes(alloc, bytes)?;
+    is_same(rt, &vector, &vector.try_clone(alloc)?);
     Ok(())
 }
 
 #[test]
-fn signed_bytes(rt: HostRuntime) -> Result<(), Fail> {
+fn vectors_are_copied(rt: HostRuntime) -> Result<(), Fail> {
     let alloc = rt.alloc();
-    let small = Vector::Int8(vec![in alloc; 0, 1, 2]?);
-    is(&rt, alloc, &small, &[0x03, 0, 0, 1, 2])?;
-    let ends = Vector::Int8(vec![in alloc; -128, -1, 127]?);
-    is(&rt, alloc, &ends, &[0x03, 0, 0x80, 0xFF, 0x7F])?;
-    let empty = Vector::Int8(vec![in alloc]?);
-    is(&rt, alloc, &empty, &[0x03, 0])?;
+    is_copied(&rt, alloc, &[0x03, 0, 0, 1, 2])?;
+    is_copied(&rt, alloc, &[0x03, 0, 0x80, 0xFF, 0x7F])?;
+    is_copied(&rt, alloc, &[0x03, 0])?;
+    is_copied(&rt, alloc, &[0x27, 0, 0, 0, 0xFE, 0x42, 0, 0, 0xE0, 0x40])?;
+    is_copied(&rt, alloc, &[0x10, 4, 238, 224])
+}
+
+/// A binary value of these bytes.
+fn binary(alloc: Global, subtype: BinarySubtype, bytes: &[u8]) -> Result<Binary, Fail> {
+    let bytes = Vec::from_slice(alloc, bytes)?;
+    Ok(Binary { subtype, bytes })
+}
+
+/// Asserts that the binary value of these bytes is copied.
+fn is_copied_as_binary(rt: &impl Abort, alloc: Global, bytes: &[u8]) -> Result<(), Fail> {
+    let one = binary(alloc, BinarySubtype::Vector, bytes)?;
+    is_same(rt, &one, &one.try_clone(alloc)?);
     Ok(())
 }
 
 #[test]
-fn floats_and_bits(rt: HostRuntime) -> Result<(), Fail> {
+fn binaries_are_copied(rt: HostRuntime) -> Result<(), Fail> {
     let alloc = rt.alloc();
-    let floats = Vector::Float32(vec![in alloc; 0x42FE_0000, 0x40E0_0000]?);
-    is(
-        &rt,
-        alloc,
-        &floats,
-        &[0x27, 0, 0, 0, 0xFE, 0x42, 0, 0, 0xE0, 0x40],
-    )?;
-    let bits = PackedBitVector::new(vec![in alloc; 238, 224]?, Some(4))?;
-    is(&rt, alloc, &Vector::PackedBit(bits), &[0x10, 4, 238, 224])?;
-    Ok(())
+    is_copied_as_binary(&rt, alloc, &[0x03, 0, 0, 1, 2])?;
+    is_copied_as_binary(&rt, alloc, &[0x03, 0, 0x80, 0xFF, 0x7F])?;
+    is_copied_as_binary(&rt, alloc, &[0x03, 0])?;
+    is_copied_as_binary(&rt, alloc, &[0x27, 0, 0, 0, 0xFE, 0x42, 0, 0, 0xE0, 0x40])?;
+    is_copied_as_binary(&rt, alloc, &[0x10, 4, 238, 224])
 }
 
-fn is_refused(rt: &impl Abort, alloc: Global, bytes: &[u8]) {
-    assert!(rt;
-        Vector::from_bytes(alloc, bytes) == Err(Error::Vector),
-        "{bytes:?}"
-    );
+/// Why these bits and this padding are no vector.
+fn refusal(alloc: Global, bits: &[u8], padding: Option<u8>) -> Option<Error> {
+    match Vec::from_slice(alloc, bits) {
+        Ok(bits) => PackedBitVector::new(bits, padding).err(),
+        Err(_) => Some(Error::Memory),
+    }
 }
 
 #[test]
-fn refused_vectors(rt: HostRuntime) {
+fn refused_paddings(rt: HostRuntime) {
     let alloc = rt.alloc();
-    is_refused(&rt, alloc, &[]);
-    is_refused(&rt, alloc, &[0x03]);
-    is_refused(&rt, alloc, &[0x03, 1, 5]);
-    is_refused(&rt, alloc, &[0x27, 1, 0, 0, 0, 0]);
-    is_refused(&rt, alloc, &[0x27, 0, 0, 0, 0]);
-    is_refused(&rt, alloc, &[0x10, 8, 1]);
-    is_refused(&rt, alloc, &[0x10, 1]);
-    is_refused(&rt, alloc, &[0x11, 0]);
-    is_refused(&rt, alloc, &[0x00, 0, 1]);
-}
-
-#[test]
-fn refused_paddings(rt: HostRuntime) -> Result<(), Fail> {
-    let alloc = rt.alloc();
-    assert!(rt; PackedBitVector::new(vec![in alloc]?, Some(1)) == Err(Error::Vector));
-    assert!(rt; PackedBitVector::new(vec![in alloc; 1]?, Some(8)) == Err(Error::Vector));
-    assert!(rt; PackedBitVector::new(vec![in alloc]?, None).is_ok());
-    Ok(())
+    let of_nothing = refusal(alloc, &[], Some(1));
+    let of_a_byte = refusal(alloc, &[1], Some(8));
+    let told = (of_nothing, of_a_byte, refusal(alloc, &[], None));
+    assert!(rt; told == (Some(Error::Vector), Some(Error::Vector), None));
 }
 
 #[test]
 fn a_generic_binary_is_no_vector(rt: HostRuntime) -> Result<(), Fail> {
-    let alloc = rt.alloc();
-    let generic = Binary {
-        subtype: BinarySubtype::Generic,
-        bytes: vec![in alloc; 0x03, 0, 1]?,
-    };
-    assert!(rt; Vector::from_binary(alloc, &generic) == Err(Error::Vector));
+    let generic = binary(rt.alloc(), BinarySubtype::Generic, &[0x03, 0, 1])?;
+    let refused = Vector::from_binary(rt.alloc(), &generic).err();
+    assert!(rt; refused == Some(Error::Vector));
     Ok(())
 }

@@ -10,6 +10,8 @@
 //! - `decimal`, `decimal_bytes`, `moment`, `object_id`, `object_id_time`, `uuid`, `base64`, with a text: what it reads as, printed
 //!   in the form that the word says (an object id also as its digits and with its type's name).
 //! - `date_text`, with milliseconds: the date text, and what is printed of the moment.
+//! - `vector`, with bytes in hexadecimal: the vector that they hold, subtype and bytes of its binary value, and what
+//!   that reads as.
 //! - `subtype`, `tag`, with a byte in hexadecimal: what it names, the byte of that, and of a subtype what `{:x}` prints.
 //! - `since`, `since_saturating`, with two moments: the milliseconds from the second to the first. `after`, with a moment and
 //!   milliseconds: the moment so much later, saturating.

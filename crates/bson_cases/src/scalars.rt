@@ -1,6 +1,7 @@
 //! Texts and bytes of the scalars.
 
 use crate::values;
+use bson_model::binary::Vector;
 use bson_model::oid::Error;
 use bson_model::{Binary, BinarySubtype, DateTime, Decimal128, ElementType, ObjectId, Uuid};
 use std::alloc::{AllocError, Global};
@@ -19,6 +20,7 @@ pub fn answer(alloc: Global, word: &str, rest: &str) -> Result<Option<String>, A
         "uuid" => uuid(alloc, rest),
         "uuid_wide" => uuid_wide(alloc, rest),
         "base64" => base64(alloc, rest),
+        "vector" => vector(alloc, rest),
         "subtype" => subtype(alloc, rest),
         "tag" => tag(alloc, rest),
         _ => return between_moments(alloc, word, rest),
@@ -120,6 +122,25 @@ fn base64(alloc: Global, text: &str) -> Result<String, AllocError> {
         }
         Err(error) => format!(in alloc; "{error:?}"),
     }
+}
+
+/// The vector that bytes hold, subtype and bytes of its binary value, and what is read of that.
+fn vector(alloc: Global, digits: &str) -> Result<String, AllocError> {
+    let Ok(bytes) = hex::decode(alloc, digits) else {
+        return String::from_str(alloc, "no bytes");
+    };
+    match Vector::from_bytes(alloc, &bytes) {
+        Ok(vector) => vector_told(alloc, &vector),
+        Err(error) => format!(in alloc; "{error:?}"),
+    }
+}
+
+/// A vector, its binary value, and what that reads as.
+fn vector_told(alloc: Global, vector: &Vector) -> Result<String, AllocError> {
+    let binary = Binary::from_vector(alloc, vector)?;
+    let digits = hex::encode(alloc, &binary.bytes[..])?;
+    let again = Vector::from_binary(alloc, &binary);
+    format!(in alloc; "{vector:?} {:?} {digits} {again:?}", binary.subtype)
 }
 
 /// The subtype of a byte, its byte, and what is printed of it in hexadecimal.

@@ -15,8 +15,8 @@ use Rattle.bson_frame.specs.Payload.{IsPayload, IsFaultless, IsTextAt, TextFault
 use Rattle.bson_bytes.proofs.One.{end_no_frame}
 use Rattle.bson_frame.proofs.Frames.{frame_is_one}
 use Rattle.bson_meaning.specs.Gate.{HoldsDocument, Leads, Nests, IsRefused, Passes, ReadsElements, ReadsPayload}
-use Rattle.bson_meaning.specs.declared.reading.GateError.{GateError}
-use Rattle.bson_meaning.specs.declared.reading.GateError.TheVariants.{EndInside, BadLength, NotTerminated, Faulty, TooDeep}
+use Rattle.bson_meaning.specs.declared.gating.GateError.{GateError}
+use Rattle.bson_meaning.specs.declared.gating.GateError.TheVariants.{EndInside, BadLength, NotTerminated, Faulty, TooDeep}
 use Rattle.bson_meaning.proofs.Progress.{Progress, progress_no_value, progress_nests, items_of_members, members_of_items}
 
 -- ---- code with scope

@@ -4,8 +4,8 @@ use Rattle.bson_base.specs.Value.{document, Members, levels}
 use Rattle.bson_bytes.specs.Spells.{Means, settle}
 use Rattle.bson_bytes.proofs.One.{one_meaning}
 use Rattle.bson_meaning.specs.Gate.{level_limit, IsCounted, IsRefused, IsFaultyOrDeep, Passes}
-use Rattle.bson_meaning.specs.declared.reading.GateError.{GateError}
-use Rattle.bson_meaning.specs.declared.reading.GateError.TheVariants as gate
+use Rattle.bson_meaning.specs.declared.gating.GateError.{GateError}
+use Rattle.bson_meaning.specs.declared.gating.GateError.TheVariants as gate
 use Rattle.bson_meaning.proofs.Heights.{settled_low}
 
 counted_end : (bytes : List ℕ) → IsCounted bytes → IsRefused bytes gate.EndInside → ⊥

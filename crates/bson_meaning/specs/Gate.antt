@@ -6,8 +6,8 @@ use Rattle.bson_base.specs.Value.{value_kind, Value, document, levels, Members, 
 use Rattle.bson_bytes.specs.Spells.{SpellsMembers, SpellsValue, IsFaulty}
 use Rattle.bson_frame.specs.Frame.{number, size_limit, Element, IsFirstFrame}
 use Rattle.bson_frame.specs.Payload.{IsEnvelope, IsFaultless, scope_in}
-use Rattle.bson_meaning.specs.declared.reading.GateError.{GateError}
-use Rattle.bson_meaning.specs.declared.reading.GateError.TheVariants.{EndInside, BadLength, NotTerminated, Faulty, TooDeep}
+use Rattle.bson_meaning.specs.declared.gating.GateError.{GateError}
+use Rattle.bson_meaning.specs.declared.gating.GateError.TheVariants.{EndInside, BadLength, NotTerminated, Faulty, TooDeep}
 
 -- how many documents, arrays and scopes may lie inside each other, the outermost document counted
 abbrev pub level_limit : ℕ

@@ -14,14 +14,14 @@ ghost use Rattle.bson_model.specs.View.{members_of, pairs_of};
 ghost use Rattle.bson_meaning.specs.Gate.{IsFaultyOrDeep, IsRefused, level_limit, Passes};
 ghost use Rattle.bson_meaning.specs.Meaning.{asc, norm, norm_members, asc_members, key, Same};
 ghost use Rattle.bson_meaning.specs.declared.key.KeyError.{KeyError as AnyKeyError};
-ghost use Rattle.bson_meaning.specs.declared.reading.GateError.{GateError as AnyGateError};
+ghost use Rattle.bson_meaning.specs.declared.gating.GateError.{GateError as AnyGateError};
 
+use crate::gating::GateError;
 pub use crate::json_laws::{
     canonical_trees_read_back, maps_are_json, normal_forms_are_written_alike, readings_are_sound,
     trees_go_by_meaning, values_are_json,
 };
 use crate::key::KeyError;
-use crate::reading::GateError;
 pub use crate::sound::{soundness, soundness_of_document};
 use bson_model::Document;
 use bson_raw::RawDocumentBuf;

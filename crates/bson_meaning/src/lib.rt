@@ -3,6 +3,7 @@
 
 mod compare;
 mod forms;
+mod gating;
 pub mod json_laws;
 mod key;
 pub mod laws;
@@ -10,7 +11,6 @@ mod lengths;
 mod levels;
 mod options;
 mod plain;
-mod reading;
 mod scalars;
 mod sorting;
 mod sound;
@@ -19,9 +19,9 @@ mod writing;
 
 pub use compare::same_meaning;
 pub use forms::{normalize, normalize_document};
+pub use gating::{GateError, gate};
 pub use key::{KeyError, meaning_key};
 pub use levels::{depth, depth_of_document};
 pub use plain::{is_plain, is_plain_document};
-pub use reading::{GateError, gate};
 pub use sorting::{sort_keys, sorted};
 pub use views::same_as_raw;

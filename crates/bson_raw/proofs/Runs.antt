@@ -7,7 +7,7 @@ use Rattle.bson_frame.specs.declared.error.Error.{Error}
 use Rattle.bson_frame.specs.Frame.{Element}
 use Rattle.bson_raw.specs.declared.element.RawElement.{RawElement}
 use Rattle.bson_raw.specs.declared.bson_ref.RawBsonRef.{RawBsonRef}
-use Rattle.bson_raw.specs.declared.walk.RawIter.{RawIter}
+use Rattle.bson_raw.specs.declared.raw_iter.RawIter.{RawIter}
 use Rattle.bson_raw.specs.View.{parts_of, left_of}
 use Rattle.bson_raw.specs.ReadValue.{ReadsElement}
 use Rattle.bson_raw.specs.Walk.{IsWalk, walk_items, IsItem, IsNext, steps_from, raw_steps, items_left}

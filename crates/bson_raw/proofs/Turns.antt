@@ -6,7 +6,7 @@ use Rattle.bson_frame.specs.declared.error.ErrorKind.{ErrorKind}
 use Rattle.bson_frame.specs.declared.error.Error.{Error}
 use Rattle.bson_frame.specs.Frame.{Element, IsFirstFrame, IsStructuralFault}
 use Rattle.bson_raw.specs.declared.element.RawElement.{RawElement}
-use Rattle.bson_raw.specs.declared.walk.RawIter.{RawIter}
+use Rattle.bson_raw.specs.declared.raw_iter.RawIter.{RawIter}
 use Rattle.bson_raw.specs.View.{parts_of, left_of}
 use Rattle.bson_raw.specs.Walk.{IsWalk, walk_items, IsItem, IsFound, steps_from, raw_steps, ends_at}
 use Rattle.bson_raw.proofs.Walks.{FramesAreOne, FaultsAreOne}

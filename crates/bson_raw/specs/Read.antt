@@ -8,8 +8,8 @@ use Rattle.bson_frame.specs.Payload.{IsPayloadFault}
 use Rattle.bson_frame.specs.View.{IsBare, IsFaultUnder}
 use Rattle.bson_raw.specs.declared.bson_ref.RawBsonRef.{RawBsonRef}
 use Rattle.bson_raw.specs.declared.element.RawElement.{RawElement}
-use Rattle.bson_raw.specs.declared.walk.RawIter.{RawIter}
-use Rattle.bson_raw.specs.declared.values.Iter.{Iter}
+use Rattle.bson_raw.specs.declared.raw_iter.RawIter.{RawIter}
+use Rattle.bson_raw.specs.declared.iter.Iter.{Iter}
 use Rattle.bson_raw.specs.declared.array_iter.RawArrayIter.{RawArrayIter}
 use Rattle.bson_raw.specs.View.{parts_of}
 use Rattle.bson_raw.specs.ReadValue.{IsValue}

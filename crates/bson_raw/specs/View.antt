@@ -6,8 +6,8 @@ use Rattle.bson_frame.specs.View.{element_of}
 use Rattle.bson_raw.specs.declared.document.RawDocument.{RawDocument}
 use Rattle.bson_raw.specs.declared.array.RawArray.{RawArray}
 use Rattle.bson_raw.specs.declared.element.RawElement.{RawElement}
-use Rattle.bson_raw.specs.declared.walk.RawIter.{RawIter}
-use Rattle.bson_raw.specs.declared.values.Iter.{Iter}
+use Rattle.bson_raw.specs.declared.raw_iter.RawIter.{RawIter}
+use Rattle.bson_raw.specs.declared.iter.Iter.{Iter}
 use Rattle.bson_raw.specs.declared.array_iter.RawArrayIter.{RawArrayIter}
 
 -- the bytes of a document, its length and its final 00 included

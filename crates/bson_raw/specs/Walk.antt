@@ -7,7 +7,7 @@ use Rattle.bson_frame.specs.declared.error.Error.{Error}
 use Rattle.bson_frame.specs.Frame.{Element, IsFirstFrame, IsStructuralFault}
 use Rattle.bson_frame.specs.View.{fault_key, IsBare}
 use Rattle.bson_raw.specs.declared.element.RawElement.{RawElement}
-use Rattle.bson_raw.specs.declared.walk.RawIter.{RawIter}
+use Rattle.bson_raw.specs.declared.raw_iter.RawIter.{RawIter}
 use Rattle.bson_raw.specs.View.{parts_of, left_of}
 
 -- bytes are these elements, and end in the document's 00 or in this structural fault

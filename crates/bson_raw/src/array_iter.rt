@@ -3,7 +3,7 @@
 ghost use Rattle.std.specs.Iterator.{at_most};
 
 use crate::bson_ref::RawBsonRef;
-use crate::walk::RawIter;
+use crate::raw_iter::RawIter;
 use bson_frame::Error;
 use std::alloc::Global;
 

@@ -10,8 +10,8 @@ use crate::append::append_to;
 use crate::bson::RawBson;
 use crate::bson_ref::RawBsonRef;
 use crate::document::RawDocument;
-use crate::values::Iter;
-use crate::walk::RawIter;
+use crate::iter::Iter;
+use crate::raw_iter::RawIter;
 use bson_frame::Error;
 use std::alloc::{AllocError, Global};
 

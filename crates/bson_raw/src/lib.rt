@@ -18,13 +18,13 @@ mod document_buf;
 mod element;
 mod from;
 mod from_owned;
+mod from_trees;
+mod iter;
 pub mod laws;
 mod owned;
+mod raw_iter;
 mod read_error;
 mod reader;
-mod trees;
-mod values;
-mod walk;
 mod write_error;
 mod writer;
 
@@ -41,9 +41,9 @@ pub use bson_ref::{
 pub use document::RawDocument;
 pub use document_buf::RawDocumentBuf;
 pub use element::RawElement;
+pub use iter::Iter;
+pub use raw_iter::RawIter;
 pub use read_error::ReadError;
 pub use reader::from_reader;
-pub use values::Iter;
-pub use walk::RawIter;
 pub use write_error::WriteError;
 pub use writer::to_writer;

@@ -49,15 +49,16 @@ fn close(connection: Connection<FileStore<File>>) {
     let _ = connection.close();
 }
 
-/// Does the command of the words over a connection, and closes it.
-fn over<I: Source, O: Sink, F: Sink>(
+/// Does the command of the words over a connection, and gives it back beside the program's status. It is over any store, as what
+/// closing one of files does would else be gone through at each of its ends.
+fn over<S: Alter + Drop, I: Source, O: Sink, F: Sink>(
     alloc: Global,
-    connection: Connection<FileStore<File>>,
+    connection: Connection<S>,
     words: &Words<'_>,
     input: &mut I,
     output: &mut O,
     faults: &mut F,
-) -> u8
+) -> (u8, Connection<S>)
     requires input { (I.feed input.old).failures < 2 ^ 64 - 1 }
     requires output { (O.tally output.old).failures < 2 ^ 64 - 1 }
     requires faults { (F.tally faults.old).failures < 2 ^ 64 - 1 }
@@ -65,13 +66,9 @@ fn over<I: Source, O: Sink, F: Sink>(
     match Store::open(alloc, connection) {
         Ok(mut store) => {
             let status = execute(alloc, &mut store, words, input, output, faults);
-            close(store.close());
-            status
+            (status, store.close())
         }
-        Err((error, connection)) => {
-            close(connection);
-            refuse(faults, error.kind)
-        }
+        Err((error, connection)) => (refuse(faults, error.kind), connection),
     }
 }
 
@@ -92,7 +89,11 @@ pub fn serve<I: Source, O: Sink, F: Sink>(
         return misuse(faults);
     };
     match Connection::open(rt, words.file) {
-        Ok(connection) => over(rt.alloc(), connection, &words, input, output, faults),
+        Ok(connection) => {
+            let (status, connection) = over(rt.alloc(), connection, &words, input, output, faults);
+            close(connection);
+            status
+        }
         Err(error) => refuse(faults, kind_of(error)),
     }
 }

@@ -2,8 +2,8 @@
 
 use crate::counting::Counting;
 use bson_store::{ErrorKind, SliceSource, Store};
-use sqlite::{Connection, MemStore};
-use std::alloc::Global;
+use sqlite::{Alter, Connection};
+use std::alloc::{AllocError, Global};
 
 /// Five documents of 14 bytes, one after the other: an `_id` each.
 const STREAM: [u8; 70] = [
@@ -15,47 +15,67 @@ const STREAM: [u8; 70] = [
 /// How long each of them is.
 const BODY: u64 = 14;
 
-/// A store that has the documents in `c`. None where memory was refused.
-fn filled(alloc: Global) -> Option<Store<MemStore>> {
-    let connection = Connection::open_in_memory(alloc).ok()?;
-    let Ok(mut store) = Store::open(alloc, connection) else {
-        return None;
-    };
-    match store.import("c", &mut SliceSource::new(&STREAM)) {
-        Ok(_) => Some(store),
-        Err(_) => None,
-    }
-}
-
-/// What an export answers, and how many bytes went out before.
-fn exported(store: &mut Store<MemStore>) -> (Option<ErrorKind>, u64) {
-    let mut writer = Counting { bytes: 0 };
-    match store.export("c", &mut writer) {
-        Ok(()) => (None, writer.bytes),
-        Err(error) => (Some(error.kind), writer.bytes),
-    }
-}
-
-/// Takes memory so often. None where it was refused.
-fn allocated(alloc: Global, times: usize) -> Option<()> {
-    for _ in 0..times {
-        let room: Vec<u8> = Vec::with_capacity(alloc, 1).ok()?;
-        drop(room);
-    }
-    Some(())
-}
+/// What is told where memory was refused before the export.
+const TOO_EARLY: &str = "refused before the export\n";
 
 /// The line that tells how far the export gets, once memory was taken so often after the store was filled.
 pub fn told(alloc: Global, times: usize) -> &'static str {
-    let Some(mut store) = filled(alloc) else {
-        return "refused before the export\n";
-    };
-    let Some(()) = allocated(alloc, times) else {
-        return "refused before the export\n";
-    };
-    match exported(&mut store) {
-        (None, _) => "all bodies\n",
-        (Some(ErrorKind::Memory), bytes) => {
+    match Connection::open_in_memory(alloc) {
+        Ok(connection) => told_over(alloc, connection, times),
+        Err(_) => TOO_EARLY,
+    }
+}
+
+/// The same, over any database: what a database in memory drops is then proved no second time.
+fn told_over<S: Alter + Drop>(
+    alloc: Global,
+    connection: Connection<S>,
+    times: usize,
+) -> &'static str {
+    match Store::open(alloc, connection) {
+        Ok(mut store) => told_of(alloc, &mut store, times),
+        Err(_) => TOO_EARLY,
+    }
+}
+
+/// The same, of an open store, which is filled first.
+fn told_of<S: Alter + Drop>(alloc: Global, store: &mut Store<S>, times: usize) -> &'static str {
+    if is_filled(store) && is_allocated(alloc, times) {
+        exported(store)
+    } else {
+        TOO_EARLY
+    }
+}
+
+/// Puts the documents into `c`. Whether memory was there for it.
+fn is_filled<S: Alter + Drop>(store: &mut Store<S>) -> bool {
+    store.import("c", &mut SliceSource::new(&STREAM)).is_ok()
+}
+
+/// Takes memory so often. Whether it was there.
+fn is_allocated(alloc: Global, times: usize) -> bool {
+    for _ in 0..times {
+        let room: Result<Vec<u8>, AllocError> = Vec::with_capacity(alloc, 1);
+        if room.is_err() {
+            return false;
+        }
+    }
+    true
+}
+
+/// The line that tells what an export answers, and how many bytes went out before.
+fn exported<S: Alter + Drop>(store: &mut Store<S>) -> &'static str {
+    let mut writer = Counting { bytes: 0 };
+    match store.export("c", &mut writer) {
+        Ok(()) => "all bodies\n",
+        Err(error) => refused(error.kind, writer.bytes),
+    }
+}
+
+/// The line that tells a refusal behind so many bytes.
+fn refused(kind: ErrorKind, bytes: u64) -> &'static str {
+    match kind {
+        ErrorKind::Memory => {
             if bytes < BODY {
                 "Memory, and no body\n"
             } else {

@@ -6,7 +6,7 @@ use Rattle.bson_base.specs.Value.{Members}
 use Rattle.bson_bytes.specs.Encode.{encode}
 use Rattle.bson_bytes.specs.Spells.{settle, Means}
 use Rattle.bson_meaning.specs.Gate.{IsRefused, Passes}
-use Rattle.bson_meaning.specs.declared.reading.GateError.{GateError}
+use Rattle.bson_meaning.specs.declared.gating.GateError.{GateError}
 use Rattle.bson_model.specs.View.{members_of, pairs_of}
 use Rattle.bson_model.specs.declared.document.Document.{Document}
 use Rattle.store_laws.specs.Reading.{kind_of_gate_error, readable, unreadable, IsRead, ReadsBytes}

@@ -9,8 +9,8 @@ use Rattle.bson_model.specs.JsonRead.{read, read_members}
 use Rattle.bson_model.specs.declared.extjson.de.Error.{Error}
 use Rattle.bson_meaning.specs.Gate.{level_limit, IsFaultyOrDeep}
 use Rattle.bson_meaning.specs.JsonTrees.{IsJson, IsJsonObject}
-use Rattle.bson_meaning.specs.declared.reading.GateError.{GateError}
-use Rattle.bson_meaning.specs.declared.reading.GateError.TheVariants as gate
+use Rattle.bson_meaning.specs.declared.gating.GateError.{GateError}
+use Rattle.bson_meaning.specs.declared.gating.GateError.TheVariants as gate
 use Rattle.store_laws.specs.Reading.{Documents, Reading, readable, unreadable, kind_of_gate_error, ReadsBytes, IsUnfit, KeepsRead, ReadsTree, value_of, read_value, ReadsEach, IsUncut, Cuts, ReadsStream, ReadsTrees, IsRead, AreRead, IsReadingKind, IsReading, IsStop, AreAllJson, MayBoth}
 use Rattle.store_laws.specs.State.{IsSoundIfAny}
 use Rattle.store_laws.specs.declared.error.ErrorKind.{ErrorKind}

@@ -10,8 +10,8 @@ use Rattle.bson_model.specs.declared.extjson.de.Error.{Error}
 use Rattle.bson_meaning.specs.Gate.{level_limit, IsCounted, IsRefused, Passes}
 use Rattle.bson_meaning.specs.JsonTrees.{IsJson}
 use Rattle.bson_meaning.specs.Meaning.{norm_members, asc_members}
-use Rattle.bson_meaning.specs.declared.reading.GateError.{GateError}
-use Rattle.bson_meaning.specs.declared.reading.GateError.TheVariants as gate
+use Rattle.bson_meaning.specs.declared.gating.GateError.{GateError}
+use Rattle.bson_meaning.specs.declared.gating.GateError.TheVariants as gate
 use Rattle.store_laws.specs.declared.error.ErrorKind.{ErrorKind}
 use Rattle.store_laws.specs.declared.error.ErrorKind.TheVariants.{NotAnObject, JsonRefused, EndInside, BadLength, NotTerminated, Faulty, TooDeep, Nul}
 

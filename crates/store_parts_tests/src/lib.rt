@@ -1,10 +1,12 @@
-//! Tests of the store's parts below its table: documents, streams, the program's words. Answers were worked out by hand from
-//! bsonspec.org 1.1 and MongoDB Extended JSON v2.
+//! Tests of the crates between raw documents and the table (bson_meaning, bson_filter, store_documents, store_streams), where a
+//! line of `parts_cases` can't tell the case: inputs of millions of bytes or a thousand levels, and readers that go slowly or fail.
 #![tactic(auto)]
 
 #[cfg(test)]
-mod documents;
+mod deep;
 #[cfg(test)]
-mod streams;
+mod long;
 #[cfg(test)]
-mod words;
+mod orders;
+#[cfg(test)]
+mod readers;

@@ -4,8 +4,8 @@ use Rattle.std.specs.Prelude.{nat_lt}
 use Rattle.bson_base.specs.Value.{Members, has_key}
 use Rattle.bson_bytes.specs.Encode.{size}
 use Rattle.bson_frame.specs.Frame.{size_limit}
-use Rattle.bson_meaning.specs.declared.reading.GateError.{GateError}
-use Rattle.bson_meaning.specs.declared.reading.GateError.TheVariants as gate
+use Rattle.bson_meaning.specs.declared.gating.GateError.{GateError}
+use Rattle.bson_meaning.specs.declared.gating.GateError.TheVariants as gate
 use Rattle.store_laws.specs.Reading.{kind_of_gate_error, readable, unreadable, ReadsBytes}
 use Rattle.store_laws.specs.State.{id_key, refusal_of}
 use Rattle.store_laws.specs.declared.error.ErrorKind.{ErrorKind}

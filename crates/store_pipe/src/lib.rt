@@ -1,6 +1,6 @@
 //! The program `bson_store` where it is given no words: one document in, kept in a new store, and out as the store exports it.
 #![tactic(auto)]
 
-mod pipe;
+mod program;
 
-pub use pipe::pipe;
+pub use program::pipe;

@@ -19,8 +19,8 @@ use Rattle.bson_frame.specs.Payload.{IsPayload, IsTextAt, text_in, IsEnvelope, I
 use Rattle.bson_frame.proofs.Decisions.{frame_or_fault}
 use Rattle.bson_frame.proofs.Payloads.{payload_by_itself}
 use Rattle.bson_meaning.specs.Gate.{HoldsDocument, IsCounted, IsRefused, Passes, ReadsElements, ReadsPayload}
-use Rattle.bson_meaning.specs.declared.reading.GateError.{GateError}
-use Rattle.bson_meaning.specs.declared.reading.GateError.TheVariants as gate
+use Rattle.bson_meaning.specs.declared.gating.GateError.{GateError}
+use Rattle.bson_meaning.specs.declared.gating.GateError.TheVariants as gate
 use Rattle.bson_meaning.proofs.Held.{scalar_read, nests_zero, held_reads, element_fault}
 use Rattle.bson_meaning.proofs.Progress.{Progress, progress_start, progress_more, progress_done, progress_no_frame}
 

@@ -1,6 +1,6 @@
 use Rattle.std.proofs.Common.{◌≡◌, ◌∙◌, List, ℕ, Option, true, false, refl, sym, ap, subst}
 use Rattle.std.specs.Str.{bytes_eq}
-use Rattle.bson_raw.specs.declared.walk.RawIter.{RawIter}
+use Rattle.bson_raw.specs.declared.raw_iter.RawIter.{RawIter}
 use Rattle.bson_raw.specs.View.{left_of}
 use Rattle.bson_raw.specs.Walk.{walk_items}
 use Rattle.bson_raw.proofs.Turns.{IsLeft, turn, turn_end, found_element, found_fault, found_nothing, passed_element}

@@ -1,0 +1,134 @@
+//! Documents as they come into a store and go out of it.
+
+use crate::{tell, told};
+use bson_model::Document;
+use bson_model::extjson::Mode;
+use serde_json::Value;
+use std::alloc::Global;
+use store_documents::{
+    Name, Unset, is_row, json_of, read_bytes, read_json, read_value, set_member, unset_member,
+    write_document,
+};
+use store_laws::ErrorKind;
+use store_words::TextError;
+
+/// The name of a collection.
+pub fn name(alloc: Global, rest: &str) -> Result<String, TextError> {
+    let json = store_words::read_json(alloc, rest)?;
+    match json.as_str() {
+        Some(text) => tell::shown(alloc, &Name::new(text).map(|name| name.as_str())),
+        None => Err(TextError::Unreadable),
+    }
+}
+
+/// A case about JSON.
+pub fn of_json(alloc: Global, word: &str, rest: &str) -> Result<String, TextError> {
+    let json = store_words::read_json(alloc, rest)?;
+    match word {
+        "value" => tell::outcome(alloc, read_value(alloc, json)),
+        "document" => document(alloc, json),
+        _ => tell::digits_of(alloc, kept(alloc, json)),
+    }
+}
+
+/// The document that JSON stands for.
+fn document(alloc: Global, json: Value) -> Result<String, TextError> {
+    match read_json(alloc, json) {
+        Ok(document) => tell::digits_of(alloc, told::written(alloc, &document)),
+        Err(kind) => tell::shown(alloc, &kind),
+    }
+}
+
+/// What the document that JSON stands for is written as.
+fn kept(alloc: Global, json: Value) -> Result<Vec<u8>, ErrorKind> {
+    let document = read_json(alloc, json)?;
+    body(alloc, &document)
+}
+
+/// What a document is written as.
+fn body(alloc: Global, document: &Document) -> Result<Vec<u8>, ErrorKind> {
+    Ok(write_document(alloc, document)?.body)
+}
+
+/// A case about the bytes of a document.
+pub fn of_bytes(alloc: Global, word: &str, rest: &str) -> Result<String, TextError> {
+    let bytes = told::bytes(alloc, rest)?;
+    match word {
+        "rewritten" => tell::digits_of(alloc, rewritten(alloc, &bytes)),
+        "row_key" => tell::digits_of(alloc, row_key(alloc, &bytes)),
+        "canonical" => json(alloc, &bytes, Mode::Canonical),
+        _ => json(alloc, &bytes, Mode::Relaxed),
+    }
+}
+
+/// What bytes are written as again.
+fn rewritten(alloc: Global, bytes: &[u8]) -> Result<Vec<u8>, ErrorKind> {
+    let document = read_bytes(alloc, bytes)?;
+    body(alloc, &document)
+}
+
+/// The key under which bytes are written.
+fn row_key(alloc: Global, bytes: &[u8]) -> Result<Vec<u8>, ErrorKind> {
+    let document = read_bytes(alloc, bytes)?;
+    Ok(write_document(alloc, &document)?.key)
+}
+
+/// A document as JSON.
+fn json(alloc: Global, bytes: &[u8], mode: Mode) -> Result<String, TextError> {
+    match json_of(alloc, bytes, mode) {
+        Ok(tree) => Ok(tree.to_string(alloc)?),
+        Err(kind) => tell::shown(alloc, &kind),
+    }
+}
+
+/// Whether a document comes out of its bytes as it went in.
+pub fn reread(alloc: Global, rest: &str) -> Result<String, TextError> {
+    let bytes = told::bytes(alloc, rest)?;
+    match rewritten(alloc, &bytes) {
+        Ok(again) => tell::shown(alloc, &(again == bytes)),
+        Err(kind) => tell::shown(alloc, &kind),
+    }
+}
+
+/// A document with a member set.
+pub fn set(alloc: Global, rest: &str) -> Result<String, TextError> {
+    let (key, rest) = told::halves(rest)?;
+    let (value, bytes) = told::halves(rest)?;
+    let bytes = told::bytes(alloc, bytes)?;
+    set_in(alloc, &bytes, key, value)
+}
+
+fn set_in(alloc: Global, bytes: &[u8], key: &str, value: &str) -> Result<String, TextError> {
+    let value = told::value(alloc, value)?;
+    tell::digits_of(alloc, set_member(alloc, bytes, key, value))
+}
+
+/// Whether a member was there, and the document without it.
+pub fn unset(alloc: Global, rest: &str) -> Result<String, TextError> {
+    let (key, bytes) = told::halves(rest)?;
+    let bytes = told::bytes(alloc, bytes)?;
+    match unset_member(alloc, &bytes, key) {
+        Ok(unset) => without(alloc, &unset),
+        Err(kind) => tell::shown(alloc, &kind),
+    }
+}
+
+fn without(alloc: Global, unset: &Unset) -> Result<String, TextError> {
+    let digits = tell::digits(alloc, &unset.body)?;
+    let was_there = unset.was_there;
+    Ok(format!(in alloc; "{was_there} {digits}")?)
+}
+
+/// Whether a store can have written a row.
+pub fn row(alloc: Global, rest: &str) -> Result<String, TextError> {
+    let (name, rest) = told::halves(rest)?;
+    let (key, body) = told::halves(rest)?;
+    let key = told::bytes(alloc, key)?;
+    row_with(alloc, name, &key, body)
+}
+
+fn row_with(alloc: Global, name: &str, key: &[u8], body: &str) -> Result<String, TextError> {
+    let body = told::bytes(alloc, body)?;
+    let is_row = is_row(alloc, name.as_bytes(), key, &body)?;
+    tell::shown(alloc, &is_row)
+}

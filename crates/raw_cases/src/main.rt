@@ -1,0 +1,89 @@
+//! Cases of bson_raw and bson_bytes whose answers are texts. Each line of standard input is a case: what to do, and with what. One line
+//! of standard output answers it. The files `stdin` and `stdout` hold the cases and their answers. Bytes are told by hexadecimal
+//! digits, and what a call answers as `{:?}` prints it, so that each number, text and byte of it is told, and each error by its name
+//! and its key.
+//!
+//! With the bytes of a document:
+//!
+//! - `walk`: how many bytes it has, whether it is empty, and each item of `iter`. `elements`: key and kind of each item of
+//!   `iter_elements`.
+//! - `document`: its tree. `owned`: what comes back of its tree as an owned raw value. `written`: the bytes of its tree. `buffer`: what
+//!   `to_document` of a buffer answers, and `to_bson` of the same buffer as an owned value.
+//! - `value`, `copy`, `tree`, `tree_of_value`: what its first element answers to `value`, `to_raw_bson`, `to_bson`, and what `to_bson`
+//!   of its value answers. `payload`: its tree, and what `write_value` of bson_bytes answers and has written for that.
+//! - `items`: of the array under the key a its bytes, whether it is empty, and each item of its `iter`. `array`: its tree.
+//!   `array_copy`: the bytes of its copy.
+//!
+//! With a word, a key and the bytes of a document:
+//!
+//! - `get KIND KEY`: what the getter of that kind answers under the key, `get any` the value of any kind. `get reason KEY`: the text
+//!   of why no boolean is there. `get copied_binary KEY`: what `to_binary` makes of the binary there.
+//! - `item KIND PLACE`: what the getter answers at a place of the array under the key a.
+//!
+//! With bytes:
+//!
+//! - `read`: what `from_reader` answers, and how many bytes were read. `read_slowly CALLS`: the same of a reader that gives one byte a
+//!   call and fails once it has given as many, and how many calls failed.
+//!
+//! With a value as Extended JSON:
+//!
+//! - `raw`: the owned raw value. `encoded`: the bytes of a document. `send`: what `to_writer` answers, and the bytes that went out.
+//!   `send_slowly ROOM`: the same of a writer that takes as many bytes and then fails.
+//! - `pairs`, `values`: the buffer made at once of the members of an object, or of the items of an array, and what it yields.
+//! - `append BYTES`, `push BYTES`: the bytes that a buffer has at the end, and what each `append` of a member answers, or each `push` of
+//!   an item; after `append` the elements, too. A document begins with those bytes, an array as a copy of the one under the key a
+//!   of them, and either as a new one where they are `new`.
+#![tactic(auto)]
+
+mod getters;
+mod streams;
+mod trees;
+mod views;
+
+use std::alloc::{AllocError, Global};
+use std::{fmt, io};
+
+/// What a call answered.
+fn told<T: fmt::Debug + Drop>(alloc: Global, value: T) -> Result<String, AllocError> {
+    format!(in alloc; "{value:?}")
+}
+
+/// The text of a value.
+fn shown<T: fmt::Display + Drop>(alloc: Global, value: T) -> Result<String, AllocError> {
+    format!(in alloc; "{value}")
+}
+
+/// Puts what a call answered at the end of a line.
+fn put<T: fmt::Debug + Drop>(alloc: Global, line: &mut String, value: T) -> Result<(), AllocError> {
+    let text = told(alloc, value)?;
+    line.push_str("; ")?;
+    line.push_str(text.as_str())
+}
+
+/// The bytes of hexadecimal digits, none where they aren't such.
+fn bytes_of(alloc: Global, digits: &str) -> Vec<u8> {
+    match hex::decode(alloc, digits) {
+        Ok(bytes) => bytes,
+        Err(_) => Vec::new(alloc),
+    }
+}
+
+/// The answer to a case.
+fn answer(alloc: Global, line: &str) -> Result<String, AllocError> {
+    let (word, rest) = line.split_once(' ').unwrap_or((line, ""));
+    match word {
+        "get" | "item" => getters::answer(alloc, word, rest),
+        "read" | "read_slowly" => streams::answer(alloc, word, rest),
+        "raw" | "encoded" | "send" | "send_slowly" | "pairs" | "values" | "append" | "push" => {
+            trees::answer(alloc, word, rest)
+        }
+        _ => views::answer(alloc, word, &bytes_of(alloc, rest)),
+    }
+}
+
+fn main(rt: HostRuntime) -> io::Result<()> {
+    for line in rt.lines(rt.alloc()) {
+        rt.println(answer(rt.alloc(), line?.as_str())?)?;
+    }
+    Ok(())
+}

@@ -1,0 +1,45 @@
+//! Bytes as a line tells them, and as an answer shows them.
+
+use std::alloc::{AllocError, Global};
+
+/// The bytes that a text tells. None where it tells none, or where memory is wanted.
+pub fn told_by(alloc: Global, text: &str) -> Option<Vec<u8>> {
+    if let Some(lines) = text.strip_prefix("lines:") {
+        return bytes_of_lines(alloc, lines).ok();
+    }
+    let mut bytes = Vec::new(alloc);
+    for part in text.split('+') {
+        put_part(alloc, &mut bytes, part)?;
+    }
+    Some(bytes)
+}
+
+/// The text, with a line feed in the place of each bar.
+fn bytes_of_lines(alloc: Global, text: &str) -> Result<Vec<u8>, AllocError> {
+    let lines = text.replace(alloc, '|', "\n")?;
+    Vec::from_slice(alloc, lines.as_bytes())
+}
+
+/// Puts bytes behind the others: those of hexadecimal digits, as often as stands before a star.
+fn put_part(alloc: Global, bytes: &mut Vec<u8>, part: &str) -> Option<()> {
+    let (times, digits) = part.split_once('*').unwrap_or(("1", part));
+    let times = times.parse::<u32>().ok()?;
+    let again = hex::decode(alloc, digits).ok()?;
+    put_again(bytes, &again, times).ok()
+}
+
+/// Puts the same bytes behind the others, so often.
+fn put_again(bytes: &mut Vec<u8>, again: &[u8], times: u32) -> Result<(), AllocError> {
+    for _ in 0..times {
+        bytes.extend_from_slice(again)?;
+    }
+    Ok(())
+}
+
+/// The text of printed bytes, with `\n` in the place of each line feed.
+pub fn shown(alloc: Global, printed: &[u8]) -> Result<String, AllocError> {
+    match str::from_utf8(printed) {
+        Ok(text) => text.replace(alloc, '\n', "\\n"),
+        Err(_) => String::from_str(alloc, "no text"),
+    }
+}

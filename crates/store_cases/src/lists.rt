@@ -1,0 +1,63 @@
+//! Lists of commands, done by the store's `run`.
+
+use crate::commands::command_of;
+use crate::replies::tell;
+use bson_store::{Command, Reply, Store, StoreError, run};
+use sqlite::MemStore;
+use std::alloc::{AllocError, Global};
+
+/// The commands of a line. None where one of them is none, or where memory is wanted.
+fn commands_of(alloc: Global, line: &str) -> Option<Vec<Command>> {
+    let mut commands = Vec::new(alloc);
+    for text in line.split(';') {
+        commands.push(command_of(alloc, text)?).ok()?;
+    }
+    Some(commands)
+}
+
+/// Tells replies, with `; ` between them.
+fn tell_all(alloc: Global, replies: &[Reply]) -> Result<String, AllocError> {
+    let mut told = String::new(alloc);
+    for reply in replies {
+        if !told.is_empty() {
+            told.push_str("; ")?;
+        }
+        tell(alloc, reply, &mut told)?;
+    }
+    Ok(told)
+}
+
+/// The replies to the commands of a line.
+pub fn answer(
+    alloc: Global,
+    store: &mut Store<MemStore>,
+    line: &str,
+) -> Result<String, AllocError> {
+    let Some(commands) = commands_of(alloc, line) else {
+        return String::from_str(alloc, "no commands");
+    };
+    let replies = run(store, commands)?;
+    tell_all(alloc, replies.as_slice())
+}
+
+/// Loads the dump of a collection into another.
+fn move_all(store: &mut Store<MemStore>, from: &str, to: &str) -> Result<u64, StoreError> {
+    let trees = store.dump_json(from)?;
+    store.load_json(to, trees)
+}
+
+/// The reply to a dump of the first collection that is loaded into the second.
+pub fn moved(
+    alloc: Global,
+    store: &mut Store<MemStore>,
+    names: &str,
+) -> Result<String, AllocError> {
+    let (from, to) = names.split_once(' ').unwrap_or((names, ""));
+    let reply = match move_all(store, from, to) {
+        Ok(count) => Reply::Count(count),
+        Err(error) => Reply::Refused(error),
+    };
+    let mut told = String::new(alloc);
+    tell(alloc, &reply, &mut told)?;
+    Ok(told)
+}

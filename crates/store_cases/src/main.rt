@@ -1,0 +1,39 @@
+//! Cases of bson_store, store_pipe and store_program. The files `stdin` and `stdout` hold the cases and their answers: each line of standard
+//! input is answered by one line of standard output, but for a block whose store isn't opened, which ends there.
+//!
+//! A line that begins with `# ` is a title, and begins a block of lines over a new database in memory. A block has
+//!
+//! - `sql STATEMENT`, before all others: a statement of SQL that the database is given. Answered by `done` or `refused`.
+//! - `open`: opens the store of the block's database; one that is open is closed before. Answered by `open`, or by the refusal.
+//! - A line of the program's words with bars between them, as `insert|c|{"_id":1}`, done by `execute`. The answer is the status, what was
+//!   printed and what was told; `\n` stands for a line feed, and written documents are hexadecimal digits.
+//! - `pipe`: the program without words, over a store of its own. The answer is as for words; `the input` stands for the bytes that
+//!   came in, and of other output there are the hexadecimal digits.
+//! - `run` and commands with `;` between them, done by `run`. The answer has their replies. A command is a word and its parts with
+//!   bars between them, as `insert_raw|c|0500000000`; `\0` in a name stands for a 00.
+//! - `move FROM TO`: loads what `dump_json` gives of a collection into another.
+//!
+//! Before the program's words, and before `pipe`, may stand `input=BYTES`; `calls=N`, `room=N` and `faults_room=N`, by which the input fails after so many
+//! calls, and the output or the faults after so many bytes: the answer then ends with how often the input, the output and the faults failed.
+//!
+//! BYTES are hexadecimal digits, as often as a number and a star before them say, with `+` between what stands one after the other; or
+//! `lines:A|B`, the text of lines. The longest of these cases take a second or two as they are built for the gate, and minutes under
+//! `rt try`.
+#![tactic(auto)]
+
+mod blocks;
+mod bytes;
+mod commands;
+mod lists;
+mod replies;
+mod words;
+
+use std::io;
+
+fn main(rt: HostRuntime) -> io::Result<()> {
+    let cases = io::read_to_string(rt.alloc(), rt.stdin())?;
+    for block in cases.split("# ").skip(1) {
+        rt.print(blocks::answer(rt.alloc(), block)?)?;
+    }
+    Ok(())
+}

@@ -1,5 +1,0 @@
-//! Tests of `pipe`.
-#![tactic(auto)]
-
-#[cfg(test)]
-mod pipe;
