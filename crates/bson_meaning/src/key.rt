@@ -48,9 +48,6 @@ pub fn meaning_key(alloc: Global, document: &Document) -> Result<Vec<u8>, KeyErr
     ensures fits { OnOk result (length (key_of (members_of (pairs_of document.now))) ≤ length_limit) }
     ensures plain { OnOk result (IsPlain (tree (members_of (pairs_of document.now)))) }
 
-    // So is every document at hand; told here, as the bytes are counted anyway.
-    ensures sound { IsSound (tree (members_of (pairs_of document.now))) }
-
     // Each refusal comes exactly where it is due, and a 00 before the length; want of memory comes after both.
     ensures not_plain { (result ≡ Err KeyError.NotPlain) ↔ (IsPlain (tree (members_of (pairs_of document.now))) → ⊥) }
     ensures too_long { (result ≡ Err KeyError.TooLong)
@@ -60,11 +57,10 @@ pub fn meaning_key(alloc: Global, document: &Document) -> Result<Vec<u8>, KeyErr
     ensures tells { (e : Members) → IsPlain (tree e) → IsSound (tree e) → length (key_of e) ≤ length_limit
         → OnOk result ((key_of (members_of (pairs_of document.now)) ≡ key_of e) ↔ Same (tree (members_of (pairs_of document.now))) (tree e)) }
 {
-    let too_long = is_too_long(document);
     if !has_plain_members(document) {
         return Err(KeyError::NotPlain);
     }
-    if too_long {
+    if is_too_long(document) {
         return Err(KeyError::TooLong);
     }
     written(alloc, document)

@@ -9,6 +9,7 @@ ghost use Rattle.bson_model.specs.View.{view, members_of, pairs_of};
 ghost use Rattle.store_laws.specs.Table.{only_id};
 ghost use Rattle.store_documents.specs.Bodies.{IsKeyOf};
 
+use bson_meaning::laws::soundness;
 use bson_meaning::{KeyError, meaning_key};
 use bson_model::{Bson, Document};
 use std::alloc::{AllocError, Global};
@@ -33,10 +34,11 @@ fn id_alone(alloc: Global, id: &Bson) -> Result<Document, AllocError>
 /// bytes; no kept document has such an id. `Memory` where a growth was refused.
 pub fn key_of_id(alloc: Global, id: &Bson) -> Result<Vec<u8>, KeyError>
     ensures ok { IfOk result (λ k. IsKeyOf k.items (view id.now)) }
-    ensures sound { (result ≡ Err KeyErrors.Memory → ⊥) → IsSound (view id.now) }
+    ensures sound { IsSound (view id.now) }
     ensures not_plain { result ≡ Err KeyErrors.NotPlain → IsPlain (view id.now) → ⊥ }
     ensures too_long { result ≡ Err KeyErrors.TooLong → length_limit < length (key (only_id (view id.now))) }
 {
+    soundness(id);
     let document = id_alone(alloc, id)?;
     meaning_key(alloc, &document)
 }

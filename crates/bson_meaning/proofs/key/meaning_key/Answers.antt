@@ -8,25 +8,25 @@ use Rattle.bson_meaning.proofs.key.meaning_key.Goals as goal
 pub returns-clause-fits : goal.returns-clause-fits
 returns-clause-fits c = on_ok_weaker c.written.result (key_fits (members_of (pairs_of c.args.document.now)) _ refl) c.written.ensures.fits
 
-pub returns-then-too_long-clause-too_long : goal.returns-then-too_long-clause-too_long
-returns-then-too_long-clause-too_long c =
+pub returns-then-is_too_long-clause-too_long : goal.returns-then-is_too_long-clause-too_long
+returns-then-is_too_long-clause-too_long c =
     let d = members_of (pairs_of c.args.document.now) in
     let plain = c.has_plain_members.ensures.0 c.if-not-has_plain_members.false in
-    let long = key_exceeds d c.is_too_long-too_long.ensures.sound (c.is_too_long-too_long.ensures.long.0 c.if-too_long.true) in
+    let long = key_exceeds d c.is_too_long.ensures.sound (c.is_too_long.ensures.long.0 c.if-is_too_long.true) in
     (λ _. (plain, long), λ _. refl)
 
 pub returns-clause-too_long : goal.returns-clause-too_long
 returns-clause-too_long c =
     let d = members_of (pairs_of c.args.document.now) in
-    let sound = c.is_too_long-too_long.ensures.sound in
+    let sound = c.is_too_long.ensures.sound in
     let plain = c.has_plain_members.ensures.0 c.if-not-has_plain_members.false in (
       λ e. (plain, key_long d _ refl plain sound (c.written.ensures.too_long e)),
-      λ h. absurd (untrue c.is_too_long-too_long.result c.if-too_long.false (c.is_too_long-too_long.ensures.long.1 (key_within d sound h.1))),
+      λ h. absurd (untrue c.is_too_long.result c.if-is_too_long.false (c.is_too_long.ensures.long.1 (key_within d sound h.1))),
     )
 
 pub returns-clause-tells : goal.returns-clause-tells
 returns-clause-tells c = λ e p t n.
-    let sound = c.is_too_long-too_long.ensures.sound in
+    let sound = c.is_too_long.ensures.sound in
     let d = members_of (pairs_of c.args.document.now) in
     let plain = c.has_plain_members.ensures.0 c.if-not-has_plain_members.false in
     on_ok_weaker c.written.result (λ fits. key_law d e plain sound p t (key_fits d _ refl fits) n) c.written.ensures.fits

@@ -10,11 +10,11 @@ use Rattle.bson_store.proofs.store.Store.row_of.Goals as goal
 
 pub returns-in-Err-NotPlain : goal.returns-in-Err-NotPlain
 returns-in-Err-NotPlain g c =
-    rests (held g.S.Store c.args.self.now) (Looks (name_bytes c.args.name) (view c.args.id.now) (Ok None)) (λ docs. unplain_looks docs (name_bytes c.args.name) (view c.args.id.now) (c.key_of_id.ensures.sound (λ e. cc)) (c.in-Err-NotPlain.ensures.not_plain (ap Err c.in-Err-NotPlain.field-0-is)))
+    rests (held g.S.Store c.args.self.now) (Looks (name_bytes c.args.name) (view c.args.id.now) (Ok None)) (λ docs. unplain_looks docs (name_bytes c.args.name) (view c.args.id.now) c.key_of_id.ensures.sound (c.in-Err-NotPlain.ensures.not_plain (ap Err c.in-Err-NotPlain.field-0-is)))
 
 pub returns-in-Err-TooLong : goal.returns-in-Err-TooLong
 returns-in-Err-TooLong g c =
-    rests (held g.S.Store c.args.self.now) (Looks (name_bytes c.args.name) (view c.args.id.now) (Ok None)) (λ docs. long_looks docs (name_bytes c.args.name) (view c.args.id.now) (c.key_of_id.ensures.sound (λ e. cc)) (c.in-Err-TooLong.ensures.too_long (ap Err c.in-Err-TooLong.field-0-is)))
+    rests (held g.S.Store c.args.self.now) (Looks (name_bytes c.args.name) (view c.args.id.now) (Ok None)) (λ docs. long_looks docs (name_bytes c.args.name) (view c.args.id.now) c.key_of_id.ensures.sound (c.in-Err-TooLong.ensures.too_long (ap Err c.in-Err-TooLong.field-0-is)))
 
 pub returns : goal.returns
 returns g c =
