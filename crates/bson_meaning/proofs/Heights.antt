@@ -1,5 +1,5 @@
 -- Settling a tree adds no levels.
-use Rattle.std.proofs.Common.{◌≡◌, ℕ, suc, max, ◌≤◌, List, Bool, true, false, cond, Option, Some, None, unwrap_or, bytes_eq, refl, arith}
+use Rattle.std.proofs.Common.{ℕ, max, ◌≤◌, List, Bool, true, false, cond, Some, unwrap_or, bytes_eq, arith}
 use Rattle.bson_base.specs.Value.{Value, scalar, array, document, scoped_code, Items, no_items, item, Members, no_members, member, look_up, without, levels, items_levels, members_levels}
 use Rattle.bson_bytes.specs.Spells.{settle_value, settle_items, settle}
 

@@ -11,7 +11,7 @@ use Rattle.bson_bytes.specs.Spells.{SpellsValue, SpellsMembers}
 use Rattle.bson_frame.specs.declared.error.ErrorKind.{ErrorKind}
 use Rattle.bson_frame.specs.declared.error.ErrorKind.TheVariants.{MalformedValue, Utf8EncodingError, OutOfMemory}
 use Rattle.bson_frame.specs.Frame.{number, Element, IsFirstFrame}
-use Rattle.bson_frame.specs.Payload.{IsPayload, IsFaultless, IsTextAt, TextFault, IsEnvelope, text_in, code_in, scope_in}
+use Rattle.bson_frame.specs.Payload.{IsPayload, IsFaultless, IsTextAt, TextFault, text_in, code_in, scope_in}
 use Rattle.bson_bytes.proofs.One.{end_no_frame}
 use Rattle.bson_frame.proofs.Frames.{frame_is_one}
 use Rattle.bson_meaning.specs.Gate.{HoldsDocument, Leads, Nests, IsRefused, Passes, ReadsElements, ReadsPayload}

@@ -1,5 +1,5 @@
 -- Pairs that were sorted by their keys are the members of the document in order.
-use Rattle.std.proofs.Common.{◌≡◌, ℕ, zero, suc, ◌+◌, ◌<◌, ◌≤◌, List, [], ◌∷◌, map, length, get_or, Bool, true, false, cond, Option, Some, None, bytes_eq, String, Global, string_bytes, refl, ap, ◌∙◌, sym, subst, arith}
+use Rattle.std.proofs.Common.{◌≡◌, ℕ, zero, suc, ◌+◌, ◌≤◌, List, [], ◌∷◌, map, get_or, Bool, true, false, cond, Option, Some, None, bytes_eq, String, Global, string_bytes, refl, ap, ◌∙◌, sym, subst, arith}
 use Rattle.std.specs.Cmp.Lexicographic.{slice_cmp}
 use Rattle.std.specs.List.{All, IsDistinct, sum_by}
 use Rattle.std.specs.List.Sorted.{IsPermutation, IsSortedByKey}
@@ -10,7 +10,7 @@ use Rattle.std.specs.declared.cmp.Ordering.{Ordering}
 use Rattle.std.specs.declared.cmp.Ordering.TheVariants.{Less, Equal, Greater}
 use Rattle.std.proofs.lemmas.List.Sorted.{IsPermutation-map, IsPermutation-sym, All-permutation, sum_by-IsPermutation}
 use Rattle.std.proofs.lemmas.List.Sums.{sum_by-cons}
-use Rattle.bson_base.specs.Value.{Value, look_up}
+use Rattle.bson_base.specs.Value.{Value}
 use Rattle.bson_model.specs.Keyed.{Key, get}
 use Rattle.bson_model.specs.Rest.{owned_member}
 use Rattle.bson_model.specs.View.{members_of}

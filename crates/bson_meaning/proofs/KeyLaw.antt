@@ -6,8 +6,8 @@ use Rattle.std.specs.declared.cmp.Ordering.TheVariants.{Less, Equal, Greater}
 use Rattle.std.specs.Ordering.{nat_cmp, match_ordering}
 use Rattle.std.specs.Cmp.Lexicographic.{slice_cmp}
 use Rattle.bson_base.specs.Kinds.{HasNo00, IsPlainScalar, IsCleanScalar, IsRangedScalar, IsSound, IsPlain, IsClean}
-use Rattle.bson_base.specs.Value.{Scalar, Value, scalar, array, document, scoped_code, Items, no_items, item, Members, no_members, member, look_up, EachPart, EachMember, HasDistinctKeys, ItemsHaveDistinctKeys, MembersHaveDistinctKeys}
-use Rattle.bson_bytes.specs.Encode.{members_size, encode, size}
+use Rattle.bson_base.specs.Value.{Scalar, Value, scalar, array, document, scoped_code, Items, no_items, item, Members, no_members, member, look_up, EachMember, HasDistinctKeys, ItemsHaveDistinctKeys, MembersHaveDistinctKeys}
+use Rattle.bson_bytes.specs.Encode.{encode, size}
 use Rattle.bson_bytes.specs.Writing.{CanBeWritten}
 use Rattle.bson_bytes.proofs.Lengths.{encode_length}
 use Rattle.bson_bytes.proofs.Told.{bytes_tell}

@@ -1,8 +1,6 @@
 -- How far the test of elements has come.
-use Rattle.std.proofs.Common.{◌≡◌, ℕ, zero, suc, ◌+◌, ◌≤◌, List, [], ◌∷◌, ◌++◌, drop, refl, ap, sym, ◌∙◌, subst, arith, add-one}
-use Rattle.bson_base.specs.declared.spec.ElementType.{ElementType}
-use Rattle.bson_base.specs.declared.spec.ElementType.TheVariants as kinds
-use Rattle.bson_base.specs.Value.{Value, scalar, array, document, scoped_code, Items, no_items, item, Members, no_members, member, value_kind, levels, items_levels, members_levels}
+use Rattle.std.proofs.Common.{◌≡◌, ℕ, ◌+◌, ◌≤◌, List, [], ◌∷◌, ◌++◌, drop, refl, ap, sym, ◌∙◌, subst, arith, add-one}
+use Rattle.bson_base.specs.Value.{Value, Items, no_items, item, Members, no_members, member, value_kind, levels, items_levels, members_levels}
 use Rattle.bson_bytes.specs.Spells.{SpellsValue, SpellsItems, SpellsMembers}
 use Rattle.bson_bytes.proofs.One.{end_no_frame}
 use Rattle.bson_frame.specs.Frame.{Element, IsFirstFrame}

@@ -1,5 +1,5 @@
 -- The normal form of a value, its keys in order, and when two values mean the same.
-use Rattle.std.specs.Prelude.{◌≡◌, ℕ, ◌^◌, List, if◌then◌else◌, IsSomeAnd}
+use Rattle.std.specs.Prelude.{◌≡◌, ℕ, List, if◌then◌else◌, IsSomeAnd}
 use Rattle.std.specs.Ordering.{nat_cmp, match_ordering}
 use Rattle.std.specs.Cmp.Lexicographic.{slice_cmp}
 use Rattle.bson_base.specs.Decimal.{number_of, sixteen_bytes, pack, unpack}

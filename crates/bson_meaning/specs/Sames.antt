@@ -1,6 +1,6 @@
 -- What the parts of the comparison tell.
-use Rattle.std.specs.Prelude.{◌≡◌, List, ℕ, true}
-use Rattle.bson_base.specs.Value.{Scalar, double, binary, regex, decimal, Value, scalar, array, document, scoped_code, Members, no_members, member, has_key}
+use Rattle.std.specs.Prelude.{◌≡◌, true}
+use Rattle.bson_base.specs.Value.{Scalar, double, binary, regex, decimal, Value, scalar, Members, no_members, member, has_key}
 
 -- each key of the first is in the second
 abbrev pub HasKeysOf : Members → Members → Type 0

@@ -2,18 +2,19 @@
 
 ghost use Rattle.std.specs.Prelude.{◌≡◌, ◌≢◌, ◌↔◌, ◌<◌, ◌≤◌, Err, length, IfOk, IsTrue, OnOk};
 ghost use Rattle.bson_base.specs.Kinds.{IsPlain, IsSound};
-ghost use Rattle.bson_base.specs.Value.{document as tree, Members};
+ghost use Rattle.bson_base.specs.Value.{document as tree, member, no_members, Members};
 ghost use Rattle.bson_bytes.specs.Encode.{size};
 ghost use Rattle.bson_bytes.specs.Writing.{CanBeWritten};
 ghost use Rattle.bson_frame.specs.Frame.{length_limit};
-ghost use Rattle.bson_model.specs.View.{pairs_of, members_of};
-ghost use Rattle.bson_meaning.specs.Meaning.{key as key_of, norm_members, asc_members, Same};
+ghost use Rattle.bson_frame.specs.declared.error.ErrorKind.TheVariants.{OutOfMemory};
+ghost use Rattle.bson_model.specs.View.{view, pairs_of, members_of};
+ghost use Rattle.bson_meaning.specs.Meaning.{key as key_of, asc, asc_members, norm, norm_members, Same};
 
-use crate::lengths::normal_length;
-use crate::plain::has_plain_members;
-use crate::writing::encode_in_order;
-use bson_frame::{ErrorKind, LENGTH_LIMIT};
-use bson_model::Document;
+use crate::lengths::{normal_length, normal_length_of_element};
+use crate::plain::{has_plain_members, is_plain_element};
+use crate::writing::{encode_element_in_order, encode_in_order};
+use bson_frame::{Error as WriteError, ErrorKind, LENGTH_LIMIT};
+use bson_model::{Bson, Document};
 use std::alloc::{AllocError, Global};
 use thiserror::Error;
 
@@ -66,12 +67,47 @@ pub fn meaning_key(alloc: Global, document: &Document) -> Result<Vec<u8>, KeyErr
     written(alloc, document)
 }
 
+/// The key of the document that has this element alone: the bytes that `meaning_key` answers for it, without that document.
+/// Refused as `meaning_key` is. Whatever is answered, the value was counted first, which tells that it is sound.
+pub fn meaning_key_of_element(alloc: Global, name: &str, value: &Bson) -> Result<Vec<u8>, KeyError>
+    ensures bytes { IfOk result (λ k. k.items ≡ key_of (member name.now (view value.now) no_members)) }
+    ensures fits { OnOk result (length (key_of (member name.now (view value.now) no_members)) ≤ length_limit) }
+    ensures plain { OnOk result (IsPlain (tree (member name.now (view value.now) no_members))) }
+    ensures sound { IsSound (view value.now) }
+
+    // Each refusal comes exactly where it is due, and a 00 before the length; want of memory comes after both.
+    ensures not_plain { (result ≡ Err KeyError.NotPlain) ↔ (IsPlain (tree (member name.now (view value.now) no_members)) → ⊥) }
+    ensures too_long { (result ≡ Err KeyError.TooLong)
+        ↔ IsPlain (tree (member name.now (view value.now) no_members)) × (length_limit < length (key_of (member name.now (view value.now) no_members))) }
+
+    // What keys are for, for every other document.
+    ensures tells { (e : Members) → IsPlain (tree e) → IsSound (tree e) → length (key_of e) ≤ length_limit
+        → OnOk result ((key_of (member name.now (view value.now) no_members) ≡ key_of e) ↔ Same (tree (member name.now (view value.now) no_members)) (tree e)) }
+{
+    let too_long = is_element_too_long(name, value);
+    if !is_plain_element(name, value) {
+        return Err(KeyError::NotPlain);
+    }
+    if too_long {
+        return Err(KeyError::TooLong);
+    }
+    written_element(alloc, name, value)
+}
+
 /// Whether the key would be over 2147483647 bytes. What counts them tells that the document is sound.
 fn is_too_long(document: &Document) -> bool
     ensures long { IsTrue result ↔ (length_limit < size (norm_members (members_of (pairs_of document.now)))) }
     ensures sound { IsSound (tree (members_of (pairs_of document.now))) }
 {
     normal_length(document) > LENGTH_LIMIT
+}
+
+/// The same of a document that has this element alone.
+fn is_element_too_long(name: &str, value: &Bson) -> bool
+    ensures long { IsTrue result ↔ (length_limit < size (norm_members (member name.now (view value.now) no_members))) }
+    ensures sound { IsSound (tree (member name.now (view value.now) no_members)) }
+{
+    normal_length_of_element(name, value) > LENGTH_LIMIT
 }
 
 /// The bytes of the normal form with its keys in order, of a document without a 00 in a key, a pattern or options.
@@ -83,9 +119,30 @@ fn written(alloc: Global, document: &Document) -> Result<Vec<u8>, KeyError>
 {
     match encode_in_order(alloc, document) {
         Ok(bytes) => Ok(bytes),
-        Err(error) => match error.kind {
-            ErrorKind::OutOfMemory => Err(KeyError::Memory),
-            _ => Err(KeyError::TooLong),
-        },
+        Err(error) => Err(unwritten(error)),
+    }
+}
+
+/// The same of a document that has this element alone.
+fn written_element(alloc: Global, name: &str, value: &Bson) -> Result<Vec<u8>, KeyError>
+    ensures bytes { IfOk result (λ k. k.items ≡ key_of (member name.now (view value.now) no_members)) }
+    ensures fits { OnOk result (CanBeWritten (tree (member name.now (asc (norm (view value.now))) no_members))) }
+    ensures never_not_plain { result ≢ Err KeyError.NotPlain }
+    ensures too_long { result ≡ Err KeyError.TooLong → CanBeWritten (tree (member name.now (asc (norm (view value.now))) no_members)) → ⊥ }
+{
+    match encode_element_in_order(alloc, name, value) {
+        Ok(bytes) => Ok(bytes),
+        Err(error) => Err(unwritten(error)),
+    }
+}
+
+/// Why the bytes of a normal form without a 00 aren't written.
+fn unwritten(error: WriteError) -> KeyError
+    ensures never_not_plain { result ≢ KeyError.NotPlain }
+    ensures too_long { (result ≡ KeyError.TooLong) ↔ (error.kind ≢ OutOfMemory) }
+{
+    match error.kind {
+        ErrorKind::OutOfMemory => KeyError::Memory,
+        _ => KeyError::TooLong,
     }
 }

@@ -2,7 +2,7 @@
 
 ghost use Rattle.std.specs.Prelude.{◌≡◌, ◌^◌, ◌-◌, decimal, length, map, min, string_bytes, IsUtf8};
 ghost use Rattle.bson_base.specs.Kinds.{IsRangedScalar, IsSound};
-ghost use Rattle.bson_base.specs.Value.{binary as with_subtype, document as tree, regex as expression, EachItem, EachMember, EachPart, HasDistinctKeys, ItemsHaveDistinctKeys, MembersHaveDistinctKeys};
+ghost use Rattle.bson_base.specs.Value.{binary as with_subtype, document as tree, member, no_members, regex as expression, EachItem, EachMember, EachPart, HasDistinctKeys, ItemsHaveDistinctKeys, MembersHaveDistinctKeys};
 ghost use Rattle.bson_bytes.specs.Encode.{items_size, members_size, scalar_size, size, value_size};
 ghost use Rattle.bson_model.specs.View.{view, pairs_of, items_of, members_of};
 ghost use Rattle.bson_meaning.specs.Meaning.{norm, norm_items, norm_members, normal_scalar};
@@ -22,6 +22,18 @@ pub(crate) fn normal_length(document: &Document) -> usize
     ensures sound { IsSound (tree (members_of (pairs_of document.now))) }
 {
     length_of_members(document).saturating_add(5)
+}
+
+/// How many bytes the normal form of the document that has this element alone is written as. Says of the value what
+/// `normal_length` says of a document.
+pub(crate) fn normal_length_of_element(name: &str, value: &Bson) -> usize
+    ensures length { result ≡ min (size (norm_members (member name.now (view value.now) no_members))) (2 ^ 64 - 1) }
+    ensures sound { IsSound (tree (member name.now (view value.now) no_members)) }
+{
+    text(name);
+    length_of_value(value)
+        .saturating_add(name.len())
+        .saturating_add(7)
 }
 
 #[cycle(lengths)]

@@ -2,7 +2,7 @@
 
 ghost use Rattle.std.specs.Prelude.{◌↔◌, map, IsTrue};
 ghost use Rattle.bson_base.specs.Kinds.{HasNo00, IsPlain, IsPlainScalar};
-ghost use Rattle.bson_base.specs.Value.{document as tree, EachItem, EachMember};
+ghost use Rattle.bson_base.specs.Value.{document as tree, member, no_members, EachItem, EachMember};
 ghost use Rattle.bson_model.specs.View.{view, pairs_of, items_of, members_of};
 
 use bson_model::{Bson, Document};
@@ -29,6 +29,13 @@ pub fn is_plain_document(document: &Document) -> bool
     ensures { IsTrue result ↔ IsPlain (tree (members_of (pairs_of document.now))) }
 {
     has_plain_members(document)
+}
+
+/// Whether no key, no pattern and no options in the document that has this element alone hold a byte 00.
+pub(crate) fn is_plain_element(name: &str, value: &Bson) -> bool
+    ensures { IsTrue result ↔ IsPlain (tree (member name.now (view value.now) no_members)) }
+{
+    has_no_00(name) && is_plain(value)
 }
 
 #[cycle(plain)]

@@ -4,7 +4,7 @@
 
 ghost use Rattle.std.specs.Prelude.{◌≡◌, ◌++◌, map, IfErr, IfOk, OnOk};
 ghost use Rattle.bson_base.specs.Kinds.{IsPlain};
-ghost use Rattle.bson_base.specs.Value.{array, document as tree, value_kind};
+ghost use Rattle.bson_base.specs.Value.{array, document as tree, member, no_members, value_kind};
 ghost use Rattle.bson_bytes.specs.Encode.{encode, framed, items_bytes, members_bytes, value_bytes};
 ghost use Rattle.bson_bytes.specs.Writing.{CanBeWritten, IsWriteRefusal};
 ghost use Rattle.bson_model.specs.Trees.{regex_tree, scoped_code_tree};
@@ -33,6 +33,17 @@ pub(crate) fn encode_in_order(alloc: Global, document: &Document) -> Result<Vec<
     Ok(out)
 }
 
+/// The bytes of the document that has this element alone. Refused as `encode_in_order` is.
+pub(crate) fn encode_element_in_order(alloc: Global, name: &str, value: &Bson) -> Result<Vec<u8>>
+    ensures ok { IfOk result (λ b. b.items ≡ encode (member name.now (asc (norm (view value.now))) no_members)) }
+    ensures fits { OnOk result (CanBeWritten (tree (member name.now (asc (norm (view value.now))) no_members))) }
+    ensures refused { IfErr result (IsWriteRefusal (CanBeWritten (tree (member name.now (asc (norm (view value.now))) no_members)) → ⊥)) }
+{
+    let mut out = Vec::new(alloc);
+    write_element(name, value, &mut out)?;
+    Ok(out)
+}
+
 /// Appends a document. Refused as `encode_in_order` is.
 #[cycle(in_order)]
 fn write_in_order(document: &Document, out: &mut Vec<u8>) -> Result<()>
@@ -43,6 +54,20 @@ fn write_in_order(document: &Document, out: &mut Vec<u8>) -> Result<()>
     let start = out.len();
     write_bytes(&[0, 0, 0, 0], out)?;
     write_members(document, out)?;
+    write_bytes(&[0], out)?;
+    put_length(out, start)
+}
+
+/// Appends the document that has this element alone.
+fn write_element(name: &str, value: &Bson, out: &mut Vec<u8>) -> Result<()>
+    ensures ok { OnOk result (out.new.items ≡ out.old.items ++ encode (member name.now (asc (norm (view value.now))) no_members)) }
+    ensures fits { OnOk result (CanBeWritten (tree (member name.now (asc (norm (view value.now))) no_members))) }
+    ensures refused { IfErr result (IsWriteRefusal (CanBeWritten (tree (member name.now (asc (norm (view value.now))) no_members)) → ⊥)) }
+{
+    let start = out.len();
+    write_bytes(&[0, 0, 0, 0], out)?;
+    write_front(normal_kind(value), name, out)?;
+    write_normal(value, out)?;
     write_bytes(&[0], out)?;
     put_length(out, start)
 }

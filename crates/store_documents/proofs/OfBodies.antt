@@ -5,7 +5,7 @@ use Rattle.std.proofs.lemmas.Bool.{lt-ltb, le-ltb, leb-true, leb-false}
 use Rattle.std.proofs.Math.Dec.{leb}
 use Rattle.bson_base.specs.Kinds.{IsPlain}
 use Rattle.bson_base.specs.Value.{Value, document, Members, look_up}
-use Rattle.bson_bytes.specs.Encode.{encode, size}
+use Rattle.bson_bytes.specs.Encode.{size}
 use Rattle.bson_frame.specs.Frame.{size_limit}
 use Rattle.bson_meaning.specs.Meaning.{key}
 use Rattle.bson_meaning.specs.declared.key.KeyError.{KeyError}
@@ -17,7 +17,7 @@ use Rattle.store_laws.specs.declared.error.ErrorKind.{ErrorKind}
 use Rattle.store_laws.specs.declared.error.ErrorKind.TheVariants.{NoId, TooLong, Memory}
 use Rattle.store_laws.proofs.Ids.{own_of, plain_of, key_long, own_is}
 use Rattle.store_laws.proofs.Levels.{clean_plain}
-use Rattle.store_documents.specs.Bodies.{IsBody, IsKeyOf, IsUnwritten, refusal_of_key}
+use Rattle.store_documents.specs.Bodies.{IsKeyOf, IsUnwritten, refusal_of_key}
 
 pub no_length : (d : Members) → IsPlain (document d) → (IsPlain (document d) × (size d < 2 ^ 31) → ⊥) → 2 ^ 31 ≤ size d
 no_length d plain h = by (leb (2 ^ 31) (size d)) refl

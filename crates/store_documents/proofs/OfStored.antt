@@ -1,10 +1,10 @@
 -- Bytes that are kept as they stand.
-use Rattle.std.proofs.Common.{◌≡◌, ◌⊎◌, inl, inr, ℕ, ◌+◌, ◌%◌, ◌^◌, ◌<◌, ◌≤◌, List, [], ◌∷◌, ◌++◌, drop, length, Some, None, refl, sym, ap, ◌∙◌, subst, append-nil, arith}
+use Rattle.std.proofs.Common.{◌≡◌, inr, ℕ, ◌+◌, ◌^◌, ◌<◌, ◌≤◌, List, [], ◌∷◌, ◌++◌, drop, length, refl, sym, ap, ◌∙◌, subst, append-nil, arith}
 use Rattle.std.specs.Prelude.{is_some, Result, Ok, Err}
 use Rattle.std.specs.Int.{w32, to_le_bytes}
 use Rattle.bson_base.specs.Kinds.{AreBytes, IsClean, IsPlain, IsSound}
 use Rattle.bson_base.specs.Tags.{tag_byte}
-use Rattle.bson_base.specs.Value.{Value, value_kind, document, Members, look_up}
+use Rattle.bson_base.specs.Value.{value_kind, document, Members}
 use Rattle.bson_bytes.specs.Encode.{encode, ended, framed, le32, size, value_bytes}
 use Rattle.bson_bytes.specs.Spells.{Means, SpellsMembers, settle}
 use Rattle.bson_bytes.proofs.Lengths.{encode_length, framed_length}
@@ -17,7 +17,7 @@ use Rattle.bson_meaning.specs.declared.key.KeyError.{KeyError}
 use Rattle.bson_meaning.specs.declared.key.KeyError.TheVariants as faults
 use Rattle.bson_written.specs.Written.{IsWrittenUnder}
 use Rattle.store_laws.specs.Reading.{IsRead, readable, ReadsBytes}
-use Rattle.store_laws.specs.State.{id_key, IsKept, refusal_of}
+use Rattle.store_laws.specs.State.{id_key, IsKept}
 use Rattle.store_laws.specs.Table.{only_id, own_id}
 use Rattle.store_laws.specs.declared.error.ErrorKind.{ErrorKind}
 use Rattle.store_laws.specs.declared.error.ErrorKind.TheVariants.{Memory}

@@ -5,27 +5,16 @@ ghost use Rattle.bson_base.specs.Kinds.{IsPlain, IsSound};
 ghost use Rattle.bson_frame.specs.Frame.{length_limit};
 ghost use Rattle.bson_meaning.specs.Meaning.{key};
 ghost use Rattle.bson_meaning.specs.declared.key.KeyError.TheVariants as KeyErrors;
-ghost use Rattle.bson_model.specs.View.{view, members_of, pairs_of};
+ghost use Rattle.bson_model.specs.View.{view};
 ghost use Rattle.store_laws.specs.Table.{only_id};
 ghost use Rattle.store_documents.specs.Bodies.{IsKeyOf};
 
-use bson_meaning::laws::soundness;
-use bson_meaning::{KeyError, meaning_key};
-use bson_model::{Bson, Document};
-use std::alloc::{AllocError, Global};
+use bson_meaning::{KeyError, meaning_key_of_element};
+use bson_model::Bson;
+use std::alloc::Global;
 
 /// The key that the identity of a document stands under.
 pub(crate) const ID_KEY: &str = "_id";
-
-/// The document of this `_id` alone.
-fn id_alone(alloc: Global, id: &Bson) -> Result<Document, AllocError>
-    ensures { IfOk result (λ d. members_of (pairs_of d) ≡ only_id (view id.now)) }
-{
-    let mut document = Document::new(alloc);
-    let key = String::from_str(alloc, ID_KEY)?;
-    document.insert(key, id.try_clone(alloc)?)?;
-    Ok(document)
-}
 
 /// The key of an id: the bytes of the normal form of a document that has this `_id` alone, with its keys in order. A kept
 /// document has the id exactly where the key of its own is the same.
@@ -38,7 +27,5 @@ pub fn key_of_id(alloc: Global, id: &Bson) -> Result<Vec<u8>, KeyError>
     ensures not_plain { result ≡ Err KeyErrors.NotPlain → IsPlain (view id.now) → ⊥ }
     ensures too_long { result ≡ Err KeyErrors.TooLong → length_limit < length (key (only_id (view id.now))) }
 {
-    soundness(id);
-    let document = id_alone(alloc, id)?;
-    meaning_key(alloc, &document)
+    meaning_key_of_element(alloc, ID_KEY, id)
 }

@@ -1,4 +1,4 @@
-use Rattle.std.proofs.Common.{rules, true, false, subst, arith, drop, ◌-◌}
+use Rattle.std.proofs.Common.{rules, subst, arith, drop, ◌-◌}
 use Rattle.bson_frame.specs.Payload.{IsFaultless}
 use Rattle.bson_frame.specs.View.{element_of}
 use Rattle.bson_meaning.specs.Gate.{ReadsElements}

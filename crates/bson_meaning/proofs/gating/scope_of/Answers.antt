@@ -1,4 +1,4 @@
-use Rattle.std.proofs.Common.{inl, ap, sym, ◌∙◌, List, ℕ, subst, ◌≤◌, length, arith}
+use Rattle.std.proofs.Common.{inl, ap, sym, ◌∙◌, subst, ◌≤◌, length, arith}
 use Rattle.bson_frame.specs.declared.error.ErrorKind.TheVariants.{MalformedValue}
 use Rattle.bson_frame.specs.Payload.{TextFault, IsTextAt, text_in, scope_in, code_in}
 use Rattle.std.proofs.Common.{IsUtf8, drop, ◌+◌, ◌≡◌}

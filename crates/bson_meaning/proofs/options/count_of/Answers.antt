@@ -1,4 +1,4 @@
-use Rattle.std.proofs.Common.{ap, sym, ◌∙◌, chars, ◌+◌, arith}
+use Rattle.std.proofs.Common.{ap, ◌∙◌, chars, arith}
 use Rattle.std.specs.Str.Iter.{chars_rest}
 use Rattle.bson_meaning.specs.Counts.{count}
 use Rattle.bson_meaning.proofs.Characters.{step, no_more, count_first, count_other}

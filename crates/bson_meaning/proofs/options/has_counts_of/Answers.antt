@@ -1,4 +1,4 @@
-use Rattle.std.proofs.Common.{ap, sym, ◌∙◌, chars, subst, refl, List, ℕ}
+use Rattle.std.proofs.Common.{sym, ◌∙◌, chars, subst, refl, List, ℕ}
 use Rattle.std.specs.Str.Iter.{chars_rest}
 use Rattle.bson_meaning.specs.Counts.{StandAlike}
 use Rattle.bson_meaning.proofs.Characters.{step, no_more}

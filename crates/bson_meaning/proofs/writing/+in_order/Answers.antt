@@ -1,13 +1,13 @@
 use Rattle.std.proofs.Common.{◌≡◌, ◌∙◌, ◌+◌, ◌++◌, ◌∷◌, [], List, ℕ, ap, sym, refl, arith, rules, length, length-append, append-nil, map, drop, string_bytes}
 use Rattle.std.proofs.lemmas.Result.{err_from_is_err_and}
-use Rattle.bson_base.specs.Value.{array, document, scoped_code}
+use Rattle.bson_base.specs.Value.{array, scoped_code}
 use Rattle.bson_bytes.specs.Encode.{members_bytes, items_bytes, text_bytes, encode, value_size}
 use Rattle.bson_bytes.proofs.Lengths.{members_length, items_length, text_length, framed_length}
 use Rattle.bson_bytes.proofs.Written.{room, written_in, framed_ok, scoped_in, scoped_ok, short_ok, long_refused, no_items_left, item_refused}
 use Rattle.bson_model.specs.Rest.{ascending_rest}
 use Rattle.bson_model.specs.View.{view, pairs_of, items_of, members_of}
 use Rattle.bson_meaning.proofs.Canonical.{canonical, canonical_items, canonical_members}
-use Rattle.bson_meaning.proofs.InOrderBytes.{members_begin, next_item}
+use Rattle.bson_meaning.proofs.InOrderBytes.{between, members_begin, next_item}
 use Rattle.bson_meaning.proofs.writing.+in_order.Goals as goal
 
 pub write_in_order-returns : goal.write_in_order-returns
@@ -15,18 +15,12 @@ write_in_order-returns t c =
     let old = c.args.out.now.items in
     let start : c.len-start.result ≡ length old = search rules in
     let normal = canonical_members (members_of (pairs_of c.args.document.now)) in
-    let body = members_bytes normal in
-    let after : List ℕ = body ++ 0 ∷ [] in
     let begun = c.write_bytes.new.out.items in
     let out = c.write_members.new.out.items in
-    let at_end : out ++ [] ≡ begun ++ body = append-nil out ∙ c.in_ok-write_members.ensures.ok in
-    let whole : c.write_bytes-2.new.out.items ≡ old ++ (room ++ after) = written_in old begun out c.write_bytes-2.new.out.items body c.in_ok-write_bytes.ensures.ok at_end c.in_ok-write_bytes-2.ensures.ok in
-    let long : value_size (document normal) ≡ length after + 4 = omega (arith, members_length normal, length-append {A = ℕ} body (0 ∷ [])) in
-    record {
-      ok = framed_ok c.put_length.result old c.put_length.new.out.items body (c.put_length.ensures.ok old room after whole (search rules) refl);
-      fits = short_ok c.put_length.result (document normal) old c.write_bytes-2.new.out.items after c.len-start.result start whole long c.in_ok-write_members.ensures.plain c.put_length.ensures.short;
-      refused = long_refused c.put_length.result (document normal) old c.write_bytes-2.new.out.items after c.len-start.result start whole long c.put_length.ensures.refused;
-    }
+    let at_end : out ++ [] ≡ begun ++ members_bytes normal = append-nil out ∙ c.in_ok-write_members.ensures.ok in
+    let told = between c.put_length.result normal old begun out c.write_bytes-2.new.out.items c.put_length.new.out.items c.len-start.result start c.in_ok-write_bytes.ensures.ok at_end c.in_ok-write_bytes-2.ensures.ok
+    c.in_ok-write_members.ensures.plain c.put_length.ensures.ok c.put_length.ensures.short c.put_length.ensures.refused in
+    record { ok = told.0; fits = told.1; refused = told.2 }
 
 pub write_members-loop-key-init : goal.write_members-loop-key-init
 write_members-loop-key-init t c =
