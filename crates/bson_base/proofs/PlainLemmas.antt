@@ -1,5 +1,5 @@
 -- What a value writes through a formatter's writer, said of the formatter.
-use Rattle.std.proofs.Common.{◌≡◌, ℕ, List, [], ◌∷◌, Option, Some, None, Result, Ok, Err, refl, sym, ap, ◌∙◌, subst, true≢false}
+use Rattle.std.proofs.Common.{◌≡◌, ℕ, List, [], ◌∷◌, Option, Some, None, Result, Ok, Err, sym, ap, ◌∙◌, subst, true≢false}
 use Rattle.std.specs.Fmt.{IsFlush, HasWrittenStyled, DisplaysOnOk, DisplaysStyledOnOk, IsDefaultSpec, WritesText}
 use Rattle.std.specs.List.{FoldsTo, concat}
 use Rattle.std.specs.Result.{OnOk}

@@ -1,6 +1,6 @@
 -- The date text of a moment (RFC 3339, section 5.6) as a function of its milliseconds: year and month are counted on from the
 -- first of January of the year 0, until the next one would begin after the moment.
-use Rattle.std.specs.Prelude.{ℕ, zero, suc, ◌+◌, ◌/◌, ◌%◌, ℤ, pos, ◌*ℤ◌, ◌-ℤ◌, neg_ℤ, unsigned_abs, int_lt, int_le, ◌&&◌, Bool, if◌then◌else◌, List}
+use Rattle.std.specs.Prelude.{ℕ, zero, suc, ◌+◌, ◌/◌, ◌%◌, ℤ, pos, ◌*ℤ◌, ◌-ℤ◌, unsigned_abs, int_lt, int_le, ◌&&◌, Bool, if◌then◌else◌, List}
 use Rattle.std.specs.Fmt.{signed_decimal}
 use Rattle.jiff_core.specs.Calendar.{days_from_civil}
 use Rattle.bson_base.specs.DateText.{first_text, last_text, moment_text}

@@ -1,7 +1,7 @@
 -- Putting the characters of a text in order makes no 00.
 use Rattle.std.proofs.Common.{◌≡◌, ℕ, zero, suc, ◌+◌, ◌/◌, ◌%◌, ◌<◌, Bool, true, false, cond, ltb, List, [], ◌∷◌, ◌++◌, refl, sym, subst, arith}
 use Rattle.std.specs.Prelude.{IsUtf8, chars, nat_le, ◌&&◌, if◌then◌else◌}
-use Rattle.std.proofs.Math.Utf8.{scalars, encode, encodes}
+use Rattle.std.proofs.Math.Utf8.{encode, encodes}
 use Rattle.std.proofs.lemmas.Str.{encodes-chars, scalars-chars, encode_ascii}
 use Rattle.bson_base.specs.Kinds.{HasNo00}
 use Rattle.bson_base.specs.Options.{put_in_order, ascending_codes, sorted_text}

@@ -1,11 +1,11 @@
 -- Keys that stand once, in the words of the tree.
-use Rattle.std.proofs.Common.{◌≡◌, ℕ, ◌+◌, ◌<◌, Bool, true, false, cond, if◌then◌else◌, List, [], ◌∷◌, ◌++◌, map, take, length, get_or, Option, Some, None, bytes_eq, refl, sym, ap, ◌∙◌, subst}
+use Rattle.std.proofs.Common.{◌≡◌, ℕ, ◌+◌, ◌<◌, false, if◌then◌else◌, List, [], ◌∷◌, ◌++◌, map, take, length, get_or, Some, None, bytes_eq, refl, sym, ap, ◌∙◌, subst}
 use Rattle.std.specs.List.{IsDistinct, AllByRecursion}
 use Rattle.std.specs.Map.{keys_of, values_of}
 use Rattle.std.proofs.lemmas.List.{take_more}
 use Rattle.bson_base.specs.Value.{Value, look_up, HasDistinctKeys, ItemsHaveDistinctKeys, MembersHaveDistinctKeys}
 use Rattle.bson_pairs.specs.Keyed.{Key}
-use Rattle.bson_pairs.specs.Over.{over, keys_of-over}
+use Rattle.bson_pairs.specs.Over.{keys_of-over}
 use Rattle.bson_pairs.proofs.KeyedLemmas.{values_of-over}
 use Rattle.bson_model.specs.View.{view, items_of, members_of, pairs_of}
 use Rattle.bson_model.specs.declared.bson.Bson.{Bson}

@@ -1,5 +1,5 @@
 -- `==` on values, by their trees: `bson_eq a b` exactly where the trees are Equal, if no key stands twice.
-use Rattle.std.proofs.Common.{◌≡◌, ◌&&◌, Bool, true, false, cond, List, [], ◌∷◌, map, Option, Some, None, is_some, unwrap_or, Vec, Global, string_bytes, bytes_eq, refl, sym, ap, ◌∙◌, subst, true≢false}
+use Rattle.std.proofs.Common.{◌≡◌, Bool, true, false, cond, List, [], ◌∷◌, map, Option, Some, None, is_some, unwrap_or, Vec, Global, string_bytes, bytes_eq, refl, sym, ap, ◌∙◌, subst, true≢false}
 use Rattle.std.specs.Bool.{Decides}
 use Rattle.std.specs.Cmp.Lexicographic.{pointwise}
 use Rattle.std.specs.Option.{IsSomeAnd, option_eq, option_map}

@@ -1,7 +1,7 @@
 -- Pairs put one after the other, with their values seen.
-use Rattle.std.proofs.Common.{◌≡◌, ◌++◌, ◌∷◌, [], List, ℕ, ◌<◌, ◌+◌, length, take, None, String, Global, string_bytes, option_map, refl, sym, ap, ◌∙◌, arith, length-append}
+use Rattle.std.proofs.Common.{◌≡◌, ◌∷◌, [], List, length, take, String, Global, string_bytes, option_map, refl, sym, ap, ◌∙◌, arith, length-append}
 use Rattle.std.proofs.Math.Seq.{take-append_seam}
-use Rattle.bson_pairs.specs.Keyed.{Key, get, put}
+use Rattle.bson_pairs.specs.Keyed.{Key, put}
 use Rattle.bson_pairs.specs.Putting.{put_each, PutsBeforeNew}
 use Rattle.bson_pairs.proofs.KeyedLemmas.{over, get-over, put-over}
 use Rattle.bson_model.specs.Extend.{put_all, PutsSome, PutsUpToNew}

@@ -1,5 +1,5 @@
 -- `==` on values, by their trees: one layer.
-use Rattle.std.proofs.Common.{◌≡◌, ◌&&◌, ℕ, ℤ, Bool, true, false, nat_eq, List, Vec, String, Global, string_bytes, bytes_eq, refl, sym, ap, ◌∙◌, rules, true≢false}
+use Rattle.std.proofs.Common.{◌≡◌, ◌&&◌, ℤ, Bool, nat_eq, Vec, String, Global, string_bytes, bytes_eq, refl, sym, ap, ◌∙◌, rules, true≢false}
 use Rattle.std.specs.Bool.{Decides}
 use Rattle.std.specs.Cmp.{booleans_Decides}
 use Rattle.std.specs.Cmp.Lexicographic.{pointwise}
@@ -21,7 +21,7 @@ use Rattle.bson_base.specs.declared.spec.BinarySubtype.TheVariants.{Generic, Fun
 use Rattle.bson_base.specs.declared.timestamp.Timestamp.{Timestamp}
 use Rattle.bson_model.specs.Equal.{Equal}
 use Rattle.bson_model.specs.Trees.{scoped_code_tree}
-use Rattle.bson_model.specs.View.{view, view_step, scope_step, document_step, members_of, pairs_of, items_of}
+use Rattle.bson_model.specs.View.{view, view_step, scope_step, document_step, members_of, pairs_of}
 use Rattle.bson_model.specs.declared.bson.Bson as bson
 use Rattle.bson_model.specs.declared.bson.Bson.{Bson, roll-Bson, out-Bson, the_lemmas}
 use Rattle.bson_model.specs.declared.bson.Bson.TheOpen.{Bson-F}

@@ -1,5 +1,5 @@
 -- What a document's entry stands for.
-use Rattle.std.specs.Prelude.{◌≡◌, ℕ, List, Bool, true, false, Result, string_bytes}
+use Rattle.std.specs.Prelude.{◌≡◌, Bool, true, false, Result, string_bytes}
 use Rattle.std.specs.Result.{IsOk, OnErr}
 use Rattle.std.specs.Borrow.{Fml, MutBor, follows_so, name_if_ok}
 use Rattle.bson_pairs.specs.Keyed.{Key, put}

@@ -1,5 +1,5 @@
 -- The trees of values of one kind.
-use Rattle.std.specs.Prelude.{ℕ, ℤ, ◌^◌, nat_lt, if◌then◌else◌, pos, Bool, List, map, String, string_bytes, Option, Some, None}
+use Rattle.std.specs.Prelude.{ℕ, ℤ, ◌^◌, nat_lt, if◌then◌else◌, pos, Bool, map, String, string_bytes, Option, Some, None}
 use Rattle.std.specs.declared.alloc.Global.{Global}
 use Rattle.std.specs.declared.vec.Vec.{Vec}
 use Rattle.bson_base.specs.Scalars.{id_bytes, millis_of, decimal_bytes}

@@ -1,5 +1,5 @@
 -- The tree that a `Bson` stands for.
-use Rattle.std.specs.Prelude.{◌≡◌, ℕ, List, [], ◌∷◌, map, string_bytes}
+use Rattle.std.specs.Prelude.{◌≡◌, List, [], ◌∷◌, map, string_bytes}
 use Rattle.bson_base.specs.Scalars.{id_bytes, millis_of, decimal_bytes}
 use Rattle.bson_base.specs.Value.{Value, scalar, array, document, scoped_code, double, string, boolean, null, regex, code, int32, int64, timestamp, binary, object_id, date_time, symbol, decimal, undefined, max_key, min_key, db_pointer, Items, no_items, item, Members, no_members, member}
 use Rattle.bson_pairs.specs.Keyed.{Key}

@@ -1,5 +1,5 @@
 -- Lists of keys in which none stands twice.
-use Rattle.std.proofs.Common.{◌≡◌, ◌&&◌, ◌⊎◌, inl, inr, ℕ, zero, suc, ◌+◌, ◌<◌, Bool, true, false, cond, List, [], ◌∷◌, map, length, get_or, slice_get, Option, Some, None, is_some, String, string_bytes, bytes_eq, refl, sym, ap, ◌∙◌, arith, true≢false}
+use Rattle.std.proofs.Common.{◌≡◌, ◌&&◌, ◌⊎◌, inl, inr, ℕ, zero, suc, ◌<◌, Bool, true, false, cond, List, [], ◌∷◌, length, get_or, slice_get, Option, Some, None, is_some, String, string_bytes, bytes_eq, refl, sym, ap, ◌∙◌, arith, true≢false}
 use Rattle.std.specs.Cmp.{first_so, second_so}
 use Rattle.std.specs.Cmp.Lexicographic.{nat_list_eq_equiv}
 use Rattle.std.specs.List.{IsDistinct, AllByRecursion, list_all}
@@ -11,7 +11,7 @@ use Rattle.std.proofs.lemmas.Map.Entries.{lookup_from_place, length-keys_of}
 use Rattle.std.proofs.lemmas.Slice.Eq.{bytes_eq-Decides}
 use Rattle.std.proofs.Math.ListN.{get_or-map, length-map}
 use Rattle.bson_pairs.specs.Keyed.{Key, key_bytes, get, has_key}
-use Rattle.bson_pairs.specs.Same.{same_at, pairs_eq, there_passes}
+use Rattle.bson_pairs.specs.Same.{same_at, there_passes}
 
 none-key_bytes : (s : String Global) (ks : List (String Global)) → AllByRecursion (λ t. string_eq s t ≡ false) ks → AllByRecursion (λ k. bytes_eq (string_bytes s) k ≡ false) (key_bytes ks)
 none-key_bytes s [] h = tt

@@ -1,9 +1,9 @@
 -- A tree of places, as it grows.
-use Rattle.std.proofs.Common.{◌≡◌, ℕ, zero, suc, ◌+◌, ◌<◌, ◌≤◌, Bool, true, false, cond, List, [], ◌∷◌, ◌++◌, map, length, take, get_or, Option, Some, None, String, string_bytes, bytes_eq, position, refl, sym, ap, ◌∙◌, subst, arith}
+use Rattle.std.proofs.Common.{◌≡◌, ℕ, zero, suc, ◌+◌, ◌<◌, ◌≤◌, false, cond, List, [], ◌∷◌, ◌++◌, length, take, get_or, Some, None, String, string_bytes, bytes_eq, refl, sym, ap, ◌∙◌, subst, arith}
 use Rattle.std.specs.BTreeMap.{insert_entry, is_at}
 use Rattle.std.specs.Cmp.Lexicographic.{nat_list_eq_equiv}
 use Rattle.std.specs.FinMap.Entries.{put as place, find, by_order}
-use Rattle.std.specs.List.{AllByRecursion, IsDistinct}
+use Rattle.std.specs.List.{IsDistinct}
 use Rattle.std.specs.Map.{lookup, values_of}
 use Rattle.std.specs.Ordering.{is_eq, match_ordering}
 use Rattle.std.specs.String.{string_cmp}
@@ -11,12 +11,12 @@ use Rattle.std.specs.declared.alloc.Global.{Global}
 use Rattle.std.specs.declared.cmp.Ordering.{Ordering}
 use Rattle.std.specs.declared.cmp.Ordering.TheVariants.{Less, Equal, Greater}
 use Rattle.std.proofs.lemmas.List.{map-append}
-use Rattle.std.proofs.lemmas.List.Elements.{recursion_from_All, All-from_recursion}
+use Rattle.std.proofs.lemmas.List.Elements.{All-from_recursion}
 use Rattle.std.proofs.lemmas.Map.Keys.{IsDistinct-head, IsDistinct-tail}
 use Rattle.std.proofs.Math.ListN.{length-map, get_or-map}
-use Rattle.bson_pairs.proofs.IndexLemmas.{index-push, distinct-push, find-index, none-numbered}
+use Rattle.bson_pairs.proofs.IndexLemmas.{index-push, distinct-push}
 use Rattle.bson_pairs.specs.Ascending.{key_cmp, find-ascending}
-use Rattle.bson_pairs.specs.Index.{numbered_from, index_of, places_of, is_key, seen_places}
+use Rattle.bson_pairs.specs.Index.{numbered_from, index_of, places_of, seen_places}
 use Rattle.bson_pairs.specs.Keyed.{Key, key_bytes, get}
 
 seen-by_order : (o : Ordering) (a b c : List (String Global × ℕ)) → seen_places (match_ordering o a b c) ≡ by_order o (seen_places a) (seen_places b) (seen_places c)

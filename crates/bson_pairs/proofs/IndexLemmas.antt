@@ -1,11 +1,11 @@
 -- The index of distinct keys: how it is searched, and how it grows and shrinks.
-use Rattle.std.proofs.Common.{◌≡◌, ◌&&◌, ◌||◌, IfSome, ℕ, zero, suc, ◌+◌, ◌-◌, ◌<◌, ◌≤◌, Bool, true, false, not, cond, T, List, [], ◌∷◌, ◌++◌, map, length, take, drop, insert, remove, get_or, slice_get, nat_lt, Option, Some, None, is_some, option_map, String, string_bytes, bytes_eq, position, filter, refl, sym, ap, ◌∙◌, subst, arith, append_assoc, length-append, add-one, true≢false, rules}
+use Rattle.std.proofs.Common.{◌≡◌, ◌&&◌, ◌||◌, IfSome, ℕ, zero, suc, ◌+◌, ◌-◌, ◌<◌, ◌≤◌, Bool, true, false, not, cond, T, List, [], ◌∷◌, ◌++◌, map, length, take, drop, insert, remove, get_or, slice_get, nat_lt, Option, Some, None, is_some, option_map, String, string_bytes, bytes_eq, position, refl, sym, ap, ◌∙◌, subst, arith, append_assoc, length-append, add-one, true≢false, rules}
 use Rattle.std.specs.Cmp.{tied_itself}
 use Rattle.std.specs.Cmp.Lexicographic.{nat_list_cmp_total, nat_list_eq_equiv}
 use Rattle.std.specs.FinMap.{slice_cmp-IsAntisymmetric, nat_cmp-IsAntisymmetric}
 use Rattle.std.specs.FinMap.Entries.{put as place, find, by_order, below_all, is_sorted, where_key, is_sorted-where_key, find-where_key, find-append, length-put, same_entries}
 use Rattle.std.specs.List.{AllByRecursion, IsDistinct, list_any, position_from, take-map, drop-map}
-use Rattle.std.specs.Map.{keys_of, values_of}
+use Rattle.std.specs.Map.{values_of}
 use Rattle.std.specs.Ordering.{is_lt, is_eq, ordering_reverse, eq_by_cmp}
 use Rattle.std.specs.declared.alloc.Global.{Global}
 use Rattle.std.specs.declared.cmp.Ordering.{Ordering}
@@ -22,7 +22,7 @@ use Rattle.std.proofs.lemmas.Slice.Eq.{bytes_eq-Decides}
 use Rattle.bson_pairs.specs.Ascending.{key_cmp, ascending, find-ascending, is_sorted-ascending, same_ascending}
 use Rattle.bson_pairs.specs.Index.{numbered_from, index_of, places_of, is_key, lowered, IsIndexedAt, GoesAt}
 use Rattle.bson_pairs.specs.Keyed.{Key, key_bytes, get}
-use Rattle.bson_pairs.specs.Over.{over, get-over}
+use Rattle.bson_pairs.specs.Over.{over}
 
 -- ---- the order of keys
 

@@ -4,7 +4,7 @@ use Rattle.std.specs.List.{position, insert}
 use Rattle.std.specs.Map.{keys_of, values_of}
 use Rattle.std.specs.FinMap.Entries.{put as place, find}
 use Rattle.std.specs.declared.alloc.Global.{Global}
-use Rattle.bson_pairs.specs.Keyed.{Key, key_bytes}
+use Rattle.bson_pairs.specs.Keyed.{Key}
 use Rattle.bson_pairs.specs.Ascending.{key_cmp, ascending}
 
 -- each key beside its place, the first one at n

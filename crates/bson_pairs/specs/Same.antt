@@ -1,7 +1,7 @@
 -- Equality of lists of pairs that ignores their order: under each key of either, both have a value, and the two are equal.
 use Rattle.std.specs.Prelude.{◌≡◌, Bool, true, false, cond, ◌&&◌, ◌⊎◌, List, [], ◌∷◌, Option, Some, None, refl, bytes_eq}
 use Rattle.std.specs.List.{list_all}
-use Rattle.std.specs.Option.{option_eq, option_map}
+use Rattle.std.specs.Option.{option_eq}
 use Rattle.std.specs.Map.{keys_of}
 use Rattle.std.specs.Cmp.{IsEquivalence, IsPartialEquivalence, equiv, partial_equiv_from_equiv, first_so, second_so}
 use Rattle.std.proofs.Common.{sym, ap, ◌∙◌, inl, inr, true≢false}

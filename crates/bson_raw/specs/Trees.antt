@@ -1,5 +1,5 @@
 -- Trees as raw values, and the writing of a tree to a device.
-use Rattle.std.specs.Prelude.{◌≡◌, ℕ, ◌+◌, List, Option, Result, Ok, Err, IfErr}
+use Rattle.std.specs.Prelude.{◌≡◌, ◌+◌, Result, Ok, Err, IfErr}
 use Rattle.std.specs.Io.KnownBytes.{Appends}
 use Rattle.bson_base.specs.Device.{Tally, TakesBeginning}
 use Rattle.bson_base.specs.Value as values

@@ -1,5 +1,5 @@
 -- The text that reads a collection in order of place, without its index.
-use Rattle.std.proofs.Common.{◌≡◌, ℕ, List, [], ◌∷◌, ◌++◌, map, filter, codes, Bool, true, false, ◌&&◌, bytes_eq, ap, ◌∙◌, refl, inl, inr, sym, subst}
+use Rattle.std.proofs.Common.{◌≡◌, ℕ, List, [], ◌∷◌, ◌++◌, map, filter, codes, false, bytes_eq, ap, ◌∙◌, refl, inl, inr, sym, subst}
 use Rattle.sqlite.specs.declared.types.Value.TheVariants.{Null, Text, Blob}
 use Rattle.sqlite.specs.Order.{Row}
 use Rattle.sqlite.specs.Term.{Term, col, lit, op2}

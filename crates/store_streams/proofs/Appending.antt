@@ -1,5 +1,5 @@
 -- Documents that go into a list go by the written keys of their ids.
-use Rattle.std.proofs.Common.{◌≡◌, inl, inr, ℕ, suc, ◌+◌, add-zero, zero-add, [], ◌∷◌, ◌++◌, length, map, append_assoc, Bool, true, false, ◌||◌, cond, Option, Some, None, refl, ap, sym, ◌∙◌, subst, is_some, arith}
+use Rattle.std.proofs.Common.{◌≡◌, inl, inr, ℕ, suc, ◌+◌, add-zero, zero-add, [], ◌∷◌, ◌++◌, length, append_assoc, Bool, true, false, ◌||◌, cond, Option, Some, None, refl, ap, sym, ◌∙◌, subst, is_some, arith}
 use Rattle.std.specs.Prelude.{MatchOption, IsSomeAnd}
 use Rattle.std.specs.List.{list_any}
 use Rattle.std.specs.Str.{bytes_eq}

@@ -1,5 +1,5 @@
 -- Bytes pass the gate or fail one of its tests: there is no third case.
-use Rattle.std.proofs.Common.{◌≡◌, ◌≢◌, ◌⊎◌, inl, inr, ℕ, zero, suc, ◌+◌, ◌-◌, ◌<◌, ◌≤◌, ◌^◌, List, [], ◌∷◌, ◌++◌, length, length-append, drop, get_or, Bool, true, false, Result, Ok, Err, refl, ap, sym, ◌∙◌, subst, arith}
+use Rattle.std.proofs.Common.{◌≡◌, ◌⊎◌, inl, inr, ℕ, zero, suc, ◌+◌, ◌-◌, ◌<◌, ◌≤◌, ◌^◌, List, [], ◌∷◌, ◌++◌, length, length-append, drop, get_or, Bool, true, false, Result, Ok, Err, refl, ap, sym, ◌∙◌, subst, arith}
 use Rattle.std.specs.Prelude.{IsUtf8, slice_index}
 use Rattle.std.specs.Str.{is_utf8}
 use Rattle.std.proofs.lemmas.Bool.{cases_lt, false≢true}
@@ -8,9 +8,9 @@ use Rattle.std.proofs.lemmas.Str.{IsUtf8-from_is_utf8, is_utf8-from_IsUtf8}
 use Rattle.bson_base.specs.declared.spec.ElementType.{ElementType}
 use Rattle.bson_base.specs.declared.spec.ElementType.TheVariants as kinds
 use Rattle.bson_base.specs.declared.spec.BinarySubtype.TheVariants as subtypes
-use Rattle.bson_base.specs.Tags.{tag_byte, subtype_byte}
-use Rattle.bson_base.specs.Value.{Value, scalar, array, document, scoped_code, value_kind, Members}
-use Rattle.bson_bytes.specs.Spells.{SpellsValue, SpellsMembers}
+use Rattle.bson_base.specs.Tags.{subtype_byte}
+use Rattle.bson_base.specs.Value.{Value, scalar, array, document, scoped_code, value_kind}
+use Rattle.bson_bytes.specs.Spells.{SpellsValue}
 use Rattle.bson_frame.specs.declared.error.ErrorKind.{ErrorKind}
 use Rattle.bson_frame.specs.declared.error.ErrorKind.TheVariants.{MalformedValue, Utf8EncodingError, OutOfMemory}
 use Rattle.bson_frame.specs.Frame.{number, IsTextSize, Element, IsFirstFrame, IsStructuralFault, size_limit}

@@ -1,13 +1,9 @@
 -- From the answer for one document to those for many.
-use Rattle.std.proofs.Common.{◌≡◌, ◌⊎◌, inl, inr, ℕ, ◌<◌, List, [], ◌∷◌, ◌++◌, length, Option, Some, None, Result, Ok, Err, Bor, refl, ap, sym, ◌∙◌, subst}
+use Rattle.std.proofs.Common.{◌≡◌, ◌⊎◌, inl, inr, ℕ, ◌<◌, List, ◌∷◌, ◌++◌, length, Option, Result, Ok, Err, Bor}
 use Rattle.serde_json.specs.Data.{Data}
 use Rattle.bson_base.specs.Value.{Members}
-use Rattle.bson_bytes.specs.Encode.{encode}
 use Rattle.bson_meaning.specs.Gate.{IsCounted}
-use Rattle.bson_meaning.specs.Meaning.{key}
-use Rattle.store_laws.specs.Reading.{Documents, Reading, readable, unreadable, ReadsBytes, ReadsTree, IsUncut, ReadsStream, ReadsTrees}
-use Rattle.store_laws.specs.State.{refusal_of}
-use Rattle.store_laws.specs.Table.{own_id}
+use Rattle.store_laws.specs.Reading.{Documents, Reading, readable, unreadable, ReadsBytes, ReadsTree, IsUncut, ReadsTrees}
 use Rattle.store_laws.specs.declared.error.ErrorKind.{ErrorKind}
 use Rattle.store_laws.specs.declared.error.ErrorKind.TheVariants.{Memory}
 use Rattle.store_documents.specs.Bodies.{AnswersKept, AnswersWritten}

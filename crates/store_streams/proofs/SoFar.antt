@@ -1,15 +1,15 @@
 -- How far the judging of many documents has come.
-use Rattle.std.proofs.Common.{◌≡◌, ℕ, suc, ◌+◌, add-one, List, [], ◌∷◌, ◌++◌, length, append_assoc, Option, Some, None, Ok, Err, Vec, Global, refl, ap, sym, ◌∙◌, subst}
+use Rattle.std.proofs.Common.{◌≡◌, ℕ, ◌+◌, add-one, List, [], ◌∷◌, ◌++◌, length, append_assoc, Option, Some, None, Ok, Err, Vec, Global, refl, ap, sym, ◌∙◌, subst}
 use Rattle.std.proofs.lemmas.List.{append-nil, length_push}
 use Rattle.bson_base.specs.Value.{Members}
 use Rattle.bson_bytes.specs.Encode.{encode}
 use Rattle.bson_meaning.specs.Meaning.{key}
 use Rattle.store_laws.specs.Reading.{Documents}
-use Rattle.store_laws.specs.State.{refusal_of, or_later, first_refusal}
+use Rattle.store_laws.specs.State.{refusal_of, first_refusal}
 use Rattle.store_laws.specs.Table.{own_id}
 use Rattle.store_laws.specs.declared.error.ErrorKind.{ErrorKind}
 use Rattle.store_documents.specs.declared.write.Written.{Written}
-use Rattle.store_streams.specs.declared.error.StreamError.TheVariants.{Refused, Memory}
+use Rattle.store_streams.specs.declared.error.StreamError.TheVariants.{Refused}
 use Rattle.store_streams.specs.Judging.{AreWrittenRows, Judges}
 
 -- Some documents, so many, were read and kept: what the rest reads as stands behind them in what the whole reads as, and is

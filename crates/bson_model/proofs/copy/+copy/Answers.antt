@@ -1,8 +1,8 @@
-use Rattle.std.proofs.Common.{◌≡◌, map, sym, ap, ◌∙◌, string_bytes}
+use Rattle.std.proofs.Common.{map, sym, ap, ◌∙◌}
 use Rattle.std.specs.List.{zip}
 use Rattle.std.specs.Map.{keys_of, values_of}
 use Rattle.bson_base.specs.Value.{scoped_code}
-use Rattle.bson_model.specs.View.{view, pairs_of, members_of}
+use Rattle.bson_model.specs.View.{view, members_of}
 use Rattle.bson_pairs.proofs.KeyedLemmas.{over, over-zip, zip-split}
 use Rattle.bson_model.proofs.ViewLemmas.{view-WithScope}
 use Rattle.bson_model.proofs.copy.+copy.Goals as goal

@@ -1,5 +1,4 @@
-use Rattle.std.proofs.Common.{◌<◌, length, map, sym, ap, ◌∙◌, arith, subst}
-use Rattle.std.specs.Map.{values_of}
+use Rattle.std.proofs.Common.{◌<◌, length, map, arith, subst}
 use Rattle.bson_base.specs.Value.{HasDistinctKeys, ItemsHaveDistinctKeys}
 use Rattle.bson_model.specs.View.{view, items_of}
 use Rattle.bson_model.specs.declared.bson.Bson.{Bson}

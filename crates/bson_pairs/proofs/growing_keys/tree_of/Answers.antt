@@ -1,5 +1,5 @@
-use Rattle.std.proofs.Common.{refl, sym, ap, ◌∙◌}
-use Rattle.bson_pairs.specs.Index.{index_of, seen_places}
+use Rattle.std.proofs.Common.{ap}
+use Rattle.bson_pairs.specs.Index.{seen_places}
 use Rattle.bson_pairs.proofs.GrowthLemmas.{tree-next}
 use Rattle.bson_pairs.proofs.growing_keys.tree_of.Goals as goal
 

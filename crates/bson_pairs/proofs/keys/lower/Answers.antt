@@ -1,4 +1,4 @@
-use Rattle.std.proofs.Common.{◌<◌, set, get_or, length, subst, sym, ap, ◌∙◌}
+use Rattle.std.proofs.Common.{◌<◌, set, get_or, subst, sym, ap, ◌∙◌}
 use Rattle.std.proofs.lemmas.List.{get_or_default}
 use Rattle.std.proofs.lemmas.List.Edits.{map_over_more}
 use Rattle.bson_pairs.specs.Index.{lowered}

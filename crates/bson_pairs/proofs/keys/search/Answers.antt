@@ -1,6 +1,5 @@
-use Rattle.std.proofs.Common.{◌≡◌, ◌+◌, ◌-◌, ◌/◌, ◌<◌, ◌≤◌, ℕ, length, get_or, string_bytes, refl, sym, ap, ◌∙◌, subst, arith, rules, Some, slice_get}
+use Rattle.std.proofs.Common.{length, refl, sym, ap, ◌∙◌, arith}
 use Rattle.bson_pairs.specs.Ascending.{key_cmp}
-use Rattle.bson_pairs.specs.Index.{index_of}
 use Rattle.bson_pairs.specs.Keyed.{key_bytes}
 use Rattle.bson_pairs.proofs.IndexLemmas.{length-places_of, place_within, read_at}
 use Rattle.bson_pairs.proofs.SearchLemmas.{middle_within, search_start, search_left, search_right, search_found, search_end, search_few, search_one_more}

@@ -1,5 +1,5 @@
 -- `Pairs` as a type that may hold the type that holds it, by its values.
-use Rattle.std.specs.Prelude.{◌≡◌, ℕ, List, [], ◌∷◌, map, length, String, Bool, true, false, cond, ◌&&◌, Option, Some, None, bytes_eq}
+use Rattle.std.specs.Prelude.{◌≡◌, List, [], ◌∷◌, map, length, String, Bool, ◌&&◌, Option, Some, None}
 use Rattle.std.specs.List.{zip, list_all}
 use Rattle.std.specs.Option.{option_eq, option_map}
 use Rattle.std.specs.declared.cmp.PartialEq as eq
@@ -16,12 +16,12 @@ use denote.Hole.Carrier.{listed}
 use denote.Hole.Fix.{over}
 use denote.Param.Weighed.{Weighed, most}
 use denote.Model.Placed.{held, view_places_where}
-use base.Stored.{gcons, code_map, coded×, coded_list}
+use base.Stored.{gcons, code_map, coded×}
 use Rattle.std.specs.formers.vec.Vec as vec
 use Rattle.std.specs.declared.alloc.Global.{Global}
 use Rattle.std.specs.contracts.alloc.Global as heap
 use Rattle.std.specs.contracts.impls.GlobalAllocator.TheImpl.{ghosts}
-use Rattle.std.specs.Map.{keys_of, values_of}
+use Rattle.std.specs.Map.{values_of}
 use Rattle.bson_pairs.specs.Entries.{entry, on_value, entries_puts, values_listed}
 use Rattle.bson_pairs.specs.Keyed.{Key, key_code, key_bytes, get}
 use Rattle.bson_pairs.specs.Over.{get-over, keys_of-over}

@@ -3,7 +3,6 @@ use Rattle.std.specs.Vec.Iter.{into_iter_items}
 use Rattle.std.proofs.lemmas.List.{nil_from_length}
 use Rattle.std.proofs.lemmas.Result.{err_from_is_err_and}
 use Rattle.serde_json.specs.View.{view}
-use Rattle.serde_json.specs.declared.value.Value.{Value}
 use Rattle.store_laws.specs.Reading.{ReadsTrees}
 use Rattle.store_streams.specs.Judging.{Judges, RefusesFront, stream_refusal}
 use Rattle.store_streams.proofs.Going.{tree_refused, judged_memory, judged_refused}

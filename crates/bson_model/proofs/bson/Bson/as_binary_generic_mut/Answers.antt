@@ -1,4 +1,4 @@
-use Rattle.std.proofs.Common.{◌≡◌, refl, sym, ap, ◌∙◌, Vec, ℕ, Global}
+use Rattle.std.proofs.Common.{refl, sym, ap, ◌∙◌}
 use Rattle.bson_base.specs.Value.{scalar, binary}
 use Rattle.bson_pairs.proofs.KeyedLemmas.{on_some_weaker}
 use Rattle.bson_model.specs.Accessors.{as_binary_generic}

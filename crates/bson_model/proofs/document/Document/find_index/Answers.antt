@@ -1,4 +1,4 @@
-use Rattle.std.proofs.Common.{◌<◌, ◌^◌, length, position, bytes_eq, sym, ap, ◌∙◌, subst}
+use Rattle.std.proofs.Common.{◌<◌, ◌^◌, position, bytes_eq, sym, ap, ◌∙◌, subst}
 use Rattle.std.proofs.Math.ListN.{length-map}
 use Rattle.bson_pairs.specs.Over.{keys_of-over}
 use Rattle.bson_model.specs.View.{view, pair_view}

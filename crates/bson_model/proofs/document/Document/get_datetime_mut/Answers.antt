@@ -1,4 +1,4 @@
-use Rattle.std.proofs.Common.{◌≡◌, refl, sym, ap, ◌∙◌, true≢false}
+use Rattle.std.proofs.Common.{refl, sym, ap, ◌∙◌, true≢false}
 use Rattle.bson_pairs.specs.Keyed.{put}
 use Rattle.bson_pairs.proofs.KeyedLemmas.{on_some_use, put-same}
 use Rattle.bson_model.specs.Accessors.{typed, or_unexpected, as_datetime}

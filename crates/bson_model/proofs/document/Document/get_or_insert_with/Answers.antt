@@ -1,4 +1,4 @@
-use Rattle.std.proofs.Common.{◌≡◌, Option, Some, None, is_some, unwrap_or, string_bytes, true, false, MatchOption, refl, sym, ap, ◌∙◌, true≢false}
+use Rattle.std.proofs.Common.{◌≡◌, Option, Some, None, is_some, unwrap_or, string_bytes, false, MatchOption, refl, sym, ap, ◌∙◌, true≢false}
 use Rattle.std.proofs.lemmas.Result.{IfOk-weaker}
 use Rattle.bson_base.specs.Value.{Value}
 use Rattle.bson_pairs.specs.Keyed.{get, has_key}

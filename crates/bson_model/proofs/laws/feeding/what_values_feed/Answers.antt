@@ -1,4 +1,4 @@
-use Rattle.std.proofs.Common.{◌≡◌, ◌∙◌, refl, rules}
+use Rattle.std.proofs.Common.{◌≡◌, refl, rules}
 use Rattle.bson_model.specs.declared.bson.Bson as bson
 use Rattle.bson_model.specs.declared.bson.Bson.{the_lemmas}
 use Rattle.bson_model.specs.declared.bson.Bson.TheBlock.{member-Document, member-JavaScriptCodeWithScope}
@@ -6,7 +6,6 @@ use Rattle.bson_model.specs.declared.bson.JavaScriptCodeWithScope.{JavaScriptCod
 use Rattle.bson_model.specs.declared.document.Document.{Document}
 use Rattle.bson_model.specs.contracts.bson.BsonHash.TheImpl.Laws.{is, family}
 use Rattle.bson_model.specs.contracts.bson.JavaScriptCodeWithScopeHash.TheImpl.Laws as code_laws
-use Rattle.bson_model.specs.contracts.document.DocumentHash.TheImpl.Laws as document_laws
 use Rattle.bson_model.specs.Laws.{document_writes}
 use Rattle.bson_model.proofs.laws.feeding.what_values_feed.Goals as goal
 

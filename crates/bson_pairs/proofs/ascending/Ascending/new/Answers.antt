@@ -1,9 +1,6 @@
 use Rattle.std.proofs.Common.{◌<◌, length, All, sym, ap, ◌∙◌, subst}
-use Rattle.std.proofs.Math.ListN.{length-map}
-use Rattle.std.proofs.lemmas.List.Elements.{All-from_recursion}
-use Rattle.bson_pairs.specs.Index.{places_of, pick}
-use Rattle.bson_pairs.specs.Keyed.{key_bytes, keyed}
-use Rattle.bson_pairs.proofs.IndexLemmas.{places_within}
+use Rattle.bson_pairs.specs.Index.{pick}
+use Rattle.bson_pairs.specs.Keyed.{keyed}
 use Rattle.bson_pairs.proofs.PickLemmas.{pick-index, texts_within}
 use Rattle.bson_pairs.proofs.ascending.Ascending.new.Goals as goal
 

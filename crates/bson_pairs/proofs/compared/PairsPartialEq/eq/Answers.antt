@@ -1,8 +1,8 @@
-use Rattle.std.proofs.Common.{◌≡◌, ◌&&◌, Bool, true, false, sym, ap, ◌∙◌}
+use Rattle.std.proofs.Common.{◌≡◌, ◌&&◌, true, false, sym, ap, ◌∙◌}
 use Rattle.std.specs.List.{list_all}
 use Rattle.std.specs.Map.{keys_of}
 use Rattle.bson_pairs.specs.Keyed.{has_key}
-use Rattle.bson_pairs.specs.Same.{same_at, pairs_eq}
+use Rattle.bson_pairs.specs.Same.{same_at}
 use Rattle.bson_pairs.proofs.DistinctLemmas.{pairs_eq-has_all}
 use Rattle.bson_pairs.proofs.KeyedLemmas.{list_all-key_bytes}
 use Rattle.bson_pairs.proofs.compared.PairsPartialEq.eq.Goals as goal

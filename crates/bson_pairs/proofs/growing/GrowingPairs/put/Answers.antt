@@ -1,5 +1,5 @@
-use Rattle.std.proofs.Common.{◌≡◌, None, ◌∷◌, ◌++◌, [], length, set, string_bytes, refl, sym, ap, ◌∙◌, subst}
-use Rattle.bson_pairs.specs.Keyed.{keyed, get, put}
+use Rattle.std.proofs.Common.{◌∷◌, ◌++◌, [], string_bytes, sym, ap, ◌∙◌, subst}
+use Rattle.bson_pairs.specs.Keyed.{keyed, put}
 use Rattle.bson_pairs.specs.Index.{is_key}
 use Rattle.bson_pairs.proofs.KeyedLemmas.{Absent, found_at, absent_if, get-missing, put-found, put-absent, keyed-push, on_err}
 use Rattle.bson_pairs.proofs.growing.GrowingPairs.put.Goals as goal

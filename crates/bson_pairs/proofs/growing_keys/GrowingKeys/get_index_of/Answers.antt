@@ -1,4 +1,4 @@
-use Rattle.std.proofs.Common.{◌≡◌, ◌<◌, IfSome, length, position, sym, ap, ◌∙◌, subst}
+use Rattle.std.proofs.Common.{position, ap, ◌∙◌}
 use Rattle.std.specs.FinMap.Entries.{find}
 use Rattle.bson_pairs.specs.Ascending.{key_cmp}
 use Rattle.bson_pairs.specs.Index.{is_key}

@@ -1,4 +1,4 @@
-use Rattle.std.proofs.Common.{◌≤◌, length, bytes_eq, sym, ap, ◌∙◌, subst, arith}
+use Rattle.std.proofs.Common.{bytes_eq, sym, ap, ◌∙◌, subst, arith}
 use Rattle.std.specs.List.{IsDistinct}
 use Rattle.bson_pairs.specs.Index.{index_of, places_of}
 use Rattle.bson_pairs.specs.Keyed.{key_bytes}

@@ -2,7 +2,7 @@ use Rattle.std.proofs.Common.{◌≡◌, None, ◌++◌, ◌∷◌, [], string_b
 use Rattle.std.specs.FinMap.Entries.{find}
 use Rattle.std.specs.List.{IsDistinct}
 use Rattle.bson_pairs.specs.Ascending.{key_cmp}
-use Rattle.bson_pairs.specs.Index.{index_of, is_key, seen_places}
+use Rattle.bson_pairs.specs.Index.{index_of, is_key}
 use Rattle.bson_pairs.specs.Keyed.{key_bytes}
 use Rattle.bson_pairs.proofs.IndexLemmas.{find-index}
 use Rattle.bson_pairs.proofs.GrowthLemmas.{tree-push, distinct-pushed}

@@ -1,5 +1,5 @@
-use Rattle.std.proofs.Common.{◌≡◌, ◌<◌, ◌^◌, Some, None, length, IfOk, IfErr, position, refl, sym, ap, ◌∙◌, subst}
-use Rattle.bson_pairs.specs.Index.{is_key, places_of, IsIndexedAt, GoesAt}
+use Rattle.std.proofs.Common.{◌<◌, ◌^◌, length, IfOk, IfErr, position, sym, ap, ◌∙◌, subst}
+use Rattle.bson_pairs.specs.Index.{is_key, IsIndexedAt, GoesAt}
 use Rattle.bson_pairs.specs.Keyed.{key_bytes}
 use Rattle.bson_pairs.proofs.IndexLemmas.{found_position, found_within, gone_position, order_length}
 use Rattle.bson_pairs.proofs.keys.Keys.find.Goals as goal

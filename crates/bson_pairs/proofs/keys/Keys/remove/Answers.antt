@@ -1,6 +1,6 @@
-use Rattle.std.proofs.Common.{◌≡◌, ◌<◌, Some, None, length, map, take, drop, ◌++◌, IfOk, IfErr, position, refl, sym, ap, ◌∙◌, subst}
+use Rattle.std.proofs.Common.{◌≡◌, ◌<◌, length, map, IfOk, IfErr, position, sym, ap, ◌∙◌, subst}
 use Rattle.std.proofs.Math.ListN.{length-map}
-use Rattle.bson_pairs.specs.Index.{is_key, places_of, lowered, IsIndexedAt, GoesAt}
+use Rattle.bson_pairs.specs.Index.{is_key, lowered, IsIndexedAt, GoesAt}
 use Rattle.bson_pairs.specs.Keyed.{key_bytes}
 use Rattle.bson_pairs.proofs.IndexLemmas.{found_position, found_within, gone_position, removed, front}
 use Rattle.bson_pairs.proofs.keys.Keys.remove.Goals as goal

@@ -1,7 +1,5 @@
-use Rattle.std.proofs.Common.{sym, ap, ◌∙◌, subst, bytes_eq, refl}
+use Rattle.std.proofs.Common.{◌∙◌}
 use Rattle.std.proofs.lemmas.List.Elements.{same_from_all_zip}
-use Rattle.std.specs.List.{IsDistinct}
-use Rattle.bson_pairs.specs.Keyed.{key_bytes}
 use Rattle.bson_pairs.proofs.IndexLemmas.{copied}
 use Rattle.bson_pairs.proofs.KeyedLemmas.{key_bytes-clones}
 use Rattle.bson_pairs.proofs.keys.Keys.try_clone.Goals as goal

@@ -1,4 +1,4 @@
-use Rattle.std.proofs.Common.{◌^◌, ◌<◌, length, position, bytes_eq, sym, ap, ◌∙◌, subst}
+use Rattle.std.proofs.Common.{◌^◌, ◌<◌, position, bytes_eq, sym, ap, ◌∙◌, subst}
 use Rattle.bson_pairs.specs.Index.{place_of}
 use Rattle.bson_pairs.proofs.IndexLemmas.{position-key_bytes}
 use Rattle.bson_pairs.proofs.KeyedLemmas.{keys_of-keyed, length-pairs}

@@ -1,8 +1,7 @@
-use Rattle.std.proofs.Common.{◌≡◌, List, [], ◌∷◌, ◌++◌, length, set, remove, slice_get, if◌then◌else◌, Some, string_bytes, refl, sym, ap, ◌∙◌, subst, arith, length-append}
-use Rattle.std.specs.Map.{values_of}
-use Rattle.bson_pairs.specs.Keyed.{Key, keyed, get, put, without, set_at}
+use Rattle.std.proofs.Common.{Some, sym, ap, ◌∙◌}
+use Rattle.bson_pairs.specs.Keyed.{get}
 use Rattle.bson_pairs.specs.Index.{is_key}
-use Rattle.bson_pairs.proofs.KeyedLemmas.{FoundAt, Absent, found_at, absent_if, not_any, on_some, get-found, get-found_value, get-absent, put-found, put-absent, without-found, without-absent, set_at-found, set_at-keyed, keyed-push, values_of-keyed}
+use Rattle.bson_pairs.proofs.KeyedLemmas.{found_at, absent_if, get-found_value, get-absent}
 use Rattle.bson_pairs.proofs.pairs.Pairs.get.Goals as goal
 
 pub returns-in-Some : goal.returns-in-Some

@@ -1,10 +1,9 @@
-use Rattle.std.proofs.Common.{◌≡◌, List, [], ◌∷◌, ◌++◌, length, set, remove, slice_get, if◌then◌else◌, Some, string_bytes, refl, sym, ap, ◌∙◌, subst, arith, length-append}
+use Rattle.std.proofs.Common.{◌≡◌, set, slice_get, sym, ap, ◌∙◌}
 use borrow.Follows.Closed.{read_of}
 use Rattle.std.specs.Option.{ghost_name_of}
 use Rattle.std.specs.Map.{values_of}
-use Rattle.bson_pairs.specs.Keyed.{Key, keyed, get, put, without, set_at}
-use Rattle.bson_pairs.specs.Index.{is_key}
-use Rattle.bson_pairs.proofs.KeyedLemmas.{FoundAt, Absent, found_at, absent_if, not_any, on_some, as_item, get-found, get-found_value, get-absent, put-found, put-absent, without-found, without-absent, set_at-found, set_at-keyed, keyed-push, values_of-keyed}
+use Rattle.bson_pairs.specs.Keyed.{keyed, set_at}
+use Rattle.bson_pairs.proofs.KeyedLemmas.{as_item, set_at-keyed, values_of-keyed}
 use Rattle.bson_pairs.proofs.pairs.Pairs.get_index_mut.Goals as goal
 
 pub returns : goal.returns

@@ -1,5 +1,4 @@
-use Rattle.std.proofs.Common.{◌≡◌, ◌<◌, Some, length, get_or, string_bytes, bytes_eq, true, sym, ap, ◌∙◌, arith}
-use Rattle.std.specs.Map.{values_of}
+use Rattle.std.proofs.Common.{◌≡◌, get_or, string_bytes, bytes_eq, true, sym, ap, ◌∙◌}
 use Rattle.bson_pairs.proofs.DistinctLemmas.{get_at_place}
 use Rattle.bson_pairs.proofs.pairs.Pairs.get_near.Goals as goal
 

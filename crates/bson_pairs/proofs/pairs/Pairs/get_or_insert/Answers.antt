@@ -1,8 +1,8 @@
-use Rattle.std.proofs.Common.{◌≡◌, ◌<◌, ◌+◌, None, ◌∷◌, [], length, slice_get, unwrap_or, string_bytes, refl, sym, ap, ◌∙◌, subst, arith, length-append}
+use Rattle.std.proofs.Common.{◌≡◌, ◌<◌, ◌+◌, ◌∷◌, [], length, slice_get, unwrap_or, string_bytes, refl, sym, ap, ◌∙◌, subst, arith, length-append}
 use Rattle.std.specs.Map.{values_of}
 use Rattle.bson_pairs.specs.Keyed.{get, put, set_at}
 use Rattle.bson_pairs.specs.Index.{is_key}
-use Rattle.bson_pairs.proofs.KeyedLemmas.{found_at, absent_if, get-found, get-absent, set_at-found, set_at-put-new, put-new, value-last, same_some, values_of-keyed, length-pairs, get-missing}
+use Rattle.bson_pairs.proofs.KeyedLemmas.{found_at, get-found, set_at-found, set_at-put-new, put-new, value-last, same_some, values_of-keyed, length-pairs, get-missing}
 use Rattle.bson_pairs.proofs.pairs.Pairs.get_or_insert.Goals as goal
 
 pub value_at_mut-requires : goal.value_at_mut-requires

@@ -1,4 +1,4 @@
-use Rattle.std.proofs.Common.{◌≡◌, Some, None, ◌∷◌, ◌++◌, [], length, set, string_bytes, refl, sym, ap, ◌∙◌, subst}
+use Rattle.std.proofs.Common.{Some, ◌∷◌, ◌++◌, [], set, string_bytes, sym, ap, ◌∙◌, subst}
 use Rattle.bson_pairs.specs.Keyed.{keyed, get, put}
 use Rattle.bson_pairs.specs.Index.{is_key}
 use Rattle.bson_pairs.proofs.KeyedLemmas.{Absent, found_at, absent_if, get-found_value, get-absent, get-missing, put-found, put-absent, keyed-push, on_err}

@@ -1,6 +1,5 @@
 use Rattle.std.proofs.Common.{sym, ap, ◌∙◌, subst, bytes_eq}
 use Rattle.std.specs.List.{IsDistinct}
-use Rattle.bson_pairs.proofs.DistinctLemmas.{distinct-key_bytes}
 use Rattle.std.specs.Map.{keys_of}
 use Rattle.bson_pairs.specs.Keyed.{key_bytes}
 use Rattle.bson_pairs.proofs.KeyedLemmas.{keys_of-keyed}

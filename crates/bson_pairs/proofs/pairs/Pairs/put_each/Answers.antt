@@ -1,4 +1,4 @@
-use Rattle.std.proofs.Common.{◌≡◌, ◌++◌, string_bytes, sym, ap, ◌∙◌}
+use Rattle.std.proofs.Common.{◌++◌, string_bytes, sym, ap, ◌∙◌}
 use Rattle.bson_pairs.specs.Keyed.{get}
 use Rattle.bson_pairs.proofs.KeyedLemmas.{on_err}
 use Rattle.bson_pairs.proofs.pairs.Pairs.put_each.Goals as goal

@@ -1,4 +1,4 @@
-use Rattle.std.proofs.Common.{◌≡◌, Some, length, remove, MatchOption, refl, sym, ap, ◌∙◌, subst}
+use Rattle.std.proofs.Common.{Some, sym, ap, ◌∙◌}
 use Rattle.bson_pairs.specs.Keyed.{keyed, get, without}
 use Rattle.bson_pairs.specs.Index.{is_key}
 use Rattle.bson_pairs.proofs.KeyedLemmas.{found_at, absent_if, get-found_value, get-absent, without-found, without-absent}

@@ -1,7 +1,7 @@
-use Rattle.std.proofs.Common.{◌≡◌, ◌<◌, length, set, slice_get, refl, sym, ap, ◌∙◌, subst, Some}
+use Rattle.std.proofs.Common.{◌<◌, slice_get, refl, sym, ap, ◌∙◌, subst}
 use Rattle.std.proofs.lemmas.Option.{slice_get_read}
 use Rattle.std.specs.Map.{values_of}
-use Rattle.bson_pairs.specs.Keyed.{keyed, set_at}
+use Rattle.bson_pairs.specs.Keyed.{set_at}
 use Rattle.bson_pairs.proofs.KeyedLemmas.{length-pairs, set_at-keyed, values_of-keyed}
 use Rattle.bson_pairs.proofs.pairs.Pairs.value_at_mut.Goals as goal
 

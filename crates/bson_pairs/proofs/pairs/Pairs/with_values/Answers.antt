@@ -1,4 +1,4 @@
-use Rattle.std.proofs.Common.{◌≡◌, length, refl, sym, ap, ◌∙◌, string_bytes}
+use Rattle.std.proofs.Common.{◌≡◌, length, sym, ap, ◌∙◌, string_bytes}
 use Rattle.std.proofs.Math.ListN.{length-map}
 use Rattle.std.specs.List.{zip}
 use Rattle.std.specs.Map.{keys_of}

@@ -1,4 +1,4 @@
-use Rattle.std.proofs.Common.{◌≡◌, not, true, false, IsTrue, ap, ◌∙◌, is_eq, rules, List, ℕ, Bor}
+use Rattle.std.proofs.Common.{◌≡◌, not, true, false, ap, ◌∙◌, is_eq, rules, List, ℕ, Bor}
 use Rattle.std.specs.List.{list_any}
 use Rattle.store_streams.proofs.KeyLemmas.{key_cmp, contains_is, inserted, was_absent}
 use Rattle.std.specs.Str.{bytes_eq}
