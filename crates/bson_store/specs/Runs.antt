@@ -72,6 +72,14 @@ Imported n bytes r = DoesMany n (ReadsStream bytes) (reply_of r)
 abbrev pub Obeys : Command → Reply → List Doc → List Doc → Type 0
 Obeys x r old new = (c : model.Command) × Asks x c × Does c (reply_of r) old new
 
+-- a command whose call is lent all that it names
+abbrev pub IsLent : Command → Type 0
+IsLent (InsertJson name json) = ⊥
+IsLent (ReplaceJson name json) = ⊥
+IsLent (Set name id key value) = ⊥
+IsLent (LoadJson name trees) = ⊥
+IsLent _ = Unit {0}
+
 -- a run of the commands through tables, from a to one that the rows show
 pub record RunsFrom (a : Table) (commands : List Command) (replies : List Reply) (docs : List Doc) : Type 0 where
   pub b : Table

@@ -5,7 +5,7 @@ ghost use Rattle.bson_table.specs.Moves.{Moves};
 ghost use Rattle.bson_store.specs.Calls.{held};
 ghost use Rattle.bson_store.specs.Questions.{as_list, as_names};
 ghost use Rattle.bson_store.specs.Refusals.{reply_by, as_done, as_flag, as_bytes, as_json, as_json_list, as_number};
-ghost use Rattle.bson_store.specs.Runs.{Exported, Imported, Obeys, AnswersAsLists, AnswersThroughTables, reply_of};
+ghost use Rattle.bson_store.specs.Runs.{Exported, Imported, IsLent, Obeys, AnswersAsLists, AnswersThroughTables, reply_of};
 
 use crate::command::{Command, Reply};
 use crate::error::StoreError;
@@ -111,20 +111,12 @@ fn imported<S: Alter + Drop>(store: &mut Store<S>, name: &str, bytes: &[u8]) -> 
     counted(store.import(name, &mut source))
 }
 
-/// One command.
+/// One command. JSON is handed over to the call that keeps it; all else is lent.
 fn execute<S: Alter + Drop>(store: &mut Store<S>, command: Command) -> Reply
     ensures { Moves (held S.Store store.old) (held S.Store store.new) (Obeys command result) }
 {
     match command {
-        Command::InsertRaw { name, bytes } => done(store.insert_raw(
-            name.as_str(),
-            bytes.as_slice(),
-        )),
         Command::InsertJson { name, json } => done(store.insert_json(name.as_str(), json)),
-        Command::ReplaceRaw { name, bytes } => done(store.replace_raw(
-            name.as_str(),
-            bytes.as_slice(),
-        )),
         Command::ReplaceJson { name, json } => done(store.replace_json(name.as_str(), json)),
         Command::Set {
             name,
@@ -132,20 +124,42 @@ fn execute<S: Alter + Drop>(store: &mut Store<S>, command: Command) -> Reply
             key,
             value,
         } => done(store.set(name.as_str(), &id, key.as_str(), value)),
-        Command::Unset { name, id, key } => flag(store.unset(name.as_str(), &id, key.as_str())),
-        Command::Remove { name, id } => done(store.remove(name.as_str(), &id)),
-        Command::GetRaw { name, id } => written(store.get_raw(name.as_str(), &id)),
-        Command::GetJson { name, id, mode } => json(store.get_json(name.as_str(), &id, mode)),
+        Command::LoadJson { name, trees } => counted(store.load_json(name.as_str(), trees)),
+        lent => execute_lent(store, &lent),
+    }
+}
+
+/// One command that hands no JSON over. It is lent, as what it holds would else be dropped anew in each of the cases.
+fn execute_lent<S: Alter + Drop>(store: &mut Store<S>, command: &Command) -> Reply
+    requires { IsLent command.now }
+    ensures { Moves (held S.Store store.old) (held S.Store store.new) (Obeys command.now result) }
+{
+    match command {
+        Command::InsertRaw { name, bytes } => done(store.insert_raw(
+            name.as_str(),
+            bytes.as_slice(),
+        )),
+        Command::ReplaceRaw { name, bytes } => done(store.replace_raw(
+            name.as_str(),
+            bytes.as_slice(),
+        )),
+        Command::Unset { name, id, key } => flag(store.unset(name.as_str(), id, key.as_str())),
+        Command::Remove { name, id } => done(store.remove(name.as_str(), id)),
+        Command::GetRaw { name, id } => written(store.get_raw(name.as_str(), id)),
+        Command::GetJson { name, id, mode } => json(store.get_json(name.as_str(), id, *mode)),
         Command::Collections => names(store.collections()),
-        Command::Find { name, filter } => list(store.find(name.as_str(), &filter)),
-        Command::Count { name, filter } => counted(store.count(name.as_str(), &filter)),
+        Command::Find { name, filter } => list(store.find(name.as_str(), filter)),
+        Command::Count { name, filter } => counted(store.count(name.as_str(), filter)),
         Command::Project { name, filter, keys } => {
-            list(store.project(name.as_str(), &filter, keys.as_slice()))
+            list(store.project(name.as_str(), filter, keys.as_slice()))
         }
         Command::Export { name } => exported(store, name.as_str()),
         Command::Import { name, bytes } => imported(store, name.as_str(), bytes.as_slice()),
-        Command::LoadJson { name, trees } => counted(store.load_json(name.as_str(), trees)),
         Command::DumpJson { name } => json_list(store.dump_json(name.as_str())),
+        Command::InsertJson { .. }
+        | Command::ReplaceJson { .. }
+        | Command::Set { .. }
+        | Command::LoadJson { .. } => unreachable!(),
     }
 }
 

@@ -3,7 +3,6 @@ use Rattle.store_laws.specs.Reading.{ReadsStream}
 use Rattle.bson_base.specs.Device.{Feed}
 use Rattle.bson_store.specs.Calls.{held}
 use Rattle.bson_store.specs.Many.{DoesMany, Imports}
-use Rattle.bson_store.specs.Refusals.{as_number, reply_by}
 use Rattle.bson_store.specs.Runs.{Imported}
 use Rattle.bson_store.proofs.Importing.{from_memory, whole_slice}
 use Rattle.bson_store.proofs.Moving.{moved}
