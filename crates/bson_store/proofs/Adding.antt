@@ -2,11 +2,8 @@
 use Rattle.std.proofs.lemmas.Int.{ints}
 use Rattle.std.proofs.Math.Dec.{leb}
 use Rattle.std.proofs.lemmas.Bool.Decides.{leb_tells}
-use Rattle.std.proofs.Common.{◌≡◌, ◌≢◌, ◌⊎◌, inl, inr, ℕ, ◌+◌, ℤ, pos, ◌+ℤ◌, ◌<ℤ◌, ◌^◌, suc, max, ◌<◌, ◌≤◌, List, [], ◌∷◌, ◌++◌, length, map, true, false, Option, Some, None, Result, Ok, Err, refl, ap, ◌∙◌, sym, subst, arith}
+use Rattle.std.proofs.Common.{◌≡◌, ◌≢◌, ◌⊎◌, inl, inr, ℕ, ◌+◌, ℤ, pos, ◌+ℤ◌, ◌<ℤ◌, ◌^◌, suc, max, ◌<◌, ◌≤◌, List, [], ◌∷◌, ◌++◌, length, map, true, false, Option, Some, None, Ok, Err, refl, ap, ◌∙◌, sym, subst, arith}
 use Rattle.std.specs.Prelude.{MatchOption, IsUtf8}
-use Rattle.bson_base.specs.Value.{Members}
-use Rattle.bson_bytes.specs.Encode.{encode}
-use Rattle.bson_meaning.specs.Meaning.{key}
 use Rattle.bson_table.specs.Rows.{Doc, docs_from}
 use Rattle.bson_table.specs.Rows as table
 use Rattle.bson_table.specs.Moves.{AddsRows as PutsRows, IsRoomFor, all_appended}
@@ -16,7 +13,7 @@ use Rattle.store_documents.specs.declared.write.Written.{Written}
 use Rattle.store_laws.specs.Reading.{Documents, AreRead}
 use Rattle.store_laws.specs.State.{list_of, store, import, on, Reply, number, refused, first_refusal, Appends, Answers, IsName, AreKept, Step}
 use Rattle.store_laws.specs.Run.{places, IsDecided}
-use Rattle.store_laws.specs.Table.{Row, Table, state_of, documents_of, greatest, greatest_place, own_id, AreOf, TakePlaces}
+use Rattle.store_laws.specs.Table.{Row, Table, state_of, documents_of, greatest, greatest_place, AreOf, TakePlaces}
 use Rattle.store_laws.specs.declared.error.ErrorKind.{ErrorKind}
 use Rattle.store_laws.specs.declared.error.ErrorKind.TheVariants.{DuplicateId, Places}
 use Rattle.store_laws.proofs.Keys.{rows_are_a_state}
@@ -27,7 +24,7 @@ use Rattle.store_streams.proofs.Appending.{all_accepted, appending_all}
 use Rattle.bson_store.specs.Shown.{AreRowsOf, Rises, Show}
 use Rattle.bson_store.specs.Calls.{Does}
 use Rattle.bson_store.specs.Many.{AddsAll, FindsTaken, IsAddFault, keys_in, keys_of_rows, row_of}
-use Rattle.bson_store.specs.Refusals.{kind_of_fault, refusal, refusal_at, reply_by, as_number}
+use Rattle.bson_store.specs.Refusals.{kind_of_fault, refusal, refusal_at}
 use Rattle.bson_store.specs.declared.error.StoreError.{StoreError}
 use Rattle.bson_store.proofs.Keyed.{keys_are, row_keys_are}
 use Rattle.bson_store.proofs.Tables.{greater, last_greatest, each_more, rows_after}

@@ -1,11 +1,11 @@
 -- Exits of imports and loads.
-use Rattle.std.proofs.Common.{◌≡◌, ◌⊎◌, inl, inr, ℕ, suc, ◌+◌, ◌<◌, List, [], ◌∷◌, ◌++◌, length, take, drop, get_or, map, Bool, true, false, cond, nat_lt, Option, Some, None, Result, Ok, Err, Vec, Global, refl, ap, ◌∙◌, sym, subst, arith}
+use Rattle.std.proofs.Common.{◌≡◌, inl, inr, ℕ, suc, ◌+◌, ◌<◌, List, [], ◌∷◌, ◌++◌, length, take, get_or, map, Bool, true, false, cond, nat_lt, Option, Some, None, Result, Ok, Err, Vec, Global, refl, ap, ◌∙◌, sym, subst}
 use Rattle.std.proofs.lemmas.List.{append-nil, take_more}
 use Rattle.std.specs.Io.KnownBytes.{Consumes, IsAtEnd}
 use Rattle.serde_json.specs.Data.{Data}
 use Rattle.serde_json.specs.View.{view as tree_of}
 use Rattle.serde_json.specs.declared.value.Value.{Value as Json}
-use Rattle.bson_base.specs.Device.{Supply, Gives, Feed, TookAll, StopsReading}
+use Rattle.bson_base.specs.Device.{Feed, TookAll, StopsReading}
 use Rattle.bson_base.specs.Kinds.{AreBytes}
 use Rattle.bson_base.specs.Value.{Members, has_key}
 use Rattle.bson_bytes.specs.Encode.{size}
@@ -17,7 +17,6 @@ use Rattle.bson_table.specs.declared.fault.Fault.TheVariants as faults
 use Rattle.store_documents.specs.declared.write.Written.{Written}
 use Rattle.store_laws.specs.Reading.{Documents, AreAllJson, AreRead, IsReadingKind, IsStop, ReadsStream, ReadsTrees}
 use Rattle.store_laws.specs.State.{id_key, import, on, Reply, number, refused, refusal_of, or_later, first_refusal, Answers, IsName}
-use Rattle.store_laws.specs.Run.{IsDecided}
 use Rattle.store_laws.specs.declared.error.ErrorKind.{ErrorKind}
 use Rattle.store_laws.specs.declared.error.ErrorKind.TheVariants as kind
 use Rattle.store_laws.proofs.Readings.{stream_read, trees_read}
@@ -27,7 +26,6 @@ use Rattle.bson_base.specs.declared.whole.ReadAllError.{ReadAllError}
 use Rattle.bson_base.specs.declared.whole.ReadAllError.TheVariants as reads
 use Rattle.store_streams.specs.Judging.{Judges}
 use Rattle.store_streams.proofs.Streams.{any_stream}
-use Rattle.bson_store.specs.Calls.{Does}
 use Rattle.bson_store.specs.Many.{AddsAll, DoesMany, IsAddFault, ImportRefused, Imports, TakesStream}
 use Rattle.bson_store.specs.Refusals.{as_number, kind_of_fault, kind_of_reading, refusal, refusal_of_stream, reply_by}
 use Rattle.bson_store.specs.declared.error.StoreError.{StoreError}

@@ -1,5 +1,5 @@
 -- The written keys of a collection, and the rows whose key is there already.
-use Rattle.std.proofs.Common.{◌≡◌, ℕ, zero, suc, ◌+◌, ◌<◌, ◌≤◌, List, [], ◌∷◌, length, get_or, take, map, filter, Bool, true, false, not, ◌||◌, ◌&&◌, cond, Option, Some, None, is_some, Ok, Err, refl, ap, ◌∙◌, sym, subst, arith}
+use Rattle.std.proofs.Common.{◌≡◌, ℕ, zero, suc, ◌+◌, ◌<◌, ◌≤◌, List, [], ◌∷◌, length, get_or, map, filter, Bool, true, false, not, ◌||◌, ◌&&◌, cond, Option, Some, None, is_some, Ok, Err, refl, ap, ◌∙◌, sym, subst, arith}
 use Rattle.std.specs.List.{list_any, find}
 use Rattle.std.proofs.lemmas.List.{length-map}
 use Rattle.std.specs.Option.{option_map}
@@ -21,7 +21,7 @@ use Rattle.store_streams.specs.Keys.{first_taken, has_met, keys_of}
 use Rattle.store_streams.proofs.Taken.{ComeTo, come_start, come_more, come_there, come_again, come_end}
 use Rattle.bson_store.specs.Shown.{AreRowsOf}
 use Rattle.bson_store.specs.Many.{Meets, FindsTaken, keys_in, keys_of_rows}
-use Rattle.bson_store.specs.Refusals.{IsDenied, refusal, kind_of_fault}
+use Rattle.bson_store.specs.Refusals.{refusal, kind_of_fault}
 use Rattle.bson_store.specs.declared.error.StoreError.{StoreError}
 use Rattle.bson_store.proofs.Serving.{memory_other, none_is, some_is}
 

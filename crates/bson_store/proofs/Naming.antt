@@ -1,5 +1,5 @@
 -- The names of the collections.
-use Rattle.std.proofs.Common.{◌≡◌, ℕ, List, [], ◌∷◌, ◌++◌, map, Bool, true, false, ◌||◌, cond, Some, None, Ok, Err, IsTrue, String, Vec, Global, refl, ap, ◌∙◌, sym, subst, append_assoc, append-nil}
+use Rattle.std.proofs.Common.{◌≡◌, ℕ, List, [], ◌∷◌, ◌++◌, map, Bool, true, false, ◌||◌, cond, None, Ok, Err, IsTrue, String, Vec, Global, refl, ap, ◌∙◌, sym, subst, append_assoc, append-nil}
 use Rattle.std.specs.Prelude.{Result, IfOk, IfErr, IsUtf8, bytes_eq, string_bytes}
 use Rattle.std.specs.BTreeSet.{BTreeSet}
 use Rattle.std.specs.Cmp.Lexicographic.{slice_cmp}
@@ -15,14 +15,14 @@ use Rattle.bson_table.specs.Rows.{Doc, is_in}
 use Rattle.bson_table.specs.declared.fault.Fault.{Fault}
 use Rattle.bson_table.specs.declared.fault.Fault.TheVariants as faults
 use Rattle.store_laws.specs.State.{AllAfter, AreAscending, collections, holds, list_of, refused}
-use Rattle.store_laws.specs.Table.{Row, Table, documents_of, state_of}
+use Rattle.store_laws.specs.Table.{Table, documents_of}
 use Rattle.store_laws.specs.declared.error.ErrorKind.TheVariants.{Memory}
 use Rattle.store_laws.proofs.Rows.{list_of-state_of}
 use Rattle.bson_store.specs.Calls.{Does}
 use Rattle.bson_store.specs.Export.{bytes_of_each}
 use Rattle.bson_store.specs.Questions.{as_names}
 use Rattle.bson_store.specs.Refusals.{kind_of_fault, refusal, reply_by}
-use Rattle.bson_store.specs.Shown.{AreRowsOf, Show}
+use Rattle.bson_store.specs.Shown.{AreRowsOf}
 use Rattle.bson_store.specs.declared.error.StoreError.{StoreError}
 use Rattle.bson_store.proofs.Serving.{denied, memory_other, stays}
 

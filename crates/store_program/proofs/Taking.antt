@@ -1,16 +1,16 @@
 -- Imports and loads as commands of the program.
-use Rattle.std.proofs.Common.{◌≡◌, ℕ, List, Option, Some, None, Result, Ok, Err, refl, sym, subst}
+use Rattle.std.proofs.Common.{◌≡◌, ℕ, List, Option, Result, Ok, Err, refl, sym, subst}
 use Rattle.sqlite.specs.State.{State as Connected}
 use Rattle.bson_table.specs.Rows.{Doc}
 use Rattle.bson_table.specs.Moves.{Moves}
 use Rattle.store_laws.specs.Reading.{Documents}
-use Rattle.store_laws.specs.State.{import, Command, on, Reply, number, refused}
+use Rattle.store_laws.specs.State.{import, Command, on, number, refused}
 use Rattle.store_laws.specs.Table.{Table}
 use Rattle.store_laws.specs.declared.error.ErrorKind.{ErrorKind}
 use Rattle.store_laws.specs.declared.error.ErrorKind.TheVariants as kind
 use Rattle.bson_base.specs.Device.{Feed}
 use Rattle.bson_store.specs.Shown.{Show}
-use Rattle.bson_store.specs.Many.{DoesMany, TakesStream, ImportRefused, Imports}
+use Rattle.bson_store.specs.Many.{DoesMany, ImportRefused, Imports}
 use Rattle.bson_store.specs.Refusals.{reply_by, as_number}
 use Rattle.bson_store.specs.declared.error.StoreError.{StoreError}
 use Rattle.bson_store.proofs.Moving.{moved}

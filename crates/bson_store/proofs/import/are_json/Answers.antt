@@ -1,4 +1,4 @@
-use Rattle.std.proofs.Common.{map, ap, subst, sym, arith, take_all}
+use Rattle.std.proofs.Common.{map, subst, arith, take_all}
 use Rattle.serde_json.specs.View.{view}
 use Rattle.store_laws.specs.Reading.{AreAllJson}
 use Rattle.bson_store.proofs.Importing.{json_more}

@@ -1,4 +1,4 @@
-use Rattle.std.proofs.Common.{[], ◌∷◌, map, string_bytes}
+use Rattle.std.proofs.Common.{map, string_bytes}
 use Rattle.bson_model.specs.View.{view}
 use Rattle.bson_store.specs.Calls.{held}
 use Rattle.bson_store.specs.Refusals.{as_flag as told}

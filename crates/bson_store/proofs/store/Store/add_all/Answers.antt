@@ -3,10 +3,9 @@ use Rattle.std.proofs.lemmas.Result.{err_from_is_err_and}
 use Rattle.bson_table.specs.Moves.{AddsRows, all_appended}
 use Rattle.bson_table.specs.declared.fault.Fault.TheVariants as faults
 use Rattle.store_documents.specs.Names.{name_bytes}
-use Rattle.store_laws.specs.declared.error.ErrorKind.TheVariants.{DuplicateId}
 use Rattle.bson_store.specs.Calls.{held}
 use Rattle.bson_store.specs.Many.{AddsAll, FindsTaken, row_of}
-use Rattle.bson_store.specs.Refusals.{refusal, refusal_at, kind_of_fault}
+use Rattle.bson_store.specs.Refusals.{refusal, kind_of_fault}
 use Rattle.bson_store.proofs.Adding.{unadded, add_refused, add_wants, not_added, added}
 use Rattle.bson_store.proofs.Moving.{moved, moved_twice}
 use Rattle.bson_store.proofs.store.Store.add_all.Goals as goal

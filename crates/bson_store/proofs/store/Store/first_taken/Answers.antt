@@ -1,4 +1,4 @@
-use Rattle.std.proofs.Common.{◌≡◌, ◌<◌, ◌+◌, length, true, false, Some, None, Ok, Err, arith}
+use Rattle.std.proofs.Common.{◌<◌, ◌+◌, length, Some, None, Ok, Err, arith}
 use Rattle.std.proofs.lemmas.Result.{err_from_is_err_and}
 use Rattle.bson_store.specs.Calls.{held}
 use Rattle.bson_store.specs.Many.{FindsTaken, Meets}

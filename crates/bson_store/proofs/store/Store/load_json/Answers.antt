@@ -1,4 +1,4 @@
-use Rattle.std.proofs.Common.{map, None, Ok, Err, subst}
+use Rattle.std.proofs.Common.{map, None, Err, subst}
 use Rattle.std.proofs.lemmas.Result.{err_from_is_err_and}
 use Rattle.serde_json.specs.View.{view}
 use Rattle.store_documents.specs.Names.{name_bytes}
