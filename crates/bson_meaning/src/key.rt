@@ -91,7 +91,7 @@ pub fn meaning_key_of_element(alloc: Global, name: &str, value: &Bson) -> Result
     if too_long {
         return Err(KeyError::TooLong);
     }
-    written_element(alloc, name, value)
+    written_alone(alloc, name, value)
 }
 
 /// Whether the key would be over 2147483647 bytes. What counts them tells that the document is sound.
@@ -124,7 +124,7 @@ fn written(alloc: Global, document: &Document) -> Result<Vec<u8>, KeyError>
 }
 
 /// The same of a document that has this element alone.
-fn written_element(alloc: Global, name: &str, value: &Bson) -> Result<Vec<u8>, KeyError>
+fn written_alone(alloc: Global, name: &str, value: &Bson) -> Result<Vec<u8>, KeyError>
     ensures bytes { IfOk result (λ k. k.items ≡ key_of (member name.now (view value.now) no_members)) }
     ensures fits { OnOk result (CanBeWritten (tree (member name.now (asc (norm (view value.now))) no_members))) }
     ensures never_not_plain { result ≢ Err KeyError.NotPlain }
