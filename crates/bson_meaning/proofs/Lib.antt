@@ -19,7 +19,6 @@ pub mod JsonBase64
 pub mod JsonDates
 pub mod JsonUuids
 pub mod JsonSound
-pub mod JsonValues
 pub mod Progress
 pub mod Held
 pub mod Heights

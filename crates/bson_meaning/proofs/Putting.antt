@@ -3,7 +3,7 @@ use Rattle.std.proofs.Common.{◌≡◌, List, [], ◌∷◌, ◌++◌, map, Boo
 use Rattle.std.specs.List.{IsDistinct}
 use Rattle.std.specs.Map.{keys_of}
 use Rattle.std.specs.Option.{option_map}
-use Rattle.bson_base.specs.Value.{Value, item, member}
+use Rattle.bson_base.specs.Value.{Value, item, member, MembersHaveDistinctKeys}
 use Rattle.bson_model.specs.Extend.{put_all}
 use Rattle.bson_model.specs.Keyed.{Key, get, put}
 use Rattle.bson_model.specs.Rest.{owned_member}
@@ -24,6 +24,10 @@ pub keys_once : (ps : List (Key × Value)) → IsDistinct bytes_eq (keys_of ps) 
 unfolding IsDistinct
 keys_once [] h = tt
 keys_once (p ∷ ps) h = (sym (look_up-members_of p.0 ps) ∙ none_there p.0 ps h.0, keys_once ps h.1)
+
+pub tops_once : (ps : List (Key × Value)) → MembersHaveDistinctKeys (members_of ps) → KeysOnce ps
+tops_once [] h = tt
+tops_once (p ∷ ps) h = (sym (look_up-members_of p.0 ps) ∙ h.0, tops_once ps h.2)
 
 -- ---- another value under each key
 

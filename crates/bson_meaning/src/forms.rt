@@ -1,6 +1,8 @@
 //! The normal form of a tree.
 
-ghost use Rattle.std.specs.Prelude.{◌≡◌, map, IfOk};
+ghost use Rattle.std.specs.Prelude.{◌≡◌, map, IfOk, IsUtf8};
+ghost use Rattle.bson_base.specs.Kinds.{IsRangedScalar, IsSound};
+ghost use Rattle.bson_base.specs.Value.{document as tree, EachItem, EachMember, ItemsHaveDistinctKeys, MembersHaveDistinctKeys};
 ghost use Rattle.bson_model.specs.Rest.{owned_member};
 ghost use Rattle.bson_model.specs.View.{view, pairs_of, items_of, members_of};
 ghost use Rattle.bson_meaning.specs.Meaning.{norm, norm_items, norm_members};
@@ -8,32 +10,40 @@ ghost use Rattle.bson_meaning.specs.Pairs.{normal_pair};
 ghost use Rattle.bson_meaning.specs.Sames.{IsScalar};
 
 use crate::scalars::{normal_decimal, normal_double, normal_subtype};
+use crate::sound::{ranged_scalar, text};
 use bson_model::laws::distinct_keys_of_level;
 use bson_model::{Binary, Bson, Document, JavaScriptCodeWithScope, Regex};
 use std::alloc::{AllocError, Global};
 
 /// The normal form of a value: a NaN is the quiet one of its sign, a decimal the first form of what it means, the options of a
 /// regular expression are in order, and a subtype is what its byte stands for. The error is a refused growth; the value is
-/// dropped then.
+/// dropped then. As it goes through the whole value, it tells that the value is sound.
 #[cycle(normal)]
 pub fn normalize(alloc: Global, value: Bson) -> Result<Bson, AllocError>
-    ensures { IfOk result (λ v. view v ≡ norm (view value)) }
+    ensures normal { IfOk result (λ v. view v ≡ norm (view value)) }
+    ensures sound { IfOk result (λ _. IsSound (view value)) }
 {
     match value {
         Bson::Array(items) => Ok(Bson::Array(normal_items(alloc, items)?)),
         Bson::Document(document) => Ok(Bson::Document(normalize_document(alloc, document)?)),
         Bson::JavaScriptCodeWithScope(code) => {
             let JavaScriptCodeWithScope { code, scope } = code;
+            text(code.as_str());
             let scope = normalize_document(alloc, scope)?;
             Ok(Bson::JavaScriptCodeWithScope(JavaScriptCodeWithScope { code, scope }))
         }
-        scalar => normal_scalar(alloc, scalar),
+        scalar => {
+            ranged_scalar(&scalar);
+            normal_scalar(alloc, scalar)
+        }
     }
 }
 
 #[cycle(normal)]
 fn normal_items(alloc: Global, items: Vec<Bson>) -> Result<Vec<Bson>, AllocError>
-    ensures { IfOk result (λ v. items_of (map view v.items) ≡ norm_items (items_of (map view items.items))) }
+    ensures normal { IfOk result (λ v. items_of (map view v.items) ≡ norm_items (items_of (map view items.items))) }
+    ensures ranged { IfOk result (λ _. EachItem IsUtf8 IsRangedScalar (items_of (map view items.items))) }
+    ensures distinct { IfOk result (λ _. ItemsHaveDistinctKeys (items_of (map view items.items))) }
 {
     let mut normal = Vec::with_capacity(alloc, items.len())?;
     for item in items {
@@ -42,22 +52,27 @@ fn normal_items(alloc: Global, items: Vec<Bson>) -> Result<Vec<Bson>, AllocError
     Ok(normal)
 }
 
-/// The normal form of a document, which is one too. The error is a refused growth; the document is dropped then.
+/// The normal form of a document, which is one too. The error is a refused growth; the document is dropped then. As it goes
+/// through the whole document, it tells that the document is sound.
 #[cycle(normal)]
 pub fn normalize_document(alloc: Global, document: Document) -> Result<Document, AllocError>
-    ensures { IfOk result (λ d. members_of (pairs_of d) ≡ norm_members (members_of (pairs_of document))) }
+    ensures normal { IfOk result (λ d. members_of (pairs_of d) ≡ norm_members (members_of (pairs_of document))) }
+    ensures sound { IfOk result (λ _. IsSound (tree (members_of (pairs_of document)))) }
 {
-    distinct_keys_of_level(&document);
     let pairs = normal_pairs(alloc, document)?;
     Document::from_pairs(alloc, pairs)
 }
 
 #[cycle(normal)]
 fn normal_pairs(alloc: Global, document: Document) -> Result<Vec<(String, Bson)>, AllocError>
-    ensures { IfOk result (λ v. map owned_member v.items ≡ map normal_pair (pairs_of document)) }
+    ensures normal { IfOk result (λ v. map owned_member v.items ≡ map normal_pair (pairs_of document)) }
+    ensures ranged { IfOk result (λ _. EachMember IsUtf8 IsRangedScalar (members_of (pairs_of document))) }
+    ensures distinct { IfOk result (λ _. MembersHaveDistinctKeys (members_of (pairs_of document))) }
 {
+    distinct_keys_of_level(&document);
     let mut pairs = Vec::with_capacity(alloc, document.len())?;
     for (key, value) in document {
+        text(key.as_str());
         pairs.push((key, normalize(alloc, value)?))?;
     }
     Ok(pairs)

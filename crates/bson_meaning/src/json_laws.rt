@@ -12,10 +12,6 @@ ghost use Rattle.bson_meaning.specs.JsonReserved.{has_reserved};
 ghost use Rattle.bson_meaning.specs.JsonTrees.{IsJson, IsJsonObject};
 ghost use Rattle.bson_meaning.specs.Meaning.{asc, norm, norm_members, asc_members, Same};
 
-mod values;
-
-pub use values::{maps_are_json, values_are_json};
-
 /// A value, its normal form and the value with its keys in order are written alike, in both modes.
 pub fn normal_forms_are_written_alike()
     ensures normal { (m : Mode) (v : Value) → IsSound v → write m (norm v) ≡ write m v }

@@ -18,8 +18,8 @@ ghost use Rattle.bson_meaning.specs.declared.gating.GateError.{GateError as AnyG
 
 use crate::gating::GateError;
 pub use crate::json_laws::{
-    canonical_trees_read_back, maps_are_json, normal_forms_are_written_alike, readings_are_sound,
-    trees_go_by_meaning, values_are_json,
+    canonical_trees_read_back, normal_forms_are_written_alike, readings_are_sound,
+    trees_go_by_meaning,
 };
 use crate::key::KeyError;
 pub use crate::sound::{soundness, soundness_of_document};

@@ -1,25 +1,21 @@
 -- Exits of imports and loads.
-use Rattle.std.proofs.Common.{◌≡◌, inl, inr, ℕ, suc, ◌+◌, ◌<◌, List, [], ◌∷◌, ◌++◌, length, take, get_or, map, Bool, true, false, cond, nat_lt, Option, Some, None, Result, Ok, Err, Vec, Global, refl, ap, ◌∙◌, sym, subst}
-use Rattle.std.proofs.lemmas.List.{append-nil, take_more}
+use Rattle.std.proofs.Common.{◌≡◌, inl, inr, ℕ, suc, ◌+◌, ◌<◌, List, [], ◌∷◌, ◌++◌, length, Bool, true, false, cond, nat_lt, Option, Some, None, Result, Ok, Err, Vec, Global, refl, ap, ◌∙◌, sym, subst}
+use Rattle.std.proofs.lemmas.List.{append-nil}
 use Rattle.std.specs.Io.KnownBytes.{Consumes, IsAtEnd}
-use Rattle.serde_json.specs.Data.{Data}
-use Rattle.serde_json.specs.View.{view as tree_of}
-use Rattle.serde_json.specs.declared.value.Value.{Value as Json}
 use Rattle.bson_base.specs.Device.{Feed, TookAll, StopsReading}
 use Rattle.bson_base.specs.Kinds.{AreBytes}
 use Rattle.bson_base.specs.Value.{Members, has_key}
 use Rattle.bson_bytes.specs.Encode.{size}
 use Rattle.bson_frame.specs.Frame.{size_limit}
-use Rattle.bson_meaning.specs.JsonTrees.{IsJson}
 use Rattle.bson_table.specs.Rows.{Doc}
 use Rattle.bson_table.specs.declared.fault.Fault.{Fault}
 use Rattle.bson_table.specs.declared.fault.Fault.TheVariants as faults
 use Rattle.store_documents.specs.declared.write.Written.{Written}
-use Rattle.store_laws.specs.Reading.{Documents, AreAllJson, AreRead, IsReadingKind, IsStop, ReadsStream, ReadsTrees}
+use Rattle.store_laws.specs.Reading.{Documents, IsReadingKind, IsStop, ReadsStream}
 use Rattle.store_laws.specs.State.{id_key, import, on, Reply, number, refused, refusal_of, or_later, first_refusal, Answers, IsName}
 use Rattle.store_laws.specs.declared.error.ErrorKind.{ErrorKind}
 use Rattle.store_laws.specs.declared.error.ErrorKind.TheVariants as kind
-use Rattle.store_laws.proofs.Readings.{stream_read, trees_read}
+use Rattle.store_laws.proofs.Readings.{stream_read}
 use Rattle.store_streams.specs.declared.error.StreamError.{StreamError}
 use Rattle.store_streams.specs.declared.error.StreamError.TheVariants as streams
 use Rattle.bson_base.specs.declared.whole.ReadAllError.{ReadAllError}
@@ -89,15 +85,8 @@ many_refused docs n Reads (streams.Refused k i) good h = (h.0, h.1, (λ _. h.2),
 many_refused docs n Reads streams.Memory good h = wanted docs n Reads h.0 h.1 good h.2
 
 -- they are
-pub many_added : (docs after : List Doc) (n : List ℕ) (Reads : Documents → Option ErrorKind → Type 0) (rows : Vec Written Global) (r : Result ℕ StoreError) → ((ds : Documents) → Reads ds None → AreRead ds)
-    → Judges Reads (Ok rows) → AddsAll n rows.items r docs after → DoesMany n Reads (reply_by as_number r) docs after
-many_added docs after n Reads rows r sound h added = (h.0, None, (λ _. h.1), added.does h.0 (sound h.0 h.1) h.2 h.3)
-
-pub stream_sound : (bytes : List ℕ) → AreBytes bytes → (ds : Documents) → ReadsStream bytes ds None → AreRead ds
-stream_sound bytes range ds reads = (stream_read bytes ds None range reads).0
-
-pub trees_sound : (js : List Data) → AreAllJson js → (ds : Documents) → ReadsTrees js ds None → AreRead ds
-trees_sound js range ds reads = (trees_read js ds None range reads).0
+pub many_added : (docs after : List Doc) (n : List ℕ) (Reads : Documents → Option ErrorKind → Type 0) (rows : Vec Written Global) (r : Result ℕ StoreError) → Judges Reads (Ok rows) → AddsAll n rows.items r docs after → DoesMany n Reads (reply_by as_number r) docs after
+many_added docs after n Reads rows r h added = (h.0, None, (λ _. h.1), added.does h.0 h.2 h.3 h.4)
 
 -- ---- over a reader
 
@@ -123,10 +112,10 @@ import_refused docs n bytes old new (streams.Refused k i) good range all h =
     of_documents docs docs n old new k (Some i) (first_is 0 h.0 h.1 k i (stream_read bytes h.0 h.1 range h.2).1 h.3) (good, (bytes, all, many_refused docs n (ReadsStream bytes) (streams.Refused k i) good h))
 import_refused docs n bytes old new streams.Memory good range all h = memory_left docs docs n bytes old new good all refl
 
-pub import_added : (docs after : List Doc) (n bytes : List ℕ) (old new : Feed) (rows : Vec Written Global) (r : Result ℕ StoreError) → IsName n → AreBytes bytes → TookAll old new bytes → Judges (ReadsStream bytes) (Ok rows)
+pub import_added : (docs after : List Doc) (n bytes : List ℕ) (old new : Feed) (rows : Vec Written Global) (r : Result ℕ StoreError) → IsName n → TookAll old new bytes → Judges (ReadsStream bytes) (Ok rows)
     → AddsAll n rows.items r docs after → Imports n old new r docs after
-import_added docs after n bytes old new rows (Ok k) good range all h added = (good, (bytes, all, many_added docs after n (ReadsStream bytes) rows (Ok k) (stream_sound bytes range) h added))
-import_added docs after n bytes old new rows (Err e) good range all h added = by e added.fault added.same (many_added docs after n (ReadsStream bytes) rows (Err e) (stream_sound bytes range) h added)
+import_added docs after n bytes old new rows (Ok k) good all h added = (good, (bytes, all, many_added docs after n (ReadsStream bytes) rows (Ok k) h added))
+import_added docs after n bytes old new rows (Err e) good all h added = by e added.fault added.same (many_added docs after n (ReadsStream bytes) rows (Err e) h added)
   where
     at_fault : (x : Fault) → after ≡ docs → DoesMany n (ReadsStream bytes) (refused (kind_of_fault x) None) docs after → ImportRefused n old new (kind_of_fault x) None docs after
     at_fault faults.Memory same does = memory_left docs after n bytes old new good all same
@@ -167,16 +156,3 @@ from_memory docs after n bytes old new r before now whole h = by r h
 pub whole_slice : (xs : List ℕ) (o : Option (List ℕ)) (bs : List ℕ) → Consumes (Some xs) o bs → IsAtEnd o → bs ≡ xs
 whole_slice xs None bs h e = absurd h
 whole_slice xs (Some ys) bs h e = sym (h ∙ ap (λ l. bs ++ l) e ∙ append-nil bs)
-
--- ---- JSON trees one after the other
-
-all_json_last : (js : List Data) (j : Data) → AreAllJson js → IsJson j → AreAllJson (js ++ j ∷ [])
-all_json_last [] j h k = (k, tt)
-all_json_last (i ∷ js) j h k = (h.0, all_json_last js j h.1 k)
-
-map_last : (xs : List Json) (x : Json) → map tree_of (xs ++ x ∷ []) ≡ map tree_of xs ++ tree_of x ∷ []
-map_last [] x = refl
-map_last (y ∷ xs) x = ap (λ l. tree_of y ∷ l) (map_last xs x)
-
-pub json_more : (xs : List Json) (i : ℕ) (x : Json) → i < length xs → x ≡ get_or xs i x → AreAllJson (map tree_of (take i xs)) → IsJson (tree_of x) → AreAllJson (map tree_of (take (i + 1) xs))
-json_more xs i x h is before now = subst AreAllJson (sym (ap (map tree_of) (take_more xs i x h ∙ ap (λ y. take i xs ++ y ∷ []) (sym is)) ∙ map_last (take i xs) x)) (all_json_last (map tree_of (take i xs)) (tree_of x) before now)

@@ -6,7 +6,7 @@ ghost use Rattle.serde_json.specs.View.{view as tree_of};
 ghost use Rattle.bson_table.specs.Moves.{AddsRows, Moves, all_appended};
 ghost use Rattle.store_documents.specs.Names.{name_bytes};
 ghost use Rattle.bson_base.specs.Kinds.{AreBytes};
-ghost use Rattle.store_laws.specs.Reading.{AreAllJson, ReadsStream, ReadsTrees};
+ghost use Rattle.store_laws.specs.Reading.{ReadsStream, ReadsTrees};
 ghost use Rattle.store_streams.specs.Judging.{Judges};
 ghost use Rattle.store_streams.specs.Keys.{has_met};
 ghost use Rattle.bson_store.specs.Calls.{held};
@@ -17,7 +17,6 @@ ghost use Rattle.store_laws.specs.declared.error.ErrorKind.TheVariants.{Duplicat
 use crate::error::StoreError;
 use crate::store::{Store, good_name};
 use bson_base::read_all;
-use bson_meaning::laws::values_are_json;
 use bson_model::Source;
 use bson_table::{Fault, NewRow};
 use serde_json::Value;
@@ -26,15 +25,6 @@ use std::alloc::{AllocError, Global};
 use store_documents::{Name, Written};
 use store_laws::ErrorKind;
 use store_streams::{Keys, StreamError, judge_stream, judge_trees};
-
-/// JSON trees are such as the reader knows. It costs a walk through them.
-fn are_json(trees: &[Value])
-    ensures { AreAllJson (map tree_of trees.now) }
-{
-    for json in trees {
-        values_are_json(json);
-    }
-}
 
 /// The rows of the documents of a stream.
 fn judged(alloc: Global, stream: &[u8]) -> Result<Vec<Written>, StreamError>
@@ -153,7 +143,6 @@ impl<S: Alter + Drop> Store<S> {
         ensures { Moves (held S.Store self.old) (held S.Store self.new) (DoesMany name.now (ReadsTrees (map tree_of trees.items)) (reply_by as_number result)) }
     {
         let name = good_name(name)?;
-        are_json(trees.as_slice());
         let rows = judge_trees(self.alloc, trees)?;
         self.add_all(name, rows)
     }

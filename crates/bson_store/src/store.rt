@@ -24,7 +24,6 @@ use crate::export::Sender;
 use crate::row_test::RowTest;
 use bson_bytes::put::has_no_zero;
 use bson_meaning::KeyError;
-use bson_meaning::laws::values_are_json;
 use bson_model::extjson::Mode;
 use bson_model::{Bson, Document, Sink};
 use bson_table::{Fault, Found, Table};
@@ -231,7 +230,6 @@ impl<S: Alter + Drop> Store<S> {
         if !is_free(key) {
             return Err(StoreError::from(ErrorKind::BadKey));
         }
-        values_are_json(&value);
         let value = read_value(self.alloc, value)?;
         let Some(found) = self.row_of(name, id)? else {
             return Err(StoreError::from(ErrorKind::NotFound));

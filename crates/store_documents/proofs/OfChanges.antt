@@ -1,6 +1,6 @@
 -- Written documents with one member changed.
 use Rattle.std.proofs.Common.{◌≡◌, ◌⊎◌, inl, inr, ℕ, ◌<◌, ◌≤◌, List, [], ◌∷◌, Bool, true, false, cond, Some, None, refl, ap, ◌∙◌, sym, arith}
-use Rattle.std.specs.Prelude.{bytes_eq, is_some}
+use Rattle.std.specs.Prelude.{bytes_eq, is_some, IfOk, Result, Ok, Err}
 use Rattle.bson_base.specs.Kinds.{IsPlain}
 use Rattle.bson_base.specs.Value.{Value, document, Members, no_members, member, has_key, levels, look_up, put, without, MembersHaveDistinctKeys}
 use Rattle.bson_bytes.specs.Encode.{size}
@@ -32,6 +32,11 @@ unwritten e k low (inr (inr memory)) = inr (inr (inr memory))
 
 pub memory : (e : Members) (k : ErrorKind) → k ≡ Memory → Refused e k
 memory e k is = inr (inr (inr is))
+
+-- what is known whatever was answered
+pub known : {A B P : Type 0} (r : Result A B) → P → IfOk r (λ _. P)
+known (Ok a) p = p
+known (Err b) p = tt
 
 -- ---- a member taken out
 

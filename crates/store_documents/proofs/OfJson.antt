@@ -1,9 +1,9 @@
 -- What JSON trees are read as.
-use Rattle.std.proofs.Common.{◌≡◌, ◌≢◌, ◌⊎◌, inl, inr, refl}
+use Rattle.std.proofs.Common.{◌≡◌, ◌≢◌, ◌⊎◌, inl, inr, refl, subst, sym}
 use Rattle.std.specs.Prelude.{Result, Ok, Err, IfOk, MatchResult}
 use Rattle.serde_json.specs.Data.{Data, object, Members as JsonMembers}
-use Rattle.bson_base.specs.Value.{Members}
-use Rattle.bson_meaning.specs.JsonTrees.{IsJson}
+use Rattle.bson_base.specs.Kinds.{IsSound}
+use Rattle.bson_base.specs.Value.{document, Members}
 use Rattle.bson_model.specs.View.{members_of, pairs_of}
 use Rattle.bson_model.specs.declared.document.Document.{Document}
 use Rattle.bson_model.specs.JsonRead.{read_members, Fails}
@@ -15,7 +15,7 @@ use Rattle.store_laws.specs.State.{in_json}
 use Rattle.store_laws.specs.declared.error.ErrorKind.{ErrorKind}
 use Rattle.store_laws.specs.declared.error.ErrorKind.TheVariants.{JsonRefused, Memory}
 use Rattle.store_laws.proofs.Plain.{object_tree}
-use Rattle.store_laws.proofs.Readings.{tree_read}
+use Rattle.store_laws.proofs.Restore.{canonical_read}
 use Rattle.store_documents.specs.Answers.{AnswersTree}
 
 -- why there is no document, or that memory was wanted
@@ -56,6 +56,7 @@ pub kept : (j : Data) (js : JsonMembers) (d : Members) (r : Result Document Erro
 kept j js d (Ok e) is reads keeps = tree_reads j js d (members_of (pairs_of e)) is reads keeps
 kept j js d (Err k) is reads refuses = unfit j js d k is reads refuses
 
-pub kept_read : (j : Data) (js : JsonMembers) (d : Members) (r : Result Document ErrorKind) → IsJson j → j ≡ object js → read_members js ≡ Ok d → IsKeptSo d r → IfOk r (λ e. IsRead (members_of (pairs_of e)))
-kept_read j js d (Ok e) json is reads keeps = tree_read j (readable (members_of (pairs_of e))) json (tree_reads j js d (members_of (pairs_of e)) is reads keeps)
-kept_read j js d (Err k) json is reads refuses = tt
+-- what is kept of a document is as it is read
+pub kept_read : (d : Members) (r : Result Document ErrorKind) → IfOk r (λ _. IsSound (document d)) → IsKeptSo d r → IfOk r (λ e. IsRead (members_of (pairs_of e)))
+kept_read d (Ok e) sound keeps = subst IsRead (sym keeps.2) (canonical_read d keeps.1 sound keeps.0)
+kept_read d (Err k) sound refuses = tt

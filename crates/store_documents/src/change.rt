@@ -1,6 +1,7 @@
 //! Written documents with one member changed.
 
 ghost use Rattle.std.specs.Prelude.{◌≡◌, IfOk, OnOk, string_bytes};
+ghost use Rattle.bson_base.specs.Kinds.{IsSound};
 ghost use Rattle.bson_base.specs.Value.{Members, put};
 ghost use Rattle.bson_bytes.specs.Encode.{encode};
 ghost use Rattle.bson_meaning.specs.Meaning.{asc, norm};
@@ -18,7 +19,8 @@ use store_laws::ErrorKind;
 
 /// The normal form of a value, with its keys in order.
 fn kept_value(alloc: Global, value: Bson) -> Result<Bson, AllocError>
-    ensures { IfOk result (λ v. view v ≡ asc (norm (view value))) }
+    ensures normal { IfOk result (λ v. view v ≡ asc (norm (view value))) }
+    ensures sound { IfOk result (λ _. IsSound (view value)) }
 {
     let normal = normalize(alloc, value)?;
     sort_keys(alloc, normal)
@@ -39,7 +41,8 @@ fn put_normal(
     key: &str,
     value: Bson,
 ) -> Result<(), AllocError>
-    ensures { OnOk result (members_of (pairs_of document.new) ≡ put key.now (asc (norm (view value))) (members_of (pairs_of document.old))) }
+    ensures put { OnOk result (members_of (pairs_of document.new) ≡ put key.now (asc (norm (view value))) (members_of (pairs_of document.old))) }
+    ensures sound { OnOk result (IsSound (view value)) }
 {
     let value = kept_value(alloc, value)?;
     let key = String::from_str(alloc, key)?;
@@ -61,9 +64,10 @@ fn changed_body(alloc: Global, document: &Document) -> Result<Vec<u8>, ErrorKind
 ///
 /// `TooDeep` where the document then has over 100 levels, else `Nul` where a 00 stands in a key, a pattern or options, else
 /// `TooLong` where its bytes are over 16777216; `Memory` where a growth was refused. Bytes that aren't the written form of a
-/// kept document may be refused as `read_bytes` refuses them.
+/// kept document may be refused as `read_bytes` refuses them. Where it isn't refused, the value is known to be sound.
 pub fn set_member(alloc: Global, body: &[u8], key: &str, value: Bson) -> Result<Vec<u8>, ErrorKind>
-    ensures { (d : Members) → IsKept d → body.now ≡ encode d → AnswersChanged (put key.now (asc (norm (view value))) d) result }
+    ensures changed { (d : Members) → IsKept d → body.now ≡ encode d → AnswersChanged (put key.now (asc (norm (view value))) d) result }
+    ensures sound { IfOk result (λ _. IsSound (view value)) }
 {
     let mut document = read_bytes(alloc, body)?;
     match put_normal(alloc, &mut document, key, value) {

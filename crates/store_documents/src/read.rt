@@ -3,7 +3,8 @@
 ghost use Rattle.std.specs.Prelude.{◌≡◌, ◌⊎◌, ◌≢◌, IfOk, MatchOption, MatchResult};
 ghost use Rattle.serde_json.specs.Data.{object};
 ghost use Rattle.serde_json.specs.View.{view as tree_of, members_view};
-ghost use Rattle.bson_base.specs.Value.{Members};
+ghost use Rattle.bson_base.specs.Kinds.{IsSound};
+ghost use Rattle.bson_base.specs.Value.{document as tree, Members};
 ghost use Rattle.bson_bytes.specs.Spells.{Means};
 ghost use Rattle.bson_meaning.specs.Meaning.{asc_members, norm_members};
 ghost use Rattle.bson_model.specs.View.{members_of, pairs_of};
@@ -13,7 +14,6 @@ ghost use Rattle.store_laws.specs.declared.error.ErrorKind.TheVariants.{JsonRefu
 ghost use Rattle.store_documents.specs.Answers.{AnswersBytes, AnswersTree, AnswersValue};
 
 use bson_frame as frames;
-use bson_meaning::laws::values_are_json;
 use bson_meaning::{
     GateError, depth_of_document, gate, is_plain_document, normalize_document, sorted,
 };
@@ -84,7 +84,8 @@ pub fn read_bytes(alloc: Global, bytes: &[u8]) -> Result<Document, ErrorKind>
 
 /// The normal form of a document, with its keys in order.
 fn in_order(alloc: Global, document: Document) -> Result<Document, AllocError>
-    ensures { IfOk result (λ d. members_of (pairs_of d) ≡ asc_members (norm_members (members_of (pairs_of document)))) }
+    ensures normal { IfOk result (λ d. members_of (pairs_of d) ≡ asc_members (norm_members (members_of (pairs_of document)))) }
+    ensures sound { IfOk result (λ _. IsSound (tree (members_of (pairs_of document)))) }
 {
     let normal = normalize_document(alloc, document)?;
     sorted(alloc, normal)
@@ -92,8 +93,9 @@ fn in_order(alloc: Global, document: Document) -> Result<Document, AllocError>
 
 /// The normal form with its keys in order, of a document that can be kept. `TooDeep` or `Nul` where it can't be, in this order.
 fn kept(alloc: Global, document: Document) -> Result<Document, ErrorKind>
-    ensures { MatchResult result (λ e. Keeps (members_of (pairs_of document)) (readable (members_of (pairs_of e))))
+    ensures kept { MatchResult result (λ e. Keeps (members_of (pairs_of document)) (readable (members_of (pairs_of e))))
         (λ k. (k ≡ Memory) ⊎ IsUnfit (members_of (pairs_of document)) k) }
+    ensures sound { IfOk result (λ _. IsSound (tree (members_of (pairs_of document)))) }
 {
     if depth_of_document(&document) > LEVELS {
         return Err(ErrorKind::TooDeep);
@@ -123,7 +125,6 @@ pub fn read_json(alloc: Global, json: Value) -> Result<Document, ErrorKind>
     ensures answer { AnswersTree (tree_of json) result }
     ensures read { IfOk result (λ d. IsRead (members_of (pairs_of d))) }
 {
-    values_are_json(&json);
     let Some(map) = object_of(json) else {
         return Err(ErrorKind::NotAnObject);
     };

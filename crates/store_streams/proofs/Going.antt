@@ -3,7 +3,7 @@ use Rattle.std.proofs.Common.{◌≡◌, ◌⊎◌, inl, inr, ℕ, ◌<◌, List
 use Rattle.serde_json.specs.Data.{Data}
 use Rattle.bson_base.specs.Value.{Members}
 use Rattle.bson_meaning.specs.Gate.{IsCounted}
-use Rattle.store_laws.specs.Reading.{Documents, Reading, readable, unreadable, ReadsBytes, ReadsTree, IsUncut, ReadsTrees}
+use Rattle.store_laws.specs.Reading.{Documents, Reading, readable, unreadable, IsRead, ReadsBytes, ReadsTree, IsUncut, ReadsTrees}
 use Rattle.store_laws.specs.declared.error.ErrorKind.{ErrorKind}
 use Rattle.store_laws.specs.declared.error.ErrorKind.TheVariants.{Memory}
 use Rattle.store_documents.specs.Bodies.{AnswersKept, AnswersWritten}
@@ -21,22 +21,22 @@ unread_row Reads Memory h = tt
 unread_row Reads _ (inl h) = inl h
 unread_row Reads _ (inr e) = absurd (cc)
 
-pub written_row : (Reads : Reading → Type 0) (d : Members) (r : Result Written ErrorKind) → Reads (readable d) → AnswersWritten d r → AnswersRow Reads r
-written_row Reads d (Ok w) h a = (d, h, a.0, a.2, a.1)
-written_row Reads d (Err Memory) h a = tt
-written_row Reads d (Err _) h (inl why) = inr (d, h, why)
-written_row Reads d (Err _) h (inr e) = absurd (cc)
+pub written_row : (Reads : Reading → Type 0) (d : Members) (r : Result Written ErrorKind) → Reads (readable d) → IsRead d → AnswersWritten d r → AnswersRow Reads r
+written_row Reads d (Ok w) h read a = (d, h, read, a.0, a.2, a.1)
+written_row Reads d (Err Memory) h read a = tt
+written_row Reads d (Err _) h read (inl why) = inr (d, h, why)
+written_row Reads d (Err _) h read (inr e) = absurd (cc)
 
 -- what the bytes of one document are kept as
 pub kept_row : (bytes : List ℕ) (r : Result Written ErrorKind) → AnswersKept bytes r → AnswersRow (ReadsBytes bytes) r
-kept_row bytes (Ok w) (d, reads, read, a) = written_row (ReadsBytes bytes) d (Ok w) reads a
+kept_row bytes (Ok w) (d, reads, read, a) = written_row (ReadsBytes bytes) d (Ok w) reads read a
 kept_row bytes (Err k) (inl h) = unread_row (ReadsBytes bytes) k (inl h)
-kept_row bytes (Err k) (inr (d, reads, read, a)) = written_row (ReadsBytes bytes) d (Err k) reads a
+kept_row bytes (Err k) (inr (d, reads, read, a)) = written_row (ReadsBytes bytes) d (Err k) reads read a
 
 -- ---- the first document of a stream
 
 pub front_kept : (bytes p : List ℕ) (rest : Bor (List ℕ)) (w : Written) → bytes ≡ p ++ rest.now → IsCounted p → AnswersRow (ReadsBytes p) (Ok w) → AnswersFront bytes (Ok (w, rest))
-front_kept bytes p rest w e counted (d, h, fits, body, is) = (d, (λ more stop s. stream_more bytes p rest.now d more stop e counted h s), fits, body, is)
+front_kept bytes p rest w e counted (d, h, read, fits, body, is) = (d, (λ more stop s. stream_more bytes p rest.now d more stop e counted h s), read, fits, body, is)
 
 pub front_refused : (bytes p rest : List ℕ) (k : ErrorKind) → bytes ≡ p ++ rest → IsCounted p → AnswersRow (ReadsBytes p) (Err k) → AnswersFront bytes (Err k)
 front_refused bytes p rest Memory e counted h = tt

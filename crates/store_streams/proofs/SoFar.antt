@@ -4,11 +4,12 @@ use Rattle.std.proofs.lemmas.List.{append-nil, length_push}
 use Rattle.bson_base.specs.Value.{Members}
 use Rattle.bson_bytes.specs.Encode.{encode}
 use Rattle.bson_meaning.specs.Meaning.{key}
-use Rattle.store_laws.specs.Reading.{Documents}
+use Rattle.store_laws.specs.Reading.{Documents, AreRead, IsRead}
 use Rattle.store_laws.specs.State.{refusal_of, first_refusal}
 use Rattle.store_laws.specs.Table.{own_id}
 use Rattle.store_laws.specs.declared.error.ErrorKind.{ErrorKind}
 use Rattle.store_documents.specs.declared.write.Written.{Written}
+use Rattle.store_laws.proofs.Documents.{read_join}
 use Rattle.store_streams.specs.declared.error.StreamError.TheVariants.{Refused}
 use Rattle.store_streams.specs.Judging.{AreWrittenRows, Judges}
 
@@ -18,10 +19,11 @@ pub record SoFar (Whole Rest : Documents → Option ErrorKind → Type 0) (rows 
   pub done : Documents
   pub reads : (more : Documents) (stop : Option ErrorKind) → Rest more stop → Whole (done ++ more) stop
   pub kept : (more : Documents) (stop : Option ErrorKind) → first_refusal 0 (done ++ more) stop ≡ first_refusal place more stop
+  pub read : AreRead done
   pub are_rows : AreWrittenRows rows done
 
 pub so_far_start : (Whole : Documents → Option ErrorKind → Type 0) → SoFar Whole Whole [] 0
-so_far_start Whole = record { done = []; reads = λ more stop h. h; kept = λ more stop. refl; are_rows = tt }
+so_far_start Whole = record { done = []; reads = λ more stop h. h; kept = λ more stop. refl; read = tt; are_rows = tt }
 
 rows_more : (rows : List Written) (done : Documents) (w : Written) (d : Members) → AreWrittenRows rows done → w.body.items ≡ encode d → w.key.items ≡ key (own_id d) → AreWrittenRows (rows ++ w ∷ []) (done ++ d ∷ [])
 rows_more [] [] w d h body is = (body, is, tt)
@@ -32,20 +34,21 @@ rows_more (r ∷ rows) [] w d h body is = absurd h
 -- one document more is kept
 pub so_far_more : (Whole Rest Next : Documents → Option ErrorKind → Type 0) (rows : List Written) (place : ℕ) (d : Members) (w : Written)
     → SoFar Whole Rest rows place → ((more : Documents) (stop : Option ErrorKind) → Next more stop → Rest (d ∷ more) stop)
-    → refusal_of d ≡ None → w.body.items ≡ encode d → w.key.items ≡ key (own_id d) → SoFar Whole Next (rows ++ w ∷ []) (place + 1)
-so_far_more Whole Rest Next rows place d w s step fits body is = record {
+    → IsRead d → refusal_of d ≡ None → w.body.items ≡ encode d → w.key.items ≡ key (own_id d) → SoFar Whole Next (rows ++ w ∷ []) (place + 1)
+so_far_more Whole Rest Next rows place d w s step read fits body is = record {
   done = s.done ++ d ∷ [];
   reads = λ more stop h. subst (λ ds. Whole ds stop) (sym (append_assoc s.done (d ∷ []) more)) (s.reads (d ∷ more) stop (step more stop h));
   kept = λ more stop. ap (λ ds. first_refusal 0 ds stop) (append_assoc s.done (d ∷ []) more) ∙ s.kept (d ∷ more) stop ∙ rw (fits, add-one) refl;
+  read = read_join s.done (d ∷ []) s.read (read, tt);
   are_rows = rows_more rows s.done w d s.are_rows body is;
 }
 
 -- the same, where the place is the number of rows
 pub so_far_pushed : (Whole Rest Next : Documents → Option ErrorKind → Type 0) (rows pushed : List Written) (d : Members) (w : Written)
     → SoFar Whole Rest rows (length rows) → ((more : Documents) (stop : Option ErrorKind) → Next more stop → Rest (d ∷ more) stop)
-    → refusal_of d ≡ None → w.body.items ≡ encode d → w.key.items ≡ key (own_id d) → pushed ≡ rows ++ w ∷ [] → SoFar Whole Next pushed (length pushed)
-so_far_pushed Whole Rest Next rows pushed d w s step fits body is e =
-    subst (λ r. SoFar Whole Next r (length r)) (sym e) (subst (SoFar Whole Next (rows ++ w ∷ [])) (sym (length_push rows w)) (so_far_more Whole Rest Next rows (length rows) d w s step fits body is))
+    → IsRead d → refusal_of d ≡ None → w.body.items ≡ encode d → w.key.items ≡ key (own_id d) → pushed ≡ rows ++ w ∷ [] → SoFar Whole Next pushed (length pushed)
+so_far_pushed Whole Rest Next rows pushed d w s step read fits body is e =
+    subst (λ r. SoFar Whole Next r (length r)) (sym e) (subst (SoFar Whole Next (rows ++ w ∷ [])) (sym (length_push rows w)) (so_far_more Whole Rest Next rows (length rows) d w s step read fits body is))
 
 -- the next document can't be kept
 pub so_far_refused : (Whole Rest : Documents → Option ErrorKind → Type 0) (rows : List Written) (place : ℕ) (k : ErrorKind) (d : Members) (more : Documents) (stop : Option ErrorKind)
@@ -59,4 +62,4 @@ so_far_stopped Whole Rest rows place k s h = (s.done ++ [], Some k, s.reads [] (
 
 -- nothing more
 pub so_far_done : (Whole Rest : Documents → Option ErrorKind → Type 0) (rows : Vec Written Global) (place : ℕ) → SoFar Whole Rest rows.items place → Rest [] None → Judges Whole (Ok rows)
-so_far_done Whole Rest rows place s h = (s.done ++ [], s.reads [] None h, s.kept [] None, subst (AreWrittenRows rows.items) (sym (append-nil s.done)) s.are_rows)
+so_far_done Whole Rest rows place s h = (s.done ++ [], s.reads [] None h, subst AreRead (sym (append-nil s.done)) s.read, s.kept [] None, subst (AreWrittenRows rows.items) (sym (append-nil s.done)) s.are_rows)

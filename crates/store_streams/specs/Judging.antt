@@ -5,7 +5,7 @@ use Rattle.std.specs.Borrow.{Bor}
 use Rattle.bson_base.specs.Value.{Members}
 use Rattle.bson_bytes.specs.Encode.{encode}
 use Rattle.bson_meaning.specs.Meaning.{key}
-use Rattle.store_laws.specs.Reading.{Documents, Reading, readable, unreadable, ReadsStream}
+use Rattle.store_laws.specs.Reading.{Documents, Reading, readable, unreadable, AreRead, IsRead, ReadsStream}
 use Rattle.store_laws.specs.State.{refusal_of, first_refusal}
 use Rattle.store_laws.specs.Table.{own_id}
 use Rattle.store_laws.specs.declared.error.ErrorKind.{ErrorKind}
@@ -21,7 +21,7 @@ stream_refusal k i = Refused k i
 
 -- the row of one document, or why there is none, or memory was wanted
 abbrev pub AnswersRow : (Reading → Type 0) → Result Written ErrorKind → Type 0
-AnswersRow Reads (Ok w) = (d : Members) × Reads (readable d) × (refusal_of d ≡ None) × (w.body.items ≡ encode d) × (w.key.items ≡ key (own_id d))
+AnswersRow Reads (Ok w) = (d : Members) × Reads (readable d) × IsRead d × (refusal_of d ≡ None) × (w.body.items ≡ encode d) × (w.key.items ≡ key (own_id d))
 AnswersRow Reads (Err kinds.Memory) = Unit {0}
 AnswersRow Reads (Err k) = Reads (unreadable k) ⊎ ((d : Members) × Reads (readable d) × (refusal_of d ≡ Some k))
 
@@ -33,7 +33,7 @@ RefusesFront Reads k = Reads [] (Some k) ⊎ ((d : Members) × (more : Documents
 -- the row of the first document of a stream, and what follows; or why there is none
 abbrev pub AnswersFront : List ℕ → Result (Written × Bor (List ℕ)) ErrorKind → Type 0
 AnswersFront bytes (Ok r) = (d : Members) × ((more : Documents) (stop : Option ErrorKind) → ReadsStream r.1.now more stop → ReadsStream bytes (d ∷ more) stop)
-    × (refusal_of d ≡ None) × (r.0.body.items ≡ encode d) × (r.0.key.items ≡ key (own_id d))
+    × IsRead d × (refusal_of d ≡ None) × (r.0.body.items ≡ encode d) × (r.0.key.items ≡ key (own_id d))
 AnswersFront bytes (Err k) = RefusesFront (ReadsStream bytes) k
 
 -- the rows are the documents in their order, as they are written, under the keys of their ids
@@ -45,6 +45,6 @@ AreWrittenRows _ _ = ⊥
 -- The input reads as documents that can all be kept, and these are their rows. Or this is the first of its refusals, with its
 -- place. Or memory was wanted for what the input reads as.
 abbrev pub Judges : (Documents → Option ErrorKind → Type 0) → Result (Vec Written Global) StreamError → Type 0
-Judges Reads (Ok rows) = (ds : Documents) × Reads ds None × (first_refusal 0 ds None ≡ None) × AreWrittenRows rows.items ds
+Judges Reads (Ok rows) = (ds : Documents) × Reads ds None × AreRead ds × (first_refusal 0 ds None ≡ None) × AreWrittenRows rows.items ds
 Judges Reads (Err (Refused k i)) = (ds : Documents) × (stop : Option ErrorKind) × Reads ds stop × (first_refusal 0 ds stop ≡ Some (k, i))
 Judges Reads (Err Memory) = (ds : Documents) × (stop : Option ErrorKind) × Reads ds stop

@@ -5,6 +5,9 @@ use Rattle.bson_model.specs.View.{view, pairs_of}
 use Rattle.store_documents.proofs.OfChanges.{value_put}
 use Rattle.store_documents.proofs.change.put_normal.Goals as goal
 
-pub returns : goal.returns
-returns c =
-    on_ok_weaker c.put_value.result (value_put (string_bytes c.in_ok-key.key) c.args.key.now (view c.in_ok-value.value) (asc (norm (view c.args.value))) (pairs_of c.args.document.now) (pairs_of c.put_value.new.document) c.in_ok-key.ensures.ok c.in_ok-value.ensures) c.put_value.ensures
+pub returns-clause-put : goal.returns-clause-put
+returns-clause-put c =
+    on_ok_weaker c.put_value.result (value_put (string_bytes c.in_ok-key.key) c.args.key.now (view c.in_ok-value.value) (asc (norm (view c.args.value))) (pairs_of c.args.document.now) (pairs_of c.put_value.new.document) c.in_ok-key.ensures.ok c.in_ok-value.ensures.normal) c.put_value.ensures
+
+pub returns-clause-sound : goal.returns-clause-sound
+returns-clause-sound c = on_ok_weaker c.put_value.result (λ _. c.in_ok-value.ensures.sound) c.put_value.ensures

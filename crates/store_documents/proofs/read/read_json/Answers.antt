@@ -5,11 +5,10 @@ use Rattle.store_documents.proofs.read.read_json.Goals as goal
 
 pub returns-in-Ok-clause-answer : goal.returns-in-Ok-clause-answer
 returns-in-Ok-clause-answer c =
-    kept (tree_of c.args.json) (members_view c.in-Some.map.entries) (members_of (pairs_of c.in-Ok.document)) c.kept.result c.in-Some.ensures c.in-Ok.ensures c.kept.ensures
+    kept (tree_of c.args.json) (members_view c.in-Some.map.entries) (members_of (pairs_of c.in-Ok.document)) c.kept.result c.in-Some.ensures c.in-Ok.ensures c.kept.ensures.kept
 
 pub returns-in-Ok-clause-read : goal.returns-in-Ok-clause-read
-returns-in-Ok-clause-read c =
-    kept_read (tree_of c.args.json) (members_view c.in-Some.map.entries) (members_of (pairs_of c.in-Ok.document)) c.kept.result c.values_are_json.ensures c.in-Some.ensures c.in-Ok.ensures c.kept.ensures
+returns-in-Ok-clause-read c = kept_read (members_of (pairs_of c.in-Ok.document)) c.kept.result c.kept.ensures.sound c.kept.ensures.kept
 
 pub returns-in-Err-clause-answer : goal.returns-in-Err-clause-answer
 returns-in-Err-clause-answer c =

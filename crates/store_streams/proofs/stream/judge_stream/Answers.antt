@@ -17,7 +17,7 @@ returns-in_err-push-in-Ok c =
 pub loop-rest-preserved : goal.loop-rest-preserved
 loop-rest-preserved c =
     let a = c.in-Ok.ensures.answer in
-    so_far_pushed (ReadsStream c.args.bytes.now) (ReadsStream c.loop-rest.rest.now) (ReadsStream c.in-Ok.more.now) c.loop-rest.rows.items c.push.new.self.items a.0 c.in-Ok.row c.loop-rest.invariant a.1 a.2 a.3 a.4 c.in_ok-push-in-Ok.ensures.items
+    so_far_pushed (ReadsStream c.args.bytes.now) (ReadsStream c.loop-rest.rest.now) (ReadsStream c.in-Ok.more.now) c.loop-rest.rows.items c.push.new.self.items a.0 c.in-Ok.row c.loop-rest.invariant a.1 a.2 a.3 a.4 a.5 c.in_ok-push-in-Ok.ensures.items
 
 pub returns-in-Err : goal.returns-in-Err
 returns-in-Err c =

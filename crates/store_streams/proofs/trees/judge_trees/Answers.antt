@@ -18,7 +18,7 @@ loop-json-preserved c =
     let a = c.in-Ok.ensures in
     so_far_pushed (ReadsTrees (map view c.args.trees.items)) (ReadsTrees (map view vs)) (ReadsTrees (map view ws)) c.loop-json.rows.items c.push.new.self.items a.0 c.in-Ok.row c.loop-json.invariant
     (λ more stop h. subst (λ us. ReadsTrees (map view us) (a.0 ∷ more) stop) (sym first) (trees_more (view c.in-Some.json) (map view ws) a.0 more stop a.1 h))
-    a.2 a.3 a.4 c.in_ok-push-in-Ok.ensures.items
+    a.2 a.3 a.4 a.5 c.in_ok-push-in-Ok.ensures.items
 
 pub returns-in_err-push-in-Ok : goal.returns-in_err-push-in-Ok
 returns-in_err-push-in-Ok c =

@@ -2,13 +2,13 @@ use Rattle.std.proofs.Common.{map, None, Err, subst}
 use Rattle.std.proofs.lemmas.Result.{err_from_is_err_and}
 use Rattle.serde_json.specs.View.{view}
 use Rattle.store_documents.specs.Names.{name_bytes}
-use Rattle.store_laws.specs.Reading.{AreAllJson, ReadsTrees}
+use Rattle.store_laws.specs.Reading.{ReadsTrees}
 use Rattle.store_laws.specs.State.{refused}
 use Rattle.store_laws.specs.declared.error.ErrorKind.TheVariants as kind
 use Rattle.bson_store.specs.Calls.{held}
 use Rattle.bson_store.specs.Many.{AddsAll, DoesMany}
 use Rattle.bson_store.specs.Refusals.{as_number, refusal_of_stream, reply_by}
-use Rattle.bson_store.proofs.Importing.{many_added, many_bad_name, many_refused, trees_sound}
+use Rattle.bson_store.proofs.Importing.{many_added, many_bad_name, many_refused}
 use Rattle.bson_store.proofs.Moving.{rests, moved}
 use Rattle.bson_store.proofs.store.Store.load_json.Goals as goal
 
@@ -32,6 +32,5 @@ returns g c =
     let n = c.args.name.now in
     let rows = c.in_ok-rows.rows in
     let js = map view c.args.trees.items in
-    let all : AreAllJson js = rw c.as_slice.ensures.value at c.are_json.ensures in
     moved (held g.S.Store c.args.self.now) (held g.S.Store c.add_all.new.self) (AddsAll (name_bytes c.in_ok-name.name) rows.items c.add_all.result) (DoesMany n (ReadsTrees js) (reply_by as_number c.add_all.result)) c.add_all.ensures
-    (λ docs after h. many_added docs after n (ReadsTrees js) rows c.add_all.result (trees_sound js all) c.in_ok-rows.ensures (subst (λ m. AddsAll m rows.items c.add_all.result docs after) c.in_ok-name.ensures.0 h))
+    (λ docs after h. many_added docs after n (ReadsTrees js) rows c.add_all.result c.in_ok-rows.ensures (subst (λ m. AddsAll m rows.items c.add_all.result docs after) c.in_ok-name.ensures.0 h))

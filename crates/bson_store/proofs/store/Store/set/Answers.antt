@@ -8,8 +8,6 @@ use Rattle.bson_store.proofs.Exits.{bad_moves, stays_moves, unlooked_moves, none
 use Rattle.bson_table.specs.Rows.{replaced}
 use Rattle.serde_json.specs.View.{view as data_of}
 use Rattle.store_laws.specs.Reading.{read_value}
-use Rattle.store_laws.specs.State.{IsSoundIfAny}
-use Rattle.store_laws.proofs.Readings.{value_read}
 use Rattle.bson_store.proofs.Setting.{set_bad_key, set_unread, set_refused, set_remakes}
 use Rattle.bson_store.proofs.store.Store.set.Goals as goal
 use Rattle.bson_raw.proofs.Progress.{untrue}
@@ -35,7 +33,7 @@ returns-in_default g c =
 pub returns-in_err-body : goal.returns-in_err-body
 returns-in_err-body g c =
     let p = err_from_is_err_and c.from_residual-in_err-body.result c.from_residual-in_err-body.ensures.1 in
-    rw (p.1, p.2, c.in_ok-value.ensures) (there_moves (held g.S.Store c.args.self.now) (held g.S.Store c.row_of.new.self) c.args.name.now (name_bytes c.in_ok-name.name) (view c.args.id.now) c.in_ok-found.field-0 c.in-Some.found (model.set (view c.args.id.now) c.args.key.now (Some (view c.in_ok-value.value))) (model.refused c.in_err-body.field-0.0 None) c.in_ok-name.ensures.0 c.in-Some.is c.in_ok-name.ensures.1 (λ bad. bad (c.is_free.ensures.0 c.if-not-is_free.false)) (set_refused (view c.args.id.now) (view c.in_ok-value.value) c.args.key.now c.in-Some.found c.in_err-body.field-0.0 (c.is_free.ensures.0 c.if-not-is_free.false) (λ d kept was. c.in_err-body.ensures d kept (c.as_slice-old.ensures.value ∙ was))) c.in_ok-found.ensures)
+    rw (p.1, p.2, c.in_ok-value.ensures) (there_moves (held g.S.Store c.args.self.now) (held g.S.Store c.row_of.new.self) c.args.name.now (name_bytes c.in_ok-name.name) (view c.args.id.now) c.in_ok-found.field-0 c.in-Some.found (model.set (view c.args.id.now) c.args.key.now (Some (view c.in_ok-value.value))) (model.refused c.in_err-body.field-0.0 None) c.in_ok-name.ensures.0 c.in-Some.is c.in_ok-name.ensures.1 (λ bad. bad (c.is_free.ensures.0 c.if-not-is_free.false)) (set_refused (view c.args.id.now) (view c.in_ok-value.value) c.args.key.now c.in-Some.found c.in_err-body.field-0.0 (c.is_free.ensures.0 c.if-not-is_free.false) (λ d kept was. c.in_err-body.ensures.changed d kept (c.as_slice-old.ensures.value ∙ was))) c.in_ok-found.ensures)
 
 pub returns-in_err-put_back : goal.returns-in_err-put_back
 returns-in_err-put_back g c =
@@ -44,7 +42,7 @@ returns-in_err-put_back g c =
 
 pub returns : goal.returns
 returns g c =
-    rw c.in_ok-value.ensures (rewritten_moves (held g.S.Store c.args.self.now) (held g.S.Store c.row_of.new.self) (held g.S.Store c.put_back.new.self) c.args.name.now (name_bytes c.in_ok-name.name) (view c.args.id.now) c.in_ok-found.field-0 c.in-Some.found (model.set (view c.args.id.now) c.args.key.now (Some (view c.in_ok-value.value))) model.done c.in_ok-body.body.items c.in_ok-name.ensures.0 c.in-Some.is c.in_ok-name.ensures.1 (λ sound. (sound, c.utf8.key, subst IsSoundIfAny c.in_ok-value.ensures (value_read (data_of c.args.value) c.values_are_json.ensures))) (set_remakes (view c.args.id.now) (view c.in_ok-value.value) c.args.key.now c.in-Some.found c.in_ok-body.body (c.is_free.ensures.0 c.if-not-is_free.false) (λ d kept was. c.in_ok-body.ensures d kept (c.as_slice-old.ensures.value ∙ was))) c.in_ok-found.ensures (rw c.as_slice-body.ensures.value at c.in_ok-put_back.ensures))
+    rw c.in_ok-value.ensures (rewritten_moves (held g.S.Store c.args.self.now) (held g.S.Store c.row_of.new.self) (held g.S.Store c.put_back.new.self) c.args.name.now (name_bytes c.in_ok-name.name) (view c.args.id.now) c.in_ok-found.field-0 c.in-Some.found (model.set (view c.args.id.now) c.args.key.now (Some (view c.in_ok-value.value))) model.done c.in_ok-body.body.items c.in_ok-name.ensures.0 c.in-Some.is c.in_ok-name.ensures.1 (λ sound. (sound, c.utf8.key, c.in_ok-body.ensures.sound)) (set_remakes (view c.args.id.now) (view c.in_ok-value.value) c.args.key.now c.in-Some.found c.in_ok-body.body (c.is_free.ensures.0 c.if-not-is_free.false) (λ d kept was. c.in_ok-body.ensures.changed d kept (c.as_slice-old.ensures.value ∙ was))) c.in_ok-found.ensures (rw c.as_slice-body.ensures.value at c.in_ok-put_back.ensures))
 
 pub returns-in_err-found : goal.returns-in_err-found
 returns-in_err-found g c =
