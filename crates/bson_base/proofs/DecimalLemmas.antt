@@ -1,21 +1,17 @@
 -- Values of digits as they are read.
 use Rattle.std.proofs.Common.{◌≡◌, ℕ, zero, suc, ◌+◌, ◌-◌, ◌*◌, ◌^◌, ◌<◌, ◌≤◌, ◌&&◌, ◌==◌, ◌++◌, inl, inr, min, Bool, true, false, List, [], ◌∷◌, drop, length, get_or, replicate, add-zero, refl, sym, ap, ◌∙◌, arith, add-one}
 use Rattle.std.specs.Char.{is_ascii_digit, digit_value}
-use Rattle.std.proofs.lemmas.Bool.{cases_lt}
+use Rattle.std.proofs.lemmas.Bool.{cases_lt, and_parts}
 use Rattle.std.proofs.Math.Nat.{pow-le-pow_right, pow-suc}
 use Rattle.std.proofs.Math.Seq.{drop-append-add}
 use Rattle.std.proofs.lemmas.List.{drop-append-le, drop_all}
 use Rattle.bson_base.specs.Decimal.{value, value_after, all_digits, all_zeros, strip}
-use Rattle.bson_base.proofs.PrintedReads.{both, value_after-append}
+use Rattle.bson_base.proofs.PrintedReads.{value_after-append}
 
 -- a value never gets less
 value_grows : (n : ℕ) (ds : List ℕ) → n ≤ value_after n ds
 value_grows n [] = omega arith
 value_grows n (c ∷ cs) = omega (arith, value_grows (n * 10 + digit_value c) cs)
-
-value_mono : (m n : ℕ) (ds : List ℕ) → m ≤ n → value_after m ds ≤ value_after n ds
-value_mono m n [] h = h
-value_mono m n (c ∷ cs) h = value_mono (m * 10 + digit_value c) (n * 10 + digit_value c) cs (omega arith)
 
 pub capped : (n : ℕ) (ds : List ℕ) → min (value_after (min n 100000) ds) 100000 ≡ min (value_after n ds) 100000
 capped n ds =
@@ -29,7 +25,7 @@ pub one_more : (n i : ℕ) (ds : List ℕ) → i < length ds → all_digits (dro
     → (value_after n (drop i ds) ≡ value_after (n * 10 + (get_or ds i 0 - 48)) (drop (i + 1) ds)) × (all_digits (drop (i + 1) ds) ≡ true) × (48 ≤ get_or ds i 0) × (get_or ds i 0 ≤ 57)
 one_more n i [] h all = absurd (omega arith)
 one_more n zero (c ∷ cs) h all =
-    let t = both (is_ascii_digit c) (all_digits cs) all in
+    let t = and_parts (is_ascii_digit c) (all_digits cs) all in
     let digit : is_ascii_digit c ≡ true = t.0 in
     let low : 48 ≤ c = grind arith in
     let high : c ≤ 57 = grind arith in
@@ -91,9 +87,9 @@ all_zeros-drop_back k a b h = let e : length a + (k - length a) ≡ k = omega ar
 pub strip-front_zeros : (a b : List ℕ) → all_zeros a ≡ true → (length b ≡ 0 → ⊥) → strip (a ++ b) ≡ strip b
 strip-front_zeros [] b h some = refl
 strip-front_zeros (c ∷ []) [] h some = absurd (some refl)
-strip-front_zeros (c ∷ []) (d ∷ ds) h some = rw (both (c == 48) true h).0 refl
+strip-front_zeros (c ∷ []) (d ∷ ds) h some = rw (and_parts (c == 48) true h).0 refl
 strip-front_zeros (c ∷ d ∷ cs) b h some =
-    let parts = both (c == 48) (all_zeros (d ∷ cs)) h in
+    let parts = and_parts (c == 48) (all_zeros (d ∷ cs)) h in
     rw parts.0 (strip-front_zeros (d ∷ cs) b parts.1 some)
 
 pub strip-front_kept : (a b : List ℕ) → all_zeros a ≡ false → strip (a ++ b) ≡ strip a ++ b
@@ -113,7 +109,7 @@ all_digits-strip [] h = h
 all_digits-strip (c ∷ []) h = h
 all_digits-strip (c ∷ d ∷ ds) h = by (c == 48) refl (all_digits-strip (d ∷ ds)) where
   by : (x : Bool) → (c == 48) ≡ x → (all_digits (d ∷ ds) ≡ true → all_digits (strip (d ∷ ds)) ≡ true) → all_digits (strip (c ∷ d ∷ ds)) ≡ true
-  by true e more = rw e (more (both (is_ascii_digit c) (all_digits (d ∷ ds)) h).1)
+  by true e more = rw e (more (and_parts (is_ascii_digit c) (all_digits (d ∷ ds)) h).1)
   by false e more = rw e h
 
 -- one zero more

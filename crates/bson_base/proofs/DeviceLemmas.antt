@@ -7,11 +7,8 @@ use Rattle.std.proofs.lemmas.List.{take-append-le}
 use Rattle.std.proofs.lemmas.Slice.{take-put_mid_below}
 use borrow.Rule.Slice.PartMut.{put_mid, post_of}
 use lib.Seq.{drop_at, length-take-le}
-use Rattle.std.proofs.KnownBytes.{Appends-nil, Appends-trans, Consumes-nil, Consumes-trans}
+use Rattle.std.proofs.KnownBytes.{Appends-trans, Consumes-trans}
 use Rattle.bson_base.specs.Device.{Supply, Gives}
-
-pub Gives-nil : (s : Supply) → Gives s s []
-Gives-nil s = (Appends-nil s.given, Consumes-nil s.left)
 
 -- what a source gave in two steps
 pub Gives-trans : (a b c : Supply) (bs cs : List ℕ) → Gives a b bs → Gives b c cs → Gives a c (bs ++ cs)

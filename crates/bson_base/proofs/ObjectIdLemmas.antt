@@ -10,7 +10,7 @@ use Rattle.hex.proofs.HexLemmas.{decode_sized-ok}
 use Rattle.bson_base.specs.ObjectIdText.{digit_bytes, digit_value, first_other}
 
 -- as `position` asks whether a byte is a digit
-abbrev passes : ℕ → Bool
+abbrev pub passes : ℕ → Bool
 passes c = not (not (is_hex_digit c))
 
 prefix_len-all : (c : ℕ) (cs : List ℕ) → prefix_len passes (c ∷ cs) ≡ length (c ∷ cs) → (is_hex_digit c ≡ true) × (prefix_len passes cs ≡ length cs)

@@ -1,6 +1,5 @@
 -- Putting numbers in order: what comes out is in order, and is the one list in order with those numbers.
-use Rattle.std.proofs.Common.{◌≡◌, ℕ, ◌+◌, ◌<◌, ◌≤◌, Bool, true, false, cond, List, [], ◌∷◌, get_or, suc, refl, sym, ap, ◌∙◌, subst, arith, eqb, leb}
-use Rattle.std.specs.Prelude.{◌&&◌}
+use Rattle.std.proofs.Common.{◌≡◌, ℕ, ◌+◌, ◌<◌, ◌≤◌, true, false, cond, List, [], ◌∷◌, get_or, suc, refl, sym, ap, ◌∙◌, subst, arith, eqb, leb}
 use Rattle.std.specs.Str.{IsUtf8, chars}
 use Rattle.std.proofs.Math.Utf8.{scalar, scalars, encodes}
 use Rattle.std.proofs.lemmas.Str.{chars-encodes, encodes-chars, scalars-chars}
@@ -12,21 +11,10 @@ use Rattle.std.specs.List.Sorted.{IsPermutation, IsSorted, IsNonDecreasing}
 use Rattle.std.specs.Ordering.{nat_cmp}
 use Rattle.bson_base.specs.Kinds.{NeverDescends}
 use Rattle.bson_base.specs.Options.{put_in_order, ascending_codes, sorted_text}
-
-and_left : (a b : Bool) → a && b ≡ true → a ≡ true
-and_left true b h = refl
-and_left false b h = h
-
-and_right : (a b : Bool) → a && b ≡ true → b ≡ true
-and_right true b h = h
-and_right false b h = absurd (cc)
-
-both : (a b : Bool) → a ≡ true → b ≡ true → a && b ≡ true
-both true b g h = h
-both false b g h = g
+use Rattle.std.proofs.lemmas.Bool.{and_from, and_parts}
 
 -- one for n, none for another number
-abbrev one_at : ℕ → ℕ → ℕ
+abbrev pub one_at : ℕ → ℕ → ℕ
 one_at n x = cond (eqb x n) 1 0
 
 -- how often n stands in xs
@@ -117,15 +105,15 @@ ascending_stays cs up = same_order (ascending_codes cs) cs (NeverDescends-ascend
 pub scalars-put_in_order : (c : ℕ) (ds : List ℕ) → scalar c ≡ true → scalars ds ≡ true → scalars (put_in_order c ds) ≡ true
 scalars-put_in_order c [] one rest = grind (arith, common_steps, one)
 scalars-put_in_order c (d ∷ ds) one rest =
-    let first : scalar d ≡ true = and_left (scalar d) (scalars ds) rest in
-    let others : scalars (put_in_order c ds) ≡ true = scalars-put_in_order c ds one (and_right (scalar d) (scalars ds) rest) in
+    let first : scalar d ≡ true = (and_parts (scalar d) (scalars ds) rest).0 in
+    let others : scalars (put_in_order c ds) ≡ true = scalars-put_in_order c ds one (and_parts (scalar d) (scalars ds) rest).1 in
     elim (leb c d) as (λ b. scalars (cond b (c ∷ d ∷ ds) (d ∷ put_in_order c ds)) ≡ true)
-    [ true ↦ both (scalar c) (scalars (d ∷ ds)) one rest | false ↦ both (scalar d) (scalars (put_in_order c ds)) first others ]
+    [ true ↦ and_from (scalar c) (scalars (d ∷ ds)) one rest | false ↦ and_from (scalar d) (scalars (put_in_order c ds)) first others ]
 
 pub scalars-ascending : (cs : List ℕ) → scalars cs ≡ true → scalars (ascending_codes cs) ≡ true
 scalars-ascending [] all = refl
 scalars-ascending (c ∷ cs) all =
-    scalars-put_in_order c (ascending_codes cs) (and_left (scalar c) (scalars cs) all) (scalars-ascending cs (and_right (scalar c) (scalars cs) all))
+    scalars-put_in_order c (ascending_codes cs) (and_parts (scalar c) (scalars cs) all).0 (scalars-ascending cs (and_parts (scalar c) (scalars cs) all).1)
 
 pub sorted_text-in_order : (text : List ℕ) → IsUtf8 text → NeverDescends (chars (sorted_text text))
 sorted_text-in_order text utf =

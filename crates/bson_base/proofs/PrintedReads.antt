@@ -1,6 +1,6 @@
 -- Every printed finite decimal reads back to its sign, coefficient and exponent.
-use Rattle.std.proofs.Common.{◌≡◌, ℕ, zero, suc, ◌+◌, ◌-◌, ◌*◌, ◌/◌, ◌%◌, ◌^◌, ◌<◌, ◌≤◌, ◌==◌, ◌&&◌, ◌⊎◌, inl, inr, nat_lt, nat_le, Bool, true, false, List, [], ◌∷◌, ◌++◌, length, take, drop, get_or, replicate, Option, Some, None, Ok, refl, sym, ap, ◌∙◌, subst, arith, append_assoc, append-nil, length-append, length-drop, length-take}
-use Rattle.std.proofs.lemmas.Bool.{cases_lt}
+use Rattle.std.proofs.Common.{◌≡◌, ℕ, zero, suc, ◌+◌, ◌-◌, ◌*◌, ◌/◌, ◌%◌, ◌^◌, ◌<◌, ◌≤◌, ◌==◌, inl, inr, nat_lt, nat_le, Bool, true, false, List, [], ◌∷◌, ◌++◌, length, take, drop, get_or, replicate, Option, Some, None, Ok, refl, sym, ap, ◌∙◌, subst, arith, append_assoc, append-nil, length-append, length-drop, length-take}
+use Rattle.std.proofs.lemmas.Bool.{cases_lt, and_parts, cases_Bool}
 use Rattle.std.proofs.lemmas.List.{take-append-drop, length-replicate}
 use Rattle.std.specs.Char.{is_ascii_digit, digit_value, to_ascii_lowercase}
 use Rattle.std.specs.Fmt.{decimal}
@@ -9,10 +9,6 @@ use Rattle.std.specs.Prelude.{IsTrue}
 use Rattle.bson_base.specs.Answer.{result_map}
 use Rattle.bson_base.proofs.DecimalBits.{unpack-pack}
 use Rattle.bson_base.specs.Decimal.{Decimal, not_a_number, infinity, finite, is_finite, IsUnpacked, pack, unpack, cut, is_e, is_dot, all_digits, value_after, value, strip, upward, downward, read_exponent, checked_digits, read_coefficient, ◌>>=◌, shorten, in_range, with_places, read_cut, read_number, read_unsigned_decimal, read, print, with_dot, exponent_text, is_plain, digits_text}
-
-pub both : (a b : Bool) → a && b ≡ true → (a ≡ true) × (b ≡ true)
-both true b h = (refl, h)
-both false b h = cc h
 
 -- ---- digits one after another
 
@@ -59,7 +55,7 @@ digits-decimal n h = decimal_by_steps_wide Digits one_digit more_digits n h
 pub cut-none : (p : ℕ → Bool) (ds : List ℕ) → ((c : ℕ) → is_ascii_digit c ≡ true → p c ≡ false) → all_digits ds ≡ true → cut p ds ≡ (ds, None)
 cut-none p [] other h = refl
 cut-none p (c ∷ cs) other h =
-    let t = both (is_ascii_digit c) (all_digits cs) h in
+    let t = and_parts (is_ascii_digit c) (all_digits cs) h in
     let no : p c ≡ false = other c t.0 in
     let more = cut-none p cs other t.1 in
     rw (no, more) refl
@@ -68,7 +64,7 @@ pub cut-at : (p : ℕ → Bool) (ds : List ℕ) (c : ℕ) (rest : List ℕ) → 
     → cut p (ds ++ c ∷ rest) ≡ (ds, Some rest)
 cut-at p [] c rest other h at = rw at refl
 cut-at p (d ∷ ds) c rest other h at =
-    let t = both (is_ascii_digit d) (all_digits ds) h in
+    let t = and_parts (is_ascii_digit d) (all_digits ds) h in
     let no : p d ≡ false = other d t.0 in
     let more = cut-at p ds c rest other t.1 at in
     rw (no, more) refl
@@ -107,7 +103,7 @@ all_digits-take (suc n) (c ∷ cs) h = grind (arith, all_digits-take n cs)
 pub all_digits-drop : (n : ℕ) (ds : List ℕ) → all_digits ds ≡ true → all_digits (drop n ds) ≡ true
 all_digits-drop zero ds h = h
 all_digits-drop (suc n) [] h = refl
-all_digits-drop (suc n) (c ∷ cs) h = all_digits-drop n cs (both (is_ascii_digit c) (all_digits cs) h).1
+all_digits-drop (suc n) (c ∷ cs) h = all_digits-drop n cs (and_parts (is_ascii_digit c) (all_digits cs) h).1
 
 pub all_digits-zeros : (n : ℕ) → all_digits (replicate n 48) ≡ true
 all_digits-zeros zero = refl
@@ -176,7 +172,7 @@ Passes t = (rest : List ℕ) → cut is_e (t ++ rest) ≡ (t ++ (cut is_e rest).
 Passes-digits : (ds : List ℕ) → all_digits ds ≡ true → Passes ds
 Passes-digits [] h rest = refl
 Passes-digits (c ∷ cs) h rest =
-    let t = both (is_ascii_digit c) (all_digits cs) h in
+    let t = and_parts (is_ascii_digit c) (all_digits cs) h in
     let no : is_e c ≡ false = no_e c t.0 in
     let more = Passes-digits cs t.1 rest in
     rw (no, more) refl
@@ -255,10 +251,6 @@ placed s x ds es k n b stripped is short at few low =
 
 -- ---- the law, after the sign
 
-bool_cases : (x : Bool) → (x ≡ true) ⊎ (x ≡ false)
-bool_cases true = inl refl
-bool_cases false = inr refl
-
 plain_text : (b : ℕ) (ds : List ℕ) → is_plain b (length ds) ≡ true → digits_text b ds ≡ with_dot (6176 - b) ds
 plain_text b ds h = rw h refl
 
@@ -295,7 +287,7 @@ number_reads s c b small low =
     let wide : c < 10 ^ 64 = grind arith in
     let d = digits-decimal c wide in
     let short : length ds ≤ 34 = length-decimal-le_wide 34 c (omega arith) small wide in
-    elim (bool_cases (is_plain b (length ds))) [
+    elim (cases_Bool (is_plain b (length ds))) [
       | inl plain ↦
           let under : b ≤ 6176 = grind arith in
           ap (read_number s) (plain_text b ds plain) ∙ plain_reads s c b ds d short under
@@ -312,7 +304,7 @@ record Begins (t : List ℕ) : Type 0 where
 
 begins-append : (ds rest : List ℕ) → all_digits ds ≡ true → 0 < length ds → Begins (ds ++ rest)
 begins-append [] rest h some = absurd (omega arith)
-begins-append (c ∷ cs) rest h some = record { head = c; tail = cs ++ rest; whole = refl; digit = (both (is_ascii_digit c) (all_digits cs) h).0 }
+begins-append (c ∷ cs) rest h some = record { head = c; tail = cs ++ rest; whole = refl; digit = (and_parts (is_ascii_digit c) (all_digits cs) h).0 }
 
 begins-along : (t u rest : List ℕ) → t ≡ u → Begins (u ++ rest) → Begins (t ++ rest)
 begins-along t u rest same b = subst (λ (v : List ℕ). Begins (v ++ rest)) (sym same) b
@@ -350,7 +342,7 @@ begins-text : (c b : ℕ) → c < 10 ^ 64 → Begins (digits_text b (decimal c))
 begins-text c b wide =
     let ds = decimal c in
     let d = digits-decimal c wide in
-    elim (bool_cases (is_plain b (length ds))) [
+    elim (cases_Bool (is_plain b (length ds))) [
       | inl plain ↦ subst Begins (append-nil (with_dot (6176 - b) ds) ∙ sym (plain_text b ds plain)) (begins-dotted (6176 - b) c ds [] d)
       | inr other ↦ subst Begins (sym (scientific_text b ds other)) (begins-dotted (length ds - 1) c ds (69 ∷ exponent_text (b + length ds - 1)) d)
     ]

@@ -4,7 +4,6 @@ pub mod Lengths
 pub mod Meant
 pub mod One
 pub mod Options
-pub mod Parts
 pub mod Places
 pub mod Scalars
 pub mod Settled

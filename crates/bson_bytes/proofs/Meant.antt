@@ -16,9 +16,9 @@ use Rattle.bson_base.specs.Tags.{tag_byte, subtype_of, subtype_byte}
 use Rattle.bson_base.specs.Value.{Scalar, double, string, binary, undefined, object_id, boolean, date_time, null, regex, db_pointer, code, symbol, int32, timestamp, int64, decimal, max_key, min_key, scalar_kind, value_kind, Value, scalar, array, document, scoped_code, Items, no_items, item, Members, no_members, member, look_up, EachPart, EachItem, EachMember}
 use Rattle.bson_base.proofs.OptionsLemmas.{sorted_text-in_order}
 use Rattle.bson_bytes.specs.Spells.{HoldsScalar, SpellsValue, SpellsItems, SpellsMembers, settle_scalar, settle_value, settle_items, settle, Means}
-use Rattle.bson_bytes.proofs.Distinct.{chosen, distinct, each_without, each_at}
+use Rattle.bson_bytes.proofs.Distinct.{chosen, distinct}
 use Rattle.bson_bytes.proofs.One.{parts_in}
-use Rattle.bson_bytes.proofs.Parts.{each_member}
+use Rattle.bson_base.proofs.Parts.{each_member}
 use Rattle.bson_bytes.proofs.Options.{no_zero_sorted, text_sorted}
 use Rattle.bson_bytes.proofs.Spelled.{IsCleanPart}
 use Rattle.bson_frame.specs.declared.error.ErrorKind.{ErrorKind}
@@ -26,6 +26,7 @@ use Rattle.bson_frame.specs.declared.error.ErrorKind.TheVariants.{MalformedValue
 use Rattle.bson_frame.specs.Frame.{number, Element, IsFirstFrame, IsRegexSize, IsPointerSize, IsTextSize}
 use Rattle.bson_frame.specs.Payload.{IsPayload, IsFaultless, IsNoText, text_in, code_in, scope_in}
 use Rattle.bson_frame.proofs.Payloads.{payload_by_itself}
+use Rattle.bson_base.proofs.Members.{key_at, without_each}
 
 -- ---- bytes
 
@@ -165,7 +166,7 @@ mutual
       let first = good_value is.0.payload v parts.0 whole is.5 in
       let rest = good_members is.1 ms parts.1 is.6 in
       let key = is.2.key_name in
-      ((subst HasNo00 (sym is.3) key.no_zero, subst IsUtf8 (sym is.3) key.text), chosen {P = EachPart IsGoodKey IsGood} (look_up k (settle ms)) (settle_value v) first (λ w e. each_at IsGoodKey IsGood (settle ms) k w rest e), each_without IsGoodKey IsGood k (settle ms) rest)
+      ((subst HasNo00 (sym is.3) key.no_zero, subst IsUtf8 (sym is.3) key.text), chosen {P = EachPart IsGoodKey IsGood} (look_up k (settle ms)) (settle_value v) first (λ w e. (key_at IsGoodKey IsGood (settle ms) k w rest e).1), without_each IsGoodKey IsGood k (settle ms) rest)
 
 pub meaning_is_clean : (bytes : List ℕ) (d : Members) → AreBytes bytes → Means bytes d → IsClean (document d)
 meaning_is_clean bytes d h m =

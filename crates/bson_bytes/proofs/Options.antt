@@ -1,19 +1,11 @@
 -- Putting the characters of a text in order makes no 00.
-use Rattle.std.proofs.Common.{◌≡◌, ℕ, zero, suc, ◌+◌, ◌/◌, ◌%◌, ◌<◌, Bool, true, false, cond, ltb, List, [], ◌∷◌, ◌++◌, refl, sym, subst, arith}
-use Rattle.std.specs.Prelude.{IsUtf8, chars, nat_le, ◌&&◌, if◌then◌else◌}
+use Rattle.std.proofs.Common.{ℕ, zero, suc, ◌+◌, ◌/◌, ◌%◌, ◌<◌, Bool, true, false, cond, ltb, List, [], ◌∷◌, ◌++◌, refl, sym, subst, arith}
+use Rattle.std.specs.Prelude.{IsUtf8, chars, nat_le, if◌then◌else◌}
 use Rattle.std.proofs.Math.Utf8.{encode, encodes}
 use Rattle.std.proofs.lemmas.Str.{encodes-chars, scalars-chars, encode_ascii}
 use Rattle.bson_base.specs.Kinds.{HasNo00}
 use Rattle.bson_base.specs.Options.{put_in_order, ascending_codes, sorted_text}
 use Rattle.bson_base.proofs.OptionsLemmas.{scalars-ascending}
-
-split : (a b : Bool) → a && b ≡ true → (a ≡ true) × (b ≡ true)
-split true b h = (refl, h)
-split false b h = cc
-
-both : (a b : Bool) → a ≡ true → b ≡ true → a && b ≡ true
-both true b h k = k
-both false b h k = cc
 
 pub no_zero_both : (a b : List ℕ) → HasNo00 a → HasNo00 b → HasNo00 (a ++ b)
 no_zero_both [] b h k = k

@@ -1,7 +1,6 @@
 -- A tree whose keys stand once and whose options ascend stays as it is.
-use Rattle.std.proofs.Common.{◌≡◌, ℕ, ◌^◌, ◌<◌, List, Bool, true, false, Option, Some, None, unwrap_or, refl, sym, ap, ◌∙◌, arith, subst}
-use Rattle.std.specs.Prelude.{IsUtf8, if◌then◌else◌}
-use Rattle.std.specs.Str.{bytes_eq}
+use Rattle.std.proofs.Common.{◌≡◌, ℕ, ◌^◌, ◌<◌, List, Option, None, unwrap_or, refl, sym, ap, ◌∙◌, arith, subst}
+use Rattle.std.specs.Prelude.{IsUtf8}
 use Rattle.bson_base.specs.Kinds.{HasNo00, IsRangedScalar, IsClean, IsSound}
 use Rattle.bson_base.specs.Value.{Scalar, regex, Value, scalar, array, document, scoped_code, Items, no_items, item, Members, no_members, member, look_up, without, EachPart, EachItem, EachMember, HasDistinctKeys, ItemsHaveDistinctKeys, MembersHaveDistinctKeys}
 use Rattle.bson_base.proofs.OptionsLemmas.{sorted_text-kept}
@@ -10,14 +9,7 @@ use Rattle.bson_bytes.specs.Spells.{settle_scalar, settle_value, settle_items, s
 use Rattle.bson_bytes.proofs.Extents.{framed_envelope}
 use Rattle.bson_bytes.proofs.Lengths.{members_length}
 use Rattle.bson_bytes.proofs.Spelled.{IsCleanPart, spelled_members, framed_inside}
-
-pub without_absent : (k : List ℕ) (ms : Members) → look_up k ms ≡ None → without k ms ≡ ms
-without_absent k no_members e = refl
-without_absent k (member l v ms) e = by (bytes_eq k l) e (without_absent k ms)
-  where
-    by : (b : Bool) → (if b then Some v else look_up k ms) ≡ None → (look_up k ms ≡ None → without k ms ≡ ms) → (if b then without k ms else member l v (without k ms)) ≡ member l v ms
-    by true e rest = cc
-    by false e rest = ap (member l v) (rest e)
+use Rattle.bson_base.proofs.Members.{without_absent}
 
 stays_scalar : (s : Scalar) → IsCleanPart s → IsRangedScalar s → settle_scalar s ≡ s
 stays_scalar (regex p o) clean ranged = ap (regex p) (sorted_text-kept o ranged.1 clean.1)

@@ -10,7 +10,7 @@ use Rattle.bson_bytes.specs.Encode.{le32, text_bytes, ended, framed, scoped, sca
 use Rattle.bson_bytes.specs.Spells.{SpellsValue, SpellsItems, SpellsMembers}
 use Rattle.bson_bytes.proofs.Lengths.{text_length, framed_length, scoped_length, items_length, members_length}
 use Rattle.bson_bytes.proofs.Extents.{number_back, text_size, framed_size, framed_envelope}
-use Rattle.bson_bytes.proofs.Parts.{each_part}
+use Rattle.bson_base.proofs.Parts.{each_part}
 use Rattle.bson_bytes.proofs.Scalars.{IsTold, scalar_sized, scalar_faultless, scalar_held, text_back, pointer_back}
 use Rattle.bson_frame.specs.declared.error.ErrorKind.{ErrorKind}
 use Rattle.bson_frame.specs.declared.error.ErrorKind.TheVariants.{MalformedValue, Utf8EncodingError, OutOfMemory}

@@ -51,9 +51,6 @@ pub record Copying (keys : Path) (whole : Members) (old new left : List ℕ) : T
   pub back : ComeBack rest
   pub copied : new ++ members_bytes (only keys rest) ≡ old ++ members_bytes (only keys whole)
 
-pub copy_start : (keys : Path) (whole : Members) (old elements : List ℕ) → elements ≡ members_bytes whole → ComeBack whole → Copying keys whole old old elements
-copy_start keys whole old elements is back = record { rest = whole; ahead = is ∙ sym (append-nil (members_bytes whole)); back = back; copied = refl }
-
 module _ (keys : Path) (whole : Members) (old new left : List ℕ) (e : Element) (rest : List ℕ) (f : IsFirstFrame left e rest) (c : Copying keys whole old new left) where
   one : Next e rest c.rest []
   one = next left e rest c.rest [] f c.ahead c.back nothing.no_frame
@@ -90,9 +87,6 @@ copy_end keys whole old new left none c =
 -- so many that with those that are left they are no more than there were
 abbrev pub FewCopied : List ℕ → List ℕ → List ℕ → ℕ → Type 0
 FewCopied old new left n = (more : List ℕ) × (new ≡ old ++ more) × (length more + length left ≤ n)
-
-pub few_start : (old elements : List ℕ) → FewCopied old old elements (length elements)
-few_start old elements = ([], sym (append-nil old), omega arith)
 
 pub few_copied : (old new left : List ℕ) (n : ℕ) (e : Element) (rest now front : List ℕ) → IsFirstFrame left e rest → FewCopied old new left n → front ≡ element_bytes e → now ≡ new ++ front → FewCopied old now rest n
 few_copied old new left n e rest now front f c is e_now =

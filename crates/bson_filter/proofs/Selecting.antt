@@ -1,8 +1,7 @@
 -- What a filter asks of a document, and what the code tells.
-use Rattle.std.proofs.Common.{◌≡◌, ◌↔◌, ◌⊎◌, inl, inr, ℕ, ◌+◌, ◌<◌, ◌≤◌, List, map, drop, length, get_or, Bool, true, false, not, IsTrue, Option, Some, None, is_some, refl, sym, ap, ◌∙◌, subst, add-one}
+use Rattle.std.proofs.Common.{◌≡◌, ◌↔◌, ℕ, ◌≤◌, List, map, drop, length, Bool, true, false, IsTrue, Option, Some, None, is_some, refl, sym, ap, ◌∙◌, subst}
 use Rattle.std.specs.Prelude.{IsSomeAnd}
 use Rattle.std.proofs.lemmas.List.{drop_all}
-use Rattle.std.proofs.Math.Seq.{drop-cons}
 use Rattle.bson_base.specs.declared.spec.ElementType.{ElementType}
 use Rattle.bson_base.specs.Value.{Value, value_kind, HasDistinctKeys}
 use Rattle.bson_meaning.specs.Meaning.{Same}
@@ -14,7 +13,7 @@ use Rattle.bson_filter.specs.Filters.{filter_of, tests_of}
 use Rattle.bson_filter.specs.Views.{ComesBack, Finds}
 use Rattle.bson_filter.proofs.Members.{at_back}
 use Rattle.bson_filter.proofs.Views.{shows, kind_shown}
-use Rattle.store_laws.specs.Filter.{at, Filter as Test, Filters, no_filters, filter, Path, Selects, SelectsAll, SelectsAny}
+use Rattle.store_laws.specs.Filter.{at, Filters, no_filters, filter, Path, SelectsAll, SelectsAny}
 
 -- what is asked of the value that was found
 pub asked_found : (b : Bool) (P : Value → Type 0) (o : Option Value) (v : Value) → o ≡ Some v → IsTrue b ↔ P v → IsTrue b ↔ IsSomeAnd o P
@@ -38,34 +37,10 @@ pub there : (o : Option RawBsonRef) (v : Option Value) → Finds o v → IsTrue 
 there None v f = asked_nothing (λ x. Unit {0}) v f
 there (Some raw) v f = asked_found true (λ x. Unit {0}) v f.0 f.1 (λ t. tt, λ t. refl)
 
-pub turned : (b : Bool) (P : Type 0) → IsTrue b ↔ P → IsTrue (not b) ↔ (P → ⊥)
-turned true P h = (λ t. absurd cc, λ n. absurd (n (h.0 refl)))
-turned false P h = (λ t p. let bad = h.1 p in cc, λ n. refl)
-
 -- ---- turns of the loops over filters
-
-pub tests_from : (fs : List Filter) (i : ℕ) (f : Filter) → i < length fs → f ≡ get_or fs i f → tests_of (map filter_of (drop i fs)) ≡ filter (filter_of f) (tests_of (map filter_of (drop (i + 1) fs)))
-tests_from fs i f h is = ap (λ gs. tests_of (map filter_of gs)) (drop-cons fs i f h) ∙ rw (← is, add-one)
 
 pub none_from : (fs : List Filter) (i : ℕ) → length fs ≤ i → tests_of (map filter_of (drop i fs)) ≡ no_filters
 none_from fs i h = ap (λ gs. tests_of (map filter_of gs)) (drop_all i fs h)
-
-module _ (A : Type 0) (b : Bool) (d : Value) (f : Test) (left rest : Filters) (split : left ≡ filter f rest) (told : IsTrue b ↔ Selects f d) where
-  pub all_more : A ↔ SelectsAll left d → b ≡ true → A ↔ SelectsAll rest d
-  all_more h t = (λ a. (subst (λ (fs : Filters). SelectsAll fs d) split (h.0 a)).1, λ r. h.1 (subst (λ (fs : Filters). SelectsAll fs d) (sym split) (told.0 t, r)))
-
-  pub all_missed : A ↔ SelectsAll left d → b ≡ false → IsTrue false ↔ A
-  all_missed h t = (λ x. absurd cc, λ a. absurd (let bad = told.1 (subst (λ (fs : Filters). SelectsAll fs d) split (h.0 a)).0 in cc))
-
-  pub any_hit : A ↔ SelectsAny left d → b ≡ true → IsTrue true ↔ A
-  any_hit h t = (λ x. h.1 (subst (λ (fs : Filters). SelectsAny fs d) (sym split) (inl (told.0 t))), λ a. refl)
-
-  pub any_more : A ↔ SelectsAny left d → b ≡ false → A ↔ SelectsAny rest d
-  any_more h t = (λ a. other (subst (λ (fs : Filters). SelectsAny fs d) split (h.0 a)), λ r. h.1 (subst (λ (fs : Filters). SelectsAny fs d) (sym split) (inr r)))
-    where
-      other : (Selects f d ⊎ SelectsAny rest d) → SelectsAny rest d
-      other (inl s) = absurd (let bad = told.1 s in cc)
-      other (inr r) = r
 
 pub all_end : (A : Type 0) (d : Value) (left : Filters) → left ≡ no_filters → A ↔ SelectsAll left d → IsTrue true ↔ A
 all_end A d left e h = (λ t. h.1 (subst (λ (fs : Filters). SelectsAll fs d) (sym e) tt), λ a. refl)

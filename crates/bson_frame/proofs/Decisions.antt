@@ -20,7 +20,7 @@ use Rattle.bson_frame.proofs.Tags.{kind_of, kind_of-tag_byte}
 
 -- ---- names
 
-utf8_by_test : (bytes : List ℕ) (b : Bool) → is_utf8 bytes ≡ b → IsUtf8 bytes ⊎ (IsUtf8 bytes → ⊥)
+pub utf8_by_test : (bytes : List ℕ) (b : Bool) → is_utf8 bytes ≡ b → IsUtf8 bytes ⊎ (IsUtf8 bytes → ⊥)
 utf8_by_test bytes true e = inl (IsUtf8-from_is_utf8 bytes e)
 utf8_by_test bytes false e = inr (λ u. absurd (false≢true (sym e ∙ is_utf8-from_IsUtf8 bytes u)))
 
@@ -70,7 +70,7 @@ ended_text bytes fits some room = elim (eqb_tells (get_or bytes (number bytes + 
   | inr other ↦ inr (λ size s le. absurd (other.1 (ap (λ (k : ℕ). get_or bytes k 0) (let e : number bytes + 3 ≡ size - 1 = omega (arith, s.declared) in e) ∙ s.ended)))
 ]
 
-text_or_never : (bytes : List ℕ) → WholeOrNever IsTextSize bytes
+pub text_or_never : (bytes : List ℕ) → WholeOrNever IsTextSize bytes
 text_or_never bytes = elim (cases_lt (number bytes) (2 ^ 31)) [
   | inr big ↦ inr (λ size s le. absurd (omega (arith, big, s.fits)))
   | inl fits ↦ elim (cases_lt (number bytes) 1) [

@@ -1,10 +1,11 @@
 -- Values mean the same exactly if their normal forms with keys in order are equal.
-use Rattle.std.proofs.Common.{◌≡◌, ℕ, List, Bool, true, false, cond, Option, Some, None, refl, ap, ◌∙◌, sym, subst}
+use Rattle.std.proofs.Common.{◌≡◌, ℕ, List, Option, Some, None, refl, ap, ◌∙◌, sym}
 use Rattle.std.specs.Prelude.{bytes_eq, option_map, is_some, IsSomeAnd}
 use Rattle.bson_meaning.specs.Meaning.{norm, norm_items, norm_members, asc, asc_items, asc_members, Same, SameItems, SameUnder}
 use Rattle.bson_model.specs.Equal.{SameKeys}
 use Rattle.bson_base.specs.Value.{Value, scalar, array, document, scoped_code, Items, no_items, item, Members, no_members, member, look_up, HasDistinctKeys, ItemsHaveDistinctKeys, MembersHaveDistinctKeys}
-use Rattle.bson_meaning.proofs.Ordered.{look_up-asc, look_up-norm, headed, ascending_asc, same_members, equal_keys}
+use Rattle.bson_meaning.proofs.Ordered.{look_up-asc, look_up-norm, ascending_asc, same_members}
+use Rattle.bson_base.proofs.Members.{headed, found_under, later}
 
 abbrev pub canonical : Value → Value
 canonical v = asc (norm v)
@@ -36,14 +37,6 @@ members_alike : (ms ns : Members) → SameKeys ms ns → ((q : List ℕ) (v : Va
 members_alike ms ns keys under = same_members _ _ (ascending_asc (norm_members ms)) (ascending_asc (norm_members ns))
     (λ q. look_up-canonical q ms ∙ alike (look_up q ms) (look_up q ns) (keys q) (under q) ∙ sym (look_up-canonical q ns))
 
-found_under : (q k : List ℕ) (v u : Value) (o : Option Value) (ns : Members) (b : Bool) → bytes_eq q k ≡ b → cond b (Some v) o ≡ Some u
-    → IsSomeAnd (look_up k ns) (λ w. canonical v ≡ canonical w) → (o ≡ Some u → IsSomeAnd (look_up q ns) (λ w. canonical u ≡ canonical w))
-    → IsSomeAnd (look_up q ns) (λ w. canonical u ≡ canonical w)
-found_under q k v u o ns true e h here there =
-    let i : v ≡ u = cc in
-    subst (λ m. IsSomeAnd (look_up m ns) (λ w. canonical u ≡ canonical w)) (sym (equal_keys q k e)) (subst (λ x. IsSomeAnd (look_up k ns) (λ w. canonical x ≡ canonical w)) i here)
-found_under q k v u o ns false e h here there = there h
-
 mutual
   pub canonical_same : (v w : Value) → Same v w → canonical v ≡ canonical w
   canonical_same (scalar s) (scalar t) h = ap scalar h
@@ -60,16 +53,9 @@ mutual
   under_at : (ms ns : Members) → SameUnder ms ns → (q : List ℕ) (u : Value) → look_up q ms ≡ Some u → IsSomeAnd (look_up q ns) (λ w. canonical u ≡ canonical w)
   under_at no_members ns h q u e = cc
   under_at (member k v ms) ns h q u e =
-      found_under q k v u (look_up q ms) ns (bytes_eq q k) refl e (some_and_map (look_up k ns) _ _ (canonical_same v) h.0) (under_at ms ns h.1 q u)
+      found_under (λ x w. canonical x ≡ canonical w) q k v u (look_up q ms) ns (bytes_eq q k) refl e (some_and_map (look_up k ns) _ _ (canonical_same v) h.0) (under_at ms ns h.1 q u)
 
 -- ---- and back
-
-pub later : (q k : List ℕ) (v u : Value) (ms : Members) → look_up k ms ≡ None → look_up q ms ≡ Some u → look_up q (member k v ms) ≡ Some u
-later q k v u ms absent e = by (bytes_eq q k) refl
-  where
-    by : (b : Bool) → bytes_eq q k ≡ b → cond b (Some v) (look_up q ms) ≡ Some u
-    by true h = let n : None ≡ Some u = sym absent ∙ ap (λ m. look_up m ms) (sym (equal_keys q k h)) ∙ e in cc
-    by false h = e
 
 abbrev Meets : Members → Members → Type 0
 Meets ms ns = (q : List ℕ) (v : Value) → look_up q ms ≡ Some v → IsSomeAnd (look_up q ns) (λ w. canonical v ≡ canonical w)

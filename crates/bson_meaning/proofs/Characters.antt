@@ -7,7 +7,7 @@ use Rattle.std.specs.List.{sum_by}
 use Rattle.std.specs.Prelude.{IsUtf8, chars}
 use lib.Utf8.{encode, encodes}
 use Rattle.bson_base.specs.Options.{ascending_codes, sorted_text}
-use Rattle.bson_base.proofs.OptionsLemmas.{same_order, count-ascending, NeverDescends-ascending, scalars-ascending}
+use Rattle.bson_base.proofs.OptionsLemmas.{same_order, count-ascending, NeverDescends-ascending, scalars-ascending, one_at}
 use Rattle.bson_meaning.specs.Counts.{count, StandAlike}
 use Rattle.bson_meaning.proofs.NormalScalars.{sorted_text_length}
 
@@ -35,9 +35,6 @@ pub count_other : (c d : ℕ) (ds : List ℕ) → (d ≡ c → ⊥) → count c 
 count_other c d ds h = ap (λ b. cond b 1 0 + count c ds) (is_other c d h) ∙ omega arith
 
 -- ---- counts
-
-abbrev one_at : ℕ → ℕ → ℕ
-one_at n x = cond (eqb x n) 1 0
 
 counted : (c : ℕ) (ds : List ℕ) → count c ds ≡ sum_by (one_at c) ds
 counted c [] = refl

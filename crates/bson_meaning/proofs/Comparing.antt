@@ -1,11 +1,11 @@
 -- What the comparison of trees stands on: keys of both documents, and kinds whose values all have their normal form.
-use Rattle.std.proofs.Common.{◌≡◌, ◌↔◌, ℕ, List, Bool, true, false, cond, Option, Some, None, refl, ap, ◌∙◌, sym, subst}
+use Rattle.std.proofs.Common.{◌≡◌, ◌↔◌, ℕ, List, Bool, true, false, cond, Option, Some, None, refl, ap, ◌∙◌, sym}
 use Rattle.std.specs.Prelude.{bytes_eq, is_some, IsSomeAnd}
 use Rattle.bson_base.specs.Value.{Scalar, double, binary, regex, decimal, scalar_kind, value_kind, Value, scalar, array, document, scoped_code, Members, no_members, member, look_up, has_key}
-use Rattle.bson_model.specs.Equal.{Equal, SameKeys}
+use Rattle.bson_model.specs.Equal.{SameKeys}
 use Rattle.bson_meaning.specs.Meaning.{normal_scalar, Same, SameUnder}
-use Rattle.bson_meaning.specs.Sames.{HasKeysOf, IsFixed}
-use Rattle.bson_meaning.proofs.Ordered.{equal_keys, same_key}
+use Rattle.bson_meaning.specs.Sames.{HasKeysOf}
+use Rattle.bson_base.proofs.Members.{equal_keys, same_key}
 
 -- ---- keys
 
@@ -62,25 +62,3 @@ same_kind (array vs) (array ws) h = refl
 same_kind (document ms) (document ns) h = refl
 same_kind (scoped_code t ms) (scoped_code u ns) h = refl
 same_kind _ _ h = absurd h
-
--- ---- kinds that are fixed
-
-kept : (s : Scalar) → IsFixed s → normal_scalar s ≡ s
-kept (double n) h = absurd h
-kept (regex p o) h = absurd h
-kept (binary s bs) h = absurd h
-kept (decimal bs) h = absurd h
-kept _ h = refl
-
-fixed_same : (s t : Scalar) → IsFixed s → normal_scalar s ≡ normal_scalar t → s ≡ t
-fixed_same s (double n) h e = absurd (subst IsFixed (sym (kept s h) ∙ e) h)
-fixed_same s (regex p o) h e = absurd (subst IsFixed (sym (kept s h) ∙ e) h)
-fixed_same s (binary b bs) h e = absurd (subst IsFixed (sym (kept s h) ∙ e) h)
-fixed_same s (decimal bs) h e = absurd (subst IsFixed (sym (kept s h) ∙ e) h)
-fixed_same s _ h e = sym (kept s h) ∙ e
-
-pub same_fixed : (s : Scalar) (w : Value) → IsFixed s → Equal (scalar s) w ↔ Same (scalar s) w
-same_fixed s (scalar t) h = (λ e. ap normal_scalar e, λ e. fixed_same s t h e)
-same_fixed s (array vs) h = (λ e. e, λ e. e)
-same_fixed s (document ms) h = (λ e. e, λ e. e)
-same_fixed s (scoped_code t ms) h = (λ e. e, λ e. e)

@@ -18,8 +18,9 @@ use Rattle.bson_model.specs.declared.bson.Bson.{Bson}
 use Rattle.bson_model.proofs.EqualLemmas.{look_up-members_of}
 use Rattle.bson_meaning.specs.Meaning.{asc, asc_members}
 use Rattle.bson_meaning.specs.Pairs.{sorted_pair}
-use Rattle.bson_meaning.proofs.Ordered.{Order, tied, turned, equal_keys, same_key, IsAscending, above_more, none_above, ascending_asc, same_members, look_up-asc}
+use Rattle.bson_meaning.proofs.Ordered.{Order, tied, turned, IsAscending, above_more, none_above, ascending_asc, same_members, look_up-asc}
 use Rattle.bson_meaning.proofs.Putting.{KeysOnce, keys_once, once_changed, get_changed}
+use Rattle.bson_base.proofs.Members.{equal_keys, same_key}
 
 abbrev Pairs : Type 0
 Pairs = List (Key × Value)

@@ -12,9 +12,10 @@ use Rattle.bson_model.specs.Equal.{SameKeys}
 use Rattle.bson_model.specs.Keyed.{Key, ascending}
 use Rattle.bson_model.specs.View.{members_of}
 use Rattle.bson_model.proofs.DistinctLemmas.{none_there}
-use Rattle.bson_meaning.specs.Meaning.{place, Same, SameUnder}
-use Rattle.bson_meaning.proofs.Canonical.{canonical, canonical_members, later}
-use Rattle.bson_meaning.proofs.Ordered.{Order, tied, turned, equal_keys, same_key, look_up-place, headed, AllAbove, IsAscending, above_more, ascending_place, none_above}
+use Rattle.bson_meaning.specs.Meaning.{place, Same, SameUnder, SameOption}
+use Rattle.bson_meaning.proofs.Canonical.{canonical, canonical_members}
+use Rattle.bson_meaning.proofs.Ordered.{Order, tied, turned, look_up-place, AllAbove, IsAscending, above_more, ascending_place, none_above}
+use Rattle.bson_base.proofs.Members.{equal_keys, same_key, headed, later, found_under}
 
 -- ---- the keys of one level ascending, the values as they are
 
@@ -45,7 +46,7 @@ ascending_up : (ms : Members) → IsAscending (up ms)
 ascending_up no_members = tt
 ascending_up (member k v ms) = ascending_place k v (up ms) (ascending_up ms)
 
-levels_place : (k : List ℕ) (v : Value) (ms : Members) → members_levels (place k v ms) ≤ max (levels v) (members_levels ms)
+pub levels_place : (k : List ℕ) (v : Value) (ms : Members) → members_levels (place k v ms) ≤ max (levels v) (members_levels ms)
 levels_place k v no_members = omega arith
 levels_place k v (member l w ms) = by (levels_place k v ms) (Order k l)
   where
@@ -89,21 +90,16 @@ canonical_ascending ps = canonical_up (members_of ps) ∙ ap (each canonical) (s
 
 -- ---- the same meaning under each key
 
-abbrev AlikeAt : Option Value → Option Value → Type 0
-AlikeAt None None = Unit {0}
-AlikeAt (Some v) (Some w) = Same v w
-AlikeAt _ _ = ⊥
+abbrev pub Alike : Members → Members → Type 0
+Alike ms ns = (q : List ℕ) → SameOption (look_up q ms) (look_up q ns)
 
-abbrev Alike : Members → Members → Type 0
-Alike ms ns = (q : List ℕ) → AlikeAt (look_up q ms) (look_up q ns)
-
-both_there : (o p : Option Value) → AlikeAt o p → is_some o ≡ is_some p
+both_there : (o p : Option Value) → SameOption o p → is_some o ≡ is_some p
 both_there None None a = refl
 both_there None (Some w) a = absurd a
 both_there (Some v) None a = absurd a
 both_there (Some v) (Some w) a = refl
 
-some_same : (o p : Option Value) (u : Value) → AlikeAt o p → o ≡ Some u → IsSomeAnd p (Same u)
+some_same : (o p : Option Value) (u : Value) → SameOption o p → o ≡ Some u → IsSomeAnd p (Same u)
 some_same None p u a e = cc
 some_same (Some v) None u a e = absurd a
 some_same (Some v) (Some w) u a e = let i : v ≡ u = cc in subst (λ x. Same x w) i a
@@ -126,33 +122,27 @@ under_each : (ms ns : Members) → StandOnce ms → ((q : List ℕ) (u : Value) 
 under_each no_members ns once f = tt
 under_each (member k v ms) ns once f = (f k v (headed k v ms), under_each ms ns once.1 (λ q u e. f q u (later q k v u ms once.0 e)))
 
-from_alike : (ms ns : Members) → StandOnce ms → Alike ms ns → SameKeys ms ns × SameUnder ms ns
+pub from_alike : (ms ns : Members) → StandOnce ms → Alike ms ns → SameKeys ms ns × SameUnder ms ns
 from_alike ms ns once a = (λ q. both_there (look_up q ms) (look_up q ns) (a q), under_each ms ns once (λ q u e. some_same (look_up q ms) (look_up q ns) u (a q) e))
 
 under_at : (ms ns : Members) → SameUnder ms ns → (q : List ℕ) (u : Value) → look_up q ms ≡ Some u → IsSomeAnd (look_up q ns) (Same u)
 under_at no_members ns h q u e = cc
-under_at (member k v ms) ns h q u e = by (under_at ms ns h.1 q u) (bytes_eq q k) refl e
-  where
-    by : (look_up q ms ≡ Some u → IsSomeAnd (look_up q ns) (Same u)) → (b : Bool) → bytes_eq q k ≡ b → cond b (Some v) (look_up q ms) ≡ Some u → IsSomeAnd (look_up q ns) (Same u)
-    by more true i f =
-        let is : v ≡ u = cc in
-        subst (λ x. IsSomeAnd (look_up q ns) (Same x)) is (subst (λ l. IsSomeAnd (look_up l ns) (Same v)) (sym (equal_keys q k i)) h.0)
-    by more false i f = more f
+under_at (member k v ms) ns h q u e = found_under Same q k v u (look_up q ms) ns (bytes_eq q k) refl e h.0 (under_at ms ns h.1 q u)
 
-alike_at : (o p : Option Value) → is_some o ≡ is_some p → ((u : Value) → o ≡ Some u → IsSomeAnd p (Same u)) → AlikeAt o p
+alike_at : (o p : Option Value) → is_some o ≡ is_some p → ((u : Value) → o ≡ Some u → IsSomeAnd p (Same u)) → SameOption o p
 alike_at None None e f = tt
 alike_at None (Some w) e f = cc
 alike_at (Some v) None e f = cc
 alike_at (Some v) (Some w) e f = f v refl
 
-to_alike : (ms ns : Members) → SameKeys ms ns → SameUnder ms ns → Alike ms ns
+pub to_alike : (ms ns : Members) → SameKeys ms ns → SameUnder ms ns → Alike ms ns
 to_alike ms ns keys under q = alike_at (look_up q ms) (look_up q ns) (keys q) (under_at ms ns under q)
 
 alike_up : (ms ns : Members) → Alike ms ns → Alike (up ms) (up ns)
-alike_up ms ns a q = subst (λ o. AlikeAt o (look_up q (up ns))) (sym (look_up-up q ms)) (subst (AlikeAt (look_up q ms)) (sym (look_up-up q ns)) (a q))
+alike_up ms ns a q = subst (λ o. SameOption o (look_up q (up ns))) (sym (look_up-up q ms)) (subst (SameOption (look_up q ms)) (sym (look_up-up q ns)) (a q))
 
 alike_down : (ms ns : Members) → Alike (up ms) (up ns) → Alike ms ns
-alike_down ms ns a q = subst (λ o. AlikeAt o (look_up q ns)) (look_up-up q ms) (subst (AlikeAt (look_up q (up ms))) (look_up-up q ns) (a q))
+alike_down ms ns a q = subst (λ o. SameOption o (look_up q ns)) (look_up-up q ms) (subst (SameOption (look_up q (up ms))) (look_up-up q ns) (a q))
 
 -- ---- pair beside pair
 
@@ -164,42 +154,42 @@ SameInTurn _ _ = ⊥
 turn_alike : (ms ns : Members) → SameInTurn ms ns → Alike ms ns
 turn_alike no_members no_members h q = tt
 turn_alike (member k v ms) (member l w ns) h q =
-    subst (λ m. AlikeAt (cond (bytes_eq q k) (Some v) (look_up q ms)) (cond (bytes_eq q m) (Some w) (look_up q ns))) h.0 (by (bytes_eq q k) (turn_alike ms ns h.2 q))
+    subst (λ m. SameOption (cond (bytes_eq q k) (Some v) (look_up q ms)) (cond (bytes_eq q m) (Some w) (look_up q ns))) h.0 (by (bytes_eq q k) (turn_alike ms ns h.2 q))
   where
-    by : (b : Bool) → AlikeAt (look_up q ms) (look_up q ns) → AlikeAt (cond b (Some v) (look_up q ms)) (cond b (Some w) (look_up q ns))
+    by : (b : Bool) → SameOption (look_up q ms) (look_up q ns) → SameOption (cond b (Some v) (look_up q ms)) (cond b (Some w) (look_up q ns))
     by true a = h.1
     by false a = a
 turn_alike _ _ h q = absurd h
 
-both_none : (o p : Option Value) → o ≡ None → p ≡ None → AlikeAt o p
-both_none o p e f = subst (λ x. AlikeAt x p) (sym e) (subst (AlikeAt None) (sym f) tt)
+both_none : (o p : Option Value) → o ≡ None → p ≡ None → SameOption o p
+both_none o p e f = subst (λ x. SameOption x p) (sym e) (subst (SameOption None) (sym f) tt)
 
 -- where heads have one key, what is said of all keys is said of those behind
 behind : (k : List ℕ) (v w : Value) (ms ns : Members) → AllAbove k ms → AllAbove k ns → Alike (member k v ms) (member k w ns) → Alike ms ns
 behind k v w ms ns a b f q = by (bytes_eq q k) refl (f q)
   where
-    by : (c : Bool) → bytes_eq q k ≡ c → AlikeAt (cond c (Some v) (look_up q ms)) (cond c (Some w) (look_up q ns)) → AlikeAt (look_up q ms) (look_up q ns)
-    by true e h = subst (λ l. AlikeAt (look_up l ms) (look_up l ns)) (sym (equal_keys q k e)) (both_none (look_up k ms) (look_up k ns) (none_above k ms a) (none_above k ns b))
+    by : (c : Bool) → bytes_eq q k ≡ c → SameOption (cond c (Some v) (look_up q ms)) (cond c (Some w) (look_up q ns)) → SameOption (look_up q ms) (look_up q ns)
+    by true e h = subst (λ l. SameOption (look_up l ms) (look_up l ns)) (sym (equal_keys q k e)) (both_none (look_up k ms) (look_up k ns) (none_above k ms a) (none_above k ns b))
     by false e h = h
 
 alike_turn : (ms ns : Members) → IsAscending ms → IsAscending ns → Alike ms ns → SameInTurn ms ns
 alike_turn no_members no_members a b f = tt
-alike_turn no_members (member l w ns) a b f = subst (AlikeAt None) (headed l w ns) (f l)
-alike_turn (member k v ms) no_members a b f = subst (λ o. AlikeAt o None) (headed k v ms) (f k)
+alike_turn no_members (member l w ns) a b f = subst (SameOption None) (headed l w ns) (f l)
+alike_turn (member k v ms) no_members a b f = subst (λ o. SameOption o None) (headed k v ms) (f k)
 alike_turn (member k v ms) (member l w ns) a b f = by (alike_turn ms ns a.1 b.1) (Order k l) refl
   where
     by : (Alike ms ns → SameInTurn ms ns) → (o : Ordering) → Order k l ≡ o → SameInTurn (member k v ms) (member l w ns)
     by more Less e =
         let none = none_above k (member l w ns) (e, above_more k l ns e b.0) in
-        absurd (subst (AlikeAt (Some v)) none (subst (λ o. AlikeAt o (look_up k (member l w ns))) (headed k v ms) (f k)))
+        absurd (subst (SameOption (Some v)) none (subst (λ o. SameOption o (look_up k (member l w ns))) (headed k v ms) (f k)))
     by more Greater e =
         let less = turned k l e in
         let none = none_above l (member k v ms) (less, above_more l k ms less a.0) in
-        absurd (subst (λ o. AlikeAt o (Some w)) none (subst (AlikeAt (look_up l (member k v ms))) (headed l w ns) (f l)))
+        absurd (subst (λ o. SameOption o (Some w)) none (subst (SameOption (look_up l (member k v ms))) (headed l w ns) (f l)))
     by more Equal e =
         let i : k ≡ l = tied k l e in
-        let g = subst (λ m. (q : List ℕ) → AlikeAt (look_up q (member k v ms)) (look_up q (member m w ns))) (sym i) f in
-        let same = subst (λ o. AlikeAt o (Some w)) (headed k v ms) (subst (AlikeAt (look_up k (member k v ms))) (headed k w ns) (g k)) in
+        let g = subst (λ m. (q : List ℕ) → SameOption (look_up q (member k v ms)) (look_up q (member m w ns))) (sym i) f in
+        let same = subst (λ o. SameOption o (Some w)) (headed k v ms) (subst (SameOption (look_up k (member k v ms))) (headed k w ns) (g k)) in
         (i, same, more (behind k v w ms ns a.0 (subst (λ m. AllAbove m ns) (sym i) b.0) g))
 
 -- documents mean the same where their pairs do, one beside the other

@@ -1,7 +1,7 @@
 -- What a Base64 text decodes to is bytes.
 use Rattle.std.proofs.Common.{◌≡◌, ℕ, zero, suc, ◌+◌, ◌*◌, ◌<◌, ◌==◌, ◌⊎◌, inl, inr, Bool, true, false, List, [], ◌∷◌, ◌++◌, length, take, drop, ◌-◌, ◌/◌, ◌≤◌, cond, ltb, Option, Some, None, Ok, Err, refl, subst, arith, eq-eqb}
 use Rattle.std.specs.Prelude.{slice_index, IsUtf8}
-use Rattle.std.proofs.lemmas.Bool.{cases_lt, ltb-true}
+use Rattle.std.proofs.lemmas.Bool.{cases_lt, ltb-true, and_parts}
 use Rattle.std.proofs.lemmas.List.{get_or_past, get_or-drop, length-drop}
 use Rattle.base64.specs.Decode.{decode_error, decode_group, decode_outcome, decoded_bytes, group_bytes, group_error, groups_before_last, groups_bytes, groups_error, lone_error, no_leftover, or_else, scan_bytes, scan_last, suffix_error, symbol_error}
 use Rattle.base64.specs.Engines.{standard}
@@ -13,7 +13,6 @@ use Rattle.base64.specs.Tables.{is_inverse}
 use Rattle.base64.proofs.Canonical.{IsScanned-scan}
 use Rattle.base64.proofs.Tables.{are_tables_inverse, IsDecodeTable_from}
 use Rattle.bson_base.specs.Kinds.{AreBytes}
-use Rattle.bson_base.proofs.PrintedReads.{both}
 use lib.Utf8.{next, scalar, scalars, scalar_cases, encode, encodes}
 
 pub are_joined : (a b : List ℕ) → AreBytes a → AreBytes b → AreBytes (a ++ b)
@@ -104,7 +103,7 @@ encode_bytes c h = by (ltb c 128) (ltb c 2048) (ltb c 65536) refl refl refl
 encodes_bytes : (cs : List ℕ) → scalars cs ≡ true → AreBytes (encodes cs)
 encodes_bytes [] h = tt
 encodes_bytes (c ∷ cs) h =
-    let p = both (scalar c) (scalars cs) h in
+    let p = and_parts (scalar c) (scalars cs) h in
     are_joined (encode c) (encodes cs) (encode_bytes c p.0) (encodes_bytes cs p.1)
 
 pub each_byte : (bs : List ℕ) → AreBytes bs → IsBytes bs

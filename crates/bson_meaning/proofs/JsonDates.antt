@@ -3,7 +3,7 @@ use Rattle.std.proofs.Common.{◌≡◌, ℕ, zero, suc, ◌+◌, ◌*◌, ◌/�
 use Rattle.std.specs.Prelude.{FitsSigned, unsigned_abs}
 use Rattle.std.specs.Char.{is_ascii_digit, digit_value}
 use Rattle.std.specs.Int.{w64}
-use Rattle.std.proofs.lemmas.Bool.{leb-true, ltb-true}
+use Rattle.std.proofs.lemmas.Bool.{leb-true, ltb-true, and_parts}
 use Rattle.std.proofs.Math.Nat.{mul-le-mul_right}
 use Rattle.jiff_core.specs.Calendar.{days_from_civil, days_in_month, IsCivilDate}
 use Rattle.jiff_core.proofs.CalendarLemmas.{days_from_civil-day_count, day_count_bounds}
@@ -11,7 +11,6 @@ use Rattle.jiff_core.proofs.SignedLemmas.{signed_arith}
 use Rattle.bson_base.specs.DateText.{◌>>=◌, at_end, behind, date_of, day_number, digit_run, digits_worth, four_digits, is_day, millis_at, nanoseconds, next_two, read_ahead, read_clock, read_day, read_fraction, read_late, read_minutes, read_moment, read_offset, some_digits, two_digits, utc_second, valid}
 use Rattle.bson_base.specs.Decimal.{all_digits}
 use Rattle.bson_base.proofs.DateLemmas.{all_digits-digit_run}
-use Rattle.bson_base.proofs.PrintedReads.{both}
 use borrow.Author.Differences.{up, down}
 
 -- two steps that both gave something
@@ -31,16 +30,12 @@ same_some x y e = cc
 
 is_civil : (y : ℤ) (m d : ℕ) → is_day y m d ≡ true → IsCivilDate y m d
 is_civil y m d e =
-    let a = both (nat_le (unsigned_abs y) 9999 && nat_le 1 m && nat_le m 12 && nat_le 1 d) (nat_le d (days_in_month y m)) e in
-    let b = both (nat_le (unsigned_abs y) 9999 && nat_le 1 m && nat_le m 12) (nat_le 1 d) a.0 in
-    let c = both (nat_le (unsigned_abs y) 9999 && nat_le 1 m) (nat_le m 12) b.0 in
-    let f = both (nat_le (unsigned_abs y) 9999) (nat_le 1 m) c.0 in
+    let a = and_parts (nat_le (unsigned_abs y) 9999 && nat_le 1 m && nat_le m 12 && nat_le 1 d) (nat_le d (days_in_month y m)) e in
+    let b = and_parts (nat_le (unsigned_abs y) 9999 && nat_le 1 m && nat_le m 12) (nat_le 1 d) a.0 in
+    let c = and_parts (nat_le (unsigned_abs y) 9999 && nat_le 1 m) (nat_le m 12) b.0 in
+    let f = and_parts (nat_le (unsigned_abs y) 9999) (nat_le 1 m) c.0 in
     let l = leb-true (unsigned_abs y) 9999 f.0 in
     ((omega (arith, signed_arith), omega (arith, signed_arith)), (leb-true 1 m f.1, leb-true m 12 c.1), (leb-true 1 d b.1, leb-true d (days_in_month y m) a.1))
-
--- not far from 1970
-abbrev IsNear : ℤ → Type 0
-IsNear z = (up z ≤ 5_000_000) × (down z ≤ 5_000_000)
 
 near_civil : (y : ℤ) (m d : ℕ) → IsCivilDate y m d → up (days_from_civil y m d) ≤ down (days_from_civil y m d) + 5_000_000
 near_civil y m d h = let b = day_count_bounds y m d h in omega (arith, days_from_civil-day_count y m d)
@@ -107,7 +102,7 @@ digit_low c h = grind arith
 worth_low : (w : ℕ) (ds : List ℕ) → all_digits ds ≡ true → digits_worth w ds ≤ 10 * w
 worth_low w [] h = omega arith
 worth_low w (c ∷ cs) h =
-    let p = both (is_ascii_digit c) (all_digits cs) h in
+    let p = and_parts (is_ascii_digit c) (all_digits cs) h in
     let r = worth_low (w / 10) cs p.1 in
     let m = mul-le-mul_right w (digit_low c p.0) in
     omega arith

@@ -1,5 +1,5 @@
 -- What is written as a text in Extended JSON reads back.
-use Rattle.std.proofs.Common.{◌≡◌, ℕ, suc, ◌+◌, ◌*◌, ◌/◌, ◌%◌, ◌^◌, ◌<◌, ◌==◌, ℤ, pos, negsuc, nat_lt, Bool, true, false, not, List, [], ◌∷◌, length, Some, None, Ok, Err, if◌then◌else◌, refl, ap, ◌∙◌, arith}
+use Rattle.std.proofs.Common.{◌≡◌, ℕ, suc, ◌+◌, ◌*◌, ◌/◌, ◌%◌, ◌^◌, ◌<◌, ◌==◌, ℤ, pos, negsuc, nat_lt, Bool, true, false, List, [], ◌∷◌, length, Some, None, Ok, Err, if◌then◌else◌, refl, ap, ◌∙◌, arith}
 use Rattle.std.specs.Prelude.{slice_index, codes, FitsSigned}
 use Rattle.std.specs.Char.{is_ascii_digit}
 use Rattle.std.specs.Fmt.{decimal, signed_decimal}
@@ -8,16 +8,18 @@ use Rattle.std.specs.List.{prefix_len}
 use Rattle.base64.specs.GeneralPurpose.{encode_of, decode_of, IsConsistent}
 use Rattle.base64.specs.Engines.{standard}
 use Rattle.base64.proofs.EngineFacts.{decode_of-encode_of}
-use Rattle.hex.specs.Hex.{encode_lower, encode_with, hex_digit_value, is_hex_digit, lower_digits}
+use Rattle.hex.specs.Hex.{encode_lower, encode_with, hex_digit_value, lower_digits}
 use Rattle.hex.proofs.HexLemmas.{length-encode_with, IsDigits-lower_digits}
 use Rattle.bson_base.specs.Decimal.{Decimal, not_a_number, infinity, finite, IsUnpacked, all_digits, pack, print, read}
 use Rattle.bson_base.specs.Kinds.{AreBytes}
 use Rattle.bson_base.specs.ObjectIdText.{object_id_of, even_text, first_other, digit_bytes}
 use Rattle.bson_base.specs.declared.oid.Error.TheVariants.{InvalidHexStringLength}
-use Rattle.bson_base.proofs.PrintedReads.{both, digits-decimal, printed_reads}
+use Rattle.bson_base.proofs.PrintedReads.{digits-decimal, printed_reads}
 use Rattle.bson_model.specs.JsonTexts.{int_of, long_of, integer_of, signed, fits_32, fits_64, only_where, double_of, byte_of}
 use Rattle.bson_model.proofs.JsonTextsLemmas.{fits_64_so, fits_32_so}
 use Rattle.bson_meaning.proofs.JsonBase64.{each_byte}
+use Rattle.std.proofs.lemmas.Bool.{and_parts}
+use Rattle.bson_base.proofs.ObjectIdLemmas.{passes}
 
 -- ---- two hexadecimal digits a byte
 
@@ -44,9 +46,6 @@ bytes_back (b ∷ bs) h =
     rw (p, q, i, w) refl
 
 -- as `position` asks whether a byte is a digit
-abbrev passes : ℕ → Bool
-passes c = not (not (is_hex_digit c))
-
 no_other : (bs : List ℕ) → AreBytes bs → prefix_len passes (encode_lower bs) ≡ length (encode_lower bs)
 unfolding encode_with
 no_other [] h = refl
@@ -73,7 +72,7 @@ id_back bs n h =
 unsigned_back : (ds : List ℕ) → all_digits ds ≡ true → 0 < length ds → signed ds ≡ (false, ds)
 unsigned_back [] h k = absurd (omega arith)
 unsigned_back (c ∷ cs) h k =
-    let d : is_ascii_digit c ≡ true = (both (is_ascii_digit c) (all_digits cs) h).0 in
+    let d : is_ascii_digit c ≡ true = (and_parts (is_ascii_digit c) (all_digits cs) h).0 in
     let plus : (c == 43) ≡ false = grind arith in
     let minus : (c == 45) ≡ false = grind arith in
     rw (plus, minus) refl

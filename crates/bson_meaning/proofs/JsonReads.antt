@@ -1,10 +1,9 @@
 -- A canonical tree reads as a value of the same meaning.
 use Rattle.std.proofs.Common.{suc, max, ◌≤◌, lit≤, arith, ◌≡◌, ℕ, ◌<◌, ◌^◌, ◌==◌, List, ◌++◌, Bool, true, false, cond, if◌then◌else◌, Option, Some, None, Result, Ok, Err, refl, ap, ◌∙◌, sym, subst, ◌↔◌}
 use Rattle.std.specs.Prelude.{◌||◌, bytes_eq, codes, option_map, option_and_then, IsUtf8}
-use Rattle.std.specs.declared.cmp.Ordering.{Ordering}
 use Rattle.std.specs.declared.cmp.Ordering.TheVariants.{Less, Equal, Greater}
 use Rattle.std.specs.Ordering.{match_ordering}
-use Rattle.std.proofs.lemmas.Bool.{eqb-true, leb-true, leb-false}
+use Rattle.std.proofs.lemmas.Bool.{eqb-true, leb-true, leb-false, and_parts, or_parts}
 use Rattle.serde_json.specs.Data as tree
 use Rattle.serde_json.specs.Data.{Data, object}
 use Rattle.base64.specs.GeneralPurpose.{encode_of}
@@ -16,7 +15,6 @@ use Rattle.bson_base.specs.Options.{sorted_text}
 use Rattle.bson_base.specs.Tags.{subtype_of, subtype_byte}
 use Rattle.bson_base.specs.Value.{Scalar, double, string, binary, undefined, object_id, boolean, date_time, null, regex, db_pointer, code, symbol, int32, timestamp, int64, decimal, max_key, min_key, Value, scalar, array, document, scoped_code, Items, no_items, item, Members, no_members, member, look_up, levels, items_levels, members_levels, EachPart, EachItem, EachMember, HasDistinctKeys, ItemsHaveDistinctKeys, MembersHaveDistinctKeys}
 use Rattle.bson_base.proofs.DecimalBits.{unpack_is}
-use Rattle.bson_base.proofs.PrintedReads.{both}
 use Rattle.bson_model.specs.JsonKeys.{any_reserved, is_reserved, reserved_of, of_decimal, of_double}
 use Rattle.bson_model.specs.JsonRead.{read, read_items, read_members, read_typed, scalar_of, wanted, accepted, accepted_id, base64_body, below_32, ◌>>=◌}
 use Rattle.bson_model.specs.JsonRead as reading
@@ -33,9 +31,11 @@ use Rattle.bson_meaning.proofs.JsonReadBack.{byte_back, id_back, long_back, int_
 use Rattle.bson_meaning.proofs.JsonSame.{quiet, or_turned, or_twice, write_same}
 use Rattle.bson_meaning.proofs.Normal.{place_each}
 use Rattle.bson_meaning.proofs.NormalScalars.{sorted_text_twice, normal_double_twice}
-use Rattle.bson_meaning.proofs.Ordered.{Order, tied, equal_keys, ascending_asc, look_up-place, same_members}
+use Rattle.bson_meaning.proofs.Ordered.{Order, tied, ascending_asc, look_up-place, same_members}
 use Rattle.bson_bytes.proofs.Meant.{subtype_back}
 use Rattle.bson_bytes.proofs.Options.{text_sorted, no_zero_sorted}
+use Rattle.bson_base.proofs.Members.{equal_keys}
+use Rattle.bson_meaning.proofs.InTurn.{levels_place}
 
 -- ---- scalars
 
@@ -106,10 +106,10 @@ infinity_is n h e = by (is_negative n) refl
   where
     by : (c : Bool) → is_negative n ≡ c → (if c then 0xFFF0_0000_0000_0000 else 0x7FF0_0000_0000_0000) ≡ n
     by true k =
-        let p = both (exponent n == 2047) (fraction n == 0) e in
+        let p = and_parts (exponent n == 2047) (fraction n == 0) e in
         let i = eqb-true (exponent n) 2047 p.0 in let j = eqb-true (fraction n) 0 p.1 in let l = leb-true (2 ^ 63) n k in omega arith
     by false k =
-        let p = both (exponent n == 2047) (fraction n == 0) e in
+        let p = and_parts (exponent n == 2047) (fraction n == 0) e in
         let i = eqb-true (exponent n) 2047 p.0 in let j = eqb-true (fraction n) 0 p.1 in let l = leb-false (2 ^ 63) n k in omega arith
 
 zero_is : (n : ℕ) → n < 2 ^ 64 → is_zero n ≡ true → (if is_negative n then 0x8000_0000_0000_0000 else 0) ≡ n
@@ -117,10 +117,10 @@ zero_is n h e = by (is_negative n) refl
   where
     by : (c : Bool) → is_negative n ≡ c → (if c then 0x8000_0000_0000_0000 else 0) ≡ n
     by true k =
-        let p = both (exponent n == 0) (fraction n == 0) e in
+        let p = and_parts (exponent n == 0) (fraction n == 0) e in
         let i = eqb-true (exponent n) 0 p.0 in let j = eqb-true (fraction n) 0 p.1 in let l = leb-true (2 ^ 63) n k in omega arith
     by false k =
-        let p = both (exponent n == 0) (fraction n == 0) e in
+        let p = and_parts (exponent n == 0) (fraction n == 0) e in
         let i = eqb-true (exponent n) 0 p.0 in let j = eqb-true (fraction n) 0 p.1 in let l = leb-false (2 ^ 63) n k in omega arith
 
 abbrev Signs : ℕ → Option (List ℕ) → Option (List ℕ)
@@ -266,10 +266,6 @@ any_written (member k v ms) found js e =
     let t = chained (write Canonical v) (λ j. write_members Canonical ms (tree.put k j found)) js e in
     any_written ms (tree.put k t.first found) js t.there ∙ ap (λ b. some_reserved ms || b) (any_put k t.first found) ∙ or_moved (is_reserved k) (some_reserved ms) (any_reserved found)
 
-neither : (a b : Bool) → (a || b) ≡ false → (a ≡ false) × (b ≡ false)
-neither true b e = cc
-neither false b e = (refl, e)
-
 -- ---- what stands under a key
 
 -- what the first gives, or else the second
@@ -295,16 +291,6 @@ look_up-placed q k u ns = look_up-canonical q (place k u ns) ∙ ap (option_map 
 
 none_there : (q k : List ℕ) (ms : Members) → look_up k ms ≡ None → bytes_eq q k ≡ true → look_up q (canonical_members ms) ≡ None
 none_there q k ms h e = subst (λ z. look_up z (canonical_members ms) ≡ None) (sym (equal_keys q k e)) (look_up-canonical k ms ∙ ap (option_map canonical) h)
-
-place_levels : (k : List ℕ) (v : Value) (ms : Members) → members_levels (place k v ms) ≤ max (levels v) (members_levels ms)
-place_levels k v no_members = omega arith
-place_levels k v (member l w ms) = by (place_levels k v ms) (Order k l)
-  where
-    by : members_levels (place k v ms) ≤ max (levels v) (members_levels ms) → (o : Ordering)
-        → members_levels (match_ordering o (member k v (member l w ms)) (member k v ms) (member l w (place k v ms))) ≤ max (levels v) (members_levels (member l w ms))
-    by r Less = omega arith
-    by r Equal = omega arith
-    by r Greater = omega (arith, r)
 
 pub raised : {m n : ℕ} → m ≤ n → suc m ≤ suc n
 raised h = omega arith
@@ -369,7 +355,7 @@ mutual
       came (tree.array t.from) j (array vs) (array c.values) t.to (array_reads t.from c.values c.reads) (ap array c.same) c.plain (raised c.deep)
   value_comes K (document ms) h d r j e =
       let t = mapped (write_members Canonical ms tree.no_members) object j e in
-      let n = neither (some_reserved ms) (has_reserved ms) r in
+      let n = or_parts (some_reserved ms) (has_reserved ms) r in
       let c = all_come t.from ms (members_come K ms h d n.1 tree.no_members no_members refl t.from t.here) in
       came (object t.from) j (document ms) (document c.values) t.to
       (document_reads t.from c.values (any_written ms tree.no_members t.from t.here ∙ ap (λ b. b || false) n.0) c.reads)
@@ -384,7 +370,7 @@ mutual
   items_come K (item v vs) h d r js e =
       let t = chained (write Canonical v) (λ j. option_map (tree.item j) (write_items Canonical vs)) js e in
       let u = mapped (write_items Canonical vs) (tree.item t.first) js t.there in
-      let n = neither (reserved_in v) (reserved_in_items vs) r in
+      let n = or_parts (reserved_in v) (reserved_in_items vs) r in
       let a = value_comes K v h.0 d.0 n.0 t.first t.here in
       let b = items_come K vs h.1 d.1 n.1 u.from u.here in
       let p : canonical a.value ≡ canonical v = a.same in
@@ -397,7 +383,7 @@ mutual
       let i : found ≡ js = cc in subst (λ z. MembersCome z no_members ns) i (record { values = ns; reads = f; same = λ q. refl; plain = λ p s. s; deep = omega arith })
   members_come K (member k v ms) h d r found ns f js e =
       let t = chained (write Canonical v) (λ j. write_members Canonical ms (tree.put k j found)) js e in
-      let n = neither (reserved_in v) (has_reserved ms) r in
+      let n = or_parts (reserved_in v) (has_reserved ms) r in
       let a = value_comes K v h.1 d.1 n.0 t.first t.here in
       let b = members_come K ms h.2 d.2 n.1 (tree.put k t.first found) (place k a.value ns) (read_put k t.first a.value a.reads found ns f) js t.there in
       record {
@@ -407,7 +393,7 @@ mutual
             ∙ over_turned (bytes_eq q k) (canonical v) (look_up q (canonical_members ms)) (look_up q (canonical_members ns)) (none_there q k ms d.0)
             ∙ ap (λ o. over o (look_up q (canonical_members ns))) (sym (look_up-place q k (canonical v) (canonical_members ms)));
         plain = λ p s. b.plain p.2 (place_each HasNo00 IsPlainScalar k a.value ns p.0 (a.plain p.1) s);
-        deep = omega (arith, place_levels k a.value ns, a.deep, b.deep);
+        deep = omega (arith, levels_place k a.value ns, a.deep, b.deep);
       }
 
 pub canonical_comes : (d : Members) → IsSound (document d) → has_reserved d ≡ false → (js : tree.Members) → write_members Canonical d tree.no_members ≡ Some js → AllCome js d

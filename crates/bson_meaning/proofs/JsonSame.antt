@@ -13,17 +13,18 @@ use Rattle.bson_base.specs.Kinds.{IsRangedScalar, IsSound}
 use Rattle.bson_base.specs.Tags.{subtype_byte}
 use Rattle.bson_base.specs.Value.{Scalar, double, binary, regex, decimal, Value, scalar, array, document, scoped_code, Items, no_items, item, Members, no_members, member, look_up, EachPart, EachItem, EachMember, HasDistinctKeys, ItemsHaveDistinctKeys, MembersHaveDistinctKeys}
 use Rattle.bson_base.proofs.DecimalBits.{unpack_is, unpack-pack}
-use Rattle.bson_model.specs.JsonKeys.{is_reserved, of_decimal, of_double, of_regex}
-use Rattle.bson_model.specs.JsonWrite.{double_text, wrapped_text, with_scope, write, write_binary, write_items, write_members, write_scalar, wrapped, both}
+use Rattle.bson_model.specs.JsonKeys.{is_reserved, of_decimal, of_double, of_regex, two}
+use Rattle.bson_model.specs.JsonWrite.{double_text, wrapped_text, with_scope, write, write_binary, write_items, write_members, write_scalar, wrapped}
 use Rattle.bson_model.specs.declared.extjson.ser.Mode.{Mode}
 use Rattle.bson_meaning.specs.JsonReserved.{some_reserved, reserved_in, reserved_in_items, has_reserved}
 use Rattle.bson_meaning.specs.Meaning.{normal_double, normal_decimal, normal_scalar, norm, norm_items, norm_members, place, asc, asc_items, asc_members, Same}
 use Rattle.bson_meaning.proofs.Canonical.{canonical_same}
 use Rattle.bson_meaning.proofs.Normal.{norm_distinct}
 use Rattle.bson_meaning.proofs.NormalScalars.{sorted_text_twice}
-use Rattle.bson_meaning.proofs.Ordered.{Order, tied, turned, same_key, look_up-asc}
+use Rattle.bson_meaning.proofs.Ordered.{Order, tied, turned, look_up-asc}
 use Rattle.bson_bytes.proofs.Meant.{subtype_back}
 use Rattle.bson_meaning.proofs.Decimals.{number_again, pack_low}
+use Rattle.bson_base.proofs.Members.{same_key, not_first}
 
 -- ---- the normal form of a scalar
 
@@ -54,7 +55,7 @@ unpack_again bs =
     ap unpack (number_again 16 (pack d) (pack_low d u)) ∙ unpack-pack d u
 
 abbrev regex_tree : List ℕ → List ℕ → Data
-regex_tree p t = wrapped of_regex (both (codes "options") (tree.string t) (codes "pattern") (tree.string p))
+regex_tree p t = wrapped of_regex (two (codes "options") (tree.string t) (codes "pattern") (tree.string p))
 
 pub write_normal : (m : Mode) (s : Scalar) → IsRangedScalar s → write_scalar m (normal_scalar s) ≡ write_scalar m s
 write_normal m (double n) h = ap (option_map (wrapped_text of_double)) (double_again n)
@@ -123,10 +124,6 @@ commute k l d e h (tree.member m f js) = by (commute k l d e h js) (Order l m) (
 
 -- ---- the order of keys
 
-pub not_first : (b : Bool) (w : Value) (o : Option Value) → cond b (Some w) o ≡ None → o ≡ None
-not_first true w o f = cc
-not_first false w o f = f
-
 pub met : (k l : List ℕ) (w : Value) (o : Option Value) → Order k l ≡ Equal → cond (bytes_eq k l) (Some w) o ≡ None → ⊥
 met k l w o e n =
     let i : bytes_eq k l ≡ true = subst (λ m. bytes_eq k m ≡ true) (tied k l e) (same_key k) in
@@ -152,7 +149,7 @@ write_place m k v (member l w ms) h found = by (Order k l) refl (write_place m k
     by Equal e r = absurd (met k l w (look_up k ms) e h)
     by Greater e r =
         then_alike (write m w) (λ i. write_members m (place k v ms) (tree.put l i found)) (λ i. option_and_then (λ j. write_members m ms (tree.put k j (tree.put l i found))) (write m v))
-        (λ i. r (not_first (bytes_eq k l) w (look_up k ms) h) (tree.put l i found))
+        (λ i. r (not_first k l w ms h).1 (tree.put l i found))
         ∙ in_turns (write m w) (write m v) (λ i j. write_members m ms (tree.put k j (tree.put l i found))) (λ j i. write_members m ms (tree.put l i (tree.put k j found)))
         (λ i j. ap (write_members m ms) (sym (commute l k i j (turned k l e) found)))
 
@@ -227,7 +224,7 @@ below_place k v (member l w ms) h = by (Order k l) refl (below_place k v ms)
         → has_reserved (match_ordering o (member k v (member l w ms)) (member k v ms) (member l w (place k v ms))) ≡ (reserved_in v || (reserved_in w || has_reserved ms))
     by Less e r = refl
     by Equal e r = absurd (met k l w (look_up k ms) e h)
-    by Greater e r = ap (λ b. reserved_in w || b) (r (not_first (bytes_eq k l) w (look_up k ms) h)) ∙ or_turned (reserved_in w) (reserved_in v) (has_reserved ms)
+    by Greater e r = ap (λ b. reserved_in w || b) (r (not_first k l w ms h).1) ∙ or_turned (reserved_in w) (reserved_in v) (has_reserved ms)
 
 mutual
   reserved_asc : (v : Value) → HasDistinctKeys v → reserved_in (asc v) ≡ reserved_in v

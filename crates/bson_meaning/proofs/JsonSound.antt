@@ -45,18 +45,6 @@ text_ranged : (j : Data) (t : List ℕ) → IsJson j → text_of j ≡ Ok t → 
 text_ranged (tree.string u) t h e = subst IsUtf8 (same_ok u t e) h
 text_ranged _ t h e = cc
 
-single_json : (k : List ℕ) (js : tree.Members) (j : Data) → IsJsonObject js → single k js ≡ Ok j → IsJson j
-single_json k (tree.member l i tree.no_members) j h e = by (bytes_eq l k) e
-  where
-    by : (b : Bool) → (if b then Ok i else Err DeserializationError) ≡ Ok j → IsJson j
-    by true f = subst IsJson (same_ok i j f) h.2
-    by false f = cc
-single_json k _ j h e = cc
-
-under_json : (k : List ℕ) (i j : Data) → IsJson i → under k i ≡ Ok j → IsJson j
-under_json k (object js) j h e = single_json k js j h e
-under_json k _ j h e = cc
-
 pair_json : (k l : List ℕ) (js : tree.Members) (p : Data × Data) → IsJsonObject js → bodies_in k l js ≡ Ok p → IsJson p.0 × IsJson p.1
 pair_json k l (tree.member m i (tree.member n j tree.no_members)) p h e = by (bytes_eq m k && bytes_eq n l) e
   where

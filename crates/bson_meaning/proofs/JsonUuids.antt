@@ -6,16 +6,16 @@ use Rattle.uuid.specs.Text.{by_index, byte_of_digits, close_brace, digits_of, ha
 use Rattle.uuid_text.specs.UuidText.{uuid_of}
 use Rattle.bson_base.specs.Kinds.{AreBytes}
 use Rattle.bson_base.specs.ScalarTexts.{read_uuid, valid_uuid}
-use Rattle.bson_base.proofs.PrintedReads.{both}
 use Rattle.bson_meaning.proofs.JsonBase64.{are_joined}
+use Rattle.std.proofs.lemmas.Bool.{and_parts}
 
 value_low : (c : ℕ) → is_hex_digit c ≡ true → value_of c < 16
 value_low c h = grind arith
 
 digit_low : (hex : List ℕ) → list_all is_hex_digit hex ≡ true → (i : ℕ) → value_of (slice_index hex i) < 16
 digit_low [] h i = omega arith
-digit_low (c ∷ cs) h zero = value_low c (both (is_hex_digit c) (list_all is_hex_digit cs) h).0
-digit_low (c ∷ cs) h (suc i) = digit_low cs (both (is_hex_digit c) (list_all is_hex_digit cs) h).1 i
+digit_low (c ∷ cs) h zero = value_low c (and_parts (is_hex_digit c) (list_all is_hex_digit cs) h).0
+digit_low (c ∷ cs) h (suc i) = digit_low cs (and_parts (is_hex_digit c) (list_all is_hex_digit cs) h).1 i
 
 byte_low : (hex : List ℕ) → list_all is_hex_digit hex ≡ true → (j : ℕ) → byte_of_digits hex j < 256
 byte_low hex h j = omega (arith, digit_low hex h (2 * j), digit_low hex h (2 * j + 1))

@@ -6,7 +6,7 @@ use Rattle.std.specs.declared.cmp.Ordering.TheVariants.{Less, Equal, Greater}
 use Rattle.std.specs.Ordering.{nat_cmp, match_ordering}
 use Rattle.std.specs.Cmp.Lexicographic.{slice_cmp}
 use Rattle.bson_base.specs.Kinds.{HasNo00, IsPlainScalar, IsCleanScalar, IsRangedScalar, IsSound, IsPlain, IsClean}
-use Rattle.bson_base.specs.Value.{Scalar, Value, scalar, array, document, scoped_code, Items, no_items, item, Members, no_members, member, look_up, EachMember, HasDistinctKeys, ItemsHaveDistinctKeys, MembersHaveDistinctKeys}
+use Rattle.bson_base.specs.Value.{Value, scalar, array, document, scoped_code, Items, no_items, item, Members, no_members, member, look_up, EachMember, HasDistinctKeys, ItemsHaveDistinctKeys, MembersHaveDistinctKeys}
 use Rattle.bson_bytes.specs.Encode.{encode, size}
 use Rattle.bson_bytes.specs.Writing.{CanBeWritten}
 use Rattle.bson_bytes.proofs.Lengths.{encode_length}
@@ -16,7 +16,8 @@ use Rattle.bson_model.specs.Equal.{EqualItems, EqualUnder}
 use Rattle.bson_meaning.specs.Meaning.{normal_scalar, norm, norm_members, place, asc, asc_items, asc_members, key, Same, SameItems, SameUnder}
 use Rattle.bson_meaning.proofs.Ordered.{IsAscending, ascending_asc, none_above}
 use Rattle.bson_meaning.proofs.Canonical.{canonical_members, canonical_same, same_canonical, some_and_map}
-use Rattle.bson_meaning.proofs.Normal.{normal_scalar_ranged, normal_scalar_plain, normal_scalar_clean, norm_each, asc_each, both_each, norm_distinct, norm_distinct_members, asc_members_size, norm_members_size, norm_twice}
+use Rattle.bson_meaning.proofs.Normal.{normal_scalar_ranged, normal_scalar_plain, normal_scalar_clean, norm_each, asc_each, both_each, norm_distinct, norm_distinct_members, asc_members_size, norm_members_size, norm_twice, IsSized}
+use Rattle.bson_bytes.proofs.Meant.{IsGoodKey}
 
 -- ---- keys in order stand once
 
@@ -54,13 +55,10 @@ mutual
 
 -- ---- what a key is written of
 
-abbrev IsKey : List ℕ → Type 0
-IsKey k = HasNo00 k × IsUtf8 k
-
 canonical_clean : (d : Members) → IsPlain (document d) → IsSound (document d) → IsClean (document (canonical_members d))
 canonical_clean d p s =
     let both = both_each HasNo00 IsUtf8 IsPlainScalar IsRangedScalar (document d) p s.ranged in
-    let normal = norm_each IsKey HasNo00 (λ s. IsPlainScalar s × IsRangedScalar s) (λ s. IsPlainScalar s × IsCleanScalar s) (λ k h. h.0)
+    let normal = norm_each IsGoodKey HasNo00 (λ s. IsPlainScalar s × IsRangedScalar s) (λ s. IsPlainScalar s × IsCleanScalar s) (λ k h. h.0)
     (λ s h. (normal_scalar_plain s h.1 h.0, normal_scalar_clean s h.1)) (document d) both in
     asc_each HasNo00 (λ s. IsPlainScalar s × IsCleanScalar s) (document (norm_members d)) normal
 
@@ -73,7 +71,7 @@ canonical_sound d s = record {
 pub canonical_plain : (d : Members) → IsPlain (document d) → IsSound (document d) → IsPlain (document (canonical_members d))
 canonical_plain d p s =
     let both = both_each HasNo00 IsUtf8 IsPlainScalar IsRangedScalar (document d) p s.ranged in
-    asc_each HasNo00 IsPlainScalar (document (norm_members d)) (norm_each IsKey HasNo00 (λ s. IsPlainScalar s × IsRangedScalar s) IsPlainScalar (λ k h. h.0) (λ s h. normal_scalar_plain s h.1 h.0) (document d) both)
+    asc_each HasNo00 IsPlainScalar (document (norm_members d)) (norm_each IsGoodKey HasNo00 (λ s. IsPlainScalar s × IsRangedScalar s) IsPlainScalar (λ k h. h.0) (λ s h. normal_scalar_plain s h.1 h.0) (document d) both)
 
 pub key_law : (d e : Members) → IsPlain (document d) → IsSound (document d) → IsPlain (document e) → IsSound (document e)
     → length (key d) ≤ 2147483647 → length (key e) ≤ 2147483647 → (key d ≡ key e) ↔ Same (document d) (document e)
@@ -105,13 +103,10 @@ same_norm v s = same_canonical (norm v) v (norm_distinct v s.distinct) (ap asc (
 
 -- ---- sizes
 
-abbrev IsWhole : Scalar → Type 0
-IsWhole s = (IsPlainScalar s × IsCleanScalar s) × IsRangedScalar s
-
 pub key_size : (d : Members) → IsClean (document d) → IsSound (document d) → size (asc_members (norm_members d)) ≡ size d
 key_size d c s =
-    let whole : EachMember IsKey IsWhole d = both_each HasNo00 IsUtf8 (λ s. IsPlainScalar s × IsCleanScalar s) IsRangedScalar (document d) c s.ranged in
-    ap (λ n. n + 5) (asc_members_size (norm_members d) (norm_distinct_members d s.distinct) ∙ norm_members_size IsKey d whole)
+    let whole : EachMember IsGoodKey IsSized d = both_each HasNo00 IsUtf8 (λ s. IsPlainScalar s × IsCleanScalar s) IsRangedScalar (document d) c s.ranged in
+    ap (λ n. n + 5) (asc_members_size (norm_members d) (norm_distinct_members d s.distinct) ∙ norm_members_size IsGoodKey d whole)
 
 -- ---- equal values
 

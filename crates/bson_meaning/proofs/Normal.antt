@@ -1,5 +1,5 @@
 -- What the normal form of a tree, and the order of its keys, keep.
-use Rattle.std.proofs.Common.{◌≡◌, ℕ, suc, ◌+◌, ◌<◌, List, length, Bool, true, false, cond, Option, Some, None, refl, ap, ◌∙◌, sym, subst, arith}
+use Rattle.std.proofs.Common.{◌≡◌, ℕ, suc, ◌+◌, ◌<◌, List, length, true, cond, Option, Some, None, refl, ap, ◌∙◌, sym, subst, arith}
 use Rattle.std.specs.Prelude.{bytes_eq, option_map}
 use Rattle.std.specs.declared.cmp.Ordering.{Ordering}
 use Rattle.std.specs.declared.cmp.Ordering.TheVariants.{Less, Equal, Greater}
@@ -10,11 +10,13 @@ use Rattle.bson_base.specs.Kinds.{IsPlainScalar, IsCleanScalar, IsRangedScalar}
 use Rattle.bson_base.specs.Tags.{subtype_byte, subtype_of}
 use Rattle.bson_meaning.specs.Meaning.{normal_scalar, norm, norm_items, norm_members, place, asc, asc_items, asc_members}
 use Rattle.bson_base.specs.Value.{Scalar, double, string, binary, regex, code, decimal, Value, scalar, array, document, scoped_code, Items, no_items, item, Members, no_members, member, look_up, EachPart, EachItem, EachMember, HasDistinctKeys, ItemsHaveDistinctKeys, MembersHaveDistinctKeys}
-use Rattle.bson_meaning.proofs.NormalScalars.{normal_double_twice, normal_double_fits, sorted_text_twice, sorted_text_length, sorted_text_clean}
+use Rattle.bson_meaning.proofs.NormalScalars.{normal_double_twice, normal_double_fits, sorted_text_twice, sorted_text_length}
 use Rattle.bson_meaning.proofs.Decimals.{normal_decimal_length, normal_decimal_bytes, normal_decimal_twice}
-use Rattle.bson_meaning.proofs.Ordered.{tied, same_key, look_up-asc, look_up-norm}
+use Rattle.bson_meaning.proofs.Ordered.{tied, look_up-asc, look_up-norm}
 use Rattle.bson_bytes.proofs.Meant.{subtype_back}
 use Rattle.bson_bytes.proofs.Options.{text_sorted, no_zero_sorted}
+use Rattle.bson_base.proofs.Members.{same_key, not_first}
+use Rattle.bson_base.proofs.OptionsLemmas.{sorted_text-in_order}
 
 -- ---- scalars
 
@@ -38,7 +40,7 @@ normal_scalar_plain (regex p o) h k = (k.0, no_zero_sorted o h.1 k.1)
 normal_scalar_plain _ h k = tt
 
 pub normal_scalar_clean : (s : Scalar) → IsRangedScalar s → IsCleanScalar (normal_scalar s)
-normal_scalar_clean (regex p o) h = sorted_text_clean o h.1
+normal_scalar_clean (regex p o) h = sorted_text-in_order o h.1
 normal_scalar_clean (binary s bs) h = ap subtype_of (subtype_back (subtype_byte s))
 normal_scalar_clean _ h = tt
 
@@ -137,11 +139,7 @@ place_size k v (member l w ms) h = by (slice_cmp nat_cmp k l) refl (place_size k
         → members_size (match_ordering o (member k v (member l w ms)) (member k v ms) (member l w (place k v ms))) ≡ length k + value_size v + members_size (member l w ms) + 2
     by Less e r n = refl
     by Equal e r n = let i : bytes_eq k l ≡ true = subst (λ m. bytes_eq k m ≡ true) (tied k l e) (same_key k) in let j : Some w ≡ None = sym (ap (λ b. cond b (Some w) (look_up k ms)) i) ∙ n in cc
-    by Greater e r n = let i : look_up k ms ≡ None = not_first (bytes_eq k l) w (look_up k ms) n in omega (arith, r i)
-      where
-        not_first : (b : Bool) (w : Value) (o : Option Value) → cond b (Some w) o ≡ None → o ≡ None
-        not_first true w o f = cc
-        not_first false w o f = f
+    by Greater e r n = let i : look_up k ms ≡ None = (not_first k l w ms n).1 in omega (arith, r i)
 
 mutual
   pub asc_size : (v : Value) → HasDistinctKeys v → value_size (asc v) ≡ value_size v

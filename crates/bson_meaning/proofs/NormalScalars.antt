@@ -1,14 +1,14 @@
 -- The normal form of a double, of a subtype and of options: taken twice it is taken once, and what it keeps.
 use Rattle.std.proofs.Common.{◌≡◌, ℕ, ◌+◌, ◌^◌, ◌<◌, List, [], ◌∷◌, ◌++◌, length, Bool, true, false, cond, if◌then◌else◌, leb, refl, ap, ◌∙◌, sym, arith, length-append}
 use Rattle.std.proofs.lemmas.Str.{encodes-chars}
-use Rattle.std.specs.Prelude.{IsUtf8, chars, ◌&&◌}
+use Rattle.std.specs.Prelude.{IsUtf8, chars}
 use lib.Utf8.{encode, encodes}
 use Rattle.bson_base.specs.Doubles.{is_nan, is_negative}
-use Rattle.bson_base.specs.Kinds.{HasNo00, NeverDescends}
+use Rattle.bson_base.specs.Kinds.{HasNo00}
 use Rattle.bson_base.specs.Options.{put_in_order, ascending_codes, sorted_text}
 use Rattle.bson_base.proofs.OptionsLemmas.{sorted_text-in_order, sorted_text-kept}
 use Rattle.bson_meaning.specs.Meaning.{normal_double}
-use Rattle.bson_bytes.proofs.Options.{no_zero_both, text_sorted}
+use Rattle.bson_bytes.proofs.Options.{text_sorted}
 
 -- ---- doubles
 
@@ -43,14 +43,6 @@ normal_double_fits n h = by (is_nan n) (is_negative n)
 
 -- ---- options
 
-pub both_true : (a b : Bool) → (a && b) ≡ true → (a ≡ true) × (b ≡ true)
-both_true true b e = (refl, e)
-both_true false b e = (cc, cc)
-
-and_true : (a b : Bool) → a ≡ true → b ≡ true → (a && b) ≡ true
-and_true true b h k = k
-and_true false b h k = h
-
 length_put : (c : ℕ) (ds : List ℕ) → length (encodes (put_in_order c ds)) ≡ length (encode c) + length (encodes ds)
 length_put c [] = simp length-append
 length_put c (d ∷ ds) = by (length_put c ds) (leb c d)
@@ -67,23 +59,8 @@ pub no_00_parts : (a b : List ℕ) → HasNo00 (a ++ b) → HasNo00 a × HasNo00
 no_00_parts [] b h = (tt, h)
 no_00_parts (x ∷ a) b h = let r = no_00_parts a b h.1 in ((h.0, r.0), r.1)
 
-no_00_put : (c : ℕ) (ds : List ℕ) → HasNo00 (encode c) → HasNo00 (encodes ds) → HasNo00 (encodes (put_in_order c ds))
-no_00_put c [] h k = no_zero_both (encode c) [] h tt
-no_00_put c (d ∷ ds) h k = by (no_00_put c ds h (no_00_parts (encode d) (encodes ds) k).1) (leb c d)
-  where
-    by : HasNo00 (encodes (put_in_order c ds)) → (b : Bool) → HasNo00 (encodes (cond b (c ∷ d ∷ ds) (d ∷ put_in_order c ds)))
-    by r true = no_zero_both (encode c) (encodes (d ∷ ds)) h k
-    by r false = no_zero_both (encode d) (encodes (put_in_order c ds)) (no_00_parts (encode d) (encodes ds) k).0 r
-
-no_00_ascending : (cs : List ℕ) → HasNo00 (encodes cs) → HasNo00 (encodes (ascending_codes cs))
-no_00_ascending [] h = tt
-no_00_ascending (c ∷ cs) h = let r = no_00_parts (encode c) (encodes cs) h in no_00_put c (ascending_codes cs) r.0 (no_00_ascending cs r.1)
-
-pub sorted_text_clean : (t : List ℕ) → IsUtf8 t → NeverDescends (chars (sorted_text t))
-sorted_text_clean t u = sorted_text-in_order t u
-
 pub sorted_text_twice : (t : List ℕ) → IsUtf8 t → sorted_text (sorted_text t) ≡ sorted_text t
-sorted_text_twice t u = sorted_text-kept (sorted_text t) (text_sorted t u) (sorted_text_clean t u)
+sorted_text_twice t u = sorted_text-kept (sorted_text t) (text_sorted t u) (sorted_text-in_order t u)
 
 pub sorted_text_length : (t : List ℕ) → IsUtf8 t → length (sorted_text t) ≡ length t
 sorted_text_length t u = length_ascending (chars t) ∙ ap length (encodes-chars t u)

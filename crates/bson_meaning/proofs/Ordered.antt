@@ -4,11 +4,12 @@ use Rattle.std.specs.Prelude.{bytes_eq, option_map}
 use Rattle.std.specs.declared.cmp.Ordering.{Ordering}
 use Rattle.std.specs.declared.cmp.Ordering.TheVariants.{Less, Equal, Greater}
 use Rattle.std.specs.Ordering.{nat_cmp, match_ordering, ordering_reverse}
-use Rattle.std.specs.Cmp.Lexicographic.{slice_cmp, bytes_decides}
+use Rattle.std.specs.Cmp.Lexicographic.{slice_cmp}
 use Rattle.std.specs.FinMap.{slice_cmp-IsAntisymmetric, nat_cmp-IsAntisymmetric}
 use Rattle.std.proofs.lemmas.Cmp.{nat_list_cmp_total, tied_itself}
 use Rattle.bson_meaning.specs.Meaning.{norm, norm_members, place, asc, asc_members}
 use Rattle.bson_base.specs.Value.{Value, Members, no_members, member, look_up}
+use Rattle.bson_base.proofs.Members.{equal_keys, twice_asked, either_first, headed}
 
 abbrev pub Order : List ℕ → List ℕ → Ordering
 Order = slice_cmp nat_cmp
@@ -19,23 +20,7 @@ tied = slice_cmp-IsAntisymmetric nat_cmp-IsAntisymmetric
 pub itself : (k : List ℕ) → Order k k ≡ Equal
 itself = tied_itself nat_list_cmp_total
 
-pub equal_keys : (k l : List ℕ) → bytes_eq k l ≡ true → k ≡ l
-equal_keys k l = (bytes_decides k l).0
-
-pub same_key : (k : List ℕ) → bytes_eq k k ≡ true
-same_key k = (bytes_decides k k).1 refl
-
 -- ---- what stands under a key
-
-pub twice_asked : {A : Type 0} (b : Bool) (x y z : A) → cond b x (cond b y z) ≡ cond b x z
-twice_asked true x y z = refl
-twice_asked false x y z = refl
-
-pub either_first : {A : Type 0} (b c : Bool) (x y z : A) → (b ≡ true → c ≡ true → ⊥) → cond b x (cond c y z) ≡ cond c y (cond b x z)
-either_first true true x y z h = absurd (h refl refl)
-either_first true false x y z h = refl
-either_first false true x y z h = refl
-either_first false false x y z h = refl
 
 apart_if : (k l : List ℕ) (o : Ordering) → Order k l ≡ o → (o ≡ Equal → ⊥) → (q : List ℕ) → bytes_eq q l ≡ true → bytes_eq q k ≡ true → ⊥
 apart_if k l o e h q a b =
@@ -64,9 +49,6 @@ look_up-asc q (member k v ms) = look_up-place q k (asc v) (asc_members ms) ∙ a
 pub look_up-norm : (q : List ℕ) (ms : Members) → look_up q (norm_members ms) ≡ option_map norm (look_up q ms)
 look_up-norm q no_members = refl
 look_up-norm q (member k v ms) = ap (cond (bytes_eq q k) (Some (norm v))) (look_up-norm q ms) ∙ mapped norm (bytes_eq q k) v (look_up q ms)
-
-pub headed : (k : List ℕ) (v : Value) (ms : Members) → look_up k (member k v ms) ≡ Some v
-headed k v ms = ap (λ b. cond b (Some v) (look_up k ms)) (same_key k)
 
 -- ---- ascending
 

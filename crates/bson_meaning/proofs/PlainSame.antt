@@ -8,9 +8,9 @@ use Rattle.bson_base.specs.Options.{put_in_order, ascending_codes, sorted_text}
 use Rattle.bson_base.specs.Value.{Scalar, regex, Value, scalar, array, document, scoped_code, Items, no_items, item, Members, no_members, member, look_up, EachPart, EachItem, EachMember}
 use Rattle.bson_meaning.specs.Meaning.{normal_scalar, norm, asc, Same, SameItems, SameUnder}
 use Rattle.bson_meaning.proofs.Normal.{normal_scalar_plain, normal_scalar_clean, norm_each, asc_each, both_each}
-use Rattle.bson_meaning.proofs.Ordered.{equal_keys, same_key}
 use Rattle.bson_bytes.proofs.Options.{no_zero_both}
 use Rattle.bson_meaning.proofs.NormalScalars.{no_00_parts}
+use Rattle.bson_base.proofs.Members.{same_key, key_at}
 
 placed_back : (c : ℕ) (ds : List ℕ) → HasNo00 (encodes (put_in_order c ds)) → HasNo00 (encoded c) × HasNo00 (encodes ds)
 placed_back c [] h = ((no_00_parts (encoded c) [] h).0, tt)
@@ -31,14 +31,6 @@ sorted_back t u h = subst HasNo00 (encodes-chars t u) (ordered_back (chars t) h)
 normal_back : (s : Scalar) → IsRangedScalar s → IsPlainScalar (normal_scalar s) → IsPlainScalar s
 normal_back (regex p o) u h = (h.0, sorted_back o u.1 h.1)
 normal_back _ u h = tt
-
-pub key_at : (K : List ℕ → Type 0) (S : Scalar → Type 0) (ms : Members) (k : List ℕ) (v : Value) → EachMember K S ms → look_up k ms ≡ Some v → K k × EachPart K S v
-key_at K S no_members k v h e = cc
-key_at K S (member l w ms) k v h e = by (bytes_eq k l) refl e (key_at K S ms k v h.2)
-  where
-    by : (b : Bool) → bytes_eq k l ≡ b → cond b (Some w) (look_up k ms) ≡ Some v → (look_up k ms ≡ Some v → K k × EachPart K S v) → K k × EachPart K S v
-    by true i e rest = let same : w ≡ v = cc in (subst K (sym (equal_keys k l i)) h.0, subst (EachPart K S) same h.1)
-    by false i e rest = rest e
 
 pub some_found : {X : Type 0} (o : Option Value) (P : Value → Type 0) → ((v : Value) → o ≡ Some v → P v → X) → IsSomeAnd o P → X
 some_found None P f h = absurd h

@@ -13,7 +13,7 @@ use Rattle.bson_model.proofs.DistinctLemmas.{none_there}
 use Rattle.bson_model.proofs.EqualLemmas.{look_up-members_of}
 use Rattle.bson_meaning.specs.Meaning.{norm, norm_items, norm_members, asc, asc_items}
 use Rattle.bson_meaning.specs.Pairs.{normal_pair}
-use Rattle.bson_meaning.proofs.Ordered.{equal_keys, same_key}
+use Rattle.bson_base.proofs.Members.{equal_keys, same_key}
 
 -- each key stands once, on this level
 abbrev pub KeysOnce : List (Key × Value) → Type 0

@@ -1,10 +1,10 @@
 -- A view shows a value, element by element.
-use Rattle.std.proofs.Common.{◌≡◌, ◌↔◌, ℕ, suc, ◌+◌, ◌-◌, ◌<◌, ◌≤◌, max, List, [], ◌∷◌, map, drop, Bool, true, false, cond, eqb, eq-eqb, IsTrue, length, Option, Some, None, Ok, Err, bytes_eq, refl, ap, sym, ◌∙◌, subst, arith}
+use Rattle.std.proofs.Common.{◌≡◌, ◌↔◌, ℕ, suc, ◌+◌, ◌-◌, ◌<◌, ◌≤◌, List, [], ◌∷◌, map, drop, Bool, true, false, cond, eqb, eq-eqb, IsTrue, length, Option, Some, None, Ok, Err, bytes_eq, refl, ap, sym, ◌∙◌, subst, arith}
 use Rattle.std.proofs.lemmas.Bool.{eqb-true}
 use Rattle.std.specs.Prelude.{IsSomeAnd, is_some}
 use Rattle.bson_base.specs.declared.spec.ElementType.{ElementType}
 use Rattle.bson_base.specs.declared.spec.ElementType.TheVariants as kinds
-use Rattle.bson_base.specs.Value.{Scalar, scalar_kind, Value, scalar, array, document, scoped_code, Items, no_items, item, Members, no_members, member, value_kind, look_up, has_key, levels, members_levels, HasDistinctKeys, ItemsHaveDistinctKeys, MembersHaveDistinctKeys}
+use Rattle.bson_base.specs.Value.{Scalar, scalar_kind, Value, scalar, array, document, scoped_code, Items, no_items, item, Members, no_members, member, value_kind, look_up, has_key, HasDistinctKeys, ItemsHaveDistinctKeys, MembersHaveDistinctKeys}
 use Rattle.bson_bytes.specs.Spells.{HoldsScalar, SpellsValue, SpellsItems, SpellsMembers}
 use Rattle.bson_bytes.proofs.One.{end_no_frame, one_scalar}
 use Rattle.bson_frame.specs.declared.error.Error.{Error}
@@ -28,8 +28,8 @@ use Rattle.bson_meaning.specs.Views.{ComparesPayload, shown, ShowsValue, IsRest,
 use Rattle.bson_meaning.proofs.Comparing.{keys_under, same_documents}
 use Rattle.bson_meaning.proofs.Held.{scalar_apart}
 use Rattle.bson_meaning.proofs.InTurn.{StandOnce}
-use Rattle.bson_meaning.proofs.Ordered.{equal_keys, same_key}
 use Rattle.bson_raw.proofs.Progress.{untrue}
+use Rattle.bson_base.proofs.Members.{equal_keys, same_key, not_first}
 
 -- how many members there are
 abbrev pub number : Members → ℕ
@@ -148,9 +148,6 @@ last_item (Some bytes) t (item v vs) h r = absurd (end_no_frame bytes r.0 r.1 h.
 pub compares_raw : (e : Element) (raw : RawBsonRef) (w : Value) (b : Bool) → IsPayload e.tag e.payload → IsValue e.tag e.payload raw → ((v : Value) → ShowsValue raw v → HasDistinctKeys v → IsTrue b ↔ Same v w) → ComparesPayload e w b
 compares_raw e raw w b sized is c v kind spelled d = c v (payload_shown e.payload e.tag raw v sized is kind spelled) d
 
-pub compares_fault : (e : Element) (fault : ErrorKind) (w : Value) (b : Bool) → IsPayloadFault e.tag e.payload fault → ComparesPayload e w b
-compares_fault e fault w b f v kind spelled d = absurd (no_payload_fault e v fault kind spelled f)
-
 -- ---- as many keys
 
 -- without the first member of the key
@@ -176,13 +173,6 @@ still_there q k (member l w ns) d h = by (still_there q k ns d) (bytes_eq k l) (
     by more true false e f h = h
     by more false true e f h = ap (λ c. is_some (cond c (Some w) (look_up q (dropped k ns)))) f
     by more false false e f h = ap (λ c. is_some (cond c (Some w) (look_up q (dropped k ns)))) f ∙ more h
-
-not_first : (k q : List ℕ) (v : Value) (ms : Members) → look_up k (member q v ms) ≡ None → (bytes_eq k q ≡ false) × (look_up k ms ≡ None)
-not_first k q v ms h = by (bytes_eq k q) refl h
-  where
-    by : (b : Bool) → bytes_eq k q ≡ b → cond b (Some v) (look_up k ms) ≡ None → (bytes_eq k q ≡ false) × (look_up k ms ≡ None)
-    by true e f = absurd cc
-    by false e f = (e, f)
 
 keys_without : (k : List ℕ) (ms ns : Members) → look_up k ms ≡ None → HasKeysOf ms ns → HasKeysOf ms (dropped k ns)
 keys_without k no_members ns e h = tt
@@ -227,9 +217,6 @@ counted_same ms ns left b d e under count test = (
 -- the elements that are left decide what all decide; as many values as these are left of len, and those that are done
 abbrev pub MembersLeft : Option (List ℕ) → ℕ → ℕ → Members → Members → Type 0
 MembersLeft s left len all ns = (rest : Members) × IsRest s rest × MembersHaveDistinctKeys rest × (SameUnder all ns ↔ SameUnder rest ns) × (number all + left ≡ len + number rest)
-
-pub members_start : (bytes : List ℕ) (len : ℕ) (all ns : Members) → SpellsMembers bytes all → MembersHaveDistinctKeys all → MembersLeft (Some bytes) len len all ns
-members_start bytes len all ns h d = (all, h, d, ((λ x. x), (λ x. x)), omega arith)
 
 at_some : (o : Option Value) (w v : Value) → o ≡ Some w → Same v w → IsSomeAnd o (Same v)
 at_some o w v e h = subst (λ p. IsSomeAnd p (Same v)) (sym e) h
@@ -281,9 +268,6 @@ members_wrong s t left len all ns x step l = no_next_member s t x l.0 step l.1
 abbrev pub ItemsLeft : Option (List ℕ) → Items → Items → Items → Type 0
 ItemsLeft left all target others = (rest : Items) × IsItemsRest left rest × ItemsHaveDistinctKeys rest × (SameItems all target ↔ SameItems rest others)
 
-pub items_start : (bytes : List ℕ) (all target : Items) → SpellsItems bytes all → ItemsHaveDistinctKeys all → ItemsLeft (Some bytes) all target target
-items_start bytes all target h d = (all, h, d, ((λ x. x), (λ x. x)))
-
 module _ (s t : Option (List ℕ)) (all target others : Items) (x : RawElement) (step : steps_from s (Some (Ok x)) t) (l : ItemsLeft s all target others) where
   next_one : NextItem (parts_of x) l.0 t
   next_one = next_item s t x l.0 step l.1
@@ -317,14 +301,6 @@ pub items_done : (s t : Option (List ℕ)) (all target others : Items) → steps
 items_done s t all target others step l = subst (λ vs. SameItems all target ↔ SameItems vs others) (last_item s t l.0 step l.1) l.3
 
 -- ---- what was found
-
-pub found_levels : (k : List ℕ) (ns : Members) (w : Value) → look_up k ns ≡ Some w → levels w ≤ members_levels ns
-found_levels k no_members w h = cc
-found_levels k (member l v ns) w h = by (found_levels k ns w) (bytes_eq k l) h
-  where
-    by : (look_up k ns ≡ Some w → levels w ≤ members_levels ns) → (b : Bool) → cond b (Some v) (look_up k ns) ≡ Some w → levels w ≤ max (levels v) (members_levels ns)
-    by more true e = let same : v ≡ w = cc in subst (λ u. levels u ≤ max (levels v) (members_levels ns)) same (omega arith)
-    by more false e = omega (arith, more e)
 
 pub number_length : (ps : List (Key × Value)) → number (members_of ps) ≡ length ps
 number_length [] = refl

@@ -1,5 +1,5 @@
 -- The normal form of a value, its keys in order, and when two values mean the same.
-use Rattle.std.specs.Prelude.{◌≡◌, ℕ, List, if◌then◌else◌, IsSomeAnd}
+use Rattle.std.specs.Prelude.{◌≡◌, ℕ, List, if◌then◌else◌, IsSomeAnd, Option, Some, None}
 use Rattle.std.specs.Ordering.{nat_cmp, match_ordering}
 use Rattle.std.specs.Cmp.Lexicographic.{slice_cmp}
 use Rattle.bson_base.specs.Decimal.{number_of, sixteen_bytes, pack, unpack}
@@ -91,3 +91,9 @@ abbrev mutual
   pub SameUnder : Members → Members → Type 0
   SameUnder no_members ns = Unit {0}
   SameUnder (member k v ms) ns = IsSomeAnd (look_up k ns) (Same v) × SameUnder ms ns
+
+-- both are there and mean the same, or neither is there
+abbrev pub SameOption : Option Value → Option Value → Type 0
+SameOption None None = Unit {0}
+SameOption (Some v) (Some w) = Same v w
+SameOption _ _ = ⊥

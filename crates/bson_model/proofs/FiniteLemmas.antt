@@ -7,10 +7,7 @@ use Rattle.bson_base.specs.Doubles.{is_nan, is_infinite, is_zero}
 use Rattle.bson_base.specs.Value.{Scalar, double, Value, scalar, array, document, scoped_code, Items, no_items, item, Members, no_members, member}
 use Rattle.bson_model.specs.JsonWrite.{double_text, holds_finite, is_finite_and_not_zero, items_hold_finite, members_hold_finite, scalar_is_finite, unsigned_text, with_scope, write, write_items, write_members, write_scalar}
 use Rattle.bson_model.specs.declared.extjson.ser.Mode.{Mode}
-
-some_mapped : {A B : Type 0} (f : A → B) (o : Option A) → is_some (option_map f o) ≡ is_some o
-some_mapped f None = refl
-some_mapped f (Some a) = refl
+use Rattle.bson_model.proofs.ViewLemmas.{is_some-map}
 
 text_there : (a b c : Bool) (s t u : List ℕ) → is_some (if a then Some s else if b then Some t else if c then Some u else None) ≡ not (not (a || b || c))
 text_there true b c s t u = refl
@@ -22,7 +19,7 @@ double_there : (n : ℕ) → is_some (unsigned_text n) ≡ not (is_finite_and_no
 double_there n = text_there (is_nan n) (is_infinite n) (is_zero n) (codes "NaN") (codes "Infinity") (codes "0.0")
 
 scalar_there : (m : Mode) (s : Scalar) → is_some (write_scalar m s) ≡ not (scalar_is_finite s)
-scalar_there m (double n) = some_mapped _ (double_text n) ∙ some_mapped _ (unsigned_text n) ∙ double_there n
+scalar_there m (double n) = is_some-map _ (double_text n) ∙ is_some-map _ (unsigned_text n) ∙ double_there n
 scalar_there m _ = refl
 
 item_there : (j : Option Data) (o : Option json.Items) (a b : Bool) → is_some j ≡ not a → is_some o ≡ not b → is_some (option_and_then (λ d. option_map (json.item d) o) j) ≡ not (a || b)
@@ -44,9 +41,9 @@ member_there None more false b e f = cc
 mutual
   pub is_written : (m : Mode) (v : Value) → is_some (write m v) ≡ not (holds_finite v)
   is_written m (scalar s) = scalar_there m s
-  is_written m (array vs) = some_mapped json.array (write_items m vs) ∙ items_written m vs
-  is_written m (document ms) = some_mapped json.object (write_members m ms json.no_members) ∙ members_written m ms json.no_members
-  is_written m (scoped_code t ms) = some_mapped (with_scope t) (write_members m ms json.no_members) ∙ members_written m ms json.no_members
+  is_written m (array vs) = is_some-map json.array (write_items m vs) ∙ items_written m vs
+  is_written m (document ms) = is_some-map json.object (write_members m ms json.no_members) ∙ members_written m ms json.no_members
+  is_written m (scoped_code t ms) = is_some-map (with_scope t) (write_members m ms json.no_members) ∙ members_written m ms json.no_members
 
   items_written : (m : Mode) (vs : Items) → is_some (write_items m vs) ≡ not (items_hold_finite vs)
   items_written m no_items = refl

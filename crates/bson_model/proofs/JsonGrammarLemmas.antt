@@ -1,6 +1,5 @@
 -- What is read is what the grammar says.
 use Rattle.std.proofs.Common.{◌≡◌, ℕ, ◌^◌, ◌<◌, ◌&&◌, ◌↔◌, nat_lt, ℤ, Bool, true, false, List, codes, Option, Some, None, Result, Ok, Err, bytes_eq, refl, sym, ap, ◌∙◌, arith}
-use Rattle.std.proofs.lemmas.Slice.Eq.{bytes_eq-Decides}
 use Rattle.base64.specs.GeneralPurpose.{decode_of}
 use Rattle.base64.specs.Engines.{standard}
 use Rattle.serde_json.specs.Data as tree
@@ -16,12 +15,13 @@ use Rattle.bson_base.specs.Value.{Scalar, double, binary, undefined, object_id, 
 use Rattle.bson_base.specs.declared.oid.Error as oid
 use Rattle.bson_base.specs.declared.spec.BinarySubtype.{BinarySubtype}
 use Rattle.bson_base.specs.declared.spec.BinarySubtype.TheVariants.{Uuid}
-use Rattle.bson_base.proofs.PrintedReads.{both as both_true}
-use Rattle.bson_model.specs.JsonGrammar.{one, two, ReadsDate, ReadsBody, Reads, ReadsItems, ReadsMembers, ReadsTyped, ReadsScope}
-use Rattle.bson_model.specs.JsonKeys.{Reserved, of_id, of_symbol, of_regex, of_int, of_long, of_double, of_decimal, of_binary, of_uuid, of_code, of_timestamp, of_date, of_min, of_max, of_pointer, of_undefined, key_of, scope_key, reserved_of, any_reserved}
+use Rattle.bson_model.specs.JsonGrammar.{ReadsDate, ReadsBody, Reads, ReadsItems, ReadsMembers, ReadsTyped, ReadsScope}
+use Rattle.bson_model.specs.JsonKeys.{Reserved, of_id, of_symbol, of_regex, of_int, of_long, of_double, of_decimal, of_binary, of_uuid, of_code, of_timestamp, of_date, of_min, of_max, of_pointer, of_undefined, key_of, scope_key, reserved_of, any_reserved, one, two}
 use Rattle.bson_model.specs.JsonRead.{◌>>=◌, wanted, accepted, accepted_id, text_of, single, under, bodies_in, bodies_under, u32_from, u32_of, is_one, is_true, integer, whole, id_body, regex_body, int_body, long_body, double_body, decimal_body, byte_body, base64_body, binary_body, uuid_body, timestamp_body, read_date_body, pointer_body, constant, read_body, read_wrapped, code_and_scope, read, read_items, read_members, read_typed, read_scope}
 use Rattle.bson_model.specs.JsonTexts.{int_of, long_of, double_of, byte_of}
 use Rattle.bson_model.specs.declared.extjson.de.Error.{Error}
+use Rattle.std.proofs.lemmas.Bool.{and_parts}
+use Rattle.bson_base.proofs.Members.{equal_keys}
 
 -- ---- an answer that is there, step by step
 
@@ -47,11 +47,8 @@ text_ok : (j : Data) (t : List ℕ) → text_of j ≡ Ok t → j ≡ text t
 text_ok (text u) t h = cc h
 text_ok _ t h = absurd (cc h)
 
-same_key : (k l : List ℕ) → bytes_eq k l ≡ true → k ≡ l
-same_key k l = (bytes_eq-Decides k l).0
-
 single_by : (b : Bool) (k l : List ℕ) (i j : Data) → bytes_eq l k ≡ b → single k (tree.member l i tree.no_members) ≡ Ok j → tree.member l i tree.no_members ≡ tree.member k j tree.no_members
-single_by true k l i j e h = let is : l ≡ k = same_key l k e in let got : i ≡ j = cc (rw e at h) in rw (is, got) refl
+single_by true k l i j e h = let is : l ≡ k = equal_keys l k e in let got : i ≡ j = cc (rw e at h) in rw (is, got) refl
 single_by false k l i j e h = absurd (cc (rw e at h))
 
 single_ok : (k : List ℕ) (js : tree.Members) (j : Data) → single k js ≡ Ok j → js ≡ tree.member k j tree.no_members
@@ -66,9 +63,9 @@ under_ok k _ j h = absurd (cc h)
 pair_by : (b : Bool) (k l m n : List ℕ) (i j : Data) (p : Data × Data) → (bytes_eq m k && bytes_eq n l) ≡ b
     → bodies_in k l (tree.member m i (tree.member n j tree.no_members)) ≡ Ok p → tree.member m i (tree.member n j tree.no_members) ≡ tree.member k p.0 (tree.member l p.1 tree.no_members)
 pair_by true k l m n i j p e h =
-    let t = both_true (bytes_eq m k) (bytes_eq n l) e in
-    let first : m ≡ k = same_key m k t.0 in
-    let second : n ≡ l = same_key n l t.1 in
+    let t = and_parts (bytes_eq m k) (bytes_eq n l) e in
+    let first : m ≡ k = equal_keys m k t.0 in
+    let second : n ≡ l = equal_keys n l t.1 in
     let got : (i, j) ≡ p = cc (rw e at h) in
     rw (first, second, sym got) refl
 pair_by false k l m n i j p e h = absurd (cc (rw e at h))
@@ -263,10 +260,10 @@ ScopeGoes i = (t : List ℕ) (o : Option Members) (v : Value) → read_scope i �
 two_by : (b : Bool) (k l : List ℕ) (j i : Data) (v : Value) → (bytes_eq k (key_of of_code) && bytes_eq l scope_key) ≡ b → ScopeGoes i
     → read_typed (tree.member k j (tree.member l i tree.no_members)) ≡ Ok v → ReadsTyped (tree.member k j (tree.member l i tree.no_members)) v
 two_by true k l j i v e scope h =
-    let keys = both_true (bytes_eq k (key_of of_code)) (bytes_eq l scope_key) e in
+    let keys = and_parts (bytes_eq k (key_of of_code)) (bytes_eq l scope_key) e in
     let a = text_body (λ t. read_scope i >>= λ o. Ok (code_and_scope t o)) j v (rw e at h) in
     let b = bind_ok (read_scope i) (λ o. Ok (code_and_scope a.0 o)) v a.2 in
-    (a.0, same_key k (key_of of_code) keys.0, same_key l scope_key keys.1, a.1, scope a.0 b.0 v b.1 (cc b.2))
+    (a.0, equal_keys k (key_of of_code) keys.0, equal_keys l scope_key keys.1, a.1, scope a.0 b.0 v b.1 (cc b.2))
 two_by false k l j i v e scope h = absurd (cc (rw e at h))
 
 mutual

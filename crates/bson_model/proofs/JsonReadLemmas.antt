@@ -61,10 +61,6 @@ items_then-more (c ∷ bs) b us = ap (item (view c)) (items_then-more bs b us)
 abbrev pub after_items : Items → Result Items Error → Result Items Error
 after_items vs r = r >>= λ us. Ok (items_then vs us)
 
-pub after_items-none : (r : Result Items Error) → r ≡ after_items no_items r
-after_items-none (Ok us) = refl
-after_items-none (Err e) = refl
-
 after_items-more : (bs : List Bson) (b : Bson) (r : Result Items Error) → after_items (values_view bs) (r >>= λ us. Ok (item (view b) us)) ≡ after_items (values_view (bs ++ b ∷ [])) r
 after_items-more bs b (Ok us) = ap Ok (items_then-more bs b us)
 after_items-more bs b (Err e) = refl
@@ -179,12 +175,6 @@ members_step all left more ps qs k v b sorted so first is puts =
 
 pub members_end : (all left : List Entry) (ps : List Named) → SoFar all left ps → left ≡ [] → read_members (members_view all) ≡ Ok (members_of ps)
 members_end all left ps so none = so.reads ∙ ap (λ us. after_members (members_of ps) (read_members (members_view us))) none ∙ ap Ok (members_then-none (members_of ps))
-
-pub members_fail : (e : Error) (all left more : List Entry) (ps : List Named) (k : String Global) (v : json.Value)
-    → SoFar all left ps → left ≡ (k, v) ∷ more → Fails e (read (tree_of v)) → Fails e (read_members (members_view all))
-members_fail e all left more ps k v so first fails =
-    Fails-along e _ _ (so.reads ∙ ap (λ us. after_members (members_of ps) (read_members (members_view us))) first)
-    (Fails-bind e (read (tree_of v) >>= λ t. read_members (members_view more) >>= λ ms. Ok (member (string_bytes k) t ms)) (λ us. Ok (members_then (members_of ps) us)) (Fails-bind e (read (tree_of v)) _ fails))
 
 -- ---- code beside its scope
 

@@ -7,11 +7,11 @@ use Rattle.hex.specs.Hex.{decode_pairs, decode_sized, hex_digit_value}
 use Rattle.hex.specs.declared.error.FromHexError.{FromHexError}
 use Rattle.hex.specs.declared.error.FromHexError.TheVariants.{OddLength, InvalidStringLength}
 use Rattle.bson_base.specs.Decimal.{all_digits, value_after}
-use Rattle.bson_base.proofs.PrintedReads.{both}
 use Rattle.bson_model.specs.JsonTexts.{signed, is_digits, with_sign, integer_of, fits_32, fits_64, only_where, int_of, long_of, byte_from, byte_of}
 use Rattle.bson_model.specs.JsonRead.{wanted}
 use Rattle.bson_model.specs.declared.extjson.de.Error.{Error}
 use Rattle.bson_model.specs.declared.extjson.de.Error.TheVariants.{DeserializationError}
+use Rattle.std.proofs.lemmas.Bool.{and_parts}
 
 -- ---- digits
 
@@ -23,7 +23,7 @@ digit_is c h = grind arith
 
 pub all_below : (ds : List ℕ) → all_digits ds ≡ true → AllDigits 10 ds
 all_below [] h = tt
-all_below (c ∷ cs) h = let k = both (is_ascii_digit c) (all_digits cs) h in (digit_below c k.0, all_below cs k.1)
+all_below (c ∷ cs) h = let k = and_parts (is_ascii_digit c) (all_digits cs) h in (digit_below c k.0, all_below cs k.1)
 
 pub all_are : (ds : List ℕ) → AllDigits 10 ds → all_digits ds ≡ true
 all_are [] h = refl
@@ -34,7 +34,7 @@ value_is n [] = refl
 value_is n (c ∷ cs) = value_is (n * 10 + digit_value c) cs
 
 numeral : (ds : List ℕ) → is_digits ds ≡ true → IsNumeral 10 ds
-numeral ds h = let k = both (nat_lt 0 (length ds)) (all_digits ds) h in (grind (arith, k.0), all_below ds k.1)
+numeral ds h = let k = and_parts (nat_lt 0 (length ds)) (all_digits ds) h in (grind (arith, k.0), all_below ds k.1)
 
 is_numeral : (ds : List ℕ) → IsNumeral 10 ds → is_digits ds ≡ true
 is_numeral ds h = let k : nat_lt 0 (length ds) ≡ true = grind (arith, h.0) in rw k (all_are ds h.1)
@@ -58,13 +58,6 @@ integer_some : (t : List ℕ) → IsNumeral 10 (without_leading_sign t) → inte
 integer_some t h =
     let digits : is_digits (signed t).1 ≡ true = ap (λ s. is_digits s.1) (signed_is t) ∙ is_numeral (without_leading_sign t) h in
     rw digits (ap Some (number_is t))
-
-integer_none : (t : List ℕ) → (IsNumeral 10 (without_leading_sign t) → ⊥) → integer_of t ≡ None
-integer_none t h = by (is_digits (signed t).1) refl
-  where
-    by : (b : Bool) → is_digits (signed t).1 ≡ b → integer_of t ≡ None
-    by true e = absurd (h (numeral (without_leading_sign t) (sym (ap (λ s. is_digits s.1) (signed_is t)) ∙ e)))
-    by false e = rw e refl
 
 -- ---- ranges
 

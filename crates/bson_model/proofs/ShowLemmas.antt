@@ -10,10 +10,6 @@ use Rattle.bson_model.specs.Display.{mark_before, quoted, shown, shown_document,
 use Rattle.bson_model.specs.View.{view, pair_view, items_of, members_of}
 use Rattle.bson_model.specs.declared.bson.Bson.{Bson}
 
-pub shown_empty : (ps : List (Key × Value)) → ps ≡ [] → codes "{}" ≡ shown_document (members_of ps)
-shown_empty [] e = refl
-shown_empty (p ∷ ps) e = absurd (cc)
-
 pub shown_some : (ps : List (Key × Value)) → ¬ (ps ≡ []) → codes "{ " ++ shown_members true (members_of ps) ++ codes " }" ≡ shown_document (members_of ps)
 shown_some [] n = absurd (n refl)
 shown_some (p ∷ ps) n = refl

@@ -1,7 +1,7 @@
 -- A `Bson`, level by level.
 use Rattle.std.specs.Option.{option_map, option_copied, option_copied_mut}
 use Rattle.std.proofs.Common.{◌≡◌, ℕ, ℤ, Bool, Option, Some, None, Bor, MutBor, is_some, List, map, String, Vec, Global, string_bytes, refl, rules}
-use Rattle.bson_base.specs.Value.{Value, scalar, array, document, scoped_code, binary}
+use Rattle.bson_base.specs.Value.{Value, scalar, array, scoped_code, binary}
 use Rattle.std.specs.Option.{OnSome}
 use Rattle.bson_base.specs.declared.binary.Binary.{Binary}
 use Rattle.bson_base.specs.declared.datetime.DateTime.{DateTime}
@@ -14,16 +14,12 @@ use Rattle.bson_base.specs.declared.timestamp.Timestamp.{Timestamp}
 use Rattle.bson_model.specs.Accessors.{as_binary, as_binary_generic}
 use Rattle.bson_model.specs.Trees.{f64_tree, text_tree, bool_tree, i32_tree, i64_tree, timestamp_tree, binary_tree, object_id_tree, date_time_tree, decimal128_tree}
 use Rattle.bson_model.specs.View.{view, items_of, members_of, pairs_of}
-use Rattle.bson_model.specs.declared.document.Document.{Document}
 use Rattle.bson_model.specs.declared.bson.JavaScriptCodeWithScope.{JavaScriptCodeWithScope}
 use Rattle.bson_model.specs.declared.bson.Bson as bson
-use Rattle.bson_model.specs.declared.bson.Bson.{Bson, Array, JavaScriptCodeWithScope as WithScope, Document as Embedded, the_lemmas}
+use Rattle.bson_model.specs.declared.bson.Bson.{Bson, Array, JavaScriptCodeWithScope as WithScope, the_lemmas}
 
 pub view-Array : (v : Vec Bson Global) → view (Array v) ≡ array (items_of (map view v.items))
 view-Array v = search (rules, the_lemmas)
-
-pub view-Document : (d : Document) → view (Embedded d) ≡ document (members_of (pairs_of d))
-view-Document d = search (rules, the_lemmas)
 
 pub view-WithScope : (c : JavaScriptCodeWithScope) → view (WithScope c) ≡ scoped_code (string_bytes c.code) (members_of (pairs_of c.scope))
 view-WithScope c = search (rules, the_lemmas)

@@ -14,17 +14,9 @@ use Rattle.bson_base.specs.ScalarTexts.{read_uuid}
 use Rattle.bson_base.specs.Tags.{subtype_of}
 use Rattle.bson_base.specs.Value.{Scalar, double, string, binary, undefined, object_id, boolean, date_time, null, regex, db_pointer, code, symbol, int32, timestamp, int64, decimal, max_key, min_key, Value, scalar, array, document, scoped_code, Items, no_items, item, Members, no_members, member}
 use Rattle.bson_base.specs.declared.spec.BinarySubtype.TheVariants.{Uuid}
-use Rattle.bson_model.specs.JsonKeys.{Reserved, of_id, of_symbol, of_regex, of_int, of_long, of_double, of_decimal, of_binary, of_uuid, of_code, of_timestamp, of_date, of_min, of_max, of_pointer, of_undefined, key_of, scope_key, reserved_of, any_reserved}
+use Rattle.bson_model.specs.JsonKeys.{Reserved, of_id, of_symbol, of_regex, of_int, of_long, of_double, of_decimal, of_binary, of_uuid, of_code, of_timestamp, of_date, of_min, of_max, of_pointer, of_undefined, key_of, scope_key, reserved_of, any_reserved, one, two}
 use Rattle.bson_model.specs.JsonTexts.{int_of, long_of, double_of, byte_of}
 use Rattle.bson_model.specs.JsonRead.{integer}
-
--- an object with one member
-abbrev pub one : List ℕ → Data → Data
-one k j = object (tree.member k j tree.no_members)
-
--- an object with two members
-abbrev pub two : List ℕ → Data → List ℕ → Data → Data
-two k i l j = object (tree.member k i (tree.member l j tree.no_members))
 
 abbrev pub ReadsDate : Data → ℤ → Type 0
 ReadsDate (text t) z = date_of t ≡ Ok z

@@ -1,7 +1,7 @@
 -- The keys that mark a typed value in Extended JSON (MongoDB Extended JSON v2, "Conversion table").
 use Rattle.std.specs.Prelude.{ℕ, Bool, false, ◌||◌, if◌then◌else◌, List, [], ◌∷◌, codes, Option, Some, None, is_some}
 use Rattle.std.specs.Str.{bytes_eq}
-use Rattle.serde_json.specs.Data.{Members, no_members, member}
+use Rattle.serde_json.specs.Data.{Data, object, Members, no_members, member}
 
 pub data Reserved : Type 0 where
   of_id : Reserved
@@ -61,3 +61,11 @@ is_reserved k = is_some (reserved_of k)
 abbrev pub any_reserved : Members → Bool
 any_reserved no_members = false
 any_reserved (member k j js) = is_reserved k || any_reserved js
+
+-- an object with one member
+abbrev pub one : List ℕ → Data → Data
+one k j = object (member k j no_members)
+
+-- an object with two members, in this order
+abbrev pub two : List ℕ → Data → List ℕ → Data → Data
+two k i l j = object (member k i (member l j no_members))

@@ -18,9 +18,6 @@ use Rattle.bson_base.specs.contracts.binary.Binary as binary
 use Rattle.bson_model.specs.contracts.bson.Bson as bson
 use Rattle.bson_model.specs.contracts.document.Document as document
 
-abbrev pub bson_row : RattleType
-bson_row = bson.the_row
-
 abbrev pub document_row : RattleType
 document_row = document.the_row
 

@@ -2,26 +2,16 @@
 use Rattle.std.proofs.Common.{◌≡◌, ◌&&◌, ◌⊎◌, inl, inr, ℕ, zero, suc, ◌<◌, Bool, true, false, cond, List, [], ◌∷◌, length, get_or, slice_get, Option, Some, None, is_some, String, string_bytes, bytes_eq, refl, sym, ap, ◌∙◌, arith, true≢false}
 use Rattle.std.specs.Cmp.{first_so, second_so}
 use Rattle.std.specs.Cmp.Lexicographic.{nat_list_eq_equiv}
-use Rattle.std.specs.List.{IsDistinct, AllByRecursion, list_all}
+use Rattle.std.specs.List.{IsDistinct, list_all}
 use Rattle.std.specs.Map.{keys_of, values_of}
 use Rattle.std.specs.Option.{option_eq}
-use Rattle.std.specs.String.{string_eq}
 use Rattle.std.specs.declared.alloc.Global.{Global}
 use Rattle.std.proofs.lemmas.Map.Entries.{lookup_from_place, length-keys_of}
 use Rattle.std.proofs.lemmas.Slice.Eq.{bytes_eq-Decides}
 use Rattle.std.proofs.Math.ListN.{get_or-map, length-map}
 use Rattle.bson_pairs.specs.Keyed.{Key, key_bytes, get, has_key}
 use Rattle.bson_pairs.specs.Same.{same_at, there_passes}
-
-none-key_bytes : (s : String Global) (ks : List (String Global)) → AllByRecursion (λ t. string_eq s t ≡ false) ks → AllByRecursion (λ k. bytes_eq (string_bytes s) k ≡ false) (key_bytes ks)
-none-key_bytes s [] h = tt
-none-key_bytes s (k ∷ ks) h = (h.0, none-key_bytes s ks h.1)
-
--- distinct texts have distinct bytes
-pub distinct-key_bytes : (ks : List (String Global)) → IsDistinct string_eq ks → IsDistinct bytes_eq (key_bytes ks)
-unfolding IsDistinct
-distinct-key_bytes [] h = tt
-distinct-key_bytes (k ∷ ks) h = (none-key_bytes k ks h.0, distinct-key_bytes ks h.1)
+use Rattle.std.proofs.lemmas.Bool.{and_from}
 
 module _ {V : Type 0} where
   pair_at : (ps : List (Key × V)) (i : ℕ) (k : Key) (v : V) → i < length ps → k ≡ get_or (keys_of ps) i k → v ≡ get_or (values_of ps) i v → slice_get ps i ≡ Some (k, v)
@@ -39,18 +29,15 @@ module _ {V : Type 0} where
 
 -- ---- tests of all keys
 
-and_more : (a b : Bool) → a ≡ true → b ≡ true → (a && b) ≡ true
-and_more a b p q = λ i. p i && q i
-
 module _ {V : Type 0} where
   later_too : (q : Key × V) (qs : List (Key × V)) (ks : List Key) → list_all (λ k. has_key k qs) ks ≡ true → list_all (λ k. has_key k (q ∷ qs)) ks ≡ true
   later_too q qs [] h = refl
   later_too q qs (k ∷ ks) h =
-      and_more _ _ (elim (bytes_eq k q.0) as (λ b. is_some (cond b (Some q.1) (get k qs)) ≡ true) [ true ↦ refl | false ↦ first_so _ _ h ]) (later_too q qs ks (second_so (has_key k qs) _ h))
+      and_from _ _ (elim (bytes_eq k q.0) as (λ b. is_some (cond b (Some q.1) (get k qs)) ≡ true) [ true ↦ refl | false ↦ first_so _ _ h ]) (later_too q qs ks (second_so (has_key k qs) _ h))
 
   has_each : (qs : List (Key × V)) → list_all (λ k. has_key k qs) (keys_of qs) ≡ true
   has_each [] = refl
-  has_each (q ∷ qs) = and_more _ _ (ap (λ b. is_some (cond b (Some q.1) (get q.0 qs))) ((bytes_eq-Decides q.0 q.0).1 refl)) (later_too q qs (keys_of qs) (has_each qs))
+  has_each (q ∷ qs) = and_from _ _ (ap (λ b. is_some (cond b (Some q.1) (get q.0 qs))) ((bytes_eq-Decides q.0 q.0).1 refl)) (later_too q qs (keys_of qs) (has_each qs))
 
 -- two tests agree on the keys that pass a third, where they agree wherever it passes
 agree : (t u v : Key → Bool) → ((k : Key) → v k ≡ true → t k ≡ u k) → (ks : List Key) → list_all v ks ≡ true → list_all t ks ≡ list_all u ks

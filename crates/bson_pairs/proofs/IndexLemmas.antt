@@ -51,11 +51,6 @@ turned_back k l h = nat_list_cmp_total.antisymm l k ∙ ap ordering_reverse h
 -- ---- what stands in it
 
 module _ {V : Type 0} (P : Key × V → Type 0) where
-  all-by_order : (o : Ordering) (a b c : List (Key × V)) → AllByRecursion P a → AllByRecursion P b → AllByRecursion P c → AllByRecursion P (by_order o a b c)
-  all-by_order Less a b c x y z = x
-  all-by_order Equal a b c x y z = y
-  all-by_order Greater a b c x y z = z
-
   all-place : (k : Key) (v : V) (es : List (Key × V)) → P (k, v) → AllByRecursion P es → AllByRecursion P (place key_cmp k v es)
   all-place k v [] p h = (p, tt)
   all-place k v (e ∷ es) p h =

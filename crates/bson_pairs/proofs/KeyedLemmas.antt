@@ -1,6 +1,6 @@
 -- Keys beside values, place by place.
 use Rattle.std.proofs.Common.{◌≡◌, ◌&&◌, ℕ, zero, suc, ◌+◌, ◌<◌, List, [], ◌∷◌, ◌++◌, length, map, set, get_or, slice_get, remove, Option, Some, None, Result, Ok, Err, unwrap_or, Bool, true, false, cond, bytes_eq, String, string_bytes, MutBor, refl, sym, ap, ◌∙◌, subst, arith, true≢false}
-use Rattle.std.specs.List.{zip, list_any, list_all, AllZip, position_from, position}
+use Rattle.std.specs.List.{zip, list_all, AllZip, position_from, position}
 use Rattle.std.specs.Result.{OnErr}
 use Rattle.std.specs.Option.{OnSome, IfSome, IsSome, option_copied_mut, option_map}
 use Rattle.std.proofs.lemmas.Option.{slice_get_past, slice_get_read, slice_get-map}
@@ -73,10 +73,6 @@ module _ {A : Type 0} (p : A → Bool) where
 
   pub absent_if : (xs : List A) → None ≡ position p xs → Absent xs
   absent_if xs e = absent_from xs 0 (sym (position_from-zero p xs) ∙ sym e)
-
-  pub not_any : (xs : List A) → Absent xs → list_any p xs ≡ false
-  not_any [] a = refl
-  not_any (x ∷ xs) a = rw (a.0) (not_any xs a.1)
 
 module _ {V : Type 0} (k : Key) where
   pub get-found : (ks : List (String Global)) (vs : List V) (n : ℕ) → FoundAt (is_key k) ks n → length vs ≡ length ks → get k (keyed ks vs) ≡ slice_get vs n

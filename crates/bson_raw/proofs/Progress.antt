@@ -100,13 +100,6 @@ pub record ItemsTo (bytes rest : List ℕ) (out : List Bson) : Type 0 where
   pub faults : LeadsOn bytes rest
   pub shorter : length rest ≤ length bytes
 
-pub items_start : (bytes : List ℕ) → ItemsTo bytes bytes []
-items_start bytes = record {
-  forth = λ vs h. (vs, h, refl);
-  faults = λ key kind h. h;
-  shorter = omega arith;
-}
-
 pub items_done : (bytes rest : List ℕ) (out : List Bson) → ItemsTo bytes rest out → rest ≡ 0 ∷ [] → (vs : Items) × SpellsItems bytes vs × (items_of (map view out) ≡ settle_items vs)
 items_done bytes rest out p is = let all = p.forth no_items is in (all.0, all.1, sym (joined_none (map view out)) ∙ all.2)
 

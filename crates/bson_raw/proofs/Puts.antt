@@ -1,38 +1,28 @@
 -- The parts of `append`: what is written behind a document, and how it becomes a document again.
 use Rattle.std.specs.List.{AllZip}
-use Rattle.std.proofs.Common.{◌≡◌, ℕ, suc, ◌+◌, ◌-◌, ◌<◌, ◌≤◌, ◌^◌, List, [], ◌∷◌, ◌++◌, length, take, drop, set, get_or, Bool, true, false, if◌then◌else◌, OnOk, IfErr, Result, Ok, Err, refl, sym, ap, ◌∙◌, subst, append_assoc, arith}
-use Rattle.std.proofs.lemmas.List.{length-append, set-append_right, take_at, take-append-drop, drop-drop, drop_more, drop_all, length-take-le, length-drop, get_or_at}
-use Rattle.std.proofs.lemmas.Nat.{from_le_bytes-to_le_bytes_4}
+use Rattle.std.proofs.Common.{◌≡◌, ℕ, suc, ◌+◌, ◌-◌, ◌<◌, ◌≤◌, ◌^◌, List, [], ◌∷◌, ◌++◌, length, take, drop, set, OnOk, IfErr, Result, Ok, Err, refl, sym, ap, ◌∙◌, subst, append_assoc, arith}
+use Rattle.std.proofs.lemmas.List.{length-append, set-append_right, take_at, take-append-drop, drop-drop, drop_more, drop_all, length-take-le, length-drop}
 use Rattle.bson_base.specs.declared.spec.BinarySubtype.{BinarySubtype}
 use Rattle.bson_base.specs.Kinds.{HasNo00}
-use Rattle.bson_base.specs.Tags.{tag_byte, subtype_byte}
+use Rattle.bson_base.specs.Tags.{tag_byte}
 use Rattle.bson_base.specs.Value.{binary}
-use Rattle.bson_bytes.specs.Encode.{le32, ended, framed, text_bytes, scoped, inner, scalar_bytes, scalar_size}
+use Rattle.bson_bytes.specs.Encode.{le32, ended, framed, text_bytes, scoped, scalar_bytes, scalar_size}
 use Rattle.bson_bytes.specs.Writing.{IsWriteRefusal, RefusesWriting, StartsWith}
 use Rattle.bson_frame.specs.declared.error.Error.{Error}
 use Rattle.bson_frame.specs.declared.error.ErrorKind.{ErrorKind}
 use Rattle.bson_frame.specs.declared.error.ErrorKind.TheVariants.{MalformedValue, Utf8EncodingError, OutOfMemory}
-use Rattle.bson_frame.specs.Frame.{number}
 use Rattle.bson_frame.specs.Payload.{IsEnvelope}
 use Rattle.bson_frame.specs.View.{IsBare}
-use Rattle.bson_frame.proofs.Payloads.{number_front}
 use Rattle.bson_raw.specs.declared.bson_ref.RawBsonRef.{RawBsonRef}
 use Rattle.bson_raw.specs.declared.bson_ref.RawBsonRef.TheVariants as refs
 use Rattle.bson_raw.specs.Append.{element_for, element_bytes, body_of, with_element, CanTake, AppendsElement}
 use Rattle.bson_raw.specs.Raw.{RawValue, raw_kind, raw_payload, IsPlainRaw, ref_value}
 use Rattle.bson_raw.specs.ReadValue.{kind_of}
 use Rattle.bson_raw.specs.Written.{CanWrite, Closes}
-use Rattle.bson_bytes.proofs.Lengths.{le32_length, text_length, ended_length, inner_length}
+use Rattle.bson_bytes.proofs.Lengths.{le32_length, text_length, ended_length, framed_length, scoped_length, payload_length}
+use Rattle.bson_bytes.proofs.Extents.{framed_envelope}
 
 -- ---- lengths
-
-pub framed_length : (elements : List ℕ) → length (framed elements) ≡ length elements + 5
-unfolding framed
-framed_length elements = omega (arith, length-append (le32 (length elements + 5)) (elements ++ 0 ∷ []), length-append elements (0 ∷ []), le32_length (length elements + 5))
-
-pub scoped_length : (t scope : List ℕ) → length (scoped t scope) ≡ length t + length scope + 9
-unfolding scoped
-scoped_length t scope = omega (arith, length-append (le32 (length (text_bytes t ++ scope) + 4)) (text_bytes t ++ scope), length-append (text_bytes t) scope, le32_length (length (text_bytes t ++ scope) + 4), text_length t)
 
 -- ---- refusals
 
@@ -62,15 +52,8 @@ long_text t r h = refused_for (2 ^ 31 ≤ length t + 5) (Unit {0} × (length (te
 pub long_pointer : (t bs : List ℕ) (r : Result (Unit {0}) Error) → IfErr r (IsWriteRefusal (2 ^ 31 ≤ length t + 5)) → IfErr r (IsWriteRefusal (Unit {0} × (length (text_bytes t ++ bs) < 2 ^ 31) → ⊥))
 long_pointer t bs r h = refused_for (2 ^ 31 ≤ length t + 5) (Unit {0} × (length (text_bytes t ++ bs) < 2 ^ 31) → ⊥) r (λ long can. omega (arith, long, can.1, text_length t, length-append (text_bytes t) bs)) h
 
-chosen_length : (old : Bool) (bs : List ℕ) → length (if old then le32 (length bs) ++ bs else bs) + 5 ≡ length bs + (if old then 9 else 5)
-chosen_length true bs = omega (arith, length-append (le32 (length bs)) bs, le32_length (length bs))
-chosen_length false bs = refl
-
-pub binary_length : (s : BinarySubtype) (bs : List ℕ) → length (scalar_bytes (binary s bs)) ≡ scalar_size (binary s bs)
-binary_length s bs = omega (arith, length-append (le32 (length (inner s bs))) (subtype_byte s ∷ inner s bs), le32_length (length (inner s bs)), inner_length s bs)
-
 pub long_binary : (s : BinarySubtype) (bs : List ℕ) (r : Result (Unit {0}) Error) → IfErr r (IsWriteRefusal (2 ^ 31 ≤ scalar_size (binary s bs))) → IfErr r (IsWriteRefusal (Unit {0} × (length (scalar_bytes (binary s bs)) < 2 ^ 31) → ⊥))
-long_binary s bs r h = refused_for (2 ^ 31 ≤ scalar_size (binary s bs)) (Unit {0} × (length (scalar_bytes (binary s bs)) < 2 ^ 31) → ⊥) r (λ long can. omega (arith, long, can.1, binary_length s bs)) h
+long_binary s bs r h = refused_for (2 ^ 31 ≤ scalar_size (binary s bs)) (Unit {0} × (length (scalar_bytes (binary s bs)) < 2 ^ 31) → ⊥) r (λ long can. omega (arith, long, can.1, payload_length (binary s bs))) h
 
 -- a code with scope, in three pieces and its length
 
@@ -210,25 +193,10 @@ module _ (old key : List ℕ) (v : RawValue) (env : IsEnvelope old) where
       let body = body_length old env in
       (bare_refusal (CanTake old key v → ⊥) e h.1 (λ (c : CanTake old key v). omega (arith, h.2, c.fits, size, body, rest_length)), h.0 ∙ sym (document_parts old env))
 
--- the bytes are an envelope again
-framed_envelope : (body : List ℕ) → length (framed body) < 2 ^ 31 → IsEnvelope (framed body)
-unfolding framed le32
-framed_envelope body lt =
-    let size : ℕ = length body + 5 in
-    let head : List ℕ = le32 size in
-    let four : length head ≡ 4 = refl in
-    let len : length (head ++ (body ++ 0 ∷ [])) ≡ size = omega (arith, length-append head (body ++ 0 ∷ []), length-append body (0 ∷ []), four) in
-    let n : number (head ++ (body ++ 0 ∷ [])) ≡ size = number_front head (body ++ 0 ∷ []) (omega (arith, four)) ∙ from_le_bytes-to_le_bytes_4 size (omega (arith, lt, len)) in
-    let last : get_or ((head ++ body) ++ 0 ∷ []) (size - 1) 0 ≡ 0 = get_or_at (head ++ body) 0 [] 0 (size - 1) (omega (arith, length-append head body, four)) in
-    record {
-      declared = omega (arith, len, n);
-      fits = omega (arith, n, lt, len);
-      some = omega (arith, len);
-      ended = ap (λ (k : ℕ). get_or (head ++ (body ++ 0 ∷ [])) (k - 1) 0) len ∙ ap (λ (x : List ℕ). get_or x (size - 1) 0) (sym (append_assoc head body (0 ∷ []))) ∙ last;
-    }
-
 pub envelope_kept : (old new key : List ℕ) (v : RawValue) (result : Result (Unit {0}) Error) → IsEnvelope old → AppendsElement old new key v result → IsEnvelope new
-envelope_kept old new key v (Ok x) env h = subst IsEnvelope (sym h.1) (framed_envelope (body_of old ++ element_bytes (element_for key v)) (h.0).fits)
+envelope_kept old new key v (Ok x) env h =
+    let body : List ℕ = body_of old ++ element_bytes (element_for key v) in
+    subst IsEnvelope (sym h.1) (framed_envelope body (omega (arith, (h.0).fits, framed_length body)))
 envelope_kept old new key v (Err e) env h = subst IsEnvelope (sym h.1) env
 
 -- ---- the whole call

@@ -1,20 +1,20 @@
 -- What is written as a payload has the size of its kind, whatever follows it.
 use Rattle.std.proofs.Common.{◌≡◌, ℕ, ◌+◌, ◌-◌, ◌<◌, ◌≤◌, ◌^◌, List, [], ◌∷◌, ◌++◌, length, get_or, refl, sym, ap, ◌∙◌, append_assoc, arith}
 use Rattle.std.proofs.lemmas.List.{length-append, get_or_append_left, get_or_at}
-use Rattle.std.proofs.lemmas.Nat.{from_le_bytes-to_le_bytes_4}
 use Rattle.bson_base.specs.declared.spec.ElementType.{ElementType}
 use Rattle.bson_base.specs.declared.spec.ElementType.TheVariants as kinds
 use Rattle.bson_base.specs.declared.spec.BinarySubtype.{BinarySubtype}
 use Rattle.bson_base.specs.Tags.{subtype_byte}
 use Rattle.bson_base.specs.Value.{double, string, binary, undefined, object_id, boolean, date_time, null, regex, db_pointer, code, symbol, int32, timestamp, int64, decimal, max_key, min_key}
-use Rattle.bson_bytes.specs.Encode.{le32, le64, ended, text_bytes, scoped, inner, scalar_bytes}
+use Rattle.bson_bytes.specs.Encode.{le32, ended, text_bytes, scoped, inner, scalar_bytes}
 use Rattle.bson_frame.specs.Frame.{number, HasSize, IsTextSize, IsDocumentSize, IsBinarySize, IsCodeSize, IsRegexSize, IsPointerSize, IsCstring}
 use Rattle.bson_frame.specs.Payload.{IsEnvelope}
 use Rattle.bson_frame.proofs.Frames.{front_is_one}
 use Rattle.bson_frame.proofs.Payloads.{number_front}
 use Rattle.bson_raw.specs.Raw.{RawValue, leaf, array, document, scoped_code, raw_kind, raw_payload}
 use Rattle.bson_raw.specs.Written.{CanWrite, IsFormed}
-use Rattle.bson_bytes.proofs.Lengths.{le32_length, text_length}
+use Rattle.bson_bytes.proofs.Lengths.{le32_length, text_length, le64_length}
+use Rattle.bson_bytes.proofs.Extents.{number_back}
 
 -- ---- what follows doesn't count
 
@@ -86,17 +86,12 @@ size_beside kinds.MinKey p r q l h = h
 
 -- ---- what is written
 
--- a number that was written is read
-pub number_written : (n : ℕ) (more : List ℕ) → n < 2 ^ 32 → number (le32 n ++ more) ≡ n
-unfolding le32
-number_written n more lt = number_front (le32 n) more (omega (arith, le32_length n)) ∙ from_le_bytes-to_le_bytes_4 n lt
-
 text_sized : (t more : List ℕ) → length t + 5 < 2 ^ 31 → IsTextSize (text_bytes t ++ more) (length t + 5)
 unfolding text_bytes
 text_sized t more lt =
     let head : List ℕ = le32 (length t + 1) in
     let grouped : (head ++ (t ++ 0 ∷ [])) ++ more ≡ head ++ ((t ++ 0 ∷ []) ++ more) = append_assoc head (t ++ 0 ∷ []) more in
-    let n : number ((head ++ (t ++ 0 ∷ [])) ++ more) ≡ length t + 1 = ap number grouped ∙ number_written (length t + 1) ((t ++ 0 ∷ []) ++ more) (omega arith) in
+    let n : number ((head ++ (t ++ 0 ∷ [])) ++ more) ≡ length t + 1 = ap number grouped ∙ number_back (length t + 1) ((t ++ 0 ∷ []) ++ more) (omega arith) in
     let other : (head ++ (t ++ 0 ∷ [])) ++ more ≡ (head ++ t) ++ 0 ∷ more = simp append_assoc in
     let last : get_or ((head ++ t) ++ 0 ∷ more) (length t + 5 - 1) 0 ≡ 0 = get_or_at (head ++ t) 0 more 0 (length t + 5 - 1) (omega (arith, length-append head t, le32_length (length t + 1))) in
     record {
@@ -121,7 +116,7 @@ binary_whole s bs lt =
     let i : List ℕ = inner s bs in
     let head : List ℕ = le32 (length i) in
     let size : length (head ++ subtype_byte s ∷ i) ≡ length i + 5 = omega (arith, length-append head (subtype_byte s ∷ i), le32_length (length i)) in
-    let n : number ((head ++ subtype_byte s ∷ i) ++ 0 ∷ []) ≡ length i = ap number (append_assoc head (subtype_byte s ∷ i) (0 ∷ [])) ∙ number_written (length i) ((subtype_byte s ∷ i) ++ 0 ∷ []) (omega (arith, size)) in
+    let n : number ((head ++ subtype_byte s ∷ i) ++ 0 ∷ []) ≡ length i = ap number (append_assoc head (subtype_byte s ∷ i) (0 ∷ [])) ∙ number_back (length i) ((subtype_byte s ∷ i) ++ 0 ∷ []) (omega (arith, size)) in
     record { declared = omega (arith, n, size); fits = omega (arith, n, size) }
 
 regex_whole : (p o : List ℕ) → IsCstring p → IsCstring o → IsRegexSize ((ended p ++ ended o) ++ 0 ∷ []) (length (ended p ++ ended o))
@@ -144,7 +139,7 @@ scoped_whole t scope lt =
     let inside : List ℕ = text_bytes t ++ scope in
     let head : List ℕ = le32 (length inside + 4) in
     let size : length (head ++ inside) ≡ length inside + 4 = omega (arith, length-append head inside, le32_length (length inside + 4)) in
-    let n : number ((head ++ inside) ++ 0 ∷ []) ≡ length inside + 4 = ap number (append_assoc head inside (0 ∷ [])) ∙ number_written (length inside + 4) (inside ++ 0 ∷ []) (omega (arith, size)) in
+    let n : number ((head ++ inside) ++ 0 ∷ []) ≡ length inside + 4 = ap number (append_assoc head inside (0 ∷ [])) ∙ number_back (length inside + 4) (inside ++ 0 ∷ []) (omega (arith, size)) in
     record { declared = omega (arith, n, size); fits = omega (arith, n, size); there = omega (arith, length-append (head ++ inside) (0 ∷ []), size) }
 
 document_whole : (bs : List ℕ) → IsEnvelope bs → IsDocumentSize (bs ++ 0 ∷ []) (length bs)
@@ -156,10 +151,6 @@ document_whole bs h =
       some = h.some;
       ended = get_or_append_left bs (0 ∷ []) 0 (length bs - 1) (omega (arith, h.some)) ∙ h.ended;
     }
-
-le64_length : (n : ℕ) → length (le64 n) ≡ 8
-unfolding le64
-le64_length n = refl
 
 pub payload_sized : (v : RawValue) → IsFormed v → CanWrite v → HasSize (raw_kind v) (raw_payload v ++ 0 ∷ []) (length (raw_payload v))
 payload_sized (leaf (double n)) f w = le64_length n

@@ -2,7 +2,6 @@
 use Rattle.std.proofs.Common.{◌≡◌, ◌≢◌, ℕ, zero, suc, ◌+◌, ◌-◌, ◌*◌, ◌/◌, ◌≤◌, List, [], ◌∷◌, ◌++◌, length, drop, slice_get, Option, Some, None, Err, ◌⊎◌, inl, inr, refl, sym, ap, subst, arith}
 use Rattle.std.proofs.lemmas.List.{length-append, length-drop}
 use Rattle.bson_base.specs.Tags.{tag_byte}
-use Rattle.bson_base.specs.declared.spec.ElementType.{ElementType}
 use Rattle.bson_base.specs.declared.spec.ElementType.TheVariants as kinds
 use Rattle.bson_frame.specs.declared.error.ErrorKind.{ErrorKind}
 use Rattle.bson_frame.specs.Frame.{Element, IsFirstFrame, IsStructuralFault}
@@ -31,30 +30,6 @@ walk_len bytes (e ∷ elements) fault w = omega (arith, frame_len bytes e w.0 w.
 
 pub document_walk_len : (bytes : List ℕ) (elements : List Element) (fault : Option ErrorKind) → IsDocumentWalk bytes elements fault → length elements ≤ (length bytes - 4) / 2
 document_walk_len bytes elements fault w = omega (arith, walk_len (drop 4 bytes) elements fault w, length-drop 4 bytes)
-
--- no frame begins with 00
-kind_is_not_zero : (k : ElementType) → tag_byte k ≢ 0
-kind_is_not_zero kinds.Double e = absurd (omega (arith, e))
-kind_is_not_zero kinds.String e = absurd (omega (arith, e))
-kind_is_not_zero kinds.EmbeddedDocument e = absurd (omega (arith, e))
-kind_is_not_zero kinds.Array e = absurd (omega (arith, e))
-kind_is_not_zero kinds.Binary e = absurd (omega (arith, e))
-kind_is_not_zero kinds.Undefined e = absurd (omega (arith, e))
-kind_is_not_zero kinds.ObjectId e = absurd (omega (arith, e))
-kind_is_not_zero kinds.Boolean e = absurd (omega (arith, e))
-kind_is_not_zero kinds.DateTime e = absurd (omega (arith, e))
-kind_is_not_zero kinds.Null e = absurd (omega (arith, e))
-kind_is_not_zero kinds.RegularExpression e = absurd (omega (arith, e))
-kind_is_not_zero kinds.DbPointer e = absurd (omega (arith, e))
-kind_is_not_zero kinds.JavaScriptCode e = absurd (omega (arith, e))
-kind_is_not_zero kinds.Symbol e = absurd (omega (arith, e))
-kind_is_not_zero kinds.JavaScriptCodeWithScope e = absurd (omega (arith, e))
-kind_is_not_zero kinds.Int32 e = absurd (omega (arith, e))
-kind_is_not_zero kinds.Timestamp e = absurd (omega (arith, e))
-kind_is_not_zero kinds.Int64 e = absurd (omega (arith, e))
-kind_is_not_zero kinds.Decimal128 e = absurd (omega (arith, e))
-kind_is_not_zero kinds.MaxKey e = absurd (omega (arith, e))
-kind_is_not_zero kinds.MinKey e = absurd (omega (arith, e))
 
 pub walk_is_one : FramesAreOne → FaultsAreOne → (bytes : List ℕ) (es fs : List Element) (a b : Option ErrorKind) → IsWalk bytes es a → IsWalk bytes fs b → (es ≡ fs) × (a ≡ b)
 walk_is_one one kind bytes [] [] None None v w = (refl, refl)

@@ -1,8 +1,5 @@
 -- Many documents that go into a collection, and what is told where they don't.
-use Rattle.std.proofs.lemmas.Int.{ints}
-use Rattle.std.proofs.Math.Dec.{leb}
-use Rattle.std.proofs.lemmas.Bool.Decides.{leb_tells}
-use Rattle.std.proofs.Common.{◌≡◌, ◌≢◌, ◌⊎◌, inl, inr, ℕ, ◌+◌, ℤ, pos, ◌+ℤ◌, ◌<ℤ◌, ◌^◌, suc, max, ◌<◌, ◌≤◌, List, [], ◌∷◌, ◌++◌, length, map, true, false, Option, Some, None, Ok, Err, refl, ap, ◌∙◌, sym, subst, arith}
+use Rattle.std.proofs.Common.{◌≡◌, ◌≢◌, inl, inr, ℕ, ◌+◌, ℤ, pos, ◌+ℤ◌, suc, max, ◌<◌, ◌≤◌, List, [], ◌∷◌, ◌++◌, length, map, Option, Some, None, Ok, Err, refl, ap, ◌∙◌, sym, subst, arith}
 use Rattle.std.specs.Prelude.{MatchOption, IsUtf8}
 use Rattle.bson_table.specs.Rows.{Doc, docs_from}
 use Rattle.bson_table.specs.Rows as table
@@ -28,7 +25,7 @@ use Rattle.bson_store.specs.Refusals.{kind_of_fault, refusal, refusal_at}
 use Rattle.bson_store.specs.declared.error.StoreError.{StoreError}
 use Rattle.bson_store.proofs.Keyed.{keys_are, row_keys_are}
 use Rattle.bson_store.proofs.Tables.{greater, last_greatest, each_more, rows_after}
-use Rattle.bson_store.proofs.Serving.{answers_stay, denied, undecided, memory_other, next_place, stays}
+use Rattle.bson_store.proofs.Serving.{answers_stay, denied, undecided, memory_other, next_place, stays, room_is, full_is}
 
 -- ---- rows to come
 
@@ -115,16 +112,6 @@ step_all docs a n ds ws good s c free =
         rows_last a (rows_at (greatest a) n ds) n (all_named (greatest a) n ds) ∙ ap (λ e. store (state_of a) n (l ++ e)) (documents_back (greatest a) n ds),
       ),
     )
-
-room_is : (l : ℤ) (g k : ℕ) → l ≡ pos g → (l +ℤ pos k) <ℤ pos (2 ^ 63) → g + k ≤ greatest_place
-room_is l g k e h = let i = subst (λ z. (z +ℤ pos k) <ℤ pos (2 ^ 63)) e h in omega (arith, ints, i)
-
-full_is : (l : ℤ) (g k : ℕ) → l ≡ pos g → ((l +ℤ pos k) <ℤ pos (2 ^ 63) → ⊥) → greatest_place < g + k
-full_is l g k e h = by (leb_tells (g + k) greatest_place)
-  where
-    by : ((leb (g + k) greatest_place ≡ true) × (g + k ≤ greatest_place)) ⊎ ((leb (g + k) greatest_place ≡ false) × (greatest_place < g + k)) → greatest_place < g + k
-    by (inl i) = let low : (l +ℤ pos k) <ℤ pos (2 ^ 63) = omega (arith, ints, e, i.1) in absurd (h low)
-    by (inr i) = i.1
 
 go_in : (docs : List Doc) (n : List ℕ) (ds : Documents) (ws : List Written) → IsName n → IsUtf8 n → Come ds ws → None ≡ first_taken 0 (keys_in n docs) (keys_of_rows ws) → IsRoomFor (length (map row_of ws)) docs
     → Does (on n (import ds None)) (number (length ds)) docs (all_appended n (map row_of ws) docs)

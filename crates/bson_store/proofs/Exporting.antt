@@ -1,6 +1,6 @@
 -- What goes out of an export.
 use Rattle.std.proofs.Common.{◌≡◌, ◌≢◌, ◌⊎◌, inl, inr, ℕ, ◌+◌, ◌<◌, ◌≤◌, min, List, [], ◌∷◌, ◌++◌, map, filter, length, take, take_all, cond, Bool, true, false, Option, Some, None, Result, Ok, Err, refl, sym, ap, ◌∙◌, subst, arith, append_assoc}
-use Rattle.std.proofs.lemmas.List.{take-append-le}
+use Rattle.std.proofs.lemmas.List.{take-append-le, append-nil}
 use Rattle.std.proofs.Math.Seq.{take-append-add}
 use Rattle.std.proofs.Math.Dec.{leb}
 use Rattle.std.proofs.lemmas.Bool.Decides.{leb_tells}
@@ -9,14 +9,13 @@ use Rattle.std.specs.List.{flat_map}
 use Rattle.std.specs.Io.KnownBytes.{Appends}
 use Rattle.bson_base.specs.Device.{TakesBeginning, Tally}
 use Rattle.bson_bytes.specs.Encode.{encode}
-use Rattle.bson_meaning.proofs.Ordered.{equal_keys}
 use Rattle.bson_table.specs.Rows.{Doc, is_in}
 use Rattle.bson_table.specs.Moves.{bodies_of, Visits}
 use Rattle.bson_table.specs.declared.fault.Fault.{Fault}
 use Rattle.bson_table.specs.declared.fault.Fault.TheVariants as faults
 use Rattle.store_laws.specs.Reading.{Documents}
 use Rattle.store_laws.specs.State.{list_of, IsName, on, export, bytes, refused}
-use Rattle.store_laws.specs.Table.{Row, Table, state_of, documents_of}
+use Rattle.store_laws.specs.Table.{Table, state_of, documents_of}
 use Rattle.store_laws.specs.declared.error.ErrorKind.{ErrorKind}
 use Rattle.store_laws.specs.declared.error.ErrorKind.TheVariants as kind
 use Rattle.store_laws.proofs.Rows.{list_of-state_of}
@@ -26,21 +25,11 @@ use Rattle.bson_store.specs.Refusals.{refusal, kind_of_fault}
 use Rattle.bson_store.specs.Export.{ExportRefused, Exports, SendsCollection, Sent}
 use Rattle.bson_store.specs.declared.error.StoreError.{StoreError}
 use Rattle.bson_store.proofs.Serving.{bad_name, answers_stay, denied, undecided, memory_other}
+use Rattle.bson_base.proofs.Members.{equal_keys, same_key}
+use Rattle.bson_base.proofs.Beginnings.{begun_first}
+use Rattle.std.proofs.KnownBytes.{Appends-trans}
 
 -- ---- bodies that go out one after the other
-
-nothing_more : (xs : List ℕ) → xs ++ [] ≡ xs
-nothing_more [] = refl
-nothing_more (x ∷ xs) = ap (λ l. x ∷ l) (nothing_more xs)
-
-appends_twice : (a b c : Option (List ℕ)) (xs ys : List ℕ) → Appends a b xs → Appends b c ys → Appends a c (xs ++ ys)
-appends_twice None b c xs ys h k = tt
-appends_twice (Some p) None c xs ys h k = absurd h
-appends_twice (Some p) (Some q) None xs ys h k = absurd k
-appends_twice (Some p) (Some q) (Some r) xs ys h k = k ∙ ap (λ l. l ++ ys) h ∙ append_assoc p xs ys
-
-within : List ℕ → ℕ → ℕ
-within ys n = min n (length ys)
 
 take_within : (ys : List ℕ) (n : ℕ) → take (min n (length ys)) ys ≡ take n ys
 take_within ys n = by (leb_tells n (length ys))
@@ -57,31 +46,27 @@ abbrev flat : List (List ℕ) → List ℕ
 flat = flat_map (λ (b : List ℕ). b)
 
 flat-last : (bodies : List (List ℕ)) (b : List ℕ) → flat (bodies ++ b ∷ []) ≡ flat bodies ++ b
-flat-last [] b = nothing_more b
+flat-last [] b = append-nil b
 flat-last (x ∷ bodies) b = ap (λ l. x ++ l) (flat-last bodies b) ∙ sym (append_assoc x (flat bodies) b)
 
 flat-append : (xs ys : List (List ℕ)) → flat (xs ++ ys) ≡ flat xs ++ flat ys
 flat-append [] ys = refl
 flat-append (x ∷ xs) ys = ap (λ l. x ++ l) (flat-append xs ys) ∙ sym (append_assoc x (flat xs) (flat ys))
 
--- a beginning is a beginning of what is longer
-begin_longer : (a b : Option (List ℕ)) (xs ys : List ℕ) → TakesBeginning a b xs → TakesBeginning a b (xs ++ ys)
-begin_longer a b xs ys (n, begun) = (min n (length xs), subst (Appends a b) (sym (take-append-le (min n (length xs)) xs ys (omega arith) ∙ take_within xs n)) begun)
-
 whole_begins : (a b : Option (List ℕ)) (xs ys : List ℕ) → Appends a b xs → TakesBeginning a b (xs ++ ys)
-whole_begins a b xs ys all = begin_longer a b xs ys (length xs, subst (Appends a b) (sym (take_all (length xs) xs (omega arith))) all)
+whole_begins a b xs ys all = begun_first a b xs ys (length xs, subst (Appends a b) (sym (take_all (length xs) xs (omega arith))) all)
 
 -- after a write that failed nothing more goes out
 pub sent_no_more : (old new : Tally) (bodies : List (List ℕ)) (b : List ℕ) → Sent old new true bodies → Sent old new true (bodies ++ b ∷ [])
-sent_no_more old new bodies b (one, begun) = (one, subst (TakesBeginning old.taken new.taken) (sym (flat-last bodies b)) (begin_longer old.taken new.taken (flat bodies) b begun))
+sent_no_more old new bodies b (one, begun) = (one, subst (TakesBeginning old.taken new.taken) (sym (flat-last bodies b)) (begun_first old.taken new.taken (flat bodies) b begun))
 
 -- a write that fails lets a beginning of its body go out
 pub sent_some : (old mid new : Tally) (bodies : List (List ℕ)) (b : List ℕ) → Sent old mid false bodies → new.failures ≡ mid.failures + 1 → TakesBeginning mid.taken new.taken b → Sent old new true (bodies ++ b ∷ [])
 sent_some old mid new bodies b (none, before) one (n, begun) =
     let front = flat bodies in
     let e : take (length front + min n (length b)) (flat (bodies ++ b ∷ [])) ≡ front ++ take n b =
-    ap (take (length front + min n (length b))) (flat-last bodies b ∙ ap (λ l. front ++ l) (sym (nothing_more b))) ∙ begun_within front b [] n in
-    (one ∙ ap (λ (m : ℕ). m + 1) none, (length front + min n (length b), subst (Appends old.taken new.taken) (sym e) (appends_twice old.taken mid.taken new.taken front (take n b) before begun)))
+    ap (take (length front + min n (length b))) (flat-last bodies b ∙ ap (λ l. front ++ l) (sym (append-nil b))) ∙ begun_within front b [] n in
+    (one ∙ ap (λ (m : ℕ). m + 1) none, (length front + min n (length b), subst (Appends old.taken new.taken) (sym e) (Appends-trans old.taken mid.taken new.taken front (take n b) before begun)))
 
 -- ---- the bodies of a collection are its written documents
 
@@ -98,11 +83,8 @@ bodies_are n (r ∷ rs) (d ∷ docs) each = by (bytes_eq n r.name) refl (bytes_e
         → map (λ (x : Doc). x.body) (cond c (d ∷ filter (is_in n) docs) (filter (is_in n) docs)) ≡ map encode (cond b (r.document ∷ documents_of rs n) (documents_of rs n))
     by true e true i rest = ap (λ x. x ∷ bodies_of n docs) each.0.body ∙ ap (λ l. encode r.document ∷ l) rest
     by false e false i rest = rest
-    by true e false i rest = let t : bytes_eq d.coll n ≡ true = rw (each.0.name, equal_keys n r.name e) (same_self r.name) in cc
-      where
-        same_self : (k : List ℕ) → bytes_eq k k ≡ true
-        same_self k = Rattle.bson_meaning.proofs.Ordered.same_key k
-    by false e true i rest = let t : bytes_eq n r.name ≡ true = rw (← each.0.name, equal_keys d.coll n i) (Rattle.bson_meaning.proofs.Ordered.same_key n) in cc
+    by true e false i rest = let t : bytes_eq d.coll n ≡ true = rw (each.0.name, equal_keys n r.name e) (same_key r.name) in cc
+    by false e true i rest = let t : bytes_eq n r.name ≡ true = rw (← each.0.name, equal_keys d.coll n i) (same_key n) in cc
 
 flat_map_is : (ds : Documents) → flat (map encode ds) ≡ flat_map encode ds
 flat_map_is [] = refl
@@ -126,7 +108,7 @@ module _ {V N : Type 0} (tally : V → Tally) (failed : V → Bool) (name : V �
     where
       nothing : (o : Option (List ℕ)) → Appends o o []
       nothing None = tt
-      nothing (Some xs) = sym (nothing_more xs)
+      nothing (Some xs) = sym (append-nil xs)
 
   out_by : (b : Bool) (bodies : List (List ℕ)) → failed last ≡ b → Took last bodies → Sent (tally first) new b bodies
   out_by b bodies is took = subst (λ t. Sent (tally first) t b bodies) (sym (back took.0)) (subst (λ x. Sent (tally first) (tally last) x bodies) is took.1)
@@ -137,7 +119,7 @@ module _ {V N : Type 0} (tally : V → Tally) (failed : V → Bool) (name : V �
       let (taken, rest, whole, took) = h.some (starts begins) in
       let out = out_by true taken ends took in
       let begun : TakesBeginning (tally first).taken new.taken (flat (bodies_of n docs)) =
-      subst (TakesBeginning (tally first).taken new.taken) (sym (flat-append taken rest) ∙ ap flat whole) (begin_longer (tally first).taken new.taken (flat taken) (flat rest) out.1) in
+      subst (TakesBeginning (tally first).taken new.taken) (sym (flat-append taken rest) ∙ ap flat whole) (begun_first (tally first).taken new.taken (flat taken) (flat rest) out.1) in
       record { same = h.same; exports = λ a s. (refl, (good, (out.0, subst (TakesBeginning (tally first).taken new.taken) (flat_written n docs a s) begun))) }
 
   pub table_failed : (docs after : List Doc) (n : List ℕ) (x : Fault) → IsName n → failed first ≡ false → failed last ≡ false → Visits Took first last n (Err x) docs after

@@ -57,9 +57,6 @@ long_looks docs n id sound long = record {
   denied = tt;
 }
 
-pub memory_looks : (docs : List Doc) (n : List ℕ) (id : Value) → Looks n id (Err (refusal Memory)) docs docs
-memory_looks docs n id = record { same = refl; found = tt; denied = (faults.Memory, memory_other, refl) }
-
 look_finds : (docs : List Doc) (n k : List ℕ) (id : Value) (f : Option Found) → IsKeyOf k id → option_map kept f ≡ option_map seen (find (is_row_named n k) docs) → FindsIn docs n id f
 look_finds docs n k id f w told = by f (find (is_row_named n k) docs) refl told
   where

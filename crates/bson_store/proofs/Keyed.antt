@@ -4,7 +4,6 @@ use Rattle.std.specs.List.{list_any, find}
 use Rattle.std.proofs.lemmas.List.{length-map}
 use Rattle.std.specs.Option.{option_map}
 use Rattle.std.specs.Str.{bytes_eq}
-use Rattle.bson_meaning.proofs.Ordered.{equal_keys, same_key}
 use Rattle.bson_meaning.specs.Meaning.{key}
 use Rattle.bson_table.specs.Rows.{Doc, is_in, is_row_named}
 use Rattle.bson_table.specs.Moves.{FindsRow, kept, seen}
@@ -24,17 +23,9 @@ use Rattle.bson_store.specs.Many.{Meets, FindsTaken, keys_in, keys_of_rows}
 use Rattle.bson_store.specs.Refusals.{refusal, kind_of_fault}
 use Rattle.bson_store.specs.declared.error.StoreError.{StoreError}
 use Rattle.bson_store.proofs.Serving.{memory_other, none_is, some_is}
+use Rattle.bson_base.proofs.Members.{key_turned}
 
 -- ---- keys
-
-bytes_eq_back : (x y : List ℕ) → bytes_eq x y ≡ bytes_eq y x
-bytes_eq_back x y = by (bytes_eq x y) refl (bytes_eq y x) refl
-  where
-    by : (b : Bool) → bytes_eq x y ≡ b → (c : Bool) → bytes_eq y x ≡ c → b ≡ c
-    by true e true i = refl
-    by false e false i = refl
-    by true e false i = sym (ap (bytes_eq y) (equal_keys x y e) ∙ same_key y) ∙ i
-    by false e true i = sym e ∙ ap (bytes_eq x) (equal_keys y x i) ∙ same_key x
 
 -- a key is in the collection where its row is found
 pub named_there : (n k : List ℕ) (docs : List Doc) → is_some (find (is_row_named n k) docs) ≡ list_any (bytes_eq k) (keys_in n docs)
@@ -47,7 +38,7 @@ named_there n k (d ∷ docs) = by (bytes_eq d.coll n) (named_there n k docs)
 
     by : (b : Bool) → is_some (find (is_row_named n k) docs) ≡ list_any (bytes_eq k) (keys_in n docs)
         → is_some (cond (b && bytes_eq d.idkey k) (Some d) (find (is_row_named n k) docs)) ≡ list_any (bytes_eq k) (map (λ (x : Doc). x.idkey) (cond b (d ∷ filter (is_in n) docs) (filter (is_in n) docs)))
-    by true rest = at (bytes_eq d.idkey k) rest ∙ ap (λ b. b || list_any (bytes_eq k) (keys_in n docs)) (bytes_eq_back d.idkey k)
+    by true rest = at (bytes_eq d.idkey k) rest ∙ ap (λ b. b || list_any (bytes_eq k) (keys_in n docs)) (key_turned d.idkey k)
     by false rest = rest
 
 -- the keys of a collection are those of its documents
@@ -56,7 +47,7 @@ keys_are n [] [] each = refl
 keys_are n [] (d ∷ docs) each = absurd each
 keys_are n (r ∷ rs) [] each = absurd each
 keys_are n (r ∷ rs) (d ∷ docs) each =
-    ap (λ b. map (λ (x : Doc). x.idkey) (cond b (d ∷ filter (is_in n) docs) (filter (is_in n) docs))) (ap (λ m. bytes_eq m n) each.0.name ∙ bytes_eq_back r.name n)
+    ap (λ b. map (λ (x : Doc). x.idkey) (cond b (d ∷ filter (is_in n) docs) (filter (is_in n) docs))) (ap (λ m. bytes_eq m n) each.0.name ∙ key_turned r.name n)
     ∙ by (bytes_eq n r.name) (keys_are n rs docs each.1)
   where
     by : (b : Bool) → keys_in n docs ≡ keys_of (documents_of rs n)

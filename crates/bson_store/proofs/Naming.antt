@@ -8,13 +8,12 @@ use Rattle.std.specs.List.Sorted.{IsStrictlySortedBy}
 use Rattle.std.specs.Ordering.{nat_cmp}
 use Rattle.std.specs.declared.cmp.Ordering.{Ordering}
 use Rattle.std.specs.declared.cmp.Ordering.TheVariants.{Less}
-use Rattle.bson_meaning.proofs.Ordered.{equal_keys, same_key}
 use Rattle.bson_table.specs.Moves.{Lists}
 use Rattle.bson_table.specs.Names.{has_name}
 use Rattle.bson_table.specs.Rows.{Doc, is_in}
 use Rattle.bson_table.specs.declared.fault.Fault.{Fault}
 use Rattle.bson_table.specs.declared.fault.Fault.TheVariants as faults
-use Rattle.store_laws.specs.State.{AllAfter, AreAscending, collections, holds, list_of, refused}
+use Rattle.store_laws.specs.State.{AllAfter, AreAscending, collections, holds, refused}
 use Rattle.store_laws.specs.Table.{Table, documents_of}
 use Rattle.store_laws.specs.declared.error.ErrorKind.TheVariants.{Memory}
 use Rattle.store_laws.proofs.Rows.{list_of-state_of}
@@ -25,6 +24,7 @@ use Rattle.bson_store.specs.Refusals.{kind_of_fault, refusal, reply_by}
 use Rattle.bson_store.specs.Shown.{AreRowsOf}
 use Rattle.bson_store.specs.declared.error.StoreError.{StoreError}
 use Rattle.bson_store.proofs.Serving.{denied, memory_other, stays}
+use Rattle.bson_base.proofs.Members.{equal_keys, same_key}
 
 abbrev pub Name : Type 0
 Name = Vec ℕ Global

@@ -1,6 +1,6 @@
 -- What a filter selects of the documents of a collection, taken one after the other.
-use Rattle.std.proofs.Common.{◌≡◌, ◌≢◌, inl, inr, ℕ, List, [], ◌∷◌, ◌++◌, map, Bool, true, false, cond, Option, Some, None, Ok, Err, String, Global, length, refl, ap, ap₂, ◌∙◌, sym, subst}
-use Rattle.std.specs.Prelude.{MatchOption, bytes_eq}
+use Rattle.std.proofs.Common.{◌≡◌, ◌≢◌, inl, inr, ℕ, List, [], ◌∷◌, ◌++◌, map, Bool, true, false, Option, Some, None, Ok, Err, String, Global, length, refl, ap, ap₂, ◌∙◌, sym, subst}
+use Rattle.std.specs.Prelude.{MatchOption}
 use Rattle.sqlite.specs.State.{State}
 use Rattle.bson_base.specs.Value.{Members, document}
 use Rattle.bson_bytes.specs.Encode.{encode}
@@ -12,7 +12,7 @@ use Rattle.store_laws.specs.Filter.{Filter, Selects}
 use Rattle.store_laws.specs.Reading.{Documents}
 use Rattle.store_laws.specs.Run.{IsDecidedCall}
 use Rattle.store_laws.specs.State.{Answers, AreKept, Call, IsKept, IsName, Picks, Reply, on, only, refused}
-use Rattle.store_laws.specs.Table.{AreRows, Table, documents_of}
+use Rattle.store_laws.specs.Table.{Table, documents_of}
 use Rattle.bson_store.specs.Calls.{Does}
 use Rattle.bson_store.specs.Export.{bytes_of_each}
 use Rattle.bson_store.specs.Questions.{GivesPicked, Picked, Turns}
@@ -27,6 +27,7 @@ use Rattle.bson_store.proofs.Exporting.{bodies_are}
 use Rattle.bson_store.proofs.Moving.{moved}
 use Rattle.bson_store.proofs.Serving.{answers_stay, denied, undecided}
 use Rattle.bson_store.proofs.Dumping.{front_kept}
+use Rattle.store_laws.proofs.Keys.{rows_kept}
 
 -- ---- one document more
 
@@ -101,14 +102,6 @@ gives_none : (took : Documents → Type 0) (f : Filter) → took [] → GivesPic
 gives_none took f t [] kept is = ([], refl, t)
 gives_none took f t (d ∷ ds) kept is = absurd (cc)
 
-kept_of : (a : Table) (n : List ℕ) → AreRows a → AreKept (documents_of a n)
-kept_of [] n good = tt
-kept_of (r ∷ rs) n good = by (bytes_eq n r.name) (kept_of rs n good.3)
-  where
-    by : (b : Bool) → AreKept (documents_of rs n) → AreKept (cond b (r.document ∷ documents_of rs n) (documents_of rs n))
-    by true rest = (good.1, rest)
-    by false rest = rest
-
 -- the documents of a beginning of the bodies
 record IsFront (xs : List (List ℕ)) (ds : Documents) : Type 0 where
   pub front : Documents
@@ -147,7 +140,7 @@ module _ {T : Type 0} (took : T → T → Documents → Type 0) (first last : Pi
       record {
         same = h.same;
         taken = λ a s.
-            let t = w.1 (documents_of a n) (kept_of a n s.good) (bodies_are n a docs s.each) in
+            let t = w.1 (documents_of a n) (rows_kept a n s.good) (bodies_are n a docs s.each) in
             let u : Taken (took first.taker last.taker) (filter_of last.filter.now) (documents_of a n) = subst (λ o. MatchOption o (Taken (took first.taker last.taker) (filter_of last.filter.now) (documents_of a n)) IsDenied) whole t in
             subst (λ g. Taken (took first.taker last.taker) (filter_of g) (documents_of a n)) w.0 u;
         denied = λ a s. tt;
@@ -162,7 +155,7 @@ module _ {T : Type 0} (took : T → T → Documents → Type 0) (first last : Pi
         taken = λ a s. tt;
         denied = λ a s.
             let p = front_of w.0 w.1 (documents_of a n) (w.2 ∙ bodies_are n a docs s.each) in
-            let k = front_kept p.front p.back (subst AreKept p.split (kept_of a n s.good)) in
+            let k = front_kept p.front p.back (subst AreKept p.split (rows_kept a n s.good)) in
             let t = w.3.1 p.front k p.bodies_are in
             subst (λ o. MatchOption o (Taken (took first.taker last.taker) (filter_of last.filter.now) p.front) IsDenied) is t;
       }

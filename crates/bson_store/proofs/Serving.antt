@@ -180,21 +180,22 @@ step_in f docs n k b d a r good h free s name is =
 pub next_place : (g : ℕ) → pos g +ℤ pos 1 ≡ pos (suc g)
 next_place g = ap pos (omega arith)
 
-room_is : (l : ℤ) (g : ℕ) → l ≡ pos g → (l +ℤ pos 1) <ℤ pos (2 ^ 63) → g < greatest_place
-room_is l g e h = let i = subst (λ z. (z +ℤ pos 1) <ℤ pos (2 ^ 63)) e h in omega (arith, ints, i)
+-- room for so many rows behind the greatest place, or none
+pub room_is : (l : ℤ) (g k : ℕ) → l ≡ pos g → (l +ℤ pos k) <ℤ pos (2 ^ 63) → g + k ≤ greatest_place
+room_is l g k e h = let i = subst (λ z. (z +ℤ pos k) <ℤ pos (2 ^ 63)) e h in omega (arith, ints, i)
 
-full_is : (l : ℤ) (g : ℕ) → l ≡ pos g → ((l +ℤ pos 1) <ℤ pos (2 ^ 63) → ⊥) → greatest_place < g + 1
-full_is l g e h = by (leb_tells (g + 1) greatest_place)
+pub full_is : (l : ℤ) (g k : ℕ) → l ≡ pos g → ((l +ℤ pos k) <ℤ pos (2 ^ 63) → ⊥) → greatest_place < g + k
+full_is l g k e h = by (leb_tells (g + k) greatest_place)
   where
-    by : ((leb (g + 1) greatest_place ≡ true) × (g + 1 ≤ greatest_place)) ⊎ ((leb (g + 1) greatest_place ≡ false) × (greatest_place < g + 1)) → greatest_place < g + 1
-    by (inl k) = let low : (l +ℤ pos 1) <ℤ pos (2 ^ 63) = omega (arith, ints, e, k.1) in absurd (h low)
-    by (inr k) = k.1
+    by : ((leb (g + k) greatest_place ≡ true) × (g + k ≤ greatest_place)) ⊎ ((leb (g + k) greatest_place ≡ false) × (greatest_place < g + k)) → greatest_place < g + k
+    by (inl i) = let low : (l +ℤ pos k) <ℤ pos (2 ^ 63) = omega (arith, ints, e, i.1) in absurd (h low)
+    by (inr i) = i.1
 
 goes_in : (f : Form) (docs : List Doc) (n k b : List ℕ) (d : Members) → IsName n → IsUtf8 n → Fits d k b → find (is_row_named n k) docs ≡ None → IsRoomFor 1 docs → Does (on n (insert f (readable d))) done docs (appended n k b docs)
 goes_in f docs n k b d good text h free room a s =
     let r : Row = record { place = suc (greatest a); name = n; document = d } in
     let last = last_greatest a docs s in
-    let below : greatest a < greatest_place = room_is (table.last_place docs) (greatest a) last room in
+    let below : greatest a < greatest_place = omega (arith, room_is (table.last_place docs) (greatest a) 1 last room) in
     let step = step_in f docs n k b d a r good h free s refl refl in
     let one : IsRowOf r (record { place = table.last_place docs +ℤ pos 1; coll = n; idkey = k; body = b }) = record {
       place = ap (λ z. z +ℤ pos 1) last ∙ next_place (greatest a);
@@ -211,7 +212,7 @@ goes_in f docs n k b d good text h free room a s =
 no_place : (f : Form) (docs : List Doc) (n k b : List ℕ) (d : Members) → IsName n → Fits d k b → find (is_row_named n k) docs ≡ None → (IsRoomFor 1 docs → ⊥) → Does (on n (insert f (readable d))) (refused Places None) docs docs
 no_place f docs n k b d good h free full a s =
     let r : Row = record { place = suc (greatest a); name = n; document = d } in
-    let g : greatest_place < greatest a + 1 = full_is (table.last_place docs) (greatest a) (last_greatest a docs s) full in
+    let g : greatest_place < greatest a + 1 = full_is (table.last_place docs) (greatest a) 1 (last_greatest a docs s) full in
     (a, s, (Some places, ((refl, refl), stays a, (undecided n (insert f (readable d)) good (read_open f d), (g, done, state_of (a ++ r ∷ []), step_in f docs n k b d a r good h free s refl refl, λ x. x)))))
 
 pub put_in : (docs mid after : List Doc) (n k b : List ℕ) (d : Members) → IsName n → IsUtf8 n → Fits d k b → FindsRow n k (Ok None) docs mid → AddsRows 1 (appended n k b) (Ok tt) mid after → DoesRead n insert d done docs after

@@ -1,11 +1,10 @@
 -- What set and unset make of the document whose written form was found.
-use Rattle.std.proofs.Common.{◌≡◌, ◌≢◌, ◌⊎◌, inl, inr, ℕ, List, ◌∷◌, ◌++◌, Bool, true, false, cond, Option, Some, None, Ok, Err, is_some, refl, ap, ◌∙◌, sym, arith, Vec, Global, Result}
+use Rattle.std.proofs.Common.{◌≡◌, ◌≢◌, ◌⊎◌, inl, inr, ℕ, List, ◌∷◌, ◌++◌, Bool, true, false, cond, Option, Some, None, Ok, Err, refl, ap, ◌∙◌, sym, arith, Vec, Global, Result}
 use Rattle.std.specs.Prelude.{bytes_eq, unwrap_or}
 use Rattle.std.specs.Option.{option_map}
-use Rattle.bson_base.specs.Value.{Value, Members, no_members, member, look_up, has_key, put, without}
+use Rattle.bson_base.specs.Value.{Value, Members, no_members, look_up, has_key, put, without}
 use Rattle.bson_bytes.specs.Encode.{encode}
 use Rattle.bson_meaning.specs.Meaning.{key, asc, norm}
-use Rattle.bson_meaning.proofs.Ordered.{equal_keys}
 use Rattle.bson_table.specs.declared.row.Found.{Found}
 use Rattle.store_documents.specs.Bodies.{AnswersChanged, AnswersUnset}
 use Rattle.store_documents.specs.declared.change.Unset.{Unset}
@@ -13,7 +12,6 @@ use Rattle.store_laws.specs.State.{id_key, set, unset, done, flag, on, refused, 
 use Rattle.store_laws.specs.Table.{own_id, only_id}
 use Rattle.store_laws.specs.declared.error.ErrorKind.{ErrorKind}
 use Rattle.store_laws.specs.declared.error.ErrorKind.TheVariants as kind
-use Rattle.store_laws.proofs.Edits.{look_up-put, look_up-without}
 use Rattle.serde_json.specs.Data.{Data}
 use Rattle.sqlite.specs.State.{State}
 use Rattle.bson_table.specs.Moves.{Moves}
@@ -22,6 +20,7 @@ use Rattle.bson_store.specs.Calls.{Does}
 use Rattle.bson_store.proofs.Exits.{stays_moves, memory_moves}
 use Rattle.bson_store.proofs.Finding.{Answered}
 use Rattle.bson_store.proofs.Rewriting.{Remakes}
+use Rattle.bson_base.proofs.Members.{equal_keys, look_up-put, look_up-without, lacks, without_absent}
 
 own_if : (d old : Members) → look_up id_key d ≡ look_up id_key old → own_id d ≡ own_id old
 own_if d old e = ap (λ o. unwrap_or (option_map only_id o) no_members) e
@@ -87,20 +86,11 @@ unset_remakes id k f u free there unsets l front old back was kept at =
       ap key (own_if (without k old) old (without_own k old free.0)),
     )
 
--- a key that isn't there leaves the document
-nothing_out : (k : List ℕ) (d : Members) → has_key k d ≡ false → without k d ≡ d
-nothing_out k no_members h = refl
-nothing_out k (member l v ms) h = by (bytes_eq k l) refl h (nothing_out k ms)
-  where
-    by : (b : Bool) → bytes_eq k l ≡ b → is_some (cond b (Some v) (look_up k ms)) ≡ false → (has_key k ms ≡ false → without k ms ≡ ms) → cond b (without k ms) (member l v (without k ms)) ≡ member l v ms
-    by true e h rest = cc
-    by false e h rest = ap (member l v) (rest h)
-
 pub unset_stays : (id : Value) (k : List ℕ) (f : Found) (u : Unset) → IsFreeKey k → u.was_there ≡ false → UnsetsIn k f (Ok u) → Answered id (unset id k) (flag false) f
 unset_stays id k f u free there unsets l front old back was kept at =
     let h = unsets old kept was in
     let none : has_key k old ≡ false = sym h.0 ∙ there in
-    inl (inl (free, inl (front, old, back, at, (ap flag (sym none), at.split ∙ ap (λ d. front ++ d ∷ back) (sym (nothing_out k old none))))))
+    inl (inl (free, inl (front, old, back, at, (ap flag (sym none), at.split ∙ ap (λ d. front ++ d ∷ back) (sym (without_absent k old (lacks k old none)))))))
 
 pub unset_refused : (id : Value) (k : List ℕ) (f : Found) (e : ErrorKind) → UnsetsIn k f (Err e) → Answered id (unset id k) (refused e None) f
 unset_refused id k f e unsets l front old back was kept at = inr (ap (λ x. refused x None) (unsets old kept was))

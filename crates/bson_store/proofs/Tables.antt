@@ -3,7 +3,6 @@ use Rattle.std.proofs.Common.{◌≡◌, ℕ, pos, suc, ◌<◌, max, List, [], 
 use Rattle.std.specs.Prelude.{bytes_eq}
 use Rattle.std.specs.List.{find}
 use Rattle.bson_base.specs.Value.{Value}
-use Rattle.bson_meaning.proofs.Ordered.{equal_keys, same_key}
 use Rattle.store_laws.specs.Reading.{Documents}
 use Rattle.store_laws.specs.State.{IsKept, HasId, NoneHasId, StandsAt, Command, IsCommand, Reply, Step}
 use Rattle.store_laws.specs.Table.{Row, Table, state_of, documents_of, greatest, AreRows}
@@ -15,7 +14,8 @@ use Rattle.bson_table.specs.Rows.{Doc, is_row_named}
 use Rattle.bson_table.specs.Rows as table
 use Rattle.store_documents.specs.Bodies.{IsKeyOf}
 use Rattle.bson_store.specs.Shown.{IsRowOf, AreRowsOf, Rises, Show}
-use Rattle.bson_meaning.proofs.NormalScalars.{both_true}
+use Rattle.bson_base.proofs.Members.{equal_keys, same_key}
+use Rattle.std.proofs.lemmas.Bool.{and_parts}
 
 -- ---- places
 
@@ -65,7 +65,7 @@ shows_more ds a r d s is place good = record {
 -- ---- looking up by name and key
 
 named_is : (n k : List ℕ) (d : Doc) → is_row_named n k d ≡ true → (d.coll ≡ n) × (d.idkey ≡ k)
-named_is n k d h = let p = both_true (bytes_eq d.coll n) (bytes_eq d.idkey k) h in (equal_keys d.coll n p.0, equal_keys d.idkey k p.1)
+named_is n k d h = let p = and_parts (bytes_eq d.coll n) (bytes_eq d.idkey k) h in (equal_keys d.coll n p.0, equal_keys d.idkey k p.1)
 
 pub is_named_so : (n k : List ℕ) (d : Doc) → d.coll ≡ n → d.idkey ≡ k → is_row_named n k d ≡ true
 is_named_so n k d h i = ap (λ m. bytes_eq m n && bytes_eq d.idkey k) h ∙ ap (λ b. b && bytes_eq d.idkey k) (same_key n) ∙ ap (λ m. bytes_eq m k) i ∙ same_key k

@@ -60,6 +60,11 @@ pub record Outputs (filter_terms project : List Term) (order : List (Term × Key
   pub sorted : IsSorted (output_cmp (plain_query filter_terms project order)) all
   pub shown : rows ≡ map (λ o. o.1) all
 
+-- every row passes where nothing is asked
+pub keeps_all : (rows : List Row) → filter (passes [] []) rows ≡ rows
+keeps_all [] = refl
+keeps_all (r ∷ rows) = ap (λ rs. r ∷ rs) (keeps_all rows)
+
 pub map_map : {A B C : Type 0} (f : B → C) (g : A → B) (xs : List A) → map f (map g xs) ≡ map (λ x. f (g x)) xs
 map_map f g [] = refl
 map_map f g (x ∷ xs) = ap (λ ys. f (g x) ∷ ys) (map_map f g xs)

@@ -1,5 +1,5 @@
 -- What holds of any SELECT with no time in it, whatever the schema is.
-use Rattle.std.proofs.Common.{◌≡◌, inl, inr, ℕ, List, [], Option, Result, Ok, Err, IsSome, IsTrue, IsErr, IfOk, IfErr, OnErr, refl, subst}
+use Rattle.std.proofs.Common.{◌≡◌, inl, inr, ℕ, List, [], Option, Result, Ok, Err, IsSome, IsTrue, IsErr, IfOk, IfErr, refl, subst}
 use Rattle.std.proofs.lemmas.Bool.{cases_Bool}
 use Rattle.sqlite.specs.Clock.{timed}
 use Rattle.sqlite.specs.Order.{Row}
@@ -22,7 +22,7 @@ use Rattle.sqlite.specs.State.{State, Shown, ShowsRows, CommitsShowing, FailsToQ
 use Rattle.sqlite.proofs.StateLemmas.{survives_weaker}
 use Rattle.bson_table.specs.Rows.{Doc, Shows}
 use Rattle.bson_table.specs.Visit.{ReadsRows}
-use Rattle.bson_table.proofs.StatementLemmas.{undone_keeps, unchanged_shows, undone_shows}
+use Rattle.bson_table.proofs.StatementLemmas.{unchanged_shows, undone_shows}
 use Rattle.bson_table.proofs.PlainLemmas.{AsksForRows, Bare, bare_if, if_select_is}
 
 -- no refusal has the name of an answer with no rows
@@ -64,17 +64,6 @@ module _ (text : List ℕ) (asked : AsksForRows (first text)) where
   refused_shows_still params old new docs e (inl (inr failed)) h still = undone_shows old new docs h failed.3 still
   refused_shows_still params old new docs e (inr ran) h still =
       unchanged_shows old new docs h (subst (λ k. FailsToShow old new text ran.0 (timed params ran.0.formats ran.1.now) e k) (bare old.now.schema ran.0 ran.1.is).0 ran.2).3
-
-  pub err_shows : {X : Type 0} (params : Row) (old new : State) (docs : List Doc) (r : Result X Error) → IfErr r (FailsToQuery text params old new) → Shows old docs → IsTrue new.is_open → OnErr r (Shows new docs)
-  err_shows params old new docs (Ok x) why h still = tt
-  err_shows params old new docs (Err e) why h still = refused_shows_still params old new docs e why h still
-
-  pub refused_keeps_still : (params : Row) (old new : State) (e : Error) → FailsToQuery text params old new e → (IsTrue old.is_open → old.now ≡ old.committed) → IsTrue new.is_open → new.now ≡ old.now
-  unfolding FailsToQuery IsNotRun
-  refused_keeps_still params old new e (inl (inl not_run)) h still = not_run.1.0.now_is
-  refused_keeps_still params old new e (inl (inr failed)) h still = undone_keeps old new h failed.3 still
-  refused_keeps_still params old new e (inr ran) h still =
-      (subst (λ k. FailsToShow old new text ran.0 (timed params ran.0.formats ran.1.now) e k) (bare old.now.schema ran.0 ran.1.is).0 ran.2).3.0.now_is
 
   pub refused_was_open : (params : Row) (old new : State) (e : Error) → FailsToQuery text params old new e → IsTrue new.is_open → IsTrue old.is_open
   unfolding FailsToQuery IsNotRun

@@ -22,7 +22,7 @@ use Rattle.sqlite.proofs.Callers.{IsPlain, reads_as, first_as, command_of}
 use Rattle.bson_table.specs.Schema.{documents_schema}
 use Rattle.bson_table.specs.Visit.{IsSelect}
 use Rattle.bson_table.specs.Rows.{Doc, stored, IsRising, Shows, last_place}
-use Rattle.bson_table.proofs.AnswerLemmas.{passes, matches_are, map_map}
+use Rattle.bson_table.proofs.AnswerLemmas.{passes, matches_are, map_map, keeps_all}
 use Rattle.bson_table.proofs.LastPlaceLemmas.{below_next}
 use Rattle.bson_table.proofs.Texts.{plain_query, program}
 use Rattle.bson_table.proofs.ReadLemmas.{key_of, not_below}
@@ -102,10 +102,6 @@ first_is (d ∷ docs) (x ∷ xs) up p s =
 first_of_page : (xs : List Row) → slice_get (take 1 xs) 0 ≡ slice_get xs 0
 first_of_page [] = refl
 first_of_page (x ∷ xs) = refl
-
-keeps_all : (rows : List Row) → filter (passes [] []) rows ≡ rows
-keeps_all [] = refl
-keeps_all (r ∷ rows) = ap (λ rs. r ∷ rs) (keeps_all rows)
 
 module _ (old new : State) (docs : List Doc) (h : Shows old docs) where
   of_answer : (rows : List Row) → Answers old.now (program desc_query) [] rows → Finds docs (slice_get rows 0)

@@ -19,17 +19,13 @@ use Rattle.bson_table.specs.Rows.{Doc, stored, HasRows, Shows, IsRising}
 use Rattle.bson_table.specs.Open.{all_text, Reads}
 use Rattle.bson_table.specs.Check.{AreGood}
 use Rattle.bson_table.proofs.Texts.{all_query, all_is, all_plain, program}
-use Rattle.bson_table.proofs.AnswerLemmas.{matches_are, passes as keeps, map_map}
+use Rattle.bson_table.proofs.AnswerLemmas.{matches_are, passes as keeps, map_map, keeps_all}
 use Rattle.bson_table.proofs.TypedLemmas.{IsTyped, typed_row}
 use Rattle.bson_table.proofs.ListedRows.{put_down, put_down_is}
 use Rattle.bson_table.proofs.CheckLemmas.{good_rises}
 
 abbrev cols : Row → Row
 cols r = (output all_query ([] ∷ r ∷ [])).1
-
-keeps_all : (rows : List Row) → filter (keeps [] []) rows ≡ rows
-keeps_all [] = refl
-keeps_all (r ∷ rows) = ap (λ rs. r ∷ rs) (keeps_all rows)
 
 -- what the query answers of any rows
 pub answered : (db : Database) (rows : List Row) → Answers db (program all_query) [] rows → IsPermutation (map cols (db.trees 0)) rows

@@ -1,10 +1,9 @@
 -- The names of the collections.
-use Rattle.std.proofs.Common.{◌≡◌, ◌++◌, ℕ, List, [], ◌∷◌, map, filter, codes, Bool, true, false, ◌||◌, bytes_eq, eqb, refl, sym, ap, ap₂, ◌∙◌, is_eq, arith, Less, Equal, Greater, Ordering, Vec}
+use Rattle.std.proofs.Common.{◌≡◌, ℕ, List, [], ◌∷◌, map, filter, codes, Bool, true, false, ◌||◌, bytes_eq, refl, sym, ap, ap₂, ◌∙◌, is_eq, arith, Less, Equal, Greater, Ordering, Vec}
 use Rattle.std.specs.List.{list_any}
 use Rattle.std.specs.Ordering.{nat_cmp}
 use Rattle.std.specs.Cmp.Lexicographic.{slice_cmp}
 use Rattle.std.specs.declared.alloc.Global.{Global}
-use Rattle.std.proofs.lemmas.Bool.Decides.{nat_tests}
 use Rattle.std.specs.BTreeSet.{insert_key}
 use Rattle.sqlite.specs.declared.types.Value.TheVariants.{Text}
 use Rattle.sqlite.specs.Order.{Row}
@@ -20,21 +19,14 @@ use Rattle.bson_table.specs.Visit.{IsSelect, first_value}
 use Rattle.bson_table.specs.Names.{has_name, is_same_name, names_text}
 use Rattle.bson_table.proofs.Texts.{plain_query, program, by_place}
 use Rattle.bson_table.proofs.AnswerLemmas.{outputs_of}
-use Rattle.bson_table.proofs.ReadLemmas.{in_order, same_bytes}
-use Rattle.bson_table.proofs.SeenLemmas.{flip, or_swap}
+use Rattle.bson_table.proofs.ReadLemmas.{in_order}
+use Rattle.bson_table.proofs.SeenLemmas.{or_swap}
+use Rattle.std.proofs.lemmas.Slice.Eq.{bytes_eq-Decides}
+use Rattle.std.proofs.lemmas.Cmp.{nat_list_eq_equiv}
+use Rattle.std.proofs.lemmas.Map.Text.{is_eq-slice_cmp}
 
 abbrev pub name_cmp : Vec ℕ Global → Vec ℕ Global → Ordering
 name_cmp x y = slice_cmp nat_cmp x.items y.items
-
-same_of : (a b : List ℕ) → bytes_eq a b ≡ true → a ≡ b
-same_of [] [] h = refl
-same_of [] (y ∷ b) h = absurd (cc)
-same_of (x ∷ a) [] h = absurd (cc)
-same_of (x ∷ a) (y ∷ b) h = go (eqb x y) refl (λ rest. same_of a b rest)
-  where
-    go : (e : Bool) → eqb x y ≡ e → (bytes_eq a b ≡ true → a ≡ b) → x ∷ a ≡ y ∷ b
-    go true p more = let q : x ≡ y = grind (arith, nat_tests) in ap₂ (λ z zs. z ∷ zs) q (more (rw p at h))
-    go false p more = absurd (let e = rw p at h in cc)
 
 or_twice : (a c : Bool) → a || c ≡ a || (a || c)
 or_twice true c = refl
@@ -48,13 +40,9 @@ name_inserted x (y ∷ names) c = go (name_cmp x y) refl (name_inserted x names 
         → has_name (insert_key name_cmp (y ∷ names) x) c ≡ bytes_eq c x.items || has_name (y ∷ names) c
     go Less e more = rw e refl
     go Equal e more =
-        let same : x.items ≡ y.items = same_of x.items y.items (sym (same_bytes x.items y.items) ∙ ap is_eq e) in
+        let same : x.items ≡ y.items = (bytes_eq-Decides x.items y.items).0 (sym (is_eq-slice_cmp x.items y.items) ∙ ap is_eq e) in
         rw e (or_twice (bytes_eq c y.items) (has_name names c) ∙ ap (λ a. bytes_eq c a || (bytes_eq c y.items || has_name names c)) (sym same))
     go Greater e more = rw e (ap (λ b. bytes_eq c y.items || b) more ∙ or_swap (bytes_eq c y.items) (bytes_eq c x.items) (has_name names c))
-
-pub names_more : (c : List ℕ) (names : List (List ℕ)) (n : List ℕ) → list_any (is_same_name c) (names ++ n ∷ []) ≡ is_same_name c n || list_any (is_same_name c) names
-names_more c [] n = refl
-names_more c (x ∷ names) n = ap (λ b. is_same_name c x || b) (names_more c names n) ∙ or_swap (is_same_name c x) (is_same_name c n) (list_any (is_same_name c) names)
 
 pub names_asks : IsSelect names_text
 unfolding everything
@@ -74,7 +62,7 @@ every (d ∷ docs) = ap (λ ds. d ∷ ds) (every docs)
 
 in_docs : (c : List ℕ) (docs : List Doc) → list_any (is_same_name c) (map first_value (map (λ (d : Doc). Text d.coll ∷ []) docs)) ≡ list_any (is_in c) docs
 in_docs c [] = refl
-in_docs c (d ∷ docs) = ap₂ (λ p q. p || q) (flip c d.coll) (in_docs c docs)
+in_docs c (d ∷ docs) = ap₂ (λ p q. p || q) (nat_list_eq_equiv.symm c d.coll) (in_docs c docs)
 
 pub names_of : (old new : State) (docs : List Doc) (rows : List Row) (c : List ℕ) → Shows old docs → Shown names_text [] old new rows → list_any (is_same_name c) (map first_value rows) ≡ list_any (is_in c) docs
 names_of old new docs rows c h s =

@@ -1,9 +1,8 @@
 -- What the queries answer, and that they change nothing.
-use Rattle.std.proofs.Common.{ap₂, Equal, suc, add-one, ltb, eqb, bytes_eq, ◌≡◌, ◌<ℤ◌, ◌≤ℤ◌, ℕ, ℤ, List, [], ◌∷◌, map, filter, Bool, true, false, cond, ◌&&◌, Some, refl, sym, ap, ◌∙◌, arith, is_eq, is_lt, option_map, find, slice_get}
+use Rattle.std.proofs.Common.{ap₂, Equal, suc, add-one, bytes_eq, ◌≡◌, ◌<ℤ◌, ◌≤ℤ◌, ℕ, ℤ, List, [], ◌∷◌, map, filter, Bool, true, false, cond, ◌&&◌, Some, refl, sym, ap, ◌∙◌, arith, is_eq, is_lt, option_map, find, slice_get}
 use Rattle.std.specs.List.{AllByRecursion, list_all, sum_by}
 use Rattle.std.specs.List.Sorted.{IsSorted}
-use Rattle.std.specs.Ordering.{int_cmp, ordering_then, nat_cmp}
-use Rattle.std.specs.Cmp.Lexicographic.{slice_cmp}
+use Rattle.std.specs.Ordering.{int_cmp, ordering_then}
 use Rattle.std.proofs.lemmas.Int.{ints}
 use Rattle.std.proofs.lemmas.Bool.Decides.{nat_tests}
 use Rattle.std.proofs.lemmas.List.Sorted.{All-permutation, sum_by-IsPermutation}
@@ -24,29 +23,17 @@ use Rattle.sqlite.specs.Given.{IsPlain}
 use Rattle.sqlite.specs.State.{State, Shown}
 use Rattle.sqlite.proofs.Callers.{reads_as, command_of}
 use Rattle.bson_table.specs.Schema.{documents_schema}
-use Rattle.bson_table.specs.Rows.{Doc, stored, Shows, IsRising, is_row_named, is_in}
+use Rattle.bson_table.specs.Rows.{Doc, stored, Shows, IsRising, is_row_named}
 use Rattle.bson_table.proofs.AnswerLemmas.{and_true, Outputs, outputs_of, equal_is, map_map}
 use Rattle.bson_table.proofs.SortLemmas.{same_order, Strict, Rises}
 use Rattle.bson_table.proofs.Texts.{plain_query, program, equals, by_place, find_text, find_is, find_plain}
-
--- the same bytes, as SQL compares them
-pub same_bytes : (a b : List ℕ) → is_eq (slice_cmp nat_cmp a b) ≡ bytes_eq a b
-same_bytes [] [] = refl
-same_bytes [] (y ∷ b) = refl
-same_bytes (x ∷ a) [] = refl
-same_bytes (x ∷ a) (y ∷ b) = go (ltb x y) (eqb x y) refl refl (same_bytes a b)
-  where
-    go : (l e : Bool) → ltb x y ≡ l → eqb x y ≡ e → is_eq (slice_cmp nat_cmp a b) ≡ bytes_eq a b → is_eq (slice_cmp nat_cmp (x ∷ a) (y ∷ b)) ≡ bytes_eq (x ∷ a) (y ∷ b)
-    go true true p q h = absurd (grind (arith, nat_tests))
-    go true false p q h = rw (p, q) refl
-    go false true p q h = rw (p, q) h
-    go false false p q h = rw (p, q) refl
+use Rattle.std.proofs.lemmas.Map.Text.{is_eq-slice_cmp}
 
 pub text_test : (a b : List ℕ) → is_eq (value_cmp (Text a) (Text b)) ≡ bytes_eq a b
-text_test a b = ap is_eq (value_cmp-Text a b) ∙ same_bytes a b
+text_test a b = ap is_eq (value_cmp-Text a b) ∙ is_eq-slice_cmp a b
 
 pub blob_test : (a b : List ℕ) → is_eq (value_cmp (Blob a) (Blob b)) ≡ bytes_eq a b
-blob_test a b = ap is_eq (value_cmp-Blob a b) ∙ same_bytes a b
+blob_test a b = ap is_eq (value_cmp-Blob a b) ∙ is_eq-slice_cmp a b
 
 -- ---- the tests of the queries, on documents
 
@@ -54,9 +41,6 @@ pub named_test : (coll idkey : List ℕ) (d : Doc) → list_all (holds ((Text co
 named_test coll idkey d =
     rw (equal_is (Text d.coll) (Text coll) (bytes_eq d.coll coll) refl refl (text_test d.coll coll), equal_is (Blob d.idkey) (Blob idkey) (bytes_eq d.idkey idkey) refl refl (blob_test d.idkey idkey))
     (ap (λ b. bytes_eq d.coll coll && b) (and_true (bytes_eq d.idkey idkey)))
-
-pub in_test : (coll : List ℕ) (more : Row) (d : Doc) → list_all (holds ((Text coll ∷ more) ∷ stored d ∷ [])) (equals 2 0 ∷ []) ≡ is_in coll d
-in_test coll more d = and_true _ ∙ equal_is (Text d.coll) (Text coll) (bytes_eq d.coll coll) refl refl (text_test d.coll coll)
 
 -- ---- rows in order
 

@@ -1,14 +1,12 @@
 -- How edits change the rows.
-use Rattle.std.proofs.Common.{◌≡◌, ◌<ℤ◌, ℤ, List, [], ◌∷◌, ◌++◌, map, Bool, true, false, cond, refl, ap}
+use Rattle.std.proofs.Common.{◌≡◌, ◌<ℤ◌, ℤ, List, [], ◌∷◌, ◌++◌, Bool, true, false, cond, refl}
 use Rattle.std.specs.List.{AllByRecursion}
 use Rattle.sqlite.specs.declared.types.Value.{Value}
 use Rattle.sqlite.specs.declared.types.Value.TheVariants.{Null, Int}
 use Rattle.sqlite_sql.specs.Ops.{unary}
-use Rattle.sqlite_trees.specs.Tree.{put_row}
 use Rattle.sqlite_schema.specs.declared.schema.Kind.TheVariants.{Integer}
 use Rattle.sqlite_rules.specs.Cast.{cast}
-use Rattle.bson_table.specs.Rows.{Doc, stored, IsRising, AreBelow}
-use Rattle.bson_table.proofs.PlaceLemmas.{below_is}
+use Rattle.bson_table.specs.Rows.{Doc, IsRising, AreBelow}
 
 either : (b : Bool) (x : Value) → cond b x x ≡ x
 either true x = refl
@@ -21,11 +19,6 @@ cast_null = either _ Null
 pub cast_int : (n : ℤ) → cast Integer (Int n) ≡ Int n
 unfolding unary
 cast_int n = either _ (Int n)
-
--- a row with a place above all goes last
-pub put_last : (d : Doc) (docs : List Doc) → AreBelow d.place docs → put_row (stored d) (map stored docs) ≡ map stored (docs ++ d ∷ [])
-put_last d [] h = refl
-put_last d (x ∷ docs) h = rw (below_is x.place d.place h.0) (ap (λ rows. stored x ∷ rows) (put_last d docs h.1))
 
 pub rising_last : (d : Doc) (docs : List Doc) → IsRising docs → AreBelow d.place docs → IsRising (docs ++ d ∷ [])
 rising_last d [] up h = (tt, tt)

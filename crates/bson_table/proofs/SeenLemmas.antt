@@ -1,23 +1,13 @@
 -- A set of keys and names, beside the rows that it stands for.
-use Rattle.std.proofs.Common.{◌≡◌, ◌++◌, ℕ, List, [], ◌∷◌, Bool, true, false, not, ◌&&◌, ◌||◌, bytes_eq, eqb, refl, sym, ap, ap₂, ◌∙◌, is_eq, arith, Less, Equal, Greater, Ordering, IsTrue, IfOk, Result, Ok, Err}
+use Rattle.std.proofs.Common.{◌≡◌, ◌++◌, ℕ, List, [], ◌∷◌, Bool, true, false, not, ◌&&◌, ◌||◌, bytes_eq, refl, sym, ap, ap₂, ◌∙◌, is_eq, arith, Less, Equal, Greater, Ordering, IsTrue, IfOk, Result, Ok, Err}
 use Rattle.std.specs.List.{list_any}
 use Rattle.std.specs.Ordering.{nat_cmp, ordering_then}
 use Rattle.std.specs.Cmp.Lexicographic.{slice_cmp}
-use Rattle.std.proofs.lemmas.Bool.Decides.{nat_tests}
 use Rattle.std.specs.BTreeSet.{insert_key}
 use Rattle.bson_table.specs.Rows.{Doc, is_row_named}
 use Rattle.bson_table.specs.Seen.{Pair, has_pair, HasSeen}
-use Rattle.bson_table.proofs.ReadLemmas.{same_bytes}
-
-pub flip : (a b : List ℕ) → bytes_eq a b ≡ bytes_eq b a
-flip [] [] = refl
-flip [] (y ∷ b) = refl
-flip (x ∷ a) [] = refl
-flip (x ∷ a) (y ∷ b) = go (eqb x y) refl (flip a b)
-  where
-    go : (e : Bool) → eqb x y ≡ e → bytes_eq a b ≡ bytes_eq b a → bytes_eq (x ∷ a) (y ∷ b) ≡ bytes_eq (y ∷ b) (x ∷ a)
-    go true p h = let q : eqb y x ≡ true = grind (arith, nat_tests) in rw (p, q) h
-    go false p h = let q : eqb y x ≡ false = grind (arith, nat_tests) in rw (p, q) refl
+use Rattle.std.proofs.lemmas.Cmp.{nat_list_eq_equiv}
+use Rattle.std.proofs.lemmas.Map.Text.{is_eq-slice_cmp}
 
 abbrev pub pair_cmp : Pair → Pair → Ordering
 pair_cmp x y = ordering_then (slice_cmp nat_cmp x.0.items y.0.items) (slice_cmp nat_cmp x.1.items y.1.items)
@@ -29,7 +19,7 @@ then_eq Greater y = refl
 
 pair_test : (x y : Pair) → is_eq (pair_cmp x y) ≡ bytes_eq x.0.items y.0.items && bytes_eq x.1.items y.1.items
 pair_test x y =
-    then_eq (slice_cmp nat_cmp x.0.items y.0.items) (slice_cmp nat_cmp x.1.items y.1.items) ∙ ap₂ (λ p q. p && q) (same_bytes x.0.items y.0.items) (same_bytes x.1.items y.1.items)
+    then_eq (slice_cmp nat_cmp x.0.items y.0.items) (slice_cmp nat_cmp x.1.items y.1.items) ∙ ap₂ (λ p q. p && q) (is_eq-slice_cmp x.0.items y.0.items) (is_eq-slice_cmp x.1.items y.1.items)
 
 -- whether the set has a key
 pub contains_is : (x : Pair) (keys : List Pair) → list_any (λ y. is_eq (pair_cmp x y)) keys ≡ has_pair keys x.1.items x.0.items
@@ -70,11 +60,7 @@ any_last p (e ∷ docs) d = ap (λ b. p e || b) (any_last p docs d) ∙ or_swap 
 -- one more row
 pub seen_more : (old new : List Pair) (docs : List Doc) (d : Doc) → HasSeen old docs → ((c k : List ℕ) → has_pair new c k ≡ (bytes_eq c d.coll && bytes_eq k d.idkey) || has_pair old c k) → HasSeen new (docs ++ d ∷ [])
 seen_more old new docs d h added c k =
-    added c k ∙ ap₂ (λ p q. p || q) (ap₂ (λ p q. p && q) (flip c d.coll) (flip k d.idkey)) (h c k) ∙ sym (any_last (is_row_named c k) docs d)
-
-pub was_absent : (b r : Bool) → r ≡ not b → r ≡ true → b ≡ false
-was_absent true r e t = absurd (cc)
-was_absent false r e t = refl
+    added c k ∙ ap₂ (λ p q. p || q) (ap₂ (λ p q. p && q) (nat_list_eq_equiv.symm c d.coll) (nat_list_eq_equiv.symm k d.idkey)) (h c k) ∙ sym (any_last (is_row_named c k) docs d)
 
 pub ok_const : {E P : Type 0} (r : Result Bool E) → P → IfOk r (λ good. IsTrue good → P)
 ok_const (Ok b) p = λ _. p

@@ -10,7 +10,7 @@ use Rattle.sqlite.specs.declared.error.Error.{Error}
 use Rattle.sqlite.specs.Listing.{understood}
 use Rattle.sqlite.specs.Effect.{Database, IsDatabase}
 use Rattle.sqlite.specs.Does.{Tally, Does}
-use Rattle.sqlite.specs.State.{HasCleanDisk, State, mode_of, Executes, ExecutesIn, IsUnchanged, IsRolledBack, IsNotRun, shows_rows, CommitsBy, MayCommit, text_of}
+use Rattle.sqlite.specs.State.{State, mode_of, Executes, ExecutesIn, IsUnchanged, IsRolledBack, IsNotRun, shows_rows, CommitsBy, MayCommit, text_of}
 use Rattle.sqlite.specs.Given.{IsPlain}
 use Rattle.sqlite.proofs.Callers.{command_of, statement_of}
 use Rattle.bson_table.specs.Rows.{Doc, HasRows, Shows}
@@ -60,14 +60,6 @@ commits_as sql params s db schema command has is plain no_commit no_release h =
       | inl ends ↦ absurd (elim ends.0 [ inl c ↦ no_commit c | inr r ↦ no_release r.0 r.2 ])
       | inr w ↦ (w.1, w.2, w.3, w.4, w.5)
     ]
-
-pub if_refused : (sql : List ℕ) (params : Row) (old new : State) (r : Result ℕ Error) → (HasCleanDisk new → Executes sql params old new r)
-    → HasCleanDisk new → (docs : List Doc) → Shows old docs → IsTrue new.is_open → OnErr r (Shows new docs)
-if_refused sql params old new r ran now docs h still = go r (ran now)
-  where
-    go : (x : Result ℕ Error) → Executes sql params old new x → OnErr x (Shows new docs)
-    go (Ok count) e = tt
-    go (Err why) e = refused_shows sql params old new docs why e h still
 
 -- a refused statement leaves the database, where no transaction is open
 pub undone_keeps : (old new : State) → (IsTrue old.is_open → old.now ≡ old.committed) → IsRolledBack old new → IsTrue new.is_open → new.now ≡ old.now

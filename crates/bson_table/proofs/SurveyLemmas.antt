@@ -40,10 +40,6 @@ module _ (accepts : List ℕ → List ℕ → List ℕ → Type 0) (old new : St
   refuses_other e (inl is) = subst (Refuses accepts old new) (sym is) tt
   refuses_other e (inr is) = subst (Refuses accepts old new) (sym is) tt
 
-  pub unopened_other : (e : OpenError) → (e ≡ Memory) ⊎ (e ≡ Database) → Unopened accepts old new e
-  unopened_other e (inl is) = subst (Unopened accepts old new) (sym is) tt
-  unopened_other e (inr is) = subst (Unopened accepts old new) (sym is) tt
-
 module _ (accepts : List ℕ → List ℕ → List ℕ → Type 0) (old new : State) (auto : old.in_transaction ≡ false) (settled : IsTrue old.is_open → old.now ≡ old.committed) where
   opened_by : IsLive old → is_some (table_named old.now.schema table_name) ≡ true → Passes accepts old new → Opened accepts old new
   opened_by live there p =

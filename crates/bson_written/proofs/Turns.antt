@@ -1,5 +1,5 @@
 -- One turn over elements.
-use Rattle.std.proofs.Common.{◌≡◌, ℕ, suc, List, [], ◌∷◌, ◌++◌, Bool, true, false, ◌||◌, Decides, Option, Some, None, unwrap_or, refl, sym, ap, ◌∙◌, ◌+◌, add-one, subst}
+use Rattle.std.proofs.Common.{◌≡◌, ℕ, suc, List, [], ◌∷◌, ◌++◌, Bool, true, false, Decides, Option, Some, None, unwrap_or, refl, sym, ap, ◌∙◌, ◌+◌, add-one, subst}
 use Rattle.std.specs.Prelude.{if◌then◌else◌, decimal as digits, Result, Ok, Err, OnOk}
 use Rattle.std.specs.Result.{is_err}
 use Rattle.std.specs.Borrow.{Bor}
@@ -15,8 +15,9 @@ use Rattle.bson_bytes.proofs.One.{end_no_frame}
 use Rattle.bson_frame.specs.Frame.{Element, IsFirstFrame}
 use Rattle.bson_frame.proofs.Frames.{frame_is_one}
 use Rattle.bson_written.specs.Written.{AreAbsent, AreItemsWritten, AreWritten, IsAbsent, IsFirstUnder, IsWritten, IsWrittenUnder}
-use Rattle.bson_bytes.proofs.Settled.{without_absent}
 use Rattle.bson_bytes.proofs.Spelled.{element_parts}
+use Rattle.bson_base.proofs.Members.{without_absent}
+use Rattle.std.proofs.lemmas.Bool.{or_parts}
 
 -- ---- absent keys
 
@@ -49,15 +50,11 @@ pub end_absent_all : (keys : List (Bor (List ℕ))) (bytes : List ℕ) → bytes
 end_absent_all [] bytes is = tt
 end_absent_all (met ∷ keys) bytes is = (end_absent met.now bytes is, end_absent_all keys bytes is)
 
-neither : (a b : Bool) → a || b ≡ false → (a ≡ false) × (b ≡ false)
-neither true b h = absurd (true≢false h)
-neither false b h = (refl, h)
-
 pub absent_all_more : (keys : List (Bor (List ℕ))) (bytes next : List ℕ) (e : Element) → IsFirstFrame bytes e next
     → list_any (λ (met : Bor (List ℕ)). bytes_eq met.now e.key) keys ≡ false → AreAbsent keys next → AreAbsent keys bytes
 absent_all_more [] bytes next e first new rest = tt
 absent_all_more (met ∷ keys) bytes next e first new rest =
-    let n = neither (bytes_eq met.now e.key) (list_any (λ (k : Bor (List ℕ)). bytes_eq k.now e.key) keys) new in
+    let n = or_parts (bytes_eq met.now e.key) (list_any (λ (k : Bor (List ℕ)). bytes_eq k.now e.key) keys) new in
     (absent_more met.now bytes next e first (λ is. true≢false (sym ((bytes_eq-Decides met.now e.key).1 (sym is)) ∙ n.0)) rest.0, absent_all_more keys bytes next e first n.1 rest.1)
 
 pub absent_front : (keys : List (Bor (List ℕ))) (last : Bor (List ℕ)) (bytes : List ℕ) → AreAbsent (keys ++ last ∷ []) bytes → AreAbsent keys bytes × IsAbsent last.now bytes

@@ -1,8 +1,7 @@
 -- Documents as they are written.
-use Rattle.std.proofs.Common.{◌≡◌, ◌⊎◌, inl, inr, ℕ, ◌^◌, ◌<◌, ◌≤◌, List, length, Bool, true, false, Some, None, refl, ap, ◌∙◌, sym, arith}
+use Rattle.std.proofs.Common.{◌≡◌, ◌⊎◌, inl, inr, ℕ, ◌<◌, ◌≤◌, List, length, Some, None, refl, ap, ◌∙◌, sym, arith}
 use Rattle.std.specs.Prelude.{is_some}
-use Rattle.std.proofs.lemmas.Bool.{lt-ltb, le-ltb, leb-true, leb-false}
-use Rattle.std.proofs.Math.Dec.{leb}
+use Rattle.std.proofs.lemmas.Bool.{lt-ltb, le-ltb}
 use Rattle.bson_base.specs.Kinds.{IsPlain}
 use Rattle.bson_base.specs.Value.{Value, document, Members, look_up}
 use Rattle.bson_bytes.specs.Encode.{size}
@@ -18,13 +17,6 @@ use Rattle.store_laws.specs.declared.error.ErrorKind.TheVariants.{NoId, TooLong,
 use Rattle.store_laws.proofs.Ids.{own_of, plain_of, key_long, own_is}
 use Rattle.store_laws.proofs.Levels.{clean_plain}
 use Rattle.store_documents.specs.Bodies.{IsKeyOf, IsUnwritten, refusal_of_key}
-
-pub no_length : (d : Members) → IsPlain (document d) → (IsPlain (document d) × (size d < 2 ^ 31) → ⊥) → 2 ^ 31 ≤ size d
-no_length d plain h = by (leb (2 ^ 31) (size d)) refl
-  where
-    by : (b : Bool) → leb (2 ^ 31) (size d) ≡ b → 2 ^ 31 ≤ size d
-    by true e = leb-true (2 ^ 31) (size d) e
-    by false e = absurd (h (plain, leb-false (2 ^ 31) (size d) e))
 
 -- why a document isn't kept
 abbrev pub Refused : Members → ErrorKind → Type 0

@@ -5,11 +5,10 @@ use Rattle.bson_base.specs.Kinds.{AreBytes}
 use Rattle.bson_base.specs.Value.{Members}
 use Rattle.bson_bytes.specs.Encode.{encode}
 use Rattle.bson_bytes.specs.Spells.{settle, Means}
-use Rattle.bson_meaning.specs.Gate.{IsRefused, Passes}
-use Rattle.bson_meaning.specs.declared.gating.GateError.{GateError}
+use Rattle.bson_meaning.specs.Gate.{Passes}
 use Rattle.bson_model.specs.View.{members_of, pairs_of}
 use Rattle.bson_model.specs.declared.document.Document.{Document}
-use Rattle.store_laws.specs.Reading.{kind_of_gate_error, readable, unreadable, IsRead, ReadsBytes}
+use Rattle.store_laws.specs.Reading.{readable, unreadable, IsRead, ReadsBytes}
 use Rattle.store_laws.specs.State.{IsKept}
 use Rattle.store_laws.specs.declared.error.ErrorKind.{ErrorKind}
 use Rattle.store_laws.specs.declared.error.ErrorKind.TheVariants.{Memory}
@@ -20,9 +19,6 @@ use Rattle.store_documents.specs.Answers.{AnswersBytes}
 -- why there is no document, or that memory was wanted
 abbrev pub Fails : List ℕ → ErrorKind → Type 0
 Fails bytes k = ReadsBytes bytes (unreadable k) ⊎ ((k ≡ Memory) × (d : Members) × ReadsBytes bytes (readable d))
-
-pub gate_fails : (bytes : List ℕ) (e : GateError) (k : ErrorKind) → IsRefused bytes e → k ≡ kind_of_gate_error e → Fails bytes k
-gate_fails bytes e k h is = inl (e, h, is)
 
 pub memory_fails : (bytes : List ℕ) (k : ErrorKind) → Passes bytes → k ≡ Memory → Fails bytes k
 memory_fails bytes k passes is = inr (is, settle passes.2.0, (passes, (passes.2.0, passes.1, passes.2.1, refl)))

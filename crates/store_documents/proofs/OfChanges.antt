@@ -1,12 +1,11 @@
 -- Written documents with one member changed.
-use Rattle.std.proofs.Common.{◌≡◌, ◌⊎◌, inl, inr, ℕ, ◌<◌, ◌≤◌, List, [], ◌∷◌, Bool, true, false, cond, Some, None, refl, ap, ◌∙◌, sym, arith}
+use Rattle.std.proofs.Common.{◌≡◌, ◌⊎◌, inl, inr, ℕ, ◌<◌, ◌≤◌, List, [], ◌∷◌, Bool, true, false, cond, refl, ap, ◌∙◌, sym, arith}
 use Rattle.std.specs.Prelude.{bytes_eq, is_some, IfOk, Result, Ok, Err}
 use Rattle.bson_base.specs.Kinds.{IsPlain}
-use Rattle.bson_base.specs.Value.{Value, document, Members, no_members, member, has_key, levels, look_up, put, without, MembersHaveDistinctKeys}
+use Rattle.bson_base.specs.Value.{Value, document, Members, member, has_key, levels, look_up, put, without, MembersHaveDistinctKeys}
 use Rattle.bson_bytes.specs.Encode.{size}
 use Rattle.bson_frame.specs.Frame.{size_limit}
 use Rattle.bson_meaning.specs.Gate.{level_limit}
-use Rattle.bson_meaning.proofs.Ordered.{equal_keys}
 use Rattle.bson_model.specs.View.{members_of}
 use Rattle.bson_model.specs.Keyed.{has_key as has_pair, put as put_pair, without as without_pair}
 use Rattle.bson_model.proofs.EqualLemmas.{look_up-members_of}
@@ -17,6 +16,7 @@ use Rattle.store_laws.specs.declared.error.ErrorKind.TheVariants.{TooDeep, Nul, 
 use Rattle.store_laws.proofs.Levels.{clean_plain, read_without}
 use Rattle.store_documents.specs.Bodies.{IsUnwritten}
 use Rattle.store_laws.proofs.Kept.{without_size}
+use Rattle.bson_base.proofs.Members.{equal_keys, without_absent}
 
 -- why a changed document can't be kept
 abbrev pub Refused : Members → ErrorKind → Type 0
@@ -24,11 +24,6 @@ Refused e k = ((k ≡ TooDeep) × (level_limit < levels (document e)))
     ⊎ ((k ≡ Nul) × (levels (document e) ≤ level_limit) × (IsPlain (document e) → ⊥))
     ⊎ ((k ≡ TooLong) × (levels (document e) ≤ level_limit) × IsPlain (document e) × (size_limit < size e))
     ⊎ (k ≡ Memory)
-
-pub unwritten : (e : Members) (k : ErrorKind) → levels (document e) ≤ level_limit → IsUnwritten e k → Refused e k
-unwritten e k low (inl nul) = inr (inl (nul.0, low, nul.1))
-unwritten e k low (inr (inl long)) = inr (inr (inl (long.0, low, long.1, long.2)))
-unwritten e k low (inr (inr memory)) = inr (inr (inr memory))
 
 pub memory : (e : Members) (k : ErrorKind) → k ≡ Memory → Refused e k
 memory e k is = inr (inr (inr is))
@@ -40,21 +35,13 @@ known (Err b) p = tt
 
 -- ---- a member taken out
 
-absent_without : (k : List ℕ) (d : Members) → look_up k d ≡ None → without k d ≡ d
-absent_without k no_members h = refl
-absent_without k (member l v ms) h = by (bytes_eq k l) (absent_without k ms) h
-  where
-    by : (b : Bool) → (look_up k ms ≡ None → without k ms ≡ ms) → cond b (Some v) (look_up k ms) ≡ None → cond b (without k ms) (member l v (without k ms)) ≡ member l v ms
-    by true f e = cc
-    by false f e = ap (member l v) (f e)
-
 members_of_without : (k : List ℕ) (ps : List (List ℕ × Value)) → MembersHaveDistinctKeys (members_of ps) → members_of (without_pair k ps) ≡ without k (members_of ps)
 members_of_without k [] d = refl
 members_of_without k (p ∷ ps) d = by (bytes_eq k p.0) refl (members_of_without k ps d.2)
   where
     by : (b : Bool) → bytes_eq k p.0 ≡ b → members_of (without_pair k ps) ≡ without k (members_of ps)
         → members_of (cond b ps (p ∷ without_pair k ps)) ≡ cond b (without k (members_of ps)) (member p.0 p.1 (without k (members_of ps)))
-    by true e h = sym (absent_without k (members_of ps) (ap (λ l. look_up l (members_of ps)) (equal_keys k p.0 e) ∙ d.0))
+    by true e h = sym (without_absent k (members_of ps) (ap (λ l. look_up l (members_of ps)) (equal_keys k p.0 e) ∙ d.0))
     by false e h = ap (member p.0 p.1) h
 
 pub rest_is : (k : List ℕ) (d : Members) (ps qs : List (List ℕ × Value)) → MembersHaveDistinctKeys (members_of ps) → qs ≡ without_pair k ps → members_of ps ≡ d → members_of qs ≡ without k d

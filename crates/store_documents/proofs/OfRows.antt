@@ -14,9 +14,6 @@ use Rattle.store_documents.proofs.OfBytes.{Fails, read_same, wants_memory}
 use Rattle.store_laws.proofs.Kept.{accepted}
 use Rattle.store_laws.proofs.Restore.{not_refused}
 
-pub bad_name : (n k b : List ℕ) → (IsName n × IsUtf8 n → ⊥) → IsRow n k b → ⊥
-bad_name n k b bad row = bad (row.name, row.utf8)
-
 pub unread : (n k b : List ℕ) (x : ErrorKind) → Fails b x → (x ≡ Memory → ⊥) → IsRow n k b → ⊥
 unread n k b x fails other row = other (wants_memory b row.document x row.kept row.body fails)
 

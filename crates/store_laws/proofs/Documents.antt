@@ -3,10 +3,10 @@ use Rattle.std.proofs.Common.{◌≡◌, ◌↔◌, inl, inr, ℕ, suc, List, []
 use Rattle.std.specs.Prelude.{MatchOption, nat_lt}
 use Rattle.bson_bytes.specs.Encode.{size}
 use Rattle.store_laws.specs.Filter.{Filter, SameFilter}
-use Rattle.bson_meaning.specs.Meaning.{Same}
+use Rattle.bson_meaning.specs.Meaning.{Same, SameOption}
 use Rattle.bson_frame.specs.Frame.{size_limit}
 use Rattle.store_laws.specs.Reading.{Documents, IsRead, AreRead}
-use Rattle.store_laws.specs.Same.{SameOption, SameDocuments}
+use Rattle.store_laws.specs.Same.{SameDocuments}
 use Rattle.store_laws.specs.State.{id_key, HasId, SomeHasId, NoneHasId, IsTaken, AtId, When, refusal_of, Picks}
 use Rattle.store_laws.specs.declared.error.ErrorKind.TheVariants.{NoId, TooLong}
 use Rattle.bson_base.specs.Value.{Value, document, Members, look_up, has_key}

@@ -12,11 +12,11 @@ use Rattle.store_laws.specs.Run.{Denial, kind_of_denial, Denials, Turn, Run, ask
 use Rattle.store_laws.specs.declared.error.ErrorKind.{ErrorKind}
 use Rattle.store_laws.specs.declared.error.ErrorKind.TheVariants.{BadName, BadKey, JsonRefused, TooDeep, Nul, TooLong, NotFound, DuplicateId}
 use Rattle.bson_meaning.proofs.Canonical.{canonical}
-use Rattle.bson_meaning.proofs.Ordered.{equal_keys, same_key}
 use Rattle.store_laws.proofs.Documents.{when_same, match_same}
 use Rattle.store_laws.proofs.Runs.{same_names}
 use Rattle.store_laws.proofs.States.{list_of-store}
 use Rattle.store_laws.proofs.Steps.{either_way}
+use Rattle.bson_base.proofs.Members.{equal_keys, same_key}
 
 -- what two answers are
 pub record Alone (r s : Reply) (ds es : Documents) : Type 0 where

@@ -11,10 +11,10 @@ use Rattle.store_laws.specs.Table.{only_id, own_id}
 use Rattle.bson_bytes.proofs.Lengths.{encode_length}
 use Rattle.bson_meaning.proofs.Canonical.{canonical_members, canonical_same}
 use Rattle.bson_meaning.proofs.KeyLaw.{key_law, key_size, same_back}
-use Rattle.bson_meaning.proofs.Ordered.{equal_keys}
-use Rattle.store_laws.proofs.Levels.{weaker}
 use Rattle.store_laws.proofs.Selecting.{Distinct?, look_up_distinct}
-use Rattle.bson_meaning.proofs.PlainSame.{key_at, plain_same, some_found, only_same}
+use Rattle.bson_meaning.proofs.PlainSame.{plain_same, some_found, only_same}
+use Rattle.bson_base.proofs.Members.{equal_keys, key_at}
+use Rattle.bson_base.proofs.Parts.{each_part}
 
 -- ---- documents of an id alone
 
@@ -50,7 +50,7 @@ only_sound : (v : Value) → IsUtf8 id_key → IsSound v → IsSound (document (
 only_sound v t s = record { ranged = (t, s.ranged, tt); distinct = (refl, s.distinct, tt) }
 
 pub plain_of : (v : Value) → IsClean v → IsPlain v
-plain_of v c = weaker HasNo00 HasNo00 (λ s. IsPlainScalar s × IsCleanScalar s) IsPlainScalar (λ k h. h) (λ s h. h.0) v c
+plain_of v c = each_part HasNo00 HasNo00 (λ s. IsPlainScalar s × IsCleanScalar s) IsPlainScalar (λ k h. h) (λ s h. h.0) v c
 
 pub key_long : (d : Members) (own : Value) → Own d own → length (key (only_id own)) ≤ size_limit
 key_long d own o = omega (arith, encode_length (canonical_members (only_id own)), key_size (only_id own) (o.plain_key, o.clean, tt) (only_sound own o.text o.sound), o.small)

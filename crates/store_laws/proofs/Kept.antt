@@ -6,20 +6,19 @@ use Rattle.bson_base.specs.Value.{Value, document, Members, no_members, member, 
 use Rattle.bson_bytes.specs.Encode.{size, members_size}
 use Rattle.bson_frame.specs.Frame.{size_limit}
 use Rattle.bson_meaning.specs.Gate.{level_limit}
-use Rattle.bson_meaning.specs.Meaning.{Same}
+use Rattle.bson_meaning.specs.Meaning.{Same, SameOption}
 use Rattle.store_laws.specs.Reading.{Documents, readable, unreadable, IsRead, AreRead}
-use Rattle.store_laws.specs.Same.{SameDocuments, SameOption}
+use Rattle.store_laws.specs.Same.{SameDocuments}
 use Rattle.store_laws.specs.State.{id_key, State, list_of, store, HasId, SomeHasId, IsTaken, AtId, Call, insert, replace, set, unset, remove, get_raw, get_json, find, count, project, import, export, dump, Command, on, collections, Reply, When, refusal_of, or_later, first_refusal, Appends, Answers, IsName, Step, IsCall, IsCommand, IsKept, AreKept, HaveOwnIds, IsStore}
 use Rattle.store_laws.specs.declared.error.ErrorKind.{ErrorKind}
 use Rattle.store_laws.specs.declared.error.ErrorKind.TheVariants.{NoId, TooLong}
 use Rattle.bson_meaning.proofs.Canonical.{canonical, canonical_same, same_canonical}
-use Rattle.bson_meaning.proofs.Ordered.{equal_keys}
 use Rattle.store_laws.proofs.Documents.{some_has_id_same}
-use Rattle.store_laws.proofs.Edits.{look_up-put, look_up-without}
 use Rattle.store_laws.proofs.Levels.{set_read, read_without}
 use Rattle.store_laws.proofs.Selecting.{Distinct?, look_up_distinct, carried, exchanged}
 use Rattle.store_laws.proofs.States.{list_of-store, never_empty}
 use Rattle.bson_meaning.proofs.PlainSame.{some_found}
+use Rattle.bson_base.proofs.Members.{equal_keys, look_up-put, look_up-without}
 
 -- ---- ids
 
@@ -69,15 +68,15 @@ taken_back d e r = on_some (look_up id_key d) (look_up id_key e) (id_distinct d 
     on_some (Some x) (Some y) a (inl h) = inl (same_canonical x y a (sym (canonical_same y x h)))
     on_some (Some x) (Some y) a (inr h) = absurd h
 
-own_push : (ds : Documents) (d : Members) → AreRead ds → HaveOwnIds ds → (IsTaken d ds → ⊥) → HaveOwnIds (ds ++ d ∷ [])
-own_push [] d r h n = (λ t. none d t, tt)
+pub none_taken : (d : Members) → IsTaken d [] → ⊥
+none_taken d = on_some (look_up id_key d)
   where
-    none : (d : Members) → IsTaken d [] → ⊥
-    none d = on_some (look_up id_key d)
-      where
-        on_some : (o : Option Value) → IsSomeAnd o (λ id. ⊥) → ⊥
-        on_some None h = h
-        on_some (Some x) h = h
+    on_some : (o : Option Value) → IsSomeAnd o (λ id. ⊥) → ⊥
+    on_some None h = h
+    on_some (Some x) h = h
+
+own_push : (ds : Documents) (d : Members) → AreRead ds → HaveOwnIds ds → (IsTaken d ds → ⊥) → HaveOwnIds (ds ++ d ∷ [])
+own_push [] d r h n = (λ t. none_taken d t, tt)
 own_push (e ∷ ds) d r h n = (
   λ t. elim (taken_split e ds (d ∷ []) t) [
     | inl x ↦ h.0 x

@@ -6,11 +6,11 @@ use Rattle.bson_base.specs.Value.{Value, look_up}
 use Rattle.bson_meaning.specs.Meaning.{key}
 use Rattle.store_laws.specs.State.{id_key, SomeHasId, IsTaken, IsName, AreKept, HaveOwnIds, IsStore, HasId, IsKept}
 use Rattle.store_laws.specs.Table.{Row, Table, state_of, documents_of, IsAlone, AreRows, own_id}
-use Rattle.bson_meaning.proofs.Ordered.{equal_keys, same_key}
 use Rattle.store_laws.proofs.Ids.{own_of, own_is, has_written, key_long, plain_of, written_has}
 use Rattle.store_laws.proofs.Rows.{list_of-state_of, rows_not_empty, own_row}
+use Rattle.bson_base.proofs.Members.{equal_keys, same_key}
 
-rows_kept : (rs : Table) (n : List ℕ) → AreRows rs → AreKept (documents_of rs n)
+pub rows_kept : (rs : Table) (n : List ℕ) → AreRows rs → AreKept (documents_of rs n)
 rows_kept [] n h = tt
 rows_kept (r ∷ rs) n h = by (bytes_eq n r.name) (rows_kept rs n h.3)
   where

@@ -10,23 +10,18 @@ use Rattle.bson_meaning.specs.Meaning.{norm, norm_items, norm_members, place, as
 use Rattle.bson_meaning.specs.Gate.{level_limit}
 use Rattle.store_laws.specs.Reading.{IsRead}
 use Rattle.store_laws.specs.State.{only}
-use Rattle.bson_base.specs.Value.{Scalar, code, Value, scalar, array, document, scoped_code, Items, no_items, item, Members, no_members, member, look_up, put, without, levels, items_levels, members_levels, HasDistinctKeys, ItemsHaveDistinctKeys, MembersHaveDistinctKeys, EachPart, EachItem, EachMember}
-use Rattle.bson_meaning.proofs.Ordered.{Order, tied, same_key, look_up-asc}
+use Rattle.bson_base.specs.Value.{Value, scalar, array, document, scoped_code, Items, no_items, item, Members, no_members, member, look_up, put, without, levels, items_levels, members_levels, HasDistinctKeys, ItemsHaveDistinctKeys, MembersHaveDistinctKeys, EachPart}
+use Rattle.bson_meaning.proofs.Ordered.{Order, tied, look_up-asc}
 use Rattle.bson_meaning.proofs.Canonical.{canonical, canonical_same}
-use Rattle.bson_meaning.proofs.Normal.{normal_scalar_ranged, normal_scalar_clean, normal_scalar_plain, norm_each, asc_each, both_each, norm_distinct}
+use Rattle.bson_meaning.proofs.Normal.{normal_scalar_ranged, normal_scalar_clean, norm_each, asc_each, both_each, norm_distinct}
 use Rattle.bson_meaning.proofs.KeyLaw.{asc_distinct}
-use Rattle.store_laws.proofs.Edits.{put_each, put_back, put_distinct, without_each, without_distinct, only_each, only_distinct}
-
-absent_behind : (k l : List ℕ) (v : Value) (ms : Members) → look_up k (member l v ms) ≡ None → look_up k ms ≡ None
-absent_behind k l v ms = by (bytes_eq k l)
-  where
-    by : (b : Bool) → cond b (Some v) (look_up k ms) ≡ None → look_up k ms ≡ None
-    by true e = cc
-    by false e = e
+use Rattle.store_laws.proofs.Edits.{only_each, only_distinct}
+use Rattle.bson_base.proofs.Members.{same_key, put_each, put_back, put_distinct, without_each, without_distinct, not_first, without_levels}
+use Rattle.bson_base.proofs.Parts.{each_part}
 
 place_levels : (k : List ℕ) (v : Value) (ms : Members) → look_up k ms ≡ None → members_levels (place k v ms) ≡ max (levels v) (members_levels ms)
 place_levels k v no_members h = refl
-place_levels k v (member l w ms) h = by (place_levels k v ms (absent_behind k l w ms h)) (Order k l) refl
+place_levels k v (member l w ms) h = by (place_levels k v ms (not_first k l w ms h).1) (Order k l) refl
   where
     by : members_levels (place k v ms) ≡ max (levels v) (members_levels ms) → (o : Ordering) → Order k l ≡ o
         → members_levels (match_ordering o (member k v (member l w ms)) (member k v ms) (member l w (place k v ms))) ≡ max (levels v) (members_levels (member l w ms))
@@ -71,24 +66,6 @@ canonical_levels v h = asc_levels (norm v) (norm_distinct v h) ∙ norm_levels v
 pub same_levels : (v w : Value) → Same v w → HasDistinctKeys v → HasDistinctKeys w → levels v ≡ levels w
 same_levels v w h a b = sym (canonical_levels v a) ∙ ap levels (canonical_same v w h) ∙ canonical_levels w b
 
--- ---- a weaker fact of each part
-
-module _ (K L : List ℕ → Type 0) (S T : Scalar → Type 0) (g : (k : List ℕ) → K k → L k) (f : (s : Scalar) → S s → T s) where
-  mutual
-    pub weaker : (v : Value) → EachPart K S v → EachPart L T v
-    weaker (scalar s) h = f s h
-    weaker (array vs) h = weaker_items vs h
-    weaker (document ms) h = weaker_members ms h
-    weaker (scoped_code t ms) h = (f (code t) h.0, weaker_members ms h.1)
-
-    weaker_items : (vs : Items) → EachItem K S vs → EachItem L T vs
-    weaker_items no_items h = tt
-    weaker_items (item v vs) h = (weaker v h.0, weaker_items vs h.1)
-
-    weaker_members : (ms : Members) → EachMember K S ms → EachMember L T ms
-    weaker_members no_members h = tt
-    weaker_members (member k v ms) h = (g k h.0, weaker v h.1, weaker_members ms h.2)
-
 -- ---- a value set
 
 pub set_distinct : (v : Value) → HasDistinctKeys (canonical v)
@@ -100,15 +77,11 @@ set_ranged v s = asc_each IsUtf8 IsRangedScalar (norm v) (norm_each IsUtf8 IsUtf
 pub set_clean : (v : Value) → IsSound v → IsPlain (canonical v) → IsClean (canonical v)
 set_clean v s p =
     let c : EachPart IsUtf8 IsCleanScalar (canonical v) = asc_each IsUtf8 IsCleanScalar (norm v) (norm_each IsUtf8 IsUtf8 IsRangedScalar IsCleanScalar (λ k h. h) normal_scalar_clean v s.ranged) in
-    weaker (λ k. HasNo00 k × IsUtf8 k) HasNo00 (λ s. IsPlainScalar s × IsCleanScalar s) (λ s. IsPlainScalar s × IsCleanScalar s) (λ k h. h.0) (λ s h. h) (canonical v)
+    each_part (λ k. HasNo00 k × IsUtf8 k) HasNo00 (λ s. IsPlainScalar s × IsCleanScalar s) (λ s. IsPlainScalar s × IsCleanScalar s) (λ k h. h.0) (λ s h. h) (canonical v)
     (both_each HasNo00 IsUtf8 IsPlainScalar IsCleanScalar (canonical v) p c)
 
-pub set_plainly : (v : Value) → IsSound v → IsPlain v → IsPlain (canonical v)
-set_plainly v s p = asc_each HasNo00 IsPlainScalar (norm v)
-    (norm_each (λ k. HasNo00 k × IsUtf8 k) HasNo00 (λ s. IsPlainScalar s × IsRangedScalar s) IsPlainScalar (λ k h. h.0) (λ s h. normal_scalar_plain s h.1 h.0) v (both_each HasNo00 IsUtf8 IsPlainScalar IsRangedScalar v p s.ranged))
-
 pub clean_plain : (d : Members) → IsClean (document d) → IsPlain (document d)
-clean_plain d c = weaker HasNo00 HasNo00 (λ s. IsPlainScalar s × IsCleanScalar s) IsPlainScalar (λ k h. h) (λ s h. h.0) (document d) c
+clean_plain d c = each_part HasNo00 HasNo00 (λ s. IsPlainScalar s × IsCleanScalar s) IsPlainScalar (λ k h. h) (λ s h. h.0) (document d) c
 
 pub set_read : (k : List ℕ) (v : Value) (d : Members) → HasNo00 k → IsUtf8 k → IsSound v → IsRead d → IsPlain (document (put k (canonical v) d)) → levels (document (put k (canonical v) d)) ≤ level_limit → IsRead (put k (canonical v) d)
 set_read k v d n u s h p low = record {
@@ -123,14 +96,6 @@ pub set_plain : (k : List ℕ) (v w : Value) (d e : Members) → HasNo00 k → c
 set_plain k v w d e n i h p = put_each HasNo00 IsPlainScalar k (canonical w) e n (subst IsPlain i (put_back HasNo00 IsPlainScalar k (canonical v) d p)) (clean_plain e h.clean)
 
 -- ---- documents with fewer members
-
-pub without_levels : (k : List ℕ) (d : Members) → members_levels (without k d) ≤ members_levels d
-without_levels k no_members = omega arith
-without_levels k (member l v ms) = by (without_levels k ms) (bytes_eq k l)
-  where
-    by : members_levels (without k ms) ≤ members_levels ms → (b : Bool) → members_levels (cond b (without k ms) (member l v (without k ms))) ≤ members_levels (member l v ms)
-    by r true = omega arith
-    by r false = omega arith
 
 pub read_without : (k : List ℕ) (d : Members) → IsRead d → IsRead (without k d)
 read_without k d h = record {

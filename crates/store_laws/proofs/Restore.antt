@@ -1,6 +1,6 @@
 -- What was exported or dumped comes back.
 use Rattle.std.proofs.Common.{◌≡◌, ◌↔◌, inl, inr, ℕ, suc, ◌+◌, ◌^◌, ◌<◌, ◌≤◌, List, [], ◌∷◌, ◌++◌, length, map, Bool, true, false, cond, Option, Some, None, Result, Ok, Err, refl, ap, ◌∙◌, sym, subst, arith, append_assoc, append-nil, length-append}
-use Rattle.std.specs.Prelude.{bytes_eq, nat_lt, option_map, IsUtf8, IsSomeAnd, MatchOption}
+use Rattle.std.specs.Prelude.{bytes_eq, nat_lt, option_map, IsUtf8, MatchOption}
 use Rattle.std.specs.List.{flat_map}
 use Rattle.std.proofs.lemmas.Bool.{ltb-true}
 use Rattle.std.proofs.lemmas.List.{length-map}
@@ -34,12 +34,14 @@ use Rattle.bson_meaning.proofs.JsonReads.{mapped, AllCome, canonical_comes, chos
 use Rattle.bson_meaning.proofs.JsonSound.{kept_sound, kept_clean}
 use Rattle.bson_meaning.proofs.KeyLaw.{key_size}
 use Rattle.bson_meaning.proofs.Normal.{norm_twice}
-use Rattle.bson_meaning.proofs.Ordered.{same_key, ascending_asc, same_members, look_up-place, ascending_place}
+use Rattle.bson_meaning.proofs.Ordered.{ascending_asc, same_members, look_up-place, ascending_place}
 use Rattle.store_laws.proofs.Documents.{taken_same}
 use Rattle.store_laws.proofs.Functions.{one_answer}
-use Rattle.store_laws.proofs.Kept.{reads, taken_if, taken_split, taken_back}
+use Rattle.store_laws.proofs.Kept.{reads, taken_if, taken_split, taken_back, none_taken}
 use Rattle.store_laws.proofs.Levels.{canonical_levels, clean_plain}
 use Rattle.store_laws.proofs.States.{list_of-store}
+use Rattle.bson_base.proofs.Members.{same_key}
+use Rattle.bson_frame.proofs.Payloads.{number_front}
 
 -- ---- the normal form of a kept document is kept
 
@@ -112,13 +114,6 @@ not_refused d k = ap (λ b. cond b (cond (nat_lt size_limit (size d)) (Some TooL
 none_refused : (i : ℕ) (ds : Documents) → AreKept ds → first_refusal i ds None ≡ None
 none_refused i [] h = refl
 none_refused i (d ∷ ds) h = ap (λ o. or_later o i (first_refusal (suc i) ds None)) (not_refused d h.0) ∙ none_refused (suc i) ds h.1
-
-none_taken : (d : Members) → IsTaken d [] → ⊥
-none_taken d = on_some (look_up id_key d)
-  where
-    on_some : (o : Option Value) → IsSomeAnd o (λ id. ⊥) → ⊥
-    on_some None h = h
-    on_some (Some x) h = h
 
 some_here : (id : Value) (ds : Documents) (d : Members) (more : Documents) → SomeHasId id (d ∷ []) → SomeHasId id (ds ++ d ∷ more)
 some_here id [] d more (inl h) = inl h
@@ -197,13 +192,6 @@ written_reads d k a = (to a, λ h. subst (ReadsBytes (encode d)) (sym h) (writte
     to : (a : Reading) → ReadsBytes (encode d) a → a ≡ readable d
     to (readable e) h = ap readable (one_meaning (encode d) e d h.1 back)
     to (unreadable kind) h = absurd (one_of_the_gate (encode d) h.0 (written_passes d k) h.1)
-
-number_front : (p rest : List ℕ) → 4 ≤ length p → declared (p ++ rest) ≡ declared p
-number_front (a ∷ b ∷ c ∷ d ∷ p) rest h = refl
-number_front [] rest h = absurd (omega (arith, h))
-number_front (a ∷ []) rest h = absurd (omega (arith, h))
-number_front (a ∷ b ∷ []) rest h = absurd (omega (arith, h))
-number_front (a ∷ b ∷ c ∷ []) rest h = absurd (omega (arith, h))
 
 cuts_written : (ds : Documents) → AreKept ds → Cuts (flat_map encode ds) (map encode ds) None
 cuts_written [] h = refl

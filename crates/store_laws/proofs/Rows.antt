@@ -8,8 +8,8 @@ use Rattle.bson_base.specs.Value.{Members}
 use Rattle.store_laws.specs.Reading.{Documents}
 use Rattle.store_laws.specs.State.{list_of, listed, store}
 use Rattle.store_laws.specs.Table.{Row, Table, state_of, documents_of, AreOf, with_document}
-use Rattle.bson_meaning.proofs.Ordered.{equal_keys, same_key}
 use Rattle.store_laws.proofs.States.{HasNoEmpty, list_of-store, never_empty, same_lists}
+use Rattle.bson_base.proofs.Members.{equal_keys, same_key}
 
 pub rows_not_empty : (rs : Table) → HasNoEmpty (state_of rs)
 rows_not_empty [] n e = let none = sym (get-empty (slice_cmp nat_cmp) n) ∙ e in cc

@@ -1,36 +1,18 @@
 -- A filter selects both or neither of two values that mean the same.
 use Rattle.std.proofs.Common.{◌≡◌, ◌↔◌, inl, inr, ℕ, suc, List, [], ◌∷◌, Bool, true, false, cond, Option, Some, None, refl, ◌∙◌, sym, subst}
-use Rattle.std.specs.Prelude.{bytes_eq, is_some, IsSomeAnd, option_and_then, decimal as digits}
+use Rattle.std.specs.Prelude.{bytes_eq, IsSomeAnd, option_and_then, decimal as digits}
 use Rattle.store_laws.specs.Filter.{under_places, pairs, at, Filter, equals, exists, is_of, no, all_of, any_of, Filters, no_filters, filter, IsSoundFilter, AreSoundFilters, Selects, SelectsAll, SelectsAny, SameFilter, SameFilters}
 use Rattle.bson_model.specs.Equal.{SameKeys}
-use Rattle.bson_meaning.specs.Meaning.{Same, SameItems, SameUnder}
-use Rattle.store_laws.specs.Same.{SameOption}
+use Rattle.bson_meaning.specs.Meaning.{Same, SameItems, SameUnder, SameOption}
 use Rattle.bson_base.specs.Value.{Value, scalar, array, document, scoped_code, Items, no_items, item, Members, no_members, member, look_up, value_kind, HasDistinctKeys, ItemsHaveDistinctKeys, MembersHaveDistinctKeys}
-use Rattle.bson_meaning.proofs.Ordered.{equal_keys}
 use Rattle.bson_meaning.proofs.Canonical.{canonical, canonical_same, same_canonical}
 use Rattle.bson_meaning.proofs.Comparing.{same_kind}
+use Rattle.bson_meaning.proofs.InTurn.{to_alike}
 
 -- ---- what stands under a key
 
-here : (q k : List ℕ) (v u : Value) (o : Option Value) (ns : Members) (b : Bool) → bytes_eq q k ≡ b → cond b (Some v) o ≡ Some u
-    → IsSomeAnd (look_up k ns) (Same v) → (o ≡ Some u → IsSomeAnd (look_up q ns) (Same u)) → IsSomeAnd (look_up q ns) (Same u)
-here q k v u o ns true e h first rest =
-    let i : v ≡ u = cc in
-    subst (λ m. IsSomeAnd (look_up m ns) (Same u)) (sym (equal_keys q k e)) (subst (λ x. IsSomeAnd (look_up k ns) (Same x)) i first)
-here q k v u o ns false e h first rest = rest h
-
-under_key : (ms ns : Members) → SameUnder ms ns → (q : List ℕ) (u : Value) → look_up q ms ≡ Some u → IsSomeAnd (look_up q ns) (Same u)
-under_key no_members ns h q u e = cc
-under_key (member k v ms) ns h q u e = here q k v u (look_up q ms) ns (bytes_eq q k) refl e h.0 (under_key ms ns h.1 q u)
-
-joined : (o p : Option Value) → is_some o ≡ is_some p → ((u : Value) → o ≡ Some u → IsSomeAnd p (Same u)) → SameOption o p
-joined None None h f = tt
-joined None (Some w) h f = cc
-joined (Some v) None h f = cc
-joined (Some v) (Some w) h f = f v refl
-
 pub same_look_up : (ms ns : Members) (q : List ℕ) → SameKeys ms ns → SameUnder ms ns → SameOption (look_up q ms) (look_up q ns)
-same_look_up ms ns q keys under = joined (look_up q ms) (look_up q ns) (keys q) (under_key ms ns under q)
+same_look_up ms ns q keys under = to_alike ms ns keys under q
 
 same_keyed : (i : ℕ) (vs ws : Items) (q : List ℕ) → SameItems vs ws → SameOption (look_up q (under_places i vs)) (look_up q (under_places i ws))
 same_keyed i no_items no_items q h = tt

@@ -7,7 +7,7 @@ use Rattle.std.specs.FinMap.{get, get-insert, get-remove, same_map, slice_cmp-Is
 use Rattle.std.proofs.lemmas.Cmp.{nat_list_cmp_total}
 use Rattle.store_laws.specs.Reading.{Documents}
 use Rattle.store_laws.specs.State.{State, list_of, listed, store}
-use Rattle.bson_meaning.proofs.Ordered.{equal_keys}
+use Rattle.bson_base.proofs.Members.{equal_keys}
 
 listed_if : (b : Bool) (ds : Documents) (o : Option Documents) → listed (cond b (Some ds) o) ≡ cond b ds (listed o)
 listed_if true ds o = refl

@@ -12,17 +12,18 @@ use Rattle.bson_model.specs.declared.extjson.ser.Mode.TheVariants.{Canonical}
 use Rattle.bson_frame.specs.Frame.{size_limit}
 use Rattle.bson_meaning.specs.Gate.{level_limit}
 use Rattle.bson_meaning.specs.JsonReserved.{has_reserved}
-use Rattle.bson_meaning.specs.Meaning.{Same}
+use Rattle.bson_meaning.specs.Meaning.{Same, SameOption}
 use Rattle.store_laws.specs.Reading.{Documents, Reading, readable, unreadable, IsRead, AreRead, IsReading, IsReadingKind, IsStop}
-use Rattle.store_laws.specs.Same.{SameDocuments, SameOption, SameReading, SameStop, SameCall, ReadsDocuments, SameReply}
+use Rattle.store_laws.specs.Same.{SameDocuments, SameReading, SameStop, SameCall, ReadsDocuments, SameReply}
 use Rattle.store_laws.specs.State.{id_key, Form, Call, insert, replace, set, unset, remove, get_raw, get_json, find, count, project, import, export, dump, Command, on, Reply, done, flag, number, bytes, bytes_list, refused, or_finite, tree_of, tree_reply, tree_first, trees_of, trees_reply, Refuses, refusal_of, or_later, first_refusal, Appends, only, PutsBack, Answers, IsCall}
 use Rattle.store_laws.specs.declared.error.ErrorKind.{ErrorKind}
 use Rattle.store_laws.specs.declared.error.ErrorKind.TheVariants.{BadKey, JsonRefused, TooDeep, Nul, TooLong, NotFound, DuplicateId, ReservedKey}
 use Rattle.bson_meaning.proofs.Canonical.{canonical, canonical_same, same_canonical}
 use Rattle.bson_meaning.proofs.JsonSame.{write_same, reserved_same}
 use Rattle.store_laws.proofs.Documents.{same_join, same_length, read_join, read_parts, taken_same, at_id_same, when_same, match_same, size_same, refusal_same, picks_same, picks_read, same_under}
-use Rattle.store_laws.proofs.Edits.{put_distinct, same_without, same_only, same_put}
+use Rattle.store_laws.proofs.Edits.{same_without, same_only, same_put}
 use Rattle.store_laws.proofs.Levels.{same_levels, set_distinct, set_read, set_plain, read_only}
+use Rattle.bson_base.proofs.Members.{put_distinct}
 
 -- what two answers have in common
 pub record Alike (c : Command) (r s : Reply) (ds es : Documents) : Type 0 where

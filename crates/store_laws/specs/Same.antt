@@ -1,9 +1,9 @@
 -- When states, commands and replies mean the same.
 use Rattle.std.specs.Prelude.{◌≡◌, ◌⊎◌, ℕ, List, [], ◌∷◌, map, Option, Some, None}
 use Rattle.std.specs.List.{flat_map}
-use Rattle.bson_base.specs.Value.{Value, document}
+use Rattle.bson_base.specs.Value.{document}
 use Rattle.bson_bytes.specs.Encode.{encode}
-use Rattle.bson_meaning.specs.Meaning.{Same}
+use Rattle.bson_meaning.specs.Meaning.{Same, SameOption}
 use Rattle.store_laws.specs.Filter.{SameFilter}
 use Rattle.store_laws.specs.Reading.{Documents, Reading, readable, unreadable, AreRead, IsReadingKind}
 use Rattle.store_laws.specs.State.{State, list_of, Call, insert, replace, set, unset, remove, get_raw, get_json, find, count, project, import, export, dump, Command, on, collections, Reply, done, flag, number, bytes, bytes_list, json, json_list, names, refused}
@@ -20,12 +20,6 @@ abbrev pub SameStates : State → State → Type 0
 SameStates s t = (n : List ℕ) → SameDocuments (list_of s n) (list_of t n)
 
 -- ---- commands
-
--- both are there and mean the same, or neither is there
-abbrev pub SameOption : Option Value → Option Value → Type 0
-SameOption None None = Unit {0}
-SameOption (Some v) (Some w) = Same v w
-SameOption _ _ = ⊥
 
 abbrev pub SameReading : Reading → Reading → Type 0
 SameReading (readable d) (readable e) = Same (document d) (document e)

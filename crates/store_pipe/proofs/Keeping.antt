@@ -3,7 +3,6 @@ use Rattle.std.proofs.Common.{◌≡◌, inl, inr, ℕ, List, [], ◌∷◌, ◌
 use Rattle.std.specs.Prelude.{IsSomeAnd, MatchOption, codes}
 use Rattle.sqlite.specs.State.{State, HasCleanDisk}
 use Rattle.bson_base.specs.Value.{Value, Members, look_up}
-use Rattle.bson_meaning.proofs.Ordered.{same_key}
 use Rattle.bson_table.specs.Rows.{Doc}
 use Rattle.bson_table.specs.Moves.{Moves, Stands}
 use Rattle.store_laws.specs.Reading.{Documents, Reading, readable, unreadable, ReadsBytes}
@@ -19,6 +18,7 @@ use Rattle.bson_store.specs.Shown.{Show}
 use Rattle.bson_store.specs.Calls.{DoesBytes}
 use Rattle.store_pipe.specs.Pipe.{KeepsInput, RefusesInput}
 use Rattle.store_pipe.proofs.Refusing.{input_refused}
+use Rattle.bson_base.proofs.Members.{same_key}
 
 -- the collection's name
 abbrev pub name : List ℕ

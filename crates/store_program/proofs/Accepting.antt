@@ -23,7 +23,7 @@ use Rattle.bson_store.specs.Dump.{HandsTrees}
 use Rattle.bson_store.specs.Export.{SendsCollection}
 use Rattle.bson_store.specs.Refusals.{reply_by}
 use Rattle.bson_store.specs.declared.error.StoreError.{StoreError}
-use Rattle.bson_store.proofs.Moving.{rests, moved, moved_twice}
+use Rattle.bson_store.proofs.Moving.{moved, moved_twice}
 use Rattle.bson_store.proofs.Serving.{stay}
 use Rattle.store_program.specs.Answers.{answer_by}
 use Rattle.store_program.specs.Execute.{Performs, Prints}
@@ -103,10 +103,6 @@ pub rows_stay : (a b : Table) (c : Command) (k : ErrorKind) (i : Option ℕ) →
 rows_stay a b c k i (o, (turn, follows, may)) = unmoved a b follows (turn_stays o a c k i (state_of b) turn)
 
 -- ---- commands of the program
-
--- the store was asked nothing
-pub unasked : (s : Connected) (Meant : Command → Type 0) (e : Stop) → Moves s s (Performs Meant (Err e))
-unasked s Meant e = rests s (Performs Meant (Err e)) (λ docs a shown. (a, shown, refl))
 
 -- a call of the store, as it was answered
 asked : {A : Type 0} (s t : Connected) (Meant : Command → Type 0) (c : Command) (f : A → Reply) (g : A → Answer) (outcome : Result A StoreError) → Meant c → ((x : A) → IsRefusal (f x) → ⊥)

@@ -1,10 +1,9 @@
 -- Bytes pass the gate or fail one of its tests: there is no third case.
-use Rattle.std.proofs.Common.{◌≡◌, ◌⊎◌, inl, inr, ℕ, zero, suc, ◌+◌, ◌-◌, ◌<◌, ◌≤◌, ◌^◌, List, [], ◌∷◌, ◌++◌, length, length-append, drop, get_or, Bool, true, false, Result, Ok, Err, refl, ap, sym, ◌∙◌, subst, arith}
+use Rattle.std.proofs.Common.{◌≡◌, ◌⊎◌, inl, inr, ℕ, zero, suc, ◌+◌, ◌-◌, ◌<◌, ◌≤◌, ◌^◌, List, [], ◌∷◌, ◌++◌, length, length-append, drop, get_or, Result, Ok, Err, refl, ap, sym, subst, arith}
 use Rattle.std.specs.Prelude.{IsUtf8, slice_index}
 use Rattle.std.specs.Str.{is_utf8}
-use Rattle.std.proofs.lemmas.Bool.{cases_lt, false≢true}
+use Rattle.std.proofs.lemmas.Bool.{cases_lt}
 use Rattle.std.proofs.lemmas.Bool.Decides.{eqb_tells}
-use Rattle.std.proofs.lemmas.Str.{IsUtf8-from_is_utf8, is_utf8-from_IsUtf8}
 use Rattle.bson_base.specs.declared.spec.ElementType.{ElementType}
 use Rattle.bson_base.specs.declared.spec.ElementType.TheVariants as kinds
 use Rattle.bson_base.specs.declared.spec.BinarySubtype.TheVariants as subtypes
@@ -14,9 +13,9 @@ use Rattle.bson_bytes.specs.Spells.{SpellsValue}
 use Rattle.bson_frame.specs.declared.error.ErrorKind.{ErrorKind}
 use Rattle.bson_frame.specs.declared.error.ErrorKind.TheVariants.{MalformedValue, Utf8EncodingError, OutOfMemory}
 use Rattle.bson_frame.specs.Frame.{number, IsTextSize, Element, IsFirstFrame, IsStructuralFault, size_limit}
-use Rattle.bson_frame.specs.Reader.{IsNeverWhole}
+use Rattle.bson_frame.specs.Reader.{IsNeverWhole, IsWhole}
 use Rattle.bson_frame.specs.Payload.{IsPayload, IsTextAt, text_in, IsEnvelope, IsNoText, IsOldMisfit, code_in, scope_in, CodeFault, IsPayloadFault, IsFaultless}
-use Rattle.bson_frame.proofs.Decisions.{frame_or_fault}
+use Rattle.bson_frame.proofs.Decisions.{frame_or_fault, text_or_never, utf8_by_test, WholeOrNever}
 use Rattle.bson_frame.proofs.Payloads.{payload_by_itself}
 use Rattle.bson_meaning.specs.Gate.{HoldsDocument, IsCounted, IsRefused, Passes, ReadsElements, ReadsPayload}
 use Rattle.bson_meaning.specs.declared.gating.GateError.{GateError}
@@ -27,26 +26,14 @@ use Rattle.bson_meaning.proofs.Progress.{Progress, progress_start, progress_more
 -- ---- payloads
 
 is_text : (bytes : List ℕ) → IsUtf8 bytes ⊎ (IsUtf8 bytes → ⊥)
-is_text bytes = by (is_utf8 bytes) refl
-  where
-    by : (b : Bool) → is_utf8 bytes ≡ b → IsUtf8 bytes ⊎ (IsUtf8 bytes → ⊥)
-    by true e = inl (IsUtf8-from_is_utf8 bytes e)
-    by false e = inr (λ u. absurd (false≢true (sym e ∙ is_utf8-from_IsUtf8 bytes u)))
+is_text bytes = utf8_by_test bytes (is_utf8 bytes) refl
 
 text_at : (bytes : List ℕ) → IsTextAt bytes ⊎ IsNeverWhole IsTextSize bytes
-text_at bytes = elim (cases_lt (number bytes) (2 ^ 31)) [
-  | inr big ↦ inr (λ size s le. absurd (omega (arith, big, s.fits)))
-  | inl fits ↦ elim (cases_lt (number bytes) 1) [
-    | inl none ↦ inr (λ size s le. absurd (omega (arith, none, s.some)))
-    | inr some ↦ elim (cases_lt (length bytes) (number bytes + 4)) [
-      | inl short ↦ inr (λ size s le. absurd (omega (arith, short, s.declared, le)))
-      | inr room ↦ elim (eqb_tells (get_or bytes (number bytes + 4 - 1) 0) 0) [
-        | inl same ↦ inl (record { declared = refl; fits = fits; some = some; ended = same.1 }, room)
-        | inr other ↦ inr (λ size s le. absurd (other.1 (subst (λ (k : ℕ). get_or bytes (k - 1) 0 ≡ 0) s.declared s.ended)))
-      ]
-    ]
-  ]
-]
+text_at bytes = by (text_or_never bytes)
+  where
+    by : WholeOrNever IsTextSize bytes → IsTextAt bytes ⊎ IsNeverWhole IsTextSize bytes
+    by (inl (size, s, le)) = inl (subst (IsWhole IsTextSize bytes) s.declared (s, le))
+    by (inr never) = inr never
 
 envelope : (bytes : List ℕ) → IsEnvelope bytes ⊎ (IsEnvelope bytes → ⊥)
 envelope bytes = elim (eqb_tells (length bytes) (number bytes)) [

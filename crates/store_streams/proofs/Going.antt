@@ -1,9 +1,9 @@
 -- From the answer for one document to those for many.
-use Rattle.std.proofs.Common.{◌≡◌, ◌⊎◌, inl, inr, ℕ, ◌<◌, List, ◌∷◌, ◌++◌, length, Option, Result, Ok, Err, Bor}
+use Rattle.std.proofs.Common.{◌≡◌, ◌⊎◌, inl, inr, ℕ, List, ◌∷◌, ◌++◌, Option, Result, Ok, Err, Bor}
 use Rattle.serde_json.specs.Data.{Data}
 use Rattle.bson_base.specs.Value.{Members}
 use Rattle.bson_meaning.specs.Gate.{IsCounted}
-use Rattle.store_laws.specs.Reading.{Documents, Reading, readable, unreadable, IsRead, ReadsBytes, ReadsTree, IsUncut, ReadsTrees}
+use Rattle.store_laws.specs.Reading.{Documents, Reading, readable, unreadable, IsRead, ReadsBytes, ReadsTree, ReadsTrees}
 use Rattle.store_laws.specs.declared.error.ErrorKind.{ErrorKind}
 use Rattle.store_laws.specs.declared.error.ErrorKind.TheVariants.{Memory}
 use Rattle.store_documents.specs.Bodies.{AnswersKept, AnswersWritten}
@@ -11,7 +11,7 @@ use Rattle.store_documents.specs.declared.write.Written.{Written}
 use Rattle.store_streams.specs.declared.error.StreamError.TheVariants as errors
 use Rattle.store_streams.specs.Judging.{AnswersFront, AnswersRow, Judges, RefusesFront, stream_refusal}
 use Rattle.store_streams.proofs.SoFar.{SoFar, so_far_refused, so_far_stopped}
-use Rattle.store_streams.proofs.Streams.{any_stream, any_trees, stream_more, stream_unread, stream_uncut, trees_more, trees_unread}
+use Rattle.store_streams.proofs.Streams.{any_stream, any_trees, stream_more, stream_unread, trees_more, trees_unread}
 
 -- ---- one document
 
@@ -42,10 +42,6 @@ pub front_refused : (bytes p rest : List ℕ) (k : ErrorKind) → bytes ≡ p ++
 front_refused bytes p rest Memory e counted h = tt
 front_refused bytes p rest _ e counted (inl h) = inl (stream_unread bytes p rest _ e counted h)
 front_refused bytes p rest _ e counted (inr (d, h, why)) = let s = any_stream rest in inr (d, s.0, s.1, stream_more bytes p rest d s.0 s.1 e counted h s.2, why)
-
-pub front_uncut : (bytes : List ℕ) (k : ErrorKind) → 0 < length bytes → IsUncut bytes k → AnswersFront bytes (Err k)
-front_uncut bytes Memory some h = tt
-front_uncut bytes _ some h = inl (stream_uncut bytes _ some h)
 
 -- ---- the first tree of a list
 

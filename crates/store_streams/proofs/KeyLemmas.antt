@@ -36,7 +36,3 @@ inserted x (y ∷ keys) k new = go (key_cmp x y) refl (λ absent. inserted x key
     go Less e more = rw e refl
     go Equal e more = absurd (let t = rw e at new in cc)
     go Greater e more = rw e (ap (λ b. here y || b) (more (let t = rw e at new in t)) ∙ or_swap (here y) (here x) (list_any here keys))
-
-pub was_absent : (b r : Bool) → r ≡ not b → r ≡ true → b ≡ false
-was_absent true r e t = absurd (cc)
-was_absent false r e t = refl

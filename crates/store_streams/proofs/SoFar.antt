@@ -22,9 +22,6 @@ pub record SoFar (Whole Rest : Documents → Option ErrorKind → Type 0) (rows 
   pub read : AreRead done
   pub are_rows : AreWrittenRows rows done
 
-pub so_far_start : (Whole : Documents → Option ErrorKind → Type 0) → SoFar Whole Whole [] 0
-so_far_start Whole = record { done = []; reads = λ more stop h. h; kept = λ more stop. refl; read = tt; are_rows = tt }
-
 rows_more : (rows : List Written) (done : Documents) (w : Written) (d : Members) → AreWrittenRows rows done → w.body.items ≡ encode d → w.key.items ≡ key (own_id d) → AreWrittenRows (rows ++ w ∷ []) (done ++ d ∷ [])
 rows_more [] [] w d h body is = (body, is, tt)
 rows_more (r ∷ rows) (e ∷ done) w d h body is = (h.0, h.1, rows_more rows done w d h.2 body is)

@@ -1,5 +1,5 @@
 -- Every input has a reading, and so has every stream and every list of trees; how readings grow at their front.
-use Rattle.std.proofs.Common.{◌≡◌, ◌⊎◌, inl, inr, ℕ, zero, suc, ◌<◌, ◌≤◌, List, [], ◌∷◌, ◌++◌, length, length-append, take, drop, Option, Some, None, refl, ap, sym, ◌∙◌, arith}
+use Rattle.std.proofs.Common.{◌≡◌, ◌⊎◌, inl, inr, ℕ, zero, suc, ◌≤◌, List, [], ◌∷◌, ◌++◌, length, length-append, take, drop, Option, Some, None, refl, ap, sym, ◌∙◌, arith}
 use Rattle.std.proofs.lemmas.Bool.{cases_lt}
 use Rattle.std.proofs.lemmas.List.{length-take-le, take-append-drop}
 use Rattle.serde_json.specs.Data.{Data}
@@ -87,9 +87,6 @@ any_trees js = any_each ReadsTree any_tree js None
 
 pub stream_end : (bytes : List ℕ) → bytes ≡ [] → ReadsStream bytes [] None
 stream_end bytes e = ([], None, e, (refl, refl))
-
-pub stream_uncut : (bytes : List ℕ) (k : ErrorKind) → 0 < length bytes → IsUncut bytes k → ReadsStream bytes [] (Some k)
-stream_uncut bytes k some h = ([], Some k, (some, h), (refl, refl))
 
 pub stream_unread : (bytes p rest : List ℕ) (k : ErrorKind) → bytes ≡ p ++ rest → IsCounted p → ReadsBytes p (unreadable k) → ReadsStream bytes [] (Some k)
 stream_unread bytes p rest k e counted h = let c = any_cut rest in (p ∷ c.0, c.1, (rest, e, counted, c.2), inl (k, h, refl, refl))

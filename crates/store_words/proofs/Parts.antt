@@ -6,7 +6,7 @@ use Rattle.std.proofs.KnownBytes.{Appends-trans}
 use Rattle.std.specs.Io.KnownBytes.{Appends}
 use Rattle.bson_base.specs.Device.{TakesBeginning}
 use Rattle.store_words.specs.Lines.{joined}
-use Rattle.store_words.proofs.Beginnings.{begun_first, begun_after}
+use Rattle.bson_base.proofs.Beginnings.{begun_first, begun_after}
 
 joined-append : (ps qs : List (Bor (List ℕ))) → joined (ps ++ qs) ≡ joined ps ++ joined qs
 joined-append [] qs = refl

@@ -1,8 +1,9 @@
-use Rattle.std.proofs.Common.{◌≡◌, ◌&&◌, ◌||◌, not, bytes_eq, true, false, ap, ap₂, ◌∙◌, is_eq, rules}
+use Rattle.std.proofs.Common.{◌≡◌, ◌&&◌, ◌||◌, not, bytes_eq, true, false, ap, ap₂, ◌∙◌, is_eq, rules, sym}
 use Rattle.std.specs.List.{list_any}
 use Rattle.bson_table.specs.Seen.{Pair, has_pair}
-use Rattle.bson_table.proofs.SeenLemmas.{pair_cmp, contains_is, and_swap, inserted, was_absent}
+use Rattle.bson_table.proofs.SeenLemmas.{pair_cmp, contains_is, and_swap, inserted}
 use Rattle.bson_table.proofs.check.meet.Goals as goal
+use Rattle.std.proofs.lemmas.Bool.{not-true}
 
 pub returns-clause-new : goal.returns-clause-new
 returns-clause-new c =
@@ -15,7 +16,7 @@ returns-clause-added c fresh coll idkey =
     let key : Pair = (c.in_ok-key.key, c.in_ok-name.name) in
     let keys = c.args.seen.now.keys in
     let is : c.in_ok-is_new.is_new ≡ true = search rules in
-    let absent : list_any (λ (y : Pair). is_eq (pair_cmp key y)) keys ≡ false = was_absent _ c.in_ok-is_new.is_new c.in_ok-is_new.ensures.added is in
+    let absent : list_any (λ (y : Pair). is_eq (pair_cmp key y)) keys ≡ false = not-true _ (sym c.in_ok-is_new.ensures.added ∙ is) in
     ap (λ ks. has_pair ks coll idkey) c.in_ok-is_new.ensures.keys ∙ inserted key keys coll idkey absent
     ∙ ap (λ b. b || has_pair keys coll idkey) (and_swap (bytes_eq idkey key.0.items) (bytes_eq coll key.1.items))
     ∙ ap₂ (λ a b. (bytes_eq coll a && bytes_eq idkey b) || has_pair keys coll idkey) c.in_ok-name.ensures.items c.in_ok-key.ensures.items

@@ -2,18 +2,19 @@ use Rattle.std.proofs.Common.{◌≡◌, ◌∙◌, ◌+◌, ◌++◌, length, a
 use Rattle.std.proofs.lemmas.List.{length-append}
 use Rattle.bson_base.specs.Decimal.{all_digits, value_after}
 use Rattle.bson_base.proofs.DecimalLemmas.{all_digits-both, below_last_power}
-use Rattle.bson_base.proofs.PrintedReads.{both, value_after-append}
+use Rattle.bson_base.proofs.PrintedReads.{value_after-append}
 use Rattle.bson_base.proofs.decimal128.digits.Digits.value.Goals as goal
+use Rattle.std.proofs.lemmas.Bool.{and_parts}
 
 pub value_after-front-requires-clause-all : goal.value_after-front-requires-clause-all
 value_after-front-requires-clause-all c =
     let whole = c.args.self.whole.now in let part = c.args.self.part.now in
-    (both (all_digits whole) (all_digits part) (sym (all_digits-both whole part) ∙ c.requires.all)).0
+    (and_parts (all_digits whole) (all_digits part) (sym (all_digits-both whole part) ∙ c.requires.all)).0
 
 pub value_after-requires-clause-all : goal.value_after-requires-clause-all
 value_after-requires-clause-all c =
     let whole = c.args.self.whole.now in let part = c.args.self.part.now in
-    (both (all_digits whole) (all_digits part) (sym (all_digits-both whole part) ∙ c.requires.all)).1
+    (and_parts (all_digits whole) (all_digits part) (sym (all_digits-both whole part) ∙ c.requires.all)).1
 
 pub returns-clause-value : goal.returns-clause-value
 returns-clause-value c =

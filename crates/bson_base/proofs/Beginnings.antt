@@ -4,7 +4,7 @@ use Rattle.std.proofs.lemmas.List.{take-append-le}
 use Rattle.std.proofs.Math.Seq.{take-append-add, take-append_seam}
 use Rattle.std.proofs.Math.Dec.{leb}
 use Rattle.std.proofs.lemmas.Bool.Decides.{leb_tells}
-use Rattle.std.proofs.KnownBytes.{Appends-nil, Appends-trans}
+use Rattle.std.proofs.KnownBytes.{Appends-trans}
 use Rattle.std.specs.Io.KnownBytes.{Appends}
 use Rattle.bson_base.specs.Device.{TakesBeginning}
 
@@ -20,7 +20,3 @@ begun_first a b xs ys (n, begun) = by (leb_tells n (length xs))
 pub begun_after : (a b c : Option (List ℕ)) (xs ys : List ℕ) → Appends a b xs → TakesBeginning b c ys → TakesBeginning a c (xs ++ ys)
 begun_after a b c xs ys first (n, begun) =
     (length xs + n, subst (Appends a c) (sym (take-append-add xs ys n)) (Appends-trans a b c xs (take n ys) first begun))
-
--- where nothing goes out, that is a beginning
-pub begun_none : (a : Option (List ℕ)) (xs : List ℕ) → TakesBeginning a a xs
-begun_none a xs = (0, Appends-nil a)
