@@ -221,199 +221,126 @@ impl RawBson {
     pub fn element_type(&self) -> ElementType
         ensures { result ≡ raw_kind (own_value self.now) }
     {
-        match self {
-            RawBson::Double(_) => ElementType::Double,
-            RawBson::String(_) => ElementType::String,
-            RawBson::Array(_) => ElementType::Array,
-            RawBson::Document(_) => ElementType::EmbeddedDocument,
-            RawBson::Boolean(_) => ElementType::Boolean,
-            RawBson::Null => ElementType::Null,
-            RawBson::RegularExpression(_) => ElementType::RegularExpression,
-            RawBson::JavaScriptCode(_) => ElementType::JavaScriptCode,
-            RawBson::JavaScriptCodeWithScope(_) => ElementType::JavaScriptCodeWithScope,
-            RawBson::Int32(_) => ElementType::Int32,
-            RawBson::Int64(_) => ElementType::Int64,
-            RawBson::Timestamp(_) => ElementType::Timestamp,
-            RawBson::Binary(_) => ElementType::Binary,
-            RawBson::ObjectId(_) => ElementType::ObjectId,
-            RawBson::DateTime(_) => ElementType::DateTime,
-            RawBson::Symbol(_) => ElementType::Symbol,
-            RawBson::Decimal128(_) => ElementType::Decimal128,
-            RawBson::Undefined => ElementType::Undefined,
-            RawBson::MaxKey => ElementType::MaxKey,
-            RawBson::MinKey => ElementType::MinKey,
-            RawBson::DbPointer(_) => ElementType::DbPointer,
-        }
+        self.as_raw_bson_ref().element_type()
     }
 
     /// The value, if it is a double.
     pub fn as_f64(&self) -> Option<DoubleBits>
         ensures { option_map (λ d. d.0) result ≡ of_leaf kinds.scalar_f64 (own_value self.now) }
     {
-        match self {
-            RawBson::Double(value) => Some(*value),
-            _ => None,
-        }
+        self.as_raw_bson_ref().as_f64()
     }
 
     /// The value, if it is a text.
     pub fn as_str(&self) -> Option<&str>
         ensures { option_map (λ s. s.now) result ≡ of_leaf kinds.scalar_str (own_value self.now) }
     {
-        match self {
-            RawBson::String(value) => Some(value.as_str()),
-            _ => None,
-        }
+        self.as_raw_bson_ref().as_str()
     }
 
     /// The value, if it is an array.
     pub fn as_array(&self) -> Option<RawArray<'_>>
         ensures { option_map array_bytes result ≡ array_in (own_value self.now) }
     {
-        match self {
-            RawBson::Array(value) => Some(value.as_ref()),
-            _ => None,
-        }
+        self.as_raw_bson_ref().as_array()
     }
 
     /// The value, if it is a document.
     pub fn as_document(&self) -> Option<RawDocument<'_>>
         ensures { option_map bytes_of result ≡ document_in (own_value self.now) }
     {
-        match self {
-            RawBson::Document(value) => Some(value.as_ref()),
-            _ => None,
-        }
+        self.as_raw_bson_ref().as_document()
     }
 
     /// The value, if it is a boolean.
     pub fn as_bool(&self) -> Option<bool>
         ensures { result ≡ of_leaf kinds.scalar_bool (own_value self.now) }
     {
-        match self {
-            RawBson::Boolean(value) => Some(*value),
-            _ => None,
-        }
+        self.as_raw_bson_ref().as_bool()
     }
 
     /// The value, if it is an integer of 32 bits.
     pub fn as_i32(&self) -> Option<i32>
         ensures { result ≡ of_leaf kinds.scalar_i32 (own_value self.now) }
     {
-        match self {
-            RawBson::Int32(value) => Some(*value),
-            _ => None,
-        }
+        self.as_raw_bson_ref().as_i32()
     }
 
     /// The value, if it is an integer of 64 bits.
     pub fn as_i64(&self) -> Option<i64>
         ensures { result ≡ of_leaf kinds.scalar_i64 (own_value self.now) }
     {
-        match self {
-            RawBson::Int64(value) => Some(*value),
-            _ => None,
-        }
+        self.as_raw_bson_ref().as_i64()
     }
 
     /// The value, if it is an object id.
     pub fn as_object_id(&self) -> Option<ObjectId>
         ensures { option_map id_bytes result ≡ of_leaf kinds.scalar_object_id (own_value self.now) }
     {
-        match self {
-            RawBson::ObjectId(value) => Some(*value),
-            _ => None,
-        }
+        self.as_raw_bson_ref().as_object_id()
     }
 
     /// The value, if it is a binary value.
     pub fn as_binary(&self) -> Option<RawBinaryRef<'_>>
         ensures { option_map (λ b. (b.subtype, b.bytes.now)) result ≡ of_leaf binary_in (own_value self.now) }
     {
-        match self {
-            RawBson::Binary(value) => Some(raw_binary_of(value)),
-            _ => None,
-        }
+        self.as_raw_bson_ref().as_binary()
     }
 
     /// The value, if it is a regular expression.
     pub fn as_regex(&self) -> Option<RawRegexRef<'_>>
         ensures { option_map (λ r. (r.pattern.now, r.options.now)) result ≡ of_leaf regex_in (own_value self.now) }
     {
-        match self {
-            RawBson::RegularExpression(value) => Some(regex_ref(value)),
-            _ => None,
-        }
+        self.as_raw_bson_ref().as_regex()
     }
 
     /// The value, if it is a moment.
     pub fn as_datetime(&self) -> Option<DateTime>
         ensures { option_map millis_of result ≡ of_leaf kinds.scalar_datetime (own_value self.now) }
     {
-        match self {
-            RawBson::DateTime(value) => Some(*value),
-            _ => None,
-        }
+        self.as_raw_bson_ref().as_datetime()
     }
 
     /// The value, if it is a symbol.
     pub fn as_symbol(&self) -> Option<&str>
         ensures { option_map (λ s. s.now) result ≡ of_leaf kinds.scalar_symbol (own_value self.now) }
     {
-        match self {
-            RawBson::Symbol(value) => Some(value.as_str()),
-            _ => None,
-        }
+        self.as_raw_bson_ref().as_symbol()
     }
 
     /// The value, if it is a timestamp.
     pub fn as_timestamp(&self) -> Option<Timestamp>
         ensures { option_map (λ t. (t.time, t.increment)) result ≡ of_leaf kinds.scalar_timestamp (own_value self.now) }
     {
-        match self {
-            RawBson::Timestamp(value) => Some(*value),
-            _ => None,
-        }
+        self.as_raw_bson_ref().as_timestamp()
     }
 
     /// Whether it is null.
     pub fn as_null(&self) -> Option<()>
         ensures { result ≡ of_leaf null_in (own_value self.now) }
     {
-        match self {
-            RawBson::Null => Some(()),
-            _ => None,
-        }
+        self.as_raw_bson_ref().as_null()
     }
 
     /// The value, if it is a pointer.
     pub fn as_db_pointer(&self) -> Option<RawDbPointerRef<'_>>
         ensures { option_map (λ p. (p.namespace.now, id_bytes p.id)) result ≡ of_leaf kinds.scalar_db_pointer (own_value self.now) }
     {
-        match self {
-            RawBson::DbPointer(value) => Some(pointer_ref(value)),
-            _ => None,
-        }
+        self.as_raw_bson_ref().as_db_pointer()
     }
 
     /// The value, if it is code without a scope.
     pub fn as_javascript(&self) -> Option<&str>
         ensures { option_map (λ s. s.now) result ≡ of_leaf code_scalar (own_value self.now) }
     {
-        match self {
-            RawBson::JavaScriptCode(value) => Some(value.as_str()),
-            _ => None,
-        }
+        self.as_raw_bson_ref().as_javascript()
     }
 
     /// The value, if it is code with a scope.
     pub fn as_javascript_with_scope(&self) -> Option<RawJavaScriptCodeWithScopeRef<'_>>
         ensures { option_map (λ c. (c.code.now, bytes_of c.scope)) result ≡ scoped_in (own_value self.now) }
     {
-        match self {
-            RawBson::JavaScriptCodeWithScope(value) => Some(value.as_ref()),
-            _ => None,
-        }
+        self.as_raw_bson_ref().as_javascript_with_scope()
     }
 
     /// The array, if it is one, to be written to.
