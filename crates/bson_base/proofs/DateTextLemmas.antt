@@ -1,13 +1,13 @@
 -- A moment has one date text, the one that is found by counting.
-use Rattle.std.proofs.Common.{◌≡◌, ℕ, zero, suc, ◌+◌, ◌-◌, ◌*◌, ◌<◌, ◌≤◌, ℤ, pos, ◌+ℤ◌, ◌-ℤ◌, ◌*ℤ◌, ◌<ℤ◌, ◌≤ℤ◌, Bool, true, false, List, refl, sym, ap, ◌∙◌, arith}
-use Rattle.std.specs.Prelude.{int_lt, int_le, unsigned_abs, if◌then◌else◌, ◌&&◌}
+use Rattle.std.proofs.Common.{◌≡◌, ℕ, zero, suc, ◌+◌, ◌-◌, ◌*◌, ◌<◌, ◌≤◌, ℤ, pos, ◌+ℤ◌, ◌-ℤ◌, ◌*ℤ◌, ◌<ℤ◌, ◌≤ℤ◌, Bool, true, false, List, refl, sym, ap, ◌∙◌, true≢false, arith}
+use Rattle.std.specs.Prelude.{int_lt, unsigned_abs, if◌then◌else◌}
 use Rattle.std.specs.Fmt.{signed_decimal}
 use Rattle.std.proofs.lemmas.Int.{by_lt_z}
 use Rattle.jiff_core.specs.Calendar.{days_from_civil, day_count, IsCivilDate}
 use Rattle.jiff_core.proofs.SignedLemmas.{signed_arith}
 use Rattle.jiff_core.proofs.CalendarLemmas.{day_count-day, day_count-day_of_year, day_count-lt_month, day_count-lt_year, days_from_civil-day_count, days_in_month_bounds}
-use Rattle.bson_base.specs.DateText.{IsDateText, IsShownDate, moment_text}
-use Rattle.bson_base.specs.Dates.{month_start, year_from, month_from, text_within, text_in_month, text_in_year, date_text, has_date_text, shown_date}
+use Rattle.bson_base.specs.DateText.{IsDateText, IsShownDate, has_date_text, moment_text}
+use Rattle.bson_base.specs.Dates.{month_start, year_from, month_from, text_within, text_in_month, text_in_year, date_text, shown_date}
 
 -- the moment z lies in that month of that year
 record LiesIn (y m : ℕ) (z : ℤ) : Type 0 where
@@ -110,25 +110,9 @@ date_text-is z t d =
     let h : LiesIn d.year d.month z = record { day = d.day; clock = d.clock; civil = d.civil; within = d.within; at = d.at } in
     d.reads ∙ sym (the_text d.year d.month z h)
 
-both_le : (a b c d : ℤ) → (int_le a b && int_le c d) ≡ true → (a ≤ℤ b) × (c ≤ℤ d)
-both_le a b c d e = by (int_le a b) refl (int_le c d) refl e
-  where
-    by : (p : Bool) → int_le a b ≡ p → (q : Bool) → int_le c d ≡ q → (p && q) ≡ true → (a ≤ℤ b) × (c ≤ℤ d)
-    by true e true f h = (omega (arith, signed_arith), omega (arith, signed_arith))
-    by true e false f h = absurd (cc)
-    by false e q f h = absurd (cc)
-
-not_both : (a b c d : ℤ) → (int_le a b && int_le c d) ≡ false → ¬ ((a ≤ℤ b) × (c ≤ℤ d))
-not_both a b c d e h = by (int_le a b) refl (int_le c d) refl e
-  where
-    by : (p : Bool) → int_le a b ≡ p → (q : Bool) → int_le c d ≡ q → (p && q) ≡ false → ⊥
-    by true e true f h = cc
-    by true e false f k = omega (arith, signed_arith, h.1)
-    by false e q f k = omega (arith, signed_arith, h.0)
-
 pub shown_date-is : (z : ℤ) (t : List ℕ) → IsShownDate z t → t ≡ shown_date z
 shown_date-is z t h = by (has_date_text z) refl
   where
     by : (b : Bool) → has_date_text z ≡ b → t ≡ if b then date_text z else signed_decimal z
-    by true e = date_text-is z t (h.date (both_le _ _ _ _ e))
-    by false e = h.number (not_both _ _ _ _ e)
+    by true e = date_text-is z t (h.date e)
+    by false e = h.number (λ t. absurd (true≢false (sym t ∙ e)))

@@ -6,9 +6,9 @@ use Rattle.std.specs.Char.{is_ascii_digit, digit_value, to_ascii_lowercase}
 use Rattle.std.specs.Fmt.{decimal}
 use Rattle.std.proofs.lemmas.Fmt.{decimal_by_steps_wide, length-decimal-le_wide}
 use Rattle.std.specs.Prelude.{IsTrue}
-use Rattle.bson_base.specs.Answer.{result_map}
+use Rattle.bson_base.specs.Answer.{◌>>=◌, result_map}
 use Rattle.bson_base.proofs.DecimalBits.{unpack-pack}
-use Rattle.bson_base.specs.Decimal.{Decimal, not_a_number, infinity, finite, is_finite, IsUnpacked, pack, unpack, cut, is_e, is_dot, all_digits, value_after, value, strip, upward, downward, read_exponent, checked_digits, read_coefficient, ◌>>=◌, shorten, in_range, with_places, read_cut, read_number, read_unsigned_decimal, read, print, with_dot, exponent_text, is_plain, digits_text}
+use Rattle.bson_base.specs.Decimal.{Decimal, not_a_number, infinity, finite, is_finite, IsUnpacked, pack, unpack, cut, is_e, is_dot, all_digits, value_after, value, strip, upward, downward, read_exponent, checked_digits, read_coefficient, shorten, in_range, with_places, read_cut, read_number, read_unsigned_decimal, read, print, with_dot, exponent_text, is_plain, digits_text}
 
 -- ---- digits one after another
 

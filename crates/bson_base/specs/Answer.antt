@@ -5,3 +5,9 @@ use Rattle.std.specs.Prelude.{Result, Ok, Err}
 abbrev pub result_map : {X Y E : Type 0} → (X → Y) → Result X E → Result Y E
 result_map view (Ok x) = Ok (view x)
 result_map view (Err e) = Err e
+
+-- the next step of the value, where there is one
+infixl 10 ◌>>=◌
+abbrev pub ◌>>=◌ : {X Y E : Type 0} → Result X E → (X → Result Y E) → Result Y E
+(Ok x) >>= f = f x
+(Err e) >>= f = Err e

@@ -1,5 +1,5 @@
 -- The text of a moment (RFC 3339, section 5.6), against the proleptic Gregorian calendar.
-use Rattle.std.specs.Prelude.{◌≡◌, ℕ, ◌+◌, ◌*◌, ◌/◌, ◌%◌, ◌==◌, ◌&&◌, ◌||◌, ◌<◌, nat_lt, nat_le, Bool, if◌then◌else◌, ℤ, pos, neg_ℤ, unsigned_abs, ◌+ℤ◌, ◌-ℤ◌, ◌*ℤ◌, ◌≤ℤ◌, int_div, List, [], ◌∷◌, ◌++◌, Option, Some, None, Result, Ok, Err, IsOk}
+use Rattle.std.specs.Prelude.{◌≡◌, ℕ, ◌+◌, ◌*◌, ◌/◌, ◌%◌, ◌==◌, ◌&&◌, ◌||◌, ◌<◌, nat_lt, nat_le, Bool, if◌then◌else◌, ℤ, pos, neg_ℤ, unsigned_abs, ◌+ℤ◌, ◌-ℤ◌, ◌*ℤ◌, ◌≤ℤ◌, int_div, int_le, IsTrue, List, [], ◌∷◌, ◌++◌, Option, Some, None, Result, Ok, Err, IsOk}
 use Rattle.std.specs.Char.{is_ascii_digit, digit_value}
 use Rattle.std.specs.Fmt.{signed_decimal, HasWrittenStyled, IsFlush}
 use Rattle.std.specs.declared.fmt.Formatter.{Formatter}
@@ -57,13 +57,14 @@ first_text = neg_ℤ (pos 62_167_219_200_000)
 abbrev pub last_text : ℤ
 last_text = pos 253_402_300_799_999
 
-abbrev pub HasDateText : ℤ → Type 0
-HasDateText z = (first_text ≤ℤ z) × (z ≤ℤ last_text)
+-- from 0000-01-01T00:00:00Z to 9999-12-31T23:59:59.999Z
+abbrev pub has_date_text : ℤ → Bool
+has_date_text z = int_le first_text z && int_le z last_text
 
 -- what Display writes: the date text, or the milliseconds where there is none
 pub record IsShownDate (millis : ℤ) (text : List ℕ) : Type 0 where
-  pub date : HasDateText millis → IsDateText millis text
-  pub number : ¬ HasDateText millis → text ≡ signed_decimal millis
+  pub date : IsTrue (has_date_text millis) → IsDateText millis text
+  pub number : ¬ IsTrue (has_date_text millis) → text ≡ signed_decimal millis
 
 -- the formatter g is f after writing that, whatever options f has
 abbrev pub WritesDate : {W : Type 0} → (W → List ℕ → W → Type 0) → Formatter W → Result (Unit {0}) FormatError → ℤ → Formatter W → Type 0

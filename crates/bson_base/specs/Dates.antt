@@ -1,9 +1,9 @@
 -- The date text of a moment (RFC 3339, section 5.6) as a function of its milliseconds: year and month are counted on from the
 -- first of January of the year 0, until the next one would begin after the moment.
-use Rattle.std.specs.Prelude.{ℕ, zero, suc, ◌+◌, ◌/◌, ◌%◌, ℤ, pos, ◌*ℤ◌, ◌-ℤ◌, unsigned_abs, int_lt, int_le, ◌&&◌, Bool, if◌then◌else◌, List}
+use Rattle.std.specs.Prelude.{ℕ, zero, suc, ◌+◌, ◌/◌, ◌%◌, ℤ, pos, ◌*ℤ◌, ◌-ℤ◌, unsigned_abs, int_lt, if◌then◌else◌, List}
 use Rattle.std.specs.Fmt.{signed_decimal}
 use Rattle.jiff_core.specs.Calendar.{days_from_civil}
-use Rattle.bson_base.specs.DateText.{first_text, last_text, moment_text}
+use Rattle.bson_base.specs.DateText.{has_date_text, moment_text}
 
 -- the milliseconds at which a month begins
 unfoldable pub month_start : ℕ → ℕ → ℤ
@@ -32,10 +32,6 @@ text_in_year y z = text_in_month y (month_from 11 y 1 z) z
 -- the text, of a moment of the years 0 to 9999
 unfoldable pub date_text : ℤ → List ℕ
 date_text z = text_in_year (year_from 9999 0 z) z
-
--- from 0000-01-01T00:00:00Z to 9999-12-31T23:59:59.999Z
-abbrev pub has_date_text : ℤ → Bool
-has_date_text z = int_le first_text z && int_le z last_text
 
 -- what Display writes: the date text, or the milliseconds where there is none
 abbrev pub shown_date : ℤ → List ℕ

@@ -4,7 +4,7 @@ use Rattle.std.specs.Prelude.{ℕ, zero, suc, ◌+◌, ◌-◌, ◌*◌, ◌/◌
 use Rattle.std.specs.Char.{is_ascii_digit, digit_value}
 use Rattle.std.specs.Fmt.{decimal}
 use Rattle.std.specs.Str.{bytes_eq, str_to_ascii_lowercase}
-use Rattle.bson_base.specs.Answer.{result_map}
+use Rattle.bson_base.specs.Answer.{◌>>=◌, result_map}
 use Rattle.bson_base.specs.declared.decimal128.ParseError.{ParseError}
 use Rattle.bson_base.specs.declared.decimal128.ParseError.TheVariants.{EmptyExponent, InvalidExponent, InvalidCoefficient, Overflow, Underflow, InexactRounding}
 
@@ -162,11 +162,6 @@ abbrev pub strip : List ℕ → List ℕ
 strip [] = []
 strip (c ∷ []) = c ∷ []
 strip (c ∷ d ∷ ds) = if c == 48 then strip (d ∷ ds) else c ∷ d ∷ ds
-
-infixl 10 ◌>>=◌
-abbrev pub ◌>>=◌ : {A B : Type 0} → Result A ParseError → (A → Result B ParseError) → Result B ParseError
-(Ok x) >>= f = f x
-(Err e) >>= f = Err e
 
 -- the exponent: digits up to 32767, or below zero up to 32768
 

@@ -5,9 +5,9 @@ use Rattle.std.proofs.lemmas.List.{drop_all}
 use Rattle.bson_base.specs.declared.spec.ElementType.{ElementType}
 use Rattle.bson_base.specs.Value.{Value, value_kind, HasDistinctKeys}
 use Rattle.bson_meaning.specs.Meaning.{Same}
-use Rattle.bson_meaning.specs.Views.{ShowsValue}
 use Rattle.bson_raw.specs.declared.bson_ref.RawBsonRef.{RawBsonRef}
-use Rattle.bson_raw.specs.ReadValue.{kind_of}
+use Rattle.bson_raw.specs.Convert.{SpellsRawValue}
+use Rattle.bson_raw.specs.Raw.{raw_kind, ref_value}
 use Rattle.bson_filter.specs.declared.filter.Filter.{Filter}
 use Rattle.bson_filter.specs.Filters.{filter_of, tests_of}
 use Rattle.bson_filter.specs.Views.{ComesBack, Finds}
@@ -22,13 +22,13 @@ asked_found b P o v e h = subst (λ (x : Option Value). IsTrue b ↔ IsSomeAnd x
 pub asked_nothing : (P : Value → Type 0) (o : Option Value) → o ≡ None → IsTrue false ↔ IsSomeAnd o P
 asked_nothing P o e = subst (λ (x : Option Value). IsTrue false ↔ IsSomeAnd x P) (sym e) (λ h. absurd cc, λ h. absurd h)
 
-pub means_same : (b : Bool) (raw : RawBsonRef) (d w : Value) (path : Path) → ComesBack d → Finds (Some raw) (at d path) → ((v : Value) → ShowsValue raw v → HasDistinctKeys v → IsTrue b ↔ Same v w)
+pub means_same : (b : Bool) (raw : RawBsonRef) (d w : Value) (path : Path) → ComesBack d → Finds (Some raw) (at d path) → ((v : Value) → SpellsRawValue (ref_value raw) v → HasDistinctKeys v → IsTrue b ↔ Same v w)
     → IsTrue b ↔ IsSomeAnd (at d path) (λ v. Same v w)
 means_same b raw d w path back f told =
     let there = at_back path d f.0 back f.1 in
     asked_found b (λ v. Same v w) (at d path) f.0 f.1 (told f.0 (shows raw f.0 f.2 there) there.sound.distinct)
 
-pub kind_asked : (b : Bool) (raw : RawBsonRef) (d : Value) (path : Path) (k kind : ElementType) → Finds (Some raw) (at d path) → k ≡ kind_of raw → (IsTrue b ↔ (k ≡ kind)) → IsTrue b ↔ IsSomeAnd (at d path) (λ v. value_kind v ≡ kind)
+pub kind_asked : (b : Bool) (raw : RawBsonRef) (d : Value) (path : Path) (k kind : ElementType) → Finds (Some raw) (at d path) → k ≡ raw_kind (ref_value raw) → (IsTrue b ↔ (k ≡ kind)) → IsTrue b ↔ IsSomeAnd (at d path) (λ v. value_kind v ≡ kind)
 kind_asked b raw d path k kind f is told =
     let e : k ≡ value_kind f.0 = is ∙ kind_shown raw f.0 f.2 in
     asked_found b (λ v. value_kind v ≡ kind) (at d path) f.0 f.1 (λ t. sym e ∙ told.0 t, λ t. told.1 (e ∙ t))

@@ -11,13 +11,14 @@ use Rattle.bson_frame.specs.declared.error.ErrorKind.TheVariants.{MalformedValue
 use Rattle.bson_frame.specs.View.{IsBare}
 use Rattle.bson_frame.specs.Frame.{Element}
 use Rattle.bson_frame.specs.Payload.{scope_in, IsEnvelope, IsPayload, IsPayloadFault}
-use Rattle.bson_meaning.specs.Views.{ShowsValue}
 use Rattle.bson_meaning.proofs.Viewing.{payload_shown, no_payload_fault}
 use Rattle.bson_raw.specs.declared.bson_ref.RawBsonRef.{RawBsonRef}
 use Rattle.bson_raw.specs.declared.bson_ref.RawBsonRef.TheVariants as views
 use Rattle.bson_raw.specs.declared.document.RawDocument.{RawDocument}
 use Rattle.bson_raw.specs.declared.array.RawArray.{RawArray}
-use Rattle.bson_raw.specs.ReadValue.{kind_of, Holds, IsValue, as_array}
+use Rattle.bson_raw.specs.Convert.{SpellsRawValue}
+use Rattle.bson_raw.specs.Raw.{raw_kind, ref_value}
+use Rattle.bson_raw.specs.ReadValue.{Holds, IsValue, as_array}
 use Rattle.bson_raw.specs.View.{bytes_of, array_bytes}
 use Rattle.bson_filter.specs.Views.{Encodes, ComesBack, HoldsPairs, IsWrittenFor}
 use Rattle.bson_filter.proofs.Members.{array_bytes_pairs}
@@ -25,7 +26,7 @@ use Rattle.store_laws.specs.Filter.{pairs}
 
 -- ---- what a view of a written payload is
 
-held : (raw : RawBsonRef) (v : Value) (payload : List ℕ) → ShowsValue raw v → Holds payload raw → payload ≡ value_bytes v → value_size v < 2 ^ 31 → Encodes raw v
+held : (raw : RawBsonRef) (v : Value) (payload : List ℕ) → SpellsRawValue (ref_value raw) v → Holds payload (ref_value raw) → payload ≡ value_bytes v → value_size v < 2 ^ 31 → Encodes raw v
 held (views.Array x) v payload s h w short = (s.0, s.2, h ∙ w ∙ ap value_bytes s.2)
 held (views.Document x) v payload s h w short = (s.0, s.2, h ∙ w ∙ ap value_bytes s.2)
 held (views.JavaScriptCodeWithScope x) v payload s h w short =
@@ -44,7 +45,7 @@ faultless e v kind w b f = no_payload_fault e v kind (sym w.kind) (spelled e v w
 
 -- ---- what a view of a value shows
 
-pub shows : (raw : RawBsonRef) (v : Value) → Encodes raw v → ComesBack v → ShowsValue raw v
+pub shows : (raw : RawBsonRef) (v : Value) → Encodes raw v → ComesBack v → SpellsRawValue (ref_value raw) v
 shows (views.Array x) v h b =
     let inside : SpellsValue (value_bytes (array h.0)) (array h.0) = subst (λ (u : Value). SpellsValue (value_bytes u) u) h.1 (spelled_value v b.clean b.sound.ranged b.short) in
     (h.0, subst (λ (y : List ℕ). SpellsItems (drop 4 y) h.0) (sym h.2) inside, h.1)
@@ -59,7 +60,7 @@ shows (views.JavaScriptCodeWithScope x) v h b =
     (h.0, subst (λ (y : List ℕ). SpellsMembers (drop 4 y) h.0) scope inside.2, h.1)
 shows raw v h b = h
 
-pub kind_shown : (raw : RawBsonRef) (v : Value) → Encodes raw v → kind_of raw ≡ value_kind v
+pub kind_shown : (raw : RawBsonRef) (v : Value) → Encodes raw v → raw_kind (ref_value raw) ≡ value_kind v
 kind_shown (views.Array x) v h = sym (ap value_kind h.1)
 kind_shown (views.Document x) v h = sym (ap value_kind h.1)
 kind_shown (views.JavaScriptCodeWithScope x) v h = sym (ap value_kind h.1)

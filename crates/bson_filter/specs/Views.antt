@@ -4,7 +4,7 @@ use Rattle.bson_base.specs.Kinds.{IsClean, IsSound}
 use Rattle.bson_base.specs.Value.{Value, scalar, array, document, scoped_code, Items, Members, no_members, member, value_kind}
 use Rattle.bson_bytes.specs.Encode.{encode, value_bytes, value_size}
 use Rattle.bson_frame.specs.Frame.{Element, IsCstring}
-use Rattle.bson_meaning.specs.Views.{shown}
+use Rattle.bson_meaning.specs.Views.{view_scalar}
 use Rattle.bson_raw.specs.View.{bytes_of, array_bytes, parts_of}
 use Rattle.bson_raw.specs.declared.bson_ref.RawBsonRef.{RawBsonRef}
 use Rattle.bson_raw.specs.declared.bson_ref.RawBsonRef.TheVariants as views
@@ -17,7 +17,7 @@ abbrev pub Encodes : RawBsonRef → Value → Type 0
 Encodes (views.Array x) v = (vs : Items) × (v ≡ array vs) × (array_bytes x ≡ value_bytes (array vs))
 Encodes (views.Document x) v = (ms : Members) × (v ≡ document ms) × (bytes_of x ≡ encode ms)
 Encodes (views.JavaScriptCodeWithScope x) v = (ms : Members) × (v ≡ scoped_code x.code.now ms) × (bytes_of x.scope ≡ encode ms)
-Encodes raw v = v ≡ scalar (shown raw)
+Encodes raw v = v ≡ scalar (view_scalar raw)
 
 -- what is said of the document that the bytes are the written form of
 abbrev pub OfWritten : List ℕ → (Members → Type 0) → Type 0

@@ -15,24 +15,24 @@ use Rattle.bson_frame.specs.declared.error.ErrorKind.TheVariants.{MalformedValue
 use Rattle.bson_model.specs.Keyed.{Key, ascending}
 use Rattle.bson_model.specs.View.{view, items_of, members_of}
 use Rattle.bson_model.specs.declared.bson.Bson.{Bson}
-use Rattle.bson_meaning.proofs.Canonical.{canonical, canonical_items, canonical_members}
+use Rattle.bson_meaning.specs.Meaning.{norm_members_in_order, norm_items_in_order, norm_in_order}
 use Rattle.bson_meaning.proofs.Comparing.{kind_kept}
-use Rattle.bson_meaning.proofs.InTurn.{each, canonical_ascending}
+use Rattle.bson_meaning.proofs.InTurn.{each, in_order_ascending}
 
-pub kind_of_canonical : (v : Value) → value_kind (canonical v) ≡ value_kind v
-kind_of_canonical (scalar s) = kind_kept s
-kind_of_canonical (array vs) = refl
-kind_of_canonical (document ms) = refl
-kind_of_canonical (scoped_code t ms) = refl
+pub kind_of_in_order : (v : Value) → value_kind (norm_in_order v) ≡ value_kind v
+kind_of_in_order (scalar s) = kind_kept s
+kind_of_in_order (array vs) = refl
+kind_of_in_order (document ms) = refl
+kind_of_in_order (scoped_code t ms) = refl
 
 -- nothing is written yet
-pub members_begin : (ps rest : List (Key × Value)) (out : List ℕ) → rest ≡ ascending ps → MembersTo (canonical_members (members_of ps)) (each canonical (members_of rest)) out out
-members_begin ps rest out e = subst (λ ms. MembersTo (canonical_members (members_of ps)) ms out out) is start
+pub members_begin : (ps rest : List (Key × Value)) (out : List ℕ) → rest ≡ ascending ps → MembersTo (norm_members_in_order (members_of ps)) (each norm_in_order (members_of rest)) out out
+members_begin ps rest out e = subst (λ ms. MembersTo (norm_members_in_order (members_of ps)) ms out out) is start
   where
-    is : canonical_members (members_of ps) ≡ each canonical (members_of rest)
-    is = canonical_ascending ps ∙ ap (λ qs. each canonical (members_of qs)) (sym e)
+    is : norm_members_in_order (members_of ps) ≡ each norm_in_order (members_of rest)
+    is = in_order_ascending ps ∙ ap (λ qs. each norm_in_order (members_of qs)) (sym e)
 
-    start : MembersTo (canonical_members (members_of ps)) (canonical_members (members_of ps)) out out
+    start : MembersTo (norm_members_in_order (members_of ps)) (norm_members_in_order (members_of ps)) out out
     start = record {
       written = refl;
       forth = λ h. h;
@@ -42,9 +42,9 @@ members_begin ps rest out e = subst (λ ms. MembersTo (canonical_members (member
     }
 
 -- the first of the items that are left, taken out
-pub next_item : (whole : Items) (xs : List Bson) (i : ℕ) (b : Bson) (begun out : List ℕ) → i < length xs → b ≡ get_or xs i b → ItemsTo whole i (canonical_items (items_of (map view (drop i xs)))) begun out
-    → ItemsTo whole i (item (canonical (view b)) (canonical_items (items_of (map view (drop (i + 1) xs))))) begun out
-next_item whole xs i b begun out h is to = subst (λ vs. ItemsTo whole i vs begun out) (ap canonical_items (items_from xs i b h is)) to
+pub next_item : (whole : Items) (xs : List Bson) (i : ℕ) (b : Bson) (begun out : List ℕ) → i < length xs → b ≡ get_or xs i b → ItemsTo whole i (norm_items_in_order (items_of (map view (drop i xs)))) begun out
+    → ItemsTo whole i (item (norm_in_order (view b)) (norm_items_in_order (items_of (map view (drop (i + 1) xs))))) begun out
+next_item whole xs i b begun out h is to = subst (λ vs. ItemsTo whole i vs begun out) (ap norm_items_in_order (items_from xs i b h is)) to
 
 -- one element behind what was begun
 pub one_element : (begun front out k : List ℕ) (v : Value) (kind : ElementType) → kind ≡ value_kind v → front ≡ begun ++ tag_byte kind ∷ ended k → out ≡ front ++ value_bytes v

@@ -12,8 +12,7 @@ use Rattle.bson_model.specs.Equal.{SameKeys}
 use Rattle.bson_model.specs.Keyed.{Key, ascending}
 use Rattle.bson_model.specs.View.{members_of}
 use Rattle.bson_model.proofs.DistinctLemmas.{none_there}
-use Rattle.bson_meaning.specs.Meaning.{place, Same, SameUnder, SameOption}
-use Rattle.bson_meaning.proofs.Canonical.{canonical, canonical_members}
+use Rattle.bson_meaning.specs.Meaning.{norm_members_in_order, norm_in_order, place, Same, SameUnder, SameOption}
 use Rattle.bson_meaning.proofs.Ordered.{Order, tied, turned, look_up-place, AllAbove, IsAscending, above_more, ascending_place, none_above}
 use Rattle.bson_base.proofs.Members.{equal_keys, same_key, headed, later, found_under}
 
@@ -80,13 +79,13 @@ place_changed f k v (member l w ms) = by (place_changed f k v ms) (Order k l)
     by more Equal = refl
     by more Greater = ap (member l (f w)) more
 
-canonical_up : (ms : Members) → canonical_members ms ≡ each canonical (up ms)
-canonical_up no_members = refl
-canonical_up (member k v ms) = ap (place k (canonical v)) (canonical_up ms) ∙ place_changed canonical k v (up ms)
+in_order_up : (ms : Members) → norm_members_in_order ms ≡ each norm_in_order (up ms)
+in_order_up no_members = refl
+in_order_up (member k v ms) = ap (place k (norm_in_order v)) (in_order_up ms) ∙ place_changed norm_in_order k v (up ms)
 
 -- the normal form with its keys ascending, pair by pair
-pub canonical_ascending : (ps : List (Key × Value)) → canonical_members (members_of ps) ≡ each canonical (members_of (ascending ps))
-canonical_ascending ps = canonical_up (members_of ps) ∙ ap (each canonical) (sym (up_members ps))
+pub in_order_ascending : (ps : List (Key × Value)) → norm_members_in_order (members_of ps) ≡ each norm_in_order (members_of (ascending ps))
+in_order_ascending ps = in_order_up (members_of ps) ∙ ap (each norm_in_order) (sym (up_members ps))
 
 -- ---- the same meaning under each key
 

@@ -25,13 +25,13 @@ are_taken (suc n) [] h = tt
 are_taken (suc n) (x ∷ xs) h = (h.0, are_taken n xs h.1)
 
 -- a symbol's value, or none
-abbrev Tells : List ℕ → Type 0
-Tells dec = (x : ℕ) → (slice_index dec x ≡ 255) ⊎ (slice_index dec x < 64)
+abbrev IsDecodeTable : List ℕ → Type 0
+IsDecodeTable dec = (x : ℕ) → (slice_index dec x ≡ 255) ⊎ (slice_index dec x < 64)
 
 group_ranged : (a b c d : ℕ) → a < 64 → b < 64 → c < 64 → d < 64 → AreBytes (decode_group a b c d)
 group_ranged a b c d h i j k = (omega arith, (omega arith, (omega arith, tt)))
 
-symbol_low : (dec s : List ℕ) (i : ℕ) → Tells dec → symbol_error dec s i ≡ None → slice_index dec (slice_index s i) < 64
+symbol_low : (dec s : List ℕ) (i : ℕ) → IsDecodeTable dec → symbol_error dec s i ≡ None → slice_index dec (slice_index s i) < 64
 symbol_low dec s i t e = elim (t (slice_index s i)) [
   | inl bad ↦
       let b : (slice_index dec (slice_index s i) == 255) ≡ true = eq-eqb (slice_index dec (slice_index s i)) 255 bad in
@@ -43,14 +43,14 @@ no_error : (x y : Option DecodeError) → or_else x y ≡ None → (x ≡ None) 
 no_error None y e = (refl, e)
 no_error (Some x) y e = cc
 
-group_low : (dec s : List ℕ) (i : ℕ) → Tells dec → group_error dec s i ≡ None → AreBytes (group_bytes dec s i)
+group_low : (dec s : List ℕ) (i : ℕ) → IsDecodeTable dec → group_error dec s i ≡ None → AreBytes (group_bytes dec s i)
 group_low dec s i t e =
     let a = no_error (symbol_error dec s i) (or_else (symbol_error dec s (i + 1)) (or_else (symbol_error dec s (i + 2)) (symbol_error dec s (i + 3)))) e in
     let b = no_error (symbol_error dec s (i + 1)) (or_else (symbol_error dec s (i + 2)) (symbol_error dec s (i + 3))) a.1 in
     let c = no_error (symbol_error dec s (i + 2)) (symbol_error dec s (i + 3)) b.1 in
     group_ranged _ _ _ _ (symbol_low dec s i t a.0) (symbol_low dec s (i + 1) t b.0) (symbol_low dec s (i + 2) t c.0) (symbol_low dec s (i + 3) t c.1)
 
-groups_low : (dec s : List ℕ) (q : ℕ) → Tells dec → groups_error dec s q ≡ None → AreBytes (groups_bytes dec s q)
+groups_low : (dec s : List ℕ) (q : ℕ) → IsDecodeTable dec → groups_error dec s q ≡ None → AreBytes (groups_bytes dec s q)
 unfolding groups_error groups_bytes
 groups_low dec s zero t e = tt
 groups_low dec s (suc q) t e =
@@ -80,7 +80,7 @@ last_low enc dec pad at s inv bytes short =
       | Err x ↦ λ e. tt
     ] refl
 
-decoded_low : (enc dec : List ℕ) (pad : ℕ) (allow : Bool) (mode : DecodePaddingMode) (s : List ℕ) → is_inverse enc dec ≡ true → Tells dec → IsBytes s → decode_error dec pad allow mode s ≡ None → AreBytes (decoded_bytes dec pad s)
+decoded_low : (enc dec : List ℕ) (pad : ℕ) (allow : Bool) (mode : DecodePaddingMode) (s : List ℕ) → is_inverse enc dec ≡ true → IsDecodeTable dec → IsBytes s → decode_error dec pad allow mode s ≡ None → AreBytes (decoded_bytes dec pad s)
 decoded_low enc dec pad allow mode s inv t bytes e =
     let q = groups_before_last (length s) in
     let a = no_error (lone_error dec pad s) (or_else (groups_error dec s q) (suffix_error dec pad allow mode (4 * q) s)) e in
@@ -122,7 +122,7 @@ standard_long = refl
 standard_inverse : is_inverse standard.encode_table standard.decode_table ≡ true
 standard_inverse = are_tables_inverse standard.encode_table standard.decode_table standard.padding.value standard.tables
 
-standard_tells : Tells standard.decode_table
+standard_tells : IsDecodeTable standard.decode_table
 standard_tells x = elim (cases_lt x 256) [
   | inl lt ↦ IsDecodeTable_from standard.encode_table standard.decode_table standard_inverse x lt
   | inr past ↦ inr (let z : slice_index standard.decode_table x ≡ 0 = get_or_past standard.decode_table x 0 (omega (arith, standard_long)) in omega arith)

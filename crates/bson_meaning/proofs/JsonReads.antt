@@ -16,7 +16,8 @@ use Rattle.bson_base.specs.Tags.{subtype_of, subtype_byte}
 use Rattle.bson_base.specs.Value.{Scalar, double, string, binary, undefined, object_id, boolean, date_time, null, regex, db_pointer, code, symbol, int32, timestamp, int64, decimal, max_key, min_key, Value, scalar, array, document, scoped_code, Items, no_items, item, Members, no_members, member, look_up, levels, items_levels, members_levels, EachPart, EachItem, EachMember, HasDistinctKeys, ItemsHaveDistinctKeys, MembersHaveDistinctKeys}
 use Rattle.bson_base.proofs.DecimalBits.{unpack_is}
 use Rattle.bson_model.specs.JsonKeys.{any_reserved, is_reserved, reserved_of, of_decimal, of_double}
-use Rattle.bson_model.specs.JsonRead.{read, read_items, read_members, read_typed, scalar_of, wanted, accepted, accepted_id, base64_body, below_32, ◌>>=◌}
+use Rattle.bson_base.specs.Answer.{◌>>=◌}
+use Rattle.bson_model.specs.JsonRead.{read, read_items, read_members, read_typed, scalar_of, wanted, accepted, accepted_id, base64_body, below_32}
 use Rattle.bson_model.specs.JsonRead as reading
 use Rattle.bson_model.specs.JsonTexts.{double_of}
 use Rattle.bson_model.specs.JsonWrite.{double_text, wrapped_text, with_scope, write, write_binary, write_date, write_id, write_integer, write_items, write_members, write_pointer, write_regex, write_scalar, write_timestamp}
@@ -24,8 +25,8 @@ use Rattle.bson_model.specs.JsonKeys.{of_int, of_long}
 use Rattle.bson_model.specs.declared.extjson.de.Error.{Error}
 use Rattle.bson_model.specs.declared.extjson.ser.Mode.TheVariants.{Canonical}
 use Rattle.bson_meaning.specs.JsonReserved.{some_reserved, reserved_in, reserved_in_items, has_reserved}
-use Rattle.bson_meaning.specs.Meaning.{normal_double, normal_decimal, normal_scalar, norm_members, place, Same}
-use Rattle.bson_meaning.proofs.Canonical.{canonical, canonical_items, canonical_members, look_up-canonical, same_canonical}
+use Rattle.bson_meaning.specs.Meaning.{norm_members_in_order, norm_items_in_order, norm_in_order, norm_members, normal_double, normal_decimal, normal_scalar, place, Same}
+use Rattle.bson_meaning.proofs.NormInOrder.{look_up-in_order, same_in_order}
 use Rattle.bson_meaning.proofs.Decimals.{normal_decimal_twice}
 use Rattle.bson_meaning.proofs.JsonReadBack.{byte_back, id_back, long_back, int_back, decimal_back, base64_back, zero_back, negative_zero_back, infinity_back, negative_infinity_back, nan_back, negative_nan_back}
 use Rattle.bson_meaning.proofs.JsonSame.{quiet, or_turned, or_twice, write_same}
@@ -155,11 +156,11 @@ read_double t n e = ap (λ r. scalar_of (r >>= λ x. Ok (double x))) e
 pub record Comes (j : Data) (v : Value) : Type 0 where
   pub value : Value
   pub reads : read j ≡ Ok value
-  pub same : canonical value ≡ canonical v
+  pub same : norm_in_order value ≡ norm_in_order v
   pub plain : IsPlain v → IsPlain value
   pub deep : levels value ≤ levels v
 
-came : (i j : Data) (v u : Value) → i ≡ j → read i ≡ Ok u → canonical u ≡ canonical v → (IsPlain v → IsPlain u) → levels u ≤ levels v → Comes j v
+came : (i j : Data) (v u : Value) → i ≡ j → read i ≡ Ok u → norm_in_order u ≡ norm_in_order v → (IsPlain v → IsPlain u) → levels u ≤ levels v → Comes j v
 came i j v u q r s p l = record { value = u; reads = subst (λ z. read z ≡ Ok u) q r; same = s; plain = p; deep = l }
 
 alone : (i j : Data) (s t : Scalar) → Some i ≡ Some j → read i ≡ Ok (scalar t) → normal_scalar t ≡ normal_scalar s → (IsPlainScalar s → IsPlainScalar t) → Comes j (scalar s)
@@ -285,12 +286,12 @@ pub chosen : (f : Value → Value) (b : Bool) (v : Value) (o : Option Value) →
 chosen f true v o = refl
 chosen f false v o = refl
 
-look_up-placed : (q k : List ℕ) (u : Value) (ns : Members) → look_up q (canonical_members (place k u ns)) ≡ cond (bytes_eq q k) (Some (canonical u)) (look_up q (canonical_members ns))
-look_up-placed q k u ns = look_up-canonical q (place k u ns) ∙ ap (option_map canonical) (look_up-place q k u ns) ∙ chosen canonical (bytes_eq q k) u (look_up q ns)
-    ∙ sym (ap (cond (bytes_eq q k) (Some (canonical u))) (look_up-canonical q ns))
+look_up-placed : (q k : List ℕ) (u : Value) (ns : Members) → look_up q (norm_members_in_order (place k u ns)) ≡ cond (bytes_eq q k) (Some (norm_in_order u)) (look_up q (norm_members_in_order ns))
+look_up-placed q k u ns = look_up-in_order q (place k u ns) ∙ ap (option_map norm_in_order) (look_up-place q k u ns) ∙ chosen norm_in_order (bytes_eq q k) u (look_up q ns)
+    ∙ sym (ap (cond (bytes_eq q k) (Some (norm_in_order u))) (look_up-in_order q ns))
 
-none_there : (q k : List ℕ) (ms : Members) → look_up k ms ≡ None → bytes_eq q k ≡ true → look_up q (canonical_members ms) ≡ None
-none_there q k ms h e = subst (λ z. look_up z (canonical_members ms) ≡ None) (sym (equal_keys q k e)) (look_up-canonical k ms ∙ ap (option_map canonical) h)
+none_there : (q k : List ℕ) (ms : Members) → look_up k ms ≡ None → bytes_eq q k ≡ true → look_up q (norm_members_in_order ms) ≡ None
+none_there q k ms h e = subst (λ z. look_up z (norm_members_in_order ms) ≡ None) (sym (equal_keys q k e)) (look_up-in_order k ms ∙ ap (option_map norm_in_order) h)
 
 pub raised : {m n : ℕ} → m ≤ n → suc m ≤ suc n
 raised h = omega arith
@@ -300,7 +301,7 @@ raised h = omega arith
 pub record ItemsCome (js : tree.Items) (vs : Items) : Type 0 where
   pub values : Items
   pub reads : read_items js ≡ Ok values
-  pub same : canonical_items values ≡ canonical_items vs
+  pub same : norm_items_in_order values ≡ norm_items_in_order vs
   pub plain : IsPlain (array vs) → IsPlain (array values)
   pub deep : items_levels values ≤ items_levels vs
 
@@ -308,7 +309,7 @@ pub record ItemsCome (js : tree.Items) (vs : Items) : Type 0 where
 pub record MembersCome (js : tree.Members) (ms ns : Members) : Type 0 where
   pub values : Members
   pub reads : read_members js ≡ Ok values
-  pub same : (q : List ℕ) → look_up q (canonical_members values) ≡ over (look_up q (canonical_members ms)) (look_up q (canonical_members ns))
+  pub same : (q : List ℕ) → look_up q (norm_members_in_order values) ≡ over (look_up q (norm_members_in_order ms)) (look_up q (norm_members_in_order ns))
   pub plain : IsPlain (document ms) → IsPlain (document ns) → IsPlain (document values)
   pub deep : members_levels values ≤ max (members_levels ms) (members_levels ns)
 
@@ -316,7 +317,7 @@ pub record MembersCome (js : tree.Members) (ms ns : Members) : Type 0 where
 pub record AllCome (js : tree.Members) (ms : Members) : Type 0 where
   pub values : Members
   pub reads : read_members js ≡ Ok values
-  pub same : canonical_members values ≡ canonical_members ms
+  pub same : norm_members_in_order values ≡ norm_members_in_order ms
   pub plain : IsPlain (document ms) → IsPlain (document values)
   pub deep : members_levels values ≤ members_levels ms
 
@@ -324,7 +325,7 @@ all_come : (js : tree.Members) (ms : Members) → MembersCome js ms no_members �
 all_come js ms c = record {
   values = c.values;
   reads = c.reads;
-  same = same_members _ _ (ascending_asc (norm_members c.values)) (ascending_asc (norm_members ms)) (λ q. c.same q ∙ over_none (look_up q (canonical_members ms)));
+  same = same_members _ _ (ascending_asc (norm_members c.values)) (ascending_asc (norm_members ms)) (λ q. c.same q ∙ over_none (look_up q (norm_members_in_order ms)));
   plain = λ p. c.plain p tt;
   deep = omega (arith, c.deep);
 }
@@ -373,8 +374,8 @@ mutual
       let n = or_parts (reserved_in v) (reserved_in_items vs) r in
       let a = value_comes K v h.0 d.0 n.0 t.first t.here in
       let b = items_come K vs h.1 d.1 n.1 u.from u.here in
-      let p : canonical a.value ≡ canonical v = a.same in
-      let q : canonical_items b.values ≡ canonical_items vs = b.same in
+      let p : norm_in_order a.value ≡ norm_in_order v = a.same in
+      let q : norm_items_in_order b.values ≡ norm_items_in_order vs = b.same in
       subst (λ z. ItemsCome z (item v vs)) u.to (record { values = item a.value b.values; reads = item_reads t.first u.from a.value b.values a.reads b.reads; same = cc; plain = λ p. (a.plain p.0, b.plain p.1); deep = omega (arith, a.deep, b.deep) })
 
   pub members_come : (K : List ℕ → Type 0) (ms : Members) → EachMember K IsRangedScalar ms → MembersHaveDistinctKeys ms → has_reserved ms ≡ false
@@ -389,9 +390,9 @@ mutual
       record {
         values = b.values;
         reads = b.reads;
-        same = λ q. b.same q ∙ ap (over (look_up q (canonical_members ms))) (look_up-placed q k a.value ns ∙ ap (λ u. cond (bytes_eq q k) (Some u) (look_up q (canonical_members ns))) a.same)
-            ∙ over_turned (bytes_eq q k) (canonical v) (look_up q (canonical_members ms)) (look_up q (canonical_members ns)) (none_there q k ms d.0)
-            ∙ ap (λ o. over o (look_up q (canonical_members ns))) (sym (look_up-place q k (canonical v) (canonical_members ms)));
+        same = λ q. b.same q ∙ ap (over (look_up q (norm_members_in_order ms))) (look_up-placed q k a.value ns ∙ ap (λ u. cond (bytes_eq q k) (Some u) (look_up q (norm_members_in_order ns))) a.same)
+            ∙ over_turned (bytes_eq q k) (norm_in_order v) (look_up q (norm_members_in_order ms)) (look_up q (norm_members_in_order ns)) (none_there q k ms d.0)
+            ∙ ap (λ o. over o (look_up q (norm_members_in_order ns))) (sym (look_up-place q k (norm_in_order v) (norm_members_in_order ms)));
         plain = λ p s. b.plain p.2 (place_each HasNo00 IsPlainScalar k a.value ns p.0 (a.plain p.1) s);
         deep = omega (arith, levels_place k a.value ns, a.deep, b.deep);
       }
@@ -412,7 +413,7 @@ trees_tell d e s t r q j a b =
     let i = canonical_comes e t q n.from n.here in
     let o : Ok c.values ≡ Ok i.values = sym c.reads ∙ ap read_members g ∙ i.reads in
     let k : c.values ≡ i.values = cc in
-    same_canonical (document d) (document e) s.distinct (ap document (sym c.same ∙ ap canonical_members k ∙ i.same))
+    same_in_order (document d) (document e) s.distinct (ap document (sym c.same ∙ ap norm_members_in_order k ∙ i.same))
 
 pub trees_exactly : (d e : Members) (i j : Data) → IsSound (document d) → IsSound (document e) → has_reserved d ≡ false → has_reserved e ≡ false
     → write Canonical (document d) ≡ Some i → write Canonical (document e) ≡ Some j → (i ≡ j) ↔ Same (document d) (document e)

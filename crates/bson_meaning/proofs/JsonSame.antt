@@ -13,12 +13,12 @@ use Rattle.bson_base.specs.Kinds.{IsRangedScalar, IsSound}
 use Rattle.bson_base.specs.Tags.{subtype_byte}
 use Rattle.bson_base.specs.Value.{Scalar, double, binary, regex, decimal, Value, scalar, array, document, scoped_code, Items, no_items, item, Members, no_members, member, look_up, EachPart, EachItem, EachMember, HasDistinctKeys, ItemsHaveDistinctKeys, MembersHaveDistinctKeys}
 use Rattle.bson_base.proofs.DecimalBits.{unpack_is, unpack-pack}
-use Rattle.bson_model.specs.JsonKeys.{is_reserved, of_decimal, of_double, of_regex, two}
+use Rattle.bson_model.specs.JsonKeys.{is_reserved, of_decimal, of_double, of_regex, object_of_two}
 use Rattle.bson_model.specs.JsonWrite.{double_text, wrapped_text, with_scope, write, write_binary, write_items, write_members, write_scalar, wrapped}
 use Rattle.bson_model.specs.declared.extjson.ser.Mode.{Mode}
 use Rattle.bson_meaning.specs.JsonReserved.{some_reserved, reserved_in, reserved_in_items, has_reserved}
-use Rattle.bson_meaning.specs.Meaning.{normal_double, normal_decimal, normal_scalar, norm, norm_items, norm_members, place, asc, asc_items, asc_members, Same}
-use Rattle.bson_meaning.proofs.Canonical.{canonical_same}
+use Rattle.bson_meaning.specs.Meaning.{norm_members_in_order, asc, asc_items, asc_members, norm, norm_items, norm_members, normal_double, normal_decimal, normal_scalar, place, Same}
+use Rattle.bson_meaning.proofs.NormInOrder.{in_order_same}
 use Rattle.bson_meaning.proofs.Normal.{norm_distinct}
 use Rattle.bson_meaning.proofs.NormalScalars.{sorted_text_twice}
 use Rattle.bson_meaning.proofs.Ordered.{Order, tied, turned, look_up-asc}
@@ -55,7 +55,7 @@ unpack_again bs =
     ap unpack (number_again 16 (pack d) (pack_low d u)) ∙ unpack-pack d u
 
 abbrev regex_tree : List ℕ → List ℕ → Data
-regex_tree p t = wrapped of_regex (two (codes "options") (tree.string t) (codes "pattern") (tree.string p))
+regex_tree p t = wrapped of_regex (object_of_two (codes "options") (tree.string t) (codes "pattern") (tree.string p))
 
 pub write_normal : (m : Mode) (s : Scalar) → IsRangedScalar s → write_scalar m (normal_scalar s) ≡ write_scalar m s
 write_normal m (double n) h = ap (option_map (wrapped_text of_double)) (double_again n)
@@ -174,7 +174,7 @@ mutual
       ∙ then_alike (write m v) _ _ (λ j. write_asc_members m ms h.2 (tree.put k j found))
 
 pub write_same : (m : Mode) (v w : Value) → IsSound v → IsSound w → Same v w → write m v ≡ write m w
-write_same m v w s t h = sym (write_asc m (norm v) (norm_distinct v s.distinct) ∙ write_norm m _ v s.ranged) ∙ ap (write m) (canonical_same v w h)
+write_same m v w s t h = sym (write_asc m (norm v) (norm_distinct v s.distinct) ∙ write_norm m _ v s.ranged) ∙ ap (write m) (in_order_same v w h)
     ∙ write_asc m (norm w) (norm_distinct w t.distinct) ∙ write_norm m _ w t.ranged
 
 -- ---- reserved keys
@@ -248,7 +248,7 @@ mutual
 
 pub reserved_same : (d e : Members) → IsSound (document d) → IsSound (document e) → Same (document d) (document e) → has_reserved d ≡ has_reserved e
 reserved_same d e s t h =
-    let i : document (asc_members (norm_members d)) ≡ document (asc_members (norm_members e)) = canonical_same (document d) (document e) h in
-    let j : asc_members (norm_members d) ≡ asc_members (norm_members e) = cc in
+    let i : document (norm_members_in_order d) ≡ document (norm_members_in_order e) = in_order_same (document d) (document e) h in
+    let j : norm_members_in_order d ≡ norm_members_in_order e = cc in
     sym (reserved_asc_members (norm_members d) (norm_distinct (document d) s.distinct) ∙ reserved_norm_members d) ∙ ap has_reserved j
     ∙ reserved_asc_members (norm_members e) (norm_distinct (document e) t.distinct) ∙ reserved_norm_members e

@@ -16,12 +16,13 @@ use Rattle.bson_base.specs.ScalarTexts.{read_uuid}
 use Rattle.bson_base.specs.Tags.{subtype_of}
 use Rattle.bson_base.specs.Value.{Scalar, undefined, int32, int64, max_key, min_key, Value, scalar, document, Items, no_items, Members, no_members, look_up, EachPart, EachItem, EachMember, HasDistinctKeys, ItemsHaveDistinctKeys, MembersHaveDistinctKeys}
 use Rattle.bson_model.specs.JsonKeys.{Reserved, any_reserved, key_of, reserved_of, scope_key, of_id, of_symbol, of_regex, of_int, of_long, of_double, of_decimal, of_binary, of_uuid, of_code, of_timestamp, of_date, of_min, of_max, of_pointer, of_undefined}
-use Rattle.bson_model.specs.JsonRead.{◌>>=◌, accepted, text_of, single, under, bodies_under, bodies_in, below_32, u32_of, is_one, is_true, integer, whole, id_body, regex_body, int_body, long_body, double_body, decimal_body, base64_body, byte_body, binary_body, uuid_body, timestamp_body, read_date_body, pointer_body, constant, read_body, read_wrapped, code_and_scope, read, read_items, read_members, read_typed, read_scope}
+use Rattle.bson_base.specs.Answer.{◌>>=◌}
+use Rattle.bson_model.specs.JsonRead.{accepted, text_of, single, under, bodies_under, bodies_in, below_32, u32_of, is_one, is_true, integer, whole, id_body, regex_body, int_body, long_body, double_body, decimal_body, base64_body, byte_body, binary_body, uuid_body, timestamp_body, read_date_body, pointer_body, constant, read_body, read_wrapped, code_and_scope, read, read_items, read_members, read_typed, read_scope}
 use Rattle.bson_model.specs.JsonTexts.{fits_32, int_of, long_of, byte_of}
 use Rattle.bson_model.specs.declared.extjson.de.Error.{Error}
 use Rattle.bson_model.specs.declared.extjson.de.Error.TheVariants.{DeserializationError}
 use Rattle.bson_meaning.specs.JsonTrees.{LacksKey, IsJson, AreJson, IsJsonObject}
-use Rattle.bson_meaning.specs.Meaning.{norm_members, asc_members}
+use Rattle.bson_meaning.specs.Meaning.{norm_members_in_order, norm_members}
 use Rattle.bson_meaning.proofs.JsonBase64.{base64_ranged}
 use Rattle.bson_meaning.proofs.JsonDates.{date_ranged}
 use Rattle.bson_meaning.proofs.JsonRanges.{id_ranged, int_ranged, long_ranged, double_ranged, byte_ranged, sixteen_ranged}
@@ -255,13 +256,13 @@ document_sound js e h r = let f = fine_members js e h r in record { ranged = f.0
 
 -- ---- the document that is kept
 
-pub kept_sound : (d : Members) → IsSound (document d) → IsSound (document (asc_members (norm_members d)))
+pub kept_sound : (d : Members) → IsSound (document d) → IsSound (document (norm_members_in_order d))
 kept_sound d s = record {
   ranged = asc_each IsUtf8 IsRangedScalar (document (norm_members d)) (norm_each IsUtf8 IsUtf8 IsRangedScalar IsRangedScalar (λ k h. h) normal_scalar_ranged (document d) s.ranged);
   distinct = asc_distinct (document (norm_members d));
 }
 
-pub kept_clean : (d : Members) → IsPlain (document d) → IsSound (document d) → IsClean (document (asc_members (norm_members d)))
+pub kept_clean : (d : Members) → IsPlain (document d) → IsSound (document d) → IsClean (document (norm_members_in_order d))
 kept_clean d p s =
     let all = both_each HasNo00 IsUtf8 IsPlainScalar IsRangedScalar (document d) p s.ranged in
     let normal = norm_each (λ k. HasNo00 k × IsUtf8 k) HasNo00 (λ s. IsPlainScalar s × IsRangedScalar s) (λ s. IsPlainScalar s × IsCleanScalar s) (λ k h. h.0)

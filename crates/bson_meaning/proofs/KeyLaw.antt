@@ -13,9 +13,9 @@ use Rattle.bson_bytes.proofs.Lengths.{encode_length}
 use Rattle.bson_bytes.proofs.Told.{bytes_tell}
 use Rattle.bson_model.specs.Equal as equality
 use Rattle.bson_model.specs.Equal.{EqualItems, EqualUnder}
-use Rattle.bson_meaning.specs.Meaning.{normal_scalar, norm, norm_members, place, asc, asc_items, asc_members, key, Same, SameItems, SameUnder}
+use Rattle.bson_meaning.specs.Meaning.{norm_members_in_order, asc, asc_items, asc_members, norm, norm_members, normal_scalar, place, key, Same, SameItems, SameUnder}
 use Rattle.bson_meaning.proofs.Ordered.{IsAscending, ascending_asc, none_above}
-use Rattle.bson_meaning.proofs.Canonical.{canonical_members, canonical_same, same_canonical, some_and_map}
+use Rattle.bson_meaning.proofs.NormInOrder.{in_order_same, same_in_order, some_and_map}
 use Rattle.bson_meaning.proofs.Normal.{normal_scalar_ranged, normal_scalar_plain, normal_scalar_clean, norm_each, asc_each, both_each, norm_distinct, norm_distinct_members, asc_members_size, norm_members_size, norm_twice, IsSized}
 use Rattle.bson_bytes.proofs.Meant.{IsGoodKey}
 
@@ -55,55 +55,55 @@ mutual
 
 -- ---- what a key is written of
 
-canonical_clean : (d : Members) → IsPlain (document d) → IsSound (document d) → IsClean (document (canonical_members d))
-canonical_clean d p s =
+in_order_clean : (d : Members) → IsPlain (document d) → IsSound (document d) → IsClean (document (norm_members_in_order d))
+in_order_clean d p s =
     let both = both_each HasNo00 IsUtf8 IsPlainScalar IsRangedScalar (document d) p s.ranged in
     let normal = norm_each IsGoodKey HasNo00 (λ s. IsPlainScalar s × IsRangedScalar s) (λ s. IsPlainScalar s × IsCleanScalar s) (λ k h. h.0)
     (λ s h. (normal_scalar_plain s h.1 h.0, normal_scalar_clean s h.1)) (document d) both in
     asc_each HasNo00 (λ s. IsPlainScalar s × IsCleanScalar s) (document (norm_members d)) normal
 
-canonical_sound : (d : Members) → IsSound (document d) → IsSound (document (canonical_members d))
-canonical_sound d s = record {
+in_order_sound : (d : Members) → IsSound (document d) → IsSound (document (norm_members_in_order d))
+in_order_sound d s = record {
   ranged = asc_each IsUtf8 IsRangedScalar (document (norm_members d)) (norm_each IsUtf8 IsUtf8 IsRangedScalar IsRangedScalar (λ k h. h) normal_scalar_ranged (document d) s.ranged);
   distinct = asc_distinct (document (norm_members d));
 }
 
-pub canonical_plain : (d : Members) → IsPlain (document d) → IsSound (document d) → IsPlain (document (canonical_members d))
-canonical_plain d p s =
+pub in_order_plain : (d : Members) → IsPlain (document d) → IsSound (document d) → IsPlain (document (norm_members_in_order d))
+in_order_plain d p s =
     let both = both_each HasNo00 IsUtf8 IsPlainScalar IsRangedScalar (document d) p s.ranged in
     asc_each HasNo00 IsPlainScalar (document (norm_members d)) (norm_each IsGoodKey HasNo00 (λ s. IsPlainScalar s × IsRangedScalar s) IsPlainScalar (λ k h. h.0) (λ s h. normal_scalar_plain s h.1 h.0) (document d) both)
 
 pub key_law : (d e : Members) → IsPlain (document d) → IsSound (document d) → IsPlain (document e) → IsSound (document e)
     → length (key d) ≤ 2147483647 → length (key e) ≤ 2147483647 → (key d ≡ key e) ↔ Same (document d) (document e)
 key_law d e p s q t m n =
-    let a : size (canonical_members d) < 2 ^ 31 = omega (arith, encode_length (canonical_members d)) in
-    let b : size (canonical_members e) < 2 ^ 31 = omega (arith, encode_length (canonical_members e)) in (
-      λ k. same_canonical (document d) (document e) s.distinct (ap document (bytes_tell (canonical_members d) (canonical_members e) [] [] (canonical_clean d p s) (canonical_sound d s)
-          (canonical_clean e q t) (canonical_sound e t) a b (ap (λ x. x ++ []) k)).0),
-      λ h. let i : document (canonical_members d) ≡ document (canonical_members e) = canonical_same (document d) (document e) h in
-          let j : canonical_members d ≡ canonical_members e = cc in ap encode j,
+    let a : size (norm_members_in_order d) < 2 ^ 31 = omega (arith, encode_length (norm_members_in_order d)) in
+    let b : size (norm_members_in_order e) < 2 ^ 31 = omega (arith, encode_length (norm_members_in_order e)) in (
+      λ k. same_in_order (document d) (document e) s.distinct (ap document (bytes_tell (norm_members_in_order d) (norm_members_in_order e) [] [] (in_order_clean d p s) (in_order_sound d s)
+          (in_order_clean e q t) (in_order_sound e t) a b (ap (λ x. x ++ []) k)).0),
+      λ h. let i : document (norm_members_in_order d) ≡ document (norm_members_in_order e) = in_order_same (document d) (document e) h in
+          let j : norm_members_in_order d ≡ norm_members_in_order e = cc in ap encode j,
     )
 
 -- ---- an equivalence
 
 pub same_itself : (v : Value) → IsSound v → Same v v
-same_itself v s = same_canonical v v s.distinct refl
+same_itself v s = same_in_order v v s.distinct refl
 
 pub same_back : (v w : Value) → IsSound w → Same v w → Same w v
-same_back v w t h = same_canonical w v t.distinct (sym (canonical_same v w h))
+same_back v w t h = same_in_order w v t.distinct (sym (in_order_same v w h))
 
 pub same_on : (u v w : Value) → IsSound u → Same u v → Same v w → Same u w
-same_on u v w r h k = same_canonical u w r.distinct (canonical_same u v h ∙ canonical_same v w k)
+same_on u v w r h k = same_in_order u w r.distinct (in_order_same u v h ∙ in_order_same v w k)
 
 pub twice : (v : Value) → IsSound v → norm (norm v) ≡ norm v
 twice v s = norm_twice IsUtf8 v s.ranged
 
 pub same_norm : (v : Value) → IsSound v → Same (norm v) v
-same_norm v s = same_canonical (norm v) v (norm_distinct v s.distinct) (ap asc (twice v s))
+same_norm v s = same_in_order (norm v) v (norm_distinct v s.distinct) (ap asc (twice v s))
 
 -- ---- sizes
 
-pub key_size : (d : Members) → IsClean (document d) → IsSound (document d) → size (asc_members (norm_members d)) ≡ size d
+pub key_size : (d : Members) → IsClean (document d) → IsSound (document d) → size (norm_members_in_order d) ≡ size d
 key_size d c s =
     let whole : EachMember IsGoodKey IsSized d = both_each HasNo00 IsUtf8 (λ s. IsPlainScalar s × IsCleanScalar s) IsRangedScalar (document d) c s.ranged in
     ap (λ n. n + 5) (asc_members_size (norm_members d) (norm_distinct_members d s.distinct) ∙ norm_members_size IsGoodKey d whole)
@@ -129,7 +129,7 @@ mutual
 
 -- a key has as many bytes as the normal form, whose keys are in some order
 pub key_length : (d : Members) → IsSound (document d) → length (key d) ≡ size (norm_members d)
-key_length d s = encode_length (canonical_members d) ∙ ap (λ n. n + 5) (asc_members_size (norm_members d) (norm_distinct_members d s.distinct))
+key_length d s = encode_length (norm_members_in_order d) ∙ ap (λ n. n + 5) (asc_members_size (norm_members d) (norm_distinct_members d s.distinct))
 
 pub key_exceeds : (d : Members) → IsSound (document d) → 2147483647 < size (norm_members d) → 2147483647 < length (key d)
 key_exceeds d s h = omega (arith, key_length d s, h)
@@ -139,16 +139,16 @@ key_within d s h = omega (arith, key_length d s, h)
 
 -- ---- keys that can be written
 
-pub key_fits : (d m : Members) → m ≡ canonical_members d → CanBeWritten (document m) → length (key d) ≤ 2147483647
+pub key_fits : (d m : Members) → m ≡ norm_members_in_order d → CanBeWritten (document m) → length (key d) ≤ 2147483647
 key_fits d m e h =
-    let n : size (canonical_members d) < 2 ^ 31 = subst (λ x. size x < 2 ^ 31) e h.1 in
-    omega (arith, encode_length (canonical_members d), n)
+    let n : size (norm_members_in_order d) < 2 ^ 31 = subst (λ x. size x < 2 ^ 31) e h.1 in
+    omega (arith, encode_length (norm_members_in_order d), n)
 
-pub key_long : (d m : Members) → m ≡ canonical_members d → IsPlain (document d) → IsSound (document d) → (CanBeWritten (document m) → ⊥) → 2147483647 < length (key d)
+pub key_long : (d m : Members) → m ≡ norm_members_in_order d → IsPlain (document d) → IsSound (document d) → (CanBeWritten (document m) → ⊥) → 2147483647 < length (key d)
 key_long d m e p s h = by (leb (length (key d)) 2147483647) refl
   where
     by : (b : Bool) → leb (length (key d)) 2147483647 ≡ b → 2147483647 < length (key d)
     by true f =
-        let n : size (canonical_members d) < 2 ^ 31 = omega (arith, encode_length (canonical_members d), leb-true (length (key d)) 2147483647 f) in
-        absurd (h (subst (λ x. CanBeWritten (document x)) (sym e) (canonical_plain d p s, n)))
+        let n : size (norm_members_in_order d) < 2 ^ 31 = omega (arith, encode_length (norm_members_in_order d), leb-true (length (key d)) 2147483647 f) in
+        absurd (h (subst (λ x. CanBeWritten (document x)) (sym e) (in_order_plain d p s, n)))
     by false f = omega (arith, leb-false (length (key d)) 2147483647 f)

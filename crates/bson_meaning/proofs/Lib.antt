@@ -1,5 +1,5 @@
 pub mod Ordered
-pub mod Canonical
+pub mod NormInOrder
 pub mod NormalScalars
 pub mod Decimals
 pub mod Normal

@@ -6,7 +6,7 @@ use Rattle.std.proofs.lemmas.Str.{encodes-chars}
 use Rattle.bson_base.specs.Kinds.{HasNo00, IsPlainScalar, IsCleanScalar, IsRangedScalar, IsSound, IsPlain, IsClean}
 use Rattle.bson_base.specs.Options.{put_in_order, ascending_codes, sorted_text}
 use Rattle.bson_base.specs.Value.{Scalar, regex, Value, scalar, array, document, scoped_code, Items, no_items, item, Members, no_members, member, look_up, EachPart, EachItem, EachMember}
-use Rattle.bson_meaning.specs.Meaning.{normal_scalar, norm, asc, Same, SameItems, SameUnder}
+use Rattle.bson_meaning.specs.Meaning.{norm_in_order, norm, normal_scalar, Same, SameItems, SameUnder}
 use Rattle.bson_meaning.proofs.Normal.{normal_scalar_plain, normal_scalar_clean, norm_each, asc_each, both_each}
 use Rattle.bson_bytes.proofs.Options.{no_zero_both}
 use Rattle.bson_meaning.proofs.NormalScalars.{no_00_parts}
@@ -81,7 +81,7 @@ one_member_same k v w = (value_same k v w, only_same k v w)
 
 -- ---- the normal form of a plain value
 
-pub normal_clean : (v : Value) → IsPlain v → IsSound v → IsClean (asc (norm v))
+pub normal_clean : (v : Value) → IsPlain v → IsSound v → IsClean (norm_in_order v)
 normal_clean v p s =
     let all = both_each HasNo00 IsUtf8 IsPlainScalar IsRangedScalar v p s.ranged in
     let normal = norm_each (λ k. HasNo00 k × IsUtf8 k) HasNo00 (λ s. IsPlainScalar s × IsRangedScalar s) (λ s. IsPlainScalar s × IsCleanScalar s) (λ k h. h.0)

@@ -19,12 +19,14 @@ use Rattle.bson_model.specs.declared.bson.Bson.{Bson}
 use Rattle.bson_raw.specs.declared.bson_ref.RawBsonRef.{RawBsonRef}
 use Rattle.bson_raw.specs.declared.bson_ref.RawBsonRef.TheVariants as views
 use Rattle.bson_raw.specs.declared.element.RawElement.{RawElement}
+use Rattle.bson_raw.specs.Convert.{SpellsRawValue}
+use Rattle.bson_raw.specs.Raw.{ref_value}
 use Rattle.bson_raw.specs.ReadValue.{IsValue}
 use Rattle.bson_raw.specs.View.{parts_of}
 use Rattle.bson_raw.specs.Walk.{steps_from}
 use Rattle.bson_meaning.specs.Meaning.{Same, SameItems, SameUnder}
 use Rattle.bson_meaning.specs.Sames.{HasKeysOf}
-use Rattle.bson_meaning.specs.Views.{ComparesPayload, shown, ShowsValue, IsRest, IsItemsRest}
+use Rattle.bson_meaning.specs.Views.{ComparesPayload, view_scalar, IsRest, IsItemsRest}
 use Rattle.bson_meaning.proofs.Comparing.{keys_under, same_documents}
 use Rattle.bson_meaning.proofs.Held.{scalar_apart}
 use Rattle.bson_meaning.proofs.InTurn.{StandOnce}
@@ -63,11 +65,11 @@ scope_shown payload text bytes (array vs) d e k h = absurd (cc)
 scope_shown payload text bytes (document ms) d e k h = absurd (cc)
 scope_shown payload text bytes (scalar s) d e k h = absurd (scalar_apart s kinds.JavaScriptCodeWithScope k refl)
 
-pub payload_shown : (payload : List ℕ) (tag : ElementType) (raw : RawBsonRef) (v : Value) → IsPayload tag payload → IsValue tag payload raw → value_kind v ≡ tag → SpellsValue payload v → ShowsValue raw v
+pub payload_shown : (payload : List ℕ) (tag : ElementType) (raw : RawBsonRef) (v : Value) → IsPayload tag payload → IsValue tag payload raw → value_kind v ≡ tag → SpellsValue payload v → SpellsRawValue (ref_value raw) v
 payload_shown payload tag (views.Array x) v sized is k h = array_shown payload _ v is.holds (k ∙ sym is.kind) h
 payload_shown payload tag (views.Document x) v sized is k h = document_shown payload _ v is.holds (k ∙ sym is.kind) h
 payload_shown payload tag (views.JavaScriptCodeWithScope x) v sized is k h = scope_shown payload _ _ v is.holds.0 is.holds.1 (k ∙ sym is.kind) h
-payload_shown payload tag raw v sized is k h = scalar_shown payload tag (shown raw) v is.kind k sized is.holds h
+payload_shown payload tag raw v sized is k h = scalar_shown payload tag (view_scalar raw) v is.kind k sized is.holds h
 
 -- ---- the next element
 
@@ -145,7 +147,7 @@ last_item (Some bytes) t (item v vs) h r = absurd (end_no_frame bytes r.0 r.1 h.
 
 -- ---- a payload that is compared
 
-pub compares_raw : (e : Element) (raw : RawBsonRef) (w : Value) (b : Bool) → IsPayload e.tag e.payload → IsValue e.tag e.payload raw → ((v : Value) → ShowsValue raw v → HasDistinctKeys v → IsTrue b ↔ Same v w) → ComparesPayload e w b
+pub compares_raw : (e : Element) (raw : RawBsonRef) (w : Value) (b : Bool) → IsPayload e.tag e.payload → IsValue e.tag e.payload raw → ((v : Value) → SpellsRawValue (ref_value raw) v → HasDistinctKeys v → IsTrue b ↔ Same v w) → ComparesPayload e w b
 compares_raw e raw w b sized is c v kind spelled d = c v (payload_shown e.payload e.tag raw v sized is kind spelled) d
 
 -- ---- as many keys
@@ -279,8 +281,8 @@ module _ (s t : Option (List ℕ)) (all target others : Items) (x : RawElement) 
   items_longer e h = subst (λ vs. SameItems (item next_one.value next_one.more) vs) e (subst (λ vs. SameItems vs others) next_one.is (l.3.0 h))
 
   module _ (w : Value) (ws : Items) (b : Bool) (c : ComparesPayload (parts_of x) w b) (split : others ≡ item w ws) where
-    both : SameItems all target ↔ (Same next_one.value w × SameItems next_one.more ws)
-    both = (
+    at_heads : SameItems all target ↔ (Same next_one.value w × SameItems next_one.more ws)
+    at_heads = (
       λ h. subst (λ vs. SameItems (item next_one.value next_one.more) vs) split (subst (λ vs. SameItems vs others) next_one.is (l.3.0 h)),
       λ h. l.3.1 (subst (λ vs. SameItems vs others) (sym next_one.is) (subst (λ vs. SameItems (item next_one.value next_one.more) vs) (sym split) h)),
     )
@@ -289,10 +291,10 @@ module _ (s t : Option (List ℕ)) (all target others : Items) (x : RawElement) 
     told_one = c next_one.value next_one.kind next_one.spelled distinct_one.0
 
     pub items_other : b ≡ false → SameItems all target → ⊥
-    items_other wrong h = untrue b wrong (told_one.1 (both.0 h).0)
+    items_other wrong h = untrue b wrong (told_one.1 (at_heads.0 h).0)
 
     pub items_more : IsTrue b → ItemsLeft t all target ws
-    items_more right = (next_one.more, next_one.others, distinct_one.1, (λ h. (both.0 h).1, λ h. both.1 (told_one.0 right, h)))
+    items_more right = (next_one.more, next_one.others, distinct_one.1, (λ h. (at_heads.0 h).1, λ h. at_heads.1 (told_one.0 right, h)))
 
 pub items_wrong : (s t : Option (List ℕ)) (all target others : Items) (x : Error) → steps_from s (Some (Err x)) t → ItemsLeft s all target others → ⊥
 items_wrong s t all target others x step l = no_next_item s t x l.0 step l.1

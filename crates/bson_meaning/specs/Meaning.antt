@@ -66,9 +66,21 @@ abbrev mutual
   asc_members no_members = no_members
   asc_members (member k v ms) = place k (asc v) (asc_members ms)
 
+-- ---- the normal form in order
+
+-- the normal form, with the keys of every document and scope in ascending order
+abbrev pub norm_in_order : Value → Value
+norm_in_order v = asc (norm v)
+
+abbrev pub norm_items_in_order : Items → Items
+norm_items_in_order vs = asc_items (norm_items vs)
+
+abbrev pub norm_members_in_order : Members → Members
+norm_members_in_order ms = asc_members (norm_members ms)
+
 -- the key of a document: the bytes of its normal form with the keys in order
 abbrev pub key : Members → List ℕ
-key d = encode (asc_members (norm_members d))
+key d = encode (norm_members_in_order d)
 
 -- ---- the same meaning
 

@@ -1,11 +1,10 @@
 -- What a view of raw bytes spells.
-use Rattle.std.specs.Prelude.{◌≡◌, ◌↔◌, ℕ, List, drop, Bool, IsTrue, Option, Some, None}
-use Rattle.bson_base.specs.Value.{Scalar, null, Value, scalar, array, document, scoped_code, Items, no_items, Members, no_members, value_kind, HasDistinctKeys}
+use Rattle.std.specs.Prelude.{◌≡◌, ◌↔◌, ℕ, List, Bool, IsTrue, Option, Some, None}
+use Rattle.bson_base.specs.Value.{Scalar, null, Value, Items, no_items, Members, no_members, value_kind, HasDistinctKeys}
 use Rattle.bson_bytes.specs.Spells.{SpellsValue, SpellsItems, SpellsMembers}
 use Rattle.bson_frame.specs.Frame.{Element}
 use Rattle.bson_meaning.specs.Meaning.{Same}
 use Rattle.bson_raw.specs.Raw.{RawValue, leaf, ref_value}
-use Rattle.bson_raw.specs.View.{bytes_of, array_bytes}
 use Rattle.bson_raw.specs.declared.bson_ref.RawBsonRef.{RawBsonRef}
 use Rattle.bson_raw.specs.declared.bson_ref.RawBsonRef.TheVariants as views
 
@@ -15,15 +14,8 @@ scalar_in (leaf s) = s
 scalar_in _ = null
 
 -- the scalar that a view shows
-abbrev pub shown : RawBsonRef → Scalar
-shown raw = scalar_in (ref_value raw)
-
--- the view shows the value, whose documents its bytes spell without a fault at any level
-abbrev pub ShowsValue : RawBsonRef → Value → Type 0
-ShowsValue (views.Array x) v = (vs : Items) × SpellsItems (drop 4 (array_bytes x)) vs × (v ≡ array vs)
-ShowsValue (views.Document x) v = (ms : Members) × SpellsMembers (drop 4 (bytes_of x)) ms × (v ≡ document ms)
-ShowsValue (views.JavaScriptCodeWithScope x) v = (ms : Members) × SpellsMembers (drop 4 (bytes_of x.scope)) ms × (v ≡ scoped_code x.code.now ms)
-ShowsValue raw v = v ≡ scalar (shown raw)
+abbrev pub view_scalar : RawBsonRef → Scalar
+view_scalar raw = scalar_in (ref_value raw)
 
 -- no document, array or scope
 abbrev pub ShowsScalar : RawBsonRef → Type 0

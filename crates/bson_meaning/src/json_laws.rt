@@ -10,7 +10,7 @@ ghost use Rattle.bson_model.specs.declared.extjson.ser.Mode.{Mode};
 ghost use Rattle.bson_model.specs.declared.extjson.ser.Mode.TheVariants.{Canonical};
 ghost use Rattle.bson_meaning.specs.JsonReserved.{has_reserved};
 ghost use Rattle.bson_meaning.specs.JsonTrees.{IsJson, IsJsonObject};
-ghost use Rattle.bson_meaning.specs.Meaning.{asc, norm, norm_members, asc_members, Same};
+ghost use Rattle.bson_meaning.specs.Meaning.{norm_members_in_order, asc, norm, Same};
 
 /// A value, its normal form and the value with its keys in order are written alike, in both modes.
 pub fn normal_forms_are_written_alike()
@@ -35,11 +35,11 @@ pub fn trees_go_by_meaning()
 pub fn canonical_trees_read_back()
     ensures members { (d : Members) (js : json.Members) → IsSound (document d) → has_reserved d ≡ false
         → write_members Canonical d json.no_members ≡ Some js
-        → (e : Members) × (read_members js ≡ Ok e) × (asc_members (norm_members e) ≡ asc_members (norm_members d))
+        → (e : Members) × (read_members js ≡ Ok e) × (norm_members_in_order e ≡ norm_members_in_order d)
         × (IsPlain (document d) → IsPlain (document e)) × (levels (document e) ≤ levels (document d)) }
     ensures tree { (d : Members) (j : Data) → IsSound (document d) → has_reserved d ≡ false → write Canonical (document d) ≡ Some j
         → (js : json.Members) × (e : Members) × (j ≡ json.object js) × (read_members js ≡ Ok e)
-        × (asc_members (norm_members e) ≡ asc_members (norm_members d))
+        × (norm_members_in_order e ≡ norm_members_in_order d)
         × (IsPlain (document d) → IsPlain (document e)) × (levels (document e) ≤ levels (document d)) }
 {}
 
@@ -48,5 +48,5 @@ pub fn readings_are_sound()
     ensures value { (j : Data) (v : Value) → IsJson j → read j ≡ Ok v → IsSound v }
     ensures top { (js : json.Members) (d : Members) → IsJsonObject js → read_members js ≡ Ok d → IsSound (document d) }
     ensures kept { (js : json.Members) (d : Members) → IsJsonObject js → read_members js ≡ Ok d → IsPlain (document d)
-        → IsClean (document (asc_members (norm_members d))) × IsSound (document (asc_members (norm_members d))) }
+        → IsClean (document (norm_members_in_order d)) × IsSound (document (norm_members_in_order d)) }
 {}

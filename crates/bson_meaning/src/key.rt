@@ -8,7 +8,7 @@ ghost use Rattle.bson_bytes.specs.Writing.{CanBeWritten};
 ghost use Rattle.bson_frame.specs.Frame.{length_limit};
 ghost use Rattle.bson_frame.specs.declared.error.ErrorKind.TheVariants.{OutOfMemory};
 ghost use Rattle.bson_model.specs.View.{view, pairs_of, members_of};
-ghost use Rattle.bson_meaning.specs.Meaning.{key as key_of, asc, asc_members, norm, norm_members, Same};
+ghost use Rattle.bson_meaning.specs.Meaning.{norm_members_in_order, norm_in_order, norm_members, key as key_of, Same};
 
 use crate::lengths::{normal_length, normal_length_of_element};
 use crate::plain::{has_plain_members, is_plain_element};
@@ -113,27 +113,21 @@ fn is_element_too_long(name: &str, value: &Bson) -> bool
 /// The bytes of the normal form with its keys in order, of a document without a 00 in a key, a pattern or options.
 fn written(alloc: Global, document: &Document) -> Result<Vec<u8>, KeyError>
     ensures bytes { IfOk result (λ k. k.items ≡ key_of (members_of (pairs_of document.now))) }
-    ensures fits { OnOk result (CanBeWritten (tree (asc_members (norm_members (members_of (pairs_of document.now)))))) }
+    ensures fits { OnOk result (CanBeWritten (tree (norm_members_in_order (members_of (pairs_of document.now))))) }
     ensures never_not_plain { result ≢ Err KeyError.NotPlain }
-    ensures too_long { result ≡ Err KeyError.TooLong → CanBeWritten (tree (asc_members (norm_members (members_of (pairs_of document.now))))) → ⊥ }
+    ensures too_long { result ≡ Err KeyError.TooLong → CanBeWritten (tree (norm_members_in_order (members_of (pairs_of document.now)))) → ⊥ }
 {
-    match encode_in_order(alloc, document) {
-        Ok(bytes) => Ok(bytes),
-        Err(error) => Err(unwritten(error)),
-    }
+    encode_in_order(alloc, document).map_err(unwritten)
 }
 
 /// The same of a document that has this element alone.
 fn written_alone(alloc: Global, name: &str, value: &Bson) -> Result<Vec<u8>, KeyError>
     ensures bytes { IfOk result (λ k. k.items ≡ key_of (member name.now (view value.now) no_members)) }
-    ensures fits { OnOk result (CanBeWritten (tree (member name.now (asc (norm (view value.now))) no_members))) }
+    ensures fits { OnOk result (CanBeWritten (tree (member name.now (norm_in_order (view value.now)) no_members))) }
     ensures never_not_plain { result ≢ Err KeyError.NotPlain }
-    ensures too_long { result ≡ Err KeyError.TooLong → CanBeWritten (tree (member name.now (asc (norm (view value.now))) no_members)) → ⊥ }
+    ensures too_long { result ≡ Err KeyError.TooLong → CanBeWritten (tree (member name.now (norm_in_order (view value.now)) no_members)) → ⊥ }
 {
-    match encode_element_in_order(alloc, name, value) {
-        Ok(bytes) => Ok(bytes),
-        Err(error) => Err(unwritten(error)),
-    }
+    encode_element_in_order(alloc, name, value).map_err(unwritten)
 }
 
 /// Why the bytes of a normal form without a 00 aren't written.

@@ -12,7 +12,7 @@ ghost use Rattle.bson_model.specs.Equal.{Equal};
 ghost use Rattle.bson_model.specs.Trees.{document_tree};
 ghost use Rattle.bson_model.specs.View.{members_of, pairs_of};
 ghost use Rattle.bson_meaning.specs.Gate.{IsFaultyOrDeep, IsRefused, level_limit, Passes};
-ghost use Rattle.bson_meaning.specs.Meaning.{asc, norm, norm_members, asc_members, key, Same};
+ghost use Rattle.bson_meaning.specs.Meaning.{norm_members_in_order, norm_in_order, norm, key, Same};
 ghost use Rattle.bson_meaning.specs.declared.key.KeyError.{KeyError as AnyKeyError};
 ghost use Rattle.bson_meaning.specs.declared.gating.GateError.{GateError as AnyGateError};
 
@@ -54,7 +54,7 @@ pub fn keys_tell()
 /// The key of a clean document has as many bytes as the document.
 pub fn keys_keep_sizes()
     ensures bytes { (d : Members) → IsClean (document d) → IsSound (document d) → length (key d) ≡ size d }
-    ensures trees { (d : Members) → IsClean (document d) → IsSound (document d) → size (asc_members (norm_members d)) ≡ size d }
+    ensures trees { (d : Members) → IsClean (document d) → IsSound (document d) → size (norm_members_in_order d) ≡ size d }
 {}
 
 /// Bytes that pass the gate are refused by no test: where a fault or too many levels are told, they stand. Bytes that don't
@@ -80,7 +80,7 @@ pub fn same_values()
 
 /// The normal form of a plain value, with its keys in order, is clean.
 pub fn normal_forms_are_clean()
-    ensures { (v : Value) → IsPlain v → IsSound v → IsClean (asc (norm v)) }
+    ensures { (v : Value) → IsPlain v → IsSound v → IsClean (norm_in_order v) }
 {}
 
 /// Errors are equal where they are one.

@@ -5,9 +5,11 @@ ghost use Rattle.bson_base.specs.Value.{HasDistinctKeys, ItemsHaveDistinctKeys, 
 ghost use Rattle.bson_bytes.specs.Spells.{SpellsItems, SpellsMembers};
 ghost use Rattle.bson_model.specs.Equal.{SameKeys};
 ghost use Rattle.bson_model.specs.View.{view, pairs_of, items_of, members_of};
+ghost use Rattle.bson_raw.specs.Convert.{SpellsRawValue};
+ghost use Rattle.bson_raw.specs.Raw.{ref_value};
 ghost use Rattle.bson_raw.specs.View.{bytes_of, array_bytes, parts_of};
 ghost use Rattle.bson_meaning.specs.Meaning.{Same, SameItems, SameUnder};
-ghost use Rattle.bson_meaning.specs.Views.{ComparesPayload, shown, ShowsValue, ShowsFixed, ShowsNumber, ShowsScalar};
+ghost use Rattle.bson_meaning.specs.Views.{ComparesPayload, view_scalar, ShowsFixed, ShowsNumber, ShowsScalar};
 
 use crate::options::same_options;
 use crate::scalars::{normal_decimal, normal_double, normal_subtype};
@@ -20,7 +22,7 @@ use bson_raw::{RawArray, RawBsonRef, RawDocument, RawElement};
 /// is said. Each key is looked up in the index of its document. Takes no memory.
 #[cycle(views)]
 pub fn same_as_raw(raw: RawBsonRef<'_>, value: &Bson) -> bool
-    ensures { (v : Value) → ShowsValue raw.entry v → HasDistinctKeys v → IsTrue result ↔ Same v (view value.now) }
+    ensures { (v : Value) → SpellsRawValue (ref_value raw.entry) v → HasDistinctKeys v → IsTrue result ↔ Same v (view value.now) }
 {
     match raw {
         RawBsonRef::Array(array) => match value {
@@ -115,7 +117,7 @@ fn value_under<'a>(document: &'a Document, key: &str) -> Option<&'a Bson>
 
 fn same_scalar_view(raw: RawBsonRef<'_>, value: &Bson) -> bool
     requires { ShowsScalar raw }
-    ensures { IsTrue result ↔ Same (scalar (shown raw.entry)) (view value.now) }
+    ensures { IsTrue result ↔ Same (scalar (view_scalar raw.entry)) (view value.now) }
 {
     match raw {
         RawBsonRef::Double(x) => match value {
@@ -145,7 +147,7 @@ fn same_scalar_view(raw: RawBsonRef<'_>, value: &Bson) -> bool
 
 fn same_text_view(raw: RawBsonRef<'_>, value: &Bson) -> bool
     requires { ShowsFixed raw }
-    ensures { IsTrue result ↔ Same (scalar (shown raw.entry)) (view value.now) }
+    ensures { IsTrue result ↔ Same (scalar (view_scalar raw.entry)) (view value.now) }
 {
     match raw {
         RawBsonRef::String(x) => match value {
@@ -170,7 +172,7 @@ fn same_text_view(raw: RawBsonRef<'_>, value: &Bson) -> bool
 
 fn same_number_view(raw: RawBsonRef<'_>, value: &Bson) -> bool
     requires { ShowsNumber raw }
-    ensures { IsTrue result ↔ Same (scalar (shown raw.entry)) (view value.now) }
+    ensures { IsTrue result ↔ Same (scalar (view_scalar raw.entry)) (view value.now) }
 {
     match raw {
         RawBsonRef::Boolean(x) => matches!(value, Bson::Boolean(y) if x == *y),

@@ -9,7 +9,7 @@ ghost use Rattle.bson_bytes.specs.Encode.{encode, framed, items_bytes, members_b
 ghost use Rattle.bson_bytes.specs.Writing.{CanBeWritten, IsWriteRefusal};
 ghost use Rattle.bson_model.specs.Trees.{regex_tree, scoped_code_tree};
 ghost use Rattle.bson_model.specs.View.{view, pairs_of, items_of, members_of};
-ghost use Rattle.bson_meaning.specs.Meaning.{asc, asc_items, asc_members, norm, norm_items, norm_members};
+ghost use Rattle.bson_meaning.specs.Meaning.{norm_members_in_order, norm_items_in_order, norm_in_order};
 ghost use Rattle.bson_meaning.specs.Sames.{IsScalar};
 
 use crate::scalars::{normal_decimal, normal_double, normal_subtype};
@@ -24,9 +24,9 @@ use std::alloc::Global;
 /// The bytes of a document. `MalformedValue` where a 00 stands in a key, a pattern or options, and where the bytes are over
 /// 2147483647; `OutOfMemory` where a growth is refused. No key is told.
 pub(crate) fn encode_in_order(alloc: Global, document: &Document) -> Result<Vec<u8>>
-    ensures ok { IfOk result (λ b. b.items ≡ encode (asc_members (norm_members (members_of (pairs_of document.now))))) }
-    ensures fits { OnOk result (CanBeWritten (tree (asc_members (norm_members (members_of (pairs_of document.now)))))) }
-    ensures refused { IfErr result (IsWriteRefusal (CanBeWritten (tree (asc_members (norm_members (members_of (pairs_of document.now))))) → ⊥)) }
+    ensures ok { IfOk result (λ b. b.items ≡ encode (norm_members_in_order (members_of (pairs_of document.now)))) }
+    ensures fits { OnOk result (CanBeWritten (tree (norm_members_in_order (members_of (pairs_of document.now))))) }
+    ensures refused { IfErr result (IsWriteRefusal (CanBeWritten (tree (norm_members_in_order (members_of (pairs_of document.now)))) → ⊥)) }
 {
     let mut out = Vec::new(alloc);
     write_in_order(document, &mut out)?;
@@ -35,9 +35,9 @@ pub(crate) fn encode_in_order(alloc: Global, document: &Document) -> Result<Vec<
 
 /// The bytes of the document that has this element alone. Refused as `encode_in_order` is.
 pub(crate) fn encode_element_in_order(alloc: Global, name: &str, value: &Bson) -> Result<Vec<u8>>
-    ensures ok { IfOk result (λ b. b.items ≡ encode (member name.now (asc (norm (view value.now))) no_members)) }
-    ensures fits { OnOk result (CanBeWritten (tree (member name.now (asc (norm (view value.now))) no_members))) }
-    ensures refused { IfErr result (IsWriteRefusal (CanBeWritten (tree (member name.now (asc (norm (view value.now))) no_members)) → ⊥)) }
+    ensures ok { IfOk result (λ b. b.items ≡ encode (member name.now (norm_in_order (view value.now)) no_members)) }
+    ensures fits { OnOk result (CanBeWritten (tree (member name.now (norm_in_order (view value.now)) no_members))) }
+    ensures refused { IfErr result (IsWriteRefusal (CanBeWritten (tree (member name.now (norm_in_order (view value.now)) no_members)) → ⊥)) }
 {
     let mut out = Vec::new(alloc);
     write_element(name, value, &mut out)?;
@@ -47,9 +47,9 @@ pub(crate) fn encode_element_in_order(alloc: Global, name: &str, value: &Bson) -
 /// Appends a document. Refused as `encode_in_order` is.
 #[cycle(in_order)]
 fn write_in_order(document: &Document, out: &mut Vec<u8>) -> Result<()>
-    ensures ok { OnOk result (out.new.items ≡ out.old.items ++ encode (asc_members (norm_members (members_of (pairs_of document.now))))) }
-    ensures fits { OnOk result (CanBeWritten (tree (asc_members (norm_members (members_of (pairs_of document.now)))))) }
-    ensures refused { IfErr result (IsWriteRefusal (CanBeWritten (tree (asc_members (norm_members (members_of (pairs_of document.now))))) → ⊥)) }
+    ensures ok { OnOk result (out.new.items ≡ out.old.items ++ encode (norm_members_in_order (members_of (pairs_of document.now)))) }
+    ensures fits { OnOk result (CanBeWritten (tree (norm_members_in_order (members_of (pairs_of document.now))))) }
+    ensures refused { IfErr result (IsWriteRefusal (CanBeWritten (tree (norm_members_in_order (members_of (pairs_of document.now)))) → ⊥)) }
 {
     let start = out.len();
     write_bytes(&[0, 0, 0, 0], out)?;
@@ -60,9 +60,9 @@ fn write_in_order(document: &Document, out: &mut Vec<u8>) -> Result<()>
 
 /// Appends the document that has this element alone.
 fn write_element(name: &str, value: &Bson, out: &mut Vec<u8>) -> Result<()>
-    ensures ok { OnOk result (out.new.items ≡ out.old.items ++ encode (member name.now (asc (norm (view value.now))) no_members)) }
-    ensures fits { OnOk result (CanBeWritten (tree (member name.now (asc (norm (view value.now))) no_members))) }
-    ensures refused { IfErr result (IsWriteRefusal (CanBeWritten (tree (member name.now (asc (norm (view value.now))) no_members)) → ⊥)) }
+    ensures ok { OnOk result (out.new.items ≡ out.old.items ++ encode (member name.now (norm_in_order (view value.now)) no_members)) }
+    ensures fits { OnOk result (CanBeWritten (tree (member name.now (norm_in_order (view value.now)) no_members))) }
+    ensures refused { IfErr result (IsWriteRefusal (CanBeWritten (tree (member name.now (norm_in_order (view value.now)) no_members)) → ⊥)) }
 {
     let start = out.len();
     write_bytes(&[0, 0, 0, 0], out)?;
@@ -75,9 +75,9 @@ fn write_element(name: &str, value: &Bson, out: &mut Vec<u8>) -> Result<()>
 /// Appends the elements of a document.
 #[cycle(in_order)]
 fn write_members(document: &Document, out: &mut Vec<u8>) -> Result<()>
-    ensures ok { OnOk result (out.new.items ≡ out.old.items ++ members_bytes (asc_members (norm_members (members_of (pairs_of document.now))))) }
-    ensures plain { OnOk result (IsPlain (tree (asc_members (norm_members (members_of (pairs_of document.now)))))) }
-    ensures refused { IfErr result (IsWriteRefusal (CanBeWritten (tree (asc_members (norm_members (members_of (pairs_of document.now))))) → ⊥)) }
+    ensures ok { OnOk result (out.new.items ≡ out.old.items ++ members_bytes (norm_members_in_order (members_of (pairs_of document.now)))) }
+    ensures plain { OnOk result (IsPlain (tree (norm_members_in_order (members_of (pairs_of document.now))))) }
+    ensures refused { IfErr result (IsWriteRefusal (CanBeWritten (tree (norm_members_in_order (members_of (pairs_of document.now)))) → ⊥)) }
 {
     for (key, value) in document.ascending() {
         write_front(normal_kind(value), key.as_str(), out)?;
@@ -89,9 +89,9 @@ fn write_members(document: &Document, out: &mut Vec<u8>) -> Result<()>
 /// Appends an array.
 #[cycle(in_order)]
 fn write_items(items: &[Bson], out: &mut Vec<u8>) -> Result<()>
-    ensures ok { OnOk result (out.new.items ≡ out.old.items ++ framed (items_bytes 0 (asc_items (norm_items (items_of (map view items.now)))))) }
-    ensures fits { OnOk result (CanBeWritten (array (asc_items (norm_items (items_of (map view items.now)))))) }
-    ensures refused { IfErr result (IsWriteRefusal (CanBeWritten (array (asc_items (norm_items (items_of (map view items.now))))) → ⊥)) }
+    ensures ok { OnOk result (out.new.items ≡ out.old.items ++ framed (items_bytes 0 (norm_items_in_order (items_of (map view items.now))))) }
+    ensures fits { OnOk result (CanBeWritten (array (norm_items_in_order (items_of (map view items.now))))) }
+    ensures refused { IfErr result (IsWriteRefusal (CanBeWritten (array (norm_items_in_order (items_of (map view items.now)))) → ⊥)) }
 {
     let start = out.len();
     write_bytes(&[0, 0, 0, 0], out)?;
@@ -107,9 +107,9 @@ fn write_items(items: &[Bson], out: &mut Vec<u8>) -> Result<()>
 /// Appends a code and its scope.
 #[cycle(in_order)]
 fn write_scoped(code: &JavaScriptCodeWithScope, out: &mut Vec<u8>) -> Result<()>
-    ensures ok { OnOk result (out.new.items ≡ out.old.items ++ value_bytes (asc (norm (scoped_code_tree code.now)))) }
-    ensures fits { OnOk result (CanBeWritten (asc (norm (scoped_code_tree code.now)))) }
-    ensures refused { IfErr result (IsWriteRefusal (CanBeWritten (asc (norm (scoped_code_tree code.now))) → ⊥)) }
+    ensures ok { OnOk result (out.new.items ≡ out.old.items ++ value_bytes (norm_in_order (scoped_code_tree code.now))) }
+    ensures fits { OnOk result (CanBeWritten (norm_in_order (scoped_code_tree code.now))) }
+    ensures refused { IfErr result (IsWriteRefusal (CanBeWritten (norm_in_order (scoped_code_tree code.now)) → ⊥)) }
 {
     let start = out.len();
     write_bytes(&[0, 0, 0, 0], out)?;
@@ -121,9 +121,9 @@ fn write_scoped(code: &JavaScriptCodeWithScope, out: &mut Vec<u8>) -> Result<()>
 /// Appends the payload of a value. It may be too long for a length to tell where no length counts it.
 #[cycle(in_order)]
 fn write_normal(value: &Bson, out: &mut Vec<u8>) -> Result<()>
-    ensures ok { OnOk result (out.new.items ≡ out.old.items ++ value_bytes (asc (norm (view value.now)))) }
-    ensures plain { OnOk result (IsPlain (asc (norm (view value.now)))) }
-    ensures refused { IfErr result (IsWriteRefusal (CanBeWritten (asc (norm (view value.now))) → ⊥)) }
+    ensures ok { OnOk result (out.new.items ≡ out.old.items ++ value_bytes (norm_in_order (view value.now))) }
+    ensures plain { OnOk result (IsPlain (norm_in_order (view value.now))) }
+    ensures refused { IfErr result (IsWriteRefusal (CanBeWritten (norm_in_order (view value.now)) → ⊥)) }
 {
     match value {
         Bson::Array(items) => write_items(items.as_slice(), out),
@@ -136,9 +136,9 @@ fn write_normal(value: &Bson, out: &mut Vec<u8>) -> Result<()>
 /// Appends the payload of a scalar.
 fn write_scalar(value: &Bson, out: &mut Vec<u8>) -> Result<()>
     requires { IsScalar (view value.now) }
-    ensures ok { OnOk result (out.new.items ≡ out.old.items ++ value_bytes (asc (norm (view value.now)))) }
-    ensures plain { OnOk result (IsPlain (asc (norm (view value.now)))) }
-    ensures refused { IfErr result (IsWriteRefusal (CanBeWritten (asc (norm (view value.now))) → ⊥)) }
+    ensures ok { OnOk result (out.new.items ≡ out.old.items ++ value_bytes (norm_in_order (view value.now))) }
+    ensures plain { OnOk result (IsPlain (norm_in_order (view value.now))) }
+    ensures refused { IfErr result (IsWriteRefusal (CanBeWritten (norm_in_order (view value.now)) → ⊥)) }
 {
     match value {
         Bson::Double(double) => write_value(&Bson::Double(normal_double(*double)), out),
@@ -153,9 +153,9 @@ fn write_scalar(value: &Bson, out: &mut Vec<u8>) -> Result<()>
 
 /// Appends a regular expression. A copy of its options is put in order.
 fn write_expression(regex: &Regex, out: &mut Vec<u8>) -> Result<()>
-    ensures ok { OnOk result (out.new.items ≡ out.old.items ++ value_bytes (asc (norm (regex_tree regex.now)))) }
-    ensures plain { OnOk result (IsPlain (asc (norm (regex_tree regex.now)))) }
-    ensures refused { IfErr result (IsWriteRefusal (CanBeWritten (asc (norm (regex_tree regex.now))) → ⊥)) }
+    ensures ok { OnOk result (out.new.items ≡ out.old.items ++ value_bytes (norm_in_order (regex_tree regex.now))) }
+    ensures plain { OnOk result (IsPlain (norm_in_order (regex_tree regex.now))) }
+    ensures refused { IfErr result (IsWriteRefusal (CanBeWritten (norm_in_order (regex_tree regex.now)) → ⊥)) }
 {
     let alloc = *out.allocator();
     let options = String::from_str(alloc, regex.options.as_str())?;
@@ -165,7 +165,7 @@ fn write_expression(regex: &Regex, out: &mut Vec<u8>) -> Result<()>
 
 /// The kind of a value, which is that of its normal form.
 fn normal_kind(value: &Bson) -> ElementType
-    ensures { result ≡ value_kind (asc (norm (view value.now))) }
+    ensures { result ≡ value_kind (norm_in_order (view value.now)) }
 {
     value.element_type()
 }

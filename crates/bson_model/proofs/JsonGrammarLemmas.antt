@@ -16,8 +16,9 @@ use Rattle.bson_base.specs.declared.oid.Error as oid
 use Rattle.bson_base.specs.declared.spec.BinarySubtype.{BinarySubtype}
 use Rattle.bson_base.specs.declared.spec.BinarySubtype.TheVariants.{Uuid}
 use Rattle.bson_model.specs.JsonGrammar.{ReadsDate, ReadsBody, Reads, ReadsItems, ReadsMembers, ReadsTyped, ReadsScope}
-use Rattle.bson_model.specs.JsonKeys.{Reserved, of_id, of_symbol, of_regex, of_int, of_long, of_double, of_decimal, of_binary, of_uuid, of_code, of_timestamp, of_date, of_min, of_max, of_pointer, of_undefined, key_of, scope_key, reserved_of, any_reserved, one, two}
-use Rattle.bson_model.specs.JsonRead.{◌>>=◌, wanted, accepted, accepted_id, text_of, single, under, bodies_in, bodies_under, u32_from, u32_of, is_one, is_true, integer, whole, id_body, regex_body, int_body, long_body, double_body, decimal_body, byte_body, base64_body, binary_body, uuid_body, timestamp_body, read_date_body, pointer_body, constant, read_body, read_wrapped, code_and_scope, read, read_items, read_members, read_typed, read_scope}
+use Rattle.bson_model.specs.JsonKeys.{Reserved, of_id, of_symbol, of_regex, of_int, of_long, of_double, of_decimal, of_binary, of_uuid, of_code, of_timestamp, of_date, of_min, of_max, of_pointer, of_undefined, key_of, scope_key, reserved_of, any_reserved, object_of_one, object_of_two}
+use Rattle.bson_base.specs.Answer.{◌>>=◌}
+use Rattle.bson_model.specs.JsonRead.{wanted, accepted, accepted_id, text_of, single, under, bodies_in, bodies_under, u32_from, u32_of, is_one, is_true, integer, whole, id_body, regex_body, int_body, long_body, double_body, decimal_body, byte_body, base64_body, binary_body, uuid_body, timestamp_body, read_date_body, pointer_body, constant, read_body, read_wrapped, code_and_scope, read, read_items, read_members, read_typed, read_scope}
 use Rattle.bson_model.specs.JsonTexts.{int_of, long_of, double_of, byte_of}
 use Rattle.bson_model.specs.declared.extjson.de.Error.{Error}
 use Rattle.std.proofs.lemmas.Bool.{and_parts}
@@ -56,7 +57,7 @@ single_ok k tree.no_members j h = absurd (cc h)
 single_ok k (tree.member l i tree.no_members) j h = single_by (bytes_eq l k) k l i j refl h
 single_ok k (tree.member l i (tree.member m d ms)) j h = absurd (cc h)
 
-under_ok : (k : List ℕ) (i j : Data) → under k i ≡ Ok j → i ≡ one k j
+under_ok : (k : List ℕ) (i j : Data) → under k i ≡ Ok j → i ≡ object_of_one k j
 under_ok k (object js) j h = ap object (single_ok k js j h)
 under_ok k _ j h = absurd (cc h)
 
@@ -76,7 +77,7 @@ pair_ok k l (tree.member m i tree.no_members) p h = absurd (cc h)
 pair_ok k l (tree.member m i (tree.member n j tree.no_members)) p h = pair_by (bytes_eq m k && bytes_eq n l) k l m n i j p refl h
 pair_ok k l (tree.member m i (tree.member n j (tree.member o d ms))) p h = absurd (cc h)
 
-both_ok : (k l : List ℕ) (j : Data) (p : Data × Data) → bodies_under k l j ≡ Ok p → j ≡ two k p.0 l p.1
+both_ok : (k l : List ℕ) (j : Data) (p : Data × Data) → bodies_under k l j ≡ Ok p → j ≡ object_of_two k p.0 l p.1
 both_ok k l (object js) p h = ap object (pair_ok k l js p h)
 both_ok k l _ p h = absurd (cc h)
 
@@ -122,7 +123,7 @@ regex_so j s h =
     let d = text_body (λ t. Ok (t, sorted_text c.0)) b.0.1 a.0 c.2 in
     let pair : (d.0, sorted_text c.0) ≡ a.0 = cc d.2 in
     let is : s ≡ regex a.0.0 a.0.1 = cc a.2 in
-    (d.0, c.0, both_ok (codes "options") (codes "pattern") j b.0 b.1 ∙ (λ i. two (codes "options") (c.1 i) (codes "pattern") (d.1 i)), is ∙ ap (λ p. regex p.0 p.1) (sym pair))
+    (d.0, c.0, both_ok (codes "options") (codes "pattern") j b.0 b.1 ∙ (λ i. object_of_two (codes "options") (c.1 i) (codes "pattern") (d.1 i)), is ∙ ap (λ p. regex p.0 p.1) (sym pair))
 
 base64_so : (u : BinarySubtype) (j : Data) (s : Scalar) → base64_body u j ≡ Ok s → (t : List ℕ) × (bs : List ℕ) × (j ≡ text t) × (decode_of standard t ≡ Ok bs) × (s ≡ binary u bs)
 base64_so u j s h =
@@ -136,7 +137,7 @@ binary_so j s h =
     let b = bind_ok (byte_body a.0.1) (λ b. base64_body (subtype_of b) a.0.0) s a.2 in
     let c = text_body (λ t. wanted (byte_of t)) a.0.1 b.0 b.1 in
     let d = base64_so (subtype_of b.0) a.0.0 s b.2 in
-    (d.0, c.0, d.1, b.0, both_ok (codes "base64") (codes "subType") j a.0 a.1 ∙ (λ i. two (codes "base64") (d.2 i) (codes "subType") (c.1 i)), d.3, wanted_ok (byte_of c.0) b.0 c.2, d.4)
+    (d.0, c.0, d.1, b.0, both_ok (codes "base64") (codes "subType") j a.0 a.1 ∙ (λ i. object_of_two (codes "base64") (d.2 i) (codes "subType") (c.1 i)), d.3, wanted_ok (byte_of c.0) b.0 c.2, d.4)
 
 uuid_so : (j : Data) (s : Scalar) → uuid_body j ≡ Ok s → ReadsBody of_uuid j s
 uuid_so j s h =
@@ -163,7 +164,7 @@ timestamp_so j s h =
     let t = u32_ok b.0.1 d.0 d.1 in
     let pair : (d.0, c.0) ≡ a.0 = cc d.2 in
     let is : s ≡ timestamp a.0.0 a.0.1 = cc a.2 in
-    (d.0, c.0, both_ok (codes "i") (codes "t") j b.0 b.1 ∙ (λ k. two (codes "i") (i.0 k) (codes "t") (t.0 k)), i.1, t.1, is ∙ ap (λ p. timestamp p.0 p.1) (sym pair))
+    (d.0, c.0, both_ok (codes "i") (codes "t") j b.0 b.1 ∙ (λ k. object_of_two (codes "i") (i.0 k) (codes "t") (t.0 k)), i.1, t.1, is ∙ ap (λ p. timestamp p.0 p.1) (sym pair))
 
 date_so : (j : Data) (z : ℤ) → read_date_body j ≡ Ok z → ReadsDate j z
 date_so (text t) z h = accepted_ok (date_of t) z h
@@ -171,7 +172,7 @@ date_so (number n) z h = wanted_ok (as_i64 n) z h
 date_so (object js) z h =
     let a = bind_ok (single (key_of of_long) js) long_body z h in
     let b = long_so a.0 z a.2 in
-    (b.0, ap object (single_ok (key_of of_long) js a.0 a.1) ∙ ap (one (key_of of_long)) b.1, b.2)
+    (b.0, ap object (single_ok (key_of of_long) js a.0 a.1) ∙ ap (object_of_one (key_of of_long)) b.1, b.2)
 date_so _ z h = absurd (cc h)
 
 pointer_so : (j : Data) (s : Scalar) → read_body of_pointer j ≡ Ok s → ReadsBody of_pointer j s
@@ -182,10 +183,10 @@ pointer_so j s h =
     let d = bind_ok (under (key_of of_id) b.0.0) id_body c.0 c.1 in
     let e = id_so d.0 c.0 d.2 in
     let f = text_body (λ t. Ok (t, c.0)) b.0.1 a.0 c.2 in
-    let id : b.0.0 ≡ one (key_of of_id) (text e.0) = under_ok (key_of of_id) b.0.0 d.0 d.1 ∙ ap (one (key_of of_id)) e.1 in
+    let id : b.0.0 ≡ object_of_one (key_of of_id) (text e.0) = under_ok (key_of of_id) b.0.0 d.0 d.1 ∙ ap (object_of_one (key_of of_id)) e.1 in
     let pair : (f.0, c.0) ≡ a.0 = cc f.2 in
     let is : s ≡ db_pointer a.0.0 a.0.1 = cc a.2 in
-    (e.0, f.0, c.0, both_ok (codes "$id") (codes "$ref") j b.0 b.1 ∙ (λ i. two (codes "$id") (id i) (codes "$ref") (f.1 i)), e.2, is ∙ ap (λ p. db_pointer p.0 p.1) (sym pair))
+    (e.0, f.0, c.0, both_ok (codes "$id") (codes "$ref") j b.0 b.1 ∙ (λ i. object_of_two (codes "$id") (id i) (codes "$ref") (f.1 i)), e.2, is ∙ ap (λ p. db_pointer p.0 p.1) (sym pair))
 
 body_so : (r : Reserved) (j : Data) (s : Scalar) → read_body r j ≡ Ok s → ReadsBody r j s
 body_so of_id j s h = let a = bind_ok (id_body j) (λ bs. Ok (object_id bs)) s h in let b = id_so j a.0 a.1 in (b.0, a.0, b.1, b.2, cc a.2)

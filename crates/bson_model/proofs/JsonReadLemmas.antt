@@ -14,7 +14,8 @@ use Rattle.serde_json.specs.declared.value.Value as json
 use Rattle.bson_base.specs.Value.{Value, Items, no_items, item, Members, no_members, member}
 use Rattle.bson_pairs.specs.Keyed.{Key, put}
 use Rattle.bson_model.specs.JsonKeys.{key_of, of_code, scope_key}
-use Rattle.bson_model.specs.JsonRead.{◌>>=◌, Fails, GivesReading, read, read_items, read_members, read_typed, text_of, read_scope, code_and_scope}
+use Rattle.bson_base.specs.Answer.{◌>>=◌}
+use Rattle.bson_model.specs.JsonRead.{Fails, GivesReading, read, read_items, read_members, read_typed, text_of, read_scope, code_and_scope}
 use Rattle.bson_model.specs.View.{view, items_of, members_of}
 use Rattle.bson_model.specs.declared.bson.Bson.{Bson}
 use Rattle.bson_model.specs.declared.extjson.de.Error.{Error}

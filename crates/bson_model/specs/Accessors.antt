@@ -142,7 +142,3 @@ or_unexpected (Some x) = Ok x
 abbrev pub typed : {A : Type 0} → (Value → Option A) → Option Value → Result A ValueAccessError
 typed as' None = Err NotPresent
 typed as' (Some v) = or_unexpected (as' v)
-
-abbrev pub map_ok : {A B E : Type 0} → (A → B) → Result A E → Result B E
-map_ok f (Ok x) = Ok (f x)
-map_ok f (Err e) = Err e

@@ -14,35 +14,35 @@ use Rattle.bson_base.specs.ScalarTexts.{read_uuid}
 use Rattle.bson_base.specs.Tags.{subtype_of}
 use Rattle.bson_base.specs.Value.{Scalar, double, string, binary, undefined, object_id, boolean, date_time, null, regex, db_pointer, code, symbol, int32, timestamp, int64, decimal, max_key, min_key, Value, scalar, array, document, scoped_code, Items, no_items, item, Members, no_members, member}
 use Rattle.bson_base.specs.declared.spec.BinarySubtype.TheVariants.{Uuid}
-use Rattle.bson_model.specs.JsonKeys.{Reserved, of_id, of_symbol, of_regex, of_int, of_long, of_double, of_decimal, of_binary, of_uuid, of_code, of_timestamp, of_date, of_min, of_max, of_pointer, of_undefined, key_of, scope_key, reserved_of, any_reserved, one, two}
+use Rattle.bson_model.specs.JsonKeys.{Reserved, of_id, of_symbol, of_regex, of_int, of_long, of_double, of_decimal, of_binary, of_uuid, of_code, of_timestamp, of_date, of_min, of_max, of_pointer, of_undefined, key_of, scope_key, reserved_of, any_reserved, object_of_one, object_of_two}
 use Rattle.bson_model.specs.JsonTexts.{int_of, long_of, double_of, byte_of}
 use Rattle.bson_model.specs.JsonRead.{integer}
 
 abbrev pub ReadsDate : Data → ℤ → Type 0
 ReadsDate (text t) z = date_of t ≡ Ok z
 ReadsDate (number n) z = as_i64 n ≡ Some z
-ReadsDate (object js) z = (t : List ℕ) × (object js ≡ one (key_of of_long) (text t)) × (long_of t ≡ Some z)
+ReadsDate (object js) z = (t : List ℕ) × (object js ≡ object_of_one (key_of of_long) (text t)) × (long_of t ≡ Some z)
 ReadsDate _ z = ⊥
 
 -- the body under each reserved key
 abbrev pub ReadsBody : Reserved → Data → Scalar → Type 0
 ReadsBody of_id j s = (t : List ℕ) × (bs : List ℕ) × (j ≡ text t) × (object_id_of t ≡ Ok bs) × (s ≡ object_id bs)
 ReadsBody of_symbol j s = (t : List ℕ) × (j ≡ text t) × (s ≡ symbol t)
-ReadsBody of_regex j s = (p : List ℕ) × (o : List ℕ) × (j ≡ two (codes "options") (text o) (codes "pattern") (text p)) × (s ≡ regex p (sorted_text o))
+ReadsBody of_regex j s = (p : List ℕ) × (o : List ℕ) × (j ≡ object_of_two (codes "options") (text o) (codes "pattern") (text p)) × (s ≡ regex p (sorted_text o))
 ReadsBody of_int j s = (t : List ℕ) × (z : ℤ) × (j ≡ text t) × (int_of t ≡ Some z) × (s ≡ int32 z)
 ReadsBody of_long j s = (t : List ℕ) × (z : ℤ) × (j ≡ text t) × (long_of t ≡ Some z) × (s ≡ int64 z)
 ReadsBody of_double j s = (t : List ℕ) × (n : ℕ) × (j ≡ text t) × (double_of t ≡ Ok n) × (s ≡ double n)
 ReadsBody of_decimal j s = (t : List ℕ) × (n : ℕ) × (j ≡ text t) × (decimal_of t ≡ Ok n) × (s ≡ decimal (sixteen_bytes n))
 ReadsBody of_binary j s = (t : List ℕ) × (u : List ℕ) × (bs : List ℕ) × (b : ℕ)
-    × (j ≡ two (codes "base64") (text t) (codes "subType") (text u)) × (decode_of standard t ≡ Ok bs) × (byte_of u ≡ Some b) × (s ≡ binary (subtype_of b) bs)
+    × (j ≡ object_of_two (codes "base64") (text t) (codes "subType") (text u)) × (decode_of standard t ≡ Ok bs) × (byte_of u ≡ Some b) × (s ≡ binary (subtype_of b) bs)
 ReadsBody of_uuid j s = (t : List ℕ) × (bs : List ℕ) × (j ≡ text t) × (read_uuid t ≡ Ok bs) × (s ≡ binary Uuid bs)
 ReadsBody of_code j s = (t : List ℕ) × (j ≡ text t) × (s ≡ code t)
-ReadsBody of_timestamp j s = (t : ℕ) × (i : ℕ) × (j ≡ two (codes "i") (number (unsigned i)) (codes "t") (number (unsigned t))) × (i < 2 ^ 32) × (t < 2 ^ 32) × (s ≡ timestamp t i)
+ReadsBody of_timestamp j s = (t : ℕ) × (i : ℕ) × (j ≡ object_of_two (codes "i") (number (unsigned i)) (codes "t") (number (unsigned t))) × (i < 2 ^ 32) × (t < 2 ^ 32) × (s ≡ timestamp t i)
 ReadsBody of_date j s = (z : ℤ) × ReadsDate j z × (s ≡ date_time z)
 ReadsBody of_min j s = (j ≡ number (unsigned 1)) × (s ≡ min_key)
 ReadsBody of_max j s = (j ≡ number (unsigned 1)) × (s ≡ max_key)
 ReadsBody of_pointer j s = (t : List ℕ) × (u : List ℕ) × (bs : List ℕ)
-    × (j ≡ two (codes "$id") (one (key_of of_id) (text t)) (codes "$ref") (text u)) × (object_id_of t ≡ Ok bs) × (s ≡ db_pointer u bs)
+    × (j ≡ object_of_two (codes "$id") (object_of_one (key_of of_id) (text t)) (codes "$ref") (text u)) × (object_id_of t ≡ Ok bs) × (s ≡ db_pointer u bs)
 ReadsBody of_undefined j s = (j ≡ tree.boolean true) × (s ≡ undefined)
 
 abbrev mutual

@@ -63,9 +63,9 @@ any_reserved no_members = false
 any_reserved (member k j js) = is_reserved k || any_reserved js
 
 -- an object with one member
-abbrev pub one : List ℕ → Data → Data
-one k j = object (member k j no_members)
+abbrev pub object_of_one : List ℕ → Data → Data
+object_of_one k j = object (member k j no_members)
 
 -- an object with two members, in this order
-abbrev pub two : List ℕ → Data → List ℕ → Data → Data
-two k i l j = object (member k i (member l j no_members))
+abbrev pub object_of_two : List ℕ → Data → List ℕ → Data → Data
+object_of_two k i l j = object (member k i (member l j no_members))

@@ -7,6 +7,7 @@ use Rattle.base64.specs.Engines.{standard}
 use Rattle.serde_json.specs.Data as tree
 use Rattle.serde_json.specs.Data.{Num, unsigned, negative, float, Data, number, string as text, object}
 use Rattle.serde_json.specs.Find.{as_i64}
+use Rattle.bson_base.specs.Answer.{◌>>=◌}
 use Rattle.bson_base.specs.DateText.{date_of}
 use Rattle.bson_base.specs.Decimal.{read as decimal_of, sixteen_bytes}
 use Rattle.bson_base.specs.ObjectIdText.{object_id_of}
@@ -22,11 +23,6 @@ use Rattle.bson_model.specs.JsonKeys.{Reserved, of_id, of_symbol, of_regex, of_i
 use Rattle.bson_model.specs.JsonTexts.{int_of, long_of, fits_32, double_of, byte_of}
 use Rattle.bson_model.specs.declared.extjson.de.Error.{Error}
 use Rattle.bson_model.specs.declared.extjson.de.Error.TheVariants.{InvalidObjectId, DeserializationError, FiniteDouble, Memory}
-
-infixl 10 ◌>>=◌
-abbrev pub ◌>>=◌ : {A B : Type 0} → Result A Error → (A → Result B Error) → Result B Error
-(Ok x) >>= f = f x
-(Err e) >>= f = Err e
 
 -- ---- refusals
 

@@ -15,7 +15,7 @@ use Rattle.bson_base.specs.Options.{sorted_text}
 use Rattle.bson_base.specs.Tags.{subtype_byte}
 use Rattle.bson_base.specs.Value.{Scalar, double, string, binary, undefined, object_id, boolean, date_time, null, regex, db_pointer, code, symbol, int32, timestamp, int64, decimal, max_key, min_key, Value, scalar, array, document, scoped_code, Items, no_items, item, Members, no_members, member}
 use Rattle.bson_base.specs.Dates.{date_text}
-use Rattle.bson_model.specs.JsonKeys.{Reserved, key_of, scope_key, of_id, of_symbol, of_regex, of_int, of_long, of_double, of_decimal, of_binary, of_code, of_timestamp, of_date, of_min, of_max, of_pointer, of_undefined, one, two}
+use Rattle.bson_model.specs.JsonKeys.{Reserved, key_of, scope_key, of_id, of_symbol, of_regex, of_int, of_long, of_double, of_decimal, of_binary, of_code, of_timestamp, of_date, of_min, of_max, of_pointer, of_undefined, object_of_one, object_of_two}
 use Rattle.bson_model.specs.declared.extjson.de.Error.{Error}
 use Rattle.bson_model.specs.declared.extjson.de.Error.TheVariants.{InvalidObjectId, DeserializationError, FiniteDouble, Memory}
 use Rattle.bson_model.specs.declared.extjson.ser.Mode.{Mode}
@@ -23,7 +23,7 @@ use Rattle.bson_model.specs.declared.extjson.ser.Mode.TheVariants.{Canonical, Re
 
 -- a typed value
 abbrev pub wrapped : Reserved → Data → Data
-wrapped r j = one (key_of r) j
+wrapped r j = object_of_one (key_of r) j
 
 abbrev pub wrapped_text : Reserved → List ℕ → Data
 wrapped_text r t = wrapped r (json.string t)
@@ -63,22 +63,22 @@ write_date m z = wrapped of_date (date_body m z)
 
 -- Base64, and the subtype in two digits
 abbrev pub write_binary : ℕ → List ℕ → Data
-write_binary b bs = wrapped of_binary (two (codes "base64") (json.string (encode_of standard bs)) (codes "subType") (json.string (encode_lower (b ∷ []))))
+write_binary b bs = wrapped of_binary (object_of_two (codes "base64") (json.string (encode_of standard bs)) (codes "subType") (json.string (encode_lower (b ∷ []))))
 
 abbrev pub write_regex : List ℕ → List ℕ → Data
-write_regex p o = wrapped of_regex (two (codes "options") (json.string (sorted_text o)) (codes "pattern") (json.string p))
+write_regex p o = wrapped of_regex (object_of_two (codes "options") (json.string (sorted_text o)) (codes "pattern") (json.string p))
 
 abbrev pub write_timestamp : ℕ → ℕ → Data
-write_timestamp t i = wrapped of_timestamp (two (codes "i") (number (unsigned i)) (codes "t") (number (unsigned t)))
+write_timestamp t i = wrapped of_timestamp (object_of_two (codes "i") (number (unsigned i)) (codes "t") (number (unsigned t)))
 
 abbrev pub write_id : List ℕ → Data
 write_id bs = wrapped_text of_id (encode_lower bs)
 
 abbrev pub write_pointer : List ℕ → List ℕ → Data
-write_pointer t bs = wrapped of_pointer (two (codes "$id") (write_id bs) (codes "$ref") (json.string t))
+write_pointer t bs = wrapped of_pointer (object_of_two (codes "$id") (write_id bs) (codes "$ref") (json.string t))
 
 abbrev pub with_scope : List ℕ → json.Members → Data
-with_scope t js = two (key_of of_code) (json.string t) scope_key (object js)
+with_scope t js = object_of_two (key_of of_code) (json.string t) scope_key (object js)
 
 abbrev pub write_scalar : Mode → Scalar → Option Data
 write_scalar m (double n) = write_double n

@@ -205,14 +205,15 @@ impl Document {
 impl Document {
     ghost use Rattle.std.specs.Borrow.{bool as truth_row, i32 as i32_row, i64 as i64_row};
     ghost use Rattle.bson_base.specs.Scalars.{id_bytes, millis_of, decimal_bytes};
-    ghost use Rattle.bson_model.specs.Accessors.{typed, map_ok, as_f64, as_decimal128, as_str, as_array, as_document, as_bool, as_i32, as_i64, as_timestamp, as_binary_generic, as_object_id, as_datetime, has_null};
+    ghost use Rattle.bson_base.specs.Answer.{result_map};
+    ghost use Rattle.bson_model.specs.Accessors.{typed, as_f64, as_decimal128, as_str, as_array, as_document, as_bool, as_i32, as_i64, as_timestamp, as_binary_generic, as_object_id, as_datetime, has_null};
     ghost use Rattle.bson_model.specs.Rows.{double_row, decimal128_row, text_row, array_row, timestamp_row, bytes_row, object_id_row, date_time_row};
     ghost use Rattle.bson_model.specs.Trees.{f64_tree, decimal128_tree, text_tree, array_tree, bool_tree, i32_tree, i64_tree, timestamp_tree, generic_tree, object_id_tree, date_time_tree};
     ghost use Rattle.bson_model.specs.Lending.{LendsPart};
 
     /// The double under a key.
     pub fn get_f64(&self, key: &str) -> ValueAccessResult<DoubleBits>
-        ensures { map_ok (λ d. d.0) result ≡ typed as_f64 (get key.now (pairs_of self.now)) }
+        ensures { result_map (λ d. d.0) result ≡ typed as_f64 (get key.now (pairs_of self.now)) }
     {
         match self.get(key) {
             Some(Bson::Double(double)) => Ok(*double),
@@ -224,7 +225,7 @@ impl Document {
     /// The double under a key, to be written to.
     pub fn get_f64_mut(&mut self, key: &str) -> ValueAccessResult<&mut DoubleBits>
         ensures* writes_back { sem 𝓛 (LendsPart double_row f64_tree self.entry key.now result) }
-        ensures value { map_ok (λ d. d.now.0) result ≡ typed as_f64 (get key.now (pairs_of self.old)) }
+        ensures value { result_map (λ d. d.now.0) result ≡ typed as_f64 (get key.now (pairs_of self.old)) }
     {
         match self.get_mut(key) {
             Some(value) => match value.as_f64_mut() {
@@ -237,7 +238,7 @@ impl Document {
 
     /// The decimal number under a key.
     pub fn get_decimal128(&self, key: &str) -> ValueAccessResult<&Decimal128>
-        ensures { map_ok (λ d. decimal_bytes d.now) result ≡ typed as_decimal128 (get key.now (pairs_of self.now)) }
+        ensures { result_map (λ d. decimal_bytes d.now) result ≡ typed as_decimal128 (get key.now (pairs_of self.now)) }
     {
         match self.get(key) {
             Some(Bson::Decimal128(decimal)) => Ok(decimal),
@@ -249,7 +250,7 @@ impl Document {
     /// The decimal number under a key, to be written to.
     pub fn get_decimal128_mut(&mut self, key: &str) -> ValueAccessResult<&mut Decimal128>
         ensures* writes_back { sem 𝓛 (LendsPart decimal128_row decimal128_tree self.entry key.now result) }
-        ensures value { map_ok (λ d. decimal_bytes d.now) result ≡ typed as_decimal128 (get key.now (pairs_of self.old)) }
+        ensures value { result_map (λ d. decimal_bytes d.now) result ≡ typed as_decimal128 (get key.now (pairs_of self.old)) }
     {
         match self.get_mut(key) {
             Some(value) => match value.as_decimal128_mut() {
@@ -262,7 +263,7 @@ impl Document {
 
     /// The text under a key.
     pub fn get_str(&self, key: &str) -> ValueAccessResult<&str>
-        ensures { map_ok (λ s. s.now) result ≡ typed as_str (get key.now (pairs_of self.now)) }
+        ensures { result_map (λ s. s.now) result ≡ typed as_str (get key.now (pairs_of self.now)) }
     {
         match self.get(key) {
             Some(Bson::String(text)) => Ok(text.as_str()),
@@ -274,7 +275,7 @@ impl Document {
     /// The text under a key, to be written to.
     pub fn get_str_mut(&mut self, key: &str) -> ValueAccessResult<&mut String>
         ensures* writes_back { sem 𝓛 (LendsPart text_row text_tree self.entry key.now result) }
-        ensures value { map_ok (λ s. string_bytes s.now) result ≡ typed as_str (get key.now (pairs_of self.old)) }
+        ensures value { result_map (λ s. string_bytes s.now) result ≡ typed as_str (get key.now (pairs_of self.old)) }
     {
         match self.get_mut(key) {
             Some(value) => match value.as_str_mut() {
@@ -287,7 +288,7 @@ impl Document {
 
     /// The array under a key.
     pub fn get_array(&self, key: &str) -> ValueAccessResult<&Array>
-        ensures { map_ok (λ a. items_of (map view a.now.items)) result ≡ typed as_array (get key.now (pairs_of self.now)) }
+        ensures { result_map (λ a. items_of (map view a.now.items)) result ≡ typed as_array (get key.now (pairs_of self.now)) }
     {
         match self.get(key) {
             Some(Bson::Array(items)) => Ok(items),
@@ -299,7 +300,7 @@ impl Document {
     /// The array under a key, to be written to.
     pub fn get_array_mut(&mut self, key: &str) -> ValueAccessResult<&mut Array>
         ensures* writes_back { sem 𝓛 (LendsPart array_row array_tree self.entry key.now result) }
-        ensures value { map_ok (λ a. items_of (map view a.now.items)) result ≡ typed as_array (get key.now (pairs_of self.old)) }
+        ensures value { result_map (λ a. items_of (map view a.now.items)) result ≡ typed as_array (get key.now (pairs_of self.old)) }
     {
         match self.get_mut(key) {
             Some(value) => match value.as_array_mut() {
@@ -312,7 +313,7 @@ impl Document {
 
     /// The document under a key.
     pub fn get_document(&self, key: &str) -> ValueAccessResult<&Document>
-        ensures { map_ok (λ d. members_of (pairs_of d.now)) result ≡ typed as_document (get key.now (pairs_of self.now)) }
+        ensures { result_map (λ d. members_of (pairs_of d.now)) result ≡ typed as_document (get key.now (pairs_of self.now)) }
     {
         match self.get(key) {
             Some(Bson::Document(document)) => Ok(document),
@@ -325,7 +326,7 @@ impl Document {
     // step by step.
     /// The document under a key, to be written to.
     pub fn get_document_mut(&mut self, key: &str) -> ValueAccessResult<&mut Document>
-        ensures { map_ok (λ d. members_of (pairs_of d.now)) result ≡ typed as_document (get key.now (pairs_of self.old)) }
+        ensures { result_map (λ d. members_of (pairs_of d.now)) result ≡ typed as_document (get key.now (pairs_of self.old)) }
     {
         match self.get_mut(key) {
             Some(value) => match value.as_document_mut() {
@@ -350,7 +351,7 @@ impl Document {
     /// The truth value under a key, to be written to.
     pub fn get_bool_mut(&mut self, key: &str) -> ValueAccessResult<&mut bool>
         ensures* writes_back { sem 𝓛 (LendsPart truth_row bool_tree self.entry key.now result) }
-        ensures value { map_ok (λ b. b.now) result ≡ typed as_bool (get key.now (pairs_of self.old)) }
+        ensures value { result_map (λ b. b.now) result ≡ typed as_bool (get key.now (pairs_of self.old)) }
     {
         match self.get_mut(key) {
             Some(value) => match value.as_bool_mut() {
@@ -375,7 +376,7 @@ impl Document {
     /// The Int32 under a key, to be written to.
     pub fn get_i32_mut(&mut self, key: &str) -> ValueAccessResult<&mut i32>
         ensures* writes_back { sem 𝓛 (LendsPart i32_row i32_tree self.entry key.now result) }
-        ensures value { map_ok (λ z. z.now) result ≡ typed as_i32 (get key.now (pairs_of self.old)) }
+        ensures value { result_map (λ z. z.now) result ≡ typed as_i32 (get key.now (pairs_of self.old)) }
     {
         match self.get_mut(key) {
             Some(value) => match value.as_i32_mut() {
@@ -400,7 +401,7 @@ impl Document {
     /// The Int64 under a key, to be written to.
     pub fn get_i64_mut(&mut self, key: &str) -> ValueAccessResult<&mut i64>
         ensures* writes_back { sem 𝓛 (LendsPart i64_row i64_tree self.entry key.now result) }
-        ensures value { map_ok (λ z. z.now) result ≡ typed as_i64 (get key.now (pairs_of self.old)) }
+        ensures value { result_map (λ z. z.now) result ≡ typed as_i64 (get key.now (pairs_of self.old)) }
     {
         match self.get_mut(key) {
             Some(value) => match value.as_i64_mut() {
@@ -413,7 +414,7 @@ impl Document {
 
     /// The timestamp under a key.
     pub fn get_timestamp(&self, key: &str) -> ValueAccessResult<Timestamp>
-        ensures { map_ok (λ t. (t.time, t.increment)) result ≡ typed as_timestamp (get key.now (pairs_of self.now)) }
+        ensures { result_map (λ t. (t.time, t.increment)) result ≡ typed as_timestamp (get key.now (pairs_of self.now)) }
     {
         match self.get(key) {
             Some(Bson::Timestamp(timestamp)) => Ok(*timestamp),
@@ -425,7 +426,7 @@ impl Document {
     /// The timestamp under a key, to be written to.
     pub fn get_timestamp_mut(&mut self, key: &str) -> ValueAccessResult<&mut Timestamp>
         ensures* writes_back { sem 𝓛 (LendsPart timestamp_row timestamp_tree self.entry key.now result) }
-        ensures value { map_ok (λ t. (t.now.time, t.now.increment)) result ≡ typed as_timestamp (get key.now (pairs_of self.old)) }
+        ensures value { result_map (λ t. (t.now.time, t.now.increment)) result ≡ typed as_timestamp (get key.now (pairs_of self.old)) }
     {
         match self.get_mut(key) {
             Some(value) => match value.as_timestamp_mut() {
@@ -438,7 +439,7 @@ impl Document {
 
     /// The bytes of a Binary of subtype Generic under a key.
     pub fn get_binary_generic(&self, key: &str) -> ValueAccessResult<&Vec<u8>>
-        ensures { map_ok (λ b. b.now.items) result ≡ typed as_binary_generic (get key.now (pairs_of self.now)) }
+        ensures { result_map (λ b. b.now.items) result ≡ typed as_binary_generic (get key.now (pairs_of self.now)) }
     {
         match self.get(key) {
             Some(
@@ -457,7 +458,7 @@ impl Document {
     /// The bytes of a Binary of subtype Generic under a key, to be written to.
     pub fn get_binary_generic_mut(&mut self, key: &str) -> ValueAccessResult<&mut Vec<u8>>
         ensures* writes_back { sem 𝓛 (LendsPart bytes_row generic_tree self.entry key.now result) }
-        ensures value { map_ok (λ b. b.now.items) result ≡ typed as_binary_generic (get key.now (pairs_of self.old)) }
+        ensures value { result_map (λ b. b.now.items) result ≡ typed as_binary_generic (get key.now (pairs_of self.old)) }
     {
         match self.get_mut(key) {
             Some(value) => match value.as_binary_generic_mut() {
@@ -470,7 +471,7 @@ impl Document {
 
     /// The object id under a key.
     pub fn get_object_id(&self, key: &str) -> ValueAccessResult<ObjectId>
-        ensures { map_ok id_bytes result ≡ typed as_object_id (get key.now (pairs_of self.now)) }
+        ensures { result_map id_bytes result ≡ typed as_object_id (get key.now (pairs_of self.now)) }
     {
         match self.get(key) {
             Some(Bson::ObjectId(id)) => Ok(*id),
@@ -482,7 +483,7 @@ impl Document {
     /// The object id under a key, to be written to.
     pub fn get_object_id_mut(&mut self, key: &str) -> ValueAccessResult<&mut ObjectId>
         ensures* writes_back { sem 𝓛 (LendsPart object_id_row object_id_tree self.entry key.now result) }
-        ensures value { map_ok (λ i. id_bytes i.now) result ≡ typed as_object_id (get key.now (pairs_of self.old)) }
+        ensures value { result_map (λ i. id_bytes i.now) result ≡ typed as_object_id (get key.now (pairs_of self.old)) }
     {
         match self.get_mut(key) {
             Some(value) => match value.as_object_id_mut() {
@@ -495,7 +496,7 @@ impl Document {
 
     /// The moment under a key.
     pub fn get_datetime(&self, key: &str) -> ValueAccessResult<&DateTime>
-        ensures { map_ok (λ t. millis_of t.now) result ≡ typed as_datetime (get key.now (pairs_of self.now)) }
+        ensures { result_map (λ t. millis_of t.now) result ≡ typed as_datetime (get key.now (pairs_of self.now)) }
     {
         match self.get(key) {
             Some(Bson::DateTime(moment)) => Ok(moment),
@@ -507,7 +508,7 @@ impl Document {
     /// The moment under a key, to be written to.
     pub fn get_datetime_mut(&mut self, key: &str) -> ValueAccessResult<&mut DateTime>
         ensures* writes_back { sem 𝓛 (LendsPart date_time_row date_time_tree self.entry key.now result) }
-        ensures value { map_ok (λ t. millis_of t.now) result ≡ typed as_datetime (get key.now (pairs_of self.old)) }
+        ensures value { result_map (λ t. millis_of t.now) result ≡ typed as_datetime (get key.now (pairs_of self.old)) }
     {
         match self.get_mut(key) {
             Some(value) => match value.as_datetime_mut() {

@@ -1,21 +1,21 @@
 -- From values that were read to the trees that they spell.
-use Rattle.std.proofs.Common.{◌≡◌, ℕ, ◌+◌, ◌≤◌, List, length, drop, Some, Result, Ok, Err, MatchResult, inr, length-drop, refl, sym, ap, ◌∙◌, subst, arith}
+use Rattle.std.proofs.Common.{◌≡◌, ℕ, ◌+◌, ◌≤◌, List, length, drop, Some, Result, Ok, Err, MatchResult, inr, length-drop, sym, ap, ◌∙◌, subst, arith}
 use Rattle.bson_base.specs.declared.spec.ElementType.{ElementType}
-use Rattle.bson_base.specs.Scalars.{id_bytes, millis_of, decimal_bytes}
-use Rattle.bson_base.specs.Value.{Scalar, double, string, binary, undefined, object_id, boolean, date_time, null, regex, db_pointer, code, symbol, int32, timestamp, int64, decimal, max_key, min_key, scalar_kind, Value, scalar, value_kind}
+use Rattle.bson_base.specs.Value.{Scalar, scalar_kind, Value, scalar, value_kind}
 use Rattle.bson_bytes.specs.Spells.{HoldsScalar, SpellsValue, SpellsItems, SpellsMembers}
 use Rattle.bson_frame.specs.Frame.{number}
 use Rattle.bson_frame.specs.Payload.{code_in, scope_in, IsFaultless}
 use Rattle.bson_raw.specs.declared.bson_ref.RawBsonRef.{RawBsonRef}
 use Rattle.bson_raw.specs.declared.bson_ref.RawBsonRef.TheVariants as values
-use Rattle.bson_raw.specs.ReadValue.{IsValue, Holds, kind_of}
-use Rattle.bson_raw.specs.Raw.{ref_value}
+use Rattle.bson_raw.specs.ReadValue.{IsValue, Holds}
+use Rattle.bson_raw.specs.Raw.{RawValue, leaf, array, document, scoped_code, ref_value, raw_kind}
 use Rattle.bson_raw.specs.View.{bytes_of, array_bytes}
 use Rattle.bson_frame.specs.declared.error.Error.{Error}
 use Rattle.bson_frame.specs.Frame.{Element}
 use Rattle.bson_frame.specs.View.{fault_key}
 use Rattle.bson_model.specs.declared.bson.Bson.{Bson}
 use Rattle.bson_raw.specs.Convert.{SpellsRawValue, elements_of, elements_in, HasFaultIn, HasFaultInside, IsValueOf, ConvertsValue, TellsFault}
+use Rattle.bson_raw.proofs.Faults.{nothing_inside}
 use Rattle.bson_raw.proofs.Progress.{told_on}
 
 -- how many bytes a value has inside that are read once more
@@ -30,7 +30,7 @@ scope_shorter payload some = omega (arith, some, length-drop {A = ℕ} (number (
 
 module _ (tag : ElementType) (payload : List ℕ) where
   -- a payload has more bytes than are read once more
-  pub inner_shorter : (r : RawBsonRef) → Holds payload r → inner_length r ≤ length payload
+  pub inner_shorter : (r : RawBsonRef) → Holds payload (ref_value r) → inner_length r ≤ length payload
   inner_shorter (values.Array x) holds = omega (arith, ap length holds)
   inner_shorter (values.Document x) holds = omega (arith, ap length holds)
   inner_shorter (values.JavaScriptCodeWithScope x) holds =
@@ -45,44 +45,27 @@ module _ (tag : ElementType) (payload : List ℕ) where
   by_scalar s v kind holds faultless is = subst IsSpelled (sym is) (kind, (subst (λ (t : ElementType). IsFaultless t payload) (sym kind) faultless, holds))
 
   -- the tree that a value spells is one that its payload spells
-  pub spelled : (r : RawBsonRef) (v : Value) → kind_of r ≡ tag → Holds payload r → IsFaultless tag payload → SpellsRawValue (ref_value r) v → IsSpelled v
-  spelled (values.Double x) v kind holds faultless is = by_scalar (double x.0) v kind holds faultless is
-  spelled (values.String x) v kind holds faultless is = by_scalar (string x.now) v kind holds faultless is
-  spelled (values.Array x) v kind holds faultless (vs, is, spells) = subst IsSpelled (sym is) (kind, subst (λ b. SpellsItems (drop 4 b) vs) holds spells)
-  spelled (values.Document x) v kind holds faultless (ms, is, spells) = subst IsSpelled (sym is) (kind, subst (λ b. SpellsMembers (drop 4 b) ms) holds spells)
-  spelled (values.Boolean x) v kind holds faultless is = by_scalar (boolean x) v kind holds faultless is
-  spelled values.Null v kind holds faultless is = by_scalar null v kind holds faultless is
-  spelled (values.RegularExpression x) v kind holds faultless is = by_scalar (regex x.pattern.now x.options.now) v kind holds faultless is
-  spelled (values.JavaScriptCode x) v kind holds faultless is = by_scalar (code x.now) v kind holds faultless is
-  spelled (values.JavaScriptCodeWithScope x) v kind holds faultless (ms, is, spells) =
-      subst IsSpelled (sym is) (kind, (subst (λ (t : ElementType). IsFaultless t payload) (sym kind) faultless, holds.0, subst (λ b. SpellsMembers (drop 4 b) ms) holds.1 spells))
-  spelled (values.Int32 x) v kind holds faultless is = by_scalar (int32 x) v kind holds faultless is
-  spelled (values.Int64 x) v kind holds faultless is = by_scalar (int64 x) v kind holds faultless is
-  spelled (values.Timestamp x) v kind holds faultless is = by_scalar (timestamp x.time x.increment) v kind holds faultless is
-  spelled (values.Binary x) v kind holds faultless is = by_scalar (binary x.subtype x.bytes.now) v kind holds faultless is
-  spelled (values.ObjectId x) v kind holds faultless is = by_scalar (object_id (id_bytes x)) v kind holds faultless is
-  spelled (values.DateTime x) v kind holds faultless is = by_scalar (date_time (millis_of x)) v kind holds faultless is
-  spelled (values.Symbol x) v kind holds faultless is = by_scalar (symbol x.now) v kind holds faultless is
-  spelled (values.Decimal128 x) v kind holds faultless is = by_scalar (decimal (decimal_bytes x)) v kind holds faultless is
-  spelled values.Undefined v kind holds faultless is = by_scalar undefined v kind holds faultless is
-  spelled values.MaxKey v kind holds faultless is = by_scalar max_key v kind holds faultless is
-  spelled values.MinKey v kind holds faultless is = by_scalar min_key v kind holds faultless is
-  spelled (values.DbPointer x) v kind holds faultless is = by_scalar (db_pointer x.namespace.now (id_bytes x.id)) v kind holds faultless is
+  pub spelled : (r : RawValue) (v : Value) → raw_kind r ≡ tag → Holds payload r → IsFaultless tag payload → SpellsRawValue r v → IsSpelled v
+  spelled (leaf s) v kind holds faultless is = by_scalar s v kind holds faultless is
+  spelled (array bs) v kind holds faultless (vs, spells, is) = subst IsSpelled (sym is) (kind, subst (λ b. SpellsItems (drop 4 b) vs) holds spells)
+  spelled (document bs) v kind holds faultless (ms, spells, is) = subst IsSpelled (sym is) (kind, subst (λ b. SpellsMembers (drop 4 b) ms) holds spells)
+  spelled (scoped_code t bs) v kind holds faultless (ms, spells, is) =
+      subst IsSpelled (sym is) (kind, (subst (λ (k : ElementType). IsFaultless k payload) (sym kind) faultless, holds.0, subst (λ b. SpellsMembers (drop 4 b) ms) holds.1 spells))
 
-  inside_of : (r : RawBsonRef) → Holds payload r → elements_of (ref_value r) ≡ elements_in (kind_of r) payload
-  inside_of (values.Array x) holds = ap (λ (b : List ℕ). Some (drop 4 b)) holds
-  inside_of (values.Document x) holds = ap (λ (b : List ℕ). Some (drop 4 b)) holds
-  inside_of (values.JavaScriptCodeWithScope x) holds = ap (λ (b : List ℕ). Some (drop 4 b)) holds.1
-  inside_of _ holds = refl
+  inside_of : (r : RawValue) → Holds payload r → elements_of r ≡ elements_in (raw_kind r) payload
+  inside_of (leaf s) holds = sym (nothing_inside payload s)
+  inside_of (array bs) holds = ap (λ (b : List ℕ). Some (drop 4 b)) holds
+  inside_of (document bs) holds = ap (λ (b : List ℕ). Some (drop 4 b)) holds
+  inside_of (scoped_code t bs) holds = ap (λ (b : List ℕ). Some (drop 4 b)) holds.1
 
   -- what is inside a value is inside its payload
-  pub same_inside : (r : RawBsonRef) → kind_of r ≡ tag → Holds payload r → elements_of (ref_value r) ≡ elements_in tag payload
+  pub same_inside : (r : RawValue) → raw_kind r ≡ tag → Holds payload r → elements_of r ≡ elements_in tag payload
   same_inside r kind holds = inside_of r holds ∙ ap (λ (t : ElementType). elements_in t payload) kind
 
 -- what a value's conversion answers is what its element's does
 pub element_converted : (e : Element) (r : RawBsonRef) (result : Result Bson Error) → IsValue e.tag e.payload r → ConvertsValue (ref_value r) result → MatchResult result (IsValueOf e) (TellsFault (HasFaultIn e))
 element_converted e r (Ok b) is (v, stands, seen) =
-    let s = spelled e.tag e.payload r v is.kind is.holds is.faultless stands in
+    let s = spelled e.tag e.payload (ref_value r) v is.kind is.holds is.faultless stands in
     (v, s.0, s.1, seen)
 element_converted e r (Err x) is h =
-    told_on (HasFaultInside (ref_value r)) (HasFaultIn e) (λ key kind f. inr (f.0, is.faultless, sym (same_inside e.tag e.payload r is.kind is.holds) ∙ f.1, f.2)) (fault_key x) x.kind h
+    told_on (HasFaultInside (ref_value r)) (HasFaultIn e) (λ key kind f. inr (f.0, is.faultless, sym (same_inside e.tag e.payload (ref_value r) is.kind is.holds) ∙ f.1, f.2)) (fault_key x) x.kind h

@@ -24,7 +24,7 @@ no_fault tag payload (array vs) kind spells = subst (λ (t : ElementType). IsFau
 no_fault tag payload (document ms) kind spells = subst (λ (t : ElementType). IsFaultless t payload) kind (λ k h. h)
 no_fault tag payload (scoped_code t ms) kind spells = subst (λ (k : ElementType). IsFaultless k payload) kind spells.0
 
-nothing_inside : (payload : List ℕ) (s : Scalar) → elements_in (scalar_kind s) payload ≡ None
+pub nothing_inside : (payload : List ℕ) (s : Scalar) → elements_in (scalar_kind s) payload ≡ None
 nothing_inside payload (double n) = refl
 nothing_inside payload _ = refl
 
@@ -118,9 +118,9 @@ module _ (one : FramesAreOne) where
 
   inside_stands : (r : RawValue) (inner : List ℕ) (v : Value) → elements_of r ≡ Some inner → SpellsRawValue r v → IsInside inner
   inside_stands (raws.leaf s) inner v is h = absurd (cc)
-  inside_stands (raws.array bs) inner v is (vs, same, spells) = in_items _ inner vs is spells
-  inside_stands (raws.document bs) inner v is (ms, same, spells) = in_members _ inner ms is spells
-  inside_stands (raws.scoped_code t bs) inner v is (ms, same, spells) = in_members _ inner ms is spells
+  inside_stands (raws.array bs) inner v is (vs, spells, same) = in_items _ inner vs is spells
+  inside_stands (raws.document bs) inner v is (ms, spells, same) = in_members _ inner ms is spells
+  inside_stands (raws.scoped_code t bs) inner v is (ms, spells, same) = in_members _ inner ms is spells
 
   pub no_tree : (r : RawValue) (result : Result Bson Error) → ConvertsValue r result → IfErr result (TellsFault (λ _ _. (v : Value) → SpellsRawValue r v → ⊥))
   no_tree r (Ok b) h = tt

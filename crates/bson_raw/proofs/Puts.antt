@@ -13,11 +13,8 @@ use Rattle.bson_frame.specs.declared.error.ErrorKind.{ErrorKind}
 use Rattle.bson_frame.specs.declared.error.ErrorKind.TheVariants.{MalformedValue, Utf8EncodingError, OutOfMemory}
 use Rattle.bson_frame.specs.Payload.{IsEnvelope}
 use Rattle.bson_frame.specs.View.{IsBare}
-use Rattle.bson_raw.specs.declared.bson_ref.RawBsonRef.{RawBsonRef}
-use Rattle.bson_raw.specs.declared.bson_ref.RawBsonRef.TheVariants as refs
 use Rattle.bson_raw.specs.Append.{element_for, element_bytes, body_of, with_element, CanTake, AppendsElement}
-use Rattle.bson_raw.specs.Raw.{RawValue, raw_kind, raw_payload, IsPlainRaw, ref_value}
-use Rattle.bson_raw.specs.ReadValue.{kind_of}
+use Rattle.bson_raw.specs.Raw.{RawValue, raw_kind, raw_payload, IsPlainRaw}
 use Rattle.bson_raw.specs.Written.{CanWrite, Closes}
 use Rattle.bson_bytes.proofs.Lengths.{le32_length, text_length, ended_length, framed_length, scoped_length, payload_length}
 use Rattle.bson_bytes.proofs.Extents.{framed_envelope}
@@ -140,29 +137,6 @@ with_element_length old key v env =
 
 pub can_write : (old key : List ℕ) (v : RawValue) → IsEnvelope old → CanTake old key v → CanWrite v
 can_write old key v env c = (c.value_plain, omega (arith, c.fits, with_element_length old key v env))
-
-pub same_kind : (v : RawBsonRef) → kind_of v ≡ raw_kind (ref_value v)
-same_kind (refs.Double x) = refl
-same_kind (refs.String x) = refl
-same_kind (refs.Array x) = refl
-same_kind (refs.Document x) = refl
-same_kind (refs.Boolean x) = refl
-same_kind refs.Null = refl
-same_kind (refs.RegularExpression x) = refl
-same_kind (refs.JavaScriptCode x) = refl
-same_kind (refs.JavaScriptCodeWithScope x) = refl
-same_kind (refs.Int32 x) = refl
-same_kind (refs.Int64 x) = refl
-same_kind (refs.Timestamp x) = refl
-same_kind (refs.Binary x) = refl
-same_kind (refs.ObjectId x) = refl
-same_kind (refs.DateTime x) = refl
-same_kind (refs.Symbol x) = refl
-same_kind (refs.Decimal128 x) = refl
-same_kind refs.Undefined = refl
-same_kind refs.MaxKey = refl
-same_kind refs.MinKey = refl
-same_kind (refs.DbPointer x) = refl
 
 module _ (old key : List ℕ) (v : RawValue) (env : IsEnvelope old) where
   -- what stands behind the tag

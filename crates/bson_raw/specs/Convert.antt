@@ -89,9 +89,9 @@ elements_of (raws.scoped_code t bs) = Some (drop 4 bs)
 -- a raw value spells a tree: what it holds, and what the elements inside spell
 abbrev pub SpellsRawValue : RawValue → Value → Type 0
 SpellsRawValue (raws.leaf s) v = v ≡ scalar s
-SpellsRawValue (raws.array bs) v = (vs : Items) × (v ≡ array vs) × SpellsItems (drop 4 bs) vs
-SpellsRawValue (raws.document bs) v = (ms : Members) × (v ≡ document ms) × SpellsMembers (drop 4 bs) ms
-SpellsRawValue (raws.scoped_code t bs) v = (ms : Members) × (v ≡ scoped_code t ms) × SpellsMembers (drop 4 bs) ms
+SpellsRawValue (raws.array bs) v = (vs : Items) × SpellsItems (drop 4 bs) vs × (v ≡ array vs)
+SpellsRawValue (raws.document bs) v = (ms : Members) × SpellsMembers (drop 4 bs) ms × (v ≡ document ms)
+SpellsRawValue (raws.scoped_code t bs) v = (ms : Members) × SpellsMembers (drop 4 bs) ms × (v ≡ scoped_code t ms)
 
 -- a raw value spells the tree of a value
 abbrev pub IsBsonOf : RawValue → Bson → Type 0

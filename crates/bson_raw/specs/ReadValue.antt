@@ -1,21 +1,18 @@
 -- What the payload of an element is read as (bsonspec.org 1.1, "element").
-use Rattle.std.specs.Prelude.{◌≡◌, ℕ, ℤ, ◌+◌, ◌==◌, Bool, List, [], ◌∷◌, ◌++◌, drop, slice_index, if◌then◌else◌, Option, Some, None, Result, MatchResult}
+use Rattle.std.specs.Prelude.{◌≡◌, ℕ, ℤ, Bool, List, Option, Some, None, Result, MatchResult}
 use Rattle.std.specs.Borrow.{Bor}
-use Rattle.std.specs.Int.{w32, w64, from_le_bytes, cast_signed}
 use Rattle.bson_base.specs.declared.spec.ElementType.{ElementType}
-use Rattle.bson_base.specs.declared.spec.ElementType.TheVariants as kinds
-use Rattle.bson_base.specs.declared.spec.BinarySubtype.TheVariants as subtypes
 use Rattle.bson_base.specs.declared.double.DoubleBits.{DoubleBits}
 use Rattle.bson_base.specs.declared.oid.ObjectId.{ObjectId}
 use Rattle.bson_base.specs.declared.datetime.DateTime.{DateTime}
 use Rattle.bson_base.specs.declared.timestamp.Timestamp.{Timestamp}
-use Rattle.bson_base.specs.Tags.{subtype_of, subtype_byte}
-use Rattle.bson_base.specs.Scalars.{id_bytes, millis_of, decimal_bytes}
-use Rattle.bson_frame.specs.Frame.{number, Element}
+use Rattle.bson_bytes.specs.Spells.{HoldsScalar}
+use Rattle.bson_frame.specs.Frame.{Element}
 use Rattle.bson_frame.specs.Payload.{text_in, code_in, scope_in, IsPayload, IsPayloadFault, IsFaultless}
 use Rattle.bson_frame.specs.View.{IsFaultUnder}
 use Rattle.bson_frame.specs.declared.error.ErrorKind.{ErrorKind}
 use Rattle.bson_frame.specs.declared.error.Error.{Error}
+use Rattle.bson_raw.specs.Raw.{RawValue, leaf, array, document, scoped_code, raw_kind, ref_value}
 use Rattle.bson_raw.specs.declared.document.RawDocument.{RawDocument}
 use Rattle.bson_raw.specs.declared.array.RawArray.{RawArray}
 use Rattle.bson_raw.specs.declared.bson_ref.RawBsonRef.{RawBsonRef}
@@ -24,60 +21,18 @@ use Rattle.bson_raw.specs.declared.bson_ref.RawBinaryRef.{RawBinaryRef}
 use Rattle.bson_raw.specs.declared.bson_ref.RawRegexRef.{RawRegexRef}
 use Rattle.bson_raw.specs.declared.bson_ref.RawDbPointerRef.{RawDbPointerRef}
 use Rattle.bson_raw.specs.declared.bson_ref.RawJavaScriptCodeWithScopeRef.{RawJavaScriptCodeWithScopeRef}
-use Rattle.bson_raw.specs.View.{bytes_of, array_bytes}
-
--- the kind of a value
-abbrev pub kind_of : RawBsonRef → ElementType
-kind_of (values.Double x) = kinds.Double
-kind_of (values.String x) = kinds.String
-kind_of (values.Array x) = kinds.Array
-kind_of (values.Document x) = kinds.EmbeddedDocument
-kind_of (values.Boolean x) = kinds.Boolean
-kind_of values.Null = kinds.Null
-kind_of (values.RegularExpression x) = kinds.RegularExpression
-kind_of (values.JavaScriptCode x) = kinds.JavaScriptCode
-kind_of (values.JavaScriptCodeWithScope x) = kinds.JavaScriptCodeWithScope
-kind_of (values.Int32 x) = kinds.Int32
-kind_of (values.Int64 x) = kinds.Int64
-kind_of (values.Timestamp x) = kinds.Timestamp
-kind_of (values.Binary x) = kinds.Binary
-kind_of (values.ObjectId x) = kinds.ObjectId
-kind_of (values.DateTime x) = kinds.DateTime
-kind_of (values.Symbol x) = kinds.Symbol
-kind_of (values.Decimal128 x) = kinds.Decimal128
-kind_of values.Undefined = kinds.Undefined
-kind_of values.MaxKey = kinds.MaxKey
-kind_of values.MinKey = kinds.MinKey
-kind_of (values.DbPointer x) = kinds.DbPointer
 
 -- the payload holds the value
-abbrev pub Holds : List ℕ → RawBsonRef → Type 0
-Holds payload (values.Double x) = x.0 ≡ from_le_bytes w64 payload
-Holds payload (values.String x) = x.now ≡ text_in payload
-Holds payload (values.Array x) = array_bytes x ≡ payload
-Holds payload (values.Document x) = bytes_of x ≡ payload
-Holds payload (values.Boolean x) = slice_index payload 0 ≡ (if x then 1 else 0)
-Holds payload values.Null = Unit {0}
-Holds payload (values.RegularExpression x) = payload ≡ x.pattern.now ++ 0 ∷ (x.options.now ++ 0 ∷ [])
-Holds payload (values.JavaScriptCode x) = x.now ≡ text_in payload
-Holds payload (values.JavaScriptCodeWithScope x) = (x.code.now ≡ text_in (code_in payload)) × (bytes_of x.scope ≡ scope_in payload)
-Holds payload (values.Int32 x) = x ≡ cast_signed w32 (from_le_bytes w32 payload)
-Holds payload (values.Int64 x) = x ≡ cast_signed w64 (from_le_bytes w64 payload)
-Holds payload (values.Timestamp x) = (x.increment ≡ from_le_bytes w32 payload) × (x.time ≡ from_le_bytes w32 (drop 4 payload))
-Holds payload (values.Binary x) = (x.subtype ≡ subtype_of (slice_index payload 4)) × (x.bytes.now ≡ drop (if slice_index payload 4 == subtype_byte subtypes.BinaryOld then 9 else 5) payload)
-Holds payload (values.ObjectId x) = id_bytes x ≡ payload
-Holds payload (values.DateTime x) = millis_of x ≡ cast_signed w64 (from_le_bytes w64 payload)
-Holds payload (values.Symbol x) = x.now ≡ text_in payload
-Holds payload (values.Decimal128 x) = decimal_bytes x ≡ payload
-Holds payload values.Undefined = Unit {0}
-Holds payload values.MaxKey = Unit {0}
-Holds payload values.MinKey = Unit {0}
-Holds payload (values.DbPointer x) = (x.namespace.now ≡ text_in payload) × (id_bytes x.id ≡ drop (number payload + 4) payload)
+abbrev pub Holds : List ℕ → RawValue → Type 0
+Holds payload (leaf s) = HoldsScalar payload s
+Holds payload (array bs) = bs ≡ payload
+Holds payload (document bs) = bs ≡ payload
+Holds payload (scoped_code t bs) = (t ≡ text_in (code_in payload)) × (bs ≡ scope_in payload)
 
 -- the payload, which has no fault, is read as the value
 pub record IsValue (tag : ElementType) (payload : List ℕ) (value : RawBsonRef) : Type 0 where
-  pub kind : kind_of value ≡ tag
-  pub holds : Holds payload value
+  pub kind : raw_kind (ref_value value) ≡ tag
+  pub holds : Holds payload (ref_value value)
   pub faultless : IsFaultless tag payload
 
 -- a payload was read: its value, or its fault

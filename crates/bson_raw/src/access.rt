@@ -55,11 +55,7 @@ pub(crate) fn read<'a>(
     ensures { (f : Option (Result Element Kind)) → IsFound f found.entry → GetAnswer f result }
 {
     match found {
-        Some(Ok(element)) => match element.value(alloc) {
-            Ok(value) => Ok(Some(value)),
-            Err(e) => Err(e),
-        },
-        Some(Err(e)) => Err(e),
+        Some(element) => Ok(Some(element?.value(alloc)?)),
         None => Ok(None),
     }
 }

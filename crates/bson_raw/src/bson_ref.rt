@@ -110,11 +110,12 @@ pub enum RawBsonRef<'a> {
 }
 
 impl<'a> RawBsonRef<'a> {
-    ghost use Rattle.bson_raw.specs.ReadValue.{kind_of, as_f64, as_str, as_array, as_document, as_bool, as_regex, as_javascript, as_javascript_with_scope, as_i32, as_i64, as_timestamp, as_binary, as_object_id, as_datetime, as_symbol, as_db_pointer, as_null};
+    ghost use Rattle.bson_raw.specs.Raw.{raw_kind, ref_value};
+    ghost use Rattle.bson_raw.specs.ReadValue.{as_f64, as_str, as_array, as_document, as_bool, as_regex, as_javascript, as_javascript_with_scope, as_i32, as_i64, as_timestamp, as_binary, as_object_id, as_datetime, as_symbol, as_db_pointer, as_null};
 
     /// The kind of the value.
     pub fn element_type(&self) -> ElementType
-        ensures { result ≡ kind_of self.now }
+        ensures { result ≡ raw_kind (ref_value self.now) }
     {
         match self {
             RawBsonRef::Double(_) => ElementType::Double,

@@ -27,10 +27,7 @@ fn next_frame(bytes: &[u8]) -> Result<Frame<'_>, Error>
     ensures { MatchResult result (λ f. IsFirstFrame bytes.now (element_of f) f.rest.now)
         (λ e. IsStructuralFault bytes.now e.kind × (fault_key e ≡ None)) }
 {
-    match frame(bytes) {
-        Ok(frame) => Ok(frame),
-        Err(kind) => Err(Error::new(None, kind)),
-    }
+    frame(bytes).map_err(|kind| Error::new(None, kind))
 }
 
 /// The bytes from the first element on.

@@ -1,7 +1,11 @@
 //! Values read from payloads.
 
+ghost use Rattle.std.specs.Prelude.{◌≡◌, MatchResult};
 ghost use Rattle.bson_base.specs.declared.spec.ElementType.TheVariants as kinds;
+ghost use Rattle.bson_frame.specs.Payload.{IsEnvelope};
+ghost use Rattle.bson_frame.specs.declared.error.ErrorKind.TheVariants.{MalformedValue};
 ghost use Rattle.bson_raw.specs.ReadValue.{Decodes};
+ghost use Rattle.bson_raw.specs.View.{bytes_of};
 
 use crate::array::RawArray;
 use crate::bson_ref::{
@@ -16,55 +20,51 @@ use bson_frame::{ErrorKind, name_at, text_at};
 fn double(payload: &[u8]) -> Result<RawBsonRef<'_>, ErrorKind>
     ensures { Decodes kinds.Double payload.now result }
 {
-    match <[u8; 8]>::try_from(payload) {
-        Ok(bytes) => Ok(RawBsonRef::Double(DoubleBits::from_bits(u64::from_le_bytes(bytes)))),
-        Err(_) => Err(ErrorKind::MalformedValue),
-    }
+    let bytes = <[u8; 8]>::try_from(payload)
+        .ok()
+        .ok_or(ErrorKind::MalformedValue)?;
+    Ok(RawBsonRef::Double(DoubleBits::from_bits(u64::from_le_bytes(bytes))))
 }
 
 fn string(payload: &[u8]) -> Result<RawBsonRef<'_>, ErrorKind>
     ensures { Decodes kinds.String payload.now result }
 {
-    match text_at(payload) {
-        Ok((text, _)) => Ok(RawBsonRef::String(text)),
-        Err(kind) => Err(kind),
-    }
+    let (text, _) = text_at(payload)?;
+    Ok(RawBsonRef::String(text))
 }
 
 fn javascript(payload: &[u8]) -> Result<RawBsonRef<'_>, ErrorKind>
     ensures { Decodes kinds.JavaScriptCode payload.now result }
 {
-    match text_at(payload) {
-        Ok((text, _)) => Ok(RawBsonRef::JavaScriptCode(text)),
-        Err(kind) => Err(kind),
-    }
+    let (text, _) = text_at(payload)?;
+    Ok(RawBsonRef::JavaScriptCode(text))
 }
 
 fn symbol(payload: &[u8]) -> Result<RawBsonRef<'_>, ErrorKind>
     ensures { Decodes kinds.Symbol payload.now result }
 {
-    match text_at(payload) {
-        Ok((text, _)) => Ok(RawBsonRef::Symbol(text)),
-        Err(kind) => Err(kind),
-    }
+    let (text, _) = text_at(payload)?;
+    Ok(RawBsonRef::Symbol(text))
+}
+
+/// The document that a payload is, or the kind of its fault.
+fn framed(payload: &[u8]) -> Result<RawDocument<'_>, ErrorKind>
+    ensures { MatchResult result (λ d. bytes_of d ≡ payload.now) (λ k. (IsEnvelope payload.now → ⊥) × (k ≡ MalformedValue)) }
+{
+    RawDocument::from_bytes(payload).map_err(|e| e.kind)
 }
 
 fn document(payload: &[u8]) -> Result<RawBsonRef<'_>, ErrorKind>
     ensures { Decodes kinds.EmbeddedDocument payload.now result }
 {
-    match RawDocument::from_bytes(payload) {
-        Ok(document) => Ok(RawBsonRef::Document(document)),
-        Err(e) => Err(e.kind),
-    }
+    Ok(RawBsonRef::Document(framed(payload)?))
 }
 
 fn array(payload: &[u8]) -> Result<RawBsonRef<'_>, ErrorKind>
     ensures { Decodes kinds.Array payload.now result }
 {
-    match RawDocument::from_bytes(payload) {
-        Ok(document) => Ok(RawBsonRef::Array(RawArray { document })),
-        Err(e) => Err(e.kind),
-    }
+    let document = framed(payload)?;
+    Ok(RawBsonRef::Array(RawArray { document }))
 }
 
 fn boolean(payload: &[u8]) -> Result<RawBsonRef<'_>, ErrorKind>
@@ -80,49 +80,47 @@ fn boolean(payload: &[u8]) -> Result<RawBsonRef<'_>, ErrorKind>
 fn object_id(payload: &[u8]) -> Result<RawBsonRef<'_>, ErrorKind>
     ensures { Decodes kinds.ObjectId payload.now result }
 {
-    match <[u8; 12]>::try_from(payload) {
-        Ok(bytes) => Ok(RawBsonRef::ObjectId(ObjectId::from_bytes(bytes))),
-        Err(_) => Err(ErrorKind::MalformedValue),
-    }
+    let bytes = <[u8; 12]>::try_from(payload)
+        .ok()
+        .ok_or(ErrorKind::MalformedValue)?;
+    Ok(RawBsonRef::ObjectId(ObjectId::from_bytes(bytes)))
 }
 
 fn decimal128(payload: &[u8]) -> Result<RawBsonRef<'_>, ErrorKind>
     ensures { Decodes kinds.Decimal128 payload.now result }
 {
-    match <[u8; 16]>::try_from(payload) {
-        Ok(bytes) => Ok(RawBsonRef::Decimal128(Decimal128::from_bytes(bytes))),
-        Err(_) => Err(ErrorKind::MalformedValue),
-    }
+    let bytes = <[u8; 16]>::try_from(payload)
+        .ok()
+        .ok_or(ErrorKind::MalformedValue)?;
+    Ok(RawBsonRef::Decimal128(Decimal128::from_bytes(bytes)))
 }
 
 fn int32(payload: &[u8]) -> Result<RawBsonRef<'_>, ErrorKind>
     ensures { Decodes kinds.Int32 payload.now result }
 {
-    match <[u8; 4]>::try_from(payload) {
-        Ok(bytes) => Ok(RawBsonRef::Int32(i32::from_le_bytes(bytes))),
-        Err(_) => Err(ErrorKind::MalformedValue),
-    }
+    let bytes = <[u8; 4]>::try_from(payload)
+        .ok()
+        .ok_or(ErrorKind::MalformedValue)?;
+    Ok(RawBsonRef::Int32(i32::from_le_bytes(bytes)))
 }
 
 fn int64(payload: &[u8]) -> Result<RawBsonRef<'_>, ErrorKind>
     ensures { Decodes kinds.Int64 payload.now result }
 {
-    match <[u8; 8]>::try_from(payload) {
-        Ok(bytes) => Ok(RawBsonRef::Int64(i64::from_le_bytes(bytes))),
-        Err(_) => Err(ErrorKind::MalformedValue),
-    }
+    let bytes = <[u8; 8]>::try_from(payload)
+        .ok()
+        .ok_or(ErrorKind::MalformedValue)?;
+    Ok(RawBsonRef::Int64(i64::from_le_bytes(bytes)))
 }
 
 fn date_time(payload: &[u8]) -> Result<RawBsonRef<'_>, ErrorKind>
     ensures { Decodes kinds.DateTime payload.now result }
 {
-    match <[u8; 8]>::try_from(payload) {
-        Ok(bytes) => {
-            let millis = i64::from_le_bytes(bytes);
-            Ok(RawBsonRef::DateTime(DateTime::from_millis(millis)))
-        }
-        Err(_) => Err(ErrorKind::MalformedValue),
-    }
+    let bytes = <[u8; 8]>::try_from(payload)
+        .ok()
+        .ok_or(ErrorKind::MalformedValue)?;
+    let millis = i64::from_le_bytes(bytes);
+    Ok(RawBsonRef::DateTime(DateTime::from_millis(millis)))
 }
 
 fn timestamp(payload: &[u8]) -> Result<RawBsonRef<'_>, ErrorKind>
@@ -140,17 +138,12 @@ fn timestamp(payload: &[u8]) -> Result<RawBsonRef<'_>, ErrorKind>
 fn db_pointer(payload: &[u8]) -> Result<RawBsonRef<'_>, ErrorKind>
     ensures { Decodes kinds.DbPointer payload.now result }
 {
-    let (namespace, rest) = match text_at(payload) {
-        Ok(parts) => parts,
-        Err(kind) => return Err(kind),
-    };
-    match <[u8; 12]>::try_from(rest) {
-        Ok(bytes) => Ok(RawBsonRef::DbPointer(RawDbPointerRef {
-            namespace,
-            id: ObjectId::from_bytes(bytes),
-        })),
-        Err(_) => Err(ErrorKind::MalformedValue),
-    }
+    let (namespace, rest) = text_at(payload)?;
+    let bytes = <[u8; 12]>::try_from(rest)
+        .ok()
+        .ok_or(ErrorKind::MalformedValue)?;
+    let id = ObjectId::from_bytes(bytes);
+    Ok(RawBsonRef::DbPointer(RawDbPointerRef { namespace, id }))
 }
 
 fn binary(payload: &[u8]) -> Result<RawBsonRef<'_>, ErrorKind>
@@ -184,16 +177,9 @@ fn code_with_scope(payload: &[u8]) -> Result<RawBsonRef<'_>, ErrorKind>
         return Err(ErrorKind::MalformedValue);
     }
     let (_, parts) = payload.split_at(4);
-    match text_at(parts) {
-        Ok((code, scope)) => match RawDocument::from_bytes(scope) {
-            Ok(scope) => Ok(RawBsonRef::JavaScriptCodeWithScope(RawJavaScriptCodeWithScopeRef {
-                code,
-                scope,
-            })),
-            Err(e) => Err(e.kind),
-        },
-        Err(kind) => Err(kind),
-    }
+    let (code, scope) = text_at(parts)?;
+    let scope = framed(scope)?;
+    Ok(RawBsonRef::JavaScriptCodeWithScope(RawJavaScriptCodeWithScopeRef { code, scope }))
 }
 
 fn regex(payload: &[u8]) -> Result<RawBsonRef<'_>, ErrorKind>

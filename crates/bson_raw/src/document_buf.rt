@@ -51,10 +51,8 @@ impl RawDocumentBuf {
         ensures { MatchResult result (λ d. buffer_bytes d ≡ bytes.items)
             (λ e. (IsEnvelope bytes.items → ⊥) × IsBare MalformedValue e) }
     {
-        match RawDocument::from_bytes(&bytes) {
-            Ok(_) => Ok(RawDocumentBuf { bytes }),
-            Err(e) => Err(e),
-        }
+        RawDocument::from_bytes(&bytes)?;
+        Ok(RawDocumentBuf { bytes })
     }
 
     /// The bytes.

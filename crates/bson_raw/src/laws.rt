@@ -89,10 +89,7 @@ pub fn payload_of_an_element(element: &RawElement<'_>)
 pub fn bytes_come_back(bytes: Vec<u8>) -> bson_frame::Result<Vec<u8>>
     ensures { MatchResult result (λ back. back.items ≡ bytes.items) (λ _. IsEnvelope bytes.items → ⊥) }
 {
-    match RawDocumentBuf::from_bytes(bytes) {
-        Ok(document) => Ok(document.into_bytes()),
-        Err(e) => Err(e),
-    }
+    Ok(RawDocumentBuf::from_bytes(bytes)?.into_bytes())
 }
 
 /// Elements have one first fault at most: the bytes alone tell its key and its kind.

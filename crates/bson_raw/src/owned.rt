@@ -91,9 +91,6 @@ impl<'a> RawElement<'a> {
         ensures value { CopyAnswers (parts_of self.now) result }
         ensures place { IfOk result ArrayGoesOn }
     {
-        match self.value(alloc) {
-            Ok(value) => Ok(value.to_raw_bson(alloc)?),
-            Err(e) => Err(e),
-        }
+        Ok(self.value(alloc)?.to_raw_bson(alloc)?)
     }
 }

@@ -4,7 +4,7 @@ use Rattle.std.specs.Prelude.{bytes_eq, unwrap_or}
 use Rattle.std.specs.Option.{option_map}
 use Rattle.bson_base.specs.Value.{Value, Members, no_members, look_up, has_key, put, without}
 use Rattle.bson_bytes.specs.Encode.{encode}
-use Rattle.bson_meaning.specs.Meaning.{key, asc, norm}
+use Rattle.bson_meaning.specs.Meaning.{norm_in_order, key}
 use Rattle.bson_table.specs.declared.row.Found.{Found}
 use Rattle.store_documents.specs.Bodies.{AnswersChanged, AnswersUnset}
 use Rattle.store_documents.specs.declared.change.Unset.{Unset}
@@ -36,7 +36,7 @@ other_key k x y other = by (bytes_eq id_key k) refl
 -- ---- set
 
 abbrev pub SetsIn : List ℕ → Value → Found → Result (Vec ℕ Global) ErrorKind → Type 0
-SetsIn k v f r = (d : Members) → IsKept d → f.body.items ≡ encode d → AnswersChanged (put k (asc (norm v)) d) r
+SetsIn k v f r = (d : Members) → IsKept d → f.body.items ≡ encode d → AnswersChanged (put k (norm_in_order v) d) r
 
 set_own : (k : List ℕ) (w : Value) (d : Members) → k ≢ id_key → look_up id_key (put k w d) ≡ look_up id_key d
 set_own k w d other = look_up-put id_key k w d ∙ other_key k (Some w) (look_up id_key d) other
@@ -44,7 +44,7 @@ set_own k w d other = look_up-put id_key k w d ∙ other_key k (Some w) (look_up
 pub set_remakes : (id v : Value) (k : List ℕ) (f : Found) (b : Vec ℕ Global) → IsFreeKey k → SetsIn k v f (Ok b) → Remakes id (set id k (Some v)) done f b.items
 set_remakes id v k f b free sets l front old back was kept at =
     let h = sets old kept was in (
-      put k (asc (norm v)) old,
+      put k (norm_in_order v) old,
       h.3,
       inl (
         free,
@@ -56,14 +56,14 @@ set_remakes id v k f b free sets l front old back was kept at =
           inr (λ deep. absurd (omega (arith, deep, h.0)), inl (h.1, inr (λ long. absurd (omega (arith, long, h.2)), (refl, refl)))),
         ),
       ),
-      ap key (own_if (put k (asc (norm v)) old) old (set_own k (asc (norm v)) old free.0)),
+      ap key (own_if (put k (norm_in_order v) old) old (set_own k (norm_in_order v) old free.0)),
     )
 
 -- why a value isn't set
 pub set_refused : (id v : Value) (k : List ℕ) (f : Found) (e : ErrorKind) → IsFreeKey k → SetsIn k v f (Err e) → Answered id (set id k (Some v)) (refused e None) f
 set_refused id v k f e free sets l front old back was kept at = by (sets old kept was)
   where
-    by : AnswersChanged (put k (asc (norm v)) old) (Err e) → Answers (set id k (Some v)) l (refused e None) l ⊎ (refused e None ≡ refused kind.Memory None)
+    by : AnswersChanged (put k (norm_in_order v) old) (Err e) → Answers (set id k (Some v)) l (refused e None) l ⊎ (refused e None ≡ refused kind.Memory None)
     by (inl h) = inl (inl (free, inl (front, old, back, at, inl (h.1, (ap (λ x. refused x None) h.0, refl)))))
     by (inr (inl h)) = inl (inl (free, inl (front, old, back, at, inr (λ deep. absurd (omega (arith, deep, h.1)), inr (h.2, (ap (λ x. refused x None) h.0, refl))))))
     by (inr (inr (inl h))) = inl (inl (free, inl (front, old, back, at, inr (λ deep. absurd (omega (arith, deep, h.1)), inl (h.2, inl (h.3, (ap (λ x. refused x None) h.0, refl)))))))

@@ -10,7 +10,7 @@ use Rattle.bson_table.specs.Rows.{Doc, last_place}
 use Rattle.bson_table.specs.Cells.{is_listed, int_in, doc_of}
 use Rattle.bson_table.specs.Check.{IsGoodAfter, AreGood, IsFirstBad}
 use Rattle.bson_table.specs.Seen.{Pair, HasSeen}
-use Rattle.bson_table.specs.Judged.{ArePassed, AreBad, Judges}
+use Rattle.bson_table.specs.Judged.{ArePassed, AreBad, JudgesRow}
 use Rattle.bson_table.proofs.CheckLemmas.{good_on}
 use Rattle.bson_table.proofs.LastPlaceLemmas.{last_last, map_end}
 
@@ -38,8 +38,8 @@ module _ (accepts : List ℕ → List ℕ → List ℕ → Type 0) where
     is = h.is;
   }
 
-  still_wrong : (keys keys' : List Pair) (last last' : ℤ) (rows : List Row) (r : Row) (verdict : Result (Unit {0}) OpenError) → is_err verdict ≡ true → is_listed r ≡ true → Judges accepts keys last rows verdict
-      → Judges accepts keys' last' (rows ++ r ∷ []) verdict
+  still_wrong : (keys keys' : List Pair) (last last' : ℤ) (rows : List Row) (r : Row) (verdict : Result (Unit {0}) OpenError) → is_err verdict ≡ true → is_listed r ≡ true → JudgesRow accepts keys last rows verdict
+      → JudgesRow accepts keys' last' (rows ++ r ∷ []) verdict
   still_wrong keys keys' last last' rows r (Ok done) e t h = absurd (cc)
   still_wrong keys keys' last last' rows r (Err NotAStore) e t h = mistyped_on rows r h
   still_wrong keys keys' last last' rows r (Err (BadRow place)) e t h = record { typed = typed_on rows r h.typed t; first = subst (λ (ds : List Doc). IsFirstBad accepts ds place) (sym (map_end r rows)) (bad_on (map doc_of rows) (doc_of r) place h.first) }
@@ -48,10 +48,10 @@ module _ (accepts : List ℕ → List ℕ → List ℕ → Type 0) where
 
   -- what is wrong stays so, whatever the row
   pub wrong_on : (keys keys' : List Pair) (last last' : ℤ) (rows : List Row) (r : Row) (verdict now : Result (Unit {0}) OpenError) → is_err now ≡ true → (IsTrue (is_listed r) → now ≡ verdict) → (is_listed r ≡ false → now ≡ Err NotAStore)
-      → Judges accepts keys last rows verdict → Judges accepts keys' last' (rows ++ r ∷ []) now
+      → JudgesRow accepts keys last rows verdict → JudgesRow accepts keys' last' (rows ++ r ∷ []) now
   wrong_on keys keys' last last' rows r verdict now e kept mistyped h = elim (cases_Bool (is_listed r)) [
-    | inl t ↦ subst (λ v. Judges accepts keys' last' (rows ++ r ∷ []) v) (sym (kept t)) (still_wrong keys keys' last last' rows r verdict (ap is_err (sym (kept t)) ∙ e) t h)
-    | inr f ↦ subst (λ v. Judges accepts keys' last' (rows ++ r ∷ []) v) (sym (mistyped f)) (mistyped_at rows r f)
+    | inl t ↦ subst (λ v. JudgesRow accepts keys' last' (rows ++ r ∷ []) v) (sym (kept t)) (still_wrong keys keys' last last' rows r verdict (ap is_err (sym (kept t)) ∙ e) t h)
+    | inr f ↦ subst (λ v. JudgesRow accepts keys' last' (rows ++ r ∷ []) v) (sym (mistyped f)) (mistyped_at rows r f)
   ]
 
   -- a good row after rows that pass
@@ -74,12 +74,12 @@ module _ (accepts : List ℕ → List ℕ → List ℕ → Type 0) where
 
   -- where nothing is wrong
   pub passed_if : (keys : List Pair) (last : ℤ) (rows : List Row) (r : Row) (verdict now : Result (Unit {0}) OpenError) → is_err now ≡ false → (IsTrue (is_listed r) → now ≡ verdict) → (is_listed r ≡ false → now ≡ Err NotAStore)
-      → Judges accepts keys last rows verdict → ArePassed accepts keys last rows × (is_listed r ≡ true)
+      → JudgesRow accepts keys last rows verdict → ArePassed accepts keys last rows × (is_listed r ≡ true)
   passed_if keys last rows r verdict now e kept mistyped h = elim (cases_Bool (is_listed r)) [
     | inl t ↦ (go verdict (ap is_err (sym (kept t)) ∙ e) h, t)
     | inr f ↦ absurd (let g = mistyped f in cc)
   ]
     where
-      go : (v : Result (Unit {0}) OpenError) → is_err v ≡ false → Judges accepts keys last rows v → ArePassed accepts keys last rows
+      go : (v : Result (Unit {0}) OpenError) → is_err v ≡ false → JudgesRow accepts keys last rows v → ArePassed accepts keys last rows
       go (Ok done) q k = k
       go (Err error) q k = absurd (cc)

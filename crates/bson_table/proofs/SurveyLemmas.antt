@@ -9,7 +9,7 @@ use Rattle.bson_table.specs.declared.opening.OpenError.TheVariants.{NotAStore, B
 use Rattle.bson_table.specs.Schema.{documents_schema, no_schema}
 use Rattle.bson_table.specs.Rows.{Doc, HasRows, Shows, IsBlank}
 use Rattle.bson_table.specs.Check.{AreGood}
-use Rattle.bson_table.specs.Open.{Refuses, Passes, Opened, Unopened, Makes, HasTable, HasNoTable, table_name}
+use Rattle.bson_table.specs.Open.{RefusesOpening, PassesOpening, Opened, Unopened, Makes, HasTable, HasNoTable, table_name}
 use Rattle.bson_table.proofs.StatementLemmas.{unchanged_shows}
 use Rattle.bson_table.proofs.UniqueLemmas.{one_list}
 use Rattle.bson_table.proofs.ListedLemmas.{listed_shows}
@@ -36,12 +36,12 @@ pub one_there : (s : State) → is_some (table_named s.now.schema table_name) �
 one_there s h = is_there (table_named s.now.schema table_name) h
 
 module _ (accepts : List ℕ → List ℕ → List ℕ → Type 0) (old new : State) where
-  pub refuses_other : (e : OpenError) → (e ≡ Memory) ⊎ (e ≡ Database) → Refuses accepts old new e
-  refuses_other e (inl is) = subst (Refuses accepts old new) (sym is) tt
-  refuses_other e (inr is) = subst (Refuses accepts old new) (sym is) tt
+  pub refuses_other : (e : OpenError) → (e ≡ Memory) ⊎ (e ≡ Database) → RefusesOpening accepts old new e
+  refuses_other e (inl is) = subst (RefusesOpening accepts old new) (sym is) tt
+  refuses_other e (inr is) = subst (RefusesOpening accepts old new) (sym is) tt
 
 module _ (accepts : List ℕ → List ℕ → List ℕ → Type 0) (old new : State) (auto : old.in_transaction ≡ false) (settled : IsTrue old.is_open → old.now ≡ old.committed) where
-  opened_by : IsLive old → is_some (table_named old.now.schema table_name) ≡ true → Passes accepts old new → Opened accepts old new
+  opened_by : IsLive old → is_some (table_named old.now.schema table_name) ≡ true → PassesOpening accepts old new → Opened accepts old new
   opened_by live there p =
       let u = p.1.unchanged in
       let was = u.0.was_open in
@@ -55,17 +55,17 @@ module _ (accepts : List ℕ → List ℕ → List ℕ → Type 0) (old new : St
         other = inr p;
       }
 
-  pub opened_if : IsLive old → is_some (table_named old.now.schema table_name) ≡ true → (r : Result (Unit {0}) OpenError) → OnOk r (Passes accepts old new) → OnOk r (Opened accepts old new)
+  pub opened_if : IsLive old → is_some (table_named old.now.schema table_name) ≡ true → (r : Result (Unit {0}) OpenError) → OnOk r (PassesOpening accepts old new) → OnOk r (Opened accepts old new)
   opened_if live there (Ok u) p = opened_by live there p
   opened_if live there (Err e) p = tt
 
-  says : (e : OpenError) → HasTable old → Refuses accepts old new e → Unopened accepts old new e
+  says : (e : OpenError) → HasTable old → RefusesOpening accepts old new e → Unopened accepts old new e
   says NotAStore there h = inl (there, h)
   says (BadRow place) there h = (there, h)
   says Memory there h = tt
   says Database there h = tt
 
-  pub says_if : is_some (table_named old.now.schema table_name) ≡ true → (r : Result (Unit {0}) OpenError) → IfErr r (Refuses accepts old new) → IfErr r (Unopened accepts old new)
+  pub says_if : is_some (table_named old.now.schema table_name) ≡ true → (r : Result (Unit {0}) OpenError) → IfErr r (RefusesOpening accepts old new) → IfErr r (Unopened accepts old new)
   says_if there (Ok u) h = tt
   says_if there (Err e) h = says e (one_there old there) h
 

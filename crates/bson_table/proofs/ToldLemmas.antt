@@ -5,9 +5,9 @@ use Rattle.sqlite.specs.State.{State, Shown, IsUnchanged}
 use Rattle.bson_table.specs.declared.opening.OpenError.{OpenError}
 use Rattle.bson_table.specs.declared.opening.OpenError.TheVariants.{NotAStore, BadRow, Memory, Database}
 use Rattle.bson_table.specs.Cells.{doc_of}
-use Rattle.bson_table.specs.Open.{all_text, Refuses, Passes}
+use Rattle.bson_table.specs.Open.{all_text, RefusesOpening, PassesOpening}
 use Rattle.bson_table.specs.Seen.{Pair}
-use Rattle.bson_table.specs.Judged.{Judges}
+use Rattle.bson_table.specs.Judged.{JudgesRow}
 use Rattle.bson_table.proofs.PlainLemmas.{all_asks, listed_same}
 use Rattle.bson_table.proofs.VisitLemmas.{shown_before}
 
@@ -15,11 +15,11 @@ module _ (accepts : List ℕ → List ℕ → List ℕ → Type 0) (old mid new 
   whole : Shown all_text [] old new rows
   whole = shown_before all_text [] old mid new rows all_asks same shown
 
-  pub told_passes : (keys : List Pair) (last : ℤ) (verdict : Result (Unit {0}) OpenError) → Judges accepts keys last rows verdict → OnOk verdict (Passes accepts old new)
+  pub told_passes : (keys : List Pair) (last : ℤ) (verdict : Result (Unit {0}) OpenError) → JudgesRow accepts keys last rows verdict → OnOk verdict (PassesOpening accepts old new)
   told_passes keys last (Ok done) h = (map doc_of rows, record { rows = rows; answered = whole; typed = h.typed; same = refl; unchanged = listed_same old new rows whole }, h.good)
   told_passes keys last (Err error) h = tt
 
-  pub told_refuses : (keys : List Pair) (last : ℤ) (verdict : Result (Unit {0}) OpenError) → Judges accepts keys last rows verdict → IfErr verdict (Refuses accepts old new)
+  pub told_refuses : (keys : List Pair) (last : ℤ) (verdict : Result (Unit {0}) OpenError) → JudgesRow accepts keys last rows verdict → IfErr verdict (RefusesOpening accepts old new)
   told_refuses keys last (Ok done) h = tt
   told_refuses keys last (Err NotAStore) h = (inr (rows, whole, h), listed_same old new rows whole)
   told_refuses keys last (Err (BadRow place)) h = (map doc_of rows, record { rows = rows; answered = whole; typed = h.typed; same = refl; unchanged = listed_same old new rows whole }, h.first)

@@ -23,9 +23,9 @@ module _ (accepts : List ℕ → List ℕ → List ℕ → Type 0) where
     pub first : IsFirstBad accepts (map doc_of rows) place
 
   -- what is told of the rows: a type that one of them hasn't, wherever it stands, or else the first bad one, or else that they pass
-  abbrev pub Judges : List Pair → ℤ → List Row → Result (Unit {0}) OpenError → Type 0
-  Judges keys last rows (Ok done) = ArePassed keys last rows
-  Judges keys last rows (Err NotAStore) = list_all is_listed rows ≡ false
-  Judges keys last rows (Err (BadRow place)) = AreBad rows place
-  Judges keys last rows (Err Memory) = ⊥
-  Judges keys last rows (Err Database) = ⊥
+  abbrev pub JudgesRow : List Pair → ℤ → List Row → Result (Unit {0}) OpenError → Type 0
+  JudgesRow keys last rows (Ok done) = ArePassed keys last rows
+  JudgesRow keys last rows (Err NotAStore) = list_all is_listed rows ≡ false
+  JudgesRow keys last rows (Err (BadRow place)) = AreBad rows place
+  JudgesRow keys last rows (Err Memory) = ⊥
+  JudgesRow keys last rows (Err Database) = ⊥

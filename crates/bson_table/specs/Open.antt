@@ -55,21 +55,21 @@ Makes old trees = HasNoTable old × (IsBlank old → HasRows trees [])
 
 module _ (accepts : List ℕ → List ℕ → List ℕ → Type 0) where
   -- why the rows of a table are refused, and what that leaves
-  abbrev pub Refuses : State → State → OpenError → Type 0
-  Refuses old new NotAStore = ReadsNot old new
-  Refuses old new (BadRow place) = (docs : List Doc) × Reads old new docs × IsFirstBad accepts docs place
-  Refuses old new Memory = Unit {0}
-  Refuses old new Database = Unit {0}
+  abbrev pub RefusesOpening : State → State → OpenError → Type 0
+  RefusesOpening old new NotAStore = ReadsNot old new
+  RefusesOpening old new (BadRow place) = (docs : List Doc) × Reads old new docs × IsFirstBad accepts docs place
+  RefusesOpening old new Memory = Unit {0}
+  RefusesOpening old new Database = Unit {0}
 
-  abbrev pub Passes : State → State → Type 0
-  Passes old new = (docs : List Doc) × Reads old new docs × AreGood accepts docs
+  abbrev pub PassesOpening : State → State → Type 0
+  PassesOpening old new = (docs : List Doc) × Reads old new docs × AreGood accepts docs
 
   -- what an open leaves: the table made, or found with rows that a store can have written
   pub record Opened (old new : State) : Type 0 where
     pub made : IsBlank old → Shows new []
     pub found : (docs : List Doc) → Shows old docs → Shows new docs × AreGood accepts docs
     pub listed : old.now.schema ≡ documents_schema → (docs : List Doc) × Shows new docs × AreGood accepts docs × IsUnchanged old new
-    pub other : HasNoTable old ⊎ Passes old new
+    pub other : HasNoTable old ⊎ PassesOpening old new
 
   -- when each refusal comes
   abbrev pub Unopened : State → State → OpenError → Type 0

@@ -8,8 +8,8 @@ ghost use Rattle.bson_table.specs.Rows.{Doc, last_place};
 ghost use Rattle.bson_table.specs.Cells.{is_listed, int_in, doc_of};
 ghost use Rattle.bson_table.specs.Check.{IsGoodAfter};
 ghost use Rattle.bson_table.specs.Seen.{has_pair, HasSeen};
-ghost use Rattle.bson_table.specs.Judged.{Judges};
-ghost use Rattle.bson_table.specs.Open.{Refuses, Passes, KeepsRows};
+ghost use Rattle.bson_table.specs.Judged.{JudgesRow};
+ghost use Rattle.bson_table.specs.Open.{RefusesOpening, PassesOpening, KeepsRows};
 
 use crate::opening::{OpenError, bytes_at, is_row, place_in, refusal};
 use sqlite::{Alter, Connection, Error, Row};
@@ -86,8 +86,8 @@ fn judge<C: RowCheck>(
     row: &Row,
     check: &C,
 ) -> Result<Result<(), OpenError>, AllocError>
-    ensures { (rows : List Row) → Judges (C.accepts check.now) seen.old.keys last rows verdict
-        → IfOk result (λ now. Judges (C.accepts check.now) seen.new.keys (int_in (column row.now 0)) (rows ++ row.now ∷ []) now) }
+    ensures { (rows : List Row) → JudgesRow (C.accepts check.now) seen.old.keys last rows verdict
+        → IfOk result (λ now. JudgesRow (C.accepts check.now) seen.new.keys (int_in (column row.now 0)) (rows ++ row.now ∷ []) now) }
 {
     let now = unless_mistyped(verdict, row);
     if now.is_err() {
@@ -107,8 +107,8 @@ pub(crate) fn survey<S: Alter, C: RowCheck>(
     conn: &mut Connection<S>,
     check: &C,
 ) -> Result<(), OpenError>
-    ensures read { HasCleanDisk (state S.Store conn.new) → OnOk result (Passes (C.accepts check.now) (state S.Store conn.old) (state S.Store conn.new)) }
-    ensures refused { HasCleanDisk (state S.Store conn.new) → IfErr result (λ e. Refuses (C.accepts check.now) (state S.Store conn.old) (state S.Store conn.new) e) }
+    ensures read { HasCleanDisk (state S.Store conn.new) → OnOk result (PassesOpening (C.accepts check.now) (state S.Store conn.old) (state S.Store conn.new)) }
+    ensures refused { HasCleanDisk (state S.Store conn.new) → IfErr result (λ e. RefusesOpening (C.accepts check.now) (state S.Store conn.old) (state S.Store conn.new) e) }
     ensures kept { HasCleanDisk (state S.Store conn.new) → (IsTrue (state S.Store conn.old).is_open → (state S.Store conn.old).now ≡ (state S.Store conn.old).committed)
         → OnErr result (KeepsRows (state S.Store conn.old) (state S.Store conn.new)) }
     ensures crash { Survives (state S.Store conn.old) (state S.Store conn.new) (λ _. ⊥) }

@@ -6,7 +6,7 @@ ghost use Rattle.sqlite.specs.Held.{state};
 ghost use Rattle.sqlite.specs.State.{HasCleanDisk, Survives, IsLive};
 ghost use Rattle.sqlite_schema.specs.Names.{table_named, index_named, view_named};
 ghost use Rattle.bson_table.specs.Cells.{is_listed, int_in, bytes_in};
-ghost use Rattle.bson_table.specs.Open.{Refuses, Passes, Opened, Unopened, KeepsRows, Makes, table_name, HasNoTable, IsNameTaken};
+ghost use Rattle.bson_table.specs.Open.{RefusesOpening, PassesOpening, Opened, Unopened, KeepsRows, Makes, table_name, HasNoTable, IsNameTaken};
 
 use crate::check::{RowCheck, survey};
 use crate::statements::create;

@@ -15,7 +15,7 @@ use Rattle.store_laws.specs.State.{in_json}
 use Rattle.store_laws.specs.declared.error.ErrorKind.{ErrorKind}
 use Rattle.store_laws.specs.declared.error.ErrorKind.TheVariants.{JsonRefused, Memory}
 use Rattle.store_laws.proofs.Plain.{object_tree}
-use Rattle.store_laws.proofs.Restore.{canonical_read}
+use Rattle.store_laws.proofs.Restore.{in_order_read}
 use Rattle.store_documents.specs.Answers.{AnswersTree}
 
 -- why there is no document, or that memory was wanted
@@ -23,8 +23,8 @@ abbrev pub Refused : Data → ErrorKind → Type 0
 Refused j k = ReadsTree j (unreadable k) ⊎ ((k ≡ Memory) × (a : Reading) × ReadsTree j a × (IsUnread in_json a → ⊥))
 
 -- the refusal for a fault of the reader
-abbrev pub Tells : Error → ErrorKind → Type 0
-Tells x k = ((x ≡ errors.Memory) × (k ≡ Memory)) ⊎ ((x ≢ errors.Memory) × (k ≡ JsonRefused))
+abbrev pub TellsFault : Error → ErrorKind → Type 0
+TellsFault x k = ((x ≡ errors.Memory) × (k ≡ Memory)) ⊎ ((x ≢ errors.Memory) × (k ≡ JsonRefused))
 
 wanted : (j : Data) (js : JsonMembers) (k : ErrorKind) → j ≡ object js → k ≡ Memory → Refused j k
 wanted j js k is memory = let t = object_tree js in inr (memory, t.0, rw is t.1, t.2)
@@ -33,7 +33,7 @@ refused : (j : Data) (js : JsonMembers) (x : Error) (k : ErrorKind) → j ≡ ob
 refused j js x k is reads kind = inl (rw (is, reads, kind) refl)
 
 -- the JSON reader answered a fault
-pub faulted : (j : Data) (js : JsonMembers) (x : Error) (k : ErrorKind) → j ≡ object js → Fails x (read_members js) → Tells x k → Refused j k
+pub faulted : (j : Data) (js : JsonMembers) (x : Error) (k : ErrorKind) → j ≡ object js → Fails x (read_members js) → TellsFault x k → Refused j k
 faulted j js x k is fails (inl h) = wanted j js k is h.1
 faulted j js errors.Memory k is fails (inr h) = absurd (h.0 refl)
 faulted j js (errors.InvalidObjectId e) k is fails (inr h) = refused j js (errors.InvalidObjectId e) k is fails h.1
@@ -58,5 +58,5 @@ kept j js d (Err k) is reads refuses = unfit j js d k is reads refuses
 
 -- what is kept of a document is as it is read
 pub kept_read : (d : Members) (r : Result Document ErrorKind) → IfOk r (λ _. IsSound (document d)) → IsKeptSo d r → IfOk r (λ e. IsRead (members_of (pairs_of e)))
-kept_read d (Ok e) sound keeps = subst IsRead (sym keeps.2) (canonical_read d keeps.1 sound keeps.0)
+kept_read d (Ok e) sound keeps = subst IsRead (sym keeps.2) (in_order_read d keeps.1 sound keeps.0)
 kept_read d (Err k) sound refuses = tt

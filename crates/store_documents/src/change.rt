@@ -4,7 +4,7 @@ ghost use Rattle.std.specs.Prelude.{◌≡◌, IfOk, OnOk, string_bytes};
 ghost use Rattle.bson_base.specs.Kinds.{IsSound};
 ghost use Rattle.bson_base.specs.Value.{Members, put};
 ghost use Rattle.bson_bytes.specs.Encode.{encode};
-ghost use Rattle.bson_meaning.specs.Meaning.{asc, norm};
+ghost use Rattle.bson_meaning.specs.Meaning.{norm_in_order};
 ghost use Rattle.bson_model.specs.Keyed.{has_key as has_pair, put as put_pair, without as without_pair};
 ghost use Rattle.bson_model.specs.View.{view, members_of, pairs_of};
 ghost use Rattle.store_laws.specs.State.{IsKept};
@@ -19,7 +19,7 @@ use store_laws::ErrorKind;
 
 /// The normal form of a value, with its keys in order.
 fn kept_value(alloc: Global, value: Bson) -> Result<Bson, AllocError>
-    ensures normal { IfOk result (λ v. view v ≡ asc (norm (view value))) }
+    ensures normal { IfOk result (λ v. view v ≡ norm_in_order (view value)) }
     ensures sound { IfOk result (λ _. IsSound (view value)) }
 {
     let normal = normalize(alloc, value)?;
@@ -41,7 +41,7 @@ fn put_normal(
     key: &str,
     value: Bson,
 ) -> Result<(), AllocError>
-    ensures put { OnOk result (members_of (pairs_of document.new) ≡ put key.now (asc (norm (view value))) (members_of (pairs_of document.old))) }
+    ensures put { OnOk result (members_of (pairs_of document.new) ≡ put key.now (norm_in_order (view value)) (members_of (pairs_of document.old))) }
     ensures sound { OnOk result (IsSound (view value)) }
 {
     let value = kept_value(alloc, value)?;
@@ -66,7 +66,7 @@ fn changed_body(alloc: Global, document: &Document) -> Result<Vec<u8>, ErrorKind
 /// `TooLong` where its bytes are over 16777216; `Memory` where a growth was refused. Bytes that aren't the written form of a
 /// kept document may be refused as `read_bytes` refuses them. Where it isn't refused, the value is known to be sound.
 pub fn set_member(alloc: Global, body: &[u8], key: &str, value: Bson) -> Result<Vec<u8>, ErrorKind>
-    ensures changed { (d : Members) → IsKept d → body.now ≡ encode d → AnswersChanged (put key.now (asc (norm (view value))) d) result }
+    ensures changed { (d : Members) → IsKept d → body.now ≡ encode d → AnswersChanged (put key.now (norm_in_order (view value)) d) result }
     ensures sound { IfOk result (λ _. IsSound (view value)) }
 {
     let mut document = read_bytes(alloc, body)?;

@@ -6,7 +6,7 @@ ghost use Rattle.serde_json.specs.View.{view as tree_of, members_view};
 ghost use Rattle.bson_base.specs.Kinds.{IsSound};
 ghost use Rattle.bson_base.specs.Value.{document as tree, Members};
 ghost use Rattle.bson_bytes.specs.Spells.{Means};
-ghost use Rattle.bson_meaning.specs.Meaning.{asc_members, norm_members};
+ghost use Rattle.bson_meaning.specs.Meaning.{norm_members_in_order};
 ghost use Rattle.bson_model.specs.View.{members_of, pairs_of};
 ghost use Rattle.bson_model.specs.declared.extjson.de.Error.TheVariants as json_faults;
 ghost use Rattle.store_laws.specs.Reading.{IsRead, IsUnfit, Keeps, ReadsTree, kind_of_gate_error, readable, unreadable};
@@ -84,7 +84,7 @@ pub fn read_bytes(alloc: Global, bytes: &[u8]) -> Result<Document, ErrorKind>
 
 /// The normal form of a document, with its keys in order.
 fn in_order(alloc: Global, document: Document) -> Result<Document, AllocError>
-    ensures normal { IfOk result (λ d. members_of (pairs_of d) ≡ asc_members (norm_members (members_of (pairs_of document)))) }
+    ensures normal { IfOk result (λ d. members_of (pairs_of d) ≡ norm_members_in_order (members_of (pairs_of document))) }
     ensures sound { IfOk result (λ _. IsSound (tree (members_of (pairs_of document)))) }
 {
     let normal = normalize_document(alloc, document)?;

@@ -3,14 +3,14 @@ use Rattle.std.proofs.Common.{◌≡◌, ◌↔◌, inl, inr, ℕ, suc, List, []
 use Rattle.std.specs.Prelude.{MatchOption, nat_lt}
 use Rattle.bson_bytes.specs.Encode.{size}
 use Rattle.store_laws.specs.Filter.{Filter, SameFilter}
-use Rattle.bson_meaning.specs.Meaning.{Same, SameOption}
+use Rattle.bson_meaning.specs.Meaning.{norm_members_in_order, Same, SameOption}
 use Rattle.bson_frame.specs.Frame.{size_limit}
 use Rattle.store_laws.specs.Reading.{Documents, IsRead, AreRead}
 use Rattle.store_laws.specs.Same.{SameDocuments}
 use Rattle.store_laws.specs.State.{id_key, HasId, SomeHasId, NoneHasId, IsTaken, AtId, When, refusal_of, Picks}
 use Rattle.store_laws.specs.declared.error.ErrorKind.TheVariants.{NoId, TooLong}
 use Rattle.bson_base.specs.Value.{Value, document, Members, look_up, has_key}
-use Rattle.bson_meaning.proofs.Canonical.{canonical_members, canonical_same}
+use Rattle.bson_meaning.proofs.NormInOrder.{in_order_same}
 use Rattle.bson_meaning.proofs.KeyLaw.{key_size}
 use Rattle.store_laws.proofs.Selecting.{same_look_up, look_up_distinct, carried, exchanged, selects_same}
 
@@ -126,8 +126,8 @@ match_same (Some k) (Some l) A A' P P' e f g a b = let i : k ≡ l = cc in g k a
 
 pub size_same : (d e : Members) → Same (document d) (document e) → IsRead d → IsRead e → size d ≡ size e
 size_same d e h a b =
-    let i : document (canonical_members d) ≡ document (canonical_members e) = canonical_same (document d) (document e) h in
-    let j : canonical_members d ≡ canonical_members e = cc in
+    let i : document (norm_members_in_order d) ≡ document (norm_members_in_order e) = in_order_same (document d) (document e) h in
+    let j : norm_members_in_order d ≡ norm_members_in_order e = cc in
     sym (key_size d a.clean a.sound) ∙ ap size j ∙ key_size e b.clean b.sound
 
 pub refusal_same : (d e : Members) → Same (document d) (document e) → IsRead d → IsRead e → refusal_of d ≡ refusal_of e

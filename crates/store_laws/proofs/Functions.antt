@@ -11,7 +11,7 @@ use Rattle.store_laws.specs.State.{id_key, State, list_of, store, HasId, NoneHas
 use Rattle.store_laws.specs.Run.{Denial, kind_of_denial, Denials, Turn, Run, asked, told}
 use Rattle.store_laws.specs.declared.error.ErrorKind.{ErrorKind}
 use Rattle.store_laws.specs.declared.error.ErrorKind.TheVariants.{BadName, BadKey, JsonRefused, TooDeep, Nul, TooLong, NotFound, DuplicateId}
-use Rattle.bson_meaning.proofs.Canonical.{canonical}
+use Rattle.bson_meaning.specs.Meaning.{norm_in_order}
 use Rattle.store_laws.proofs.Documents.{when_same, match_same}
 use Rattle.store_laws.proofs.Runs.{same_names}
 use Rattle.store_laws.proofs.States.{list_of-store}
@@ -88,7 +88,7 @@ one_answer (set id k (Some v)) ds p q =
     one_when _ _ _ _ _
     (λ _ p q. one_at id ds _ _ _ _
     (λ front d back p q. one_when _ _ _ _ _ (λ _ a b. no TooDeep ds a b)
-    (λ p q. one_when _ _ _ _ _ (λ _ p q. one_when _ _ _ _ _ (λ _ a b. no TooLong ds a b) (λ a b. alone done (front ++ put k (canonical v) d ∷ back) a b) p q)
+    (λ p q. one_when _ _ _ _ _ (λ _ p q. one_when _ _ _ _ _ (λ _ a b. no TooLong ds a b) (λ a b. alone done (front ++ put k (norm_in_order v) d ∷ back) a b) p q)
     (λ a b. no Nul ds a b) p q) p q)
     (λ a b. no NotFound ds a b) p q)
     (λ a b. no BadKey ds a b) p q

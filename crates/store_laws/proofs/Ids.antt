@@ -5,11 +5,11 @@ use Rattle.bson_base.specs.Kinds.{HasNo00, IsPlainScalar, IsCleanScalar, IsRange
 use Rattle.bson_base.specs.Value.{Value, document, Members, no_members, member, look_up}
 use Rattle.bson_bytes.specs.Encode.{value_size, members_size, encode, size}
 use Rattle.bson_frame.specs.Frame.{size_limit}
-use Rattle.bson_meaning.specs.Meaning.{key, Same}
+use Rattle.bson_meaning.specs.Meaning.{norm_members_in_order, key, Same}
 use Rattle.store_laws.specs.State.{id_key, HasId, IsKept}
 use Rattle.store_laws.specs.Table.{only_id, own_id}
 use Rattle.bson_bytes.proofs.Lengths.{encode_length}
-use Rattle.bson_meaning.proofs.Canonical.{canonical_members, canonical_same}
+use Rattle.bson_meaning.proofs.NormInOrder.{in_order_same}
 use Rattle.bson_meaning.proofs.KeyLaw.{key_law, key_size, same_back}
 use Rattle.store_laws.proofs.Selecting.{Distinct?, look_up_distinct}
 use Rattle.bson_meaning.proofs.PlainSame.{plain_same, some_found, only_same}
@@ -53,7 +53,7 @@ pub plain_of : (v : Value) → IsClean v → IsPlain v
 plain_of v c = each_part HasNo00 HasNo00 (λ s. IsPlainScalar s × IsCleanScalar s) IsPlainScalar (λ k h. h) (λ s h. h.0) v c
 
 pub key_long : (d : Members) (own : Value) → Own d own → length (key (only_id own)) ≤ size_limit
-key_long d own o = omega (arith, encode_length (canonical_members (only_id own)), key_size (only_id own) (o.plain_key, o.clean, tt) (only_sound own o.text o.sound), o.small)
+key_long d own o = omega (arith, encode_length (norm_members_in_order (only_id own)), key_size (only_id own) (o.plain_key, o.clean, tt) (only_sound own o.text o.sound), o.small)
 
 pub own_is : (d : Members) (own : Value) → look_up id_key d ≡ Some own → own_id d ≡ only_id own
 own_is d own e = ap (λ o. unwrap_or (option_map only_id o) no_members) e
@@ -70,8 +70,8 @@ has_written d id k s h = some_found (look_up id_key d) (λ own. Same own id) by 
     by : (own : Value) → look_up id_key d ≡ Some own → Same own id → IsWritten d id
     by own e same =
         let o = own_of d own k e in
-        let i : document (canonical_members (only_id own)) ≡ document (canonical_members (only_id id)) = canonical_same (document (only_id own)) (document (only_id id)) (only_same id_key own id same) in
-        let j : canonical_members (only_id own) ≡ canonical_members (only_id id) = cc in
+        let i : document (norm_members_in_order (only_id own)) ≡ document (norm_members_in_order (only_id id)) = in_order_same (document (only_id own)) (document (only_id id)) (only_same id_key own id same) in
+        let j : norm_members_in_order (only_id own) ≡ norm_members_in_order (only_id id) = cc in
         let keys : key (only_id id) ≡ key (only_id own) = ap encode (sym j) in
         record {
           plain = plain_same id own (same_back own id s same) s.ranged o.sound.ranged (plain_of own o.clean);

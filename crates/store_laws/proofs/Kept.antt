@@ -6,13 +6,13 @@ use Rattle.bson_base.specs.Value.{Value, document, Members, no_members, member, 
 use Rattle.bson_bytes.specs.Encode.{size, members_size}
 use Rattle.bson_frame.specs.Frame.{size_limit}
 use Rattle.bson_meaning.specs.Gate.{level_limit}
-use Rattle.bson_meaning.specs.Meaning.{Same, SameOption}
+use Rattle.bson_meaning.specs.Meaning.{norm_in_order, Same, SameOption}
 use Rattle.store_laws.specs.Reading.{Documents, readable, unreadable, IsRead, AreRead}
 use Rattle.store_laws.specs.Same.{SameDocuments}
 use Rattle.store_laws.specs.State.{id_key, State, list_of, store, HasId, SomeHasId, IsTaken, AtId, Call, insert, replace, set, unset, remove, get_raw, get_json, find, count, project, import, export, dump, Command, on, collections, Reply, When, refusal_of, or_later, first_refusal, Appends, Answers, IsName, Step, IsCall, IsCommand, IsKept, AreKept, HaveOwnIds, IsStore}
 use Rattle.store_laws.specs.declared.error.ErrorKind.{ErrorKind}
 use Rattle.store_laws.specs.declared.error.ErrorKind.TheVariants.{NoId, TooLong}
-use Rattle.bson_meaning.proofs.Canonical.{canonical, canonical_same, same_canonical}
+use Rattle.bson_meaning.proofs.NormInOrder.{in_order_same, same_in_order}
 use Rattle.store_laws.proofs.Documents.{some_has_id_same}
 use Rattle.store_laws.proofs.Levels.{set_read, read_without}
 use Rattle.store_laws.proofs.Selecting.{Distinct?, look_up_distinct, carried, exchanged}
@@ -28,7 +28,7 @@ reads (d ∷ ds) h = (h.0.read, reads ds h.1)
 
 same_own : (ds : Documents) → AreRead ds → SameDocuments ds ds
 same_own [] h = tt
-same_own (d ∷ ds) h = (same_canonical (document d) (document d) h.0.sound.distinct refl, same_own ds h.1)
+same_own (d ∷ ds) h = (same_in_order (document d) (document d) h.0.sound.distinct refl, same_own ds h.1)
 
 id_distinct : (d : Members) → IsRead d → Distinct? (look_up id_key d)
 id_distinct d h = look_up_distinct d id_key h.sound.distinct
@@ -65,7 +65,7 @@ taken_back d e r = on_some (look_up id_key d) (look_up id_key e) (id_distinct d 
     on_some None p a h = absurd h
     on_some (Some x) None a (inl h) = absurd h
     on_some (Some x) None a (inr h) = absurd h
-    on_some (Some x) (Some y) a (inl h) = inl (same_canonical x y a (sym (canonical_same y x h)))
+    on_some (Some x) (Some y) a (inl h) = inl (same_in_order x y a (sym (in_order_same y x h)))
     on_some (Some x) (Some y) a (inr h) = absurd h
 
 pub none_taken : (d : Members) → IsTaken d [] → ⊥
@@ -93,7 +93,7 @@ own_less (c ∷ front) d back h = (λ t. h.0 (taken_if c (front ++ back) (front 
 
 module _ (d e : Members) (s : SameOption (look_up id_key d) (look_up id_key e)) (a : IsRead d) (b : IsRead e) where
   has_either : (id : Value) → HasDistinctKeys id → HasId id d ↔ HasId id e
-  has_either id i = carried (look_up id_key d) (look_up id_key e) _ _ s (id_distinct d a) (id_distinct e b) (λ x y z dx dy. exchanged x y id id z (same_canonical id id i refl) dx dy)
+  has_either id i = carried (look_up id_key d) (look_up id_key e) _ _ s (id_distinct d a) (id_distinct e b) (λ x y z dx dy. exchanged x y id id z (same_in_order id id i refl) dx dy)
 
   some_either : (id : Value) (front back : Documents) → HasDistinctKeys id → SomeHasId id (front ++ e ∷ back) → SomeHasId id (front ++ d ∷ back)
   some_either id [] back i (inl h) = inl ((has_either id i).1 h)
@@ -148,7 +148,7 @@ free k n = by (bytes_eq id_key k) refl
 
 own_option : (o : Option Value) → Distinct? o → SameOption o o
 own_option None h = tt
-own_option (Some v) h = same_canonical v v h refl
+own_option (Some v) h = same_in_order v v h refl
 
 pub without_size : (k : List ℕ) (d : Members) → members_size (without k d) ≤ members_size d
 without_size k no_members = omega arith
@@ -224,9 +224,9 @@ answers_good r (set id k (Some v)) ds es c g h =
     when_not _ _ _
     (λ is_free t. at_good id ds _ _ g
     (λ front d back good has w.
-    let d' = put k (canonical v) d in
+    let d' = put k (norm_in_order v) d in
     let old = (kept_parts front (d ∷ back) good.kept).1.0 in
-    let id_is : look_up id_key d' ≡ look_up id_key d = look_up-put id_key k (canonical v) d ∙ ap (λ b. cond b (Some (canonical v)) (look_up id_key d)) (free k is_free.0) in
+    let id_is : look_up id_key d' ≡ look_up id_key d = look_up-put id_key k (norm_in_order v) d ∙ ap (λ b. cond b (Some (norm_in_order v)) (look_up id_key d)) (free k is_free.0) in
     when_not _ _ _ (λ _ u. stays ds g u.1)
     (λ low u. when_not _ _ _
     (λ plain x. when_not _ _ _ (λ _ y. stays ds g y.1)

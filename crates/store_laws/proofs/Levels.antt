@@ -6,13 +6,13 @@ use Rattle.std.specs.declared.cmp.Ordering.{Ordering}
 use Rattle.std.specs.declared.cmp.Ordering.TheVariants.{Less, Equal, Greater}
 use Rattle.std.specs.Ordering.{match_ordering}
 use Rattle.bson_base.specs.Kinds.{HasNo00, IsPlainScalar, IsCleanScalar, IsRangedScalar, IsSound, IsPlain, IsClean}
-use Rattle.bson_meaning.specs.Meaning.{norm, norm_items, norm_members, place, asc, asc_items, asc_members, Same}
+use Rattle.bson_meaning.specs.Meaning.{norm_in_order, asc, asc_items, asc_members, norm, norm_items, norm_members, place, Same}
 use Rattle.bson_meaning.specs.Gate.{level_limit}
 use Rattle.store_laws.specs.Reading.{IsRead}
 use Rattle.store_laws.specs.State.{only}
 use Rattle.bson_base.specs.Value.{Value, scalar, array, document, scoped_code, Items, no_items, item, Members, no_members, member, look_up, put, without, levels, items_levels, members_levels, HasDistinctKeys, ItemsHaveDistinctKeys, MembersHaveDistinctKeys, EachPart}
 use Rattle.bson_meaning.proofs.Ordered.{Order, tied, look_up-asc}
-use Rattle.bson_meaning.proofs.Canonical.{canonical, canonical_same}
+use Rattle.bson_meaning.proofs.NormInOrder.{in_order_same}
 use Rattle.bson_meaning.proofs.Normal.{normal_scalar_ranged, normal_scalar_clean, norm_each, asc_each, both_each, norm_distinct}
 use Rattle.bson_meaning.proofs.KeyLaw.{asc_distinct}
 use Rattle.store_laws.proofs.Edits.{only_each, only_distinct}
@@ -60,40 +60,40 @@ mutual
   asc_members_levels (member k v ms) h =
       place_levels k (asc v) (asc_members ms) (look_up-asc k ms ∙ ap (option_map asc) h.0) ∙ omega (arith, asc_levels v h.1, asc_members_levels ms h.2)
 
-pub canonical_levels : (v : Value) → HasDistinctKeys v → levels (canonical v) ≡ levels v
-canonical_levels v h = asc_levels (norm v) (norm_distinct v h) ∙ norm_levels v
+pub in_order_levels : (v : Value) → HasDistinctKeys v → levels (norm_in_order v) ≡ levels v
+in_order_levels v h = asc_levels (norm v) (norm_distinct v h) ∙ norm_levels v
 
 pub same_levels : (v w : Value) → Same v w → HasDistinctKeys v → HasDistinctKeys w → levels v ≡ levels w
-same_levels v w h a b = sym (canonical_levels v a) ∙ ap levels (canonical_same v w h) ∙ canonical_levels w b
+same_levels v w h a b = sym (in_order_levels v a) ∙ ap levels (in_order_same v w h) ∙ in_order_levels w b
 
 -- ---- a value set
 
-pub set_distinct : (v : Value) → HasDistinctKeys (canonical v)
+pub set_distinct : (v : Value) → HasDistinctKeys (norm_in_order v)
 set_distinct v = asc_distinct (norm v)
 
-pub set_ranged : (v : Value) → IsSound v → EachPart IsUtf8 IsRangedScalar (canonical v)
+pub set_ranged : (v : Value) → IsSound v → EachPart IsUtf8 IsRangedScalar (norm_in_order v)
 set_ranged v s = asc_each IsUtf8 IsRangedScalar (norm v) (norm_each IsUtf8 IsUtf8 IsRangedScalar IsRangedScalar (λ k h. h) normal_scalar_ranged v s.ranged)
 
-pub set_clean : (v : Value) → IsSound v → IsPlain (canonical v) → IsClean (canonical v)
+pub set_clean : (v : Value) → IsSound v → IsPlain (norm_in_order v) → IsClean (norm_in_order v)
 set_clean v s p =
-    let c : EachPart IsUtf8 IsCleanScalar (canonical v) = asc_each IsUtf8 IsCleanScalar (norm v) (norm_each IsUtf8 IsUtf8 IsRangedScalar IsCleanScalar (λ k h. h) normal_scalar_clean v s.ranged) in
-    each_part (λ k. HasNo00 k × IsUtf8 k) HasNo00 (λ s. IsPlainScalar s × IsCleanScalar s) (λ s. IsPlainScalar s × IsCleanScalar s) (λ k h. h.0) (λ s h. h) (canonical v)
-    (both_each HasNo00 IsUtf8 IsPlainScalar IsCleanScalar (canonical v) p c)
+    let c : EachPart IsUtf8 IsCleanScalar (norm_in_order v) = asc_each IsUtf8 IsCleanScalar (norm v) (norm_each IsUtf8 IsUtf8 IsRangedScalar IsCleanScalar (λ k h. h) normal_scalar_clean v s.ranged) in
+    each_part (λ k. HasNo00 k × IsUtf8 k) HasNo00 (λ s. IsPlainScalar s × IsCleanScalar s) (λ s. IsPlainScalar s × IsCleanScalar s) (λ k h. h.0) (λ s h. h) (norm_in_order v)
+    (both_each HasNo00 IsUtf8 IsPlainScalar IsCleanScalar (norm_in_order v) p c)
 
 pub clean_plain : (d : Members) → IsClean (document d) → IsPlain (document d)
 clean_plain d c = each_part HasNo00 HasNo00 (λ s. IsPlainScalar s × IsCleanScalar s) IsPlainScalar (λ k h. h) (λ s h. h.0) (document d) c
 
-pub set_read : (k : List ℕ) (v : Value) (d : Members) → HasNo00 k → IsUtf8 k → IsSound v → IsRead d → IsPlain (document (put k (canonical v) d)) → levels (document (put k (canonical v) d)) ≤ level_limit → IsRead (put k (canonical v) d)
+pub set_read : (k : List ℕ) (v : Value) (d : Members) → HasNo00 k → IsUtf8 k → IsSound v → IsRead d → IsPlain (document (put k (norm_in_order v) d)) → levels (document (put k (norm_in_order v) d)) ≤ level_limit → IsRead (put k (norm_in_order v) d)
 set_read k v d n u s h p low = record {
-  clean = put_each _ _ k (canonical v) d n (set_clean v s (put_back _ _ k (canonical v) d p)) h.clean;
-  sound = record { ranged = put_each _ _ k (canonical v) d u (set_ranged v s) h.sound.ranged; distinct = put_distinct k (canonical v) d (set_distinct v) h.sound.distinct };
+  clean = put_each _ _ k (norm_in_order v) d n (set_clean v s (put_back _ _ k (norm_in_order v) d p)) h.clean;
+  sound = record { ranged = put_each _ _ k (norm_in_order v) d u (set_ranged v s) h.sound.ranged; distinct = put_distinct k (norm_in_order v) d (set_distinct v) h.sound.distinct };
   shallow = low;
 }
 
 -- a set value leaves both documents plain, or neither
-pub set_plain : (k : List ℕ) (v w : Value) (d e : Members) → HasNo00 k → canonical v ≡ canonical w → IsRead e
-    → IsPlain (document (put k (canonical v) d)) → IsPlain (document (put k (canonical w) e))
-set_plain k v w d e n i h p = put_each HasNo00 IsPlainScalar k (canonical w) e n (subst IsPlain i (put_back HasNo00 IsPlainScalar k (canonical v) d p)) (clean_plain e h.clean)
+pub set_plain : (k : List ℕ) (v w : Value) (d e : Members) → HasNo00 k → norm_in_order v ≡ norm_in_order w → IsRead e
+    → IsPlain (document (put k (norm_in_order v) d)) → IsPlain (document (put k (norm_in_order w) e))
+set_plain k v w d e n i h p = put_each HasNo00 IsPlainScalar k (norm_in_order w) e n (subst IsPlain i (put_back HasNo00 IsPlainScalar k (norm_in_order v) d p)) (clean_plain e h.clean)
 
 -- ---- documents with fewer members
 

@@ -10,7 +10,7 @@ use Rattle.bson_base.specs.Value.{Scalar, double, string, binary, undefined, obj
 use Rattle.bson_model.specs.JsonRead.{read_members}
 use Rattle.bson_model.specs.declared.extjson.de.Error.{Error}
 use Rattle.bson_meaning.specs.Gate.{level_limit}
-use Rattle.bson_meaning.specs.Meaning.{norm_members, asc_members}
+use Rattle.bson_meaning.specs.Meaning.{norm_members_in_order}
 use Rattle.store_laws.specs.Reading.{Reading, readable, unreadable, ReadsTree}
 use Rattle.store_laws.specs.State.{in_json}
 use Rattle.store_laws.specs.Run.{IsUnread}
@@ -80,7 +80,7 @@ pub has_reading : (js : JsonMembers) → HasReading js
 has_reading js = by (read_members js) refl
   where
     kept : (r : Result Members Error) (e : Members) → read_members js ≡ r → r ≡ Ok e → ((leb (levels (document e)) level_limit ≡ true) × (levels (document e) ≤ level_limit)) ⊎ ((leb (levels (document e)) level_limit ≡ false) × (level_limit < levels (document e))) → Decided (IsPlain (document e)) → HasReading js
-    kept r e i j (inl low) (inl p) = record { x = readable (asc_members (norm_members e)); reads = rw (i, j) (low.1, p, refl); undecided = λ u. u }
+    kept r e i j (inl low) (inl p) = record { x = readable (norm_members_in_order e); reads = rw (i, j) (low.1, p, refl); undecided = λ u. u }
     kept r e i j (inl low) (inr p) = record { x = unreadable Nul; reads = rw (i, j) (low.1, p); undecided = λ u. u }
     kept r e i j (inr high) p = record { x = unreadable TooDeep; reads = rw (i, j) high.1; undecided = λ u. u }
 

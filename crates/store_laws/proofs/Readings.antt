@@ -20,7 +20,7 @@ use Rattle.bson_bytes.proofs.One.{one_meaning}
 use Rattle.bson_meaning.proofs.Heights.{settled_low}
 use Rattle.bson_meaning.proofs.Held.{one_answer as one_of_the_gate}
 use Rattle.bson_meaning.proofs.JsonSound.{value_sound, document_sound}
-use Rattle.store_laws.proofs.Restore.{canonical_read, fit}
+use Rattle.store_laws.proofs.Restore.{in_order_read, fit}
 use Rattle.bson_meaning.proofs.OneRefusal.{one_refusal as one_of_gate}
 
 -- ---- bytes
@@ -49,7 +49,7 @@ unfit_kind e Nul h = tt
 unfit_kind e _ h = absurd h
 
 kept_reading : (js : tree.Members) (r : Result Members Error) (a : Reading) → read_members js ≡ r → IsJsonObject js → KeepsRead r a → IsReading a
-kept_reading js (Ok e) (readable d) i j h = subst IsRead (sym h.2) (canonical_read e h.1 (document_sound js e j i) h.0)
+kept_reading js (Ok e) (readable d) i j h = subst IsRead (sym h.2) (in_order_read e h.1 (document_sound js e j i) h.0)
 kept_reading js (Ok e) (unreadable k) i j h = unfit_kind e k h
 kept_reading js (Err x) a i j h = subst IsReading (sym h) tt
 

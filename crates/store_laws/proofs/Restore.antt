@@ -16,7 +16,7 @@ use Rattle.bson_model.specs.declared.extjson.ser.Mode.{Mode}
 use Rattle.bson_model.specs.declared.extjson.ser.Mode.TheVariants.{Canonical}
 use Rattle.bson_meaning.specs.Gate.{level_limit, IsCounted, Passes}
 use Rattle.bson_meaning.specs.JsonReserved.{has_reserved}
-use Rattle.bson_meaning.specs.Meaning.{norm, norm_members, place, asc, asc_items, asc_members, Same}
+use Rattle.bson_meaning.specs.Meaning.{norm_members_in_order, norm_items_in_order, norm_in_order, asc, asc_items, asc_members, norm, norm_members, place, Same}
 use Rattle.store_laws.specs.Reading.{Documents, Reading, readable, unreadable, ReadsBytes, IsUnfit, KeepsRead, ReadsTree, ReadsEach, IsUncut, Cuts, ReadsStream, ReadsTrees, IsRead, AreRead}
 use Rattle.store_laws.specs.Same.{SameDocuments}
 use Rattle.store_laws.specs.State.{id_key, State, list_of, SomeHasId, IsTaken, import, export, dump, on, Reply, number, bytes, json_list, refused, or_finite, tree_of, tree_first, trees_of, trees_reply, refusal_of, or_later, first_refusal, Appends, Answers, IsName, Step, IsKept, AreKept, HaveOwnIds, IsStore}
@@ -28,7 +28,7 @@ use Rattle.bson_bytes.proofs.One.{one_meaning}
 use Rattle.bson_bytes.proofs.Settled.{comes_back}
 use Rattle.bson_bytes.proofs.Spelled.{framed_inside, spelled_members}
 use Rattle.bson_frame.proofs.Frames.{front_is_one}
-use Rattle.bson_meaning.proofs.Canonical.{canonical, canonical_items, canonical_members, look_up-canonical, same_canonical}
+use Rattle.bson_meaning.proofs.NormInOrder.{look_up-in_order, same_in_order}
 use Rattle.bson_meaning.proofs.Held.{one_answer as one_of_the_gate}
 use Rattle.bson_meaning.proofs.JsonReads.{mapped, AllCome, canonical_comes, chosen}
 use Rattle.bson_meaning.proofs.JsonSound.{kept_sound, kept_clean}
@@ -38,68 +38,68 @@ use Rattle.bson_meaning.proofs.Ordered.{ascending_asc, same_members, look_up-pla
 use Rattle.store_laws.proofs.Documents.{taken_same}
 use Rattle.store_laws.proofs.Functions.{one_answer}
 use Rattle.store_laws.proofs.Kept.{reads, taken_if, taken_split, taken_back, none_taken}
-use Rattle.store_laws.proofs.Levels.{canonical_levels, clean_plain}
+use Rattle.store_laws.proofs.Levels.{in_order_levels, clean_plain}
 use Rattle.store_laws.proofs.States.{list_of-store}
 use Rattle.bson_base.proofs.Members.{same_key}
 use Rattle.bson_frame.proofs.Payloads.{number_front}
 
 -- ---- the normal form of a kept document is kept
 
-canonical_place : (k : List ℕ) (u : Value) (ms : Members) → canonical_members (place k u ms) ≡ place k (canonical u) (canonical_members ms)
-canonical_place k u ms = same_members _ _ (ascending_asc (norm_members (place k u ms))) (ascending_place k (canonical u) (canonical_members ms) (ascending_asc (norm_members ms)))
-    (λ q. look_up-canonical q (place k u ms) ∙ ap (option_map canonical) (look_up-place q k u ms) ∙ chosen canonical (bytes_eq q k) u (look_up q ms)
-    ∙ sym (look_up-place q k (canonical u) (canonical_members ms) ∙ ap (cond (bytes_eq q k) (Some (canonical u))) (look_up-canonical q ms)))
+in_order_place : (k : List ℕ) (u : Value) (ms : Members) → norm_members_in_order (place k u ms) ≡ place k (norm_in_order u) (norm_members_in_order ms)
+in_order_place k u ms = same_members _ _ (ascending_asc (norm_members (place k u ms))) (ascending_place k (norm_in_order u) (norm_members_in_order ms) (ascending_asc (norm_members ms)))
+    (λ q. look_up-in_order q (place k u ms) ∙ ap (option_map norm_in_order) (look_up-place q k u ms) ∙ chosen norm_in_order (bytes_eq q k) u (look_up q ms)
+    ∙ sym (look_up-place q k (norm_in_order u) (norm_members_in_order ms) ∙ ap (cond (bytes_eq q k) (Some (norm_in_order u))) (look_up-in_order q ms)))
 
 mutual
-  canonical_asc : (v : Value) → canonical (asc v) ≡ canonical v
-  canonical_asc (scalar s) = refl
-  canonical_asc (array vs) = ap array (canonical_asc_items vs)
-  canonical_asc (document ms) = ap document (canonical_asc_members ms)
-  canonical_asc (scoped_code t ms) = ap (scoped_code t) (canonical_asc_members ms)
+  in_order_asc : (v : Value) → norm_in_order (asc v) ≡ norm_in_order v
+  in_order_asc (scalar s) = refl
+  in_order_asc (array vs) = ap array (in_order_asc_items vs)
+  in_order_asc (document ms) = ap document (in_order_asc_members ms)
+  in_order_asc (scoped_code t ms) = ap (scoped_code t) (in_order_asc_members ms)
 
-  canonical_asc_items : (vs : Items) → canonical_items (asc_items vs) ≡ canonical_items vs
-  canonical_asc_items no_items = refl
-  canonical_asc_items (item v vs) = let p : canonical (asc v) ≡ canonical v = canonical_asc v in let q : canonical_items (asc_items vs) ≡ canonical_items vs = canonical_asc_items vs in cc
+  in_order_asc_items : (vs : Items) → norm_items_in_order (asc_items vs) ≡ norm_items_in_order vs
+  in_order_asc_items no_items = refl
+  in_order_asc_items (item v vs) = let p : norm_in_order (asc v) ≡ norm_in_order v = in_order_asc v in let q : norm_items_in_order (asc_items vs) ≡ norm_items_in_order vs = in_order_asc_items vs in cc
 
-  canonical_asc_members : (ms : Members) → canonical_members (asc_members ms) ≡ canonical_members ms
-  canonical_asc_members no_members = refl
-  canonical_asc_members (member k v ms) = canonical_place k (asc v) (asc_members ms) ∙ ap (λ u. place k u (canonical_members (asc_members ms))) (canonical_asc v) ∙ ap (place k (canonical v)) (canonical_asc_members ms)
+  in_order_asc_members : (ms : Members) → norm_members_in_order (asc_members ms) ≡ norm_members_in_order ms
+  in_order_asc_members no_members = refl
+  in_order_asc_members (member k v ms) = in_order_place k (asc v) (asc_members ms) ∙ ap (λ u. place k u (norm_members_in_order (asc_members ms))) (in_order_asc v) ∙ ap (place k (norm_in_order v)) (in_order_asc_members ms)
 
-canonical_same_form : (d : Members) → IsSound (document d) → Same (document d) (document (canonical_members d))
-canonical_same_form d s = same_canonical (document d) (document (canonical_members d)) s.distinct
-    (sym (canonical_asc (norm (document d)) ∙ ap asc (norm_twice IsUtf8 (document d) s.ranged)))
+in_order_same_form : (d : Members) → IsSound (document d) → Same (document d) (document (norm_members_in_order d))
+in_order_same_form d s = same_in_order (document d) (document (norm_members_in_order d)) s.distinct
+    (sym (in_order_asc (norm (document d)) ∙ ap asc (norm_twice IsUtf8 (document d) s.ranged)))
 
-pub canonical_read : (d : Members) → IsPlain (document d) → IsSound (document d) → levels (document d) ≤ level_limit → IsRead (canonical_members d)
-canonical_read d p s l = record {
+pub in_order_read : (d : Members) → IsPlain (document d) → IsSound (document d) → levels (document d) ≤ level_limit → IsRead (norm_members_in_order d)
+in_order_read d p s l = record {
   clean = kept_clean d p s;
   sound = kept_sound d s;
-  shallow = subst (λ n. n ≤ level_limit) (sym (canonical_levels (document d) s.distinct)) l;
+  shallow = subst (λ n. n ≤ level_limit) (sym (in_order_levels (document d) s.distinct)) l;
 }
 
-read_again : (d : Members) → IsRead d → IsRead (canonical_members d)
-read_again d r = canonical_read d (clean_plain d r.clean) r.sound r.shallow
+read_again : (d : Members) → IsRead d → IsRead (norm_members_in_order d)
+read_again d r = in_order_read d (clean_plain d r.clean) r.sound r.shallow
 
-canonical_kept : (d : Members) → IsKept d → IsKept (canonical_members d)
-canonical_kept d k = record {
+in_order_kept : (d : Members) → IsKept d → IsKept (norm_members_in_order d)
+in_order_kept d k = record {
   read = read_again d k.read;
-  identified = sym ((canonical_same_form d k.read.sound).0 id_key) ∙ k.identified;
+  identified = sym ((in_order_same_form d k.read.sound).0 id_key) ∙ k.identified;
   small = subst (λ n. n ≤ size_limit) (sym (key_size d k.read.clean k.read.sound)) k.small;
 }
 
-all_canonical : (ds : Documents) → AreKept ds → AreKept (map canonical_members ds)
-all_canonical [] h = tt
-all_canonical (d ∷ ds) h = (canonical_kept d h.0, all_canonical ds h.1)
+all_in_order : (ds : Documents) → AreKept ds → AreKept (map norm_members_in_order ds)
+all_in_order [] h = tt
+all_in_order (d ∷ ds) h = (in_order_kept d h.0, all_in_order ds h.1)
 
-same_canonicals : (ds : Documents) → AreKept ds → SameDocuments ds (map canonical_members ds)
-same_canonicals [] h = tt
-same_canonicals (d ∷ ds) h = (canonical_same_form d h.0.read.sound, same_canonicals ds h.1)
+same_in_orders : (ds : Documents) → AreKept ds → SameDocuments ds (map norm_members_in_order ds)
+same_in_orders [] h = tt
+same_in_orders (d ∷ ds) h = (in_order_same_form d h.0.read.sound, same_in_orders ds h.1)
 
-own_canonical : (ds : Documents) → AreKept ds → HaveOwnIds ds → HaveOwnIds (map canonical_members ds)
-own_canonical [] h o = tt
-own_canonical (d ∷ ds) h o = (
-  λ t. o.0 ((taken_same d (canonical_members d) ds (map canonical_members ds) (canonical_same_form d h.0.read.sound) h.0.read (read_again d h.0.read)
-      (same_canonicals ds h.1) (reads ds h.1) (reads (map canonical_members ds) (all_canonical ds h.1))).1 t),
-  own_canonical ds h.1 o.1,
+own_in_order : (ds : Documents) → AreKept ds → HaveOwnIds ds → HaveOwnIds (map norm_members_in_order ds)
+own_in_order [] h o = tt
+own_in_order (d ∷ ds) h o = (
+  λ t. o.0 ((taken_same d (norm_members_in_order d) ds (map norm_members_in_order ds) (in_order_same_form d h.0.read.sound) h.0.read (read_again d h.0.read)
+      (same_in_orders ds h.1) (reads ds h.1) (reads (map norm_members_in_order ds) (all_in_order ds h.1))).1 t),
+  own_in_order ds h.1 o.1,
 )
 
 -- ---- documents with ids of their own go into an empty list
@@ -248,8 +248,8 @@ fit e TooDeep low plain h = omega (arith, h, low)
 fit e Nul low plain h = h.1 plain
 fit e _ low plain h = h
 
-object_reading : (d : Members) (js : tree.Members) → IsKept d → AllCome js d → (a : Reading) → ReadsTree (object js) a ↔ (a ≡ readable (canonical_members d))
-object_reading d js k c a = (λ h. to a (subst (λ r. KeepsRead r a) c.reads h), λ h. subst (ReadsTree (object js)) (sym h) (subst (λ r. KeepsRead r (readable (canonical_members d))) (sym c.reads) (low, plain, sym c.same)))
+object_reading : (d : Members) (js : tree.Members) → IsKept d → AllCome js d → (a : Reading) → ReadsTree (object js) a ↔ (a ≡ readable (norm_members_in_order d))
+object_reading d js k c a = (λ h. to a (subst (λ r. KeepsRead r a) c.reads h), λ h. subst (ReadsTree (object js)) (sym h) (subst (λ r. KeepsRead r (readable (norm_members_in_order d))) (sym c.reads) (low, plain, sym c.same)))
   where
     low : levels (document c.values) ≤ level_limit
     low = omega (arith, c.deep, k.read.shallow)
@@ -257,16 +257,16 @@ object_reading d js k c a = (λ h. to a (subst (λ r. KeepsRead r a) c.reads h),
     plain : IsPlain (document c.values)
     plain = c.plain (clean_plain d k.read.clean)
 
-    to : (a : Reading) → KeepsRead (Ok c.values) a → a ≡ readable (canonical_members d)
+    to : (a : Reading) → KeepsRead (Ok c.values) a → a ≡ readable (norm_members_in_order d)
     to (readable e) h = ap readable (h.2 ∙ c.same)
     to (unreadable kind) h = absurd (fit c.values kind low plain h)
 
 -- the canonical tree of a kept document reads as its normal form in order, and as nothing else
-pub tree_reading : (d : Members) (j : Data) → IsKept d → tree_of Canonical d ≡ Ok j → (a : Reading) → ReadsTree j a ↔ (a ≡ readable (canonical_members d))
+pub tree_reading : (d : Members) (j : Data) → IsKept d → tree_of Canonical d ≡ Ok j → (a : Reading) → ReadsTree j a ↔ (a ≡ readable (norm_members_in_order d))
 tree_reading d j k e a =
     let t = tree_is Canonical d j e in
     let m = mapped (write_members Canonical d tree.no_members) object j t.there in
-    subst (λ z. ReadsTree z a ↔ (a ≡ readable (canonical_members d))) m.to (object_reading d m.from k (canonical_comes d k.read.sound t.free m.from m.here) a)
+    subst (λ z. ReadsTree z a ↔ (a ≡ readable (norm_members_in_order d))) m.to (object_reading d m.from k (canonical_comes d k.read.sound t.free m.from m.here) a)
 
 -- the first tree and the others
 record Begins (i : ℕ) (d : Members) (ds : Documents) (js : List Data) : Type 0 where
@@ -284,18 +284,18 @@ begins i d ds js = by (tree_of Canonical d) (trees_of (suc i) ds) refl refl
     by (Ok j) (Err x) e f h = cc
     by (Err k) ts e f h = cc
 
-each_tree : (i : ℕ) (ds : Documents) (js : List Data) → AreKept ds → trees_of i ds ≡ Ok js → Each ReadsTree js (map canonical_members ds)
+each_tree : (i : ℕ) (ds : Documents) (js : List Data) → AreKept ds → trees_of i ds ≡ Ok js → Each ReadsTree js (map norm_members_in_order ds)
 each_tree i [] js k e = let q : [] ≡ js = cc in subst (λ z. Each ReadsTree z []) q tt
 each_tree i (d ∷ ds) js k e =
     let b = begins i d ds js e in
-    subst (λ z. Each ReadsTree z (map canonical_members (d ∷ ds))) (sym b.is) (tree_reading d b.first k.0 b.tree, each_tree (suc i) ds b.rest k.1 b.trees)
+    subst (λ z. Each ReadsTree z (map norm_members_in_order (d ∷ ds))) (sym b.is) (tree_reading d b.first k.0 b.tree, each_tree (suc i) ds b.rest k.1 b.trees)
 
 pub dump_back : (ds : Documents) (js : List Data) (more : Documents) (stop : Option ErrorKind) → AreKept ds → trees_of 0 ds ≡ Ok js
-    → ReadsTrees js more stop ↔ ((more ≡ map canonical_members ds) × (stop ≡ None))
+    → ReadsTrees js more stop ↔ ((more ≡ map norm_members_in_order ds) × (stop ≡ None))
 dump_back ds js more stop k e =
     let h = each_tree 0 ds js k e in (
-      each_one ReadsTree js (map canonical_members ds) more stop h,
-      λ q. subst (λ z. ReadsTrees js z stop) (sym q.0) (subst (ReadsTrees js (map canonical_members ds)) (sym q.1) (each_reads ReadsTree js (map canonical_members ds) h)),
+      each_one ReadsTree js (map norm_members_in_order ds) more stop h,
+      λ q. subst (λ z. ReadsTrees js z stop) (sym q.0) (subst (ReadsTrees js (map norm_members_in_order ds)) (sym q.1) (each_reads ReadsTree js (map norm_members_in_order ds) h)),
     )
 
 -- ---- in states
@@ -324,11 +324,11 @@ dumped_all (Err x) js e = cc
 
 pub dump_restored : (s s2 t u : State) (n m : List ℕ) (js : List Data) (more : Documents) (stop : Option ErrorKind) (q : Reply) → IsStore s
     → Step s (on n dump) (json_list js) s2 → ReadsTrees js more stop → IsName m → list_of t m ≡ [] → Step t (on m (import more stop)) q u
-    → (q ≡ number (length (list_of s n))) × (list_of u m ≡ map canonical_members (list_of s n))
+    → (q ≡ number (length (list_of s n))) × (list_of u m ≡ map norm_members_in_order (list_of s n))
 dump_restored s s2 t u n m js more stop q h (inl (_, (es, a, e))) r name empty p =
     let ds = list_of s n in
     let all = dumped_all (trees_of 0 ds) js a.0 in
     let is = (dump_back ds js more stop (h.kept n) all).0 r in
-    let l = taken_in (map canonical_members ds) more stop t u m q (all_canonical ds (h.kept n)) (own_canonical ds (h.kept n) (h.own_ids n)) is.0 is.1 name empty p in
-    (l.0 ∙ ap number (length-map ds canonical_members), l.1)
+    let l = taken_in (map norm_members_in_order ds) more stop t u m q (all_in_order ds (h.kept n)) (own_in_order ds (h.kept n) (h.own_ids n)) is.0 is.1 name empty p in
+    (l.0 ∙ ap number (length-map ds norm_members_in_order), l.1)
 dump_restored s s2 t u n m js more stop q h (inr (_, a)) r name empty p = let z : json_list js ≡ refused BadName None = a.0 in cc

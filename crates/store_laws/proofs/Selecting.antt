@@ -3,9 +3,9 @@ use Rattle.std.proofs.Common.{◌≡◌, ◌↔◌, inl, inr, ℕ, suc, List, []
 use Rattle.std.specs.Prelude.{bytes_eq, IsSomeAnd, option_and_then, decimal as digits}
 use Rattle.store_laws.specs.Filter.{under_places, pairs, at, Filter, equals, exists, is_of, no, all_of, any_of, Filters, no_filters, filter, IsSoundFilter, AreSoundFilters, Selects, SelectsAll, SelectsAny, SameFilter, SameFilters}
 use Rattle.bson_model.specs.Equal.{SameKeys}
-use Rattle.bson_meaning.specs.Meaning.{Same, SameItems, SameUnder, SameOption}
+use Rattle.bson_meaning.specs.Meaning.{norm_in_order, Same, SameItems, SameUnder, SameOption}
 use Rattle.bson_base.specs.Value.{Value, scalar, array, document, scoped_code, Items, no_items, item, Members, no_members, member, look_up, value_kind, HasDistinctKeys, ItemsHaveDistinctKeys, MembersHaveDistinctKeys}
-use Rattle.bson_meaning.proofs.Canonical.{canonical, canonical_same, same_canonical}
+use Rattle.bson_meaning.proofs.NormInOrder.{in_order_same, same_in_order}
 use Rattle.bson_meaning.proofs.Comparing.{same_kind}
 use Rattle.bson_meaning.proofs.InTurn.{to_alike}
 
@@ -87,9 +87,9 @@ carried _ _ P Q s a b f = absurd s
 -- one value may stand for another on both sides
 pub exchanged : (x y v w : Value) → Same x y → Same v w → HasDistinctKeys x → HasDistinctKeys y → Same x v ↔ Same y w
 exchanged x y v w a b c d =
-    let i : canonical x ≡ canonical y = canonical_same x y a in
-    let j : canonical v ≡ canonical w = canonical_same v w b in
-    (λ h. same_canonical y w d (sym i ∙ canonical_same x v h ∙ j), λ h. same_canonical x v c (i ∙ canonical_same y w h ∙ sym j))
+    let i : norm_in_order x ≡ norm_in_order y = in_order_same x y a in
+    let j : norm_in_order v ≡ norm_in_order w = in_order_same v w b in
+    (λ h. same_in_order y w d (sym i ∙ in_order_same x v h ∙ j), λ h. same_in_order x v c (i ∙ in_order_same y w h ∙ sym j))
 
 over : (p q : List (List ℕ)) (d e : Value) (P Q : Value → Type 0) → p ≡ q → Same d e → HasDistinctKeys d → HasDistinctKeys e
     → ((x y : Value) → Same x y → HasDistinctKeys x → HasDistinctKeys y → P x ↔ Q y) → IsSomeAnd (at d p) P ↔ IsSomeAnd (at e q) Q
@@ -125,7 +125,7 @@ mutual
 mutual
   -- a filter is the same as itself
   pub same_filter : (f : Filter) → IsSoundFilter f → SameFilter f f
-  same_filter (equals p v) h = (refl, same_canonical v v h.distinct refl)
+  same_filter (equals p v) h = (refl, same_in_order v v h.distinct refl)
   same_filter (exists p) h = refl
   same_filter (is_of p k) h = (refl, refl)
   same_filter (no f) h = same_filter f h

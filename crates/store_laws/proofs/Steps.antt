@@ -12,13 +12,13 @@ use Rattle.bson_model.specs.declared.extjson.ser.Mode.TheVariants.{Canonical}
 use Rattle.bson_frame.specs.Frame.{size_limit}
 use Rattle.bson_meaning.specs.Gate.{level_limit}
 use Rattle.bson_meaning.specs.JsonReserved.{has_reserved}
-use Rattle.bson_meaning.specs.Meaning.{Same, SameOption}
+use Rattle.bson_meaning.specs.Meaning.{norm_in_order, Same, SameOption}
 use Rattle.store_laws.specs.Reading.{Documents, Reading, readable, unreadable, IsRead, AreRead, IsReading, IsReadingKind, IsStop}
 use Rattle.store_laws.specs.Same.{SameDocuments, SameReading, SameStop, SameCall, ReadsDocuments, SameReply}
 use Rattle.store_laws.specs.State.{id_key, Form, Call, insert, replace, set, unset, remove, get_raw, get_json, find, count, project, import, export, dump, Command, on, Reply, done, flag, number, bytes, bytes_list, refused, or_finite, tree_of, tree_reply, tree_first, trees_of, trees_reply, Refuses, refusal_of, or_later, first_refusal, Appends, only, PutsBack, Answers, IsCall}
 use Rattle.store_laws.specs.declared.error.ErrorKind.{ErrorKind}
 use Rattle.store_laws.specs.declared.error.ErrorKind.TheVariants.{BadKey, JsonRefused, TooDeep, Nul, TooLong, NotFound, DuplicateId, ReservedKey}
-use Rattle.bson_meaning.proofs.Canonical.{canonical, canonical_same, same_canonical}
+use Rattle.bson_meaning.proofs.NormInOrder.{in_order_same, same_in_order}
 use Rattle.bson_meaning.proofs.JsonSame.{write_same, reserved_same}
 use Rattle.store_laws.proofs.Documents.{same_join, same_length, read_join, read_parts, taken_same, at_id_same, when_same, match_same, size_same, refusal_same, picks_same, picks_read, same_under}
 use Rattle.store_laws.proofs.Edits.{same_without, same_only, same_put}
@@ -117,14 +117,14 @@ not_above m n h = omega arith
 
 puts_same : {c : Command} {r s : Reply} {fs gs : Documents} (k : List ℕ) (v w : Value) (ds es front : Documents) (d : Members) (back gront : Documents) (e : Members) (cack : Documents) → HasNo00 k → IsUtf8 k → IsSound v → IsSound w → Same v w
     → SameDocuments ds es → SameDocuments front gront → SameDocuments back cack → Same (document d) (document e) → IsRead d → IsRead e
-    → PutsBack ds front (put k (canonical v) d) back r fs → PutsBack es gront (put k (canonical w) e) cack s gs → Alike c r s fs gs
+    → PutsBack ds front (put k (norm_in_order v) d) back r fs → PutsBack es gront (put k (norm_in_order w) e) cack s gs → Alike c r s fs gs
 puts_same k v w ds es front d back gront e cack n u sv sw i h f b same a c p q =
-    let d' = put k (canonical v) d in
-    let e' = put k (canonical w) e in
-    let is : canonical v ≡ canonical w = canonical_same v w i in
-    let values : Same (canonical v) (canonical w) = subst (Same (canonical v)) is (same_canonical (canonical v) (canonical v) (set_distinct v) refl) in
-    let whole : Same (document d') (document e') = same_put k (canonical v) (canonical w) d e values (set_distinct v) same a c in
-    let deep : levels (document d') ≡ levels (document e') = same_levels (document d') (document e') whole (put_distinct k (canonical v) d (set_distinct v) a.sound.distinct) (put_distinct k (canonical w) e (set_distinct w) c.sound.distinct) in
+    let d' = put k (norm_in_order v) d in
+    let e' = put k (norm_in_order w) e in
+    let is : norm_in_order v ≡ norm_in_order w = in_order_same v w i in
+    let values : Same (norm_in_order v) (norm_in_order w) = subst (Same (norm_in_order v)) is (same_in_order (norm_in_order v) (norm_in_order v) (set_distinct v) refl) in
+    let whole : Same (document d') (document e') = same_put k (norm_in_order v) (norm_in_order w) d e values (set_distinct v) same a c in
+    let deep : levels (document d') ≡ levels (document e') = same_levels (document d') (document e') whole (put_distinct k (norm_in_order v) d (set_distinct v) a.sound.distinct) (put_distinct k (norm_in_order w) e (set_distinct w) c.sound.distinct) in
     when_same _ _ _ _ _ _ (subst (λ m. level_limit < m) deep, subst (λ m. level_limit < m) (sym deep))
     (λ _ _ t x. both_refuse TooDeep ds es h t x)
     (λ low low' t x. when_same _ _ _ _ _ _ (set_plain k v w d e n is c, set_plain k w v e d n (sym is) a)

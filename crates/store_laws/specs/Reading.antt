@@ -9,7 +9,7 @@ use Rattle.bson_model.specs.JsonRead.{read, read_members}
 use Rattle.bson_model.specs.declared.extjson.de.Error.{Error}
 use Rattle.bson_meaning.specs.Gate.{level_limit, IsCounted, IsRefused, Passes}
 use Rattle.bson_meaning.specs.JsonTrees.{IsJson}
-use Rattle.bson_meaning.specs.Meaning.{norm_members, asc_members}
+use Rattle.bson_meaning.specs.Meaning.{norm_members_in_order}
 use Rattle.bson_meaning.specs.declared.gating.GateError.{GateError}
 use Rattle.bson_meaning.specs.declared.gating.GateError.TheVariants as gate
 use Rattle.store_laws.specs.declared.error.ErrorKind.{ErrorKind}
@@ -45,7 +45,7 @@ IsUnfit e _ = ⊥
 
 -- the normal form of the document that JSON stands for, with its keys in order
 abbrev pub Keeps : Members → Reading → Type 0
-Keeps e (readable d) = (levels (document e) ≤ level_limit) × IsPlain (document e) × (d ≡ asc_members (norm_members e))
+Keeps e (readable d) = (levels (document e) ≤ level_limit) × IsPlain (document e) × (d ≡ norm_members_in_order e)
 Keeps e (unreadable k) = IsUnfit e k
 
 abbrev pub KeepsRead : Result Members Error → Reading → Type 0

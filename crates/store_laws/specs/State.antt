@@ -17,7 +17,7 @@ use Rattle.bson_model.specs.declared.extjson.ser.Mode.TheVariants.{Canonical}
 use Rattle.bson_frame.specs.Frame.{size_limit}
 use Rattle.bson_meaning.specs.Gate.{level_limit}
 use Rattle.bson_meaning.specs.JsonReserved.{has_reserved}
-use Rattle.bson_meaning.specs.Meaning.{norm, asc, Same}
+use Rattle.bson_meaning.specs.Meaning.{norm_in_order, Same}
 use Rattle.store_laws.specs.Filter.{Filter, Selects, IsSoundFilter}
 use Rattle.store_laws.specs.Reading.{Documents, Reading, readable, unreadable, IsRead, AreRead, IsReading, IsStop}
 use Rattle.store_laws.specs.declared.error.ErrorKind.{ErrorKind}
@@ -208,7 +208,7 @@ Answers (replace f (readable d)) ds r es = MatchOption (refusal_of d)
     (λ k. Refuses k ds r es)
 Answers (set id k None) ds r es = When (IsFreeKey k) (Refuses JsonRefused ds r es) (Refuses BadKey ds r es)
 Answers (set id k (Some v)) ds r es = When (IsFreeKey k)
-    (AtId id ds (λ front d back. PutsBack ds front (put k (asc (norm v)) d) back r es) (Refuses NotFound ds r es))
+    (AtId id ds (λ front d back. PutsBack ds front (put k (norm_in_order v) d) back r es) (Refuses NotFound ds r es))
     (Refuses BadKey ds r es)
 Answers (unset id k) ds r es = When (IsFreeKey k)
     (AtId id ds (λ front d back. (r ≡ flag (has_key k d)) × (es ≡ front ++ without k d ∷ back)) (Refuses NotFound ds r es))

@@ -9,7 +9,7 @@ ghost use Rattle.bson_base.specs.Value.{Value, document, Members, no_members};
 ghost use Rattle.bson_bytes.specs.Encode.{encode, size};
 ghost use Rattle.bson_frame.specs.Frame.{length_limit, size_limit};
 ghost use Rattle.bson_meaning.specs.JsonTrees.{IsJson};
-ghost use Rattle.bson_meaning.specs.Meaning.{Same, asc_members, key, norm_members};
+ghost use Rattle.bson_meaning.specs.Meaning.{norm_members_in_order, Same, key};
 ghost use Rattle.store_laws.specs.Filter.{at, equals, is_of, no, any_of, no_filters, Filter, Path, SameFilter, Selects, IsSoundFilter, frames};
 ghost use Rattle.store_laws.specs.Rows.{int_one, a_text, with_array, with_a, with_id, with_two, to_v, broken_stream};
 ghost use Rattle.store_laws.specs.declared.error.ErrorKind.TheVariants.{BadKey, JsonRefused, EndInside, BadLength, NoId, DuplicateId};
@@ -135,7 +135,7 @@ pub fn dumps_come_back()
     ensures restored { (s s2 t u : State) (n m : List ℕ) (js : List Data) (more : Documents) (stop : Option Kind) (q : Reply) → IsStore s
         → Step s (on n dump) (json_list js) s2 → ReadsTrees js more stop
         → IsName m → list_of t m ≡ [] → Step t (on m (import more stop)) q u
-        → (q ≡ number (length (list_of s n))) × (list_of u m ≡ map (λ d. asc_members (norm_members d)) (list_of s n)) }
+        → (q ≡ number (length (list_of s n))) × (list_of u m ≡ map (λ d. norm_members_in_order d) (list_of s n)) }
 {}
 
 /// A run through tables goes on by one call more. So a list of calls, each served by itself, is a run.

@@ -6,7 +6,7 @@ use Rattle.sqlite.specs.State.{State as Connected}
 use Rattle.serde_json.specs.Data.{Data}
 use Rattle.bson_base.specs.Value.{Value, Members, look_up, put}
 use Rattle.bson_bytes.specs.Encode.{encode}
-use Rattle.bson_meaning.specs.Meaning.{norm, asc}
+use Rattle.bson_meaning.specs.Meaning.{norm_in_order}
 use Rattle.bson_table.specs.Moves.{Moves}
 use Rattle.store_laws.specs.Reading.{Documents, Reading, readable, unreadable, ReadsTree}
 use Rattle.store_laws.specs.State.{State, id_key, store, Call, insert, replace, set, unset, remove, get_raw, get_json, find, count, project, import, export, dump, Command, on, collections, Reply, done, bytes, json_list, refused, trees_reply, refusal_of, first_refusal, When, Refuses, Appends, AtId, PutsBack, Answers, IsTaken, IsName, Step}
@@ -74,7 +74,7 @@ list_stays (replace f (unreadable x)) ds es k i h = h.1
 list_stays (replace f (readable d)) ds es k i h = replace_stays d (refusal_of d) (look_up id_key d) ds es k i h
 list_stays (set id key None) ds es k i (inl h) = h.1.1
 list_stays (set id key None) ds es k i (inr h) = h.1.1
-list_stays (set id key (Some v)) ds es k i (inl h) = at_id_stays id ds es k i _ (λ front d back x. puts_back_stays ds front (put key (asc (norm v)) d) back es k i x) h.1
+list_stays (set id key (Some v)) ds es k i (inl h) = at_id_stays id ds es k i _ (λ front d back x. puts_back_stays ds front (put key (norm_in_order v) d) back es k i x) h.1
 list_stays (set id key (Some v)) ds es k i (inr h) = h.1.1
 list_stays (unset id key) ds es k i (inl h) = at_id_stays id ds es k i _ (λ front d back x. let e = x.0 in cc) h.1
 list_stays (unset id key) ds es k i (inr h) = h.1.1

@@ -28,58 +28,41 @@ pub enum Answer {
 pub fn nothing(outcome: Result<(), StoreError>) -> Result<Answer, Stop>
     ensures { result ≡ answer_by as_nothing outcome }
 {
-    match outcome {
-        Ok(()) => Ok(Answer::Nothing),
-        Err(error) => Err(Stop::Refused(error)),
-    }
+    outcome?;
+    Ok(Answer::Nothing)
 }
 
 /// Whether something was there.
 pub fn flag(outcome: Result<bool, StoreError>) -> Result<Answer, Stop>
     ensures { result ≡ answer_by flag_answer outcome }
 {
-    match outcome {
-        Ok(flag) => Ok(Answer::Flag(flag)),
-        Err(error) => Err(Stop::Refused(error)),
-    }
+    Ok(Answer::Flag(outcome?))
 }
 
 /// A document as a tree.
 pub fn tree(outcome: Result<Value, StoreError>) -> Result<Answer, Stop>
     ensures { result ≡ answer_by as_tree outcome }
 {
-    match outcome {
-        Ok(tree) => Ok(Answer::Tree(tree)),
-        Err(error) => Err(Stop::Refused(error)),
-    }
+    Ok(Answer::Tree(outcome?))
 }
 
 /// How many there are.
 pub fn number(outcome: Result<u64, StoreError>) -> Result<Answer, Stop>
     ensures { result ≡ answer_by number_answer outcome }
 {
-    match outcome {
-        Ok(number) => Ok(Answer::Number(number)),
-        Err(error) => Err(Stop::Refused(error)),
-    }
+    Ok(Answer::Number(outcome?))
 }
 
 /// Documents as they are written.
 pub fn documents(outcome: Result<Vec<Vec<u8>>, StoreError>) -> Result<Answer, Stop>
     ensures { result ≡ answer_by as_documents outcome }
 {
-    match outcome {
-        Ok(documents) => Ok(Answer::Documents(documents)),
-        Err(error) => Err(Stop::Refused(error)),
-    }
+    Ok(Answer::Documents(outcome?))
 }
 
 /// Names of collections.
 pub fn names(outcome: Result<Vec<String>, StoreError>) -> Result<Answer, Stop>
     ensures { result ≡ answer_by names_answer outcome }
 {
-    match outcome {
-        Ok(names) => Ok(Answer::Names(names)),
-        Err(error) => Err(Stop::Refused(error)),
-    }
+    Ok(Answer::Names(outcome?))
 }

@@ -29,20 +29,14 @@ fn unread(error: TextError, complaint: Complaint) -> Stop {
 pub fn json_of(alloc: Global, text: &str) -> Result<Value, Stop>
     ensures { IfOk result (λ j. tree_of text.now ≡ Some (data_of j)) }
 {
-    match read_json(alloc, text) {
-        Ok(json) => Ok(json),
-        Err(error) => Err(unread(error, Complaint::Json)),
-    }
+    read_json(alloc, text).map_err(|error| unread(error, Complaint::Json))
 }
 
 /// The value of an id's text, which is Extended JSON.
 pub fn id_of(alloc: Global, text: &str) -> Result<Bson, Stop>
     ensures { IfOk result (λ id. IsIdText text.now (view id)) }
 {
-    match read_id(alloc, text) {
-        Ok(id) => Ok(id),
-        Err(error) => Err(unread(error, Complaint::Id)),
-    }
+    read_id(alloc, text).map_err(|error| unread(error, Complaint::Id))
 }
 
 /// The form of Extended JSON that the words behind an id ask for.
@@ -64,10 +58,7 @@ pub fn mode_of(words: &[String]) -> Result<Mode, Stop>
 
 /// The filter of a text.
 pub fn filter_of(alloc: Global, text: &str) -> Result<Filter, Stop> {
-    match read_filter(alloc, text) {
-        Ok(filter) => Ok(filter),
-        Err(error) => Err(unread(error, Complaint::Filter)),
-    }
+    read_filter(alloc, text).map_err(|error| unread(error, Complaint::Filter))
 }
 
 /// The trees of the input's lines, which is read to its end.

@@ -1,10 +1,10 @@
 //! Date texts.
 
-ghost use Rattle.std.specs.Prelude.{◌≡◌, ◌≢◌, ◌<◌, ◌∷◌, ◌*ℤ◌, ◌+ℤ◌, pos, List, ℕ, IfOk, IfSome, IsSome, Some, Err, ◌↔◌, string_bytes};
+ghost use Rattle.std.specs.Prelude.{◌≡◌, ◌≢◌, ◌<◌, ◌∷◌, ◌*ℤ◌, ◌+ℤ◌, pos, List, ℕ, IfOk, IfSome, IsSome, IsTrue, Some, Err, ◌↔◌, string_bytes};
 ghost use Rattle.std.specs.Fmt.{WritesOnOk, WritesStyledOnOk, DisplaysOnOk, DisplaysStyledOnOk};
 ghost use Rattle.jiff_core.specs.Calendar.{IsCivilDate, days_from_civil};
 ghost use Rattle.bson_base.specs.Answer.{result_map};
-ghost use Rattle.bson_base.specs.DateText.{date_of, fraction_text, HasDateText, IsDateText, moment_text, WritesDate, two as two_of};
+ghost use Rattle.bson_base.specs.DateText.{date_of, fraction_text, has_date_text, IsDateText, moment_text, WritesDate, two as two_of};
 ghost use Rattle.bson_base.specs.Dates.{shown_date};
 ghost use Rattle.bson_base.specs.Scalars.{millis_of};
 
@@ -120,7 +120,7 @@ impl fmt::Display for Moment {
 /// The moment of milliseconds since 1970, in the years 0 to 9999.
 fn moment_of(millis: i64) -> Option<Moment>
     ensures at { IfSome result (λ m. days_from_civil (pos m.year) m.month m.day *ℤ pos 86_400_000 +ℤ pos m.clock ≡ millis) }
-    ensures found { IsSome result ↔ HasDateText millis }
+    ensures found { IsSome result ↔ IsTrue (has_date_text millis) }
 {
     let (number, clock) = day_and_clock(millis);
     let CivilDay { year, month, day } = civil_day(number)?;
@@ -146,8 +146,8 @@ impl DateTime {
     /// 9999, `Memory` where a growth was refused.
     pub fn try_to_rfc3339_string(self, alloc: Global) -> Result<String>
         ensures text { IfOk result (λ text. IsDateText (millis_of self) (string_bytes text)) }
-        ensures refused { HasDateText (millis_of self) → result ≢ Err Error.CannotFormat }
-        ensures outside { ¬ HasDateText (millis_of self) → result ≡ Err Error.CannotFormat }
+        ensures refused { IsTrue (has_date_text (millis_of self)) → result ≢ Err Error.CannotFormat }
+        ensures outside { ¬ IsTrue (has_date_text (millis_of self)) → result ≡ Err Error.CannotFormat }
         ensures others { result ≢ Err Error.InvalidTimestamp }
     {
         match moment_of(self.0) {

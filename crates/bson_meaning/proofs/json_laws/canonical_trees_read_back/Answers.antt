@@ -8,13 +8,13 @@ use Rattle.bson_model.specs.JsonRead.{read_members}
 use Rattle.bson_model.specs.JsonWrite.{write_members}
 use Rattle.bson_model.specs.declared.extjson.ser.Mode.TheVariants.{Canonical}
 use Rattle.bson_meaning.specs.JsonReserved.{has_reserved}
-use Rattle.bson_meaning.specs.Meaning.{norm_members, asc_members}
+use Rattle.bson_meaning.specs.Meaning.{norm_members_in_order}
 use Rattle.bson_meaning.proofs.JsonReads.{canonical_comes, raised}
 use Rattle.bson_meaning.proofs.json_laws.canonical_trees_read_back.Goals as goal
 
 tree_back : (d : Members) (j : Data) → IsSound (document d) → has_reserved d ≡ false → (o : Option json.Members) → write_members Canonical d json.no_members ≡ o
     → option_map json.object o ≡ Some j
-    → (js : json.Members) × (e : Members) × (j ≡ json.object js) × (read_members js ≡ Ok e) × (asc_members (norm_members e) ≡ asc_members (norm_members d))
+    → (js : json.Members) × (e : Members) × (j ≡ json.object js) × (read_members js ≡ Ok e) × (norm_members_in_order e ≡ norm_members_in_order d)
     × (IsPlain (document d) → IsPlain (document e)) × (levels (document e) ≤ levels (document d))
 tree_back d j s r None is w = cc
 tree_back d j s r (Some js) is w = let a = canonical_comes d s r js is in (js, a.values, cc, a.reads, a.same, a.plain, raised a.deep)

@@ -1,8 +1,8 @@
 use Rattle.std.proofs.Common.{◌∙◌}
 use Rattle.bson_bytes.proofs.Lengths.{encode_length}
-use Rattle.bson_meaning.proofs.Canonical.{canonical_members}
+use Rattle.bson_meaning.specs.Meaning.{norm_members_in_order}
 use Rattle.bson_meaning.proofs.KeyLaw.{key_size}
 use Rattle.bson_meaning.proofs.laws.keys_keep_sizes.Goals as goal
 
 pub returns : goal.returns
-returns c = record { bytes = λ d p s. encode_length (canonical_members d) ∙ key_size d p s; trees = key_size }
+returns c = record { bytes = λ d p s. encode_length (norm_members_in_order d) ∙ key_size d p s; trees = key_size }

@@ -1,7 +1,7 @@
 use Rattle.std.proofs.Common.{sym, ◌∙◌}
 use Rattle.bson_model.specs.View.{view}
-use Rattle.bson_meaning.proofs.InOrderBytes.{kind_of_canonical}
+use Rattle.bson_meaning.proofs.InOrderBytes.{kind_of_in_order}
 use Rattle.bson_meaning.proofs.writing.normal_kind.Goals as goal
 
 pub returns : goal.returns
-returns c = c.element_type.ensures ∙ sym (kind_of_canonical (view c.args.value.now))
+returns c = c.element_type.ensures ∙ sym (kind_of_in_order (view c.args.value.now))

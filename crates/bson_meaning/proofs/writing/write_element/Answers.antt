@@ -2,7 +2,7 @@ use Rattle.std.proofs.Common.{◌≡◌, length, rules}
 use Rattle.bson_base.specs.Kinds.{IsPlain}
 use Rattle.bson_base.specs.Value.{document, member, no_members}
 use Rattle.bson_model.specs.View.{view}
-use Rattle.bson_meaning.proofs.Canonical.{canonical}
+use Rattle.bson_meaning.specs.Meaning.{norm_in_order}
 use Rattle.bson_meaning.proofs.InOrderBytes.{between, one_element}
 use Rattle.bson_meaning.proofs.writing.write_element.Goals as goal
 
@@ -10,7 +10,7 @@ pub returns : goal.returns
 returns c =
     let old = c.args.out.now.items in
     let k = c.args.name.now in
-    let v = canonical (view c.args.value.now) in
+    let v = norm_in_order (view c.args.value.now) in
     let start : c.len-start.result ≡ length old = search rules in
     let begun = c.write_bytes.new.out.items in
     let out = c.write_normal.new.out.items in

@@ -129,10 +129,7 @@ fn decimal(value: Value) -> Result<Decimal128>
     ensures { GivesReading (λ d. decimal_bytes d) result (decimal_body (tree_of value)) }
 {
     let text = text_of(value)?;
-    match text.parse::<Decimal128>() {
-        Ok(decimal) => Ok(decimal),
-        Err(_) => Err(Error::DeserializationError),
-    }
+    text.parse::<Decimal128>().ok().ok_or(Error::DeserializationError)
 }
 
 fn byte(value: Value) -> Result<u8>
@@ -165,10 +162,8 @@ fn uuid(alloc: Global, value: Value) -> Result<Binary>
     ensures { GivesReading (λ b. binary b.subtype b.bytes.items) result (uuid_body (tree_of value)) }
 {
     let text = text_of(value)?;
-    match Uuid::parse_str(&text) {
-        Ok(uuid) => Ok(Binary::from_uuid(alloc, uuid)?),
-        Err(_) => Err(Error::DeserializationError),
-    }
+    let uuid = Uuid::parse_str(&text).ok().ok_or(Error::DeserializationError)?;
+    Ok(Binary::from_uuid(alloc, uuid)?)
 }
 
 fn u32_from(n: Number) -> Option<u32>
@@ -188,10 +183,7 @@ fn unsigned(value: Value) -> Result<u32>
     let Value::Number(n) = value else {
         return Err(Error::DeserializationError);
     };
-    match u32_from(n) {
-        Some(n) => Ok(n),
-        None => Err(Error::DeserializationError),
-    }
+    u32_from(n).ok_or(Error::DeserializationError)
 }
 
 fn timestamp(value: Value) -> Result<Timestamp>
@@ -206,10 +198,7 @@ fn timestamp(value: Value) -> Result<Timestamp>
 fn date_of_text(text: &str) -> Result<DateTime>
     ensures { GivesReading (λ d. millis_of d) result (accepted (date_of text.now)) }
 {
-    match DateTime::parse_rfc3339_str(text) {
-        Ok(date) => Ok(date),
-        Err(_) => Err(Error::DeserializationError),
-    }
+    DateTime::parse_rfc3339_str(text).ok().ok_or(Error::DeserializationError)
 }
 
 fn date_of_number(n: Number) -> Result<DateTime>

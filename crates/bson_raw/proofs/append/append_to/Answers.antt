@@ -4,7 +4,7 @@ use Rattle.bson_base.specs.Tags.{tag_byte}
 use Rattle.bson_raw.specs.Append.{CanTake, body_of}
 use Rattle.bson_raw.specs.Raw.{ref_value, raw_kind}
 use Rattle.bson_raw.specs.Written.{CanWrite, Closes}
-use Rattle.bson_raw.proofs.Puts.{behind, body_length, four_length, rest_of, closes_to, same_kind, refusal_for, can_write, cut_down}
+use Rattle.bson_raw.proofs.Puts.{behind, body_length, four_length, rest_of, closes_to, refusal_for, can_write, cut_down}
 use Rattle.bson_raw.proofs.Gains.{gains_where_taken}
 use Rattle.bson_raw.proofs.append.append_to.Goals as goal
 
@@ -15,7 +15,7 @@ returns-in-Ok-clause-bytes c =
     let v = ref_value c.args.value in
     let plain = (c.in-Ok.ensures).plain in
     let rest : List ℕ = rest_of old key v c.requires in
-    let tag : c.tag.result ≡ tag_byte (raw_kind v) = c.tag.ensures ∙ ap tag_byte (c.element_type.ensures ∙ same_kind c.args.value) in
+    let tag : c.tag.result ≡ tag_byte (raw_kind v) = c.tag.ensures ∙ ap tag_byte c.element_type.ensures in
     let done = c.close.ensures.ok (take 4 old) (body_of old) rest (behind old c.write_rest.new.out.items rest c.requires (c.in-Ok.ensures).ok) (four_length old c.requires) (omega (arith, body_length old c.requires, c.len-end.ensures, c.args.bytes.now.ok.0)) in
     closes_to old key v c.requires c.close.new.bytes.items c.close.result plain.0 plain.1 (subst (λ (t : ℕ). Closes (take 4 old) (body_of old) rest t c.close.new.bytes.items c.close.result) tag done)
 

@@ -69,17 +69,17 @@ tree_of-returns-in_ok-pointer_of-in-DbPointer t c = (scalar (db_pointer c.in-DbP
 pub tree_of-returns-in_ok-array_of-in-Array : goal.tree_of-returns-in_ok-array_of-in-Array
 tree_of-returns-in_ok-array_of-in-Array t c =
     let r = c.in_ok-array_of-in-Array.ensures in
-    (array r.0, rw c.in-Array.is (r.0, refl, subst (λ b. SpellsItems b r.0) c.elements.ensures.value r.1), search (rules, the_lemmas, r.2))
+    (array r.0, rw c.in-Array.is (r.0, subst (λ b. SpellsItems b r.0) c.elements.ensures.value r.1, refl), search (rules, the_lemmas, r.2))
 
 pub tree_of-returns-in_ok-document_of-in-Document : goal.tree_of-returns-in_ok-document_of-in-Document
 tree_of-returns-in_ok-document_of-in-Document t c =
     let r = c.in_ok-document_of-in-Document.ensures in
-    (document r.0, rw c.in-Document.is (r.0, refl, subst (λ b. SpellsMembers b r.0) c.elements-in-Document.ensures.value r.1), search (rules, the_lemmas, r.2))
+    (document r.0, rw c.in-Document.is (r.0, subst (λ b. SpellsMembers b r.0) c.elements-in-Document.ensures.value r.1, refl), search (rules, the_lemmas, r.2))
 
 pub tree_of-returns-in_ok-scoped_of-in-JavaScriptCodeWithScope : goal.tree_of-returns-in_ok-scoped_of-in-JavaScriptCodeWithScope
 tree_of-returns-in_ok-scoped_of-in-JavaScriptCodeWithScope t c =
     let r = c.in_ok-scoped_of-in-JavaScriptCodeWithScope.ensures in
-    (scoped_code c.in-JavaScriptCodeWithScope.x.code.now r.1.0, rw c.in-JavaScriptCodeWithScope.is (r.1.0, refl, r.1.1), search (rules, the_lemmas, r.0, r.1.2))
+    (scoped_code c.in-JavaScriptCodeWithScope.x.code.now r.1.0, rw c.in-JavaScriptCodeWithScope.is (r.1.0, r.1.1, refl), search (rules, the_lemmas, r.0, r.1.2))
 
 pub element_tree-tree_of-requires : goal.element_tree-tree_of-requires
 element_tree-tree_of-requires t c =

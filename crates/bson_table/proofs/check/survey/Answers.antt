@@ -6,8 +6,8 @@ use Rattle.sqlite.specs.State.{HasCleanDisk, IsUnchanged, Survives, Shown, Commi
 use Rattle.sqlite.specs.Held.{state}
 use Rattle.sqlite.specs.Given.{HasGiven}
 use Rattle.bson_table.specs.Cells.{int_in}
-use Rattle.bson_table.specs.Open.{all_text, Passes, Refuses}
-use Rattle.bson_table.specs.Judged.{ArePassed, Judges}
+use Rattle.bson_table.specs.Open.{all_text, PassesOpening, RefusesOpening}
+use Rattle.bson_table.specs.Judged.{ArePassed, JudgesRow}
 use Rattle.bson_table.proofs.PlainLemmas.{all_asks, listing_leaves, not_understood, unread_keeps}
 use Rattle.bson_table.proofs.AnyLemmas.{begun_any}
 use Rattle.bson_table.proofs.SurveyLemmas.{refuses_other}
@@ -79,7 +79,7 @@ returns-in-Ok-None-clause-read g c clean =
     let late : HasCleanDisk (state g.S.Store now) = search rules in
     let was = c.rows.invariant.given (omega (arith, late, moved.survives.clean)) in
     let shown : Shown all_text [] mid (state g.S.Store now) was.0 = (rw (c.in-Ok-None.is, c.in-Ok-None.field-0-is) at (moved.ok late)) all_text [] was.0 was.1 in
-    let told : OnOk c.rows.verdict (Passes accepts old (state g.S.Store now)) = told_passes accepts old mid (state g.S.Store now) was.0 was.2 shown c.rows.seen.keys _ c.rows.verdict was.3 in
+    let told : OnOk c.rows.verdict (PassesOpening accepts old (state g.S.Store now)) = told_passes accepts old mid (state g.S.Store now) was.0 was.2 shown c.rows.seen.keys _ c.rows.verdict was.3 in
     search rules
 
 pub returns-in-Ok-None-clause-refused : goal.returns-in-Ok-None-clause-refused
@@ -92,7 +92,7 @@ returns-in-Ok-None-clause-refused g c clean =
     let late : HasCleanDisk (state g.S.Store now) = search rules in
     let was = c.rows.invariant.given (omega (arith, late, moved.survives.clean)) in
     let shown : Shown all_text [] mid (state g.S.Store now) was.0 = (rw (c.in-Ok-None.is, c.in-Ok-None.field-0-is) at (moved.ok late)) all_text [] was.0 was.1 in
-    let told : IfErr c.rows.verdict (Refuses accepts old (state g.S.Store now)) = told_refuses accepts old mid (state g.S.Store now) was.0 was.2 shown c.rows.seen.keys _ c.rows.verdict was.3 in
+    let told : IfErr c.rows.verdict (RefusesOpening accepts old (state g.S.Store now)) = told_refuses accepts old mid (state g.S.Store now) was.0 was.2 shown c.rows.seen.keys _ c.rows.verdict was.3 in
     search rules
 
 pub rows-preserved : goal.rows-preserved
@@ -113,5 +113,5 @@ rows-preserved g c =
           let read = c.place_in-last.ensures in
           let place : to_z w64 (of_z w64 c.place_in-last.result) ≡ int_in (column row 0) = search rules in
           let judged = c.in-Ok-judge.ensures was.0 was.3 in
-          (was.0 ++ row ∷ [], on, unchanged_then old mid (state g.S.Store now) was.2 still, subst (λ (z : ℤ). Judges accepts c.judge.new.seen.keys z (was.0 ++ row ∷ []) c.in-Ok-judge.now) (sym place) judged);
+          (was.0 ++ row ∷ [], on, unchanged_then old mid (state g.S.Store now) was.2 still, subst (λ (z : ℤ). JudgesRow accepts c.judge.new.seen.keys z (was.0 ++ row ∷ []) c.in-Ok-judge.now) (sym place) judged);
     }

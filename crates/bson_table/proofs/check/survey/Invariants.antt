@@ -4,7 +4,7 @@ use Rattle.sqlite.specs.State.{HasCleanDisk, IsUnchanged, Survives}
 use Rattle.sqlite.specs.Held.{state}
 use Rattle.sqlite.specs.Given.{HasGiven}
 use Rattle.bson_table.specs.Open.{all_text}
-use Rattle.bson_table.specs.Judged.{Judges}
+use Rattle.bson_table.specs.Judged.{JudgesRow}
 use Rattle.bson_table.proofs.check.survey.Given as goal
 
 abbrev pub invariant-rows : goal.invariant-rows
@@ -14,5 +14,5 @@ invariant-rows g l =
     record {
       same : l.rows.conn.ghost_name ≡ l.initial.rows.conn.ghost_name;
       survives : Survives old now (λ _. ⊥);
-      given : HasCleanDisk now → (given : List Row) × HasGiven g.S.Store all_text [] l.rows.conn.now given × IsUnchanged old now × Judges (g.C.RowCheck.accepts l.check) l.seen.keys l.last given l.verdict;
+      given : HasCleanDisk now → (given : List Row) × HasGiven g.S.Store all_text [] l.rows.conn.now given × IsUnchanged old now × JudgesRow (g.C.RowCheck.accepts l.check) l.seen.keys l.last given l.verdict;
     }
