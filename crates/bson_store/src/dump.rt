@@ -55,7 +55,10 @@ fn refused_at(kind: ErrorKind, document: u64) -> StoreError
 fn tree_at(alloc: Global, body: &[u8], place: u64) -> Result<Value, StoreError>
     ensures { (d : Members) → IsKept d → body.now ≡ encode d → TellsTree (tree_of Canonical d) place result }
 {
-    json_of(alloc, body, Mode::Canonical).map_err(|kind| refused_at(kind, place))
+    match json_of(alloc, body, Mode::Canonical) {
+        Ok(json) => Ok(json),
+        Err(kind) => Err(refused_at(kind, place)),
+    }
 }
 
 /// Hands the tree of the body at a place on, and answers the place behind it.

@@ -21,7 +21,10 @@ fn add_name(names: &mut Vec<String>, name: Vec<u8>) -> Result<(), StoreError>
         // No store wrote such a name: the disk returns another than was written.
         return Err(StoreError::from(ErrorKind::Database));
     };
-    names.push(text).ok().ok_or(StoreError::from(ErrorKind::Memory))
+    match names.push(text) {
+        Ok(()) => Ok(()),
+        Err(_) => Err(StoreError::from(ErrorKind::Memory)),
+    }
 }
 
 /// The names of a set in its order, which is that of their bytes.

@@ -129,7 +129,9 @@ fn decimal(value: Value) -> Result<Decimal128>
     ensures { GivesReading (λ d. decimal_bytes d) result (decimal_body (tree_of value)) }
 {
     let text = text_of(value)?;
-    text.parse::<Decimal128>().ok().ok_or(Error::DeserializationError)
+    text.parse::<Decimal128>()
+        .ok()
+        .ok_or(Error::DeserializationError)
 }
 
 fn byte(value: Value) -> Result<u8>
@@ -162,7 +164,9 @@ fn uuid(alloc: Global, value: Value) -> Result<Binary>
     ensures { GivesReading (λ b. binary b.subtype b.bytes.items) result (uuid_body (tree_of value)) }
 {
     let text = text_of(value)?;
-    let uuid = Uuid::parse_str(&text).ok().ok_or(Error::DeserializationError)?;
+    let uuid = Uuid::parse_str(&text)
+        .ok()
+        .ok_or(Error::DeserializationError)?;
     Ok(Binary::from_uuid(alloc, uuid)?)
 }
 
@@ -198,7 +202,9 @@ fn timestamp(value: Value) -> Result<Timestamp>
 fn date_of_text(text: &str) -> Result<DateTime>
     ensures { GivesReading (λ d. millis_of d) result (accepted (date_of text.now)) }
 {
-    DateTime::parse_rfc3339_str(text).ok().ok_or(Error::DeserializationError)
+    DateTime::parse_rfc3339_str(text)
+        .ok()
+        .ok_or(Error::DeserializationError)
 }
 
 fn date_of_number(n: Number) -> Result<DateTime>
