@@ -2,7 +2,7 @@
 use Rattle.std.specs.Prelude.{◌≡◌, ◌⊎◌, List, []}
 use Rattle.sqlite.specs.State.{State, IsUnchanged}
 use Rattle.bson_table.specs.Rows.{Doc, Shows, IsBlank}
-use Rattle.bson_table.specs.Open.{HasNoTable, Unopened, Passes}
+use Rattle.bson_table.specs.Open.{HasNoTable, Unopened, PassesOpening}
 use Rattle.bson_table.specs.Schema.{documents_schema}
 use Rattle.bson_table.specs.declared.opening.OpenError.{OpenError}
 use Rattle.store_documents.specs.Bodies.{IsRow}
@@ -20,7 +20,7 @@ pub record Opens (old new : State) : Type 0 where
   pub made : IsBlank old → Shows new []
   pub found : (docs : List Doc) → Shows old docs → Shows new docs × ShowSome docs
   pub listed : old.now.schema ≡ documents_schema → (docs : List Doc) × Shows new docs × ShowSome docs × IsUnchanged old new
-  pub other : HasNoTable old ⊎ Passes IsRow old new
+  pub other : HasNoTable old ⊎ PassesOpening IsRow old new
 
 -- why the database isn't opened
 abbrev pub RefusesToOpen : State → State → StoreError → Type 0
