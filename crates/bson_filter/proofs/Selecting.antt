@@ -13,7 +13,7 @@ use Rattle.bson_filter.specs.Filters.{filter_of, tests_of}
 use Rattle.bson_filter.specs.Views.{ComesBack, Finds}
 use Rattle.bson_filter.proofs.Members.{at_back}
 use Rattle.bson_filter.proofs.Views.{shows, kind_shown}
-use Rattle.store_laws.specs.Filter.{at, Filters, no_filters, filter, Path, SelectsAll, SelectsAny}
+use Rattle.store_laws.specs.Filter.{at, Filters, no_filters, Path, SelectsAll, SelectsAny}
 
 -- what is asked of the value that was found
 pub asked_found : (b : Bool) (P : Value → Type 0) (o : Option Value) (v : Value) → o ≡ Some v → IsTrue b ↔ P v → IsTrue b ↔ IsSomeAnd o P

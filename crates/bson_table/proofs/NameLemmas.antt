@@ -1,5 +1,5 @@
 -- The names of the collections.
-use Rattle.std.proofs.Common.{◌≡◌, ℕ, List, [], ◌∷◌, map, filter, codes, Bool, true, false, ◌||◌, bytes_eq, refl, sym, ap, ap₂, ◌∙◌, is_eq, arith, Less, Equal, Greater, Ordering, Vec}
+use Rattle.std.proofs.Common.{◌≡◌, ℕ, List, [], ◌∷◌, map, filter, codes, Bool, true, false, ◌||◌, bytes_eq, refl, sym, ap, ap₂, ◌∙◌, is_eq, Less, Equal, Greater, Ordering, Vec}
 use Rattle.std.specs.List.{list_any}
 use Rattle.std.specs.Ordering.{nat_cmp}
 use Rattle.std.specs.Cmp.Lexicographic.{slice_cmp}

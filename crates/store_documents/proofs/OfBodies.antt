@@ -3,7 +3,7 @@ use Rattle.std.proofs.Common.{◌≡◌, ◌⊎◌, inl, inr, ℕ, ◌<◌, ◌�
 use Rattle.std.specs.Prelude.{is_some}
 use Rattle.std.proofs.lemmas.Bool.{lt-ltb, le-ltb}
 use Rattle.bson_base.specs.Kinds.{IsPlain}
-use Rattle.bson_base.specs.Value.{Value, document, Members, look_up}
+use Rattle.bson_base.specs.Value.{Value, Members, look_up}
 use Rattle.bson_bytes.specs.Encode.{size}
 use Rattle.bson_frame.specs.Frame.{size_limit}
 use Rattle.bson_meaning.specs.Meaning.{key}

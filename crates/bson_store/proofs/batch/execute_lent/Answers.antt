@@ -1,15 +1,14 @@
-use Rattle.std.proofs.Common.{map, refl, string_bytes}
-use Rattle.serde_json.specs.View.{view as data_of}
+use Rattle.std.proofs.Common.{refl, string_bytes}
 use Rattle.bson_filter.specs.Filters.{filter_of, path_of}
 use Rattle.bson_model.specs.View.{view}
-use Rattle.store_laws.specs.Reading.{ReadsStream, ReadsTrees, read_value}
+use Rattle.store_laws.specs.Reading.{ReadsStream}
 use Rattle.store_laws.specs.State as model
 use Rattle.bson_store.specs.Calls.{held}
 use Rattle.bson_store.specs.declared.command.Command.TheVariants as commands
 use Rattle.bson_store.specs.Questions.{as_list, as_names}
 use Rattle.bson_store.specs.Refusals.{reply_by, as_done, as_flag, as_bytes, as_json, as_json_list, as_number}
 use Rattle.bson_store.specs.Runs.{reply_of}
-use Rattle.bson_store.proofs.Going.{obeys, obeys_bytes, obeys_many, obeys_tree}
+use Rattle.bson_store.proofs.Going.{obeys, obeys_bytes, obeys_many}
 use Rattle.bson_store.proofs.batch.execute_lent.Goals as goal
 
 pub returns-in-InsertRaw : goal.returns-in-InsertRaw
