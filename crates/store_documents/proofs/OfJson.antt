@@ -23,8 +23,8 @@ abbrev pub Refused : Data → ErrorKind → Type 0
 Refused j k = ReadsTree j (unreadable k) ⊎ ((k ≡ Memory) × (a : Reading) × ReadsTree j a × (IsUnread in_json a → ⊥))
 
 -- the refusal for a fault of the reader
-abbrev pub TellsFault : Error → ErrorKind → Type 0
-TellsFault x k = ((x ≡ errors.Memory) × (k ≡ Memory)) ⊎ ((x ≢ errors.Memory) × (k ≡ JsonRefused))
+abbrev pub TellsJsonFault : Error → ErrorKind → Type 0
+TellsJsonFault x k = ((x ≡ errors.Memory) × (k ≡ Memory)) ⊎ ((x ≢ errors.Memory) × (k ≡ JsonRefused))
 
 wanted : (j : Data) (js : JsonMembers) (k : ErrorKind) → j ≡ object js → k ≡ Memory → Refused j k
 wanted j js k is memory = let t = object_tree js in inr (memory, t.0, rw is t.1, t.2)
@@ -33,7 +33,7 @@ refused : (j : Data) (js : JsonMembers) (x : Error) (k : ErrorKind) → j ≡ ob
 refused j js x k is reads kind = inl (rw (is, reads, kind) refl)
 
 -- the JSON reader answered a fault
-pub faulted : (j : Data) (js : JsonMembers) (x : Error) (k : ErrorKind) → j ≡ object js → Fails x (read_members js) → TellsFault x k → Refused j k
+pub faulted : (j : Data) (js : JsonMembers) (x : Error) (k : ErrorKind) → j ≡ object js → Fails x (read_members js) → TellsJsonFault x k → Refused j k
 faulted j js x k is fails (inl h) = wanted j js k is h.1
 faulted j js errors.Memory k is fails (inr h) = absurd (h.0 refl)
 faulted j js (errors.InvalidObjectId e) k is fails (inr h) = refused j js (errors.InvalidObjectId e) k is fails h.1
