@@ -48,7 +48,7 @@ fn symbol(payload: &[u8]) -> Result<RawBsonRef<'_>, ErrorKind>
 }
 
 /// The document that a payload is, or the kind of its fault.
-fn framed(payload: &[u8]) -> Result<RawDocument<'_>, ErrorKind>
+fn document_at(payload: &[u8]) -> Result<RawDocument<'_>, ErrorKind>
     ensures { MatchResult result (λ d. bytes_of d ≡ payload.now) (λ k. (IsEnvelope payload.now → ⊥) × (k ≡ MalformedValue)) }
 {
     RawDocument::from_bytes(payload).map_err(|e| e.kind)
@@ -57,13 +57,13 @@ fn framed(payload: &[u8]) -> Result<RawDocument<'_>, ErrorKind>
 fn document(payload: &[u8]) -> Result<RawBsonRef<'_>, ErrorKind>
     ensures { Decodes kinds.EmbeddedDocument payload.now result }
 {
-    Ok(RawBsonRef::Document(framed(payload)?))
+    Ok(RawBsonRef::Document(document_at(payload)?))
 }
 
 fn array(payload: &[u8]) -> Result<RawBsonRef<'_>, ErrorKind>
     ensures { Decodes kinds.Array payload.now result }
 {
-    let document = framed(payload)?;
+    let document = document_at(payload)?;
     Ok(RawBsonRef::Array(RawArray { document }))
 }
 
@@ -178,7 +178,7 @@ fn code_with_scope(payload: &[u8]) -> Result<RawBsonRef<'_>, ErrorKind>
     }
     let (_, parts) = payload.split_at(4);
     let (code, scope) = text_at(parts)?;
-    let scope = framed(scope)?;
+    let scope = document_at(scope)?;
     Ok(RawBsonRef::JavaScriptCodeWithScope(RawJavaScriptCodeWithScopeRef { code, scope }))
 }
 
