@@ -16,6 +16,28 @@
 //! - `since`, `since_saturating`, with two moments: the milliseconds from the second to the first. `after`, with a moment and
 //!   milliseconds: the moment so much later, saturating.
 //!
+//! - `kind`, with a value: its kind, and the methods `as_..` that find something. `overwrite`, with a value: the methods `as_.._mut` that
+//!   lend a part, and the value once that is written to: an empty one where it has a length, bytes of 1, or the moment 1.
+//! - `copy`, with a value: whether its copy has an equal tree, and the copy. `copy_alone`: the same of a document or a code with scope by
+//!   itself. `compare`, with two values and ` | ` between: whether they are equal, and fed alike to a hasher.
+//! - `get`, with a key and a document: what the getters that read find (a double by its pattern as a number, an array and bytes by their
+//!   length), how many refuse with each error, and whether Null stands there. `lend`, with the same: how many getters that lend refuse
+//!   with each error, and the document once what is lent is written to: the smallest double over 0, `false`, 1, 2, the increment 1, the
+//!   moment 5, bytes of 1, or an empty one where it has a length.
+//! - `edit`, with steps and `;` between: what each answers on a document that begins empty, and the document at the end. The steps:
+//!   `insert KEY N` and `remove KEY` (the number before), `contains KEY`, `at_key KEY N` and `at_place PLACE N` (whether a value is lent,
+//!   to be the Int32 N), `clear` (whether it was and is empty), `extend KEY N` (the length), `or_insert KEY N` (an entry puts 7 where the
+//!   key is absent, and N is written to what it lends), `or_insert_with KEY N` (an entry puts N where it is absent), `entry KEY` (the
+//!   entry's key), `walk ITERATOR` (what it yields: `iter`, `keys`, `values`, `ascending` or `into_iter`), `place KEY` (the key's place,
+//!   and how many keys were compared with it).
+//! - `from_pairs`, with keys and numbers: length and text of the document that they make at once.
+//! - `descending`: how many of 1000 keys that are put in descending order are found at their places by at most 10 comparisons. `at_once`,
+//!   with a number: whether so many keys that go up and down make, at once, the document that they make one by one. `extended`, with a
+//!   number and a document: how many pairs ascend, and are found, once so many such keys are added, and 000.
+//! - `from_u32`, `from_id`, `from_option`, `from_text`, `from_items`, `from_slice`, `from_uuid`, `from_vector`: kind and text of the
+//!   value that is made from a number, digits, a value or none, a text, an array's items (moved, and copied), a UUID's text, a vector's
+//!   bytes.
+//!
 //! A refusal is answered by the error's name.
 //!
 //! A value is told by parts with `;` between, from left to right: `null`, `true`, `false`, `undefined`, `min_key`, `max_key`,
@@ -25,7 +47,13 @@
 //! `under KEY` into the document before it. `scope_of CODE` makes the document told last the scope of a code.
 #![tactic(auto)]
 
+mod cases;
+mod conversions;
+mod edits;
+mod getters;
 mod json;
+mod kinds;
+mod orders;
 mod scalars;
 mod values;
 mod wide;
@@ -71,7 +99,7 @@ fn answer(alloc: Global, line: &str) -> Result<String, AllocError> {
         }
         _ => match scalars::answer(alloc, word, rest)? {
             Some(told) => Ok(told),
-            None => String::from_str(alloc, "no such case"),
+            None => cases::answer(alloc, word, rest),
         },
     }
 }

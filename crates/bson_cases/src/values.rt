@@ -60,7 +60,7 @@ fn scope_code(made: &mut Vec<Bson>, code: String) -> Result<bool, AllocError> {
         return Ok(false);
     };
     let scoped = JavaScriptCodeWithScope { code, scope };
-    made.push(Bson::JavaScriptCodeWithScope(scoped))?;
+    made.push(Bson::from(scoped))?;
     Ok(true)
 }
 
@@ -81,14 +81,14 @@ fn leaf(alloc: Global, word: &str, rest: &str) -> Result<Option<Bson>, AllocErro
 /// A value of a word alone.
 fn mark(alloc: Global, word: &str) -> Option<Bson> {
     match word {
-        "null" => Some(Bson::Null),
-        "true" => Some(Bson::Boolean(true)),
-        "false" => Some(Bson::Boolean(false)),
+        "null" => Some(Bson::default()),
+        "true" => Some(Bson::from(true)),
+        "false" => Some(Bson::from(false)),
         "undefined" => Some(Bson::Undefined),
         "min_key" => Some(Bson::MinKey),
         "max_key" => Some(Bson::MaxKey),
         "array" => Some(Bson::Array(Vec::new(alloc))),
-        "document" => Some(Bson::Document(Document::new(alloc))),
+        "document" => Some(Bson::from(Document::new(alloc))),
         _ => None,
     }
 }
@@ -96,13 +96,13 @@ fn mark(alloc: Global, word: &str) -> Option<Bson> {
 /// A value of a number, or of its bytes.
 fn number(word: &str, rest: &str) -> Option<Bson> {
     match word {
-        "int32" => Some(Bson::Int32(rest.parse::<i32>().ok()?)),
-        "int64" => Some(Bson::Int64(rest.parse::<i64>().ok()?)),
-        "double" => Some(Bson::Double(DoubleBits(pattern(rest)?))),
-        "date" => Some(Bson::DateTime(moment(rest)?)),
+        "int32" => Some(Bson::from(rest.parse::<i32>().ok()?)),
+        "int64" => Some(Bson::from(rest.parse::<i64>().ok()?)),
+        "double" => Some(Bson::from(DoubleBits(pattern(rest)?))),
+        "date" => Some(Bson::from(moment(rest)?)),
         "timestamp" => timestamp(rest),
-        "id" => Some(Bson::ObjectId(id(rest)?)),
-        "decimal" => Some(Bson::Decimal128(decimal(rest)?)),
+        "id" => Some(Bson::from(<[u8; 12]>::from_hex(rest).ok()?)),
+        "decimal" => Some(Bson::from(decimal(rest)?)),
         _ => None,
     }
 }
@@ -126,7 +126,7 @@ pub fn moment(millis: &str) -> Option<DateTime> {
 
 fn timestamp(rest: &str) -> Option<Bson> {
     let (time, increment) = rest.split_once(' ')?;
-    Some(Bson::Timestamp(Timestamp {
+    Some(Bson::from(Timestamp {
         time: time.parse::<u32>().ok()?,
         increment: increment.parse::<u32>().ok()?,
     }))
@@ -145,7 +145,7 @@ fn decimal(digits: &str) -> Option<Decimal128> {
 fn of_text(alloc: Global, word: &str, rest: &str) -> Result<Option<Bson>, AllocError> {
     let text = String::from_str(alloc, rest)?;
     Ok(match word {
-        "string" => Some(Bson::String(text)),
+        "string" => Some(Bson::from(text)),
         "symbol" => Some(Bson::Symbol(text)),
         "code" => Some(Bson::JavaScriptCode(text)),
         _ => None,
@@ -171,7 +171,7 @@ fn of_two(
 fn regex(alloc: Global, pattern: &str, options: &str) -> Result<Option<Bson>, AllocError> {
     let pattern = String::from_str(alloc, pattern)?;
     let options = String::from_str(alloc, options)?;
-    Ok(Some(Bson::RegularExpression(Regex { pattern, options })))
+    Ok(Some(Bson::from(Regex { pattern, options })))
 }
 
 fn pointer(alloc: Global, namespace: &str, digits: &str) -> Result<Option<Bson>, AllocError> {
@@ -179,7 +179,7 @@ fn pointer(alloc: Global, namespace: &str, digits: &str) -> Result<Option<Bson>,
         return Ok(None);
     };
     let namespace = String::from_str(alloc, namespace)?;
-    Ok(Some(Bson::DbPointer(DbPointer::new(namespace, id))))
+    Ok(Some(Bson::from(DbPointer::new(namespace, id))))
 }
 
 /// The bytes of a text, of a subtype whose byte has two hexadecimal digits.
@@ -189,5 +189,5 @@ fn binary(alloc: Global, subtype: &str, text: &str) -> Result<Option<Bson>, Allo
     };
     let subtype = BinarySubtype::from(byte);
     let bytes = Vec::from_slice(alloc, text.as_bytes())?;
-    Ok(Some(Bson::Binary(Binary { subtype, bytes })))
+    Ok(Some(Bson::from(Binary { subtype, bytes })))
 }
