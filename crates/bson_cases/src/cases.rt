@@ -1,8 +1,43 @@
 //! Cases about values and documents, by their words.
 
-use crate::{conversions, edits, getters, kinds, orders, values};
+use crate::{conversions, edits, getters, json, kinds, orders, values, wide};
 use bson_model::{Bson, Document};
 use std::alloc::{AllocError, Global};
+
+/// The tree of a value in Extended JSON, in the form that the word names.
+fn tree_of(alloc: Global, word: &str, value: Bson) -> Result<String, AllocError> {
+    match word {
+        "canonical" => json::canonical(alloc, value),
+        _ => json::relaxed(alloc, value),
+    }
+}
+
+/// The tree of the value that parts make.
+pub fn tree(alloc: Global, word: &str, parts: &str) -> Result<String, AllocError> {
+    match values::value_of(alloc, parts)? {
+        Some(value) => tree_of(alloc, word, value),
+        None => String::from_str(alloc, "no value"),
+    }
+}
+
+/// The text of a document or a code with scope, which print their own where they are no value.
+fn show_alone(alloc: Global, value: &Bson) -> Result<String, AllocError> {
+    match value {
+        Bson::Document(document) => document.to_string(alloc),
+        Bson::JavaScriptCodeWithScope(code) => code.to_string(alloc),
+        _ => String::from_str(alloc, "no document and no code with scope"),
+    }
+}
+
+/// The answer to a case about a value's text.
+fn about_text(alloc: Global, word: &str, value: &Bson) -> Result<String, AllocError> {
+    match word {
+        "show" => value.to_string(alloc),
+        "show_alone" => show_alone(alloc, value),
+        "show_wide" => wide::value(alloc, value),
+        _ => wide::content(alloc, value),
+    }
+}
 
 /// The answer to a case about a value.
 fn about_value(alloc: Global, word: &str, value: &mut Bson) -> Result<String, AllocError> {
@@ -10,7 +45,8 @@ fn about_value(alloc: Global, word: &str, value: &mut Bson) -> Result<String, Al
         "kind" => kinds::kind(alloc, value),
         "overwrite" => kinds::overwrite(alloc, value),
         "copy" => kinds::copy(alloc, value),
-        _ => kinds::copy_alone(alloc, value),
+        "copy_alone" => kinds::copy_alone(alloc, value),
+        _ => about_text(alloc, word, value),
     }
 }
 
@@ -67,6 +103,7 @@ fn compare(alloc: Global, rest: &str) -> Result<String, AllocError> {
 pub fn answer(alloc: Global, word: &str, rest: &str) -> Result<String, AllocError> {
     match word {
         "kind" | "overwrite" | "copy" | "copy_alone" => of_value(alloc, word, rest),
+        "show" | "show_alone" | "show_wide" | "show_wide_content" => of_value(alloc, word, rest),
         "get" | "lend" | "extended" => of_key(alloc, word, rest),
         "compare" => compare(alloc, rest),
         "edit" => edits::edit(alloc, rest),

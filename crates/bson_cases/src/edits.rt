@@ -52,16 +52,27 @@ fn write_by_place(document: &mut Document, place: &str, number: i32) -> bool {
     }
 }
 
-/// A key and a number, as pairs.
-fn one_pair(alloc: Global, key: &str, number: i32) -> Result<Vec<(String, Bson)>, AllocError> {
-    let mut pairs = Vec::new(alloc);
-    push(&mut pairs, String::from_str(alloc, key)?, number)?;
-    Ok(pairs)
-}
-
+/// Adds a key and a number to pairs.
 fn push(pairs: &mut Vec<(String, Bson)>, key: String, number: i32) -> Result<(), AllocError> {
     pairs.push((key, Bson::Int32(number)))?;
     Ok(())
+}
+
+/// Pairs that are told by a key and a number each.
+fn pairs_of(alloc: Global, texts: &str) -> Result<Vec<(String, Bson)>, AllocError> {
+    let mut pairs = Vec::new(alloc);
+    for text in texts.split(';') {
+        let (key, number) = text.split_once(' ').unwrap_or((text, "0"));
+        let number = number.parse::<i32>().unwrap_or(0);
+        push(&mut pairs, String::from_str(alloc, key)?, number)?;
+    }
+    Ok(pairs)
+}
+
+/// Adds the pair of a key and a number. How many pairs there are then.
+fn extend(alloc: Global, document: &mut Document, pair: &str) -> Result<String, AllocError> {
+    document.extend(pairs_of(alloc, pair)?)?;
+    document.len().to_string(alloc)
 }
 
 /// Does a step that takes its key along, and tells what it answers.
@@ -117,10 +128,6 @@ fn step(
         "clear" => clear(alloc, document),
         "walk" => orders::walk(alloc, key, document),
         "place" => orders::place(alloc, document, key),
-        "extend" => {
-            document.extend(one_pair(alloc, key, number)?)?;
-            document.len().to_string(alloc)
-        }
         _ => step_with_key(document, alloc, word, String::from_str(alloc, key)?, number),
     }
 }
@@ -135,7 +142,11 @@ fn add_step(
     let (word, rest) = text.split_once(' ').unwrap_or((text, ""));
     let (key, number) = rest.split_once(' ').unwrap_or((rest, "0"));
     let number = number.parse::<i32>().unwrap_or(0);
-    told.push_str(step(document, alloc, word, key, number)?.as_str())?;
+    let answer = match word {
+        "extend" => extend(alloc, document, rest),
+        _ => step(document, alloc, word, key, number),
+    };
+    told.push_str(answer?.as_str())?;
     told.push_str(", ")
 }
 
@@ -158,17 +169,6 @@ pub fn edit(alloc: Global, steps: &str) -> Result<String, AllocError> {
     let mut document = Document::new(alloc);
     add_steps(&mut told, alloc, &mut document, steps)?;
     format!(in alloc; "{told}{document}")
-}
-
-/// Pairs that are told by a key and a number each.
-fn pairs_of(alloc: Global, texts: &str) -> Result<Vec<(String, Bson)>, AllocError> {
-    let mut pairs = Vec::new(alloc);
-    for text in texts.split(';') {
-        let (key, number) = text.split_once(' ').unwrap_or((text, "0"));
-        let number = number.parse::<i32>().unwrap_or(0);
-        push(&mut pairs, String::from_str(alloc, key)?, number)?;
-    }
-    Ok(pairs)
 }
 
 /// The document that pairs make at once, and its length.

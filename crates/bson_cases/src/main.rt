@@ -58,31 +58,8 @@ mod scalars;
 mod values;
 mod wide;
 
-use bson_model::Bson;
 use std::alloc::{AllocError, Global};
 use std::io;
-
-/// The text of a document or a code with scope, which print their own where they are no value.
-fn show_alone(alloc: Global, value: Bson) -> Result<String, AllocError> {
-    match value {
-        Bson::Document(document) => document.to_string(alloc),
-        Bson::JavaScriptCodeWithScope(code) => code.to_string(alloc),
-        _ => String::from_str(alloc, "no document and no code with scope"),
-    }
-}
-
-/// The answer to a case about a value.
-fn answer_value(alloc: Global, word: &str, value: Bson) -> Result<String, AllocError> {
-    match word {
-        "canonical" => json::canonical(alloc, value),
-        "relaxed" => json::relaxed(alloc, value),
-        "show" => value.to_string(alloc),
-        "show_alone" => show_alone(alloc, value),
-        "show_wide" => wide::value(alloc, &value),
-        "show_wide_content" => wide::content(alloc, &value),
-        _ => String::from_str(alloc, "no such case"),
-    }
-}
 
 /// The answer to a case.
 fn answer(alloc: Global, line: &str) -> Result<String, AllocError> {
@@ -91,12 +68,7 @@ fn answer(alloc: Global, line: &str) -> Result<String, AllocError> {
         "read" => json::read(alloc, rest),
         "read_map" => json::read_map(alloc, rest),
         "read_document" => json::read_document(alloc, rest),
-        "canonical" | "relaxed" | "show" | "show_alone" | "show_wide" | "show_wide_content" => {
-            match values::value_of(alloc, rest)? {
-                Some(value) => answer_value(alloc, word, value),
-                None => String::from_str(alloc, "no value"),
-            }
-        }
+        "canonical" | "relaxed" => cases::tree(alloc, word, rest),
         _ => match scalars::answer(alloc, word, rest)? {
             Some(told) => Ok(told),
             None => cases::answer(alloc, word, rest),
