@@ -3,13 +3,13 @@
 use crate::replies::tell_refusal;
 use crate::{lists, words};
 use bson_store::{Store, StoreError};
-use sqlite::{Connection, MemStore};
+use sqlite::{Alter, Connection};
 use std::alloc::{AllocError, Global};
 
 /// The answer to a line.
-fn answer_line(
+fn answer_line<S: Alter + Drop>(
     alloc: Global,
-    store: &mut Store<MemStore>,
+    store: &mut Store<S>,
     line: &str,
 ) -> Result<String, AllocError> {
     match line.split_once(' ') {
@@ -20,9 +20,9 @@ fn answer_line(
 }
 
 /// Answers lines over an open store.
-fn answer_lines(
+fn answer_lines<S: Alter + Drop>(
     alloc: Global,
-    store: &mut Store<MemStore>,
+    store: &mut Store<S>,
     lines: &str,
     told: &mut String,
 ) -> Result<(), AllocError> {
@@ -35,14 +35,14 @@ fn answer_lines(
 }
 
 /// Whether the database does a statement of SQL.
-fn is_done(connection: &mut Connection<MemStore>, line: &str) -> bool {
+fn is_done<S: Alter>(connection: &mut Connection<S>, line: &str) -> bool {
     let statement = line.strip_prefix("sql ").unwrap_or("");
     connection.execute(statement, &[]).is_ok()
 }
 
 /// Does lines of SQL.
-fn prepare(
-    connection: &mut Connection<MemStore>,
+fn prepare<S: Alter>(
+    connection: &mut Connection<S>,
     lines: &str,
     told: &mut String,
 ) -> Result<(), AllocError> {
@@ -60,12 +60,12 @@ fn tell_unopened(alloc: Global, error: StoreError, told: &mut String) -> Result<
 }
 
 /// Opens the store of a database, answers lines over it, closes it and gives the database back.
-fn answer_part(
+fn answer_part<S: Alter + Drop>(
     alloc: Global,
-    connection: Connection<MemStore>,
+    connection: Connection<S>,
     lines: &str,
     told: &mut String,
-) -> (Connection<MemStore>, Result<(), AllocError>) {
+) -> (Connection<S>, Result<(), AllocError>) {
     match Store::open(alloc, connection) {
         Ok(mut store) => {
             let outcome = answer_lines(alloc, &mut store, lines, told);
@@ -75,11 +75,13 @@ fn answer_part(
     }
 }
 
-/// Answers lines over a new database.
-fn answer_all(alloc: Global, lines: &str, told: &mut String) -> Result<(), AllocError> {
-    let Ok(mut connection) = Connection::open_in_memory(alloc) else {
-        return told.push_str("no database\n");
-    };
+/// Answers lines over a database, and gives it back.
+fn answer_parts<S: Alter + Drop>(
+    alloc: Global,
+    mut connection: Connection<S>,
+    lines: &str,
+    told: &mut String,
+) -> (Connection<S>, Result<(), AllocError>) {
     let mut parts = lines.split("open\n");
     let mut outcome = prepare(&mut connection, parts.next().unwrap_or(""), told);
     for part in parts {
@@ -87,7 +89,19 @@ fn answer_all(alloc: Global, lines: &str, told: &mut String) -> Result<(), Alloc
         connection = back;
         outcome = outcome.and(answered);
     }
-    outcome
+    (connection, outcome)
+}
+
+/// Answers lines over a new database.
+fn answer_all(alloc: Global, lines: &str, told: &mut String) -> Result<(), AllocError> {
+    match Connection::open_in_memory(alloc) {
+        Ok(connection) => {
+            let (connection, outcome) = answer_parts(alloc, connection, lines, told);
+            drop(connection);
+            outcome
+        }
+        Err(_) => told.push_str("no database\n"),
+    }
 }
 
 /// The answer to a block: its title, and a line for each of its lines.

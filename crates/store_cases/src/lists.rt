@@ -3,7 +3,7 @@
 use crate::commands::command_of;
 use crate::replies::tell;
 use bson_store::{Command, Reply, Store, StoreError, run};
-use sqlite::MemStore;
+use sqlite::Alter;
 use std::alloc::{AllocError, Global};
 
 /// The commands of a line. None where one of them is none, or where memory is wanted.
@@ -28,9 +28,9 @@ fn tell_all(alloc: Global, replies: &[Reply]) -> Result<String, AllocError> {
 }
 
 /// The replies to the commands of a line.
-pub fn answer(
+pub fn answer<S: Alter + Drop>(
     alloc: Global,
-    store: &mut Store<MemStore>,
+    store: &mut Store<S>,
     line: &str,
 ) -> Result<String, AllocError> {
     let Some(commands) = commands_of(alloc, line) else {
@@ -41,15 +41,19 @@ pub fn answer(
 }
 
 /// Loads the dump of a collection into another.
-fn move_all(store: &mut Store<MemStore>, from: &str, to: &str) -> Result<u64, StoreError> {
+fn move_all<S: Alter + Drop>(
+    store: &mut Store<S>,
+    from: &str,
+    to: &str,
+) -> Result<u64, StoreError> {
     let trees = store.dump_json(from)?;
     store.load_json(to, trees)
 }
 
 /// The reply to a dump of the first collection that is loaded into the second.
-pub fn moved(
+pub fn moved<S: Alter + Drop>(
     alloc: Global,
-    store: &mut Store<MemStore>,
+    store: &mut Store<S>,
     names: &str,
 ) -> Result<String, AllocError> {
     let (from, to) = names.split_once(' ').unwrap_or((names, ""));

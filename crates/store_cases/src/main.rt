@@ -1,5 +1,8 @@
-//! Cases of bson_store, store_pipe and store_program. The files `stdin` and `stdout` hold the cases and their answers: each line of standard
+//! Cases of bson_table, bson_store, store_pipe and store_program. The files `stdin` and `stdout` hold the cases and their answers: each line of standard
 //! input is answered by one line of standard output, but for a block whose store isn't opened, which ends there.
+//!
+//! Before the first title each line stands alone: `export_memory TIMES` tells how far an export gets where memory is refused, as the
+//! page of `exporting` says, and the others are cases of bson_table, of which the page of `table` tells.
 //!
 //! A line that begins with `# ` is a title, and begins a block of lines over a new database in memory. A block has
 //!
@@ -24,15 +27,30 @@
 mod blocks;
 mod bytes;
 mod commands;
+mod counting;
+mod exporting;
 mod lists;
 mod replies;
+mod table;
 mod words;
 
 use std::io;
 
+/// Answers a line that stands alone.
+fn answer_alone(rt: &HostRuntime, line: &str) -> io::Result<()> {
+    match line.split_once(' ') {
+        Some(("export_memory", times)) => rt.println(exporting::answer(rt.alloc(), times)),
+        _ => rt.println(table::answer(rt.alloc(), line)?),
+    }
+}
+
 fn main(rt: HostRuntime) -> io::Result<()> {
     let cases = io::read_to_string(rt.alloc(), rt.stdin())?;
-    for block in cases.split("# ").skip(1) {
+    let mut parts = cases.split("# ");
+    for line in parts.next().unwrap_or("").lines() {
+        answer_alone(&rt, line)?;
+    }
+    for block in parts {
         rt.print(blocks::answer(rt.alloc(), block)?)?;
     }
     Ok(())

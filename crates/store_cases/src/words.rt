@@ -3,7 +3,7 @@
 use crate::bytes;
 use bson_base::faulty::{FaultySink, FaultySource};
 use bson_store::{SliceSource, Store, VecSink};
-use sqlite::MemStore;
+use sqlite::Alter;
 use std::alloc::{AllocError, Global};
 use store_pipe::pipe;
 use store_program::execute;
@@ -84,9 +84,9 @@ fn told(
 }
 
 /// Does what the words ask for, with devices that don't fail.
-fn plainly(
+fn plainly<S: Alter + Drop>(
     alloc: Global,
-    store: &mut Store<MemStore>,
+    store: &mut Store<S>,
     words: &Words<'_>,
     input: &[u8],
 ) -> Result<String, AllocError> {
@@ -117,9 +117,9 @@ fn with_failures(
 }
 
 /// Does what the words ask for, with devices that go slowly and fail.
-fn with_faults(
+fn with_faults<S: Alter + Drop>(
     alloc: Global,
-    store: &mut Store<MemStore>,
+    store: &mut Store<S>,
     words: &Words<'_>,
     input: &[u8],
     case: Case<'_>,
@@ -139,9 +139,9 @@ fn with_faults(
 }
 
 /// Does what the words ask for, with the devices of the case.
-fn done(
+fn done<S: Alter + Drop>(
     alloc: Global,
-    store: &mut Store<MemStore>,
+    store: &mut Store<S>,
     words: &Words<'_>,
     input: &[u8],
     case: Case<'_>,
@@ -153,9 +153,9 @@ fn done(
 }
 
 /// The answer to words.
-fn answer_words(
+fn answer_words<S: Alter + Drop>(
     alloc: Global,
-    store: &mut Store<MemStore>,
+    store: &mut Store<S>,
     words: &[String],
     case: Case<'_>,
 ) -> Result<String, AllocError> {
@@ -220,9 +220,9 @@ fn answer_pipe(alloc: Global, case: Case<'_>) -> Result<String, AllocError> {
 }
 
 /// The answer to a line of words.
-pub fn answer(
+pub fn answer<S: Alter + Drop>(
     alloc: Global,
-    store: &mut Store<MemStore>,
+    store: &mut Store<S>,
     line: &str,
 ) -> Result<String, AllocError> {
     let case = case_of(line);

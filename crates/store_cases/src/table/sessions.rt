@@ -1,7 +1,7 @@
 //! Steps on one database in memory.
 
-use crate::answers::Answers;
-use crate::calls::{self, HasBody};
+use super::answers::Answers;
+use super::calls::{self, HasBody};
 use bson_table::{OpenError, Table};
 use sqlite::{Alter, Connection};
 use std::alloc::{AllocError, Global};

@@ -4,8 +4,8 @@
 //! comes back, and the files are opened again. All is well where each accepted change is found, and perhaps the next one, and where
 //! the rest of the changes then ends in the rows that a run without a stop ends in.
 
-use crate::calls::{self, HasBody};
-use crate::sessions::rows;
+use super::calls::{self, HasBody};
+use super::sessions::rows;
 use bson_table::Table;
 use sqlite::{Alter, Connection, FileStore, Files, Options};
 use sqlite_disk::{Crash, Disk, Fuse, Memory};
@@ -31,10 +31,11 @@ struct Run {
     refused: bool,
 }
 
-/// What a stop came to: how many changes were accepted before it, the rows that were found afterwards, those at the end, and
-/// whether all behind it was opened.
+/// What a stop came to: whether it is over, how many changes were accepted before it, the rows that were found afterwards, those at
+/// the end, and whether all behind it was opened.
 #[derive(Clone, Copy)]
 struct Outcome {
+    is_over: bool,
     done: usize,
     found: i64,
     ended: i64,
@@ -89,20 +90,18 @@ fn stop_at(alloc: Global, file: &str, calls: u64) -> Outcome {
     } else {
         (u64::MAX, calls)
     };
-    let mut run = Run {
-        done: 0,
-        refused: false,
-    };
-    let mut files = run_over(alloc, fused(alloc, log, db), &mut run);
-    files.log.crash();
-    files.db.crash();
     let mut stop = Outcome {
-        done: run.done,
+        is_over: false,
+        done: 0,
         found: -1,
         ended: -1,
         reopened: false,
     };
-    drop(go_on_over(alloc, files, &mut stop));
+    let mut files = over(alloc, fused(alloc, log, db), &mut stop);
+    files.log.crash();
+    files.db.crash();
+    stop.is_over = true;
+    drop(over(alloc, files, &mut stop));
     stop
 }
 
@@ -114,25 +113,34 @@ fn fused(alloc: Global, log_calls: u64, db_calls: u64) -> Files<Fuse<Memory>> {
     }
 }
 
-/// Runs the changes over new files, up to the first that is refused.
-fn run_over<D: Disk + Drop>(alloc: Global, files: Files<D>, run: &mut Run) -> Files<D> {
+/// Does over files what is done before the stop, or behind it. No other function takes a database in files out of its connection: to
+/// prove that takes half a minute each time.
+fn over<D: Disk + Drop>(alloc: Global, files: Files<D>, stop: &mut Outcome) -> Files<D> {
     match reopened(alloc, files) {
-        Ok(conn) => store_of(opened(alloc, conn, 0, run)).close(),
+        Ok(conn) => worked(alloc, conn, stop).close(),
         Err(files) => files,
     }
 }
 
-/// Opens what a stop left, tells its rows, and runs the rest of the changes.
-fn go_on_over<D: Disk + Drop>(alloc: Global, files: Files<D>, stop: &mut Outcome) -> Files<D> {
-    match reopened(alloc, files) {
-        Ok(conn) => store_of(go_on(alloc, conn, stop)).close(),
-        Err(files) => files,
-    }
-}
-
-/// The store of a connection, with no clause: over a store of files those of the call would take minutes.
-fn store_of<S: Alter + Drop>(conn: Connection<S>) -> S {
+/// The same over any database, with no clause: over a database in files those of the call would take minutes.
+fn worked<S: Alter + Drop>(alloc: Global, conn: Connection<S>, stop: &mut Outcome) -> S {
+    let conn = if stop.is_over {
+        go_on(alloc, conn, stop)
+    } else {
+        begin(alloc, conn, stop)
+    };
     conn.into_store()
+}
+
+/// Runs the changes up to the first that is refused.
+fn begin<S: Alter + Drop>(alloc: Global, conn: Connection<S>, stop: &mut Outcome) -> Connection<S> {
+    let mut run = Run {
+        done: 0,
+        refused: false,
+    };
+    let conn = opened(alloc, conn, 0, &mut run);
+    stop.done = run.done;
+    conn
 }
 
 /// A connection to files, if they can be opened; else the files.

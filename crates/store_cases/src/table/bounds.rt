@@ -3,8 +3,8 @@
 //! The bound goes from 1 upwards, until nothing is refused any more. Which bound a call needs is the database's own matter; that a
 //! refused call changes nothing is the table's.
 
-use crate::calls::{self, HasBody};
-use crate::sessions::rows;
+use super::calls::{self, HasBody};
+use super::sessions::rows;
 use bson_table::{OpenError, Table};
 use sqlite::{Alter, Connection};
 use std::alloc::{AllocError, Global};

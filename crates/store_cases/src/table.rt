@@ -1,5 +1,4 @@
-//! Cases of bson_table. Each line of standard input is a case: what to do, and with what. One line of standard output answers it.
-//! The files `stdin` and `stdout` hold the cases and their answers.
+//! Cases of bson_table, a line each: what to do, and with what. Each is over databases of its own.
 //!
 //! `session`, with steps on one database in memory, from left to right with ` | ` between them:
 //!
@@ -26,7 +25,6 @@
 //! `stop`, with `log` or `database` and a number: changes rows over files of which that one stops at this call, and tells whether the
 //! stop came before the end and all went well behind it. `stops` does so for each call from one number up to another, and
 //! tells how many of them went well. The page of `crashes` says what that is.
-#![tactic(auto)]
 
 mod answers;
 mod bounds;
@@ -35,10 +33,9 @@ mod crashes;
 mod sessions;
 
 use std::alloc::{AllocError, Global};
-use std::io;
 
 /// The answer to a case.
-fn answer(alloc: Global, line: &str) -> Result<String, AllocError> {
+pub fn answer(alloc: Global, line: &str) -> Result<String, AllocError> {
     let (word, rest) = line.split_once(' ').unwrap_or((line, ""));
     match word {
         "bounded_calls" => bounds::calls(alloc),
@@ -48,11 +45,4 @@ fn answer(alloc: Global, line: &str) -> Result<String, AllocError> {
         "stop" => crashes::one_stop(alloc, rest),
         _ => String::from_str(alloc, "no such case"),
     }
-}
-
-fn main(rt: HostRuntime) -> io::Result<()> {
-    for line in rt.lines(rt.alloc()) {
-        rt.println(answer(rt.alloc(), line?.as_str())?)?;
-    }
-    Ok(())
 }

@@ -1,4 +1,8 @@
-//! An export to a writer that takes no memory.
+//! How far an export gets where memory is refused.
+//!
+//! A store in memory is filled, memory is taken as often as the line says, and then the store is exported to a writer that takes no
+//! memory. Under `rt try --fail-alloc N` that number decides which allocation of the export is refused, so that all of them can be
+//! tried with one build; `.ci/refused_memory` does so. So no memory is taken here behind the export.
 
 use crate::counting::Counting;
 use bson_store::{ErrorKind, SliceSource, Store};
@@ -16,10 +20,11 @@ const STREAM: [u8; 70] = [
 const BODY: u64 = 14;
 
 /// What is told where memory was refused before the export.
-const TOO_EARLY: &str = "refused before the export\n";
+const TOO_EARLY: &str = "refused before the export";
 
-/// The line that tells how far the export gets, once memory was taken so often after the store was filled.
-pub fn told(alloc: Global, times: usize) -> &'static str {
+/// How far the export gets, once memory was taken so often after the store was filled. What tells no number is 0.
+pub fn answer(alloc: Global, times: &str) -> &'static str {
+    let times = times.parse::<usize>().unwrap_or(0);
     match Connection::open_in_memory(alloc) {
         Ok(connection) => told_over(alloc, connection, times),
         Err(_) => TOO_EARLY,
@@ -63,25 +68,25 @@ fn is_allocated(alloc: Global, times: usize) -> bool {
     true
 }
 
-/// The line that tells what an export answers, and how many bytes went out before.
+/// What an export answers, and how many bytes went out before.
 fn exported<S: Alter + Drop>(store: &mut Store<S>) -> &'static str {
     let mut writer = Counting { bytes: 0 };
     match store.export("c", &mut writer) {
-        Ok(()) => "all bodies\n",
+        Ok(()) => "all bodies",
         Err(error) => refused(error.kind, writer.bytes),
     }
 }
 
-/// The line that tells a refusal behind so many bytes.
+/// A refusal behind so many bytes.
 fn refused(kind: ErrorKind, bytes: u64) -> &'static str {
     match kind {
         ErrorKind::Memory => {
             if bytes < BODY {
-                "Memory, and no body\n"
+                "Memory, and no body"
             } else {
-                "Memory behind a body\n"
+                "Memory behind a body"
             }
         }
-        _ => "another refusal\n",
+        _ => "another refusal",
     }
 }
