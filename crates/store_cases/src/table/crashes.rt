@@ -31,11 +31,11 @@ struct Run {
     refused: bool,
 }
 
-/// What a stop came to: whether it is over, how many changes were accepted before it, the rows that were found afterwards, those at
+/// What a stop came to: whether it has come, how many changes were accepted before it, the rows that were found afterwards, those at
 /// the end, and whether all behind it was opened.
 #[derive(Clone, Copy)]
 struct Outcome {
-    is_over: bool,
+    has_come: bool,
     done: usize,
     found: i64,
     ended: i64,
@@ -91,17 +91,17 @@ fn stop_at(alloc: Global, file: &str, calls: u64) -> Outcome {
         (u64::MAX, calls)
     };
     let mut stop = Outcome {
-        is_over: false,
+        has_come: false,
         done: 0,
         found: -1,
         ended: -1,
         reopened: false,
     };
-    let mut files = over(alloc, fused(alloc, log, db), &mut stop);
+    let mut files = run_over(alloc, fused(alloc, log, db), &mut stop);
     files.log.crash();
     files.db.crash();
-    stop.is_over = true;
-    drop(over(alloc, files, &mut stop));
+    stop.has_come = true;
+    drop(run_over(alloc, files, &mut stop));
     stop
 }
 
@@ -113,18 +113,19 @@ fn fused(alloc: Global, log_calls: u64, db_calls: u64) -> Files<Fuse<Memory>> {
     }
 }
 
-/// Does over files what is done before the stop, or behind it. No other function takes a database in files out of its connection: to
-/// prove that takes half a minute each time.
-fn over<D: Disk + Drop>(alloc: Global, files: Files<D>, stop: &mut Outcome) -> Files<D> {
+/// Does over files what is done before the stop, or behind it. One function does both, as its proof takes half a minute: it owns a
+/// database in files.
+fn run_over<D: Disk + Drop>(alloc: Global, files: Files<D>, stop: &mut Outcome) -> Files<D> {
     match reopened(alloc, files) {
         Ok(conn) => worked(alloc, conn, stop).close(),
         Err(files) => files,
     }
 }
 
-/// The same over any database, with no clause: over a database in files those of the call would take minutes.
+/// The same over any database, and the store that its connection then leaves. There is no clause: over a store in files those of
+/// `into_store` would take minutes.
 fn worked<S: Alter + Drop>(alloc: Global, conn: Connection<S>, stop: &mut Outcome) -> S {
-    let conn = if stop.is_over {
+    let conn = if stop.has_come {
         go_on(alloc, conn, stop)
     } else {
         begin(alloc, conn, stop)
