@@ -2,7 +2,8 @@
 //! input is answered by one line of standard output, but for a block whose store isn't opened, which ends there.
 //!
 //! Before the first title each line stands alone: `export_memory TIMES` tells how far an export gets where memory is refused, as the
-//! page of `exporting` says, and the others are cases of bson_table, of which the page of `table` tells.
+//! page of `exporting` says, `usage` is the example of docs/USING.md on stores, and the others are cases of bson_table, of which the
+//! page of `table` tells.
 //!
 //! A line that begins with `# ` is a title, and begins a block of lines over a new database in memory. A block has
 //!
@@ -32,14 +33,17 @@ mod exporting;
 mod lists;
 mod replies;
 mod table;
+mod usage;
 mod words;
 
 use std::io;
 
 /// Answers a line that stands alone.
 fn answer_alone(rt: &HostRuntime, line: &str) -> io::Result<()> {
-    match line.split_once(' ') {
-        Some(("export_memory", times)) => rt.println(exporting::answer(rt.alloc(), times)),
+    let (word, rest) = line.split_once(' ').unwrap_or((line, ""));
+    match word {
+        "export_memory" => rt.println(exporting::answer(rt.alloc(), rest)),
+        "usage" => rt.println(usage::answer(rt.alloc())),
         _ => rt.println(table::answer(rt.alloc(), line)?),
     }
 }

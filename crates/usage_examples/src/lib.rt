@@ -7,5 +7,3 @@ mod documents;
 mod json;
 #[cfg(test)]
 mod meanings;
-#[cfg(test)]
-mod stores;
