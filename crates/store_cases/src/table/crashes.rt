@@ -113,11 +113,11 @@ fn fused(alloc: Global, log_calls: u64, db_calls: u64) -> Files<Fuse<Memory>> {
     }
 }
 
-/// Does over files what is done before the stop, or behind it. One function does both, as its proof takes half a minute: it owns a
+/// Does over files what is done before the stop, or behind it. One function does both, as its proof takes some twenty seconds: it owns a
 /// database in files.
 fn run_over<D: Disk + Drop>(alloc: Global, files: Files<D>, stop: &mut Outcome) -> Files<D> {
     match reopened(alloc, files) {
-        Ok(conn) => worked(alloc, conn, stop).close(),
+        Ok(conn) => closed(worked(alloc, conn, stop)),
         Err(files) => files,
     }
 }
@@ -131,6 +131,11 @@ fn worked<S: Alter + Drop>(alloc: Global, conn: Connection<S>, stop: &mut Outcom
         begin(alloc, conn, stop)
     };
     conn.into_store()
+}
+
+/// The files of a store, with no clause either.
+fn closed<D: Disk + Drop>(store: FileStore<D>) -> Files<D> {
+    store.close()
 }
 
 /// Runs the changes up to the first that is refused.
