@@ -1,6 +1,6 @@
 //! How many bytes a payload takes.
 
-ghost use Rattle.std.specs.Prelude.{◌≡◌, ◌<◌, ◌≤◌, ◌^◌, ◌++◌, ◌∷◌, ◌⊎◌, length, MatchOption, MatchResult};
+ghost use Rattle.std.specs.Prelude.{◌≡◌, ◌<◌, ◌≤◌, ◌^◌, ◌++◌, ◌∷◌, ◌⊎◌, ℕ, length, slice_index, IfSome, MatchOption, MatchResult};
 ghost use Rattle.bson_base.specs.Kinds.{HasNo00};
 ghost use Rattle.bson_frame.specs.Frame.{number, IsCstring, IsTextSize, IsDocumentSize, IsBinarySize, IsCodeSize, IsPointerSize, IsRegexSize, HasSize};
 ghost use Rattle.bson_frame.specs.Reader.{NameFault, IsWhole, IsNeverWhole, GivesSize, RegexFault, SizeFault};
@@ -22,12 +22,36 @@ fn split_at_zero(bytes: &[u8]) -> Option<(&[u8], &[u8])>
     }
 }
 
+/// How many bytes of a name are looked at one by one.
+const SHORT: usize = 32;
+
+/// The place of the first 00, if it is near and all bytes before it are ASCII.
+fn ascii_end(bytes: &[u8]) -> Option<usize>
+    ensures { IfSome result (λ i. (i < length bytes.now) × (slice_index bytes.now i ≡ 0)
+        × ((k : ℕ) → k < i → (slice_index bytes.now k < 128) × (0 < slice_index bytes.now k))) }
+{
+    for i in 0..bytes.len().min(SHORT) {
+        let byte = bytes[i];
+        if byte == 0 {
+            return Some(i);
+        }
+        if byte >= 0x80 {
+            return None;
+        }
+    }
+    None
+}
+
 /// The zero-terminated text at the front, and what follows its 00 (bsonspec.org 1.1, "cstring"). Where there is none,
 /// `Utf8EncodingError` if the bytes up to the first 00 aren't UTF-8, and `MalformedValue` if there is no 00.
 pub fn name_at(bytes: &[u8]) -> Result<(&str, &[u8]), ErrorKind>
     ensures { MatchResult result
         (λ r. IsCstring r.0.now × (bytes.now ≡ r.0.now ++ 0 ∷ r.1.now)) (NameFault bytes.now) }
 {
+    if let Some(i) = ascii_end(bytes) {
+        let (run, rest) = (&bytes[..i], &bytes[i + 1..]);
+        return Ok((unsafe { str::from_utf8_unchecked(run) }, rest));
+    }
     let Some((run, rest)) = split_at_zero(bytes) else {
         return Err(ErrorKind::MalformedValue);
     };
