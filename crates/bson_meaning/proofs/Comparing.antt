@@ -3,7 +3,10 @@ use Rattle.std.proofs.Common.{◌≡◌, ◌↔◌, ℕ, List, Bool, true, false
 use Rattle.std.specs.Prelude.{bytes_eq, is_some, IsSomeAnd}
 use Rattle.bson_base.specs.Value.{Scalar, double, binary, regex, decimal, scalar_kind, value_kind, Value, scalar, array, document, scoped_code, Members, no_members, member, look_up, has_key}
 use Rattle.bson_model.specs.Equal.{SameKeys}
-use Rattle.bson_meaning.specs.Meaning.{normal_scalar, Same, SameUnder}
+use Rattle.bson_meaning.specs.Forms.{normal_scalar}
+use Rattle.bson_meaning.specs.Meaning.{Same, SameUnder}
+use Rattle.bson_meaning.specs.declared.scalars.Zeros.{Zeros}
+use Rattle.bson_meaning.specs.declared.scalars.Zeros.TheVariants.{Joined}
 use Rattle.bson_meaning.specs.Sames.{HasKeysOf}
 use Rattle.bson_base.proofs.Members.{equal_keys, same_key}
 
@@ -49,15 +52,16 @@ same_documents ms ns under = (
 
 -- ---- kinds
 
-pub kind_kept : (s : Scalar) → scalar_kind (normal_scalar s) ≡ scalar_kind s
-kind_kept (double n) = refl
-kind_kept (regex p o) = refl
-kind_kept (binary s bs) = refl
-kind_kept (decimal bs) = refl
-kind_kept _ = refl
+module _ (zeros : Zeros) where
+  pub kind_kept : (s : Scalar) → scalar_kind (normal_scalar zeros s) ≡ scalar_kind s
+  kind_kept (double n) = refl
+  kind_kept (regex p o) = refl
+  kind_kept (binary s bs) = refl
+  kind_kept (decimal bs) = refl
+  kind_kept _ = refl
 
 pub same_kind : (v w : Value) → Same v w → value_kind v ≡ value_kind w
-same_kind (scalar s) (scalar t) h = sym (kind_kept s) ∙ ap scalar_kind h ∙ kind_kept t
+same_kind (scalar s) (scalar t) h = sym (kind_kept Joined s) ∙ ap scalar_kind h ∙ kind_kept Joined t
 same_kind (array vs) (array ws) h = refl
 same_kind (document ms) (document ns) h = refl
 same_kind (scoped_code t ms) (scoped_code u ns) h = refl

@@ -4,7 +4,7 @@ use Rattle.std.proofs.Math.Nat.{pow-suc}
 use Rattle.bson_base.specs.Decimal.{number_of, low_bytes, sixteen_bytes, Decimal, not_a_number, infinity, finite, IsUnpacked, unpack, pack}
 use Rattle.bson_base.specs.Kinds.{AreBytes}
 use Rattle.bson_base.proofs.DecimalBits.{unpack_is, unpack-pack}
-use Rattle.bson_meaning.specs.Meaning.{normal_decimal}
+use Rattle.bson_meaning.specs.Forms.{normal_decimal}
 
 pub bytes_length : (k n : ℕ) → length (low_bytes k n) ≡ k
 bytes_length zero n = refl

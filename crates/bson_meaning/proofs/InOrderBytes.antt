@@ -15,36 +15,38 @@ use Rattle.bson_frame.specs.declared.error.ErrorKind.TheVariants.{MalformedValue
 use Rattle.bson_model.specs.Keyed.{Key, ascending}
 use Rattle.bson_model.specs.View.{view, items_of, members_of}
 use Rattle.bson_model.specs.declared.bson.Bson.{Bson}
-use Rattle.bson_meaning.specs.Meaning.{norm_members_in_order, norm_items_in_order, norm_in_order}
+use Rattle.bson_meaning.specs.Forms.{norm_members_in_order, norm_items_in_order, norm_in_order}
+use Rattle.bson_meaning.specs.declared.scalars.Zeros.{Zeros}
 use Rattle.bson_meaning.proofs.Comparing.{kind_kept}
 use Rattle.bson_meaning.proofs.InTurn.{each, in_order_ascending}
 
-pub kind_of_in_order : (v : Value) → value_kind (norm_in_order v) ≡ value_kind v
-kind_of_in_order (scalar s) = kind_kept s
-kind_of_in_order (array vs) = refl
-kind_of_in_order (document ms) = refl
-kind_of_in_order (scoped_code t ms) = refl
+module _ (zeros : Zeros) where
+  pub kind_of_in_order : (v : Value) → value_kind (norm_in_order zeros v) ≡ value_kind v
+  kind_of_in_order (scalar s) = kind_kept zeros s
+  kind_of_in_order (array vs) = refl
+  kind_of_in_order (document ms) = refl
+  kind_of_in_order (scoped_code t ms) = refl
 
--- nothing is written yet
-pub members_begin : (ps rest : List (Key × Value)) (out : List ℕ) → rest ≡ ascending ps → MembersTo (norm_members_in_order (members_of ps)) (each norm_in_order (members_of rest)) out out
-members_begin ps rest out e = subst (λ ms. MembersTo (norm_members_in_order (members_of ps)) ms out out) is start
-  where
-    is : norm_members_in_order (members_of ps) ≡ each norm_in_order (members_of rest)
-    is = in_order_ascending ps ∙ ap (λ qs. each norm_in_order (members_of qs)) (sym e)
+  -- nothing is written yet
+  pub members_begin : (ps rest : List (Key × Value)) (out : List ℕ) → rest ≡ ascending ps → MembersTo (norm_members_in_order zeros (members_of ps)) (each (norm_in_order zeros) (members_of rest)) out out
+  members_begin ps rest out e = subst (λ ms. MembersTo (norm_members_in_order zeros (members_of ps)) ms out out) is start
+    where
+      is : norm_members_in_order zeros (members_of ps) ≡ each (norm_in_order zeros) (members_of rest)
+      is = in_order_ascending zeros ps ∙ ap (λ qs. each (norm_in_order zeros) (members_of qs)) (sym e)
 
-    start : MembersTo (norm_members_in_order (members_of ps)) (norm_members_in_order (members_of ps)) out out
-    start = record {
-      written = refl;
-      forth = λ h. h;
-      back = λ h. h;
-      smaller = omega arith;
-      behind = ([], sym (append-nil out));
-    }
+      start : MembersTo (norm_members_in_order zeros (members_of ps)) (norm_members_in_order zeros (members_of ps)) out out
+      start = record {
+        written = refl;
+        forth = λ h. h;
+        back = λ h. h;
+        smaller = omega arith;
+        behind = ([], sym (append-nil out));
+      }
 
--- the first of the items that are left, taken out
-pub next_item : (whole : Items) (xs : List Bson) (i : ℕ) (b : Bson) (begun out : List ℕ) → i < length xs → b ≡ get_or xs i b → ItemsTo whole i (norm_items_in_order (items_of (map view (drop i xs)))) begun out
-    → ItemsTo whole i (item (norm_in_order (view b)) (norm_items_in_order (items_of (map view (drop (i + 1) xs))))) begun out
-next_item whole xs i b begun out h is to = subst (λ vs. ItemsTo whole i vs begun out) (ap norm_items_in_order (items_from xs i b h is)) to
+  -- the first of the items that are left, taken out
+  pub next_item : (whole : Items) (xs : List Bson) (i : ℕ) (b : Bson) (begun out : List ℕ) → i < length xs → b ≡ get_or xs i b → ItemsTo whole i (norm_items_in_order zeros (items_of (map view (drop i xs)))) begun out
+      → ItemsTo whole i (item (norm_in_order zeros (view b)) (norm_items_in_order zeros (items_of (map view (drop (i + 1) xs))))) begun out
+  next_item whole xs i b begun out h is to = subst (λ vs. ItemsTo whole i vs begun out) (ap (norm_items_in_order zeros) (items_from xs i b h is)) to
 
 -- one element behind what was begun
 pub one_element : (begun front out k : List ℕ) (v : Value) (kind : ElementType) → kind ≡ value_kind v → front ≡ begun ++ tag_byte kind ∷ ended k → out ≡ front ++ value_bytes v

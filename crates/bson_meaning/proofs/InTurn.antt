@@ -12,7 +12,9 @@ use Rattle.bson_model.specs.Equal.{SameKeys}
 use Rattle.bson_model.specs.Keyed.{Key, ascending}
 use Rattle.bson_model.specs.View.{members_of}
 use Rattle.bson_model.proofs.DistinctLemmas.{none_there}
-use Rattle.bson_meaning.specs.Meaning.{norm_members_in_order, norm_in_order, place, Same, SameUnder, SameOption}
+use Rattle.bson_meaning.specs.Forms.{norm_members_in_order, norm_in_order, place}
+use Rattle.bson_meaning.specs.Meaning.{Same, SameUnder, SameOption}
+use Rattle.bson_meaning.specs.declared.scalars.Zeros.{Zeros}
 use Rattle.bson_meaning.proofs.Ordered.{Order, tied, turned, look_up-place, AllAbove, IsAscending, above_more, ascending_place, none_above}
 use Rattle.bson_base.proofs.Members.{equal_keys, same_key, headed, later, found_under}
 
@@ -79,13 +81,14 @@ place_changed f k v (member l w ms) = by (place_changed f k v ms) (Order k l)
     by more Equal = refl
     by more Greater = ap (member l (f w)) more
 
-in_order_up : (ms : Members) → norm_members_in_order ms ≡ each norm_in_order (up ms)
-in_order_up no_members = refl
-in_order_up (member k v ms) = ap (place k (norm_in_order v)) (in_order_up ms) ∙ place_changed norm_in_order k v (up ms)
+module _ (zeros : Zeros) where
+  in_order_up : (ms : Members) → norm_members_in_order zeros ms ≡ each (norm_in_order zeros) (up ms)
+  in_order_up no_members = refl
+  in_order_up (member k v ms) = ap (place k (norm_in_order zeros v)) (in_order_up ms) ∙ place_changed (norm_in_order zeros) k v (up ms)
 
--- the normal form with its keys ascending, pair by pair
-pub in_order_ascending : (ps : List (Key × Value)) → norm_members_in_order (members_of ps) ≡ each norm_in_order (members_of (ascending ps))
-in_order_ascending ps = in_order_up (members_of ps) ∙ ap (each norm_in_order) (sym (up_members ps))
+  -- the normal form with its keys ascending, pair by pair
+  pub in_order_ascending : (ps : List (Key × Value)) → norm_members_in_order zeros (members_of ps) ≡ each (norm_in_order zeros) (members_of (ascending ps))
+  in_order_ascending ps = in_order_up (members_of ps) ∙ ap (each (norm_in_order zeros)) (sym (up_members ps))
 
 -- ---- the same meaning under each key
 

@@ -131,10 +131,6 @@ pub zero_back : double_of (codes "0.0") ≡ Ok 0
 unfolding double_of
 zero_back = refl
 
-pub negative_zero_back : double_of (codes "-0.0") ≡ Ok 0x8000_0000_0000_0000
-unfolding double_of
-negative_zero_back = refl
-
 pub infinity_back : double_of (codes "Infinity") ≡ Ok 0x7FF0_0000_0000_0000
 unfolding double_of
 infinity_back = refl

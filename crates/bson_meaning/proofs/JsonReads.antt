@@ -25,11 +25,12 @@ use Rattle.bson_model.specs.JsonKeys.{of_int, of_long}
 use Rattle.bson_model.specs.declared.extjson.de.Error.{Error}
 use Rattle.bson_model.specs.declared.extjson.ser.Mode.TheVariants.{Canonical}
 use Rattle.bson_meaning.specs.JsonReserved.{some_reserved, reserved_in, reserved_in_items, has_reserved}
-use Rattle.bson_meaning.specs.Meaning.{norm_members_in_order, norm_items_in_order, norm_in_order, norm_members, normal_double, normal_decimal, normal_scalar, place, Same}
-use Rattle.bson_meaning.proofs.NormInOrder.{look_up-in_order, same_in_order}
+use Rattle.bson_meaning.specs.Forms.{normal_double, normal_decimal}
+use Rattle.bson_meaning.specs.declared.scalars.Zeros.TheVariants.{Joined}
+use Rattle.bson_meaning.specs.Meaning.{norm_members_in_order, norm_items_in_order, norm_in_order, norm_members, normal_scalar, place, Same}
 use Rattle.bson_meaning.proofs.Decimals.{normal_decimal_twice}
-use Rattle.bson_meaning.proofs.JsonReadBack.{byte_back, id_back, long_back, int_back, decimal_back, base64_back, zero_back, negative_zero_back, infinity_back, negative_infinity_back, nan_back, negative_nan_back}
-use Rattle.bson_meaning.proofs.JsonSame.{quiet, or_turned, or_twice, write_same}
+use Rattle.bson_meaning.proofs.JsonReadBack.{byte_back, id_back, long_back, int_back, decimal_back, base64_back, zero_back, infinity_back, negative_infinity_back, nan_back, negative_nan_back}
+use Rattle.bson_meaning.proofs.JsonSame.{quiet, zero_or_infinite, or_turned, or_twice, write_same}
 use Rattle.bson_meaning.proofs.Normal.{place_each}
 use Rattle.bson_meaning.proofs.NormalScalars.{sorted_text_twice, normal_double_twice}
 use Rattle.bson_meaning.proofs.Ordered.{Order, tied, ascending_asc, look_up-place, same_members}
@@ -37,6 +38,7 @@ use Rattle.bson_bytes.proofs.Meant.{subtype_back}
 use Rattle.bson_bytes.proofs.Options.{text_sorted, no_zero_sorted}
 use Rattle.bson_base.proofs.Members.{equal_keys}
 use Rattle.bson_meaning.proofs.InTurn.{levels_place}
+use Rattle.bson_meaning.proofs.Now.{look_up-in_order, same_in_order}
 
 -- ---- scalars
 
@@ -98,10 +100,6 @@ infinity_signed : (c : Bool) → double_of (minus_if c ++ codes "Infinity") ≡ 
 infinity_signed true = negative_infinity_back
 infinity_signed false = infinity_back
 
-zero_signed : (c : Bool) → double_of (minus_if c ++ codes "0.0") ≡ Ok (if c then 0x8000_0000_0000_0000 else 0)
-zero_signed true = negative_zero_back
-zero_signed false = zero_back
-
 infinity_is : (n : ℕ) → n < 2 ^ 64 → is_infinite n ≡ true → (if is_negative n then 0xFFF0_0000_0000_0000 else 0x7FF0_0000_0000_0000) ≡ n
 infinity_is n h e = by (is_negative n) refl
   where
@@ -113,38 +111,19 @@ infinity_is n h e = by (is_negative n) refl
         let p = and_parts (exponent n == 2047) (fraction n == 0) e in
         let i = eqb-true (exponent n) 2047 p.0 in let j = eqb-true (fraction n) 0 p.1 in let l = leb-false (2 ^ 63) n k in omega arith
 
-zero_is : (n : ℕ) → n < 2 ^ 64 → is_zero n ≡ true → (if is_negative n then 0x8000_0000_0000_0000 else 0) ≡ n
-zero_is n h e = by (is_negative n) refl
-  where
-    by : (c : Bool) → is_negative n ≡ c → (if c then 0x8000_0000_0000_0000 else 0) ≡ n
-    by true k =
-        let p = and_parts (exponent n == 0) (fraction n == 0) e in
-        let i = eqb-true (exponent n) 0 p.0 in let j = eqb-true (fraction n) 0 p.1 in let l = leb-true (2 ^ 63) n k in omega arith
-    by false k =
-        let p = and_parts (exponent n == 0) (fraction n == 0) e in
-        let i = eqb-true (exponent n) 0 p.0 in let j = eqb-true (fraction n) 0 p.1 in let l = leb-false (2 ^ 63) n k in omega arith
-
-abbrev Signs : ℕ → Option (List ℕ) → Option (List ℕ)
-Signs n o = option_map (λ t. minus_if (is_negative n) ++ t) o
-
 -- the text of a double reads as its normal form
-double_back : (n : ℕ) → n < 2 ^ 64 → (t : List ℕ) → double_text n ≡ Some t → double_of t ≡ Ok (normal_double n)
+double_back : (n : ℕ) → n < 2 ^ 64 → (t : List ℕ) → double_text n ≡ Some t → double_of t ≡ Ok (normal_double Joined n)
 unfolding normal_double
-double_back n h t e = by (is_nan n) refl e
+double_back n h t e = by (is_nan n) (is_infinite n) (is_zero n) refl refl refl e
   where
-    zero_or : (b : Bool) → is_zero n ≡ b → Signs n (if b then Some (codes "0.0") else None) ≡ Some t → double_of t ≡ Ok n
-    zero_or true k f = let i : minus_if (is_negative n) ++ codes "0.0" ≡ t = cc in ap double_of (sym i) ∙ zero_signed (is_negative n) ∙ ap Ok (zero_is n h k)
-    zero_or false k f = cc
-
-    infinite_or : (b : Bool) → is_infinite n ≡ b → Signs n (if b then Some (codes "Infinity") else if is_zero n then Some (codes "0.0") else None) ≡ Some t → double_of t ≡ Ok n
-    infinite_or true k f = let i : minus_if (is_negative n) ++ codes "Infinity" ≡ t = cc in ap double_of (sym i) ∙ infinity_signed (is_negative n) ∙ ap Ok (infinity_is n h k)
-    infinite_or false k f = zero_or (is_zero n) refl f
-
-    by : (b : Bool) → is_nan n ≡ b
-        → Signs n (if b then Some (codes "NaN") else if is_infinite n then Some (codes "Infinity") else if is_zero n then Some (codes "0.0") else None) ≡ Some t
-        → double_of t ≡ Ok (if b then quiet (is_negative n) else n)
-    by true k f = let i : minus_if (is_negative n) ++ codes "NaN" ≡ t = cc in ap double_of (sym i) ∙ nan_signed (is_negative n)
-    by false k f = infinite_or (is_infinite n) refl f
+    by : (a b c : Bool) → is_nan n ≡ a → is_infinite n ≡ b → is_zero n ≡ c
+        → (if a then Some (minus_if (is_negative n) ++ codes "NaN") else if b then Some (minus_if (is_negative n) ++ codes "Infinity") else if c then Some (codes "0.0") else None) ≡ Some t
+        → double_of t ≡ Ok (if a then quiet (is_negative n) else if c then 0 else n)
+    by true b c k l m f = let i : minus_if (is_negative n) ++ codes "NaN" ≡ t = cc in ap double_of (sym i) ∙ nan_signed (is_negative n)
+    by false true true k l m f = absurd (zero_or_infinite n l m)
+    by false true false k l m f = let i : minus_if (is_negative n) ++ codes "Infinity" ≡ t = cc in ap double_of (sym i) ∙ infinity_signed (is_negative n) ∙ ap Ok (infinity_is n h l)
+    by false false true k l m f = let i : codes "0.0" ≡ t = cc in ap double_of (sym i) ∙ zero_back
+    by false false false k l m f = cc
 
 read_double : (t : List ℕ) (n : ℕ) → double_of t ≡ Ok n → read (wrapped_text of_double t) ≡ Ok (scalar (double n))
 unfolding reserved_of
@@ -178,7 +157,7 @@ mapped None f c e = cc
 double_comes : (n : ℕ) → n < 2 ^ 64 → (j : Data) → write_scalar Canonical (double n) ≡ Some j → Comes j (scalar (double n))
 double_comes n h j e =
     let t = mapped (double_text n) (wrapped_text of_double) j e in
-    alone (wrapped_text of_double t.from) j (double n) (double (normal_double n)) (ap Some t.to) (read_double t.from (normal_double n) (double_back n h t.from t.here)) (ap double (normal_double_twice n)) (λ p. tt)
+    alone (wrapped_text of_double t.from) j (double n) (double (normal_double Joined n)) (ap Some t.to) (read_double t.from (normal_double Joined n) (double_back n h t.from t.here)) (ap double (normal_double_twice Joined n)) (λ p. tt)
 
 scalar_comes : (s : Scalar) → IsRangedScalar s → (j : Data) → write_scalar Canonical s ≡ Some j → Comes j (scalar s)
 unfolding reserved_of

@@ -1,5 +1,6 @@
 -- What a value is written as goes by its meaning, and so does whether a reserved key stands in it.
-use Rattle.std.proofs.Common.{◌≡◌, ℕ, List, ◌++◌, Bool, true, false, cond, if◌then◌else◌, Option, Some, None, refl, ap, ◌∙◌, sym, subst}
+use Rattle.std.proofs.lemmas.Bool.{and_parts, eqb-true}
+use Rattle.std.proofs.Common.{arith, ◌==◌, ◌≡◌, ℕ, List, ◌++◌, Bool, true, false, cond, if◌then◌else◌, Option, Some, None, refl, ap, ◌∙◌, sym, subst}
 use Rattle.std.specs.Prelude.{◌||◌, bytes_eq, codes, option_map, option_and_then}
 use Rattle.std.specs.declared.cmp.Ordering.{Ordering}
 use Rattle.std.specs.declared.cmp.Ordering.TheVariants.{Less, Equal, Greater}
@@ -8,7 +9,7 @@ use Rattle.std.proofs.lemmas.Cmp.{nat_list_cmp_total}
 use Rattle.serde_json.specs.Data as tree
 use Rattle.serde_json.specs.Data.{Data, object}
 use Rattle.bson_base.specs.Decimal.{IsUnpacked, number_of, sixteen_bytes, pack, unpack, print, minus_if}
-use Rattle.bson_base.specs.Doubles.{is_nan, is_infinite, is_zero, is_negative}
+use Rattle.bson_base.specs.Doubles.{exponent, fraction, is_nan, is_infinite, is_zero, is_negative}
 use Rattle.bson_base.specs.Kinds.{IsRangedScalar, IsSound}
 use Rattle.bson_base.specs.Tags.{subtype_byte}
 use Rattle.bson_base.specs.Value.{Scalar, double, binary, regex, decimal, Value, scalar, array, document, scoped_code, Items, no_items, item, Members, no_members, member, look_up, EachPart, EachItem, EachMember, HasDistinctKeys, ItemsHaveDistinctKeys, MembersHaveDistinctKeys}
@@ -17,35 +18,48 @@ use Rattle.bson_model.specs.JsonKeys.{is_reserved, of_decimal, of_double, of_reg
 use Rattle.bson_model.specs.JsonWrite.{double_text, wrapped_text, with_scope, write, write_binary, write_items, write_members, write_scalar, wrapped}
 use Rattle.bson_model.specs.declared.extjson.ser.Mode.{Mode}
 use Rattle.bson_meaning.specs.JsonReserved.{some_reserved, reserved_in, reserved_in_items, has_reserved}
-use Rattle.bson_meaning.specs.Meaning.{norm_members_in_order, asc, asc_items, asc_members, norm, norm_items, norm_members, normal_double, normal_decimal, normal_scalar, place, Same}
-use Rattle.bson_meaning.proofs.NormInOrder.{in_order_same}
-use Rattle.bson_meaning.proofs.Normal.{norm_distinct}
+use Rattle.bson_meaning.specs.Forms.{normal_double, normal_decimal}
+use Rattle.bson_meaning.specs.declared.scalars.Zeros.TheVariants.{Joined}
+use Rattle.bson_meaning.specs.Meaning.{norm_members_in_order, asc, asc_items, asc_members, norm, norm_items, norm_members, normal_scalar, place, Same}
 use Rattle.bson_meaning.proofs.NormalScalars.{sorted_text_twice}
 use Rattle.bson_meaning.proofs.Ordered.{Order, tied, turned, look_up-asc}
 use Rattle.bson_bytes.proofs.Meant.{subtype_back}
 use Rattle.bson_meaning.proofs.Decimals.{number_again, pack_low}
 use Rattle.bson_base.proofs.Members.{same_key, not_first}
+use Rattle.bson_meaning.proofs.Now.{in_order_same, norm_distinct}
 
 -- ---- the normal form of a scalar
 
 abbrev pub quiet : Bool → ℕ
 quiet c = if c then 0xFFF8_0000_0000_0000 else 0x7FF8_0000_0000_0000
 
-abbrev told : ℕ → Bool → Option (List ℕ)
-told n b = option_map (λ t. minus_if (is_negative n) ++ t)
-    (if b then Some (codes "NaN") else if is_infinite n then Some (codes "Infinity") else if is_zero n then Some (codes "0.0") else None)
+abbrev told : ℕ → Bool → Bool → Bool → Option (List ℕ)
+told n nan infinite zero =
+    if nan then Some (minus_if (is_negative n) ++ codes "NaN")
+    else if infinite then Some (minus_if (is_negative n) ++ codes "Infinity")
+    else if zero then Some (codes "0.0")
+    else None
+
+-- no zero is an infinity
+pub zero_or_infinite : (n : ℕ) → is_infinite n ≡ true → is_zero n ≡ true → ⊥
+zero_or_infinite n h k =
+    let i = eqb-true (exponent n) 2047 (and_parts (exponent n == 2047) (fraction n == 0) h).0 in
+    let j = eqb-true (exponent n) 0 (and_parts (exponent n == 0) (fraction n == 0) k).0 in
+    omega (arith, i, j)
 
 quiet_told : (c : Bool) → double_text (quiet c) ≡ Some (minus_if c ++ codes "NaN")
 quiet_told true = refl
 quiet_told false = refl
 
-double_again : (n : ℕ) → double_text (normal_double n) ≡ double_text n
+double_again : (n : ℕ) → double_text (normal_double Joined n) ≡ double_text n
 unfolding normal_double
-double_again n = by (is_nan n) refl
+double_again n = by (is_nan n) (is_infinite n) (is_zero n) refl refl refl
   where
-    by : (b : Bool) → is_nan n ≡ b → double_text (if b then quiet (is_negative n) else n) ≡ double_text n
-    by true e = quiet_told (is_negative n) ∙ sym (ap (told n) e)
-    by false e = refl
+    by : (a b c : Bool) → is_nan n ≡ a → is_infinite n ≡ b → is_zero n ≡ c → double_text (if a then quiet (is_negative n) else if c then 0 else n) ≡ double_text n
+    by true b c e f g = quiet_told (is_negative n) ∙ sym (ap (λ x. told n x (is_infinite n) (is_zero n)) e)
+    by false true true e f g = absurd (zero_or_infinite n f g)
+    by false false true e f g = sym (ap (λ x. told n x (is_infinite n) (is_zero n)) e ∙ ap (λ x. told n false x (is_zero n)) f ∙ ap (told n false false) g)
+    by false b false e f g = refl
 
 unpack_again : (bs : List ℕ) → unpack (number_of (normal_decimal bs)) ≡ unpack (number_of bs)
 unfolding normal_decimal sixteen_bytes

@@ -29,11 +29,12 @@ use Rattle.bson_meaning.proofs.JsonRanges.{id_ranged, int_ranged, long_ranged, d
 use Rattle.bson_meaning.proofs.JsonReads.{bound}
 use Rattle.bson_meaning.proofs.JsonUuids.{uuid_ranged}
 use Rattle.bson_meaning.proofs.KeyLaw.{asc_distinct}
-use Rattle.bson_meaning.proofs.Normal.{normal_scalar_ranged, normal_scalar_plain, normal_scalar_clean, norm_each, asc_each, both_each}
+use Rattle.bson_meaning.proofs.Normal.{asc_each, both_each}
 use Rattle.bson_bytes.proofs.Meant.{subtype_back}
 use Rattle.bson_model.proofs.JsonTextsLemmas.{so_fits_32}
 use Rattle.bson_bytes.proofs.Options.{text_sorted}
 use Rattle.bson_model.proofs.JsonGrammarLemmas.{wanted_ok, accepted_ok, accepted_id_ok}
+use Rattle.bson_meaning.proofs.Now.{normal_scalar_ranged, normal_scalar_plain, normal_scalar_clean, norm_each}
 
 -- ---- steps that gave something
 

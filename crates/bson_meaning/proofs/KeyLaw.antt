@@ -7,13 +7,14 @@ use Rattle.std.specs.Ordering.{nat_cmp, match_ordering}
 use Rattle.std.specs.Cmp.Lexicographic.{slice_cmp}
 use Rattle.bson_base.specs.Kinds.{HasNo00, IsPlainScalar, IsCleanScalar, IsRangedScalar, IsSound, IsPlain, IsClean}
 use Rattle.bson_base.specs.Value.{Value, scalar, array, document, scoped_code, Items, no_items, item, Members, no_members, member, look_up, EachMember, HasDistinctKeys, ItemsHaveDistinctKeys, MembersHaveDistinctKeys}
+use Rattle.bson_meaning.specs.declared.scalars.Zeros.{Zeros}
 use Rattle.bson_bytes.specs.Encode.{encode, size}
 use Rattle.bson_bytes.specs.Writing.{CanBeWritten}
 use Rattle.bson_bytes.proofs.Lengths.{encode_length}
 use Rattle.bson_bytes.proofs.Told.{bytes_tell}
 use Rattle.bson_model.specs.Equal as equality
 use Rattle.bson_model.specs.Equal.{EqualItems, EqualUnder}
-use Rattle.bson_meaning.specs.Meaning.{norm_members_in_order, asc, asc_items, asc_members, norm, norm_members, normal_scalar, place, key, Same, SameItems, SameUnder}
+use Rattle.bson_meaning.specs.Forms.{norm_members_in_order, asc, asc_items, asc_members, norm, norm_members, normal_scalar, place, key, Same, SameItems, SameUnder}
 use Rattle.bson_meaning.proofs.Ordered.{IsAscending, ascending_asc, none_above}
 use Rattle.bson_meaning.proofs.NormInOrder.{in_order_same, same_in_order, some_and_map}
 use Rattle.bson_meaning.proofs.Normal.{normal_scalar_ranged, normal_scalar_plain, normal_scalar_clean, norm_each, asc_each, both_each, norm_distinct, norm_distinct_members, asc_members_size, norm_members_size, norm_twice, IsSized}
@@ -53,102 +54,103 @@ mutual
   asc_values no_members = tt
   asc_values (member k v ms) = place_values k (asc v) (asc_members ms) (asc_distinct v) (asc_values ms)
 
--- ---- what a key is written of
+module _ (zeros : Zeros) where
+  -- ---- what a (key zeros) is written of
 
-in_order_clean : (d : Members) → IsPlain (document d) → IsSound (document d) → IsClean (document (norm_members_in_order d))
-in_order_clean d p s =
-    let both = both_each HasNo00 IsUtf8 IsPlainScalar IsRangedScalar (document d) p s.ranged in
-    let normal = norm_each IsGoodKey HasNo00 (λ s. IsPlainScalar s × IsRangedScalar s) (λ s. IsPlainScalar s × IsCleanScalar s) (λ k h. h.0)
-    (λ s h. (normal_scalar_plain s h.1 h.0, normal_scalar_clean s h.1)) (document d) both in
-    asc_each HasNo00 (λ s. IsPlainScalar s × IsCleanScalar s) (document (norm_members d)) normal
+  pub in_order_clean : (d : Members) → IsPlain (document d) → IsSound (document d) → IsClean (document (norm_members_in_order zeros d))
+  in_order_clean d p s =
+      let both = both_each HasNo00 IsUtf8 IsPlainScalar IsRangedScalar (document d) p s.ranged in
+      let normal = norm_each zeros IsGoodKey HasNo00 (λ s. IsPlainScalar s × IsRangedScalar s) (λ s. IsPlainScalar s × IsCleanScalar s) (λ k h. h.0)
+      (λ s h. (normal_scalar_plain zeros s h.1 h.0, normal_scalar_clean zeros s h.1)) (document d) both in
+      asc_each HasNo00 (λ s. IsPlainScalar s × IsCleanScalar s) (document (norm_members zeros d)) normal
 
-in_order_sound : (d : Members) → IsSound (document d) → IsSound (document (norm_members_in_order d))
-in_order_sound d s = record {
-  ranged = asc_each IsUtf8 IsRangedScalar (document (norm_members d)) (norm_each IsUtf8 IsUtf8 IsRangedScalar IsRangedScalar (λ k h. h) normal_scalar_ranged (document d) s.ranged);
-  distinct = asc_distinct (document (norm_members d));
-}
+  pub in_order_sound : (d : Members) → IsSound (document d) → IsSound (document (norm_members_in_order zeros d))
+  in_order_sound d s = record {
+    ranged = asc_each IsUtf8 IsRangedScalar (document (norm_members zeros d)) (norm_each zeros IsUtf8 IsUtf8 IsRangedScalar IsRangedScalar (λ k h. h) (normal_scalar_ranged zeros) (document d) s.ranged);
+    distinct = asc_distinct (document (norm_members zeros d));
+  }
 
-pub in_order_plain : (d : Members) → IsPlain (document d) → IsSound (document d) → IsPlain (document (norm_members_in_order d))
-in_order_plain d p s =
-    let both = both_each HasNo00 IsUtf8 IsPlainScalar IsRangedScalar (document d) p s.ranged in
-    asc_each HasNo00 IsPlainScalar (document (norm_members d)) (norm_each IsGoodKey HasNo00 (λ s. IsPlainScalar s × IsRangedScalar s) IsPlainScalar (λ k h. h.0) (λ s h. normal_scalar_plain s h.1 h.0) (document d) both)
+  pub in_order_plain : (d : Members) → IsPlain (document d) → IsSound (document d) → IsPlain (document (norm_members_in_order zeros d))
+  in_order_plain d p s =
+      let both = both_each HasNo00 IsUtf8 IsPlainScalar IsRangedScalar (document d) p s.ranged in
+      asc_each HasNo00 IsPlainScalar (document (norm_members zeros d)) (norm_each zeros IsGoodKey HasNo00 (λ s. IsPlainScalar s × IsRangedScalar s) IsPlainScalar (λ k h. h.0) (λ s h. normal_scalar_plain zeros s h.1 h.0) (document d) both)
 
-pub key_law : (d e : Members) → IsPlain (document d) → IsSound (document d) → IsPlain (document e) → IsSound (document e)
-    → length (key d) ≤ 2147483647 → length (key e) ≤ 2147483647 → (key d ≡ key e) ↔ Same (document d) (document e)
-key_law d e p s q t m n =
-    let a : size (norm_members_in_order d) < 2 ^ 31 = omega (arith, encode_length (norm_members_in_order d)) in
-    let b : size (norm_members_in_order e) < 2 ^ 31 = omega (arith, encode_length (norm_members_in_order e)) in (
-      λ k. same_in_order (document d) (document e) s.distinct (ap document (bytes_tell (norm_members_in_order d) (norm_members_in_order e) [] [] (in_order_clean d p s) (in_order_sound d s)
-          (in_order_clean e q t) (in_order_sound e t) a b (ap (λ x. x ++ []) k)).0),
-      λ h. let i : document (norm_members_in_order d) ≡ document (norm_members_in_order e) = in_order_same (document d) (document e) h in
-          let j : norm_members_in_order d ≡ norm_members_in_order e = cc in ap encode j,
-    )
+  pub key_law : (d e : Members) → IsPlain (document d) → IsSound (document d) → IsPlain (document e) → IsSound (document e)
+      → length (key zeros d) ≤ 2147483647 → length (key zeros e) ≤ 2147483647 → (key zeros d ≡ key zeros e) ↔ Same zeros (document d) (document e)
+  key_law d e p s q t m n =
+      let a : size (norm_members_in_order zeros d) < 2 ^ 31 = omega (arith, encode_length (norm_members_in_order zeros d)) in
+      let b : size (norm_members_in_order zeros e) < 2 ^ 31 = omega (arith, encode_length (norm_members_in_order zeros e)) in (
+        λ k. same_in_order zeros (document d) (document e) s.distinct (ap document (bytes_tell (norm_members_in_order zeros d) (norm_members_in_order zeros e) [] [] (in_order_clean d p s) (in_order_sound d s)
+            (in_order_clean e q t) (in_order_sound e t) a b (ap (λ x. x ++ []) k)).0),
+        λ h. let i : document (norm_members_in_order zeros d) ≡ document (norm_members_in_order zeros e) = in_order_same zeros (document d) (document e) h in
+            let j : norm_members_in_order zeros d ≡ norm_members_in_order zeros e = cc in ap encode j,
+      )
 
--- ---- an equivalence
+  -- ---- an equivalence
 
-pub same_itself : (v : Value) → IsSound v → Same v v
-same_itself v s = same_in_order v v s.distinct refl
+  pub same_itself : (v : Value) → IsSound v → Same zeros v v
+  same_itself v s = same_in_order zeros v v s.distinct refl
 
-pub same_back : (v w : Value) → IsSound w → Same v w → Same w v
-same_back v w t h = same_in_order w v t.distinct (sym (in_order_same v w h))
+  pub same_back : (v w : Value) → IsSound w → Same zeros v w → Same zeros w v
+  same_back v w t h = same_in_order zeros w v t.distinct (sym (in_order_same zeros v w h))
 
-pub same_on : (u v w : Value) → IsSound u → Same u v → Same v w → Same u w
-same_on u v w r h k = same_in_order u w r.distinct (in_order_same u v h ∙ in_order_same v w k)
+  pub same_on : (u v w : Value) → IsSound u → Same zeros u v → Same zeros v w → Same zeros u w
+  same_on u v w r h k = same_in_order zeros u w r.distinct (in_order_same zeros u v h ∙ in_order_same zeros v w k)
 
-pub twice : (v : Value) → IsSound v → norm (norm v) ≡ norm v
-twice v s = norm_twice IsUtf8 v s.ranged
+  pub twice : (v : Value) → IsSound v → norm zeros (norm zeros v) ≡ norm zeros v
+  twice v s = norm_twice zeros IsUtf8 v s.ranged
 
-pub same_norm : (v : Value) → IsSound v → Same (norm v) v
-same_norm v s = same_in_order (norm v) v (norm_distinct v s.distinct) (ap asc (twice v s))
+  pub same_norm : (v : Value) → IsSound v → Same zeros (norm zeros v) v
+  same_norm v s = same_in_order zeros (norm zeros v) v (norm_distinct zeros v s.distinct) (ap asc (twice v s))
 
--- ---- sizes
+  -- ---- sizes
 
-pub key_size : (d : Members) → IsClean (document d) → IsSound (document d) → size (norm_members_in_order d) ≡ size d
-key_size d c s =
-    let whole : EachMember IsGoodKey IsSized d = both_each HasNo00 IsUtf8 (λ s. IsPlainScalar s × IsCleanScalar s) IsRangedScalar (document d) c s.ranged in
-    ap (λ n. n + 5) (asc_members_size (norm_members d) (norm_distinct_members d s.distinct) ∙ norm_members_size IsGoodKey d whole)
+  pub key_size : (d : Members) → IsClean (document d) → IsSound (document d) → size (norm_members_in_order zeros d) ≡ size d
+  key_size d c s =
+      let whole : EachMember IsGoodKey IsSized d = both_each HasNo00 IsUtf8 (λ s. IsPlainScalar s × IsCleanScalar s) IsRangedScalar (document d) c s.ranged in
+      ap (λ n. n + 5) (asc_members_size (norm_members zeros d) (norm_distinct_members zeros d s.distinct) ∙ norm_members_size zeros IsGoodKey d whole)
 
--- ---- equal values
+  -- ---- equal values
 
-mutual
-  pub equal_same : (v w : Value) → equality.Equal v w → Same v w
-  equal_same (scalar s) (scalar t) h = ap normal_scalar h
-  equal_same (array vs) (array ws) h = equal_items vs ws h
-  equal_same (document ms) (document ns) h = (h.0, equal_under ms ns h.1)
-  equal_same (scoped_code t ms) (scoped_code u ns) h = (h.0, h.1, equal_under ms ns h.2)
-  equal_same _ _ h = absurd h
+  mutual
+    pub equal_same : (v w : Value) → equality.Equal v w → Same zeros v w
+    equal_same (scalar s) (scalar t) h = ap (normal_scalar zeros) h
+    equal_same (array vs) (array ws) h = equal_items vs ws h
+    equal_same (document ms) (document ns) h = (h.0, equal_under ms ns h.1)
+    equal_same (scoped_code t ms) (scoped_code u ns) h = (h.0, h.1, equal_under ms ns h.2)
+    equal_same _ _ h = absurd h
 
-  equal_items : (vs ws : Items) → EqualItems vs ws → SameItems vs ws
-  equal_items no_items no_items h = tt
-  equal_items (item v vs) (item w ws) h = (equal_same v w h.0, equal_items vs ws h.1)
-  equal_items _ _ h = absurd h
+    equal_items : (vs ws : Items) → EqualItems vs ws → SameItems zeros vs ws
+    equal_items no_items no_items h = tt
+    equal_items (item v vs) (item w ws) h = (equal_same v w h.0, equal_items vs ws h.1)
+    equal_items _ _ h = absurd h
 
-  equal_under : (ms ns : Members) → EqualUnder ms ns → SameUnder ms ns
-  equal_under no_members ns h = tt
-  equal_under (member k v ms) ns h = (some_and_map (look_up k ns) _ _ (equal_same v) h.0, equal_under ms ns h.1)
+    equal_under : (ms ns : Members) → EqualUnder ms ns → SameUnder zeros ms ns
+    equal_under no_members ns h = tt
+    equal_under (member k v ms) ns h = (some_and_map (look_up k ns) _ _ (equal_same v) h.0, equal_under ms ns h.1)
 
--- a key has as many bytes as the normal form, whose keys are in some order
-pub key_length : (d : Members) → IsSound (document d) → length (key d) ≡ size (norm_members d)
-key_length d s = encode_length (norm_members_in_order d) ∙ ap (λ n. n + 5) (asc_members_size (norm_members d) (norm_distinct_members d s.distinct))
+  -- a (key zeros) has as many bytes as the normal form, whose keys are in some order
+  pub key_length : (d : Members) → IsSound (document d) → length (key zeros d) ≡ size (norm_members zeros d)
+  key_length d s = encode_length (norm_members_in_order zeros d) ∙ ap (λ n. n + 5) (asc_members_size (norm_members zeros d) (norm_distinct_members zeros d s.distinct))
 
-pub key_exceeds : (d : Members) → IsSound (document d) → 2147483647 < size (norm_members d) → 2147483647 < length (key d)
-key_exceeds d s h = omega (arith, key_length d s, h)
+  pub key_exceeds : (d : Members) → IsSound (document d) → 2147483647 < size (norm_members zeros d) → 2147483647 < length (key zeros d)
+  key_exceeds d s h = omega (arith, key_length d s, h)
 
-pub key_within : (d : Members) → IsSound (document d) → 2147483647 < length (key d) → 2147483647 < size (norm_members d)
-key_within d s h = omega (arith, key_length d s, h)
+  pub key_within : (d : Members) → IsSound (document d) → 2147483647 < length (key zeros d) → 2147483647 < size (norm_members zeros d)
+  key_within d s h = omega (arith, key_length d s, h)
 
--- ---- keys that can be written
+  -- ---- keys that can be written
 
-pub key_fits : (d m : Members) → m ≡ norm_members_in_order d → CanBeWritten (document m) → length (key d) ≤ 2147483647
-key_fits d m e h =
-    let n : size (norm_members_in_order d) < 2 ^ 31 = subst (λ x. size x < 2 ^ 31) e h.1 in
-    omega (arith, encode_length (norm_members_in_order d), n)
+  pub key_fits : (d m : Members) → m ≡ norm_members_in_order zeros d → CanBeWritten (document m) → length (key zeros d) ≤ 2147483647
+  key_fits d m e h =
+      let n : size (norm_members_in_order zeros d) < 2 ^ 31 = subst (λ x. size x < 2 ^ 31) e h.1 in
+      omega (arith, encode_length (norm_members_in_order zeros d), n)
 
-pub key_long : (d m : Members) → m ≡ norm_members_in_order d → IsPlain (document d) → IsSound (document d) → (CanBeWritten (document m) → ⊥) → 2147483647 < length (key d)
-key_long d m e p s h = by (leb (length (key d)) 2147483647) refl
-  where
-    by : (b : Bool) → leb (length (key d)) 2147483647 ≡ b → 2147483647 < length (key d)
-    by true f =
-        let n : size (norm_members_in_order d) < 2 ^ 31 = omega (arith, encode_length (norm_members_in_order d), leb-true (length (key d)) 2147483647 f) in
-        absurd (h (subst (λ x. CanBeWritten (document x)) (sym e) (in_order_plain d p s, n)))
-    by false f = omega (arith, leb-false (length (key d)) 2147483647 f)
+  pub key_long : (d m : Members) → m ≡ norm_members_in_order zeros d → IsPlain (document d) → IsSound (document d) → (CanBeWritten (document m) → ⊥) → 2147483647 < length (key zeros d)
+  key_long d m e p s h = by (leb (length (key zeros d)) 2147483647) refl
+    where
+      by : (b : Bool) → leb (length (key zeros d)) 2147483647 ≡ b → 2147483647 < length (key zeros d)
+      by true f =
+          let n : size (norm_members_in_order zeros d) < 2 ^ 31 = omega (arith, encode_length (norm_members_in_order zeros d), leb-true (length (key zeros d)) 2147483647 f) in
+          absurd (h (subst (λ x. CanBeWritten (document x)) (sym e) (in_order_plain d p s, n)))
+      by false f = omega (arith, leb-false (length (key zeros d)) 2147483647 f)

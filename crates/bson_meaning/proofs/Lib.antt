@@ -14,6 +14,8 @@ pub mod JsonReads
 pub mod Putting
 pub mod InOrder
 pub mod KeyLaw
+pub mod Now
+pub mod Before
 pub mod JsonRanges
 pub mod JsonBase64
 pub mod JsonDates

@@ -3,41 +3,61 @@ use Rattle.std.proofs.Common.{◌≡◌, ℕ, ◌+◌, ◌^◌, ◌<◌, List, [
 use Rattle.std.proofs.lemmas.Str.{encodes-chars}
 use Rattle.std.specs.Prelude.{IsUtf8, chars}
 use lib.Utf8.{encode, encodes}
-use Rattle.bson_base.specs.Doubles.{is_nan, is_negative}
+use Rattle.bson_base.specs.Doubles.{is_nan, is_negative, is_zero}
 use Rattle.bson_base.specs.Kinds.{HasNo00}
 use Rattle.bson_base.specs.Options.{put_in_order, ascending_codes, sorted_text}
 use Rattle.bson_base.proofs.OptionsLemmas.{sorted_text-in_order, sorted_text-kept}
-use Rattle.bson_meaning.specs.Meaning.{normal_double}
+use Rattle.bson_meaning.specs.Forms.{normal_double}
+use Rattle.bson_meaning.specs.declared.scalars.Zeros.{Zeros}
+use Rattle.bson_meaning.specs.declared.scalars.Zeros.TheVariants.{Apart, Joined}
 use Rattle.bson_bytes.proofs.Options.{text_sorted}
 
 -- ---- doubles
 
-abbrev quiet : Bool → ℕ
-quiet negative = if negative then 0xFFF8_0000_0000_0000 else 0x7FF8_0000_0000_0000
+abbrev quieted : Bool → ℕ
+quieted negative = if negative then 0xFFF8_0000_0000_0000 else 0x7FF8_0000_0000_0000
 
-abbrev again : ℕ → ℕ
-again m = if is_nan m then quiet (is_negative m) else m
+abbrev again : Zeros → ℕ → ℕ
+again Apart m = if is_nan m then quieted (is_negative m) else m
+again Joined m = if is_nan m then quieted (is_negative m) else if is_zero m then 0 else m
 
-quiet_again : (c : Bool) → again (quiet c) ≡ quiet c
-quiet_again true = refl
-quiet_again false = refl
+quiet_again : (z : Zeros) (c : Bool) → again z (quieted c) ≡ quieted c
+quiet_again Apart true = refl
+quiet_again Apart false = refl
+quiet_again Joined true = refl
+quiet_again Joined false = refl
 
-pub normal_double_twice : (n : ℕ) → normal_double (normal_double n) ≡ normal_double n
+pub normal_double_twice : (z : Zeros) (n : ℕ) → normal_double z (normal_double z n) ≡ normal_double z n
 unfolding normal_double
-normal_double_twice n = by (is_nan n) refl
+normal_double_twice Apart n = by (is_nan n) refl
   where
-    by : (b : Bool) → is_nan n ≡ b → again (if b then quiet (is_negative n) else n) ≡ (if b then quiet (is_negative n) else n)
-    by true e = quiet_again (is_negative n)
-    by false e = ap (λ b. if b then quiet (is_negative n) else n) e
+    by : (b : Bool) → is_nan n ≡ b → again Apart (if b then quieted (is_negative n) else n) ≡ (if b then quieted (is_negative n) else n)
+    by true e = quiet_again Apart (is_negative n)
+    by false e = ap (λ b. if b then quieted (is_negative n) else n) e
+normal_double_twice Joined n = by (is_nan n) (is_zero n) refl refl
+  where
+    by : (b c : Bool) → is_nan n ≡ b → is_zero n ≡ c → again Joined (if b then quieted (is_negative n) else if c then 0 else n) ≡ (if b then quieted (is_negative n) else if c then 0 else n)
+    by true c e f = quiet_again Joined (is_negative n)
+    by false true e f = refl
+    by false false e f = ap (λ b. if b then quieted (is_negative n) else if is_zero n then 0 else n) e ∙ ap (λ c. if c then 0 else n) f
 
-pub normal_double_fits : (n : ℕ) → n < 2 ^ 64 → normal_double n < 2 ^ 64
+quieted_fits : (c : Bool) → quieted c < 2 ^ 64
+quieted_fits true = omega arith
+quieted_fits false = omega arith
+
+pub normal_double_fits : (z : Zeros) (n : ℕ) → n < 2 ^ 64 → normal_double z n < 2 ^ 64
 unfolding normal_double
-normal_double_fits n h = by (is_nan n) (is_negative n)
+normal_double_fits Apart n h = by (is_nan n)
   where
-    by : (b c : Bool) → (if b then quiet c else n) < 2 ^ 64
-    by true true = omega arith
-    by true false = omega arith
-    by false c = h
+    by : (b : Bool) → (if b then quieted (is_negative n) else n) < 2 ^ 64
+    by true = quieted_fits (is_negative n)
+    by false = h
+normal_double_fits Joined n h = by (is_nan n) (is_zero n)
+  where
+    by : (b c : Bool) → (if b then quieted (is_negative n) else if c then 0 else n) < 2 ^ 64
+    by true c = quieted_fits (is_negative n)
+    by false true = omega arith
+    by false false = h
 
 -- ---- subtypes
 

@@ -7,7 +7,8 @@ use Rattle.std.specs.Ordering.{nat_cmp, match_ordering, ordering_reverse}
 use Rattle.std.specs.Cmp.Lexicographic.{slice_cmp}
 use Rattle.std.specs.FinMap.{slice_cmp-IsAntisymmetric, nat_cmp-IsAntisymmetric}
 use Rattle.std.proofs.lemmas.Cmp.{nat_list_cmp_total, tied_itself}
-use Rattle.bson_meaning.specs.Meaning.{norm, norm_members, place, asc, asc_members}
+use Rattle.bson_meaning.specs.Forms.{norm, norm_members, place, asc, asc_members}
+use Rattle.bson_meaning.specs.declared.scalars.Zeros.{Zeros}
 use Rattle.bson_base.specs.Value.{Value, Members, no_members, member, look_up}
 use Rattle.bson_base.proofs.Members.{equal_keys, twice_asked, either_first, headed}
 
@@ -46,9 +47,10 @@ pub look_up-asc : (q : List ℕ) (ms : Members) → look_up q (asc_members ms) �
 look_up-asc q no_members = refl
 look_up-asc q (member k v ms) = look_up-place q k (asc v) (asc_members ms) ∙ ap (cond (bytes_eq q k) (Some (asc v))) (look_up-asc q ms) ∙ mapped asc (bytes_eq q k) v (look_up q ms)
 
-pub look_up-norm : (q : List ℕ) (ms : Members) → look_up q (norm_members ms) ≡ option_map norm (look_up q ms)
-look_up-norm q no_members = refl
-look_up-norm q (member k v ms) = ap (cond (bytes_eq q k) (Some (norm v))) (look_up-norm q ms) ∙ mapped norm (bytes_eq q k) v (look_up q ms)
+module _ (zeros : Zeros) where
+  pub look_up-norm : (q : List ℕ) (ms : Members) → look_up q (norm_members zeros ms) ≡ option_map (norm zeros) (look_up q ms)
+  look_up-norm q no_members = refl
+  look_up-norm q (member k v ms) = ap (cond (bytes_eq q k) (Some (norm zeros v))) (look_up-norm q ms) ∙ mapped (norm zeros) (bytes_eq q k) v (look_up q ms)
 
 -- ---- ascending
 

@@ -7,7 +7,8 @@ use Rattle.bson_base.specs.Kinds.{HasNo00, IsPlainScalar, IsCleanScalar, IsRange
 use Rattle.bson_base.specs.Options.{put_in_order, ascending_codes, sorted_text}
 use Rattle.bson_base.specs.Value.{Scalar, regex, Value, scalar, array, document, scoped_code, Items, no_items, item, Members, no_members, member, look_up, EachPart, EachItem, EachMember}
 use Rattle.bson_meaning.specs.Meaning.{norm_in_order, norm, normal_scalar, Same, SameItems, SameUnder}
-use Rattle.bson_meaning.proofs.Normal.{normal_scalar_plain, normal_scalar_clean, norm_each, asc_each, both_each}
+use Rattle.bson_meaning.proofs.Normal.{asc_each, both_each}
+use Rattle.bson_meaning.proofs.Now.{normal_scalar_plain, normal_scalar_clean, norm_each}
 use Rattle.bson_bytes.proofs.Options.{no_zero_both}
 use Rattle.bson_meaning.proofs.NormalScalars.{no_00_parts}
 use Rattle.bson_base.proofs.Members.{same_key, key_at}

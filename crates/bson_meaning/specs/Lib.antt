@@ -1,4 +1,6 @@
+pub mod Forms
 pub mod Meaning
+pub mod Before
 pub mod Counts
 pub mod Sames
 pub mod JsonReserved

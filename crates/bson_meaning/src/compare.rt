@@ -8,7 +8,7 @@ ghost use Rattle.bson_meaning.specs.Meaning.{Same, SameItems, SameUnder};
 ghost use Rattle.bson_meaning.specs.Sames.{IsScalar};
 
 use crate::options::same_options;
-use crate::scalars::{normal_decimal, normal_double, normal_subtype};
+use crate::scalars::{Zeros, normal_decimal, normal_double, normal_subtype};
 use bson_model::laws::{distinct_keys_of_level, equality_of_trees};
 use bson_model::{Binary, Bson, Document, Regex};
 
@@ -85,7 +85,9 @@ fn same_scalar(value: &Bson, other: &Bson) -> bool
     }
     match value {
         Bson::Double(double) => match other {
-            Bson::Double(other) => normal_double(*double) == normal_double(*other),
+            Bson::Double(other) => {
+                normal_double(Zeros::Joined, *double) == normal_double(Zeros::Joined, *other)
+            }
             _ => false,
         },
         Bson::RegularExpression(regex) => match other {

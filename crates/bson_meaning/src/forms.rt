@@ -9,7 +9,7 @@ ghost use Rattle.bson_meaning.specs.Meaning.{norm, norm_items, norm_members};
 ghost use Rattle.bson_meaning.specs.Pairs.{normal_pair};
 ghost use Rattle.bson_meaning.specs.Sames.{IsScalar};
 
-use crate::scalars::{normal_decimal, normal_double, normal_subtype};
+use crate::scalars::{Zeros, normal_decimal, normal_double, normal_subtype};
 use crate::sound::{ranged_scalar, text};
 use bson_model::laws::distinct_keys_of_level;
 use bson_model::{Binary, Bson, Document, JavaScriptCodeWithScope, Regex};
@@ -83,7 +83,7 @@ fn normal_scalar(alloc: Global, value: Bson) -> Result<Bson, AllocError>
     ensures { IfOk result (λ v. view v ≡ norm (view value)) }
 {
     match value {
-        Bson::Double(double) => Ok(Bson::Double(normal_double(double))),
+        Bson::Double(double) => Ok(Bson::Double(normal_double(Zeros::Joined, double))),
         Bson::RegularExpression(regex) => {
             let Regex { pattern, options } = regex;
             Ok(Bson::RegularExpression(Regex::new(alloc, pattern, options)?))

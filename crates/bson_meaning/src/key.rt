@@ -8,10 +8,14 @@ ghost use Rattle.bson_bytes.specs.Writing.{CanBeWritten};
 ghost use Rattle.bson_frame.specs.Frame.{length_limit};
 ghost use Rattle.bson_frame.specs.declared.error.ErrorKind.TheVariants.{OutOfMemory};
 ghost use Rattle.bson_model.specs.View.{view, pairs_of, members_of};
-ghost use Rattle.bson_meaning.specs.Meaning.{norm_members_in_order, norm_in_order, norm_members, key as key_of, Same};
+ghost use Rattle.bson_meaning.specs.Forms.{norm_members_in_order, norm_in_order, norm_members, key as key_by, Same as SameBy};
+ghost use Rattle.bson_meaning.specs.Meaning.{key as key_of, Same};
+ghost use Rattle.bson_meaning.specs.Before.{key as key_before, Same as SameBefore};
+ghost use Rattle.bson_meaning.specs.declared.scalars.Zeros.{Zeros as AnyZeros};
 
 use crate::lengths::{normal_length, normal_length_of_element};
 use crate::plain::{has_plain_members, is_plain_element};
+use crate::scalars::Zeros;
 use crate::writing::{encode_element_in_order, encode_in_order};
 use bson_frame::{Error as WriteError, ErrorKind, LENGTH_LIMIT};
 use bson_model::{Bson, Document};
@@ -58,13 +62,50 @@ pub fn meaning_key(alloc: Global, document: &Document) -> Result<Vec<u8>, KeyErr
     ensures tells { (e : Members) → IsPlain (tree e) → IsSound (tree e) → length (key_of e) ≤ length_limit
         → OnOk result ((key_of (members_of (pairs_of document.now)) ≡ key_of e) ↔ Same (tree (members_of (pairs_of document.now))) (tree e)) }
 {
+    key_where(Zeros::Joined, alloc, document)
+}
+
+/// The key that the document had before the two zeros of a double meant the same. Two documents have the same such key exactly
+/// where they meant the same, as long as neither is refused. Refused as `meaning_key` is.
+pub fn meaning_key_before(alloc: Global, document: &Document) -> Result<Vec<u8>, KeyError>
+    ensures bytes { IfOk result (λ k. k.items ≡ key_before (members_of (pairs_of document.now))) }
+    ensures fits { OnOk result (length (key_before (members_of (pairs_of document.now))) ≤ length_limit) }
+    ensures plain { OnOk result (IsPlain (tree (members_of (pairs_of document.now)))) }
+
+    // Each refusal comes exactly where it is due, and a 00 before the length; want of memory comes after both.
+    ensures not_plain { (result ≡ Err KeyError.NotPlain) ↔ (IsPlain (tree (members_of (pairs_of document.now))) → ⊥) }
+    ensures too_long { (result ≡ Err KeyError.TooLong)
+        ↔ IsPlain (tree (members_of (pairs_of document.now))) × (length_limit < length (key_before (members_of (pairs_of document.now)))) }
+
+    // What keys are for, for every other document.
+    ensures tells { (e : Members) → IsPlain (tree e) → IsSound (tree e) → length (key_before e) ≤ length_limit
+        → OnOk result ((key_before (members_of (pairs_of document.now)) ≡ key_before e) ↔ SameBefore (tree (members_of (pairs_of document.now))) (tree e)) }
+{
+    key_where(Zeros::Apart, alloc, document)
+}
+
+/// The key of a document, with its zeros taken so.
+fn key_where(zeros: Zeros, alloc: Global, document: &Document) -> Result<Vec<u8>, KeyError>
+    ensures bytes { IfOk result (λ k. k.items ≡ key_by zeros (members_of (pairs_of document.now))) }
+    ensures fits { OnOk result (length (key_by zeros (members_of (pairs_of document.now))) ≤ length_limit) }
+    ensures plain { OnOk result (IsPlain (tree (members_of (pairs_of document.now)))) }
+
+    // Each refusal comes exactly where it is due, and a 00 before the length; want of memory comes after both.
+    ensures not_plain { (result ≡ Err KeyError.NotPlain) ↔ (IsPlain (tree (members_of (pairs_of document.now))) → ⊥) }
+    ensures too_long { (result ≡ Err KeyError.TooLong)
+        ↔ IsPlain (tree (members_of (pairs_of document.now))) × (length_limit < length (key_by zeros (members_of (pairs_of document.now)))) }
+
+    // What keys are for, for every other document.
+    ensures tells { (e : Members) → IsPlain (tree e) → IsSound (tree e) → length (key_by zeros e) ≤ length_limit
+        → OnOk result ((key_by zeros (members_of (pairs_of document.now)) ≡ key_by zeros e) ↔ SameBy zeros (tree (members_of (pairs_of document.now))) (tree e)) }
+{
     if !has_plain_members(document) {
         return Err(KeyError::NotPlain);
     }
     if is_too_long(document) {
         return Err(KeyError::TooLong);
     }
-    written(alloc, document)
+    written(zeros, alloc, document)
 }
 
 /// The key of the document that has this element alone: the bytes that `meaning_key` answers for it, without that document.
@@ -84,6 +125,54 @@ pub fn meaning_key_of_element(alloc: Global, name: &str, value: &Bson) -> Result
     ensures tells { (e : Members) → IsPlain (tree e) → IsSound (tree e) → length (key_of e) ≤ length_limit
         → OnOk result ((key_of (member name.now (view value.now) no_members) ≡ key_of e) ↔ Same (tree (member name.now (view value.now) no_members)) (tree e)) }
 {
+    element_key_where(Zeros::Joined, alloc, name, value)
+}
+
+/// The key that the document that has this element alone had before the two zeros of a double meant the same: the bytes that
+/// `meaning_key_before` answers for it. Whatever is answered, the value was counted first, which tells that it is sound.
+pub fn meaning_key_before_of_element(
+    alloc: Global,
+    name: &str,
+    value: &Bson,
+) -> Result<Vec<u8>, KeyError>
+    ensures bytes { IfOk result (λ k. k.items ≡ key_before (member name.now (view value.now) no_members)) }
+    ensures fits { OnOk result (length (key_before (member name.now (view value.now) no_members)) ≤ length_limit) }
+    ensures plain { OnOk result (IsPlain (tree (member name.now (view value.now) no_members))) }
+    ensures sound { IsSound (view value.now) }
+
+    // Each refusal comes exactly where it is due, and a 00 before the length; want of memory comes after both.
+    ensures not_plain { (result ≡ Err KeyError.NotPlain) ↔ (IsPlain (tree (member name.now (view value.now) no_members)) → ⊥) }
+    ensures too_long { (result ≡ Err KeyError.TooLong)
+        ↔ IsPlain (tree (member name.now (view value.now) no_members)) × (length_limit < length (key_before (member name.now (view value.now) no_members))) }
+
+    // What keys are for, for every other document.
+    ensures tells { (e : Members) → IsPlain (tree e) → IsSound (tree e) → length (key_before e) ≤ length_limit
+        → OnOk result ((key_before (member name.now (view value.now) no_members) ≡ key_before e) ↔ SameBefore (tree (member name.now (view value.now) no_members)) (tree e)) }
+{
+    element_key_where(Zeros::Apart, alloc, name, value)
+}
+
+/// The key of the document that has this element alone, with its zeros taken so.
+fn element_key_where(
+    zeros: Zeros,
+    alloc: Global,
+    name: &str,
+    value: &Bson,
+) -> Result<Vec<u8>, KeyError>
+    ensures bytes { IfOk result (λ k. k.items ≡ key_by zeros (member name.now (view value.now) no_members)) }
+    ensures fits { OnOk result (length (key_by zeros (member name.now (view value.now) no_members)) ≤ length_limit) }
+    ensures plain { OnOk result (IsPlain (tree (member name.now (view value.now) no_members))) }
+    ensures sound { IsSound (view value.now) }
+
+    // Each refusal comes exactly where it is due, and a 00 before the length; want of memory comes after both.
+    ensures not_plain { (result ≡ Err KeyError.NotPlain) ↔ (IsPlain (tree (member name.now (view value.now) no_members)) → ⊥) }
+    ensures too_long { (result ≡ Err KeyError.TooLong)
+        ↔ IsPlain (tree (member name.now (view value.now) no_members)) × (length_limit < length (key_by zeros (member name.now (view value.now) no_members))) }
+
+    // What keys are for, for every other document.
+    ensures tells { (e : Members) → IsPlain (tree e) → IsSound (tree e) → length (key_by zeros e) ≤ length_limit
+        → OnOk result ((key_by zeros (member name.now (view value.now) no_members) ≡ key_by zeros e) ↔ SameBy zeros (tree (member name.now (view value.now) no_members)) (tree e)) }
+{
     let too_long = is_element_too_long(name, value);
     if !is_plain_element(name, value) {
         return Err(KeyError::NotPlain);
@@ -91,12 +180,12 @@ pub fn meaning_key_of_element(alloc: Global, name: &str, value: &Bson) -> Result
     if too_long {
         return Err(KeyError::TooLong);
     }
-    written_alone(alloc, name, value)
+    written_alone(zeros, alloc, name, value)
 }
 
 /// Whether the key would be over 2147483647 bytes. What counts them tells that the document is sound.
 fn is_too_long(document: &Document) -> bool
-    ensures long { IsTrue result ↔ (length_limit < size (norm_members (members_of (pairs_of document.now)))) }
+    ensures long { (zeros : AnyZeros) → IsTrue result ↔ (length_limit < size (norm_members zeros (members_of (pairs_of document.now)))) }
     ensures sound { IsSound (tree (members_of (pairs_of document.now))) }
 {
     normal_length(document) > LENGTH_LIMIT
@@ -104,30 +193,30 @@ fn is_too_long(document: &Document) -> bool
 
 /// The same of a document that has this element alone.
 fn is_element_too_long(name: &str, value: &Bson) -> bool
-    ensures long { IsTrue result ↔ (length_limit < size (norm_members (member name.now (view value.now) no_members))) }
+    ensures long { (zeros : AnyZeros) → IsTrue result ↔ (length_limit < size (norm_members zeros (member name.now (view value.now) no_members))) }
     ensures sound { IsSound (tree (member name.now (view value.now) no_members)) }
 {
     normal_length_of_element(name, value) > LENGTH_LIMIT
 }
 
 /// The bytes of the normal form with its keys in order, of a document without a 00 in a key, a pattern or options.
-fn written(alloc: Global, document: &Document) -> Result<Vec<u8>, KeyError>
-    ensures bytes { IfOk result (λ k. k.items ≡ key_of (members_of (pairs_of document.now))) }
-    ensures fits { OnOk result (CanBeWritten (tree (norm_members_in_order (members_of (pairs_of document.now))))) }
+fn written(zeros: Zeros, alloc: Global, document: &Document) -> Result<Vec<u8>, KeyError>
+    ensures bytes { IfOk result (λ k. k.items ≡ key_by zeros (members_of (pairs_of document.now))) }
+    ensures fits { OnOk result (CanBeWritten (tree (norm_members_in_order zeros (members_of (pairs_of document.now))))) }
     ensures never_not_plain { result ≢ Err KeyError.NotPlain }
-    ensures too_long { result ≡ Err KeyError.TooLong → CanBeWritten (tree (norm_members_in_order (members_of (pairs_of document.now)))) → ⊥ }
+    ensures too_long { result ≡ Err KeyError.TooLong → CanBeWritten (tree (norm_members_in_order zeros (members_of (pairs_of document.now)))) → ⊥ }
 {
-    encode_in_order(alloc, document).map_err(unwritten)
+    encode_in_order(zeros, alloc, document).map_err(unwritten)
 }
 
 /// The same of a document that has this element alone.
-fn written_alone(alloc: Global, name: &str, value: &Bson) -> Result<Vec<u8>, KeyError>
-    ensures bytes { IfOk result (λ k. k.items ≡ key_of (member name.now (view value.now) no_members)) }
-    ensures fits { OnOk result (CanBeWritten (tree (member name.now (norm_in_order (view value.now)) no_members))) }
+fn written_alone(zeros: Zeros, alloc: Global, name: &str, value: &Bson) -> Result<Vec<u8>, KeyError>
+    ensures bytes { IfOk result (λ k. k.items ≡ key_by zeros (member name.now (view value.now) no_members)) }
+    ensures fits { OnOk result (CanBeWritten (tree (member name.now (norm_in_order zeros (view value.now)) no_members))) }
     ensures never_not_plain { result ≢ Err KeyError.NotPlain }
-    ensures too_long { result ≡ Err KeyError.TooLong → CanBeWritten (tree (member name.now (norm_in_order (view value.now)) no_members)) → ⊥ }
+    ensures too_long { result ≡ Err KeyError.TooLong → CanBeWritten (tree (member name.now (norm_in_order zeros (view value.now)) no_members)) → ⊥ }
 {
-    encode_element_in_order(alloc, name, value).map_err(unwritten)
+    encode_element_in_order(zeros, alloc, name, value).map_err(unwritten)
 }
 
 /// Why the bytes of a normal form without a 00 aren't written.

@@ -12,6 +12,7 @@ ghost use Rattle.bson_model.specs.Equal.{Equal};
 ghost use Rattle.bson_model.specs.Trees.{document_tree};
 ghost use Rattle.bson_model.specs.View.{members_of, pairs_of};
 ghost use Rattle.bson_meaning.specs.Gate.{IsFaultyOrDeep, IsRefused, level_limit, Passes};
+ghost use Rattle.bson_meaning.specs.Before.{key as key_before, Same as SameBefore};
 ghost use Rattle.bson_meaning.specs.Meaning.{norm_members_in_order, norm_in_order, norm, key, Same};
 ghost use Rattle.bson_meaning.specs.declared.key.KeyError.{KeyError as AnyKeyError};
 ghost use Rattle.bson_meaning.specs.declared.gating.GateError.{GateError as AnyGateError};
@@ -81,6 +82,15 @@ pub fn same_values()
 /// The normal form of a plain value, with its keys in order, is clean.
 pub fn normal_forms_are_clean()
     ensures { (v : Value) → IsPlain v → IsSound v → IsClean (norm_in_order v) }
+{}
+
+/// What meant the same while the two zeros of a double were apart means the same now. A key from before that is a key now is of a
+/// document that means the same, so no row under an old key stands in the way of a row under its new one, but where both mean the
+/// same.
+pub fn meanings_from_before()
+    ensures same { (v w : Value) → IsSound v → IsSound w → SameBefore v w → Same v w }
+    ensures keys { (d e : Members) → IsPlain (document d) → IsSound (document d) → IsPlain (document e) → IsSound (document e)
+        → length (key_before d) ≤ length_limit → length (key e) ≤ length_limit → key_before d ≡ key e → key d ≡ key e }
 {}
 
 /// Errors are equal where they are one.

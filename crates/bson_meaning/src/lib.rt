@@ -20,7 +20,10 @@ mod writing;
 pub use compare::same_meaning;
 pub use forms::{normalize, normalize_document};
 pub use gating::{GateError, gate};
-pub use key::{KeyError, meaning_key, meaning_key_of_element};
+pub use key::{
+    KeyError, meaning_key, meaning_key_before, meaning_key_before_of_element,
+    meaning_key_of_element,
+};
 pub use levels::{depth, depth_of_document};
 pub use plain::{is_plain, is_plain_document};
 pub use sorting::{sort_keys, sorted};

@@ -12,7 +12,7 @@ ghost use Rattle.bson_meaning.specs.Meaning.{Same, SameItems, SameUnder};
 ghost use Rattle.bson_meaning.specs.Views.{ComparesPayload, view_scalar, ShowsFixed, ShowsNumber, ShowsScalar};
 
 use crate::options::same_options;
-use crate::scalars::{normal_decimal, normal_double, normal_subtype};
+use crate::scalars::{Zeros, normal_decimal, normal_double, normal_subtype};
 use bson_model::laws::distinct_keys_of_level;
 use bson_model::{Bson, Document};
 use bson_raw::laws::payload_of_an_element;
@@ -121,7 +121,9 @@ fn same_scalar_view(raw: RawBsonRef<'_>, value: &Bson) -> bool
 {
     match raw {
         RawBsonRef::Double(x) => match value {
-            Bson::Double(y) => normal_double(x) == normal_double(*y),
+            Bson::Double(y) => {
+                normal_double(Zeros::Joined, x) == normal_double(Zeros::Joined, *y)
+            }
             _ => false,
         },
         RawBsonRef::RegularExpression(x) => match value {

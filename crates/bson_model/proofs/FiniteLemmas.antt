@@ -1,11 +1,12 @@
 -- A value has a tree exactly where no finite double other than the zeros stands in it.
-use Rattle.std.proofs.Common.{◌≡◌, ℕ, List, Bool, true, false, Option, Some, None, refl, ◌∙◌}
+use Rattle.std.proofs.Common.{◌≡◌, ℕ, List, ◌++◌, Bool, true, false, Option, Some, None, refl, ◌∙◌}
 use Rattle.std.specs.Prelude.{if◌then◌else◌, not, ◌||◌, is_some, option_map, option_and_then, codes}
 use Rattle.serde_json.specs.Data as json
 use Rattle.serde_json.specs.Data.{Data}
-use Rattle.bson_base.specs.Doubles.{is_nan, is_infinite, is_zero}
+use Rattle.bson_base.specs.Decimal.{minus_if}
+use Rattle.bson_base.specs.Doubles.{is_nan, is_infinite, is_zero, is_negative}
 use Rattle.bson_base.specs.Value.{Scalar, double, Value, scalar, array, document, scoped_code, Items, no_items, item, Members, no_members, member}
-use Rattle.bson_model.specs.JsonWrite.{double_text, holds_finite, is_finite_and_not_zero, items_hold_finite, members_hold_finite, scalar_is_finite, unsigned_text, with_scope, write, write_items, write_members, write_scalar}
+use Rattle.bson_model.specs.JsonWrite.{double_text, holds_finite, is_finite_and_not_zero, items_hold_finite, members_hold_finite, scalar_is_finite, with_scope, write, write_items, write_members, write_scalar}
 use Rattle.bson_model.specs.declared.extjson.ser.Mode.{Mode}
 use Rattle.bson_model.proofs.ViewLemmas.{is_some-map}
 
@@ -15,11 +16,11 @@ text_there false true c s t u = refl
 text_there false false true s t u = refl
 text_there false false false s t u = refl
 
-double_there : (n : ℕ) → is_some (unsigned_text n) ≡ not (is_finite_and_not_zero n)
-double_there n = text_there (is_nan n) (is_infinite n) (is_zero n) (codes "NaN") (codes "Infinity") (codes "0.0")
+double_there : (n : ℕ) → is_some (double_text n) ≡ not (is_finite_and_not_zero n)
+double_there n = text_there (is_nan n) (is_infinite n) (is_zero n) (minus_if (is_negative n) ++ codes "NaN") (minus_if (is_negative n) ++ codes "Infinity") (codes "0.0")
 
 scalar_there : (m : Mode) (s : Scalar) → is_some (write_scalar m s) ≡ not (scalar_is_finite s)
-scalar_there m (double n) = is_some-map _ (double_text n) ∙ is_some-map _ (unsigned_text n) ∙ double_there n
+scalar_there m (double n) = is_some-map _ (double_text n) ∙ double_there n
 scalar_there m _ = refl
 
 item_there : (j : Option Data) (o : Option json.Items) (a b : Bool) → is_some j ≡ not a → is_some o ≡ not b → is_some (option_and_then (λ d. option_map (json.item d) o) j) ≡ not (a || b)

@@ -28,17 +28,13 @@ wrapped r j = object_of_one (key_of r) j
 abbrev pub wrapped_text : Reserved → List ℕ → Data
 wrapped_text r t = wrapped r (json.string t)
 
--- a NaN, an infinity or a zero; any other double has none
-abbrev pub unsigned_text : ℕ → Option (List ℕ)
-unsigned_text n =
-    if is_nan n then Some (codes "NaN")
-    else if is_infinite n then Some (codes "Infinity")
+-- a NaN or an infinity with the sign of its top bit, or a zero, whose sign counts for nothing; any other double has none
+abbrev pub double_text : ℕ → Option (List ℕ)
+double_text n =
+    if is_nan n then Some (minus_if (is_negative n) ++ codes "NaN")
+    else if is_infinite n then Some (minus_if (is_negative n) ++ codes "Infinity")
     else if is_zero n then Some (codes "0.0")
     else None
-
--- with the sign of its top bit
-abbrev pub double_text : ℕ → Option (List ℕ)
-double_text n = option_map (λ t. minus_if (is_negative n) ++ t) (unsigned_text n)
 
 abbrev pub write_double : ℕ → Option Data
 write_double n = option_map (wrapped_text of_double) (double_text n)

@@ -113,6 +113,26 @@ step_all docs a n ds ws good s c free =
       ),
     )
 
+-- what the rows make of the state, whether there are places for them or not
+pub rows_make : (docs : List Doc) (n : List ℕ) (ds : Documents) (ws : List Written) → IsName n → IsUtf8 n → Come ds ws → None ≡ first_taken 0 (keys_in n docs) (keys_of_rows ws)
+    → (a : Table) → Show docs a → (q : Reply) × (b : Table) × Show (all_appended n (map row_of ws) docs) b × Step (state_of a) (on n (import ds None)) q (state_of b)
+rows_make docs n ds ws good text c free a s =
+    let g = greatest a in
+    let new = rows_at g n ds in
+    let last = last_greatest a docs s in
+    let first : table.last_place docs +ℤ pos 1 ≡ pos (suc g) = ap (λ z. z +ℤ pos 1) last ∙ next_place g in
+    let step = step_all docs a n ds ws good s c free in
+    let all : max 0 g ≡ g = omega arith in (
+      number (length ds),
+      a ++ new,
+      record {
+        each = each_more a new docs (docs_from (table.last_place docs +ℤ pos 1) n (map row_of ws)) s.each (subst (λ z. AreRowsOf new (docs_from z n (map row_of ws))) (sym first) (each_all g n ws ds text c.rows));
+        good = rows_after a (a ++ new) (on n (import ds None)) (number (length ds)) s.good (c.read, tt) step;
+        rising = subst (λ (k : ℕ). Rises 0 (a ++ rows_at k n ds)) all (rises_all 0 a n ds s.rising);
+      },
+      step,
+    )
+
 go_in : (docs : List Doc) (n : List ℕ) (ds : Documents) (ws : List Written) → IsName n → IsUtf8 n → Come ds ws → None ≡ first_taken 0 (keys_in n docs) (keys_of_rows ws) → IsRoomFor (length (map row_of ws)) docs
     → Does (on n (import ds None)) (number (length ds)) docs (all_appended n (map row_of ws) docs)
 go_in docs n ds ws good text c free room a s =

@@ -17,6 +17,13 @@ use Rattle.bson_store.specs.Runs.{Asks, AsksEach, reply_of, Obeys, AnswersThroug
 use Rattle.bson_store.specs.declared.command.Command.{Command}
 use Rattle.bson_store.specs.declared.command.Reply.{Reply}
 use Rattle.bson_store.proofs.Moving.{rests, moved, moved_twice}
+use Rattle.sqlite_trees.specs.Tree.{Trees}
+use Rattle.store_laws.specs.Run.{Denials, Run}
+use Rattle.store_laws.specs.Table.{Table, state_of}
+use Rattle.store_laws.specs.Left.{LeftAlong}
+use Rattle.store_laws.proofs.Left.{left_goes_on, left_in_the_end, left_more}
+use Rattle.store_laws.proofs.Rows.{rows_not_empty}
+use Rattle.bson_store.specs.Left.{Holds, Leaves, LeavesAsLists, LeavesTheEnd, LeavesBytes, LeavesCommand, LeavesMany, LeavesTree}
 
 map_parts : {X Y : Type 0} (f : X → Y) (xs ys : List X) → map f (xs ++ ys) ≡ map f xs ++ map f ys
 map_parts f [] ys = refl
@@ -61,24 +68,76 @@ on_lists xs rs old new h a s =
 pub lists_moved : (s t : State) (xs : List Command) (rs : List Reply) → Moves s t (AnswersThroughTables xs rs) → Moves s t (AnswersAsLists xs rs)
 lists_moved s t xs rs m = moved s t (AnswersThroughTables xs rs) (AnswersAsLists xs rs) m (on_lists xs rs)
 
+-- ---- what a crash leaves
+
+none_left : (s : State) → Moves s s (LeavesAsLists [] [] s.may_leave s.may_leave)
+none_left s = rests s (LeavesAsLists [] [] s.may_leave s.may_leave) (λ docs a shown. record { b = a; shown = shown; asked = []; asks = tt; denials = empty; run = refl; left = λ db may. may })
+
+-- a run, and that what a crash leaves is left along it
+abbrev LeftRun : (Trees → Type 0) → (Trees → Type 0) → Denials → Table → List model.Command → Table → List model.Reply → Type 0
+LeftRun Before After w a cs b qs = (run : Run w 0 (state_of a) cs qs (state_of b)) × ((db : Trees) → After db → LeftAlong Holds Before w 0 (state_of a) cs qs (state_of b) run db)
+
+one_left : (old mid new : State) (xs : List Command) (rs : List Reply) (x : Command) (r : Reply) → Moves old mid (LeavesAsLists xs rs old.may_leave mid.may_leave) → Moves mid new (Obeys x r) → LeavesCommand x r mid new
+    → Moves old new (LeavesAsLists (xs ++ x ∷ []) (rs ++ r ∷ []) old.may_leave new.may_leave)
+one_left old mid new xs rs x r so_far one crash clean =
+    let n = one clean in
+    let m = so_far n.0 in (
+      m.0,
+      λ docs stands.
+          let y = m.1 docs stands in
+          let z = n.1 y.0 y.1 in (
+            z.0,
+            z.1,
+            λ a shown.
+                let h = y.2 a shown in
+                let c = z.2.0 in
+                let d = z.2.2 h.b h.shown in
+                let g = left_goes_on Holds old.may_leave h.denials (state_of a) h.asked (map reply_of rs) (state_of h.b) (state_of d.0) c (reply_of r) h.run d.2.0 d.2.1.0 in
+                let both : LeftRun old.may_leave new.may_leave g.0 a (h.asked ++ c ∷ []) d.0 (map reply_of rs ++ reply_of r ∷ []) = (g.1.0, λ db may. g.1.1 db (left_more Holds mid.may_leave _ h.left (state_of h.b) c (reply_of r) db (crash c z.2.1 clean y.0 y.1 h.b h.shown db may))) in
+                let told = subst (LeftRun old.may_leave new.may_leave g.0 a (h.asked ++ c ∷ []) d.0) (sym (map_parts reply_of rs (r ∷ []))) both in
+                record { b = d.0; shown = d.1; asked = h.asked ++ c ∷ []; asks = asks_last xs h.asked x c h.asks z.2.1; denials = g.0; run = told.0; left = told.1 },
+          ),
+    )
+
+the_end : (xs : List Command) (rs : List Reply) (Before After : Trees → Type 0) (old new : List Doc) → LeavesAsLists xs rs Before After old new → LeavesTheEnd xs rs Before After old new
+the_end xs rs Before After old new h a s alone =
+    let k = h a s in
+    record {
+      b = k.b;
+      shown = k.shown;
+      asked = k.asked;
+      asks = k.asks;
+      denials = k.denials;
+      run = k.run;
+      left = λ db may. left_in_the_end Holds Before k.denials (state_of a) (state_of k.b) k.asked (map reply_of rs) k.run (rows_not_empty a) alone db (k.left db may);
+    }
+
+pub ends_moved : (s t : State) (xs : List Command) (rs : List Reply) → Moves s t (LeavesAsLists xs rs s.may_leave t.may_leave) → Moves s t (LeavesTheEnd xs rs s.may_leave t.may_leave)
+ends_moved s t xs rs m = moved s t (LeavesAsLists xs rs s.may_leave t.may_leave) (LeavesTheEnd xs rs s.may_leave t.may_leave) m (the_end xs rs s.may_leave t.may_leave)
+
 -- the commands that were done, and those that are left
 pub record SoFar (old : State) (commands rest : List Command) (replies : List Reply) (new : State) : Type 0 where
   pub done : List Command
   pub split : done ++ rest ≡ commands
   pub counted : length replies ≡ length done
   pub run : Moves old new (AnswersThroughTables done replies)
+  pub left : Moves old new (LeavesAsLists done replies old.may_leave new.may_leave)
 
-pub so_far_more : (old mid new : State) (commands rest left : List Command) (x : Command) (rs more : List Reply) (r : Reply) → rest ≡ x ∷ left → more ≡ rs ++ r ∷ [] → SoFar old commands rest rs mid → Moves mid new (Obeys x r) → SoFar old commands left more new
-so_far_more old mid new commands rest left x rs more r is put h one = record {
+pub so_far_more : (old mid new : State) (commands rest left : List Command) (x : Command) (rs more : List Reply) (r : Reply) → rest ≡ x ∷ left → more ≡ rs ++ r ∷ [] → SoFar old commands rest rs mid → Moves mid new (Obeys x r) → LeavesCommand x r mid new → SoFar old commands left more new
+so_far_more old mid new commands rest left x rs more r is put h one crash = record {
   done = h.done ++ x ∷ [];
   split = append_assoc h.done (x ∷ []) left ∙ ap (λ y. h.done ++ y) (sym is) ∙ h.split;
   counted = omega (arith, ap length put, h.counted, length-append {A = Reply} rs (r ∷ []), length-append {A = Command} h.done (x ∷ []));
   run = subst (λ qs. Moves old new (AnswersThroughTables (h.done ++ x ∷ []) qs)) (sym put)
       (moved_twice old mid new (AnswersThroughTables h.done rs) (Obeys x r) (AnswersThroughTables (h.done ++ x ∷ []) (rs ++ r ∷ [])) h.run one (λ a b c f g. one_command a b c h.done rs x r f g));
+  left = subst (λ qs. Moves old new (LeavesAsLists (h.done ++ x ∷ []) qs old.may_leave new.may_leave)) (sym put) (one_left old mid new h.done rs x r h.left one crash);
 }
 
 pub so_far_all : (old new : State) (commands rest : List Command) (rs : List Reply) → rest ≡ [] → SoFar old commands rest rs new → Moves old new (AnswersThroughTables commands rs)
 so_far_all old new commands rest rs none h = subst (λ xs. Moves old new (AnswersThroughTables xs rs)) (sym (append-nil h.done) ∙ ap (λ y. h.done ++ y) (sym none) ∙ h.split) h.run
+
+pub so_far_left : (old new : State) (commands rest : List Command) (rs : List Reply) → rest ≡ [] → SoFar old commands rest rs new → Moves old new (LeavesAsLists commands rs old.may_leave new.may_leave)
+so_far_left old new commands rest rs none h = subst (λ xs. Moves old new (LeavesAsLists xs rs old.may_leave new.may_leave)) (sym (append-nil h.done) ∙ ap (λ y. h.done ++ y) (sym none) ∙ h.split) h.left
 
 pub so_far_start : (s : State) (commands rest : List Command) (rs : List Reply) → rest ≡ commands → rs ≡ [] → SoFar s commands rest rs s
 so_far_start s commands rest rs is none = record {
@@ -86,6 +145,7 @@ so_far_start s commands rest rs is none = record {
   split = is;
   counted = ap length none;
   run = subst (λ qs. Moves s s (AnswersThroughTables [] qs)) (sym none) (rests s (AnswersThroughTables [] []) none_yet);
+  left = subst (λ qs. Moves s s (LeavesAsLists [] qs s.may_leave s.may_leave)) (sym none) (none_left s);
 }
 
 -- ---- each command
@@ -105,3 +165,23 @@ pub obeys_many : (s t : State) (x : Command) (n : List ℕ) (Reads : Documents �
     → reply_of r ≡ q → Moves s t (DoesMany n Reads q) → Moves s t (Obeys x r)
 obeys_many s t x n Reads r q asks is m =
     moved s t (DoesMany n Reads q) (Obeys x r) m (λ docs after h. (model.on n (model.import h.0 h.1), asks h.0 h.1 h.2, subst (λ p. Does (model.on n (model.import h.0 h.1)) p docs after) (sym is) h.3))
+
+-- ---- what each command leaves
+
+as_asked : (s t : State) (c d : model.Command) (r : Reply) (q : model.Reply) → reply_of r ≡ q → c ≡ d → Leaves s t d q → Leaves s t c (reply_of r)
+as_asked s t c d r q is e h = subst (λ x. Leaves s t x (reply_of r)) (sym e) (subst (λ p. Leaves s t d p) (sym is) h)
+
+pub leaves_bytes : (s t : State) (x : Command) (n b : List ℕ) (call : Reading → model.Call) (r : Reply) (q : model.Reply) → ((c : model.Command) → Asks x c → (a : Reading) × (model.IsName n → ReadsBytes b a) × (c ≡ model.on n (call a))) → reply_of r ≡ q
+    → LeavesBytes n call b q s t → LeavesCommand x r s t
+leaves_bytes s t x n b call r q asks is h c asked = let k = asks c asked in as_asked s t c (model.on n (call k.0)) r q is k.2 (h k.0 k.1)
+
+pub leaves_tree : (s t : State) (x : Command) (n : List ℕ) (j : Data) (call : Reading → model.Call) (r : Reply) (q : model.Reply) → ((c : model.Command) → Asks x c → (a : Reading) × (model.IsName n → ReadsTree j a) × (c ≡ model.on n (call a))) → reply_of r ≡ q
+    → LeavesTree n call j q s t → LeavesCommand x r s t
+leaves_tree s t x n j call r q asks is h c asked = let k = asks c asked in as_asked s t c (model.on n (call k.0)) r q is k.2 (h k.0 k.1)
+
+pub leaves_many : (s t : State) (x : Command) (n : List ℕ) (Reads : Documents → Option ErrorKind → Type 0) (r : Reply) (q : model.Reply)
+    → ((c : model.Command) → Asks x c → (ds : Documents) × (stop : Option ErrorKind) × (model.IsName n → Reads ds stop) × (c ≡ model.on n (model.import ds stop))) → reply_of r ≡ q → LeavesMany n Reads q s t → LeavesCommand x r s t
+leaves_many s t x n Reads r q asks is h c asked = let k = asks c asked in as_asked s t c (model.on n (model.import k.0 k.1)) r q is k.3 (h k.0 k.1 k.2)
+
+pub leaves_one : (s t : State) (x : Command) (d : model.Command) (r : Reply) (q : model.Reply) → ((c : model.Command) → Asks x c → c ≡ d) → reply_of r ≡ q → Leaves s t d q → LeavesCommand x r s t
+leaves_one s t x d r q asks is h c asked = as_asked s t c d r q is (asks c asked) h

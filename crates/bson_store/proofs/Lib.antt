@@ -18,3 +18,5 @@ pub mod Importing
 pub mod Dumping
 pub mod Opened
 pub mod Opening
+pub mod Leaving
+pub mod Again

@@ -11,7 +11,7 @@ use Rattle.bson_base.specs.Value.{Value, Members, look_up, has_key}
 use Rattle.bson_bytes.specs.Encode.{encode, size}
 use Rattle.bson_frame.specs.Frame.{size_limit}
 use Rattle.bson_meaning.specs.Meaning.{key}
-use Rattle.bson_meaning.proofs.KeyLaw.{same_itself}
+use Rattle.bson_meaning.proofs.Now.{same_itself}
 use Rattle.bson_table.specs.Rows.{Doc, is_row_named}
 use Rattle.bson_table.specs.Rows as table
 use Rattle.bson_table.specs.Moves.{FindsRow, AddsRows, IsRoomFor, appended, kept, seen}
@@ -214,6 +214,22 @@ no_place f docs n k b d good h free full a s =
     let r : Row = record { place = suc (greatest a); name = n; document = d } in
     let g : greatest_place < greatest a + 1 = full_is (table.last_place docs) (greatest a) 1 (last_greatest a docs s) full in
     (a, s, (Some places, ((refl, refl), stays a, (undecided n (insert f (readable d)) good (read_open f d), (g, done, state_of (a ++ r ∷ []), step_in f docs n k b d a r good h free s refl refl, λ x. x)))))
+
+-- what a row more makes of the state, whether there is a place for it or not
+pub row_makes : (f : Form) (docs mid : List Doc) (n k b : List ℕ) (d : Members) → IsName n → IsUtf8 n → Fits d k b → FindsRow n k (Ok None) docs mid
+    → (a : Table) → Show docs a → (q : Reply) × (e : Table) × Show (appended n k b docs) e × Step (state_of a) (on n (insert f (readable d))) q (state_of e)
+row_makes f docs mid n k b d good text h none a s =
+    let r : Row = record { place = suc (greatest a); name = n; document = d } in
+    let last = last_greatest a docs s in
+    let step = step_in f docs n k b d a r good h (none_is (find (is_row_named n k) docs) none.found) s refl refl in
+    let one : IsRowOf r (record { place = table.last_place docs +ℤ pos 1; coll = n; idkey = k; body = b }) = record {
+      place = ap (λ z. z +ℤ pos 1) last ∙ next_place (greatest a);
+      name = refl;
+      text = text;
+      key = h.key.key ∙ ap key (sym (own_is d h.id h.has));
+      body = h.body;
+    } in
+    (done, a ++ r ∷ [], shows_more docs a r _ s one refl (rows_after a (a ++ r ∷ []) (on n (insert f (readable d))) done s.good h.read step), step)
 
 pub put_in : (docs mid after : List Doc) (n k b : List ℕ) (d : Members) → IsName n → IsUtf8 n → Fits d k b → FindsRow n k (Ok None) docs mid → AddsRows 1 (appended n k b) (Ok tt) mid after → DoesRead n insert d done docs after
 put_in docs mid after n k b d good text fits none h f =

@@ -7,3 +7,4 @@ pub mod Opening
 pub mod Many
 pub mod Dump
 pub mod Runs
+pub mod Left

@@ -5,6 +5,9 @@ ghost use Rattle.bson_table.specs.Moves.{Moves};
 ghost use Rattle.bson_store.specs.Calls.{held};
 ghost use Rattle.bson_store.specs.Questions.{as_list, as_names};
 ghost use Rattle.bson_store.specs.Refusals.{reply_by, as_done, as_flag, as_bytes, as_json, as_json_list, as_number};
+ghost use Rattle.store_laws.specs.Reading.{ReadsStream};
+ghost use Rattle.store_laws.specs.State.{export, on};
+ghost use Rattle.bson_store.specs.Left.{Leaves, LeavesTheEnd, LeavesAsLists, LeavesCommand, LeavesMany};
 ghost use Rattle.bson_store.specs.Runs.{Exported, Imported, IsLent, Obeys, AnswersAsLists, AnswersThroughTables, reply_of};
 
 use crate::command::{Command, Reply};
@@ -90,7 +93,8 @@ fn json_list(outcome: Result<Vec<Value>, StoreError>) -> Reply
 
 /// The written documents of a collection, in memory.
 fn exported<S: Alter + Drop>(store: &mut Store<S>, name: &str) -> Reply
-    ensures { Moves (held S.Store store.old) (held S.Store store.new) (Exported name.now result) }
+    ensures moves { Moves (held S.Store store.old) (held S.Store store.new) (Exported name.now result) }
+    ensures crash { Leaves (held S.Store store.old) (held S.Store store.new) (on name.now export) (reply_of result) }
 {
     let mut sink = VecSink::new(store.allocator());
     match store.export(name, &mut sink) {
@@ -105,7 +109,8 @@ fn exported<S: Alter + Drop>(store: &mut Store<S>, name: &str) -> Reply
 
 /// Documents that go into a collection from memory.
 fn imported<S: Alter + Drop>(store: &mut Store<S>, name: &str, bytes: &[u8]) -> Reply
-    ensures { Moves (held S.Store store.old) (held S.Store store.new) (Imported name.now bytes.now result) }
+    ensures moves { Moves (held S.Store store.old) (held S.Store store.new) (Imported name.now bytes.now result) }
+    ensures crash { LeavesMany name.now (ReadsStream bytes.now) (reply_of result) (held S.Store store.old) (held S.Store store.new) }
 {
     let mut source = SliceSource::new(bytes);
     counted(store.import(name, &mut source))
@@ -113,7 +118,8 @@ fn imported<S: Alter + Drop>(store: &mut Store<S>, name: &str, bytes: &[u8]) -> 
 
 /// One command. JSON is handed over to the call that keeps it; all else is lent.
 fn execute<S: Alter + Drop>(store: &mut Store<S>, command: Command) -> Reply
-    ensures { Moves (held S.Store store.old) (held S.Store store.new) (Obeys command result) }
+    ensures moves { Moves (held S.Store store.old) (held S.Store store.new) (Obeys command result) }
+    ensures crash { LeavesCommand command result (held S.Store store.old) (held S.Store store.new) }
 {
     match command {
         Command::InsertJson { name, json } => done(store.insert_json(name.as_str(), json)),
@@ -132,7 +138,8 @@ fn execute<S: Alter + Drop>(store: &mut Store<S>, command: Command) -> Reply
 /// One command that hands no JSON over. It is lent, as what it holds would else be dropped anew in each of the cases.
 fn execute_lent<S: Alter + Drop>(store: &mut Store<S>, command: &Command) -> Reply
     requires { IsLent command.now }
-    ensures { Moves (held S.Store store.old) (held S.Store store.new) (Obeys command.now result) }
+    ensures moves { Moves (held S.Store store.old) (held S.Store store.new) (Obeys command.now result) }
+    ensures crash { LeavesCommand command.now result (held S.Store store.old) (held S.Store store.new) }
 {
     match command {
         Command::InsertRaw { name, bytes } => done(store.insert_raw(
@@ -174,6 +181,12 @@ pub fn run<S: Alter + Drop>(
     ensures tables { IfOk result (λ replies. Moves (held S.Store store.old) (held S.Store store.new) (AnswersThroughTables commands.items replies.items)) }
     // So they are those of the commands on plain lists of documents, but where memory, the database or places were wanted.
     ensures lists { IfOk result (λ replies. Moves (held S.Store store.old) (held S.Store store.new) (AnswersAsLists commands.items replies.items)) }
+    // What a crash leaves now is left along this run, from what it might leave before.
+    ensures crash { IfOk result (λ replies. Moves (held S.Store store.old) (held S.Store store.new)
+        (LeavesAsLists commands.items replies.items (held S.Store store.old).may_leave (held S.Store store.new).may_leave)) }
+    // So where a crash could leave one state alone before, it leaves the state at the end, or what one of the commands makes of that.
+    ensures ends { IfOk result (λ replies. Moves (held S.Store store.old) (held S.Store store.new)
+        (LeavesTheEnd commands.items replies.items (held S.Store store.old).may_leave (held S.Store store.new).may_leave)) }
     // Where memory was wanted for the replies, no command was done.
     ensures err { OnErr result (store.new ≡ store.old) }
 {

@@ -8,6 +8,8 @@ ghost use Rattle.bson_bytes.specs.Encode.{encode};
 ghost use Rattle.bson_model.specs.declared.extjson.ser.Mode.TheVariants.{Canonical};
 ghost use Rattle.bson_table.specs.Moves.{Moves};
 ghost use Rattle.store_laws.specs.State.{IsKept, dump, on, tree_of};
+ghost use Rattle.sqlite.specs.State.{Survives};
+ghost use Rattle.bson_store.specs.Left.{StaysOpen};
 ghost use Rattle.bson_store.specs.Calls.{held, Does};
 ghost use Rattle.bson_store.specs.Dump.{HandsOn, HandsTrees, TellsTree, told_at};
 ghost use Rattle.bson_store.specs.Refusals.{as_json_list, reply_by};
@@ -144,7 +146,9 @@ impl<S: Alter + Drop> Store<S> {
     /// ReservedKey, and `document` tells which it is; by what the taker refuses a tree by; and by Memory and Database. The
     /// taker was then handed a beginning of the trees, and is dropped.
     pub fn each_json<T: TakeJson + Drop>(&mut self, name: &str, taker: T) -> Result<T, StoreError>
-        ensures { T.took taker taker [] → Moves (held S.Store self.old) (held S.Store self.new) (HandsTrees (T.took taker) T.refuses name.now result) }
+        ensures moves { T.took taker taker [] → Moves (held S.Store self.old) (held S.Store self.new) (HandsTrees (T.took taker) T.refuses name.now result) }
+        ensures open { StaysOpen (held S.Store self.old) (held S.Store self.new) result }
+        ensures crash { Survives (held S.Store self.old) (held S.Store self.new) (λ _. ⊥) }
     {
         let name = good_name(name)?;
         let mut teller = Teller {
@@ -171,7 +175,9 @@ impl<S: Alter + Drop> Store<S> {
     /// Refused by BadName; by ReservedKey and FiniteDouble of the first document that has no such tree, of the two by
     /// ReservedKey, and `document` tells which it is; and by Memory and Database.
     pub fn dump_json(&mut self, name: &str) -> Result<Vec<Value>, StoreError>
-        ensures { Moves (held S.Store self.old) (held S.Store self.new) (Does (on name.now dump) (reply_by as_json_list result)) }
+        ensures moves { Moves (held S.Store self.old) (held S.Store self.new) (Does (on name.now dump) (reply_by as_json_list result)) }
+        ensures open { StaysOpen (held S.Store self.old) (held S.Store self.new) result }
+        ensures crash { Survives (held S.Store self.old) (held S.Store self.new) (λ _. ⊥) }
     {
         let trees = Vec::new(self.alloc);
         let all = self.each_json(name, Trees { trees })?;

@@ -1,9 +1,11 @@
 //! Many documents at once: all of them go into a collection, or none.
 
-ghost use Rattle.std.specs.Prelude.{◌≡◌, ◌||◌, ◌<◌, ◌^◌, ◌-◌, ℕ, List, length, map, false, Some, None, IfOk};
+ghost use Rattle.std.specs.Prelude.{◌≡◌, ◌||◌, ◌<◌, ◌^◌, ◌-◌, ℕ, List, length, map, false, Some, None, IfOk, IsErrOf};
 ghost use Rattle.std.specs.Str.{bytes_eq};
 ghost use Rattle.serde_json.specs.View.{view as tree_of};
-ghost use Rattle.bson_table.specs.Moves.{AddsRows, Moves, all_appended};
+ghost use Rattle.sqlite.specs.State.{Survives};
+ghost use Rattle.bson_table.specs.Moves.{AddsRows, MayLeave, Moves, WasOpen, all_appended};
+ghost use Rattle.bson_store.specs.Left.{LeavesMany, LeavesRows, ReadsFed};
 ghost use Rattle.store_documents.specs.Names.{name_bytes};
 ghost use Rattle.bson_base.specs.Kinds.{AreBytes};
 ghost use Rattle.store_laws.specs.Reading.{ReadsStream, ReadsTrees};
@@ -67,6 +69,7 @@ impl<S: Alter + Drop> Store<S> {
         key: &'a [u8],
     ) -> Result<bool, StoreError>
         ensures moves { Moves (held S.Store self.old) (held S.Store self.new) (Meets coll.now key.now met.old result) }
+        ensures crash { Survives (held S.Store self.old) (held S.Store self.new) (λ _. ⊥) }
         ensures met { IfOk result (λ taken. taken ≡ false → (k : List ℕ) → has_met met.new k ≡ bytes_eq k key.now || has_met met.old k) }
     {
         let found = self.table.named(coll, key)?;
@@ -79,7 +82,8 @@ impl<S: Alter + Drop> Store<S> {
 
     /// The place of the first row whose key is in the collection or that of a row before.
     fn first_taken(&mut self, coll: &str, rows: &[Written]) -> Result<Option<u64>, StoreError>
-        ensures { Moves (held S.Store self.old) (held S.Store self.new) (FindsTaken coll.now rows.now result) }
+        ensures moves { Moves (held S.Store self.old) (held S.Store self.new) (FindsTaken coll.now rows.now result) }
+        ensures crash { Survives (held S.Store self.old) (held S.Store self.new) (λ _. ⊥) }
     {
         let mut met = Keys::new(self.alloc);
         for at in 0..rows.len() {
@@ -94,14 +98,18 @@ impl<S: Alter + Drop> Store<S> {
 
     /// Writes all rows, in one transaction.
     fn write_all(&mut self, coll: &str, rows: &[NewRow]) -> Result<(), Fault>
-        ensures { Moves (held S.Store self.old) (held S.Store self.new) (AddsRows (length rows.now) (all_appended coll.now rows.now) result) }
+        ensures moves { Moves (held S.Store self.old) (held S.Store self.new) (AddsRows (length rows.now) (all_appended coll.now rows.now) result) }
+        ensures open { WasOpen (held S.Store self.old) (held S.Store self.new) result }
+        ensures crash { Survives (held S.Store self.old) (held S.Store self.new) (MayLeave (all_appended coll.now rows.now) (held S.Store self.old)) }
+        ensures full { IsErrOf result Fault.Places → Survives (held S.Store self.old) (held S.Store self.new) (λ _. ⊥) }
     {
         self.table.append_all(coll, rows)
     }
 
     /// Puts the documents that these rows are last in a collection, and says how many they are.
     fn add_all(&mut self, name: Name<'_>, rows: Vec<Written>) -> Result<u64, StoreError>
-        ensures { Moves (held S.Store self.old) (held S.Store self.new) (AddsAll (name_bytes name.entry) rows.items result) }
+        ensures moves { Moves (held S.Store self.old) (held S.Store self.new) (AddsAll (name_bytes name.entry) rows.items result) }
+        ensures crash { LeavesRows (name_bytes name.entry) rows.items result (held S.Store self.old) (held S.Store self.new) }
     {
         let coll = name.as_str();
         let taken = self.first_taken(coll, rows.as_slice())?;
@@ -123,8 +131,10 @@ impl<S: Alter + Drop> Store<S> {
     /// Reader; with any other refusal none of its reads failed.
     pub fn import<R: Source>(&mut self, name: &str, reader: &mut R) -> Result<u64, StoreError>
         requires { (R.feed reader.old).failures < 2 ^ 64 - 1 }
-        ensures { Moves (held S.Store self.old) (held S.Store self.new) (Imports name.now (R.feed reader.old)
+        ensures moves { Moves (held S.Store self.old) (held S.Store self.new) (Imports name.now (R.feed reader.old)
             (R.feed reader.new) result) }
+        ensures crash { LeavesMany name.now (ReadsFed (R.feed reader.old) (R.feed reader.new)) (reply_by as_number result)
+            (held S.Store self.old) (held S.Store self.new) }
     {
         let name = good_name(name)?;
         let bytes = read_all(self.alloc, reader)?;
@@ -140,7 +150,8 @@ impl<S: Alter + Drop> Store<S> {
     /// one of these; else by DuplicateId of the first whose `_id` is in the collection or in an earlier tree; by Places; and by
     /// Memory and Database, but never in the place of BadName. `document` tells which document was refused.
     pub fn load_json(&mut self, name: &str, trees: Vec<Value>) -> Result<u64, StoreError>
-        ensures { Moves (held S.Store self.old) (held S.Store self.new) (DoesMany name.now (ReadsTrees (map tree_of trees.items)) (reply_by as_number result)) }
+        ensures moves { Moves (held S.Store self.old) (held S.Store self.new) (DoesMany name.now (ReadsTrees (map tree_of trees.items)) (reply_by as_number result)) }
+        ensures crash { LeavesMany name.now (ReadsTrees (map tree_of trees.items)) (reply_by as_number result) (held S.Store self.old) (held S.Store self.new) }
     {
         let name = good_name(name)?;
         let rows = judge_trees(self.alloc, trees)?;

@@ -5,6 +5,8 @@ ghost use Rattle.bson_filter.specs.Filters.{filter_of, path_of};
 ghost use Rattle.bson_table.specs.Moves.{Moves};
 ghost use Rattle.store_documents.specs.Names.{name_bytes};
 ghost use Rattle.store_laws.specs.State.{collections, count, find, on, project};
+ghost use Rattle.sqlite.specs.State.{Survives};
+ghost use Rattle.bson_store.specs.Left.{StaysOpen};
 ghost use Rattle.bson_store.specs.Calls.{Does, held};
 ghost use Rattle.bson_store.specs.Questions.{Picked, as_list, as_names};
 ghost use Rattle.bson_store.specs.Refusals.{as_number, reply_by};
@@ -22,7 +24,9 @@ impl<S: Alter + Drop> Store<S> {
     ///
     /// Refused by Memory and Database.
     pub fn collections(&mut self) -> Result<Vec<String>, StoreError>
-        ensures { Moves (held S.Store self.old) (held S.Store self.new) (Does collections (reply_by as_names result)) }
+        ensures moves { Moves (held S.Store self.old) (held S.Store self.new) (Does collections (reply_by as_names result)) }
+        ensures open { StaysOpen (held S.Store self.old) (held S.Store self.new) result }
+        ensures crash { Survives (held S.Store self.old) (held S.Store self.new) (λ _. ⊥) }
     {
         let names = self.table.collections()?;
         names_of(self.alloc, names)
@@ -36,7 +40,9 @@ impl<S: Alter + Drop> Store<S> {
         taker: T,
     ) -> Result<T, StoreError>
         requires { T.took taker taker [] }
-        ensures { Moves (held S.Store self.old) (held S.Store self.new) (Picked (T.took taker) (name_bytes name.entry) (filter_of filter.now) result) }
+        ensures moves { Moves (held S.Store self.old) (held S.Store self.new) (Picked (T.took taker) (name_bytes name.entry) (filter_of filter.now) result) }
+        ensures open { StaysOpen (held S.Store self.old) (held S.Store self.new) result }
+        ensures crash { Survives (held S.Store self.old) (held S.Store self.new) (λ _. ⊥) }
     {
         let mut picker = Picker {
             filter,
@@ -60,7 +66,9 @@ impl<S: Alter + Drop> Store<S> {
     ///
     /// Refused by BadName, Memory and Database.
     pub fn find(&mut self, name: &str, filter: &Filter) -> Result<Vec<Vec<u8>>, StoreError>
-        ensures { Moves (held S.Store self.old) (held S.Store self.new) (Does (on name.now (find (filter_of filter.now))) (reply_by as_list result)) }
+        ensures moves { Moves (held S.Store self.old) (held S.Store self.new) (Does (on name.now (find (filter_of filter.now))) (reply_by as_list result)) }
+        ensures open { StaysOpen (held S.Store self.old) (held S.Store self.new) result }
+        ensures crash { Survives (held S.Store self.old) (held S.Store self.new) (λ _. ⊥) }
     {
         let name = good_name(name)?;
         let bodies = Vec::new(self.alloc);
@@ -73,7 +81,9 @@ impl<S: Alter + Drop> Store<S> {
     ///
     /// Refused by BadName, Memory and Database.
     pub fn count(&mut self, name: &str, filter: &Filter) -> Result<u64, StoreError>
-        ensures { Moves (held S.Store self.old) (held S.Store self.new) (Does (on name.now (count (filter_of filter.now))) (reply_by as_number result)) }
+        ensures moves { Moves (held S.Store self.old) (held S.Store self.new) (Does (on name.now (count (filter_of filter.now))) (reply_by as_number result)) }
+        ensures open { StaysOpen (held S.Store self.old) (held S.Store self.new) result }
+        ensures crash { Survives (held S.Store self.old) (held S.Store self.new) (λ _. ⊥) }
     {
         let name = good_name(name)?;
         let count = self.pick(name, filter, Count { number: 0 })?;
@@ -90,7 +100,9 @@ impl<S: Alter + Drop> Store<S> {
         filter: &Filter,
         keys: &[String],
     ) -> Result<Vec<Vec<u8>>, StoreError>
-        ensures { Moves (held S.Store self.old) (held S.Store self.new) (Does (on name.now (project (filter_of filter.now) (path_of keys.now))) (reply_by as_list result)) }
+        ensures moves { Moves (held S.Store self.old) (held S.Store self.new) (Does (on name.now (project (filter_of filter.now) (path_of keys.now))) (reply_by as_list result)) }
+        ensures open { StaysOpen (held S.Store self.old) (held S.Store self.new) result }
+        ensures crash { Survives (held S.Store self.old) (held S.Store self.new) (λ _. ⊥) }
     {
         let name = good_name(name)?;
         let projections = Projections {

@@ -1,15 +1,17 @@
 //! The store.
 
-ghost use Rattle.std.specs.Prelude.{◌≡◌, ◌↔◌, ◌<◌, ◌^◌, ◌-◌, IsTrue, IfOk, IfErr, MatchResult, Ok};
+ghost use Rattle.std.specs.Prelude.{◌≡◌, ◌↔◌, ◌<◌, ◌^◌, ◌-◌, IsTrue, IfOk, IfErr, IsErrOf, IsSome, List, MatchResult, Ok};
 ghost use Rattle.sqlite.specs.Held.{state};
-ghost use Rattle.sqlite.specs.State.{HasCleanDisk};
+ghost use Rattle.sqlite.specs.State.{HasCleanDisk, Survives};
 ghost use Rattle.bson_table.specs.Open.{KeepsRows};
 ghost use Rattle.bson_store.specs.Opening.{Opens, RefusesToOpen};
 ghost use Rattle.serde_json.specs.View.{view as tree_of};
 ghost use Rattle.bson_base.specs.Value.{Members};
 ghost use Rattle.bson_model.specs.View.{pairs_of, members_of, view};
-ghost use Rattle.bson_table.specs.Moves.{AddsRows, Changes, Moves, appended};
-ghost use Rattle.bson_table.specs.Rows.{replaced};
+ghost use Rattle.bson_table.specs.Moves.{AddsRows, Changes, MayLeave, Moves, Stands, WasOpen, appended};
+ghost use Rattle.store_laws.specs.State.{State as Lists};
+ghost use Rattle.bson_store.specs.Left.{FindsState, Keeps, Leaves, LeavesBytes, LeavesOnly, LeavesRead, LeavesTree, StaysOpen};
+ghost use Rattle.bson_table.specs.Rows.{Doc, replaced};
 ghost use Rattle.bson_store.specs.Calls.{store_connection, held, Does, DoesBytes, DoesTree, DoesRead, Looks};
 ghost use Rattle.bson_store.specs.Export.{SendsCollection};
 ghost use Rattle.bson_store.specs.Refusals.{refusal, reply_by, as_done, as_flag, as_bytes, as_json};
@@ -73,6 +75,10 @@ impl<S: Alter + Drop> Store<S> {
         ensures opened { IfOk result (λ s. HasCleanDisk (held S.Store s) → Opens (state S.Store connection) (held S.Store s)) }
         ensures refused { IfErr result (λ e. HasCleanDisk (state S.Store e.1) → RefusesToOpen (state S.Store connection) (state S.Store e.1) e.0) }
         ensures kept { IfErr result (λ e. HasCleanDisk (state S.Store e.1) → KeepsRows (state S.Store connection) (state S.Store e.1)) }
+        // Where `sqlite` opened the connection over a database that holds a state, whatever a crash did to it, the store has that
+        // state, and a crash leaves it alone.
+        ensures finds { (x : Lists) → FindsState (state S.Store connection) x → IfOk result (λ s. HasCleanDisk (held S.Store s) → Keeps (held S.Store s) x) }
+        ensures leaves { (x : Lists) → FindsState (state S.Store connection) x → IfErr result (λ e. HasCleanDisk (state S.Store e.1) → LeavesOnly (state S.Store e.1) x) }
     {
         match Table::open(alloc, connection, &RowTest { alloc }) {
             Ok(table) => Ok(Store { table, alloc }),
@@ -90,22 +96,29 @@ impl<S: Alter + Drop> Store<S> {
 
     /// Writes a row behind all others.
     fn put_last(&mut self, coll: &str, key: &[u8], body: &[u8]) -> Result<(), Fault>
-        ensures { Moves (held S.Store self.old) (held S.Store self.new) (AddsRows 1 (appended coll.now key.now body.now) result) }
+        ensures moves { Moves (held S.Store self.old) (held S.Store self.new) (AddsRows 1 (appended coll.now key.now body.now) result) }
+        ensures open { WasOpen (held S.Store self.old) (held S.Store self.new) result }
+        ensures crash { Survives (held S.Store self.old) (held S.Store self.new) (MayLeave (appended coll.now key.now body.now) (held S.Store self.old)) }
+        ensures full { IsErrOf result Fault.Places → Survives (held S.Store self.old) (held S.Store self.new) (λ _. ⊥) }
     {
         self.table.append(coll, key, body)
     }
 
     /// Writes a body in the place of a row's.
     fn put_back(&mut self, found: &Found, body: &[u8]) -> Result<(), Fault>
-        ensures { Moves (held S.Store self.old) (held S.Store self.new) (Changes (replaced found.now.place body.now) result) }
+        ensures moves { Moves (held S.Store self.old) (held S.Store self.new) (Changes (replaced found.now.place body.now) result) }
+        ensures open { WasOpen (held S.Store self.old) (held S.Store self.new) result }
+        ensures crash { Survives (held S.Store self.old) (held S.Store self.new) (MayLeave (replaced found.now.place body.now) (held S.Store self.old)) }
     {
         self.table.rewrite_at(found, body)
     }
 
     /// Puts a document last in a collection, whose row this is.
     fn insert_row(&mut self, name: Name<'_>, row: &Written) -> Result<(), StoreError>
-        ensures { (d : Members) → IsRead d → AnswersWritten d (Ok row.now)
+        ensures moves { (d : Members) → IsRead d → AnswersWritten d (Ok row.now)
             → Moves (held S.Store self.old) (held S.Store self.new) (DoesRead (name_bytes name.entry) insert d (reply_by as_done result)) }
+        ensures crash { (d : Members) → IsRead d → AnswersWritten d (Ok row.now)
+            → LeavesRead (name_bytes name.entry) insert d (reply_by as_done result) (held S.Store self.old) (held S.Store self.new) }
     {
         let coll = name.as_str();
         let key = row.key.as_slice();
@@ -121,7 +134,8 @@ impl<S: Alter + Drop> Store<S> {
     /// Puts a document last in a collection.
     fn insert(&mut self, name: Name<'_>, document: &Document) -> Result<(), StoreError>
         requires { IsRead (members_of (pairs_of document.now)) }
-        ensures { Moves (held S.Store self.old) (held S.Store self.new) (DoesRead (name_bytes name.entry) insert (members_of (pairs_of document.now)) (reply_by as_done result)) }
+        ensures moves { Moves (held S.Store self.old) (held S.Store self.new) (DoesRead (name_bytes name.entry) insert (members_of (pairs_of document.now)) (reply_by as_done result)) }
+        ensures crash { LeavesRead (name_bytes name.entry) insert (members_of (pairs_of document.now)) (reply_by as_done result) (held S.Store self.old) (held S.Store self.new) }
     {
         let row = write_document(self.alloc, document)?;
         self.insert_row(name, &row)
@@ -129,8 +143,10 @@ impl<S: Alter + Drop> Store<S> {
 
     /// Puts a document, whose row this is, in the place of that of a collection with its `_id`.
     fn replace_row(&mut self, name: Name<'_>, row: &Written) -> Result<(), StoreError>
-        ensures { (d : Members) → IsRead d → AnswersWritten d (Ok row.now)
+        ensures moves { (d : Members) → IsRead d → AnswersWritten d (Ok row.now)
             → Moves (held S.Store self.old) (held S.Store self.new) (DoesRead (name_bytes name.entry) replace d (reply_by as_done result)) }
+        ensures crash { (d : Members) → IsRead d → AnswersWritten d (Ok row.now)
+            → LeavesRead (name_bytes name.entry) replace d (reply_by as_done result) (held S.Store self.old) (held S.Store self.new) }
     {
         let coll = name.as_str();
         let key = row.key.as_slice();
@@ -145,7 +161,8 @@ impl<S: Alter + Drop> Store<S> {
     /// Puts a document in the place of that of a collection with its `_id`.
     fn replace(&mut self, name: Name<'_>, document: &Document) -> Result<(), StoreError>
         requires { IsRead (members_of (pairs_of document.now)) }
-        ensures { Moves (held S.Store self.old) (held S.Store self.new) (DoesRead (name_bytes name.entry) replace (members_of (pairs_of document.now)) (reply_by as_done result)) }
+        ensures moves { Moves (held S.Store self.old) (held S.Store self.new) (DoesRead (name_bytes name.entry) replace (members_of (pairs_of document.now)) (reply_by as_done result)) }
+        ensures crash { LeavesRead (name_bytes name.entry) replace (members_of (pairs_of document.now)) (reply_by as_done result) (held S.Store self.old) (held S.Store self.new) }
     {
         let row = write_document(self.alloc, document)?;
         self.replace_row(name, &row)
@@ -153,7 +170,9 @@ impl<S: Alter + Drop> Store<S> {
 
     /// The row of the document of a collection whose `_id` means the same as `id`.
     fn row_of(&mut self, name: Name<'_>, id: &Bson) -> Result<Option<Found>, StoreError>
-        ensures { Moves (held S.Store self.old) (held S.Store self.new) (Looks (name_bytes name.entry) (view id.now) result) }
+        ensures moves { Moves (held S.Store self.old) (held S.Store self.new) (Looks (name_bytes name.entry) (view id.now) result) }
+        ensures open { HasCleanDisk (held S.Store self.new) → (docs : List Doc) → Stands (held S.Store self.old) docs → IfOk result (λ found. IsSome found → IsTrue (held S.Store self.new).is_open) }
+        ensures crash { Survives (held S.Store self.old) (held S.Store self.new) (λ _. ⊥) }
     {
         let key = match key_of_id(self.alloc, id) {
             Ok(key) => key,
@@ -175,7 +194,8 @@ impl<S: Alter + Drop> Store<S> {
     /// NoId, TooLong, DuplicateId, Places; and by Memory and Database, but never in the place of a refusal by the name or
     /// the bytes.
     pub fn insert_raw(&mut self, name: &str, bytes: &[u8]) -> Result<(), StoreError>
-        ensures { Moves (held S.Store self.old) (held S.Store self.new) (DoesBytes name.now (insert in_bytes) bytes.now (reply_by as_done result)) }
+        ensures moves { Moves (held S.Store self.old) (held S.Store self.new) (DoesBytes name.now (insert in_bytes) bytes.now (reply_by as_done result)) }
+        ensures crash { LeavesBytes name.now (insert in_bytes) bytes.now (reply_by as_done result) (held S.Store self.old) (held S.Store self.new) }
     {
         let name = good_name(name)?;
         let row = row_of_bytes(self.alloc, bytes)?;
@@ -187,7 +207,8 @@ impl<S: Alter + Drop> Store<S> {
     /// Refused, in this order, by BadName; NotAnObject; JsonRefused, TooDeep and Nul; NoId, TooLong, DuplicateId, Places; and
     /// by Memory and Database, but never in the place of BadName or NotAnObject.
     pub fn insert_json(&mut self, name: &str, json: Value) -> Result<(), StoreError>
-        ensures { Moves (held S.Store self.old) (held S.Store self.new) (DoesTree name.now (insert in_json) (tree_of json) (reply_by as_done result)) }
+        ensures moves { Moves (held S.Store self.old) (held S.Store self.new) (DoesTree name.now (insert in_json) (tree_of json) (reply_by as_done result)) }
+        ensures crash { LeavesTree name.now (insert in_json) (tree_of json) (reply_by as_done result) (held S.Store self.old) (held S.Store self.new) }
     {
         let name = good_name(name)?;
         let document = read_json(self.alloc, json)?;
@@ -198,7 +219,8 @@ impl<S: Alter + Drop> Store<S> {
     ///
     /// Refused as `insert_raw`, but by NotFound where that is refused by DuplicateId, and never by Places.
     pub fn replace_raw(&mut self, name: &str, bytes: &[u8]) -> Result<(), StoreError>
-        ensures { Moves (held S.Store self.old) (held S.Store self.new) (DoesBytes name.now (replace in_bytes) bytes.now (reply_by as_done result)) }
+        ensures moves { Moves (held S.Store self.old) (held S.Store self.new) (DoesBytes name.now (replace in_bytes) bytes.now (reply_by as_done result)) }
+        ensures crash { LeavesBytes name.now (replace in_bytes) bytes.now (reply_by as_done result) (held S.Store self.old) (held S.Store self.new) }
     {
         let name = good_name(name)?;
         let row = row_of_bytes(self.alloc, bytes)?;
@@ -210,7 +232,8 @@ impl<S: Alter + Drop> Store<S> {
     ///
     /// Refused as `insert_json`, but by NotFound where that is refused by DuplicateId, and never by Places.
     pub fn replace_json(&mut self, name: &str, json: Value) -> Result<(), StoreError>
-        ensures { Moves (held S.Store self.old) (held S.Store self.new) (DoesTree name.now (replace in_json) (tree_of json) (reply_by as_done result)) }
+        ensures moves { Moves (held S.Store self.old) (held S.Store self.new) (DoesTree name.now (replace in_json) (tree_of json) (reply_by as_done result)) }
+        ensures crash { LeavesTree name.now (replace in_json) (tree_of json) (reply_by as_done result) (held S.Store self.old) (held S.Store self.new) }
     {
         let name = good_name(name)?;
         let document = read_json(self.alloc, json)?;
@@ -224,7 +247,8 @@ impl<S: Alter + Drop> Store<S> {
     /// TooDeep, Nul and TooLong of the changed document; and by Memory and Database, but never in the place of BadName or
     /// BadKey.
     pub fn set(&mut self, name: &str, id: &Bson, key: &str, value: Value) -> Result<(), StoreError>
-        ensures { Moves (held S.Store self.old) (held S.Store self.new) (Does (on name.now (set (view id.now) key.now (read_value (tree_of value)))) (reply_by as_done result)) }
+        ensures moves { Moves (held S.Store self.old) (held S.Store self.new) (Does (on name.now (set (view id.now) key.now (read_value (tree_of value)))) (reply_by as_done result)) }
+        ensures crash { Leaves (held S.Store self.old) (held S.Store self.new) (on name.now (set (view id.now) key.now (read_value (tree_of value)))) (reply_by as_done result) }
     {
         let name = good_name(name)?;
         if !is_free(key) {
@@ -247,7 +271,8 @@ impl<S: Alter + Drop> Store<S> {
     /// Refused, in this order, by BadName; BadKey, where the key is `_id` or holds a 00; NotFound; and by Memory and
     /// Database, but never in the place of BadName or BadKey.
     pub fn unset(&mut self, name: &str, id: &Bson, key: &str) -> Result<bool, StoreError>
-        ensures { Moves (held S.Store self.old) (held S.Store self.new) (Does (on name.now (unset (view id.now) key.now)) (reply_by as_flag result)) }
+        ensures moves { Moves (held S.Store self.old) (held S.Store self.new) (Does (on name.now (unset (view id.now) key.now)) (reply_by as_flag result)) }
+        ensures crash { Leaves (held S.Store self.old) (held S.Store self.new) (on name.now (unset (view id.now) key.now)) (reply_by as_flag result) }
     {
         let name = good_name(name)?;
         if !is_free(key) {
@@ -270,7 +295,8 @@ impl<S: Alter + Drop> Store<S> {
     ///
     /// Refused by BadName, NotFound, Memory and Database.
     pub fn remove(&mut self, name: &str, id: &Bson) -> Result<(), StoreError>
-        ensures { Moves (held S.Store self.old) (held S.Store self.new) (Does (on name.now (remove (view id.now))) (reply_by as_done result)) }
+        ensures moves { Moves (held S.Store self.old) (held S.Store self.new) (Does (on name.now (remove (view id.now))) (reply_by as_done result)) }
+        ensures crash { Leaves (held S.Store self.old) (held S.Store self.new) (on name.now (remove (view id.now))) (reply_by as_done result) }
     {
         let name = good_name(name)?;
         let Some(found) = self.row_of(name, id)? else {
@@ -284,7 +310,9 @@ impl<S: Alter + Drop> Store<S> {
     ///
     /// Refused by BadName, NotFound, Memory and Database.
     pub fn get_raw(&mut self, name: &str, id: &Bson) -> Result<Vec<u8>, StoreError>
-        ensures { Moves (held S.Store self.old) (held S.Store self.new) (Does (on name.now (get_raw (view id.now))) (reply_by as_bytes result)) }
+        ensures moves { Moves (held S.Store self.old) (held S.Store self.new) (Does (on name.now (get_raw (view id.now))) (reply_by as_bytes result)) }
+        ensures open { StaysOpen (held S.Store self.old) (held S.Store self.new) result }
+        ensures crash { Survives (held S.Store self.old) (held S.Store self.new) (λ _. ⊥) }
     {
         let name = good_name(name)?;
         let Some(found) = self.row_of(name, id)? else {
@@ -298,7 +326,9 @@ impl<S: Alter + Drop> Store<S> {
     /// Refused, in this order, by BadName; NotFound; ReservedKey, where a document below the top has a key that Extended
     /// JSON reserves; FiniteDouble, where a double is finite and no zero; and by Memory and Database.
     pub fn get_json(&mut self, name: &str, id: &Bson, mode: Mode) -> Result<Value, StoreError>
-        ensures { Moves (held S.Store self.old) (held S.Store self.new) (Does (on name.now (get_json mode (view id.now))) (reply_by as_json result)) }
+        ensures moves { Moves (held S.Store self.old) (held S.Store self.new) (Does (on name.now (get_json mode (view id.now))) (reply_by as_json result)) }
+        ensures open { StaysOpen (held S.Store self.old) (held S.Store self.new) result }
+        ensures crash { Survives (held S.Store self.old) (held S.Store self.new) (λ _. ⊥) }
     {
         let name = good_name(name)?;
         let Some(found) = self.row_of(name, id)? else {
@@ -315,8 +345,10 @@ impl<S: Alter + Drop> Store<S> {
     /// Database. A beginning may have been written.
     pub fn export<W: Sink>(&mut self, name: &str, writer: &mut W) -> Result<(), StoreError>
         requires { (W.tally writer.old).failures < 2 ^ 64 - 1 }
-        ensures { Moves (held S.Store self.old) (held S.Store self.new) (SendsCollection name.now (W.tally writer.old)
+        ensures moves { Moves (held S.Store self.old) (held S.Store self.new) (SendsCollection name.now (W.tally writer.old)
             (W.tally writer.new) result) }
+        ensures open { StaysOpen (held S.Store self.old) (held S.Store self.new) result }
+        ensures crash { Survives (held S.Store self.old) (held S.Store self.new) (λ _. ⊥) }
     {
         let name = good_name(name)?;
         let mut sender = Sender {

@@ -17,7 +17,7 @@ use Rattle.sqlite.specs.Rowids.TheVariants.{Given}
 use Rattle.sqlite_rules.specs.Calls.{ids_of}
 use Rattle.sqlite.specs.Does.{Tally, Does}
 use Rattle.sqlite.specs.Rows.{Written}
-use Rattle.sqlite.specs.Effect.{Database, Answers}
+use Rattle.sqlite.specs.Effect.{Database, IsDatabase, Answers}
 use Rattle.sqlite.specs.declared.run.Mode.{Mode}
 use Rattle.sqlite.specs.declared.error.Error.{Error}
 use Rattle.sqlite.specs.State.{State, mode_of, Executes, CommitsBy}
@@ -28,7 +28,7 @@ use Rattle.bson_table.specs.Rows.{Doc, stored, HasRows, Shows, is_at, without_pl
 use Rattle.bson_table.proofs.RowLemmas.{cast_null, cast_int}
 use Rattle.bson_table.proofs.PlaceLemmas.{at_place, rising_without, rising_replaced}
 use Rattle.bson_table.proofs.AnswerLemmas.{and_true, outputs_of, equal_is}
-use Rattle.bson_table.proofs.StatementLemmas.{commits_as}
+use Rattle.bson_table.proofs.StatementLemmas.{commits_as, listed_by}
 use Rattle.bson_table.proofs.PermLemmas.{gone_perm, back_perm}
 use Rattle.bson_table.proofs.InsertLemmas.{went, same_value}
 use Rattle.bson_table.proofs.Texts.{plain_query, program, equals, delete_text, delete_is, delete_plain, update_text, update_is, update_plain}
@@ -68,8 +68,8 @@ none_without p (d ∷ docs) h = go (is_at p d) refl (none_without p docs)
     go false e k = rw e (ap (λ ds. d ∷ ds) (k (rw e at h)))
 
 pub deletes : (limit : Option ℕ) (mode : Mode) (text : List ℕ) (p : ℤ) (docs : List Doc) (db : Database) (tally : Tally) (after : Database) → db.schema ≡ documents_schema → HasRows db.trees docs
-    → Does limit mode (Int p ∷ []) db text None delete_command (Ok (tally, after)) → (after.schema ≡ documents_schema) × HasRows after.trees (without_place p docs)
-deletes limit mode text p docs db tally after has rows h =
+    → Does limit mode (Int p ∷ []) db text None delete_command (Ok (tally, after)) → IsDatabase after → (after.schema ≡ documents_schema) × HasRows after.trees (without_place p docs)
+deletes limit mode text p docs db tally after has rows h sound =
     let done = went (subst (λ s. Does limit mode (Int p ∷ []) (record db { schema = s }) text None delete_command (Ok (tally, after))) has h) in
     let now = ap (λ (x : Tally × Database). x.1) (same_value (went (went done.2).2).2) in
     let from = went done.1 in
@@ -85,6 +85,7 @@ deletes limit mode text p docs db tally after has rows h =
     let is = ap (λ (x : Database). x.trees 0) now ∙ ap (λ (t : Trees). t 0) trees ∙ made in (
       ap (λ (x : Database). x.schema) now,
       record {
+        listed = listed_by after (ap (λ (x : Database). x.schema) now) sound;
         rows = subst (λ rs. IsPermutation (map stored (without_place p docs)) rs) (sym is) left;
         rising = rising_without p docs rows.rising;
       },
@@ -105,8 +106,8 @@ none_replaced p body (d ∷ docs) h = go (is_at p d) refl (none_replaced p body 
     go false e k = rw e (ap (λ ds. d ∷ ds) (k (rw e at h)))
 
 pub updates : (limit : Option ℕ) (mode : Mode) (text : List ℕ) (p : ℤ) (body : List ℕ) (docs : List Doc) (db : Database) (tally : Tally) (after : Database) → db.schema ≡ documents_schema → HasRows db.trees docs
-    → Does limit mode (Int p ∷ Blob body ∷ []) db text None update_command (Ok (tally, after)) → (after.schema ≡ documents_schema) × HasRows after.trees (replaced p body docs)
-updates limit mode text p body docs db tally after has rows h =
+    → Does limit mode (Int p ∷ Blob body ∷ []) db text None update_command (Ok (tally, after)) → IsDatabase after → (after.schema ≡ documents_schema) × HasRows after.trees (replaced p body docs)
+updates limit mode text p body docs db tally after has rows h sound =
     let done = went (subst (λ s. Does limit mode (Int p ∷ Blob body ∷ []) (record db { schema = s }) text None update_command (Ok (tally, after))) has h) in
     let now = ap (λ (x : Tally × Database). x.1) (same_value (went (went done.2).2).2) in
     let from = went done.1 in
@@ -123,6 +124,7 @@ updates limit mode text p body docs db tally after has rows h =
     let is = ap (λ (x : Database). x.trees 0) now ∙ ap (λ (t : Trees). t 0) trees ∙ made in (
       ap (λ (x : Database). x.schema) now,
       record {
+        listed = listed_by after (ap (λ (x : Database). x.schema) now) sound;
         rows = subst (λ rs. IsPermutation (map stored (replaced p body docs)) rs) (sym is) left;
         rising = rising_replaced p body docs rows.rising;
       },
@@ -133,26 +135,26 @@ module _ (p : ℤ) (old new : State) (docs : List Doc) (h : Shows old docs) wher
   removes (Err e) ran = tt
   removes (Ok count) ran =
       let w = runs_as delete_text (Int p ∷ []) old new documents_schema h.schema delete_command delete_is delete_plain count ran in
-      let made = deletes old.step_limit (mode_of old) (statement_of delete_text (understood documents_schema delete_text)) p docs old.now w.tally new.now h.schema h.table w.changed in
+      let made = deletes old.step_limit (mode_of old) (statement_of delete_text (understood documents_schema delete_text)) p docs old.now w.tally new.now h.schema h.table w.changed w.sound in
       let auto = h.autocommit in
       record { is_open = w.shown.is_open; autocommit = w.shown.mode ∙ auto; settled = sym (w.shown.committed_is ∙ rw auto); schema = made.0; table = made.1 }
 
   pub remove_commits : (db : Trees) → CommitsBy delete_text (Int p ∷ []) old db → HasRows db (without_place p docs)
   remove_commits db commits =
       let c = commits_as delete_text (Int p ∷ []) old db documents_schema delete_command h.schema delete_is delete_plain (λ e. cc) (λ name e. cc) commits in
-      let made = deletes old.step_limit (mode_of old) (statement_of delete_text (understood documents_schema delete_text)) p docs old.now c.0 c.1 h.schema h.table c.2 in
+      let made = deletes old.step_limit (mode_of old) (statement_of delete_text (understood documents_schema delete_text)) p docs old.now c.0 c.1 h.schema h.table c.2 c.3 in
       subst (λ t. HasRows t (without_place p docs)) (sym c.4) made.1
 
   pub rewrites : (body : List ℕ) (r : Result ℕ Error) → Executes update_text (Int p ∷ Blob body ∷ []) old new r → OnOk r (Shows new (replaced p body docs))
   rewrites body (Err e) ran = tt
   rewrites body (Ok count) ran =
       let w = runs_as update_text (Int p ∷ Blob body ∷ []) old new documents_schema h.schema update_command update_is update_plain count ran in
-      let made = updates old.step_limit (mode_of old) (statement_of update_text (understood documents_schema update_text)) p body docs old.now w.tally new.now h.schema h.table w.changed in
+      let made = updates old.step_limit (mode_of old) (statement_of update_text (understood documents_schema update_text)) p body docs old.now w.tally new.now h.schema h.table w.changed w.sound in
       let auto = h.autocommit in
       record { is_open = w.shown.is_open; autocommit = w.shown.mode ∙ auto; settled = sym (w.shown.committed_is ∙ rw auto); schema = made.0; table = made.1 }
 
   pub rewrite_commits : (body : List ℕ) (db : Trees) → CommitsBy update_text (Int p ∷ Blob body ∷ []) old db → HasRows db (replaced p body docs)
   rewrite_commits body db commits =
       let c = commits_as update_text (Int p ∷ Blob body ∷ []) old db documents_schema update_command h.schema update_is update_plain (λ e. cc) (λ name e. cc) commits in
-      let made = updates old.step_limit (mode_of old) (statement_of update_text (understood documents_schema update_text)) p body docs old.now c.0 c.1 h.schema h.table c.2 in
+      let made = updates old.step_limit (mode_of old) (statement_of update_text (understood documents_schema update_text)) p body docs old.now c.0 c.1 h.schema h.table c.2 c.3 in
       subst (λ t. HasRows t (replaced p body docs)) (sym c.4) made.1

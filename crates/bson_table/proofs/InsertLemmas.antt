@@ -9,14 +9,14 @@ use Rattle.sqlite.specs.Edit.{edit_of, edited}
 use Rattle.sqlite.specs.Rowids.TheVariants.{Chosen}
 use Rattle.sqlite.specs.Does.{Tally, Does}
 use Rattle.sqlite.specs.Rows.{Written}
-use Rattle.sqlite.specs.Effect.{Database}
+use Rattle.sqlite.specs.Effect.{Database, IsDatabase}
 use Rattle.sqlite.specs.declared.run.Mode.{Mode}
 use Rattle.sqlite.specs.State.{State, mode_of, Executes, CommitsBy, HasCleanDisk, Survives, ExecutesInside, IsUnchanged, IsRolledBack}
 use Rattle.sqlite.proofs.StateLemmas.{survives_weaker}
 use Rattle.sqlite_trees.specs.View.{doubt}
 use Rattle.sqlite.specs.declared.error.Error.{Error}
 use Rattle.sqlite.specs.Listing.{understood}
-use Rattle.bson_table.proofs.StatementLemmas.{commits_as}
+use Rattle.bson_table.proofs.StatementLemmas.{commits_as, listed_by}
 use Rattle.sqlite.proofs.Callers.{runs_as, one_step, statement_of}
 use Rattle.bson_table.specs.Schema.{documents, documents_schema}
 use Rattle.bson_table.specs.Rows.{Doc, stored, AreBelow, HasRows, Shows, Inside, KeepsCommitted}
@@ -38,8 +38,8 @@ pub same_value : {B E : Type 0} {a b : B} → ◌≡◌ {A = Result B E} (Ok a) 
 same_value e = cc
 
 pub inserts : (limit : Option ℕ) (mode : Mode) (text : List ℕ) (d : Doc) (docs : List Doc) (db : Database) (tally : Tally) (after : Database) → db.schema ≡ documents_schema → HasRows db.trees docs → AreBelow d.place docs
-    → Does limit mode (given d) db text None (Insert 0 (Values insert_terms 5)) (Ok (tally, after)) → (after.schema ≡ documents_schema) × HasRows after.trees (docs ++ d ∷ [])
-inserts limit mode text d docs db tally after has rows below h =
+    → Does limit mode (given d) db text None (Insert 0 (Values insert_terms 5)) (Ok (tally, after)) → IsDatabase after → (after.schema ≡ documents_schema) × HasRows after.trees (docs ++ d ∷ [])
+inserts limit mode text d docs db tally after has rows below h sound =
     let done = went (subst (λ s. Does limit mode (given d) (record db { schema = s }) text None (Insert 0 (Values insert_terms 5)) (Ok (tally, after))) has h) in
     let now = ap (λ (p : Tally × Database). p.1) (same_value (went (went done.2).2).2) in
     let from = went done.1 in
@@ -52,6 +52,7 @@ inserts limit mode text d docs db tally after has rows below h =
     let is = ap (λ (x : Database). x.trees 0) now ∙ ap (λ (t : Trees). t 0) trees ∙ made ∙ edit in (
       ap (λ (x : Database). x.schema) now,
       record {
+        listed = listed_by after (ap (λ (x : Database). x.schema) now) sound;
         rows = subst (λ rs. IsPermutation (map stored (docs ++ d ∷ [])) rs) (sym is) (add_perm d docs (db.trees 0) below rows.rows);
         rising = rising_last d docs rows.rising below;
       },
@@ -60,7 +61,7 @@ inserts limit mode text d docs db tally after has rows below h =
 pub adds : (d : Doc) (old new : State) (docs : List Doc) (count : ℕ) → Shows old docs → AreBelow d.place docs → Executes insert_text (given d) old new (Ok count) → Shows new (docs ++ d ∷ [])
 adds d old new docs count h below ran =
     let w = runs_as insert_text (given d) old new documents_schema h.schema (Insert 0 (Values insert_terms 5)) insert_is insert_plain count ran in
-    let made = inserts old.step_limit (mode_of old) (statement_of insert_text (understood documents_schema insert_text)) d docs old.now w.tally new.now h.schema h.table below w.changed in
+    let made = inserts old.step_limit (mode_of old) (statement_of insert_text (understood documents_schema insert_text)) d docs old.now w.tally new.now h.schema h.table below w.changed w.sound in
     let auto = h.autocommit in
     record {
       is_open = w.shown.is_open;
@@ -73,7 +74,7 @@ adds d old new docs count h below ran =
 pub add_commits : (d : Doc) (old : State) (docs : List Doc) (db : Trees) → Shows old docs → AreBelow d.place docs → CommitsBy insert_text (given d) old db → HasRows db (docs ++ d ∷ [])
 add_commits d old docs db h below commits =
     let c = commits_as insert_text (given d) old db documents_schema (Insert 0 (Values insert_terms 5)) h.schema insert_is insert_plain (λ e. cc) (λ name e. cc) commits in
-    let made = inserts old.step_limit (mode_of old) (statement_of insert_text (understood documents_schema insert_text)) d docs old.now c.0 c.1 h.schema h.table below c.2 in
+    let made = inserts old.step_limit (mode_of old) (statement_of insert_text (understood documents_schema insert_text)) d docs old.now c.0 c.1 h.schema h.table below c.2 c.3 in
     subst (λ t. HasRows t (docs ++ d ∷ [])) (sym c.4) made.1
 
 module _ (d : Doc) (old new : State) (r : Result ℕ Error) (clean : doubt old.is_clean ≤ doubt new.is_clean)
@@ -94,7 +95,7 @@ module _ (d : Doc) (old new : State) (first docs : List Doc) (h : Inside old fir
   put_ok : (count : ℕ) → AreBelow d.place docs → ExecutesInside 0 insert_text (given d) old new (Ok count) → Inside new first (docs ++ d ∷ [])
   put_ok count below ran =
       let w = runs_as insert_text (given d) old new documents_schema h.schema (Insert 0 (Values insert_terms 5)) insert_is insert_plain count ran.0 in
-      let made = inserts old.step_limit (mode_of old) (statement_of insert_text (understood documents_schema insert_text)) d docs old.now w.tally new.now h.schema h.table below w.changed in
+      let made = inserts old.step_limit (mode_of old) (statement_of insert_text (understood documents_schema insert_text)) d docs old.now w.tally new.now h.schema h.table below w.changed w.sound in
       let shown = ran.1 in
       record {
         is_open = shown.is_open;

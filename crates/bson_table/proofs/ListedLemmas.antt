@@ -22,6 +22,7 @@ use Rattle.bson_table.proofs.Texts.{all_query, all_is, all_plain, program}
 use Rattle.bson_table.proofs.AnswerLemmas.{matches_are, passes as keeps, map_map, keeps_all}
 use Rattle.bson_table.proofs.TypedLemmas.{IsTyped, typed_row}
 use Rattle.bson_table.proofs.ListedRows.{put_down, put_down_is}
+use Rattle.bson_table.proofs.StatementLemmas.{listed_by}
 use Rattle.bson_table.proofs.CheckLemmas.{good_rises}
 
 abbrev cols : Row → Row
@@ -59,7 +60,7 @@ listed_rows old new docs has live h up =
     let read : Answers old.now (program all_query) [] h.rows = reads_as all_text [] old new documents_schema has (Select (program all_query) _) all_is.0 all_plain all_is.1 h.rows h.answered in
     let moved = IsPermutation-map put_down (map cols (old.now.trees 0)) h.rows (answered old.now h.rows read) in
     let both = subst₂ (λ x y. IsPermutation x y) (put_down_all old.now has live) (put_down_is h.rows h.typed ∙ ap (map stored) (sym h.same)) moved in
-    record { rows = IsPermutation-sym (old.now.trees 0) (map stored docs) both; rising = up }
+    record { listed = listed_by old.now has live; rows = IsPermutation-sym (old.now.trees 0) (map stored docs) both; rising = up }
 
 -- an open on a table of this schema
 pub listed_shows : (accepts : List ℕ → List ℕ → List ℕ → Type 0) (old new : State) (docs : List Doc) → old.now.schema ≡ documents_schema → IsDatabase old.now → old.in_transaction ≡ false → old.now ≡ old.committed

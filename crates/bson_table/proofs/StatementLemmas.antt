@@ -13,7 +13,15 @@ use Rattle.sqlite.specs.Does.{Tally, Does}
 use Rattle.sqlite.specs.State.{State, mode_of, Executes, ExecutesIn, IsUnchanged, IsRolledBack, IsNotRun, shows_rows, CommitsBy, MayCommit, text_of}
 use Rattle.sqlite.specs.Given.{IsPlain}
 use Rattle.sqlite.proofs.Callers.{command_of, statement_of}
-use Rattle.bson_table.specs.Rows.{Doc, HasRows, Shows}
+use Rattle.sqlite_trees.specs.Objects.{catalog_tree}
+use Rattle.sqlite_catalog.specs.Listing.{Lists}
+use Rattle.bson_table.specs.Schema.{documents_schema}
+use Rattle.bson_table.specs.Rows.{Doc, HasRows, ListsTable, Shows}
+
+-- a database with the schema lists it
+pub listed_by : (db : Database) → db.schema ≡ documents_schema → IsDatabase db → ListsTable db.trees
+unfolding ListsTable
+listed_by db has sound = subst (λ (s : Schema). Lists (db.trees catalog_tree) s) has sound.lists
 
 pub unchanged_shows : (old new : State) (docs : List Doc) → Shows old docs → IsUnchanged old new → Shows new docs
 unchanged_shows old new docs h u = record {

@@ -25,7 +25,7 @@ is_missing None h = refl
 no_table : is_some (table_named no_schema table_name) ≡ false
 no_table = refl
 
-a_table : is_some (table_named documents_schema table_name) ≡ true
+pub a_table : is_some (table_named documents_schema table_name) ≡ true
 unfolding everything
 a_table = refl
 

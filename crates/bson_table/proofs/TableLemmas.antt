@@ -6,6 +6,7 @@ use Rattle.sqlite.specs.declared.error.Error.TheVariants.{SqliteFailure}
 use Rattle.sqlite.specs.declared.error.ErrorCode.TheVariants.{OutOfMemory}
 use Rattle.sqlite.specs.Order.{Row, column}
 use Rattle.sqlite.specs.Effect.{Database}
+use Rattle.sqlite.specs.Tree.{Trees}
 use Rattle.sqlite.specs.State.{State, HasCleanDisk, Survives, IsUnchanged}
 use Rattle.sqlite.proofs.StateLemmas.{survives_then}
 use Rattle.bson_table.specs.declared.fault.Fault.TheVariants.{Places}
@@ -33,6 +34,10 @@ shows_back old new docs u h = record {
   schema = ap (λ (d : Database). d.schema) (sym u.0.now_is) ∙ h.schema;
   table = subst (λ (d : Database). HasRows d.trees docs) u.0.now_is h.table;
 }
+
+-- where the last commit is what a crash leaves, it leaves the rows that are shown
+pub left_rows : (s : State) (docs : List Doc) (db : Trees) → Shows s docs → db ≡ s.committed.trees → HasRows db docs
+left_rows s docs db h is = subst (λ (t : Trees). HasRows t docs) (sym (is ∙ sym (ap (λ (d : Database). d.trees) h.settled))) h.table
 
 module _ (old new : State) where
   pub stands_still : (docs : List Doc) → IsUnchanged old new → Stands old docs → Stands new docs

@@ -7,6 +7,8 @@ use Rattle.std.specs.List.Sorted.{IsPermutation}
 use Rattle.sqlite.specs.declared.types.Value.TheVariants.{Null, Int, Text, Blob}
 use Rattle.sqlite_value.specs.Order.{Row}
 use Rattle.sqlite_trees.specs.Tree.{Trees, IsAscending}
+use Rattle.sqlite_trees.specs.Objects.{catalog_tree}
+use Rattle.sqlite_catalog.specs.Listing.{Lists}
 use Rattle.sqlite.specs.State.{State}
 use Rattle.bson_table.specs.Schema.{documents_schema, no_schema}
 
@@ -28,8 +30,17 @@ IsRising = IsAscending (λ a b. a.place <ℤ b.place)
 abbrev pub AreBelow : ℤ → List Doc → Type 0
 AreBelow place = AllByRecursion (λ d. d.place <ℤ place)
 
--- the trees of a database have these rows in the table of documents
+-- the trees of a database list the table of documents and nothing else
+unfoldable pub ListsTable : Trees → Type 0
+ListsTable trees = Lists (trees catalog_tree) documents_schema
+
+-- or no object at all
+unfoldable pub ListsNothing : Trees → Type 0
+ListsNothing trees = Lists (trees catalog_tree) no_schema
+
+-- the trees list the table, and have these rows in it
 pub record HasRows (trees : Trees) (docs : List Doc) : Type 0 where
+  pub listed : ListsTable trees
   pub rows : IsPermutation (map stored docs) (trees 0)
   pub rising : IsRising docs
 

@@ -3,6 +3,7 @@
 
 mod check;
 mod fault;
+pub mod laws;
 mod names;
 mod opening;
 mod row;

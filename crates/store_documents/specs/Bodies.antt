@@ -1,11 +1,12 @@
 -- Documents as they are kept, the keys of their ids, and changed documents.
-use Rattle.std.specs.Prelude.{◌≡◌, ◌⊎◌, ℕ, ◌^◌, ◌<◌, ◌≤◌, List, length, Some, None, Result, Ok, Err, Vec, IsUtf8}
+use Rattle.std.specs.Prelude.{◌≡◌, ◌≢◌, ◌⊎◌, ℕ, ◌^◌, ◌<◌, ◌≤◌, List, length, Some, None, Result, Ok, Err, Vec, IsUtf8}
 use Rattle.std.specs.declared.alloc.Global.{Global}
 use Rattle.bson_base.specs.Kinds.{IsPlain, IsSound}
 use Rattle.bson_base.specs.Value.{Value, document, Members, has_key, levels, without}
 use Rattle.bson_bytes.specs.Encode.{encode, size}
 use Rattle.bson_frame.specs.Frame.{length_limit, size_limit}
 use Rattle.bson_meaning.specs.Gate.{level_limit}
+use Rattle.bson_meaning.specs.Before.{key as key_before}
 use Rattle.bson_meaning.specs.Meaning.{key}
 use Rattle.bson_meaning.specs.declared.key.KeyError.{KeyError}
 use Rattle.bson_meaning.specs.declared.key.KeyError.TheVariants as faults
@@ -15,6 +16,8 @@ use Rattle.store_laws.specs.Table.{only_id, own_id}
 use Rattle.store_laws.specs.declared.error.ErrorKind.{ErrorKind}
 use Rattle.store_laws.specs.declared.error.ErrorKind.TheVariants.{TooDeep, Nul, TooLong, Memory}
 use Rattle.store_documents.specs.declared.change.Unset.{Unset}
+use Rattle.store_documents.specs.declared.row.RowKey.{RowKey}
+use Rattle.store_documents.specs.declared.row.RowKey.TheVariants.{Own, Before, Neither}
 use Rattle.store_documents.specs.declared.write.Written.{Written}
 
 -- ---- ids
@@ -81,3 +84,15 @@ pub record IsRow (coll k bytes : List ℕ) : Type 0 where
   pub kept : IsKept document
   pub key : k ≡ key (own_id document)
   pub body : bytes ≡ encode document
+
+-- a row that a store can have written before the two zeros of a double meant the same: it has the key of its `_id` from then, and
+-- this is the key of now
+pub record IsRowOnce (coll k bytes now : List ℕ) : Type 0 where
+  pub row : IsRow coll now bytes
+  pub old : k ≡ key_before (own_id row.document)
+
+-- what is told of a row's key
+abbrev pub TellsKey : List ℕ → List ℕ → List ℕ → RowKey → Type 0
+TellsKey coll k bytes Own = IsRow coll k bytes
+TellsKey coll k bytes (Before now) = IsRowOnce coll k bytes now.items × (k ≢ now.items)
+TellsKey coll k bytes Neither = (now : List ℕ) (row : IsRow coll now bytes) → (k ≢ now) × (k ≢ key_before (own_id row.document))

@@ -18,6 +18,6 @@ pub use change::{Unset, set_member, unset_member};
 pub use ids::key_of_id;
 pub use name::Name;
 pub use read::{read_bytes, read_json, read_value};
-pub use row::is_row;
+pub use row::{RowKey, is_row, key_of_row};
 pub use stored::row_of_bytes;
 pub use write::{Written, write_document};

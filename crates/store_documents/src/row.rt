@@ -1,13 +1,21 @@
 //! Rows that a store can have written.
 
-ghost use Rattle.std.specs.Prelude.{◌≡◌, ◌≢◌, ◌↔◌, false, IfOk, IsTrue, IsUtf8};
-ghost use Rattle.store_laws.specs.State.{IsName};
+ghost use Rattle.std.specs.Prelude.{◌≡◌, ◌≢◌, ◌↔◌, false, IfOk, Ok, IsTrue, IsUtf8, List, ℕ};
+ghost use Rattle.bson_base.specs.Value.{Members};
+ghost use Rattle.bson_bytes.specs.Encode.{encode};
+ghost use Rattle.bson_meaning.specs.Before.{key as key_of_before};
+ghost use Rattle.store_laws.specs.Reading.{ReadsBytes, readable};
+ghost use Rattle.store_laws.specs.State.{IsKept, IsName};
+ghost use Rattle.store_laws.specs.Table.{own_id};
 ghost use Rattle.store_laws.specs.declared.error.ErrorKind.TheVariants.{Memory};
-ghost use Rattle.store_documents.specs.Bodies.{IsRow};
+ghost use Rattle.store_documents.specs.Bodies.{AnswersKept, IsRow, TellsKey};
 
+use crate::ids::ID_KEY;
 use crate::name::Name;
+use crate::read::document_of;
 use crate::stored::row_of_bytes;
 use crate::write::Written;
+use bson_meaning::{KeyError, meaning_key_before_of_element};
 use std::alloc::{AllocError, Global};
 use store_laws::ErrorKind;
 
@@ -49,5 +57,97 @@ pub fn is_row(alloc: Global, coll: &[u8], key: &[u8], body: &[u8]) -> Result<boo
     match row_of_bytes(alloc, body) {
         Ok(written) => Ok(is_written_so(&written, key, body)),
         Err(kind) => refused(kind),
+    }
+}
+
+/// The key of a row, held against the document in its body.
+#[derive(Debug, Drop)]
+pub enum RowKey {
+    /// It is the key of the document's `_id`.
+    Own,
+    /// It is the key that the `_id` had before the two zeros of a double meant the same, and not the one that it has now, which
+    /// this is.
+    Before(Vec<u8>),
+    /// It is neither, or the row has no name or no body that a store can have written.
+    Neither,
+}
+
+/// The key that the `_id` of a document had before the two zeros of a double meant the same, from the document's written form.
+/// The error is a refused growth.
+fn key_before(alloc: Global, body: &[u8]) -> Result<Vec<u8>, AllocError>
+    requires { (d : Members) × IsKept d × (body.now ≡ encode d) }
+    ensures { (d : Members) → IsKept d → body.now ≡ encode d → IfOk result (λ k. k.items ≡ key_of_before (own_id d)) }
+{
+    let Ok(document) = document_of(alloc, body) else {
+        return Err(AllocError);
+    };
+    let Some(id) = document.get(ID_KEY) else {
+        unreachable!()
+    };
+    match meaning_key_before_of_element(alloc, ID_KEY, id) {
+        Ok(key) => Ok(key),
+        Err(KeyError::NotPlain) => unreachable!(),
+        Err(KeyError::TooLong) => unreachable!(),
+        Err(KeyError::Memory) => Err(AllocError),
+    }
+}
+
+fn is_same(bytes: &[u8], others: &[u8]) -> bool
+    ensures { IsTrue result ↔ (bytes.now ≡ others.now) }
+{
+    bytes == others
+}
+
+/// What is told of the key of a row under a good name, whose body a document reads from that is written so.
+fn key_against(
+    alloc: Global,
+    written: Written,
+    key: &[u8],
+    body: &[u8],
+) -> Result<RowKey, AllocError>
+    requires { AnswersKept body.now (Ok written) }
+    ensures { (coll : List ℕ) → IsName coll → IsUtf8 coll → IfOk result (TellsKey coll key.now body.now) }
+{
+    let Written {
+        key: now,
+        body: own,
+    } = written;
+    if !is_same(own.as_slice(), body) {
+        return Ok(RowKey::Neither);
+    }
+    let is_own = is_same(now.as_slice(), key);
+    if is_own {
+        return Ok(RowKey::Own);
+    }
+    let before = key_before(alloc, body)?;
+    let is_old = is_same(before.as_slice(), key);
+    if is_old {
+        Ok(RowKey::Before(now))
+    } else {
+        Ok(RowKey::Neither)
+    }
+}
+
+/// What a refusal tells of a row's key: that no store can have written the row, but for want of memory.
+fn keyless(kind: ErrorKind) -> Result<RowKey, AllocError>
+    ensures { IfOk result (λ k. (k ≡ RowKey.Neither) × (kind ≢ Memory)) }
+{
+    match kind {
+        ErrorKind::Memory => Err(AllocError),
+        _ => Ok(RowKey::Neither),
+    }
+}
+
+/// The key of a row, held against the document in its body: the key of that document's `_id`, or the one that the `_id` had before
+/// the two zeros of a double meant the same. The error is a refused growth.
+pub fn key_of_row(alloc: Global, coll: &[u8], key: &[u8], body: &[u8]) -> Result<RowKey, AllocError>
+    ensures { IfOk result (TellsKey coll.now key.now body.now) }
+{
+    if !is_text_of_name(coll) {
+        return Ok(RowKey::Neither);
+    }
+    match row_of_bytes(alloc, body) {
+        Ok(written) => key_against(alloc, written, key, body),
+        Err(kind) => keyless(kind),
     }
 }

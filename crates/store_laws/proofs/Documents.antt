@@ -10,8 +10,7 @@ use Rattle.store_laws.specs.Same.{SameDocuments}
 use Rattle.store_laws.specs.State.{id_key, HasId, SomeHasId, NoneHasId, IsTaken, AtId, When, refusal_of, Picks}
 use Rattle.store_laws.specs.declared.error.ErrorKind.TheVariants.{NoId, TooLong}
 use Rattle.bson_base.specs.Value.{Value, document, Members, look_up, has_key}
-use Rattle.bson_meaning.proofs.NormInOrder.{in_order_same}
-use Rattle.bson_meaning.proofs.KeyLaw.{key_size}
+use Rattle.bson_meaning.proofs.Now.{in_order_same, key_size}
 use Rattle.store_laws.proofs.Selecting.{same_look_up, look_up_distinct, carried, exchanged, selects_same}
 
 -- ---- lists

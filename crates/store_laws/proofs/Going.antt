@@ -18,10 +18,10 @@ run_last w v i n a (d ∷ cs) [] m b c r is same run turn = absurd run
 run_last w v i n a (d ∷ cs) (q ∷ rs) m b c r is same run turn =
     (run.0, subst (λ x. TurnThrough x a d q run.0) (same i (omega (arith, is))) run.1, run_last w v (suc i) n run.0 cs rs m b c r (omega (arith, is)) same run.2 turn)
 
-unlike : (j n : ℕ) → j ≢ n → eq_by_cmp nat_cmp j n ≡ false
+pub unlike : (j n : ℕ) → j ≢ n → eq_by_cmp nat_cmp j n ≡ false
 unlike j n h = sym (unsigned_ties j n) ∙ ne_eqb j n h
 
-alike : (n : ℕ) → eq_by_cmp nat_cmp n n ≡ true
+pub alike : (n : ℕ) → eq_by_cmp nat_cmp n n ≡ true
 alike n = sym (unsigned_ties n n) ∙ eq-eqb n n refl
 
 pub one_more : (w : Denials) (a m b : Table) (cs : List Command) (rs : List Reply) (c : Command) (r : Reply) → RunThrough w 0 a cs rs m → Serves m c r b

@@ -9,8 +9,7 @@ use Rattle.bson_meaning.specs.Meaning.{norm_members_in_order, key, Same}
 use Rattle.store_laws.specs.State.{id_key, HasId, IsKept}
 use Rattle.store_laws.specs.Table.{only_id, own_id}
 use Rattle.bson_bytes.proofs.Lengths.{encode_length}
-use Rattle.bson_meaning.proofs.NormInOrder.{in_order_same}
-use Rattle.bson_meaning.proofs.KeyLaw.{key_law, key_size, same_back}
+use Rattle.bson_meaning.proofs.Now.{in_order_same, key_law, key_size, same_back}
 use Rattle.store_laws.proofs.Selecting.{Distinct?, look_up_distinct}
 use Rattle.bson_meaning.proofs.PlainSame.{plain_same, some_found, only_same}
 use Rattle.bson_base.proofs.Members.{equal_keys, key_at}

@@ -12,7 +12,7 @@ use Rattle.store_laws.specs.Same.{SameDocuments}
 use Rattle.store_laws.specs.State.{id_key, State, list_of, store, HasId, SomeHasId, IsTaken, AtId, Call, insert, replace, set, unset, remove, get_raw, get_json, find, count, project, import, export, dump, Command, on, collections, Reply, When, refusal_of, or_later, first_refusal, Appends, Answers, IsName, Step, IsCall, IsCommand, IsKept, AreKept, HaveOwnIds, IsStore}
 use Rattle.store_laws.specs.declared.error.ErrorKind.{ErrorKind}
 use Rattle.store_laws.specs.declared.error.ErrorKind.TheVariants.{NoId, TooLong}
-use Rattle.bson_meaning.proofs.NormInOrder.{in_order_same, same_in_order}
+use Rattle.bson_meaning.proofs.Now.{in_order_same, same_in_order}
 use Rattle.store_laws.proofs.Documents.{some_has_id_same}
 use Rattle.store_laws.proofs.Levels.{set_read, read_without}
 use Rattle.store_laws.proofs.Selecting.{Distinct?, look_up_distinct, carried, exchanged}

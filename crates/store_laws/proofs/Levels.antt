@@ -12,8 +12,8 @@ use Rattle.store_laws.specs.Reading.{IsRead}
 use Rattle.store_laws.specs.State.{only}
 use Rattle.bson_base.specs.Value.{Value, scalar, array, document, scoped_code, Items, no_items, item, Members, no_members, member, look_up, put, without, levels, items_levels, members_levels, HasDistinctKeys, ItemsHaveDistinctKeys, MembersHaveDistinctKeys, EachPart}
 use Rattle.bson_meaning.proofs.Ordered.{Order, tied, look_up-asc}
-use Rattle.bson_meaning.proofs.NormInOrder.{in_order_same}
-use Rattle.bson_meaning.proofs.Normal.{normal_scalar_ranged, normal_scalar_clean, norm_each, asc_each, both_each, norm_distinct}
+use Rattle.bson_meaning.proofs.Now.{in_order_same, normal_scalar_ranged, normal_scalar_clean, norm_each, norm_distinct}
+use Rattle.bson_meaning.proofs.Normal.{asc_each, both_each}
 use Rattle.bson_meaning.proofs.KeyLaw.{asc_distinct}
 use Rattle.store_laws.proofs.Edits.{only_each, only_distinct}
 use Rattle.bson_base.proofs.Members.{same_key, put_each, put_back, put_distinct, without_each, without_distinct, not_first, without_levels}

@@ -17,3 +17,6 @@ pub mod Ids
 pub mod Keys
 pub mod Unmoved
 pub mod Plain
+pub mod Left
+pub mod Refused
+pub mod OneMany

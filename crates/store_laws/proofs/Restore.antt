@@ -28,12 +28,10 @@ use Rattle.bson_bytes.proofs.One.{one_meaning}
 use Rattle.bson_bytes.proofs.Settled.{comes_back}
 use Rattle.bson_bytes.proofs.Spelled.{framed_inside, spelled_members}
 use Rattle.bson_frame.proofs.Frames.{front_is_one}
-use Rattle.bson_meaning.proofs.NormInOrder.{look_up-in_order, same_in_order}
+use Rattle.bson_meaning.proofs.Now.{look_up-in_order, same_in_order, key_size, norm_twice}
 use Rattle.bson_meaning.proofs.Held.{one_answer as one_of_the_gate}
 use Rattle.bson_meaning.proofs.JsonReads.{mapped, AllCome, canonical_comes, chosen}
 use Rattle.bson_meaning.proofs.JsonSound.{kept_sound, kept_clean}
-use Rattle.bson_meaning.proofs.KeyLaw.{key_size}
-use Rattle.bson_meaning.proofs.Normal.{norm_twice}
 use Rattle.bson_meaning.proofs.Ordered.{ascending_asc, same_members, look_up-place, ascending_place}
 use Rattle.store_laws.proofs.Documents.{taken_same}
 use Rattle.store_laws.proofs.Functions.{one_answer}

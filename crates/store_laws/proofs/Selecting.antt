@@ -5,7 +5,7 @@ use Rattle.store_laws.specs.Filter.{under_places, pairs, at, Filter, equals, exi
 use Rattle.bson_model.specs.Equal.{SameKeys}
 use Rattle.bson_meaning.specs.Meaning.{norm_in_order, Same, SameItems, SameUnder, SameOption}
 use Rattle.bson_base.specs.Value.{Value, scalar, array, document, scoped_code, Items, no_items, item, Members, no_members, member, look_up, value_kind, HasDistinctKeys, ItemsHaveDistinctKeys, MembersHaveDistinctKeys}
-use Rattle.bson_meaning.proofs.NormInOrder.{in_order_same, same_in_order}
+use Rattle.bson_meaning.proofs.Now.{in_order_same, same_in_order}
 use Rattle.bson_meaning.proofs.Comparing.{same_kind}
 use Rattle.bson_meaning.proofs.InTurn.{to_alike}
 

@@ -18,7 +18,7 @@ use Rattle.store_laws.specs.Same.{SameDocuments, SameReading, SameStop, SameCall
 use Rattle.store_laws.specs.State.{id_key, Form, Call, insert, replace, set, unset, remove, get_raw, get_json, find, count, project, import, export, dump, Command, on, Reply, done, flag, number, bytes, bytes_list, refused, or_finite, tree_of, tree_reply, tree_first, trees_of, trees_reply, Refuses, refusal_of, or_later, first_refusal, Appends, only, PutsBack, Answers, IsCall}
 use Rattle.store_laws.specs.declared.error.ErrorKind.{ErrorKind}
 use Rattle.store_laws.specs.declared.error.ErrorKind.TheVariants.{BadKey, JsonRefused, TooDeep, Nul, TooLong, NotFound, DuplicateId, ReservedKey}
-use Rattle.bson_meaning.proofs.NormInOrder.{in_order_same, same_in_order}
+use Rattle.bson_meaning.proofs.Now.{in_order_same, same_in_order}
 use Rattle.bson_meaning.proofs.JsonSame.{write_same, reserved_same}
 use Rattle.store_laws.proofs.Documents.{same_join, same_length, read_join, read_parts, taken_same, at_id_same, when_same, match_same, size_same, refusal_same, picks_same, picks_read, same_under}
 use Rattle.store_laws.proofs.Edits.{same_without, same_only, same_put}

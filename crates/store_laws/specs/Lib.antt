@@ -6,3 +6,4 @@ pub mod Same
 pub mod Run
 pub mod Table
 pub mod Rows
+pub mod Left

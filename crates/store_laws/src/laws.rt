@@ -17,8 +17,9 @@ ghost use Rattle.store_laws.specs.Reading.{Documents, Reading, readable, unreada
 ghost use Rattle.store_laws.specs.State.{State, HasId, id_key, Call, in_bytes, in_json, replace, set, unset, import, export, first_refusal, done, flag, refused, dump, Command, on, Reply, number, bytes, json_list, Answers, IsName, Step, IsCommand, AreCommands, IsKept, AreKept, HaveOwnIds, IsStore, IsSoundIfAny, list_of, store};
 ghost use Rattle.store_laws.specs.declared.error.ErrorKind.{ErrorKind as Kind};
 ghost use Rattle.store_laws.specs.Same.{SameStates, SameCommand, SameCommands, SameReply, SameReplies};
-ghost use Rattle.store_laws.specs.Run.{Denials, Run, SparesDecided, IsUnread, asked, told};
-ghost use Rattle.store_laws.specs.Table.{Follows, Row, Table, state_of, documents_of, AreOf, with_document, Serves, RunThrough, only_id, own_id, AreRows};
+ghost use Rattle.store_laws.specs.Run.{Denial, Denials, Run, SparesDecided, IsUnread, Turn, asked, told};
+ghost use Rattle.store_laws.specs.Left.{Is, IsEndOrOneMore, LeftAlong, LeftBy};
+ghost use Rattle.store_laws.specs.Table.{Follows, IsRefusal, Row, Table, state_of, documents_of, AreOf, with_document, Serves, RunThrough, only_id, own_id, AreRows};
 
 /// A filter selects both or neither of two values of the same meaning, and so do two filters of one shape with values of the
 /// same meaning.
@@ -103,6 +104,14 @@ pub fn one_reading()
     ensures tree { (j : Data) (a b : Reading) → ReadsTree j a → ReadsTree j b → a ≡ b }
 {}
 
+/// Bytes of many documents, and lists of trees, that all read, read as nothing else.
+pub fn many_have_one_reading()
+    ensures stream { (bs : List ℕ) (ds more : Documents) (stop : Option Kind) → ReadsStream bs ds None → ReadsStream bs more stop
+        → (more ≡ ds) × (stop ≡ None) }
+    ensures trees { (js : List Data) (ds more : Documents) (stop : Option Kind) → ReadsTrees js ds None → ReadsTrees js more stop
+        → (more ≡ ds) × (stop ≡ None) }
+{}
+
 /// Every JSON tree has a reading. That of an object is never decided before anything grows.
 pub fn trees_have_readings()
     ensures any { (j : Data) → (a : Reading) × ReadsTree j a }
@@ -143,6 +152,25 @@ pub fn runs_go_on()
     ensures { (w : Denials) (a m b : Table) (cs : List Command) (rs : List Reply) (c : Command) (r : Reply)
         → RunThrough w 0 a cs rs m → Serves m c r b
         → (v : Denials) × RunThrough v 0 a (cs ++ c ∷ []) (rs ++ r ∷ []) b }
+{}
+
+/// What a crash leaves behind a run that began with one state alone is the state at its end, or what one of the commands, refused
+/// for want of memory or by the database behind the last accepted one, makes of that.
+pub fn crashes_leave_the_end()
+    ensures { (w : Denials) (s t : State) (cs : List Command) (rs : List Reply) (run : Run w 0 s cs rs t)
+        → IsStore s → (x : State) → LeftAlong Is (λ y. y ≡ s) w 0 s cs rs t run x → IsEndOrOneMore cs t x }
+{}
+
+/// What a crash leaves behind a run that began with one state alone goes on by one command more.
+pub fn crashes_go_on()
+    ensures { (w : Denials) (s t u : State) (cs : List Command) (rs : List Reply) (c : Command) (r : Reply) (run : Run w 0 s cs rs t)
+        (o : Option Denial) → Turn o t c r u → (v : Denials) × (more : Run v 0 s (cs ++ c ∷ []) (rs ++ r ∷ []) u)
+        × ((x : State) → LeftBy Is (LeftAlong Is (λ y. y ≡ s) w 0 s cs rs t run) t c r x → LeftAlong Is (λ y. y ≡ s) v 0 s (cs ++ c ∷ []) (rs ++ r ∷ []) u more x) }
+{}
+
+/// A refused command leaves the state.
+pub fn refusals_stay()
+    ensures { (s t : State) (c : Command) (k : Kind) (i : Option ℕ) → IsStore s → Step s c (refused k i) t → t ≡ s }
 {}
 
 /// A table stands for the documents of its rows, in their order. Rows that come last put their documents last in the list of

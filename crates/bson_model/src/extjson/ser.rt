@@ -160,7 +160,7 @@ fn double_text(double: DoubleBits) -> Option<&'static str>
     } else if double.is_infinite() {
         Some(if negative { "-Infinity" } else { "Infinity" })
     } else if double.is_zero() {
-        Some(if negative { "-0.0" } else { "0.0" })
+        Some("0.0")
     } else {
         None
     }

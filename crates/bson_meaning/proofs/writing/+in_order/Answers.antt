@@ -6,7 +6,7 @@ use Rattle.bson_bytes.proofs.Lengths.{members_length, items_length, text_length,
 use Rattle.bson_bytes.proofs.Written.{room, written_in, framed_ok, scoped_in, scoped_ok, short_ok, long_refused, no_items_left, item_refused}
 use Rattle.bson_model.specs.Rest.{ascending_rest}
 use Rattle.bson_model.specs.View.{view, pairs_of, items_of, members_of}
-use Rattle.bson_meaning.specs.Meaning.{norm_members_in_order, norm_items_in_order, norm_in_order}
+use Rattle.bson_meaning.specs.Forms.{norm_members_in_order, norm_items_in_order, norm_in_order}
 use Rattle.bson_meaning.proofs.InOrderBytes.{between, members_begin, next_item}
 use Rattle.bson_meaning.proofs.writing.+in_order.Goals as goal
 
@@ -14,7 +14,7 @@ pub write_in_order-returns : goal.write_in_order-returns
 write_in_order-returns t c =
     let old = c.args.out.now.items in
     let start : c.len-start.result ≡ length old = search rules in
-    let normal = norm_members_in_order (members_of (pairs_of c.args.document.now)) in
+    let normal = norm_members_in_order c.args.zeros (members_of (pairs_of c.args.document.now)) in
     let begun = c.write_bytes.new.out.items in
     let out = c.write_members.new.out.items in
     let at_end : out ++ [] ≡ begun ++ members_bytes normal = append-nil out ∙ c.in_ok-write_members.ensures.ok in
@@ -25,13 +25,13 @@ write_in_order-returns t c =
 pub write_members-loop-key-init : goal.write_members-loop-key-init
 write_members-loop-key-init t c =
     let first = ap ascending_rest c.into_iter-key-iterator.ensures.into_iter_gives ∙ c.ascending-key-items.ensures in
-    (members_begin (pairs_of c.args.document.now) (ascending_rest c.into_iter-key-iterator.result) c.args.out.now.items first, tt, tt)
+    (members_begin c.args.zeros (pairs_of c.args.document.now) (ascending_rest c.into_iter-key-iterator.result) c.args.out.now.items first, tt, tt)
 
 pub write_scoped-returns : goal.write_scoped-returns
 write_scoped-returns t c =
     let old = c.args.out.now.items in
     let start : c.len-start.result ≡ length old = search rules in
-    let normal = norm_members_in_order (members_of (pairs_of c.args.code.now.scope)) in
+    let normal = norm_members_in_order c.args.zeros (members_of (pairs_of c.args.code.now.scope)) in
     let text = string_bytes c.args.code.now.code in
     let tree = scoped_code text normal in
     let scope = encode normal in
@@ -49,11 +49,11 @@ pub write_items-returns : goal.write_items-returns
 write_items-returns t c =
     let old = c.args.out.now.items in
     let start : c.len-start.result ≡ length old = search rules in
-    let normal = norm_items_in_order (items_of (map view c.args.items.now)) in
+    let normal = norm_items_in_order c.args.zeros (items_of (map view c.args.items.now)) in
     let body = items_bytes 0 normal in
     let after : List ℕ = body ++ 0 ∷ [] in
     let begun = c.write_bytes.new.out.items in
-    let left = ap norm_items_in_order (no_items_left c.args.items.now c.loop-i.i c.loop-i-test.false) in
+    let left = ap (norm_items_in_order c.args.zeros) (no_items_left c.args.items.now c.loop-i.i c.loop-i-test.false) in
     let at_end : c.loop-i.out.items ++ [] ≡ begun ++ body = ap (λ vs. c.loop-i.out.items ++ items_bytes c.loop-i.i vs) (sym left) ∙ c.loop-i.invariant.written in
     let whole : c.write_bytes-2.new.out.items ≡ old ++ (room ++ after) = written_in old begun c.loop-i.out.items c.write_bytes-2.new.out.items body c.in_ok-write_bytes.ensures.ok at_end c.in_ok-write_bytes-2.ensures.ok in
     let long : value_size (array normal) ≡ length after + 4 = omega (arith, items_length 0 normal, length-append {A = ℕ} body (0 ∷ [])) in
@@ -68,7 +68,7 @@ write_items-returns-in_err-write_normal-clause-refused t c =
     let xs = c.args.items.now in
     let i = c.loop-i.i in
     let b = c.index-items-i.result in
-    let normal = norm_items_in_order (items_of (map view xs)) in
-    let to = next_item normal xs i b c.write_bytes.new.out.items c.loop-i.out.items c.loop-i-test.true c.index-items-i.is c.loop-i.invariant in
+    let normal = norm_items_in_order c.args.zeros (items_of (map view xs)) in
+    let to = next_item c.args.zeros normal xs i b c.write_bytes.new.out.items c.loop-i.out.items c.loop-i-test.true c.index-items-i.is c.loop-i.invariant in
     let p = err_from_is_err_and c.from_residual-in_err-write_normal.result c.from_residual-in_err-write_normal.ensures.1 in
-    rw (p.1, p.2) (item_refused normal (norm_items_in_order (items_of (map view (drop (i + 1) xs)))) i (norm_in_order (view b)) c.write_bytes.new.out.items c.loop-i.out.items _ to c.in_err-write_normal.ensures.refused)
+    rw (p.1, p.2) (item_refused normal (norm_items_in_order c.args.zeros (items_of (map view (drop (i + 1) xs)))) i (norm_in_order c.args.zeros (view b)) c.write_bytes.new.out.items c.loop-i.out.items _ to c.in_err-write_normal.ensures.refused)

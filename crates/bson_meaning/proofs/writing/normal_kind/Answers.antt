@@ -4,4 +4,4 @@ use Rattle.bson_meaning.proofs.InOrderBytes.{kind_of_in_order}
 use Rattle.bson_meaning.proofs.writing.normal_kind.Goals as goal
 
 pub returns : goal.returns
-returns c = c.element_type.ensures ∙ sym (kind_of_in_order (view c.args.value.now))
+returns c = λ zeros. c.element_type.ensures ∙ sym (kind_of_in_order zeros (view c.args.value.now))

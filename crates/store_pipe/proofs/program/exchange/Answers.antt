@@ -20,7 +20,7 @@ returns-in-Ok g c =
     let new : Feed = g.I.Source.feed c.keep.new.input in
     let before : Tally = g.O.Sink.tally c.args.output.now in
     let after : Tally = g.O.Sink.tally c.export.new.writer in
-    all_out (held over_memory c.in_ok-store.store) (held over_memory c.export.new.self) old new before after (memory_is_clean (store_connection c.export.new.self)) c.in_ok-store.ensures.ok c.in-Ok.ensures
+    all_out (held over_memory c.in_ok-store.store) (held over_memory c.export.new.self) old new before after (memory_is_clean (store_connection c.export.new.self)) c.in_ok-store.ensures.ok c.in-Ok.ensures.moves
 
 pub returns : goal.returns
 returns g c =
@@ -28,4 +28,4 @@ returns g c =
     let new : Feed = g.I.Source.feed c.keep.new.input in
     let before : Tally = g.O.Sink.tally c.args.output.now in
     let after : Tally = g.O.Sink.tally c.export.new.writer in
-    some_out (held over_memory c.in_ok-store.store) (held over_memory c.export.new.self) old new before after c.in-Err.error (memory_is_clean (store_connection c.export.new.self)) c.in_ok-store.ensures.ok c.in-Err.ensures
+    some_out (held over_memory c.in_ok-store.store) (held over_memory c.export.new.self) old new before after c.in-Err.error (memory_is_clean (store_connection c.export.new.self)) c.in_ok-store.ensures.ok c.in-Err.ensures.moves

@@ -14,7 +14,7 @@ returns-in-Ok-insert_raw-clause-ok g c =
     let new : Feed = g.I.Source.feed c.read_all.new.source in
     let s = held over_memory c.in_ok-store.store in
     let t = held over_memory c.insert_raw.new.self in
-    let moves = subst (λ (bytes : List ℕ). Moves s t (DoesBytes name (insert in_bytes) bytes done)) c.deref.ensures.value c.in-Ok-insert_raw.ensures in
+    let moves = subst (λ (bytes : List ℕ). Moves s t (DoesBytes name (insert in_bytes) bytes done)) c.deref.ensures.value c.in-Ok-insert_raw.ensures.moves in
     input_kept s t old new c.in-Ok.bytes.items (memory_is_clean (store_connection c.insert_raw.new.self)) c.in_ok-store.ensures.empty c.in-Ok.ensures.ok moves
 
 pub returns-in-Err-insert_raw-clause-err : goal.returns-in-Err-insert_raw-clause-err
@@ -24,5 +24,5 @@ returns-in-Err-insert_raw-clause-err g c =
     let s = held over_memory c.in_ok-store.store in
     let t = held over_memory c.insert_raw.new.self in
     let e = c.in-Err-insert_raw.error in
-    let moves = subst (λ (bytes : List ℕ). Moves s t (DoesBytes name (insert in_bytes) bytes (refused e.kind e.document))) c.deref.ensures.value c.in-Err-insert_raw.ensures in
+    let moves = subst (λ (bytes : List ℕ). Moves s t (DoesBytes name (insert in_bytes) bytes (refused e.kind e.document))) c.deref.ensures.value c.in-Err-insert_raw.ensures.moves in
     input_not_kept s t old new c.in-Ok.bytes.items e.kind e.document (memory_is_clean (store_connection c.insert_raw.new.self)) c.in_ok-store.ensures.empty c.in-Ok.ensures.ok moves

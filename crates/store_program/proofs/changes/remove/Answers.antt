@@ -16,4 +16,4 @@ returns g c =
     let id = view c.in_ok-id.id in
     performs (held g.S.Store c.args.store.now) (held g.S.Store c.remove.new.self) (IsCommandOf words.Remove n (map string_bytes c.args.words.now)) (model.on n (model.remove id)) as_done as_nothing c.remove.result c.nothing.result
     (of_id (λ id more. model.remove id) n c.args.words.now c.id-item.result c.as_str.result.now id c.id-item.is c.in-len1.len_at_least c.in-len1.len_below c.as_str.ensures.value c.in_ok-id.ensures)
-    (λ x no. no) c.nothing.ensures c.remove.ensures
+    (λ x no. no) c.nothing.ensures c.remove.ensures.moves

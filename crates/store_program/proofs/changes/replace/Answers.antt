@@ -17,4 +17,4 @@ returns g c =
     let call = model.replace model.in_json in
     tree_performs (held g.S.Store c.args.store.now) (held g.S.Store c.replace_json.new.self) (IsCommandOf words.Replace n (map string_bytes c.args.words.now)) n call tree as_done as_nothing c.replace_json.result c.nothing.result
     (of_tree call n c.args.words.now c.text-item.result c.as_str.result.now tree c.text-item.is c.in-len1.len_at_least c.in-len1.len_below c.as_str.ensures.value c.in_ok-json.ensures)
-    (λ x no. no) c.nothing.ensures c.replace_json.ensures
+    (λ x no. no) c.nothing.ensures c.replace_json.ensures.moves

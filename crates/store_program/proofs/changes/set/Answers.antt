@@ -21,4 +21,4 @@ returns g c =
     performs (held g.S.Store c.args.store.now) (held g.S.Store c.set.new.self) (IsCommandOf words.Set n (map string_bytes c.args.words.now)) (model.on n (model.set id key (read_value tree))) as_done as_nothing c.set.result c.nothing.result
     (of_set n c.args.words.now c.id-item.result c.key-item.result c.text-item.result c.as_str.result.now key c.as_str-2.result.now id tree c.id-item.is c.key-item.is c.text-item.is c.in-len3.len_at_least c.in-len3.len_below
     c.as_str.ensures.value c.as_str-3.ensures.value c.as_str-2.ensures.value c.in_ok-id.ensures c.in_ok-json.ensures)
-    (λ x no. no) c.nothing.ensures c.set.ensures
+    (λ x no. no) c.nothing.ensures c.set.ensures.moves

@@ -18,4 +18,4 @@ returns g c =
     performs (held g.S.Store c.args.store.now) (held g.S.Store c.unset.new.self) (IsCommandOf words.Unset n (map string_bytes c.args.words.now)) (model.on n (model.unset id key)) told flag_answer c.unset.result c.flag.result
     (of_id_and_key (λ id more. model.unset id (first_key more)) n c.args.words.now c.id-item.result c.key-item.result c.as_str.result.now key id c.id-item.is c.key-item.is c.in-len2.len_at_least c.in-len2.len_below
     c.as_str.ensures.value c.as_str-2.ensures.value c.in_ok-id.ensures)
-    (λ x no. no) c.flag.ensures c.unset.ensures
+    (λ x no. no) c.flag.ensures c.unset.ensures.moves

@@ -11,4 +11,4 @@ returns g c =
     let old : Feed = g.I.Source.feed c.args.input.now in
     let new : Feed = g.I.Source.feed c.import.new.reader in
     import_performs (held g.S.Store c.args.store.now) (held g.S.Store c.import.new.self) (IsCommandOf words.Import c.args.name.now (map string_bytes c.args.words.now)) c.args.name.now old new c.import.result c.number.result
-    (λ ds stop. (ds, stop, refl)) c.number.ensures c.import.ensures
+    (λ ds stop. (ds, stop, refl)) c.number.ensures c.import.ensures.moves

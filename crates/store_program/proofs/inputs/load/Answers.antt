@@ -10,4 +10,4 @@ use Rattle.store_program.proofs.inputs.load.Goals as goal
 pub returns : goal.returns
 returns g c =
     load_performs (held g.S.Store c.args.store.now) (held g.S.Store c.load_json.new.self) (IsCommandOf words.Load c.args.name.now (map string_bytes c.args.words.now)) c.args.name.now (ReadsTrees (map tree_of c.in_ok-trees.trees.items)) c.load_json.result c.number.result
-    (λ ds stop. (ds, stop, refl)) c.number.ensures c.load_json.ensures
+    (λ ds stop. (ds, stop, refl)) c.number.ensures c.load_json.ensures.moves

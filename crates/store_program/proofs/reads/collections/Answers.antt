@@ -12,4 +12,4 @@ pub returns : goal.returns
 returns g c =
     let n = c.args.name.now in
     performs (held g.S.Store c.args.store.now) (held g.S.Store c.collections.new.self) (IsCommandOf words.Collections n (map string_bytes c.args.words.now)) (model.collections) as_names answers.names_answer c.collections.result c.names.result
-    (refl) (λ x no. no) c.names.ensures c.collections.ensures
+    (refl) (λ x no. no) c.names.ensures c.collections.ensures.moves

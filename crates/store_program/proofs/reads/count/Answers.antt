@@ -13,4 +13,4 @@ pub returns : goal.returns
 returns g c =
     let n = c.args.name.now in
     performs (held g.S.Store c.args.store.now) (held g.S.Store c.count.new.self) (IsCommandOf words.Count n (map string_bytes c.args.words.now)) (model.on n (model.count (filter_of c.in_ok-filter.filter))) as_number answers.number_answer c.count.result c.number.result
-    ((filter_of c.in_ok-filter.filter, refl)) (λ x no. no) c.number.ensures c.count.ensures
+    ((filter_of c.in_ok-filter.filter, refl)) (λ x no. no) c.number.ensures c.count.ensures.moves

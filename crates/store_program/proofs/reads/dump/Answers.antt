@@ -9,4 +9,4 @@ pub returns-clause-step : goal.returns-clause-step
 returns-clause-step g c =
     let n = c.args.name.now in
     dumped (held g.S.Store c.args.store.now) (held g.S.Store c.each_json.new.self) (held g.S.Store c.each_json-2.new.self) (IsCommandOf words.Dump n (map string_bytes c.args.words.now)) n (λ x js. Unit {0}) (λ x js. Unit {0}) (λ e. Unit {0}) (λ e. Unit {0})
-    c.in_ok-each_json.field-0 c.in_ok-each_json-2.field-0 refl (c.in_ok-each_json.ensures tt) (c.in_ok-each_json-2.ensures tt)
+    c.in_ok-each_json.field-0 c.in_ok-each_json-2.field-0 refl (c.in_ok-each_json.ensures.moves tt) (c.in_ok-each_json-2.ensures.moves tt)

@@ -13,4 +13,4 @@ pub returns : goal.returns
 returns g c =
     let n = c.args.name.now in
     performs (held g.S.Store c.args.store.now) (held g.S.Store c.find.new.self) (IsCommandOf words.Find n (map string_bytes c.args.words.now)) (model.on n (model.find (filter_of c.in_ok-filter.filter))) as_list answers.as_documents c.find.result c.documents.result
-    ((filter_of c.in_ok-filter.filter, refl)) (λ x no. no) c.documents.ensures c.find.ensures
+    ((filter_of c.in_ok-filter.filter, refl)) (λ x no. no) c.documents.ensures c.find.ensures.moves

@@ -16,4 +16,4 @@ returns g c =
     let id = view c.in_ok-id.id in
     performs (held g.S.Store c.args.store.now) (held g.S.Store c.get_json.new.self) (IsCommandOf words.Get n (map string_bytes c.args.words.now)) (model.on n (model.get_json c.in_ok-mode.mode id)) as_json as_tree c.get_json.result c.tree.result
     (of_get n c.args.words.now c.in-Some.form.now c.in-Some.id.now c.as_str.result.now id c.in_ok-mode.mode c.in-Some.ensures.cases.0 c.as_str.ensures.value c.in_ok-id.ensures c.in_ok-mode.ensures)
-    (λ x no. no) c.tree.ensures c.get_json.ensures
+    (λ x no. no) c.tree.ensures c.get_json.ensures.moves

@@ -10,14 +10,14 @@ use Rattle.bson_store.proofs.Moving.{moved}
 use Rattle.bson_store.proofs.Naming.{told, unlisted}
 use Rattle.bson_store.proofs.store.Store.collections.Goals as goal
 
-pub returns-in_err-names : goal.returns-in_err-names
-returns-in_err-names g c =
+pub returns-in_err-names-clause-moves : goal.returns-in_err-names-clause-moves
+returns-in_err-names-clause-moves g c =
     let p = err_from_is_err_and c.from_residual.result c.from_residual.ensures.1 in
     let x = c.in_err-names.field-0.0 in
     rw (p.1, p.2)
     (moved (held g.S.Store c.args.self.now) (table_state g.S.Store c.collections.new.self) (Lists (Err x)) (Does model.collections (model.refused (kind_of_fault x) None)) c.in_err-names.ensures.moves (λ docs after h. unlisted docs after x h))
 
-pub returns : goal.returns
-returns g c =
+pub returns-clause-moves : goal.returns-clause-moves
+returns-clause-moves g c =
     moved (held g.S.Store c.args.self.now) (table_state g.S.Store c.collections.new.self) (Lists (Ok c.in_ok-names.names)) (Does model.collections (reply_by as_names c.names_of.result)) c.in_ok-names.ensures.moves
     (λ docs after h. told docs after c.in_ok-names.names c.names_of.result c.names_of.ensures.same c.names_of.ensures.ascending c.names_of.ensures.refused h)

@@ -9,19 +9,19 @@ use Rattle.bson_store.proofs.Exits.{bad_moves}
 use Rattle.bson_store.proofs.Selecting.{HasCounted, picked_moves, unpicked_moves}
 use Rattle.bson_store.proofs.store.Store.count.Goals as goal
 
-pub returns-in_err-name : goal.returns-in_err-name
-returns-in_err-name g c =
+pub returns-in_err-name-clause-moves : goal.returns-in_err-name-clause-moves
+returns-in_err-name-clause-moves g c =
     let p = err_from_is_err_and c.from_residual.result c.from_residual.ensures.1 in
     rw (p.1, p.2, c.in_err-name.ensures.0) (bad_moves (held g.S.Store c.args.self.now) c.args.name.now (model.count (filter_of c.args.filter.now)) c.in_err-name.ensures.1)
 
-pub returns-in_err-count : goal.returns-in_err-count
-returns-in_err-count g c =
+pub returns-in_err-count-clause-moves : goal.returns-in_err-count-clause-moves
+returns-in_err-count-clause-moves g c =
     let p = err_from_is_err_and c.from_residual-in_err-count.result c.from_residual-in_err-count.ensures.1 in
     rw (p.1, p.2)
     (unpicked_moves (HasCounted) (held g.S.Store c.args.self.now) (held g.S.Store c.pick.new.self) c.args.name.now (name_bytes c.in_ok-name.name) (filter_of c.args.filter.now) c.in_err-count.field-0.0 (model.count (filter_of c.args.filter.now))
-    c.in_ok-name.ensures.0 c.in_ok-name.ensures.1 (λ d. d) c.in_err-count.ensures)
+    c.in_ok-name.ensures.0 c.in_ok-name.ensures.1 (λ d. d) c.in_err-count.ensures.moves)
 
-pub returns : goal.returns
-returns g c =
+pub returns-clause-moves : goal.returns-clause-moves
+returns-clause-moves g c =
     picked_moves (HasCounted) (held g.S.Store c.args.self.now) (held g.S.Store c.pick.new.self) c.args.name.now (name_bytes c.in_ok-name.name) (filter_of c.args.filter.now) c.in_ok-count.count (model.count (filter_of c.args.filter.now)) (as_number c.in_ok-count.count.number)
-    c.in_ok-name.ensures.0 c.in_ok-name.ensures.1 (λ l out picks t. (out, picks, ap model.number t, refl)) c.in_ok-count.ensures
+    c.in_ok-name.ensures.0 c.in_ok-name.ensures.1 (λ l out picks t. (out, picks, ap model.number t, refl)) c.in_ok-count.ensures.moves

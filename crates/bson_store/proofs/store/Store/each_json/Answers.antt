@@ -12,13 +12,13 @@ use Rattle.bson_store.proofs.Moving.{moved}
 use Rattle.bson_store.proofs.Dumping.{Took, handed, stopped_at, unhanded, unnamed}
 use Rattle.bson_store.proofs.store.Store.each_json.Goals as goal
 
-pub returns-in_err-name : goal.returns-in_err-name
-returns-in_err-name g c start =
+pub returns-in_err-name-clause-moves : goal.returns-in_err-name-clause-moves
+returns-in_err-name-clause-moves g c start =
     let p = err_from_is_err_and c.from_residual.result c.from_residual.ensures.1 in
     rw (p.1, p.2, c.in_err-name.ensures.0) (unnamed (g.T.TakeJson.took c.args.taker) g.T.TakeJson.refuses (held g.S.Store c.args.self.now) c.args.name.now c.in_err-name.ensures.1)
 
-pub returns-in_err-visit_bodies : goal.returns-in_err-visit_bodies
-returns-in_err-visit_bodies g c start =
+pub returns-in_err-visit_bodies-clause-moves : goal.returns-in_err-visit_bodies-clause-moves
+returns-in_err-visit_bodies-clause-moves g c start =
     let p = err_from_is_err_and c.from_residual-in_err-visit_bodies.result c.from_residual-in_err-visit_bodies.ensures.1 in
     let took = g.T.TakeJson.took in
     let refuses = g.T.TakeJson.refuses in
@@ -31,8 +31,8 @@ returns-in_err-visit_bodies g c start =
     (rw c.as_str.ensures.text at c.in_err-visit_bodies.ensures.moves)
     (λ docs after h. subst (λ m. HandsTrees (took c.args.taker) refuses m (Err (refusal (kind_of_fault x))) docs after) c.in_ok-name.ensures.0 (unhanded took refuses first last n docs after start refl refl (subst IsName (sym c.in_ok-name.ensures.0) c.in_ok-name.ensures.1) x h)))
 
-pub returns-in-None : goal.returns-in-None
-returns-in-None g c start =
+pub returns-in-None-clause-moves : goal.returns-in-None-clause-moves
+returns-in-None-clause-moves g c start =
     let took = g.T.TakeJson.took in
     let refuses = g.T.TakeJson.refuses in
     let first : Teller g.row.T.Denot = record { taker = c.args.taker; alloc = c.args.self.now.alloc; place = 0; refusal = None } in
@@ -44,8 +44,8 @@ returns-in-None g c start =
     (λ docs after h. subst (λ m. HandsTrees (took c.args.taker) refuses m (Ok last.taker) docs after) c.in_ok-name.ensures.0
     (handed took refuses first last n docs after start refl refl (subst IsName (sym c.in_ok-name.ensures.0) c.in_ok-name.ensures.1) all c.in-None.is c.in_ok-visit_bodies.ensures.stopped h))
 
-pub returns-in-Some : goal.returns-in-Some
-returns-in-Some g c start =
+pub returns-in-Some-clause-moves : goal.returns-in-Some-clause-moves
+returns-in-Some-clause-moves g c start =
     let took = g.T.TakeJson.took in
     let refuses = g.T.TakeJson.refuses in
     let first : Teller g.row.T.Denot = record { taker = c.args.taker; alloc = c.args.self.now.alloc; place = 0; refusal = None } in

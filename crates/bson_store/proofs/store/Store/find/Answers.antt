@@ -9,19 +9,19 @@ use Rattle.bson_store.proofs.Exits.{bad_moves}
 use Rattle.bson_store.proofs.Selecting.{HasCopies, picked_moves, unpicked_moves}
 use Rattle.bson_store.proofs.store.Store.find.Goals as goal
 
-pub returns-in_err-name : goal.returns-in_err-name
-returns-in_err-name g c =
+pub returns-in_err-name-clause-moves : goal.returns-in_err-name-clause-moves
+returns-in_err-name-clause-moves g c =
     let p = err_from_is_err_and c.from_residual.result c.from_residual.ensures.1 in
     rw (p.1, p.2, c.in_err-name.ensures.0) (bad_moves (held g.S.Store c.args.self.now) c.args.name.now (model.find (filter_of c.args.filter.now)) c.in_err-name.ensures.1)
 
-pub returns-in_err-copies : goal.returns-in_err-copies
-returns-in_err-copies g c =
+pub returns-in_err-copies-clause-moves : goal.returns-in_err-copies-clause-moves
+returns-in_err-copies-clause-moves g c =
     let p = err_from_is_err_and c.from_residual-in_err-copies.result c.from_residual-in_err-copies.ensures.1 in
     rw (p.1, p.2)
     (unpicked_moves (HasCopies) (held g.S.Store c.args.self.now) (held g.S.Store c.pick.new.self) c.args.name.now (name_bytes c.in_ok-name.name) (filter_of c.args.filter.now) c.in_err-copies.field-0.0 (model.find (filter_of c.args.filter.now))
-    c.in_ok-name.ensures.0 c.in_ok-name.ensures.1 (λ d. d) c.in_err-copies.ensures)
+    c.in_ok-name.ensures.0 c.in_ok-name.ensures.1 (λ d. d) c.in_err-copies.ensures.moves)
 
-pub returns : goal.returns
-returns g c =
+pub returns-clause-moves : goal.returns-clause-moves
+returns-clause-moves g c =
     picked_moves (HasCopies) (held g.S.Store c.args.self.now) (held g.S.Store c.pick.new.self) c.args.name.now (name_bytes c.in_ok-name.name) (filter_of c.args.filter.now) c.in_ok-copies.copies (model.find (filter_of c.args.filter.now)) (as_list c.in_ok-copies.copies.bodies)
-    c.in_ok-name.ensures.0 c.in_ok-name.ensures.1 (λ l out picks t. (out, picks, ap model.bytes_list t, refl)) c.in_ok-copies.ensures
+    c.in_ok-name.ensures.0 c.in_ok-name.ensures.1 (λ l out picks t. (out, picks, ap model.bytes_list t, refl)) c.in_ok-copies.ensures.moves

@@ -1,7 +1,11 @@
+use Rattle.sqlite.specs.State.{Survives}
 use Rattle.bson_table.specs.Moves.{Moves}
 use Rattle.bson_store.specs.Calls.{held}
 use Rattle.bson_store.proofs.Keyed.{ComesTo}
 use Rattle.bson_store.proofs.store.Store.first_taken.Given as goal
 
 abbrev pub invariant-loop-at : goal.invariant-loop-at
-invariant-loop-at g l = Moves (held g.S.Store l.initial.self) (held g.S.Store l.self) (ComesTo l.coll l.rows l.met l.at)
+invariant-loop-at g l = record {
+  moves : Moves (held g.S.Store l.initial.self) (held g.S.Store l.self) (ComesTo l.coll l.rows l.met l.at);
+  crash : Survives (held g.S.Store l.initial.self) (held g.S.Store l.self) (λ _. ⊥);
+}

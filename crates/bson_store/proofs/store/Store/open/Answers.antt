@@ -1,7 +1,17 @@
 use Rattle.sqlite.specs.Held.{state}
-use Rattle.bson_table.specs.Table.{table_state}
+use Rattle.bson_table.specs.Table.{connection_of as table_connection, table_state}
+use Rattle.bson_store.proofs.Again.{keeps_found, keeps_refused}
 use Rattle.bson_store.proofs.Opening.{opened}
 use Rattle.bson_store.proofs.store.Store.open.Goals as goal
 
 pub returns-in-Ok-clause-opened : goal.returns-in-Ok-clause-opened
 returns-in-Ok-clause-opened g c clean = opened (state g.S.Store c.args.connection) (table_state g.S.Store c.in-Ok.table) (c.in-Ok.ensures.opened clean)
+
+pub returns-in-Ok-clause-finds : goal.returns-in-Ok-clause-finds
+returns-in-Ok-clause-finds g c x finds clean =
+    keeps_found (state g.S.Store c.args.connection) (table_state g.S.Store c.in-Ok.table) x finds (opened (state g.S.Store c.args.connection) (table_state g.S.Store c.in-Ok.table) (c.in-Ok.ensures.opened clean))
+    (λ db up may. g.met.S.Store.settled (table_connection c.in-Ok.table).store db up may)
+
+pub returns-in-Err-clause-leaves : goal.returns-in-Err-clause-leaves
+returns-in-Err-clause-leaves g c x finds clean =
+    keeps_refused (state g.S.Store c.args.connection) (state g.S.Store c.in-Err.connection) x finds (λ db up may. g.met.S.Store.settled c.args.connection.store db up may) c.in-Err.ensures.crash_refused clean

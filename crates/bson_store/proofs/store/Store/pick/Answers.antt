@@ -12,8 +12,8 @@ use Rattle.bson_store.proofs.Moving.{moved}
 use Rattle.bson_store.proofs.Selecting.{Took, taken, refused_one, untaken}
 use Rattle.bson_store.proofs.store.Store.pick.Goals as goal
 
-pub returns-in_err-visit_bodies : goal.returns-in_err-visit_bodies
-returns-in_err-visit_bodies g c =
+pub returns-in_err-visit_bodies-clause-moves : goal.returns-in_err-visit_bodies-clause-moves
+returns-in_err-visit_bodies-clause-moves g c =
     let p = err_from_is_err_and c.from_residual.result c.from_residual.ensures.1 in
     let took = g.T.Take.took in
     let first : Picker g.row.T.Denot = record { filter = c.args.filter; taker = c.args.taker; fault = None } in
@@ -25,8 +25,8 @@ returns-in_err-visit_bodies g c =
     (rw c.as_str.ensures.text at c.in_err-visit_bodies.ensures.moves)
     (λ docs after h. untaken took first last n docs after c.requires refl x h))
 
-pub returns-in-None : goal.returns-in-None
-returns-in-None g c =
+pub returns-in-None-clause-moves : goal.returns-in-None-clause-moves
+returns-in-None-clause-moves g c =
     let took = g.T.Take.took in
     let first : Picker g.row.T.Denot = record { filter = c.args.filter; taker = c.args.taker; fault = None } in
     let last = c.visit_bodies.new.visitor in
@@ -36,8 +36,8 @@ returns-in-None g c =
     (rw c.as_str.ensures.text at c.in_ok-visit_bodies.ensures.moves)
     (λ docs after h. taken took first last n docs after c.requires refl all c.in-None.is c.in_ok-visit_bodies.ensures.stopped h)
 
-pub returns-in-Some : goal.returns-in-Some
-returns-in-Some g c =
+pub returns-in-Some-clause-moves : goal.returns-in-Some-clause-moves
+returns-in-Some-clause-moves g c =
     let took = g.T.Take.took in
     let first : Picker g.row.T.Denot = record { filter = c.args.filter; taker = c.args.taker; fault = None } in
     let last = c.visit_bodies.new.visitor in

@@ -9,19 +9,19 @@ use Rattle.bson_store.proofs.Exits.{bad_moves}
 use Rattle.bson_store.proofs.Selecting.{HasProjected, projected, picked_moves, unpicked_moves}
 use Rattle.bson_store.proofs.store.Store.project.Goals as goal
 
-pub returns-in_err-name : goal.returns-in_err-name
-returns-in_err-name g c =
+pub returns-in_err-name-clause-moves : goal.returns-in_err-name-clause-moves
+returns-in_err-name-clause-moves g c =
     let p = err_from_is_err_and c.from_residual.result c.from_residual.ensures.1 in
     rw (p.1, p.2, c.in_err-name.ensures.0) (bad_moves (held g.S.Store c.args.self.now) c.args.name.now (model.project (filter_of c.args.filter.now) (path_of c.args.keys.now)) c.in_err-name.ensures.1)
 
-pub returns-in_err-taken : goal.returns-in_err-taken
-returns-in_err-taken g c =
+pub returns-in_err-taken-clause-moves : goal.returns-in_err-taken-clause-moves
+returns-in_err-taken-clause-moves g c =
     let p = err_from_is_err_and c.from_residual-in_err-taken.result c.from_residual-in_err-taken.ensures.1 in
     rw (p.1, p.2)
     (unpicked_moves (HasProjected c.args.keys.now) (held g.S.Store c.args.self.now) (held g.S.Store c.pick.new.self) c.args.name.now (name_bytes c.in_ok-name.name) (filter_of c.args.filter.now) c.in_err-taken.field-0.0 (model.project (filter_of c.args.filter.now) (path_of c.args.keys.now))
-    c.in_ok-name.ensures.0 c.in_ok-name.ensures.1 (λ d. d) c.in_err-taken.ensures)
+    c.in_ok-name.ensures.0 c.in_ok-name.ensures.1 (λ d. d) c.in_err-taken.ensures.moves)
 
-pub returns : goal.returns
-returns g c =
+pub returns-clause-moves : goal.returns-clause-moves
+returns-clause-moves g c =
     picked_moves (HasProjected c.args.keys.now) (held g.S.Store c.args.self.now) (held g.S.Store c.pick.new.self) c.args.name.now (name_bytes c.in_ok-name.name) (filter_of c.args.filter.now) c.in_ok-taken.taken (model.project (filter_of c.args.filter.now) (path_of c.args.keys.now)) (as_list c.in_ok-taken.taken.bodies)
-    c.in_ok-name.ensures.0 c.in_ok-name.ensures.1 (λ l out picks t. (out, picks, ap model.bytes_list (projected c.args.keys.now c.in_ok-taken.taken out t), refl)) c.in_ok-taken.ensures
+    c.in_ok-name.ensures.0 c.in_ok-name.ensures.1 (λ l out picks t. (out, picks, ap model.bytes_list (projected c.args.keys.now c.in_ok-taken.taken out t), refl)) c.in_ok-taken.ensures.moves

@@ -1,7 +1,8 @@
-use Rattle.std.proofs.Common.{inr, refl}
+use Rattle.std.proofs.Common.{inr, refl, Ok, arith}
 use Rattle.std.proofs.lemmas.Result.{err_from_is_err_and}
-use Rattle.bson_store.specs.Calls.{held}
-use Rattle.bson_table.specs.Table.{table_state}
+use Rattle.bson_store.specs.Calls.{held, store_connection, Looks}
+use Rattle.bson_store.proofs.Leaving.{accepted_leaves, changed_leaves, id_removes}
+use Rattle.bson_table.specs.Table.{connection_of as table_connection, table_state}
 use Rattle.store_documents.specs.Names.{name_bytes}
 use Rattle.bson_model.specs.View.{view}
 use Rattle.store_laws.specs.State as model
@@ -9,25 +10,47 @@ use Rattle.bson_store.proofs.Exits.{bad_moves, unlooked_moves, none_moves, remov
 use Rattle.bson_table.specs.Rows.{without_place}
 use Rattle.bson_store.proofs.store.Store.remove.Goals as goal
 
-pub returns-in_err-name : goal.returns-in_err-name
-returns-in_err-name g c =
+pub returns-in_err-name-clause-moves : goal.returns-in_err-name-clause-moves
+returns-in_err-name-clause-moves g c =
     let p = err_from_is_err_and c.from_residual.result c.from_residual.ensures.1 in
     rw (p.1, p.2, c.in_err-name.ensures.0) (bad_moves (held g.S.Store c.args.self.now) c.args.name.now (model.remove (view c.args.id.now)) c.in_err-name.ensures.1)
 
-pub returns-in_default : goal.returns-in_default
-returns-in_default g c =
-    rw c.from.ensures (none_moves (held g.S.Store c.args.self.now) (held g.S.Store c.row_of.new.self) c.args.name.now (name_bytes c.in_ok-name.name) (view c.args.id.now) c.in_ok-found.field-0 (model.remove (view c.args.id.now)) c.in_ok-name.ensures.0 c.in_default.is c.in_ok-name.ensures.1 (λ a none. inr (none, (refl, refl))) c.in_ok-found.ensures)
+pub returns-in_default-clause-moves : goal.returns-in_default-clause-moves
+returns-in_default-clause-moves g c =
+    rw c.from.ensures (none_moves (held g.S.Store c.args.self.now) (held g.S.Store c.row_of.new.self) c.args.name.now (name_bytes c.in_ok-name.name) (view c.args.id.now) c.in_ok-found.field-0 (model.remove (view c.args.id.now)) c.in_ok-name.ensures.0 c.in_default.is c.in_ok-name.ensures.1 (λ a none. inr (none, (refl, refl))) c.in_ok-found.ensures.moves)
 
-pub returns-in_err-remove_at : goal.returns-in_err-remove_at
-returns-in_err-remove_at g c =
+pub returns-in_err-remove_at-clause-moves : goal.returns-in_err-remove_at-clause-moves
+returns-in_err-remove_at-clause-moves g c =
     let p = err_from_is_err_and c.from_residual-in_err-remove_at.result c.from_residual-in_err-remove_at.ensures.1 in
-    rw (p.1, p.2) (unchanged_moves (held g.S.Store c.args.self.now) (held g.S.Store c.row_of.new.self) (table_state g.S.Store c.remove_at.new.self) c.args.name.now (name_bytes c.in_ok-name.name) (view c.args.id.now) c.in_ok-found.field-0 c.in-Some.found (model.remove (view c.args.id.now)) (without_place c.in-Some.found.place) c.in_err-remove_at.field-0.0 c.in_ok-name.ensures.0 c.in-Some.is c.in_ok-name.ensures.1 (λ x. x) c.in_ok-found.ensures c.in_err-remove_at.ensures.moves)
+    rw (p.1, p.2) (unchanged_moves (held g.S.Store c.args.self.now) (held g.S.Store c.row_of.new.self) (table_state g.S.Store c.remove_at.new.self) c.args.name.now (name_bytes c.in_ok-name.name) (view c.args.id.now) c.in_ok-found.field-0 c.in-Some.found (model.remove (view c.args.id.now)) (without_place c.in-Some.found.place) c.in_err-remove_at.field-0.0 c.in_ok-name.ensures.0 c.in-Some.is c.in_ok-name.ensures.1 (λ x. x) c.in_ok-found.ensures.moves c.in_err-remove_at.ensures.moves)
 
-pub returns : goal.returns
-returns g c =
-    removed_moves (held g.S.Store c.args.self.now) (held g.S.Store c.row_of.new.self) (table_state g.S.Store c.remove_at.new.self) c.args.name.now (name_bytes c.in_ok-name.name) (view c.args.id.now) c.in_ok-found.field-0 c.in-Some.found c.in_ok-name.ensures.0 c.in-Some.is c.in_ok-name.ensures.1 c.in_ok-found.ensures c.in_ok-remove_at.ensures.moves
+pub returns-clause-moves : goal.returns-clause-moves
+returns-clause-moves g c =
+    removed_moves (held g.S.Store c.args.self.now) (held g.S.Store c.row_of.new.self) (table_state g.S.Store c.remove_at.new.self) c.args.name.now (name_bytes c.in_ok-name.name) (view c.args.id.now) c.in_ok-found.field-0 c.in-Some.found c.in_ok-name.ensures.0 c.in-Some.is c.in_ok-name.ensures.1 c.in_ok-found.ensures.moves c.in_ok-remove_at.ensures.moves
 
-pub returns-in_err-found : goal.returns-in_err-found
-returns-in_err-found g c =
+pub returns-in_err-found-clause-moves : goal.returns-in_err-found-clause-moves
+returns-in_err-found-clause-moves g c =
     let p = err_from_is_err_and c.from_residual-in_err-found.result c.from_residual-in_err-found.ensures.1 in
-    rw (p.1, p.2) (unlooked_moves (held g.S.Store c.args.self.now) (held g.S.Store c.row_of.new.self) c.args.name.now (name_bytes c.in_ok-name.name) (view c.args.id.now) (model.remove (view c.args.id.now)) c.in_err-found.field-0.0 c.in_ok-name.ensures.0 c.in_ok-name.ensures.1 (λ x. x) c.in_err-found.ensures)
+    rw (p.1, p.2) (unlooked_moves (held g.S.Store c.args.self.now) (held g.S.Store c.row_of.new.self) c.args.name.now (name_bytes c.in_ok-name.name) (view c.args.id.now) (model.remove (view c.args.id.now)) c.in_err-found.field-0.0 c.in_ok-name.ensures.0 c.in_ok-name.ensures.1 (λ x. x) c.in_err-found.ensures.moves)
+
+pub returns-in_err-remove_at-clause-crash : goal.returns-in_err-remove_at-clause-crash
+returns-in_err-remove_at-clause-crash g c =
+    let s = held g.S.Store c.args.self.now in
+    let m = held g.S.Store c.row_of.new.self in
+    let t = table_state g.S.Store c.remove_at.new.self in
+    let n = c.args.name.now in
+    let nb = name_bytes c.in_ok-name.name in
+    let id = view c.args.id.now in
+    let x = c.in-Some.found in
+    let p = err_from_is_err_and c.from_residual-in_err-remove_at.result c.from_residual-in_err-remove_at.ensures.1 in
+    rw (p.1, p.2)
+    (changed_leaves s m t (model.on n (model.remove id)) (without_place x.place) (Looks nb id (Ok c.in_ok-found.field-0)) c.in_ok-found.ensures.moves (λ docs after h. h.same) c.in_ok-found.ensures.crash
+    (λ docs after h. id_removes docs after n nb id c.in_ok-found.field-0 x c.in_ok-name.ensures.1 c.in_ok-name.ensures.0 c.in-Some.is h) c.in_err-remove_at.field-0.0 c.in_err-remove_at.ensures.crash c.in_err-remove_at.ensures.moves)
+
+pub returns-clause-crash : goal.returns-clause-crash
+returns-clause-crash g c =
+    let s = held g.S.Store c.args.self.now in
+    let t = table_state g.S.Store c.remove_at.new.self in
+    accepted_leaves s t (model.on c.args.name.now (model.remove (view c.args.id.now))) model.done (λ e. e)
+    (λ clean docs stands. let y = (c.in_ok-found.ensures.moves (omega (arith, clean, c.remove_at.ensures.crash.clean))).1 docs stands in (c.in_ok-remove_at.ensures.open clean y.0 y.1).1)
+    (λ db up may. g.met.S.Store.settled (table_connection c.remove_at.new.self).store db up may) (returns-clause-moves g c)
