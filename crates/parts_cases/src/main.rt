@@ -17,6 +17,7 @@
 //! - `plain`, `depth`, `normal`, `id_key`, with a VALUE: whether it has no 00 where none may stand, its levels, its normal form, the
 //!   key of a document with it as `_id`. `key DOCUMENT`: the key of its meaning. `sorted DIGITS`: its bytes with the keys in order.
 //! - `same`, `view`, with two values: whether they mean the same; of `view` the first is a DOCUMENT that is read from its bytes.
+//!   `alike`, with two values that have canonical trees: whether they have the same.
 //! - `gate BYTES`: what the gate says.
 //! - `filter TEXT`: what it reads as. `selects FILTER | BYTES`: whether it selects the document.
 //! - `means KEPT | ASKED`: whether `{v: KEPT}` is selected by what asks for ASKED at `v`.
@@ -53,6 +54,7 @@ fn answer(alloc: Global, word: &str, rest: &str) -> Result<String, TextError> {
         "sorted" => meaning::in_order(alloc, rest),
         "same" => meaning::same(alloc, rest),
         "view" => meaning::view(alloc, rest),
+        "alike" => meaning::alike(alloc, rest),
         "gate" => meaning::gate_of(alloc, rest),
         "filter" => filters::filter(alloc, rest),
         "selects" => filters::selects_bytes(alloc, rest),

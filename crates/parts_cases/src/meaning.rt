@@ -52,6 +52,22 @@ fn same_as(alloc: Global, first: &Bson, second: &str) -> Result<String, TextErro
     tell::shown(alloc, &same_meaning(first, &second))
 }
 
+/// The canonical tree of a value, as a text.
+fn tree_text(alloc: Global, text: &str) -> Result<String, TextError> {
+    match told::value(alloc, text)?.into_canonical_extjson(alloc) {
+        Ok(tree) => Ok(tree.to_string(alloc)?),
+        Err(_) => Err(TextError::Unreadable),
+    }
+}
+
+/// Whether two values, which have canonical trees, have the same.
+pub fn alike(alloc: Global, rest: &str) -> Result<String, TextError> {
+    let (first, second) = told::halves(rest)?;
+    let first = tree_text(alloc, first)?;
+    let is_alike = first == tree_text(alloc, second)?;
+    tell::shown(alloc, &is_alike)
+}
+
 /// Whether a document, read from its bytes, means the same as a value.
 pub fn view(alloc: Global, rest: &str) -> Result<String, TextError> {
     let (first, second) = told::halves(rest)?;

@@ -3,7 +3,8 @@
 //!
 //! Before the first title each line stands alone: `export_memory TIMES` tells how far an export gets where memory is refused, as the
 //! page of `exporting` says, `usage` is the example of docs/USING.md on stores, and the others are cases of bson_table, of which the
-//! page of `table` tells.
+//! page of `table` tells. `stopped log` and `stopped database` stop a file under the store at each of its calls, one after the other;
+//! they are answered by a row for each that went otherwise than the one before it, as the page of `stopping` says.
 //!
 //! A line that begins with `# ` is a title, and begins a block of lines over a new database in memory. A block has
 //!
@@ -32,6 +33,7 @@ mod counting;
 mod exporting;
 mod lists;
 mod replies;
+mod stopping;
 mod table;
 mod usage;
 mod words;
@@ -43,6 +45,7 @@ fn answer_alone(rt: &HostRuntime, line: &str) -> io::Result<()> {
     let (word, rest) = line.split_once(' ').unwrap_or((line, ""));
     match word {
         "export_memory" => rt.println(exporting::answer(rt.alloc(), rest)),
+        "stopped" => rt.print(stopping::answer(rt.alloc(), rest)?),
         "usage" => rt.println(usage::answer(rt.alloc())),
         _ => rt.println(table::answer(rt.alloc(), line)?),
     }
