@@ -2,10 +2,19 @@
 
 use std::alloc::{AllocError, Global};
 
+/// How many bytes the empty document has.
+const EMPTY: u32 = 5;
+
+/// How many bytes a document with one document under an empty key has beside that: a length, a tag, two times 00.
+const LEVEL: u32 = 7;
+
 /// The bytes that a text tells. None where it tells none, or where memory is wanted.
 pub fn told_by(alloc: Global, text: &str) -> Option<Vec<u8>> {
     if let Some(lines) = text.strip_prefix("lines:") {
         return bytes_of_lines(alloc, lines).ok();
+    }
+    if let Some(levels) = text.strip_prefix("levels:") {
+        return bytes_of_levels(alloc, levels.parse::<u32>().ok()?).ok();
     }
     let mut bytes = Vec::new(alloc);
     for part in text.split('+') {
@@ -18,6 +27,21 @@ pub fn told_by(alloc: Global, text: &str) -> Option<Vec<u8>> {
 fn bytes_of_lines(alloc: Global, text: &str) -> Result<Vec<u8>, AllocError> {
     let lines = text.replace(alloc, '|', "\n")?;
     Vec::from_slice(alloc, lines.as_bytes())
+}
+
+/// The bytes of an empty document with so many others around it, each with one empty key; itself counted.
+fn bytes_of_levels(alloc: Global, levels: u32) -> Result<Vec<u8>, AllocError> {
+    let mut bytes = Vec::new(alloc);
+    for inside in (1..levels).rev() {
+        let size = inside.saturating_mul(LEVEL).saturating_add(EMPTY);
+        bytes.extend_from_slice(&size.to_le_bytes())?;
+        bytes.extend_from_slice(&[3, 0])?;
+    }
+    bytes.extend_from_slice(&EMPTY.to_le_bytes())?;
+    for _ in 0..levels {
+        bytes.push(0)?;
+    }
+    Ok(bytes)
 }
 
 /// Puts bytes behind the others: those of hexadecimal digits, as often as stands before a star.

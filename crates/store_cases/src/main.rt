@@ -22,7 +22,7 @@
 //! calls, and the output or the faults after so many bytes: the answer then ends with how often the input, the output and the faults failed.
 //!
 //! BYTES are hexadecimal digits, as often as a number and a star before them say, with `+` between what stands one after the other; or
-//! `lines:A|B`, the text of lines. The longest of these cases take a second or two as they are built for the gate, and minutes under
+//! `lines:A|B`, the text of lines; or `levels:N`, documents of so many levels with empty keys. The longest of these cases take a second or two as they are built for the gate, and minutes under
 //! `rt try`.
 #![tactic(auto)]
 
