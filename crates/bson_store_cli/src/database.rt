@@ -2,8 +2,9 @@
 
 ghost use Rattle.std.specs.Prelude.{◌<◌, ◌^◌, ◌-◌};
 
+use crate::opening;
 use bson_store::{ErrorKind, Sink, Source, Store};
-use sqlite::{Alter, Connection, Error, ErrorCode, File, FileStore};
+use sqlite::{Alter, Connection, File, FileStore};
 use std::alloc::Global;
 use std::io;
 use store_program::execute;
@@ -32,14 +33,6 @@ pub fn unread<F: Sink>(error: io::Error, faults: &mut F) -> u8
     match error.kind() {
         io::ErrorKind::OutOfMemory => refuse(faults, ErrorKind::Memory),
         _ => misuse(faults),
-    }
-}
-
-/// Why a file isn't opened.
-fn kind_of(error: Error) -> ErrorKind {
-    match error {
-        Error::SqliteFailure(ErrorCode::OutOfMemory) => ErrorKind::Memory,
-        _ => ErrorKind::Database,
     }
 }
 
@@ -88,12 +81,12 @@ pub fn serve<I: Source, O: Sink, F: Sink>(
     let Some(words) = read_words(words) else {
         return misuse(faults);
     };
-    match Connection::open(rt, words.file) {
+    match opening::open(rt, words.file) {
         Ok(connection) => {
             let (status, connection) = over(rt.alloc(), connection, &words, input, output, faults);
             close(connection);
             status
         }
-        Err(error) => refuse(faults, kind_of(error)),
+        Err(kind) => refuse(faults, kind),
     }
 }

@@ -3,6 +3,7 @@
 #![tactic(auto)]
 
 mod database;
+mod opening;
 
 use bson_store::Counted;
 use database::serve;

@@ -58,7 +58,7 @@ fn is_filled<S: Alter + Drop>(store: &mut Store<S>) -> bool {
 }
 
 /// Takes memory so often. Whether it was there.
-fn is_allocated(alloc: Global, times: usize) -> bool {
+pub fn is_allocated(alloc: Global, times: usize) -> bool {
     for _ in 0..times {
         let room: Result<Vec<u8>, AllocError> = Vec::with_capacity(alloc, 1);
         if room.is_err() {
