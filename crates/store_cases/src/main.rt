@@ -5,7 +5,7 @@
 //! page of `exporting` says, `usage` is the example of docs/USING.md on stores, and the others are cases of bson_table, of which the
 //! page of `table` tells. `stopped log` and `stopped database` stop a file under the store at each of its calls, one after the other;
 //! they are answered by a row for each that went otherwise than the one before it, as the page of `stopping` says.
-//! `memory TIMES` runs a list of commands, as the page of `memory` says.
+//! `limited` does the like with a limit on the steps of a statement, as the page of `limiting` says. `memory TIMES` runs a list of commands, as the page of `memory` says.
 //!
 //! A line that begins with `# ` is a title, and begins a block of lines over a new database in memory. A block has
 //!
@@ -32,6 +32,7 @@ mod bytes;
 mod commands;
 mod counting;
 mod exporting;
+mod limiting;
 mod lists;
 mod memory;
 mod replies;
@@ -46,6 +47,7 @@ use std::io;
 fn answer_alone(rt: &HostRuntime, line: &str) -> io::Result<()> {
     let (word, rest) = line.split_once(' ').unwrap_or((line, ""));
     match word {
+        "limited" => rt.print(limiting::answer(rt.alloc())?),
         "memory" => rt.println(memory::answer(rt.alloc(), rest)),
         "export_memory" => rt.println(exporting::answer(rt.alloc(), rest)),
         "stopped" => rt.print(stopping::answer(rt.alloc(), rest)?),

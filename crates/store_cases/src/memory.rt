@@ -3,8 +3,7 @@
 //! The list has every command of `run`. It is run over a new store in memory, and then, over another one, without the commands that
 //! replied `Memory`: the other replies and the documents in the end have to be the same. Where `run` itself returns that it is out of
 //! memory, nothing may have changed. Before that, memory is taken as often as the line says: under `rt try --fail-alloc N` that number
-//! decides which allocation is refused, so that all can be tried with one build (`.ci/refused_memory`). `well` has to be printed
-//! each time: also if the refused one belongs to the second store, or to a text, which shows nothing.
+//! decides which allocation is refused, so that all can be tried with one build (`.ci/refused_memory`).
 
 use crate::commands::command_of;
 use crate::exporting::is_allocated;
@@ -42,21 +41,20 @@ const COMMANDS: [&str; 22] = [
 /// What the documents in the end are asked by.
 const STATE: [&str; 3] = ["collections", "export|c", "export|d"];
 
-/// Whether all is well, once memory was taken so often. What tells no number is 0.
+/// What came of the list, once memory was taken so often. What tells no number is 0.
 pub fn answer(alloc: Global, times: &str) -> &'static str {
     if !is_allocated(alloc, times.parse::<usize>().unwrap_or(0)) {
         return "refused before the list";
     }
-    match is_well(alloc) {
-        Ok(true) => "well",
-        Ok(false) => "not well",
-        // Memory was refused to a text, or to the second store.
-        Err(_) => "well",
+    match compared(alloc) {
+        Ok(outcome) => outcome,
+        Err(_) => "well: memory was refused elsewhere",
     }
 }
 
-/// Runs the list, and then what of it wasn't out of memory, and compares. Out of memory where nothing can be compared.
-fn is_well(alloc: Global) -> Result<bool, AllocError> {
+/// Runs the list, and then what of it wasn't out of memory, and compares. Out of memory where nothing can be compared: the refused
+/// allocation belongs to the second store, or to a text.
+fn compared(alloc: Global) -> Result<&'static str, AllocError> {
     let mut kept = Vec::new(alloc);
     let first = told_of_new(alloc, &COMMANDS, &mut kept)?;
     let mut again = Vec::new(alloc);
@@ -64,7 +62,14 @@ fn is_well(alloc: Global) -> Result<bool, AllocError> {
     if again.len() < kept.len() {
         return Err(AllocError);
     }
-    Ok(first == second)
+    if first != second {
+        return Ok("not well");
+    }
+    if kept.len() < COMMANDS.len() {
+        Ok("well: some command was out of memory")
+    } else {
+        Ok("well")
+    }
 }
 
 /// What commands reply over a new store in memory, and what is there in the end. The commands that aren't out of memory are put into a

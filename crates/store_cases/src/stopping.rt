@@ -14,7 +14,7 @@ use sqlite_disk::{Crash, Disk, Fuse, Memory};
 use std::alloc::{AllocError, Global};
 
 /// The commands: two documents, a value set, two documents at once, a document replaced, a document less.
-const COMMANDS: [&str; 6] = [
+pub const COMMANDS: [&str; 6] = [
     "insert_raw|c|0e000000105f6964000100000000",
     "insert_raw|c|0e000000105f6964000200000000",
     "set|c|1|a|1",
@@ -179,7 +179,7 @@ fn go_on<S: Alter + Drop>(
 }
 
 /// The documents of the collection.
-fn shown<S: Alter + Drop>(alloc: Global, store: &mut Store<S>) -> Result<String, AllocError> {
+pub fn shown<S: Alter + Drop>(alloc: Global, store: &mut Store<S>) -> Result<String, AllocError> {
     let mut text = String::new(alloc);
     match store.dump_json("c") {
         Ok(trees) => show_all(alloc, trees.as_slice(), &mut text)?,

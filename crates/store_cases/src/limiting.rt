@@ -1,0 +1,105 @@
+//! Statements under the store that may take few steps only.
+//!
+//! A connection gets a limit on the steps of a statement, a store is opened over it, the commands of `stopping` are run, each whether the ones
+//! before it were refused or not, and the store is closed. Then the limit is lifted, and the store is opened again. The limit goes
+//! from 1 upwards until nothing is refused. A row says what the open or the commands replied under it, and what is found afterwards, which are
+//! the documents of the commands that weren't refused. Which limit a command needs is the database's own matter.
+
+use crate::lists;
+use crate::replies::tell_refusal;
+use crate::stopping::{COMMANDS, shown};
+use bson_store::Store;
+use sqlite::{Alter, Connection};
+use std::alloc::{AllocError, Global};
+
+/// Behind the greatest limit that is tried.
+const MOST: u64 = 1000;
+
+/// The rows of all limits. One that is that of the limit before it is left out.
+pub fn answer(alloc: Global) -> Result<String, AllocError> {
+    let mut rows = String::new(alloc);
+    let mut last = String::new(alloc);
+    for limit in 1..MOST {
+        let row = row_of(alloc, limit)?;
+        if row.as_str() != last.as_str() {
+            rows.push_str(row.as_str())?;
+        }
+        last = row;
+        if !last.contains("Refused") {
+            break;
+        }
+    }
+    Ok(rows)
+}
+
+/// The row of a limit, over a new database in memory.
+fn row_of(alloc: Global, limit: u64) -> Result<String, AllocError> {
+    let mut row = String::from_str(alloc, "limit: ")?;
+    match Connection::open_in_memory(alloc) {
+        Ok(connection) => {
+            let (connection, outcome) = limited(alloc, connection, limit, &mut row);
+            drop(connection);
+            outcome?;
+        }
+        Err(_) => row.push_str("no database")?,
+    }
+    row.push_str("\n")?;
+    Ok(row)
+}
+
+/// Runs the commands under the limit, and looks at the documents without one.
+fn limited<S: Alter + Drop>(
+    alloc: Global,
+    mut connection: Connection<S>,
+    limit: u64,
+    row: &mut String,
+) -> (Connection<S>, Result<(), AllocError>) {
+    connection.set_step_limit(Some(limit));
+    let (mut connection, replied) = opened(alloc, connection, true, row);
+    connection.set_step_limit(None);
+    let (connection, found) = opened(alloc, connection, false, row);
+    (connection, replied.and(found))
+}
+
+/// Opens the store, runs the commands or looks at the documents, and closes it again.
+fn opened<S: Alter + Drop>(
+    alloc: Global,
+    connection: Connection<S>,
+    is_limited: bool,
+    row: &mut String,
+) -> (Connection<S>, Result<(), AllocError>) {
+    match Store::open(alloc, connection) {
+        Ok(mut store) => {
+            let outcome = if is_limited {
+                reply(alloc, &mut store, row)
+            } else {
+                find(alloc, &mut store, row)
+            };
+            (store.close(), outcome)
+        }
+        Err((error, connection)) => (connection, tell_refusal(alloc, error, row)),
+    }
+}
+
+/// Runs the commands.
+fn reply<S: Alter + Drop>(
+    alloc: Global,
+    store: &mut Store<S>,
+    row: &mut String,
+) -> Result<(), AllocError> {
+    for command in COMMANDS.iter() {
+        row.push_str(lists::answer(alloc, store, command)?.as_str())?;
+        row.push_str(", ")?;
+    }
+    row.push_str("the end")
+}
+
+/// Looks at the documents.
+fn find<S: Alter + Drop>(
+    alloc: Global,
+    store: &mut Store<S>,
+    row: &mut String,
+) -> Result<(), AllocError> {
+    row.push_str("; found ")?;
+    row.push_str(shown(alloc, store)?.as_str())
+}
