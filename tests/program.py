@@ -12,7 +12,10 @@ import subprocess
 import sys
 import tempfile
 
-import bson
+try:
+    import bson
+except ImportError:
+    sys.exit("program.py: needs sqlite3 and Python's bson, of Debian: apt-get install sqlite3 python3-bson")
 
 PROGRAM = sys.argv[1]
 FILE = pathlib.Path(tempfile.mkdtemp()) / "test.db"

@@ -1,6 +1,6 @@
 #!/bin/sh
 # Measures the program's commands on a file beside C over libbson and SQLite and Python's bson and sqlite3.
-# Needs Debian's gcc, pkg-config, libbson-dev, libsqlite3-dev and python3-pymongo, and the built program.
+# Needs Debian's gcc, pkg-config, libbson-dev, libsqlite3-dev and python3-pymongo, and the proved program (./prove).
 set -e
 cd "$(dirname -- "$(readlink -f -- "$0")")"
 rounds=${1:-3}

@@ -4,11 +4,11 @@
 set -e
 cd "$(dirname -- "$(readlink -f -- "$0")")"
 rounds=${1:-15}
-program=../../bson_store
+../../prove
+program=../../crates/bson_store_cli/out/bson_store_cli
 mkdir -p out
 $program < ../../samples/hello.bson > out/hello.bson
 cmp out/hello.bson ../../samples/hello.bson
-program=../../crates/bson_store_cli/out/bson_store_cli
 # shellcheck disable=SC2046
 gcc -O2 -o out/libbson libbson.c $(pkg-config --cflags --libs libbson-1.0)
 /usr/bin/python3 documents.py tree 1000000 > out/1MB.bson
