@@ -10,8 +10,9 @@ ghost use Rattle.bson_model.specs.View.{view, members_of, pairs_of};
 ghost use Rattle.store_laws.specs.State.{IsKept};
 ghost use Rattle.store_documents.specs.Bodies.{AnswersChanged, AnswersUnset};
 
-use crate::read::{LEVELS, read_bytes};
+use crate::read::read_bytes;
 use crate::write::body_of;
+use bson_frame::LEVEL_LIMIT;
 use bson_meaning::{depth_of_document, normalize, sort_keys};
 use bson_model::{Bson, Document};
 use std::alloc::{AllocError, Global};
@@ -53,7 +54,7 @@ fn put_normal(
 fn changed_body(alloc: Global, document: &Document) -> Result<Vec<u8>, ErrorKind>
     ensures { AnswersChanged (members_of (pairs_of document.now)) result }
 {
-    if depth_of_document(document) > LEVELS {
+    if depth_of_document(document) > LEVEL_LIMIT {
         return Err(ErrorKind::TooDeep);
     }
     body_of(alloc, document)
