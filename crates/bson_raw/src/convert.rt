@@ -53,8 +53,7 @@ fn put_pair(
     ensures { OnOk result (pairs_of document.new ≡ put key.now (view value) (pairs_of document.old)) }
 {
     let key = String::from_str(alloc, key)?;
-    document.insert(key, value)?;
-    Ok(())
+    document.put(key, value)
 }
 
 /// Puts a pair last, to be put into a document with the others.

@@ -31,8 +31,7 @@ fn kept_value(alloc: Global, value: Bson) -> Result<Bson, AllocError>
 fn put_value(document: &mut Document, key: String, value: Bson) -> Result<(), AllocError>
     ensures { OnOk result (pairs_of document.new ≡ put_pair (string_bytes key) (view value) (pairs_of document.old)) }
 {
-    drop(document.insert(key, value)?);
-    Ok(())
+    document.put(key, value)
 }
 
 /// Puts the normal form of a value, with its keys in order, under a key.

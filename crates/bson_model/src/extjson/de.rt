@@ -1,8 +1,7 @@
 //! Extended JSON v2 as it is read (MongoDB Extended JSON v2, "Parsing").
-ghost use Rattle.std.specs.Prelude.{◌≡◌, map, string_bytes, OnOk};
+ghost use Rattle.std.specs.Prelude.{◌≡◌, map, string_bytes};
 ghost use Rattle.std.specs.Option.{option_map};
 ghost use Rattle.serde_json.specs.View.{view as tree_of, number_view, items_view, members_view};
-ghost use Rattle.bson_model.specs.Keyed.{put};
 ghost use Rattle.bson_model.specs.View.{view, pairs_of, items_of, members_of};
 ghost use Rattle.bson_model.specs.JsonKeys.{any_reserved};
 ghost use Rattle.bson_model.specs.JsonRead.{GivesReading, read as value_of, read_items as items_read, read_members as members_read, read_typed as typed_of, read_scope as scope_of, text_of as spec_text, whole, code_and_scope as spec_scoped, integer as integer_of};
@@ -17,7 +16,7 @@ use crate::document::Document;
 use crate::levels::{STACK_LEVELS, levels_inside};
 use bodies::{read_wrapped, text_of};
 use bson_base::oid;
-use keys::is_reserved;
+pub use keys::is_reserved_key;
 use serde_json::{Map, Number, Value};
 use std::alloc::{AllocError, AllocFailed, Global};
 use thiserror::Error as ThisError;
@@ -81,7 +80,7 @@ fn has_reserved(members: &Map<String, Value>) -> bool
     ensures { result ≡ any_reserved (members_view members.now.entries) }
 {
     for (key, _) in members {
-        if is_reserved(key) {
+        if is_reserved_key(key) {
             return true;
         }
     }
@@ -114,13 +113,6 @@ fn with_scope(code: String, scope: Option<Document>) -> Bson
         Some(scope) => Bson::JavaScriptCodeWithScope(JavaScriptCodeWithScope { code, scope }),
         None => Bson::JavaScriptCode(code),
     }
-}
-
-fn add(document: &mut Document, key: String, value: Bson) -> std::result::Result<(), AllocError>
-    ensures { OnOk result (pairs_of document.new ≡ put (string_bytes key) (view value) (pairs_of document.old)) }
-{
-    drop(document.insert(key, value)?);
-    Ok(())
 }
 
 /// The value of a JSON tree, among which so many levels may lie.
@@ -163,7 +155,7 @@ fn read_members(alloc: Global, members: Map<String, Value>, levels: u32) -> Resu
 {
     let mut document = Document::new(alloc);
     for (key, value) in members {
-        add(&mut document, key, read(alloc, value, levels)?)?;
+        document.put(key, read(alloc, value, levels)?)?;
     }
     Ok(document)
 }
