@@ -70,3 +70,70 @@ pub fn canonical(alloc: Global, value: Bson) -> Result<String, AllocError> {
 pub fn relaxed(alloc: Global, value: Bson) -> Result<String, AllocError> {
     written(alloc, value.into_relaxed_extjson(alloc))
 }
+
+/// An object that holds a tree under the empty key.
+fn object_around(alloc: Global, tree: Value) -> Result<Value, AllocError> {
+    let mut members = Map::new(alloc);
+    drop(members.insert(String::new(alloc), tree)?);
+    Ok(Value::Object(members))
+}
+
+/// A code with this scope.
+fn code_around(alloc: Global, scope: Value) -> Result<Value, AllocError> {
+    let code = Value::String(String::new(alloc));
+    let mut members = Map::new(alloc);
+    drop(members.insert(String::from_str(alloc, "$code")?, code)?);
+    drop(members.insert(String::from_str(alloc, "$scope")?, scope)?);
+    Ok(Value::Object(members))
+}
+
+/// A tree around another one, in an array, an object or the scope of a code.
+fn around(alloc: Global, kind: &str, tree: Value) -> Result<Value, AllocError> {
+    match kind {
+        "arrays" => {
+            let mut items = Vec::new(alloc);
+            items.push(tree)?;
+            Ok(Value::Array(items))
+        }
+        "scopes" => code_around(alloc, object_around(alloc, tree)?),
+        _ => object_around(alloc, tree),
+    }
+}
+
+/// A tree of so many levels, the last of which is an empty object.
+fn nested(alloc: Global, kind: &str, levels: u32) -> Result<Value, AllocError> {
+    let mut tree = Value::Object(Map::new(alloc));
+    for _ in 1..levels {
+        tree = around(alloc, kind, tree)?;
+    }
+    Ok(tree)
+}
+
+/// Whether a value is read of a tree of many levels, or the error's name.
+pub fn deep(alloc: Global, rest: &str) -> Result<String, AllocError> {
+    let (kind, levels) = rest.split_once(' ').unwrap_or((rest, ""));
+    let levels = levels.parse::<u32>().unwrap_or(0);
+    match Bson::try_from_value(alloc, nested(alloc, kind, levels)?) {
+        Ok(value) => {
+            drop(value);
+            String::from_str(alloc, "read")
+        }
+        Err(error) => format!(in alloc; "{error:?}"),
+    }
+}
+
+/// Whether a document is read of an object of many levels, or the error's name.
+pub fn deep_document(alloc: Global, rest: &str) -> Result<String, AllocError> {
+    let (kind, levels) = rest.split_once(' ').unwrap_or((rest, ""));
+    let levels = levels.parse::<u32>().unwrap_or(0);
+    let Value::Object(members) = nested(alloc, kind, levels)? else {
+        return String::from_str(alloc, "no object");
+    };
+    match Document::try_from_map(alloc, members) {
+        Ok(document) => {
+            drop(document);
+            String::from_str(alloc, "read")
+        }
+        Err(error) => format!(in alloc; "{error:?}"),
+    }
+}

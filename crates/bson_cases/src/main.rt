@@ -2,6 +2,8 @@
 //! standard output answers it. The files `stdin` and `stdout` hold the cases and their answers.
 //!
 //! - `read`, `read_map`, `read_document`, with a JSON text: kind, text and canonical Extended JSON of what it reads as.
+//! - `deep`, `deep_document`, with `arrays`, `objects` or `scopes` and a number: whether a value, or a document, is read of a JSON tree of
+//!   so many of them inside each other.
 //! - `canonical`, `relaxed`, with a value: its tree of Extended JSON.
 //! - `show`, with a value: its text. `show_alone`, with a document or a code with scope: the text of that by itself.
 //! - `show_wide`, with a value: its text where a width of 60 and a fill are asked for. `show_wide_content`: the same of what the value
@@ -68,6 +70,8 @@ fn answer(alloc: Global, line: &str) -> Result<String, AllocError> {
         "read" => json::read(alloc, rest),
         "read_map" => json::read_map(alloc, rest),
         "read_document" => json::read_document(alloc, rest),
+        "deep" => json::deep(alloc, rest),
+        "deep_document" => json::deep_document(alloc, rest),
         "canonical" | "relaxed" => cases::tree(alloc, word, rest),
         _ => match scalars::answer(alloc, word, rest)? {
             Some(told) => Ok(told),

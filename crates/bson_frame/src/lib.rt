@@ -16,6 +16,6 @@ pub use error::{
 };
 pub use extent::name_at;
 pub use first::{frame, is_end, sized_frame};
-pub use limits::{LENGTH_LIMIT, SIZE_LIMIT};
+pub use limits::{LENGTH_LIMIT, LEVEL_LIMIT, SIZE_LIMIT};
 pub use parts::Frame;
 pub use payload::{is_envelope, payload_fault, text_at};

@@ -5,7 +5,7 @@ ghost use Rattle.bson_frame.specs.Payload.{IsPayload, IsFaultless, scope_in};
 ghost use Rattle.bson_base.specs.declared.spec.ElementType.TheVariants.{JavaScriptCodeWithScope};
 ghost use Rattle.bson_meaning.specs.Gate.{HoldsDocument, IsCounted, IsRefused, Passes, ReadsElements, ReadsPayload};
 
-use bson_frame::{Frame, SIZE_LIMIT, is_end, payload_fault, sized_frame, text_at};
+use bson_frame::{Frame, LEVEL_LIMIT, SIZE_LIMIT, is_end, payload_fault, sized_frame, text_at};
 use bson_model::ElementType;
 use thiserror::Error;
 
@@ -29,9 +29,6 @@ pub enum GateError {
     TooDeep,
 }
 
-/// How many levels there may be inside the outermost document.
-const INNER_LEVELS: u32 = 99;
-
 /// Tests whether bytes are a document (bsonspec.org 1.1, "document") of at most 16777216 bytes and 100 levels, without a fault
 /// at any level. The error is that of the first test that fails, in the order of `GateError`; where there is a fault and too
 /// many levels, either is told. Takes no memory, and goes no deeper than 100 levels.
@@ -43,7 +40,7 @@ pub fn gate(bytes: &[u8]) -> Result<(), GateError>
         return Err(GateError::NotTerminated);
     }
     let (_, elements) = bytes.split_at(4);
-    test_elements(elements, INNER_LEVELS)
+    test_elements(elements, LEVEL_LIMIT - 1)
 }
 
 fn test_length(bytes: &[u8]) -> Result<(), GateError>
@@ -64,7 +61,7 @@ fn test_length(bytes: &[u8]) -> Result<(), GateError>
 
 /// Tests the elements of a document, down to its last byte, among which so many levels may lie.
 #[cycle(elements)]
-fn test_elements(elements: &[u8], inner: u32) -> Result<(), GateError>
+fn test_elements(elements: &[u8], inner: usize) -> Result<(), GateError>
     ensures { ReadsElements elements.now inner result }
 {
     let mut rest = elements;
@@ -81,7 +78,7 @@ fn test_elements(elements: &[u8], inner: u32) -> Result<(), GateError>
 }
 
 #[cycle(elements)]
-fn test_payload(frame: &Frame<'_>, inner: u32) -> Result<(), GateError>
+fn test_payload(frame: &Frame<'_>, inner: usize) -> Result<(), GateError>
     requires { IsPayload frame.now.tag frame.now.payload.now }
     ensures { ReadsPayload frame.now.tag frame.now.payload.now inner result }
 {

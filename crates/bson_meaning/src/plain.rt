@@ -5,6 +5,7 @@ ghost use Rattle.bson_base.specs.Kinds.{HasNo00, IsPlain, IsPlainScalar};
 ghost use Rattle.bson_base.specs.Value.{document as tree, member, no_members, EachItem, EachMember};
 ghost use Rattle.bson_model.specs.View.{view, pairs_of, items_of, members_of};
 
+use bson_bytes::put::has_no_zero;
 use bson_model::{Bson, Document};
 
 /// Whether no key, no pattern and no options in the value hold a byte 00, which would end them when they are written
@@ -18,7 +19,7 @@ pub fn is_plain(value: &Bson) -> bool
         Bson::Document(document) => has_plain_members(document),
         Bson::JavaScriptCodeWithScope(code) => has_plain_members(&code.scope),
         Bson::RegularExpression(regex) => {
-            has_no_00(regex.pattern.as_str()) && has_no_00(regex.options.as_str())
+            has_no_zero(regex.pattern.as_bytes()) && has_no_zero(regex.options.as_bytes())
         }
         _ => true,
     }
@@ -35,7 +36,7 @@ pub fn is_plain_document(document: &Document) -> bool
 pub(crate) fn is_plain_element(name: &str, value: &Bson) -> bool
     ensures { IsTrue result ↔ IsPlain (tree (member name.now (view value.now) no_members)) }
 {
-    has_no_00(name) && is_plain(value)
+    has_no_zero(name.as_bytes()) && is_plain(value)
 }
 
 #[cycle(plain)]
@@ -55,18 +56,7 @@ pub(crate) fn has_plain_members(document: &Document) -> bool
     ensures { IsTrue result ↔ EachMember HasNo00 IsPlainScalar (members_of (pairs_of document.now)) }
 {
     for (key, value) in document {
-        if !has_no_00(key.as_str()) || !is_plain(value) {
-            return false;
-        }
-    }
-    true
-}
-
-fn has_no_00(text: &str) -> bool
-    ensures { IsTrue result ↔ HasNo00 text.now }
-{
-    for byte in text.as_bytes() {
-        if *byte == 0 {
+        if !has_no_zero(key.as_bytes()) || !is_plain(value) {
             return false;
         }
     }

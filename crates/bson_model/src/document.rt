@@ -127,6 +127,16 @@ impl Document {
         self.pairs.insert(key, value)
     }
 
+    /// Puts a value under a key as `insert` does, and drops the value that was there.
+    pub fn put(&mut self, key: String, value: Bson) -> Result<(), AllocError>
+        ensures ok { OnOk result (pairs_of self.new ≡ put (string_bytes key) (view value) (pairs_of self.old)) }
+        ensures err { OnErr result (self.new ≡ self.old) }
+        ensures absent { OnErr result (get (string_bytes key) (pairs_of self.old) ≡ None) }
+    {
+        drop(self.insert(key, value)?);
+        Ok(())
+    }
+
     // The value under the key, after `default` was put last where there was none.
     #[tactic(auto, using(crate::proofs::Seen::seen_or_default, crate::proofs::Seen::put_seen, crate::proofs::Seen::seen_absent))]
     pub(crate) fn get_or_insert(

@@ -3,4 +3,5 @@
 pub mod de;
 mod ser;
 
+pub use de::is_reserved_key;
 pub use ser::Mode;

@@ -7,6 +7,7 @@ mod display;
 pub mod document;
 pub mod extjson;
 pub mod laws;
+mod levels;
 
 pub use bson::{Array, Bson, JavaScriptCodeWithScope};
 pub use bson_base::{
@@ -15,3 +16,4 @@ pub use bson_base::{
     datetime, decimal128, oid, spec, uuid,
 };
 pub use document::Document;
+pub use levels::{STACK_LEVELS, levels_inside};

@@ -16,7 +16,7 @@ use crate::document::RawDocument;
 use crate::element::RawElement;
 use bson_base::{DateTime, DoubleBits, ObjectId, Timestamp};
 use bson_frame::{Error, ValueAccessResult};
-use bson_model::Array;
+use bson_model::{Array, STACK_LEVELS};
 use std::alloc::Global;
 
 /// A view of the bytes of an array: a document whose keys don't count (bsonspec.org 1.1, element type 04). Two views are equal
@@ -223,13 +223,13 @@ impl RawArray<'_> {
 
     /// The items that the bytes mean, in their order, whatever their keys.
     ///
-    /// Errors are those of `RawDocument::to_document`: the first fault at any depth, or `OutOfMemory`.
+    /// Errors are those of `RawDocument::to_document`: the first fault at any depth, or `OutOfMemory`. The array counts as a level.
     pub fn to_array(self, alloc: Global) -> Result<Array, Error>
         ensures tree { MatchResult result (λ a. MeansItems (array_bytes self.entry) (items_of (map view a.items)))
             (TellsFault (HasFault (drop 4 (array_bytes self.entry)))) }
         ensures none { IfErr result (TellsFault (λ _ _. (items : Items) → MeansItems (array_bytes self.entry) items → ⊥)) }
     {
         bson_frame::laws::one_first_frame();
-        array_of(alloc, elements(self.document))
+        array_of(alloc, elements(self.document), STACK_LEVELS - 1)
     }
 }

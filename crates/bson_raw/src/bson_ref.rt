@@ -9,7 +9,7 @@ use bson_base::{
     Binary, BinarySubtype, DateTime, Decimal128, DoubleBits, ElementType, ObjectId, Timestamp,
 };
 use bson_frame::Error;
-use bson_model::Bson;
+use bson_model::{Bson, STACK_LEVELS};
 use std::alloc::{AllocError, Global};
 
 /// Bytes with a subtype (bsonspec.org 1.1, element type 05). Of an old binary the bytes behind its inner length.
@@ -323,12 +323,13 @@ impl RawBsonRef<'_> {
     /// The tree of the value: documents, arrays and scopes inside are converted, and the options of a regular expression put
     /// into the order of their characters.
     ///
-    /// Errors are those of `RawDocument::to_document`: the first fault at any depth, or `OutOfMemory`.
+    /// Errors are those of `RawDocument::to_document`: the first fault at any depth, or `OutOfMemory`. A value that is a document,
+    /// an array or a code with scope counts as a level.
     pub fn to_bson(self, alloc: Global) -> Result<Bson, Error>
         ensures tree { ConvertsValue (ref_value self.entry) result }
         ensures none { IfErr result (TellsFault (λ _ _. (v : Value) → SpellsRawValue (ref_value self.entry) v → ⊥)) }
     {
         bson_frame::laws::one_first_frame();
-        tree_of(alloc, self)
+        tree_of(alloc, self, STACK_LEVELS)
     }
 }

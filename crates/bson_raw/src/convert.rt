@@ -1,5 +1,6 @@
 //! From bytes to trees. Elements are read from the front, once each, and the reader goes into an array, a document or a scope
-//! where it meets it; so the fault that is told is the first in the order of the bytes.
+//! where it meets it; so the fault that is told is the first in the order of the bytes. The stack is memory too: where more than
+//! `STACK_LEVELS` lie inside each other, a call returns out of memory before it goes deeper.
 
 ghost use Rattle.std.specs.Prelude.{◌≡◌, ◌≢◌, ℕ, List, ◌<◌, ◌↔◌, ◌∷◌, ◌+◌, [], drop, length, string_bytes, IfOk, IsTrue, MatchResult, OnOk};
 ghost use Rattle.bson_base.specs.Options.{sorted_text};
@@ -19,7 +20,7 @@ use crate::decode::value_of;
 use crate::document::RawDocument;
 use crate::element::fault_under;
 use bson_frame::{Error, Frame, frame, is_end};
-use bson_model::{Array, Bson, DbPointer, Document, JavaScriptCodeWithScope, Regex};
+use bson_model::{Array, Bson, DbPointer, Document, JavaScriptCodeWithScope, Regex, levels_inside};
 use std::alloc::{AllocError, Global};
 
 /// The next element, or the structural fault.
@@ -52,8 +53,7 @@ fn put_pair(
     ensures { OnOk result (pairs_of document.new ≡ put key.now (view value) (pairs_of document.old)) }
 {
     let key = String::from_str(alloc, key)?;
-    document.insert(key, value)?;
-    Ok(())
+    document.put(key, value)
 }
 
 /// Puts a pair last, to be put into a document with the others.
@@ -89,10 +89,10 @@ fn take_pair(
     }
 }
 
-/// The document of these elements. Many pairs are put together at the end, so that they take no more than their sorting, in
-/// whatever order of keys.
+/// The document of these elements, among which so many levels may lie. Many pairs are put together at the end, so that they
+/// take no more than their sorting, in whatever order of keys.
 #[cycle(convert)]
-pub(crate) fn document_of(alloc: Global, elements: &[u8]) -> Result<Document, Error>
+pub(crate) fn document_of(alloc: Global, elements: &[u8], levels: u32) -> Result<Document, Error>
     ensures { ConvertsMembers elements.now result }
 {
     bson_frame::laws::payload_by_itself();
@@ -101,7 +101,7 @@ pub(crate) fn document_of(alloc: Global, elements: &[u8]) -> Result<Document, Er
     let mut rest = elements;
     while !is_end(rest) {
         let frame = next_frame(rest)?;
-        let value = element_tree(alloc, &frame)?;
+        let value = element_tree(alloc, &frame, levels)?;
         take_pair(alloc, &mut document, &mut more, frame.key, value)?;
         rest = frame.rest;
     }
@@ -109,9 +109,9 @@ pub(crate) fn document_of(alloc: Global, elements: &[u8]) -> Result<Document, Er
     Ok(document)
 }
 
-/// The array of these elements, whatever their keys.
+/// The array of these elements, whatever their keys. So many levels may lie among them.
 #[cycle(convert)]
-pub(crate) fn array_of(alloc: Global, elements: &[u8]) -> Result<Array, Error>
+pub(crate) fn array_of(alloc: Global, elements: &[u8], levels: u32) -> Result<Array, Error>
     ensures { ConvertsItems elements.now result }
 {
     bson_frame::laws::payload_by_itself();
@@ -119,35 +119,41 @@ pub(crate) fn array_of(alloc: Global, elements: &[u8]) -> Result<Array, Error>
     let mut rest = elements;
     while !is_end(rest) {
         let frame = next_frame(rest)?;
-        let value = element_tree(alloc, &frame)?;
+        let value = element_tree(alloc, &frame, levels)?;
         items.push(value)?;
         rest = frame.rest;
     }
     Ok(items)
 }
 
-/// The tree of an element's value.
+/// The tree of an element's value, of at most so many levels.
 #[cycle(convert)]
-fn element_tree(alloc: Global, frame: &Frame<'_>) -> Result<Bson, Error>
+fn element_tree(alloc: Global, frame: &Frame<'_>, levels: u32) -> Result<Bson, Error>
     requires { IsPayload frame.now.tag frame.now.payload.now }
     ensures { ConvertsElement (element_of frame.now) result }
 {
     match value_of(frame.tag, frame.payload) {
-        Ok(value) => tree_of(alloc, value),
+        Ok(value) => tree_of(alloc, value, levels),
         Err(kind) => Err(fault_under(alloc, frame.key, kind)),
     }
 }
 
-/// The tree of a value that was read.
+/// The tree of a value that was read, of at most so many levels.
 #[cycle(convert)]
-pub(crate) fn tree_of(alloc: Global, value: RawBsonRef<'_>) -> Result<Bson, Error>
+pub(crate) fn tree_of(alloc: Global, value: RawBsonRef<'_>, levels: u32) -> Result<Bson, Error>
     ensures { ConvertsValue (ref_value value.entry) result }
 {
     match value {
         RawBsonRef::Double(x) => Ok(Bson::Double(x)),
         RawBsonRef::String(text) => Ok(Bson::String(String::from_str(alloc, text)?)),
-        RawBsonRef::Array(x) => Ok(Bson::Array(array_of(alloc, elements(x.document))?)),
-        RawBsonRef::Document(x) => Ok(Bson::Document(document_of(alloc, elements(x))?)),
+        RawBsonRef::Array(x) => {
+            let inside = levels_inside(levels)?;
+            Ok(Bson::Array(array_of(alloc, elements(x.document), inside)?))
+        }
+        RawBsonRef::Document(x) => {
+            let inside = levels_inside(levels)?;
+            Ok(Bson::Document(document_of(alloc, elements(x), inside)?))
+        }
         RawBsonRef::Boolean(x) => Ok(Bson::Boolean(x)),
         RawBsonRef::Null => Ok(Bson::Null),
         RawBsonRef::RegularExpression(x) => Ok(Bson::RegularExpression(regex_of(alloc, x)?)),
@@ -155,7 +161,8 @@ pub(crate) fn tree_of(alloc: Global, value: RawBsonRef<'_>) -> Result<Bson, Erro
             Ok(Bson::JavaScriptCode(String::from_str(alloc, text)?))
         }
         RawBsonRef::JavaScriptCodeWithScope(x) => {
-            Ok(Bson::JavaScriptCodeWithScope(scoped_of(alloc, x)?))
+            let inside = levels_inside(levels)?;
+            Ok(Bson::JavaScriptCodeWithScope(scoped_of(alloc, x, inside)?))
         }
         RawBsonRef::Int32(x) => Ok(Bson::Int32(x)),
         RawBsonRef::Int64(x) => Ok(Bson::Int64(x)),
@@ -172,15 +179,16 @@ pub(crate) fn tree_of(alloc: Global, value: RawBsonRef<'_>) -> Result<Bson, Erro
     }
 }
 
-/// Code with the tree of its scope.
+/// Code with the tree of its scope, among whose elements so many levels may lie.
 #[cycle(convert)]
 fn scoped_of(
     alloc: Global,
     value: RawJavaScriptCodeWithScopeRef<'_>,
+    levels: u32,
 ) -> Result<JavaScriptCodeWithScope, Error>
     ensures { MatchResult result (IsScopedOf value.entry) (TellsFault (HasFault (drop 4 (bytes_of value.entry.scope)))) }
 {
-    let scope = document_of(alloc, elements(value.scope))?;
+    let scope = document_of(alloc, elements(value.scope), levels)?;
     let code = String::from_str(alloc, value.code)?;
     Ok(JavaScriptCodeWithScope { code, scope })
 }

@@ -18,7 +18,7 @@ use crate::iter::Iter;
 use crate::raw_iter::RawIter;
 use bson_base::{DateTime, DoubleBits, ObjectId, Timestamp};
 use bson_frame::{Error, ErrorKind, ValueAccessResult, is_envelope};
-use bson_model::Document;
+use bson_model::{Document, STACK_LEVELS};
 use std::alloc::Global;
 
 /// A view of the bytes of one document (bsonspec.org 1.1, "document"): at least 5 bytes, their number in the first four, and
@@ -266,13 +266,14 @@ impl RawDocument<'_> {
     ///
     /// Where an element at any depth is faulty, the first fault in the order of the bytes: `MalformedValue`, or
     /// `Utf8EncodingError` where a text isn't UTF-8, under the key of the element whose payload is faulty, or under none where
-    /// bytes begin with no element. `OutOfMemory`, under no key, where a growth was refused.
+    /// bytes begin with no element. `OutOfMemory`, under no key, where a growth was refused, and where over 1000 documents, arrays
+    /// and scopes lie inside each other, this one among them: the stack is memory too, and the call goes no deeper.
     pub fn to_document(self, alloc: Global) -> Result<Document, Error>
         ensures tree { MatchResult result (λ d. Means (bytes_of self.entry) (members_of (pairs_of d)))
             (TellsFault (HasFault (drop 4 (bytes_of self.entry)))) }
         ensures none { IfErr result (TellsFault (λ _ _. IsFaulty (bytes_of self.entry))) }
     {
         bson_frame::laws::one_first_frame();
-        document_of(alloc, elements(self))
+        document_of(alloc, elements(self), STACK_LEVELS - 1)
     }
 }

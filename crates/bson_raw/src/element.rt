@@ -10,7 +10,7 @@ use crate::decode::value_of;
 use crate::laws::payload_of_an_element;
 use bson_base::ElementType;
 use bson_frame::{Error, ErrorKind, Frame};
-use bson_model::Bson;
+use bson_model::{Bson, STACK_LEVELS};
 use std::alloc::Global;
 
 /// An element whose value isn't read yet (bsonspec.org 1.1, "element"). Its payload has the size of its kind, as the walk
@@ -79,14 +79,15 @@ impl RawElement<'_> {
     ///
     /// Where the payload or an element at any depth inside is faulty, the first fault in the order of the bytes:
     /// `MalformedValue`, or `Utf8EncodingError` where a text isn't UTF-8, under the key of the element whose payload is
-    /// faulty, or under none where bytes begin with no element. `OutOfMemory`, under no key, where a growth was refused.
+    /// faulty, or under none where bytes begin with no element. `OutOfMemory`, under no key, where a growth was refused, and where
+    /// over 1000 documents, arrays and scopes lie inside each other, the value among them.
     pub fn to_bson(&self, alloc: Global) -> Result<Bson, Error>
         ensures tree { MatchResult result (IsValueOf (parts_of self.now)) (TellsFault (HasFaultIn (parts_of self.now))) }
         ensures none { IfErr result (TellsFault (λ _ _. (v : Value) → value_kind v ≡ (parts_of self.now).tag → SpellsValue (parts_of self.now).payload v → ⊥)) }
     {
         bson_frame::laws::one_first_frame();
         let value = self.value(alloc)?;
-        tree_of(alloc, value)
+        tree_of(alloc, value, STACK_LEVELS)
     }
 }
 

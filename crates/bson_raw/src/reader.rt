@@ -112,7 +112,8 @@ fn document_in(alloc: Global, bytes: &[u8]) -> Result<Document, ReadError>
 /// `Reader` where a read failed; `EndInside` where the reader ended inside the document, which took all that was left;
 /// `BadLength` where the declared length is under 5 or over 16777216, which took four bytes; `Raw` where the bytes mean no
 /// document, which took as many as are declared: `MalformedValue` under no key where the last isn't 00, else the fault that
-/// `to_document` tells; `Memory` where a growth was refused.
+/// `to_document` tells; `Memory` where a growth was refused, and where over 1000 levels lie inside each other, which took as many as
+/// are declared.
 pub fn from_reader<R: Source>(alloc: Global, reader: &mut R) -> Result<Document, ReadError>
     requires { (R.feed reader.old).failures < 2 ^ 64 - 1 }
     ensures { ReadsDocument (R.feed reader.old)

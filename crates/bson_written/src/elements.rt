@@ -71,7 +71,7 @@ fn is_new_binary(payload: &[u8]) -> bool
 
 /// True: the elements of a document are as they are written. So many levels may lie among them.
 #[cycle(written)]
-pub(crate) fn are_written(elements: &[u8], inner: u32) -> bool
+pub(crate) fn are_written(elements: &[u8], inner: usize) -> bool
     ensures { IsTrue result → AreWritten elements.now }
 {
     let mut keys: ArrayVec<&str, MOST_KEYS> = ArrayVec::new();
@@ -93,7 +93,7 @@ pub(crate) fn are_written(elements: &[u8], inner: u32) -> bool
 
 /// True: the elements of an array are as they are written.
 #[cycle(written)]
-fn are_items_written(elements: &[u8], inner: u32) -> bool
+fn are_items_written(elements: &[u8], inner: usize) -> bool
     ensures { IsTrue result → AreItemsWritten 0 elements.now }
 {
     let mut rest = elements;
@@ -114,7 +114,7 @@ fn are_items_written(elements: &[u8], inner: u32) -> bool
 
 /// True: a payload is as it is written.
 #[cycle(written)]
-pub(crate) fn is_written(tag: ElementType, payload: &[u8], inner: u32) -> bool
+pub(crate) fn is_written(tag: ElementType, payload: &[u8], inner: usize) -> bool
     requires { IsPayload tag payload.now }
     ensures { IsTrue result → IsWritten tag payload.now }
 {
@@ -127,7 +127,7 @@ pub(crate) fn is_written(tag: ElementType, payload: &[u8], inner: u32) -> bool
 
 /// True: the document or array of a payload is as it is written.
 #[cycle(written)]
-fn holds_written(tag: ElementType, payload: &[u8], inner: u32) -> bool
+fn holds_written(tag: ElementType, payload: &[u8], inner: usize) -> bool
     requires { IsPayload tag payload.now }
     ensures { IsTrue result → IsWritten tag payload.now }
 {

@@ -8,14 +8,11 @@ ghost use Rattle.bson_frame.specs.View.{element_of};
 ghost use Rattle.bson_written.specs.Written.{IsWrittenUnder};
 
 use crate::elements::{are_written, first_under, is_written};
-use bson_frame::Frame;
-
-/// How many levels may lie inside the outermost document that is looked at.
-const LEVELS: u32 = 100;
+use bson_frame::{Frame, LEVEL_LIMIT};
 
 /// True: the bytes are the written form of the document that they mean (bsonspec.org 1.1, "document"). No key stands twice, the
 /// keys of an array are its places in decimal, and nothing else has two written forms. False says nothing: that is told, too, of
-/// documents that have over 64 keys or over 100 levels inside, and of regular expressions, pointers, code with scope and old binaries.
+/// documents that have over 64 keys or over 100 levels, and of regular expressions, pointers, code with scope and old binaries.
 ///
 /// It goes over the bytes once, and over the keys of a document once for each of its keys.
 pub fn is_written_form(bytes: &[u8]) -> bool
@@ -25,7 +22,7 @@ pub fn is_written_form(bytes: &[u8]) -> bool
     let [_, _, _, _, elements @ ..] = bytes else {
         return false;
     };
-    are_written(elements, LEVELS)
+    are_written(elements, LEVEL_LIMIT - 1)
 }
 
 /// The first element of a key, of a document whose bytes these are. Its payload is the written form of the value under the key.
@@ -38,7 +35,7 @@ pub fn written_element<'a>(key: &str, bytes: &'a [u8]) -> Option<Frame<'a>>
         return None;
     };
     let frame = first_under(key, elements)?;
-    if is_written(frame.tag, frame.payload, LEVELS) {
+    if is_written(frame.tag, frame.payload, LEVEL_LIMIT - 1) {
         Some(frame)
     } else {
         None

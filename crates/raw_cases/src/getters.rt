@@ -19,7 +19,7 @@ pub fn answer(alloc: Global, word: &str, rest: &str) -> Result<String, AllocErro
 }
 
 /// What the getters of numbers and moments answer under a key.
-fn number_under(
+pub fn number_under(
     alloc: Global,
     kind: &str,
     document: RawDocument<'_>,

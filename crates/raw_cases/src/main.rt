@@ -1,4 +1,4 @@
-//! Cases of bson_raw and bson_bytes whose answers are texts. Each line of standard input is a case: what to do, and with what. One line
+//! Cases of bson_raw and bson_bytes whose answers are texts, and of what goes down bytes above them. Each line of standard input is a case: what to do, and with what. One line
 //! of standard output answers it. The files `stdin` and `stdout` hold the cases and their answers. Bytes are told by hexadecimal
 //! digits, and what a call answers as `{:?}` prints it, so that each number, text and byte of it is told, and each error by its name
 //! and its key.
@@ -25,6 +25,11 @@
 //! - `read`: what `from_reader` answers, and how many bytes were read. `read_slowly CALLS`: the same of a reader that gives one byte a
 //!   call and fails once it has given as many, and how many calls failed.
 //!
+//! With a kind and a number:
+//!
+//! - `deep KIND NUMBER`: what the calls return that take the bytes of so many documents inside each other, each under the empty key, or of
+//!   as many arrays or scopes in the outermost document, as KIND says; `true` where they return a tree or a copy.
+//!
 //! With a value as Extended JSON:
 //!
 //! - `raw`: the owned raw value. `encoded`: the bytes of a document. `send`: what `to_writer` answers, and the bytes that went out.
@@ -35,6 +40,7 @@
 //!   of them, and either as a new one where they are `new`.
 #![tactic(auto)]
 
+mod deep;
 mod getters;
 mod streams;
 mod trees;
@@ -73,6 +79,7 @@ fn answer(alloc: Global, line: &str) -> Result<String, AllocError> {
     let (word, rest) = line.split_once(' ').unwrap_or((line, ""));
     match word {
         "get" | "item" => getters::answer(alloc, word, rest),
+        "deep" => deep::answer(alloc, rest),
         "read" | "read_slowly" => streams::answer(alloc, word, rest),
         "raw" | "encoded" | "send" | "send_slowly" | "pairs" | "values" | "append" | "push" => {
             trees::answer(alloc, word, rest)

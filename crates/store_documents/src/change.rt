@@ -10,8 +10,9 @@ ghost use Rattle.bson_model.specs.View.{view, members_of, pairs_of};
 ghost use Rattle.store_laws.specs.State.{IsKept};
 ghost use Rattle.store_documents.specs.Bodies.{AnswersChanged, AnswersUnset};
 
-use crate::read::{LEVELS, read_bytes};
+use crate::read::read_bytes;
 use crate::write::body_of;
+use bson_frame::LEVEL_LIMIT;
 use bson_meaning::{depth_of_document, normalize, sort_keys};
 use bson_model::{Bson, Document};
 use std::alloc::{AllocError, Global};
@@ -30,8 +31,7 @@ fn kept_value(alloc: Global, value: Bson) -> Result<Bson, AllocError>
 fn put_value(document: &mut Document, key: String, value: Bson) -> Result<(), AllocError>
     ensures { OnOk result (pairs_of document.new ≡ put_pair (string_bytes key) (view value) (pairs_of document.old)) }
 {
-    drop(document.insert(key, value)?);
-    Ok(())
+    document.put(key, value)
 }
 
 /// Puts the normal form of a value, with its keys in order, under a key.
@@ -53,7 +53,7 @@ fn put_normal(
 fn changed_body(alloc: Global, document: &Document) -> Result<Vec<u8>, ErrorKind>
     ensures { AnswersChanged (members_of (pairs_of document.now)) result }
 {
-    if depth_of_document(document) > LEVELS {
+    if depth_of_document(document) > LEVEL_LIMIT {
         return Err(ErrorKind::TooDeep);
     }
     body_of(alloc, document)

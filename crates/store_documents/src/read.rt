@@ -14,6 +14,7 @@ ghost use Rattle.store_laws.specs.declared.error.ErrorKind.TheVariants.{JsonRefu
 ghost use Rattle.store_documents.specs.Answers.{AnswersBytes, AnswersTree, AnswersValue};
 
 use bson_frame as frames;
+use bson_frame::LEVEL_LIMIT;
 use bson_meaning::{
     GateError, depth_of_document, gate, is_plain_document, normalize_document, sorted,
 };
@@ -22,9 +23,6 @@ use bson_raw::RawDocument;
 use serde_json::{Map, Value};
 use std::alloc::{AllocError, Global};
 use store_laws::ErrorKind;
-
-/// The greatest number of levels of a document that is kept, itself counted.
-pub(crate) const LEVELS: usize = 100;
 
 /// The refusal for a test of the gate.
 pub(crate) fn gate_refusal(error: GateError) -> ErrorKind
@@ -97,7 +95,7 @@ fn kept(alloc: Global, document: Document) -> Result<Document, ErrorKind>
         (λ k. (k ≡ Memory) ⊎ IsUnfit (members_of (pairs_of document)) k) }
     ensures sound { IfOk result (λ _. IsSound (tree (members_of (pairs_of document)))) }
 {
-    if depth_of_document(&document) > LEVELS {
+    if depth_of_document(&document) > LEVEL_LIMIT {
         return Err(ErrorKind::TooDeep);
     }
     if !is_plain_document(&document) {

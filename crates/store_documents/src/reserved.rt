@@ -2,30 +2,17 @@
 
 ghost use Rattle.std.specs.Prelude.{◌≡◌, map};
 ghost use Rattle.bson_meaning.specs.JsonReserved.{has_reserved, reserved_in, reserved_in_items, some_reserved};
-ghost use Rattle.bson_model.specs.JsonKeys.{is_reserved as reserves};
 ghost use Rattle.bson_model.specs.View.{view, items_of, members_of, pairs_of};
 
+use bson_model::extjson::is_reserved_key;
 use bson_model::{Bson, Document};
-
-/// Whether a key marks a typed value in Extended JSON (MongoDB Extended JSON v2, "Conversion table").
-#[tactic(auto, unfolding(bson_model::specs::JsonKeys::reserved_of))]
-fn is_reserved(key: &str) -> bool
-    ensures { result ≡ reserves key.now }
-{
-    match key {
-        "$oid" | "$symbol" | "$regularExpression" | "$numberInt" | "$numberLong" => true,
-        "$numberDouble" | "$numberDecimal" | "$binary" | "$uuid" | "$code" => true,
-        "$timestamp" | "$date" | "$minKey" | "$maxKey" | "$dbPointer" | "$undefined" => true,
-        _ => false,
-    }
-}
 
 /// Whether one of the keys is reserved.
 fn has_reserved_key(document: &Document) -> bool
     ensures { result ≡ some_reserved (members_of (pairs_of document.now)) }
 {
     for (key, _) in document {
-        if is_reserved(key.as_str()) {
+        if is_reserved_key(key.as_str()) {
             return true;
         }
     }

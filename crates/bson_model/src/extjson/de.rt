@@ -1,8 +1,7 @@
 //! Extended JSON v2 as it is read (MongoDB Extended JSON v2, "Parsing").
-ghost use Rattle.std.specs.Prelude.{◌≡◌, map, string_bytes, OnOk};
+ghost use Rattle.std.specs.Prelude.{◌≡◌, map, string_bytes};
 ghost use Rattle.std.specs.Option.{option_map};
 ghost use Rattle.serde_json.specs.View.{view as tree_of, number_view, items_view, members_view};
-ghost use Rattle.bson_model.specs.Keyed.{put};
 ghost use Rattle.bson_model.specs.View.{view, pairs_of, items_of, members_of};
 ghost use Rattle.bson_model.specs.JsonKeys.{any_reserved};
 ghost use Rattle.bson_model.specs.JsonRead.{GivesReading, read as value_of, read_items as items_read, read_members as members_read, read_typed as typed_of, read_scope as scope_of, text_of as spec_text, whole, code_and_scope as spec_scoped, integer as integer_of};
@@ -14,9 +13,10 @@ mod texts;
 
 use crate::bson::{Bson, JavaScriptCodeWithScope};
 use crate::document::Document;
+use crate::levels::{STACK_LEVELS, levels_inside};
 use bodies::{read_wrapped, text_of};
 use bson_base::oid;
-use keys::is_reserved;
+pub use keys::is_reserved_key;
 use serde_json::{Map, Number, Value};
 use std::alloc::{AllocError, AllocFailed, Global};
 use thiserror::Error as ThisError;
@@ -34,7 +34,7 @@ pub enum Error {
     /// `$numberDouble` with a digit other than 0.
     #[error("the number is a finite double")]
     FiniteDouble,
-    /// A growth of memory was refused.
+    /// A growth of memory was refused, or more than 1000 levels lie inside each other.
     #[error("out of memory")]
     Memory,
 }
@@ -80,7 +80,7 @@ fn has_reserved(members: &Map<String, Value>) -> bool
     ensures { result ≡ any_reserved (members_view members.now.entries) }
 {
     for (key, _) in members {
-        if is_reserved(key) {
+        if is_reserved_key(key) {
             return true;
         }
     }
@@ -115,15 +115,9 @@ fn with_scope(code: String, scope: Option<Document>) -> Bson
     }
 }
 
-fn add(document: &mut Document, key: String, value: Bson) -> std::result::Result<(), AllocError>
-    ensures { OnOk result (pairs_of document.new ≡ put (string_bytes key) (view value) (pairs_of document.old)) }
-{
-    drop(document.insert(key, value)?);
-    Ok(())
-}
-
+/// The value of a JSON tree, among which so many levels may lie.
 #[cycle(read)]
-fn read(alloc: Global, value: Value) -> Result<Bson>
+fn read(alloc: Global, value: Value, levels: u32) -> Result<Bson>
     ensures { GivesReading view result (value_of (tree_of value)) }
 {
     match value {
@@ -131,42 +125,44 @@ fn read(alloc: Global, value: Value) -> Result<Bson>
         Value::Bool(truth) => Ok(Bson::Boolean(truth)),
         Value::Number(n) => read_number(n),
         Value::String(text) => Ok(Bson::String(text)),
-        Value::Array(items) => Ok(Bson::Array(read_items(alloc, items)?)),
+        Value::Array(items) => {
+            Ok(Bson::Array(read_items(alloc, items, levels_inside(levels)?)?))
+        }
         Value::Object(members) => {
             if has_reserved(&members) {
-                read_typed(alloc, members)
+                read_typed(alloc, members, levels)
             } else {
-                Ok(Bson::Document(read_members(alloc, members)?))
+                Ok(Bson::Document(read_members(alloc, members, levels_inside(levels)?)?))
             }
         }
     }
 }
 
 #[cycle(read)]
-fn read_items(alloc: Global, items: Vec<Value>) -> Result<Vec<Bson>>
+fn read_items(alloc: Global, items: Vec<Value>, levels: u32) -> Result<Vec<Bson>>
     ensures { GivesReading (λ v. items_of (map view v.items)) result (items_read (items_view items.items)) }
 {
     let mut values = Vec::new(alloc);
     for item in items {
-        values.push(read(alloc, item)?)?;
+        values.push(read(alloc, item, levels)?)?;
     }
     Ok(values)
 }
 
 #[cycle(read)]
-fn read_members(alloc: Global, members: Map<String, Value>) -> Result<Document>
+fn read_members(alloc: Global, members: Map<String, Value>, levels: u32) -> Result<Document>
     ensures { GivesReading (λ d. members_of (pairs_of d)) result (members_read (members_view members.entries)) }
 {
     let mut document = Document::new(alloc);
     for (key, value) in members {
-        add(&mut document, key, read(alloc, value)?)?;
+        document.put(key, read(alloc, value, levels)?)?;
     }
     Ok(document)
 }
 
 // An object with a reserved key.
 #[cycle(read)]
-fn read_typed(alloc: Global, members: Map<String, Value>) -> Result<Bson>
+fn read_typed(alloc: Global, members: Map<String, Value>, levels: u32) -> Result<Bson>
     ensures { GivesReading view result (typed_of (members_view members.entries)) }
 {
     let mut entries = members.into_iter();
@@ -181,19 +177,21 @@ fn read_typed(alloc: Global, members: Map<String, Value>) -> Result<Bson>
     }
     if key.as_str() == "$code" && second.as_str() == "$scope" {
         let code = text_of(value)?;
-        Ok(with_scope(code, read_scope(alloc, scope)?))
+        Ok(with_scope(code, read_scope(alloc, scope, levels)?))
     } else {
         Err(Error::DeserializationError)
     }
 }
 
 #[cycle(read)]
-fn read_scope(alloc: Global, scope: Value) -> Result<Option<Document>>
+fn read_scope(alloc: Global, scope: Value, levels: u32) -> Result<Option<Document>>
     ensures { GivesReading (λ o. option_map (λ d. members_of (pairs_of d)) o) result (scope_of (tree_of scope)) }
 {
     match scope {
         Value::Null => Ok(None),
-        Value::Object(members) => Ok(Some(read_members(alloc, members)?)),
+        Value::Object(members) => {
+            Ok(Some(read_members(alloc, members, levels_inside(levels)?)?))
+        }
         _ => Err(Error::DeserializationError),
     }
 }
@@ -207,12 +205,13 @@ impl Bson {
 
     /// The value that a JSON tree stands for (MongoDB Extended JSON v2, "Parsing"). `InvalidObjectId` tells a text under
     /// `$oid` that is no object id, `FiniteDouble` a number that is no signed integer of 64 bits or a numeral under
-    /// `$numberDouble` that is not zero, `DeserializationError` any other fault of a typed value, `Memory` a refused growth.
-    /// Of several faults the first one in the order of keys is told, a further key before the fault of a body.
+    /// `$numberDouble` that is not zero, `DeserializationError` any other fault of a typed value, `Memory` a refused growth, and
+    /// more than 1000 documents, arrays and scopes inside each other, which it doesn't enter. Of several faults the first one in
+    /// the order of keys is told, a further key before the fault of a body.
     pub fn try_from_value(alloc: Global, json: Value) -> Result<Bson>
         ensures { GivesReading view result (read (tree_of json)) }
     {
-        read(alloc, json)
+        read(alloc, json, STACK_LEVELS)
     }
 
     /// The value that a JSON object stands for: a typed value where it has a reserved key, else a document. The errors are
@@ -220,7 +219,7 @@ impl Bson {
     pub fn try_from_map(alloc: Global, map: Map<String, Value>) -> Result<Bson>
         ensures { GivesReading view result (read (object (members_view map.entries))) }
     {
-        read(alloc, Value::Object(map))
+        read(alloc, Value::Object(map), STACK_LEVELS)
     }
 }
 
@@ -235,6 +234,6 @@ impl Document {
     pub fn try_from_map(alloc: Global, map: Map<String, Value>) -> Result<Document>
         ensures { GivesReading (λ d. members_of (pairs_of d)) result (read_members (members_view map.entries)) }
     {
-        read_members(alloc, map)
+        read_members(alloc, map, STACK_LEVELS - 1)
     }
 }

@@ -50,7 +50,8 @@ pub(super) fn wrapper_of(key: &str) -> Option<Wrapper>
     }
 }
 
-pub(super) fn is_reserved(key: &str) -> bool
+/// Whether a key marks a typed value in Extended JSON (MongoDB Extended JSON v2, "Conversion table").
+pub fn is_reserved_key(key: &str) -> bool
     ensures { result ≡ reserves key.now }
 {
     wrapper_of(key).is_some()

@@ -19,7 +19,7 @@ read_members-loop-key-init t c = subst (SoFar c.args.members.entries c.into_iter
 
 pub read_members-loop-key-preserved : goal.read_members-loop-key-preserved
 read_members-loop-key-preserved t c =
-    members_step _ _ _ _ _ c.in-Some.key c.in-Some.value c.in_ok-read.field-0 c.into_iter-key-iterator.ensures.into_iter_gives.5 c.loop-key.invariant c.in-Some.ensures.steps c.in_ok-read.ensures c.in_ok-add.ensures
+    members_step _ _ _ _ _ c.in-Some.key c.in-Some.value c.in_ok-read.field-0 c.into_iter-key-iterator.ensures.into_iter_gives.5 c.loop-key.invariant c.in-Some.ensures.steps c.in_ok-read.ensures c.in_ok-put.ensures.ok
 
 pub read_members-returns : goal.read_members-returns
 read_members-returns t c = members_end _ _ _ c.loop-key.invariant c.in-None.ensures.steps.0

@@ -1,0 +1,190 @@
+//! Bytes of many levels, each inside the one before and under the empty key, and what the calls on bytes return of them.
+
+use crate::{getters, told};
+use bson_base::SliceSource;
+use bson_meaning::{gate, same_as_raw};
+use bson_model::Bson;
+use bson_raw::{
+    RawArray, RawBson, RawBsonRef, RawDocument, RawDocumentBuf, RawElement, from_reader,
+};
+use bson_written::{is_written_form, written_element};
+use std::alloc::{AllocError, Global};
+use std::fmt;
+
+/// How many bytes a level has beside those of the one inside.
+fn own_bytes(kind: &str) -> u32 {
+    if kind == "scopes" { 16 } else { 7 }
+}
+
+/// Appends a level down to the one inside, which has so many bytes.
+fn put_level(bytes: &mut Vec<u8>, kind: &str, inside: u32) -> Result<(), AllocError> {
+    let length = inside.wrapping_add(own_bytes(kind));
+    bytes.extend_from_slice(&length.to_le_bytes())?;
+    match kind {
+        "arrays" => bytes.extend_from_slice(&[4, 0]),
+        "scopes" => {
+            let payload = inside.wrapping_add(9);
+            bytes.extend_from_slice(&[15, 0])?;
+            bytes.extend_from_slice(&payload.to_le_bytes())?;
+            bytes.extend_from_slice(&[1, 0, 0, 0, 0])
+        }
+        _ => bytes.extend_from_slice(&[3, 0]),
+    }
+}
+
+/// The bytes of so many levels, of which the last is empty.
+fn levels(alloc: Global, kind: &str, count: u32) -> Result<Vec<u8>, AllocError> {
+    let own = own_bytes(kind);
+    let mut bytes = Vec::new(alloc);
+    let mut left = count;
+    while left > 1 {
+        left -= 1;
+        let inside = (left - 1).wrapping_mul(own).wrapping_add(5);
+        put_level(&mut bytes, kind, inside)?;
+    }
+    bytes.extend_from_slice(&[5, 0, 0, 0])?;
+    for _ in 0..count {
+        bytes.push(0)?;
+    }
+    Ok(bytes)
+}
+
+/// Puts a name at the end of a line, and what the call of that name returned.
+fn note<T: fmt::Debug + Drop>(
+    alloc: Global,
+    line: &mut String,
+    name: &str,
+    value: T,
+) -> Result<(), AllocError> {
+    let text = told(alloc, value)?;
+    line.push_str("; ")?;
+    line.push_str(name)?;
+    line.push(' ')?;
+    line.push_str(text.as_str())
+}
+
+/// The same of a call whose value is too long to be told.
+fn note_whether<T: Drop, E: fmt::Debug + Drop>(
+    alloc: Global,
+    line: &mut String,
+    name: &str,
+    returned: Result<T, E>,
+) -> Result<(), AllocError> {
+    match returned {
+        Ok(value) => {
+            drop(value);
+            note(alloc, line, name, true)
+        }
+        Err(error) => note(alloc, line, name, error),
+    }
+}
+
+/// The answer to a case of a kind and a number of levels.
+pub fn answer(alloc: Global, rest: &str) -> Result<String, AllocError> {
+    let (kind, count) = rest.split_once(' ').unwrap_or((rest, ""));
+    let bytes = levels(alloc, kind, count.parse::<u32>().unwrap_or(0))?;
+    let mut line = format!(in alloc; "{} bytes", bytes.len())?;
+    of_bytes(alloc, &mut line, &bytes)?;
+    match RawDocument::from_bytes(&bytes) {
+        Ok(document) => of_document(alloc, &mut line, document)?,
+        Err(error) => note(alloc, &mut line, "from_bytes", error)?,
+    }
+    Ok(line)
+}
+
+/// What calls on bytes return.
+fn of_bytes(alloc: Global, line: &mut String, bytes: &[u8]) -> Result<(), AllocError> {
+    let mut reader = SliceSource::new(bytes);
+    note_whether(alloc, line, "from_reader", from_reader(alloc, &mut reader))?;
+    note(alloc, line, "gate", gate(bytes))?;
+    note(alloc, line, "is_written_form", is_written_form(bytes))?;
+    note(
+        alloc,
+        line,
+        "written_element",
+        written_element("", bytes).is_some(),
+    )
+}
+
+/// What calls on a document return.
+fn of_document(
+    alloc: Global,
+    line: &mut String,
+    document: RawDocument<'_>,
+) -> Result<(), AllocError> {
+    note_whether(alloc, line, "to_document", document.to_document(alloc))?;
+    of_buffer(alloc, line, document.to_raw_document_buf(alloc)?)?;
+    note(alloc, line, "items", document.iter(alloc).count())?;
+    of_getters(alloc, line, document)?;
+    match document.iter_elements().next() {
+        Some(Ok(element)) => of_element(alloc, line, element),
+        _ => line.push_str("; no element"),
+    }
+}
+
+/// What calls on a buffer return.
+fn of_buffer(alloc: Global, line: &mut String, buffer: RawDocumentBuf) -> Result<(), AllocError> {
+    let mut outer = RawDocumentBuf::new(alloc)?;
+    let appended = outer.append_ref("a", RawBsonRef::Document(buffer.as_ref()));
+    note(alloc, line, "append_ref", appended)?;
+    note_whether(alloc, line, "buffer", buffer.to_document())?;
+    let owned = RawBson::from(buffer);
+    note_whether(alloc, line, "owned", owned.to_bson(alloc))
+}
+
+/// What the getters return that are of no kind of what is there.
+fn of_getters(
+    alloc: Global,
+    line: &mut String,
+    document: RawDocument<'_>,
+) -> Result<(), AllocError> {
+    for kind in [
+        "f64",
+        "bool",
+        "i32",
+        "i64",
+        "object_id",
+        "datetime",
+        "timestamp",
+        "str",
+        "binary",
+        "regex",
+    ] {
+        let text = getters::number_under(alloc, kind, document, "")?;
+        line.push_str("; ")?;
+        line.push_str(text.as_str())?;
+    }
+    Ok(())
+}
+
+/// What calls on the first element return.
+fn of_element(alloc: Global, line: &mut String, element: RawElement<'_>) -> Result<(), AllocError> {
+    note_whether(alloc, line, "element", element.to_bson(alloc))?;
+    note_whether(alloc, line, "copy", element.to_raw_bson(alloc))?;
+    match element.value(alloc) {
+        Ok(value) => of_value(alloc, line, value),
+        Err(error) => note(alloc, line, "value", error),
+    }
+}
+
+/// What calls on a value return.
+fn of_value(alloc: Global, line: &mut String, value: RawBsonRef<'_>) -> Result<(), AllocError> {
+    note_whether(alloc, line, "value", value.to_bson(alloc))?;
+    note(alloc, line, "same_as_raw", same_as_raw(value, &Bson::Null))?;
+    match value {
+        RawBsonRef::Array(array) => of_array(alloc, line, array),
+        _ => Ok(()),
+    }
+}
+
+/// What calls on an array return.
+fn of_array(alloc: Global, line: &mut String, array: RawArray<'_>) -> Result<(), AllocError> {
+    note_whether(alloc, line, "to_array", array.to_array(alloc))?;
+    note_whether(
+        alloc,
+        line,
+        "to_raw_array_buf",
+        array.to_raw_array_buf(alloc),
+    )?;
+    note(alloc, line, "items", array.iter(alloc).count())
+}
