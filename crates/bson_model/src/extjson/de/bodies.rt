@@ -292,6 +292,8 @@ fn read_body(alloc: Global, wrapper: Wrapper, value: Value) -> Result<Bson>
 }
 
 /// The value of a wrapper with one key.
+// What it keeps on the stack stays out of the frames of `read`, which calls itself for each level.
+#[inline(never)]
 pub(super) fn read_wrapped(alloc: Global, key: &str, value: Value) -> Result<Bson>
     ensures { GivesReading view result (wrapped_of (reserved_of key.now) (tree_of value)) }
 {
