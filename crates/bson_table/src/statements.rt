@@ -29,7 +29,7 @@ pub(crate) fn create<S: Alter>(conn: &mut Connection<S>) -> Result<usize, Error>
 }
 
 /// Adds a row after all others.
-pub(crate) fn add<'a, S: Alter>(
+fn add<'a, S: Alter>(
     conn: &mut Connection<S>,
     place: i64,
     coll: &'a str,
@@ -51,6 +51,23 @@ pub(crate) fn add<'a, S: Alter>(
             ValueRef::Blob(body),
         ],
     )
+}
+
+/// Adds a row after all others, and commits it. A function of its own, with the words of `add`, as a wrong body turns it.
+pub(crate) fn add_committed<'a, S: Alter>(
+    conn: &mut Connection<S>,
+    place: i64,
+    coll: &'a str,
+    idkey: &'a [u8],
+    body: &'a [u8],
+) -> Result<usize, Error>
+    requires last { HasCleanDisk (state S.Store conn.old) → (docs : List Doc) → Shows (state S.Store conn.old) docs → AreBelow place docs }
+    ensures written { HasCleanDisk (state S.Store conn.new) → IsTrue (state S.Store conn.old).is_open
+        → WritesRows (state S.Store conn.old) (state S.Store conn.new) (λ docs. docs ++ record { place = place; coll = coll.now; idkey = idkey.now; body = body.now } ∷ []) result }
+    ensures crash { Survives (state S.Store conn.old) (state S.Store conn.new)
+        (λ trees. (docs : List Doc) → Shows (state S.Store conn.old) docs → HasRows trees (docs ++ record { place = place; coll = coll.now; idkey = idkey.now; body = body.now } ∷ [])) }
+{
+    add(conn, place, coll, idkey, body)
 }
 
 /// Removes the row at a place.
@@ -87,7 +104,7 @@ pub(crate) fn named<'a, S: Alter>(
     ensures crash { Survives (state S.Store conn.old) (state S.Store conn.new) (λ _. ⊥) }
 {
     conn.query_all(
-        "SELECT place, body FROM documents WHERE coll = ?1 AND idkey = ?2 ORDER BY place",
+        "SELECT place, body FROM documents WHERE coll = ?1 COLLATE BINARY AND idkey = ?2 ORDER BY place",
         &[ValueRef::Text(coll.as_bytes()), ValueRef::Blob(idkey)],
     )
 }

@@ -94,7 +94,7 @@ impl<S: Alter + Drop> Table<S> {
         let Some(place) = last.checked_add(1) else {
             return Err(Fault::Places);
         };
-        statements::add(&mut self.conn, place, coll, idkey, body)?;
+        statements::add_committed(&mut self.conn, place, coll, idkey, body)?;
         Ok(())
     }
 
@@ -174,7 +174,7 @@ impl<S: Alter + Drop> Table<S> {
     {
         let all = visit_values(
             &mut self.conn,
-            "SELECT body FROM documents WHERE +coll = ?1 ORDER BY place",
+            "SELECT body FROM documents WHERE +coll = ?1 COLLATE BINARY ORDER BY place",
             &[ValueRef::Text(coll.as_bytes())],
             visitor,
         )?;
