@@ -5,7 +5,7 @@ use Rattle.std.proofs.lemmas.Bool.{cases_Bool}
 use Rattle.std.proofs.lemmas.List.Folds.{list_all-append}
 use Rattle.sqlite.specs.Order.{Row, column}
 use Rattle.bson_table.specs.declared.opening.OpenError.{OpenError}
-use Rattle.bson_table.specs.declared.opening.OpenError.TheVariants.{NotAStore, BadRow, Memory, Database}
+use Rattle.bson_table.specs.declared.opening.OpenError.TheVariants.{NotAStore, BadRow, IdsCollide, Memory, Database}
 use Rattle.bson_table.specs.Rows.{Doc, last_place}
 use Rattle.bson_table.specs.Cells.{is_listed, int_in, doc_of}
 use Rattle.bson_table.specs.Check.{IsGoodAfter, AreGood, IsFirstBad}
@@ -43,6 +43,7 @@ module _ (accepts : List ℕ → List ℕ → List ℕ → Type 0) where
   still_wrong keys keys' last last' rows r (Ok done) e t h = absurd (cc)
   still_wrong keys keys' last last' rows r (Err NotAStore) e t h = mistyped_on rows r h
   still_wrong keys keys' last last' rows r (Err (BadRow place)) e t h = record { typed = typed_on rows r h.typed t; first = subst (λ (ds : List Doc). IsFirstBad accepts ds place) (sym (map_end r rows)) (bad_on (map doc_of rows) (doc_of r) place h.first) }
+  still_wrong keys keys' last last' rows r (Err (IdsCollide first second)) e t h = absurd h
   still_wrong keys keys' last last' rows r (Err Memory) e t h = absurd h
   still_wrong keys keys' last last' rows r (Err Database) e t h = absurd h
 

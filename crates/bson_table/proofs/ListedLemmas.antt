@@ -1,10 +1,11 @@
 -- A table of this schema that lists rows in order shows them.
-use Rattle.std.proofs.Common.{subst₂, ◌≡◌, ℕ, List, [], ◌∷◌, map, filter, drop, true, false, ◌&&◌, Some, refl, sym, ap, ap₂, subst, ◌∙◌}
+use Rattle.std.proofs.Common.{IsTrue, subst₂, ◌≡◌, ℕ, List, [], ◌∷◌, map, filter, drop, true, false, ◌&&◌, Some, refl, sym, ap, ap₂, subst, ◌∙◌}
 use Rattle.std.specs.List.{AllByRecursion}
 use Rattle.std.specs.List.Sorted.{IsPermutation}
 use Rattle.std.proofs.lemmas.List.Sorted.{IsPermutation-map, IsPermutation-sym}
 use Rattle.std.proofs.lemmas.Bool.{and_parts}
-use Rattle.sqlite.specs.declared.types.Value.TheVariants.{Null}
+use Rattle.sqlite.specs.declared.types.Value.TheVariants.{Null, Int, Text, Blob}
+use Rattle.sqlite.specs.Term.{col}
 use Rattle.sqlite.specs.Order.{Row}
 use Rattle.sqlite_sql.specs.Query.{IsAnswerAs, Output, output}
 use Rattle.sqlite_sql.specs.Program.{overlay}
@@ -12,14 +13,16 @@ use Rattle.sqlite_schema.specs.declared.schema.Constraint.TheVariants.{Datatype,
 use Rattle.sqlite_schema.specs.Rules.{passes, are_typed, are_present, has_computed}
 use Rattle.sqlite.specs.Effect.{Database, IsDatabase, Answers}
 use Rattle.sqlite.specs.Command.TheVariants.{Select}
-use Rattle.sqlite.specs.State.{State}
+use Rattle.sqlite.specs.State.{State, IsLive}
 use Rattle.sqlite.proofs.Callers.{reads_as}
 use Rattle.bson_table.specs.Schema.{documents, documents_schema}
 use Rattle.bson_table.specs.Rows.{Doc, stored, HasRows, Shows, IsRising}
 use Rattle.bson_table.specs.Open.{all_text, Reads}
+use Rattle.bson_table.specs.Cells.{doc_of}
 use Rattle.bson_table.specs.Check.{AreGood}
-use Rattle.bson_table.proofs.Texts.{all_query, all_is, all_plain, program}
-use Rattle.bson_table.proofs.AnswerLemmas.{matches_are, passes as keeps, map_map, keeps_all}
+use Rattle.bson_table.proofs.Texts.{all_query, all_is, all_plain, program, by_place}
+use Rattle.bson_table.proofs.ReadLemmas.{in_order}
+use Rattle.bson_table.proofs.AnswerLemmas.{outputs_of, matches_are, passes as keeps, map_map, keeps_all}
 use Rattle.bson_table.proofs.TypedLemmas.{IsTyped, typed_row}
 use Rattle.bson_table.proofs.ListedRows.{put_down, put_down_is}
 use Rattle.bson_table.proofs.StatementLemmas.{listed_by}
@@ -74,3 +77,22 @@ listed_shows accepts old new docs has live auto settled h good =
       schema = ap (λ (d : Database). d.schema) u.0.now_is ∙ has;
       table = subst (λ (d : Database). HasRows d.trees docs) (sym u.0.now_is) (listed_rows old new docs has live h (good_rises accepts docs good));
     }
+
+as_read : (docs : List Doc) → map doc_of (map (λ d. Int d.place ∷ Text d.coll ∷ Blob d.idkey ∷ Blob d.body ∷ []) (filter (λ (_ : Doc). true) docs)) ≡ docs
+as_read [] = refl
+as_read (d ∷ docs) = ap (λ ds. d ∷ ds) (as_read docs)
+
+-- the rows that are read of a table are those that it shows
+pub read_shown : (old new : State) (shown docs : List Doc) → Shows old shown → Reads old new docs → docs ≡ shown
+read_shown old new shown docs h r =
+    let project = col 1 0 ∷ col 1 2 ∷ col 1 3 ∷ col 1 4 ∷ [] in
+    let answers : Answers old.now (program all_query) [] r.rows = reads_as all_text [] old new documents_schema h.schema (Select (program all_query) _) all_is.0 all_plain all_is.1 r.rows r.answered in
+    let ordered = in_order [] project [] (λ _. true) shown r.rows h.table.rising (outputs_of [] project by_place [] (λ _. true) shown old.now r.rows h.table (λ _. refl) answers) in
+    r.same ∙ ap (map doc_of) ordered ∙ as_read shown
+
+-- a table that lists good rows shows them
+pub shows_read : (accepts : List ℕ → List ℕ → List ℕ → Type 0) (old new : State) (docs : List Doc) → old.now.schema ≡ documents_schema → IsLive old → old.in_transaction ≡ false → (IsTrue old.is_open → old.now ≡ old.committed)
+    → Reads old new docs → AreGood accepts docs → Shows old docs
+shows_read accepts old new docs has live auto settled h good =
+    let was = h.unchanged.0.was_open in
+    record { is_open = was; autocommit = auto; settled = settled was; schema = has; table = listed_rows old new docs has (live was).0 h (good_rises accepts docs good) }

@@ -6,8 +6,8 @@ use Rattle.std.specs.List.Sorted.{IsPermutation}
 use Rattle.std.proofs.lemmas.List.Sorted.{IsPermutation-refl, IsPermutation-sym, IsPermutation-cons, IsPermutation-middle, IsPermutation-trans, IsPermutation-to_front, All-permutation}
 use Rattle.std.proofs.lemmas.List.Elements.{All-from_recursion, recursion_from_All}
 use Rattle.sqlite.specs.declared.types.Value.TheVariants.{Int}
-use Rattle.bson_table.specs.Rows.{Doc, stored, IsRising, AreBelow, is_at, without_place, replaced}
-use Rattle.bson_table.proofs.PlaceLemmas.{below_is, without_is, put_back}
+use Rattle.bson_table.specs.Rows.{Doc, stored, IsRising, AreBelow, is_at, without_place, replaced, rekeyed}
+use Rattle.bson_table.proofs.PlaceLemmas.{below_is, without_is, put_back, key_back}
 use Rattle.sqlite_trees.proofs.ListLemmas.{IsPermutation-filter}
 use Rattle.sqlite.specs.Order.{Row, value_cmp}
 use Rattle.sqlite_trees.specs.Tree.{rowid, put_row, has_rowid, without_rowid}
@@ -68,4 +68,15 @@ back_perm p body d docs rows up one at h =
     let free = λ (rs : List Row). subst (λ q. AllByRecursion (λ (r : Row). value_cmp (rowid r) (Int q) ≡ Equal → ⊥) (without_rowid p rs)) (sym at) (untied p rs) in
     let sorted = subst (λ xs. IsPermutation (new ∷ left) xs) (put_back p body d docs up one at) (put_perm new left (subst (AllByRecursion (λ (r : Row). value_cmp (rowid r) (Int d.place) ≡ Equal → ⊥)) (without_is p docs) (free (map stored docs)))) in
     IsPermutation-trans (map stored (replaced p body docs)) (new ∷ left) (put_row new (without_rowid p rows)) (IsPermutation-sym (new ∷ left) (map stored (replaced p body docs)) sorted)
+    (IsPermutation-trans (new ∷ left) (new ∷ without_rowid p rows) (put_row new (without_rowid p rows)) (IsPermutation-cons new left (without_rowid p rows) (gone_perm p docs rows h)) (put_perm new (without_rowid p rows) (free rows)))
+
+-- a row that is put back with another key
+pub key_perm : (p : ℤ) (idkey : List ℕ) (d : Doc) (docs : List Doc) (rows : List Row) → IsRising docs → filter (is_at p) docs ≡ d ∷ [] → d.place ≡ p → IsPermutation (map stored docs) rows
+    → IsPermutation (map stored (rekeyed p idkey docs)) (put_row (stored (record d { idkey = idkey })) (without_rowid p rows))
+key_perm p idkey d docs rows up one at h =
+    let new = stored (record d { idkey = idkey }) in
+    let left = map stored (without_place p docs) in
+    let free = λ (rs : List Row). subst (λ q. AllByRecursion (λ (r : Row). value_cmp (rowid r) (Int q) ≡ Equal → ⊥) (without_rowid p rs)) (sym at) (untied p rs) in
+    let sorted = subst (λ xs. IsPermutation (new ∷ left) xs) (key_back p idkey d docs up one at) (put_perm new left (subst (AllByRecursion (λ (r : Row). value_cmp (rowid r) (Int d.place) ≡ Equal → ⊥)) (without_is p docs) (free (map stored docs)))) in
+    IsPermutation-trans (map stored (rekeyed p idkey docs)) (new ∷ left) (put_row new (without_rowid p rows)) (IsPermutation-sym (new ∷ left) (map stored (rekeyed p idkey docs)) sorted)
     (IsPermutation-trans (new ∷ left) (new ∷ without_rowid p rows) (put_row new (without_rowid p rows)) (IsPermutation-cons new left (without_rowid p rows) (gone_perm p docs rows h)) (put_perm new (without_rowid p rows) (free rows)))

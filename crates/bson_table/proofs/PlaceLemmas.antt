@@ -9,7 +9,7 @@ use Rattle.sqlite.specs.declared.types.Value.TheVariants.{Int}
 use Rattle.sqlite_value.specs.Order.{value_cmp}
 use Rattle.sqlite_value.proofs.OrderLemmas.{value_cmp-Int}
 use Rattle.sqlite_trees.specs.Tree.{put_row, has_rowid, without_rowid}
-use Rattle.bson_table.specs.Rows.{Doc, stored, IsRising, is_at, without_place, with_body, replaced}
+use Rattle.bson_table.specs.Rows.{Doc, stored, IsRising, is_at, without_place, with_body, with_idkey, replaced, rekeyed}
 
 -- three ways that two places compare
 pub way : (a b : ℤ) → (a <ℤ b) ⊎ ((a ≡ b) ⊎ (b <ℤ a))
@@ -53,6 +53,10 @@ pub past : (p : ℤ) (docs : List Doc) → AllByRecursion (λ d. p <ℤ d.place)
 past p [] h = (refl, refl, λ body. refl)
 past p (d ∷ docs) h = let more = past p docs h.1 in let off = not_at_above p d h.0 in (rw off more.0, rw off (ap (λ ds. d ∷ ds) more.1), λ body. rw off (ap (λ ds. d ∷ ds) (more.2 body)))
 
+rekeyed_past : (p : ℤ) (docs : List Doc) → AllByRecursion (λ d. p <ℤ d.place) docs → (idkey : List ℕ) → rekeyed p idkey docs ≡ docs
+rekeyed_past p [] h idkey = refl
+rekeyed_past p (d ∷ docs) h idkey = let off = not_at_above p d h.0 in rw off (ap (λ ds. d ∷ ds) (rekeyed_past p docs h.1 idkey))
+
 pub all_past : (p : ℤ) (a : Doc) (docs : List Doc) → a.place ≡ p → AllByRecursion (λ b. a.place <ℤ b.place) docs → AllByRecursion (λ d. p <ℤ d.place) docs
 all_past p a docs e h = subst (λ q. AllByRecursion (λ (d : Doc). q <ℤ d.place) docs) e h
 
@@ -91,6 +95,29 @@ put_back p body d (x ∷ docs) up one at = elim (way x.place p) [
     first x [] h = refl
     first x (y ∷ docs) h = rw (above_is y.place x.place h.0) refl
 
+-- a row that is taken out and put back with another key keeps its place
+pub key_back : (p : ℤ) (idkey : List ℕ) (d : Doc) (docs : List Doc) → IsRising docs → filter (is_at p) docs ≡ d ∷ [] → d.place ≡ p
+    → put_row (stored (record d { idkey = idkey })) (map stored (without_place p docs)) ≡ map stored (rekeyed p idkey docs)
+key_back p idkey d [] up one at = absurd (cc)
+key_back p idkey d (x ∷ docs) up one at = elim (way x.place p) [
+  | inl low ↦
+      let off = not_at_below p x low in
+      let less : value_cmp (Int x.place) (Int d.place) ≡ Less = below_is x.place d.place (rw at low) in
+      rw off (rw less (ap (λ rows. stored x ∷ rows) (key_back p idkey d docs up.1 (rw off at one) at)))
+  | inr (inl same) ↦
+      let on = at_same p x same in
+      let rest = past p docs (all_past p x docs same up.0) in
+      let keys = rekeyed_past p docs (all_past p x docs same up.0) idkey in
+      let it : x ∷ filter (is_at p) docs ≡ d ∷ [] = rw on at one in
+      let eq : x ≡ d = cc in
+      rw (on, rest.1, keys) (subst (λ z. put_row (stored (record z { idkey = idkey })) (map stored docs) ≡ map stored (record x { idkey = idkey } ∷ docs)) eq (first x docs up.0))
+  | inr (inr high) ↦ absurd (let off = not_at_above p x high in let none = (past p docs (all_after p x docs high up.0)).0 in let it = rw (off, none) at one in cc)
+]
+  where
+    first : (x : Doc) (docs : List Doc) → AllByRecursion (λ b. x.place <ℤ b.place) docs → put_row (stored (record x { idkey = idkey })) (map stored docs) ≡ map stored (record x { idkey = idkey } ∷ docs)
+    first x [] h = refl
+    first x (y ∷ docs) h = rw (above_is y.place x.place h.0) refl
+
 pub rising_without : (p : ℤ) (docs : List Doc) → IsRising docs → IsRising (without_place p docs)
 rising_without p [] up = tt
 rising_without p (d ∷ docs) up = go (is_at p d) (rising_without p docs up.1)
@@ -121,3 +148,18 @@ rising_replaced p body (d ∷ docs) up = (kept docs up.0, rising_replaced p body
     kept : (ds : List Doc) → AllByRecursion (λ b. d.place <ℤ b.place) ds → AllByRecursion (λ b. (with_body p body d).place <ℤ b.place) (replaced p body ds)
     kept [] h = tt
     kept (e ∷ ds) h = (rw (place_kept p body d, place_kept p body e) h.0, kept ds h.1)
+
+pub place_keyed : (p : ℤ) (idkey : List ℕ) (d : Doc) → (with_idkey p idkey d).place ≡ d.place
+place_keyed p idkey d = go (is_at p d)
+  where
+    go : (b : Bool) → (if b then record d { idkey = idkey } else d).place ≡ d.place
+    go true = refl
+    go false = refl
+
+pub rising_rekeyed : (p : ℤ) (idkey : List ℕ) (docs : List Doc) → IsRising docs → IsRising (rekeyed p idkey docs)
+rising_rekeyed p idkey [] up = tt
+rising_rekeyed p idkey (d ∷ docs) up = (kept docs up.0, rising_rekeyed p idkey docs up.1)
+  where
+    kept : (ds : List Doc) → AllByRecursion (λ b. d.place <ℤ b.place) ds → AllByRecursion (λ b. (with_idkey p idkey d).place <ℤ b.place) (rekeyed p idkey ds)
+    kept [] h = tt
+    kept (e ∷ ds) h = (rw (place_keyed p idkey d, place_keyed p idkey e) h.0, kept ds h.1)

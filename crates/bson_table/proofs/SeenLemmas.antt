@@ -5,19 +5,16 @@ use Rattle.std.specs.Ordering.{nat_cmp, ordering_then}
 use Rattle.std.specs.Cmp.Lexicographic.{slice_cmp}
 use Rattle.std.specs.BTreeSet.{insert_key}
 use Rattle.bson_table.specs.Rows.{Doc, is_row_named}
-use Rattle.bson_table.specs.Seen.{Pair, has_pair, HasSeen}
+use Rattle.bson_table.specs.Seen.{Pair, pair_cmp, has_pair, HasSeen}
 use Rattle.std.proofs.lemmas.Cmp.{nat_list_eq_equiv}
 use Rattle.std.proofs.lemmas.Map.Text.{is_eq-slice_cmp}
-
-abbrev pub pair_cmp : Pair → Pair → Ordering
-pair_cmp x y = ordering_then (slice_cmp nat_cmp x.0.items y.0.items) (slice_cmp nat_cmp x.1.items y.1.items)
 
 then_eq : (x y : Ordering) → is_eq (ordering_then x y) ≡ is_eq x && is_eq y
 then_eq Less y = refl
 then_eq Equal y = refl
 then_eq Greater y = refl
 
-pair_test : (x y : Pair) → is_eq (pair_cmp x y) ≡ bytes_eq x.0.items y.0.items && bytes_eq x.1.items y.1.items
+pub pair_test : (x y : Pair) → is_eq (pair_cmp x y) ≡ bytes_eq x.0.items y.0.items && bytes_eq x.1.items y.1.items
 pair_test x y =
     then_eq (slice_cmp nat_cmp x.0.items y.0.items) (slice_cmp nat_cmp x.1.items y.1.items) ∙ ap₂ (λ p q. p && q) (is_eq-slice_cmp x.0.items y.0.items) (is_eq-slice_cmp x.1.items y.1.items)
 

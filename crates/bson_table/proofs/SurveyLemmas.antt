@@ -1,18 +1,17 @@
 -- What an open says of what it read.
-use Rattle.std.proofs.Common.{◌≡◌, ◌≢◌, ◌⊎◌, inl, inr, ℕ, List, [], true, false, Option, Some, None, is_some, Result, Ok, Err, OnOk, IfErr, IsTrue, sym, ap, subst, ◌∙◌, refl}
+use Rattle.std.proofs.Common.{ℤ, ◌++◌, ◌∷◌, append-nil, append_assoc, ◌≡◌, ◌≢◌, ◌⊎◌, inl, inr, ℕ, List, [], true, false, Option, Some, None, is_some, Result, Ok, Err, OnOk, IfErr, IsTrue, sym, ap, subst, ◌∙◌, refl}
 use Rattle.sqlite_tied.specs.Compute.{everything}
-use Rattle.sqlite.specs.State.{State, Survives, IsLive}
+use Rattle.sqlite.specs.State.{State, Survives, IsLive, IsUnchanged}
 use Rattle.sqlite.proofs.StateLemmas.{survives_weaker}
 use Rattle.sqlite_schema.specs.Names.{table_named}
 use Rattle.bson_table.specs.declared.opening.OpenError.{OpenError}
-use Rattle.bson_table.specs.declared.opening.OpenError.TheVariants.{NotAStore, BadRow, Memory, Database}
+use Rattle.bson_table.specs.declared.opening.OpenError.TheVariants.{NotAStore, BadRow, IdsCollide, Memory, Database}
 use Rattle.bson_table.specs.Schema.{documents_schema, no_schema}
 use Rattle.bson_table.specs.Rows.{Doc, HasRows, Shows, IsBlank}
-use Rattle.bson_table.specs.Check.{AreGood}
-use Rattle.bson_table.specs.Open.{RefusesOpening, PassesOpening, Opened, Unopened, Makes, HasTable, HasNoTable, table_name}
-use Rattle.bson_table.proofs.StatementLemmas.{unchanged_shows}
-use Rattle.bson_table.proofs.UniqueLemmas.{one_list}
-use Rattle.bson_table.proofs.ListedLemmas.{listed_shows}
+use Rattle.bson_table.specs.Check.{IsGoodAfter, AreGoodAfter, AreGood, IsFirstBad}
+use Rattle.bson_table.specs.Open.{RefusesOpening, HasTable, HasNoTable, table_name}
+use Rattle.bson_table.specs.Renewal.{IsOwn, AcceptsOnce, AreRenewed, Renewed, Unrenewed, MayRenew, PassesOnce, Opened, Unopened, Makes}
+use Rattle.bson_table.proofs.ListedLemmas.{read_shown, shows_read}
 
 is_there : (o : Option ℕ) → is_some o ≡ true → o ≢ None
 is_there (Some n) h e = cc
@@ -40,36 +39,61 @@ module _ (accepts : List ℕ → List ℕ → List ℕ → Type 0) (old new : St
   refuses_other e (inl is) = subst (RefusesOpening accepts old new) (sym is) tt
   refuses_other e (inr is) = subst (RefusesOpening accepts old new) (sym is) tt
 
-module _ (accepts : List ℕ → List ℕ → List ℕ → Type 0) (old new : State) (auto : old.in_transaction ≡ false) (settled : IsTrue old.is_open → old.now ≡ old.committed) where
-  opened_by : IsLive old → is_some (table_named old.now.schema table_name) ≡ true → PassesOpening accepts old new → Opened accepts old new
-  opened_by live there p =
-      let u = p.1.unchanged in
-      let was = u.0.was_open in
-      let shown : old.now.schema ≡ documents_schema → Shows new p.0 = λ has. listed_shows accepts old new p.0 has (live was).0 auto (settled was) p.1 p.2 in
-      record {
-        made = λ blank. absurd (let e : is_some (table_named old.now.schema table_name) ≡ false = ap (λ s. is_some (table_named s table_name)) blank.schema ∙ no_table in cc);
-        found = λ docs shows.
-            let still = unchanged_shows old new docs shows u in
-            (still, subst (λ (ds : List Doc). AreGood accepts ds) (one_list new.now.trees p.0 docs (shown shows.schema).table still.table) p.2);
-        listed = λ has. (p.0, shown has, p.2, u);
-        other = inr p;
-      }
+-- good rows have no bad one among them
+good_at : (accepts : List ℕ → List ℕ → List ℕ → Type 0) (seen front : List Doc) (d : Doc) (back : List Doc) → AreGoodAfter accepts seen (front ++ d ∷ back) → IsGoodAfter accepts (seen ++ front) d
+good_at accepts seen [] d back h = subst (λ (s : List Doc). IsGoodAfter accepts s d) (sym (append-nil seen)) h.0
+good_at accepts seen (x ∷ front) d back h = subst (λ (s : List Doc). IsGoodAfter accepts s d) (append_assoc seen (x ∷ []) front) (good_at accepts (seen ++ x ∷ []) front d back h.1)
 
-  pub opened_if : IsLive old → is_some (table_named old.now.schema table_name) ≡ true → (r : Result (Unit {0}) OpenError) → OnOk r (PassesOpening accepts old new) → OnOk r (Opened accepts old new)
-  opened_if live there (Ok u) p = opened_by live there p
-  opened_if live there (Err e) p = tt
+none_bad : (accepts : List ℕ → List ℕ → List ℕ → Type 0) (docs : List Doc) (place : ℤ) → AreGood accepts docs → IsFirstBad accepts docs place → ⊥
+none_bad accepts docs place good bad = bad.refused (good_at accepts [] bad.front bad.bad bad.back (subst (AreGood accepts) bad.all good))
 
-  says : (e : OpenError) → HasTable old → RefusesOpening accepts old new e → Unopened accepts old new e
+module _ (renews : List ℕ → List ℕ → List ℕ → List ℕ → Type 0) (old new : State) where
+  module _ (found : Renewed (IsOwn renews) renews old new) (passed : PassesOnce renews old new) where
+    one_list_of : (docs : List Doc) → Shows old docs → (docs : List Doc) × (after : List Doc) × Shows old docs × Shows new after × AreRenewed renews docs after × AreGood (IsOwn renews) after
+    one_list_of docs shows = let f = found docs shows in (docs, f.0, shows, f.1, f.2, f.3)
+
+    listed_by_read : IsLive old → old.in_transaction ≡ false → (IsTrue old.is_open → old.now ≡ old.committed) → old.now.schema ≡ documents_schema
+        → (docs : List Doc) × (after : List Doc) × Shows old docs × Shows new after × AreRenewed renews docs after × AreGood (IsOwn renews) after
+    listed_by_read live auto settled has = elim passed [
+      | inl p ↦ one_list_of p.0 (shows_read (IsOwn renews) old new p.0 has live auto settled p.1 p.2)
+      | inr p ↦ one_list_of p.1.0 (shows_read (AcceptsOnce renews) old old p.1.0 has live auto settled p.1.1 p.1.2)
+    ]
+
+    unwritten_by : (docs : List Doc) → Shows old docs → AreGood (IsOwn renews) docs → IsUnchanged old new
+    unwritten_by docs shows good = elim passed [
+      | inl p ↦ p.1.unchanged
+      | inr p ↦ absurd (none_bad (IsOwn renews) docs p.0.1 good (subst (λ (ds : List Doc). IsFirstBad (IsOwn renews) ds p.0.1) (read_shown old old docs p.0.0 shows p.0.2) p.0.3))
+    ]
+
+    opened_by : IsLive old → old.in_transaction ≡ false → (IsTrue old.is_open → old.now ≡ old.committed) → is_some (table_named old.now.schema table_name) ≡ true → Opened renews old new
+    opened_by live auto settled there = record {
+      made = λ blank. absurd (let e : is_some (table_named old.now.schema table_name) ≡ false = ap (λ s. is_some (table_named s table_name)) blank.schema ∙ no_table in cc);
+      found = found;
+      listed = listed_by_read live auto settled;
+      other = inr passed;
+      unwritten = unwritten_by;
+    }
+
+  pub opened_if : IsLive old → old.in_transaction ≡ false → (IsTrue old.is_open → old.now ≡ old.committed) → is_some (table_named old.now.schema table_name) ≡ true
+      → (r : Result (Unit {0}) OpenError) → OnOk r (Renewed (IsOwn renews) renews old new) → OnOk r (PassesOnce renews old new) → OnOk r (Opened renews old new)
+  opened_if live auto settled there (Ok u) f p = opened_by f p live auto settled there
+  opened_if live auto settled there (Err e) f p = tt
+
+  says : (e : OpenError) → HasTable old → Unrenewed (IsOwn renews) renews old new e → Unopened renews old new e
   says NotAStore there h = inl (there, h)
   says (BadRow place) there h = (there, h)
+  says (IdsCollide first second) there h = (there, h)
   says Memory there h = tt
   says Database there h = tt
 
-  pub says_if : is_some (table_named old.now.schema table_name) ≡ true → (r : Result (Unit {0}) OpenError) → IfErr r (RefusesOpening accepts old new) → IfErr r (Unopened accepts old new)
+  pub says_if : is_some (table_named old.now.schema table_name) ≡ true → (r : Result (Unit {0}) OpenError) → IfErr r (Unrenewed (IsOwn renews) renews old new) → IfErr r (Unopened renews old new)
   says_if there (Ok u) h = tt
   says_if there (Err e) h = says e (one_there old there) h
 
-  pub made_by : is_some (table_named old.now.schema table_name) ≡ false → (IsBlank old → Shows new []) → Opened accepts old new
+  pub renews_if : is_some (table_named old.now.schema table_name) ≡ true → Survives old new (MayRenew (IsOwn renews) renews old) → Survives old new (Makes renews old)
+  renews_if there kept = survives_weaker old new _ _ (λ _ db made. inr (one_there old there, made)) kept
+
+  pub made_by : is_some (table_named old.now.schema table_name) ≡ false → (IsBlank old → Shows new []) → Opened renews old new
   made_by missing made =
       let no_such : old.now.schema ≡ documents_schema → ⊥ = λ has. let e : is_some (table_named old.now.schema table_name) ≡ true = ap (λ s. is_some (table_named s table_name)) has ∙ a_table in cc in
       record {
@@ -77,7 +101,8 @@ module _ (accepts : List ℕ → List ℕ → List ℕ → Type 0) (old new : St
         found = λ docs shows. absurd (no_such shows.schema);
         listed = λ has. absurd (no_such has);
         other = inl (none_there old missing);
+        unwritten = λ docs shows good. absurd (no_such shows.schema);
       }
 
-  pub makes_if : is_some (table_named old.now.schema table_name) ≡ false → Survives old new (λ trees. IsBlank old → HasRows trees []) → Survives old new (Makes old)
-  makes_if missing = survives_weaker old new _ _ (λ _ db h. (none_there old missing, h))
+  pub makes_if : is_some (table_named old.now.schema table_name) ≡ false → Survives old new (λ trees. IsBlank old → HasRows trees []) → Survives old new (Makes renews old)
+  makes_if missing made = survives_weaker old new _ _ (λ _ db blank. inl (none_there old missing, blank)) made

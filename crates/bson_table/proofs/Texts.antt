@@ -78,8 +78,19 @@ pub update_plain : IsPlain (understood documents_schema update_text)
 unfolding understood everything
 update_plain = (refl, refl)
 
+abbrev pub rekey_text : List ℕ
+rekey_text = codes "UPDATE documents SET idkey = ?2 WHERE place = ?1"
+
+pub rekey_is : command_of (understood documents_schema rekey_text) ≡ Update 0 (program (plain_query (equals 0 0 ∷ []) (col 1 0 ∷ col 1 0 ∷ lit Null ∷ col 1 2 ∷ col 0 1 ∷ col 1 4 ∷ []) []))
+unfolding understood everything
+rekey_is = refl
+
+pub rekey_plain : IsPlain (understood documents_schema rekey_text)
+unfolding understood everything
+rekey_plain = (refl, refl)
+
 abbrev pub find_text : List ℕ
-find_text = codes "SELECT place, body FROM documents WHERE coll = ?1 AND idkey = ?2 ORDER BY place"
+find_text = codes "SELECT place, body FROM documents WHERE coll = ?1 COLLATE BINARY AND idkey = ?2 ORDER BY place"
 
 abbrev pub find_query : Query
 find_query = plain_query (equals 2 0 ∷ equals 3 1 ∷ []) (col 1 0 ∷ col 1 4 ∷ []) by_place

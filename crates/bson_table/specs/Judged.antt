@@ -3,7 +3,7 @@ use Rattle.std.specs.Prelude.{◌≡◌, ℕ, ℤ, List, map, true, false, Resul
 use Rattle.std.specs.List.{list_all}
 use Rattle.sqlite_value.specs.Order.{Row}
 use Rattle.bson_table.specs.declared.opening.OpenError.{OpenError}
-use Rattle.bson_table.specs.declared.opening.OpenError.TheVariants.{NotAStore, BadRow, Memory, Database}
+use Rattle.bson_table.specs.declared.opening.OpenError.TheVariants.{NotAStore, BadRow, IdsCollide, Memory, Database}
 use Rattle.bson_table.specs.Rows.{last_place}
 use Rattle.bson_table.specs.Cells.{is_listed, doc_of}
 use Rattle.bson_table.specs.Check.{AreGood, IsFirstBad}
@@ -27,5 +27,6 @@ module _ (accepts : List ℕ → List ℕ → List ℕ → Type 0) where
   JudgesRow keys last rows (Ok done) = ArePassed keys last rows
   JudgesRow keys last rows (Err NotAStore) = list_all is_listed rows ≡ false
   JudgesRow keys last rows (Err (BadRow place)) = AreBad rows place
+  JudgesRow keys last rows (Err (IdsCollide first second)) = ⊥
   JudgesRow keys last rows (Err Memory) = ⊥
   JudgesRow keys last rows (Err Database) = ⊥

@@ -6,7 +6,7 @@ use Rattle.sqlite_resolve.specs.declared.error.CompileError.{CompileError}
 use Rattle.sqlite.specs.Listing.{understood}
 use Rattle.sqlite.specs.State.{State, Shown, IsUnchanged}
 use Rattle.bson_table.specs.declared.opening.OpenError.{OpenError}
-use Rattle.bson_table.specs.declared.opening.OpenError.TheVariants.{NotAStore, BadRow, Memory, Database}
+use Rattle.bson_table.specs.declared.opening.OpenError.TheVariants.{NotAStore, BadRow, IdsCollide, Memory, Database}
 use Rattle.sqlite_trees.specs.Tree.{Trees}
 use Rattle.sqlite_schema.specs.Names.{table_named, index_named, view_named}
 use Rattle.bson_table.specs.Schema.{documents_schema}
@@ -49,31 +49,18 @@ ReadsNot old new =
 abbrev pub KeepsRows : State → State → Type 0
 KeepsRows old new = IsTrue new.is_open → new.now ≡ old.now
 
--- what an open may commit
-abbrev pub Makes : State → Trees → Type 0
-Makes old trees = HasNoTable old × (IsBlank old → HasRows trees [])
+-- what was committed stays so
+abbrev pub HasCommitted : State → State → Type 0
+HasCommitted old new = IsTrue new.is_open → IsTrue old.is_open × (new.committed ≡ old.committed)
 
 module _ (accepts : List ℕ → List ℕ → List ℕ → Type 0) where
   -- why the rows of a table are refused, and what that leaves
   abbrev pub RefusesOpening : State → State → OpenError → Type 0
   RefusesOpening old new NotAStore = ReadsNot old new
   RefusesOpening old new (BadRow place) = (docs : List Doc) × Reads old new docs × IsFirstBad accepts docs place
+  RefusesOpening old new (IdsCollide first second) = ⊥
   RefusesOpening old new Memory = Unit {0}
   RefusesOpening old new Database = Unit {0}
 
   abbrev pub PassesOpening : State → State → Type 0
   PassesOpening old new = (docs : List Doc) × Reads old new docs × AreGood accepts docs
-
-  -- what an open leaves: the table made, or found with rows that a store can have written
-  pub record Opened (old new : State) : Type 0 where
-    pub made : IsBlank old → Shows new []
-    pub found : (docs : List Doc) → Shows old docs → Shows new docs × AreGood accepts docs
-    pub listed : old.now.schema ≡ documents_schema → (docs : List Doc) × Shows new docs × AreGood accepts docs × IsUnchanged old new
-    pub other : HasNoTable old ⊎ PassesOpening old new
-
-  -- when each refusal comes
-  abbrev pub Unopened : State → State → OpenError → Type 0
-  Unopened old new NotAStore = (HasTable old × ReadsNot old new) ⊎ (HasNoTable old × IsNameTaken old)
-  Unopened old new (BadRow place) = HasTable old × ((docs : List Doc) × Reads old new docs × IsFirstBad accepts docs place)
-  Unopened old new Memory = Unit {0}
-  Unopened old new Database = Unit {0}

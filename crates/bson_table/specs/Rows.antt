@@ -1,5 +1,6 @@
 -- The rows of the table, and what a connection shows of them.
 use Rattle.std.specs.Ordering.{int_eq}
+use Rattle.bson_table.specs.declared.row.NewKey.{NewKey}
 use Rattle.bson_table.specs.declared.row.NewRow.{NewRow}
 use Rattle.std.specs.Prelude.{◌+ℤ◌, pos, not, ◌&&◌, filter, bytes_eq, if◌then◌else◌, ◌≡◌, ◌<ℤ◌, ℕ, ℤ, Bool, false, List, [], ◌∷◌, map, IsTrue}
 use Rattle.std.specs.List.{AllByRecursion}
@@ -71,6 +72,18 @@ with_body place body d = if is_at place d then record d { body = body } else d
 -- the rows, with this body at this place
 abbrev pub replaced : ℤ → List ℕ → List Doc → List Doc
 replaced place body = map (with_body place body)
+
+abbrev pub with_idkey : ℤ → List ℕ → Doc → Doc
+with_idkey place idkey d = if is_at place d then record d { idkey = idkey } else d
+
+-- the rows, with this key at this place
+abbrev pub rekeyed : ℤ → List ℕ → List Doc → List Doc
+rekeyed place idkey = map (with_idkey place idkey)
+
+-- the rows, with each of these keys at its place, one after the other
+abbrev pub all_rekeyed : List NewKey → List Doc → List Doc
+all_rekeyed [] docs = docs
+all_rekeyed (k ∷ keys) docs = all_rekeyed keys (rekeyed k.place k.idkey.items docs)
 
 abbrev pub is_row_named : List ℕ → List ℕ → Doc → Bool
 is_row_named coll idkey d = bytes_eq d.coll coll && bytes_eq d.idkey idkey

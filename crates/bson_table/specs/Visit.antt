@@ -40,4 +40,4 @@ pub record ReadsRows {A E : Type 0} (old new : State) (result : Result A E) : Ty
 
 -- The + keeps the engine from the index on (coll, idkey), by which it would have to sort the whole answer before the first row.
 abbrev pub scan_text : List ℕ
-scan_text = codes "SELECT body FROM documents WHERE +coll = ?1 ORDER BY place"
+scan_text = codes "SELECT body FROM documents WHERE +coll = ?1 COLLATE BINARY ORDER BY place"

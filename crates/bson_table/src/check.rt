@@ -1,6 +1,6 @@
 //! Whether a store can have written the rows that the table has.
 
-ghost use Rattle.std.specs.Prelude.{◌≡◌, ◌++◌, ◌∷◌, [], ◌&&◌, ◌||◌, ℕ, not, List, false, Err, IsTrue, IfOk, IfErr, OnOk, OnErr, MatchBool, bytes_eq};
+ghost use Rattle.std.specs.Prelude.{◌≡◌, ◌++◌, ◌∷◌, [], ◌&&◌, ◌||◌, ℕ, not, List, false, Err, IsTrue, IfOk, IfErr, IsOk, OnOk, OnErr, MatchBool, MatchOption, bytes_eq};
 ghost use Rattle.sqlite_value.specs.Order.{column};
 ghost use Rattle.sqlite.specs.Held.{state};
 ghost use Rattle.sqlite.specs.State.{HasCleanDisk, Survives};
@@ -18,12 +18,44 @@ use std::collections::BTreeSet;
 
 /// What the store above asks of a row beside the rules of the table.
 pub trait RowCheck {
-    /// A row of this collection, this written key and this body can be one of the store's own.
+    /// A row of this collection, this written key and this body is or was one of the store's own, and this is its key
+    /// now.
+    ghost renews: { Self → List ℕ → List ℕ → List ℕ → List ℕ → Type 0 };
+
+    /// Whether a row is one of the store's own under the key that it has. An error is want of memory.
+    fn passes(&self, coll: &[u8], idkey: &[u8], body: &[u8]) -> Result<bool, AllocError>
+        ensures { IfOk result (λ good. MatchBool good (renews self.now coll.now idkey.now body.now idkey.now) (¬ renews self.now coll.now idkey.now body.now idkey.now)) };
+
+    /// The key that a row has now, which is then its own. An error is want of memory.
+    fn renewed(&self, coll: &[u8], idkey: &[u8], body: &[u8]) -> Result<Option<Vec<u8>>, AllocError>
+        ensures { IfOk result (λ k. MatchOption k ((now : List ℕ) → renews self.now coll.now idkey.now body.now now → ⊥)
+            (λ now. renews self.now coll.now idkey.now body.now now.items × renews self.now coll.now now.items body.now now.items)) };
+}
+
+/// A test of rows.
+pub(crate) trait TestsRows {
+    /// A row of this collection, this written key and this body is accepted.
     ghost accepts: { Self → List ℕ → List ℕ → List ℕ → Type 0 };
 
     /// Whether such a row is accepted. An error is want of memory.
-    fn passes(&self, coll: &[u8], idkey: &[u8], body: &[u8]) -> Result<bool, AllocError>
+    fn accepts_row(&self, coll: &[u8], idkey: &[u8], body: &[u8]) -> Result<bool, AllocError>
         ensures { IfOk result (λ good. MatchBool good (accepts self.now coll.now idkey.now body.now) (¬ accepts self.now coll.now idkey.now body.now)) };
+}
+
+/// The test of a row under its own key.
+#[derive(Drop)]
+pub(crate) struct Own<'a, C: RowCheck> {
+    pub(crate) check: &'a C,
+}
+
+impl<C: RowCheck> TestsRows for Own<'_, C> {
+    ghost use Rattle.bson_table.specs.Renewal.{IsOwn};
+
+    ghost accepts = { λ own coll idkey body. IsOwn (C.renews own.check.now) coll idkey body };
+
+    fn accepts_row(&self, coll: &[u8], idkey: &[u8], body: &[u8]) -> Result<bool, AllocError> {
+        self.check.passes(coll, idkey, body)
+    }
 }
 
 /// Adds a key and its collection, and says whether the set had them not. The key goes first, since it tells most rows apart.
@@ -43,15 +75,15 @@ fn meet(
 }
 
 /// Whether a row is good after those that the set stands for, the last of which has this place.
-fn is_good_after<C: RowCheck>(
+fn is_good_after<J: TestsRows>(
     alloc: Global,
     seen: &mut BTreeSet<(Vec<u8>, Vec<u8>)>,
     last: i64,
     row: &Row,
-    check: &C,
+    check: &J,
 ) -> Result<bool, AllocError>
     ensures good { (docs : List Doc) → HasSeen seen.old.keys docs → last ≡ last_place docs
-        → IfOk result (λ good. MatchBool good (IsGoodAfter (C.accepts check.now) docs (doc_of row.now)) (¬ IsGoodAfter (C.accepts check.now) docs (doc_of row.now))) }
+        → IfOk result (λ good. MatchBool good (IsGoodAfter (J.accepts check.now) docs (doc_of row.now)) (¬ IsGoodAfter (J.accepts check.now) docs (doc_of row.now))) }
     ensures seen { (docs : List Doc) → HasSeen seen.old.keys docs → IfOk result (λ good. IsTrue good → HasSeen seen.new.keys (docs ++ doc_of row.now ∷ [])) }
 {
     let coll = bytes_at(row, 1);
@@ -62,7 +94,7 @@ fn is_good_after<C: RowCheck>(
     if !meet(seen, alloc, coll, idkey)? {
         return Ok(false);
     }
-    check.passes(coll, idkey, bytes_at(row, 3))
+    check.accepts_row(coll, idkey, bytes_at(row, 3))
 }
 
 /// The verdict so far, unless the row hasn't the types, which decides it wherever the row stands.
@@ -78,16 +110,17 @@ fn unless_mistyped(verdict: Result<(), OpenError>, row: &Row) -> Result<(), Open
 }
 
 /// The verdict on the rows so far and this one. The rows after a bad one are looked at for their types alone.
-fn judge<C: RowCheck>(
+pub(crate) fn judge<J: TestsRows>(
     alloc: Global,
     seen: &mut BTreeSet<(Vec<u8>, Vec<u8>)>,
     last: i64,
     verdict: Result<(), OpenError>,
     row: &Row,
-    check: &C,
+    check: &J,
 ) -> Result<Result<(), OpenError>, AllocError>
-    ensures { (rows : List Row) → JudgesRow (C.accepts check.now) seen.old.keys last rows verdict
-        → IfOk result (λ now. JudgesRow (C.accepts check.now) seen.new.keys (int_in (column row.now 0)) (rows ++ row.now ∷ []) now) }
+    ensures judged { (rows : List Row) → JudgesRow (J.accepts check.now) seen.old.keys last rows verdict
+        → IfOk result (λ now. JudgesRow (J.accepts check.now) seen.new.keys (int_in (column row.now 0)) (rows ++ row.now ∷ []) now) }
+    ensures passed { IfOk result (λ now. IsOk now → IsOk verdict) }
 {
     let now = unless_mistyped(verdict, row);
     if now.is_err() {
@@ -102,13 +135,13 @@ fn judge<C: RowCheck>(
 
 /// Reads the whole table, and tests each row. One row is held at a time, beside the names and keys of those before it; each
 /// takes a logarithm of their number.
-pub(crate) fn survey<S: Alter, C: RowCheck>(
+pub(crate) fn survey<S: Alter, J: TestsRows>(
     alloc: Global,
     conn: &mut Connection<S>,
-    check: &C,
+    check: &J,
 ) -> Result<(), OpenError>
-    ensures read { HasCleanDisk (state S.Store conn.new) → OnOk result (PassesOpening (C.accepts check.now) (state S.Store conn.old) (state S.Store conn.new)) }
-    ensures refused { HasCleanDisk (state S.Store conn.new) → IfErr result (λ e. RefusesOpening (C.accepts check.now) (state S.Store conn.old) (state S.Store conn.new) e) }
+    ensures read { HasCleanDisk (state S.Store conn.new) → OnOk result (PassesOpening (J.accepts check.now) (state S.Store conn.old) (state S.Store conn.new)) }
+    ensures refused { HasCleanDisk (state S.Store conn.new) → IfErr result (λ e. RefusesOpening (J.accepts check.now) (state S.Store conn.old) (state S.Store conn.new) e) }
     ensures kept { HasCleanDisk (state S.Store conn.new) → (IsTrue (state S.Store conn.old).is_open → (state S.Store conn.old).now ≡ (state S.Store conn.old).committed)
         → OnErr result (KeepsRows (state S.Store conn.old) (state S.Store conn.new)) }
     ensures crash { Survives (state S.Store conn.old) (state S.Store conn.new) (λ _. ⊥) }

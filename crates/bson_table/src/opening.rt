@@ -6,9 +6,11 @@ ghost use Rattle.sqlite.specs.Held.{state};
 ghost use Rattle.sqlite.specs.State.{HasCleanDisk, Survives, IsLive};
 ghost use Rattle.sqlite_schema.specs.Names.{table_named, index_named, view_named};
 ghost use Rattle.bson_table.specs.Cells.{is_listed, int_in, bytes_in};
-ghost use Rattle.bson_table.specs.Open.{RefusesOpening, PassesOpening, Opened, Unopened, KeepsRows, Makes, table_name, HasNoTable, IsNameTaken};
+ghost use Rattle.bson_table.specs.Renewal.{Opened, Unopened, Makes};
+ghost use Rattle.bson_table.specs.Open.{KeepsRows, table_name, HasNoTable, IsNameTaken};
 
-use crate::check::{RowCheck, survey};
+use crate::check::RowCheck;
+use crate::renewal::settle_keys;
 use crate::statements::create;
 use sqlite::types::ValueRef;
 use sqlite::{Alter, Connection, Error, ErrorCode, Row};
@@ -21,6 +23,9 @@ pub enum OpenError {
     NotAStore,
     /// The place of the first row that a store can't have written.
     BadRow(i64),
+    /// Two rows of one collection have `_id`s that mean the same now: the place of the first, and the least place that
+    /// has a twin before it.
+    IdsCollide(i64, i64),
     /// Memory ran out, here or in the database.
     Memory,
     /// The database refused: its disk, a limit on steps, an open transaction.
@@ -72,17 +77,17 @@ pub(crate) fn prepare<S: Alter, C: RowCheck>(
     conn: &mut Connection<S>,
     check: &C,
 ) -> Result<(), OpenError>
-    ensures opened { HasCleanDisk (state S.Store conn.new) → OnOk result (Opened (C.accepts check.now) (state S.Store conn.old) (state S.Store conn.new)) }
-    ensures refused { HasCleanDisk (state S.Store conn.new) → IfErr result (λ e. Unopened (C.accepts check.now) (state S.Store conn.old) (state S.Store conn.new) e) }
+    ensures opened { HasCleanDisk (state S.Store conn.new) → OnOk result (Opened (C.renews check.now) (state S.Store conn.old) (state S.Store conn.new)) }
+    ensures refused { HasCleanDisk (state S.Store conn.new) → IfErr result (λ e. Unopened (C.renews check.now) (state S.Store conn.old) (state S.Store conn.new) e) }
     ensures kept { HasCleanDisk (state S.Store conn.new) → OnErr result (KeepsRows (state S.Store conn.old) (state S.Store conn.new)) }
     ensures taken { (state S.Store conn.old).in_transaction ≡ false → HasNoTable (state S.Store conn.old) → IsNameTaken (state S.Store conn.old) → result ≡ Err OpenError.NotAStore }
-    ensures crash { Survives (state S.Store conn.old) (state S.Store conn.new) (Makes (state S.Store conn.old)) }
+    ensures crash { Survives (state S.Store conn.old) (state S.Store conn.new) (Makes (C.renews check.now) (state S.Store conn.old)) }
 {
     if !conn.is_autocommit() {
         return Err(OpenError::Database);
     }
     if has_table(conn) {
-        return survey(alloc, conn, check);
+        return settle_keys(alloc, conn, check);
     }
     if is_taken(conn) {
         return Err(OpenError::NotAStore);

@@ -7,6 +7,13 @@ pub struct Found {
     pub body: Vec<u8>,
 }
 
+/// Another key for the row at a place.
+#[derive(Debug, Drop)]
+pub struct NewKey {
+    pub place: i64,
+    pub idkey: Vec<u8>,
+}
+
 /// A row to come: its written key and its body.
 #[derive(Debug, Drop)]
 pub struct NewRow {

@@ -4,13 +4,14 @@ ghost use Rattle.std.specs.Prelude.{◌≡◌, ◌≢◌, ◌+ℤ◌, ◌<ℤ◌
 ghost use Rattle.sqlite.specs.declared.types.Value.TheVariants.{Int, Blob};
 ghost use Rattle.sqlite.specs.Held.{state};
 ghost use Rattle.sqlite.specs.State.{HasCleanDisk, Survives};
-ghost use Rattle.bson_table.specs.Rows.{Doc, IsBlank, AreBelow, HasRows, Shows, Inside, KeepsCommitted, docs_from, without_place, replaced, is_row_named, last_place};
+ghost use Rattle.bson_table.specs.Rows.{Doc, IsBlank, AreBelow, HasRows, Shows, Inside, KeepsCommitted, docs_from, without_place, replaced, rekeyed, all_rekeyed, is_row_named, last_place};
 ghost use Rattle.bson_table.specs.Moves.{Stands};
+ghost use Rattle.bson_table.specs.Open.{KeepsRows, HasCommitted};
 ghost use Rattle.bson_table.specs.Visit.{ReadsRows};
 ghost use Rattle.bson_table.specs.Written.{WritesRows};
 
 use crate::opening::place_in;
-use crate::row::NewRow;
+use crate::row::{NewKey, NewRow};
 use sqlite::types::ValueRef;
 use sqlite::{Alter, Connection, Error, ErrorCode, Row, Transaction};
 
@@ -28,7 +29,7 @@ pub(crate) fn create<S: Alter>(conn: &mut Connection<S>) -> Result<usize, Error>
 }
 
 /// Adds a row after all others.
-pub(crate) fn add<'a, S: Alter>(
+fn add<'a, S: Alter>(
     conn: &mut Connection<S>,
     place: i64,
     coll: &'a str,
@@ -50,6 +51,23 @@ pub(crate) fn add<'a, S: Alter>(
             ValueRef::Blob(body),
         ],
     )
+}
+
+/// Adds a row after all others, and commits it. A function of its own, with the words of `add`, as a wrong body turns it.
+pub(crate) fn add_committed<'a, S: Alter>(
+    conn: &mut Connection<S>,
+    place: i64,
+    coll: &'a str,
+    idkey: &'a [u8],
+    body: &'a [u8],
+) -> Result<usize, Error>
+    requires last { HasCleanDisk (state S.Store conn.old) → (docs : List Doc) → Shows (state S.Store conn.old) docs → AreBelow place docs }
+    ensures written { HasCleanDisk (state S.Store conn.new) → IsTrue (state S.Store conn.old).is_open
+        → WritesRows (state S.Store conn.old) (state S.Store conn.new) (λ docs. docs ++ record { place = place; coll = coll.now; idkey = idkey.now; body = body.now } ∷ []) result }
+    ensures crash { Survives (state S.Store conn.old) (state S.Store conn.new)
+        (λ trees. (docs : List Doc) → Shows (state S.Store conn.old) docs → HasRows trees (docs ++ record { place = place; coll = coll.now; idkey = idkey.now; body = body.now } ∷ [])) }
+{
+    add(conn, place, coll, idkey, body)
 }
 
 /// Removes the row at a place.
@@ -86,7 +104,7 @@ pub(crate) fn named<'a, S: Alter>(
     ensures crash { Survives (state S.Store conn.old) (state S.Store conn.new) (λ _. ⊥) }
 {
     conn.query_all(
-        "SELECT place, body FROM documents WHERE coll = ?1 AND idkey = ?2 ORDER BY place",
+        "SELECT place, body FROM documents WHERE coll = ?1 COLLATE BINARY AND idkey = ?2 ORDER BY place",
         &[ValueRef::Text(coll.as_bytes()), ValueRef::Blob(idkey)],
     )
 }
@@ -163,6 +181,48 @@ pub(crate) fn add_all<S: Alter>(
             row.idkey.as_slice(),
             row.body.as_slice(),
         )?;
+    }
+    tx.commit()
+}
+
+/// Puts another key at a place, in a transaction.
+fn rekey<'a, 't, S: Alter>(
+    tx: &mut Transaction<'t, S>,
+    place: i64,
+    idkey: &'a [u8],
+) -> Result<usize, Error>
+    ensures same_reference { tx.new.conn.ghost_name ≡ tx.old.conn.ghost_name }
+    ensures done { HasCleanDisk (state S.Store tx.new.conn.now) → (first docs : List Doc) → Inside (state S.Store tx.old.conn.now) first docs
+        → OnOk result (Inside (state S.Store tx.new.conn.now) first (rekeyed place idkey.now docs)) }
+    ensures refused { HasCleanDisk (state S.Store tx.new.conn.now) → (first docs : List Doc) → Inside (state S.Store tx.old.conn.now) first docs
+        → IsTrue (state S.Store tx.new.conn.now).is_open → OnErr result (KeepsCommitted (state S.Store tx.new.conn.now) first) }
+    ensures inside { HasCleanDisk (state S.Store tx.new.conn.now) → IsTrue (state S.Store tx.old.conn.now).in_transaction → OnOk result (IsTrue (state S.Store tx.new.conn.now).in_transaction) }
+    ensures committed { HasCleanDisk (state S.Store tx.new.conn.now) → IsTrue (state S.Store tx.old.conn.now).in_transaction → HasCommitted (state S.Store tx.old.conn.now) (state S.Store tx.new.conn.now) }
+    ensures crash { Survives (state S.Store tx.old.conn.now) (state S.Store tx.new.conn.now) (λ _. ⊥) }
+{
+    tx.execute(
+        "UPDATE documents SET idkey = ?2 WHERE place = ?1",
+        &[ValueRef::Int(place), ValueRef::Blob(idkey)],
+    )
+}
+
+/// Puts other keys at some places: all of them, or none.
+pub(crate) fn rekey_all<S: Alter>(conn: &mut Connection<S>, keys: &[NewKey]) -> Result<(), Error>
+    ensures done { HasCleanDisk (state S.Store conn.new) → (docs : List Doc) → Shows (state S.Store conn.old) docs
+        → OnOk result (Shows (state S.Store conn.new) (all_rekeyed keys.now docs)) }
+    ensures refused { HasCleanDisk (state S.Store conn.new) → (docs : List Doc) → Shows (state S.Store conn.old) docs
+        → IsTrue (state S.Store conn.new).is_open → OnErr result (Shows (state S.Store conn.new) docs) }
+    ensures kept { HasCleanDisk (state S.Store conn.new) → (IsTrue (state S.Store conn.old).is_open → (state S.Store conn.old).now ≡ (state S.Store conn.old).committed)
+        → OnErr result (KeepsRows (state S.Store conn.old) (state S.Store conn.new)) }
+    ensures crash { Survives (state S.Store conn.old) (state S.Store conn.new)
+        (λ trees. (docs : List Doc) → Shows (state S.Store conn.old) docs → HasRows trees (all_rekeyed keys.now docs)) }
+{
+    if !conn.is_autocommit() {
+        return Err(Error::SqliteFailure(ErrorCode::TransactionState));
+    }
+    let mut tx = conn.transaction();
+    for key in keys {
+        rekey(&mut tx, key.place, key.idkey.as_slice())?;
     }
     tx.commit()
 }

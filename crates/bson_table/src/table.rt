@@ -5,7 +5,8 @@ ghost use Rattle.sqlite.specs.Held.{state};
 ghost use Rattle.sqlite.specs.State.{HasCleanDisk, Survives};
 ghost use Rattle.bson_table.specs.Rows.{without_place, replaced};
 ghost use Rattle.bson_table.specs.Moves.{Moves, WasOpen, MayLeave, Settles, FindsRow, Changes, AddsRows, Lists, Visits, appended, all_appended};
-ghost use Rattle.bson_table.specs.Open.{Opened, Unopened, KeepsRows, Makes, HasNoTable, IsNameTaken};
+ghost use Rattle.bson_table.specs.Renewal.{Opened, Unopened, Makes};
+ghost use Rattle.bson_table.specs.Open.{KeepsRows, HasNoTable, IsNameTaken};
 ghost use Rattle.sqlite_value.specs.Order.{column};
 ghost use Rattle.bson_table.specs.Cells.{int_in, bytes_in};
 
@@ -33,18 +34,23 @@ pub struct Table<S: Alter> {
 impl<S: Alter + Drop> Table<S> {
     ghost use Rattle.bson_table.specs.Table.{connection_of, table_state};
 
-    /// Opens the table, which is made where the database has none. A refusal gives the connection back, with its rows as they were.
+    /// Opens the table, which is made where the database has none. Keys that `check` replaces by others are replaced in one
+    /// transaction; a table that has none is not written to. A refusal gives the connection back, with its rows as they were.
+    ///
+    /// Refused by NotAStore, where `documents` can't be read by the four columns with their types or is no table; by BadRow,
+    /// with the place of the first row that isn't good under any key; by IdsCollide, where two rows of one collection would
+    /// have one key, with the place of the first and the least place that has such a row before it; and by Memory and Database.
     pub fn open<C: RowCheck>(
         alloc: Global,
         mut connection: Connection<S>,
         check: &C,
     ) -> Result<Table<S>, (OpenError, Connection<S>)>
-        ensures opened { IfOk result (λ t. HasCleanDisk (table_state S.Store t) → Opened (C.accepts check.now) (state S.Store connection) (table_state S.Store t)) }
-        ensures refused { IfErr result (λ e. HasCleanDisk (state S.Store e.1) → Unopened (C.accepts check.now) (state S.Store connection) (state S.Store e.1) e.0) }
+        ensures opened { IfOk result (λ t. HasCleanDisk (table_state S.Store t) → Opened (C.renews check.now) (state S.Store connection) (table_state S.Store t)) }
+        ensures refused { IfErr result (λ e. HasCleanDisk (state S.Store e.1) → Unopened (C.renews check.now) (state S.Store connection) (state S.Store e.1) e.0) }
         ensures kept { IfErr result (λ e. HasCleanDisk (state S.Store e.1) → KeepsRows (state S.Store connection) (state S.Store e.1)) }
         ensures taken { (state S.Store connection).in_transaction ≡ false → HasNoTable (state S.Store connection) → IsNameTaken (state S.Store connection) → IsErrAnd result (λ e. e.0 ≡ OpenError.NotAStore) }
-        ensures crash { IfOk result (λ t. Survives (state S.Store connection) (table_state S.Store t) (Makes (state S.Store connection))) }
-        ensures crash_refused { IfErr result (λ e. Survives (state S.Store connection) (state S.Store e.1) (Makes (state S.Store connection))) }
+        ensures crash { IfOk result (λ t. Survives (state S.Store connection) (table_state S.Store t) (Makes (C.renews check.now) (state S.Store connection))) }
+        ensures crash_refused { IfErr result (λ e. Survives (state S.Store connection) (state S.Store e.1) (Makes (C.renews check.now) (state S.Store connection))) }
     {
         match prepare(alloc, &mut connection, check) {
             Ok(()) => Ok(Table {
@@ -88,7 +94,7 @@ impl<S: Alter + Drop> Table<S> {
         let Some(place) = last.checked_add(1) else {
             return Err(Fault::Places);
         };
-        statements::add(&mut self.conn, place, coll, idkey, body)?;
+        statements::add_committed(&mut self.conn, place, coll, idkey, body)?;
         Ok(())
     }
 
@@ -168,7 +174,7 @@ impl<S: Alter + Drop> Table<S> {
     {
         let all = visit_values(
             &mut self.conn,
-            "SELECT body FROM documents WHERE +coll = ?1 ORDER BY place",
+            "SELECT body FROM documents WHERE +coll = ?1 COLLATE BINARY ORDER BY place",
             &[ValueRef::Text(coll.as_bytes())],
             visitor,
         )?;

@@ -55,10 +55,13 @@ pub enum ErrorKind {
     Reader,
     /// 24: a write failed in this call, or took none of some bytes.
     Writer,
+    /// 25: two documents of one collection, kept under keys from before, have `_id`s that mean the same now: the place
+    /// of the first, and the least place that has such a document before it.
+    IdsCollide(i64, i64),
 }
 
 impl ErrorKind {
-    /// The name of the kind, without the place of a bad row.
+    /// The name of the kind, without places.
     pub fn name(self) -> &'static str
         ensures { result.now ≡ kind_name self }
     {
@@ -86,6 +89,7 @@ impl ErrorKind {
             ErrorKind::Places => "Places",
             ErrorKind::Reader => "Reader",
             ErrorKind::Writer => "Writer",
+            ErrorKind::IdsCollide(_, _) => "IdsCollide",
         }
     }
 }

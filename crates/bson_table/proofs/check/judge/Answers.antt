@@ -6,14 +6,14 @@ use Rattle.bson_table.specs.Check.{IsGoodAfter}
 use Rattle.bson_table.proofs.JudgeLemmas.{wrong_on, passed_if, passed_on, bad_at}
 use Rattle.bson_table.proofs.check.judge.Goals as goal
 
-pub returns-then-is_err : goal.returns-then-is_err
-returns-then-is_err g c rows h =
-    wrong_on (g.C.RowCheck.accepts c.args.check.now) c.args.seen.now.keys c.args.seen.now.keys c.args.last _ rows c.args.row.now c.args.verdict c.unless_mistyped-now.result
+pub returns-then-is_err-clause-judged : goal.returns-then-is_err-clause-judged
+returns-then-is_err-clause-judged g c rows h =
+    wrong_on (g.J.TestsRows.accepts c.args.check.now) c.args.seen.now.keys c.args.seen.now.keys c.args.last _ rows c.args.row.now c.args.verdict c.unless_mistyped-now.result
     (sym c.is_err.ensures.value ∙ c.if-is_err.true) c.unless_mistyped-now.ensures.kept c.unless_mistyped-now.ensures.mistyped h
 
-pub returns-then-branch : goal.returns-then-branch
-returns-then-branch g c rows h =
-    let accepts = g.C.RowCheck.accepts c.args.check.now in
+pub returns-then-branch-clause-judged : goal.returns-then-branch-clause-judged
+returns-then-branch-clause-judged g c rows h =
+    let accepts = g.J.TestsRows.accepts c.args.check.now in
     let row = c.args.row.now in
     let docs : List Doc = map doc_of rows in
     let it = passed_if accepts c.args.seen.now.keys c.args.last rows row c.args.verdict c.unless_mistyped-now.result (sym c.is_err.ensures.value ∙ c.if-is_err.false) c.unless_mistyped-now.ensures.kept c.unless_mistyped-now.ensures.mistyped h in
@@ -21,9 +21,9 @@ returns-then-branch g c rows h =
     let is_true : IsTrue c.in_ok-is_good_after.field-0 = c.if-branch.true in
     passed_on accepts c.args.seen.now.keys c.is_good_after.new.seen.keys c.args.last rows row it.1 it.0 good (c.in_ok-is_good_after.ensures.seen docs it.0.seen is_true)
 
-pub returns-else-branch : goal.returns-else-branch
-returns-else-branch g c rows h =
-    let accepts = g.C.RowCheck.accepts c.args.check.now in
+pub returns-else-branch-clause-judged : goal.returns-else-branch-clause-judged
+returns-else-branch-clause-judged g c rows h =
+    let accepts = g.J.TestsRows.accepts c.args.check.now in
     let row = c.args.row.now in
     let docs : List Doc = map doc_of rows in
     let it = passed_if accepts c.args.seen.now.keys c.args.last rows row c.args.verdict c.unless_mistyped-now.result (sym c.is_err.ensures.value ∙ c.if-is_err.false) c.unless_mistyped-now.ensures.kept c.unless_mistyped-now.ensures.mistyped h in

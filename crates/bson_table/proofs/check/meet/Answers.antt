@@ -1,7 +1,7 @@
 use Rattle.std.proofs.Common.{◌≡◌, ◌&&◌, ◌||◌, not, bytes_eq, true, false, ap, ap₂, ◌∙◌, is_eq, rules, sym}
 use Rattle.std.specs.List.{list_any}
-use Rattle.bson_table.specs.Seen.{Pair, has_pair}
-use Rattle.bson_table.proofs.SeenLemmas.{pair_cmp, contains_is, and_swap, inserted}
+use Rattle.bson_table.specs.Seen.{Pair, pair_cmp, has_pair}
+use Rattle.bson_table.proofs.SeenLemmas.{contains_is, and_swap, inserted}
 use Rattle.bson_table.proofs.check.meet.Goals as goal
 use Rattle.std.proofs.lemmas.Bool.{not-true}
 

@@ -41,7 +41,7 @@ returns-in-Err-SqlInputError-clause-crash g c =
 
 pub returns-in-Err-clause-refused : goal.returns-in-Err-clause-refused
 returns-in-Err-clause-refused g c clean =
-    refuses_other (g.C.RowCheck.accepts c.args.check.now) (state g.S.Store c.args.conn.now) (state g.S.Store c.query.follows.lender-at-none) c.refusal.result c.refusal.ensures.other
+    refuses_other (g.J.TestsRows.accepts c.args.check.now) (state g.S.Store c.args.conn.now) (state g.S.Store c.query.follows.lender-at-none) c.refusal.result c.refusal.ensures.other
 
 pub returns-in-Err-clause-kept : goal.returns-in-Err-clause-kept
 returns-in-Err-clause-kept g c clean settled =
@@ -62,7 +62,7 @@ returns-in-Err-clause-crash g c =
 pub rows-init : goal.rows-init
 rows-init g c =
     let made = c.in-Ok.ensures in
-    let first : ArePassed (g.C.RowCheck.accepts c.args.check.now) c.new-seen.result.keys _ [] = record { typed = refl; good = tt; seen = search rules; place = search rules } in
+    let first : ArePassed (g.J.TestsRows.accepts c.args.check.now) c.new-seen.result.keys _ [] = record { typed = refl; good = tt; seen = search rules; place = search rules } in
     record {
       same = refl;
       survives = listing_leaves _ _ made.survives;
@@ -71,7 +71,7 @@ rows-init g c =
 
 pub returns-in-Ok-None-clause-read : goal.returns-in-Ok-None-clause-read
 returns-in-Ok-None-clause-read g c clean =
-    let accepts = g.C.RowCheck.accepts c.args.check.now in
+    let accepts = g.J.TestsRows.accepts c.args.check.now in
     let old = state g.S.Store c.args.conn.now in
     let mid = state g.S.Store c.rows.rows.conn.now in
     let moved = c.next.follows.holds-at-none in
@@ -84,7 +84,7 @@ returns-in-Ok-None-clause-read g c clean =
 
 pub returns-in-Ok-None-clause-refused : goal.returns-in-Ok-None-clause-refused
 returns-in-Ok-None-clause-refused g c clean =
-    let accepts = g.C.RowCheck.accepts c.args.check.now in
+    let accepts = g.J.TestsRows.accepts c.args.check.now in
     let old = state g.S.Store c.args.conn.now in
     let mid = state g.S.Store c.rows.rows.conn.now in
     let moved = c.next.follows.holds-at-none in
@@ -97,7 +97,7 @@ returns-in-Ok-None-clause-refused g c clean =
 
 pub rows-preserved : goal.rows-preserved
 rows-preserved g c =
-    let accepts = g.C.RowCheck.accepts c.args.check.now in
+    let accepts = g.J.TestsRows.accepts c.args.check.now in
     let old = state g.S.Store c.args.conn.now in
     let mid = state g.S.Store c.rows.rows.conn.now in
     let moved = c.next.follows.holds-at-none in
@@ -112,6 +112,6 @@ rows-preserved g c =
           let still : IsUnchanged mid (state g.S.Store now) = rw c.in-Ok-Some.is at (moved.same late) in
           let read = c.place_in-last.ensures in
           let place : to_z w64 (of_z w64 c.place_in-last.result) ≡ int_in (column row 0) = search rules in
-          let judged = c.in-Ok-judge.ensures was.0 was.3 in
+          let judged = c.in-Ok-judge.ensures.judged was.0 was.3 in
           (was.0 ++ row ∷ [], on, unchanged_then old mid (state g.S.Store now) was.2 still, subst (λ (z : ℤ). JudgesRow accepts c.judge.new.seen.keys z (was.0 ++ row ∷ []) c.in-Ok-judge.now) (sym place) judged);
     }

@@ -14,5 +14,5 @@ invariant-rows g l =
     record {
       same : l.rows.conn.ghost_name ≡ l.initial.rows.conn.ghost_name;
       survives : Survives old now (λ _. ⊥);
-      given : HasCleanDisk now → (given : List Row) × HasGiven g.S.Store all_text [] l.rows.conn.now given × IsUnchanged old now × JudgesRow (g.C.RowCheck.accepts l.check) l.seen.keys l.last given l.verdict;
+      given : HasCleanDisk now → (given : List Row) × HasGiven g.S.Store all_text [] l.rows.conn.now given × IsUnchanged old now × JudgesRow (g.J.TestsRows.accepts l.check) l.seen.keys l.last given l.verdict;
     }
