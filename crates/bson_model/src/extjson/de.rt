@@ -190,7 +190,9 @@ fn read_scope(alloc: Global, scope: Value, levels: u32) -> Result<Option<Documen
     match scope {
         Value::Null => Ok(None),
         Value::Object(members) => {
-            Ok(Some(read_members(alloc, members, levels_inside(levels)?)?))
+            // The object around it is a level of its own.
+            let inside = levels_inside(levels_inside(levels)?)?;
+            Ok(Some(read_members(alloc, members, inside)?))
         }
         _ => Err(Error::DeserializationError),
     }
@@ -206,8 +208,8 @@ impl Bson {
     /// The value that a JSON tree stands for (MongoDB Extended JSON v2, "Parsing"). `InvalidObjectId` tells a text under
     /// `$oid` that is no object id, `FiniteDouble` a number that is no signed integer of 64 bits or a numeral under
     /// `$numberDouble` that is not zero, `DeserializationError` any other fault of a typed value, `Memory` a refused growth, and
-    /// more than 1000 documents, arrays and scopes inside each other, which it doesn't enter. Of several faults the first one in
-    /// the order of keys is told, a further key before the fault of a body.
+    /// more than 1000 documents, arrays and scopes inside each other, which it doesn't enter; a scope counts twice, as an object
+    /// in an object. Of several faults the first one in the order of keys is told, a further key before the fault of a body.
     pub fn try_from_value(alloc: Global, json: Value) -> Result<Bson>
         ensures { GivesReading view result (read (tree_of json)) }
     {
