@@ -4,7 +4,8 @@
 //! Before the first title each line stands alone: `export_memory TIMES` tells how far an export gets where memory is refused, as the
 //! page of `exporting` says, `usage` is the example of docs/USING.md on stores, and the others are cases of bson_table, of which the
 //! page of `table` tells. `stopped log` and `stopped database` stop a file under the store at each of its calls, one after the other;
-//! they are answered by a row for each that went otherwise than the one before it, as the page of `stopping` says.
+//! they are answered by a row for each that went otherwise than the one before it, as the page of `stopping` says; so are `stopped_opening log`
+//! and `stopped_opening database`, with an opening that replaces keys from before.
 //! `limited` does the like with a limit on the steps of a statement, as the page of `limiting` says. `memory TIMES` runs a list of commands, as the page of `memory` says.
 //!
 //! A line that begins with `# ` is a title, and begins a block of lines over a new database in memory. A block has
@@ -50,7 +51,8 @@ fn answer_alone(rt: &HostRuntime, line: &str) -> io::Result<()> {
         "limited" => rt.print(limiting::answer(rt.alloc())?),
         "memory" => rt.println(memory::answer(rt.alloc(), rest)),
         "export_memory" => rt.println(exporting::answer(rt.alloc(), rest)),
-        "stopped" => rt.print(stopping::answer(rt.alloc(), rest)?),
+        "stopped" => rt.print(stopping::answer(rt.alloc(), rest, true)?),
+        "stopped_opening" => rt.print(stopping::answer(rt.alloc(), rest, false)?),
         "usage" => rt.println(usage::answer(rt.alloc())),
         _ => rt.println(table::answer(rt.alloc(), line)?),
     }

@@ -4,6 +4,9 @@
 //! comes back, the files are opened again, and the rest of the commands is run. A row says how many commands were accepted before
 //! the stop, what is found behind it, what the rest of the commands replied, and what is there in the end. A document is
 //! shown by its `_id`, and by the value under `a` if there is one.
+//!
+//! The same is done with an opening of a store whose file has two rows under keys from before the two zeros of a double meant the same,
+//! which the opening replaces: a row says whether the store was opened before the stop, and what is found behind it.
 
 use crate::lists;
 use crate::replies::tell_refusal;
@@ -23,14 +26,35 @@ pub const COMMANDS: [&str; 6] = [
     "remove|c|1",
 ];
 
+/// What makes the table, with two rows whose keys keep the sign of a zero: of the ids -0 and {x: -0}.
+const OLD_ROWS: [&str; 3] = [
+    "CREATE TABLE documents (place INTEGER PRIMARY KEY, coll TEXT NOT NULL, idkey BLOB NOT NULL, body BLOB NOT NULL, UNIQUE (coll, idkey)) STRICT",
+    "INSERT INTO documents VALUES (1, 'c', x'12000000015f696400000000000000008000', x'12000000015f696400000000000000008000')",
+    "INSERT INTO documents VALUES (2, 'c', x'1a000000035f6964001000000001780000000000000000800000', x'1a000000035f6964001000000001780000000000000000800000')",
+];
+
 /// No run over the commands makes as many calls of a file.
 const MOST_CALLS: u64 = 1000;
+
+/// What is done over files.
+#[derive(Clone, Copy, PartialEq, Eq)]
+enum Phase {
+    /// They get the rows of old keys.
+    Fill,
+    /// What is done before the stop.
+    Before,
+    /// What is done behind it: the files are what a crash left.
+    Behind,
+}
 
 /// A stop, and what came of it.
 #[derive(Drop)]
 struct Stop {
-    /// Whether it is past: the files are what a crash left.
-    is_past: bool,
+    phase: Phase,
+    /// Whether the commands are run; else the store is opened alone, over rows of old keys.
+    has_commands: bool,
+    /// Whether the store was opened before it.
+    is_opened: bool,
     /// How many commands were accepted before it.
     accepted: usize,
     /// What was found behind it.
@@ -41,19 +65,39 @@ struct Stop {
     left: String,
 }
 
+impl Stop {
+    /// Before anything is done.
+    fn new(alloc: Global, has_commands: bool) -> Stop {
+        Stop {
+            phase: Phase::Before,
+            has_commands,
+            is_opened: false,
+            accepted: 0,
+            found: String::new(alloc),
+            replies: String::new(alloc),
+            left: String::new(alloc),
+        }
+    }
+
+    /// Whether the run came to its end before it.
+    fn is_behind_all(&self) -> bool {
+        self.is_opened && (!self.has_commands || self.accepted == COMMANDS.len())
+    }
+}
+
 /// The rows of all stops of a file, `log` or `database`, at its first call, its second, and so on until a run has no stop. A row
 /// that is that of the stop before it is left out.
-pub fn answer(alloc: Global, file: &str) -> Result<String, AllocError> {
+pub fn answer(alloc: Global, file: &str, has_commands: bool) -> Result<String, AllocError> {
     let mut rows = String::new(alloc);
     let mut last = String::new(alloc);
     for calls in 0..MOST_CALLS {
-        let stop = stop_at(alloc, file, calls);
+        let stop = stop_at(alloc, file, calls, has_commands);
         let row = row_of(alloc, file, &stop)?;
         if row.as_str() != last.as_str() {
             rows.push_str(row.as_str())?;
         }
         last = row;
-        if stop.accepted == COMMANDS.len() {
+        if stop.is_behind_all() {
             break;
         }
     }
@@ -65,43 +109,61 @@ fn row_of(alloc: Global, file: &str, stop: &Stop) -> Result<String, AllocError> 
     let accepted = stop.accepted;
     let (found, left) = (stop.found.as_str(), stop.left.as_str());
     let replies = stop.replies.as_str();
+    if !stop.has_commands {
+        let opened = if stop.is_opened {
+            "opened"
+        } else {
+            "not opened"
+        };
+        return format!(in alloc; "{file}: {opened}, found {found}\n");
+    }
     format!(in alloc;
         "{file}: {accepted} accepted, found {found}; then {replies}; at last {left}\n"
     )
 }
 
 /// Stops a file at this call: the log, or else the database.
-fn stop_at(alloc: Global, file: &str, calls: u64) -> Stop {
+fn stop_at(alloc: Global, file: &str, calls: u64, has_commands: bool) -> Stop {
     let (log, database) = if file == "log" {
         (calls, u64::MAX)
     } else {
         (u64::MAX, calls)
     };
-    let mut stop = Stop {
-        is_past: false,
-        accepted: 0,
-        found: String::new(alloc),
-        replies: String::new(alloc),
-        left: String::new(alloc),
-    };
-    let mut files = run_over(alloc, fused(alloc, log, database), &mut stop);
+    let mut stop = Stop::new(alloc, has_commands);
+    let files = begun(alloc, &mut stop);
+    let mut files = run_over(alloc, fused(files, log, database), &mut stop);
     files.log.crash();
     files.db.crash();
-    stop.is_past = true;
+    stop.phase = Phase::Behind;
     drop(run_over(alloc, files, &mut stop));
     stop
 }
 
-/// Empty files that stop after so many calls.
-fn fused(alloc: Global, log_calls: u64, database_calls: u64) -> Files<Fuse<Memory>> {
+/// The files at the beginning: empty ones, or ones with rows of old keys.
+fn begun(alloc: Global, stop: &mut Stop) -> Files<Memory> {
+    let files = Files {
+        log: Memory::new(alloc),
+        db: Memory::new(alloc),
+    };
+    if stop.has_commands {
+        return files;
+    }
+    stop.phase = Phase::Fill;
+    let files = run_over(alloc, files, stop);
+    stop.phase = Phase::Before;
+    files
+}
+
+/// The files, which stop after so many calls.
+fn fused(files: Files<Memory>, log_calls: u64, database_calls: u64) -> Files<Fuse<Memory>> {
     Files {
-        log: Fuse::new(Memory::new(alloc), log_calls),
-        db: Fuse::new(Memory::new(alloc), database_calls),
+        log: Fuse::new(files.log, log_calls),
+        db: Fuse::new(files.db, database_calls),
     }
 }
 
-/// Does over files what is done before the stop, or behind it. One function does both, as its proof takes some twenty seconds: it
-/// owns a database in files.
+/// Does over files what the phase says. One function does all, as its proof takes some twenty seconds: it owns a database in
+/// files.
 fn run_over<D: Disk + Drop>(alloc: Global, files: Files<D>, stop: &mut Stop) -> Files<D> {
     match reopened(alloc, files) {
         Ok(connection) => closed(worked(alloc, connection, stop)),
@@ -111,7 +173,11 @@ fn run_over<D: Disk + Drop>(alloc: Global, files: Files<D>, stop: &mut Stop) -> 
 
 /// The same over any database, and the store of files that its connection then leaves. There is no clause: over files those of
 /// `into_store` would take minutes.
-fn worked<S: Alter + Drop>(alloc: Global, connection: Connection<S>, stop: &mut Stop) -> S {
+fn worked<S: Alter + Drop>(alloc: Global, mut connection: Connection<S>, stop: &mut Stop) -> S {
+    if stop.phase == Phase::Fill {
+        fill(&mut connection);
+        return connection.into_store();
+    }
     let connection = match Store::open(alloc, connection) {
         Ok(mut store) => {
             work(alloc, &mut store, stop);
@@ -141,13 +207,43 @@ fn reopened<D: Disk + Drop>(
     }
 }
 
+/// Makes the table with rows of old keys.
+fn fill<S: Alter>(connection: &mut Connection<S>) {
+    for statement in OLD_ROWS {
+        if connection.execute(statement, &[]).is_err() {
+            return;
+        }
+    }
+}
+
 /// Does over an open store what is done before the stop, or behind it.
 fn work<S: Alter + Drop>(alloc: Global, store: &mut Store<S>, stop: &mut Stop) {
-    if !stop.is_past {
-        stop.accepted = accepted(alloc, store);
-    } else if go_on(alloc, store, stop).is_err() {
+    let outcome = match (stop.phase, stop.has_commands) {
+        (Phase::Behind, true) => go_on(alloc, store, stop),
+        (Phase::Behind, false) => find(alloc, store, stop),
+        (_, has_commands) => {
+            stop.is_opened = true;
+            stop.accepted = if has_commands {
+                accepted(alloc, store)
+            } else {
+                0
+            };
+            Ok(())
+        }
+    };
+    if outcome.is_err() {
         stop.found.clear();
     }
+}
+
+/// Looks at the bytes that are found.
+fn find<S: Alter + Drop>(
+    alloc: Global,
+    store: &mut Store<S>,
+    stop: &mut Stop,
+) -> Result<(), AllocError> {
+    stop.found = lists::answer(alloc, store, "export|c")?;
+    Ok(())
 }
 
 /// Runs the commands up to the first that is refused, and returns how many were before it.
