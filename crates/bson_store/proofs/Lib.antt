@@ -17,6 +17,7 @@ pub mod Adding
 pub mod Importing
 pub mod Dumping
 pub mod Opened
+pub mod Renewed
 pub mod Opening
 pub mod Leaving
 pub mod Again

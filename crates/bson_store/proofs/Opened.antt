@@ -50,7 +50,7 @@ place_of : (z : ℤ) (n : ℕ) → pos n <ℤ z → (p : ℕ) × (z ≡ pos p) �
 place_of (pos p) n h = (p, refl, omega (arith, ints, h))
 place_of (negsuc m) n h = absurd (omega (arith, ints, h))
 
-last_of : (seen : List Doc) (d : Doc) → table.last_place (seen ++ d ∷ []) ≡ d.place
+pub last_of : (seen : List Doc) (d : Doc) → table.last_place (seen ++ d ∷ []) ≡ d.place
 last_of [] d = refl
 last_of (x ∷ []) d = refl
 last_of (x ∷ (y ∷ seen)) d = last_of (y ∷ seen) d

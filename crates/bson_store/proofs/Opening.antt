@@ -1,14 +1,14 @@
 -- Exits of an open.
 use Rattle.sqlite.specs.State.{State}
-use Rattle.bson_table.specs.Open.{Opened}
-use Rattle.store_documents.specs.Bodies.{IsRow}
-use Rattle.bson_store.specs.Opening.{Opens}
-use Rattle.bson_store.proofs.Opened.{good_rows}
+use Rattle.bson_table.specs.Renewal.{Opened}
+use Rattle.bson_store.specs.Opening.{IsRowUnder, Opens}
+use Rattle.bson_store.proofs.Renewed.{stand_for, shown_good}
 
-pub opened : (old new : State) → Opened IsRow old new → Opens old new
+pub opened : (old new : State) → Opened IsRowUnder old new → Opens old new
 opened old new h = record {
   made = h.made;
-  found = λ docs shows. let x = h.found docs shows in (x.0, good_rows docs x.1);
-  listed = λ is. let x = h.listed is in (x.0, x.1, good_rows x.0 x.2, x.3);
+  found = λ docs shows. let x = h.found docs shows in (x.0, x.1, stand_for docs x.0 x.2 x.3);
+  listed = λ is. let x = h.listed is in (x.0, x.1, x.2, x.3, stand_for x.0 x.1 x.4 x.5);
   other = h.other;
+  unwritten = λ docs shows some. h.unwritten docs shows (shown_good docs some);
 }

@@ -64,7 +64,7 @@ shows_more ds a r d s is place good = record {
 
 -- ---- looking up by name and key
 
-named_is : (n k : List ℕ) (d : Doc) → is_row_named n k d ≡ true → (d.coll ≡ n) × (d.idkey ≡ k)
+pub named_is : (n k : List ℕ) (d : Doc) → is_row_named n k d ≡ true → (d.coll ≡ n) × (d.idkey ≡ k)
 named_is n k d h = let p = and_parts (bytes_eq d.coll n) (bytes_eq d.idkey k) h in (equal_keys d.coll n p.0, equal_keys d.idkey k p.1)
 
 pub is_named_so : (n k : List ℕ) (d : Doc) → d.coll ≡ n → d.idkey ≡ k → is_row_named n k d ≡ true

@@ -9,7 +9,7 @@ use Rattle.bson_table.specs.declared.opening.OpenError.{OpenError}
 use Rattle.bson_table.specs.declared.opening.OpenError.TheVariants as opens
 use Rattle.store_laws.specs.State as model
 use Rattle.store_laws.specs.declared.error.ErrorKind.{ErrorKind}
-use Rattle.store_laws.specs.declared.error.ErrorKind.TheVariants.{NotAStore, BadRow, Memory, Database, Places, Reader}
+use Rattle.store_laws.specs.declared.error.ErrorKind.TheVariants.{NotAStore, BadRow, IdsCollide, Memory, Database, Places, Reader}
 use Rattle.store_streams.specs.declared.error.StreamError.{StreamError}
 use Rattle.store_streams.specs.declared.error.StreamError.TheVariants as streams
 use Rattle.bson_base.specs.declared.whole.ReadAllError.{ReadAllError}
@@ -24,6 +24,7 @@ kind_of_fault faults.Places = Places
 abbrev pub kind_of_opening : OpenError → ErrorKind
 kind_of_opening opens.NotAStore = NotAStore
 kind_of_opening (opens.BadRow place) = BadRow place
+kind_of_opening (opens.IdsCollide first second) = IdsCollide first second
 kind_of_opening opens.Memory = Memory
 kind_of_opening opens.Database = Database
 

@@ -1,6 +1,7 @@
 -- The table of documents that rows of bytes show.
-use Rattle.std.specs.Prelude.{◌≡◌, ℕ, ◌<◌, pos, List, [], ◌∷◌, IsUtf8}
+use Rattle.std.specs.Prelude.{◌≡◌, ◌⊎◌, ℕ, ◌<◌, pos, List, [], ◌∷◌, IsUtf8}
 use Rattle.bson_bytes.specs.Encode.{encode}
+use Rattle.bson_meaning.specs.Before.{key as key_before}
 use Rattle.bson_meaning.specs.Meaning.{key}
 use Rattle.bson_table.specs.Rows.{Doc}
 use Rattle.store_laws.specs.Table.{Row, Table, AreRows, own_id}
@@ -27,5 +28,27 @@ Rises n (r ∷ rs) = (n < r.place) × Rises r.place rs
 -- the rows of bytes show the table
 pub record Show (docs : List Doc) (t : Table) : Type 0 where
   pub each : AreRowsOf t docs
+  pub good : AreRows t
+  pub rising : Rises 0 t
+
+-- ---- under keys from before
+
+-- so it is, but the key may be the one that the `_id` had before the two zeros of a double meant the same
+pub record IsRowOnceOf (r : Row) (d : Doc) : Type 0 where
+  pub place : d.place ≡ pos r.place
+  pub name : d.coll ≡ r.name
+  pub text : IsUtf8 r.name
+  pub key : (d.idkey ≡ key (own_id r.document)) ⊎ (d.idkey ≡ key_before (own_id r.document))
+  pub body : d.body ≡ encode r.document
+
+abbrev pub AreRowsOnceOf : Table → List Doc → Type 0
+AreRowsOnceOf [] [] = Unit {0}
+AreRowsOnceOf (r ∷ rs) (d ∷ ds) = IsRowOnceOf r d × AreRowsOnceOf rs ds
+AreRowsOnceOf [] (d ∷ ds) = ⊥
+AreRowsOnceOf (r ∷ rs) [] = ⊥
+
+-- the rows of bytes show the table, each under its key of now or the one from before
+pub record ShowOnce (docs : List Doc) (t : Table) : Type 0 where
+  pub each : AreRowsOnceOf t docs
   pub good : AreRows t
   pub rising : Rises 0 t

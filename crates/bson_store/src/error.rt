@@ -75,6 +75,7 @@ impl From<OpenError> for StoreError {
         StoreError::from(match error {
             OpenError::NotAStore => ErrorKind::NotAStore,
             OpenError::BadRow(place) => ErrorKind::BadRow(place),
+            OpenError::IdsCollide(first, second) => ErrorKind::IdsCollide(first, second),
             OpenError::Memory => ErrorKind::Memory,
             OpenError::Database => ErrorKind::Database,
         })

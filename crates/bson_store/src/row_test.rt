@@ -2,7 +2,7 @@
 
 use bson_table::RowCheck;
 use std::alloc::{AllocError, Global};
-use store_documents::is_row;
+use store_documents::{RowKey, is_row, key_of_row};
 
 /// The test that `Store::open` makes of each row, beside what the table itself asks.
 #[derive(Drop)]
@@ -11,11 +11,24 @@ pub struct RowTest {
 }
 
 impl RowCheck for RowTest {
-    ghost use Rattle.store_documents.specs.Bodies.{IsRow};
+    ghost use Rattle.bson_store.specs.Opening.{IsRowUnder};
 
-    ghost accepts = { λ _ coll idkey body. IsRow coll idkey body };
+    ghost renews = { λ _ coll idkey body now. IsRowUnder coll idkey body now };
 
     fn passes(&self, coll: &[u8], idkey: &[u8], body: &[u8]) -> Result<bool, AllocError> {
         is_row(self.alloc, coll, idkey, body)
+    }
+
+    fn renewed(
+        &self,
+        coll: &[u8],
+        idkey: &[u8],
+        body: &[u8],
+    ) -> Result<Option<Vec<u8>>, AllocError> {
+        match key_of_row(self.alloc, coll, idkey, body)? {
+            RowKey::Own => Ok(Some(Vec::from_slice(self.alloc, idkey)?)),
+            RowKey::Before(now) => Ok(Some(now)),
+            RowKey::Neither => Ok(None),
+        }
     }
 }

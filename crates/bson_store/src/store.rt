@@ -10,7 +10,7 @@ ghost use Rattle.bson_base.specs.Value.{Members};
 ghost use Rattle.bson_model.specs.View.{pairs_of, members_of, view};
 ghost use Rattle.bson_table.specs.Moves.{AddsRows, Changes, MayLeave, Moves, Stands, WasOpen, appended};
 ghost use Rattle.store_laws.specs.State.{State as Lists};
-ghost use Rattle.bson_store.specs.Left.{FindsState, Keeps, Leaves, LeavesBytes, LeavesOnly, LeavesRead, LeavesTree, StaysOpen};
+ghost use Rattle.bson_store.specs.Left.{FindsState, Holds, HoldsOnce, Keeps, Leaves, LeavesBytes, LeavesOnly, LeavesRead, LeavesTree, StaysOpen};
 ghost use Rattle.bson_table.specs.Rows.{Doc, replaced};
 ghost use Rattle.bson_store.specs.Calls.{store_connection, held, Does, DoesBytes, DoesTree, DoesRead, Looks};
 ghost use Rattle.bson_store.specs.Export.{SendsCollection};
@@ -63,11 +63,14 @@ pub struct Store<S: Alter + Drop> {
 }
 
 impl<S: Alter + Drop> Store<S> {
-    /// Opens the store of a database: its table of documents, which is made where there is none. A refusal gives the
-    /// connection back, with every row as it was.
+    /// Opens the store of a database: its table of documents, which is made where there is none. Keys from before the two
+    /// zeros of a double meant the same are replaced by those of now, all in one transaction; a table that has none is not
+    /// written to. A refusal gives the connection back, with every row as it was.
     ///
     /// Refused by NotAStore, where `documents` can't be read by the four columns; by BadRow, with the place of the first row
-    /// that no store can have written; and by Memory and Database.
+    /// that no store can have written, under either key; by IdsCollide, where two documents of one collection have `_id`s
+    /// that mean the same now, with the place of the first and the least place that has such a document before it; and by
+    /// Memory and Database.
     pub fn open(
         alloc: Global,
         connection: Connection<S>,
@@ -75,10 +78,12 @@ impl<S: Alter + Drop> Store<S> {
         ensures opened { IfOk result (λ s. HasCleanDisk (held S.Store s) → Opens (state S.Store connection) (held S.Store s)) }
         ensures refused { IfErr result (λ e. HasCleanDisk (state S.Store e.1) → RefusesToOpen (state S.Store connection) (state S.Store e.1) e.0) }
         ensures kept { IfErr result (λ e. HasCleanDisk (state S.Store e.1) → KeepsRows (state S.Store connection) (state S.Store e.1)) }
-        // Where `sqlite` opened the connection over a database that holds a state, whatever a crash did to it, the store has that
-        // state, and a crash leaves it alone.
-        ensures finds { (x : Lists) → FindsState (state S.Store connection) x → IfOk result (λ s. HasCleanDisk (held S.Store s) → Keeps (held S.Store s) x) }
-        ensures leaves { (x : Lists) → FindsState (state S.Store connection) x → IfErr result (λ e. HasCleanDisk (state S.Store e.1) → LeavesOnly (state S.Store e.1) x) }
+        // Where `sqlite` opened the connection over a database that holds a state, under keys of now or from before, whatever a
+        // crash did to it, the store has that state, and a crash leaves it alone. A crash in the open leaves the old keys or the
+        // new ones, and both stand for the state; keys of now are left where the database had no others.
+        ensures finds { (x : Lists) → FindsState HoldsOnce (state S.Store connection) x → IfOk result (λ s. HasCleanDisk (held S.Store s) → Keeps (held S.Store s) x) }
+        ensures leaves { (x : Lists) → FindsState Holds (state S.Store connection) x → IfErr result (λ e. HasCleanDisk (state S.Store e.1) → LeavesOnly Holds (state S.Store e.1) x) }
+        ensures leaves_old { (x : Lists) → FindsState HoldsOnce (state S.Store connection) x → IfErr result (λ e. HasCleanDisk (state S.Store e.1) → LeavesOnly HoldsOnce (state S.Store e.1) x) }
     {
         match Table::open(alloc, connection, &RowTest { alloc }) {
             Ok(table) => Ok(Store { table, alloc }),

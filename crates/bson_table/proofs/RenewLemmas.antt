@@ -16,7 +16,7 @@ use Rattle.bson_table.specs.declared.renewal.Renewals.{Renewals}
 use Rattle.bson_table.specs.Check.{AreGood, AreGoodAfter}
 use Rattle.bson_table.specs.Open.{all_text, Reads, ReadsNot, RefusesOpening, PassesOpening, KeepsRows}
 use Rattle.bson_table.specs.Rows.{Doc, HasRows, Shows, all_rekeyed}
-use Rattle.bson_table.specs.Renewal.{IsOwn, AreRenewed, AcceptsOnce, AreRenewals, Renewed, Unrenewed, MayRenew, AreGoodOnce, PassesOnce}
+use Rattle.bson_table.specs.Renewal.{IsOwn, AreRenewed, AcceptsOnce, AreRenewals, Renewed, Unrenewed, MayRenew, RenewsOld, AreGoodOnce, PassesOnce}
 use Rattle.bson_table.proofs.ListedLemmas.{listed_shows}
 use Rattle.bson_table.proofs.StatementLemmas.{unchanged_shows}
 use Rattle.bson_table.proofs.UniqueLemmas.{one_list}
@@ -154,6 +154,10 @@ module _ (renews : List ℕ → List ℕ → List ℕ → List ℕ → Type 0) (
     pub back_kept : KeepsRows mid new → KeepsRows old new
     back_kept kept still = kept still ∙ u.0.now_is
 
-    -- a row that isn't good under its own key was read, and then rows that are good under some key
+    -- a row that isn't good under its own key was read
+    pub renews_old : (place : ℤ) → RefusesOpening (IsOwn renews) old mid (BadRow place) → (db : Trees) → MayRenew (IsOwn renews) renews mid db → RenewsOld renews old db
+    renews_old place bad db may = ((bad.0, place, read_here old mid bad.0 bad.1, bad.2), back_may db may)
+
+    -- and then rows that are good under some key
     pub passed_once : (place : ℤ) → RefusesOpening (IsOwn renews) old mid (BadRow place) → AreGoodOnce renews mid → PassesOnce renews old new
     passed_once place bad good = inr ((bad.0, place, read_here old mid bad.0 bad.1, bad.2), (good.0, read_before old mid good.0 u good.1, good.2))

@@ -10,7 +10,7 @@ use Rattle.bson_table.specs.Schema.{documents_schema, no_schema}
 use Rattle.bson_table.specs.Rows.{Doc, HasRows, Shows, IsBlank}
 use Rattle.bson_table.specs.Check.{IsGoodAfter, AreGoodAfter, AreGood, IsFirstBad}
 use Rattle.bson_table.specs.Open.{RefusesOpening, HasTable, HasNoTable, table_name}
-use Rattle.bson_table.specs.Renewal.{IsOwn, AcceptsOnce, AreRenewed, Renewed, Unrenewed, MayRenew, PassesOnce, Opened, Unopened, Makes}
+use Rattle.bson_table.specs.Renewal.{IsOwn, AcceptsOnce, AreRenewed, Renewed, Unrenewed, RenewsOld, PassesOnce, Opened, Unopened, Makes}
 use Rattle.bson_table.proofs.ListedLemmas.{read_shown, shows_read}
 
 is_there : (o : Option ℕ) → is_some o ≡ true → o ≢ None
@@ -90,7 +90,7 @@ module _ (renews : List ℕ → List ℕ → List ℕ → List ℕ → Type 0) (
   says_if there (Ok u) h = tt
   says_if there (Err e) h = says e (one_there old there) h
 
-  pub renews_if : is_some (table_named old.now.schema table_name) ≡ true → Survives old new (MayRenew (IsOwn renews) renews old) → Survives old new (Makes renews old)
+  pub renews_if : is_some (table_named old.now.schema table_name) ≡ true → Survives old new (RenewsOld renews old) → Survives old new (Makes renews old)
   renews_if there kept = survives_weaker old new _ _ (λ _ db made. inr (one_there old there, made)) kept
 
   pub made_by : is_some (table_named old.now.schema table_name) ≡ false → (IsBlank old → Shows new []) → Opened renews old new

@@ -82,13 +82,17 @@ module _ (accepts : List ℕ → List ℕ → List ℕ → Type 0) (renews : Lis
   MayRenew old trees = IsLive old → (docs : List Doc) → Shows old docs → (after : List Doc) × AreRenewed renews docs after × HasRows trees after
 
 module _ (renews : List ℕ → List ℕ → List ℕ → List ℕ → Type 0) where
-  -- each row that is read is good under some key
-  abbrev pub AreGoodOnce : State → Type 0
-  AreGoodOnce old = (docs : List Doc) × Reads old old docs × AreGood (AcceptsOnce renews) docs
-
   -- a row that is read isn't good under its own key
   abbrev pub HasOldKey : State → Type 0
   HasOldKey old = (docs : List Doc) × (place : ℤ) × Reads old old docs × IsFirstBad (IsOwn renews) docs place
+
+  -- where a row isn't, the keys of now may be committed
+  abbrev pub RenewsOld : State → Trees → Type 0
+  RenewsOld old trees = HasOldKey old × MayRenew (IsOwn renews) renews old trees
+
+  -- each row that is read is good under some key
+  abbrev pub AreGoodOnce : State → Type 0
+  AreGoodOnce old = (docs : List Doc) × Reads old old docs × AreGood (AcceptsOnce renews) docs
 
   -- the rows are good under their own keys, and nothing changes; or one of them isn't, and all are good under some key
   abbrev pub PassesOnce : State → State → Type 0
@@ -110,6 +114,6 @@ module _ (renews : List ℕ → List ℕ → List ℕ → List ℕ → Type 0) w
   Unopened old new Memory = Unit {0}
   Unopened old new Database = Unit {0}
 
-  -- what an open may commit: the table, or the keys of now
+  -- what an open may commit: the table, or the keys of now where a row hasn't its own
   abbrev pub Makes : State → Trees → Type 0
-  Makes old trees = (HasNoTable old × (IsBlank old → HasRows trees [])) ⊎ (HasTable old × MayRenew (IsOwn renews) renews old trees)
+  Makes old trees = (HasNoTable old × (IsBlank old → HasRows trees [])) ⊎ (HasTable old × RenewsOld old trees)

@@ -7,7 +7,7 @@ ghost use Rattle.sqlite.specs.State.{HasCleanDisk, Survives, IsLive};
 ghost use Rattle.bson_table.specs.Check.{AreGood, IsGoodAfter};
 ghost use Rattle.bson_table.specs.Open.{KeepsRows, Reads, RefusesOpening};
 ghost use Rattle.bson_table.specs.Rows.{Doc, HasRows, Shows, all_rekeyed, is_row_named};
-ghost use Rattle.bson_table.specs.Renewal.{HasPlaces, AcceptsOnce, IsOwn, AreRenewals, Renewed, Unrenewed, MayRenew, AreGoodOnce, PassesOnce};
+ghost use Rattle.bson_table.specs.Renewal.{HasPlaces, AcceptsOnce, IsOwn, AreRenewals, Renewed, Unrenewed, MayRenew, RenewsOld, AreGoodOnce, PassesOnce};
 
 use crate::check::{Own, RowCheck, TestsRows, judge, survey};
 use crate::opening::{OpenError, bytes_at, place_in, refusal};
@@ -224,7 +224,7 @@ pub(crate) fn settle_keys<S: Alter, C: RowCheck>(
     ensures refused { HasCleanDisk (state S.Store conn.new) → IfErr result (λ e. Unrenewed (IsOwn (C.renews check.now)) (C.renews check.now) (state S.Store conn.old) (state S.Store conn.new) e) }
     ensures kept { HasCleanDisk (state S.Store conn.new) → (IsTrue (state S.Store conn.old).is_open → (state S.Store conn.old).now ≡ (state S.Store conn.old).committed)
         → OnErr result (KeepsRows (state S.Store conn.old) (state S.Store conn.new)) }
-    ensures crash { Survives (state S.Store conn.old) (state S.Store conn.new) (MayRenew (IsOwn (C.renews check.now)) (C.renews check.now) (state S.Store conn.old)) }
+    ensures crash { Survives (state S.Store conn.old) (state S.Store conn.new) (RenewsOld (C.renews check.now) (state S.Store conn.old)) }
 {
     match survey(alloc, conn, &Own { check }) {
         Err(OpenError::BadRow(_)) => renew(alloc, conn, check),

@@ -4,7 +4,7 @@ use Rattle.std.specs.Fmt.{signed_decimal}
 use Rattle.std.specs.Borrow.{Bor}
 use Rattle.store_laws.specs.Refusal.{kind_name}
 use Rattle.store_laws.specs.declared.error.ErrorKind.{ErrorKind}
-use Rattle.store_laws.specs.declared.error.ErrorKind.TheVariants.{BadRow}
+use Rattle.store_laws.specs.declared.error.ErrorKind.TheVariants.{BadRow, IdsCollide}
 use Rattle.store_words.specs.declared.lines.Complaint.{Complaint}
 use Rattle.store_words.specs.declared.lines.Complaint.TheVariants.{Usage, Json, Id, Filter, Line}
 
@@ -21,10 +21,18 @@ abbrev pub flag_text : Bool → List ℕ
 flag_text true = codes "true"
 flag_text false = codes "false"
 
--- the document that is refused, or the place of a bad row
+-- the texts of two places
+abbrev pub places_text : List ℕ → List ℕ → List ℕ
+places_text first second = codes " " ++ (first ++ (codes " " ++ second))
+
+abbrev pub collision_line : List ℕ → List ℕ → List ℕ → List ℕ
+collision_line name first second = line (codes "refused: " ++ (name ++ places_text first second))
+
+-- the document that is refused, or the place of a bad row, or those of two documents that collide
 abbrev pub place_text : ErrorKind → Option ℕ → List ℕ
 place_text k (Some i) = codes " document " ++ decimal i
 place_text (BadRow place) None = codes " " ++ signed_decimal place
+place_text (IdsCollide first second) None = places_text (signed_decimal first) (signed_decimal second)
 place_text k None = []
 
 abbrev pub refusal_line : ErrorKind → Option ℕ → List ℕ

@@ -3,7 +3,7 @@
 ghost use Rattle.std.specs.Prelude.{◌≡◌, ◌<◌, ◌^◌, ◌-◌, OnOk, OnErr, decimal};
 ghost use Rattle.std.specs.Io.KnownBytes.{Appends};
 ghost use Rattle.bson_base.specs.Device.{Counts, TakesBeginning};
-ghost use Rattle.store_words.specs.Lines.{complaint_line, flag_text, joined, line, refusal_line};
+ghost use Rattle.store_words.specs.Lines.{collision_line, complaint_line, flag_text, joined, line, refusal_line};
 
 use bson_base::{DeviceFault, Sink, write_all};
 use itoa::Buffer;
@@ -68,8 +68,24 @@ pub fn write_flag<S: Sink>(sink: &mut S, flag: bool) -> Result<(), DeviceFault>
     write_line(sink, if flag { "true" } else { "false" })
 }
 
+/// Writes the line that tells a refusal with two places. After a failure a beginning of the line was written.
+fn write_collision<S: Sink>(
+    sink: &mut S,
+    name: &str,
+    first: &str,
+    second: &str,
+) -> Result<(), DeviceFault>
+    requires { (S.tally sink.old).failures < 2 ^ 64 - 1 }
+    ensures counts { Counts (S.tally sink.old).failures (S.tally sink.new).failures result }
+    ensures ok { OnOk result (Appends (S.tally sink.old).taken (S.tally sink.new).taken (collision_line name.now first.now second.now)) }
+    ensures err { OnErr result (TakesBeginning (S.tally sink.old).taken (S.tally sink.new).taken (collision_line name.now first.now second.now)) }
+{
+    write_parts(sink, &["refused: ", name, " ", first, " ", second, "\n"])
+}
+
 /// Writes the line that tells a refusal: `refused: KIND`, followed by ` document N` where the refusal is one of several
-/// documents, or by the place of a bad row. After a failure a beginning of the line was written.
+/// documents, or by the place of a bad row, or by those of two documents that collide. After a failure a beginning of the
+/// line was written.
 pub fn write_refusal<S: Sink>(
     sink: &mut S,
     kind: ErrorKind,
@@ -89,6 +105,12 @@ pub fn write_refusal<S: Sink>(
     if let ErrorKind::BadRow(place) = kind {
         let place = digits.format(place);
         return write_parts(sink, &["refused: ", name, " ", place, "\n"]);
+    }
+    if let ErrorKind::IdsCollide(first, second) = kind {
+        let mut others = Buffer::new();
+        let first = digits.format(first);
+        let second = others.format(second);
+        return write_collision(sink, name, first, second);
     }
     write_parts(sink, &["refused: ", name, "\n"])
 }

@@ -1,6 +1,6 @@
 use Rattle.sqlite.specs.Held.{state}
 use Rattle.bson_table.specs.Table.{connection_of as table_connection, table_state}
-use Rattle.bson_store.proofs.Again.{keeps_found, keeps_refused}
+use Rattle.bson_store.proofs.Again.{keeps_found, keeps_refused, keeps_refused_old}
 use Rattle.bson_store.proofs.Opening.{opened}
 use Rattle.bson_store.proofs.store.Store.open.Goals as goal
 
@@ -14,4 +14,8 @@ returns-in-Ok-clause-finds g c x finds clean =
 
 pub returns-in-Err-clause-leaves : goal.returns-in-Err-clause-leaves
 returns-in-Err-clause-leaves g c x finds clean =
-    keeps_refused (state g.S.Store c.args.connection) (state g.S.Store c.in-Err.connection) x finds (λ db up may. g.met.S.Store.settled c.args.connection.store db up may) c.in-Err.ensures.crash_refused clean
+    keeps_refused (state g.S.Store c.args.connection) (state g.S.Store c.in-Err.connection) x (λ db up may. g.met.S.Store.settled c.args.connection.store db up may) c.in-Err.ensures.crash_refused clean finds
+
+pub returns-in-Err-clause-leaves_old : goal.returns-in-Err-clause-leaves_old
+returns-in-Err-clause-leaves_old g c x finds clean =
+    keeps_refused_old (state g.S.Store c.args.connection) (state g.S.Store c.in-Err.connection) x (λ db up may. g.met.S.Store.settled c.args.connection.store db up may) c.in-Err.ensures.crash_refused clean finds
