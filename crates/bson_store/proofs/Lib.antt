@@ -20,3 +20,4 @@ pub mod Opened
 pub mod Opening
 pub mod Leaving
 pub mod Again
+pub mod Restoring
