@@ -1,5 +1,5 @@
 -- The trees of a collection, as a visitor makes them and hands them on.
-use Rattle.std.proofs.Common.{◌≡◌, ◌⊎◌, inl, inr, ℕ, suc, ◌+◌, zero-add, List, [], ◌∷◌, ◌++◌, length, map, Bool, true, false, Option, Some, None, is_some, Result, Ok, Err, refl, ap, ◌∙◌, sym, subst, arith}
+use Rattle.std.proofs.Common.{◌≡◌, ◌⊎◌, inl, inr, ℕ, suc, ◌+◌, zero-add, List, [], ◌∷◌, ◌++◌, length, map, Bool, true, false, Option, Some, None, is_some, Result, Ok, Err, refl, ap, ◌∙◌, sym, subst, arith, append_assoc}
 use Rattle.std.specs.Prelude.{MatchOption}
 use Rattle.serde_json.specs.Data.{Data}
 use Rattle.serde_json.specs.View.{view as data_of}
@@ -19,7 +19,7 @@ use Rattle.store_laws.specs.declared.error.ErrorKind.{ErrorKind}
 use Rattle.store_laws.specs.declared.error.ErrorKind.TheVariants as kind
 use Rattle.bson_store.specs.Shown.{Show}
 use Rattle.bson_store.specs.Calls.{Does}
-use Rattle.bson_store.specs.Dump.{HandedOn, HandsOn, HandsTrees, Stops, TellsTree, TakesAll}
+use Rattle.bson_store.specs.Dump.{AreFirstTrees, HandedOn, HandsOn, HandsTrees, Stops, TellsTree, TakesAll}
 use Rattle.bson_store.specs.Refusals.{IsDenied, kind_of_fault, refusal}
 use Rattle.bson_store.specs.declared.dump.Teller.{Teller}
 use Rattle.bson_store.specs.declared.dump.Trees.{Trees}
@@ -125,29 +125,32 @@ longer [] j = refl
 longer (x ∷ js) j = omega (arith, ap suc (longer js j))
 
 -- what is told of a beginning of the documents is told of them all
-stops_longer : (refuses : StoreError → Type 0) (ds more : Documents) (e : StoreError) → Stops refuses ds e → Stops refuses (ds ++ more) e
-stops_longer refuses ds more e (inl h) = inl h
-stops_longer refuses ds more e (inr (inl h)) = inr (inl h)
-stops_longer refuses ds more e (inr (inr h)) = inr (inr (by (trees_of 0 ds) refl h))
+first_longer : (js : List Data) (ds more : Documents) → AreFirstTrees js ds → AreFirstTrees js (ds ++ more)
+first_longer js ds more (front, back, split, are) = (front, back ++ more, ap (λ l. l ++ more) split ∙ append_assoc front back more, are)
+
+stops_longer : (took : List Data → Type 0) (refused_by : List Data → StoreError → Type 0) (ds more : Documents) (e : StoreError) → Stops took refused_by ds e → Stops took refused_by (ds ++ more) e
+stops_longer took refused_by ds more e (js, are, inl h) = (js, first_longer js ds more are, inl h)
+stops_longer took refused_by ds more e (js, are, inr (t, inl h)) = (js, first_longer js ds more are, inr (t, inl h))
+stops_longer took refused_by ds more e (js, are, inr (t, inr h)) = (js, first_longer js ds more are, inr (t, inr (by (trees_of 0 ds) refl h)))
   where
     by : (o : Told) → trees_of 0 ds ≡ o → trees_reply o ≡ refused e.kind e.document → trees_reply (trees_of 0 (ds ++ more)) ≡ refused e.kind e.document
     by (Ok js) is t = cc
     by (Err x) is t = ap trees_reply (trees_stay 0 ds more x is) ∙ t
 
 -- a visitor that has a refusal keeps it
-pub handed_stays : (took : List Data → Type 0) (refuses : StoreError → Type 0) (i : ℕ) (bodies : List (List ℕ)) (body : List ℕ) (o : Option StoreError) → is_some o ≡ true
-    → HandedOn took refuses i bodies o → HandedOn took refuses i (bodies ++ body ∷ []) o
-handed_stays took refuses i bodies body None some h ds kept is = absurd (cc)
-handed_stays took refuses i bodies body (Some e) some h ds kept is =
+pub handed_stays : (took : List Data → Type 0) (refused_by : List Data → StoreError → Type 0) (i : ℕ) (bodies : List (List ℕ)) (body : List ℕ) (o : Option StoreError) → is_some o ≡ true
+    → HandedOn took refused_by i bodies o → HandedOn took refused_by i (bodies ++ body ∷ []) o
+handed_stays took refused_by i bodies body None some h ds kept is = absurd (cc)
+handed_stays took refused_by i bodies body (Some e) some h ds kept is =
     let p = last_of bodies body ds is in
-    let before : Stops refuses p.front e = h p.front (front_kept p.front (p.d ∷ []) (subst AreKept p.split kept)) p.written in
-    subst (λ l. Stops refuses l e) (sym p.split) (stops_longer refuses p.front (p.d ∷ []) e before)
+    let before : Stops took refused_by p.front e = h p.front (front_kept p.front (p.d ∷ []) (subst AreKept p.split kept)) p.written in
+    subst (λ l. Stops took refused_by l e) (sym p.split) (stops_longer took refused_by p.front (p.d ∷ []) e before)
 
 -- the body's tree was taken
-pub handed_one : (old new : List Data → Type 0) (refuses : StoreError → Type 0) (i next : ℕ) (bodies : List (List ℕ)) (body : List ℕ) (o : Option StoreError) → is_some o ≡ false
-    → ((out : List Data) (d : Members) → IsKept d → body ≡ encode d → old out → HandsOn new refuses out i (tree_of Canonical d) (Ok next)) → HandedOn old refuses i bodies o → HandedOn new refuses next (bodies ++ body ∷ []) o
-handed_one old new refuses i next bodies body (Some e) none hands h ds kept is = absurd (cc)
-handed_one old new refuses i next bodies body None none hands h ds kept is =
+pub handed_one : (old new : List Data → Type 0) (was refused_by : List Data → StoreError → Type 0) (i next : ℕ) (bodies : List (List ℕ)) (body : List ℕ) (o : Option StoreError) → is_some o ≡ false
+    → ((out : List Data) (d : Members) → IsKept d → body ≡ encode d → old out → HandsOn new refused_by out i (tree_of Canonical d) (Ok next)) → HandedOn old was i bodies o → HandedOn new refused_by next (bodies ++ body ∷ []) o
+handed_one old new was refused_by i next bodies body (Some e) none hands h ds kept is = absurd (cc)
+handed_one old new was refused_by i next bodies body None none hands h ds kept is =
     let p = last_of bodies body ds is in
     let k = subst AreKept p.split kept in
     let t = h p.front (front_kept p.front (p.d ∷ []) k) p.written in
@@ -155,10 +158,10 @@ handed_one old new refuses i next bodies body None none hands h ds kept is =
     (t.0 ++ r.0 ∷ [], ap (trees_of 0) p.split ∙ trees_longer 0 p.front p.d t.0 r.0 t.1 r.1, (r.2, r.3 ∙ ap (λ (m : ℕ). m + 1) t.2.1 ∙ sym (longer t.0 r.0)))
 
 -- the body has no tree, or it is refused
-pub handed_none : (old new : List Data → Type 0) (refuses : StoreError → Type 0) (i next : ℕ) (bodies : List (List ℕ)) (body : List ℕ) (o : Option StoreError) (e : StoreError) → is_some o ≡ false
-    → ((out : List Data) (d : Members) → IsKept d → body ≡ encode d → old out → HandsOn new refuses out i (tree_of Canonical d) (Err e)) → HandedOn old refuses i bodies o → HandedOn new refuses next (bodies ++ body ∷ []) (Some e)
-handed_none old new refuses i next bodies body (Some x) e none hands h ds kept is = absurd (cc)
-handed_none old new refuses i next bodies body None e none hands h ds kept is = by (hands t.0 p.d (kept_last p.front p.d k) p.last t.2.0)
+pub handed_none : (old new : List Data → Type 0) (was refused_by : List Data → StoreError → Type 0) (i next : ℕ) (bodies : List (List ℕ)) (body : List ℕ) (o : Option StoreError) (e : StoreError) → is_some o ≡ false
+    → ((out : List Data) (d : Members) → IsKept d → body ≡ encode d → old out → HandsOn new refused_by out i (tree_of Canonical d) (Err e)) → HandedOn old was i bodies o → HandedOn new refused_by next (bodies ++ body ∷ []) (Some e)
+handed_none old new was refused_by i next bodies body (Some x) e none hands h ds kept is = absurd (cc)
+handed_none old new was refused_by i next bodies body None e none hands h ds kept is = by (hands t.0 p.d (kept_last p.front p.d k) p.last t.2.0)
   where
     p : LastOf bodies body ds
     p = last_of bodies body ds is
@@ -169,18 +172,32 @@ handed_none old new refuses i next bodies body None e none hands h ds kept is = 
     t : TakesAll (λ js. old js × (i ≡ length js)) p.front
     t = h p.front (front_kept p.front (p.d ∷ []) k) p.written
 
-    by : HandsOn new refuses t.0 i (tree_of Canonical p.d) (Err e) → Stops refuses ds e
-    by (inl x) = inl x
-    by (inr (inl x)) = inr (inl x)
-    by (inr (inr (x, tells, at))) = inr (inr
-        (ap (λ l. trees_reply (trees_of 0 l)) p.split ∙ ap trees_reply (trees_stop 0 p.front p.d t.0 x t.1 tells) ∙ ap (λ n. refused x (Some n)) (zero-add (length t.0) ∙ sym t.2.1) ∙ sym (ap (λ (y : StoreError). refused y.kind y.document) at)))
+    first : AreFirstTrees t.0 ds
+    first = (p.front, p.d ∷ [], p.split, t.1)
+
+    by : HandsOn new refused_by t.0 i (tree_of Canonical p.d) (Err e) → Stops new refused_by ds e
+    by (inl x) = (t.0, first, inl x)
+    by (inr (took, inl x)) = (t.0, first, inr (took, inl x))
+    by (inr (took, inr (x, tells, at))) = (
+      t.0,
+      first,
+      inr (
+        took,
+        inr
+            (ap (λ l. trees_reply (trees_of 0 l)) p.split ∙ ap trees_reply (trees_stop 0 p.front p.d t.0 x t.1 tells) ∙ ap (λ n. refused x (Some n)) (zero-add (length t.0) ∙ sym t.2.1) ∙ sym (ap (λ (y : StoreError). refused y.kind y.document) at)),
+      ),
+    )
 
 -- ---- one tree
 
 -- the body has none
-pub untold : (took : List Data → Type 0) (refuses : StoreError → Type 0) (out : List Data) (i : ℕ) (r : Result Data ErrorKind) (e : StoreError) → TellsTree r i (Err e) → HandsOn took refuses out i r (Err e)
-untold took refuses out i r e (inl h) = inl (faults.Memory, memory_other, h)
-untold took refuses out i r e (inr h) = inr (inr h)
+pub untold : (took : List Data → Type 0) (refused_by : List Data → StoreError → Type 0) (out : List Data) (i : ℕ) (r : Result Data ErrorKind) (e : StoreError) → took out → TellsTree r i (Err e) → HandsOn took refused_by out i r (Err e)
+untold took refused_by out i r e t (inl h) = inr (t, inl (faults.Memory, memory_other, h))
+untold took refused_by out i r e t (inr h) = inr (t, inr h)
+
+-- there are no more places
+pub no_more : (took : List Data → Type 0) (refused_by : List Data → StoreError → Type 0) (out : List Data) (i : ℕ) (r : Result Data ErrorKind) (e : StoreError) → took out → e ≡ refusal kind.Database → HandsOn took refused_by out i r (Err e)
+no_more took refused_by out i r e t is = inr (t, inl (faults.Database, (λ x. cc), is))
 
 -- ---- exits
 
@@ -190,49 +207,59 @@ dump_open n good = undecided n dump good (λ x. x)
 answered : (l : Documents) (r : Reply) → trees_reply (trees_of 0 l) ≡ r → Answers dump l r l
 answered l r h = (sym h, refl)
 
-handed_nothing : (took : List Data → Type 0) (refuses : StoreError → Type 0) (i : ℕ) → took [] → i ≡ 0 → HandedOn took refuses i [] None
-handed_nothing took refuses i start at [] kept is = ([], refl, (start, at))
-handed_nothing took refuses i start at (d ∷ ds) kept is = absurd (cc)
+handed_nothing : (took : List Data → Type 0) (refused_by : List Data → StoreError → Type 0) (i : ℕ) → took [] → i ≡ 0 → HandedOn took refused_by i [] None
+handed_nothing took refused_by i start at [] kept is = ([], refl, (start, at))
+handed_nothing took refused_by i start at (d ∷ ds) kept is = absurd (cc)
 
 -- under a bad name nothing is asked
-pub unnamed : {T : Type 0} (took : T → List Data → Type 0) (refuses : StoreError → Type 0) (s : State) (n : List ℕ) → (IsName n → ⊥) → Moves s s (HandsTrees took refuses n (Err (refusal kind.BadName)))
-unnamed took refuses s n bad = rests s (HandsTrees took refuses n (Err (refusal kind.BadName))) (λ docs. record { same = refl; handed = λ a _. inl (bad, refl) })
+pub unnamed : {T : Type 0} (took : T → List Data → Type 0) (refused_by : T → List Data → StoreError → Type 0) (s : State) (n : List ℕ) (t : T) (e : StoreError) → took t [] → (IsName n → ⊥) → e ≡ refusal kind.BadName → Moves s s (HandsTrees took refused_by n (Err (e, t)))
+unnamed took refused_by s n t e start bad is = rests s (HandsTrees took refused_by n (Err (e, t))) (λ docs. record { same = refl; handed = λ a _. inl (bad, is, start) })
 
 -- what a visitor has handed on since it was the first
-abbrev pub Took : {T : Type 0} → (T → T → List Data → Type 0) → (StoreError → Type 0) → Teller T → Teller T → List (List ℕ) → Type 0
-Took took refuses first v bodies = HandedOn (took first.taker v.taker) refuses v.place bodies v.refusal
+abbrev pub Took : {T : Type 0} → (T → T → List Data → Type 0) → (T → T → List Data → StoreError → Type 0) → Teller T → Teller T → List (List ℕ) → Type 0
+Took took refused_by first v bodies = HandedOn (took first.taker v.taker) (refused_by first.taker v.taker) v.place bodies v.refusal
 
-module _ {T : Type 0} (took : T → T → List Data → Type 0) (refuses : StoreError → Type 0) (first last : Teller T) (n : List ℕ) (docs after : List Doc) (start : took first.taker first.taker []) (at : first.place ≡ 0) (fine : first.refusal ≡ None) (good : IsName n) where
-  starts : Took took refuses first first []
-  starts = subst (λ o. HandedOn (took first.taker first.taker) refuses first.place [] o) (sym fine) (handed_nothing (took first.taker first.taker) refuses first.place start at)
+module _ {T : Type 0} (took : T → T → List Data → Type 0) (refused_by : T → T → List Data → StoreError → Type 0) (first last : Teller T) (n : List ℕ) (docs after : List Doc) (start : took first.taker first.taker []) (at : first.place ≡ 0) (fine : first.refusal ≡ None) (good : IsName n) where
+  starts : Took took refused_by first first []
+  starts = subst (λ o. HandedOn (took first.taker first.taker) (refused_by first.taker first.taker) first.place [] o) (sym fine) (handed_nothing (took first.taker first.taker) (refused_by first.taker first.taker) first.place start at)
+
+  -- what is told of the documents that were gone through
+  abbrev Gone : Option StoreError → Documents → Type 0
+  Gone o ds = MatchOption o (TakesAll (λ js. took first.taker last.taker js × (last.place ≡ length js)) ds) (Stops (took first.taker last.taker) (refused_by first.taker last.taker) ds)
 
   -- the table refused
-  pub unhanded : (x : Fault) → Visits (Took took refuses first) first last n (Err x) docs after → HandsTrees (took first.taker) refuses n (Err (refusal (kind_of_fault x))) docs after
-  unhanded x h = record { same = h.same; handed = λ a s. inr (good, inl (x, h.faults, refl)) }
-
-  -- all trees were taken
-  pub handed : (all : Bool) → last.refusal ≡ None → (all ≡ false → is_some last.refusal ≡ true) → Visits (Took took refuses first) first last n (Ok all) docs after → HandsTrees (took first.taker) refuses n (Ok last.taker) docs after
-  handed false none stopped h = let some : is_some last.refusal ≡ true = stopped refl in let no_one : is_some last.refusal ≡ false = ap is_some none in absurd (cc)
-  handed true none stopped h = record {
-    same = h.same;
-    handed = λ a s.
-        let l = documents_of a n in
-        let t : TakesAll (λ js. took first.taker last.taker js × (last.place ≡ length js)) l =
-        subst (λ o. MatchOption o (TakesAll (λ js. took first.taker last.taker js × (last.place ≡ length js)) l) (Stops refuses l)) none (h.whole starts refl l (kept_there docs a n s) (bodies_are n a docs s.each)) in
-        (good, (t.0, t.1, t.2.0));
-  }
-
-  -- some document stopped it
-  pub stopped_at : (all : Bool) (e : StoreError) → last.refusal ≡ Some e → Visits (Took took refuses first) first last n (Ok all) docs after → HandsTrees (took first.taker) refuses n (Err e) docs after
-  stopped_at all e is h =
+  pub unhanded : (x : Fault) → last.refusal ≡ None → Visits (Took took refused_by first) first last n (Err x) docs after → HandsTrees (took first.taker) (refused_by first.taker) n (Err (refusal (kind_of_fault x), last.taker)) docs after
+  unhanded x none h =
       let w = h.some starts in
       record {
         same = h.same;
         handed = λ a s.
             let p = parted w.0 w.1 (documents_of a n) (w.2 ∙ bodies_are n a docs s.each) in
-            let t : Stops refuses p.front e =
-            subst (λ o. MatchOption o (TakesAll (λ js. took first.taker last.taker js × (last.place ≡ length js)) p.front) (Stops refuses p.front)) is (w.3 p.front (front_kept p.front p.back (subst AreKept p.split (kept_there docs a n s))) p.written) in
-            inr (good, subst (λ l. Stops refuses l e) (sym p.split) (stops_longer refuses p.front p.back e t));
+            let t : Gone None p.front = subst (λ o. Gone o p.front) none (w.3 p.front (front_kept p.front p.back (subst AreKept p.split (kept_there docs a n s))) p.written) in
+            inr (good, (t.0, (p.front, p.back, p.split, t.1), inr (t.2.0, inl (x, h.faults, refl))));
+      }
+
+  -- all trees were taken
+  pub handed : (all : Bool) → last.refusal ≡ None → (all ≡ false → is_some last.refusal ≡ true) → Visits (Took took refused_by first) first last n (Ok all) docs after → HandsTrees (took first.taker) (refused_by first.taker) n (Ok last.taker) docs after
+  handed false none stopped h = let some : is_some last.refusal ≡ true = stopped refl in let no_one : is_some last.refusal ≡ false = ap is_some none in absurd (cc)
+  handed true none stopped h = record {
+    same = h.same;
+    handed = λ a s.
+        let l = documents_of a n in
+        let t : Gone None l = subst (λ o. Gone o l) none (h.whole starts refl l (kept_there docs a n s) (bodies_are n a docs s.each)) in
+        (good, (t.0, t.1, t.2.0));
+  }
+
+  -- some document stopped it, or the taker
+  pub stopped_at : (result : Result Bool Fault) (e : StoreError) → last.refusal ≡ Some e → Visits (Took took refused_by first) first last n result docs after → HandsTrees (took first.taker) (refused_by first.taker) n (Err (e, last.taker)) docs after
+  stopped_at result e is h =
+      let w = h.some starts in
+      record {
+        same = h.same;
+        handed = λ a s.
+            let p = parted w.0 w.1 (documents_of a n) (w.2 ∙ bodies_are n a docs s.each) in
+            let t : Gone (Some e) p.front = subst (λ o. Gone o p.front) is (w.3 p.front (front_kept p.front p.back (subst AreKept p.split (kept_there docs a n s))) p.written) in
+            inr (good, subst (λ l. Stops (took first.taker last.taker) (refused_by first.taker last.taker) l e) (sym p.split) (stops_longer (took first.taker last.taker) (refused_by first.taker last.taker) p.front p.back e t));
       }
 
 -- ---- all trees as the answer of a dump
@@ -240,20 +267,24 @@ module _ {T : Type 0} (took : T → T → List Data → Type 0) (refuses : Store
 abbrev pub HasTrees : Trees → List Data → Type 0
 HasTrees v js = map data_of v.trees.items ≡ js
 
-pub dumped_moves : (s t : State) (n : List ℕ) (v : Trees) → Moves s t (HandsTrees HasTrees IsDenied n (Ok v)) → Moves s t (Does (on n dump) (json_list (map data_of v.trees.items)))
+-- what they are refused by
+abbrev pub Denied : Trees → List Data → StoreError → Type 0
+Denied v js e = IsDenied e
+
+pub dumped_moves : (s t : State) (n : List ℕ) (v : Trees) → Moves s t (HandsTrees HasTrees Denied n (Ok v)) → Moves s t (Does (on n dump) (json_list (map data_of v.trees.items)))
 dumped_moves s t n v m =
     let r = json_list (map data_of v.trees.items) in
-    moved s t (HandsTrees HasTrees IsDenied n (Ok v)) (Does (on n dump) r) m
+    moved s t (HandsTrees HasTrees Denied n (Ok v)) (Does (on n dump) r) m
     (λ docs after h. rw h.same (λ a shown. let k = h.handed a shown in (a, shown, stay a n dump r k.0 (answered (documents_of a n) r (ap trees_reply k.1.1 ∙ ap json_list (sym k.1.2))))))
 
-undumped : (docs : List Doc) (n : List ℕ) (e : StoreError) → ((a : Table) → Show docs a → ((IsName n → ⊥) × (e ≡ refusal kind.BadName)) ⊎ (IsName n × Stops IsDenied (documents_of a n) e)) → Does (on n dump) (refused e.kind e.document) docs docs
-undumped docs n e h a s = by (h a s)
+undumped : (docs after : List Doc) (n : List ℕ) (e : StoreError) (v : Trees) → HandsTrees HasTrees Denied n (Err (e, v)) docs after → Does (on n dump) (refused e.kind e.document) docs docs
+undumped docs after n e v h a s = by (h.handed a s)
   where
-    by : ((IsName n → ⊥) × (e ≡ refusal kind.BadName)) ⊎ (IsName n × Stops IsDenied (documents_of a n) e) → (b : Table) × Show docs b × Rattle.store_laws.specs.Table.Serves a (on n dump) (refused e.kind e.document) b
-    by (inl (bad, is)) = rw is (bad_name docs n dump bad a s)
-    by (inr (good, inl d)) = rw d.2 (denied docs (on n dump) d.0 d.1 (dump_open n good) a s)
-    by (inr (good, inr (inl d))) = rw d.2 (denied docs (on n dump) d.0 d.1 (dump_open n good) a s)
-    by (inr (good, inr (inr t))) = (a, s, stay a n dump (refused e.kind e.document) good (answered (documents_of a n) (refused e.kind e.document) t))
+    by : ((IsName n → ⊥) × (e ≡ refusal kind.BadName) × HasTrees v []) ⊎ (IsName n × Stops (HasTrees v) (Denied v) (documents_of a n) e) → (b : Table) × Show docs b × Rattle.store_laws.specs.Table.Serves a (on n dump) (refused e.kind e.document) b
+    by (inl (bad, is, none)) = rw is (bad_name docs n dump bad a s)
+    by (inr (good, (js, are, inl d))) = rw d.2 (denied docs (on n dump) d.0 d.1 (dump_open n good) a s)
+    by (inr (good, (js, are, inr (took, inl d)))) = rw d.2 (denied docs (on n dump) d.0 d.1 (dump_open n good) a s)
+    by (inr (good, (js, are, inr (took, inr t)))) = (a, s, stay a n dump (refused e.kind e.document) good (answered (documents_of a n) (refused e.kind e.document) t))
 
-pub undumped_moves : (s t : State) (n : List ℕ) (e : StoreError) → Moves s t (HandsTrees HasTrees IsDenied n (Err e)) → Moves s t (Does (on n dump) (refused e.kind e.document))
-undumped_moves s t n e m = moved s t (HandsTrees HasTrees IsDenied n (Err e)) (Does (on n dump) (refused e.kind e.document)) m (λ docs after h. rw h.same (undumped docs n e h.handed))
+pub undumped_moves : (s t : State) (n : List ℕ) (e : StoreError) (v : Trees) → Moves s t (HandsTrees HasTrees Denied n (Err (e, v))) → Moves s t (Does (on n dump) (refused e.kind e.document))
+undumped_moves s t n e v m = moved s t (HandsTrees HasTrees Denied n (Err (e, v))) (Does (on n dump) (refused e.kind e.document)) m (λ docs after h. rw h.same (undumped docs after n e v h))

@@ -1,19 +1,21 @@
 -- Runs of the first commands, which go on by one more.
-use Rattle.std.proofs.Common.{◌≡◌, ℕ, List, [], ◌∷◌, ◌++◌, length, map, Option, refl, ap, ◌∙◌, sym, subst, arith, append_assoc, append-nil, length-append}
+use Rattle.std.proofs.Common.{◌≡◌, ℕ, List, [], ◌∷◌, ◌++◌, length, map, Option, Result, Ok, Err, refl, ap, ◌∙◌, sym, subst, arith, append_assoc, append-nil, length-append}
 use Rattle.std.specs.FinMap.{empty}
 use Rattle.sqlite.specs.State.{State}
 use Rattle.bson_table.specs.Rows.{Doc}
-use Rattle.bson_table.specs.Moves.{Moves}
+use Rattle.bson_table.specs.Moves.{Moves, WasOpen}
+use Rattle.bson_store.specs.Refusals.{reply_by}
+use Rattle.bson_store.specs.declared.error.StoreError.{StoreError}
 use Rattle.serde_json.specs.Data.{Data}
 use Rattle.store_laws.specs.Reading.{Documents, Reading, ReadsBytes, ReadsTree}
 use Rattle.bson_store.specs.Calls.{Does, DoesBytes, DoesTree}
 use Rattle.bson_store.specs.Many.{DoesMany}
 use Rattle.store_laws.specs.declared.error.ErrorKind.{ErrorKind}
 use Rattle.store_laws.specs.State as model
-use Rattle.store_laws.specs.Table.{RunThrough}
+use Rattle.store_laws.specs.Table.{IsRefusal, RunThrough}
 use Rattle.store_laws.proofs.Going.{one_more}
 use Rattle.store_laws.proofs.Tables.{run_of_states, run_spares}
-use Rattle.bson_store.specs.Runs.{Asks, AsksEach, reply_of, Obeys, AnswersThroughTables, AnswersAsLists}
+use Rattle.bson_store.specs.Runs.{Asks, AsksEach, reply_of, Obeys, AnswersThroughTables, AnswersAsLists, IsAccepted, EndsAccepted, EndsOpen, WasOpenFor}
 use Rattle.bson_store.specs.declared.command.Command.{Command}
 use Rattle.bson_store.specs.declared.command.Reply.{Reply}
 use Rattle.bson_store.proofs.Moving.{rests, moved, moved_twice}
@@ -115,6 +117,11 @@ the_end xs rs Before After old new h a s alone =
 pub ends_moved : (s t : State) (xs : List Command) (rs : List Reply) → Moves s t (LeavesAsLists xs rs s.may_leave t.may_leave) → Moves s t (LeavesTheEnd xs rs s.may_leave t.may_leave)
 ends_moved s t xs rs m = moved s t (LeavesAsLists xs rs s.may_leave t.may_leave) (LeavesTheEnd xs rs s.may_leave t.may_leave) m (the_end xs rs s.may_leave t.may_leave)
 
+ends_last : (rs : List Reply) (r : Reply) → EndsAccepted (rs ++ r ∷ []) → IsAccepted r
+ends_last [] r h = h
+ends_last (q ∷ []) r h = h
+ends_last (q ∷ p ∷ rs) r h = ends_last (p ∷ rs) r h
+
 -- the commands that were done, and those that are left
 pub record SoFar (old : State) (commands rest : List Command) (replies : List Reply) (new : State) : Type 0 where
   pub done : List Command
@@ -122,15 +129,17 @@ pub record SoFar (old : State) (commands rest : List Command) (replies : List Re
   pub counted : length replies ≡ length done
   pub run : Moves old new (AnswersThroughTables done replies)
   pub left : Moves old new (LeavesAsLists done replies old.may_leave new.may_leave)
+  pub still : EndsOpen replies old new
 
-pub so_far_more : (old mid new : State) (commands rest left : List Command) (x : Command) (rs more : List Reply) (r : Reply) → rest ≡ x ∷ left → more ≡ rs ++ r ∷ [] → SoFar old commands rest rs mid → Moves mid new (Obeys x r) → LeavesCommand x r mid new → SoFar old commands left more new
-so_far_more old mid new commands rest left x rs more r is put h one crash = record {
+pub so_far_more : (old mid new : State) (commands rest left : List Command) (x : Command) (rs more : List Reply) (r : Reply) → rest ≡ x ∷ left → more ≡ rs ++ r ∷ [] → SoFar old commands rest rs mid → Moves mid new (Obeys x r) → WasOpenFor r mid new → LeavesCommand x r mid new → SoFar old commands left more new
+so_far_more old mid new commands rest left x rs more r is put h one opened crash = record {
   done = h.done ++ x ∷ [];
   split = append_assoc h.done (x ∷ []) left ∙ ap (λ y. h.done ++ y) (sym is) ∙ h.split;
   counted = omega (arith, ap length put, h.counted, length-append {A = Reply} rs (r ∷ []), length-append {A = Command} h.done (x ∷ []));
   run = subst (λ qs. Moves old new (AnswersThroughTables (h.done ++ x ∷ []) qs)) (sym put)
       (moved_twice old mid new (AnswersThroughTables h.done rs) (Obeys x r) (AnswersThroughTables (h.done ++ x ∷ []) (rs ++ r ∷ [])) h.run one (λ a b c f g. one_command a b c h.done rs x r f g));
   left = subst (λ qs. Moves old new (LeavesAsLists (h.done ++ x ∷ []) qs old.may_leave new.may_leave)) (sym put) (one_left old mid new h.done rs x r h.left one crash);
+  still = λ ends clean docs stands. let y = (h.run (one clean).0).1 docs stands in (opened (ends_last rs r (subst EndsAccepted put ends)) clean y.0 y.1).1;
 }
 
 pub so_far_all : (old new : State) (commands rest : List Command) (rs : List Reply) → rest ≡ [] → SoFar old commands rest rs new → Moves old new (AnswersThroughTables commands rs)
@@ -139,6 +148,9 @@ so_far_all old new commands rest rs none h = subst (λ xs. Moves old new (Answer
 pub so_far_left : (old new : State) (commands rest : List Command) (rs : List Reply) → rest ≡ [] → SoFar old commands rest rs new → Moves old new (LeavesAsLists commands rs old.may_leave new.may_leave)
 so_far_left old new commands rest rs none h = subst (λ xs. Moves old new (LeavesAsLists xs rs old.may_leave new.may_leave)) (sym (append-nil h.done) ∙ ap (λ y. h.done ++ y) (sym none) ∙ h.split) h.left
 
+pub so_far_open : (old new : State) (commands rest : List Command) (rs : List Reply) → SoFar old commands rest rs new → EndsOpen rs old new
+so_far_open old new commands rest rs h = h.still
+
 pub so_far_start : (s : State) (commands rest : List Command) (rs : List Reply) → rest ≡ commands → rs ≡ [] → SoFar s commands rest rs s
 so_far_start s commands rest rs is none = record {
   done = [];
@@ -146,22 +158,23 @@ so_far_start s commands rest rs is none = record {
   counted = ap length none;
   run = subst (λ qs. Moves s s (AnswersThroughTables [] qs)) (sym none) (rests s (AnswersThroughTables [] []) none_yet);
   left = subst (λ qs. Moves s s (LeavesAsLists [] qs s.may_leave s.may_leave)) (sym none) (none_left s);
+  still = λ ends. absurd (subst EndsAccepted none ends);
 }
 
 -- ---- each command
 
-pub obeys_bytes : (s t : State) (x : Command) (n b : List ℕ) (call : Reading → model.Call) (r : Reply) (q : model.Reply) → ((a : Reading) → (model.IsName n → ReadsBytes b a) → Asks x (model.on n (call a))) → reply_of r ≡ q → Moves s t (DoesBytes n call b q) → Moves s t (Obeys x r)
+pub obeys_bytes : (s t : State) (x : Command) (n b : List ℕ) (call : Reading → model.Call) (r : Reply) (q : model.Reply) → ((a : Reading) → ReadsBytes b a → Asks x (model.on n (call a))) → reply_of r ≡ q → Moves s t (DoesBytes n call b q) → Moves s t (Obeys x r)
 obeys_bytes s t x n b call r q asks is m =
     moved s t (DoesBytes n call b q) (Obeys x r) m (λ docs after h. (model.on n (call h.0), asks h.0 h.1, subst (λ p. Does (model.on n (call h.0)) p docs after) (sym is) h.2))
 
-pub obeys_tree : (s t : State) (x : Command) (n : List ℕ) (j : Data) (call : Reading → model.Call) (r : Reply) (q : model.Reply) → ((a : Reading) → (model.IsName n → ReadsTree j a) → Asks x (model.on n (call a))) → reply_of r ≡ q → Moves s t (DoesTree n call j q) → Moves s t (Obeys x r)
+pub obeys_tree : (s t : State) (x : Command) (n : List ℕ) (j : Data) (call : Reading → model.Call) (r : Reply) (q : model.Reply) → ((a : Reading) → ReadsTree j a → Asks x (model.on n (call a))) → reply_of r ≡ q → Moves s t (DoesTree n call j q) → Moves s t (Obeys x r)
 obeys_tree s t x n j call r q asks is m =
     moved s t (DoesTree n call j q) (Obeys x r) m (λ docs after h. (model.on n (call h.0), asks h.0 h.1, subst (λ p. Does (model.on n (call h.0)) p docs after) (sym is) h.2))
 
 pub obeys : (s t : State) (x : Command) (c : model.Command) (r : Reply) (q : model.Reply) → Asks x c → reply_of r ≡ q → Moves s t (Does c q) → Moves s t (Obeys x r)
 obeys s t x c r q asks is m = moved s t (Does c q) (Obeys x r) m (λ docs after h. (c, asks, subst (λ p. Does c p docs after) (sym is) h))
 
-pub obeys_many : (s t : State) (x : Command) (n : List ℕ) (Reads : Documents → Option ErrorKind → Type 0) (r : Reply) (q : model.Reply) → ((ds : Documents) (stop : Option ErrorKind) → (model.IsName n → Reads ds stop) → Asks x (model.on n (model.import ds stop)))
+pub obeys_many : (s t : State) (x : Command) (n : List ℕ) (Reads : Documents → Option ErrorKind → Type 0) (r : Reply) (q : model.Reply) → ((ds : Documents) (stop : Option ErrorKind) → Reads ds stop → Asks x (model.on n (model.import ds stop)))
     → reply_of r ≡ q → Moves s t (DoesMany n Reads q) → Moves s t (Obeys x r)
 obeys_many s t x n Reads r q asks is m =
     moved s t (DoesMany n Reads q) (Obeys x r) m (λ docs after h. (model.on n (model.import h.0 h.1), asks h.0 h.1 h.2, subst (λ p. Does (model.on n (model.import h.0 h.1)) p docs after) (sym is) h.3))
@@ -171,17 +184,23 @@ obeys_many s t x n Reads r q asks is m =
 as_asked : (s t : State) (c d : model.Command) (r : Reply) (q : model.Reply) → reply_of r ≡ q → c ≡ d → Leaves s t d q → Leaves s t c (reply_of r)
 as_asked s t c d r q is e h = subst (λ x. Leaves s t x (reply_of r)) (sym e) (subst (λ p. Leaves s t d p) (sym is) h)
 
-pub leaves_bytes : (s t : State) (x : Command) (n b : List ℕ) (call : Reading → model.Call) (r : Reply) (q : model.Reply) → ((c : model.Command) → Asks x c → (a : Reading) × (model.IsName n → ReadsBytes b a) × (c ≡ model.on n (call a))) → reply_of r ≡ q
+pub leaves_bytes : (s t : State) (x : Command) (n b : List ℕ) (call : Reading → model.Call) (r : Reply) (q : model.Reply) → ((c : model.Command) → Asks x c → (a : Reading) × ReadsBytes b a × (c ≡ model.on n (call a))) → reply_of r ≡ q
     → LeavesBytes n call b q s t → LeavesCommand x r s t
 leaves_bytes s t x n b call r q asks is h c asked = let k = asks c asked in as_asked s t c (model.on n (call k.0)) r q is k.2 (h k.0 k.1)
 
-pub leaves_tree : (s t : State) (x : Command) (n : List ℕ) (j : Data) (call : Reading → model.Call) (r : Reply) (q : model.Reply) → ((c : model.Command) → Asks x c → (a : Reading) × (model.IsName n → ReadsTree j a) × (c ≡ model.on n (call a))) → reply_of r ≡ q
+pub leaves_tree : (s t : State) (x : Command) (n : List ℕ) (j : Data) (call : Reading → model.Call) (r : Reply) (q : model.Reply) → ((c : model.Command) → Asks x c → (a : Reading) × ReadsTree j a × (c ≡ model.on n (call a))) → reply_of r ≡ q
     → LeavesTree n call j q s t → LeavesCommand x r s t
 leaves_tree s t x n j call r q asks is h c asked = let k = asks c asked in as_asked s t c (model.on n (call k.0)) r q is k.2 (h k.0 k.1)
 
 pub leaves_many : (s t : State) (x : Command) (n : List ℕ) (Reads : Documents → Option ErrorKind → Type 0) (r : Reply) (q : model.Reply)
-    → ((c : model.Command) → Asks x c → (ds : Documents) × (stop : Option ErrorKind) × (model.IsName n → Reads ds stop) × (c ≡ model.on n (model.import ds stop))) → reply_of r ≡ q → LeavesMany n Reads q s t → LeavesCommand x r s t
+    → ((c : model.Command) → Asks x c → (ds : Documents) × (stop : Option ErrorKind) × Reads ds stop × (c ≡ model.on n (model.import ds stop))) → reply_of r ≡ q → LeavesMany n Reads q s t → LeavesCommand x r s t
 leaves_many s t x n Reads r q asks is h c asked = let k = asks c asked in as_asked s t c (model.on n (model.import k.0 k.1)) r q is k.3 (h k.0 k.1 k.2)
 
 pub leaves_one : (s t : State) (x : Command) (d : model.Command) (r : Reply) (q : model.Reply) → ((c : model.Command) → Asks x c → c ≡ d) → reply_of r ≡ q → Leaves s t d q → LeavesCommand x r s t
 leaves_one s t x d r q asks is h c asked = as_asked s t c d r q is (asks c asked) h
+
+-- ---- that the connection was open for it
+
+pub reply_open : {A : Type 0} (s t : State) (f : A → model.Reply) (outcome : Result A StoreError) (r : Reply) → reply_of r ≡ reply_by f outcome → WasOpen s t outcome → WasOpenFor r s t
+reply_open s t f (Ok x) r is opened accepted = opened
+reply_open s t f (Err e) r is opened accepted = absurd (accepted (subst IsRefusal (sym is) tt))

@@ -69,24 +69,24 @@ first_is i (d ∷ ds) stop k j h e = by (refusal_of d) refl e (first_is (suc i) 
 -- ---- many documents, in whatever form they came
 
 -- under a bad name
-pub many_bad_name : (docs : List Doc) (n : List ℕ) (Reads : Documents → Option ErrorKind → Type 0) → (IsName n → ⊥) → DoesMany n Reads (refused kind.BadName None) docs docs
-many_bad_name docs n Reads bad = ([], None, (λ good. absurd (bad good)), bad_name docs n (import [] None) bad)
+pub many_bad_name : (docs : List Doc) (n : List ℕ) (Reads : Documents → Option ErrorKind → Type 0) → (ds : Documents) × (stop : Option ErrorKind) × Reads ds stop → (IsName n → ⊥) → DoesMany n Reads (refused kind.BadName None) docs docs
+many_bad_name docs n Reads (ds, stop, reads) bad = (ds, stop, reads, bad_name docs n (import ds stop) bad)
 
 refused_by : (ds l : Documents) (stop : Option ErrorKind) (k : ErrorKind) (i : ℕ) → first_refusal 0 ds stop ≡ Some (k, i) → Answers (import ds stop) l (refused k (Some i)) l
 refused_by ds l stop k i is = rw is (refl, refl)
 
 wanted : (docs : List Doc) (n : List ℕ) (Reads : Documents → Option ErrorKind → Type 0) (ds : Documents) (stop : Option ErrorKind) → IsName n → Reads ds stop → DoesMany n Reads (refused kind.Memory None) docs docs
-wanted docs n Reads ds stop good reads = (ds, stop, (λ _. reads), denied docs (on n (import ds stop)) faults.Memory memory_other (import_open n ds stop good))
+wanted docs n Reads ds stop good reads = (ds, stop, reads, denied docs (on n (import ds stop)) faults.Memory memory_other (import_open n ds stop good))
 
 -- they aren't judged to be kept
 pub many_refused : (docs : List Doc) (n : List ℕ) (Reads : Documents → Option ErrorKind → Type 0) (x : StreamError) → IsName n → Judges Reads (Err x)
     → DoesMany n Reads (reply_by as_number (Err (refusal_of_stream x))) docs docs
-many_refused docs n Reads (streams.Refused k i) good h = (h.0, h.1, (λ _. h.2), answers_stay docs n (import h.0 h.1) (refused k (Some i)) good (λ a s. refused_by h.0 _ h.1 k i h.3))
+many_refused docs n Reads (streams.Refused k i) good h = (h.0, h.1, h.2, answers_stay docs n (import h.0 h.1) (refused k (Some i)) good (λ a s. refused_by h.0 _ h.1 k i h.3))
 many_refused docs n Reads streams.Memory good h = wanted docs n Reads h.0 h.1 good h.2
 
 -- they are
 pub many_added : (docs after : List Doc) (n : List ℕ) (Reads : Documents → Option ErrorKind → Type 0) (rows : Vec Written Global) (r : Result ℕ StoreError) → Judges Reads (Ok rows) → AddsAll n rows.items r docs after → DoesMany n Reads (reply_by as_number r) docs after
-many_added docs after n Reads rows r h added = (h.0, None, (λ _. h.1), added.does h.0 h.2 h.3 h.4)
+many_added docs after n Reads rows r h added = (h.0, None, h.1, added.does h.0 h.2 h.3 h.4)
 
 -- ---- over a reader
 
@@ -140,7 +140,7 @@ from_memory docs after n bytes old new r before now whole h = by r h
     wanted_here good same = rw same (let s = any_stream bytes in wanted docs n (ReadsStream bytes) s.0 s.1 good s.2)
 
     bad_here : (IsName n → ⊥) → after ≡ docs → DoesMany n (ReadsStream bytes) (refused kind.BadName None) docs after
-    bad_here bad same = rw same (many_bad_name docs n (ReadsStream bytes) bad)
+    bad_here bad same = rw same (many_bad_name docs n (ReadsStream bytes) (any_stream bytes) bad)
 
     at : (k : ErrorKind) (i : Option ℕ) → ImportRefused n old new k i docs after → DoesMany n (ReadsStream bytes) (refused k i) docs after
     at kind.BadName i h = rw h.1 (bad_here h.0 h.3)

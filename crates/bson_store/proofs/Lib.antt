@@ -21,3 +21,4 @@ pub mod Renewed
 pub mod Opening
 pub mod Leaving
 pub mod Again
+pub mod Restoring

@@ -32,11 +32,11 @@ Does c r old new = (a : Table) → Show old a → (b : Table) × Show new b × S
 
 -- so does a call with bytes, which stand for what they read as
 abbrev pub DoesBytes : List ℕ → (Reading → model.Call) → List ℕ → model.Reply → List Doc → List Doc → Type 0
-DoesBytes n call bytes r old new = (x : Reading) × (model.IsName n → ReadsBytes bytes x) × Does (model.on n (call x)) r old new
+DoesBytes n call bytes r old new = (x : Reading) × ReadsBytes bytes x × Does (model.on n (call x)) r old new
 
 -- and a call with JSON
 abbrev pub DoesTree : List ℕ → (Reading → model.Call) → Data → model.Reply → List Doc → List Doc → Type 0
-DoesTree n call j r old new = (x : Reading) × (model.IsName n → ReadsTree j x) × Does (model.on n (call x)) r old new
+DoesTree n call j r old new = (x : Reading) × ReadsTree j x × Does (model.on n (call x)) r old new
 
 -- a call with a document that was read, in whatever form it was given
 abbrev pub DoesRead : List ℕ → (model.Form → Reading → model.Call) → Members → model.Reply → List Doc → List Doc → Type 0

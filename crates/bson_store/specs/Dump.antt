@@ -24,28 +24,34 @@ abbrev pub TellsTree : Result Data ErrorKind → ℕ → Result Json StoreError 
 TellsTree r i (Ok j) = r ≡ Ok (tree_of j)
 TellsTree r i (Err e) = (e ≡ refusal Memory) ⊎ ((k : ErrorKind) × (r ≡ Err k) × (e ≡ refusal_at k i))
 
--- The tree that is wanted was taken behind these; or what stands in its place is told, or it is refused, or memory or the
--- database was wanting.
-abbrev pub HandsOn : (List Data → Type 0) → (StoreError → Type 0) → List Data → ℕ → Result Data ErrorKind → Result ℕ StoreError → Type 0
-HandsOn took refuses out i r (Ok next) = (j : Data) × (r ≡ Ok j) × took (out ++ j ∷ []) × (next ≡ i + 1)
-HandsOn took refuses out i r (Err e) = IsDenied e ⊎ (refuses e ⊎ ((k : ErrorKind) × (r ≡ Err k) × (e ≡ refusal_at k i)))
+-- The tree that is wanted was taken behind these; or the taker refused it; or these were taken, and what stands in its place is
+-- told, or memory or the database was wanting.
+abbrev pub HandsOn : (List Data → Type 0) → (List Data → StoreError → Type 0) → List Data → ℕ → Result Data ErrorKind → Result ℕ StoreError → Type 0
+HandsOn took refused_by out i r (Ok next) = (j : Data) × (r ≡ Ok j) × took (out ++ j ∷ []) × (next ≡ i + 1)
+HandsOn took refused_by out i r (Err e) = refused_by out e ⊎ (took out × (IsDenied e ⊎ ((k : ErrorKind) × (r ≡ Err k) × (e ≡ refusal_at k i))))
 
 -- the trees of all these documents were taken
 abbrev pub TakesAll : (List Data → Type 0) → Documents → Type 0
 TakesAll took ds = (js : List Data) × (trees_of 0 ds ≡ Ok js) × took js
 
--- the first of the documents that has no tree is told, or some tree is refused, or memory or the database was wanting
-abbrev pub Stops : (StoreError → Type 0) → Documents → StoreError → Type 0
-Stops refuses ds e = IsDenied e ⊎ (refuses e ⊎ (trees_reply (trees_of 0 ds) ≡ refused e.kind e.document))
+-- the trees of the first of the documents
+abbrev pub AreFirstTrees : List Data → Documents → Type 0
+AreFirstTrees js ds = (front : Documents) × (back : Documents) × (ds ≡ front ++ back) × (trees_of 0 front ≡ Ok js)
+
+-- The trees of the first documents were taken, and the taker refused the one behind them; or memory or the database was wanting
+-- behind them, or the first of the documents that has no tree is told.
+abbrev pub Stops : (List Data → Type 0) → (List Data → StoreError → Type 0) → Documents → StoreError → Type 0
+Stops took refused_by ds e = (js : List Data) × AreFirstTrees js ds × (refused_by js e ⊎ (took js × (IsDenied e ⊎ (trees_reply (trees_of 0 ds) ≡ refused e.kind e.document))))
 
 -- whatever documents the bodies were written for, the trees of them all were taken, and so many they are, unless there is a refusal
-abbrev pub HandedOn : (List Data → Type 0) → (StoreError → Type 0) → ℕ → List (List ℕ) → Option StoreError → Type 0
-HandedOn took refuses i bodies refusal = (ds : Documents) → AreKept ds → bodies ≡ map encode ds
-    → MatchOption refusal (TakesAll (λ js. took js × (i ≡ length js)) ds) (Stops refuses ds)
+abbrev pub HandedOn : (List Data → Type 0) → (List Data → StoreError → Type 0) → ℕ → List (List ℕ) → Option StoreError → Type 0
+HandedOn took refused_by i bodies refusal = (ds : Documents) → AreKept ds → bodies ≡ map encode ds
+    → MatchOption refusal (TakesAll (λ js. took js × (i ≡ length js)) ds) (Stops took refused_by ds)
 
--- whatever table the rows show, the trees of its list were taken; or the name is bad, or it is told why they weren't; the rows stay
-pub record HandsTrees {T : Type 0} (took : T → List Data → Type 0) (refuses : StoreError → Type 0) (n : List ℕ) (result : Result T StoreError) (docs after : List Doc) : Type 0 where
+-- Whatever table the rows show, the trees of its list were taken; or the name is bad, and none was, or a beginning of them was, and
+-- it is told why no more were; the rows stay.
+pub record HandsTrees {T : Type 0} (took : T → List Data → Type 0) (refused_by : T → List Data → StoreError → Type 0) (n : List ℕ) (result : Result T (StoreError × T)) (docs after : List Doc) : Type 0 where
   pub same : after ≡ docs
   pub handed : (a : Table) → Show docs a → MatchResult result
       (λ t. IsName n × TakesAll (took t) (documents_of a n))
-      (λ e. ((IsName n → ⊥) × (e ≡ refusal BadName)) ⊎ (IsName n × Stops refuses (documents_of a n) e))
+      (λ e. ((IsName n → ⊥) × (e.0 ≡ refusal BadName) × took e.1 []) ⊎ (IsName n × Stops (took e.1) (refused_by e.1) (documents_of a n) e.0))

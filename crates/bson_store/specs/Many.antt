@@ -1,5 +1,5 @@
 -- What calls of many documents say of the rows: imports and loads, and dumps.
-use Rattle.std.specs.Prelude.{◌≡◌, ◌⊎◌, ◌||◌, ℕ, Bool, List, map, filter, Option, None, Result, Ok, Err, IfOk, IfErr, OnErr}
+use Rattle.std.specs.Prelude.{◌≡◌, ◌⊎◌, ◌||◌, ℕ, Bool, List, length, map, filter, Option, None, Result, Ok, Err, IfOk, IfErr, OnErr}
 use Rattle.std.specs.List.{list_any}
 use Rattle.std.specs.Str.{bytes_eq}
 use Rattle.bson_table.specs.Rows.{Doc, is_in}
@@ -8,6 +8,7 @@ use Rattle.bson_table.specs.declared.row.NewRow.{NewRow}
 use Rattle.store_documents.specs.declared.write.Written.{Written}
 use Rattle.store_laws.specs.Reading.{Documents, AreRead, ReadsStream}
 use Rattle.store_laws.specs.State as model
+use Rattle.store_laws.specs.Table.{Table, documents_of}
 use Rattle.store_laws.specs.declared.error.ErrorKind.{ErrorKind}
 use Rattle.store_laws.specs.declared.error.ErrorKind.TheVariants.{BadName, DuplicateId, Memory, Reader}
 use Rattle.bson_base.specs.declared.whole.ReadAllError.TheVariants as reads
@@ -15,15 +16,16 @@ use Rattle.store_streams.specs.declared.keys.Keys.{Keys}
 use Rattle.bson_base.specs.Device.{Feed, TookAll, StopsReading}
 use Rattle.store_streams.specs.Judging.{AreWrittenRows}
 use Rattle.store_streams.specs.Keys.{first_taken, has_met}
+use Rattle.bson_store.specs.Shown.{Show}
 use Rattle.bson_store.specs.Calls.{Does}
 use Rattle.bson_store.specs.Refusals.{IsDenied, as_number, kind_of_fault, refusal, refusal_at, reply_by}
 use Rattle.bson_store.specs.declared.error.StoreError.{StoreError}
 
 -- ---- what comes in
 
--- a call with many documents, which stand for what they read as; under a bad name nothing is read
+-- a call with many documents, which stand for what they read as
 abbrev pub DoesMany : List ℕ → (Documents → Option ErrorKind → Type 0) → model.Reply → List Doc → List Doc → Type 0
-DoesMany n Reads r old new = (ds : Documents) × (stop : Option ErrorKind) × (model.IsName n → Reads ds stop) × Does (model.on n (model.import ds stop)) r old new
+DoesMany n Reads r old new = (ds : Documents) × (stop : Option ErrorKind) × Reads ds stop × Does (model.on n (model.import ds stop)) r old new
 
 -- the reader was read to its end, and the reply is that to its bytes
 abbrev pub TakesStream : List ℕ → Feed → Feed → model.Reply → List Doc → List Doc → Type 0
@@ -74,3 +76,9 @@ pub record AddsAll (n : List ℕ) (rows : List Written) (result : Result ℕ Sto
   pub same : OnErr result (after ≡ docs)
   pub fault : IfErr result IsAddFault
   pub does : (ds : Documents) → AreRead ds → model.first_refusal 0 ds None ≡ None → AreWrittenRows rows ds → Does (model.on n (model.import ds None)) (reply_by as_number result) docs after
+
+-- ---- what comes back
+
+-- so many documents were put in, and the rows show a table whose list of the name is this
+abbrev pub Restored : List ℕ → Documents → ℕ → List Doc → Type 0
+Restored m ds count docs = (count ≡ length ds) × ((u : Table) × Show docs u × (documents_of u m ≡ ds))

@@ -1,14 +1,17 @@
 -- What a list of commands and its replies say of tables and of plain lists.
-use Rattle.std.specs.Prelude.{◌≡◌, ℕ, List, [], ◌∷◌, Option, map, string_bytes}
+use Rattle.std.specs.Prelude.{◌≡◌, ℕ, List, [], ◌∷◌, Option, IsTrue, map, string_bytes}
+use Rattle.sqlite.specs.State.{State, HasCleanDisk}
+use Rattle.bson_table.specs.Moves.{Stands}
 use Rattle.serde_json.specs.View.{view as tree_of}
 use Rattle.bson_filter.specs.Filters.{filter_of, path_of}
 use Rattle.bson_model.specs.View.{view}
 use Rattle.bson_table.specs.Rows.{Doc}
 use Rattle.store_laws.specs.Reading.{Documents, Reading, ReadsBytes, ReadsStream, ReadsTree, ReadsTrees, read_value}
+use Rattle.store_laws.specs.Same.{SameCommands}
 use Rattle.store_laws.specs.State as model
 use Rattle.store_laws.specs.declared.error.ErrorKind.{ErrorKind}
 use Rattle.store_laws.specs.Run.{Denials, Run, SparesDecided}
-use Rattle.store_laws.specs.Table.{Table, RunThrough, state_of}
+use Rattle.store_laws.specs.Table.{Table, IsRefusal, RunThrough, state_of}
 use Rattle.bson_store.specs.Shown.{Show}
 use Rattle.bson_store.specs.Calls.{Does}
 use Rattle.bson_store.specs.Export.{bytes_of_each}
@@ -21,14 +24,14 @@ use Rattle.bson_store.specs.declared.command.Reply.TheVariants.{Done, Flag, Byte
 
 -- many documents stand for what they read as
 abbrev pub AsksMany : List ℕ → (Documents → Option ErrorKind → Type 0) → model.Command → Type 0
-AsksMany n Reads c = (ds : Documents) × (stop : Option ErrorKind) × (model.IsName n → Reads ds stop) × (c ≡ model.on n (model.import ds stop))
+AsksMany n Reads c = (ds : Documents) × (stop : Option ErrorKind) × Reads ds stop × (c ≡ model.on n (model.import ds stop))
 
--- bytes stand for what they read as, and so does JSON; under a bad name nothing is read
+-- bytes stand for what they read as, and so does JSON
 abbrev pub Asks : Command → model.Command → Type 0
-Asks (InsertRaw name bytes) c = (a : Reading) × (model.IsName (string_bytes name) → ReadsBytes bytes.items a) × (c ≡ model.on (string_bytes name) (model.insert model.in_bytes a))
-Asks (InsertJson name json) c = (a : Reading) × (model.IsName (string_bytes name) → ReadsTree (tree_of json) a) × (c ≡ model.on (string_bytes name) (model.insert model.in_json a))
-Asks (ReplaceRaw name bytes) c = (a : Reading) × (model.IsName (string_bytes name) → ReadsBytes bytes.items a) × (c ≡ model.on (string_bytes name) (model.replace model.in_bytes a))
-Asks (ReplaceJson name json) c = (a : Reading) × (model.IsName (string_bytes name) → ReadsTree (tree_of json) a) × (c ≡ model.on (string_bytes name) (model.replace model.in_json a))
+Asks (InsertRaw name bytes) c = (a : Reading) × ReadsBytes bytes.items a × (c ≡ model.on (string_bytes name) (model.insert model.in_bytes a))
+Asks (InsertJson name json) c = (a : Reading) × ReadsTree (tree_of json) a × (c ≡ model.on (string_bytes name) (model.insert model.in_json a))
+Asks (ReplaceRaw name bytes) c = (a : Reading) × ReadsBytes bytes.items a × (c ≡ model.on (string_bytes name) (model.replace model.in_bytes a))
+Asks (ReplaceJson name json) c = (a : Reading) × ReadsTree (tree_of json) a × (c ≡ model.on (string_bytes name) (model.replace model.in_json a))
 Asks (Set name id key value) c = c ≡ model.on (string_bytes name) (model.set (view id) (string_bytes key) (read_value (tree_of value)))
 Asks (Unset name id key) c = c ≡ model.on (string_bytes name) (model.unset (view id) (string_bytes key))
 Asks (Remove name id) c = c ≡ model.on (string_bytes name) (model.remove (view id))
@@ -49,6 +52,10 @@ AsksEach (x ∷ xs) (c ∷ cs) = Asks x c × AsksEach xs cs
 AsksEach [] (c ∷ cs) = ⊥
 AsksEach (x ∷ xs) [] = ⊥
 
+-- whatever two lists of commands are read as, it is what commands are, and means the same
+abbrev pub MeanTheSame : List Command → List Command → Type 0
+MeanTheSame xs ys = (cs : List model.Command) (ds : List model.Command) → AsksEach xs cs → AsksEach ys ds → SameCommands cs ds × model.AreCommands cs × model.AreCommands ds
+
 abbrev pub reply_of : Reply → model.Reply
 reply_of Done = model.done
 reply_of (Flag b) = model.flag b
@@ -59,6 +66,23 @@ reply_of (Json j) = model.json (tree_of j)
 reply_of (JsonList v) = model.json_list (map tree_of v.items)
 reply_of (Names v) = model.names (map string_bytes v.items)
 reply_of (Refused e) = model.refused e.kind e.document
+
+-- an accepted reply, and a list that ends in one
+abbrev pub IsAccepted : Reply → Type 0
+IsAccepted r = IsRefusal (reply_of r) → ⊥
+
+abbrev pub EndsAccepted : List Reply → Type 0
+EndsAccepted [] = ⊥
+EndsAccepted (r ∷ []) = IsAccepted r
+EndsAccepted (r ∷ q ∷ rs) = EndsAccepted (q ∷ rs)
+
+-- an accepted command was on an open connection, which stays open
+abbrev pub WasOpenFor : Reply → State → State → Type 0
+WasOpenFor r old new = IsAccepted r → HasCleanDisk new → (docs : List Doc) → Stands old docs → IsTrue old.is_open × IsTrue new.is_open
+
+-- where the last command was accepted the connection is open, so the rows that it shows are told of
+abbrev pub EndsOpen : List Reply → State → State → Type 0
+EndsOpen replies old new = EndsAccepted replies → HasCleanDisk new → (docs : List Doc) → Stands old docs → IsTrue new.is_open
 
 -- an export into memory
 abbrev pub Exported : List ℕ → Reply → List Doc → List Doc → Type 0

@@ -8,7 +8,7 @@ ghost use Rattle.bson_store.specs.Refusals.{reply_by, as_done, as_flag, as_bytes
 ghost use Rattle.store_laws.specs.Reading.{ReadsStream};
 ghost use Rattle.store_laws.specs.State.{export, on};
 ghost use Rattle.bson_store.specs.Left.{Leaves, LeavesTheEnd, LeavesAsLists, LeavesCommand, LeavesMany};
-ghost use Rattle.bson_store.specs.Runs.{Exported, Imported, IsLent, Obeys, AnswersAsLists, AnswersThroughTables, reply_of};
+ghost use Rattle.bson_store.specs.Runs.{Exported, Imported, IsLent, Obeys, AnswersAsLists, AnswersThroughTables, EndsOpen, WasOpenFor, reply_of};
 
 use crate::command::{Command, Reply};
 use crate::error::StoreError;
@@ -94,6 +94,7 @@ fn json_list(outcome: Result<Vec<Value>, StoreError>) -> Reply
 /// The written documents of a collection, in memory.
 fn exported<S: Alter + Drop>(store: &mut Store<S>, name: &str) -> Reply
     ensures moves { Moves (held S.Store store.old) (held S.Store store.new) (Exported name.now result) }
+    ensures open { WasOpenFor result (held S.Store store.old) (held S.Store store.new) }
     ensures crash { Leaves (held S.Store store.old) (held S.Store store.new) (on name.now export) (reply_of result) }
 {
     let mut sink = VecSink::new(store.allocator());
@@ -110,6 +111,7 @@ fn exported<S: Alter + Drop>(store: &mut Store<S>, name: &str) -> Reply
 /// Documents that go into a collection from memory.
 fn imported<S: Alter + Drop>(store: &mut Store<S>, name: &str, bytes: &[u8]) -> Reply
     ensures moves { Moves (held S.Store store.old) (held S.Store store.new) (Imported name.now bytes.now result) }
+    ensures open { WasOpenFor result (held S.Store store.old) (held S.Store store.new) }
     ensures crash { LeavesMany name.now (ReadsStream bytes.now) (reply_of result) (held S.Store store.old) (held S.Store store.new) }
 {
     let mut source = SliceSource::new(bytes);
@@ -119,6 +121,7 @@ fn imported<S: Alter + Drop>(store: &mut Store<S>, name: &str, bytes: &[u8]) -> 
 /// One command. JSON is handed over to the call that keeps it; all else is lent.
 fn execute<S: Alter + Drop>(store: &mut Store<S>, command: Command) -> Reply
     ensures moves { Moves (held S.Store store.old) (held S.Store store.new) (Obeys command result) }
+    ensures open { WasOpenFor result (held S.Store store.old) (held S.Store store.new) }
     ensures crash { LeavesCommand command result (held S.Store store.old) (held S.Store store.new) }
 {
     match command {
@@ -139,6 +142,7 @@ fn execute<S: Alter + Drop>(store: &mut Store<S>, command: Command) -> Reply
 fn execute_lent<S: Alter + Drop>(store: &mut Store<S>, command: &Command) -> Reply
     requires { IsLent command.now }
     ensures moves { Moves (held S.Store store.old) (held S.Store store.new) (Obeys command.now result) }
+    ensures open { WasOpenFor result (held S.Store store.old) (held S.Store store.new) }
     ensures crash { LeavesCommand command.now result (held S.Store store.old) (held S.Store store.new) }
 {
     match command {
@@ -181,6 +185,8 @@ pub fn run<S: Alter + Drop>(
     ensures tables { IfOk result (λ replies. Moves (held S.Store store.old) (held S.Store store.new) (AnswersThroughTables commands.items replies.items)) }
     // So they are those of the commands on plain lists of documents, but where memory, the database or places were wanted.
     ensures lists { IfOk result (λ replies. Moves (held S.Store store.old) (held S.Store store.new) (AnswersAsLists commands.items replies.items)) }
+    // Where the last command was accepted the connection is open, so these rows are in its table.
+    ensures open { IfOk result (λ replies. EndsOpen replies.items (held S.Store store.old) (held S.Store store.new)) }
     // What a crash leaves now is left along this run, from what it might leave before.
     ensures crash { IfOk result (λ replies. Moves (held S.Store store.old) (held S.Store store.new)
         (LeavesAsLists commands.items replies.items (held S.Store store.old).may_leave (held S.Store store.new).may_leave)) }

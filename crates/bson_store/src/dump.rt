@@ -6,10 +6,9 @@ ghost use Rattle.serde_json.specs.View.{view as data_of};
 ghost use Rattle.bson_base.specs.Value.{Members};
 ghost use Rattle.bson_bytes.specs.Encode.{encode};
 ghost use Rattle.bson_model.specs.declared.extjson.ser.Mode.TheVariants.{Canonical};
-ghost use Rattle.bson_table.specs.Moves.{Moves};
+ghost use Rattle.bson_table.specs.Moves.{Moves, WasOpen};
 ghost use Rattle.store_laws.specs.State.{IsKept, dump, on, tree_of};
 ghost use Rattle.sqlite.specs.State.{Survives};
-ghost use Rattle.bson_store.specs.Left.{StaysOpen};
 ghost use Rattle.bson_store.specs.Calls.{held, Does};
 ghost use Rattle.bson_store.specs.Dump.{HandsOn, HandsTrees, TellsTree, told_at};
 ghost use Rattle.bson_store.specs.Refusals.{as_json_list, reply_by};
@@ -31,13 +30,13 @@ pub trait TakeJson {
     /// Since it was the first, the second has taken these trees, in this order.
     ghost took: { Self → Self → List Data → Type 0 };
 
-    /// What it refuses a tree by.
-    ghost refuses: { StoreError → Type 0 };
+    /// Since it was the first, the second has taken these trees, and refused the next one by this.
+    ghost refused: { Self → Self → List Data → StoreError → Type 0 };
 
     /// Takes a tree.
     fn take(&mut self, tree: Value) -> Result<(), StoreError>
         ensures took { (first : Self) (out : List Data) → took first self.old out → OnOk result (took first self.new (out ++ data_of tree ∷ [])) }
-        ensures refused { IfErr result refuses };
+        ensures refused { (first : Self) (out : List Data) → took first self.old out → IfErr result (refused first self.new out) };
 }
 
 /// The refusal of the document at a place; want of memory has none.
@@ -71,15 +70,15 @@ fn hand_on<T: TakeJson>(
     place: u64,
 ) -> Result<u64, StoreError>
     ensures { (first : T) (out : List Data) (d : Members) → IsKept d → body.now ≡ encode d → T.took first taker.old out
-        → HandsOn (T.took first taker.new) T.refuses out place (tree_of Canonical d) result }
+        → HandsOn (T.took first taker.new) (T.refused first taker.new) out place (tree_of Canonical d) result }
 {
     let tree = tree_at(alloc, body, place)?;
-    taker.take(tree)?;
-    match place.checked_add(1) {
-        Some(next) => Ok(next),
+    let Some(next) = place.checked_add(1) else {
         // There are fewer places for rows than numbers.
-        None => Err(StoreError::from(ErrorKind::Database)),
-    }
+        return Err(StoreError::from(ErrorKind::Database));
+    };
+    taker.take(tree)?;
+    Ok(next)
 }
 
 /// Hands the trees of the bodies on that the table hands out, one body at a time. After the first that has no tree, or that is
@@ -96,7 +95,7 @@ impl<T: TakeJson> Visit for Teller<T> {
     ghost use Rattle.std.specs.Prelude.{IsSome};
     ghost use Rattle.bson_store.specs.Dump.{HandedOn};
 
-    ghost took = { λ first v bodies. HandedOn (T.took first.taker v.taker) T.refuses v.place bodies v.refusal };
+    ghost took = { λ first v bodies. HandedOn (T.took first.taker v.taker) (T.refused first.taker v.taker) v.place bodies v.refusal };
 
     ghost is_done = { λ v. IsSome v.refusal };
 
@@ -130,7 +129,7 @@ impl TakeJson for Trees {
 
     ghost took = { λ _ t out. map data_of t.trees.items ≡ out };
 
-    ghost refuses = { λ e. IsDenied e };
+    ghost refused = { λ _ _ _ e. IsDenied e };
 
     fn take(&mut self, tree: Value) -> Result<(), StoreError> {
         self.trees.push(tree)?;
@@ -144,29 +143,39 @@ impl<S: Alter + Drop> Store<S> {
     ///
     /// Refused by BadName; by ReservedKey and FiniteDouble of the first document that has no such tree, of the two by
     /// ReservedKey, and `document` tells which it is; by what the taker refuses a tree by; and by Memory and Database. The
-    /// taker was then handed a beginning of the trees, and is dropped.
-    pub fn each_json<T: TakeJson + Drop>(&mut self, name: &str, taker: T) -> Result<T, StoreError>
-        ensures moves { T.took taker taker [] → Moves (held S.Store self.old) (held S.Store self.new) (HandsTrees (T.took taker) T.refuses name.now result) }
-        ensures open { StaysOpen (held S.Store self.old) (held S.Store self.new) result }
+    /// taker, which is given back beside the refusal, was then handed a beginning of the trees.
+    pub fn each_json<T: TakeJson + Drop>(
+        &mut self,
+        name: &str,
+        taker: T,
+    ) -> Result<T, (StoreError, T)>
+        ensures moves { T.took taker taker [] → Moves (held S.Store self.old) (held S.Store self.new) (HandsTrees (T.took taker) (T.refused taker) name.now result) }
+        ensures open { WasOpen (held S.Store self.old) (held S.Store self.new) result }
         ensures crash { Survives (held S.Store self.old) (held S.Store self.new) (λ _. ⊥) }
     {
-        let name = good_name(name)?;
+        let name = match good_name(name) {
+            Ok(name) => name,
+            Err(error) => return Err((error, taker)),
+        };
         let mut teller = Teller {
             taker,
             alloc: self.alloc,
             place: 0,
             refusal: None,
         };
-        self.table.visit_bodies(name.as_str(), &mut teller)?;
+        let visited = self.table.visit_bodies(name.as_str(), &mut teller);
         let Teller {
             taker,
             alloc: _,
             place: _,
             refusal,
         } = teller;
-        match refusal {
-            None => Ok(taker),
-            Some(error) => Err(error),
+        if let Some(error) = refusal {
+            return Err((error, taker));
+        }
+        match visited {
+            Ok(_) => Ok(taker),
+            Err(fault) => Err((StoreError::from(fault), taker)),
         }
     }
 
@@ -176,11 +185,13 @@ impl<S: Alter + Drop> Store<S> {
     /// ReservedKey, and `document` tells which it is; and by Memory and Database.
     pub fn dump_json(&mut self, name: &str) -> Result<Vec<Value>, StoreError>
         ensures moves { Moves (held S.Store self.old) (held S.Store self.new) (Does (on name.now dump) (reply_by as_json_list result)) }
-        ensures open { StaysOpen (held S.Store self.old) (held S.Store self.new) result }
+        ensures open { WasOpen (held S.Store self.old) (held S.Store self.new) result }
         ensures crash { Survives (held S.Store self.old) (held S.Store self.new) (λ _. ⊥) }
     {
         let trees = Vec::new(self.alloc);
-        let all = self.each_json(name, Trees { trees })?;
-        Ok(all.trees)
+        match self.each_json(name, Trees { trees }) {
+            Ok(all) => Ok(all.trees),
+            Err((error, _)) => Err(error),
+        }
     }
 }

@@ -1,10 +1,11 @@
 //! Many documents at once: all of them go into a collection, or none.
 
-ghost use Rattle.std.specs.Prelude.{◌≡◌, ◌||◌, ◌<◌, ◌^◌, ◌-◌, ℕ, List, length, map, false, Some, None, IfOk, IsErrOf};
+ghost use Rattle.std.specs.Prelude.{◌≡◌, ◌||◌, ◌<◌, ◌^◌, ◌-◌, ℕ, List, length, map, false, Some, None, IfOk, IsErrOf, IsTrue};
 ghost use Rattle.std.specs.Str.{bytes_eq};
 ghost use Rattle.serde_json.specs.View.{view as tree_of};
-ghost use Rattle.sqlite.specs.State.{Survives};
-ghost use Rattle.bson_table.specs.Moves.{AddsRows, MayLeave, Moves, WasOpen, all_appended};
+ghost use Rattle.sqlite.specs.State.{HasCleanDisk, Survives};
+ghost use Rattle.bson_table.specs.Moves.{AddsRows, MayLeave, Moves, Stands, WasOpen, all_appended};
+ghost use Rattle.bson_table.specs.Rows.{Doc};
 ghost use Rattle.bson_store.specs.Left.{LeavesMany, LeavesRows, ReadsFed};
 ghost use Rattle.store_documents.specs.Names.{name_bytes};
 ghost use Rattle.bson_base.specs.Kinds.{AreBytes};
@@ -69,6 +70,7 @@ impl<S: Alter + Drop> Store<S> {
         key: &'a [u8],
     ) -> Result<bool, StoreError>
         ensures moves { Moves (held S.Store self.old) (held S.Store self.new) (Meets coll.now key.now met.old result) }
+        ensures open { WasOpen (held S.Store self.old) (held S.Store self.new) result }
         ensures crash { Survives (held S.Store self.old) (held S.Store self.new) (λ _. ⊥) }
         ensures met { IfOk result (λ taken. taken ≡ false → (k : List ℕ) → has_met met.new k ≡ bytes_eq k key.now || has_met met.old k) }
     {
@@ -83,6 +85,7 @@ impl<S: Alter + Drop> Store<S> {
     /// The place of the first row whose key is in the collection or that of a row before.
     fn first_taken(&mut self, coll: &str, rows: &[Written]) -> Result<Option<u64>, StoreError>
         ensures moves { Moves (held S.Store self.old) (held S.Store self.new) (FindsTaken coll.now rows.now result) }
+        ensures open { HasCleanDisk (held S.Store self.new) → (docs : List Doc) → Stands (held S.Store self.old) docs → IfOk result (λ _. IsTrue (held S.Store self.new).is_open → IsTrue (held S.Store self.old).is_open) }
         ensures crash { Survives (held S.Store self.old) (held S.Store self.new) (λ _. ⊥) }
     {
         let mut met = Keys::new(self.alloc);
@@ -109,6 +112,7 @@ impl<S: Alter + Drop> Store<S> {
     /// Puts the documents that these rows are last in a collection, and says how many they are.
     fn add_all(&mut self, name: Name<'_>, rows: Vec<Written>) -> Result<u64, StoreError>
         ensures moves { Moves (held S.Store self.old) (held S.Store self.new) (AddsAll (name_bytes name.entry) rows.items result) }
+        ensures open { WasOpen (held S.Store self.old) (held S.Store self.new) result }
         ensures crash { LeavesRows (name_bytes name.entry) rows.items result (held S.Store self.old) (held S.Store self.new) }
     {
         let coll = name.as_str();
@@ -133,6 +137,7 @@ impl<S: Alter + Drop> Store<S> {
         requires { (R.feed reader.old).failures < 2 ^ 64 - 1 }
         ensures moves { Moves (held S.Store self.old) (held S.Store self.new) (Imports name.now (R.feed reader.old)
             (R.feed reader.new) result) }
+        ensures open { WasOpen (held S.Store self.old) (held S.Store self.new) result }
         ensures crash { LeavesMany name.now (ReadsFed (R.feed reader.old) (R.feed reader.new)) (reply_by as_number result)
             (held S.Store self.old) (held S.Store self.new) }
     {
@@ -151,6 +156,7 @@ impl<S: Alter + Drop> Store<S> {
     /// Memory and Database, but never in the place of BadName. `document` tells which document was refused.
     pub fn load_json(&mut self, name: &str, trees: Vec<Value>) -> Result<u64, StoreError>
         ensures moves { Moves (held S.Store self.old) (held S.Store self.new) (DoesMany name.now (ReadsTrees (map tree_of trees.items)) (reply_by as_number result)) }
+        ensures open { WasOpen (held S.Store self.old) (held S.Store self.new) result }
         ensures crash { LeavesMany name.now (ReadsTrees (map tree_of trees.items)) (reply_by as_number result) (held S.Store self.old) (held S.Store self.new) }
     {
         let name = good_name(name)?;

@@ -7,6 +7,7 @@ mod dump;
 mod error;
 mod export;
 mod import;
+pub mod meanings;
 mod names;
 mod picking;
 mod questions;

@@ -2,11 +2,10 @@
 
 ghost use Rattle.std.specs.Prelude.{◌≡◌, []};
 ghost use Rattle.bson_filter.specs.Filters.{filter_of, path_of};
-ghost use Rattle.bson_table.specs.Moves.{Moves};
+ghost use Rattle.bson_table.specs.Moves.{Moves, WasOpen};
 ghost use Rattle.store_documents.specs.Names.{name_bytes};
 ghost use Rattle.store_laws.specs.State.{collections, count, find, on, project};
 ghost use Rattle.sqlite.specs.State.{Survives};
-ghost use Rattle.bson_store.specs.Left.{StaysOpen};
 ghost use Rattle.bson_store.specs.Calls.{Does, held};
 ghost use Rattle.bson_store.specs.Questions.{Picked, as_list, as_names};
 ghost use Rattle.bson_store.specs.Refusals.{as_number, reply_by};
@@ -25,7 +24,7 @@ impl<S: Alter + Drop> Store<S> {
     /// Refused by Memory and Database.
     pub fn collections(&mut self) -> Result<Vec<String>, StoreError>
         ensures moves { Moves (held S.Store self.old) (held S.Store self.new) (Does collections (reply_by as_names result)) }
-        ensures open { StaysOpen (held S.Store self.old) (held S.Store self.new) result }
+        ensures open { WasOpen (held S.Store self.old) (held S.Store self.new) result }
         ensures crash { Survives (held S.Store self.old) (held S.Store self.new) (λ _. ⊥) }
     {
         let names = self.table.collections()?;
@@ -41,7 +40,7 @@ impl<S: Alter + Drop> Store<S> {
     ) -> Result<T, StoreError>
         requires { T.took taker taker [] }
         ensures moves { Moves (held S.Store self.old) (held S.Store self.new) (Picked (T.took taker) (name_bytes name.entry) (filter_of filter.now) result) }
-        ensures open { StaysOpen (held S.Store self.old) (held S.Store self.new) result }
+        ensures open { WasOpen (held S.Store self.old) (held S.Store self.new) result }
         ensures crash { Survives (held S.Store self.old) (held S.Store self.new) (λ _. ⊥) }
     {
         let mut picker = Picker {
@@ -67,7 +66,7 @@ impl<S: Alter + Drop> Store<S> {
     /// Refused by BadName, Memory and Database.
     pub fn find(&mut self, name: &str, filter: &Filter) -> Result<Vec<Vec<u8>>, StoreError>
         ensures moves { Moves (held S.Store self.old) (held S.Store self.new) (Does (on name.now (find (filter_of filter.now))) (reply_by as_list result)) }
-        ensures open { StaysOpen (held S.Store self.old) (held S.Store self.new) result }
+        ensures open { WasOpen (held S.Store self.old) (held S.Store self.new) result }
         ensures crash { Survives (held S.Store self.old) (held S.Store self.new) (λ _. ⊥) }
     {
         let name = good_name(name)?;
@@ -82,7 +81,7 @@ impl<S: Alter + Drop> Store<S> {
     /// Refused by BadName, Memory and Database.
     pub fn count(&mut self, name: &str, filter: &Filter) -> Result<u64, StoreError>
         ensures moves { Moves (held S.Store self.old) (held S.Store self.new) (Does (on name.now (count (filter_of filter.now))) (reply_by as_number result)) }
-        ensures open { StaysOpen (held S.Store self.old) (held S.Store self.new) result }
+        ensures open { WasOpen (held S.Store self.old) (held S.Store self.new) result }
         ensures crash { Survives (held S.Store self.old) (held S.Store self.new) (λ _. ⊥) }
     {
         let name = good_name(name)?;
@@ -101,7 +100,7 @@ impl<S: Alter + Drop> Store<S> {
         keys: &[String],
     ) -> Result<Vec<Vec<u8>>, StoreError>
         ensures moves { Moves (held S.Store self.old) (held S.Store self.new) (Does (on name.now (project (filter_of filter.now) (path_of keys.now))) (reply_by as_list result)) }
-        ensures open { StaysOpen (held S.Store self.old) (held S.Store self.new) result }
+        ensures open { WasOpen (held S.Store self.old) (held S.Store self.new) result }
         ensures crash { Survives (held S.Store self.old) (held S.Store self.new) (λ _. ⊥) }
     {
         let name = good_name(name)?;

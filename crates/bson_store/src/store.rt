@@ -10,7 +10,7 @@ ghost use Rattle.bson_base.specs.Value.{Members};
 ghost use Rattle.bson_model.specs.View.{pairs_of, members_of, view};
 ghost use Rattle.bson_table.specs.Moves.{AddsRows, Changes, MayLeave, Moves, Stands, WasOpen, appended};
 ghost use Rattle.store_laws.specs.State.{State as Lists};
-ghost use Rattle.bson_store.specs.Left.{FindsState, Holds, HoldsOnce, Keeps, Leaves, LeavesBytes, LeavesOnly, LeavesRead, LeavesTree, StaysOpen};
+ghost use Rattle.bson_store.specs.Left.{FindsState, Holds, HoldsOnce, Keeps, Leaves, LeavesBytes, LeavesOnly, LeavesRead, LeavesTree};
 ghost use Rattle.bson_table.specs.Rows.{Doc, replaced};
 ghost use Rattle.bson_store.specs.Calls.{store_connection, held, Does, DoesBytes, DoesTree, DoesRead, Looks};
 ghost use Rattle.bson_store.specs.Export.{SendsCollection};
@@ -122,6 +122,7 @@ impl<S: Alter + Drop> Store<S> {
     fn insert_row(&mut self, name: Name<'_>, row: &Written) -> Result<(), StoreError>
         ensures moves { (d : Members) → IsRead d → AnswersWritten d (Ok row.now)
             → Moves (held S.Store self.old) (held S.Store self.new) (DoesRead (name_bytes name.entry) insert d (reply_by as_done result)) }
+        ensures open { WasOpen (held S.Store self.old) (held S.Store self.new) result }
         ensures crash { (d : Members) → IsRead d → AnswersWritten d (Ok row.now)
             → LeavesRead (name_bytes name.entry) insert d (reply_by as_done result) (held S.Store self.old) (held S.Store self.new) }
     {
@@ -140,6 +141,7 @@ impl<S: Alter + Drop> Store<S> {
     fn insert(&mut self, name: Name<'_>, document: &Document) -> Result<(), StoreError>
         requires { IsRead (members_of (pairs_of document.now)) }
         ensures moves { Moves (held S.Store self.old) (held S.Store self.new) (DoesRead (name_bytes name.entry) insert (members_of (pairs_of document.now)) (reply_by as_done result)) }
+        ensures open { WasOpen (held S.Store self.old) (held S.Store self.new) result }
         ensures crash { LeavesRead (name_bytes name.entry) insert (members_of (pairs_of document.now)) (reply_by as_done result) (held S.Store self.old) (held S.Store self.new) }
     {
         let row = write_document(self.alloc, document)?;
@@ -150,6 +152,7 @@ impl<S: Alter + Drop> Store<S> {
     fn replace_row(&mut self, name: Name<'_>, row: &Written) -> Result<(), StoreError>
         ensures moves { (d : Members) → IsRead d → AnswersWritten d (Ok row.now)
             → Moves (held S.Store self.old) (held S.Store self.new) (DoesRead (name_bytes name.entry) replace d (reply_by as_done result)) }
+        ensures open { WasOpen (held S.Store self.old) (held S.Store self.new) result }
         ensures crash { (d : Members) → IsRead d → AnswersWritten d (Ok row.now)
             → LeavesRead (name_bytes name.entry) replace d (reply_by as_done result) (held S.Store self.old) (held S.Store self.new) }
     {
@@ -167,6 +170,7 @@ impl<S: Alter + Drop> Store<S> {
     fn replace(&mut self, name: Name<'_>, document: &Document) -> Result<(), StoreError>
         requires { IsRead (members_of (pairs_of document.now)) }
         ensures moves { Moves (held S.Store self.old) (held S.Store self.new) (DoesRead (name_bytes name.entry) replace (members_of (pairs_of document.now)) (reply_by as_done result)) }
+        ensures open { WasOpen (held S.Store self.old) (held S.Store self.new) result }
         ensures crash { LeavesRead (name_bytes name.entry) replace (members_of (pairs_of document.now)) (reply_by as_done result) (held S.Store self.old) (held S.Store self.new) }
     {
         let row = write_document(self.alloc, document)?;
@@ -176,7 +180,7 @@ impl<S: Alter + Drop> Store<S> {
     /// The row of the document of a collection whose `_id` means the same as `id`.
     fn row_of(&mut self, name: Name<'_>, id: &Bson) -> Result<Option<Found>, StoreError>
         ensures moves { Moves (held S.Store self.old) (held S.Store self.new) (Looks (name_bytes name.entry) (view id.now) result) }
-        ensures open { HasCleanDisk (held S.Store self.new) → (docs : List Doc) → Stands (held S.Store self.old) docs → IfOk result (λ found. IsSome found → IsTrue (held S.Store self.new).is_open) }
+        ensures open { HasCleanDisk (held S.Store self.new) → (docs : List Doc) → Stands (held S.Store self.old) docs → IfOk result (λ found. IsSome found → IsTrue (held S.Store self.old).is_open × IsTrue (held S.Store self.new).is_open) }
         ensures crash { Survives (held S.Store self.old) (held S.Store self.new) (λ _. ⊥) }
     {
         let key = match key_of_id(self.alloc, id) {
@@ -200,6 +204,7 @@ impl<S: Alter + Drop> Store<S> {
     /// the bytes.
     pub fn insert_raw(&mut self, name: &str, bytes: &[u8]) -> Result<(), StoreError>
         ensures moves { Moves (held S.Store self.old) (held S.Store self.new) (DoesBytes name.now (insert in_bytes) bytes.now (reply_by as_done result)) }
+        ensures open { WasOpen (held S.Store self.old) (held S.Store self.new) result }
         ensures crash { LeavesBytes name.now (insert in_bytes) bytes.now (reply_by as_done result) (held S.Store self.old) (held S.Store self.new) }
     {
         let name = good_name(name)?;
@@ -213,6 +218,7 @@ impl<S: Alter + Drop> Store<S> {
     /// by Memory and Database, but never in the place of BadName or NotAnObject.
     pub fn insert_json(&mut self, name: &str, json: Value) -> Result<(), StoreError>
         ensures moves { Moves (held S.Store self.old) (held S.Store self.new) (DoesTree name.now (insert in_json) (tree_of json) (reply_by as_done result)) }
+        ensures open { WasOpen (held S.Store self.old) (held S.Store self.new) result }
         ensures crash { LeavesTree name.now (insert in_json) (tree_of json) (reply_by as_done result) (held S.Store self.old) (held S.Store self.new) }
     {
         let name = good_name(name)?;
@@ -225,6 +231,7 @@ impl<S: Alter + Drop> Store<S> {
     /// Refused as `insert_raw`, but by NotFound where that is refused by DuplicateId, and never by Places.
     pub fn replace_raw(&mut self, name: &str, bytes: &[u8]) -> Result<(), StoreError>
         ensures moves { Moves (held S.Store self.old) (held S.Store self.new) (DoesBytes name.now (replace in_bytes) bytes.now (reply_by as_done result)) }
+        ensures open { WasOpen (held S.Store self.old) (held S.Store self.new) result }
         ensures crash { LeavesBytes name.now (replace in_bytes) bytes.now (reply_by as_done result) (held S.Store self.old) (held S.Store self.new) }
     {
         let name = good_name(name)?;
@@ -238,6 +245,7 @@ impl<S: Alter + Drop> Store<S> {
     /// Refused as `insert_json`, but by NotFound where that is refused by DuplicateId, and never by Places.
     pub fn replace_json(&mut self, name: &str, json: Value) -> Result<(), StoreError>
         ensures moves { Moves (held S.Store self.old) (held S.Store self.new) (DoesTree name.now (replace in_json) (tree_of json) (reply_by as_done result)) }
+        ensures open { WasOpen (held S.Store self.old) (held S.Store self.new) result }
         ensures crash { LeavesTree name.now (replace in_json) (tree_of json) (reply_by as_done result) (held S.Store self.old) (held S.Store self.new) }
     {
         let name = good_name(name)?;
@@ -253,6 +261,7 @@ impl<S: Alter + Drop> Store<S> {
     /// BadKey.
     pub fn set(&mut self, name: &str, id: &Bson, key: &str, value: Value) -> Result<(), StoreError>
         ensures moves { Moves (held S.Store self.old) (held S.Store self.new) (Does (on name.now (set (view id.now) key.now (read_value (tree_of value)))) (reply_by as_done result)) }
+        ensures open { WasOpen (held S.Store self.old) (held S.Store self.new) result }
         ensures crash { Leaves (held S.Store self.old) (held S.Store self.new) (on name.now (set (view id.now) key.now (read_value (tree_of value)))) (reply_by as_done result) }
     {
         let name = good_name(name)?;
@@ -277,6 +286,7 @@ impl<S: Alter + Drop> Store<S> {
     /// Database, but never in the place of BadName or BadKey.
     pub fn unset(&mut self, name: &str, id: &Bson, key: &str) -> Result<bool, StoreError>
         ensures moves { Moves (held S.Store self.old) (held S.Store self.new) (Does (on name.now (unset (view id.now) key.now)) (reply_by as_flag result)) }
+        ensures open { WasOpen (held S.Store self.old) (held S.Store self.new) result }
         ensures crash { Leaves (held S.Store self.old) (held S.Store self.new) (on name.now (unset (view id.now) key.now)) (reply_by as_flag result) }
     {
         let name = good_name(name)?;
@@ -301,6 +311,7 @@ impl<S: Alter + Drop> Store<S> {
     /// Refused by BadName, NotFound, Memory and Database.
     pub fn remove(&mut self, name: &str, id: &Bson) -> Result<(), StoreError>
         ensures moves { Moves (held S.Store self.old) (held S.Store self.new) (Does (on name.now (remove (view id.now))) (reply_by as_done result)) }
+        ensures open { WasOpen (held S.Store self.old) (held S.Store self.new) result }
         ensures crash { Leaves (held S.Store self.old) (held S.Store self.new) (on name.now (remove (view id.now))) (reply_by as_done result) }
     {
         let name = good_name(name)?;
@@ -316,7 +327,7 @@ impl<S: Alter + Drop> Store<S> {
     /// Refused by BadName, NotFound, Memory and Database.
     pub fn get_raw(&mut self, name: &str, id: &Bson) -> Result<Vec<u8>, StoreError>
         ensures moves { Moves (held S.Store self.old) (held S.Store self.new) (Does (on name.now (get_raw (view id.now))) (reply_by as_bytes result)) }
-        ensures open { StaysOpen (held S.Store self.old) (held S.Store self.new) result }
+        ensures open { WasOpen (held S.Store self.old) (held S.Store self.new) result }
         ensures crash { Survives (held S.Store self.old) (held S.Store self.new) (λ _. ⊥) }
     {
         let name = good_name(name)?;
@@ -332,7 +343,7 @@ impl<S: Alter + Drop> Store<S> {
     /// JSON reserves; FiniteDouble, where a double is finite and no zero; and by Memory and Database.
     pub fn get_json(&mut self, name: &str, id: &Bson, mode: Mode) -> Result<Value, StoreError>
         ensures moves { Moves (held S.Store self.old) (held S.Store self.new) (Does (on name.now (get_json mode (view id.now))) (reply_by as_json result)) }
-        ensures open { StaysOpen (held S.Store self.old) (held S.Store self.new) result }
+        ensures open { WasOpen (held S.Store self.old) (held S.Store self.new) result }
         ensures crash { Survives (held S.Store self.old) (held S.Store self.new) (λ _. ⊥) }
     {
         let name = good_name(name)?;
@@ -352,7 +363,7 @@ impl<S: Alter + Drop> Store<S> {
         requires { (W.tally writer.old).failures < 2 ^ 64 - 1 }
         ensures moves { Moves (held S.Store self.old) (held S.Store self.new) (SendsCollection name.now (W.tally writer.old)
             (W.tally writer.new) result) }
-        ensures open { StaysOpen (held S.Store self.old) (held S.Store self.new) result }
+        ensures open { WasOpen (held S.Store self.old) (held S.Store self.new) result }
         ensures crash { Survives (held S.Store self.old) (held S.Store self.new) (λ _. ⊥) }
     {
         let name = good_name(name)?;

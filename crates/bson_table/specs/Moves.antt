@@ -21,7 +21,7 @@ abbrev pub Moves : State → State → (List Doc → List Doc → Type 0) → Ty
 Moves old new P = HasCleanDisk new → HasCleanDisk old × ((docs : List Doc) → Stands old docs → (after : List Doc) × Stands new after × P docs after)
 
 -- a call is accepted only on an open connection, which stays open
-abbrev pub WasOpen : {A : Type 0} → State → State → Result A Fault → Type 0
+abbrev pub WasOpen : {A E : Type 0} → State → State → Result A E → Type 0
 WasOpen old new result = HasCleanDisk new → (docs : List Doc) → Stands old docs → OnOk result (IsTrue old.is_open × IsTrue new.is_open)
 
 -- a crash may leave the rows changed so

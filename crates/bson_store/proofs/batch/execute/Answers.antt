@@ -6,7 +6,7 @@ use Rattle.store_laws.specs.State as model
 use Rattle.bson_store.specs.Calls.{held}
 use Rattle.bson_store.specs.declared.command.Command.TheVariants as commands
 use Rattle.bson_store.specs.Refusals.{reply_by, as_done, as_number}
-use Rattle.bson_store.proofs.Going.{leaves_many, leaves_one, leaves_tree, obeys, obeys_many, obeys_tree}
+use Rattle.bson_store.proofs.Going.{leaves_many, leaves_one, leaves_tree, obeys, obeys_many, obeys_tree, reply_open}
 use Rattle.bson_store.proofs.batch.execute.Goals as goal
 
 pub returns-in-InsertJson-clause-moves : goal.returns-in-InsertJson-clause-moves
@@ -40,3 +40,15 @@ returns-in-ReplaceJson-clause-crash g c =
 pub returns-in-Set-clause-crash : goal.returns-in-Set-clause-crash
 returns-in-Set-clause-crash g c =
     rw c.in-Set.is (leaves_one (held g.S.Store c.args.store.now) (held g.S.Store c.set.new.self) (commands.Set c.in-Set.name c.in-Set.id c.in-Set.key c.in-Set.value) (model.on (string_bytes c.in-Set.name) (model.set (view c.in-Set.id) (string_bytes c.in-Set.key) (read_value (data_of c.in-Set.value)))) c.done-in-Set.result (reply_by as_done c.set.result) (λ d h. h) c.done-in-Set.ensures (rw (c.as_str-in-Set-2.ensures.value, c.as_str-in-Set.ensures.value) at c.set.ensures.crash))
+
+pub returns-in-InsertJson-clause-open : goal.returns-in-InsertJson-clause-open
+returns-in-InsertJson-clause-open g c = reply_open (held g.S.Store c.args.store.now) (held g.S.Store c.insert_json.new.self) as_done c.insert_json.result c.done.result c.done.ensures c.insert_json.ensures.open
+
+pub returns-in-ReplaceJson-clause-open : goal.returns-in-ReplaceJson-clause-open
+returns-in-ReplaceJson-clause-open g c = reply_open (held g.S.Store c.args.store.now) (held g.S.Store c.replace_json.new.self) as_done c.replace_json.result c.done-in-ReplaceJson.result c.done-in-ReplaceJson.ensures c.replace_json.ensures.open
+
+pub returns-in-Set-clause-open : goal.returns-in-Set-clause-open
+returns-in-Set-clause-open g c = reply_open (held g.S.Store c.args.store.now) (held g.S.Store c.set.new.self) as_done c.set.result c.done-in-Set.result c.done-in-Set.ensures c.set.ensures.open
+
+pub returns-in-LoadJson-clause-open : goal.returns-in-LoadJson-clause-open
+returns-in-LoadJson-clause-open g c = reply_open (held g.S.Store c.args.store.now) (held g.S.Store c.load_json.new.self) as_number c.load_json.result c.counted.result c.counted.ensures c.load_json.ensures.open

@@ -9,7 +9,7 @@ use Rattle.bson_store.specs.Questions.{as_list, as_names}
 use Rattle.bson_store.specs.Refusals.{reply_by, as_done, as_flag, as_bytes, as_json, as_json_list, as_number}
 use Rattle.bson_store.specs.Runs.{reply_of}
 use Rattle.bson_store.proofs.Leaving.{result_leaves}
-use Rattle.bson_store.proofs.Going.{leaves_bytes, leaves_many, leaves_one, obeys, obeys_bytes, obeys_many}
+use Rattle.bson_store.proofs.Going.{leaves_bytes, leaves_many, leaves_one, obeys, obeys_bytes, obeys_many, reply_open}
 use Rattle.bson_store.proofs.batch.execute_lent.Goals as goal
 
 pub returns-in-InsertRaw-clause-moves : goal.returns-in-InsertRaw-clause-moves
@@ -115,3 +115,42 @@ returns-in-Project-clause-crash g c =
 pub returns-in-DumpJson-clause-crash : goal.returns-in-DumpJson-clause-crash
 returns-in-DumpJson-clause-crash g c =
     rw c.in-DumpJson.is (leaves_one (held g.S.Store c.args.store.now) (held g.S.Store c.dump_json.new.self) (commands.DumpJson c.in-DumpJson.name) (model.on (string_bytes c.in-DumpJson.name) model.dump) c.json_list.result (reply_by as_json_list c.dump_json.result) (λ d h. h) c.json_list.ensures (result_leaves (held g.S.Store c.args.store.now) (held g.S.Store c.dump_json.new.self) (model.on (string_bytes c.in-DumpJson.name) model.dump) c.dump_json.ensures.crash (λ db up may. g.met.S.Store.settled (store_connection c.dump_json.new.self).store db up may) as_json_list c.dump_json.result c.dump_json.ensures.open (rw c.as_str-in-DumpJson.ensures.value at c.dump_json.ensures.moves)))
+
+pub returns-in-InsertRaw-clause-open : goal.returns-in-InsertRaw-clause-open
+returns-in-InsertRaw-clause-open g c = reply_open (held g.S.Store c.args.store.now) (held g.S.Store c.insert_raw.new.self) as_done c.insert_raw.result c.done.result c.done.ensures c.insert_raw.ensures.open
+
+pub returns-in-ReplaceRaw-clause-open : goal.returns-in-ReplaceRaw-clause-open
+returns-in-ReplaceRaw-clause-open g c = reply_open (held g.S.Store c.args.store.now) (held g.S.Store c.replace_raw.new.self) as_done c.replace_raw.result c.done-in-ReplaceRaw.result c.done-in-ReplaceRaw.ensures c.replace_raw.ensures.open
+
+pub returns-in-Unset-clause-open : goal.returns-in-Unset-clause-open
+returns-in-Unset-clause-open g c = reply_open (held g.S.Store c.args.store.now) (held g.S.Store c.unset.new.self) as_flag c.unset.result c.flag.result c.flag.ensures c.unset.ensures.open
+
+pub returns-in-Remove-clause-open : goal.returns-in-Remove-clause-open
+returns-in-Remove-clause-open g c = reply_open (held g.S.Store c.args.store.now) (held g.S.Store c.remove.new.self) as_done c.remove.result c.done-in-Remove.result c.done-in-Remove.ensures c.remove.ensures.open
+
+pub returns-in-GetRaw-clause-open : goal.returns-in-GetRaw-clause-open
+returns-in-GetRaw-clause-open g c = reply_open (held g.S.Store c.args.store.now) (held g.S.Store c.get_raw.new.self) as_bytes c.get_raw.result c.written.result c.written.ensures c.get_raw.ensures.open
+
+pub returns-in-GetJson-clause-open : goal.returns-in-GetJson-clause-open
+returns-in-GetJson-clause-open g c = reply_open (held g.S.Store c.args.store.now) (held g.S.Store c.get_json.new.self) as_json c.get_json.result c.json.result c.json.ensures c.get_json.ensures.open
+
+pub returns-in-Export-clause-open : goal.returns-in-Export-clause-open
+returns-in-Export-clause-open g c = c.exported.ensures.open
+
+pub returns-in-Collections-clause-open : goal.returns-in-Collections-clause-open
+returns-in-Collections-clause-open g c = reply_open (held g.S.Store c.args.store.now) (held g.S.Store c.collections.new.self) as_names c.collections.result c.names.result c.names.ensures c.collections.ensures.open
+
+pub returns-in-Find-clause-open : goal.returns-in-Find-clause-open
+returns-in-Find-clause-open g c = reply_open (held g.S.Store c.args.store.now) (held g.S.Store c.find.new.self) as_list c.find.result c.list.result c.list.ensures c.find.ensures.open
+
+pub returns-in-Count-clause-open : goal.returns-in-Count-clause-open
+returns-in-Count-clause-open g c = reply_open (held g.S.Store c.args.store.now) (held g.S.Store c.count.new.self) as_number c.count.result c.counted.result c.counted.ensures c.count.ensures.open
+
+pub returns-in-Project-clause-open : goal.returns-in-Project-clause-open
+returns-in-Project-clause-open g c = reply_open (held g.S.Store c.args.store.now) (held g.S.Store c.project.new.self) as_list c.project.result c.list-in-Project.result c.list-in-Project.ensures c.project.ensures.open
+
+pub returns-in-Import-clause-open : goal.returns-in-Import-clause-open
+returns-in-Import-clause-open g c = c.imported.ensures.open
+
+pub returns-in-DumpJson-clause-open : goal.returns-in-DumpJson-clause-open
+returns-in-DumpJson-clause-open g c = reply_open (held g.S.Store c.args.store.now) (held g.S.Store c.dump_json.new.self) as_json_list c.dump_json.result c.json_list.result c.json_list.ensures c.dump_json.ensures.open

@@ -33,5 +33,14 @@ returns-clause-moves g c =
 
 pub returns-in-Ok-clause-crash : goal.returns-in-Ok-clause-crash
 returns-in-Ok-clause-crash g c =
-    accepted_leaves (held g.S.Store c.args.store.now) (held g.S.Store c.export.new.self) (model.on c.args.name.now model.export) (model.bytes c.export.new.writer.bytes.items) (λ e. e) c.in-Ok.ensures.open
+    accepted_leaves (held g.S.Store c.args.store.now) (held g.S.Store c.export.new.self) (model.on c.args.name.now model.export) (model.bytes c.export.new.writer.bytes.items) (λ e. e) (λ clean docs stands. (c.in-Ok.ensures.open clean docs stands).1)
     (λ db up may. g.met.S.Store.settled (store_connection c.export.new.self).store db up may) (returns-in-Ok-clause-moves g c)
+
+pub returns-in-Ok-clause-open : goal.returns-in-Ok-clause-open
+returns-in-Ok-clause-open g c accepted = c.in-Ok.ensures.open
+
+pub returns-in-Writer-clause-open : goal.returns-in-Writer-clause-open
+returns-in-Writer-clause-open g c accepted = absurd (accepted tt)
+
+pub returns-clause-open : goal.returns-clause-open
+returns-clause-open g c accepted = absurd (accepted tt)

@@ -9,6 +9,8 @@ use Rattle.bson_store.specs.Runs.{Imported}
 use Rattle.bson_store.proofs.Importing.{from_memory, whole_slice}
 use Rattle.bson_store.proofs.Moving.{moved}
 use Rattle.bson_store.proofs.batch.imported.Goals as goal
+use Rattle.bson_store.specs.Refusals.{as_number}
+use Rattle.bson_store.proofs.Going.{reply_open}
 
 pub returns-clause-moves : goal.returns-clause-moves
 returns-clause-moves g c =
@@ -30,4 +32,7 @@ returns-clause-crash g c ds stop told =
     let t = c.import.new.reader in
     let all = ap (λ at. drop at s.bytes.now) c.new-source.ensures.at ∙ c.new-source.ensures.bytes in
     subst (λ q. Leaves (held g.S.Store c.args.store.now) (held g.S.Store c.import.new.self) (on n (import ds stop)) q) (sym c.counted.ensures)
-    (c.import.ensures.crash ds stop (λ good bs took. subst (λ b. ReadsStream b ds stop) (sym (whole_slice (drop s.at s.bytes.now) (Some (drop t.at t.bytes.now)) bs took.0.1.1 took.1 ∙ all)) (told good)))
+    (c.import.ensures.crash ds stop (λ bs took. subst (λ b. ReadsStream b ds stop) (sym (whole_slice (drop s.at s.bytes.now) (Some (drop t.at t.bytes.now)) bs took.0.1.1 took.1 ∙ all)) told))
+
+pub returns-clause-open : goal.returns-clause-open
+returns-clause-open g c = reply_open (held g.S.Store c.args.store.now) (held g.S.Store c.import.new.self) as_number c.import.result c.counted.result c.counted.ensures c.import.ensures.open

@@ -2,7 +2,7 @@ use Rattle.std.proofs.Common.{◌∷◌, [], length, ap, ◌∙◌, arith, lengt
 use Rattle.std.specs.Vec.Iter.{into_iter_items}
 use Rattle.bson_store.specs.Calls.{held}
 use Rattle.bson_store.specs.declared.command.Reply.{Reply}
-use Rattle.bson_store.proofs.Going.{so_far_start, so_far_more, so_far_all, so_far_left, ends_moved, lists_moved}
+use Rattle.bson_store.proofs.Going.{so_far_start, so_far_more, so_far_all, so_far_left, so_far_open, ends_moved, lists_moved}
 use Rattle.bson_store.proofs.batch.run.Goals as goal
 use Rattle.std.proofs.lemmas.List.{nil_from_length}
 
@@ -27,7 +27,7 @@ loop-command-preserved g c =
     let longer = ap length items in
     let fewer = ap length steps.0 in (
       so_far_more (held g.S.Store c.args.store.now) (held g.S.Store l.store) (held g.S.Store c.execute-reply.new.store) c.args.commands.items (into_iter_items l.command-iterator) (into_iter_items c.next.new.self) c.in-Some.command
-          l.replies.items c.push.new.self.items c.execute-reply.result steps.0 items l.invariant.0 c.execute-reply.ensures.moves c.execute-reply.ensures.crash,
+          l.replies.items c.push.new.self.items c.execute-reply.result steps.0 items l.invariant.0 c.execute-reply.ensures.moves c.execute-reply.ensures.open c.execute-reply.ensures.crash,
       omega (arith, fewer, steps.1, l.invariant.1),
       omega (arith, fewer, longer, length-append {A = Reply} l.replies.items (c.execute-reply.result ∷ []), c.push.ensures.capacity, l.invariant.2),
       tt,
@@ -55,3 +55,6 @@ returns-clause-crash g c =
 
 pub returns-clause-ends : goal.returns-clause-ends
 returns-clause-ends g c = ends_moved (held g.S.Store c.args.store.now) (held g.S.Store c.loop-command.store) c.args.commands.items c.loop-command.replies.items (returns-clause-crash g c)
+
+pub returns-clause-open : goal.returns-clause-open
+returns-clause-open g c = let l = c.loop-command in so_far_open (held g.S.Store c.args.store.now) (held g.S.Store l.store) c.args.commands.items (into_iter_items l.command-iterator) l.replies.items l.invariant.0

@@ -11,6 +11,7 @@ use Rattle.bson_store.proofs.Adding.{rows_make, unadded, add_refused, add_wants,
 use Rattle.bson_store.proofs.Leaving.{accepted_leaves, denied_leaves}
 use Rattle.bson_store.proofs.Moving.{moved, moved_twice}
 use Rattle.bson_store.proofs.store.Store.add_all.Goals as goal
+use Rattle.sqlite.specs.State.{HasCleanDisk}
 
 pub returns-in_err-taken-clause-moves : goal.returns-in_err-taken-clause-moves
 returns-in_err-taken-clause-moves g c =
@@ -90,3 +91,10 @@ returns-clause-crash g c ds read fit written =
     (λ clean docs stands. let y = (c.in_ok-taken.ensures.moves (omega (arith, clean, c.write_all.ensures.crash.clean))).1 docs stands in (c.in_ok-write_all.ensures.open clean y.0 y.1).1)
     (λ db up may. g.met.S.Store.settled (store_connection c.write_all.new.self).store db up may)
     (moved s t (AddsAll n rows (Ok c.len.result)) (Does (on n (import ds None)) (number c.len.result)) (returns-clause-moves g c) (λ docs after h. h.does ds read fit written))
+
+pub returns-clause-open : goal.returns-clause-open
+returns-clause-open g c clean docs stands =
+    let early : HasCleanDisk (held g.S.Store c.first_taken.new.self) = omega (arith, clean, c.write_all.ensures.crash.clean) in
+    let y = (c.in_ok-taken.ensures.moves early).1 docs stands in
+    let up = c.in_ok-write_all.ensures.open clean y.0 y.1 in
+    (c.in_ok-taken.ensures.open early docs stands up.0, up.1)

@@ -2,11 +2,7 @@ use Rattle.std.proofs.lemmas.Result.{err_from_is_err_and}
 use Rattle.bson_store.specs.Calls.{held}
 use Rattle.store_documents.specs.Names.{name_bytes}
 use Rattle.bson_model.specs.View.{pairs_of, members_of}
-use Rattle.store_laws.specs.Reading.{readable}
-use Rattle.store_laws.specs.State.{insert, on}
-use Rattle.bson_store.specs.Refusals.{as_done}
 use Rattle.bson_store.proofs.Exits.{unwritten_insert}
-use Rattle.bson_store.proofs.Leaving.{err_leaves, survives_itself}
 use Rattle.bson_store.proofs.store.Store.insert.Goals as goal
 
 pub returns-in_err-row-clause-moves : goal.returns-in_err-row-clause-moves

@@ -7,7 +7,7 @@ use Rattle.bson_store.proofs.Exits.{bad_tree, unread_tree, read_tree}
 use Rattle.serde_json.specs.View.{view as data_of}
 use Rattle.bson_store.specs.Refusals.{reply_by, as_done}
 use Rattle.bson_store.proofs.Reading.{inserts}
-use Rattle.bson_store.proofs.Leaving.{err_leaves, survives_itself, tree_leaves}
+use Rattle.bson_store.proofs.Leaving.{tree_leaves}
 use Rattle.bson_store.proofs.store.Store.insert_json.Goals as goal
 
 pub returns-in_err-name-clause-moves : goal.returns-in_err-name-clause-moves
@@ -27,4 +27,4 @@ returns-clause-moves g c =
 pub returns-clause-crash : goal.returns-clause-crash
 returns-clause-crash g c =
     tree_leaves (held g.S.Store c.args.self.now) (held g.S.Store c.insert.new.self) c.args.name.now (name_bytes c.in_ok-name.name) (data_of c.args.json) model.insert (members_of (pairs_of c.in_ok-document.document)) (reply_by as_done c.insert.result) c.in_ok-name.ensures.0
-    c.in_ok-name.ensures.1 c.in_ok-document.ensures.answer c.insert.ensures.crash
+    c.in_ok-document.ensures.answer c.insert.ensures.crash

@@ -5,7 +5,7 @@ use Rattle.store_laws.specs.State as model
 use Rattle.bson_store.proofs.Exits.{bad_bytes, read_bytes, unkept_bytes, unwritten_insert}
 use Rattle.bson_store.specs.Refusals.{reply_by, as_done}
 use Rattle.bson_store.proofs.Reading.{inserts}
-use Rattle.bson_store.proofs.Leaving.{bytes_leave, err_leaves, survives_itself}
+use Rattle.bson_store.proofs.Leaving.{bytes_leave}
 use Rattle.bson_store.proofs.store.Store.insert_raw.Goals as goal
 
 pub returns-in_err-name-clause-moves : goal.returns-in_err-name-clause-moves
@@ -26,5 +26,5 @@ returns-clause-moves g c =
 pub returns-clause-crash : goal.returns-clause-crash
 returns-clause-crash g c =
     let kept = c.in_ok-row.ensures in
-    bytes_leave (held g.S.Store c.args.self.now) (held g.S.Store c.insert_row.new.self) c.args.name.now (name_bytes c.in_ok-name.name) c.args.bytes.now model.insert kept.0 (reply_by as_done c.insert_row.result) c.in_ok-name.ensures.0 c.in_ok-name.ensures.1 kept.1
+    bytes_leave (held g.S.Store c.args.self.now) (held g.S.Store c.insert_row.new.self) c.args.name.now (name_bytes c.in_ok-name.name) c.args.bytes.now model.insert kept.0 (reply_by as_done c.insert_row.result) c.in_ok-name.ensures.0 kept.1
     (c.insert_row.ensures.crash kept.0 kept.2 kept.3)

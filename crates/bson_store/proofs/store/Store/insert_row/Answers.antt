@@ -1,18 +1,17 @@
 use Rattle.std.proofs.lemmas.Result.{err_from_is_err_and}
-use Rattle.std.proofs.Common.{None, Ok, Err, ap, subst, arith}
+use Rattle.std.proofs.Common.{Ok, Err, ap, subst, arith}
 use Rattle.bson_table.specs.Moves.{FindsRow, appended}
 use Rattle.store_laws.specs.Reading.{readable}
 use Rattle.store_laws.specs.State.{insert, on, done}
-use Rattle.store_laws.specs.declared.error.ErrorKind.TheVariants.{DuplicateId}
 use Rattle.bson_store.specs.Calls.{held, store_connection, Does, DoesRead}
-use Rattle.bson_store.specs.Refusals.{as_done}
 use Rattle.bson_store.proofs.Moving.{moved}
 use Rattle.bson_store.proofs.Serving.{row_makes, written_fits}
-use Rattle.bson_store.proofs.Leaving.{err_leaves, refused_leaves, denied_leaves, accepted_leaves}
+use Rattle.bson_store.proofs.Leaving.{denied_leaves, accepted_leaves}
 use Rattle.bson_table.specs.Table.{table_state}
 use Rattle.store_documents.specs.Names.{name_bytes}
 use Rattle.bson_store.proofs.Exits.{unfound_insert, duplicate_insert, put_moves, not_put_moves}
 use Rattle.bson_store.proofs.store.Store.insert_row.Goals as goal
+use Rattle.sqlite.specs.State.{HasCleanDisk}
 
 pub returns-in_err-found-clause-moves : goal.returns-in_err-found-clause-moves
 returns-in_err-found-clause-moves g c d read told =
@@ -57,3 +56,9 @@ returns-clause-crash g c d read told f =
     (λ clean docs stands. let y = (found (omega (arith, clean, c.put_last.ensures.crash.clean))).1 docs stands in (c.in_ok-put_last.ensures.open clean y.0 y.1).1)
     (λ db up may. g.met.S.Store.settled (store_connection c.put_last.new.self).store db up may)
     (moved s t (DoesRead n insert d done) (Does (on n (insert f (readable d))) done) (returns-clause-moves g c d read told) (λ docs after h. h f))
+
+pub returns-clause-open : goal.returns-clause-open
+returns-clause-open g c clean docs stands =
+    let early : HasCleanDisk (table_state g.S.Store c.named.new.self) = omega (arith, clean, c.put_last.ensures.crash.clean) in
+    let y = (c.in_ok-found.ensures.moves early).1 docs stands in
+    ((c.in_ok-found.ensures.open early docs stands).0, (c.in_ok-put_last.ensures.open clean y.0 y.1).1)

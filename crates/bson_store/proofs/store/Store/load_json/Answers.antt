@@ -11,6 +11,7 @@ use Rattle.bson_store.specs.Refusals.{as_number, refusal_of_stream, reply_by}
 use Rattle.bson_store.proofs.Importing.{many_added, many_bad_name, many_refused}
 use Rattle.bson_store.proofs.Leaving.{many_leave}
 use Rattle.store_laws.proofs.OneMany.{trees_alike}
+use Rattle.store_streams.proofs.Streams.{any_trees}
 use Rattle.bson_store.proofs.Moving.{rests, moved}
 use Rattle.bson_store.proofs.store.Store.load_json.Goals as goal
 
@@ -19,7 +20,7 @@ returns-in_err-name-clause-moves g c =
     let n = c.args.name.now in
     let Reads = ReadsTrees (map view c.args.trees.items) in
     let p = err_from_is_err_and c.from_residual.result c.from_residual.ensures.1 in
-    rw (p.1, p.2, c.in_err-name.ensures.0) (rests (held g.S.Store c.args.self.now) (DoesMany n Reads (refused kind.BadName None)) (λ docs. many_bad_name docs n Reads c.in_err-name.ensures.1))
+    rw (p.1, p.2, c.in_err-name.ensures.0) (rests (held g.S.Store c.args.self.now) (DoesMany n Reads (refused kind.BadName None)) (λ docs. many_bad_name docs n Reads (any_trees (map view c.args.trees.items)) c.in_err-name.ensures.1))
 
 pub returns-in_err-rows-clause-moves : goal.returns-in_err-rows-clause-moves
 returns-in_err-rows-clause-moves g c =
@@ -40,4 +41,4 @@ returns-clause-moves g c =
 pub returns-clause-crash : goal.returns-clause-crash
 returns-clause-crash g c =
     let js = map view c.args.trees.items in
-    many_leave (held g.S.Store c.args.self.now) (held g.S.Store c.add_all.new.self) c.args.name.now (name_bytes c.in_ok-name.name) (ReadsTrees js) (trees_alike js) c.in_ok-rows.rows c.add_all.result c.in_ok-name.ensures.0 c.in_ok-name.ensures.1 c.in_ok-rows.ensures c.add_all.ensures.crash
+    many_leave (held g.S.Store c.args.self.now) (held g.S.Store c.add_all.new.self) c.args.name.now (name_bytes c.in_ok-name.name) (ReadsTrees js) (trees_alike js) c.in_ok-rows.rows c.add_all.result c.in_ok-name.ensures.0 c.in_ok-rows.ensures c.add_all.ensures.crash

@@ -1,6 +1,6 @@
 use Rattle.std.proofs.Common.{inr, refl, Ok, arith}
 use Rattle.std.proofs.lemmas.Result.{err_from_is_err_and}
-use Rattle.bson_store.specs.Calls.{held, store_connection, Looks}
+use Rattle.bson_store.specs.Calls.{held, Looks}
 use Rattle.bson_store.proofs.Leaving.{accepted_leaves, changed_leaves, id_removes}
 use Rattle.bson_table.specs.Table.{connection_of as table_connection, table_state}
 use Rattle.store_documents.specs.Names.{name_bytes}
@@ -9,6 +9,7 @@ use Rattle.store_laws.specs.State as model
 use Rattle.bson_store.proofs.Exits.{bad_moves, unlooked_moves, none_moves, removed_moves, unchanged_moves}
 use Rattle.bson_table.specs.Rows.{without_place}
 use Rattle.bson_store.proofs.store.Store.remove.Goals as goal
+use Rattle.sqlite.specs.State.{HasCleanDisk}
 
 pub returns-in_err-name-clause-moves : goal.returns-in_err-name-clause-moves
 returns-in_err-name-clause-moves g c =
@@ -54,3 +55,9 @@ returns-clause-crash g c =
     accepted_leaves s t (model.on c.args.name.now (model.remove (view c.args.id.now))) model.done (λ e. e)
     (λ clean docs stands. let y = (c.in_ok-found.ensures.moves (omega (arith, clean, c.remove_at.ensures.crash.clean))).1 docs stands in (c.in_ok-remove_at.ensures.open clean y.0 y.1).1)
     (λ db up may. g.met.S.Store.settled (table_connection c.remove_at.new.self).store db up may) (returns-clause-moves g c)
+
+pub returns-clause-open : goal.returns-clause-open
+returns-clause-open g c clean docs stands =
+    let early : HasCleanDisk (held g.S.Store c.row_of.new.self) = omega (arith, clean, c.remove_at.ensures.crash.clean) in
+    let y = (c.in_ok-found.ensures.moves early).1 docs stands in
+    ((c.in_ok-found.ensures.open early docs stands (rw c.in-Some.is refl)).0, (c.in_ok-remove_at.ensures.open clean y.0 y.1).1)

@@ -27,4 +27,4 @@ returns-clause-moves g c =
 pub returns-clause-crash : goal.returns-clause-crash
 returns-clause-crash g c =
     tree_leaves (held g.S.Store c.args.self.now) (held g.S.Store c.replace.new.self) c.args.name.now (name_bytes c.in_ok-name.name) (data_of c.args.json) model.replace (members_of (pairs_of c.in_ok-document.document)) (reply_by as_done c.replace.result) c.in_ok-name.ensures.0
-    c.in_ok-name.ensures.1 c.in_ok-document.ensures.answer c.replace.ensures.crash
+    c.in_ok-document.ensures.answer c.replace.ensures.crash

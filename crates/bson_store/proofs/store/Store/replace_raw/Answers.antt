@@ -26,5 +26,5 @@ returns-clause-moves g c =
 pub returns-clause-crash : goal.returns-clause-crash
 returns-clause-crash g c =
     let kept = c.in_ok-row.ensures in
-    bytes_leave (held g.S.Store c.args.self.now) (held g.S.Store c.replace_row.new.self) c.args.name.now (name_bytes c.in_ok-name.name) c.args.bytes.now model.replace kept.0 (reply_by as_done c.replace_row.result) c.in_ok-name.ensures.0 c.in_ok-name.ensures.1 kept.1
+    bytes_leave (held g.S.Store c.args.self.now) (held g.S.Store c.replace_row.new.self) c.args.name.now (name_bytes c.in_ok-name.name) c.args.bytes.now model.replace kept.0 (reply_by as_done c.replace_row.result) c.in_ok-name.ensures.0 kept.1
     (c.replace_row.ensures.crash kept.0 kept.2 kept.3)

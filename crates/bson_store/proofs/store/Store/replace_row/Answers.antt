@@ -12,6 +12,7 @@ use Rattle.bson_table.specs.Table.{table_state}
 use Rattle.store_documents.specs.Names.{name_bytes}
 use Rattle.bson_store.proofs.Exits.{unfound_replace, none_replace, place_moves, not_place_moves}
 use Rattle.bson_store.proofs.store.Store.replace_row.Goals as goal
+use Rattle.sqlite.specs.State.{HasCleanDisk}
 
 pub returns-in_err-found-clause-moves : goal.returns-in_err-found-clause-moves
 returns-in_err-found-clause-moves g c d read told =
@@ -55,3 +56,9 @@ returns-clause-crash g c d read told f =
     (λ clean docs stands. let y = (c.in_ok-found.ensures.moves (omega (arith, clean, c.put_back.ensures.crash.clean))).1 docs stands in (c.in_ok-put_back.ensures.open clean y.0 y.1).1)
     (λ db up may. g.met.S.Store.settled (store_connection c.put_back.new.self).store db up may)
     (moved s t (DoesRead n replace d done) (Does (on n (replace f (readable d))) done) (returns-clause-moves g c d read told) (λ docs after h. h f))
+
+pub returns-clause-open : goal.returns-clause-open
+returns-clause-open g c clean docs stands =
+    let early : HasCleanDisk (table_state g.S.Store c.named.new.self) = omega (arith, clean, c.put_back.ensures.crash.clean) in
+    let y = (c.in_ok-found.ensures.moves early).1 docs stands in
+    ((c.in_ok-found.ensures.open early docs stands).0, (c.in_ok-put_back.ensures.open clean y.0 y.1).1)

@@ -14,6 +14,7 @@ use Rattle.store_laws.specs.Reading.{read_value}
 use Rattle.bson_store.proofs.Setting.{set_bad_key, set_unread, set_refused, set_remakes}
 use Rattle.bson_store.proofs.store.Store.set.Goals as goal
 use Rattle.bson_raw.proofs.Progress.{untrue}
+use Rattle.sqlite.specs.State.{HasCleanDisk}
 
 pub returns-in_err-name-clause-moves : goal.returns-in_err-name-clause-moves
 returns-in_err-name-clause-moves g c =
@@ -77,3 +78,9 @@ returns-clause-crash g c =
     accepted_leaves s t (model.on c.args.name.now (model.set (view c.args.id.now) c.args.key.now (read_value (data_of c.args.value)))) (model.done) (λ e. e)
     (λ clean docs stands. let y = (c.in_ok-found.ensures.moves (omega (arith, clean, c.put_back.ensures.crash.clean))).1 docs stands in (c.in_ok-put_back.ensures.open clean y.0 y.1).1)
     (λ db up may. g.met.S.Store.settled (store_connection c.put_back.new.self).store db up may) (returns-clause-moves g c)
+
+pub returns-clause-open : goal.returns-clause-open
+returns-clause-open g c clean docs stands =
+    let early : HasCleanDisk (held g.S.Store c.row_of.new.self) = omega (arith, clean, c.put_back.ensures.crash.clean) in
+    let y = (c.in_ok-found.ensures.moves early).1 docs stands in
+    ((c.in_ok-found.ensures.open early docs stands (rw c.in-Some.is refl)).0, (c.in_ok-put_back.ensures.open clean y.0 y.1).1)

@@ -10,6 +10,7 @@ use Rattle.bson_table.specs.Rows.{replaced}
 use Rattle.bson_store.proofs.Setting.{unset_bad_key, unset_refused, unset_stays, unset_remakes}
 use Rattle.bson_store.proofs.store.Store.unset.Goals as goal
 use Rattle.bson_raw.proofs.Progress.{untrue}
+use Rattle.sqlite.specs.State.{HasCleanDisk}
 
 pub returns-in_err-name-clause-moves : goal.returns-in_err-name-clause-moves
 returns-in_err-name-clause-moves g c =
@@ -77,5 +78,14 @@ returns-then-not-unset-clause-crash g c =
     let s = held g.S.Store c.args.self.now in
     let t = held g.S.Store c.row_of.new.self in
     accepted_leaves s t (model.on c.args.name.now (model.unset (view c.args.id.now) c.args.key.now)) (model.flag false) (λ e. e)
-    (λ clean docs stands. c.in_ok-found.ensures.open clean docs stands (rw c.in-Some.is refl))
+    (λ clean docs stands. (c.in_ok-found.ensures.open clean docs stands (rw c.in-Some.is refl)).1)
     (λ db up may. g.met.S.Store.settled (store_connection c.row_of.new.self).store db up may) (returns-then-not-unset-clause-moves g c)
+
+pub returns-clause-open : goal.returns-clause-open
+returns-clause-open g c clean docs stands =
+    let early : HasCleanDisk (held g.S.Store c.row_of.new.self) = omega (arith, clean, c.put_back.ensures.crash.clean) in
+    let y = (c.in_ok-found.ensures.moves early).1 docs stands in
+    ((c.in_ok-found.ensures.open early docs stands (rw c.in-Some.is refl)).0, (c.in_ok-put_back.ensures.open clean y.0 y.1).1)
+
+pub returns-then-not-unset-clause-open : goal.returns-then-not-unset-clause-open
+returns-then-not-unset-clause-open g c clean docs stands = c.in_ok-found.ensures.open clean docs stands (rw c.in-Some.is refl)

@@ -1,0 +1,5 @@
+use Rattle.bson_store.proofs.Restoring.{runs_mean}
+use Rattle.bson_store.proofs.meanings.runs_go_by_meaning.Goals as goal
+
+pub returns : goal.returns
+returns c = runs_mean
