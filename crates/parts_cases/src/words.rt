@@ -51,11 +51,17 @@ fn kind_named(name: &str) -> Option<ErrorKind> {
         "NoId" => Some(ErrorKind::NoId),
         "BadLength" => Some(ErrorKind::BadLength),
         "Database" => Some(ErrorKind::Database),
-        _ => {
-            let row = name.strip_prefix("BadRow ")?;
-            Some(ErrorKind::BadRow(row.parse::<i64>().ok()?))
-        }
+        _ => kind_with_places(name),
     }
+}
+
+/// The kind of a name with a place or two behind it.
+fn kind_with_places(name: &str) -> Option<ErrorKind> {
+    if let Some(row) = name.strip_prefix("BadRow ") {
+        return Some(ErrorKind::BadRow(row.parse::<i64>().ok()?));
+    }
+    let (first, second) = name.strip_prefix("IdsCollide ")?.split_once(' ')?;
+    Some(ErrorKind::IdsCollide(first.parse::<i64>().ok()?, second.parse::<i64>().ok()?))
 }
 
 /// The line of a refusal.
