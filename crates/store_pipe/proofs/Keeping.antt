@@ -75,7 +75,7 @@ inserted bytes after (readable d) reads (b, shown, (None, (inl (good, (es, answe
 pub input_kept : (s t : State) (old new : Feed) (bytes : List ℕ) → HasCleanDisk t → Stands s [] → TookAll old new bytes → Moves s t (DoesBytes name (insert in_bytes) bytes done) → KeepsInput old new t
 input_kept s t old new bytes clean empty all moves =
     let m = (moves clean).1 [] empty in
-    let i = inserted bytes m.0 m.2.0 (m.2.1 is_name) (m.2.2 [] no_rows) in
+    let i = inserted bytes m.0 m.2.0 m.2.1 (m.2.2 [] no_rows) in
     (i.0, (bytes, all, i.1), i.2, (m.0, i.3.0, m.1, i.3.1, i.3.2))
 
 -- ---- an insert that is refused
@@ -114,4 +114,4 @@ pub input_not_kept : (s t : State) (old new : Feed) (bytes : List ℕ) (kind : E
     → Moves s t (DoesBytes name (insert in_bytes) bytes (refused kind place)) → RefusesInput kind old new
 input_not_kept s t old new bytes kind place clean empty all moves =
     let m = (moves clean).1 [] empty in
-    not_inserted kind old new bytes place m.0 m.2.0 all (m.2.1 is_name) (m.2.2 [] no_rows)
+    not_inserted kind old new bytes place m.0 m.2.0 all m.2.1 (m.2.2 [] no_rows)

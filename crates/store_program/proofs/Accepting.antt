@@ -9,7 +9,7 @@ use Rattle.bson_bytes.specs.Encode.{encode}
 use Rattle.bson_meaning.specs.Meaning.{norm_in_order}
 use Rattle.bson_table.specs.Moves.{Moves}
 use Rattle.store_laws.specs.Reading.{Documents, Reading, readable, unreadable, ReadsTree}
-use Rattle.store_laws.specs.State.{State, id_key, store, Call, insert, replace, set, unset, remove, get_raw, get_json, find, count, project, import, export, dump, Command, on, collections, Reply, done, bytes, json_list, refused, trees_reply, refusal_of, first_refusal, When, Refuses, Appends, AtId, PutsBack, Answers, IsTaken, IsName, Step}
+use Rattle.store_laws.specs.State.{State, id_key, store, Call, insert, replace, set, unset, remove, get_raw, get_json, find, count, project, import, export, dump, Command, on, collections, Reply, done, bytes, json_list, refused, trees_reply, refusal_of, first_refusal, When, Refuses, Appends, AtId, PutsBack, Answers, IsTaken, Step}
 use Rattle.store_laws.specs.Run.{Denial, Turn}
 use Rattle.store_laws.specs.Table.{Table, state_of, documents_of, IsRefusal, Serves}
 use Rattle.store_laws.specs.declared.error.ErrorKind.{ErrorKind}
@@ -117,14 +117,14 @@ performs s t Meant c f g outcome result meant accepts is m = subst (λ p. Moves 
 
 -- the same of a call with a tree
 tree_asked : {A : Type 0} (s t : Connected) (Meant : Command → Type 0) (n : List ℕ) (call : Reading → Call) (j : Data) (f : A → Reply) (g : A → Answer) (outcome : Result A StoreError)
-    → ((x : Reading) → (IsName n → ReadsTree j x) → Meant (on n (call x))) → ((x : A) → IsRefusal (f x) → ⊥) → Moves s t (DoesTree n call j (reply_by f outcome)) → Moves s t (Performs Meant (answer_by g outcome))
+    → ((x : Reading) → ReadsTree j x → Meant (on n (call x))) → ((x : A) → IsRefusal (f x) → ⊥) → Moves s t (DoesTree n call j (reply_by f outcome)) → Moves s t (Performs Meant (answer_by g outcome))
 tree_asked s t Meant n call j f g (Ok x) meant accepts m =
     moved s t (DoesTree n call j (f x)) (Performs Meant (Ok (g x))) m (λ docs after h a shown. let y = h.2 a shown in (y.0, y.1, (on n (call h.0), meant h.0 h.1, f x, accepts x, y.2)))
 tree_asked s t Meant n call j f g (Err e) meant accepts m =
     moved s t (DoesTree n call j (refused e.kind e.document)) (Performs Meant (Err (Refused e))) m (λ docs after h a shown. let y = h.2 a shown in (y.0, y.1, rows_stay a y.0 (on n (call h.0)) e.kind e.document y.2))
 
 pub tree_performs : {A : Type 0} (s t : Connected) (Meant : Command → Type 0) (n : List ℕ) (call : Reading → Call) (j : Data) (f : A → Reply) (g : A → Answer) (outcome : Result A StoreError) (result : Result Answer Stop)
-    → ((x : Reading) → (IsName n → ReadsTree j x) → Meant (on n (call x))) → ((x : A) → IsRefusal (f x) → ⊥) → result ≡ answer_by g outcome → Moves s t (DoesTree n call j (reply_by f outcome)) → Moves s t (Performs Meant result)
+    → ((x : Reading) → ReadsTree j x → Meant (on n (call x))) → ((x : A) → IsRefusal (f x) → ⊥) → result ≡ answer_by g outcome → Moves s t (DoesTree n call j (reply_by f outcome)) → Moves s t (Performs Meant result)
 tree_performs s t Meant n call j f g outcome result meant accepts is m = subst (λ p. Moves s t (Performs Meant p)) (sym is) (tree_asked s t Meant n call j f g outcome meant accepts m)
 
 -- an export went out, or was refused
@@ -139,8 +139,8 @@ pub not_sent : (s t : Connected) (Meant : Command → Type 0) (n : List ℕ) (ol
 not_sent s t Meant n old new e m = moved s t (SendsCollection n old new (Err e)) (Prints Meant (Err (Refused e))) m (λ docs after h a shown. (a, subst (λ d. Show d a) (sym h.same) shown, inl refl))
 
 -- the trees of a list were asked for, and then all printed
-pub dumped : {T U : Type 0} (s t u : Connected) (Meant : Command → Type 0) (n : List ℕ) (asked : T → List Data → Type 0) (printed : U → List Data → Type 0) (P Q : StoreError → Type 0) (x : T) (y : U) → Meant (on n dump)
-    → Moves s t (HandsTrees asked P n (Ok x)) → Moves t u (HandsTrees printed Q n (Ok y)) → Moves s u (Prints Meant (Ok tt))
+pub dumped : {T U : Type 0} (s t u : Connected) (Meant : Command → Type 0) (n : List ℕ) (asked : T → List Data → Type 0) (printed : U → List Data → Type 0) (P : T → List Data → StoreError → Type 0) (Q : U → List Data → StoreError → Type 0) (x : T) (y : U)
+    → Meant (on n dump) → Moves s t (HandsTrees asked P n (Ok x)) → Moves t u (HandsTrees printed Q n (Ok y)) → Moves s u (Prints Meant (Ok tt))
 dumped s t u Meant n asked printed P Q x y meant m k = moved_twice s t u (HandsTrees asked P n (Ok x)) (HandsTrees printed Q n (Ok y)) (Prints Meant (Ok tt)) m k (λ docs mid after h l a shown.
     let here : Show mid a = subst (λ d. Show d a) (sym h.same) shown in
     let r = l.handed a here in (

@@ -5,7 +5,7 @@ use Rattle.serde_json.specs.Read.{read as tree_of}
 use Rattle.bson_base.specs.Value.{Value}
 use Rattle.bson_model.specs.declared.extjson.ser.Mode.{Mode}
 use Rattle.store_laws.specs.Reading.{Reading, ReadsTree, read_value}
-use Rattle.store_laws.specs.State.{Call, on, set, get_json, IsName}
+use Rattle.store_laws.specs.State.{Call, on, set, get_json}
 use Rattle.store_words.specs.declared.call.Call.TheVariants as words
 use Rattle.store_program.specs.Commands.{IsIdText, IsOfTree, IsOfId, IsCommandOf, mode_of}
 
@@ -30,7 +30,7 @@ three_texts (x ∷ y ∷ z ∷ u ∷ ws) a b c d e f low high = absurd (omega ar
 
 -- the only text is a document's
 pub of_tree : (call : Reading → Call) (n : List ℕ) (ws : List (String Global)) (a : String Global) (text : List ℕ) (j : Data) → a ≡ get_or ws 0 a → 1 ≤ length ws → length ws < 2 → text ≡ string_bytes a → tree_of text ≡ Some j
-    → (x : Reading) → (IsName n → ReadsTree j x) → IsOfTree call n (map string_bytes ws) (on n (call x))
+    → (x : Reading) → ReadsTree j x → IsOfTree call n (map string_bytes ws) (on n (call x))
 of_tree call n ws a text j d low high e tree x reads = (text, j, x, rw e (one_text ws a d low high), tree, reads, refl)
 
 -- the only text is an id's

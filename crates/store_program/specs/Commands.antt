@@ -30,7 +30,7 @@ first_key (key ∷ more) = key
 
 -- the call of a document, which the only text stands for
 abbrev pub IsOfTree : (Reading → model.Call) → List ℕ → List (List ℕ) → model.Command → Type 0
-IsOfTree call n texts c = (text : List ℕ) × (j : Data) × (a : Reading) × (texts ≡ text ∷ []) × (tree_of text ≡ Some j) × (model.IsName n → ReadsTree j a) × (c ≡ model.on n (call a))
+IsOfTree call n texts c = (text : List ℕ) × (j : Data) × (a : Reading) × (texts ≡ text ∷ []) × (tree_of text ≡ Some j) × ReadsTree j a × (c ≡ model.on n (call a))
 
 -- the call of an id, which the first text stands for
 abbrev pub IsOfId : (Value → List (List ℕ) → model.Call) → List ℕ → List (List ℕ) → model.Command → Type 0

@@ -14,7 +14,7 @@ pub struct Judge;
 impl TakeJson for Judge {
     ghost took = { λ _ _ _. Unit {0} };
 
-    ghost refuses = { λ _. Unit {0} };
+    ghost refused = { λ _ _ _ _. Unit {0} };
 
     fn take(&mut self, _tree: Value) -> Result<(), StoreError> {
         Ok(())
@@ -33,7 +33,7 @@ pub struct Printer<'w, O: Sink> {
 impl<'w, O: Sink> TakeJson for Printer<'w, O> {
     ghost took = { λ _ _ _. Unit {0} };
 
-    ghost refuses = { λ _. Unit {0} };
+    ghost refused = { λ _ _ _ _. Unit {0} };
 
     fn take(&mut self, tree: Value) -> Result<(), StoreError> {
         if self.failed {

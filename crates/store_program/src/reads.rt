@@ -100,14 +100,19 @@ pub fn dump<S: Alter + Drop, O: Sink>(
     if !words.is_empty() {
         return Err(USAGE);
     }
-    store.each_json(name, Judge)?;
+    match store.each_json(name, Judge) {
+        Ok(_) => {}
+        Err((error, _)) => return Err(Stop::Refused(error)),
+    }
     let printer = Printer {
         output,
         alloc,
         failed: false,
     };
-    store.each_json(name, printer)?;
-    Ok(())
+    match store.each_json(name, printer) {
+        Ok(_) => Ok(()),
+        Err((error, _)) => Err(Stop::Refused(error)),
+    }
 }
 
 /// `collections`: the names that hold a document.
