@@ -1,7 +1,7 @@
 //! Blocks of lines, each over a database of its own.
 
 use crate::replies::tell_refusal;
-use crate::{lists, words};
+use crate::{lists, stored, words};
 use bson_store::{Store, StoreError};
 use sqlite::{Alter, Connection};
 use std::alloc::{AllocError, Global};
@@ -34,21 +34,46 @@ fn answer_lines<S: Alter + Drop>(
     Ok(())
 }
 
-/// Whether the database does a statement of SQL.
-fn is_done<S: Alter>(connection: &mut Connection<S>, line: &str) -> bool {
+/// Tells whether the database does a statement of SQL.
+fn tell_done<S: Alter>(
+    connection: &mut Connection<S>,
+    line: &str,
+    told: &mut String,
+) -> Result<(), AllocError> {
     let statement = line.strip_prefix("sql ").unwrap_or("");
-    connection.execute(statement, &[]).is_ok()
+    let is_done = connection.execute(statement, &[]).is_ok();
+    told.push_str(if is_done { "done\n" } else { "refused\n" })
 }
 
-/// Does lines of SQL.
+/// Tells how many rows the last statement that writes has changed.
+fn tell_changes(alloc: Global, changes: usize, told: &mut String) -> Result<(), AllocError> {
+    told.push_str((changes as u64).to_string(alloc)?.as_str())?;
+    told.push_str("\n")
+}
+
+/// Answers a line over the database alone.
+fn tell_alone<S: Alter>(
+    alloc: Global,
+    connection: &mut Connection<S>,
+    line: &str,
+    told: &mut String,
+) -> Result<(), AllocError> {
+    match line {
+        "rows" => stored::tell(alloc, connection, told),
+        "changes" => tell_changes(alloc, connection.changes(), told),
+        _ => tell_done(connection, line, told),
+    }
+}
+
+/// Answers lines over the database alone.
 fn prepare<S: Alter>(
+    alloc: Global,
     connection: &mut Connection<S>,
     lines: &str,
     told: &mut String,
 ) -> Result<(), AllocError> {
     for line in lines.lines() {
-        let is_done = is_done(connection, line);
-        told.push_str(if is_done { "done\n" } else { "refused\n" })?;
+        tell_alone(alloc, connection, line, told)?;
     }
     Ok(())
 }
@@ -75,6 +100,20 @@ fn answer_part<S: Alter + Drop>(
     }
 }
 
+/// Answers the lines behind the `close` of a part.
+fn answer_behind<S: Alter>(
+    alloc: Global,
+    connection: &mut Connection<S>,
+    part: &str,
+    told: &mut String,
+) -> Result<(), AllocError> {
+    for lines in part.split("close\n").skip(1) {
+        told.push_str("closed\n")?;
+        prepare(alloc, connection, lines, told)?;
+    }
+    Ok(())
+}
+
 /// Answers lines over a database, and gives it back.
 fn answer_parts<S: Alter + Drop>(
     alloc: Global,
@@ -83,11 +122,13 @@ fn answer_parts<S: Alter + Drop>(
     told: &mut String,
 ) -> (Connection<S>, Result<(), AllocError>) {
     let mut parts = lines.split("open\n");
-    let mut outcome = prepare(&mut connection, parts.next().unwrap_or(""), told);
+    let mut outcome = prepare(alloc, &mut connection, parts.next().unwrap_or(""), told);
     for part in parts {
-        let (back, answered) = answer_part(alloc, connection, part, told);
+        let lines = part.split("close\n").next().unwrap_or("");
+        let (back, answered) = answer_part(alloc, connection, lines, told);
         connection = back;
-        outcome = outcome.and(answered);
+        let behind = answer_behind(alloc, &mut connection, part, told);
+        outcome = outcome.and(answered).and(behind);
     }
     (connection, outcome)
 }

@@ -1,5 +1,5 @@
 //! Cases of bson_table, bson_store, store_pipe and store_program. The files `stdin` and `stdout` hold the cases and their answers: each line of standard
-//! input is answered by one line of standard output, but for a block whose store isn't opened, which ends there.
+//! input is answered by one line of standard output, except in a block whose store isn't opened: it ends there, or goes on at `close`.
 //!
 //! Before the first title each line stands alone: `export_memory TIMES` tells how far an export gets where memory is refused, as the
 //! page of `exporting` says, `usage` is the example of docs/USING.md on stores, and the others are cases of bson_table, of which the
@@ -10,8 +10,11 @@
 //!
 //! A line that begins with `# ` is a title, and begins a block of lines over a new database in memory. A block has
 //!
-//! - `sql STATEMENT`, before all others: a statement of SQL that the database is given. Answered by `done` or `refused`.
+//! - `sql STATEMENT`, before all others and behind `close`: a statement of SQL that the database is given. Answered by `done` or
+//!   `refused`.
 //! - `open`: opens the store of the block's database; one that is open is closed before. Answered by `open`, or by the refusal.
+//! - `close`: closes the store; where it wasn't opened the block goes on here. Answered by `closed`. Behind it `rows` tells the place,
+//!   the collection, the key and the body of each row, and `changes` how many rows the last statement that writes has changed.
 //! - A line of the program's words with bars between them, as `insert|c|{"_id":1}`, done by `execute`. The answer is the status, what was
 //!   printed and what was told; `\n` stands for a line feed, and written documents are hexadecimal digits.
 //! - `pipe`: the program without words, over a store of its own. The answer is as for words; `the input` stands for the bytes that
@@ -38,6 +41,7 @@ mod lists;
 mod memory;
 mod replies;
 mod stopping;
+mod stored;
 mod table;
 mod usage;
 mod words;

@@ -25,5 +25,6 @@ not_opened old new e h (opens.NotAStore, is, inl (there, why)) = absurd (there (
 not_opened old new e h (opens.NotAStore, is, inr (none, inl view)) = absurd (view (ap (λ (s : Schema). view_named s table_name) h.2))
 not_opened old new e h (opens.NotAStore, is, inr (none, inr index)) = absurd (index (ap (λ (s : Schema). index_named s table_name) h.2))
 not_opened old new e h (opens.BadRow place, is, (there, why)) = absurd (there (ap (λ (s : Schema). table_named s table_name) h.2))
+not_opened old new e h (opens.IdsCollide first second, is, (there, why)) = absurd (there (ap (λ (s : Schema). table_named s table_name) h.2))
 not_opened old new e h (opens.Memory, is, why) = inl (ap (λ (x : StoreError). x.kind) is)
 not_opened old new e h (opens.Database, is, why) = inr (ap (λ (x : StoreError). x.kind) is)

@@ -128,7 +128,7 @@ fn called<S: Alter + Drop>(
     sum: &mut Sum,
 ) -> Connection<S> {
     conn.set_step_limit(Some(limit));
-    let mut conn = match Table::open(alloc, conn, &HasBody) {
+    let mut conn = match Table::open(alloc, conn, &HasBody { alloc }) {
         Ok(mut table) => {
             *sum = all(alloc, &mut table);
             table.close()
@@ -206,7 +206,7 @@ fn reopened<S: Alter + Drop>(
 
 /// Makes the two rows.
 fn filled<S: Alter + Drop>(alloc: Global, conn: Connection<S>, tries: &mut Tries) -> Connection<S> {
-    match Table::open(alloc, conn, &HasBody) {
+    match Table::open(alloc, conn, &HasBody { alloc }) {
         Ok(mut table) => {
             let first = calls::change(alloc, &mut table, "put c 1");
             let second = calls::change(alloc, &mut table, "put c 2");
@@ -222,7 +222,7 @@ fn filled<S: Alter + Drop>(alloc: Global, conn: Connection<S>, tries: &mut Tries
 
 /// Opens the table and closes it again.
 fn opened<S: Alter + Drop>(alloc: Global, conn: Connection<S>, tries: &mut Tries) -> Connection<S> {
-    match Table::open(alloc, conn, &HasBody) {
+    match Table::open(alloc, conn, &HasBody { alloc }) {
         Ok(table) => {
             tries.opened = true;
             table.close()

@@ -6,16 +6,31 @@ use sqlite::Alter;
 use std::alloc::{AllocError, Global};
 use std::collections::BTreeSet;
 
-/// A row is good where its body isn't empty.
-pub struct HasBody;
+/// A row is good where its body isn't empty, under any key, and keeps the key that it has.
+#[derive(Clone, Copy, Drop)]
+pub struct HasBody {
+    pub alloc: Global,
+}
 
 impl RowCheck for HasBody {
     ghost use Rattle.std.specs.Prelude.{◌≢◌, []};
 
-    ghost accepts = { λ _ coll idkey body. body ≢ [] };
+    ghost renews = { λ _ coll idkey body now. body ≢ [] };
 
     fn passes(&self, _coll: &[u8], _idkey: &[u8], body: &[u8]) -> Result<bool, AllocError> {
         Ok(!body.is_empty())
+    }
+
+    fn renewed(
+        &self,
+        _coll: &[u8],
+        idkey: &[u8],
+        body: &[u8],
+    ) -> Result<Option<Vec<u8>>, AllocError> {
+        if body.is_empty() {
+            return Ok(None);
+        }
+        Ok(Some(Vec::from_slice(self.alloc, idkey)?))
     }
 }
 

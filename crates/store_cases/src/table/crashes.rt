@@ -184,7 +184,7 @@ fn opened<S: Alter + Drop>(
     from: usize,
     run: &mut Run,
 ) -> Connection<S> {
-    match Table::open(alloc, conn, &HasBody) {
+    match Table::open(alloc, conn, &HasBody { alloc }) {
         Ok(mut table) => {
             run.done = changes(alloc, &mut table, from);
             table.close()

@@ -43,7 +43,7 @@ fn opened<S: Alter + Drop>(
     calls: &str,
     told: &mut Answers,
 ) -> Connection<S> {
-    match Table::open(alloc, conn, &HasBody) {
+    match Table::open(alloc, conn, &HasBody { alloc }) {
         Ok(mut table) => {
             told.add_text("opened");
             if let Some(calls) = calls.strip_prefix(' ') {
