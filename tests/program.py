@@ -91,6 +91,27 @@ holds("unset again", run("unset", "-c", "-2", "-k"), (0, b"false\n", ""))
 holds("remove", run("remove", "-c", "-2"), (0, b"", ""))
 holds("replace", run("replace", "c", '{"_id":1}'), (0, b"", ""))
 
+# Files from before the two zeros of a double meant the same: a key of then is replaced, and two ids that are one now are refused.
+FILE = FILE.parent / "before.db"
+ZERO, MINUS = "12000000015F6964000000000000000000" + "00", "12000000015F6964000000000000000080" + "00"
+TABLE = """CREATE TABLE documents (place INTEGER PRIMARY KEY, coll TEXT NOT NULL, idkey BLOB NOT NULL, body BLOB NOT NULL,
+    UNIQUE (coll, idkey)) STRICT"""
+
+
+def put(place, key):
+    statement = f"INSERT INTO documents VALUES ({place}, 'c', x'{key}', x'{key}')"
+    subprocess.run(["sqlite3", str(FILE), statement], check=True)
+
+
+subprocess.run(["sqlite3", str(FILE), TABLE], check=True)
+put(1, MINUS)
+holds("a key from before", run("collections"), (0, b"c\n", ""))
+holds("it has the key of now", rows(), [f"1|c|{ZERO}|{MINUS}"])
+holds("both zeros find it", run("get", "c", '{"$numberDouble":"0.0"}'), (0, b'{"_id":{"$numberDouble":"0.0"}}\n', ""))
+put(2, MINUS)
+holds("two ids that are one now", run("collections"), (1, b"", "refused: IdsCollide 1 2\n"))
+holds("both rows stay", rows(), [f"1|c|{ZERO}|{MINUS}", f"2|c|{MINUS}|{MINUS}"])
+
 # A file that can't be opened.
 FILE = FILE.parent / "none" / "test.db"
 holds("no such folder", run("collections"), (1, b"", "refused: Database\n"))
