@@ -36,10 +36,8 @@ fn put_level(bytes: &mut Vec<u8>, kind: &str, inside: u32) -> Result<(), AllocEr
 fn levels(alloc: Global, kind: &str, count: u32) -> Result<Vec<u8>, AllocError> {
     let own = own_bytes(kind);
     let mut bytes = Vec::new(alloc);
-    let mut left = count;
-    while left > 1 {
-        left -= 1;
-        let inside = (left - 1).wrapping_mul(own).wrapping_add(5);
+    for outside in 1..count {
+        let inside = (count - outside - 1).wrapping_mul(own).wrapping_add(5);
         put_level(&mut bytes, kind, inside)?;
     }
     bytes.extend_from_slice(&[5, 0, 0, 0])?;
