@@ -1,8 +1,9 @@
 //! How many bytes a payload takes.
 
-ghost use Rattle.std.specs.Prelude.{◌≡◌, ◌<◌, ◌≤◌, ◌^◌, ◌++◌, ◌∷◌, ◌⊎◌, ℕ, length, slice_index, IfSome, MatchOption, MatchResult};
+ghost use Rattle.std.specs.Prelude.{◌≡◌, ◌<◌, ◌≤◌, ◌^◌, ◌++◌, ◌∷◌, ◌⊎◌, length, IfSome, MatchOption, MatchResult};
 ghost use Rattle.bson_base.specs.Kinds.{HasNo00};
 ghost use Rattle.bson_frame.specs.Frame.{number, IsCstring, IsTextSize, IsDocumentSize, IsBinarySize, IsCodeSize, IsPointerSize, IsRegexSize, HasSize};
+ghost use Rattle.bson_frame.specs.Names.{IsAsciiEnd, IsAsciiRun};
 ghost use Rattle.bson_frame.specs.Reader.{NameFault, IsWhole, IsNeverWhole, GivesSize, RegexFault, SizeFault};
 ghost use Rattle.bson_frame.specs.declared.error.ErrorKind.TheVariants.{MalformedValue};
 
@@ -10,6 +11,7 @@ use crate::error::ErrorKind;
 use bson_base::ElementType;
 use memchr::memchr;
 use simdutf8::basic::from_utf8;
+use std::simd::prelude::*;
 
 /// The bytes before the first 00, and those after it.
 fn split_at_zero(bytes: &[u8]) -> Option<(&[u8], &[u8])>
@@ -22,13 +24,42 @@ fn split_at_zero(bytes: &[u8]) -> Option<(&[u8], &[u8])>
     }
 }
 
+/// How many of the first 16 bytes stand in front of the first one that is 00 or not ASCII; 16, if all do.
+fn ascii_run(bytes: &[u8]) -> usize
+    requires { 16 ≤ length bytes.now }
+    ensures short { result ≤ 16 }
+    ensures run { IsAsciiRun bytes.now result }
+{
+    let less_one = u8x16::from_slice(bytes) - u8x16::splat(1);
+    let ends = u8x16::splat(127).simd_le(less_one).to_bitmask();
+    if ends == 0 {
+        16
+    } else {
+        ends.trailing_zeros() as usize
+    }
+}
+
+/// The place of the first 00, if it is among the first 16 of at least as many bytes and all bytes before it are ASCII.
+fn near_end(bytes: &[u8]) -> Option<usize>
+    ensures { IfSome result (IsAsciiEnd bytes.now) }
+{
+    if bytes.len() < 16 {
+        return None;
+    }
+    let place = ascii_run(bytes);
+    if place < 16 && bytes[place] == 0 {
+        Some(place)
+    } else {
+        None
+    }
+}
+
 /// How many bytes of a name are looked at one by one.
 const SHORT: usize = 32;
 
-/// The place of the first 00, if it is near and all bytes before it are ASCII.
-fn ascii_end(bytes: &[u8]) -> Option<usize>
-    ensures { IfSome result (λ i. (i < length bytes.now) × (slice_index bytes.now i ≡ 0)
-        × ((k : ℕ) → k < i → (slice_index bytes.now k < 128) × (0 < slice_index bytes.now k))) }
+/// The place of the first 00, if it is near and all bytes before it are ASCII, by one byte after the other.
+fn ascii_end_by_bytes(bytes: &[u8]) -> Option<usize>
+    ensures { IfSome result (IsAsciiEnd bytes.now) }
 {
     for i in 0..bytes.len().min(SHORT) {
         let byte = bytes[i];
@@ -40,6 +71,16 @@ fn ascii_end(bytes: &[u8]) -> Option<usize>
         }
     }
     None
+}
+
+/// The place of the first 00, if it is near and all bytes before it are ASCII.
+fn ascii_end(bytes: &[u8]) -> Option<usize>
+    ensures { IfSome result (IsAsciiEnd bytes.now) }
+{
+    match near_end(bytes) {
+        Some(place) => Some(place),
+        None => ascii_end_by_bytes(bytes),
+    }
 }
 
 /// The zero-terminated text at the front, and what follows its 00 (bsonspec.org 1.1, "cstring"). Where there is none,
