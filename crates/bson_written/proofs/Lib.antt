@@ -1,3 +1,4 @@
+mod Ascents
 mod Payloads
 mod Turns
 mod Values

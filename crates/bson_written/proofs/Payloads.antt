@@ -1,22 +1,34 @@
 -- Payloads are the written forms of what they hold.
-use Rattle.std.proofs.Common.{◌≡◌, ◌≢◌, ◌==◌, ℕ, ℤ, zero, suc, ◌+◌, ◌-◌, ◌<◌, ◌≤◌, List, [], ◌∷◌, ◌++◌, length, take, drop, get_or, Bool, false, refl, sym, ap, ◌∙◌, arith}
+use Rattle.std.proofs.Common.{◌≡◌, ◌≢◌, ◌==◌, ℕ, ℤ, zero, suc, ◌+◌, ◌-◌, ◌<◌, ◌≤◌, List, [], ◌∷◌, ◌++◌, length, take, drop, get_or, Bool, true, false, refl, sym, ap, ◌∙◌, subst, append_assoc, arith}
 use Rattle.std.specs.Prelude.{slice_index, if◌then◌else◌}
 use Rattle.std.specs.Int.{w32, w64, from_le_bytes, cast_signed, cast_unsigned}
 use Rattle.std.proofs.lemmas.Grind.{common_steps}
 use Rattle.std.proofs.lemmas.Int.{of_z-to_z}
 use Rattle.std.proofs.lemmas.List.{length-drop, length-append, length-take-le}
 use Rattle.std.proofs.lemmas.Nat.{le_bytes_4, le_bytes_8}
+use Rattle.std.proofs.lemmas.Str.{IsUtf8-from_ascii, chars-IsAscii}
+use Rattle.std.specs.List.Sorted.{IsNonDecreasing}
+use Rattle.std.specs.Str.{IsAscii, IsNotAscii}
+use Rattle.std.specs.Prelude.{MatchBool, Some}
+use Rattle.std.specs.List.{IsAllAdjacentAnswer}
+use Rattle.std.specs.Ordering.{is_le, is_some_and, nat_cmp}
+use Rattle.std.proofs.lemmas.List.Sorted.{non_decreasing_from_is_sorted}
+use Rattle.std.proofs.lemmas.Bool.{MatchBool-at_true}
+use Rattle.bson_base.proofs.OptionsLemmas.{never_descends, sorted_text-kept}
 use Rattle.bson_base.specs.declared.spec.BinarySubtype.{BinarySubtype}
 use Rattle.bson_base.specs.declared.spec.BinarySubtype.TheVariants as subtypes
-use Rattle.bson_base.specs.Kinds.{AreBytes}
+use Rattle.bson_base.specs.Kinds.{AreBytes, NeverDescends}
+use Rattle.bson_base.specs.Options.{sorted_text}
 use Rattle.bson_base.specs.Tags.{subtype_byte}
 use Rattle.bson_base.specs.Value.{Scalar, double, string, binary, undefined, object_id, boolean, date_time, null, regex, db_pointer, code, symbol, int32, timestamp, int64, decimal, max_key, min_key, scalar_kind}
-use Rattle.bson_bytes.specs.Encode.{le32, le64, text_bytes, framed, inner, is_old, scalar_bytes, truth}
+use Rattle.bson_bytes.specs.Encode.{le32, le64, ended, text_bytes, framed, inner, is_old, scalar_bytes, truth}
 use Rattle.bson_bytes.specs.Spells.{HoldsScalar, settle_scalar}
-use Rattle.bson_frame.specs.Frame.{number, IsTextSize, IsDocumentSize, IsBinarySize}
+use Rattle.bson_frame.specs.Frame.{number, IsCstring, IsTextSize, IsDocumentSize, IsBinarySize, IsRegexSize}
 use Rattle.bson_frame.specs.Payload.{IsPayload, text_in}
-use Rattle.bson_written.specs.Written.{HasOneForm, IsNewBinary}
+use Rattle.bson_written.specs.Written.{HasOneForm, HasOrderedOptions, IsNewBinary}
 use Rattle.bson_bytes.proofs.Meant.{subtype_back, bytes_drop, fits32, fits64}
+use Rattle.bson_bytes.proofs.One.{parts_in}
+use Rattle.bson_frame.proofs.Names.{name_is_one, rest_is_one}
 
 byte_at : (bs : List ℕ) → AreBytes bs → (i : ℕ) → get_or bs i 0 < 256
 byte_at [] h i = omega arith
@@ -146,3 +158,28 @@ binary_back (a ∷ []) s bs are size new holds = absurd (omega (arith, size.decl
 binary_back (a ∷ b ∷ []) s bs are size new holds = absurd (omega (arith, size.declared))
 binary_back (a ∷ b ∷ c ∷ []) s bs are size new holds = absurd (omega (arith, size.declared))
 binary_back (a ∷ b ∷ c ∷ d ∷ []) s bs are size new holds = absurd (omega (arith, size.declared))
+
+-- ---- regular expressions
+
+-- options that are ASCII and ascend are in order
+in_order : (t : List ℕ) → IsAscii t → IsNonDecreasing t → sorted_text t ≡ t
+in_order t ascii up = sorted_text-kept t (IsUtf8-from_ascii t ascii) (subst NeverDescends (sym (chars-IsAscii t ascii)) (never_descends t up))
+
+pub tested_in_order : (t bytes : List ℕ) (ascii sorted : Bool) → MatchBool ascii (IsAscii t) (IsNotAscii t) → ascii ≡ true → bytes ≡ t
+    → IsAllAdjacentAnswer (λ x y b. is_some_and is_le (Some (nat_cmp x y)) ≡ b) bytes sorted → sorted ≡ true → sorted_text t ≡ t
+tested_in_order t bytes ascii sorted told is_ascii same answer is_sorted =
+    in_order t (MatchBool-at_true (IsAscii t) (IsNotAscii t) is_ascii told) (subst IsNonDecreasing same (MatchBool-at_true _ _ is_sorted (non_decreasing_from_is_sorted bytes sorted answer)))
+
+-- two names at the front are the pattern and the options
+pub ordered_options : (payload pattern rest options more : List ℕ) → IsCstring pattern → payload ≡ pattern ++ 0 ∷ rest → IsCstring options → rest ≡ options ++ 0 ∷ more
+    → sorted_text options ≡ options → HasOrderedOptions payload
+ordered_options payload pattern rest options more is_pattern parts is_options behind kept size =
+    let same = rest_is_one payload pattern size.pattern rest (size.options ++ 0 ∷ size.rest) is_pattern size.pattern_name parts size.parts in
+    subst (λ (t : List ℕ). sorted_text t ≡ t) (name_is_one rest options size.options more size.rest is_options size.options_name behind same) kept
+
+pub regex_back : (payload p o : List ℕ) → IsRegexSize payload (length payload) → HasOrderedOptions payload → HoldsScalar payload (regex p o)
+    → (settle_scalar (regex p o) ≡ regex p o) × (payload ≡ scalar_bytes (regex p o))
+unfolding ended
+regex_back payload p o size ordered holds =
+    let stays = subst (λ (t : List ℕ). sorted_text t ≡ t) (sym (parts_in payload p o size holds).1) (ordered size) in
+    (ap (regex p) stays, holds ∙ sym (append_assoc p (0 ∷ []) (o ++ 0 ∷ [])))

@@ -1,7 +1,6 @@
 -- One turn over elements.
 use Rattle.std.proofs.Common.{◌≡◌, ℕ, suc, List, [], ◌∷◌, ◌++◌, Bool, true, false, Decides, Option, Some, None, unwrap_or, refl, sym, ap, ◌∙◌, ◌+◌, add-one, subst}
-use Rattle.std.specs.Prelude.{if◌then◌else◌, decimal as digits, Result, Ok, Err, OnOk}
-use Rattle.std.specs.Result.{is_err}
+use Rattle.std.specs.Prelude.{if◌then◌else◌, decimal as digits}
 use Rattle.std.specs.Borrow.{Bor}
 use Rattle.std.specs.List.{list_any}
 use mathlib.Core.Bool.{true≢false}
@@ -40,11 +39,6 @@ absent_more k bytes next e first other rest (member l v ms) h =
     other_key k l v ms (λ is. other (sym key ∙ is)) (rest ms (subst (λ (r : List ℕ). SpellsMembers r ms) same.1 h.6))
 
 -- ---- the keys that were met
-
--- what holds where there is no error
-pub if_no_error : {A E X : Type 0} (r : Result A E) → is_err r ≡ false → OnOk r X → X
-if_no_error (Ok x) none told = told
-if_no_error (Err e) none told = absurd (true≢false none)
 
 pub end_absent_all : (keys : List (Bor (List ℕ))) (bytes : List ℕ) → bytes ≡ 0 ∷ [] → AreAbsent keys bytes
 end_absent_all [] bytes is = tt

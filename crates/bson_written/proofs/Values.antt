@@ -5,12 +5,12 @@ use Rattle.bson_base.specs.declared.spec.ElementType.{ElementType}
 use Rattle.bson_base.specs.declared.spec.ElementType.TheVariants as kinds
 use Rattle.bson_base.specs.Kinds.{AreBytes}
 use Rattle.bson_base.specs.Tags.{tag_byte}
-use Rattle.bson_base.specs.Value.{binary, scalar, array, document, scoped_code, Members}
+use Rattle.bson_base.specs.Value.{binary, regex, scalar, array, document, scoped_code, Members}
 use Rattle.bson_bytes.specs.Encode.{encode, items_bytes, members_bytes}
 use Rattle.bson_bytes.specs.Spells.{Means}
 use Rattle.bson_frame.specs.Payload.{IsPayload}
-use Rattle.bson_written.specs.Written.{AreItemsWritten, AreWritten, HasOneForm, IsNewBinary, IsWritten}
-use Rattle.bson_written.proofs.Payloads.{binary_back, framed_back, scalar_back}
+use Rattle.bson_written.specs.Written.{AreItemsWritten, AreWritten, HasOneForm, HasOrderedOptions, IsNewBinary, IsWritten}
+use Rattle.bson_written.proofs.Payloads.{binary_back, framed_back, regex_back, scalar_back}
 use Rattle.bson_bytes.proofs.One.{apart, not_array, not_document}
 
 -- what stands behind the first four bytes
@@ -40,6 +40,14 @@ binary_written p tag is are size new (scalar s) kind h = apart _ _ (ap tag_byte 
 binary_written p tag is are size new (array vs) kind h = apart _ _ (ap tag_byte (kind ∙ is)) refl
 binary_written p tag is are size new (document ms) kind h = apart _ _ (ap tag_byte (kind ∙ is)) refl
 binary_written p tag is are size new (scoped_code t ms) kind h = apart _ _ (ap tag_byte (kind ∙ is)) refl
+
+pub regex_written : (p : List ℕ) (tag : ElementType) → tag ≡ kinds.RegularExpression → IsPayload tag p → HasOrderedOptions p → IsWritten tag p
+regex_written p tag is size ordered (scalar (regex q o)) kind h =
+    let w = regex_back p q o (subst (λ t. IsPayload t p) is size) ordered h.1 in (ap scalar w.0, w.1)
+regex_written p tag is size ordered (scalar s) kind h = apart _ _ (ap tag_byte (kind ∙ is)) refl
+regex_written p tag is size ordered (array vs) kind h = apart _ _ (ap tag_byte (kind ∙ is)) refl
+regex_written p tag is size ordered (document ms) kind h = apart _ _ (ap tag_byte (kind ∙ is)) refl
+regex_written p tag is size ordered (scoped_code t ms) kind h = apart _ _ (ap tag_byte (kind ∙ is)) refl
 
 pub scalar_written : (p : List ℕ) (tag : ElementType) → AreBytes p → IsPayload tag p → HasOneForm tag → IsWritten tag p
 scalar_written p tag are size one (scalar s) kind h =

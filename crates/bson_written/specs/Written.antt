@@ -1,14 +1,15 @@
 -- Bytes that are the written form of what they spell: nothing of it has to be settled.
-use Rattle.std.specs.Prelude.{◌≡◌, ◌≢◌, ℕ, List, [], ◌∷◌, ◌++◌, Some, None, slice_index}
+use Rattle.std.specs.Prelude.{◌≡◌, ◌≢◌, ℕ, List, [], ◌∷◌, ◌++◌, Some, None, length, slice_index}
 use Rattle.std.specs.Borrow.{Bor}
 use Rattle.bson_base.specs.declared.spec.BinarySubtype.TheVariants as subtypes
 use Rattle.bson_base.specs.declared.spec.ElementType.{ElementType}
 use Rattle.bson_base.specs.declared.spec.ElementType.TheVariants as kinds
+use Rattle.bson_base.specs.Options.{sorted_text}
 use Rattle.bson_base.specs.Tags.{subtype_byte}
 use Rattle.bson_base.specs.Value.{Value, value_kind, Items, Members, look_up}
 use Rattle.bson_bytes.specs.Encode.{value_bytes, items_bytes, members_bytes}
 use Rattle.bson_bytes.specs.Spells.{SpellsValue, SpellsItems, SpellsMembers, settle_value, settle_items, settle}
-use Rattle.bson_frame.specs.Frame.{Element}
+use Rattle.bson_frame.specs.Frame.{Element, IsRegexSize}
 
 -- a payload of this kind is written as the value that it spells
 abbrev pub IsWritten : ElementType → List ℕ → Type 0
@@ -44,6 +45,10 @@ HasOneForm _ = Unit {0}
 -- the payload of a binary has its length once
 abbrev pub IsNewBinary : List ℕ → Type 0
 IsNewBinary payload = slice_index payload 4 ≢ subtype_byte subtypes.BinaryOld
+
+-- the options behind the pattern of a regular expression are in the order of their characters
+abbrev pub HasOrderedOptions : List ℕ → Type 0
+HasOrderedOptions payload = (size : IsRegexSize payload (length payload)) → sorted_text size.options ≡ size.options
 
 -- the first element of the key is e
 abbrev pub IsFirstUnder : List ℕ → List ℕ → Element → Type 0

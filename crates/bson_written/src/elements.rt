@@ -1,35 +1,25 @@
 //! Elements, one after the other, down to the final 00.
 
-ghost use Rattle.std.specs.Prelude.{◌≡◌, not, bytes_eq, decimal, IsTrue, IfSome};
-ghost use Rattle.std.specs.List.{list_any};
+ghost use Rattle.std.specs.Prelude.{◌≡◌, decimal, IsTrue, IfSome};
+ghost use Rattle.bson_base.specs.Options.{sorted_text};
 ghost use Rattle.bson_frame.specs.Payload.{IsPayload};
 ghost use Rattle.bson_frame.specs.View.{element_of};
-ghost use Rattle.bson_written.specs.Written.{AreItemsWritten, AreWritten, HasOneForm, IsFirstUnder, IsNewBinary, IsWritten};
+ghost use Rattle.bson_written.specs.Written.{AreItemsWritten, AreWritten, HasOneForm, HasOrderedOptions, IsFirstUnder, IsNewBinary, IsWritten};
 
-use arrayvec::ArrayVec;
+use crate::keys::MetKeys;
 use bson_base::ElementType;
-use bson_frame::{Frame, is_end, sized_frame};
+use bson_frame::{Frame, is_end, name_at, sized_frame};
 use itoa::Buffer;
-
-/// How many elements of a document are looked at for keys.
-const MOST_KEYS: usize = 64;
 
 /// The subtype of old binaries, whose length stands twice (bsonspec.org 1.1, "subtype").
 const OLD: u8 = 2;
-
-/// Whether none of the keys is this one.
-fn is_new(key: &str, keys: &[&str]) -> bool
-    ensures { result ≡ not (list_any (λ met. bytes_eq met.now key.now) keys.now) }
-{
-    !keys.contains(&key)
-}
 
 /// The first element of a key.
 pub(crate) fn first_under<'a>(key: &str, elements: &'a [u8]) -> Option<Frame<'a>>
     ensures { IfSome result (λ f. IsFirstUnder key.now elements.now (element_of f) × IsPayload f.tag f.payload.now) }
 {
     let mut rest = elements;
-    for _ in 0..MOST_KEYS {
+    for _ in 0..elements.len() {
         let frame = sized_frame(rest)?;
         if frame.key == key {
             return Some(frame);
@@ -69,21 +59,38 @@ fn is_new_binary(payload: &[u8]) -> bool
     payload.len() > 4 && payload[4] != OLD
 }
 
+/// Whether options are ASCII, and their characters in order.
+fn are_in_order(options: &str) -> bool
+    ensures { IsTrue result → sorted_text options.now ≡ options.now }
+{
+    options.is_ascii() && options.as_bytes().is_sorted()
+}
+
+/// Whether the options of a regular expression are in order.
+fn has_ordered_options(payload: &[u8]) -> bool
+    ensures { IsTrue result → HasOrderedOptions payload.now }
+{
+    let Ok((_, rest)) = name_at(payload) else {
+        return false;
+    };
+    let Ok((options, _)) = name_at(rest) else {
+        return false;
+    };
+    are_in_order(options)
+}
+
 /// True: the elements of a document are as they are written. So many levels may lie among them.
 #[cycle(written)]
 pub(crate) fn are_written(elements: &[u8], inner: usize) -> bool
     ensures { IsTrue result → AreWritten elements.now }
 {
-    let mut keys: ArrayVec<&str, MOST_KEYS> = ArrayVec::new();
+    let mut keys = MetKeys::new();
     let mut rest = elements;
     while !is_end(rest) {
         let Some(frame) = sized_frame(rest) else {
             return false;
         };
-        if !is_written(frame.tag, frame.payload, inner) || !is_new(frame.key, keys.as_slice()) {
-            return false;
-        }
-        if keys.try_push(frame.key).is_err() {
+        if !is_written(frame.tag, frame.payload, inner) || !keys.meet(frame.key) {
             return false;
         }
         rest = frame.rest;
@@ -121,6 +128,7 @@ pub(crate) fn is_written(tag: ElementType, payload: &[u8], inner: usize) -> bool
     match tag {
         ElementType::EmbeddedDocument | ElementType::Array => holds_written(tag, payload, inner),
         ElementType::Binary => is_new_binary(payload),
+        ElementType::RegularExpression => has_ordered_options(payload),
         _ => has_one_form(tag),
     }
 }

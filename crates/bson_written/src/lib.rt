@@ -3,6 +3,7 @@
 
 mod elements;
 mod form;
+mod keys;
 #[cfg(test)]
 mod tests;
 

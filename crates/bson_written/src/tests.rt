@@ -33,8 +33,10 @@ const ARRAY_OF_TWO_DIGITS: [u8; 17] = [
 const BINARY: [u8; 14] = [14, 0, 0, 0, 5, 0x61, 0, 1, 0, 0, 0, 0, 7, 0];
 /// An old binary of one byte.
 const OLD_BINARY: [u8; 18] = [18, 0, 0, 0, 5, 0x61, 0, 5, 0, 0, 0, 2, 1, 0, 0, 0, 7, 0];
-/// `{a: /x/}`
-const REGEX: [u8; 11] = [11, 0, 0, 0, 0x0B, 0x61, 0, 0x78, 0, 0, 0];
+/// `{a: /x/im}`
+const REGEX: [u8; 13] = [13, 0, 0, 0, 0x0B, 0x61, 0, 0x78, 0, 0x69, 0x6D, 0, 0];
+/// `{a: /x/mi}`
+const REGEX_OUT_OF_ORDER: [u8; 13] = [13, 0, 0, 0, 0x0B, 0x61, 0, 0x78, 0, 0x6D, 0x69, 0, 0];
 /// `{a: "x", b: true}`
 const TEXT: [u8; 18] = [
     18, 0, 0, 0, 2, 0x61, 0, 2, 0, 0, 0, 0x78, 0, 8, 0x62, 0, 1, 0,
@@ -46,6 +48,7 @@ fn documents_as_they_are_written(rt: HostRuntime) {
     tells(&rt, &ONE, true);
     tells(&rt, &ARRAY, true);
     tells(&rt, &BINARY, true);
+    tells(&rt, &REGEX, true);
     tells(&rt, &TEXT, true);
 }
 
@@ -60,7 +63,7 @@ fn documents_that_are_written_otherwise(rt: HostRuntime) {
 #[test]
 fn kinds_of_which_nothing_is_told(rt: HostRuntime) {
     tells(&rt, &OLD_BINARY, false);
-    tells(&rt, &REGEX, false);
+    tells(&rt, &REGEX_OUT_OF_ORDER, false);
     tells(&rt, &[], false);
 }
 

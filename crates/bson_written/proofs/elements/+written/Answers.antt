@@ -1,12 +1,8 @@
-use Rattle.std.proofs.Common.{◌≡◌, ℕ, List, Bool, false, ap, subst, sym, ◌∙◌}
-use Rattle.std.proofs.lemmas.Bool.{not-true}
-use Rattle.std.specs.Borrow.{Bor}
-use Rattle.std.specs.List.{list_any}
-use Rattle.std.specs.Str.{bytes_eq}
+use Rattle.std.proofs.Common.{[], ◌∷◌, ◌++◌, subst}
 use Rattle.bson_frame.specs.View.{element_of}
-use Rattle.bson_written.specs.Written.{AreAbsent, AreItemsWritten, AreWritten}
-use Rattle.bson_written.proofs.Turns.{absent_all_more, absent_front, end_absent_all, end_items_written, end_written, if_no_error, items_written_more, written_more}
-use Rattle.bson_written.proofs.Values.{all_behind, array_written, binary_written, document_written, scalar_written}
+use Rattle.bson_written.specs.Written.{AreItemsWritten, AreWritten}
+use Rattle.bson_written.proofs.Turns.{absent_all_more, absent_front, end_absent_all, end_items_written, end_written, items_written_more, written_more}
+use Rattle.bson_written.proofs.Values.{all_behind, array_written, binary_written, document_written, regex_written, scalar_written}
 use Rattle.bson_written.proofs.elements.+written.Goals as goal
 use Rattle.bson_bytes.proofs.Meant.{are_bytes}
 
@@ -18,23 +14,29 @@ are_items_written-loop-place-preserved t c rest =
     c.loop-place.invariant (items_written_more c.loop-place.place c.loop-place.rest.now c.in-Some.frame.rest.now (element_of c.in-Some.frame) c.in-Some.ensures.0
     (c.is_written.ensures c.if-not-is_written.false) (c.is_place.ensures c.if-not-is_place.false) rest)
 
+pub are_written-loop-keys-init : goal.are_written-loop-keys-init
+are_written-loop-keys-init t c = ([], c.new-keys.ensures, λ absent rest. rest)
+
 pub are_written-loop-keys-preserved : goal.are_written-loop-keys-preserved
-are_written-loop-keys-preserved t c absent rest =
-    let keys = c.loop-keys.keys.items in
+are_written-loop-keys-preserved t c =
     let bytes = c.loop-keys.rest.now in
     let next = c.in-Some.frame.rest.now in
     let e = element_of c.in-Some.frame in
-    let pushed = if_no_error c.try_push.result (sym c.is_err.ensures.value ∙ c.if-is_err.false) c.try_push.ensures.ok in
-    let met : List (Bor (List ℕ)) → Bool = list_any (λ (k : Bor (List ℕ)). bytes_eq k.now e.key) in
-    let new : met keys ≡ false = ap met (sym c.as_slice.ensures.value) ∙ not-true (met c.as_slice.result.now) (sym c.is_new.ensures ∙ c.if-not-is_new.false) in
-    let front = absent_front keys c.in-Some.frame.key next (subst (λ ks. AreAbsent ks next) pushed absent) in
-    c.loop-keys.invariant (absent_all_more keys bytes next e c.in-Some.ensures.0 new front.0)
-    (written_more bytes next e c.in-Some.ensures.0 (c.is_written.ensures c.if-not-is_written.false) front.1 rest)
+    let all = c.loop-keys.invariant.0 in
+    let met = c.meet.ensures all c.loop-keys.invariant.1 c.if-not-meet.false in (
+      all ++ c.in-Some.frame.key ∷ [],
+      met.1,
+      λ absent rest.
+          let front = absent_front all c.in-Some.frame.key next absent in
+          c.loop-keys.invariant.2 (absent_all_more all bytes next e c.in-Some.ensures.0 met.0 front.0)
+          (written_more bytes next e c.in-Some.ensures.0 (c.is_written.ensures c.if-not-is_written.false) front.1 rest),
+    )
 
 pub are_written-returns : goal.are_written-returns
 are_written-returns t c u =
     let last = c.is_end.ensures.0 c.loop-keys-test.false in
-    c.loop-keys.invariant (end_absent_all c.loop-keys.keys.items c.loop-keys.rest.now last) (end_written c.loop-keys.rest.now last)
+    let all = c.loop-keys.invariant.0 in
+    c.loop-keys.invariant.2 (end_absent_all all c.loop-keys.rest.now last) (end_written c.loop-keys.rest.now last)
 
 pub holds_written-returns-in-EmbeddedDocument : goal.holds_written-returns-in-EmbeddedDocument
 holds_written-returns-in-EmbeddedDocument t c u =
@@ -50,6 +52,11 @@ pub is_written-returns-in-Binary : goal.is_written-returns-in-Binary
 is_written-returns-in-Binary t c u =
     let p = c.args.payload.now in
     binary_written p c.args.tag c.in-Binary.is (are_bytes p c.type_inv.payload) c.requires (c.is_new_binary.ensures u)
+
+pub is_written-returns-in-RegularExpression : goal.is_written-returns-in-RegularExpression
+is_written-returns-in-RegularExpression t c u =
+    let p = c.args.payload.now in
+    regex_written p c.args.tag c.in-RegularExpression.is c.requires (c.has_ordered_options.ensures u)
 
 pub is_written-returns-in_default : goal.is_written-returns-in_default
 is_written-returns-in_default t c u =

@@ -1,4 +1,6 @@
-use Rattle.std.proofs.Common.{◌+◌, ◌*◌, length}
+use Rattle.std.proofs.Common.{ℕ, ◌+◌, ◌*◌, List, length}
+use Rattle.std.specs.Borrow.{Bor}
+use Rattle.bson_written.specs.Met.{HasMet}
 use Rattle.bson_written.specs.Written.{AreAbsent, AreItemsWritten, AreWritten}
 use Rattle.bson_written.proofs.elements.+written.Given as goal
 
@@ -18,7 +20,8 @@ abbrev pub invariant-are_items_written-loop-place : goal.invariant-are_items_wri
 invariant-are_items_written-loop-place l = AreItemsWritten l.place l.rest → AreItemsWritten 0 l.elements
 
 abbrev pub invariant-are_written-loop-keys : goal.invariant-are_written-loop-keys
-invariant-are_written-loop-keys l = AreAbsent l.keys.items l.rest → AreWritten l.rest → AreWritten l.elements
+invariant-are_written-loop-keys l =
+    (all : List (Bor (List ℕ))) × HasMet l.keys all × (AreAbsent all l.rest → AreWritten l.rest → AreWritten l.elements)
 
 abbrev pub decreases-are_written-loop-keys : goal.decreases-are_written-loop-keys
 decreases-are_written-loop-keys l = length l.rest
