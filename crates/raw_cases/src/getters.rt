@@ -78,7 +78,7 @@ fn copied_binary(
 }
 
 /// What the getters of numbers and moments answer at a place.
-fn number_at(
+pub fn number_at(
     alloc: Global,
     kind: &str,
     array: RawArray<'_>,

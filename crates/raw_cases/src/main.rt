@@ -23,7 +23,9 @@
 //! With bytes:
 //!
 //! - `read`: what `from_reader` answers, and how many bytes were read. `read_slowly CALLS`: the same of a reader that gives one byte a
-//!   call and fails once it has given as many, and how many calls failed.
+//!   call and fails once it has given as many, and how many calls failed. `read_interrupted CALLS`: the same of a reader
+//!   of std of which one call is interrupted, once as many went well, and which gives a byte a call before and after that.
+//! - `growing TIMES`: what comes of calls that grow buffers, once memory was taken so often, as the page of `growing` says.
 //!
 //! With a kind and a number:
 //!
@@ -33,7 +35,8 @@
 //! With a value as Extended JSON:
 //!
 //! - `raw`: the owned raw value. `encoded`: the bytes of a document. `send`: what `to_writer` answers, and the bytes that went out.
-//!   `send_slowly ROOM`: the same of a writer that takes as many bytes and then fails.
+//!   `send_slowly ROOM`: the same of a writer that takes as many bytes and then fails. `send_nowhere`: what `to_writer`
+//!   answers of a writer of std that takes no bytes, and how many calls failed.
 //! - `pairs`, `values`: the buffer made at once of the members of an object, or of the items of an array, and what it yields.
 //! - `append BYTES`, `push BYTES`: the bytes that a buffer has at the end, and what each `append` of a member answers, or each `push` of
 //!   an item; after `append` the elements, too. A document begins with those bytes, an array as a copy of the one under the key a
@@ -42,6 +45,7 @@
 
 mod deep;
 mod getters;
+mod growing;
 mod streams;
 mod trees;
 mod views;
@@ -80,10 +84,17 @@ fn answer(alloc: Global, line: &str) -> Result<String, AllocError> {
     match word {
         "get" | "item" => getters::answer(alloc, word, rest),
         "deep" => deep::answer(alloc, rest),
-        "read" | "read_slowly" => streams::answer(alloc, word, rest),
-        "raw" | "encoded" | "send" | "send_slowly" | "pairs" | "values" | "append" | "push" => {
-            trees::answer(alloc, word, rest)
-        }
+        "growing" => String::from_str(alloc, growing::answer(alloc, rest)),
+        "read" | "read_slowly" | "read_interrupted" => streams::answer(alloc, word, rest),
+        "raw"
+        | "encoded"
+        | "send"
+        | "send_slowly"
+        | "send_nowhere"
+        | "pairs"
+        | "values"
+        | "append"
+        | "push" => trees::answer(alloc, word, rest),
         _ => views::answer(alloc, word, &bytes_of(alloc, rest)),
     }
 }

@@ -2,10 +2,51 @@
 
 use crate::{bytes_of, told};
 use bson_base::faulty::{FaultySink, FaultySource};
-use bson_base::{SliceSource, VecSink};
+use bson_base::{Counted, SliceSource, VecSink};
 use bson_model::Document;
 use bson_raw::{from_reader, to_writer};
 use std::alloc::{AllocError, Global};
+use std::io;
+
+/// A reader of std that gives one byte a call, and of which one call is interrupted.
+#[derive(Drop)]
+struct Interrupted<'a> {
+    /// The bytes that it has left.
+    bytes: &'a [u8],
+    /// How many calls go well before the one that is interrupted. None behind that.
+    calls: Option<u64>,
+}
+
+impl io::Read for Interrupted<'_> {
+    fn read(&mut self, buf: &mut [u8]) -> io::Result<usize> {
+        if let Some(calls) = self.calls {
+            self.calls = calls.checked_sub(1);
+            if calls == 0 {
+                return Err(io::Error::from(io::ErrorKind::Interrupted));
+            }
+        }
+        if buf.is_empty() || self.bytes.is_empty() {
+            return Ok(0);
+        }
+        buf[0] = self.bytes[0];
+        self.bytes = &self.bytes[1..];
+        Ok(1)
+    }
+}
+
+/// A writer of std that takes no bytes.
+#[derive(Drop)]
+struct Full;
+
+impl io::Write for Full {
+    fn write(&mut self, _buf: &[u8]) -> io::Result<usize> {
+        Ok(0)
+    }
+
+    fn flush(&mut self) -> io::Result<()> {
+        Ok(())
+    }
+}
 
 /// The answer to a case of bytes that are read.
 pub fn answer(alloc: Global, word: &str, rest: &str) -> Result<String, AllocError> {
@@ -14,7 +55,11 @@ pub fn answer(alloc: Global, word: &str, rest: &str) -> Result<String, AllocErro
     }
     let (calls, digits) = rest.split_once(' ').unwrap_or((rest, ""));
     let calls = calls.parse::<u64>().unwrap_or(0);
-    read_slowly(alloc, calls, &bytes_of(alloc, digits))
+    let bytes = bytes_of(alloc, digits);
+    match word {
+        "read_slowly" => read_slowly(alloc, calls, &bytes),
+        _ => read_interrupted(alloc, calls, &bytes),
+    }
 }
 
 /// What is read of bytes, and how many of them.
@@ -31,6 +76,17 @@ fn read_slowly(alloc: Global, calls: u64, bytes: &[u8]) -> Result<String, AllocE
     told(alloc, (answer, reader.at, reader.failed))
 }
 
+/// The same of a reader of std, of which one call is interrupted.
+fn read_interrupted(alloc: Global, calls: u64, bytes: &[u8]) -> Result<String, AllocError> {
+    let mut reader = Counted::new(Interrupted {
+        bytes,
+        calls: Some(calls),
+    });
+    let answer = from_reader(alloc, &mut reader);
+    let at = bytes.len().saturating_sub(reader.device.bytes.len());
+    told(alloc, (answer, at, reader.failed))
+}
+
 /// What a writer of all bytes answers, and what it has taken.
 pub fn send(alloc: Global, document: &Document) -> Result<String, AllocError> {
     let mut sink = VecSink::new(alloc);
@@ -45,4 +101,11 @@ pub fn send_slowly(alloc: Global, room: u64, document: &Document) -> Result<Stri
     let answer = to_writer(alloc, document, &mut sink);
     let digits = hex::encode(alloc, sink.bytes)?;
     format!(in alloc; "{answer:?} [{digits}]")
+}
+
+/// What a writer of std answers that takes no bytes, and how many of its calls failed.
+pub fn send_nowhere(alloc: Global, document: &Document) -> Result<String, AllocError> {
+    let mut sink = Counted::new(Full);
+    let answer = to_writer(alloc, document, &mut sink);
+    told(alloc, (answer, sink.failed))
 }

@@ -37,6 +37,7 @@ fn of_document(
     match word {
         "encoded" => views::encoded(alloc, RawDocumentBuf::from_document(alloc, &document)),
         "send" => streams::send(alloc, &document),
+        "send_nowhere" => streams::send_nowhere(alloc, &document),
         "send_slowly" => {
             streams::send_slowly(alloc, first.parse::<u64>().unwrap_or(0), &document)
         }
