@@ -8,6 +8,8 @@ prints one line a step, and ends with status 1 at the first that isn't as it sho
 """
 import json
 import pathlib
+import resource
+import signal
 import subprocess
 import sys
 import tempfile
@@ -23,6 +25,17 @@ FILE = pathlib.Path(tempfile.mkdtemp()) / "test.db"
 
 def run(*words, given=b""):
     done = subprocess.run([PROGRAM, str(FILE), *words], input=given, capture_output=True)
+    return done.returncode, done.stdout, done.stderr.decode()
+
+
+def run_within(limit, most, *words, given=b""):
+    """The same of a process that may have so much of something. Where that is the size of a file, a write past it fails, as it does
+    for the script bson_store, which ignores the signal."""
+    def limited():
+        signal.signal(signal.SIGXFSZ, signal.SIG_IGN)
+        resource.setrlimit(limit, (most, most))
+
+    done = subprocess.run([PROGRAM, str(FILE), *words], input=given, capture_output=True, preexec_fn=limited)
     return done.returncode, done.stdout, done.stderr.decode()
 
 
@@ -57,6 +70,7 @@ holds("rows by sqlite3", rows(), [f"1|c|{ONE}|{ONE}"])
 for line in [[], ["insert", "c"], ["get", "c", "1", "--pretty"], ["collections", "c"], ["nothing"]]:
     holds(f"words {line}", run(*line), (2, b"", "words: usage\n"))
 holds("JSON", run("insert", "c", "{"), (2, b"", "words: JSON\n"))
+holds("a numeral that no double comes near", run("insert", "c", '{"_id":1e400}'), (2, b"", "words: JSON\n"))
 holds("id", run("get", "c", "-"), (2, b"", "words: id\n"))
 holds("filter", run("find", "c", "{}"), (2, b"", "words: filter\n"))
 holds("line", run("load", "c", given=b'{"_id":7}\n\n-\n'), (2, b"", "words: line 3\n"))
@@ -91,6 +105,17 @@ holds("unset again", run("unset", "-c", "-2", "-k"), (0, b"false\n", ""))
 holds("remove", run("remove", "-c", "-2"), (0, b"", ""))
 holds("replace", run("replace", "c", '{"_id":1}'), (0, b"", ""))
 
+# A file that may not grow as far as an import would have it, and an input for which there is no memory.
+before = rows()
+large = b"".join(bson.encode({"_id": i, "text": "x" * 1000}) for i in range(1000))
+refused = run_within(resource.RLIMIT_FSIZE, 40 << 10, "import", "f", given=large)
+holds("a file that may not grow", refused, (1, b"", "refused: Database\n"))
+holds("rows stay", rows(), before)
+huge = b"".join(bson.encode({"_id": i, "text": "x" * 1000000}) for i in range(200))
+refused = run_within(resource.RLIMIT_AS, 128 << 20, "import", "f", given=huge)
+holds("memory that ends", refused, (1, b"", "refused: Memory\n"))
+holds("rows still stay", rows() == before, True)
+
 # Files from before the two zeros of a double meant the same: a key of then is replaced, and two ids that are one now are refused.
 FILE = FILE.parent / "before.db"
 ZERO, MINUS = "12000000015F6964000000000000000000" + "00", "12000000015F6964000000000000000080" + "00"
@@ -111,6 +136,27 @@ holds("both zeros find it", run("get", "c", '{"$numberDouble":"0.0"}'), (0, b'{"
 put(2, MINUS)
 holds("two ids that are one now", run("collections"), (1, b"", "refused: IdsCollide 1 2\n"))
 holds("both rows stay", rows(), [f"1|c|{ZERO}|{MINUS}", f"2|c|{MINUS}|{MINUS}"])
+
+# Tables that no store made, by what the documentation says of each.
+FILE = FILE.parent / "made.db"
+COLUMNS = "place INTEGER PRIMARY KEY, coll TEXT NOT NULL, idkey BLOB NOT NULL, body BLOB NOT NULL"
+NOT_A_STORE, DATABASE = "refused: NotAStore\n", "refused: Database\n"
+for step, statements, told in [
+    ("a trigger", f"{TABLE}; CREATE TRIGGER t AFTER INSERT ON documents BEGIN SELECT 1; END", NOT_A_STORE),
+    ("a partial index", f"{TABLE}; CREATE INDEX i ON documents (coll) WHERE place > 1", NOT_A_STORE),
+    ("an index over an expression", f"{TABLE}; CREATE INDEX i ON documents (length(body))", NOT_A_STORE),
+    ("a generated column", f"CREATE TABLE documents ({COLUMNS}, more TEXT AS (coll))", NOT_A_STORE),
+    ("no rowid", f"CREATE TABLE documents ({COLUMNS}) WITHOUT ROWID", NOT_A_STORE),
+    ("UTF-16", f"PRAGMA encoding = 'UTF-16'; {TABLE}", DATABASE),
+    ("a virtual table", "CREATE VIRTUAL TABLE documents USING fts5(place, coll, idkey, body)", DATABASE),
+]:
+    subprocess.run(["sqlite3", str(FILE), statements], check=True)
+    holds(step, run("collections"), (1, b"", told))
+    FILE.unlink()
+subprocess.run(["sqlite3", str(FILE), f"CREATE TABLE documents ({COLUMNS}, CHECK (length(coll) < 3))"], check=True)
+holds("a rule", run("insert", "c", '{"_id":1}'), (0, b"", ""))
+holds("a row that breaks it", run("insert", "ccc", '{"_id":1}'), (1, b"", DATABASE))
+holds("the first row stays", rows(), [f"1|c|{ONE}|{ONE}"])
 
 # A file that can't be opened.
 FILE = FILE.parent / "none" / "test.db"

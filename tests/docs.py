@@ -1,0 +1,180 @@
+#!/usr/bin/env python3
+"""Checks the pages of this repository, and wraps them.
+
+    tests/docs.py            says what is wrong, a line each, and ends with status 1 if there is anything
+    tests/docs.py --wrap [PAGE ..]
+                             first wraps each paragraph and list item that has a line over 120 columns, and makes a list of each
+                             table that has one, of all pages or of those named
+
+What is wrong: a line over 120 columns outside of blocks of code; a link to a file or a heading that isn't there, or to anything
+outside the repository; a row that stands in two tables; a crate without a page or without its line in docs/ARCHITECTURE.md; a
+refusal without its line in docs/REFUSALS.md.
+"""
+import pathlib
+import re
+import sys
+
+WIDTH = 120
+ROOT = pathlib.Path(__file__).resolve().parent.parent
+ITEM = re.compile(r"( *)([-*+]|\d+\.) +")
+# A span of code or a link, which stays on one line if it has at most 60 characters.
+WHOLE = re.compile(r"`[^`]*`|\[[^\]]*\]\([^)]*\)")
+# What would begin a list, a heading or a quotation at the beginning of a line.
+BEGINS = re.compile(r"([-+*>#]|\d+[.)])$|#+$|\|")
+
+
+def pages():
+    return [page for folder in ("", "docs/", "crates/*/", "bench/") for page in sorted(ROOT.glob(folder + "*.md"))]
+
+
+def fill(text, first, rest):
+    """The text in lines, the first of which begins with `first` and all others with `rest`."""
+    lines, words = [], []
+    text = WHOLE.sub(lambda found: found[0].replace(" ", "\0") if len(found[0]) <= 60 else found[0], text)
+    for token in (word.replace("\0", " ") for word in text.split()):
+        begin = rest if lines else first
+        if words and len(begin) + len(" ".join([*words, token])) > WIDTH:
+            # A word that would begin a list takes the one before it along.
+            kept = words[:-1] if BEGINS.match(token) and len(words) > 1 else words
+            lines.append(begin + " ".join(kept))
+            words = words[len(kept):]
+        words.append(token)
+    return [*lines, (rest if lines else first) + " ".join(words)]
+
+
+def list_of(table):
+    """A table as a list: an item for each row, and in it one for each further column if there are more than two."""
+    rows = [[cell.strip().replace("\\|", "|") for cell in re.split(r"(?<!\\)\|", row.strip()[1:-1])] for row in table]
+    head = rows[0] if len(rows) > 1 and set("".join(rows[1])) <= set("-:") else None
+    if head:
+        rows = rows[2:]
+    lines = []
+    if len(rows[0]) == 2:
+        if head and all(head):
+            lines += [f"*{head[0][0].upper()}{head[0][1:]}: {head[1]}.*", ""]
+        for first, second in rows:
+            lines += fill(f"{first}: {second}" if second else first, "- ", "  ")
+        return lines
+    if head[0]:
+        lines += [f"*{head[0][0].upper()}{head[0][1:]}:*", ""]
+    for first, *others in rows:
+        lines += fill(first, "- ", "  ")
+        for name, cell in zip(head[1:], others):
+            if cell:
+                lines += fill(f"{name}: {cell}" if name else cell, "  - ", "    ")
+    return lines
+
+
+def blocks(lines):
+    """The lines of a page in blocks, each with its kind: code, table, text or other."""
+    found, kind, inside = [], None, False
+    for line in lines:
+        if line.lstrip().startswith("```"):
+            now, inside = "code", not inside
+        elif inside:
+            now = "code"
+        elif line.startswith("|"):
+            now = "table"
+        elif not line.strip() or line.startswith(("#", "    ")) and kind != "text":
+            now = "other"
+        else:
+            now = "text"
+        if now == kind and not (now == "text" and ITEM.match(line)):
+            found[-1][1].append(line)
+        else:
+            found.append((now, [line]))
+        kind = now
+    return found
+
+
+def wrapped(text):
+    out = []
+    for kind, lines in blocks(text.split("\n")):
+        if kind not in ("text", "table") or max(map(len, lines)) <= WIDTH:
+            out += lines
+        elif kind == "table":
+            out += list_of(lines)
+        else:
+            item = ITEM.match(lines[0])
+            quote = "> " if lines[0].startswith("> ") else ""
+            first = item.group() if item else quote or re.match(" *", lines[0]).group()
+            rest = " " * len(first) if item else first
+            body = [line.strip().removeprefix(quote) if number else line[len(first):] for number, line in enumerate(lines)]
+            out += fill(" ".join(body), first, rest)
+    return "\n".join(out)
+
+
+def slug(heading):
+    """The name of a heading in a link."""
+    return re.sub(r"[^\w\- ]", "", heading.lower()).replace(" ", "-")
+
+
+def prose(page):
+    """The lines of a page without blocks of code, each with its number."""
+    inside = False
+    for number, line in enumerate(page.read_text().split("\n"), 1):
+        if line.lstrip().startswith("```"):
+            inside = not inside
+        elif not inside:
+            yield number, line
+
+
+def headings(page):
+    return {slug(line.lstrip("#").strip()) for _, line in prose(page) if line.startswith("#")}
+
+
+def wrong_links(page):
+    for number, line in prose(page):
+        for target in re.findall(r"\]\(([^)\s]+)\)", re.sub(r"`[^`]*`", "", line)):
+            if "://" in target:
+                continue
+            path, _, name = target.partition("#")
+            there = (page.parent / path).resolve() if path else page
+            if ROOT not in there.parents:
+                yield number, f"a link to {target}, outside the repository"
+            elif not there.exists():
+                yield number, f"a link to {target}, which isn't there"
+            elif name and name not in headings(there):
+                yield number, f"a link to {target}, but no such heading"
+
+
+def wrong_rows(all_pages):
+    """Rows that stand twice."""
+    seen = {}
+    for page in all_pages:
+        for number, line in prose(page):
+            if line.startswith("|") and len(line) > 40 and set(line) - set("|-: "):
+                if line in seen:
+                    yield page, number, f"a row that stands in {seen[line]} too"
+                seen[line] = page.relative_to(ROOT)
+
+
+def missing():
+    """What has to have its line and hasn't."""
+    architecture, refusals = ROOT / "docs/ARCHITECTURE.md", ROOT / "docs/REFUSALS.md"
+    for name in re.findall(r"^([a-z]\w*):", (ROOT / "crates.txt").read_text(), re.M):
+        if not (ROOT / "crates" / name / "README.md").exists():
+            yield ROOT / "crates.txt", 1, f"{name} has no page crates/{name}/README.md"
+        if f"../crates/{name}/README.md" not in architecture.read_text():
+            yield architecture, 1, f"no link to the page of {name}"
+    kinds = re.search(r"pub enum ErrorKind \{(.*?)\n\}", (ROOT / "crates/store_laws/src/error.rt").read_text(), re.S)
+    for kind in re.findall(r"^    ([A-Z]\w*)", kinds[1], re.M):
+        if f"`{kind}" not in refusals.read_text():
+            yield refusals, 1, f"no line for {kind}"
+
+
+def main():
+    all_pages = pages()
+    if sys.argv[1:2] == ["--wrap"]:
+        for page in map(pathlib.Path, sys.argv[2:] or all_pages):
+            page.write_text(wrapped(page.read_text()))
+    wrong = [(page, number, what) for page in all_pages for number, what in wrong_links(page)]
+    wrong += [(page, number, f"{len(line)} columns") for page in all_pages for number, line in prose(page) if len(line) > WIDTH]
+    wrong += [*wrong_rows(all_pages), *missing()]
+    for page, number, what in wrong:
+        print(f"{page.relative_to(ROOT)}:{number}: {what}")
+    print(f"docs: {len(all_pages)} pages, {len(wrong)} to mend")
+    sys.exit(bool(wrong))
+
+
+main()
