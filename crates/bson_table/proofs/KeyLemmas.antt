@@ -1,5 +1,5 @@
 -- What the UPDATE of a key does, in a transaction.
-use Rattle.std.proofs.Common.{◌≡◌, ◌⊎◌, inl, inr, ℕ, ℤ, List, [], ◌∷◌, ◌++◌, map, filter, Bool, true, false, None, Some, Ok, Err, Result, refl, sym, ap, subst, ◌∙◌, Option, OnOk, OnErr, IsTrue, take, length, suc, zero, get_or, ◌+◌, ◌<◌, arith}
+use Rattle.std.proofs.Common.{◌≡◌, inl, inr, ℕ, ℤ, List, [], ◌∷◌, map, filter, Bool, true, false, None, Ok, Err, Result, refl, sym, ap, subst, ◌∙◌, Option, OnOk, IsTrue, take, length, suc, zero, get_or, ◌+◌, ◌<◌, arith}
 use Rattle.std.specs.List.Sorted.{IsPermutation}
 use Rattle.sqlite.specs.declared.types.Value.TheVariants.{Null, Int, Blob}
 use Rattle.sqlite.specs.Order.{Row}
@@ -19,7 +19,7 @@ use Rattle.sqlite.specs.State.{State, mode_of, ExecutesInside, IsRolledBack}
 use Rattle.sqlite.specs.Listing.{understood}
 use Rattle.sqlite.proofs.Callers.{runs_as, one_step, statement_of}
 use Rattle.bson_table.specs.declared.row.NewKey.{NewKey}
-use Rattle.bson_table.specs.Open.{KeepsRows, HasCommitted}
+use Rattle.bson_table.specs.Open.{IsSettled, KeepsAll, HasCommitted}
 use Rattle.bson_table.specs.Schema.{documents, documents_schema}
 use Rattle.bson_table.specs.Rows.{Doc, stored, HasRows, Inside, is_at, rekeyed, all_rekeyed}
 use Rattle.bson_table.proofs.StatementLemmas.{listed_by}
@@ -116,5 +116,8 @@ pub committed_then : (a b c : State) → HasCommitted a b → HasCommitted b c �
 committed_then a b c h k still = let two = k still in let one = h two.0 in (one.0, two.1 ∙ one.1)
 
 -- a rollback goes back to what was committed
-pub rolled_back : (a b c : State) → HasCommitted a b → IsRolledBack b c → (IsTrue a.is_open → a.now ≡ a.committed) → KeepsRows a c
-rolled_back a b c h back settled still = let one = h (back.was_open still) in (back.undone still).0 ∙ one.1 ∙ sym (settled one.0)
+pub rolled_back : (a b c : State) → HasCommitted a b → IsRolledBack b c → IsSettled a → KeepsAll a c
+rolled_back a b c h back settled still =
+    let one = h (back.was_open still) in
+    let two = back.undone still in
+    record { was_open = one.0; is_open = still; now_is = two.0 ∙ one.1 ∙ sym (settled.committed one.0); committed_is = two.1 ∙ one.1; mode = back.autocommit ∙ sym settled.autocommit }

@@ -1,5 +1,5 @@
 -- A map from keys and names to places, beside the rows that it stands for.
-use Rattle.std.proofs.Common.{◌≡◌, ◌++◌, ℕ, ℤ, List, [], ◌∷◌, Bool, true, false, cond, ◌&&◌, Option, Some, None, option_map, find, bytes_eq, refl, sym, ap, ap₂, ◌∙◌, is_eq, subst}
+use Rattle.std.proofs.Common.{◌≡◌, ◌++◌, ℤ, List, [], ◌∷◌, Bool, true, false, cond, ◌&&◌, Some, None, option_map, find, bytes_eq, refl, sym, ap, ap₂, ◌∙◌, is_eq}
 use Rattle.std.specs.BTreeMap.{BTreeMap, get}
 use Rattle.std.proofs.lemmas.Bool.{and_parts}
 use Rattle.std.proofs.lemmas.Slice.Eq.{bytes_eq-Decides}

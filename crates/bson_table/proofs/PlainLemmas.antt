@@ -20,10 +20,9 @@ use Rattle.sqlite.specs.Effect.{Database, RefusesToRead}
 use Rattle.sqlite.specs.Listing.{understood, reads_listing, if_select, is_select, listing_schema}
 use Rattle.sqlite.specs.State.{State, Shown, ShowsRows, CommitsShowing, FailsToQuery, FailsToShow, IsNotRun, IsUnchanged, Survives, store_error}
 use Rattle.sqlite.proofs.StateLemmas.{survives_weaker}
-use Rattle.std.proofs.Common.{IsTrue}
 pub use Rattle.bson_table.specs.Visit.{asks, AsksForRows}
-use Rattle.bson_table.proofs.StatementLemmas.{undone_keeps}
-use Rattle.bson_table.specs.Open.{all_text}
+use Rattle.bson_table.proofs.StatementLemmas.{undone_keeps, unchanged_keeps}
+use Rattle.bson_table.specs.Open.{all_text, IsSettled, KeepsAll}
 
 abbrev pub Bare : Compiled → Type 0
 Bare c = (c.returning ≡ None) × (c.formats ≡ [])
@@ -38,7 +37,7 @@ unfolding returning
 shows_none schema base (written.Select s) h = refl
 shows_none schema base _ h = absurd (cc)
 
-same_compiled : {a b : Compiled} → ◌≡◌ {A = Result Compiled CompileError} (Ok a) (Ok b) → a ≡ b
+pub same_compiled : {a b : Compiled} → ◌≡◌ {A = Result Compiled CompileError} (Ok a) (Ok b) → a ≡ b
 same_compiled e = cc
 
 pub bare_if : (schema : Schema) (text : List ℕ) (f : Result Parsed CompileError) → first text ≡ f → AsksForRows f → (c : Compiled) → compiled schema text ≡ Ok c → Bare c
@@ -106,10 +105,10 @@ not_understood old new f (inr ran) =
     let it = subst (λ k. FailsToShow old new all_text ran.0 (clocked [] ran.0.formats ran.1.now) (SqlInputError f) k) (all_bare old.now.schema ran.0 ran.1.is).0 ran.2 in
     absurd (no_input_read _ ran.0.command it.0 _ f it.2)
 
--- nor does a refused one change a row
-pub unread_keeps : (old new : State) (e : Error) → FailsToQuery all_text [] old new e → (IsTrue old.is_open → old.now ≡ old.committed) → IsTrue new.is_open → new.now ≡ old.now
+-- nor does a refused one
+pub unread_keeps : (old new : State) (e : Error) → FailsToQuery all_text [] old new e → IsSettled old → KeepsAll old new
 unfolding FailsToQuery IsNotRun
-unread_keeps old new e (inl (inl not_run)) h still = not_run.1.0.now_is
-unread_keeps old new e (inl (inr failed)) h still = undone_keeps old new h failed.3 still
-unread_keeps old new e (inr ran) h still =
-    (subst (λ k. FailsToShow old new all_text ran.0 (clocked [] ran.0.formats ran.1.now) e k) (all_bare old.now.schema ran.0 ran.1.is).0 ran.2).3.0.now_is
+unread_keeps old new e (inl (inl not_run)) h = unchanged_keeps old new not_run.1
+unread_keeps old new e (inl (inr failed)) h = undone_keeps old new h failed.3
+unread_keeps old new e (inr ran) h =
+    unchanged_keeps old new (subst (λ k. FailsToShow old new all_text ran.0 (clocked [] ran.0.formats ran.1.now) e k) (all_bare old.now.schema ran.0 ran.1.is).0 ran.2).3

@@ -1,8 +1,8 @@
 -- What the replacing of keys says of the rows, from what the second survey found.
-use Rattle.std.proofs.Common.{◌≡◌, inl, inr, ◌⊎◌, ◌++◌, ◌∷◌, [], ℕ, ℤ, List, IfErr, None, Some, Result, Ok, Err, OnOk, OnErr, IsTrue, refl, sym, ap, subst, ◌∙◌}
+use Rattle.std.proofs.Common.{◌≡◌, inl, inr, ◌⊎◌, ◌++◌, ◌∷◌, [], ℕ, ℤ, List, IfErr, None, Some, Result, Ok, Err, refl, sym, ap, subst, ◌∙◌}
 use Rattle.sqlite.specs.Clock.{timed}
 use Rattle.sqlite.specs.Order.{Row}
-use Rattle.sqlite.specs.State.{State, IsLive, Survives, IsUnchanged, Shown, ShowsRows}
+use Rattle.sqlite.specs.State.{State, IsLive, IsUnchanged, Shown, ShowsRows}
 use Rattle.sqlite.specs.Effect.{Database as Held, IsDatabase}
 use Rattle.sqlite.specs.Listing.{understood}
 use Rattle.sqlite.proofs.Callers.{unchanged_then}
@@ -14,11 +14,11 @@ use Rattle.bson_table.specs.declared.opening.OpenError.{OpenError}
 use Rattle.bson_table.specs.declared.opening.OpenError.TheVariants.{NotAStore, BadRow, IdsCollide, Memory, Database}
 use Rattle.bson_table.specs.declared.renewal.Renewals.{Renewals}
 use Rattle.bson_table.specs.Check.{AreGood, AreGoodAfter}
-use Rattle.bson_table.specs.Open.{all_text, Reads, ReadsNot, RefusesOpening, PassesOpening, KeepsRows}
+use Rattle.bson_table.specs.Open.{all_text, Reads, ReadsNot, RefusesOpening, PassesOpening, IsSettled, KeepsAll}
 use Rattle.bson_table.specs.Rows.{Doc, HasRows, Shows, all_rekeyed}
 use Rattle.bson_table.specs.Renewal.{IsOwn, AreRenewed, AcceptsOnce, AreRenewals, Renewed, Unrenewed, MayRenew, RenewsOld, AreGoodOnce, PassesOnce}
 use Rattle.bson_table.proofs.ListedLemmas.{listed_shows}
-use Rattle.bson_table.proofs.StatementLemmas.{unchanged_shows}
+use Rattle.bson_table.proofs.StatementLemmas.{unchanged_shows, unchanged_keeps, keeps_then, settled_still}
 use Rattle.bson_table.proofs.UniqueLemmas.{one_list}
 use Rattle.bson_table.proofs.RenewalLemmas.{apart_yet, twin_of}
 
@@ -72,8 +72,8 @@ module _ (accepts : List ℕ → List ℕ → List ℕ → Type 0) (renews : Lis
     pub good_once : AreGoodOnce renews old
     good_once = (f.docs, read_here old mid f.docs f.reads, f.good)
 
-    pub nothing_written : KeepsRows old mid
-    nothing_written still = f.reads.unchanged.0.now_is
+    pub nothing_written : KeepsAll old mid
+    nothing_written = unchanged_keeps old mid f.reads.unchanged
 
     same : IsLive old → (ds : List Doc) → Shows old ds → ds ≡ f.docs
     same live ds shows = one_list mid.now.trees ds f.docs (unchanged_shows old mid ds shows f.reads.unchanged).table
@@ -93,11 +93,11 @@ module _ (accepts : List ℕ → List ℕ → List ℕ → Type 0) (renews : Lis
           let yet = apart_yet accepts renews f.docs r f.renewals none in
           (f.renewals.after, subst (λ xs. AreRenewed renews xs f.renewals.after) (sym (same live ds shows)) f.renewals.renewed, subst (HasRows db) yet.keys (made f.docs (there live ds shows)))
 
-      pub settled_there : (IsTrue old.is_open → old.now ≡ old.committed) → IsTrue mid.is_open → mid.now ≡ mid.committed
-      settled_there settled open_mid = f.reads.unchanged.0.now_is ∙ settled f.reads.unchanged.0.was_open ∙ sym f.reads.unchanged.0.committed_is
+      pub settled_there : IsSettled old → IsSettled mid
+      settled_there = settled_still old mid f.reads.unchanged
 
-      pub kept_so : KeepsRows mid new → KeepsRows old new
-      kept_so kept still = kept still ∙ f.reads.unchanged.0.now_is
+      pub kept_so : KeepsAll mid new → KeepsAll old new
+      kept_so = keeps_then old mid new nothing_written
 
 -- ---- from the first survey
 
@@ -148,11 +148,11 @@ module _ (renews : List ℕ → List ℕ → List ℕ → List ℕ → Type 0) (
     back_unrenewed Memory h = tt
     back_unrenewed Database h = tt
 
-    pub back_settled : (IsTrue old.is_open → old.now ≡ old.committed) → IsTrue mid.is_open → mid.now ≡ mid.committed
-    back_settled settled open_mid = u.0.now_is ∙ settled u.0.was_open ∙ sym u.0.committed_is
+    pub back_settled : IsSettled old → IsSettled mid
+    back_settled = settled_still old mid u
 
-    pub back_kept : KeepsRows mid new → KeepsRows old new
-    back_kept kept still = kept still ∙ u.0.now_is
+    pub back_kept : KeepsAll mid new → KeepsAll old new
+    back_kept = keeps_then old mid new (unchanged_keeps old mid u)
 
     -- a row that isn't good under its own key was read
     pub renews_old : (place : ℤ) → RefusesOpening (IsOwn renews) old mid (BadRow place) → (db : Trees) → MayRenew (IsOwn renews) renews mid db → RenewsOld renews old db

@@ -16,6 +16,7 @@ use Rattle.sqlite.proofs.Callers.{command_of, statement_of}
 use Rattle.sqlite_trees.specs.Objects.{catalog_tree}
 use Rattle.sqlite_catalog.specs.Listing.{Lists}
 use Rattle.bson_table.specs.Schema.{documents_schema}
+use Rattle.bson_table.specs.Open.{IsSettled, KeepsAll}
 use Rattle.bson_table.specs.Rows.{Doc, HasRows, ListsTable, Shows}
 
 -- a database with the schema lists it
@@ -70,18 +71,35 @@ commits_as sql params s db schema command has is plain no_commit no_release h =
     ]
 
 -- a refused statement leaves the database, where no transaction is open
-pub undone_keeps : (old new : State) → (IsTrue old.is_open → old.now ≡ old.committed) → IsRolledBack old new → IsTrue new.is_open → new.now ≡ old.now
-undone_keeps old new settled u still = (u.undone still).0 ∙ sym (settled (u.was_open still))
+pub undone_keeps : (old new : State) → IsSettled old → IsRolledBack old new → KeepsAll old new
+undone_keeps old new settled u still =
+    let back = u.undone still in
+    let was = u.was_open still in
+    record { was_open = was; is_open = still; now_is = back.0 ∙ sym (settled.committed was); committed_is = back.1; mode = u.autocommit ∙ sym settled.autocommit }
 
-refused_keeps : (sql : List ℕ) (params : Row) (old new : State) (e : Error) → Executes sql params old new (Err e) → (IsTrue old.is_open → old.now ≡ old.committed) → IsTrue new.is_open → new.now ≡ old.now
+pub unchanged_keeps : (old new : State) → IsUnchanged old new → KeepsAll old new
+unchanged_keeps old new u still = u.0
+
+-- what is left after what left it
+pub keeps_then : (old mid new : State) → KeepsAll old mid → KeepsAll mid new → KeepsAll old new
+keeps_then old mid new h k still =
+    let two = k still in
+    let one = h two.was_open in
+    record { was_open = one.was_open; is_open = two.is_open; now_is = two.now_is ∙ one.now_is; committed_is = two.committed_is ∙ one.committed_is; mode = two.mode ∙ one.mode }
+
+-- where nothing changed, nothing is left open
+pub settled_still : (old new : State) → IsUnchanged old new → IsSettled old → IsSettled new
+settled_still old new u h = record { autocommit = u.0.mode ∙ h.autocommit; committed = λ still. u.0.now_is ∙ h.committed u.0.was_open ∙ sym u.0.committed_is }
+
+refused_keeps : (sql : List ℕ) (params : Row) (old new : State) (e : Error) → Executes sql params old new (Err e) → IsSettled old → KeepsAll old new
 unfolding ExecutesIn IsNotRun
-refused_keeps sql params old new e (inl (inl not_run)) h still = not_run.1.0.now_is
-refused_keeps sql params old new e (inl (inr failed)) h still = undone_keeps old new h failed.3 still
-refused_keeps sql params old new e (inr ran) h still = elim (cases_Bool (shows_rows false ran.0)) [
-  | inl shows ↦ (rw shows at ran.2).1.0.now_is
-  | inr runs ↦ elim (rw runs at ran.2) [ inl refused ↦ refused.1.0.now_is | inr failed ↦ undone_keeps old new h failed.3 still ]
+refused_keeps sql params old new e (inl (inl not_run)) h = unchanged_keeps old new not_run.1
+refused_keeps sql params old new e (inl (inr failed)) h = undone_keeps old new h failed.3
+refused_keeps sql params old new e (inr ran) h = elim (cases_Bool (shows_rows false ran.0)) [
+  | inl shows ↦ unchanged_keeps old new (rw shows at ran.2).1
+  | inr runs ↦ elim (rw runs at ran.2) [ inl refused ↦ unchanged_keeps old new refused.1 | inr failed ↦ undone_keeps old new h failed.3 ]
 ]
 
-pub if_refused_keeps : (sql : List ℕ) (params : Row) (old new : State) (r : Result ℕ Error) → Executes sql params old new r → (IsTrue old.is_open → old.now ≡ old.committed) → OnErr r (IsTrue new.is_open → new.now ≡ old.now)
+pub if_refused_keeps : (sql : List ℕ) (params : Row) (old new : State) (r : Result ℕ Error) → Executes sql params old new r → IsSettled old → OnErr r (KeepsAll old new)
 if_refused_keeps sql params old new (Ok count) e h = tt
 if_refused_keeps sql params old new (Err why) e h = refused_keeps sql params old new why e h

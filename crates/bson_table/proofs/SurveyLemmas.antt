@@ -8,6 +8,7 @@ use Rattle.bson_table.specs.declared.opening.OpenError.{OpenError}
 use Rattle.bson_table.specs.declared.opening.OpenError.TheVariants.{NotAStore, BadRow, IdsCollide, Memory, Database}
 use Rattle.bson_table.specs.Schema.{documents_schema, no_schema}
 use Rattle.bson_table.specs.Rows.{Doc, HasRows, Shows, IsBlank}
+use Rattle.bson_table.specs.Beside.{StandsBeside, AreBeside}
 use Rattle.bson_table.specs.Check.{IsGoodAfter, AreGoodAfter, AreGood, IsFirstBad}
 use Rattle.bson_table.specs.Open.{RefusesOpening, HasTable, HasNoTable, table_name}
 use Rattle.bson_table.specs.Renewal.{IsOwn, AcceptsOnce, AreRenewed, Renewed, Unrenewed, RenewsOld, PassesOnce, Opened, Unopened, Makes}
@@ -68,6 +69,7 @@ module _ (renews : List ℕ → List ℕ → List ℕ → List ℕ → Type 0) (
     opened_by : IsLive old → old.in_transaction ≡ false → (IsTrue old.is_open → old.now ≡ old.committed) → is_some (table_named old.now.schema table_name) ≡ true → Opened renews old new
     opened_by live auto settled there = record {
       made = λ blank. absurd (let e : is_some (table_named old.now.schema table_name) ≡ false = ap (λ s. is_some (table_named s table_name)) blank.schema ∙ no_table in cc);
+      beside = λ none. absurd (one_there old there none);
       found = found;
       listed = listed_by_read live auto settled;
       other = inr passed;
@@ -93,16 +95,29 @@ module _ (renews : List ℕ → List ℕ → List ℕ → List ℕ → Type 0) (
   pub renews_if : is_some (table_named old.now.schema table_name) ≡ true → Survives old new (RenewsOld renews old) → Survives old new (Makes renews old)
   renews_if there kept = survives_weaker old new _ _ (λ _ db made. inr (one_there old there, made)) kept
 
-  pub made_by : is_some (table_named old.now.schema table_name) ≡ false → (IsBlank old → Shows new []) → Opened renews old new
-  made_by missing made =
+  made_by : is_some (table_named old.now.schema table_name) ≡ false → (IsBlank old → Shows new []) → StandsBeside old new → Opened renews old new
+  made_by missing made beside =
       let no_such : old.now.schema ≡ documents_schema → ⊥ = λ has. let e : is_some (table_named old.now.schema table_name) ≡ true = ap (λ s. is_some (table_named s table_name)) has ∙ a_table in cc in
       record {
         made = made;
+        beside = λ none. beside;
         found = λ docs shows. absurd (no_such shows.schema);
         listed = λ has. absurd (no_such has);
         other = inl (none_there old missing);
         unwritten = λ docs shows good. absurd (no_such shows.schema);
       }
 
-  pub makes_if : is_some (table_named old.now.schema table_name) ≡ false → Survives old new (λ trees. IsBlank old → HasRows trees []) → Survives old new (Makes renews old)
-  makes_if missing made = survives_weaker old new _ _ (λ _ db blank. inl (none_there old missing, blank)) made
+  pub made_if : is_some (table_named old.now.schema table_name) ≡ false → (r : Result (Unit {0}) OpenError) → (IsBlank old → OnOk r (Shows new [])) → OnOk r (StandsBeside old new) → OnOk r (Opened renews old new)
+  made_if missing (Ok u) made beside = made_by missing made beside
+  made_if missing (Err e) made beside = tt
+
+  told : (e : OpenError) → (e ≡ Memory) ⊎ (e ≡ Database) → Unopened renews old new e
+  told e (inl is) = subst (Unopened renews old new) (sym is) tt
+  told e (inr is) = subst (Unopened renews old new) (sym is) tt
+
+  pub told_if : (r : Result (Unit {0}) OpenError) → IfErr r (λ e. (e ≡ Memory) ⊎ (e ≡ Database)) → IfErr r (Unopened renews old new)
+  told_if (Ok u) h = tt
+  told_if (Err e) h = told e h
+
+  pub makes_if : is_some (table_named old.now.schema table_name) ≡ false → Survives old new (λ trees. (IsBlank old → HasRows trees []) × AreBeside old.now trees) → Survives old new (Makes renews old)
+  makes_if missing made = survives_weaker old new _ _ (λ _ db made. inl (none_there old missing, made.0, made.1)) made

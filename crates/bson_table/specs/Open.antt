@@ -4,13 +4,11 @@ use Rattle.std.specs.List.{list_all}
 use Rattle.sqlite_value.specs.Order.{Row}
 use Rattle.sqlite_resolve.specs.declared.error.CompileError.{CompileError}
 use Rattle.sqlite.specs.Listing.{understood}
-use Rattle.sqlite.specs.State.{State, Shown, IsUnchanged}
+use Rattle.sqlite.specs.State.{State, Shown, Shows as Sees, IsUnchanged}
 use Rattle.bson_table.specs.declared.opening.OpenError.{OpenError}
 use Rattle.bson_table.specs.declared.opening.OpenError.TheVariants.{NotAStore, BadRow, IdsCollide, Memory, Database}
-use Rattle.sqlite_trees.specs.Tree.{Trees}
 use Rattle.sqlite_schema.specs.Names.{table_named, index_named, view_named}
-use Rattle.bson_table.specs.Schema.{documents_schema}
-use Rattle.bson_table.specs.Rows.{Doc, Shows, HasRows, IsBlank}
+use Rattle.bson_table.specs.Rows.{Doc}
 use Rattle.bson_table.specs.Cells.{is_listed, doc_of}
 use Rattle.bson_table.specs.Check.{AreGood, IsFirstBad}
 
@@ -45,9 +43,14 @@ ReadsNot old new =
     (((fault : CompileError) × (understood old.now.schema all_text ≡ Err fault)) ⊎ ((rows : List Row) × Shown all_text [] old new rows × (list_all is_listed rows ≡ false)))
     × IsUnchanged old new
 
--- no refusal changes a row
-abbrev pub KeepsRows : State → State → Type 0
-KeepsRows old new = IsTrue new.is_open → new.now ≡ old.now
+-- no transaction is open, and what is shown was committed
+pub record IsSettled (s : State) : Type 0 where
+  pub autocommit : s.in_transaction ≡ false
+  pub committed : IsTrue s.is_open → s.now ≡ s.committed
+
+-- no refusal changes a row, or opens or ends a transaction
+abbrev pub KeepsAll : State → State → Type 0
+KeepsAll old new = IsTrue new.is_open → Sees old new old.now old.committed old.in_transaction
 
 -- what was committed stays so
 abbrev pub HasCommitted : State → State → Type 0

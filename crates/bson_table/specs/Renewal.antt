@@ -1,5 +1,5 @@
 -- Rows under old keys, and the rows that they become.
-use Rattle.std.specs.Prelude.{◌≡◌, ◌⊎◌, ◌++◌, ◌∷◌, [], ◌≤ℤ◌, ℕ, ℤ, List, Option, Some, None, option_map, find, MatchOption}
+use Rattle.std.specs.Prelude.{◌≡◌, ◌⊎◌, ◌++◌, ◌∷◌, [], ◌≤ℤ◌, ℕ, ℤ, List, Some, option_map, find, MatchOption}
 use Rattle.std.specs.List.{AllByRecursion}
 use Rattle.std.specs.BTreeMap.{BTreeMap, get}
 use Rattle.bson_table.specs.declared.row.NewKey.{NewKey}
@@ -9,6 +9,7 @@ use Rattle.sqlite_trees.specs.Tree.{Trees}
 use Rattle.bson_table.specs.declared.opening.OpenError.{OpenError}
 use Rattle.bson_table.specs.declared.opening.OpenError.TheVariants.{NotAStore, BadRow, IdsCollide, Memory, Database}
 use Rattle.bson_table.specs.Open.{HasTable, HasNoTable, IsNameTaken, Reads, ReadsNot, PassesOpening}
+use Rattle.bson_table.specs.Beside.{StandsBeside, AreBeside}
 use Rattle.bson_table.specs.Schema.{documents_schema}
 use Rattle.bson_table.specs.Rows.{Doc, IsBlank, Shows, HasRows, is_row_named, all_rekeyed, last_place}
 use Rattle.bson_table.specs.Check.{AreGood, IsFirstBad}
@@ -98,9 +99,11 @@ module _ (renews : List ℕ → List ℕ → List ℕ → List ℕ → Type 0) w
   abbrev pub PassesOnce : State → State → Type 0
   PassesOnce old new = PassesOpening (IsOwn renews) old new ⊎ (HasOldKey old × AreGoodOnce old)
 
-  -- what an open leaves: the table made, or found with rows that a store can have written, which have their keys of now
+  -- what an open leaves: the table made, beside what there was, or found with rows that a store can have written, which have their
+  -- keys of now
   pub record Opened (old new : State) : Type 0 where
     pub made : IsBlank old → Shows new []
+    pub beside : HasNoTable old → StandsBeside old new
     pub found : Renewed (IsOwn renews) renews old new
     pub listed : old.now.schema ≡ documents_schema → (docs : List Doc) × (after : List Doc) × Shows old docs × Shows new after × AreRenewed renews docs after × AreGood (IsOwn renews) after
     pub other : HasNoTable old ⊎ PassesOnce old new
@@ -116,4 +119,4 @@ module _ (renews : List ℕ → List ℕ → List ℕ → List ℕ → Type 0) w
 
   -- what an open may commit: the table, or the keys of now where a row hasn't its own
   abbrev pub Makes : State → Trees → Type 0
-  Makes old trees = (HasNoTable old × (IsBlank old → HasRows trees [])) ⊎ (HasTable old × RenewsOld old trees)
+  Makes old trees = (HasNoTable old × (IsBlank old → HasRows trees []) × AreBeside old.now trees) ⊎ (HasTable old × RenewsOld old trees)

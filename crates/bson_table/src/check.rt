@@ -9,7 +9,7 @@ ghost use Rattle.bson_table.specs.Cells.{is_listed, int_in, doc_of};
 ghost use Rattle.bson_table.specs.Check.{IsGoodAfter};
 ghost use Rattle.bson_table.specs.Seen.{has_pair, HasSeen};
 ghost use Rattle.bson_table.specs.Judged.{JudgesRow};
-ghost use Rattle.bson_table.specs.Open.{RefusesOpening, PassesOpening, KeepsRows};
+ghost use Rattle.bson_table.specs.Open.{RefusesOpening, PassesOpening, IsSettled, KeepsAll};
 
 use crate::opening::{OpenError, bytes_at, is_row, place_in, refusal};
 use sqlite::{Alter, Connection, Error, Row};
@@ -142,8 +142,8 @@ pub(crate) fn survey<S: Alter, J: TestsRows>(
 ) -> Result<(), OpenError>
     ensures read { HasCleanDisk (state S.Store conn.new) → OnOk result (PassesOpening (J.accepts check.now) (state S.Store conn.old) (state S.Store conn.new)) }
     ensures refused { HasCleanDisk (state S.Store conn.new) → IfErr result (λ e. RefusesOpening (J.accepts check.now) (state S.Store conn.old) (state S.Store conn.new) e) }
-    ensures kept { HasCleanDisk (state S.Store conn.new) → (IsTrue (state S.Store conn.old).is_open → (state S.Store conn.old).now ≡ (state S.Store conn.old).committed)
-        → OnErr result (KeepsRows (state S.Store conn.old) (state S.Store conn.new)) }
+    ensures kept { HasCleanDisk (state S.Store conn.new) → IsSettled (state S.Store conn.old)
+        → OnErr result (KeepsAll (state S.Store conn.old) (state S.Store conn.new)) }
     ensures crash { Survives (state S.Store conn.old) (state S.Store conn.new) (λ _. ⊥) }
 {
     let mut rows = match conn.query(

@@ -1,13 +1,15 @@
 //! Opening a database, whose table is tested row by row.
 
-ghost use Rattle.std.specs.Prelude.{◌≡◌, ◌⊎◌, List, false, Err, IsTrue, IfErr, OnOk, OnErr, is_some};
+ghost use Rattle.std.specs.Prelude.{◌≡◌, ◌⊎◌, List, [], false, Err, IsTrue, IfErr, OnOk, OnErr, is_some};
 ghost use Rattle.sqlite_value.specs.Order.{column};
 ghost use Rattle.sqlite.specs.Held.{state};
 ghost use Rattle.sqlite.specs.State.{HasCleanDisk, Survives, IsLive};
 ghost use Rattle.sqlite_schema.specs.Names.{table_named, index_named, view_named};
 ghost use Rattle.bson_table.specs.Cells.{is_listed, int_in, bytes_in};
 ghost use Rattle.bson_table.specs.Renewal.{Opened, Unopened, Makes};
-ghost use Rattle.bson_table.specs.Open.{KeepsRows, table_name, HasNoTable, IsNameTaken};
+ghost use Rattle.bson_table.specs.Rows.{HasRows, IsBlank, Shows};
+ghost use Rattle.bson_table.specs.Beside.{StandsBeside, AreBeside};
+ghost use Rattle.bson_table.specs.Open.{IsSettled, KeepsAll, table_name, HasNoTable, IsNameTaken};
 
 use crate::check::RowCheck;
 use crate::renewal::settle_keys;
@@ -79,8 +81,9 @@ pub(crate) fn prepare<S: Alter, C: RowCheck>(
 ) -> Result<(), OpenError>
     ensures opened { HasCleanDisk (state S.Store conn.new) → OnOk result (Opened (C.renews check.now) (state S.Store conn.old) (state S.Store conn.new)) }
     ensures refused { HasCleanDisk (state S.Store conn.new) → IfErr result (λ e. Unopened (C.renews check.now) (state S.Store conn.old) (state S.Store conn.new) e) }
-    ensures kept { HasCleanDisk (state S.Store conn.new) → OnErr result (KeepsRows (state S.Store conn.old) (state S.Store conn.new)) }
-    ensures taken { (state S.Store conn.old).in_transaction ≡ false → HasNoTable (state S.Store conn.old) → IsNameTaken (state S.Store conn.old) → result ≡ Err OpenError.NotAStore }
+    ensures kept { HasCleanDisk (state S.Store conn.new) → OnErr result (KeepsAll (state S.Store conn.old) (state S.Store conn.new)) }
+    ensures taken { (state S.Store conn.old).in_transaction ≡ false → HasNoTable (state S.Store conn.old) → IsNameTaken (state S.Store conn.old) → (result ≡ Err OpenError.NotAStore) × (conn.new ≡ conn.old) }
+    ensures busy { IsTrue (state S.Store conn.old).in_transaction → (result ≡ Err OpenError.Database) × (conn.new ≡ conn.old) }
     ensures crash { Survives (state S.Store conn.old) (state S.Store conn.new) (Makes (C.renews check.now) (state S.Store conn.old)) }
 {
     if !conn.is_autocommit() {
@@ -92,6 +95,17 @@ pub(crate) fn prepare<S: Alter, C: RowCheck>(
     if is_taken(conn) {
         return Err(OpenError::NotAStore);
     }
+    make_table(conn)
+}
+
+/// Makes the table in a database that has no object of the name.
+fn make_table<S: Alter>(conn: &mut Connection<S>) -> Result<(), OpenError>
+    ensures made { HasCleanDisk (state S.Store conn.new) → IsBlank (state S.Store conn.old) → OnOk result (Shows (state S.Store conn.new) []) }
+    ensures beside { HasCleanDisk (state S.Store conn.new) → (state S.Store conn.old).in_transaction ≡ false → OnOk result (StandsBeside (state S.Store conn.old) (state S.Store conn.new)) }
+    ensures told { IfErr result (λ e. (e ≡ OpenError.Memory) ⊎ (e ≡ OpenError.Database)) }
+    ensures kept { HasCleanDisk (state S.Store conn.new) → IsSettled (state S.Store conn.old) → OnErr result (KeepsAll (state S.Store conn.old) (state S.Store conn.new)) }
+    ensures crash { Survives (state S.Store conn.old) (state S.Store conn.new) (λ trees. (IsBlank (state S.Store conn.old) → HasRows trees []) × AreBeside (state S.Store conn.old).now trees) }
+{
     match create(conn) {
         Ok(_) => Ok(()),
         Err(error) => Err(refusal(error)),

@@ -5,7 +5,7 @@ ghost use Rattle.bson_table.specs.Cells.{doc_of};
 ghost use Rattle.sqlite.specs.Held.{state};
 ghost use Rattle.sqlite.specs.State.{HasCleanDisk, Survives, IsLive};
 ghost use Rattle.bson_table.specs.Check.{AreGood, IsGoodAfter};
-ghost use Rattle.bson_table.specs.Open.{KeepsRows, Reads, RefusesOpening};
+ghost use Rattle.bson_table.specs.Open.{IsSettled, KeepsAll, Reads, RefusesOpening};
 ghost use Rattle.bson_table.specs.Rows.{Doc, HasRows, Shows, all_rekeyed, is_row_named};
 ghost use Rattle.bson_table.specs.Renewal.{HasPlaces, AcceptsOnce, IsOwn, AreRenewals, Renewed, Unrenewed, MayRenew, RenewsOld, AreGoodOnce, PassesOnce};
 
@@ -144,8 +144,8 @@ pub(crate) fn survey_old<S: Alter, C: RowCheck>(
 ) -> Result<Renewals, OpenError>
     ensures read { HasCleanDisk (state S.Store conn.new) → IfOk result (λ r. (docs : List Doc) × Reads (state S.Store conn.old) (state S.Store conn.new) docs × AreGood (AcceptsOnce (C.renews check.now)) docs × AreRenewals (IsOwn (C.renews check.now)) (C.renews check.now) docs r) }
     ensures refused { HasCleanDisk (state S.Store conn.new) → IfErr result (λ e. RefusesOpening (AcceptsOnce (C.renews check.now)) (state S.Store conn.old) (state S.Store conn.new) e) }
-    ensures kept { HasCleanDisk (state S.Store conn.new) → (IsTrue (state S.Store conn.old).is_open → (state S.Store conn.old).now ≡ (state S.Store conn.old).committed)
-        → OnErr result (KeepsRows (state S.Store conn.old) (state S.Store conn.new)) }
+    ensures kept { HasCleanDisk (state S.Store conn.new) → IsSettled (state S.Store conn.old)
+        → OnErr result (KeepsAll (state S.Store conn.old) (state S.Store conn.new)) }
     ensures crash { Survives (state S.Store conn.old) (state S.Store conn.new) (λ _. ⊥) }
 {
     let mut rows = match conn.query(
@@ -182,8 +182,8 @@ pub(crate) fn survey_old<S: Alter, C: RowCheck>(
 fn write_keys<S: Alter>(conn: &mut Connection<S>, keys: &[NewKey]) -> Result<(), Error>
     ensures done { HasCleanDisk (state S.Store conn.new) → (docs : List Doc) → Shows (state S.Store conn.old) docs
         → OnOk result (Shows (state S.Store conn.new) (all_rekeyed keys.now docs)) }
-    ensures kept { HasCleanDisk (state S.Store conn.new) → (IsTrue (state S.Store conn.old).is_open → (state S.Store conn.old).now ≡ (state S.Store conn.old).committed)
-        → OnErr result (KeepsRows (state S.Store conn.old) (state S.Store conn.new)) }
+    ensures kept { HasCleanDisk (state S.Store conn.new) → IsSettled (state S.Store conn.old)
+        → OnErr result (KeepsAll (state S.Store conn.old) (state S.Store conn.new)) }
     ensures crash { Survives (state S.Store conn.old) (state S.Store conn.new)
         (λ trees. (docs : List Doc) → Shows (state S.Store conn.old) docs → HasRows trees (all_rekeyed keys.now docs)) }
 {
@@ -199,8 +199,8 @@ pub(crate) fn renew<S: Alter, C: RowCheck>(
     ensures renewed { HasCleanDisk (state S.Store conn.new) → IsLive (state S.Store conn.old) → OnOk result (Renewed (IsOwn (C.renews check.now)) (C.renews check.now) (state S.Store conn.old) (state S.Store conn.new)) }
     ensures read { HasCleanDisk (state S.Store conn.new) → OnOk result (AreGoodOnce (C.renews check.now) (state S.Store conn.old)) }
     ensures refused { HasCleanDisk (state S.Store conn.new) → IfErr result (λ e. Unrenewed (IsOwn (C.renews check.now)) (C.renews check.now) (state S.Store conn.old) (state S.Store conn.new) e) }
-    ensures kept { HasCleanDisk (state S.Store conn.new) → (IsTrue (state S.Store conn.old).is_open → (state S.Store conn.old).now ≡ (state S.Store conn.old).committed)
-        → OnErr result (KeepsRows (state S.Store conn.old) (state S.Store conn.new)) }
+    ensures kept { HasCleanDisk (state S.Store conn.new) → IsSettled (state S.Store conn.old)
+        → OnErr result (KeepsAll (state S.Store conn.old) (state S.Store conn.new)) }
     ensures crash { Survives (state S.Store conn.old) (state S.Store conn.new) (MayRenew (IsOwn (C.renews check.now)) (C.renews check.now) (state S.Store conn.old)) }
 {
     let renewals = survey_old(alloc, conn, check)?;
@@ -222,8 +222,8 @@ pub(crate) fn settle_keys<S: Alter, C: RowCheck>(
     ensures settled { HasCleanDisk (state S.Store conn.new) → IsLive (state S.Store conn.old) → OnOk result (Renewed (IsOwn (C.renews check.now)) (C.renews check.now) (state S.Store conn.old) (state S.Store conn.new)) }
     ensures read { HasCleanDisk (state S.Store conn.new) → OnOk result (PassesOnce (C.renews check.now) (state S.Store conn.old) (state S.Store conn.new)) }
     ensures refused { HasCleanDisk (state S.Store conn.new) → IfErr result (λ e. Unrenewed (IsOwn (C.renews check.now)) (C.renews check.now) (state S.Store conn.old) (state S.Store conn.new) e) }
-    ensures kept { HasCleanDisk (state S.Store conn.new) → (IsTrue (state S.Store conn.old).is_open → (state S.Store conn.old).now ≡ (state S.Store conn.old).committed)
-        → OnErr result (KeepsRows (state S.Store conn.old) (state S.Store conn.new)) }
+    ensures kept { HasCleanDisk (state S.Store conn.new) → IsSettled (state S.Store conn.old)
+        → OnErr result (KeepsAll (state S.Store conn.old) (state S.Store conn.new)) }
     ensures crash { Survives (state S.Store conn.old) (state S.Store conn.new) (RenewsOld (C.renews check.now) (state S.Store conn.old)) }
 {
     match survey(alloc, conn, &Own { check }) {

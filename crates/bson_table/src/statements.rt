@@ -1,12 +1,13 @@
 //! The statements, each with what it does to the rows.
 
-ghost use Rattle.std.specs.Prelude.{◌≡◌, ◌≢◌, ◌+ℤ◌, ◌<ℤ◌, ◌^◌, pos, length, List, [], ◌∷◌, ◌++◌, map, filter, IsTrue, IfOk, OnOk, OnErr, MatchOption};
+ghost use Rattle.std.specs.Prelude.{◌≡◌, ◌≢◌, ◌+ℤ◌, ◌<ℤ◌, ◌^◌, pos, length, List, [], ◌∷◌, ◌++◌, map, filter, false, IsTrue, IfOk, OnOk, OnErr, MatchOption};
 ghost use Rattle.sqlite.specs.declared.types.Value.TheVariants.{Int, Blob};
 ghost use Rattle.sqlite.specs.Held.{state};
 ghost use Rattle.sqlite.specs.State.{HasCleanDisk, Survives};
 ghost use Rattle.bson_table.specs.Rows.{Doc, IsBlank, AreBelow, HasRows, Shows, Inside, KeepsCommitted, docs_from, without_place, replaced, rekeyed, all_rekeyed, is_row_named, last_place};
 ghost use Rattle.bson_table.specs.Moves.{Stands};
-ghost use Rattle.bson_table.specs.Open.{KeepsRows, HasCommitted};
+ghost use Rattle.bson_table.specs.Open.{IsSettled, KeepsAll, HasCommitted};
+ghost use Rattle.bson_table.specs.Beside.{StandsBeside, AreBeside};
 ghost use Rattle.bson_table.specs.Visit.{ReadsRows};
 ghost use Rattle.bson_table.specs.Written.{WritesRows};
 
@@ -18,9 +19,9 @@ use sqlite::{Alter, Connection, Error, ErrorCode, Row, Transaction};
 /// Makes the table in a database that has none.
 pub(crate) fn create<S: Alter>(conn: &mut Connection<S>) -> Result<usize, Error>
     ensures made { HasCleanDisk (state S.Store conn.new) → IsBlank (state S.Store conn.old) → OnOk result (Shows (state S.Store conn.new) []) }
-    ensures refused { HasCleanDisk (state S.Store conn.new) → (IsTrue (state S.Store conn.old).is_open → (state S.Store conn.old).now ≡ (state S.Store conn.old).committed)
-        → OnErr result (IsTrue (state S.Store conn.new).is_open → (state S.Store conn.new).now ≡ (state S.Store conn.old).now) }
-    ensures crash { Survives (state S.Store conn.old) (state S.Store conn.new) (λ trees. IsBlank (state S.Store conn.old) → HasRows trees []) }
+    ensures beside { HasCleanDisk (state S.Store conn.new) → (state S.Store conn.old).in_transaction ≡ false → OnOk result (StandsBeside (state S.Store conn.old) (state S.Store conn.new)) }
+    ensures kept { HasCleanDisk (state S.Store conn.new) → IsSettled (state S.Store conn.old) → OnErr result (KeepsAll (state S.Store conn.old) (state S.Store conn.new)) }
+    ensures crash { Survives (state S.Store conn.old) (state S.Store conn.new) (λ trees. (IsBlank (state S.Store conn.old) → HasRows trees []) × AreBeside (state S.Store conn.old).now trees) }
 {
     conn.execute(
         "CREATE TABLE documents (place INTEGER PRIMARY KEY, coll TEXT NOT NULL, idkey BLOB NOT NULL, body BLOB NOT NULL, UNIQUE (coll, idkey)) STRICT",
@@ -212,8 +213,8 @@ pub(crate) fn rekey_all<S: Alter>(conn: &mut Connection<S>, keys: &[NewKey]) -> 
         → OnOk result (Shows (state S.Store conn.new) (all_rekeyed keys.now docs)) }
     ensures refused { HasCleanDisk (state S.Store conn.new) → (docs : List Doc) → Shows (state S.Store conn.old) docs
         → IsTrue (state S.Store conn.new).is_open → OnErr result (Shows (state S.Store conn.new) docs) }
-    ensures kept { HasCleanDisk (state S.Store conn.new) → (IsTrue (state S.Store conn.old).is_open → (state S.Store conn.old).now ≡ (state S.Store conn.old).committed)
-        → OnErr result (KeepsRows (state S.Store conn.old) (state S.Store conn.new)) }
+    ensures kept { HasCleanDisk (state S.Store conn.new) → IsSettled (state S.Store conn.old)
+        → OnErr result (KeepsAll (state S.Store conn.old) (state S.Store conn.new)) }
     ensures crash { Survives (state S.Store conn.old) (state S.Store conn.new)
         (λ trees. (docs : List Doc) → Shows (state S.Store conn.old) docs → HasRows trees (all_rekeyed keys.now docs)) }
 {

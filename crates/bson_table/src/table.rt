@@ -1,12 +1,12 @@
 //! The table: a list of rows, of which each call is a change.
 
-ghost use Rattle.std.specs.Prelude.{◌≡◌, length, false, IfOk, IfErr, IsErrAnd, IsErrOf};
+ghost use Rattle.std.specs.Prelude.{◌≡◌, length, false, IsTrue, IfOk, IfErr, IsErrAnd, IsErrOf};
 ghost use Rattle.sqlite.specs.Held.{state};
 ghost use Rattle.sqlite.specs.State.{HasCleanDisk, Survives};
 ghost use Rattle.bson_table.specs.Rows.{without_place, replaced};
 ghost use Rattle.bson_table.specs.Moves.{Moves, WasOpen, MayLeave, Settles, FindsRow, Changes, AddsRows, Lists, Visits, appended, all_appended};
 ghost use Rattle.bson_table.specs.Renewal.{Opened, Unopened, Makes};
-ghost use Rattle.bson_table.specs.Open.{KeepsRows, HasNoTable, IsNameTaken};
+ghost use Rattle.bson_table.specs.Open.{KeepsAll, HasNoTable, IsNameTaken};
 ghost use Rattle.sqlite_value.specs.Order.{column};
 ghost use Rattle.bson_table.specs.Cells.{int_in, bytes_in};
 
@@ -47,8 +47,9 @@ impl<S: Alter + Drop> Table<S> {
     ) -> Result<Table<S>, (OpenError, Connection<S>)>
         ensures opened { IfOk result (λ t. HasCleanDisk (table_state S.Store t) → Opened (C.renews check.now) (state S.Store connection) (table_state S.Store t)) }
         ensures refused { IfErr result (λ e. HasCleanDisk (state S.Store e.1) → Unopened (C.renews check.now) (state S.Store connection) (state S.Store e.1) e.0) }
-        ensures kept { IfErr result (λ e. HasCleanDisk (state S.Store e.1) → KeepsRows (state S.Store connection) (state S.Store e.1)) }
-        ensures taken { (state S.Store connection).in_transaction ≡ false → HasNoTable (state S.Store connection) → IsNameTaken (state S.Store connection) → IsErrAnd result (λ e. e.0 ≡ OpenError.NotAStore) }
+        ensures kept { IfErr result (λ e. HasCleanDisk (state S.Store e.1) → KeepsAll (state S.Store connection) (state S.Store e.1)) }
+        ensures taken { (state S.Store connection).in_transaction ≡ false → HasNoTable (state S.Store connection) → IsNameTaken (state S.Store connection) → IsErrAnd result (λ e. (e.0 ≡ OpenError.NotAStore) × (e.1 ≡ connection)) }
+        ensures busy { IsTrue (state S.Store connection).in_transaction → IsErrAnd result (λ e. (e.0 ≡ OpenError.Database) × (e.1 ≡ connection)) }
         ensures crash { IfOk result (λ t. Survives (state S.Store connection) (table_state S.Store t) (Makes (C.renews check.now) (state S.Store connection))) }
         ensures crash_refused { IfErr result (λ e. Survives (state S.Store connection) (state S.Store e.1) (Makes (C.renews check.now) (state S.Store connection))) }
     {

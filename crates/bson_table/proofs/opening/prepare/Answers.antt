@@ -1,6 +1,6 @@
 use Rattle.std.proofs.Common.{rules, ◌≡◌, false, sym, ◌∙◌}
 use Rattle.sqlite.specs.Held.{state}
-use Rattle.bson_table.proofs.SurveyLemmas.{opened_if, says_if, renews_if, made_by, makes_if}
+use Rattle.bson_table.proofs.SurveyLemmas.{opened_if, says_if, renews_if, made_if, told_if, makes_if}
 use Rattle.bson_table.proofs.opening.prepare.Goals as goal
 
 pub returns-then-has_table-clause-opened : goal.returns-then-has_table-clause-opened
@@ -19,10 +19,16 @@ pub returns-then-has_table-clause-crash : goal.returns-then-has_table-clause-cra
 returns-then-has_table-clause-crash g c =
     renews_if (g.C.RowCheck.renews c.args.check.now) (state g.S.Store c.args.conn.now) (state g.S.Store c.settle_keys.new.conn) (sym c.has_table.ensures.there ∙ c.if-has_table.true) c.settle_keys.ensures.crash
 
-pub returns-in-Err-clause-crash : goal.returns-in-Err-clause-crash
-returns-in-Err-clause-crash g c =
-    makes_if (g.C.RowCheck.renews c.args.check.now) (state g.S.Store c.args.conn.now) (state g.S.Store c.create.new.conn) (sym c.has_table.ensures.there ∙ c.if-has_table.false) c.create.ensures.crash
+pub returns-clause-crash : goal.returns-clause-crash
+returns-clause-crash g c =
+    makes_if (g.C.RowCheck.renews c.args.check.now) (state g.S.Store c.args.conn.now) (state g.S.Store c.make_table.new.conn) (sym c.has_table.ensures.there ∙ c.if-has_table.false) c.make_table.ensures.crash
 
-pub returns-in-Ok-clause-opened : goal.returns-in-Ok-clause-opened
-returns-in-Ok-clause-opened g c clean =
-    made_by (g.C.RowCheck.renews c.args.check.now) (state g.S.Store c.args.conn.now) (state g.S.Store c.create.new.conn) (sym c.has_table.ensures.there ∙ c.if-has_table.false) (c.in-Ok.ensures.made clean)
+pub returns-clause-opened : goal.returns-clause-opened
+returns-clause-opened g c clean =
+    let old = state g.S.Store c.args.conn.now in
+    let auto : old.in_transaction ≡ false = search rules in
+    made_if (g.C.RowCheck.renews c.args.check.now) old (state g.S.Store c.make_table.new.conn) (sym c.has_table.ensures.there ∙ c.if-has_table.false) c.make_table.result (c.make_table.ensures.made clean) (c.make_table.ensures.beside clean auto)
+
+pub returns-clause-refused : goal.returns-clause-refused
+returns-clause-refused g c clean =
+    told_if (g.C.RowCheck.renews c.args.check.now) (state g.S.Store c.args.conn.now) (state g.S.Store c.make_table.new.conn) c.make_table.result c.make_table.ensures.told

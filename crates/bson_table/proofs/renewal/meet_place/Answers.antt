@@ -1,5 +1,5 @@
 use Rattle.std.proofs.lemmas.Int.{to_z-of_z}
-use Rattle.std.proofs.Common.{w64, ◌≡◌, ℤ, Some, cond, is_eq, option_map, find, sym, ap, ap₂, ◌∙◌}
+use Rattle.std.proofs.Common.{w64, ℤ, Some, cond, is_eq, option_map, find, sym, ap, ap₂, ◌∙◌}
 use Rattle.std.specs.BTreeMap.{get}
 use Rattle.bson_table.specs.Rows.{Doc, is_row_named}
 use Rattle.bson_table.specs.Seen.{Pair, pair_cmp}

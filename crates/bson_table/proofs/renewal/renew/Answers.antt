@@ -1,10 +1,9 @@
-use Rattle.std.proofs.Common.{◌≡◌, List, None, sym, subst, arith}
-use Rattle.sqlite.specs.State.{HasCleanDisk, Survives}
+use Rattle.std.proofs.Common.{List, subst, arith}
+use Rattle.sqlite.specs.State.{HasCleanDisk}
 use Rattle.sqlite.specs.Held.{state}
-use Rattle.sqlite.specs.Tree.{Trees}
 use Rattle.sqlite.proofs.StateLemmas.{survives_then}
 use Rattle.bson_table.specs.declared.row.NewKey.{NewKey}
-use Rattle.bson_table.specs.Rows.{Doc, HasRows, Shows, all_rekeyed}
+use Rattle.bson_table.specs.Rows.{HasRows, Shows, all_rekeyed}
 use Rattle.bson_table.specs.Renewal.{IsOwn, MayRenew}
 use Rattle.bson_table.proofs.RenewalLemmas.{none_of}
 use Rattle.bson_table.proofs.RenewLemmas.{found, good_once, renewed_so, may_renew}

@@ -1,4 +1,4 @@
-use Rattle.std.proofs.Common.{◌≡◌, ◌∙◌, inl, ℤ, [], ◌∷◌, ◌++◌, List, IfOk, IfErr, IsOk, OnOk, map, refl, sym, subst, w64, to_z, of_z, rules, arith}
+use Rattle.std.proofs.Common.{◌≡◌, ◌∙◌, inl, ℤ, [], ◌∷◌, ◌++◌, List, IfOk, IfErr, IsOk, map, refl, sym, subst, w64, to_z, of_z, rules, arith}
 use Rattle.sqlite.proofs.StateLemmas.{survives_then}
 use Rattle.sqlite.proofs.Callers.{unchanged_then}
 use Rattle.sqlite.specs.Order.{column}

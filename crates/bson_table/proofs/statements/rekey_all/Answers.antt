@@ -1,11 +1,10 @@
-use Rattle.std.proofs.Common.{take_all, ◌≡◌, ◌<◌, ◌∙◌, ℤ, List, take, length, sym, ap, subst, w64, to_z, of_z, rules, arith, OnOk}
-use Rattle.std.proofs.lemmas.Int.{to_z-of_z, ints}
+use Rattle.std.proofs.Common.{take_all, ◌≡◌, ◌<◌, ◌∙◌, List, take, length, sym, subst, rules, arith, OnOk}
 use Rattle.sqlite.specs.State.{HasCleanDisk, Survives}
 use Rattle.sqlite.specs.Held.{state}
 use Rattle.sqlite.proofs.StateLemmas.{survives_then, survives_weaker}
 use Rattle.sqlite.specs.Tree.{Trees}
 use Rattle.bson_table.specs.declared.row.NewKey.{NewKey}
-use Rattle.bson_table.specs.Rows.{Doc, HasRows, Inside, Shows, rekeyed, all_rekeyed}
+use Rattle.bson_table.specs.Rows.{Doc, HasRows, Inside, Shows, all_rekeyed}
 use Rattle.bson_table.proofs.KeyLemmas.{all_but_one, same_rekey, committed_then}
 use Rattle.bson_table.proofs.ManyLemmas.{committed_shows}
 use Rattle.bson_table.proofs.statements.rekey_all.Goals as goal

@@ -1,9 +1,6 @@
-use Rattle.std.proofs.Common.{◌≡◌, ℕ, ℤ, List, Some, None, Option, option_map, find, is_some, true, false, sym, ap, ap₂, ◌∙◌, refl, w64, to_z, of_z, rules}
-use Rattle.std.proofs.lemmas.Int.{to_z-of_z}
+use Rattle.std.proofs.Common.{◌≡◌, ℤ, Some, None, sym, ap, ◌∙◌, refl, w64, to_z, of_z, rules}
 use Rattle.bson_table.specs.Cells.{doc_of}
 use Rattle.bson_table.specs.Renewal.{IsOwn}
-use Rattle.bson_table.specs.Rows.{Doc, is_row_named}
-use Rattle.bson_table.specs.declared.row.NewKey.{NewKey}
 use Rattle.bson_table.proofs.RenewalLemmas.{some_there, none_there, twin_stays, apart_yet, twin_met, own_taken, new_taken, keyed}
 use Rattle.bson_table.proofs.renewal.Renewals.take.Goals as goal
 
