@@ -12,6 +12,7 @@ ghost use Rattle.bson_table.specs.Judged.{JudgesRow};
 ghost use Rattle.bson_table.specs.Open.{RefusesOpening, PassesOpening, IsSettled, KeepsAll};
 
 use crate::opening::{OpenError, bytes_at, is_row, place_in, refusal};
+use crate::sql;
 use sqlite::{Alter, Connection, Error, Row};
 use std::alloc::{AllocError, Global};
 use std::collections::BTreeSet;
@@ -146,10 +147,7 @@ pub(crate) fn survey<S: Alter, J: TestsRows>(
         → OnErr result (KeepsAll (state S.Store conn.old) (state S.Store conn.new)) }
     ensures crash { Survives (state S.Store conn.old) (state S.Store conn.new) (λ _. ⊥) }
 {
-    let mut rows = match conn.query(
-        "SELECT place, coll, idkey, body FROM documents ORDER BY place",
-        &[],
-    ) {
+    let mut rows = match conn.query(sql::ALL_ROWS, &[]) {
         Ok(rows) => rows,
         Err(Error::SqlInputError(_)) => return Err(OpenError::NotAStore),
         Err(error) => return Err(refusal(error)),

@@ -8,6 +8,7 @@ mod names;
 mod opening;
 mod renewal;
 mod row;
+mod sql;
 mod statements;
 mod table;
 mod visiting;

@@ -13,6 +13,7 @@ ghost use Rattle.bson_table.specs.Open.{IsSettled, KeepsAll, table_name, HasNoTa
 
 use crate::check::RowCheck;
 use crate::renewal::settle_keys;
+use crate::sql;
 use crate::statements::create;
 use sqlite::types::ValueRef;
 use sqlite::{Alter, Connection, Error, ErrorCode, Row};
@@ -116,7 +117,7 @@ fn has_table<S: Alter>(conn: &Connection<S>) -> bool
     ensures there { result ≡ is_some (table_named (state S.Store conn.now).now.schema table_name) }
     ensures live { IsLive (state S.Store conn.now) }
 {
-    conn.schema().table_named(b"documents").is_some()
+    conn.schema().table_named(sql::TABLE).is_some()
 }
 
 /// Whether a view or an index has the name.
@@ -125,5 +126,5 @@ fn is_taken<S: Alter>(conn: &Connection<S>) -> bool
     ensures free { result ≡ false → ¬ IsNameTaken (state S.Store conn.now) }
 {
     let schema = conn.schema();
-    schema.view_named(b"documents").is_some() || schema.index_named(b"documents").is_some()
+    schema.view_named(sql::TABLE).is_some() || schema.index_named(sql::TABLE).is_some()
 }

@@ -12,6 +12,7 @@ ghost use Rattle.bson_table.specs.Renewal.{HasPlaces, AcceptsOnce, IsOwn, AreRen
 use crate::check::{Own, RowCheck, TestsRows, judge, survey};
 use crate::opening::{OpenError, bytes_at, place_in, refusal};
 use crate::row::NewKey;
+use crate::sql;
 use crate::statements::rekey_all;
 use sqlite::{Alter, Connection, Error, Row};
 use std::alloc::{AllocError, Global};
@@ -148,10 +149,7 @@ pub(crate) fn survey_old<S: Alter, C: RowCheck>(
         → OnErr result (KeepsAll (state S.Store conn.old) (state S.Store conn.new)) }
     ensures crash { Survives (state S.Store conn.old) (state S.Store conn.new) (λ _. ⊥) }
 {
-    let mut rows = match conn.query(
-        "SELECT place, coll, idkey, body FROM documents ORDER BY place",
-        &[],
-    ) {
+    let mut rows = match conn.query(sql::ALL_ROWS, &[]) {
         Ok(rows) => rows,
         Err(Error::SqlInputError(_)) => return Err(OpenError::NotAStore),
         Err(error) => return Err(refusal(error)),

@@ -13,6 +13,7 @@ ghost use Rattle.bson_table.specs.Written.{WritesRows};
 
 use crate::opening::place_in;
 use crate::row::{NewKey, NewRow};
+use crate::sql;
 use sqlite::types::ValueRef;
 use sqlite::{Alter, Connection, Error, ErrorCode, Row, Transaction};
 
@@ -23,10 +24,7 @@ pub(crate) fn create<S: Alter>(conn: &mut Connection<S>) -> Result<usize, Error>
     ensures kept { HasCleanDisk (state S.Store conn.new) → IsSettled (state S.Store conn.old) → OnErr result (KeepsAll (state S.Store conn.old) (state S.Store conn.new)) }
     ensures crash { Survives (state S.Store conn.old) (state S.Store conn.new) (λ trees. (IsBlank (state S.Store conn.old) → HasRows trees []) × AreBeside (state S.Store conn.old).now trees) }
 {
-    conn.execute(
-        "CREATE TABLE documents (place INTEGER PRIMARY KEY, coll TEXT NOT NULL, idkey BLOB NOT NULL, body BLOB NOT NULL, UNIQUE (coll, idkey)) STRICT",
-        &[],
-    )
+    conn.execute(sql::MAKE_TABLE, &[])
 }
 
 /// Adds a row after all others.
@@ -44,7 +42,7 @@ fn add<'a, S: Alter>(
         (λ trees. (docs : List Doc) → Shows (state S.Store conn.old) docs → HasRows trees (docs ++ record { place = place; coll = coll.now; idkey = idkey.now; body = body.now } ∷ [])) }
 {
     conn.execute(
-        "INSERT INTO documents (place, coll, idkey, body) VALUES (?1, ?2, ?3, ?4)",
+        sql::ADD_ROW,
         &[
             ValueRef::Int(place),
             ValueRef::Text(coll.as_bytes()),
@@ -76,7 +74,7 @@ pub(crate) fn remove_at<S: Alter>(conn: &mut Connection<S>, place: i64) -> Resul
     ensures written { HasCleanDisk (state S.Store conn.new) → WritesRows (state S.Store conn.old) (state S.Store conn.new) (without_place place) result }
     ensures crash { Survives (state S.Store conn.old) (state S.Store conn.new) (λ trees. (docs : List Doc) → Stands (state S.Store conn.old) docs → HasRows trees (without_place place docs)) }
 {
-    let statement = conn.prepare("DELETE FROM documents WHERE place = ?1")?;
+    let statement = conn.prepare(sql::REMOVE_ROW)?;
     statement.execute(conn, &[ValueRef::Int(place)])
 }
 
@@ -89,7 +87,7 @@ pub(crate) fn rewrite_at<S: Alter>(
     ensures written { HasCleanDisk (state S.Store conn.new) → WritesRows (state S.Store conn.old) (state S.Store conn.new) (replaced place body.now) result }
     ensures crash { Survives (state S.Store conn.old) (state S.Store conn.new) (λ trees. (docs : List Doc) → Stands (state S.Store conn.old) docs → HasRows trees (replaced place body.now docs)) }
 {
-    let statement = conn.prepare("UPDATE documents SET body = ?2 WHERE place = ?1")?;
+    let statement = conn.prepare(sql::PUT_BODY)?;
     statement.execute(conn, &[ValueRef::Int(place), ValueRef::Blob(body)])
 }
 
@@ -105,7 +103,7 @@ pub(crate) fn named<'a, S: Alter>(
     ensures crash { Survives (state S.Store conn.old) (state S.Store conn.new) (λ _. ⊥) }
 {
     conn.query_all(
-        "SELECT place, body FROM documents WHERE coll = ?1 COLLATE BINARY AND idkey = ?2 ORDER BY place",
+        sql::NAMED,
         &[ValueRef::Text(coll.as_bytes()), ValueRef::Blob(idkey)],
     )
 }
@@ -116,10 +114,7 @@ pub(crate) fn greatest<S: Alter>(conn: &mut Connection<S>) -> Result<i64, Error>
     ensures read { HasCleanDisk (state S.Store conn.new) → ReadsRows (state S.Store conn.old) (state S.Store conn.new) result }
     ensures crash { Survives (state S.Store conn.old) (state S.Store conn.new) (λ _. ⊥) }
 {
-    match conn.query_row(
-        "SELECT place FROM documents ORDER BY place DESC LIMIT 1",
-        &[],
-    ) {
+    match conn.query_row(sql::GREATEST_PLACE, &[]) {
         Ok(row) => Ok(place_in(&row)),
         Err(Error::QueryReturnedNoRows) => Ok(0),
         Err(error) => Err(error),
@@ -142,7 +137,7 @@ fn put<'a, 't, S: Alter>(
     ensures crash { Survives (state S.Store tx.old.conn.now) (state S.Store tx.new.conn.now) (λ _. ⊥) }
 {
     tx.execute(
-        "INSERT INTO documents (place, coll, idkey, body) VALUES (?1, ?2, ?3, ?4)",
+        sql::ADD_ROW,
         &[
             ValueRef::Int(place),
             ValueRef::Text(coll.as_bytes()),
@@ -201,10 +196,7 @@ fn rekey<'a, 't, S: Alter>(
     ensures committed { HasCleanDisk (state S.Store tx.new.conn.now) → IsTrue (state S.Store tx.old.conn.now).in_transaction → HasCommitted (state S.Store tx.old.conn.now) (state S.Store tx.new.conn.now) }
     ensures crash { Survives (state S.Store tx.old.conn.now) (state S.Store tx.new.conn.now) (λ _. ⊥) }
 {
-    tx.execute(
-        "UPDATE documents SET idkey = ?2 WHERE place = ?1",
-        &[ValueRef::Int(place), ValueRef::Blob(idkey)],
-    )
+    tx.execute(sql::PUT_KEY, &[ValueRef::Int(place), ValueRef::Blob(idkey)])
 }
 
 /// Puts other keys at some places: all of them, or none.

@@ -15,8 +15,8 @@ use crate::fault::Fault;
 use crate::names::Names;
 use crate::opening::{OpenError, bytes_at, place_in, prepare};
 use crate::row::{Found, NewRow};
-use crate::statements;
 use crate::visiting::{Visit, visit_values};
+use crate::{sql, statements};
 use sqlite::types::ValueRef;
 use sqlite::{Alter, Connection, Row};
 use std::alloc::{AllocError, Global};
@@ -148,12 +148,7 @@ impl<S: Alter + Drop> Table<S> {
             failed: false,
             alloc: self.alloc,
         };
-        let ended = visit_values(
-            &mut self.conn,
-            "SELECT coll FROM documents ORDER BY place",
-            &[],
-            &mut visitor,
-        )?;
+        let ended = visit_values(&mut self.conn, sql::NAMES, &[], &mut visitor)?;
         let Names {
             names,
             failed,
@@ -175,7 +170,7 @@ impl<S: Alter + Drop> Table<S> {
     {
         let all = visit_values(
             &mut self.conn,
-            "SELECT body FROM documents WHERE +coll = ?1 COLLATE BINARY ORDER BY place",
+            sql::BODIES,
             &[ValueRef::Text(coll.as_bytes())],
             visitor,
         )?;
