@@ -156,7 +156,7 @@ pub(crate) fn add_all<S: Alter>(
     conn: &mut Connection<S>,
     last: i64,
     coll: &str,
-    rows: &[NewRow],
+    rows: &[NewRow<'_>],
 ) -> Result<(), Error>
     requires fits { (last +ℤ pos (length rows.now)) <ℤ pos (2 ^ 63) }
     requires last { HasCleanDisk (state S.Store conn.old) → (docs : List Doc) → Shows (state S.Store conn.old) docs → AreBelow (last +ℤ pos 1) docs }
@@ -174,13 +174,7 @@ pub(crate) fn add_all<S: Alter>(
     let mut place = last;
     for row in rows {
         place += 1;
-        put(
-            &mut tx,
-            place,
-            coll,
-            row.idkey.as_slice(),
-            row.body.as_slice(),
-        )?;
+        put(&mut tx, place, coll, row.idkey, row.body)?;
     }
     tx.commit()
 }

@@ -99,7 +99,7 @@ impl<S: Alter + Drop> Table<S> {
     }
 
     /// Adds rows to the collection, at the places after the greatest one: all of them or, where the call is refused, none.
-    pub fn append_all(&mut self, coll: &str, rows: &[NewRow]) -> Result<(), Fault>
+    pub fn append_all(&mut self, coll: &str, rows: &[NewRow<'_>]) -> Result<(), Fault>
         ensures moves { Moves (table_state S.Store self.old) (table_state S.Store self.new) (AddsRows (length rows.now) (all_appended coll.now rows.now) result) }
         ensures open { WasOpen (table_state S.Store self.old) (table_state S.Store self.new) result }
         ensures crash { Survives (table_state S.Store self.old) (table_state S.Store self.new) (MayLeave (all_appended coll.now rows.now) (table_state S.Store self.old)) }
