@@ -109,9 +109,10 @@ pub(crate) fn named<'a, S: Alter>(
     )
 }
 
-/// The greatest place, or 0 of a table with no rows.
-pub(crate) fn greatest<S: Alter>(conn: &mut Connection<S>) -> Result<i64, Error>
-    ensures place { HasCleanDisk (state S.Store conn.new) → (docs : List Doc) → Shows (state S.Store conn.old) docs → IfOk result (λ place. place ≡ last_place docs) }
+/// The greatest place, where the table has a row.
+pub(crate) fn greatest_if_any<S: Alter>(conn: &mut Connection<S>) -> Result<Option<i64>, Error>
+    ensures place { HasCleanDisk (state S.Store conn.new) → (docs : List Doc) → Shows (state S.Store conn.old) docs
+        → IfOk result (λ place. MatchOption place (docs ≡ []) (λ p. (docs ≢ []) × (p ≡ last_place docs))) }
     ensures read { HasCleanDisk (state S.Store conn.new) → ReadsRows (state S.Store conn.old) (state S.Store conn.new) result }
     ensures crash { Survives (state S.Store conn.old) (state S.Store conn.new) (λ _. ⊥) }
 {
@@ -119,10 +120,20 @@ pub(crate) fn greatest<S: Alter>(conn: &mut Connection<S>) -> Result<i64, Error>
         "SELECT place FROM documents ORDER BY place DESC LIMIT 1",
         &[],
     ) {
-        Ok(row) => Ok(place_in(&row)),
-        Err(Error::QueryReturnedNoRows) => Ok(0),
+        Ok(row) => Ok(Some(place_in(&row))),
+        Err(Error::QueryReturnedNoRows) => Ok(None),
         Err(error) => Err(error),
     }
+}
+
+/// The greatest place, or 0 of a table with no rows.
+pub(crate) fn greatest<S: Alter>(conn: &mut Connection<S>) -> Result<i64, Error>
+    ensures place { HasCleanDisk (state S.Store conn.new) → (docs : List Doc) → Shows (state S.Store conn.old) docs → IfOk result (λ place. place ≡ last_place docs) }
+    ensures read { HasCleanDisk (state S.Store conn.new) → ReadsRows (state S.Store conn.old) (state S.Store conn.new) result }
+    ensures crash { Survives (state S.Store conn.old) (state S.Store conn.new) (λ _. ⊥) }
+{
+    let place = greatest_if_any(conn)?;
+    Ok(place.unwrap_or(0))
 }
 
 /// Adds a row after all others, in a transaction.

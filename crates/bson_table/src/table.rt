@@ -4,7 +4,7 @@ ghost use Rattle.std.specs.Prelude.{◌≡◌, length, false, IfOk, IfErr, IsErr
 ghost use Rattle.sqlite.specs.Held.{state};
 ghost use Rattle.sqlite.specs.State.{HasCleanDisk, Survives};
 ghost use Rattle.bson_table.specs.Rows.{without_place, replaced};
-ghost use Rattle.bson_table.specs.Moves.{Moves, WasOpen, MayLeave, Settles, FindsRow, Changes, AddsRows, Lists, Visits, appended, all_appended};
+ghost use Rattle.bson_table.specs.Moves.{Moves, WasOpen, MayLeave, Settles, FindsNone, FindsRow, Changes, AddsRows, Lists, Visits, appended, all_appended};
 ghost use Rattle.bson_table.specs.Renewal.{Opened, Unopened, Makes};
 ghost use Rattle.bson_table.specs.Open.{KeepsRows, HasNoTable, IsNameTaken};
 ghost use Rattle.sqlite_value.specs.Order.{column};
@@ -80,6 +80,16 @@ impl<S: Alter + Drop> Table<S> {
             Some(row) => Ok(Some(found_in(self.alloc, row)?)),
             None => Ok(None),
         }
+    }
+
+    /// Whether the table has no row.
+    pub fn is_empty(&mut self) -> Result<bool, Fault>
+        ensures moves { Moves (table_state S.Store self.old) (table_state S.Store self.new) (FindsNone result) }
+        ensures open { WasOpen (table_state S.Store self.old) (table_state S.Store self.new) result }
+        ensures crash { Survives (table_state S.Store self.old) (table_state S.Store self.new) (λ _. ⊥) }
+    {
+        let place = statements::greatest_if_any(&mut self.conn)?;
+        Ok(place.is_none())
     }
 
     /// Adds a row to the collection, at the place after the greatest one.
