@@ -1,5 +1,5 @@
 -- Several rows, one place after the other.
-use Rattle.std.proofs.Common.{◌≡◌, ◌<◌, ◌≤ℤ◌, ℕ, ℤ, pos, ◌+ℤ◌, ◌+◌, zero, suc, List, [], ◌∷◌, ◌++◌, take, length, get_or, refl, sym, ap, ap₂, subst, ◌∙◌, arith}
+use Rattle.std.proofs.Common.{◌≡◌, ◌<◌, ◌≤ℤ◌, ℕ, ℤ, pos, ◌+ℤ◌, ◌+◌, zero, suc, List, [], ◌∷◌, ◌++◌, take, length, get_or, refl, sym, ap, subst, ◌∙◌, arith}
 use Rattle.std.proofs.lemmas.Int.{ints}
 use Rattle.bson_table.specs.declared.row.NewRow.{NewRow}
 use Rattle.std.proofs.Common.{Result, Ok, Err, OnOk, IsTrue, false}
@@ -9,22 +9,18 @@ use Rattle.sqlite.specs.State.{State, KeepsCounts, Shows as Shown}
 use Rattle.bson_table.specs.Rows.{Doc, AreBelow, docs_from, HasRows, Shows, Inside}
 
 abbrev pub doc_at : ℤ → List ℕ → NewRow → Doc
-doc_at place coll r = record { place = place; coll = coll; idkey = r.idkey.items; body = r.body.items }
+doc_at place coll r = record { place = place; coll = coll; idkey = r.idkey.now; body = r.body.now }
 
 -- the rows up to one more
-pub next_rows : (p : ℤ) (coll : List ℕ) (rows : List NewRow) (i : ℕ) (r : NewRow) → i < length rows → r ≡ get_or rows i r
-    → docs_from p coll (take (i + 1) rows) ≡ docs_from p coll (take i rows) ++ doc_at (p +ℤ pos i) coll r ∷ []
-next_rows p coll [] i r low is = absurd (omega (arith, low))
-next_rows p coll (x ∷ rows) zero r low is = ap₂ (λ q y. doc_at q coll y ∷ []) (omega (arith, ints)) (sym is)
-next_rows p coll (x ∷ rows) (suc i) r low is =
-    let more = next_rows (p +ℤ pos 1) coll rows i r (omega (arith, low)) is in
+pub next_rows : (p : ℤ) (coll : List ℕ) (rows : List NewRow) (i : ℕ) (r : NewRow) → i < length rows
+    → docs_from p coll (take (i + 1) rows) ≡ docs_from p coll (take i rows) ++ doc_at (p +ℤ pos i) coll (get_or rows i r) ∷ []
+next_rows p coll [] i r low = absurd (omega (arith, low))
+next_rows p coll (x ∷ rows) zero r low = ap (λ q. doc_at q coll x ∷ []) (omega (arith, ints))
+next_rows p coll (x ∷ rows) (suc i) r low =
+    let more = next_rows (p +ℤ pos 1) coll rows i r (omega (arith, low)) in
     let place : (p +ℤ pos 1) +ℤ pos i ≡ p +ℤ pos (suc i) = omega (arith, ints) in
     let e : suc i + 1 ≡ suc (i + 1) = omega arith in
-    ap (λ n. docs_from p coll (take n (x ∷ rows))) e ∙ ap (λ ds. doc_at p coll x ∷ ds) (more ∙ ap (λ q. docs_from (p +ℤ pos 1) coll (take i rows) ++ doc_at q coll r ∷ []) place)
-
-pub same_doc : (place place' : ℤ) (coll idkey idkey' body body' : List ℕ) → place ≡ place' → idkey ≡ idkey' → body ≡ body'
-    → ◌≡◌ {A = Doc} (record { place = place; coll = coll; idkey = idkey; body = body }) (record { place = place'; coll = coll; idkey = idkey'; body = body' })
-same_doc place place' coll idkey idkey' body body' p q r = rw (p, q, r) refl
+    ap (λ n. docs_from p coll (take n (x ∷ rows))) e ∙ ap (λ ds. doc_at p coll x ∷ ds) (more ∙ ap (λ q. docs_from (p +ℤ pos 1) coll (take i rows) ++ doc_at q coll (get_or rows i r) ∷ []) place)
 
 pub below_more : (p q : ℤ) (docs : List Doc) → p ≤ℤ q → AreBelow p docs → AreBelow q docs
 below_more p q [] h below = tt

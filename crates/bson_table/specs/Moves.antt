@@ -1,5 +1,5 @@
 -- What a call of the table does to its rows.
-use Rattle.std.specs.Prelude.{◌≡◌, ◌≢◌, ◌+ℤ◌, ◌<ℤ◌, ◌^◌, ◌++◌, ◌∷◌, [], ℕ, ℤ, pos, List, map, filter, find, Option, option_map, Result, Bool, IsTrue, IfOk, IfErr, OnOk, OnErr, Vec}
+use Rattle.std.specs.Prelude.{◌≡◌, ◌≢◌, ◌↔◌, ◌+ℤ◌, ◌<ℤ◌, ◌^◌, ◌++◌, ◌∷◌, [], ℕ, ℤ, pos, List, map, filter, find, Option, option_map, Result, Bool, IsTrue, IfOk, IfErr, OnOk, OnErr, Vec}
 use Rattle.std.specs.List.{list_any}
 use Rattle.std.specs.declared.alloc.Global.{Global}
 use Rattle.std.specs.BTreeSet.{BTreeSet}
@@ -53,6 +53,12 @@ seen d = (d.place, d.body)
 pub record FindsRow (coll idkey : List ℕ) (result : Result (Option Found) Fault) (docs after : List Doc) : Type 0 where
   pub same : after ≡ docs
   pub found : IfOk result (λ f. option_map kept f ≡ option_map seen (find (is_row_named coll idkey) docs))
+  pub faults : IfErr result (λ e. e ≢ Places)
+
+-- it is told whether there is no row
+pub record FindsNone (result : Result Bool Fault) (docs after : List Doc) : Type 0 where
+  pub same : after ≡ docs
+  pub none : IfOk result (λ none. IsTrue none ↔ (docs ≡ []))
   pub faults : IfErr result (λ e. e ≢ Places)
 
 -- the rows are changed so, or the call is refused

@@ -108,7 +108,7 @@ pub record KeepsCommitted (s : State) (first : List Doc) : Type 0 where
 -- rows of a collection at one place after the other
 abbrev pub docs_from : ℤ → List ℕ → List NewRow → List Doc
 docs_from place coll [] = []
-docs_from place coll (r ∷ rows) = record { place = place; coll = coll; idkey = r.idkey.items; body = r.body.items } ∷ docs_from (place +ℤ pos 1) coll rows
+docs_from place coll (r ∷ rows) = record { place = place; coll = coll; idkey = r.idkey.now; body = r.body.now } ∷ docs_from (place +ℤ pos 1) coll rows
 
 -- an open connection with no transaction and no object in its database
 pub record IsBlank (s : State) : Type 0 where

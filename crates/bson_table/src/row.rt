@@ -14,9 +14,9 @@ pub struct NewKey {
     pub idkey: Vec<u8>,
 }
 
-/// A row to come: its written key and its body.
-#[derive(Debug, Drop)]
-pub struct NewRow {
-    pub idkey: Vec<u8>,
-    pub body: Vec<u8>,
+/// A row to come: its written key and its body, which are the caller's.
+#[derive(Clone, Copy, Debug)]
+pub struct NewRow<'a> {
+    pub idkey: &'a [u8],
+    pub body: &'a [u8],
 }

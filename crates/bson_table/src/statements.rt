@@ -108,17 +108,28 @@ pub(crate) fn named<'a, S: Alter>(
     )
 }
 
+/// The greatest place, where the table has a row.
+pub(crate) fn greatest_if_any<S: Alter>(conn: &mut Connection<S>) -> Result<Option<i64>, Error>
+    ensures place { HasCleanDisk (state S.Store conn.new) → (docs : List Doc) → Shows (state S.Store conn.old) docs
+        → IfOk result (λ place. MatchOption place (docs ≡ []) (λ p. (docs ≢ []) × (p ≡ last_place docs))) }
+    ensures read { HasCleanDisk (state S.Store conn.new) → ReadsRows (state S.Store conn.old) (state S.Store conn.new) result }
+    ensures crash { Survives (state S.Store conn.old) (state S.Store conn.new) (λ _. ⊥) }
+{
+    match conn.query_row(sql::GREATEST_PLACE, &[]) {
+        Ok(row) => Ok(Some(place_in(&row))),
+        Err(Error::QueryReturnedNoRows) => Ok(None),
+        Err(error) => Err(error),
+    }
+}
+
 /// The greatest place, or 0 of a table with no rows.
 pub(crate) fn greatest<S: Alter>(conn: &mut Connection<S>) -> Result<i64, Error>
     ensures place { HasCleanDisk (state S.Store conn.new) → (docs : List Doc) → Shows (state S.Store conn.old) docs → IfOk result (λ place. place ≡ last_place docs) }
     ensures read { HasCleanDisk (state S.Store conn.new) → ReadsRows (state S.Store conn.old) (state S.Store conn.new) result }
     ensures crash { Survives (state S.Store conn.old) (state S.Store conn.new) (λ _. ⊥) }
 {
-    match conn.query_row(sql::GREATEST_PLACE, &[]) {
-        Ok(row) => Ok(place_in(&row)),
-        Err(Error::QueryReturnedNoRows) => Ok(0),
-        Err(error) => Err(error),
-    }
+    let place = greatest_if_any(conn)?;
+    Ok(place.unwrap_or(0))
 }
 
 /// Adds a row after all others, in a transaction.
@@ -152,7 +163,7 @@ pub(crate) fn add_all<S: Alter>(
     conn: &mut Connection<S>,
     last: i64,
     coll: &str,
-    rows: &[NewRow],
+    rows: &[NewRow<'_>],
 ) -> Result<(), Error>
     requires fits { (last +ℤ pos (length rows.now)) <ℤ pos (2 ^ 63) }
     requires last { HasCleanDisk (state S.Store conn.old) → (docs : List Doc) → Shows (state S.Store conn.old) docs → AreBelow (last +ℤ pos 1) docs }
@@ -170,13 +181,7 @@ pub(crate) fn add_all<S: Alter>(
     let mut place = last;
     for row in rows {
         place += 1;
-        put(
-            &mut tx,
-            place,
-            coll,
-            row.idkey.as_slice(),
-            row.body.as_slice(),
-        )?;
+        put(&mut tx, place, coll, row.idkey, row.body)?;
     }
     tx.commit()
 }

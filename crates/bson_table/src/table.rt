@@ -4,7 +4,7 @@ ghost use Rattle.std.specs.Prelude.{◌≡◌, length, false, IsTrue, IfOk, IfEr
 ghost use Rattle.sqlite.specs.Held.{state};
 ghost use Rattle.sqlite.specs.State.{HasCleanDisk, Survives};
 ghost use Rattle.bson_table.specs.Rows.{without_place, replaced};
-ghost use Rattle.bson_table.specs.Moves.{Moves, WasOpen, MayLeave, Settles, FindsRow, Changes, AddsRows, Lists, Visits, appended, all_appended};
+ghost use Rattle.bson_table.specs.Moves.{Moves, WasOpen, MayLeave, Settles, FindsNone, FindsRow, Changes, AddsRows, Lists, Visits, appended, all_appended};
 ghost use Rattle.bson_table.specs.Renewal.{Opened, Unopened, Makes};
 ghost use Rattle.bson_table.specs.Open.{KeepsAll, HasNoTable, IsNameTaken};
 ghost use Rattle.sqlite_value.specs.Order.{column};
@@ -83,6 +83,16 @@ impl<S: Alter + Drop> Table<S> {
         }
     }
 
+    /// Whether the table has no row.
+    pub fn is_empty(&mut self) -> Result<bool, Fault>
+        ensures moves { Moves (table_state S.Store self.old) (table_state S.Store self.new) (FindsNone result) }
+        ensures open { WasOpen (table_state S.Store self.old) (table_state S.Store self.new) result }
+        ensures crash { Survives (table_state S.Store self.old) (table_state S.Store self.new) (λ _. ⊥) }
+    {
+        let place = statements::greatest_if_any(&mut self.conn)?;
+        Ok(place.is_none())
+    }
+
     /// Adds a row to the collection, at the place after the greatest one.
     pub fn append(&mut self, coll: &str, idkey: &[u8], body: &[u8]) -> Result<(), Fault>
         ensures moves { Moves (table_state S.Store self.old) (table_state S.Store self.new) (AddsRows 1 (appended coll.now idkey.now body.now) result) }
@@ -100,7 +110,7 @@ impl<S: Alter + Drop> Table<S> {
     }
 
     /// Adds rows to the collection, at the places after the greatest one: all of them or, where the call is refused, none.
-    pub fn append_all(&mut self, coll: &str, rows: &[NewRow]) -> Result<(), Fault>
+    pub fn append_all(&mut self, coll: &str, rows: &[NewRow<'_>]) -> Result<(), Fault>
         ensures moves { Moves (table_state S.Store self.old) (table_state S.Store self.new) (AddsRows (length rows.now) (all_appended coll.now rows.now) result) }
         ensures open { WasOpen (table_state S.Store self.old) (table_state S.Store self.new) result }
         ensures crash { Survives (table_state S.Store self.old) (table_state S.Store self.new) (MayLeave (all_appended coll.now rows.now) (table_state S.Store self.old)) }

@@ -1,6 +1,7 @@
 -- Bytes that are kept as they stand.
 use Rattle.std.proofs.Common.{◌≡◌, inr, ℕ, ◌+◌, ◌^◌, ◌<◌, ◌≤◌, List, [], ◌∷◌, ◌++◌, drop, length, refl, sym, ap, ◌∙◌, subst, append-nil, arith}
 use Rattle.std.specs.Prelude.{is_some, Result, Ok, Err}
+use Rattle.std.specs.Cow.{cow_slice_items}
 use Rattle.std.specs.Int.{w32, to_le_bytes}
 use Rattle.bson_base.specs.Kinds.{AreBytes, IsClean, IsPlain, IsSound}
 use Rattle.bson_base.specs.Tags.{tag_byte}
@@ -112,7 +113,7 @@ module _ (bytes : List ℕ) (are : AreBytes bytes) (p : Passes bytes) where
     pub stands : IsKept (settle p.2.0)
     stands = record { read = read; identified = ap is_some found.1; small = short }
 
-    pub row : (w : Written) → w.key.items ≡ key (own_id (settle p.2.0)) → w.body.items ≡ bytes → AnswersKept bytes (Ok w)
+    pub row : (w : Written) → w.key.items ≡ key (own_id (settle p.2.0)) → cow_slice_items w.body ≡ bytes → AnswersKept bytes (Ok w)
     row w key_is body_is = (settle p.2.0, reads, read, (no_refusal (settle p.2.0) found.0 found.1 short, key_is, body_is ∙ form (settle p.2.0) (meant bytes p)))
 
 -- what a document's bytes are written as, from its tree

@@ -1,5 +1,6 @@
 -- Documents as they are kept, the keys of their ids, and changed documents.
 use Rattle.std.specs.Prelude.{◌≡◌, ◌≢◌, ◌⊎◌, ℕ, ◌^◌, ◌<◌, ◌≤◌, List, length, Some, None, Result, Ok, Err, Vec, IsUtf8}
+use Rattle.std.specs.Cow.{cow_slice_items}
 use Rattle.std.specs.declared.alloc.Global.{Global}
 use Rattle.bson_base.specs.Kinds.{IsPlain, IsSound}
 use Rattle.bson_base.specs.Value.{Value, document, Members, has_key, levels, without}
@@ -53,7 +54,7 @@ IsUnwritten d k = ((k ≡ Nul) × (IsPlain (document d) → ⊥)) ⊎ ((k ≡ To
 
 -- a document is written beside the key of its `_id`, or refused
 abbrev pub AnswersWritten : Members → Result Written ErrorKind → Type 0
-AnswersWritten d (Ok w) = (refusal_of d ≡ None) × (w.key.items ≡ key (own_id d)) × (w.body.items ≡ encode d)
+AnswersWritten d (Ok w) = (refusal_of d ≡ None) × (w.key.items ≡ key (own_id d)) × (cow_slice_items w.body ≡ encode d)
 AnswersWritten d (Err k) = (refusal_of d ≡ Some k) ⊎ (k ≡ Memory)
 
 -- a changed document is written, or can't be kept

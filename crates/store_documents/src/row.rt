@@ -1,6 +1,7 @@
 //! Rows that a store can have written.
 
 ghost use Rattle.std.specs.Prelude.{◌≡◌, ◌≢◌, ◌↔◌, false, IfOk, Ok, IsTrue, IsUtf8, List, ℕ};
+ghost use Rattle.std.specs.Cow.{cow_slice_items};
 ghost use Rattle.bson_base.specs.Value.{Members};
 ghost use Rattle.bson_bytes.specs.Encode.{encode};
 ghost use Rattle.bson_meaning.specs.Before.{key as key_of_before};
@@ -30,8 +31,8 @@ fn is_text_of_name(coll: &[u8]) -> bool
 }
 
 /// Whether a document is written as these bytes, under this key.
-fn is_written_so(written: &Written, key: &[u8], body: &[u8]) -> bool
-    ensures { IsTrue result ↔ ((written.now.key.items ≡ key.now) × (written.now.body.items ≡ body.now)) }
+fn is_written_so(written: &Written<'_>, key: &[u8], body: &[u8]) -> bool
+    ensures { IsTrue result ↔ ((written.now.key.items ≡ key.now) × (cow_slice_items written.now.body ≡ body.now)) }
 {
     written.key.as_slice() == key && written.body.as_slice() == body
 }
@@ -101,7 +102,7 @@ fn is_same(bytes: &[u8], others: &[u8]) -> bool
 /// What is told of the key of a row under a good name, whose body a document reads from that is written so.
 fn key_against(
     alloc: Global,
-    written: Written,
+    written: Written<'_>,
     key: &[u8],
     body: &[u8],
 ) -> Result<RowKey, AllocError>

@@ -20,6 +20,7 @@ use bson_frame::Frame;
 use bson_meaning::{gate, meaning_key};
 use bson_written::{is_written_form, written_element};
 use std::alloc::{AllocError, Global};
+use std::borrow::CowSlice;
 use store_laws::ErrorKind;
 
 /// The bytes of a document around its one element, beside the payload: a length, a tag, `_id` with its 00, a 00.
@@ -57,7 +58,7 @@ fn key_of_element(alloc: Global, id: &Frame<'_>) -> Result<Vec<u8>, ErrorKind>
 
 /// The row of the document that bytes mean, where they are its written form and that is seen without its tree. `Memory` where a
 /// growth was refused.
-fn row_as_it_stands(alloc: Global, bytes: &[u8]) -> Result<Option<Written>, ErrorKind>
+fn row_as_it_stands(alloc: Global, bytes: &[u8]) -> Result<Option<Written<'_>>, ErrorKind>
     requires { Passes bytes.now }
     ensures { MatchResult result (λ r. IfSome r (λ w. AnswersKept bytes.now (Ok w))) (λ k. k ≡ Memory) }
 {
@@ -68,19 +69,19 @@ fn row_as_it_stands(alloc: Global, bytes: &[u8]) -> Result<Option<Written>, Erro
         return Ok(None);
     };
     let key = key_of_element(alloc, &id)?;
-    match Vec::from_slice(alloc, bytes) {
-        Ok(body) => Ok(Some(Written { key, body })),
-        Err(_) => Err(ErrorKind::Memory),
-    }
+    Ok(Some(Written {
+        key,
+        body: CowSlice::Borrowed(bytes),
+    }))
 }
 
 /// The row of the document that bytes mean, which is kept as it means: of a repeated key the last value, in the place of the
-/// first. Bytes that are the written form already are copied, and no tree is made of them.
+/// first. Bytes that are the written form already are lent, and no tree is made of them.
 ///
 /// `EndInside`, `BadLength`, `NotTerminated`, `Faulty` and `TooDeep` are those of the gate, the first whose test fails; then
 /// `NoId` where it has no `_id`, and `TooLong` where its bytes are over 16777216. `Memory` comes only where the gate refuses
 /// nothing, and where a growth was refused.
-pub fn row_of_bytes(alloc: Global, bytes: &[u8]) -> Result<Written, ErrorKind>
+pub fn row_of_bytes(alloc: Global, bytes: &[u8]) -> Result<Written<'_>, ErrorKind>
     ensures { AnswersKept bytes.now result }
 {
     if let Err(error) = gate(bytes) {

@@ -14,15 +14,16 @@ use bson_frame as frames;
 use bson_meaning::{KeyError, is_plain_document};
 use bson_model::Document;
 use std::alloc::Global;
+use std::borrow::CowSlice;
 use store_laws::ErrorKind;
 
 /// A document as it is kept.
 #[derive(Debug, Drop)]
-pub struct Written {
+pub struct Written<'a> {
     /// The key of its `_id`.
     pub key: Vec<u8>,
-    /// Its bytes.
-    pub body: Vec<u8>,
+    /// Its bytes: the caller's, where it gave them as they are kept.
+    pub body: CowSlice<'a, u8, Global>,
 }
 
 /// The refusal for an `_id` that has no key.
@@ -71,7 +72,7 @@ pub(crate) fn body_of(alloc: Global, document: &Document) -> Result<Vec<u8>, Err
 ///
 /// `NoId` where it has no `_id`, else `TooLong` where its bytes are over 16777216; `Memory` where a growth was refused. A document
 /// that isn't as it is read may be refused by `Nul`, where a 00 stands in a key, a pattern or options.
-pub fn write_document(alloc: Global, document: &Document) -> Result<Written, ErrorKind>
+pub fn write_document(alloc: Global, document: &Document) -> Result<Written<'static>, ErrorKind>
     ensures { IsRead (members_of (pairs_of document.now)) → AnswersWritten (members_of (pairs_of document.now)) result }
 {
     let Some(id) = document.get(ID_KEY) else {
@@ -79,7 +80,10 @@ pub fn write_document(alloc: Global, document: &Document) -> Result<Written, Err
     };
     let body = body_of(alloc, document)?;
     match key_of_id(alloc, id) {
-        Ok(key) => Ok(Written { key, body }),
+        Ok(key) => Ok(Written {
+            key,
+            body: CowSlice::Owned(body),
+        }),
         Err(error) => Err(key_refusal(error)),
     }
 }

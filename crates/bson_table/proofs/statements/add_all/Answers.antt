@@ -1,4 +1,4 @@
-use Rattle.std.proofs.Common.{take_all, subst₂, ◌≡◌, ◌<◌, ◌++◌, ◌∷◌, [], ℤ, pos, ◌+ℤ◌, List, take, length, append_assoc, sym, ap, subst, ◌∙◌, w64, to_z, of_z, rules, arith}
+use Rattle.std.proofs.Common.{take_all, subst₂, ◌≡◌, ◌<◌, ◌++◌, ◌∷◌, [], ℤ, pos, ◌+ℤ◌, List, take, get_or, length, append_assoc, sym, ap, subst, ◌∙◌, w64, to_z, of_z, rules, arith}
 use Rattle.std.proofs.lemmas.Int.{to_z-of_z, ints}
 use Rattle.sqlite.specs.State.{HasCleanDisk, Survives}
 use Rattle.sqlite.specs.Held.{state}
@@ -7,7 +7,7 @@ use Rattle.sqlite.specs.Tree.{Trees}
 use Rattle.bson_table.specs.declared.row.NewRow.{NewRow}
 use Rattle.bson_table.specs.Rows.{Doc, AreBelow, HasRows, Inside, Shows, docs_from}
 use Rattle.std.proofs.Common.{OnOk}
-use Rattle.bson_table.proofs.ManyLemmas.{next_rows, below_rows, same_doc, doc_at, committed_shows}
+use Rattle.bson_table.proofs.ManyLemmas.{next_rows, below_rows, doc_at, committed_shows}
 use Rattle.bson_table.proofs.statements.add_all.Goals as goal
 
 pub loop-row-preserved : goal.loop-row-preserved
@@ -25,8 +25,7 @@ loop-row-preserved g c =
     let low : i < length rows = omega (arith, c.loop-row-test.true, c.loop-row.auto.row-index-end) in
     let at : Q ≡ (P +ℤ pos i) = omega (arith, ints) in
     let made = docs_from P coll (take i rows) in
-    let it : record { place = Q; coll = coll; idkey = c.as_slice.result.now; body = c.as_slice-in-loop-row.result.now } ≡ doc_at (P +ℤ pos i) coll c.row-item.result =
-    same_doc Q (P +ℤ pos i) coll c.as_slice.result.now c.row-item.result.idkey.items c.as_slice-in-loop-row.result.now c.row-item.result.body.items at c.as_slice.ensures.value c.as_slice-in-loop-row.ensures.value in
+    let grown = λ (docs : List Doc) (d : NewRow). ap (λ ys. docs ++ ys) (ap (λ (q : ℤ). made ++ doc_at q coll (get_or rows i d) ∷ []) at ∙ sym (next_rows P coll rows i d low)) in
     record {
       same = search rules;
       survives = survives_then old mid new _ _ (λ _. ⊥) (λ _ db none. none) (λ _ db none. none) h.survives c.put.ensures.crash;
@@ -35,7 +34,7 @@ loop-row-preserved g c =
           let first : AreBelow P docs = subst (λ q. AreBelow q docs) (sym same) (c.requires.last (omega (arith, c.put.ensures.crash.clean, h.survives.clean)) docs shows) in
           let below : AreBelow Q (docs ++ made) = subst (λ q. AreBelow q (docs ++ made)) (sym at) (below_rows P coll rows i docs first) in
           let got = c.in_ok-put.ensures.added clean docs (docs ++ made) was below in
-          subst (λ (ds : List Doc). Inside new docs ds) (append_assoc docs made _ ∙ ap (λ ys. docs ++ ys) (ap (λ d. made ++ d ∷ []) it ∙ sym (next_rows P coll rows i c.row-item.result low c.row-item.is))) got;
+          subst (λ (ds : List Doc). Inside new docs ds) (append_assoc docs made _ ∙ grown docs _) got;
       place = omega (arith, ints);
     }
 

@@ -1,3 +1,4 @@
+use Rattle.std.specs.Cow.{cow_slice_items}
 use Rattle.std.proofs.lemmas.Result.{IfOk-weaker}
 use Rattle.store_documents.proofs.OfRows.{is_row, no_row, not_answered, row_back, WritesAs}
 use Rattle.store_documents.proofs.row.is_row.Goals as goal
@@ -10,7 +11,7 @@ returns-in-Ok c =
     let a = c.in-Ok.ensures in
     let name = c.is_text_of_name.ensures.0 c.if-not-is_text_of_name.false in
     let key_bytes = c.in-Ok.written.key.items in
-    let body = c.in-Ok.written.body.items in
+    let body = cow_slice_items c.in-Ok.written.body in
     let w : WritesAs a.0 key_bytes body = record { read = a.2; accepted = a.3.0; key_is = a.3.1; body_is = a.3.2 } in (
       λ t. is_row n k bytes a.0 key_bytes body name w (c.is_written_so.ensures.0 t).0 (c.is_written_so.ensures.0 t).1,
       λ row. c.is_written_so.ensures.1 (row_back n k bytes a.0 key_bytes body w a.1 row),

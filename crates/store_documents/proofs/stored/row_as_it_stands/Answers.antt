@@ -1,3 +1,5 @@
+use Rattle.std.proofs.Common.{refl}
+use Rattle.std.specs.declared.borrow.CowSlice.TheVariants as slice
 use Rattle.std.proofs.lemmas.Result.{err_from_is_err_and}
 use Rattle.bson_bytes.specs.Spells.{settle}
 use Rattle.bson_frame.specs.View.{element_of}
@@ -26,14 +28,14 @@ returns-in_err-key c =
     let e = element_of c.in-Some.id in
     rw (p.1, p.2) (c.in_err-key.ensures (settle c.requires.2.0) (stands bytes are c.requires form settled e c.in-Some.ensures) (found bytes are c.requires form settled e c.in-Some.ensures))
 
-pub returns-in-Ok : goal.returns-in-Ok
-returns-in-Ok c =
+pub returns : goal.returns
+returns c =
     let bytes = c.args.bytes.now in
     let are = are_bytes bytes c.type_inv.bytes in
     let told = c.if-not-is_written_form.false in
     let form = c.is_written_form.ensures.form told in
     let settled = c.is_written_form.ensures.settled told in
     let e = element_of c.in-Some.id in
-    row bytes are c.requires form settled e c.in-Some.ensures (record { key = c.in_ok-key.key; body = c.in-Ok.body })
+    row bytes are c.requires form settled e c.in-Some.ensures (record { key = c.in_ok-key.key; body = slice.Borrowed c.args.bytes })
     (c.in_ok-key.ensures (settle c.requires.2.0) (stands bytes are c.requires form settled e c.in-Some.ensures) (found bytes are c.requires form settled e c.in-Some.ensures))
-    c.in-Ok.ensures.items
+    refl

@@ -1,16 +1,15 @@
-use Rattle.std.proofs.Common.{[], rules, ap, sym, ◌∙◌}
+use Rattle.std.proofs.Common.{[], ap, ◌∙◌, rules}
 use Rattle.sqlite.specs.Held.{state}
-use Rattle.bson_table.specs.Rows.{last_place}
 use Rattle.bson_table.specs.Cells.{int_in}
 use Rattle.bson_table.proofs.AnyLemmas.{row_same, no_rows, row_refused, shown_same, leaves_nothing}
 use Rattle.bson_table.proofs.LastLemmas.{greatest_text, greatest_asks, greatest_row, greatest_none}
-use Rattle.bson_table.proofs.statements.greatest.Goals as goal
+use Rattle.bson_table.proofs.statements.greatest_if_any.Goals as goal
 
 pub returns-in-Ok-clause-place : goal.returns-in-Ok-clause-place
 returns-in-Ok-clause-place g c clean docs shows =
     let it = greatest_row (state g.S.Store c.args.conn.now) (state g.S.Store c.query_row.new.self) docs shows c.in-Ok.row (c.in-Ok.ensures.row clean) in
     let read = c.place_in.ensures ∙ ap int_in it.1 in
-    search rules
+    (it.0, search rules)
 
 pub returns-in-Ok-clause-read : goal.returns-in-Ok-clause-read
 returns-in-Ok-clause-read g c clean =
@@ -23,8 +22,7 @@ pub returns-in-Err-QueryReturnedNoRows-clause-place : goal.returns-in-Err-QueryR
 returns-in-Err-QueryReturnedNoRows-clause-place g c clean docs shows =
     let old = state g.S.Store c.args.conn.now in
     let new = state g.S.Store c.query_row.new.self in
-    let none = greatest_none old new docs shows (no_rows greatest_text greatest_asks [] old new (rw c.in-Err-QueryReturnedNoRows.field-0-is at (c.in-Err-QueryReturnedNoRows.ensures.row clean))) in
-    sym (ap last_place none)
+    greatest_none old new docs shows (no_rows greatest_text greatest_asks [] old new (rw c.in-Err-QueryReturnedNoRows.field-0-is at (c.in-Err-QueryReturnedNoRows.ensures.row clean)))
 
 pub returns-in-Err-QueryReturnedNoRows-clause-read : goal.returns-in-Err-QueryReturnedNoRows-clause-read
 returns-in-Err-QueryReturnedNoRows-clause-read g c clean =
