@@ -5,7 +5,7 @@ use Rattle.std.specs.Cow.{cow_slice_items}
 use Rattle.std.specs.Int.{w32, to_le_bytes}
 use Rattle.bson_base.specs.Kinds.{AreBytes, IsClean, IsPlain, IsSound}
 use Rattle.bson_base.specs.Tags.{tag_byte}
-use Rattle.bson_base.specs.Value.{value_kind, document, Members}
+use Rattle.bson_base.specs.Value.{Value, value_kind, scalar, array, document, scoped_code, double, string, binary, undefined, object_id, boolean, date_time, null, regex, db_pointer, code, symbol, int32, timestamp, int64, decimal, max_key, min_key, Members}
 use Rattle.bson_bytes.specs.Encode.{encode, ended, framed, le32, size, value_bytes}
 use Rattle.bson_bytes.specs.Spells.{Means, SpellsMembers, settle}
 use Rattle.bson_bytes.proofs.Lengths.{encode_length, framed_length}
@@ -24,7 +24,7 @@ use Rattle.store_laws.specs.declared.error.ErrorKind.{ErrorKind}
 use Rattle.store_laws.specs.declared.error.ErrorKind.TheVariants.{Memory}
 use Rattle.store_laws.proofs.Ids.{key_long, Own, own_is, own_of, plain_of}
 use Rattle.store_laws.proofs.Readings.{bytes_read}
-use Rattle.store_documents.specs.Bodies.{AnswersKept, AnswersWritten, refusal_of_key}
+use Rattle.store_documents.specs.Bodies.{AnswersKept, AnswersWritten, MeansItself, refusal_of_key}
 use Rattle.store_documents.specs.declared.write.Written.{Written}
 use Rattle.store_documents.proofs.OfBodies.{no_refusal}
 
@@ -44,6 +44,30 @@ behind_key : (x : List ℕ) → length (ended id_key ++ x) ≡ length x + 4
 unfolding ended
 behind_key x = omega arith
 
+-- such a value's bytes are the key
+its_form : (v : Value) → MeansItself (value_kind v) → key (only_id v) ≡ encode (only_id v)
+its_form (scalar (double n)) h = absurd h
+its_form (scalar (string t)) h = refl
+its_form (scalar (binary s bs)) h = absurd h
+its_form (scalar undefined) h = refl
+its_form (scalar (object_id bs)) h = refl
+its_form (scalar (boolean b)) h = refl
+its_form (scalar (date_time z)) h = refl
+its_form (scalar null) h = refl
+its_form (scalar (regex p o)) h = absurd h
+its_form (scalar (db_pointer t bs)) h = refl
+its_form (scalar (code t)) h = refl
+its_form (scalar (symbol t)) h = refl
+its_form (scalar (int32 z)) h = refl
+its_form (scalar (timestamp t i)) h = refl
+its_form (scalar (int64 z)) h = refl
+its_form (scalar (decimal bs)) h = absurd h
+its_form (scalar max_key) h = refl
+its_form (scalar min_key) h = refl
+its_form (array vs) h = absurd h
+its_form (document ms) h = absurd h
+its_form (scoped_code t ms) h = absurd h
+
 module _ (d : Members) (e : Element) (kept : IsKept d) (w : IsWrittenUnder id_key d e) where
   own : Own d w.0
   own = own_of d w.0 kept w.1
@@ -62,6 +86,10 @@ module _ (d : Members) (e : Element) (kept : IsKept d) (w : IsWrittenUnder id_ke
   alone_is =
       ap (λ t. framed (tag_byte t ∷ (ended id_key ++ e.payload))) (sym w.2)
       ∙ ap (λ (x : List ℕ). framed (tag_byte (value_kind w.0) ∷ (ended id_key ++ x))) (w.3 ∙ sym (append-nil (value_bytes w.0)))
+
+  -- and where its value is its own normal form they are the key
+  pub alone_itself : (bytes : List ℕ) → bytes ≡ framed (tag_byte e.tag ∷ (ended id_key ++ e.payload)) → MeansItself e.tag → bytes ≡ key (own_id d)
+  alone_itself bytes is itself = is ∙ alone_is ∙ sym (its_form w.0 (subst MeansItself (sym w.2) itself)) ∙ ap key (sym (own_is d w.0 w.1))
 
   pub alone_short : length e.payload + 10 < 2 ^ 32
   alone_short =

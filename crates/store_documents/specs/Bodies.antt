@@ -3,6 +3,8 @@ use Rattle.std.specs.Prelude.{◌≡◌, ◌≢◌, ◌⊎◌, ℕ, ◌^◌, ◌
 use Rattle.std.specs.Cow.{cow_slice_items}
 use Rattle.std.specs.declared.alloc.Global.{Global}
 use Rattle.bson_base.specs.Kinds.{IsPlain, IsSound}
+use Rattle.bson_base.specs.declared.spec.ElementType.{ElementType}
+use Rattle.bson_base.specs.declared.spec.ElementType.TheVariants as kinds
 use Rattle.bson_base.specs.Value.{Value, document, Members, has_key, levels, without}
 use Rattle.bson_bytes.specs.Encode.{encode, size}
 use Rattle.bson_frame.specs.Frame.{length_limit, size_limit}
@@ -29,6 +31,17 @@ pub record IsKeyOf (k : List ℕ) (id : Value) : Type 0 where
   pub plain : IsPlain id
   pub short : length (key (only_id id)) ≤ length_limit
   pub key : k ≡ key (only_id id)
+
+-- values of the kind are their own normal form
+abbrev pub MeansItself : ElementType → Type 0
+MeansItself kinds.Double = ⊥
+MeansItself kinds.EmbeddedDocument = ⊥
+MeansItself kinds.Array = ⊥
+MeansItself kinds.Binary = ⊥
+MeansItself kinds.RegularExpression = ⊥
+MeansItself kinds.JavaScriptCodeWithScope = ⊥
+MeansItself kinds.Decimal128 = ⊥
+MeansItself _ = Unit {0}
 
 -- what is told for an `_id` that has no key; none that is kept is such
 abbrev pub refusal_of_key : KeyError → ErrorKind

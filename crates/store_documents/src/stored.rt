@@ -1,6 +1,6 @@
 //! Documents as they are kept, from their bytes.
 
-ghost use Rattle.std.specs.Prelude.{◌≡◌, ◌+◌, ◌<◌, ◌^◌, ◌++◌, ◌∷◌, length, IfOk, IfSome, MatchResult, Ok};
+ghost use Rattle.std.specs.Prelude.{◌≡◌, ◌+◌, ◌<◌, ◌^◌, ◌++◌, ◌∷◌, length, IfOk, IfSome, IsTrue, MatchResult, Ok};
 ghost use Rattle.bson_base.specs.Tags.{tag_byte};
 ghost use Rattle.bson_base.specs.Value.{Members};
 ghost use Rattle.bson_bytes.specs.Encode.{ended, framed};
@@ -11,11 +11,12 @@ ghost use Rattle.bson_written.specs.Written.{IsWrittenUnder};
 ghost use Rattle.store_laws.specs.State.{id_key, IsKept};
 ghost use Rattle.store_laws.specs.Table.{own_id};
 ghost use Rattle.store_laws.specs.declared.error.ErrorKind.TheVariants.{Memory};
-ghost use Rattle.store_documents.specs.Bodies.{AnswersKept};
+ghost use Rattle.store_documents.specs.Bodies.{AnswersKept, MeansItself};
 
 use crate::ids::ID_KEY;
 use crate::read::{document_of, gate_refusal};
 use crate::write::{Written, key_refusal, write_document};
+use bson_base::ElementType;
 use bson_frame::Frame;
 use bson_meaning::{gate, meaning_key};
 use bson_written::{is_written_form, written_element};
@@ -31,14 +32,31 @@ fn alone(alloc: Global, id: &Frame<'_>) -> Result<Vec<u8>, AllocError>
     requires { length id.now.payload.now + 10 < 2 ^ 32 }
     ensures { IfOk result (λ b. b.items ≡ framed (tag_byte id.now.tag ∷ (ended id_key ++ id.now.payload.now))) }
 {
-    let size = (id.payload.len() + AROUND) as u32;
-    let mut bytes = Vec::from_slice(alloc, &size.to_le_bytes())?;
+    let size = id.payload.len() + AROUND;
+    let mut bytes = Vec::with_capacity(alloc, size)?;
+    bytes.extend_from_slice(&(size as u32).to_le_bytes())?;
     bytes.push(id.tag.tag())?;
     bytes.extend_from_slice(ID_KEY.as_bytes())?;
     bytes.push(0)?;
     bytes.extend_from_slice(id.payload)?;
     bytes.push(0)?;
     Ok(bytes)
+}
+
+/// Whether a value of the kind is its own normal form, so that its bytes are those of what it means.
+fn means_itself(tag: ElementType) -> bool
+    ensures { IsTrue result → MeansItself tag }
+{
+    !matches!(
+        tag,
+        ElementType::Double
+            | ElementType::EmbeddedDocument
+            | ElementType::Array
+            | ElementType::Binary
+            | ElementType::RegularExpression
+            | ElementType::JavaScriptCodeWithScope
+            | ElementType::Decimal128
+    )
 }
 
 /// The key of an `_id` from its element, as it is written. `Memory` where a growth was refused.
@@ -49,6 +67,9 @@ fn key_of_element(alloc: Global, id: &Frame<'_>) -> Result<Vec<u8>, ErrorKind>
     let Ok(bytes) = alone(alloc, id) else {
         return Err(ErrorKind::Memory);
     };
+    if means_itself(id.tag) {
+        return Ok(bytes);
+    }
     let document = document_of(alloc, bytes.as_slice())?;
     match meaning_key(alloc, &document) {
         Ok(key) => Ok(key),

@@ -1,6 +1,7 @@
 -- How far the judging of many documents has come.
 use Rattle.std.proofs.Common.{◌≡◌, ℕ, ◌+◌, add-one, List, [], ◌∷◌, ◌++◌, length, append_assoc, Option, Some, None, Ok, Err, Vec, Global, refl, ap, sym, ◌∙◌, subst}
 use Rattle.std.proofs.lemmas.List.{append-nil, length_push}
+use Rattle.std.specs.Cow.{cow_slice_items}
 use Rattle.bson_base.specs.Value.{Members}
 use Rattle.bson_bytes.specs.Encode.{encode}
 use Rattle.bson_meaning.specs.Meaning.{key}
@@ -22,7 +23,7 @@ pub record SoFar (Whole Rest : Documents → Option ErrorKind → Type 0) (rows 
   pub read : AreRead done
   pub are_rows : AreWrittenRows rows done
 
-rows_more : (rows : List Written) (done : Documents) (w : Written) (d : Members) → AreWrittenRows rows done → w.body.items ≡ encode d → w.key.items ≡ key (own_id d) → AreWrittenRows (rows ++ w ∷ []) (done ++ d ∷ [])
+rows_more : (rows : List Written) (done : Documents) (w : Written) (d : Members) → AreWrittenRows rows done → cow_slice_items w.body ≡ encode d → w.key.items ≡ key (own_id d) → AreWrittenRows (rows ++ w ∷ []) (done ++ d ∷ [])
 rows_more [] [] w d h body is = (body, is, tt)
 rows_more (r ∷ rows) (e ∷ done) w d h body is = (h.0, h.1, rows_more rows done w d h.2 body is)
 rows_more [] (e ∷ done) w d h body is = absurd h
@@ -31,7 +32,7 @@ rows_more (r ∷ rows) [] w d h body is = absurd h
 -- one document more is kept
 pub so_far_more : (Whole Rest Next : Documents → Option ErrorKind → Type 0) (rows : List Written) (place : ℕ) (d : Members) (w : Written)
     → SoFar Whole Rest rows place → ((more : Documents) (stop : Option ErrorKind) → Next more stop → Rest (d ∷ more) stop)
-    → IsRead d → refusal_of d ≡ None → w.body.items ≡ encode d → w.key.items ≡ key (own_id d) → SoFar Whole Next (rows ++ w ∷ []) (place + 1)
+    → IsRead d → refusal_of d ≡ None → cow_slice_items w.body ≡ encode d → w.key.items ≡ key (own_id d) → SoFar Whole Next (rows ++ w ∷ []) (place + 1)
 so_far_more Whole Rest Next rows place d w s step read fits body is = record {
   done = s.done ++ d ∷ [];
   reads = λ more stop h. subst (λ ds. Whole ds stop) (sym (append_assoc s.done (d ∷ []) more)) (s.reads (d ∷ more) stop (step more stop h));
@@ -43,7 +44,7 @@ so_far_more Whole Rest Next rows place d w s step read fits body is = record {
 -- the same, where the place is the number of rows
 pub so_far_pushed : (Whole Rest Next : Documents → Option ErrorKind → Type 0) (rows pushed : List Written) (d : Members) (w : Written)
     → SoFar Whole Rest rows (length rows) → ((more : Documents) (stop : Option ErrorKind) → Next more stop → Rest (d ∷ more) stop)
-    → IsRead d → refusal_of d ≡ None → w.body.items ≡ encode d → w.key.items ≡ key (own_id d) → pushed ≡ rows ++ w ∷ [] → SoFar Whole Next pushed (length pushed)
+    → IsRead d → refusal_of d ≡ None → cow_slice_items w.body ≡ encode d → w.key.items ≡ key (own_id d) → pushed ≡ rows ++ w ∷ [] → SoFar Whole Next pushed (length pushed)
 so_far_pushed Whole Rest Next rows pushed d w s step read fits body is e =
     subst (λ r. SoFar Whole Next r (length r)) (sym e) (subst (SoFar Whole Next (rows ++ w ∷ [])) (sym (length_push rows w)) (so_far_more Whole Rest Next rows (length rows) d w s step read fits body is))
 

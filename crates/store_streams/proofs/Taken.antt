@@ -1,14 +1,15 @@
 -- Keys that come in order to others: how far the search for the first that is there already has come. A loop over the keys that
 -- looks each up among those that are there, and in the set of those that came before it, has `ComeTo` as its invariant.
-use Rattle.std.proofs.Common.{◌≡◌, ℕ, suc, ◌+◌, ◌<◌, ◌≤◌, List, [], ◌∷◌, ◌++◌, length, take, drop, get_or, Bool, true, false, ◌||◌, cond, Some, None, refl, sym, ap, ap₂, ◌∙◌, subst, add-one, append_assoc}
+use Rattle.std.proofs.Common.{◌≡◌, ℕ, zero, suc, ◌+◌, ◌<◌, ◌≤◌, List, [], ◌∷◌, ◌++◌, length, take, drop, get_or, Bool, true, false, not, IsTrue, ◌||◌, cond, Some, None, refl, sym, ap, ap₂, ◌∙◌, subst, add-one, append_assoc, arith}
 use Rattle.std.specs.List.{list_any}
 use Rattle.std.specs.Str.{bytes_eq}
 use Rattle.std.proofs.Math.Seq.{drop-cons, take-suc}
 use Rattle.std.proofs.Math.ListN.{drop_of_length-le}
-use Rattle.std.proofs.lemmas.List.{append-nil}
+use Rattle.std.proofs.lemmas.List.{append-nil, length-map}
 use Rattle.std.proofs.lemmas.List.Folds.{list_any-append}
+use Rattle.store_documents.specs.declared.write.Written.{Written}
 use Rattle.store_streams.specs.declared.keys.Keys.{Keys}
-use Rattle.store_streams.specs.Keys.{has_met, first_taken}
+use Rattle.store_streams.specs.Keys.{has_met, first_taken, keys_of_rows}
 
 -- the keys before the place `at` were not there, and are those that were met
 pub record ComeTo (there ks : List (List ℕ)) (met : Keys) (at : ℕ) : Type 0 where
@@ -67,3 +68,22 @@ come_again there ks met at k c h e is = here there ks met at k c h e (rw is (or_
 -- no key was there
 pub come_end : (there ks : List (List ℕ)) (met : Keys) (at : ℕ) → ComeTo there ks met at → length ks ≤ at → first_taken 0 there ks ≡ None
 come_end there ks met at c h = c.same ∙ ap (first_taken at (there ++ take at ks)) (drop_of_length-le ks h)
+
+-- ---- the keys of rows
+
+pub rows_below : (rows : List Written) (at : ℕ) → at < length rows → at < length (keys_of_rows rows)
+rows_below rows at h = omega (arith, h, length-map rows (λ (w : Written). w.key.items))
+
+pub key_at : (rows : List Written) (at : ℕ) (w : Written) → at < length rows → w ≡ get_or rows at w → w.key.items ≡ get_or (keys_of_rows rows) at []
+key_at [] at w h is = absurd (omega (arith, h))
+key_at (r ∷ rows) zero w h is = ap (λ (x : Written). x.key.items) is
+key_at (r ∷ rows) (suc at) w h is = key_at rows at w (omega (arith, h)) is
+
+-- what `meet` says of a key
+pub not_met : (is_new met : Bool) → is_new ≡ not met → IsTrue is_new → met ≡ false
+not_met is_new false e t = refl
+not_met is_new true e t = cc
+
+pub met_before : (is_new met : Bool) → is_new ≡ not met → is_new ≡ false → met ≡ true
+met_before is_new true e f = refl
+met_before is_new false e f = cc

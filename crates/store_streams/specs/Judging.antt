@@ -2,6 +2,7 @@
 use Rattle.std.specs.Prelude.{◌≡◌, ◌⊎◌, ℕ, List, [], ◌∷◌, Option, Some, None, Result, Ok, Err, Vec}
 use Rattle.std.specs.declared.alloc.Global.{Global}
 use Rattle.std.specs.Borrow.{Bor}
+use Rattle.std.specs.Cow.{cow_slice_items}
 use Rattle.bson_base.specs.Value.{Members}
 use Rattle.bson_bytes.specs.Encode.{encode}
 use Rattle.bson_meaning.specs.Meaning.{key}
@@ -21,7 +22,7 @@ stream_refusal k i = Refused k i
 
 -- the row of one document, or why there is none, or memory was wanted
 abbrev pub AnswersRow : (Reading → Type 0) → Result Written ErrorKind → Type 0
-AnswersRow Reads (Ok w) = (d : Members) × Reads (readable d) × IsRead d × (refusal_of d ≡ None) × (w.body.items ≡ encode d) × (w.key.items ≡ key (own_id d))
+AnswersRow Reads (Ok w) = (d : Members) × Reads (readable d) × IsRead d × (refusal_of d ≡ None) × (cow_slice_items w.body ≡ encode d) × (w.key.items ≡ key (own_id d))
 AnswersRow Reads (Err kinds.Memory) = Unit {0}
 AnswersRow Reads (Err k) = Reads (unreadable k) ⊎ ((d : Members) × Reads (readable d) × (refusal_of d ≡ Some k))
 
@@ -33,13 +34,13 @@ RefusesFront Reads k = Reads [] (Some k) ⊎ ((d : Members) × (more : Documents
 -- the row of the first document of a stream, and what follows; or why there is none
 abbrev pub AnswersFront : List ℕ → Result (Written × Bor (List ℕ)) ErrorKind → Type 0
 AnswersFront bytes (Ok r) = (d : Members) × ((more : Documents) (stop : Option ErrorKind) → ReadsStream r.1.now more stop → ReadsStream bytes (d ∷ more) stop)
-    × IsRead d × (refusal_of d ≡ None) × (r.0.body.items ≡ encode d) × (r.0.key.items ≡ key (own_id d))
+    × IsRead d × (refusal_of d ≡ None) × (cow_slice_items r.0.body ≡ encode d) × (r.0.key.items ≡ key (own_id d))
 AnswersFront bytes (Err k) = RefusesFront (ReadsStream bytes) k
 
 -- the rows are the documents in their order, as they are written, under the keys of their ids
 abbrev pub AreWrittenRows : List Written → Documents → Type 0
 AreWrittenRows [] [] = Unit {0}
-AreWrittenRows (w ∷ ws) (d ∷ ds) = (w.body.items ≡ encode d) × (w.key.items ≡ key (own_id d)) × AreWrittenRows ws ds
+AreWrittenRows (w ∷ ws) (d ∷ ds) = (cow_slice_items w.body ≡ encode d) × (w.key.items ≡ key (own_id d)) × AreWrittenRows ws ds
 AreWrittenRows _ _ = ⊥
 
 -- The input reads as documents that can all be kept, and these are their rows. Or this is the first of its refusals, with its

@@ -4,10 +4,12 @@
 mod error;
 mod keys;
 pub mod laws;
+mod repeats;
 mod stream;
 mod trees;
 
 pub use error::StreamError;
 pub use keys::Keys;
+pub use repeats::first_repeated;
 pub use stream::judge_stream;
 pub use trees::judge_trees;

@@ -34,14 +34,14 @@ fn cut(bytes: &[u8]) -> Result<(&[u8], &[u8]), ErrorKind>
 
 /// The row of the document that bytes mean.
 #[tactic(auto, using(crate::proofs::Going::kept_row))]
-fn row_of(alloc: Global, bytes: &[u8]) -> Result<Written, ErrorKind>
+fn row_of(alloc: Global, bytes: &[u8]) -> Result<Written<'_>, ErrorKind>
     ensures { AnswersRow (ReadsBytes bytes.now) result }
 {
     row_of_bytes(alloc, bytes)
 }
 
 /// The row of the first document of a stream that isn't at its end, and what follows the document.
-fn first_row(alloc: Global, bytes: &[u8]) -> Result<(Written, &[u8]), ErrorKind>
+fn first_row(alloc: Global, bytes: &[u8]) -> Result<(Written<'_>, &[u8]), ErrorKind>
     requires { 0 < length bytes.now }
     ensures answer { AnswersFront bytes.now result }
     ensures shorter { IfOk result (λ r. length r.1.now < length bytes.now) }
@@ -56,7 +56,7 @@ fn first_row(alloc: Global, bytes: &[u8]) -> Result<(Written, &[u8]), ErrorKind>
 ///
 /// The first document that is refused decides: `EndInside`, `BadLength`, `NotTerminated`, `Faulty` and `TooDeep` of its bytes,
 /// then `NoId` and `TooLong`. `Memory` where a growth was refused. Takes time in proportion to the bytes.
-pub fn judge_stream(alloc: Global, bytes: &[u8]) -> Result<Vec<Written>, StreamError>
+pub fn judge_stream(alloc: Global, bytes: &[u8]) -> Result<Vec<Written<'_>>, StreamError>
     ensures { Judges (ReadsStream bytes.now) result }
 {
     let mut rows = Vec::new(alloc);

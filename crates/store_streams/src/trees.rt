@@ -12,7 +12,7 @@ use store_documents::{Written, read_json, write_document};
 use store_laws::ErrorKind;
 
 /// The row of the document that a tree stands for.
-fn row_of(alloc: Global, json: Value) -> Result<Written, ErrorKind>
+fn row_of(alloc: Global, json: Value) -> Result<Written<'static>, ErrorKind>
     ensures { AnswersRow (ReadsTree (tree_of json)) result }
 {
     let document = read_json(alloc, json)?;
@@ -23,7 +23,7 @@ fn row_of(alloc: Global, json: Value) -> Result<Written, ErrorKind>
 ///
 /// The first document that is refused decides: `NotAnObject`, `JsonRefused`, `TooDeep` and `Nul` of its tree, then `NoId` and
 /// `TooLong`. `Memory` where a growth was refused.
-pub fn judge_trees(alloc: Global, trees: Vec<Value>) -> Result<Vec<Written>, StreamError>
+pub fn judge_trees(alloc: Global, trees: Vec<Value>) -> Result<Vec<Written<'static>>, StreamError>
     ensures { Judges (ReadsTrees (map tree_of trees.items)) result }
 {
     let mut rows = Vec::new(alloc);

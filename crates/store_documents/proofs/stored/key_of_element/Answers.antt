@@ -2,11 +2,14 @@ use Rattle.std.proofs.Common.{Err, ap, ◌∙◌}
 use Rattle.bson_frame.specs.View.{element_of}
 use Rattle.bson_model.specs.View.{members_of, pairs_of}
 use Rattle.store_laws.specs.Table.{only_id}
-use Rattle.store_documents.proofs.OfStored.{alone_key, alone_means, alone_refused, alone_short}
+use Rattle.store_documents.proofs.OfStored.{alone_itself, alone_key, alone_means, alone_refused, alone_short}
 use Rattle.store_documents.proofs.stored.key_of_element.Goals as goal
 
 pub alone-requires : goal.alone-requires
 alone-requires c = alone_short c.requires.0 (element_of c.args.id.now) c.requires.1 c.requires.2
+
+pub returns-then-means_itself : goal.returns-then-means_itself
+returns-then-means_itself c d kept w = alone_itself d (element_of c.args.id.now) kept w c.in-Ok.bytes.items c.in-Ok.ensures (c.means_itself.ensures c.if-means_itself.true)
 
 pub document_of-requires : goal.document_of-requires
 document_of-requires c =
