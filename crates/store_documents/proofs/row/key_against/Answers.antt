@@ -1,4 +1,4 @@
-use Rattle.std.proofs.Common.{sym, ap, ◌∙◌, refl}
+use Rattle.std.proofs.Common.{sym, ◌∙◌, refl}
 use Rattle.store_documents.proofs.OfRows.{WritesAs, other_body, own_key_told, old_key_told, no_key_told, kept_of, untrue_so}
 use Rattle.store_documents.proofs.row.key_against.Goals as goal
 
