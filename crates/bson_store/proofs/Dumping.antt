@@ -75,13 +75,13 @@ trees_stay i (e ∷ ds) more x h = by (tree_of Canonical e) (trees_of (suc i) ds
 -- ---- bodies of documents
 
 -- bodies that are parted part the documents
-record Parted (xs ys : List (List ℕ)) (ds : Documents) : Type 0 where
+pub record Parted (xs ys : List (List ℕ)) (ds : Documents) : Type 0 where
   pub front : Documents
   pub back : Documents
   pub split : ds ≡ front ++ back
   pub written : xs ≡ map encode front
 
-parted : (xs ys : List (List ℕ)) (ds : Documents) → xs ++ ys ≡ map encode ds → Parted xs ys ds
+pub parted : (xs ys : List (List ℕ)) (ds : Documents) → xs ++ ys ≡ map encode ds → Parted xs ys ds
 parted [] ys ds h = record { front = []; back = ds; split = refl; written = refl }
 parted (x ∷ xs) ys [] h = cc
 parted (x ∷ xs) ys (d ∷ ds) h =
@@ -128,7 +128,7 @@ longer (x ∷ js) j = omega (arith, ap suc (longer js j))
 first_longer : (js : List Data) (ds more : Documents) → AreFirstTrees js ds → AreFirstTrees js (ds ++ more)
 first_longer js ds more (front, back, split, are) = (front, back ++ more, ap (λ l. l ++ more) split ∙ append_assoc front back more, are)
 
-stops_longer : (took : List Data → Type 0) (refused_by : List Data → StoreError → Type 0) (ds more : Documents) (e : StoreError) → Stops took refused_by ds e → Stops took refused_by (ds ++ more) e
+pub stops_longer : (took : List Data → Type 0) (refused_by : List Data → StoreError → Type 0) (ds more : Documents) (e : StoreError) → Stops took refused_by ds e → Stops took refused_by (ds ++ more) e
 stops_longer took refused_by ds more e (js, are, inl h) = (js, first_longer js ds more are, inl h)
 stops_longer took refused_by ds more e (js, are, inr (t, inl h)) = (js, first_longer js ds more are, inr (t, inl h))
 stops_longer took refused_by ds more e (js, are, inr (t, inr h)) = (js, first_longer js ds more are, inr (t, inr (by (trees_of 0 ds) refl h)))
@@ -207,7 +207,7 @@ dump_open n good = undecided n dump good (λ x. x)
 answered : (l : Documents) (r : Reply) → trees_reply (trees_of 0 l) ≡ r → Answers dump l r l
 answered l r h = (sym h, refl)
 
-handed_nothing : (took : List Data → Type 0) (refused_by : List Data → StoreError → Type 0) (i : ℕ) → took [] → i ≡ 0 → HandedOn took refused_by i [] None
+pub handed_nothing : (took : List Data → Type 0) (refused_by : List Data → StoreError → Type 0) (i : ℕ) → took [] → i ≡ 0 → HandedOn took refused_by i [] None
 handed_nothing took refused_by i start at [] kept is = ([], refl, (start, at))
 handed_nothing took refused_by i start at (d ∷ ds) kept is = absurd (cc)
 

@@ -55,3 +55,11 @@ pub record HandsTrees {T : Type 0} (took : T → List Data → Type 0) (refused_
   pub handed : (a : Table) → Show docs a → MatchResult result
       (λ t. IsName n × TakesAll (took t) (documents_of a n))
       (λ e. ((IsName n → ⊥) × (e.0 ≡ refusal BadName) × took e.1 []) ⊎ (IsName n × Stops (took e.1) (refused_by e.1) (documents_of a n) e.0))
+
+-- Whatever table the rows show, each document of its list has a tree; or the name is bad; or memory or the database was wanting, or
+-- the first of the documents that has no tree is told; the rows stay.
+pub record ChecksTrees (n : List ℕ) (result : Result (Unit {0}) StoreError) (docs after : List Doc) : Type 0 where
+  pub same : after ≡ docs
+  pub checked : (a : Table) → Show docs a → MatchResult result
+      (λ _. IsName n × ((js : List Data) × (trees_of 0 (documents_of a n) ≡ Ok js)))
+      (λ e. ((IsName n → ⊥) × (e ≡ refusal BadName)) ⊎ (IsName n × (IsDenied e ⊎ (trees_reply (trees_of 0 (documents_of a n)) ≡ refused e.kind e.document))))

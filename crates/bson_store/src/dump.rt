@@ -40,7 +40,7 @@ pub trait TakeJson {
 }
 
 /// The refusal of the document at a place; want of memory has none.
-fn refused_at(kind: ErrorKind, document: u64) -> StoreError
+pub(crate) fn refused_at(kind: ErrorKind, document: u64) -> StoreError
     ensures { result ≡ told_at kind document }
 {
     match kind {

@@ -2,6 +2,7 @@
 #![tactic(auto)]
 
 mod batch;
+mod checking;
 mod command;
 mod dump;
 mod error;

@@ -6,8 +6,8 @@ use bson_model::extjson::Mode;
 use serde_json::Value;
 use std::alloc::Global;
 use store_documents::{
-    Name, Unset, is_row, json_of, read_bytes, read_json, read_value, set_member, unset_member,
-    write_document,
+    Name, Unset, check_json, is_row, json_of, read_bytes, read_json, read_value, set_member,
+    unset_member, write_document,
 };
 use store_laws::ErrorKind;
 use store_words::TextError;
@@ -57,6 +57,7 @@ pub fn of_bytes(alloc: Global, word: &str, rest: &str) -> Result<String, TextErr
         "rewritten" => tell::digits_of(alloc, rewritten(alloc, &bytes)),
         "row_key" => tell::digits_of(alloc, row_key(alloc, &bytes)),
         "canonical" => json(alloc, &bytes, Mode::Canonical),
+        "checked" => checked(alloc, &bytes),
         _ => json(alloc, &bytes, Mode::Relaxed),
     }
 }
@@ -79,6 +80,13 @@ fn json(alloc: Global, bytes: &[u8], mode: Mode) -> Result<String, TextError> {
         Ok(tree) => Ok(tree.to_string(alloc)?),
         Err(kind) => tell::shown(alloc, &kind),
     }
+}
+
+/// Why a document has no tree, as it is told without the tree and with it.
+fn checked(alloc: Global, bytes: &[u8]) -> Result<String, TextError> {
+    let checked = check_json(alloc, bytes, Mode::Canonical).err();
+    let written = json_of(alloc, bytes, Mode::Canonical).err();
+    tell::shown(alloc, &(checked, written))
 }
 
 /// Whether a document comes out of its bytes as it went in.

@@ -26,7 +26,8 @@
 //!   bytes that it is written as. `row_key BYTES`: the key that it is written under. `reread DOCUMENT`: whether it comes out of its
 //!   bytes as it went in.
 //! - `set KEY | VALUE | BYTES`, `unset KEY | BYTES`: the document with the member set or taken out.
-//! - `canonical BYTES`, `relaxed BYTES`: the document as JSON. `row NAME | KEY | BODY`: whether a store can have written the row.
+//! - `canonical BYTES`, `relaxed BYTES`: the document as JSON. `checked BYTES`: why it has no canonical tree, as it is told without
+//!   the tree and with it. `row NAME | KEY | BODY`: whether a store can have written the row.
 //! - `stream BYTES`, `trees BYTES` (lines of JSON): the bytes of the documents. `meets KEY|KEY|..`: which keys are met for the first time.
 //! - `words WORD|WORD|..`: the line of the table that they are. `id TEXT`: the value. `lines BYTES`: how many trees.
 //! - `refusal KIND`, `refusal KIND | DOCUMENT`, `complaint WHAT`, `printed NUMBER NUMBER` (and both flags): what is printed.
@@ -70,7 +71,7 @@ fn answer_store(alloc: Global, word: &str, rest: &str) -> Result<String, TextErr
     match word {
         "name" => documents::name(alloc, rest),
         "value" | "document" | "kept" => documents::of_json(alloc, word, rest),
-        "rewritten" | "row_key" | "canonical" | "relaxed" => {
+        "rewritten" | "row_key" | "canonical" | "checked" | "relaxed" => {
             documents::of_bytes(alloc, word, rest)
         }
         "reread" => documents::reread(alloc, rest),

@@ -4,3 +4,4 @@ pub mod OfBodies
 pub mod OfChanges
 pub mod OfRows
 mod OfStored
+mod OfTrees

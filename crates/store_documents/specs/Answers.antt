@@ -32,3 +32,12 @@ AnswersValue j (Err k) = ((k ≡ JsonRefused) × (read_value j ≡ None)) ⊎ (k
 abbrev pub AnswersJson : Result Data ErrorKind → Result Json ErrorKind → Type 0
 AnswersJson r (Ok j) = r ≡ Ok (data_of j)
 AnswersJson r (Err k) = (r ≡ Err k) ⊎ (k ≡ Memory)
+
+-- there is a tree
+abbrev pub HasTree : Result Data ErrorKind → Type 0
+HasTree r = (j : Data) × (r ≡ Ok j)
+
+-- there is a tree, or it is refused as the tree would be
+abbrev pub AnswersChecked : Result Data ErrorKind → Result (Unit {0}) ErrorKind → Type 0
+AnswersChecked r (Ok x) = HasTree r
+AnswersChecked r (Err k) = (r ≡ Err k) ⊎ (k ≡ Memory)

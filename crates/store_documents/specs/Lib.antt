@@ -2,3 +2,4 @@ pub mod Names
 pub mod Propositions
 pub mod Answers
 pub mod Bodies
+pub mod Trees

@@ -11,6 +11,7 @@ mod read;
 mod reserved;
 mod row;
 mod stored;
+mod trees;
 mod write;
 
 pub use answer::json_of;
@@ -20,4 +21,5 @@ pub use name::Name;
 pub use read::{read_bytes, read_json, read_value};
 pub use row::{RowKey, is_row, key_of_row};
 pub use stored::row_of_bytes;
+pub use trees::check_json;
 pub use write::{Written, write_document};
