@@ -9,6 +9,7 @@ prints one line a step, and ends with status 1 at the first that isn't as it sho
 import json
 import pathlib
 import resource
+import shutil
 import signal
 import subprocess
 import sys
@@ -19,12 +20,19 @@ try:
 except ImportError:
     sys.exit("program.py: needs sqlite3 and Python's bson, of Debian: apt-get install sqlite3 python3-bson")
 
+ROOT = pathlib.Path(__file__).resolve().parent.parent
 PROGRAM = sys.argv[1]
 FILE = pathlib.Path(tempfile.mkdtemp()) / "test.db"
 
 
 def run(*words, given=b""):
     done = subprocess.run([PROGRAM, str(FILE), *words], input=given, capture_output=True)
+    return done.returncode, done.stdout, done.stderr.decode()
+
+
+def run_limited(program, limited, words, given):
+    """The same of a program whose process first calls `limited`."""
+    done = subprocess.run([program, str(FILE), *words], input=given, capture_output=True, preexec_fn=limited)
     return done.returncode, done.stdout, done.stderr.decode()
 
 
@@ -35,8 +43,22 @@ def run_within(limit, most, *words, given=b""):
         signal.signal(signal.SIGXFSZ, signal.SIG_IGN)
         resource.setrlimit(limit, (most, most))
 
-    done = subprocess.run([PROGRAM, str(FILE), *words], input=given, capture_output=True, preexec_fn=limited)
-    return done.returncode, done.stdout, done.stderr.decode()
+    return run_limited(PROGRAM, limited, words, given)
+
+
+def run_script(most, *words, given=b""):
+    """The same by the script, in a copy of the checkout that has this program, where files may have so many bytes and the signal ends a
+    process that doesn't ignore it."""
+    def limited():
+        signal.signal(signal.SIGXFSZ, signal.SIG_DFL)
+        resource.setrlimit(resource.RLIMIT_FSIZE, (most, most))
+
+    with tempfile.TemporaryDirectory() as folder:
+        built = pathlib.Path(folder) / "target" / "quick"
+        built.mkdir(parents=True)
+        shutil.copy(PROGRAM, built / "bson_store")
+        script = shutil.copy(ROOT / "bson_store", folder)
+        return run_limited(script, limited, words, given)
 
 
 def holds(step, found, wanted):
@@ -110,6 +132,7 @@ before = rows()
 large = b"".join(bson.encode({"_id": i, "text": "x" * 1000}) for i in range(1000))
 refused = run_within(resource.RLIMIT_FSIZE, 40 << 10, "import", "f", given=large)
 holds("a file that may not grow", refused, (1, b"", "refused: Database\n"))
+holds("by the script", run_script(40 << 10, "import", "f", given=large), (1, b"", "refused: Database\n"))
 holds("rows stay", rows(), before)
 huge = b"".join(bson.encode({"_id": i, "text": "x" * 1000000}) for i in range(200))
 refused = run_within(resource.RLIMIT_AS, 128 << 20, "import", "f", given=huge)

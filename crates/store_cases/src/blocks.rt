@@ -1,7 +1,7 @@
 //! Blocks of lines, each over a database of its own.
 
 use crate::replies::tell_refusal;
-use crate::{lists, stored, words};
+use crate::{devices, lists, stored, words};
 use bson_store::{Store, StoreError};
 use sqlite::{Alter, Connection};
 use std::alloc::{AllocError, Global};
@@ -15,6 +15,8 @@ fn answer_line<S: Alter + Drop>(
     match line.split_once(' ') {
         Some(("run", commands)) => lists::answer(alloc, store, commands),
         Some(("move", names)) => lists::moved(alloc, store, names),
+        Some(("import_interrupted", rest)) => devices::import_interrupted(alloc, store, rest),
+        Some(("export_nowhere", name)) => devices::export_nowhere(alloc, store, name),
         _ => words::answer(alloc, store, line),
     }
 }

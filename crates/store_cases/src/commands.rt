@@ -1,11 +1,11 @@
 //! Commands as a line tells them: a word, the name of the collection and what belongs to them, with bars between.
 
-use crate::bytes;
+use crate::{bytes, trees};
 use bson_store::extjson::Mode;
 use bson_store::{Bson, Command};
 use serde_json::Value;
 use std::alloc::Global;
-use store_words::{read_filter, read_id, read_json};
+use store_words::{read_filter, read_id};
 
 /// What stands before the first bar, and what behind it.
 fn cut(text: &str) -> (&str, &str) {
@@ -48,30 +48,18 @@ fn with_trees(alloc: Global, word: &str, name: &str, rest: &str) -> Option<Comma
     let name = name_of(alloc, name)?;
     match word {
         "insert_json" => {
-            let json = read_json(alloc, rest).ok()?;
+            let json = trees::told_by(alloc, rest)?;
             Some(Command::InsertJson { name, json })
         }
         "replace_json" => {
-            let json = read_json(alloc, rest).ok()?;
+            let json = trees::told_by(alloc, rest)?;
             Some(Command::ReplaceJson { name, json })
         }
         _ => {
-            let trees = trees_of(alloc, rest)?;
+            let trees = trees::all_told_by(alloc, rest)?;
             Some(Command::LoadJson { name, trees })
         }
     }
-}
-
-/// The trees of texts with bars between them; none of no text.
-fn trees_of(alloc: Global, texts: &str) -> Option<Vec<Value>> {
-    let mut trees = Vec::new(alloc);
-    if texts.is_empty() {
-        return Some(trees);
-    }
-    for text in texts.split('|') {
-        trees.push(read_json(alloc, text).ok()?).ok()?;
-    }
-    Some(trees)
 }
 
 /// A name and an id.
@@ -105,7 +93,7 @@ fn unset_of(alloc: Global, name: &str, rest: &str) -> Option<Command> {
 
 /// A key and a value.
 fn keyed(alloc: Global, key: &str, value: &str) -> Option<(String, Value)> {
-    let value = read_json(alloc, value).ok()?;
+    let value = trees::told_by(alloc, value)?;
     Some((name_of(alloc, key)?, value))
 }
 

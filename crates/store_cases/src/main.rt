@@ -20,8 +20,12 @@
 //! - `pipe`: the program without words, over a store of its own. The answer is as for words; `the input` stands for the bytes that
 //!   came in, and of other output there are the hexadecimal digits.
 //! - `run` and commands with `;` between them, done by `run`. The answer has their replies. A command is a word and its parts with
-//!   bars between them, as `insert_raw|c|0500000000`; `\0` in a name stands for a 00.
+//!   bars between them, as `insert_raw|c|0500000000`; `\0` in a name stands for a 00, and `levels:N` in the place of
+//!   a JSON text for so many objects inside each other, each as the `_id` of the one around it.
 //! - `move FROM TO`: loads what `dump_json` gives of a collection into another.
+//! - `import_interrupted NAME|CALLS|BYTES`: what `import` replies of a reader of std that gives one byte a call and of which the call
+//!   behind so many is interrupted. `export_nowhere NAME`: what `export` replies of a writer of std that takes no bytes. Both end with
+//!   how many calls of the device failed.
 //!
 //! Before the program's words, and before `pipe`, may stand `input=BYTES`; `calls=N`, `room=N` and `faults_room=N`, by which the input fails after so many
 //! calls, and the output or the faults after so many bytes: the answer then ends with how often the input, the output and the faults failed.
@@ -35,6 +39,7 @@ mod blocks;
 mod bytes;
 mod commands;
 mod counting;
+mod devices;
 mod exporting;
 mod limiting;
 mod lists;
@@ -43,6 +48,7 @@ mod replies;
 mod stopping;
 mod stored;
 mod table;
+mod trees;
 mod usage;
 mod words;
 

@@ -1,0 +1,105 @@
+//! Devices of std under a store: a reader that is interrupted, and a writer that takes nothing.
+
+use crate::bytes;
+use crate::replies::tell;
+use bson_base::Counted;
+use bson_store::{Reply, Store};
+use sqlite::Alter;
+use std::alloc::{AllocError, Global};
+use std::io;
+
+/// A reader that gives one byte a call, and of which one call is interrupted.
+#[derive(Drop)]
+struct Interrupted<'a> {
+    /// The bytes that it has left.
+    bytes: &'a [u8],
+    /// How many calls go well before the one that is interrupted. None behind that.
+    calls: Option<u64>,
+}
+
+impl io::Read for Interrupted<'_> {
+    fn read(&mut self, buf: &mut [u8]) -> io::Result<usize> {
+        if let Some(calls) = self.calls {
+            self.calls = calls.checked_sub(1);
+            if calls == 0 {
+                return Err(io::Error::from(io::ErrorKind::Interrupted));
+            }
+        }
+        if buf.is_empty() || self.bytes.is_empty() {
+            return Ok(0);
+        }
+        buf[0] = self.bytes[0];
+        self.bytes = &self.bytes[1..];
+        Ok(1)
+    }
+}
+
+/// A writer that takes no bytes.
+#[derive(Drop)]
+struct Full;
+
+impl io::Write for Full {
+    fn write(&mut self, _buf: &[u8]) -> io::Result<usize> {
+        Ok(0)
+    }
+
+    fn flush(&mut self) -> io::Result<()> {
+        Ok(())
+    }
+}
+
+/// Tells a reply, and how often the device failed.
+fn told(alloc: Global, reply: Reply, failed: u64) -> Result<String, AllocError> {
+    let mut told = String::new(alloc);
+    tell(alloc, &reply, &mut told)?;
+    told.push_str(format!(in alloc; " failed {failed}")?.as_str())?;
+    Ok(told)
+}
+
+/// What `import` into a collection answers of bytes from the reader.
+fn imported<S: Alter + Drop>(
+    alloc: Global,
+    store: &mut Store<S>,
+    name: &str,
+    device: Interrupted<'_>,
+) -> Result<String, AllocError> {
+    let mut reader = Counted::new(device);
+    let reply = match store.import(name, &mut reader) {
+        Ok(count) => Reply::Count(count),
+        Err(error) => Reply::Refused(error),
+    };
+    told(alloc, reply, reader.failed)
+}
+
+/// The answer to a collection, a number of calls and bytes with bars between them: what comes of an import from a reader that is
+/// interrupted behind so many calls.
+pub fn import_interrupted<S: Alter + Drop>(
+    alloc: Global,
+    store: &mut Store<S>,
+    line: &str,
+) -> Result<String, AllocError> {
+    let (name, rest) = line.split_once('|').unwrap_or((line, ""));
+    let (calls, text) = rest.split_once('|').unwrap_or((rest, ""));
+    let Some(bytes) = bytes::told_by(alloc, text) else {
+        return String::from_str(alloc, "no bytes");
+    };
+    let device = Interrupted {
+        bytes: &bytes,
+        calls: calls.parse::<u64>().ok(),
+    };
+    imported(alloc, store, name, device)
+}
+
+/// What comes of an export of a collection to a writer that takes nothing.
+pub fn export_nowhere<S: Alter + Drop>(
+    alloc: Global,
+    store: &mut Store<S>,
+    name: &str,
+) -> Result<String, AllocError> {
+    let mut writer = Counted::new(Full);
+    let reply = match store.export(name, &mut writer) {
+        Ok(()) => Reply::Done,
+        Err(error) => Reply::Refused(error),
+    };
+    told(alloc, reply, writer.failed)
+}

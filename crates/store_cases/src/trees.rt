@@ -1,0 +1,43 @@
+//! Trees of JSON as a line tells them.
+
+use serde_json::{Map, Value};
+use std::alloc::{AllocError, Global};
+use store_words::read_json;
+
+/// The tree that a text tells: of JSON, or so many objects inside each other. None where it tells none, or where memory is wanted.
+pub fn told_by(alloc: Global, text: &str) -> Option<Value> {
+    match text.strip_prefix("levels:") {
+        Some(levels) => tree_of_levels(alloc, levels.parse::<u32>().ok()?).ok(),
+        None => read_json(alloc, text).ok(),
+    }
+}
+
+/// An empty object with so many others around it, each with the one key `_id`; itself counted.
+///
+/// What reads a tree takes it and drops it, and the drop of the kit's type calls itself once a level: the cases go to 10000.
+fn tree_of_levels(alloc: Global, levels: u32) -> Result<Value, AllocError> {
+    let mut tree = Value::Object(Map::new(alloc));
+    for _ in 1..levels {
+        tree = object_around(alloc, tree)?;
+    }
+    Ok(tree)
+}
+
+/// An object whose `_id` is a tree.
+fn object_around(alloc: Global, tree: Value) -> Result<Value, AllocError> {
+    let mut members = Map::new(alloc);
+    drop(members.insert(String::from_str(alloc, "_id")?, tree)?);
+    Ok(Value::Object(members))
+}
+
+/// The trees of texts with bars between them; none of no text.
+pub fn all_told_by(alloc: Global, texts: &str) -> Option<Vec<Value>> {
+    let mut trees = Vec::new(alloc);
+    if texts.is_empty() {
+        return Some(trees);
+    }
+    for text in texts.split('|') {
+        trees.push(told_by(alloc, text)?).ok()?;
+    }
+    Some(trees)
+}
