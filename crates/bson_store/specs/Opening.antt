@@ -4,6 +4,7 @@ use Rattle.sqlite.specs.State.{State, IsUnchanged}
 use Rattle.bson_meaning.specs.Before.{key as key_before}
 use Rattle.bson_table.specs.Rows.{Doc, Shows, IsBlank}
 use Rattle.bson_table.specs.Open.{HasNoTable}
+use Rattle.bson_table.specs.Beside.{StandsBeside}
 use Rattle.bson_table.specs.Renewal.{Unopened, PassesOnce}
 use Rattle.bson_table.specs.Schema.{documents_schema}
 use Rattle.bson_table.specs.declared.opening.OpenError.{OpenError}
@@ -26,9 +27,11 @@ ShowSome docs = (a : Table) × Show docs a
 abbrev pub StandFor : List Doc → List Doc → Type 0
 StandFor docs after = ((a : Table) × ShowOnce docs a × Show after a) × ((a : Table) → ShowOnce docs a → Show after a)
 
--- The table was made, or is found with the rows that it had, each under its key of now; nothing is written where all had that.
+-- The table was made, beside what there was, or is found with the rows that it had, each under its key of now; nothing is written
+-- where all had that.
 pub record Opens (old new : State) : Type 0 where
   pub made : IsBlank old → Shows new []
+  pub beside : HasNoTable old → StandsBeside old new
   pub found : (docs : List Doc) → Shows old docs → (after : List Doc) × Shows new after × StandFor docs after
   pub listed : old.now.schema ≡ documents_schema → (docs : List Doc) × (after : List Doc) × Shows old docs × Shows new after × StandFor docs after
   pub other : HasNoTable old ⊎ PassesOnce IsRowUnder old new

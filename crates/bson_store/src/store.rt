@@ -1,9 +1,9 @@
 //! The store.
 
-ghost use Rattle.std.specs.Prelude.{◌≡◌, ◌↔◌, ◌<◌, ◌^◌, ◌-◌, IsTrue, IfOk, IfErr, IsErrOf, IsSome, List, MatchResult, Ok};
+ghost use Rattle.std.specs.Prelude.{◌≡◌, ◌↔◌, ◌<◌, ◌^◌, ◌-◌, false, IsTrue, IfOk, IfErr, IsErrAnd, IsErrOf, IsSome, List, MatchResult, Ok};
 ghost use Rattle.sqlite.specs.Held.{state};
 ghost use Rattle.sqlite.specs.State.{HasCleanDisk, Survives};
-ghost use Rattle.bson_table.specs.Open.{KeepsRows};
+ghost use Rattle.bson_table.specs.Open.{HasNoTable, IsNameTaken, KeepsAll};
 ghost use Rattle.bson_store.specs.Opening.{Opens, RefusesToOpen};
 ghost use Rattle.serde_json.specs.View.{view as tree_of};
 ghost use Rattle.bson_base.specs.Value.{Members};
@@ -19,7 +19,7 @@ ghost use Rattle.store_documents.specs.Bodies.{AnswersWritten};
 ghost use Rattle.store_documents.specs.Names.{name_bytes};
 ghost use Rattle.store_laws.specs.Reading.{IsRead, read_value};
 ghost use Rattle.store_laws.specs.State.{IsName, IsFreeKey, in_bytes, in_json, insert, replace, set, unset, remove, get_raw, get_json, on};
-ghost use Rattle.store_laws.specs.declared.error.ErrorKind.TheVariants.{BadName};
+ghost use Rattle.store_laws.specs.declared.error.ErrorKind.TheVariants.{BadName, Database, NotAStore};
 
 use crate::error::StoreError;
 use crate::export::Sender;
@@ -77,7 +77,9 @@ impl<S: Alter + Drop> Store<S> {
     ) -> Result<Store<S>, (StoreError, Connection<S>)>
         ensures opened { IfOk result (λ s. HasCleanDisk (held S.Store s) → Opens (state S.Store connection) (held S.Store s)) }
         ensures refused { IfErr result (λ e. HasCleanDisk (state S.Store e.1) → RefusesToOpen (state S.Store connection) (state S.Store e.1) e.0) }
-        ensures kept { IfErr result (λ e. HasCleanDisk (state S.Store e.1) → KeepsRows (state S.Store connection) (state S.Store e.1)) }
+        ensures kept { IfErr result (λ e. HasCleanDisk (state S.Store e.1) → KeepsAll (state S.Store connection) (state S.Store e.1)) }
+        ensures taken { (state S.Store connection).in_transaction ≡ false → HasNoTable (state S.Store connection) → IsNameTaken (state S.Store connection) → IsErrAnd result (λ e. (e.0 ≡ refusal NotAStore) × (e.1 ≡ connection)) }
+        ensures busy { IsTrue (state S.Store connection).in_transaction → IsErrAnd result (λ e. (e.0 ≡ refusal Database) × (e.1 ≡ connection)) }
         // Where `sqlite` opened the connection over a database that holds a state, under keys of now or from before, whatever a
         // crash did to it, the store has that state, and a crash leaves it alone. A crash in the open leaves the old keys or the
         // new ones, and both stand for the state; keys of now are left where the database had no others.
