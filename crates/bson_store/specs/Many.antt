@@ -1,5 +1,6 @@
 -- What calls of many documents say of the rows: imports and loads, and dumps.
 use Rattle.std.specs.Prelude.{◌≡◌, ◌⊎◌, ◌||◌, ℕ, Bool, List, length, map, filter, Option, None, Result, Ok, Err, IfOk, IfErr, OnErr}
+use Rattle.std.specs.Cow.{cow_slice_items}
 use Rattle.std.specs.List.{list_any}
 use Rattle.std.specs.Str.{bytes_eq}
 use Rattle.bson_table.specs.Rows.{Doc, is_in}
@@ -63,9 +64,9 @@ pub record FindsTaken (n : List ℕ) (rows : List Written) (result : Result (Opt
   pub place : IfOk result (λ o. o ≡ first_taken 0 (keys_in n docs) (keys_of_rows rows))
   pub denied : IfErr result IsDenied
 
--- a written document as a row to come
-abbrev pub row_of : Written → NewRow
-row_of w = record { idkey = w.key; body = w.body }
+-- a row to come lends the key and the bytes of a written document
+abbrev pub Lends : NewRow → Written → Type 0
+Lends r w = (r.idkey.now ≡ w.key.items) × (r.body.now ≡ cow_slice_items w.body)
 
 -- a row's key is there already, or the table or memory refused
 abbrev pub IsAddFault : StoreError → Type 0
