@@ -19,11 +19,11 @@ use Rattle.store_laws.specs.declared.error.ErrorKind.TheVariants.{DuplicateId, P
 use Rattle.store_laws.proofs.Keys.{rows_are_a_state}
 use Rattle.store_laws.proofs.Rows.{list_of-state_of, rows_last}
 use Rattle.store_streams.specs.Judging.{AreWrittenRows as AreWritten}
-use Rattle.store_streams.specs.Keys.{first_taken, keys_of}
+use Rattle.store_streams.specs.Keys.{first_taken, keys_of, keys_of_rows}
 use Rattle.store_streams.proofs.Appending.{all_accepted, appending_all}
 use Rattle.bson_store.specs.Shown.{AreRowsOf, Rises, Show}
 use Rattle.bson_store.specs.Calls.{Does}
-use Rattle.bson_store.specs.Many.{AddsAll, FindsTaken, IsAddFault, Lends, keys_in, keys_of_rows}
+use Rattle.bson_store.specs.Many.{AddsAll, FindsTaken, IsAddFault, Lends, keys_in}
 use Rattle.bson_store.specs.Refusals.{kind_of_fault, refusal, refusal_at}
 use Rattle.bson_store.specs.declared.error.StoreError.{StoreError}
 use Rattle.bson_store.proofs.Keyed.{keys_are, row_keys_are}

@@ -16,7 +16,7 @@ use Rattle.bson_base.specs.declared.whole.ReadAllError.TheVariants as reads
 use Rattle.store_streams.specs.declared.keys.Keys.{Keys}
 use Rattle.bson_base.specs.Device.{Feed, TookAll, StopsReading}
 use Rattle.store_streams.specs.Judging.{AreWrittenRows}
-use Rattle.store_streams.specs.Keys.{first_taken, has_met}
+use Rattle.store_streams.specs.Keys.{first_taken, has_met, keys_of_rows}
 use Rattle.bson_store.specs.Shown.{Show}
 use Rattle.bson_store.specs.Calls.{Does}
 use Rattle.bson_store.specs.Refusals.{IsDenied, as_number, kind_of_fault, refusal, refusal_at, reply_by}
@@ -54,9 +54,6 @@ pub record Meets (n k : List ℕ) (met : Keys) (result : Result Bool StoreError)
   pub same : after ≡ docs
   pub there : IfOk result (λ b. b ≡ list_any (bytes_eq k) (keys_in n docs) || has_met met k)
   pub denied : IfErr result IsDenied
-
-abbrev pub keys_of_rows : List Written → List (List ℕ)
-keys_of_rows = map (λ (w : Written). w.key.items)
 
 -- the place of the first row whose key is in the collection or that of a row before
 pub record FindsTaken (n : List ℕ) (rows : List Written) (result : Result (Option ℕ) StoreError) (docs after : List Doc) : Type 0 where

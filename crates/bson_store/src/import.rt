@@ -28,7 +28,7 @@ use sqlite::Alter;
 use std::alloc::{AllocError, Global};
 use store_documents::{Name, Written};
 use store_laws::ErrorKind;
-use store_streams::{Keys, StreamError, judge_stream, judge_trees};
+use store_streams::{Keys, StreamError, first_repeated, judge_stream, judge_trees};
 
 /// The rows of the documents of a stream.
 fn judged(alloc: Global, stream: &[u8]) -> Result<Vec<Written<'_>>, StreamError>
@@ -83,8 +83,12 @@ impl<S: Alter + Drop> Store<S> {
         Ok(!is_new)
     }
 
-    /// The place of the first row whose key is in the collection or that of a row before.
-    fn first_taken(&mut self, coll: &str, rows: &[Written<'_>]) -> Result<Option<u64>, StoreError>
+    /// The place of the first row whose key is in the collection or that of a row before, where each is looked up.
+    fn first_looked_up(
+        &mut self,
+        coll: &str,
+        rows: &[Written<'_>],
+    ) -> Result<Option<u64>, StoreError>
         ensures moves { Moves (held S.Store self.old) (held S.Store self.new) (FindsTaken coll.now rows.now result) }
         ensures open { HasCleanDisk (held S.Store self.new) → (docs : List Doc) → Stands (held S.Store self.old) docs → IfOk result (λ _. IsTrue (held S.Store self.new).is_open → IsTrue (held S.Store self.old).is_open) }
         ensures crash { Survives (held S.Store self.old) (held S.Store self.new) (λ _. ⊥) }
@@ -98,6 +102,21 @@ impl<S: Alter + Drop> Store<S> {
             }
         }
         Ok(None)
+    }
+
+    /// The place of the first row whose key is in the collection or that of a row before. In a table without rows no key
+    /// is looked up.
+    fn first_taken(&mut self, coll: &str, rows: &[Written<'_>]) -> Result<Option<u64>, StoreError>
+        ensures moves { Moves (held S.Store self.old) (held S.Store self.new) (FindsTaken coll.now rows.now result) }
+        ensures open { HasCleanDisk (held S.Store self.new) → (docs : List Doc) → Stands (held S.Store self.old) docs → IfOk result (λ _. IsTrue (held S.Store self.new).is_open → IsTrue (held S.Store self.old).is_open) }
+        ensures crash { Survives (held S.Store self.old) (held S.Store self.new) (λ _. ⊥) }
+    {
+        let is_empty = self.table.is_empty()?;
+        if is_empty {
+            let place = first_repeated(self.alloc, rows)?;
+            return Ok(place);
+        }
+        self.first_looked_up(coll, rows)
     }
 
     /// Writes all rows, in one transaction.
