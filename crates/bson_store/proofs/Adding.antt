@@ -1,11 +1,14 @@
 -- Many documents that go into a collection, and what is told where they don't.
 use Rattle.std.proofs.Common.{◌≡◌, ◌≢◌, inl, inr, ℕ, ◌+◌, pos, ◌+ℤ◌, suc, max, ◌<◌, ◌≤◌, List, [], ◌∷◌, ◌++◌, length, map, Option, Some, None, Ok, Err, refl, ap, ◌∙◌, sym, subst, arith}
+use Rattle.std.specs.List.{AllZip}
 use Rattle.std.specs.Prelude.{MatchOption, IsUtf8}
+use Rattle.std.proofs.lemmas.Slice.Zip.{AllZip-long}
 use Rattle.bson_table.specs.Rows.{Doc, docs_from}
 use Rattle.bson_table.specs.Rows as table
 use Rattle.bson_table.specs.Moves.{AddsRows as PutsRows, IsRoomFor, all_appended}
 use Rattle.bson_table.specs.declared.fault.Fault.{Fault}
 use Rattle.bson_table.specs.declared.fault.Fault.TheVariants as faults
+use Rattle.bson_table.specs.declared.row.NewRow.{NewRow}
 use Rattle.store_documents.specs.declared.write.Written.{Written}
 use Rattle.store_laws.specs.Reading.{Documents, AreRead}
 use Rattle.store_laws.specs.State.{list_of, store, import, on, Reply, number, refused, first_refusal, Appends, Answers, IsName, AreKept, Step}
@@ -16,11 +19,11 @@ use Rattle.store_laws.specs.declared.error.ErrorKind.TheVariants.{DuplicateId, P
 use Rattle.store_laws.proofs.Keys.{rows_are_a_state}
 use Rattle.store_laws.proofs.Rows.{list_of-state_of, rows_last}
 use Rattle.store_streams.specs.Judging.{AreWrittenRows as AreWritten}
-use Rattle.store_streams.specs.Keys.{first_taken, keys_of}
+use Rattle.store_streams.specs.Keys.{first_taken, keys_of, keys_of_rows}
 use Rattle.store_streams.proofs.Appending.{all_accepted, appending_all}
 use Rattle.bson_store.specs.Shown.{AreRowsOf, Rises, Show}
 use Rattle.bson_store.specs.Calls.{Does}
-use Rattle.bson_store.specs.Many.{AddsAll, FindsTaken, IsAddFault, keys_in, keys_of_rows, row_of}
+use Rattle.bson_store.specs.Many.{AddsAll, FindsTaken, IsAddFault, Lends, keys_in}
 use Rattle.bson_store.specs.Refusals.{kind_of_fault, refusal, refusal_at}
 use Rattle.bson_store.specs.declared.error.StoreError.{StoreError}
 use Rattle.bson_store.proofs.Keyed.{keys_are, row_keys_are}
@@ -54,20 +57,25 @@ rises_all : (m : ℕ) (rs : Table) (n : List ℕ) (ds : Documents) → Rises m r
 rises_all m [] n ds rises = let e : m ≡ max m 0 = omega arith in subst (λ (g : ℕ). Rises m (rows_at g n ds)) e (rises_at m n ds)
 rises_all m (q ∷ rs) n ds rises = (rises.0, subst (λ (g : ℕ). Rises q.place (rs ++ rows_at g n ds)) (greater m q.place (greatest rs) rises.0) (rises_all q.place rs n ds rises.1))
 
-each_all : (g : ℕ) (n : List ℕ) (ws : List Written) (ds : Documents) → IsUtf8 n → AreWritten ws ds → AreRowsOf (rows_at g n ds) (docs_from (pos (suc g)) n (map row_of ws))
-each_all g n [] [] text h = tt
-each_all g n [] (d ∷ ds) text h = absurd h
-each_all g n (w ∷ ws) [] text h = absurd h
-each_all g n (w ∷ ws) (d ∷ ds) text h = (
-  record { place = refl; name = refl; text = text; key = h.1; body = h.0 },
-  subst (λ z. AreRowsOf (rows_at (suc g) n ds) (docs_from z n (map row_of ws))) (sym (next_place (suc g))) (each_all (suc g) n ws ds text h.2),
+each_all : (g : ℕ) (n : List ℕ) (rs : List NewRow) (ws : List Written) (ds : Documents) → IsUtf8 n → AllZip Lends rs ws → AreWritten ws ds → AreRowsOf (rows_at g n ds) (docs_from (pos (suc g)) n rs)
+each_all g n [] [] [] text lent h = tt
+each_all g n [] [] (d ∷ ds) text lent h = absurd h
+each_all g n (r ∷ rs) (w ∷ ws) [] text lent h = absurd h
+each_all g n (r ∷ rs) (w ∷ ws) (d ∷ ds) text lent h = (
+  record { place = refl; name = refl; text = text; key = lent.0.0 ∙ h.1; body = lent.0.1 ∙ h.0 },
+  subst (λ z. AreRowsOf (rows_at (suc g) n ds) (docs_from z n rs)) (sym (next_place (suc g))) (each_all (suc g) n rs ws ds text lent.1 h.2),
 )
+each_all g n [] (w ∷ ws) ds text lent h = absurd lent
+each_all g n (r ∷ rs) [] ds text lent h = absurd lent
 
-as_many : (ws : List Written) (ds : Documents) → AreWritten ws ds → length (map row_of ws) ≡ length ds
-as_many [] [] h = refl
-as_many [] (d ∷ ds) h = absurd h
-as_many (w ∷ ws) [] h = absurd h
-as_many (w ∷ ws) (d ∷ ds) h = ap suc (as_many ws ds h.2)
+written_many : (ws : List Written) (ds : Documents) → AreWritten ws ds → length ws ≡ length ds
+written_many [] [] h = refl
+written_many [] (d ∷ ds) h = absurd h
+written_many (w ∷ ws) [] h = absurd h
+written_many (w ∷ ws) (d ∷ ds) h = ap suc (written_many ws ds h.2)
+
+as_many : (rs : List NewRow) (ws : List Written) (ds : Documents) → AllZip Lends rs ws → AreWritten ws ds → length rs ≡ length ds
+as_many rs ws ds lent h = sym (AllZip-long Lends rs ws lent) ∙ written_many ws ds h
 
 -- ---- documents that were judged, and their rows
 
@@ -114,9 +122,9 @@ step_all docs a n ds ws good s c free =
     )
 
 -- what the rows make of the state, whether there are places for them or not
-pub rows_make : (docs : List Doc) (n : List ℕ) (ds : Documents) (ws : List Written) → IsName n → IsUtf8 n → Come ds ws → None ≡ first_taken 0 (keys_in n docs) (keys_of_rows ws)
-    → (a : Table) → Show docs a → (q : Reply) × (b : Table) × Show (all_appended n (map row_of ws) docs) b × Step (state_of a) (on n (import ds None)) q (state_of b)
-rows_make docs n ds ws good text c free a s =
+pub rows_make : (docs : List Doc) (n : List ℕ) (ds : Documents) (rs : List NewRow) (ws : List Written) → AllZip Lends rs ws → IsName n → IsUtf8 n → Come ds ws → None ≡ first_taken 0 (keys_in n docs) (keys_of_rows ws)
+    → (a : Table) → Show docs a → (q : Reply) × (b : Table) × Show (all_appended n rs docs) b × Step (state_of a) (on n (import ds None)) q (state_of b)
+rows_make docs n ds rs ws lent good text c free a s =
     let g = greatest a in
     let new = rows_at g n ds in
     let last = last_greatest a docs s in
@@ -126,36 +134,36 @@ rows_make docs n ds ws good text c free a s =
       number (length ds),
       a ++ new,
       record {
-        each = each_more a new docs (docs_from (table.last_place docs +ℤ pos 1) n (map row_of ws)) s.each (subst (λ z. AreRowsOf new (docs_from z n (map row_of ws))) (sym first) (each_all g n ws ds text c.rows));
+        each = each_more a new docs (docs_from (table.last_place docs +ℤ pos 1) n rs) s.each (subst (λ z. AreRowsOf new (docs_from z n rs)) (sym first) (each_all g n rs ws ds text lent c.rows));
         good = rows_after a (a ++ new) (on n (import ds None)) (number (length ds)) s.good (c.read, tt) step;
         rising = subst (λ (k : ℕ). Rises 0 (a ++ rows_at k n ds)) all (rises_all 0 a n ds s.rising);
       },
       step,
     )
 
-go_in : (docs : List Doc) (n : List ℕ) (ds : Documents) (ws : List Written) → IsName n → IsUtf8 n → Come ds ws → None ≡ first_taken 0 (keys_in n docs) (keys_of_rows ws) → IsRoomFor (length (map row_of ws)) docs
-    → Does (on n (import ds None)) (number (length ds)) docs (all_appended n (map row_of ws) docs)
-go_in docs n ds ws good text c free room a s =
+go_in : (docs : List Doc) (n : List ℕ) (ds : Documents) (rs : List NewRow) (ws : List Written) → AllZip Lends rs ws → IsName n → IsUtf8 n → Come ds ws → None ≡ first_taken 0 (keys_in n docs) (keys_of_rows ws) → IsRoomFor (length rs) docs
+    → Does (on n (import ds None)) (number (length ds)) docs (all_appended n rs docs)
+go_in docs n ds rs ws lent good text c free room a s =
     let g = greatest a in
     let new = rows_at g n ds in
     let last = last_greatest a docs s in
     let first : table.last_place docs +ℤ pos 1 ≡ pos (suc g) = ap (λ z. z +ℤ pos 1) last ∙ next_place g in
     let step = step_all docs a n ds ws good s c free in
-    let below : g + length ds ≤ greatest_place = room_is (table.last_place docs) g (length ds) last (subst (λ k. IsRoomFor k docs) (as_many ws ds c.rows) room) in
+    let below : g + length ds ≤ greatest_place = room_is (table.last_place docs) g (length ds) last (subst (λ k. IsRoomFor k docs) (as_many rs ws ds lent c.rows) room) in
     let all : max 0 g ≡ g = omega arith in (
       a ++ new,
       record {
-        each = each_more a new docs (docs_from (table.last_place docs +ℤ pos 1) n (map row_of ws)) s.each (subst (λ z. AreRowsOf new (docs_from z n (map row_of ws))) (sym first) (each_all g n ws ds text c.rows));
+        each = each_more a new docs (docs_from (table.last_place docs +ℤ pos 1) n rs) s.each (subst (λ z. AreRowsOf new (docs_from z n rs)) (sym first) (each_all g n rs ws ds text lent c.rows));
         good = rows_after a (a ++ new) (on n (import ds None)) (number (length ds)) s.good (c.read, tt) step;
         rising = subst (λ (k : ℕ). Rises 0 (a ++ rows_at k n ds)) all (rises_all 0 a n ds s.rising);
       },
       (None, (step, inl (new, refl, take_places g n ds below), tt)),
     )
 
-no_places : (docs : List Doc) (n : List ℕ) (ds : Documents) (ws : List Written) → IsName n → Come ds ws → None ≡ first_taken 0 (keys_in n docs) (keys_of_rows ws) → (IsRoomFor (length (map row_of ws)) docs → ⊥)
+no_places : (docs : List Doc) (n : List ℕ) (ds : Documents) (rs : List NewRow) (ws : List Written) → AllZip Lends rs ws → IsName n → Come ds ws → None ≡ first_taken 0 (keys_in n docs) (keys_of_rows ws) → (IsRoomFor (length rs) docs → ⊥)
     → Does (on n (import ds None)) (refused Places None) docs docs
-no_places docs n ds ws good c free full a s =
-    let g : greatest_place < greatest a + length ds = full_is (table.last_place docs) (greatest a) (length ds) (last_greatest a docs s) (λ room. full (subst (λ k. IsRoomFor k docs) (sym (as_many ws ds c.rows)) room)) in
+no_places docs n ds rs ws lent good c free full a s =
+    let g : greatest_place < greatest a + length ds = full_is (table.last_place docs) (greatest a) (length ds) (last_greatest a docs s) (λ room. full (subst (λ k. IsRoomFor k docs) (sym (as_many rs ws ds lent c.rows)) room)) in
     (a, s, (Some places, ((refl, refl), stays a, (import_open n ds None good, (g, number (length ds), state_of (a ++ rows_at (greatest a) n ds), step_all docs a n ds ws good s c free, λ x. x)))))
 
 -- ---- exits
@@ -193,24 +201,24 @@ add_wants docs after n ws o e good is h = record {
 }
 
 -- the table refuses the rows
-pub not_added : (docs mid after : List Doc) (n : List ℕ) (ws : List Written) (o : Option ℕ) (x : Fault) (e : StoreError) → IsName n → o ≡ None → e ≡ refusal (kind_of_fault x) → FindsTaken n ws (Ok o) docs mid
-    → PutsRows (length (map row_of ws)) (all_appended n (map row_of ws)) (Err x) mid after → AddsAll n ws (Err e) docs after
-not_added docs mid after n ws o x e good none is h p = record {
+pub not_added : (docs mid after : List Doc) (n : List ℕ) (rs : List NewRow) (ws : List Written) (o : Option ℕ) (x : Fault) (e : StoreError) → AllZip Lends rs ws → IsName n → o ≡ None → e ≡ refusal (kind_of_fault x) → FindsTaken n ws (Ok o) docs mid
+    → PutsRows (length rs) (all_appended n rs) (Err x) mid after → AddsAll n ws (Err e) docs after
+not_added docs mid after n rs ws o x e lent good none is h p = record {
   same = p.refused ∙ h.same;
   fault = is_fault e x is;
   does = λ ds read fit rows. rw (p.refused, h.same, is) (by ds x p.full (record { read = read; fit = fit; rows = rows }));
 }
   where
-    by : (ds : Documents) (y : Fault) → (y ≡ faults.Places → IsRoomFor (length (map row_of ws)) mid → ⊥) → Come ds ws → Does (on n (import ds None)) (refused (kind_of_fault y) None) docs docs
+    by : (ds : Documents) (y : Fault) → (y ≡ faults.Places → IsRoomFor (length rs) mid → ⊥) → Come ds ws → Does (on n (import ds None)) (refused (kind_of_fault y) None) docs docs
     by ds faults.Memory full c = fault_does docs n ds faults.Memory good memory_other
     by ds faults.Database full c = fault_does docs n ds faults.Database good (λ e. cc)
-    by ds faults.Places full c = no_places docs n ds ws good c (sym none ∙ h.place) (λ room. full refl (subst (IsRoomFor (length (map row_of ws))) (sym h.same) room))
+    by ds faults.Places full c = no_places docs n ds rs ws lent good c (sym none ∙ h.place) (λ room. full refl (subst (IsRoomFor (length rs)) (sym h.same) room))
 
-pub added : (docs mid after : List Doc) (n : List ℕ) (ws : List Written) (o : Option ℕ) (k : ℕ) → IsName n → IsUtf8 n → o ≡ None → k ≡ length (map row_of ws) → FindsTaken n ws (Ok o) docs mid
-    → PutsRows (length (map row_of ws)) (all_appended n (map row_of ws)) (Ok tt) mid after → AddsAll n ws (Ok k) docs after
-added docs mid after n ws o k good text none many h p = record {
+pub added : (docs mid after : List Doc) (n : List ℕ) (rs : List NewRow) (ws : List Written) (o : Option ℕ) (k : ℕ) → AllZip Lends rs ws → IsName n → IsUtf8 n → o ≡ None → k ≡ length rs → FindsTaken n ws (Ok o) docs mid
+    → PutsRows (length rs) (all_appended n rs) (Ok tt) mid after → AddsAll n ws (Ok k) docs after
+added docs mid after n rs ws o k lent good text none many h p = record {
   same = tt;
   fault = tt;
-  does = λ ds read fit rows. rw (p.done, h.same, many ∙ as_many ws ds rows)
-      (go_in docs n ds ws good text (record { read = read; fit = fit; rows = rows }) (sym none ∙ h.place) (subst (IsRoomFor (length (map row_of ws))) h.same p.room));
+  does = λ ds read fit rows. rw (p.done, h.same, many ∙ as_many rs ws ds lent rows)
+      (go_in docs n ds rs ws lent good text (record { read = read; fit = fit; rows = rows }) (sym none ∙ h.place) (subst (IsRoomFor (length rs)) h.same p.room));
 }

@@ -1,5 +1,6 @@
 -- Exits of the calls, as moves of the rows.
 use Rattle.std.proofs.Common.{◌≡◌, inl, inr, refl, ℕ, List, Option, Some, None, Ok, Err, subst}
+use Rattle.std.specs.Cow.{cow_slice_items}
 use Rattle.std.specs.Prelude.{IsUtf8}
 use Rattle.serde_json.specs.Data.{Data}
 use Rattle.sqlite.specs.State.{State}
@@ -108,17 +109,17 @@ unfound_insert s t n k d x good m = moved s t (FindsRow n k (Err x)) (DoesRead n
 pub duplicate_insert : (s t : State) (n : List ℕ) (d : Members) (w : Written) (f : Option Found) (x : Found) → IsName n → IsRead d → AnswersWritten d (Ok w) → f ≡ Some x → Moves s t (FindsRow n w.key.items (Ok f)) → Moves s t (DoesRead n insert d (refused kind.DuplicateId None))
 duplicate_insert s t n d w f x good read written e m =
     moved s t (FindsRow n w.key.items (Ok f)) (DoesRead n insert d (refused kind.DuplicateId None)) m
-    (λ docs after h. duplicate docs after n w.key.items w.body.items d x good (written_fits d w read written) (subst (λ o. FindsRow n w.key.items (Ok o) docs after) e h))
+    (λ docs after h. duplicate docs after n w.key.items (cow_slice_items w.body) d x good (written_fits d w read written) (subst (λ o. FindsRow n w.key.items (Ok o) docs after) e h))
 
-pub put_moves : (s t u : State) (n : List ℕ) (d : Members) (w : Written) (f : Option Found) → IsName n → IsUtf8 n → IsRead d → AnswersWritten d (Ok w) → f ≡ None → Moves s t (FindsRow n w.key.items (Ok f)) → Moves t u (AddsRows 1 (appended n w.key.items w.body.items) (Ok tt)) → Moves s u (DoesRead n insert d done)
+pub put_moves : (s t u : State) (n : List ℕ) (d : Members) (w : Written) (f : Option Found) → IsName n → IsUtf8 n → IsRead d → AnswersWritten d (Ok w) → f ≡ None → Moves s t (FindsRow n w.key.items (Ok f)) → Moves t u (AddsRows 1 (appended n w.key.items (cow_slice_items w.body)) (Ok tt)) → Moves s u (DoesRead n insert d done)
 put_moves s t u n d w f good text read written e m k =
-    moved_twice s t u (FindsRow n w.key.items (Ok f)) (AddsRows 1 (appended n w.key.items w.body.items) (Ok tt)) (DoesRead n insert d done) m k
-    (λ docs mid after h l. put_in docs mid after n w.key.items w.body.items d good text (written_fits d w read written) (subst (λ o. FindsRow n w.key.items (Ok o) docs mid) e h) l)
+    moved_twice s t u (FindsRow n w.key.items (Ok f)) (AddsRows 1 (appended n w.key.items (cow_slice_items w.body)) (Ok tt)) (DoesRead n insert d done) m k
+    (λ docs mid after h l. put_in docs mid after n w.key.items (cow_slice_items w.body) d good text (written_fits d w read written) (subst (λ o. FindsRow n w.key.items (Ok o) docs mid) e h) l)
 
-pub not_put_moves : (s t u : State) (n : List ℕ) (d : Members) (w : Written) (f : Option Found) (x : Fault) → IsName n → IsRead d → AnswersWritten d (Ok w) → f ≡ None → Moves s t (FindsRow n w.key.items (Ok f)) → Moves t u (AddsRows 1 (appended n w.key.items w.body.items) (Err x)) → Moves s u (DoesRead n insert d (refused (kind_of_fault x) None))
+pub not_put_moves : (s t u : State) (n : List ℕ) (d : Members) (w : Written) (f : Option Found) (x : Fault) → IsName n → IsRead d → AnswersWritten d (Ok w) → f ≡ None → Moves s t (FindsRow n w.key.items (Ok f)) → Moves t u (AddsRows 1 (appended n w.key.items (cow_slice_items w.body)) (Err x)) → Moves s u (DoesRead n insert d (refused (kind_of_fault x) None))
 not_put_moves s t u n d w f x good read written e m k =
-    moved_twice s t u (FindsRow n w.key.items (Ok f)) (AddsRows 1 (appended n w.key.items w.body.items) (Err x)) (DoesRead n insert d (refused (kind_of_fault x) None)) m k
-    (λ docs mid after h l. not_put_in docs mid after n w.key.items w.body.items d x good (written_fits d w read written) (subst (λ o. FindsRow n w.key.items (Ok o) docs mid) e h) l)
+    moved_twice s t u (FindsRow n w.key.items (Ok f)) (AddsRows 1 (appended n w.key.items (cow_slice_items w.body)) (Err x)) (DoesRead n insert d (refused (kind_of_fault x) None)) m k
+    (λ docs mid after h l. not_put_in docs mid after n w.key.items (cow_slice_items w.body) d x good (written_fits d w read written) (subst (λ o. FindsRow n w.key.items (Ok o) docs mid) e h) l)
 
 -- ---- replacements
 
@@ -127,19 +128,19 @@ unwritten_replace s n d k good h = rests s (DoesRead n replace d (refused k None
 
 pub unfound_replace : (s t : State) (n : List ℕ) (d : Members) (w : Written) (x : Fault) → IsName n → IsRead d → AnswersWritten d (Ok w) → Moves s t (FindsRow n w.key.items (Err x)) → Moves s t (DoesRead n replace d (refused (kind_of_fault x) None))
 unfound_replace s t n d w x good read written m =
-    moved s t (FindsRow n w.key.items (Err x)) (DoesRead n replace d (refused (kind_of_fault x) None)) m (λ docs after h. replace_unfound docs after n w.key.items w.body.items d x good (written_fits d w read written) h)
+    moved s t (FindsRow n w.key.items (Err x)) (DoesRead n replace d (refused (kind_of_fault x) None)) m (λ docs after h. replace_unfound docs after n w.key.items (cow_slice_items w.body) d x good (written_fits d w read written) h)
 
 pub none_replace : (s t : State) (n : List ℕ) (d : Members) (w : Written) (f : Option Found) → IsName n → IsRead d → AnswersWritten d (Ok w) → f ≡ None → Moves s t (FindsRow n w.key.items (Ok f)) → Moves s t (DoesRead n replace d (refused kind.NotFound None))
 none_replace s t n d w f good read written e m =
     moved s t (FindsRow n w.key.items (Ok f)) (DoesRead n replace d (refused kind.NotFound None)) m
-    (λ docs after h. replace_none docs after n w.key.items w.body.items d good (written_fits d w read written) (subst (λ o. FindsRow n w.key.items (Ok o) docs after) e h))
+    (λ docs after h. replace_none docs after n w.key.items (cow_slice_items w.body) d good (written_fits d w read written) (subst (λ o. FindsRow n w.key.items (Ok o) docs after) e h))
 
-pub place_moves : (s t u : State) (n : List ℕ) (d : Members) (w : Written) (f : Option Found) (x : Found) → IsName n → IsRead d → AnswersWritten d (Ok w) → f ≡ Some x → Moves s t (FindsRow n w.key.items (Ok f)) → Moves t u (Changes (replaced x.place w.body.items) (Ok tt)) → Moves s u (DoesRead n replace d done)
+pub place_moves : (s t u : State) (n : List ℕ) (d : Members) (w : Written) (f : Option Found) (x : Found) → IsName n → IsRead d → AnswersWritten d (Ok w) → f ≡ Some x → Moves s t (FindsRow n w.key.items (Ok f)) → Moves t u (Changes (replaced x.place (cow_slice_items w.body)) (Ok tt)) → Moves s u (DoesRead n replace d done)
 place_moves s t u n d w f x good read written e m k =
-    moved_twice s t u (FindsRow n w.key.items (Ok f)) (Changes (replaced x.place w.body.items) (Ok tt)) (DoesRead n replace d done) m k
-    (λ docs mid after h l. put_in_place docs mid after n w.key.items w.body.items d x good (written_fits d w read written) (subst (λ o. FindsRow n w.key.items (Ok o) docs mid) e h) l)
+    moved_twice s t u (FindsRow n w.key.items (Ok f)) (Changes (replaced x.place (cow_slice_items w.body)) (Ok tt)) (DoesRead n replace d done) m k
+    (λ docs mid after h l. put_in_place docs mid after n w.key.items (cow_slice_items w.body) d x good (written_fits d w read written) (subst (λ o. FindsRow n w.key.items (Ok o) docs mid) e h) l)
 
-pub not_place_moves : (s t u : State) (n : List ℕ) (d : Members) (w : Written) (f : Option Found) (x : Found) (y : Fault) → IsName n → IsRead d → AnswersWritten d (Ok w) → f ≡ Some x → Moves s t (FindsRow n w.key.items (Ok f)) → Moves t u (Changes (replaced x.place w.body.items) (Err y)) → Moves s u (DoesRead n replace d (refused (kind_of_fault y) None))
+pub not_place_moves : (s t u : State) (n : List ℕ) (d : Members) (w : Written) (f : Option Found) (x : Found) (y : Fault) → IsName n → IsRead d → AnswersWritten d (Ok w) → f ≡ Some x → Moves s t (FindsRow n w.key.items (Ok f)) → Moves t u (Changes (replaced x.place (cow_slice_items w.body)) (Err y)) → Moves s u (DoesRead n replace d (refused (kind_of_fault y) None))
 not_place_moves s t u n d w f x y good read written e m k =
-    moved_twice s t u (FindsRow n w.key.items (Ok f)) (Changes (replaced x.place w.body.items) (Err y)) (DoesRead n replace d (refused (kind_of_fault y) None)) m k
-    (λ docs mid after h l. not_put_in_place docs mid after n w.key.items w.body.items d x y good (written_fits d w read written) (subst (λ o. FindsRow n w.key.items (Ok o) docs mid) e h) l)
+    moved_twice s t u (FindsRow n w.key.items (Ok f)) (Changes (replaced x.place (cow_slice_items w.body)) (Err y)) (DoesRead n replace d (refused (kind_of_fault y) None)) m k
+    (λ docs mid after h l. not_put_in_place docs mid after n w.key.items (cow_slice_items w.body) d x y good (written_fits d w read written) (subst (λ o. FindsRow n w.key.items (Ok o) docs mid) e h) l)

@@ -1,12 +1,12 @@
 -- The written keys of a collection, and the rows whose key is there already.
-use Rattle.std.proofs.Common.{◌≡◌, ℕ, zero, suc, ◌+◌, ◌<◌, ◌≤◌, List, [], ◌∷◌, length, get_or, map, filter, Bool, true, false, not, ◌||◌, ◌&&◌, cond, Option, Some, None, is_some, Ok, Err, refl, ap, ◌∙◌, sym, subst, arith}
+use Rattle.std.proofs.Common.{◌≡◌, ℕ, zero, suc, ◌+◌, ◌<◌, ◌≤◌, List, [], ◌∷◌, length, get_or, map, filter, Bool, true, false, not, ◌||◌, ◌&&◌, cond, IsTrue, Result, Option, Some, None, is_some, Ok, Err, refl, ap, ◌∙◌, sym, subst, arith}
 use Rattle.std.specs.List.{list_any, find}
 use Rattle.std.proofs.lemmas.List.{length-map}
 use Rattle.std.specs.Option.{option_map}
 use Rattle.std.specs.Str.{bytes_eq}
 use Rattle.bson_meaning.specs.Meaning.{key}
 use Rattle.bson_table.specs.Rows.{Doc, is_in, is_row_named}
-use Rattle.bson_table.specs.Moves.{FindsRow, kept, seen}
+use Rattle.bson_table.specs.Moves.{FindsNone, FindsRow, kept, seen}
 use Rattle.bson_table.specs.declared.fault.Fault.{Fault}
 use Rattle.bson_table.specs.declared.fault.Fault.TheVariants as faults
 use Rattle.bson_table.specs.declared.row.Found.{Found}
@@ -16,10 +16,10 @@ use Rattle.store_laws.specs.Table.{Table, documents_of, own_id}
 use Rattle.store_laws.specs.declared.error.ErrorKind.TheVariants.{Memory}
 use Rattle.store_streams.specs.declared.keys.Keys.{Keys}
 use Rattle.store_streams.specs.Judging.{AreWrittenRows as AreWritten}
-use Rattle.store_streams.specs.Keys.{first_taken, has_met, keys_of}
-use Rattle.store_streams.proofs.Taken.{ComeTo, come_start, come_more, come_there, come_again, come_end}
+use Rattle.store_streams.specs.Keys.{first_taken, has_met, keys_of, keys_of_rows}
+use Rattle.store_streams.proofs.Taken.{key_at, rows_below, ComeTo, come_start, come_more, come_there, come_again, come_end}
 use Rattle.bson_store.specs.Shown.{AreRowsOf}
-use Rattle.bson_store.specs.Many.{Meets, FindsTaken, keys_in, keys_of_rows}
+use Rattle.bson_store.specs.Many.{Meets, FindsTaken, keys_in}
 use Rattle.bson_store.specs.Refusals.{refusal, kind_of_fault}
 use Rattle.bson_store.specs.declared.error.StoreError.{StoreError}
 use Rattle.bson_store.proofs.Serving.{memory_other, none_is, some_is}
@@ -99,14 +99,6 @@ pub record ComesTo (n : List ℕ) (rows : List Written) (met : Keys) (at : ℕ) 
 pub comes_first : (n : List ℕ) (rows : List Written) (met : Keys) (docs : List Doc) → ((k : List ℕ) → has_met met k ≡ false) → ComesTo n rows met 0 docs docs
 comes_first n rows met docs none = record { same = refl; come = come_start (keys_in n docs) (keys_of_rows rows) met none }
 
-rows_below : (rows : List Written) (at : ℕ) → at < length rows → at < length (keys_of_rows rows)
-rows_below rows at h = omega (arith, h, length-map rows (λ (w : Written). w.key.items))
-
-key_at : (rows : List Written) (at : ℕ) (w : Written) → at < length rows → w ≡ get_or rows at w → w.key.items ≡ get_or (keys_of_rows rows) at []
-key_at [] at w h is = absurd (omega (arith, h))
-key_at (r ∷ rows) zero w h is = ap (λ (x : Written). x.key.items) is
-key_at (r ∷ rows) (suc at) w h is = key_at rows at w (omega (arith, h)) is
-
 either_false : (a b : Bool) → false ≡ a || b → (a ≡ false) × (b ≡ false)
 either_false true b e = cc
 either_false false b e = (refl, sym e)
@@ -144,3 +136,21 @@ none_taken n rows met at docs after h c = record {
   place = sym (come_end (keys_in n docs) (keys_of_rows rows) met at c.come (omega (arith, h, length-map rows (λ (w : Written). w.key.items))));
   denied = tt;
 }
+
+-- ---- whether there is a row at all
+
+pub taken_unknown : (n : List ℕ) (rows : List Written) (x : Fault) (docs after : List Doc) → FindsNone (Err x) docs after → FindsTaken n rows (Err (refusal (kind_of_fault x))) docs after
+taken_unknown n rows x docs after h = record { same = h.same; place = tt; denied = (x, h.faults, refl) }
+
+pub repeats_unknown : (n : List ℕ) (rows : List Written) (b : Bool) (docs after : List Doc) → FindsNone (Ok b) docs after → FindsTaken n rows (Err (refusal Memory)) docs after
+repeats_unknown n rows b docs after h = record { same = h.same; place = tt; denied = (faults.Memory, memory_other, refl) }
+
+pub taken_of_none : (n : List ℕ) (rows : List Written) (b : Bool) (o : Option ℕ) (docs after : List Doc) → IsTrue b → o ≡ first_taken 0 [] (keys_of_rows rows) → FindsNone (Ok b) docs after → FindsTaken n rows (Ok o) docs after
+taken_of_none n rows b o docs after is place h = record {
+  same = h.same;
+  place = place ∙ ap (λ ds. first_taken 0 (keys_in n ds) (keys_of_rows rows)) (sym (h.none.0 is));
+  denied = tt;
+}
+
+pub taken_later : (n : List ℕ) (rows : List Written) (b : Bool) (r : Result (Option ℕ) StoreError) (docs mid after : List Doc) → FindsNone (Ok b) docs mid → FindsTaken n rows r mid after → FindsTaken n rows r docs after
+taken_later n rows b r docs mid after h m = subst (λ ds. FindsTaken n rows r ds after) h.same m

@@ -1,5 +1,6 @@
 -- Exits of calls that leave the rows, and of inserts: each takes the table that the rows showed to the one that they show.
 use Rattle.std.proofs.lemmas.Int.{ints}
+use Rattle.std.specs.Cow.{cow_slice_items}
 use Rattle.std.proofs.Math.Dec.{leb}
 use Rattle.std.proofs.lemmas.Bool.Decides.{leb_tells}
 use Rattle.std.proofs.Common.{◌≡◌, ◌≢◌, ◌⊎◌, inl, inr, ℕ, ◌+◌, ℤ, pos, ◌+ℤ◌, ◌<ℤ◌, ◌^◌, suc, ◌<◌, ◌≤◌, List, [], ◌∷◌, ◌++◌, Bool, true, false, cond, Option, Some, None, Ok, Err, is_some, nat_lt, refl, ap, ◌∙◌, sym, subst, arith, append-nil}
@@ -96,7 +97,7 @@ id_in d h = by (look_up id_key d) refl h
     by None e h = cc
     by (Some id) e h = (id, e)
 
-pub written_fits : (d : Members) (w : Written) → IsRead d → AnswersWritten d (Ok w) → Fits d w.key.items w.body.items
+pub written_fits : (d : Members) (w : Written) → IsRead d → AnswersWritten d (Ok w) → Fits d w.key.items (cow_slice_items w.body)
 written_fits d w read h =
     let s = refused_short d h.0 in
     let i = id_in d s.0 in

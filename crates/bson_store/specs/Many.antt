@@ -1,5 +1,6 @@
 -- What calls of many documents say of the rows: imports and loads, and dumps.
 use Rattle.std.specs.Prelude.{◌≡◌, ◌⊎◌, ◌||◌, ℕ, Bool, List, length, map, filter, Option, None, Result, Ok, Err, IfOk, IfErr, OnErr}
+use Rattle.std.specs.Cow.{cow_slice_items}
 use Rattle.std.specs.List.{list_any}
 use Rattle.std.specs.Str.{bytes_eq}
 use Rattle.bson_table.specs.Rows.{Doc, is_in}
@@ -15,7 +16,7 @@ use Rattle.bson_base.specs.declared.whole.ReadAllError.TheVariants as reads
 use Rattle.store_streams.specs.declared.keys.Keys.{Keys}
 use Rattle.bson_base.specs.Device.{Feed, TookAll, StopsReading}
 use Rattle.store_streams.specs.Judging.{AreWrittenRows}
-use Rattle.store_streams.specs.Keys.{first_taken, has_met}
+use Rattle.store_streams.specs.Keys.{first_taken, has_met, keys_of_rows}
 use Rattle.bson_store.specs.Shown.{Show}
 use Rattle.bson_store.specs.Calls.{Does}
 use Rattle.bson_store.specs.Refusals.{IsDenied, as_number, kind_of_fault, refusal, refusal_at, reply_by}
@@ -54,18 +55,15 @@ pub record Meets (n k : List ℕ) (met : Keys) (result : Result Bool StoreError)
   pub there : IfOk result (λ b. b ≡ list_any (bytes_eq k) (keys_in n docs) || has_met met k)
   pub denied : IfErr result IsDenied
 
-abbrev pub keys_of_rows : List Written → List (List ℕ)
-keys_of_rows = map (λ (w : Written). w.key.items)
-
 -- the place of the first row whose key is in the collection or that of a row before
 pub record FindsTaken (n : List ℕ) (rows : List Written) (result : Result (Option ℕ) StoreError) (docs after : List Doc) : Type 0 where
   pub same : after ≡ docs
   pub place : IfOk result (λ o. o ≡ first_taken 0 (keys_in n docs) (keys_of_rows rows))
   pub denied : IfErr result IsDenied
 
--- a written document as a row to come
-abbrev pub row_of : Written → NewRow
-row_of w = record { idkey = w.key; body = w.body }
+-- a row to come lends the key and the bytes of a written document
+abbrev pub Lends : NewRow → Written → Type 0
+Lends r w = (r.idkey.now ≡ w.key.items) × (r.body.now ≡ cow_slice_items w.body)
 
 -- a row's key is there already, or the table or memory refused
 abbrev pub IsAddFault : StoreError → Type 0

@@ -1,6 +1,7 @@
 //! Many documents at once: all of them go into a collection, or none.
 
 ghost use Rattle.std.specs.Prelude.{◌≡◌, ◌||◌, ◌<◌, ◌^◌, ◌-◌, ℕ, List, length, map, false, Some, None, IfOk, IsErrOf, IsTrue};
+ghost use Rattle.std.specs.List.{AllZip};
 ghost use Rattle.std.specs.Str.{bytes_eq};
 ghost use Rattle.serde_json.specs.View.{view as tree_of};
 ghost use Rattle.sqlite.specs.State.{HasCleanDisk, Survives};
@@ -13,7 +14,7 @@ ghost use Rattle.store_laws.specs.Reading.{ReadsStream, ReadsTrees};
 ghost use Rattle.store_streams.specs.Judging.{Judges};
 ghost use Rattle.store_streams.specs.Keys.{has_met};
 ghost use Rattle.bson_store.specs.Calls.{held};
-ghost use Rattle.bson_store.specs.Many.{AddsAll, DoesMany, FindsTaken, Imports, Meets, row_of};
+ghost use Rattle.bson_store.specs.Many.{AddsAll, DoesMany, FindsTaken, Imports, Lends, Meets};
 ghost use Rattle.bson_store.specs.Refusals.{as_number, refusal_at, reply_by};
 ghost use Rattle.store_laws.specs.declared.error.ErrorKind.TheVariants.{DuplicateId};
 
@@ -27,10 +28,10 @@ use sqlite::Alter;
 use std::alloc::{AllocError, Global};
 use store_documents::{Name, Written};
 use store_laws::ErrorKind;
-use store_streams::{Keys, StreamError, judge_stream, judge_trees};
+use store_streams::{Keys, StreamError, first_repeated, judge_stream, judge_trees};
 
 /// The rows of the documents of a stream.
-fn judged(alloc: Global, stream: &[u8]) -> Result<Vec<Written>, StreamError>
+fn judged(alloc: Global, stream: &[u8]) -> Result<Vec<Written<'_>>, StreamError>
     ensures rows { Judges (ReadsStream stream.now) result }
     ensures range { AreBytes stream.now }
 {
@@ -38,14 +39,14 @@ fn judged(alloc: Global, stream: &[u8]) -> Result<Vec<Written>, StreamError>
 }
 
 /// The rows in the table's terms. No bytes are copied.
-fn new_rows(alloc: Global, rows: Vec<Written>) -> Result<Vec<NewRow>, AllocError>
-    ensures { IfOk result (λ new. new.items ≡ map row_of rows.items) }
+fn new_rows<'a>(alloc: Global, rows: &'a [Written<'_>]) -> Result<Vec<NewRow<'a>>, AllocError>
+    ensures { IfOk result (λ new. AllZip Lends new.items rows.now) }
 {
     let mut new = Vec::new(alloc);
     for row in rows {
         new.push(NewRow {
-            idkey: row.key,
-            body: row.body,
+            idkey: row.key.as_slice(),
+            body: row.body.as_slice(),
         })?;
     }
     Ok(new)
@@ -82,8 +83,12 @@ impl<S: Alter + Drop> Store<S> {
         Ok(!is_new)
     }
 
-    /// The place of the first row whose key is in the collection or that of a row before.
-    fn first_taken(&mut self, coll: &str, rows: &[Written]) -> Result<Option<u64>, StoreError>
+    /// The place of the first row whose key is in the collection or that of a row before, where each is looked up.
+    fn first_looked_up(
+        &mut self,
+        coll: &str,
+        rows: &[Written<'_>],
+    ) -> Result<Option<u64>, StoreError>
         ensures moves { Moves (held S.Store self.old) (held S.Store self.new) (FindsTaken coll.now rows.now result) }
         ensures open { HasCleanDisk (held S.Store self.new) → (docs : List Doc) → Stands (held S.Store self.old) docs → IfOk result (λ _. IsTrue (held S.Store self.new).is_open → IsTrue (held S.Store self.old).is_open) }
         ensures crash { Survives (held S.Store self.old) (held S.Store self.new) (λ _. ⊥) }
@@ -99,8 +104,23 @@ impl<S: Alter + Drop> Store<S> {
         Ok(None)
     }
 
+    /// The place of the first row whose key is in the collection or that of a row before. In a table without rows no key
+    /// is looked up.
+    fn first_taken(&mut self, coll: &str, rows: &[Written<'_>]) -> Result<Option<u64>, StoreError>
+        ensures moves { Moves (held S.Store self.old) (held S.Store self.new) (FindsTaken coll.now rows.now result) }
+        ensures open { HasCleanDisk (held S.Store self.new) → (docs : List Doc) → Stands (held S.Store self.old) docs → IfOk result (λ _. IsTrue (held S.Store self.new).is_open → IsTrue (held S.Store self.old).is_open) }
+        ensures crash { Survives (held S.Store self.old) (held S.Store self.new) (λ _. ⊥) }
+    {
+        let is_empty = self.table.is_empty()?;
+        if is_empty {
+            let place = first_repeated(self.alloc, rows)?;
+            return Ok(place);
+        }
+        self.first_looked_up(coll, rows)
+    }
+
     /// Writes all rows, in one transaction.
-    fn write_all(&mut self, coll: &str, rows: &[NewRow]) -> Result<(), Fault>
+    fn write_all(&mut self, coll: &str, rows: &[NewRow<'_>]) -> Result<(), Fault>
         ensures moves { Moves (held S.Store self.old) (held S.Store self.new) (AddsRows (length rows.now) (all_appended coll.now rows.now) result) }
         ensures open { WasOpen (held S.Store self.old) (held S.Store self.new) result }
         ensures crash { Survives (held S.Store self.old) (held S.Store self.new) (MayLeave (all_appended coll.now rows.now) (held S.Store self.old)) }
@@ -110,13 +130,13 @@ impl<S: Alter + Drop> Store<S> {
     }
 
     /// Puts the documents that these rows are last in a collection, and says how many they are.
-    fn add_all(&mut self, name: Name<'_>, rows: Vec<Written>) -> Result<u64, StoreError>
-        ensures moves { Moves (held S.Store self.old) (held S.Store self.new) (AddsAll (name_bytes name.entry) rows.items result) }
+    fn add_all(&mut self, name: Name<'_>, rows: &[Written<'_>]) -> Result<u64, StoreError>
+        ensures moves { Moves (held S.Store self.old) (held S.Store self.new) (AddsAll (name_bytes name.entry) rows.now result) }
         ensures open { WasOpen (held S.Store self.old) (held S.Store self.new) result }
-        ensures crash { LeavesRows (name_bytes name.entry) rows.items result (held S.Store self.old) (held S.Store self.new) }
+        ensures crash { LeavesRows (name_bytes name.entry) rows.now result (held S.Store self.old) (held S.Store self.new) }
     {
         let coll = name.as_str();
-        let taken = self.first_taken(coll, rows.as_slice())?;
+        let taken = self.first_taken(coll, rows)?;
         if let Some(document) = taken {
             return Err(duplicate(document));
         }
@@ -145,7 +165,7 @@ impl<S: Alter + Drop> Store<S> {
         let bytes = read_all(self.alloc, reader)?;
         let stream = bytes.as_slice();
         let rows = judged(self.alloc, stream)?;
-        self.add_all(name, rows)
+        self.add_all(name, rows.as_slice())
     }
 
     /// Puts the documents that JSON trees stand for (MongoDB Extended JSON v2) last in the collection `name`, in their order and
@@ -161,6 +181,6 @@ impl<S: Alter + Drop> Store<S> {
     {
         let name = good_name(name)?;
         let rows = judge_trees(self.alloc, trees)?;
-        self.add_all(name, rows)
+        self.add_all(name, rows.as_slice())
     }
 }

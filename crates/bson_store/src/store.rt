@@ -121,7 +121,7 @@ impl<S: Alter + Drop> Store<S> {
     }
 
     /// Puts a document last in a collection, whose row this is.
-    fn insert_row(&mut self, name: Name<'_>, row: &Written) -> Result<(), StoreError>
+    fn insert_row(&mut self, name: Name<'_>, row: &Written<'_>) -> Result<(), StoreError>
         ensures moves { (d : Members) → IsRead d → AnswersWritten d (Ok row.now)
             → Moves (held S.Store self.old) (held S.Store self.new) (DoesRead (name_bytes name.entry) insert d (reply_by as_done result)) }
         ensures open { WasOpen (held S.Store self.old) (held S.Store self.new) result }
@@ -151,7 +151,7 @@ impl<S: Alter + Drop> Store<S> {
     }
 
     /// Puts a document, whose row this is, in the place of that of a collection with its `_id`.
-    fn replace_row(&mut self, name: Name<'_>, row: &Written) -> Result<(), StoreError>
+    fn replace_row(&mut self, name: Name<'_>, row: &Written<'_>) -> Result<(), StoreError>
         ensures moves { (d : Members) → IsRead d → AnswersWritten d (Ok row.now)
             → Moves (held S.Store self.old) (held S.Store self.new) (DoesRead (name_bytes name.entry) replace d (reply_by as_done result)) }
         ensures open { WasOpen (held S.Store self.old) (held S.Store self.new) result }

@@ -47,7 +47,8 @@ fn kept(alloc: Global, json: Value) -> Result<Vec<u8>, ErrorKind> {
 
 /// What a document is written as.
 fn body(alloc: Global, document: &Document) -> Result<Vec<u8>, ErrorKind> {
-    Ok(write_document(alloc, document)?.body)
+    let row = write_document(alloc, document)?;
+    row.body.into_owned(alloc).map_err(|_| ErrorKind::Memory)
 }
 
 /// A case about the bytes of a document.

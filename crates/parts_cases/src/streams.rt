@@ -7,7 +7,7 @@ use store_streams::{Keys, StreamError, judge_stream, judge_trees};
 use store_words::{TextError, read_lines};
 
 /// The bytes of the rows.
-fn bodies(alloc: Global, rows: &[Written]) -> Result<String, AllocError> {
+fn bodies(alloc: Global, rows: &[Written<'_>]) -> Result<String, AllocError> {
     let mut text = String::new(alloc);
     for row in rows {
         if !text.is_empty() {
@@ -19,7 +19,7 @@ fn bodies(alloc: Global, rows: &[Written]) -> Result<String, AllocError> {
 }
 
 /// How many rows there are, and their bytes; or the refusal.
-fn judged(alloc: Global, rows: Result<Vec<Written>, StreamError>) -> Result<String, TextError> {
+fn judged(alloc: Global, rows: Result<Vec<Written<'_>>, StreamError>) -> Result<String, TextError> {
     match rows {
         Ok(rows) if rows.is_empty() => Ok(String::from_str(alloc, "no documents")?),
         Ok(rows) => Ok(bodies(alloc, &rows)?),

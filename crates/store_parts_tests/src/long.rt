@@ -86,7 +86,7 @@ fn numbered(alloc: Global, count: u32) -> Result<Vec<u8>, AllocError> {
 }
 
 /// How many rows have a key that no row before them has.
-fn fresh(alloc: Global, rows: &[Written]) -> Result<u32, AllocError> {
+fn fresh(alloc: Global, rows: &[Written<'_>]) -> Result<u32, AllocError> {
     let mut keys = Keys::new(alloc);
     let mut fresh = 0u32;
     for row in rows {

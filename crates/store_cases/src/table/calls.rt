@@ -91,7 +91,7 @@ pub fn change<S: Alter + Drop>(
     let (word, rest) = call.split_once(' ').unwrap_or((call, ""));
     match word {
         "put" => put(table, rest),
-        "put_two" => put_two(alloc, table, rest),
+        "put_two" => put_two(table, rest),
         "rewrite" => table.rewrite_at(&at(alloc, rest), &[9, 9, 9, 9, 9]),
         "remove" => table.remove_at(&at(alloc, rest)),
         _ => Err(Fault::Memory),
@@ -104,14 +104,12 @@ fn put<S: Alter + Drop>(table: &mut Table<S>, rest: &str) -> Result<(), Fault> {
     table.append(coll, &[key], &[key, key])
 }
 
-fn put_two<S: Alter + Drop>(alloc: Global, table: &mut Table<S>, rest: &str) -> Result<(), Fault> {
+fn put_two<S: Alter + Drop>(table: &mut Table<S>, rest: &str) -> Result<(), Fault> {
     let (coll, keys) = rest.split_once(' ').unwrap_or((rest, ""));
     let (first, second) = keys.split_once(' ').unwrap_or((keys, ""));
-    let rows = [
-        row_of(alloc, byte_of(first))?,
-        row_of(alloc, byte_of(second))?,
-    ];
-    table.append_all(coll, &rows)
+    let first = [byte_of(first); 3];
+    let second = [byte_of(second); 3];
+    table.append_all(coll, &[row_of(&first), row_of(&second)])
 }
 
 /// Place and body of a row.
@@ -184,11 +182,11 @@ fn at(alloc: Global, place: &str) -> Found {
 }
 
 /// The row of a key, whose body has it three times.
-fn row_of(alloc: Global, key: u8) -> Result<NewRow, AllocError> {
-    Ok(NewRow {
-        idkey: Vec::from_slice(alloc, &[key])?,
-        body: Vec::from_slice(alloc, &[key, key, key])?,
-    })
+fn row_of(keys: &[u8; 3]) -> NewRow<'_> {
+    NewRow {
+        idkey: &keys[..1],
+        body: keys,
+    }
 }
 
 /// The byte of a number, and 0 where it is none.

@@ -1,21 +1,25 @@
-use Rattle.std.proofs.Common.{◌≡◌, List, ◌∷◌, [], ◌++◌, map, ap, sym, ◌∙◌, append_assoc}
-use Rattle.std.specs.Vec.Iter.{into_iter_items}
-use Rattle.std.proofs.lemmas.List.{append-nil, nil_from_length}
-use Rattle.store_documents.specs.declared.write.Written.{Written}
+use Rattle.std.proofs.Common.{◌≡◌, ◌+◌, ◌<◌, ◌++◌, ◌∷◌, [], List, ℕ, add-one, get_or, length, subst, sym, take, arith}
+use Rattle.std.specs.List.{AllZip}
+use Rattle.std.proofs.Math.Seq.{take-suc}
 use Rattle.bson_table.specs.declared.row.NewRow.{NewRow}
-use Rattle.bson_store.specs.Many.{row_of}
+use Rattle.store_documents.specs.declared.write.Written.{Written}
+use Rattle.bson_store.specs.Many.{Lends}
 use Rattle.bson_store.proofs.import.new_rows.Goals as goal
+
+-- one row more lends
+lends_last : (rs : List NewRow) (ws : List Written) (r : NewRow) (w : Written) → AllZip Lends rs ws → Lends r w → AllZip Lends (rs ++ r ∷ []) (ws ++ w ∷ [])
+lends_last [] [] r w h l = (l, tt)
+lends_last [] (v ∷ ws) r w h l = absurd h
+lends_last (q ∷ rs) [] r w h l = absurd h
+lends_last (q ∷ rs) (v ∷ ws) r w h l = (h.0, lends_last rs ws r w h.1 l)
+
+lends_more : (rs : List NewRow) (ws : List Written) (i : ℕ) (r : NewRow) (w : Written) → i < length ws → AllZip Lends rs (take i ws) → w ≡ get_or ws i w → Lends r w → AllZip Lends (rs ++ r ∷ []) (take (i + 1) ws)
+lends_more rs ws i r w low h is l = rw add-one (subst (AllZip Lends (rs ++ r ∷ [])) (sym (take-suc ws i w low)) (lends_last rs (take i ws) r (get_or ws i w) h (subst (Lends r) is l)))
 
 pub loop-row-preserved : goal.loop-row-preserved
 loop-row-preserved c =
-    let xs = c.loop-row.new.items in
-    let row = c.in-Some.row in
-    let left = into_iter_items c.next.new.self in
-    ap (λ (l : List NewRow). l ++ map row_of left) c.in_ok-push.ensures.items ∙ append_assoc xs (row_of row ∷ []) (map row_of left) ∙ ap (λ (l : List Written). xs ++ map row_of l) (sym c.in-Some.ensures.steps.0) ∙ c.loop-row.invariant
-
-pub returns : goal.returns
-returns c =
-    let xs = c.loop-row.new.items in
-    let left = c.loop-row.row-iterator.rest in
-    let ended : into_iter_items c.loop-row.row-iterator ≡ [] = nil_from_length left.items (sym left.ok.0 ∙ c.in-None.ensures.steps.0) in
-    sym (append-nil xs) ∙ ap (λ (l : List Written). xs ++ map row_of l) (sym ended) ∙ c.loop-row.invariant
+    let rows = c.args.rows.now in
+    let i = c.loop-row.row-index in
+    let low : i < length rows = omega (arith, c.loop-row-test.true, c.loop-row.auto.row-index-end) in
+    subst (λ (rs : List NewRow). AllZip Lends rs (take (i + 1) rows)) (sym c.in_ok-push.ensures.items)
+    (lends_more c.loop-row.new.items rows i _ c.row-item.result low c.loop-row.invariant c.row-item.is (c.as_slice.ensures.value, c.as_slice-in-loop-row.ensures.value))

@@ -1,7 +1,7 @@
-use Rattle.std.proofs.Common.{◌≡◌, ◌++◌, map}
-use Rattle.std.specs.Vec.Iter.{into_iter_items}
-use Rattle.bson_store.specs.Many.{row_of}
+use Rattle.std.proofs.Common.{take}
+use Rattle.std.specs.List.{AllZip}
+use Rattle.bson_store.specs.Many.{Lends}
 use Rattle.bson_store.proofs.import.new_rows.Given as goal
 
 abbrev pub invariant-loop-row : goal.invariant-loop-row
-invariant-loop-row l = l.new.items ++ map row_of (into_iter_items l.row-iterator) ≡ map row_of l.fn.rows.items
+invariant-loop-row l = AllZip Lends l.new.items (take l.row-index l.rows)

@@ -1,11 +1,11 @@
-use Rattle.std.proofs.Common.{length, map, None, Ok, Err, ap, refl, sym, ◌∙◌, arith}
+use Rattle.std.proofs.Common.{length, None, Ok, Err, ap, refl, sym, ◌∙◌, arith}
 use Rattle.std.proofs.lemmas.Result.{err_from_is_err_and}
 use Rattle.bson_table.specs.Moves.{AddsRows, all_appended}
 use Rattle.bson_table.specs.declared.fault.Fault.TheVariants as faults
 use Rattle.store_documents.specs.Names.{name_bytes}
 use Rattle.store_laws.specs.State.{import, number, on}
 use Rattle.bson_store.specs.Calls.{held, store_connection, Does}
-use Rattle.bson_store.specs.Many.{AddsAll, FindsTaken, row_of}
+use Rattle.bson_store.specs.Many.{AddsAll, FindsTaken}
 use Rattle.bson_store.specs.Refusals.{refusal, kind_of_fault}
 use Rattle.bson_store.proofs.Adding.{rows_make, unadded, add_refused, add_wants, not_added, added}
 use Rattle.bson_store.proofs.Leaving.{accepted_leaves, denied_leaves}
@@ -16,54 +16,54 @@ use Rattle.sqlite.specs.State.{HasCleanDisk}
 pub returns-in_err-taken-clause-moves : goal.returns-in_err-taken-clause-moves
 returns-in_err-taken-clause-moves g c =
     let n = name_bytes c.args.name in
-    let rows = c.args.rows.items in
+    let rows = c.args.rows.now in
     let e = c.in_err-taken.field-0.0 in
     let p = err_from_is_err_and c.from_residual.result c.from_residual.ensures.1 in
     rw (p.1, p.2)
-    (moved (held g.S.Store c.args.self.now) (held g.S.Store c.first_taken.new.self) (FindsTaken n rows (Err e)) (AddsAll n rows (Err e)) (rw (c.as_str-coll.ensures.text, c.as_slice.ensures.value) at c.in_err-taken.ensures.moves)
+    (moved (held g.S.Store c.args.self.now) (held g.S.Store c.first_taken.new.self) (FindsTaken n rows (Err e)) (AddsAll n rows (Err e)) (rw c.as_str-coll.ensures.text at c.in_err-taken.ensures.moves)
     (λ docs after h. unadded docs after n rows e (rw c.as_str-coll.ensures.text at c.as_str-coll.ensures.named) h))
 
 pub returns-in-Some-clause-moves : goal.returns-in-Some-clause-moves
 returns-in-Some-clause-moves g c =
     let n = name_bytes c.args.name in
-    let rows = c.args.rows.items in
+    let rows = c.args.rows.now in
     let o = c.in_ok-taken.taken in
-    moved (held g.S.Store c.args.self.now) (held g.S.Store c.first_taken.new.self) (FindsTaken n rows (Ok o)) (AddsAll n rows (Err c.duplicate.result)) (rw (c.as_str-coll.ensures.text, c.as_slice.ensures.value) at c.in_ok-taken.ensures.moves)
+    moved (held g.S.Store c.args.self.now) (held g.S.Store c.first_taken.new.self) (FindsTaken n rows (Ok o)) (AddsAll n rows (Err c.duplicate.result)) (rw c.as_str-coll.ensures.text at c.in_ok-taken.ensures.moves)
     (λ docs after h. add_refused docs after n rows o c.in-Some.document c.duplicate.result (rw c.as_str-coll.ensures.text at c.as_str-coll.ensures.named) c.in-Some.is c.duplicate.ensures h)
 
 pub returns-in_err-new-clause-moves : goal.returns-in_err-new-clause-moves
 returns-in_err-new-clause-moves g c =
     let n = name_bytes c.args.name in
-    let rows = c.args.rows.items in
+    let rows = c.args.rows.now in
     let o = c.in_ok-taken.taken in
     let e = refusal (kind_of_fault faults.Memory) in
     let p = err_from_is_err_and c.from_residual-in_err-new.result c.from_residual-in_err-new.ensures.1 in
     rw (p.1, p.2)
-    (moved (held g.S.Store c.args.self.now) (held g.S.Store c.first_taken.new.self) (FindsTaken n rows (Ok o)) (AddsAll n rows (Err e)) (rw (c.as_str-coll.ensures.text, c.as_slice.ensures.value) at c.in_ok-taken.ensures.moves)
+    (moved (held g.S.Store c.args.self.now) (held g.S.Store c.first_taken.new.self) (FindsTaken n rows (Ok o)) (AddsAll n rows (Err e)) (rw c.as_str-coll.ensures.text at c.in_ok-taken.ensures.moves)
     (λ docs after h. add_wants docs after n rows o e (rw c.as_str-coll.ensures.text at c.as_str-coll.ensures.named) refl h))
 
 pub returns-in_err-write_all-clause-moves : goal.returns-in_err-write_all-clause-moves
 returns-in_err-write_all-clause-moves g c =
     let n = name_bytes c.args.name in
-    let rows = c.args.rows.items in
+    let rows = c.args.rows.now in
     let o = c.in_ok-taken.taken in
     let x = c.in_err-write_all.field-0.0 in
     let e = refusal (kind_of_fault x) in
     let p = err_from_is_err_and c.from_residual-in_err-write_all.result c.from_residual-in_err-write_all.ensures.1 in
     rw (p.1, p.2)
-    (moved_twice (held g.S.Store c.args.self.now) (held g.S.Store c.first_taken.new.self) (held g.S.Store c.write_all.new.self) (FindsTaken n rows (Ok o)) (AddsRows (length (map row_of rows)) (all_appended n (map row_of rows)) (Err x)) (AddsAll n rows (Err e))
-    (rw (c.as_str-coll.ensures.text, c.as_slice.ensures.value) at c.in_ok-taken.ensures.moves) (rw (c.as_str-coll.ensures.text, c.as_slice-2.ensures.value, c.in_ok-new.ensures) at c.in_err-write_all.ensures.moves)
-    (λ docs mid after h l. not_added docs mid after n rows o x e (rw c.as_str-coll.ensures.text at c.as_str-coll.ensures.named) c.in_default.is refl h l))
+    (moved_twice (held g.S.Store c.args.self.now) (held g.S.Store c.first_taken.new.self) (held g.S.Store c.write_all.new.self) (FindsTaken n rows (Ok o)) (AddsRows (length c.in_ok-new.new.items) (all_appended n c.in_ok-new.new.items) (Err x)) (AddsAll n rows (Err e))
+    (rw c.as_str-coll.ensures.text at c.in_ok-taken.ensures.moves) (rw (c.as_str-coll.ensures.text, c.as_slice.ensures.value) at c.in_err-write_all.ensures.moves)
+    (λ docs mid after h l. not_added docs mid after n c.in_ok-new.new.items rows o x e c.in_ok-new.ensures (rw c.as_str-coll.ensures.text at c.as_str-coll.ensures.named) c.in_default.is refl h l))
 
 pub returns-clause-moves : goal.returns-clause-moves
 returns-clause-moves g c =
     let n = name_bytes c.args.name in
-    let rows = c.args.rows.items in
+    let rows = c.args.rows.now in
     let o = c.in_ok-taken.taken in
-    moved_twice (held g.S.Store c.args.self.now) (held g.S.Store c.first_taken.new.self) (held g.S.Store c.write_all.new.self) (FindsTaken n rows (Ok o)) (AddsRows (length (map row_of rows)) (all_appended n (map row_of rows)) (Ok tt)) (AddsAll n rows (Ok c.len.result))
-    (rw (c.as_str-coll.ensures.text, c.as_slice.ensures.value) at c.in_ok-taken.ensures.moves) (rw (c.as_str-coll.ensures.text, c.as_slice-2.ensures.value, c.in_ok-new.ensures) at c.in_ok-write_all.ensures.moves)
-    (λ docs mid after h l. added docs mid after n rows o c.len.result (rw c.as_str-coll.ensures.text at c.as_str-coll.ensures.named) (rw c.as_str-coll.ensures.text at c.as_str-coll.utf8) c.in_default.is
-    (c.len.ensures ∙ c.in_ok-new.new.ok.0 ∙ ap length c.in_ok-new.ensures) h l)
+    moved_twice (held g.S.Store c.args.self.now) (held g.S.Store c.first_taken.new.self) (held g.S.Store c.write_all.new.self) (FindsTaken n rows (Ok o)) (AddsRows (length c.in_ok-new.new.items) (all_appended n c.in_ok-new.new.items) (Ok tt)) (AddsAll n rows (Ok c.len.result))
+    (rw c.as_str-coll.ensures.text at c.in_ok-taken.ensures.moves) (rw (c.as_str-coll.ensures.text, c.as_slice.ensures.value) at c.in_ok-write_all.ensures.moves)
+    (λ docs mid after h l. added docs mid after n c.in_ok-new.new.items rows o c.len.result c.in_ok-new.ensures (rw c.as_str-coll.ensures.text at c.as_str-coll.ensures.named) (rw c.as_str-coll.ensures.text at c.as_str-coll.utf8) c.in_default.is
+    (c.len.ensures ∙ c.in_ok-new.new.ok.0) h l)
 
 pub returns-in_err-write_all-clause-crash : goal.returns-in_err-write_all-clause-crash
 returns-in_err-write_all-clause-crash g c ds read fit written =
@@ -71,14 +71,14 @@ returns-in_err-write_all-clause-crash g c ds read fit written =
     let m = held g.S.Store c.first_taken.new.self in
     let t = held g.S.Store c.write_all.new.self in
     let n = name_bytes c.args.name in
-    let rows = c.args.rows.items in
+    let rows = c.args.rows.now in
     let o = c.in_ok-taken.taken in
     let p = err_from_is_err_and c.from_residual-in_err-write_all.result c.from_residual-in_err-write_all.ensures.1 in
     rw (p.1, p.2)
-    (denied_leaves s m t (on n (import ds None)) (all_appended n (map row_of rows)) (FindsTaken n rows (Ok o)) (rw (c.as_str-coll.ensures.text, c.as_slice.ensures.value) at c.in_ok-taken.ensures.moves)
+    (denied_leaves s m t (on n (import ds None)) (all_appended n c.in_ok-new.new.items) (FindsTaken n rows (Ok o)) (rw c.as_str-coll.ensures.text at c.in_ok-taken.ensures.moves)
     (λ docs after h. h.same) c.in_ok-taken.ensures.crash
-    (λ docs after h. rows_make docs n ds rows (rw c.as_str-coll.ensures.text at c.as_str-coll.ensures.named) (rw c.as_str-coll.ensures.text at c.as_str-coll.utf8) (record { read = read; fit = fit; rows = written }) (sym c.in_default.is ∙ h.place))
-    c.in_err-write_all.field-0.0 (rw (c.as_str-coll.ensures.text, c.as_slice-2.ensures.value, c.in_ok-new.ensures) at c.in_err-write_all.ensures.crash) (λ e. c.in_err-write_all.ensures.full (ap Err e)))
+    (λ docs after h. rows_make docs n ds c.in_ok-new.new.items rows c.in_ok-new.ensures (rw c.as_str-coll.ensures.text at c.as_str-coll.ensures.named) (rw c.as_str-coll.ensures.text at c.as_str-coll.utf8) (record { read = read; fit = fit; rows = written }) (sym c.in_default.is ∙ h.place))
+    c.in_err-write_all.field-0.0 (rw (c.as_str-coll.ensures.text, c.as_slice.ensures.value) at c.in_err-write_all.ensures.crash) (λ e. c.in_err-write_all.ensures.full (ap Err e)))
 
 pub returns-clause-crash : goal.returns-clause-crash
 returns-clause-crash g c ds read fit written =
@@ -86,7 +86,7 @@ returns-clause-crash g c ds read fit written =
     let m = held g.S.Store c.first_taken.new.self in
     let t = held g.S.Store c.write_all.new.self in
     let n = name_bytes c.args.name in
-    let rows = c.args.rows.items in
+    let rows = c.args.rows.now in
     accepted_leaves s t (on n (import ds None)) (number c.len.result) (λ e. e)
     (λ clean docs stands. let y = (c.in_ok-taken.ensures.moves (omega (arith, clean, c.write_all.ensures.crash.clean))).1 docs stands in (c.in_ok-write_all.ensures.open clean y.0 y.1).1)
     (λ db up may. g.met.S.Store.settled (store_connection c.write_all.new.self).store db up may)

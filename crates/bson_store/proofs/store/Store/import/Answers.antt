@@ -48,7 +48,7 @@ returns-clause-moves g c =
     let rows = c.in_ok-rows.rows in
     let old : Feed = g.R.Source.feed c.args.reader.now in
     let new : Feed = g.R.Source.feed c.read_all.new.source in
-    moved (held g.S.Store c.args.self.now) (held g.S.Store c.add_all.new.self) (AddsAll (name_bytes c.in_ok-name.name) rows.items c.add_all.result) (Imports n old new c.add_all.result) c.add_all.ensures.moves
+    moved (held g.S.Store c.args.self.now) (held g.S.Store c.add_all.new.self) (AddsAll (name_bytes c.in_ok-name.name) rows.items c.add_all.result) (Imports n old new c.add_all.result) (rw c.as_slice.ensures.value at c.add_all.ensures.moves)
     (λ docs after h. import_added docs after n bytes old new rows c.add_all.result c.in_ok-name.ensures.1 c.in_ok-bytes.ensures.ok (rw c.as_slice-stream.ensures.value at c.in_ok-rows.ensures.rows)
     (subst (λ m. AddsAll m rows.items c.add_all.result docs after) c.in_ok-name.ensures.0 h))
 
@@ -58,4 +58,4 @@ returns-clause-crash g c =
     let old : Feed = g.R.Source.feed c.args.reader.now in
     let new : Feed = g.R.Source.feed c.read_all.new.source in
     fed_leave (held g.S.Store c.args.self.now) (held g.S.Store c.add_all.new.self) c.args.name.now (name_bytes c.in_ok-name.name) bytes old new c.in_ok-rows.rows c.add_all.result c.in_ok-name.ensures.0 c.in_ok-bytes.ensures.ok
-    (rw c.as_slice-stream.ensures.value at c.in_ok-rows.ensures.rows) c.add_all.ensures.crash
+    (rw c.as_slice-stream.ensures.value at c.in_ok-rows.ensures.rows) (rw c.as_slice.ensures.value at c.add_all.ensures.crash)

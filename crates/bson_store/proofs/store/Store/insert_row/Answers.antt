@@ -1,4 +1,5 @@
 use Rattle.std.proofs.lemmas.Result.{err_from_is_err_and}
+use Rattle.std.specs.Cow.{cow_slice_items}
 use Rattle.std.proofs.Common.{Ok, Err, ap, subst, arith}
 use Rattle.bson_table.specs.Moves.{FindsRow, appended}
 use Rattle.store_laws.specs.Reading.{readable}
@@ -40,9 +41,9 @@ returns-in_err-put_last-clause-crash g c d read told f =
     let w = c.args.row.now in
     let p = err_from_is_err_and c.from_residual-in_err-put_last.result c.from_residual-in_err-put_last.ensures.1 in
     rw (p.1, p.2)
-    (denied_leaves s m t (on n (insert f (readable d))) (appended n w.key.items w.body.items) (FindsRow n w.key.items (Ok c.in_ok-found.found)) (rw (c.as_str-coll.ensures.text, c.as_slice-key.ensures.value) at c.in_ok-found.ensures.moves)
+    (denied_leaves s m t (on n (insert f (readable d))) (appended n w.key.items (cow_slice_items w.body)) (FindsRow n w.key.items (Ok c.in_ok-found.found)) (rw (c.as_str-coll.ensures.text, c.as_slice-key.ensures.value) at c.in_ok-found.ensures.moves)
     (λ docs after h. h.same) c.in_ok-found.ensures.crash
-    (λ docs after h. row_makes f docs after n w.key.items w.body.items d (rw c.as_str-coll.ensures.text at c.as_str-coll.ensures.named) (rw c.as_str-coll.ensures.text at c.as_str-coll.utf8) (written_fits d w read told) (subst (λ o. FindsRow n w.key.items (Ok o) docs after) c.in_default.is h))
+    (λ docs after h. row_makes f docs after n w.key.items (cow_slice_items w.body) d (rw c.as_str-coll.ensures.text at c.as_str-coll.ensures.named) (rw c.as_str-coll.ensures.text at c.as_str-coll.utf8) (written_fits d w read told) (subst (λ o. FindsRow n w.key.items (Ok o) docs after) c.in_default.is h))
     c.in_err-put_last.field-0.0 (rw (c.as_str-coll.ensures.text, c.as_slice-key.ensures.value, c.as_slice-body.ensures.value) at c.in_err-put_last.ensures.crash) (λ e. c.in_err-put_last.ensures.full (ap Err e)))
 
 pub returns-clause-crash : goal.returns-clause-crash

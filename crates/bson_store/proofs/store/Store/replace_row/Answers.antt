@@ -1,4 +1,5 @@
 use Rattle.std.proofs.lemmas.Result.{err_from_is_err_and}
+use Rattle.std.specs.Cow.{cow_slice_items}
 use Rattle.std.proofs.Common.{Ok, arith}
 use Rattle.bson_table.specs.Rows.{replaced}
 use Rattle.bson_table.specs.Moves.{FindsRow}
@@ -42,9 +43,9 @@ returns-in_err-put_back-clause-crash g c d read told f =
     let x = c.in-Some.found in
     let p = err_from_is_err_and c.from_residual-in_err-put_back.result c.from_residual-in_err-put_back.ensures.1 in
     rw (p.1, p.2)
-    (changed_leaves s m t (on n (replace f (readable d))) (replaced x.place w.body.items) (FindsRow n w.key.items (Ok c.in_ok-found.field-0)) (rw (c.as_str-coll.ensures.text, c.as_slice-key.ensures.value) at c.in_ok-found.ensures.moves)
+    (changed_leaves s m t (on n (replace f (readable d))) (replaced x.place (cow_slice_items w.body)) (FindsRow n w.key.items (Ok c.in_ok-found.field-0)) (rw (c.as_str-coll.ensures.text, c.as_slice-key.ensures.value) at c.in_ok-found.ensures.moves)
     (λ docs after h. h.same) c.in_ok-found.ensures.crash
-    (λ docs after h. row_replaces f docs after n w.key.items w.body.items d c.in_ok-found.field-0 x (rw c.as_str-coll.ensures.text at c.as_str-coll.ensures.named) (written_fits d w read told) c.in-Some.is h)
+    (λ docs after h. row_replaces f docs after n w.key.items (cow_slice_items w.body) d c.in_ok-found.field-0 x (rw c.as_str-coll.ensures.text at c.as_str-coll.ensures.named) (written_fits d w read told) c.in-Some.is h)
     c.in_err-put_back.field-0.0 (rw c.as_slice-body.ensures.value at c.in_err-put_back.ensures.crash) (rw c.as_slice-body.ensures.value at c.in_err-put_back.ensures.moves))
 
 pub returns-clause-crash : goal.returns-clause-crash

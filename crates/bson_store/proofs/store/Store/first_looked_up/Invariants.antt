@@ -4,7 +4,7 @@ use Rattle.bson_table.specs.Moves.{Moves, Stands}
 use Rattle.bson_table.specs.Rows.{Doc}
 use Rattle.bson_store.specs.Calls.{held}
 use Rattle.bson_store.proofs.Keyed.{ComesTo}
-use Rattle.bson_store.proofs.store.Store.first_taken.Given as goal
+use Rattle.bson_store.proofs.store.Store.first_looked_up.Given as goal
 
 abbrev pub invariant-loop-at : goal.invariant-loop-at
 invariant-loop-at g l = record {
