@@ -47,11 +47,12 @@ impl From<AllocError> for KeyError {
 }
 
 /// The bytes of the document's normal form with its keys in order. Two documents have the same key exactly where they mean the
-/// same, as long as neither is refused.
+/// same, as long as neither is refused. A document that has a key was counted first, which tells that it is sound.
 pub fn meaning_key(alloc: Global, document: &Document) -> Result<Vec<u8>, KeyError>
     ensures bytes { IfOk result (λ k. k.items ≡ key_of (members_of (pairs_of document.now))) }
     ensures fits { OnOk result (length (key_of (members_of (pairs_of document.now))) ≤ length_limit) }
     ensures plain { OnOk result (IsPlain (tree (members_of (pairs_of document.now)))) }
+    ensures sound { OnOk result (IsSound (tree (members_of (pairs_of document.now)))) }
 
     // Each refusal comes exactly where it is due, and a 00 before the length; want of memory comes after both.
     ensures not_plain { (result ≡ Err KeyError.NotPlain) ↔ (IsPlain (tree (members_of (pairs_of document.now))) → ⊥) }
@@ -89,6 +90,7 @@ fn key_where(zeros: Zeros, alloc: Global, document: &Document) -> Result<Vec<u8>
     ensures bytes { IfOk result (λ k. k.items ≡ key_by zeros (members_of (pairs_of document.now))) }
     ensures fits { OnOk result (length (key_by zeros (members_of (pairs_of document.now))) ≤ length_limit) }
     ensures plain { OnOk result (IsPlain (tree (members_of (pairs_of document.now)))) }
+    ensures sound { OnOk result (IsSound (tree (members_of (pairs_of document.now)))) }
 
     // Each refusal comes exactly where it is due, and a 00 before the length; want of memory comes after both.
     ensures not_plain { (result ≡ Err KeyError.NotPlain) ↔ (IsPlain (tree (members_of (pairs_of document.now))) → ⊥) }

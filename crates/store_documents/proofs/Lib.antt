@@ -5,3 +5,4 @@ pub mod OfChanges
 pub mod OfRows
 mod OfStored
 mod OfTrees
+mod OfOrder

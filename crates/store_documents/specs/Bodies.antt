@@ -13,7 +13,7 @@ use Rattle.bson_meaning.specs.Before.{key as key_before}
 use Rattle.bson_meaning.specs.Meaning.{key}
 use Rattle.bson_meaning.specs.declared.key.KeyError.{KeyError}
 use Rattle.bson_meaning.specs.declared.key.KeyError.TheVariants as faults
-use Rattle.store_laws.specs.Reading.{IsRead, ReadsBytes, readable, unreadable}
+use Rattle.store_laws.specs.Reading.{Reading, IsRead, ReadsBytes, readable, unreadable}
 use Rattle.store_laws.specs.State.{IsKept, IsName, refusal_of}
 use Rattle.store_laws.specs.Table.{only_id, own_id}
 use Rattle.store_laws.specs.declared.error.ErrorKind.{ErrorKind}
@@ -110,3 +110,18 @@ abbrev pub TellsKey : List ℕ → List ℕ → List ℕ → RowKey → Type 0
 TellsKey coll k bytes Own = IsRow coll k bytes
 TellsKey coll k bytes (Before now) = IsRowOnce coll k bytes now.items × (k ≢ now.items)
 TellsKey coll k bytes Neither = (now : List ℕ) (row : IsRow coll now bytes) → (k ≢ now) × (k ≢ key_before (own_id row.document))
+
+-- ---- JSON
+
+-- the bytes of a document's normal form with its keys in order, which are few enough to be kept
+abbrev pub IsOrderedBody : List ℕ → Members → Type 0
+IsOrderedBody bytes e = (bytes ≡ key e) × IsSound (document e) × IsPlain (document e) × (length (key e) ≤ size_limit)
+
+-- why there are none
+abbrev pub IsUnordered : Members → ErrorKind → Type 0
+IsUnordered e k = ((k ≡ Nul) × (IsPlain (document e) → ⊥)) ⊎ ((k ≡ TooLong) × IsPlain (document e) × (size_limit < length (key e))) ⊎ (k ≡ Memory)
+
+-- the row of the document that an input reads as, or why there is none, or memory was wanted
+abbrev pub AnswersInput : (Reading → Type 0) → Result Written ErrorKind → Type 0
+AnswersInput Reads (Ok w) = (d : Members) × Reads (readable d) × IsRead d × AnswersWritten d (Ok w)
+AnswersInput Reads (Err k) = Reads (unreadable k) ⊎ ((d : Members) × Reads (readable d) × (refusal_of d ≡ Some k)) ⊎ (k ≡ Memory)

@@ -6,6 +6,7 @@
 mod answer;
 mod change;
 mod ids;
+mod json_row;
 mod name;
 mod read;
 mod reserved;
@@ -17,6 +18,7 @@ mod write;
 pub use answer::json_of;
 pub use change::{Unset, set_member, unset_member};
 pub use ids::key_of_id;
+pub use json_row::row_of_json;
 pub use name::Name;
 pub use read::{read_bytes, read_json, read_value};
 pub use row::{RowKey, is_row, key_of_row};

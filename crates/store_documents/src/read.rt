@@ -38,7 +38,7 @@ pub(crate) fn gate_refusal(error: GateError) -> ErrorKind
 }
 
 /// The refusal for a fault of the JSON reader.
-fn json_refusal(error: extjson::de::Error) -> ErrorKind
+pub(crate) fn json_refusal(error: extjson::de::Error) -> ErrorKind
     ensures { ((error ≡ json_faults.Memory) × (result ≡ Memory)) ⊎ ((error ≢ json_faults.Memory) × (result ≡ JsonRefused)) }
 {
     match error {
@@ -105,7 +105,7 @@ fn kept(alloc: Global, document: Document) -> Result<Document, ErrorKind>
 }
 
 /// The members of an object.
-fn object_of(json: Value) -> Option<Map<String, Value>>
+pub(crate) fn object_of(json: Value) -> Option<Map<String, Value>>
     ensures { MatchOption result (ReadsTree (tree_of json) (unreadable NotAnObject)) (λ m. tree_of json ≡ object (members_view m.entries)) }
 {
     match json {

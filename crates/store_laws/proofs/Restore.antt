@@ -63,7 +63,7 @@ mutual
   in_order_asc_members no_members = refl
   in_order_asc_members (member k v ms) = in_order_place k (asc v) (asc_members ms) ∙ ap (λ u. place k u (norm_members_in_order (asc_members ms))) (in_order_asc v) ∙ ap (place k (norm_in_order v)) (in_order_asc_members ms)
 
-in_order_same_form : (d : Members) → IsSound (document d) → Same (document d) (document (norm_members_in_order d))
+pub in_order_same_form : (d : Members) → IsSound (document d) → Same (document d) (document (norm_members_in_order d))
 in_order_same_form d s = same_in_order (document d) (document (norm_members_in_order d)) s.distinct
     (sym (in_order_asc (norm (document d)) ∙ ap asc (norm_twice IsUtf8 (document d) s.ranged)))
 

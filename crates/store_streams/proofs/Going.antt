@@ -6,7 +6,7 @@ use Rattle.bson_meaning.specs.Gate.{IsCounted}
 use Rattle.store_laws.specs.Reading.{Documents, Reading, readable, unreadable, IsRead, ReadsBytes, ReadsTree, ReadsTrees}
 use Rattle.store_laws.specs.declared.error.ErrorKind.{ErrorKind}
 use Rattle.store_laws.specs.declared.error.ErrorKind.TheVariants.{Memory}
-use Rattle.store_documents.specs.Bodies.{AnswersKept, AnswersWritten}
+use Rattle.store_documents.specs.Bodies.{AnswersInput, AnswersKept, AnswersWritten}
 use Rattle.store_documents.specs.declared.write.Written.{Written}
 use Rattle.store_streams.specs.declared.error.StreamError.TheVariants as errors
 use Rattle.store_streams.specs.Judging.{AnswersFront, AnswersRow, Judges, RefusesFront, stream_refusal}
@@ -26,6 +26,14 @@ written_row Reads d (Ok w) h read a = (d, h, read, a.0, a.2, a.1)
 written_row Reads d (Err Memory) h read a = tt
 written_row Reads d (Err _) h read (inl why) = inr (d, h, why)
 written_row Reads d (Err _) h read (inr e) = absurd (cc)
+
+-- what an input is kept as
+pub input_row : (Reads : Reading → Type 0) (r : Result Written ErrorKind) → AnswersInput Reads r → AnswersRow Reads r
+input_row Reads (Ok w) (d, h, read, a) = written_row Reads d (Ok w) h read a
+input_row Reads (Err Memory) h = tt
+input_row Reads (Err _) (inl h) = inl h
+input_row Reads (Err _) (inr (inl h)) = inr h
+input_row Reads (Err _) (inr (inr e)) = absurd (cc)
 
 -- what the bytes of one document are kept as
 pub kept_row : (bytes : List ℕ) (r : Result Written ErrorKind) → AnswersKept bytes r → AnswersRow (ReadsBytes bytes) r

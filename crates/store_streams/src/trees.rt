@@ -8,15 +8,15 @@ ghost use Rattle.store_streams.specs.Judging.{AnswersRow, Judges};
 use crate::error::StreamError;
 use serde_json::Value;
 use std::alloc::Global;
-use store_documents::{Written, read_json, write_document};
+use store_documents::{Written, row_of_json};
 use store_laws::ErrorKind;
 
 /// The row of the document that a tree stands for.
+#[tactic(auto, using(crate::proofs::Going::input_row))]
 fn row_of(alloc: Global, json: Value) -> Result<Written<'static>, ErrorKind>
     ensures { AnswersRow (ReadsTree (tree_of json)) result }
 {
-    let document = read_json(alloc, json)?;
-    write_document(alloc, &document)
+    row_of_json(alloc, json)
 }
 
 /// Judges the documents that JSON trees stand for (MongoDB Extended JSON v2), and answers the rows that they are kept as.
