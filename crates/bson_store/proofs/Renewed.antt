@@ -1,5 +1,5 @@
 -- Rows under keys of now or from before, and the table of documents that they show.
-use Rattle.std.proofs.Common.{◌≡◌, ◌⊎◌, inl, inr, ◌<ℤ◌, ℕ, ℤ, pos, List, [], ◌∷◌, ◌++◌, Bool, true, false, ◌||◌, refl, sym, ap, subst, ◌∙◌, arith}
+use Rattle.std.proofs.Common.{◌≡◌, inl, inr, ◌<ℤ◌, ℕ, ℤ, pos, List, [], ◌∷◌, ◌++◌, Bool, true, false, ◌||◌, refl, sym, ap, subst, ◌∙◌, arith}
 use Rattle.std.proofs.lemmas.Int.{ints}
 use Rattle.std.specs.List.{list_any}
 use Rattle.bson_base.specs.Value.{Members}
@@ -8,7 +8,7 @@ use Rattle.bson_meaning.specs.Before.{key as key_before}
 use Rattle.bson_meaning.specs.Meaning.{key}
 use Rattle.bson_table.specs.Rows.{Doc, is_row_named}
 use Rattle.bson_table.specs.Rows as table
-use Rattle.bson_table.specs.Check.{AreGoodAfter, AreGood, IsGoodAfter}
+use Rattle.bson_table.specs.Check.{AreGoodAfter, AreGood}
 use Rattle.bson_table.specs.Renewal.{IsOwn, IsRenewed, AreRenewed}
 use Rattle.store_documents.specs.Bodies.{IsRow, IsRowOnce, TellsKey}
 use Rattle.store_documents.specs.declared.row.RowKey.TheVariants.{Neither}

@@ -1,7 +1,6 @@
 use Rattle.std.proofs.Common.{Ok, Err, arith}
 use Rattle.std.proofs.lemmas.Result.{err_from_is_err_and, IfOk-weaker}
 use Rattle.sqlite.specs.State.{HasCleanDisk}
-use Rattle.sqlite.proofs.StateLemmas.{survives_then}
 use Rattle.bson_table.specs.Moves.{FindsNone}
 use Rattle.bson_table.specs.Table.{table_state}
 use Rattle.store_laws.specs.declared.error.ErrorKind.TheVariants as kind
