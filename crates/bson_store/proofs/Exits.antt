@@ -2,7 +2,7 @@
 use Rattle.std.proofs.Common.{◌≡◌, inl, inr, refl, ℕ, List, Option, Some, None, Ok, Err, subst}
 use Rattle.std.specs.Cow.{cow_slice_items}
 use Rattle.std.specs.Prelude.{IsUtf8}
-use Rattle.serde_json.specs.Data.{Data}
+use Rattle.serde_json.specs.Data.{Data, object, Members as JsonMembers}
 use Rattle.sqlite.specs.State.{State}
 use Rattle.bson_base.specs.Kinds.{IsSound}
 use Rattle.bson_base.specs.Value.{Value, Members}
@@ -11,12 +11,13 @@ use Rattle.bson_table.specs.Moves.{Moves, FindsRow, Changes, AddsRows, appended}
 use Rattle.bson_table.specs.declared.fault.Fault.{Fault}
 use Rattle.bson_table.specs.declared.row.Found.{Found}
 use Rattle.store_documents.specs.Answers.{AnswersBytes, AnswersTree}
-use Rattle.store_documents.specs.Bodies.{AnswersKept, AnswersWritten}
+use Rattle.store_documents.specs.Bodies.{AnswersInput, AnswersKept, AnswersWritten}
 use Rattle.store_documents.specs.declared.write.Written.{Written}
 use Rattle.store_laws.specs.Reading.{Reading, readable, IsRead, ReadsBytes, ReadsTree}
 use Rattle.store_laws.specs.State.{NoneHasId, Form, in_bytes, in_json, Call, insert, replace, remove, on, Reply, done, refused, Answers, IsName, IsCall}
 use Rattle.store_laws.specs.Run.{IsDecidedCall}
 use Rattle.store_laws.specs.Table.{Table, documents_of}
+use Rattle.store_laws.proofs.Plain.{object_tree}
 use Rattle.store_laws.specs.declared.error.ErrorKind.{ErrorKind}
 use Rattle.store_laws.specs.declared.error.ErrorKind.TheVariants as kind
 use Rattle.bson_store.specs.Calls.{Does, DoesBytes, DoesTree, DoesRead, Looks}
@@ -97,6 +98,16 @@ unkept_bytes s n b call k t unwritten good (inr h) = read_bytes s s n n b call h
 
 pub read_tree : (s t : State) (n nb : List ℕ) (j : Data) (call : Form → Reading → Call) (d : Members) (r : Reply) → nb ≡ n → ReadsTree j (readable d) → Moves s t (DoesRead nb call d r) → Moves s t (DoesTree n (call in_json) j r)
 read_tree s t n nb j call d r e reads m = moved s t (DoesRead nb call d r) (DoesTree n (call in_json) j r) m (λ docs after h. tree_read docs after n j call d r reads (subst (λ k. DoesRead k call d r docs after) e h))
+
+-- a tree that has no row; memory is wanted for an object alone
+pub unkept_tree : (s : State) (n : List ℕ) (j : Data) (call : Form → Reading → Call) (k : ErrorKind) → TakesReading call → ((d : Members) (x : ErrorKind) → AnswersWritten d (Err x) → Moves s s (DoesRead n call d (refused x None)))
+    → IsName n → AnswersInput (ReadsTree j) (Err k) → (k ≡ kind.Memory → (js : JsonMembers) × (j ≡ object js)) → Moves s s (DoesTree n (call in_json) j (refused k None))
+unkept_tree s n j call k t unwritten good (inl reads) wants = unread_tree s n j call k t good (inl reads)
+unkept_tree s n j call k t unwritten good (inr (inl (d, reads, why))) wants = read_tree s s n n j call d (refused k None) refl reads (unwritten d k (inl why))
+unkept_tree s n j call k t unwritten good (inr (inr memory)) wants =
+    let w = wants memory in
+    let a = object_tree w.0 in
+    unread_tree s n j call k t good (inr (memory, a.0, rw w.1 a.1, a.2))
 
 -- ---- inserts
 

@@ -7,7 +7,7 @@ ghost use Rattle.bson_table.specs.Open.{HasNoTable, IsNameTaken, KeepsAll};
 ghost use Rattle.bson_store.specs.Opening.{Opens, RefusesToOpen};
 ghost use Rattle.serde_json.specs.View.{view as tree_of};
 ghost use Rattle.bson_base.specs.Value.{Members};
-ghost use Rattle.bson_model.specs.View.{pairs_of, members_of, view};
+ghost use Rattle.bson_model.specs.View.{view};
 ghost use Rattle.bson_table.specs.Moves.{AddsRows, Changes, MayLeave, Moves, Stands, WasOpen, appended};
 ghost use Rattle.store_laws.specs.State.{State as Lists};
 ghost use Rattle.bson_store.specs.Left.{FindsState, Holds, HoldsOnce, Keeps, Leaves, LeavesBytes, LeavesOnly, LeavesRead, LeavesTree};
@@ -27,14 +27,14 @@ use crate::row_test::RowTest;
 use bson_bytes::put::has_no_zero;
 use bson_meaning::KeyError;
 use bson_model::extjson::Mode;
-use bson_model::{Bson, Document, Sink};
+use bson_model::{Bson, Sink};
 use bson_table::{Fault, Found, Table};
 use serde_json::Value;
 use sqlite::{Alter, Connection};
 use std::alloc::Global;
 use store_documents::{
-    Name, Written, json_of, key_of_id, read_json, read_value, row_of_bytes, set_member,
-    unset_member, write_document,
+    Name, Written, json_of, key_of_id, read_value, row_of_bytes, row_of_json, set_member,
+    unset_member,
 };
 use store_laws::ErrorKind;
 
@@ -139,17 +139,6 @@ impl<S: Alter + Drop> Store<S> {
         Ok(())
     }
 
-    /// Puts a document last in a collection.
-    fn insert(&mut self, name: Name<'_>, document: &Document) -> Result<(), StoreError>
-        requires { IsRead (members_of (pairs_of document.now)) }
-        ensures moves { Moves (held S.Store self.old) (held S.Store self.new) (DoesRead (name_bytes name.entry) insert (members_of (pairs_of document.now)) (reply_by as_done result)) }
-        ensures open { WasOpen (held S.Store self.old) (held S.Store self.new) result }
-        ensures crash { LeavesRead (name_bytes name.entry) insert (members_of (pairs_of document.now)) (reply_by as_done result) (held S.Store self.old) (held S.Store self.new) }
-    {
-        let row = write_document(self.alloc, document)?;
-        self.insert_row(name, &row)
-    }
-
     /// Puts a document, whose row this is, in the place of that of a collection with its `_id`.
     fn replace_row(&mut self, name: Name<'_>, row: &Written<'_>) -> Result<(), StoreError>
         ensures moves { (d : Members) → IsRead d → AnswersWritten d (Ok row.now)
@@ -166,17 +155,6 @@ impl<S: Alter + Drop> Store<S> {
         let body = row.body.as_slice();
         self.put_back(&found, body)?;
         Ok(())
-    }
-
-    /// Puts a document in the place of that of a collection with its `_id`.
-    fn replace(&mut self, name: Name<'_>, document: &Document) -> Result<(), StoreError>
-        requires { IsRead (members_of (pairs_of document.now)) }
-        ensures moves { Moves (held S.Store self.old) (held S.Store self.new) (DoesRead (name_bytes name.entry) replace (members_of (pairs_of document.now)) (reply_by as_done result)) }
-        ensures open { WasOpen (held S.Store self.old) (held S.Store self.new) result }
-        ensures crash { LeavesRead (name_bytes name.entry) replace (members_of (pairs_of document.now)) (reply_by as_done result) (held S.Store self.old) (held S.Store self.new) }
-    {
-        let row = write_document(self.alloc, document)?;
-        self.replace_row(name, &row)
     }
 
     /// The row of the document of a collection whose `_id` means the same as `id`.
@@ -224,8 +202,8 @@ impl<S: Alter + Drop> Store<S> {
         ensures crash { LeavesTree name.now (insert in_json) (tree_of json) (reply_by as_done result) (held S.Store self.old) (held S.Store self.new) }
     {
         let name = good_name(name)?;
-        let document = read_json(self.alloc, json)?;
-        self.insert(name, &document)
+        let row = row_of_json(self.alloc, json)?;
+        self.insert_row(name, &row)
     }
 
     /// Puts the document that `bytes` mean in the place of that of the collection `name` whose `_id` means the same.
@@ -251,8 +229,8 @@ impl<S: Alter + Drop> Store<S> {
         ensures crash { LeavesTree name.now (replace in_json) (tree_of json) (reply_by as_done result) (held S.Store self.old) (held S.Store self.new) }
     {
         let name = good_name(name)?;
-        let document = read_json(self.alloc, json)?;
-        self.replace(name, &document)
+        let row = row_of_json(self.alloc, json)?;
+        self.replace_row(name, &row)
     }
 
     /// Puts a value, in normal form with its keys in order, under a top key of the document of the collection `name` whose
