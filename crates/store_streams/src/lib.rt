@@ -4,10 +4,12 @@
 mod error;
 mod keys;
 pub mod laws;
+mod loading;
 mod stream;
 mod trees;
 
 pub use error::StreamError;
 pub use keys::Keys;
+pub use loading::Loader;
 pub use stream::judge_stream;
 pub use trees::judge_trees;
