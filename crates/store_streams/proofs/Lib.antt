@@ -5,3 +5,4 @@ pub mod Streams
 pub mod SoFar
 pub mod Going
 pub mod Appending
+pub mod Loads

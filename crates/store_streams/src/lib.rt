@@ -4,12 +4,14 @@
 mod error;
 mod keys;
 pub mod laws;
+mod loading;
 mod repeats;
 mod stream;
 mod trees;
 
 pub use error::StreamError;
 pub use keys::Keys;
+pub use loading::Loader;
 pub use repeats::first_repeated;
 pub use stream::judge_stream;
 pub use trees::judge_trees;

@@ -2,22 +2,14 @@
 
 ghost use Rattle.std.specs.Prelude.{map};
 ghost use Rattle.serde_json.specs.View.{view as tree_of};
-ghost use Rattle.store_laws.specs.Reading.{ReadsTree, ReadsTrees};
-ghost use Rattle.store_streams.specs.Judging.{AnswersRow, Judges};
+ghost use Rattle.store_laws.specs.Reading.{ReadsTrees};
+ghost use Rattle.store_streams.specs.Judging.{Judges};
 
 use crate::error::StreamError;
+use crate::loading::Loader;
 use serde_json::Value;
 use std::alloc::Global;
-use store_documents::{Written, row_of_json};
-use store_laws::ErrorKind;
-
-/// The row of the document that a tree stands for.
-#[tactic(auto, using(crate::proofs::Going::input_row))]
-fn row_of(alloc: Global, json: Value) -> Result<Written<'static>, ErrorKind>
-    ensures { AnswersRow (ReadsTree (tree_of json)) result }
-{
-    row_of_json(alloc, json)
-}
+use store_documents::Written;
 
 /// Judges the documents that JSON trees stand for (MongoDB Extended JSON v2), and answers the rows that they are kept as.
 ///
@@ -26,12 +18,9 @@ fn row_of(alloc: Global, json: Value) -> Result<Written<'static>, ErrorKind>
 pub fn judge_trees(alloc: Global, trees: Vec<Value>) -> Result<Vec<Written<'static>>, StreamError>
     ensures { Judges (ReadsTrees (map tree_of trees.items)) result }
 {
-    let mut rows = Vec::new(alloc);
+    let mut loader = Loader::new(alloc);
     for json in trees {
-        match row_of(alloc, json) {
-            Ok(row) => rows.push(row)?,
-            Err(kind) => return Err(StreamError::at(kind, rows.len() as u64)),
-        }
+        loader.take(json);
     }
-    Ok(rows)
+    loader.finish()
 }

@@ -1,0 +1,91 @@
+//! JSON trees as they come in, judged one at a time.
+
+ghost use Rattle.std.specs.Prelude.{◌≡◌, ◌++◌, ◌∷◌, [], List, Ok, Err, MatchResult};
+ghost use Rattle.serde_json.specs.Data.{Data};
+ghost use Rattle.serde_json.specs.View.{view as tree_of};
+ghost use Rattle.store_laws.specs.Reading.{ReadsTree, ReadsTrees};
+ghost use Rattle.store_streams.specs.Judging.{AnswersRow, Judges};
+
+use crate::error::StreamError;
+use serde_json::Value;
+use std::alloc::Global;
+use store_documents::{Written, row_of_json};
+use store_laws::ErrorKind;
+
+/// The row of the document that a tree stands for.
+#[tactic(auto, using(crate::proofs::Going::input_row))]
+fn row_of(alloc: Global, json: Value) -> Result<Written<'static>, ErrorKind>
+    ensures { AnswersRow (ReadsTree (tree_of json)) result }
+{
+    row_of_json(alloc, json)
+}
+
+/// Judges the next tree behind those of the rows, and puts its row last.
+fn judge(alloc: Global, rows: &mut Vec<Written<'static>>, json: Value) -> Result<(), StreamError>
+    ensures { (js : List Data) → Judges (ReadsTrees js) (Ok rows.old)
+        → MatchResult result (λ _. Judges (ReadsTrees (js ++ tree_of json ∷ [])) (Ok rows.new))
+        (λ e. (more : List Data) → Judges (ReadsTrees ((js ++ tree_of json ∷ []) ++ more)) (Err e)) }
+{
+    match row_of(alloc, json) {
+        Ok(row) => {
+            rows.push(row)?;
+            Ok(())
+        }
+        Err(kind) => Err(StreamError::at(kind, rows.len() as u64)),
+    }
+}
+
+/// Judges the documents that JSON trees stand for (MongoDB Extended JSON v2), which come one after the other, and keeps the rows
+/// that they are kept as. No tree is kept.
+#[derive(Drop)]
+pub struct Loader {
+    rows: Vec<Written<'static>>,
+    /// The first refusal, behind which nothing is judged.
+    refusal: Option<StreamError>,
+    alloc: Global,
+}
+
+impl Loader {
+    ghost use Rattle.store_streams.specs.Loading.{HasTaken};
+
+    /// No tree was taken.
+    pub fn new(alloc: Global) -> Loader
+        ensures { HasTaken result [] }
+    {
+        Loader {
+            rows: Vec::new(alloc),
+            refusal: None,
+            alloc,
+        }
+    }
+
+    /// Takes the next tree. Behind the first that is refused, trees are let go.
+    pub fn take(&mut self, json: Value)
+        ensures { (js : List Data) → HasTaken self.old js → HasTaken self.new (js ++ tree_of json ∷ []) }
+    {
+        if self.refusal.is_some() {
+            return;
+        }
+        if let Err(error) = judge(self.alloc, &mut self.rows, json) {
+            self.refusal = Some(error);
+        }
+    }
+
+    /// The rows of the trees that were taken.
+    ///
+    /// The first document that is refused decides: `NotAnObject`, `JsonRefused`, `TooDeep` and `Nul` of its tree, then `NoId` and
+    /// `TooLong`. `Memory` where a growth was refused.
+    pub fn finish(self) -> Result<Vec<Written<'static>>, StreamError>
+        ensures { (js : List Data) → HasTaken self js → Judges (ReadsTrees js) result }
+    {
+        let Loader {
+            rows,
+            refusal,
+            alloc: _,
+        } = self;
+        match refusal {
+            None => Ok(rows),
+            Some(error) => Err(error),
+        }
+    }
+}
