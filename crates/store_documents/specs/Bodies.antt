@@ -88,6 +88,10 @@ abbrev pub AnswersKept : List ℕ → Result Written ErrorKind → Type 0
 AnswersKept bytes (Ok w) = (d : Members) × ReadsBytes bytes (readable d) × IsRead d × AnswersWritten d (Ok w)
 AnswersKept bytes (Err k) = ReadsBytes bytes (unreadable k) ⊎ ((d : Members) × ReadsBytes bytes (readable d) × IsRead d × AnswersWritten d (Err k))
 
+-- the bytes are the written form of a document that can be kept, and this is the key of its `_id`
+abbrev pub StandUnder : List ℕ → List ℕ → Type 0
+StandUnder k bytes = (d : Members) × ReadsBytes bytes (readable d) × IsRead d × ((refusal_of d ≡ None) × (k ≡ key (own_id d)) × (bytes ≡ encode d))
+
 -- ---- rows
 
 -- a row that a store can have written: of a kept document, under a good name, with the key of its `_id`

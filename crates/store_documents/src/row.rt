@@ -13,10 +13,10 @@ ghost use Rattle.store_documents.specs.Bodies.{AnswersKept, IsRow, TellsKey};
 
 use crate::ids::ID_KEY;
 use crate::name::Name;
-use crate::read::document_of;
-use crate::stored::row_of_bytes;
+use crate::read::{document_of, gate_refusal};
+use crate::stored::{key_as_it_stands, row_by_tree, row_of_bytes};
 use crate::write::Written;
-use bson_meaning::{KeyError, meaning_key_before_of_element};
+use bson_meaning::{KeyError, gate, meaning_key_before_of_element};
 use std::alloc::{AllocError, Global};
 use store_laws::ErrorKind;
 
@@ -48,15 +48,23 @@ fn refused(kind: ErrorKind) -> Result<bool, AllocError>
 }
 
 /// Whether a store can have written a row: `coll` is the name of a collection, `body` the written form of a document that is
-/// kept, and `key` the key of its `_id`. The error is a refused growth.
+/// kept, and `key` the key of its `_id`. The error is a refused growth. A body that is seen to be a written form is gone over
+/// without a tree, and not written again.
 pub fn is_row(alloc: Global, coll: &[u8], key: &[u8], body: &[u8]) -> Result<bool, AllocError>
     ensures { IfOk result (λ b. IsTrue b ↔ IsRow coll.now key.now body.now) }
 {
     if !is_text_of_name(coll) {
         return Ok(false);
     }
-    match row_of_bytes(alloc, body) {
-        Ok(written) => Ok(is_written_so(&written, key, body)),
+    if let Err(error) = gate(body) {
+        return refused(gate_refusal(error));
+    }
+    match key_as_it_stands(alloc, body) {
+        Ok(Some(own)) => Ok(is_same(own.as_slice(), key)),
+        Ok(None) => match row_by_tree(alloc, body) {
+            Ok(written) => Ok(is_written_so(&written, key, body)),
+            Err(kind) => refused(kind),
+        },
         Err(kind) => refused(kind),
     }
 }

@@ -11,7 +11,7 @@ ghost use Rattle.bson_written.specs.Written.{IsWrittenUnder};
 ghost use Rattle.store_laws.specs.State.{id_key, IsKept};
 ghost use Rattle.store_laws.specs.Table.{own_id};
 ghost use Rattle.store_laws.specs.declared.error.ErrorKind.TheVariants.{Memory};
-ghost use Rattle.store_documents.specs.Bodies.{AnswersKept, MeansItself};
+ghost use Rattle.store_documents.specs.Bodies.{AnswersKept, MeansItself, StandUnder};
 
 use crate::ids::ID_KEY;
 use crate::read::{document_of, gate_refusal};
@@ -77,11 +77,11 @@ fn key_of_element(alloc: Global, id: &Frame<'_>) -> Result<Vec<u8>, ErrorKind>
     }
 }
 
-/// The row of the document that bytes mean, where they are its written form and that is seen without its tree. `Memory` where a
+/// The key of the document that bytes mean, where they are its written form and that is seen without its tree. `Memory` where a
 /// growth was refused.
-fn row_as_it_stands(alloc: Global, bytes: &[u8]) -> Result<Option<Written<'_>>, ErrorKind>
+pub(crate) fn key_as_it_stands(alloc: Global, bytes: &[u8]) -> Result<Option<Vec<u8>>, ErrorKind>
     requires { Passes bytes.now }
-    ensures { MatchResult result (λ r. IfSome r (λ w. AnswersKept bytes.now (Ok w))) (λ k. k ≡ Memory) }
+    ensures { MatchResult result (λ k. IfSome k (λ k. StandUnder k.items bytes.now)) (λ e. e ≡ Memory) }
 {
     if !is_written_form(bytes) {
         return Ok(None);
@@ -90,10 +90,16 @@ fn row_as_it_stands(alloc: Global, bytes: &[u8]) -> Result<Option<Written<'_>>, 
         return Ok(None);
     };
     let key = key_of_element(alloc, &id)?;
-    Ok(Some(Written {
-        key,
-        body: CowSlice::Borrowed(bytes),
-    }))
+    Ok(Some(key))
+}
+
+/// The row of the document that bytes mean, by its tree.
+pub(crate) fn row_by_tree(alloc: Global, bytes: &[u8]) -> Result<Written<'static>, ErrorKind>
+    requires { Passes bytes.now }
+    ensures { AnswersKept bytes.now result }
+{
+    let document = document_of(alloc, bytes)?;
+    write_document(alloc, &document)
 }
 
 /// The row of the document that bytes mean, which is kept as it means: of a repeated key the last value, in the place of the
@@ -108,9 +114,11 @@ pub fn row_of_bytes(alloc: Global, bytes: &[u8]) -> Result<Written<'_>, ErrorKin
     if let Err(error) = gate(bytes) {
         return Err(gate_refusal(error));
     }
-    if let Some(row) = row_as_it_stands(alloc, bytes)? {
-        return Ok(row);
+    if let Some(key) = key_as_it_stands(alloc, bytes)? {
+        return Ok(Written {
+            key,
+            body: CowSlice::Borrowed(bytes),
+        });
     }
-    let document = document_of(alloc, bytes)?;
-    write_document(alloc, &document)
+    row_by_tree(alloc, bytes)
 }

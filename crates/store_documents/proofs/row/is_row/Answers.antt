@@ -1,7 +1,30 @@
+use Rattle.std.proofs.Common.{inl, refl, sym, ◌∙◌}
 use Rattle.std.specs.Cow.{cow_slice_items}
 use Rattle.std.proofs.lemmas.Result.{IfOk-weaker}
+use Rattle.store_documents.specs.Bodies.{StandUnder}
 use Rattle.store_documents.proofs.OfRows.{is_row, no_row, not_answered, row_back, WritesAs}
 use Rattle.store_documents.proofs.row.is_row.Goals as goal
+
+pub returns-in-Err : goal.returns-in-Err
+returns-in-Err c =
+    let n = c.args.coll.now in
+    let k = c.args.key.now in
+    let bytes = c.args.body.now in
+    IfOk-weaker c.refused.result _ _ (λ b h. no_row b n k bytes h.0 (not_answered n k bytes c.gate_refusal.result (inl (c.in-Err.error, c.in-Err.ensures, c.gate_refusal.ensures)) h.1)) c.refused.ensures
+
+pub returns-in-Ok-Some : goal.returns-in-Ok-Some
+returns-in-Ok-Some c =
+    let n = c.args.coll.now in
+    let k = c.args.key.now in
+    let bytes = c.args.body.now in
+    let a : StandUnder c.in-Ok-Some.own.items bytes = rw c.in-Ok-Some.field-0-is at c.in-Ok-Some.ensures in
+    let name = c.is_text_of_name.ensures.0 c.if-not-is_text_of_name.false in
+    let own = c.in-Ok-Some.own.items in
+    let same = c.as_slice.ensures.value in
+    let w : WritesAs a.0 own bytes = record { read = a.2; accepted = a.3.0; key_is = a.3.1; body_is = a.3.2 } in (
+      λ t. is_row n k bytes a.0 own bytes name w (sym same ∙ c.is_same.ensures.0 t) refl,
+      λ row. c.is_same.ensures.1 (same ∙ (row_back n k bytes a.0 own bytes w a.1 row).0),
+    )
 
 pub returns-in-Ok : goal.returns-in-Ok
 returns-in-Ok c =
@@ -17,9 +40,9 @@ returns-in-Ok c =
       λ row. c.is_written_so.ensures.1 (row_back n k bytes a.0 key_bytes body w a.1 row),
     )
 
-pub returns-in-Err : goal.returns-in-Err
-returns-in-Err c =
+pub returns-in-Err-row_by_tree : goal.returns-in-Err-row_by_tree
+returns-in-Err-row_by_tree c =
     let n = c.args.coll.now in
     let k = c.args.key.now in
     let bytes = c.args.body.now in
-    IfOk-weaker c.refused.result _ _ (λ b h. no_row b n k bytes h.0 (not_answered n k bytes c.in-Err.kind c.in-Err.ensures h.1)) c.refused.ensures
+    IfOk-weaker c.refused-in-Err-row_by_tree.result _ _ (λ b h. no_row b n k bytes h.0 (not_answered n k bytes c.in-Err-row_by_tree.kind c.in-Err-row_by_tree.ensures h.1)) c.refused-in-Err-row_by_tree.ensures

@@ -1,22 +1,9 @@
 use Rattle.std.proofs.lemmas.Result.{err_from_is_err_and}
-use Rattle.bson_bytes.specs.Spells.{settle}
-use Rattle.bson_model.specs.View.{members_of, pairs_of}
-use Rattle.store_documents.proofs.OfStored.{by_tree, meant, wants}
+use Rattle.store_documents.proofs.OfStored.{wants}
 use Rattle.store_documents.proofs.stored.row_of_bytes.Goals as goal
 use Rattle.bson_bytes.proofs.Meant.{are_bytes}
 
-pub returns-in_err-row : goal.returns-in_err-row
-returns-in_err-row c =
+pub returns-in_err-key : goal.returns-in_err-key
+returns-in_err-key c =
     let p = err_from_is_err_and c.from_residual.result c.from_residual.ensures.1 in
-    rw (p.1, p.2) (wants c.args.bytes.now (are_bytes c.args.bytes.now c.type_inv.bytes) c.in_default.ensures c.in_err-row.field-0.0 c.in_err-row.ensures)
-
-pub document_of-requires : goal.document_of-requires
-document_of-requires c = (settle c.in_default.ensures.2.0, meant c.args.bytes.now c.in_default.ensures)
-
-pub returns-in_err-document : goal.returns-in_err-document
-returns-in_err-document c =
-    let p = err_from_is_err_and c.from_residual-in_err-document.result c.from_residual-in_err-document.ensures.1 in
-    rw (p.1, p.2) (wants c.args.bytes.now (are_bytes c.args.bytes.now c.type_inv.bytes) c.in_default.ensures c.in_err-document.field-0.0 c.in_err-document.ensures)
-
-pub returns : goal.returns
-returns c = by_tree c.args.bytes.now (members_of (pairs_of c.in_ok-document.document)) c.write_document.result (are_bytes c.args.bytes.now c.type_inv.bytes) c.in_default.ensures c.in_ok-document.ensures c.write_document.ensures
+    rw (p.1, p.2) (wants c.args.bytes.now (are_bytes c.args.bytes.now c.type_inv.bytes) c.in_default.ensures c.in_err-key.field-0.0 c.in_err-key.ensures)
