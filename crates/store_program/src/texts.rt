@@ -1,10 +1,13 @@
 //! What the texts among the words of a command stand for.
 
-ghost use Rattle.std.specs.Prelude.{◌≡◌, ◌<◌, ◌^◌, ◌-◌, Some, IfOk, map, string_bytes};
+ghost use Rattle.std.specs.Prelude.{◌≡◌, ◌<◌, ◌^◌, ◌-◌, Some, Err, IfErr, MatchResult, map, string_bytes};
 ghost use Rattle.serde_json.specs.Read.{read as tree_of};
 ghost use Rattle.serde_json.specs.View.{view as data_of};
 ghost use Rattle.bson_model.specs.View.{view};
-ghost use Rattle.store_program.specs.Commands.{IsIdText, mode_of};
+ghost use Rattle.store_words.specs.Texts.{AnswersId, AnswersText};
+ghost use Rattle.store_words.specs.declared.texts.TextError.TheVariants.{Unreadable};
+ghost use Rattle.store_program.specs.Commands.{IsIdText, IsNoForm, TookSome, mode_of};
+ghost use Rattle.store_program.specs.Execute.{StopsFor, StopsLines};
 
 use crate::stop::{Stop, USAGE, refused};
 use bson_base::{ReadAllError, read_all};
@@ -17,31 +20,31 @@ use store_words::{
     Complaint, LinesError, RELAXED, TextError, read_filter, read_id, read_json, read_lines,
 };
 
-/// A text that can't be read is told so; want of memory is a refusal.
-fn unread(error: TextError, complaint: Complaint) -> Stop {
-    match error {
-        TextError::Unreadable => Stop::Words(complaint),
-        TextError::Memory => refused(ErrorKind::Memory),
-    }
-}
-
 /// The tree of a JSON text.
 pub fn json_of(alloc: Global, text: &str) -> Result<Value, Stop>
-    ensures { IfOk result (λ j. tree_of text.now ≡ Some (data_of j)) }
+    ensures { MatchResult result (λ j. tree_of text.now ≡ Some (data_of j)) (StopsFor Complaint.Json (AnswersText text.now (Err Unreadable))) }
 {
-    read_json(alloc, text).map_err(|error| unread(error, Complaint::Json))
+    match read_json(alloc, text) {
+        Ok(json) => Ok(json),
+        Err(TextError::Unreadable) => Err(Stop::Words(Complaint::Json)),
+        Err(TextError::Memory) => Err(refused(ErrorKind::Memory)),
+    }
 }
 
 /// The value of an id's text, which is Extended JSON.
 pub fn id_of(alloc: Global, text: &str) -> Result<Bson, Stop>
-    ensures { IfOk result (λ id. IsIdText text.now (view id)) }
+    ensures { MatchResult result (λ id. IsIdText text.now (view id)) (StopsFor Complaint.Id (AnswersId text.now (Err Unreadable))) }
 {
-    read_id(alloc, text).map_err(|error| unread(error, Complaint::Id))
+    match read_id(alloc, text) {
+        Ok(id) => Ok(id),
+        Err(TextError::Unreadable) => Err(Stop::Words(Complaint::Id)),
+        Err(TextError::Memory) => Err(refused(ErrorKind::Memory)),
+    }
 }
 
 /// The form of Extended JSON that the words behind an id ask for.
 pub fn mode_of(words: &[String]) -> Result<Mode, Stop>
-    ensures { IfOk result (λ mode. mode ≡ mode_of (map string_bytes words.now)) }
+    ensures { MatchResult result (λ mode. mode ≡ mode_of (map string_bytes words.now)) (λ stop. (stop ≡ Stop.Words Complaint.Usage) × IsNoForm (map string_bytes words.now)) }
 {
     match words {
         [] => Ok(Mode::Canonical),
@@ -57,13 +60,20 @@ pub fn mode_of(words: &[String]) -> Result<Mode, Stop>
 }
 
 /// The filter of a text.
-pub fn filter_of(alloc: Global, text: &str) -> Result<Filter, Stop> {
-    read_filter(alloc, text).map_err(|error| unread(error, Complaint::Filter))
+pub fn filter_of(alloc: Global, text: &str) -> Result<Filter, Stop>
+    ensures { IfErr result (StopsFor Complaint.Filter (Unit {0})) }
+{
+    match read_filter(alloc, text) {
+        Ok(filter) => Ok(filter),
+        Err(TextError::Unreadable) => Err(Stop::Words(Complaint::Filter)),
+        Err(TextError::Memory) => Err(refused(ErrorKind::Memory)),
+    }
 }
 
 /// The trees of the input's lines, which is read to its end.
 pub fn trees_in<I: Source>(alloc: Global, input: &mut I) -> Result<Vec<Value>, Stop>
     requires { (I.feed input.old).failures < 2 ^ 64 - 1 }
+    ensures { MatchResult result (λ _. TookSome (I.feed input.old) (I.feed input.new)) (StopsLines (I.feed input.old) (I.feed input.new)) }
 {
     let bytes = match read_all(alloc, input) {
         Ok(bytes) => bytes,
