@@ -12,7 +12,7 @@ use Rattle.store_laws.specs.State.{export, dump, on, bytes, json_list, refused, 
 use Rattle.store_laws.specs.Table.{Table, state_of, documents_of, Serves}
 use Rattle.store_laws.specs.declared.error.ErrorKind.{ErrorKind}
 use Rattle.store_laws.specs.declared.error.ErrorKind.TheVariants as kind
-use Rattle.bson_store.specs.Dump.{HandsTrees, Stops, TakesAll}
+use Rattle.bson_store.specs.Dump.{ChecksTrees, HandsTrees, Stops}
 use Rattle.bson_store.specs.Export.{ExportRefused, SendsCollection}
 use Rattle.bson_store.specs.Refusals.{IsDenied, refusal}
 use Rattle.bson_store.specs.Shown.{Show}
@@ -90,17 +90,16 @@ module _ (n : List ℕ) (texts : List (List ℕ)) (f : Feed) (old new : Tally) w
   without_tree docs e a good h = stay a n dump (refused e.kind e.document) good (sym h, refl)
 
   -- the first pass was refused
-  pub not_judged : {T : Type 0} (s t : Connected) (asked : T → List Data → Type 0) (x : T) (e : StoreError) → new.failures ≡ old.failures → Moves s t (HandsTrees asked (λ _ _ _. ⊥) n (Err (e, x))) → Moves s t (Comes (Dumped (Err (Refused e))))
-  not_judged s t asked x e same m = moved s t (HandsTrees asked (λ _ _ _. ⊥) n (Err (e, x))) (Comes (Dumped (Err (Refused e)))) m (λ docs after h a shown.
-      (a, subst (λ d. Show d a) (sym h.same) shown, by docs a shown (h.handed a shown)))
+  pub unchecked : (s t : Connected) (e : StoreError) → new.failures ≡ old.failures → Moves s t (ChecksTrees n (Err e)) → Moves s t (Comes (Dumped (Err (Refused e))))
+  unchecked s t e same m = moved s t (ChecksTrees n (Err e)) (Comes (Dumped (Err (Refused e)))) m (λ docs after h a shown.
+      (a, subst (λ d. Show d a) (sym h.same) shown, by docs a shown (h.checked a shown)))
     where
-      by : (docs : List Doc) (a : Table) → Show docs a → ((IsName n → ⊥) × (e ≡ refusal kind.BadName) × asked x []) ⊎ (IsName n × Stops (asked x) (λ _ _. ⊥) (documents_of a n) e) → Dumped (Err (Refused e)) a a
-      by docs a shown (inl (bad, is, none)) = undumped e a same (bad_dump docs e a shown bad is)
-      by docs a shown (inr (good, (js, are, inl never))) = absurd never
-      by docs a shown (inr (good, (js, are, inr (took, inl d)))) = undumped e a same (denied_dump docs e a shown good d)
-      by docs a shown (inr (good, (js, are, inr (took, inr h)))) = undumped e a same (without_tree docs e a good h)
+      by : (docs : List Doc) (a : Table) → Show docs a → ((IsName n → ⊥) × (e ≡ refusal kind.BadName)) ⊎ (IsName n × (IsDenied e ⊎ (trees_reply (trees_of 0 (documents_of a n)) ≡ refused e.kind e.document))) → Dumped (Err (Refused e)) a a
+      by docs a shown (inl (bad, is)) = undumped e a same (bad_dump docs e a shown bad is)
+      by docs a shown (inr (good, inl d)) = undumped e a same (denied_dump docs e a shown good d)
+      by docs a shown (inr (good, inr h)) = undumped e a same (without_tree docs e a good h)
 
-  module _ {T U N : Type 0} (s t u : Connected) (asked : T → List Data → Type 0) (x : T) (name : U → N) (failed : U → Bool) (count : U → ℕ) (first : N) where
+  module _ {U N : Type 0} (s t u : Connected) (name : U → N) (failed : U → Bool) (count : U → ℕ) (first : N) where
     -- what the printer took: its output is the one that it had, and no write failed
     abbrev Printed : U → List Data → Type 0
     Printed y js = (first ≡ name y) × (failed y ≡ false) × (count y ≡ old.failures)
@@ -110,8 +109,8 @@ module _ (n : List ℕ) (texts : List (List ℕ)) (f : Feed) (old new : Tally) w
     Stopped y js e = (first ≡ name y) × IsFault kind.Writer old.failures (count y) e
 
     -- all trees were printed
-    pub dumped : (y : U) → Moves s t (HandsTrees asked (λ _ _ _. ⊥) n (Ok x)) → Moves t u (HandsTrees Printed Stopped n (Ok y)) → (first ≡ name y → new.failures ≡ count y) → Moves s u (Comes (Dumped (Ok tt)))
-    dumped y m k back = moved_twice s t u (HandsTrees asked (λ _ _ _. ⊥) n (Ok x)) (HandsTrees Printed Stopped n (Ok y)) (Comes (Dumped (Ok tt))) m k (λ docs mid after h l a shown.
+    pub dumped : (y : U) → Moves s t (ChecksTrees n (Ok tt)) → Moves t u (HandsTrees Printed Stopped n (Ok y)) → (first ≡ name y → new.failures ≡ count y) → Moves s u (Comes (Dumped (Ok tt)))
+    dumped y m k back = moved_twice s t u (ChecksTrees n (Ok tt)) (HandsTrees Printed Stopped n (Ok y)) (Comes (Dumped (Ok tt))) m k (λ docs mid after h l a shown.
         let here : Show mid a = subst (λ d. Show d a) (sym h.same) shown in
         let r = l.handed a here in (
           a,
@@ -120,13 +119,13 @@ module _ (n : List ℕ) (texts : List (List ℕ)) (f : Feed) (old new : Tally) w
         ))
 
     -- not all were
-    pub not_dumped : (y : U) (e : StoreError) → Moves s t (HandsTrees asked (λ _ _ _. ⊥) n (Ok x)) → Moves t u (HandsTrees Printed Stopped n (Err (e, y))) → (first ≡ name y → new.failures ≡ count y) → Moves s u (Comes (Dumped (Err (Refused e))))
-    not_dumped y e m k back = moved_twice s t u (HandsTrees asked (λ _ _ _. ⊥) n (Ok x)) (HandsTrees Printed Stopped n (Err (e, y))) (Comes (Dumped (Err (Refused e)))) m k (λ docs mid after h l a shown.
+    pub not_dumped : (y : U) (e : StoreError) → Moves s t (ChecksTrees n (Ok tt)) → Moves t u (HandsTrees Printed Stopped n (Err (e, y))) → (first ≡ name y → new.failures ≡ count y) → Moves s u (Comes (Dumped (Err (Refused e))))
+    not_dumped y e m k back = moved_twice s t u (ChecksTrees n (Ok tt)) (HandsTrees Printed Stopped n (Err (e, y))) (Comes (Dumped (Err (Refused e)))) m k (λ docs mid after h l a shown.
         let here : Show mid a = subst (λ d. Show d a) (sym h.same) shown in
-        let r = h.handed a shown in
+        let r = h.checked a shown in
         (a, subst (λ d. Show d a) (sym l.same) here, by mid a here r.0 r.1 (l.handed a here)))
       where
-        by : (docs : List Doc) (a : Table) → Show docs a → IsName n → TakesAll (asked x) (documents_of a n) → ((IsName n → ⊥) × (e ≡ refusal kind.BadName) × Printed y []) ⊎ (IsName n × Stops (Printed y) (Stopped y) (documents_of a n) e) → Dumped (Err (Refused e)) a a
+        by : (docs : List Doc) (a : Table) → Show docs a → IsName n → (js : List Data) × (trees_of 0 (documents_of a n) ≡ Ok js) → ((IsName n → ⊥) × (e ≡ refusal kind.BadName) × Printed y []) ⊎ (IsName n × Stops (Printed y) (Stopped y) (documents_of a n) e) → Dumped (Err (Refused e)) a a
         by docs a shown good all (inl (bad, is, none)) = absurd (bad good)
         by docs a shown good all (inr (named, (js, are, inl (same, why)))) =
             let fails : IsFault kind.Writer old.failures new.failures e = subst (λ (m : ℕ). IsFault kind.Writer old.failures m e) (sym (back same)) why in

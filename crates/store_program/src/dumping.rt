@@ -7,20 +7,6 @@ use bson_store::{ErrorKind, Sink, StoreError, TakeJson};
 use serde_json::Value;
 use std::alloc::Global;
 
-/// Lets the trees go: what is asked of them is whether there are any.
-#[derive(Clone, Copy, Drop)]
-pub struct Judge;
-
-impl TakeJson for Judge {
-    ghost took = { λ _ _ _. Unit {0} };
-
-    ghost refused = { λ _ _ _ _. ⊥ };
-
-    fn take(&mut self, _tree: Value) -> Result<(), StoreError> {
-        Ok(())
-    }
-}
-
 /// Prints the trees, one a line, until that fails.
 #[derive(Drop)]
 pub struct Printer<'w, O: Sink> {

@@ -9,7 +9,7 @@ ghost use Rattle.store_program.specs.Execute.{Comes, Executed, Performs, SilentU
 ghost use Rattle.bson_base.specs.Device.{Feed};
 
 use crate::answer::{Answer, documents, names, number, tree};
-use crate::dumping::{Judge, Printer};
+use crate::dumping::Printer;
 use crate::stop::{Stop, USAGE};
 use crate::texts::{filter_of, id_of, mode_of};
 use bson_store::{Sink, Store};
@@ -101,7 +101,7 @@ pub fn dump<S: Alter + Drop, O: Sink>(
     if !words.is_empty() {
         return Err(USAGE);
     }
-    if let Err((error, _)) = store.each_json(name, Judge) {
+    if let Err(error) = store.check_json(name) {
         return Err(Stop::Refused(error));
     }
     let printer = Printer {
