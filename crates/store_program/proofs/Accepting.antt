@@ -1,35 +1,31 @@
 -- What a refused call leaves, and calls of the store as commands of the program.
 use Rattle.std.proofs.Common.{◌≡◌, inl, inr, ℕ, List, [], ◌∷◌, ◌++◌, Option, Some, None, Result, Ok, Err, MatchOption, IsSomeAnd, refl, sym, ap, ◌∙◌, subst}
-use Rattle.std.specs.List.{flat_map}
-use Rattle.bson_base.specs.Device.{Tally}
 use Rattle.sqlite.specs.State.{State as Connected}
 use Rattle.serde_json.specs.Data.{Data}
 use Rattle.bson_base.specs.Value.{Value, Members, look_up, put}
-use Rattle.bson_bytes.specs.Encode.{encode}
 use Rattle.bson_meaning.specs.Meaning.{norm_in_order}
+use Rattle.bson_table.specs.Rows.{Doc}
 use Rattle.bson_table.specs.Moves.{Moves}
+use Rattle.bson_store.specs.Shown.{Show}
 use Rattle.store_laws.specs.Reading.{Documents, Reading, readable, unreadable, ReadsTree}
-use Rattle.store_laws.specs.State.{State, id_key, store, Call, insert, replace, set, unset, remove, get_raw, get_json, find, count, project, import, export, dump, Command, on, collections, Reply, done, bytes, json_list, refused, trees_reply, refusal_of, first_refusal, When, Refuses, Appends, AtId, PutsBack, Answers, IsTaken, Step}
+use Rattle.store_laws.specs.State.{State, id_key, store, Call, insert, replace, set, unset, remove, get_raw, get_json, find, count, project, import, export, dump, Command, on, collections, Reply, done, refused, refusal_of, first_refusal, When, Refuses, Appends, AtId, PutsBack, Answers, IsTaken, Step}
 use Rattle.store_laws.specs.Run.{Denial, Turn}
-use Rattle.store_laws.specs.Table.{Table, state_of, documents_of, IsRefusal, Serves}
+use Rattle.store_laws.specs.Table.{Table, state_of, IsRefusal, Serves}
 use Rattle.store_laws.specs.declared.error.ErrorKind.{ErrorKind}
-use Rattle.store_laws.specs.declared.error.ErrorKind.TheVariants.{DuplicateId, NotFound}
+use Rattle.store_laws.specs.declared.error.ErrorKind.TheVariants.{DuplicateId, Memory, NotFound}
 use Rattle.store_laws.proofs.Rows.{rows_not_empty}
 use Rattle.store_laws.proofs.States.{stored_again}
 use Rattle.store_laws.proofs.Unmoved.{unmoved}
-use Rattle.bson_store.specs.Shown.{Show}
 use Rattle.bson_store.specs.Calls.{Does, DoesTree}
-use Rattle.bson_store.specs.Dump.{HandsTrees}
-use Rattle.bson_store.specs.Export.{SendsCollection}
-use Rattle.bson_store.specs.Refusals.{reply_by}
+use Rattle.bson_store.specs.Refusals.{refusal, reply_by}
 use Rattle.bson_store.specs.declared.error.StoreError.{StoreError}
-use Rattle.bson_store.proofs.Moving.{moved, moved_twice}
-use Rattle.bson_store.proofs.Serving.{stay}
+use Rattle.bson_store.proofs.Moving.{moved, rests}
 use Rattle.store_program.specs.Answers.{answer_by}
-use Rattle.store_program.specs.Execute.{Performs, Prints}
+use Rattle.store_program.specs.Execute.{IsRefusedBy, Performs, StopsFor}
 use Rattle.store_program.specs.declared.answer.Answer.{Answer}
 use Rattle.store_program.specs.declared.stop.Stop.{Stop}
-use Rattle.store_program.specs.declared.stop.Stop.TheVariants.{Refused}
+use Rattle.store_program.specs.declared.stop.Stop.TheVariants.{Refused, Words}
+use Rattle.store_words.specs.declared.lines.Complaint.{Complaint}
 
 -- ---- a refused call leaves the list
 
@@ -104,47 +100,47 @@ rows_stay a b c k i (o, (turn, follows, may)) = unmoved a b follows (turn_stays 
 
 -- ---- commands of the program
 
--- a call of the store, as it was answered
-asked : {A : Type 0} (s t : Connected) (Meant : Command → Type 0) (c : Command) (f : A → Reply) (g : A → Answer) (outcome : Result A StoreError) → Meant c → ((x : A) → IsRefusal (f x) → ⊥)
-    → Moves s t (Does c (reply_by f outcome)) → Moves s t (Performs Meant (answer_by g outcome))
-asked s t Meant c f g (Ok x) meant accepts m = moved s t (Does c (f x)) (Performs Meant (Ok (g x))) m (λ docs after h a shown. let y = h a shown in (y.0, y.1, (c, meant, f x, accepts x, y.2)))
-asked s t Meant c f g (Err e) meant accepts m =
-    moved s t (Does c (refused e.kind e.document)) (Performs Meant (Err (Refused e))) m (λ docs after h a shown. let y = h a shown in (y.0, y.1, rows_stay a y.0 c e.kind e.document y.2))
+-- a command that was refused leaves the table
+pub refused_same : (Meant : Command → Type 0) (e : StoreError) (a b : Table) (c : Command) → Meant c → Serves a c (refused e.kind e.document) b → (b ≡ a) × IsRefusedBy Meant e a
+refused_same Meant e a b c meant h = let same = rows_stay a b c e.kind e.document h in (same, (c, meant, subst (λ t. Serves a c (refused e.kind e.document) t) same h))
 
-pub performs : {A : Type 0} (s t : Connected) (Meant : Command → Type 0) (c : Command) (f : A → Reply) (g : A → Answer) (outcome : Result A StoreError) (result : Result Answer Stop) → Meant c
-    → ((x : A) → IsRefusal (f x) → ⊥) → result ≡ answer_by g outcome → Moves s t (Does c (reply_by f outcome)) → Moves s t (Performs Meant result)
-performs s t Meant c f g outcome result meant accepts is m = subst (λ p. Moves s t (Performs Meant p)) (sym is) (asked s t Meant c f g outcome meant accepts m)
+pub served_same : (docs : List Doc) (a : Table) (c : Command) (k : ErrorKind) (i : Option ℕ) → (b : Table) × Show docs b × Serves a c (refused k i) b → Serves a c (refused k i) a
+served_same docs a c k i (b, shown, h) = subst (λ t. Serves a c (refused k i) t) (rows_stay a b c k i h) h
+
+-- nothing was asked of the store
+abbrev pub Stopped : (Complaint → Type 0) → Stop → Type 0
+Stopped Unread (Words w) = Unread w
+Stopped Unread (Refused e) = e ≡ refusal Memory
+
+pub unasked : (s : Connected) (Meant : Command → Type 0) (Unread : Complaint → Type 0) (stop : Stop) → Stopped Unread stop → Moves s s (Performs Meant Unread (Err stop))
+unasked s Meant Unread (Words w) h = rests s (Performs Meant Unread (Err (Words w))) (λ docs a shown. (a, shown, (refl, h)))
+unasked s Meant Unread (Refused e) h = rests s (Performs Meant Unread (Err (Refused e))) (λ docs a shown. (a, shown, (refl, inr h)))
+
+-- a text isn't such
+pub unread : (s : Connected) (Meant : Command → Type 0) (Unread : Complaint → Type 0) (w : Complaint) (Text : Type 0) (stop : Stop) → (Text → Unread w) → StopsFor w Text stop → Moves s s (Performs Meant Unread (Err stop))
+unread s Meant Unread w Text (Words c) says h = unasked s Meant Unread (Words c) (subst Unread (sym h.0) (says h.1))
+unread s Meant Unread w Text (Refused e) says h = unasked s Meant Unread (Refused e) h
+
+-- a call of the store, as it was answered
+asked : {A : Type 0} (s t : Connected) (Meant : Command → Type 0) (Unread : Complaint → Type 0) (c : Command) (f : A → Reply) (g : A → Answer) (outcome : Result A StoreError) → Meant c → ((x : A) → IsRefusal (f x) → ⊥)
+    → Moves s t (Does c (reply_by f outcome)) → Moves s t (Performs Meant Unread (answer_by g outcome))
+asked s t Meant Unread c f g (Ok x) meant accepts m = moved s t (Does c (f x)) (Performs Meant Unread (Ok (g x))) m (λ docs after h a shown. let y = h a shown in (y.0, y.1, (c, meant, f x, accepts x, y.2)))
+asked s t Meant Unread c f g (Err e) meant accepts m =
+    moved s t (Does c (refused e.kind e.document)) (Performs Meant Unread (Err (Refused e))) m (λ docs after h a shown. let y = h a shown in let same = refused_same Meant e a y.0 c meant y.2 in (y.0, y.1, (same.0, inl same.1)))
+
+pub performs : {A : Type 0} (s t : Connected) (Meant : Command → Type 0) (Unread : Complaint → Type 0) (c : Command) (f : A → Reply) (g : A → Answer) (outcome : Result A StoreError) (result : Result Answer Stop) → Meant c
+    → ((x : A) → IsRefusal (f x) → ⊥) → result ≡ answer_by g outcome → Moves s t (Does c (reply_by f outcome)) → Moves s t (Performs Meant Unread result)
+performs s t Meant Unread c f g outcome result meant accepts is m = subst (λ p. Moves s t (Performs Meant Unread p)) (sym is) (asked s t Meant Unread c f g outcome meant accepts m)
 
 -- the same of a call with a tree
-tree_asked : {A : Type 0} (s t : Connected) (Meant : Command → Type 0) (n : List ℕ) (call : Reading → Call) (j : Data) (f : A → Reply) (g : A → Answer) (outcome : Result A StoreError)
-    → ((x : Reading) → ReadsTree j x → Meant (on n (call x))) → ((x : A) → IsRefusal (f x) → ⊥) → Moves s t (DoesTree n call j (reply_by f outcome)) → Moves s t (Performs Meant (answer_by g outcome))
-tree_asked s t Meant n call j f g (Ok x) meant accepts m =
-    moved s t (DoesTree n call j (f x)) (Performs Meant (Ok (g x))) m (λ docs after h a shown. let y = h.2 a shown in (y.0, y.1, (on n (call h.0), meant h.0 h.1, f x, accepts x, y.2)))
-tree_asked s t Meant n call j f g (Err e) meant accepts m =
-    moved s t (DoesTree n call j (refused e.kind e.document)) (Performs Meant (Err (Refused e))) m (λ docs after h a shown. let y = h.2 a shown in (y.0, y.1, rows_stay a y.0 (on n (call h.0)) e.kind e.document y.2))
+tree_asked : {A : Type 0} (s t : Connected) (Meant : Command → Type 0) (Unread : Complaint → Type 0) (n : List ℕ) (call : Reading → Call) (j : Data) (f : A → Reply) (g : A → Answer) (outcome : Result A StoreError)
+    → ((x : Reading) → ReadsTree j x → Meant (on n (call x))) → ((x : A) → IsRefusal (f x) → ⊥) → Moves s t (DoesTree n call j (reply_by f outcome)) → Moves s t (Performs Meant Unread (answer_by g outcome))
+tree_asked s t Meant Unread n call j f g (Ok x) meant accepts m =
+    moved s t (DoesTree n call j (f x)) (Performs Meant Unread (Ok (g x))) m (λ docs after h a shown. let y = h.2 a shown in (y.0, y.1, (on n (call h.0), meant h.0 h.1, f x, accepts x, y.2)))
+tree_asked s t Meant Unread n call j f g (Err e) meant accepts m =
+    moved s t (DoesTree n call j (refused e.kind e.document)) (Performs Meant Unread (Err (Refused e))) m
+    (λ docs after h a shown. let y = h.2 a shown in let same = refused_same Meant e a y.0 (on n (call h.0)) (meant h.0 h.1) y.2 in (y.0, y.1, (same.0, inl same.1)))
 
-pub tree_performs : {A : Type 0} (s t : Connected) (Meant : Command → Type 0) (n : List ℕ) (call : Reading → Call) (j : Data) (f : A → Reply) (g : A → Answer) (outcome : Result A StoreError) (result : Result Answer Stop)
-    → ((x : Reading) → ReadsTree j x → Meant (on n (call x))) → ((x : A) → IsRefusal (f x) → ⊥) → result ≡ answer_by g outcome → Moves s t (DoesTree n call j (reply_by f outcome)) → Moves s t (Performs Meant result)
-tree_performs s t Meant n call j f g outcome result meant accepts is m = subst (λ p. Moves s t (Performs Meant p)) (sym is) (tree_asked s t Meant n call j f g outcome meant accepts m)
-
--- an export went out, or was refused
-pub sent : (s t : Connected) (Meant : Command → Type 0) (n : List ℕ) (old new : Tally) → Meant (on n export) → Moves s t (SendsCollection n old new (Ok tt)) → Moves s t (Prints Meant (Ok tt))
-sent s t Meant n old new meant m = moved s t (SendsCollection n old new (Ok tt)) (Prints Meant (Ok tt)) m (λ docs after h a shown. let out = bytes (flat_map encode (documents_of a n)) in (
-  a,
-  subst (λ d. Show d a) (sym h.same) shown,
-  (on n export, meant, out, (λ no. no), stay a n export out (h.exports a shown).0 (refl, refl)),
-))
-
-pub not_sent : (s t : Connected) (Meant : Command → Type 0) (n : List ℕ) (old new : Tally) (e : StoreError) → Moves s t (SendsCollection n old new (Err e)) → Moves s t (Prints Meant (Err (Refused e)))
-not_sent s t Meant n old new e m = moved s t (SendsCollection n old new (Err e)) (Prints Meant (Err (Refused e))) m (λ docs after h a shown. (a, subst (λ d. Show d a) (sym h.same) shown, inl refl))
-
--- the trees of a list were asked for, and then all printed
-pub dumped : {T U : Type 0} (s t u : Connected) (Meant : Command → Type 0) (n : List ℕ) (asked : T → List Data → Type 0) (printed : U → List Data → Type 0) (P : T → List Data → StoreError → Type 0) (Q : U → List Data → StoreError → Type 0) (x : T) (y : U)
-    → Meant (on n dump) → Moves s t (HandsTrees asked P n (Ok x)) → Moves t u (HandsTrees printed Q n (Ok y)) → Moves s u (Prints Meant (Ok tt))
-dumped s t u Meant n asked printed P Q x y meant m k = moved_twice s t u (HandsTrees asked P n (Ok x)) (HandsTrees printed Q n (Ok y)) (Prints Meant (Ok tt)) m k (λ docs mid after h l a shown.
-    let here : Show mid a = subst (λ d. Show d a) (sym h.same) shown in
-    let r = l.handed a here in (
-      a,
-      subst (λ d. Show d a) (sym l.same) here,
-      (on n dump, meant, json_list r.1.0, (λ no. no), stay a n dump (json_list r.1.0) r.0 (sym (ap trees_reply r.1.1), refl)),
-    ))
+pub tree_performs : {A : Type 0} (s t : Connected) (Meant : Command → Type 0) (Unread : Complaint → Type 0) (n : List ℕ) (call : Reading → Call) (j : Data) (f : A → Reply) (g : A → Answer) (outcome : Result A StoreError) (result : Result Answer Stop)
+    → ((x : Reading) → ReadsTree j x → Meant (on n (call x))) → ((x : A) → IsRefusal (f x) → ⊥) → result ≡ answer_by g outcome → Moves s t (DoesTree n call j (reply_by f outcome)) → Moves s t (Performs Meant Unread result)
+tree_performs s t Meant Unread n call j f g outcome result meant accepts is m = subst (λ p. Moves s t (Performs Meant Unread p)) (sym is) (tree_asked s t Meant Unread n call j f g outcome meant accepts m)

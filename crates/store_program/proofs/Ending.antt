@@ -1,52 +1,87 @@
 -- The ends of a command.
 use Rattle.std.proofs.Common.{◌≡◌, inl, inr, ℕ, List, Result, Ok, Err, refl, sym, subst}
 use Rattle.sqlite.specs.State.{State as Connected}
+use Rattle.bson_base.specs.Device.{Feed, Tally}
 use Rattle.bson_table.specs.Moves.{Moves}
 use Rattle.store_laws.specs.State.{Command}
 use Rattle.store_laws.specs.Table.{Table}
+use Rattle.store_laws.specs.declared.error.ErrorKind.TheVariants.{Memory, Reader, Writer}
+use Rattle.bson_store.specs.Refusals.{refusal}
 use Rattle.bson_store.specs.declared.error.StoreError.{StoreError}
 use Rattle.bson_store.proofs.Moving.{moved}
 use Rattle.store_words.specs.declared.call.Call.{Call}
 use Rattle.store_words.specs.declared.lines.Complaint.{Complaint}
-use Rattle.store_program.specs.Commands.{IsCommandOf}
-use Rattle.store_program.specs.Execute.{Performs, Printed, Prints, Tells, Executes}
+use Rattle.store_program.specs.Commands.{AsksFor, Complains, IsCommandOf, IsUnread}
+use Rattle.store_program.specs.Execute.{Accepts, Comes, Executed, IsFault, Performed, Performs, PerformsFed, Sends, Tells}
 use Rattle.store_program.specs.declared.answer.Answer.{Answer}
 use Rattle.store_program.specs.declared.stop.Stop.{Stop}
 use Rattle.store_program.specs.declared.stop.Stop.TheVariants.{Words, Refused}
+use Rattle.store_program.proofs.Failing.{no_fault, fault, other_fault}
+use Rattle.store_program.proofs.Told.{IsReadCommand, no_device}
+use Rattle.store_program.proofs.Readable.{command_read}
 
-undone : (Meant : Command → Type 0) (e : Stop) (a b : Table) → b ≡ a → Printed Meant (Err e) a b
-undone Meant (Refused e) a b h = inl h
-undone Meant (Words w) a b h = h
+module _ (call : Call) (n : List ℕ) (texts : List (List ℕ)) (fed left : Feed) (old new : Tally) (Meant : Command → Type 0) (Fault : StoreError → Type 0) (Unread : Complaint → Type 0)
+    (asks : (c : Command) → Meant c → AsksFor call n texts fed left c) (reads : (c : Command) → Meant c → IsReadCommand c) (quiet : (c : Command) → Meant c → left.failures ≡ fed.failures)
+    (faults : (e : StoreError) → Fault e → IsFault Reader fed.failures left.failures e) (complains : (w : Complaint) → Unread w → Complains call texts fed left w × (left.failures ≡ fed.failures)) where
+  accepted : (a b : Table) → Accepts Meant a b → Accepts (AsksFor call n texts fed left) a b
+  accepted a b (c, meant, r, served, serves) = (c, asks c meant, r, served, serves)
 
--- what was done is told, or that is refused
-pub told_prints : (s t : Connected) (Meant : Command → Type 0) (outcome : Result Answer Stop) (result : Result (Unit {0}) Stop) → Tells outcome result → Moves s t (Performs Meant outcome) → Moves s t (Prints Meant result)
-told_prints s t Meant (Ok x) result (inl is) m = moved s t (Performs Meant (Ok x)) (Prints Meant result) m (λ docs after h. subst (λ r. Prints Meant r docs after) (sym is) h)
-told_prints s t Meant (Ok x) result (inr (e, is)) m =
-    moved s t (Performs Meant (Ok x)) (Prints Meant result) m (λ docs after h a shown. let y = h a shown in (y.0, y.1, subst (λ r. Printed Meant r a y.0) (sym is) (inr y.2)))
-told_prints s t Meant (Err e) result is m =
-    moved s t (Performs Meant (Err e)) (Prints Meant result) m (λ docs after h a shown. let y = h a shown in (y.0, y.1, subst (λ r. Printed Meant r a y.0) (sym is) (undone Meant e a y.0 y.2)))
+  ended : (outcome : Result Answer Stop) (result : Result (Unit {0}) Stop) (a b : Table) → Sends call n old new result a → Tells outcome result old.failures new.failures
+      → Performed Meant Fault Unread outcome a b → Executed call n texts fed left old new result a b
+  ended (Ok x) result a b sent (inl (is, same)) h = subst (λ r. Executed call n texts fed left old new r a b) (sym is) (record {
+    ended = accepted a b h;
+    reader = quiet h.0 h.1;
+    writer = same;
+    sent = subst (λ r. Sends call n old new r a) is sent;
+  })
+  ended (Ok x) result a b sent (inr (e, is, why)) h = subst (λ r. Executed call n texts fed left old new r a b) (sym is) (record {
+    ended = inr (why, accepted a b h);
+    reader = other_fault Writer Reader e old.failures new.failures fed.failures left.failures tt (λ x. cc) why (quiet h.0 h.1);
+    writer = fault Writer e old.failures new.failures tt why;
+    sent = subst (λ r. Sends call n old new r a) is sent;
+  })
+  ended (Err (Refused e)) result a b sent (is, same) (stays, inl (c, meant, serves)) = subst (λ r. Executed call n texts fed left old new r a b) (sym is) (record {
+    ended = inl (stays, inl (c, asks c meant, serves));
+    reader = no_fault Reader e fed.failures left.failures tt (no_device a a c e.kind e.document (reads c meant) serves) (quiet c meant);
+    writer = no_fault Writer e old.failures new.failures tt (no_device a a c e.kind e.document (reads c meant) serves) same;
+    sent = subst (λ r. Sends call n old new r a) is sent;
+  })
+  ended (Err (Refused e)) result a b sent (is, same) (stays, inr why) = subst (λ r. Executed call n texts fed left old new r a b) (sym is) (record {
+    ended = inl (stays, inr (faults e why));
+    reader = fault Reader e fed.failures left.failures tt (faults e why);
+    writer = other_fault Reader Writer e fed.failures left.failures old.failures new.failures tt (λ x. cc) (faults e why) same;
+    sent = subst (λ r. Sends call n old new r a) is sent;
+  })
+  ended (Err (Words w)) result a b sent (is, same) (stays, says) = subst (λ r. Executed call n texts fed left old new r a b) (sym is) (record {
+    ended = (stays, (complains w says).0);
+    reader = (complains w says).1;
+    writer = same;
+    sent = subst (λ r. Sends call n old new r a) is sent;
+  })
 
--- by the call of the words
-pub told_asked : (s t : Connected) (call asked : Call) (n : List ℕ) (texts : List (List ℕ)) (outcome : Result Answer Stop) (result : Result (Unit {0}) Stop) → asked ≡ call → Tells outcome result
-    → Moves s t (Performs (IsCommandOf call n texts) outcome) → Moves s t (Prints (IsCommandOf asked n texts) result)
-told_asked s t call asked n texts outcome result is told m = subst (λ x. Moves s t (Prints (IsCommandOf x n texts) result)) (sym is) (told_prints s t (IsCommandOf call n texts) outcome result told m)
+  ended_moves : (s t : Connected) (outcome : Result Answer Stop) (result : Result (Unit {0}) Stop) → ((a : Table) → Sends call n old new result a) → Tells outcome result old.failures new.failures
+      → Moves s t (Comes (Performed Meant Fault Unread outcome)) → Moves s t (Comes (Executed call n texts fed left old new result))
+  ended_moves s t outcome result sent tells m = moved s t (Comes (Performed Meant Fault Unread outcome)) (Comes (Executed call n texts fed left old new result)) m
+      (λ docs after h a shown. let y = h a shown in (y.0, y.1, ended outcome result a y.0 (sent a) tells y.2))
 
-pub as_asked : (s t : Connected) (call asked : Call) (n : List ℕ) (texts : List (List ℕ)) (result : Result (Unit {0}) Stop) → asked ≡ call → Moves s t (Prints (IsCommandOf call n texts) result) → Moves s t (Prints (IsCommandOf asked n texts) result)
-as_asked s t call asked n texts result is m = subst (λ x. Moves s t (Prints (IsCommandOf x n texts) result)) (sym is) m
+-- a command that reads no input
+pub told_asked : (s t : Connected) (call asked : Call) (n : List ℕ) (texts : List (List ℕ)) (f : Feed) (old new : Tally) (outcome : Result Answer Stop) (result : Result (Unit {0}) Stop) → asked ≡ call
+    → ((c : Command) → IsCommandOf call n texts c → AsksFor call n texts f f c) → ((w : Complaint) → IsUnread call texts w → Complains call texts f f w) → ((a : Table) → Sends call n old new result a)
+    → Tells outcome result old.failures new.failures → Moves s t (Performs (IsCommandOf call n texts) (IsUnread call texts) outcome) → Moves s t (Comes (Executed asked n texts f f old new result))
+told_asked s t call asked n texts f old new outcome result is asks complains sent tells m =
+    subst (λ x. Moves s t (Comes (Executed x n texts f f old new result))) (sym is)
+    (ended_moves call n texts f f old new (IsCommandOf call n texts) (λ e. e ≡ refusal Memory) (IsUnread call texts) asks (command_read call n texts) (λ c meant. refl) (λ e why. inr (why, refl)) (λ w says. (complains w says, refl)) s t outcome result sent tells m)
 
--- ---- by the status
+-- one that does
+pub fed_asked : (s t : Connected) (call asked : Call) (n : List ℕ) (texts : List (List ℕ)) (fed left : Feed) (old new : Tally) (outcome : Result Answer Stop) (result : Result (Unit {0}) Stop) → asked ≡ call
+    → ((c : Command) → AsksFor call n texts fed left c → IsReadCommand c) → ((c : Command) → AsksFor call n texts fed left c → left.failures ≡ fed.failures)
+    → ((w : Complaint) → Complains call texts fed left w → left.failures ≡ fed.failures) → ((a : Table) → Sends call n old new result a)
+    → Tells outcome result old.failures new.failures → Moves s t (PerformsFed (AsksFor call n texts fed left) (Complains call texts fed left) fed left outcome) → Moves s t (Comes (Executed asked n texts fed left old new result))
+fed_asked s t call asked n texts fed left old new outcome result is reads quiet hush sent tells m =
+    subst (λ x. Moves s t (Comes (Executed x n texts fed left old new result))) (sym is)
+    (ended_moves call n texts fed left old new (AsksFor call n texts fed left) (IsFault Reader fed.failures left.failures) (Complains call texts fed left) (λ c h. h) reads quiet (λ e why. why) (λ w says. (says, hush w says)) s t outcome result sent tells m)
 
-pub with_0 : (s t : Connected) (Meant : Command → Type 0) → Moves s t (Prints Meant (Ok tt)) → Moves s t (Executes Meant 0)
-with_0 s t Meant m = moved s t (Prints Meant (Ok tt)) (Executes Meant 0) m (λ docs after h a shown. let y = h a shown in (y.0, y.1, inl (refl, y.2)))
-
-refused_1 : (s t : Connected) (Meant : Command → Type 0) (e : StoreError) → Moves s t (Prints Meant (Err (Refused e))) → Moves s t (Executes Meant 1)
-refused_1 s t Meant e m = moved s t (Prints Meant (Err (Refused e))) (Executes Meant 1) m (λ docs after h a shown. let y = h a shown in (y.0, y.1, inr (inl (refl, y.2))))
-
-pub with_1 : (s t : Connected) (Meant : Command → Type 0) (stop : Stop) (e : StoreError) → stop ≡ Refused e → Moves s t (Prints Meant (Err stop)) → Moves s t (Executes Meant 1)
-with_1 s t Meant stop e is m = refused_1 s t Meant e (subst (λ x. Moves s t (Prints Meant (Err x))) is m)
-
-unread_2 : (s t : Connected) (Meant : Command → Type 0) (w : Complaint) → Moves s t (Prints Meant (Err (Words w))) → Moves s t (Executes Meant 2)
-unread_2 s t Meant w m = moved s t (Prints Meant (Err (Words w))) (Executes Meant 2) m (λ docs after h a shown. let y = h a shown in (y.0, y.1, inr (inr (refl, y.2))))
-
-pub with_2 : (s t : Connected) (Meant : Command → Type 0) (stop : Stop) (w : Complaint) → stop ≡ Words w → Moves s t (Prints Meant (Err stop)) → Moves s t (Executes Meant 2)
-with_2 s t Meant stop w is m = unread_2 s t Meant w (subst (λ x. Moves s t (Prints Meant (Err x))) is m)
+-- one that prints for itself
+pub as_asked : (s t : Connected) (call asked : Call) (n : List ℕ) (texts : List (List ℕ)) (f : Feed) (old new : Tally) (result : Result (Unit {0}) Stop) → asked ≡ call
+    → Moves s t (Comes (Executed call n texts f f old new result)) → Moves s t (Comes (Executed asked n texts f f old new result))
+as_asked s t call asked n texts f old new result is m = subst (λ x. Moves s t (Comes (Executed x n texts f f old new result))) (sym is) m

@@ -1,5 +1,9 @@
 pub mod Accepting
 pub mod Ending
-pub mod Wording
+pub mod Failing
+pub mod Readable
+pub mod Sending
 pub mod Taking
 pub mod Telling
+pub mod Told
+pub mod Wording

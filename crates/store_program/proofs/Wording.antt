@@ -1,5 +1,6 @@
 -- The texts among the words.
-use Rattle.std.proofs.Common.{◌≡◌, ℕ, ◌<◌, ◌≤◌, List, [], ◌∷◌, length, map, get_or, Some, String, Global, string_bytes, refl, sym, ap, arith}
+use Rattle.std.proofs.Common.{◌≡◌, ◌==◌, false, inl, inr, ℕ, suc, ◌<◌, ◌≤◌, List, [], ◌∷◌, length, map, drop, get_or, Some, Err, String, Global, string_bytes, refl, sym, ap, ◌∙◌, arith}
+use Rattle.std.proofs.lemmas.List.{length-map}
 use Rattle.serde_json.specs.Data.{Data}
 use Rattle.serde_json.specs.Read.{read as tree_of}
 use Rattle.bson_base.specs.Value.{Value}
@@ -7,7 +8,10 @@ use Rattle.bson_model.specs.declared.extjson.ser.Mode.{Mode}
 use Rattle.store_laws.specs.Reading.{Reading, ReadsTree, read_value}
 use Rattle.store_laws.specs.State.{Call, on, set, get_json}
 use Rattle.store_words.specs.declared.call.Call.TheVariants as words
-use Rattle.store_program.specs.Commands.{IsIdText, IsOfTree, IsOfId, IsCommandOf, mode_of}
+use Rattle.store_words.specs.Texts.{AnswersId, AnswersText}
+use Rattle.store_words.specs.Words.{Takes, relaxed}
+use Rattle.store_words.specs.declared.texts.TextError.TheVariants.{Unreadable}
+use Rattle.store_program.specs.Commands.{IsIdText, IsNoForm, IsNoId, IsNoJson, IsOfTree, IsOfId, IsCommandOf, mode_of}
 
 one_text : (ws : List (String Global)) (a : String Global) → a ≡ get_or ws 0 a → 1 ≤ length ws → length ws < 2 → map string_bytes ws ≡ string_bytes a ∷ []
 one_text [] a e low high = absurd (omega arith)
@@ -52,3 +56,51 @@ of_set n ws a b c text key value id j d e f low high is_a is_b is_c is tree = (t
 pub of_get : (n : List ℕ) (ws forms : List (String Global)) (a : String Global) (text : List ℕ) (id : Value) (m : Mode) → ws ≡ a ∷ forms → text ≡ string_bytes a → IsIdText text id → m ≡ mode_of (map string_bytes forms)
     → IsCommandOf words.Get n (map string_bytes ws) (on n (get_json m id))
 of_get n ws forms a text id m split e is asked = (text, map string_bytes forms, id, rw (split, e) refl, is, ap (λ x. on n (get_json x id)) asked)
+
+-- ---- texts that can't be read
+
+-- the only text is no JSON text
+pub no_json : (ws : List (String Global)) (a : String Global) (text : List ℕ) → a ≡ get_or ws 0 a → 1 ≤ length ws → length ws < 2 → text ≡ string_bytes a → AnswersText text (Err Unreadable) → IsNoJson (map string_bytes ws)
+no_json ws a text d low high e none = ([], text, rw e (one_text ws a d low high), none)
+
+-- the last of three
+pub no_json_last : (ws : List (String Global)) (a b c : String Global) (text : List ℕ) → a ≡ get_or ws 0 a → b ≡ get_or ws 1 b → c ≡ get_or ws 2 c → 3 ≤ length ws → length ws < 4 → text ≡ string_bytes c → AnswersText text (Err Unreadable) → IsNoJson (map string_bytes ws)
+no_json_last ws a b c text d e f low high is none = (string_bytes a ∷ string_bytes b ∷ [], text, rw is (three_texts ws a b c d e f low high), none)
+
+-- the first text is that of no id
+pub no_id : (ws : List (String Global)) (a : String Global) (text : List ℕ) → a ≡ get_or ws 0 a → 1 ≤ length ws → length ws < 2 → text ≡ string_bytes a → AnswersId text (Err Unreadable) → IsNoId (map string_bytes ws)
+no_id ws a text d low high e none = (text, [], rw e (one_text ws a d low high), none)
+
+pub no_id_of_two : (ws : List (String Global)) (a b : String Global) (text : List ℕ) → a ≡ get_or ws 0 a → b ≡ get_or ws 1 b → 2 ≤ length ws → length ws < 3 → text ≡ string_bytes a → AnswersId text (Err Unreadable) → IsNoId (map string_bytes ws)
+no_id_of_two ws a b text d e low high is none = (text, string_bytes b ∷ [], rw is (two_texts ws a b d e low high), none)
+
+pub no_id_of_three : (ws : List (String Global)) (a b c : String Global) (text : List ℕ) → a ≡ get_or ws 0 a → b ≡ get_or ws 1 b → c ≡ get_or ws 2 c → 3 ≤ length ws → length ws < 4 → text ≡ string_bytes a → AnswersId text (Err Unreadable) → IsNoId (map string_bytes ws)
+no_id_of_three ws a b c text d e f low high is none = (text, string_bytes b ∷ string_bytes c ∷ [], rw is (three_texts ws a b c d e f low high), none)
+
+pub no_id_ahead : (ws forms : List (String Global)) (a : String Global) (text : List ℕ) → ws ≡ a ∷ forms → text ≡ string_bytes a → AnswersId text (Err Unreadable) → IsNoId (map string_bytes ws)
+no_id_ahead ws forms a text split e none = (text, map string_bytes forms, rw (split, e) refl, none)
+
+-- ---- words that are no line of the table
+
+pub other_length : (ws : List (String Global)) (k : ℕ) → (length ws ≡ k → ⊥) → length (map string_bytes ws) ≡ k → ⊥
+other_length ws k no_such is = no_such (sym (length-map ws string_bytes) ∙ is)
+
+pub not_empty : (ws : List (String Global)) → (length ws == 0) ≡ false → map string_bytes ws ≡ [] → ⊥
+not_empty [] some is = cc
+not_empty (x ∷ ws) some is = cc
+
+no_form_here : (ws forms : List (List ℕ)) (text : List ℕ) → ws ≡ text ∷ forms → IsNoForm forms → Takes words.Get ws → ⊥
+no_form_here ws forms text split bad (inl one) = bad.0 (none forms (ap (λ (l : List (List ℕ)). length l) (sym split) ∙ one))
+  where
+    none : (l : List (List ℕ)) → suc (length l) ≡ 1 → l ≡ []
+    none [] e = refl
+    none (x ∷ l) e = absurd (omega (arith, e))
+no_form_here ws forms text split bad (inr (id, is)) = bad.1 (let both : text ∷ forms ≡ id ∷ relaxed ∷ [] = sym split ∙ is in ap (drop 1) both)
+
+pub no_form : (ws forms : List (String Global)) (a : String Global) → ws ≡ a ∷ forms → IsNoForm (map string_bytes forms) → Takes words.Get (map string_bytes ws) → ⊥
+no_form ws forms a split = no_form_here (map string_bytes ws) (map string_bytes forms) (string_bytes a) (ap (map string_bytes) split)
+
+pub no_words : (ws : List (String Global)) → length ws ≡ 0 → Takes words.Get (map string_bytes ws) → ⊥
+no_words [] none (inl h) = absurd (omega (arith, h))
+no_words [] none (inr (id, h)) = cc
+no_words (x ∷ ws) none h = absurd (omega (arith, none))

@@ -7,20 +7,6 @@ use bson_store::{ErrorKind, Sink, StoreError, TakeJson};
 use serde_json::Value;
 use std::alloc::Global;
 
-/// Lets the trees go: what is asked of them is whether there are any.
-#[derive(Clone, Copy, Drop)]
-pub struct Judge;
-
-impl TakeJson for Judge {
-    ghost took = { λ _ _ _. Unit {0} };
-
-    ghost refused = { λ _ _ _ _. Unit {0} };
-
-    fn take(&mut self, _tree: Value) -> Result<(), StoreError> {
-        Ok(())
-    }
-}
-
 /// Prints the trees, one a line, until that fails.
 #[derive(Drop)]
 pub struct Printer<'w, O: Sink> {
@@ -31,9 +17,14 @@ pub struct Printer<'w, O: Sink> {
 }
 
 impl<'w, O: Sink> TakeJson for Printer<'w, O> {
-    ghost took = { λ _ _ _. Unit {0} };
+    ghost use Rattle.store_laws.specs.declared.error.ErrorKind.TheVariants.{Writer};
+    ghost use Rattle.store_program.specs.Execute.{IsFault};
 
-    ghost refused = { λ _ _ _ _. Unit {0} };
+    ghost took = { λ first p _. (first.output.ghost_name ≡ p.output.ghost_name) × (p.failed ≡ false)
+        × ((O.tally p.output.now).failures ≡ (O.tally first.output.now).failures) };
+
+    ghost refused = { λ first p _ e. (first.output.ghost_name ≡ p.output.ghost_name)
+        × IsFault Writer (O.tally first.output.now).failures (O.tally p.output.now).failures e };
 
     fn take(&mut self, tree: Value) -> Result<(), StoreError> {
         if self.failed {

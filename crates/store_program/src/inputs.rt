@@ -4,12 +4,12 @@ ghost use Rattle.std.specs.Prelude.{◌<◌, ◌^◌, ◌-◌, map, string_bytes
 ghost use Rattle.bson_table.specs.Moves.{Moves};
 ghost use Rattle.bson_store.specs.Calls.{held};
 ghost use Rattle.store_words.specs.declared.call.Call.TheVariants.{Import, Load};
-ghost use Rattle.store_program.specs.Commands.{IsCommandOf};
-ghost use Rattle.store_program.specs.Execute.{Performs};
+ghost use Rattle.store_program.specs.Commands.{Complains, IsOfLines, IsOfStream};
+ghost use Rattle.store_program.specs.Execute.{PerformsFed};
 
 use crate::answer::{Answer, number};
 use crate::stop::{Stop, USAGE};
-use crate::texts::trees_in;
+use crate::texts::judged_input;
 use bson_store::{Source, Store};
 use sqlite::Alter;
 use std::alloc::Global;
@@ -22,7 +22,8 @@ pub fn import<S: Alter + Drop, I: Source>(
     input: &mut I,
 ) -> Result<Answer, Stop>
     requires { (I.feed input.old).failures < 2 ^ 64 - 1 }
-    ensures { Moves (held S.Store store.old) (held S.Store store.new) (Performs (IsCommandOf Import name.now (map string_bytes words.now)) result) }
+    ensures { Moves (held S.Store store.old) (held S.Store store.new) (PerformsFed (IsOfStream name.now (I.feed input.old) (I.feed input.new))
+        (Complains Import (map string_bytes words.now) (I.feed input.old) (I.feed input.new)) (I.feed input.old) (I.feed input.new) result) }
 {
     if !words.is_empty() {
         return Err(USAGE);
@@ -39,11 +40,12 @@ pub fn load<S: Alter + Drop, I: Source>(
     input: &mut I,
 ) -> Result<Answer, Stop>
     requires { (I.feed input.old).failures < 2 ^ 64 - 1 }
-    ensures { Moves (held S.Store store.old) (held S.Store store.new) (Performs (IsCommandOf Load name.now (map string_bytes words.now)) result) }
+    ensures { Moves (held S.Store store.old) (held S.Store store.new) (PerformsFed (IsOfLines name.now (I.feed input.old) (I.feed input.new))
+        (Complains Load (map string_bytes words.now) (I.feed input.old) (I.feed input.new)) (I.feed input.old) (I.feed input.new) result) }
 {
     if !words.is_empty() {
         return Err(USAGE);
     }
-    let trees = trees_in(alloc, input)?;
-    number(store.load_json(name, trees))
+    let loader = judged_input(alloc, input)?;
+    number(store.load(name, loader))
 }

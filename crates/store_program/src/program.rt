@@ -1,10 +1,10 @@
 //! A command of the program, from its words to its status.
 
-ghost use Rattle.std.specs.Prelude.{◌≡◌, ◌≤◌, ◌<◌, ◌^◌, ◌-◌};
+ghost use Rattle.std.specs.Prelude.{◌≡◌, ◌≤◌, ◌<◌, ◌^◌, ◌-◌, Result};
 ghost use Rattle.bson_table.specs.Moves.{Moves};
 ghost use Rattle.bson_store.specs.Calls.{held};
-ghost use Rattle.store_program.specs.Commands.{IsAskedBy};
-ghost use Rattle.store_program.specs.Execute.{Tells, Prints, SilentUnread, WritesRefusal, WritesComplaint, Executes};
+ghost use Rattle.store_program.specs.Execute.{Executes, Reports, SilentUnread, Tells};
+ghost use Rattle.store_program.specs.declared.stop.Stop.{Stop as Outcome};
 
 use crate::answer::Answer;
 use crate::changes::{insert, remove, replace, set, unset};
@@ -20,7 +20,7 @@ use store_words::{Call, Words, write_complaint, write_refusal};
 /// Prints what a command answers. Of one that isn't done nothing is printed.
 fn told<O: Sink>(alloc: Global, outcome: Result<Answer, Stop>, output: &mut O) -> Result<(), Stop>
     requires { (O.tally output.old).failures < 2 ^ 64 - 1 }
-    ensures told { Tells outcome result }
+    ensures told { Tells outcome result (O.tally output.old).failures (O.tally output.new).failures }
     ensures unread { SilentUnread result output.old output.new }
 {
     match outcome {
@@ -42,7 +42,8 @@ fn serve<S: Alter + Drop, I: Source, O: Sink>(
 ) -> Result<(), Stop>
     requires input { (I.feed input.old).failures < 2 ^ 64 - 1 }
     requires output { (O.tally output.old).failures < 2 ^ 64 - 1 }
-    ensures step { Moves (held S.Store store.old) (held S.Store store.new) (Prints (IsAskedBy words.now) result) }
+    ensures step { Moves (held S.Store store.old) (held S.Store store.new) (Executes words.now (I.feed input.old) (I.feed input.new)
+        (O.tally output.old) (O.tally output.new) result) }
     ensures unread { SilentUnread result output.old output.new }
 {
     let name = words.coll;
@@ -84,9 +85,10 @@ pub fn execute<S: Alter + Drop, I: Source, O: Sink, F: Sink>(
     ensures status { result ≤ 2 }
     ensures silent { result ≡ 0 → faults.new ≡ faults.old }
     ensures unread { result ≡ 2 → output.new ≡ output.old }
-    ensures refusal { result ≡ 1 → WritesRefusal (F.tally faults.old) (F.tally faults.new) }
-    ensures complaint { result ≡ 2 → WritesComplaint (F.tally faults.old) (F.tally faults.new) }
-    ensures step { Moves (held S.Store store.old) (held S.Store store.new) (Executes (IsAskedBy words.now) result) }
+    // What was done, and that just this is reported: the refusal of the command's own step, or of a device exactly if that failed.
+    ensures step { (outcome : Result (Unit {0}) Outcome) × Reports outcome result (F.tally faults.old) (F.tally faults.new)
+        × Moves (held S.Store store.old) (held S.Store store.new) (Executes words.now (I.feed input.old) (I.feed input.new)
+        (O.tally output.old) (O.tally output.new) outcome) }
 {
     match serve(alloc, store, words, input, output) {
         Ok(()) => 0,

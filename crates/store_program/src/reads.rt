@@ -4,11 +4,12 @@ ghost use Rattle.std.specs.Prelude.{◌<◌, ◌^◌, ◌-◌, map, string_bytes
 ghost use Rattle.bson_table.specs.Moves.{Moves};
 ghost use Rattle.bson_store.specs.Calls.{held};
 ghost use Rattle.store_words.specs.declared.call.Call.TheVariants.{Get, Find, Count, Export, Dump, Collections};
-ghost use Rattle.store_program.specs.Commands.{IsCommandOf};
-ghost use Rattle.store_program.specs.Execute.{Performs, Prints, SilentUnread};
+ghost use Rattle.store_program.specs.Commands.{IsCommandOf, IsUnread};
+ghost use Rattle.store_program.specs.Execute.{Comes, Executed, Performs, SilentUnread};
+ghost use Rattle.bson_base.specs.Device.{Feed};
 
 use crate::answer::{Answer, documents, names, number, tree};
-use crate::dumping::{Judge, Printer};
+use crate::dumping::Printer;
 use crate::stop::{Stop, USAGE};
 use crate::texts::{filter_of, id_of, mode_of};
 use bson_store::{Sink, Store};
@@ -22,7 +23,7 @@ pub fn get<S: Alter + Drop>(
     name: &str,
     words: &[String],
 ) -> Result<Answer, Stop>
-    ensures { Moves (held S.Store store.old) (held S.Store store.new) (Performs (IsCommandOf Get name.now (map string_bytes words.now)) result) }
+    ensures { Moves (held S.Store store.old) (held S.Store store.new) (Performs (IsCommandOf Get name.now (map string_bytes words.now)) (IsUnread Get (map string_bytes words.now)) result) }
 {
     let Some((id, form)) = words.split_first() else {
         return Err(USAGE);
@@ -40,7 +41,7 @@ pub fn export<S: Alter + Drop, O: Sink>(
     output: &mut O,
 ) -> Result<(), Stop>
     requires { (O.tally output.old).failures < 2 ^ 64 - 1 }
-    ensures step { Moves (held S.Store store.old) (held S.Store store.new) (Prints (IsCommandOf Export name.now (map string_bytes words.now)) result) }
+    ensures step { (f : Feed) → Moves (held S.Store store.old) (held S.Store store.new) (Comes (Executed Export name.now (map string_bytes words.now) f f (O.tally output.old) (O.tally output.new) result)) }
     ensures unread { SilentUnread result output.old output.new }
 {
     if !words.is_empty() {
@@ -59,7 +60,7 @@ pub fn find<S: Alter + Drop>(
     name: &str,
     words: &[String],
 ) -> Result<Answer, Stop>
-    ensures { Moves (held S.Store store.old) (held S.Store store.new) (Performs (IsCommandOf Find name.now (map string_bytes words.now)) result) }
+    ensures { Moves (held S.Store store.old) (held S.Store store.new) (Performs (IsCommandOf Find name.now (map string_bytes words.now)) (IsUnread Find (map string_bytes words.now)) result) }
 {
     let [text] = words else {
         return Err(USAGE);
@@ -75,7 +76,7 @@ pub fn count<S: Alter + Drop>(
     name: &str,
     words: &[String],
 ) -> Result<Answer, Stop>
-    ensures { Moves (held S.Store store.old) (held S.Store store.new) (Performs (IsCommandOf Count name.now (map string_bytes words.now)) result) }
+    ensures { Moves (held S.Store store.old) (held S.Store store.new) (Performs (IsCommandOf Count name.now (map string_bytes words.now)) (IsUnread Count (map string_bytes words.now)) result) }
 {
     let [text] = words else {
         return Err(USAGE);
@@ -94,15 +95,14 @@ pub fn dump<S: Alter + Drop, O: Sink>(
     output: &mut O,
 ) -> Result<(), Stop>
     requires { (O.tally output.old).failures < 2 ^ 64 - 1 }
-    ensures step { Moves (held S.Store store.old) (held S.Store store.new) (Prints (IsCommandOf Dump name.now (map string_bytes words.now)) result) }
+    ensures step { (f : Feed) → Moves (held S.Store store.old) (held S.Store store.new) (Comes (Executed Dump name.now (map string_bytes words.now) f f (O.tally output.old) (O.tally output.new) result)) }
     ensures unread { SilentUnread result output.old output.new }
 {
     if !words.is_empty() {
         return Err(USAGE);
     }
-    match store.each_json(name, Judge) {
-        Ok(_) => {}
-        Err((error, _)) => return Err(Stop::Refused(error)),
+    if let Err(error) = store.check_json(name) {
+        return Err(Stop::Refused(error));
     }
     let printer = Printer {
         output,
@@ -110,8 +110,15 @@ pub fn dump<S: Alter + Drop, O: Sink>(
         failed: false,
     };
     match store.each_json(name, printer) {
-        Ok(_) => Ok(()),
-        Err((error, _)) => Err(Stop::Refused(error)),
+        // What is taken out of the printer is known to be the output that went in.
+        Ok(printer) => {
+            let _output = printer.output;
+            Ok(())
+        }
+        Err((error, printer)) => {
+            let _output = printer.output;
+            Err(Stop::Refused(error))
+        }
     }
 }
 
@@ -121,7 +128,7 @@ pub fn collections<S: Alter + Drop>(
     name: &str,
     words: &[String],
 ) -> Result<Answer, Stop>
-    ensures { Moves (held S.Store store.old) (held S.Store store.new) (Performs (IsCommandOf Collections name.now (map string_bytes words.now)) result) }
+    ensures { Moves (held S.Store store.old) (held S.Store store.new) (Performs (IsCommandOf Collections name.now (map string_bytes words.now)) (IsUnread Collections (map string_bytes words.now)) result) }
 {
     if !words.is_empty() {
         return Err(USAGE);

@@ -1,14 +1,21 @@
-use Rattle.std.proofs.Common.{map, string_bytes, refl}
+use Rattle.std.proofs.Common.{map, string_bytes, refl, sym, ◌∙◌}
 use Rattle.bson_base.specs.Device.{Feed}
 use Rattle.bson_store.specs.Calls.{held}
 use Rattle.store_words.specs.declared.call.Call.TheVariants as words
-use Rattle.store_program.specs.Commands.{IsCommandOf}
-use Rattle.store_program.proofs.Taking.{import_performs}
+use Rattle.store_program.specs.Commands.{Complains, IsOfStream}
+use Rattle.store_words.specs.declared.lines.Complaint.TheVariants as complaints
+use Rattle.store_program.proofs.Wording.{not_empty}
+use Rattle.store_program.proofs.Taking.{import_performs, unworded}
 use Rattle.store_program.proofs.inputs.import.Goals as goal
 
 pub returns : goal.returns
 returns g c =
-    let old : Feed = g.I.Source.feed c.args.input.now in
-    let new : Feed = g.I.Source.feed c.import.new.reader in
-    import_performs (held g.S.Store c.args.store.now) (held g.S.Store c.import.new.self) (IsCommandOf words.Import c.args.name.now (map string_bytes c.args.words.now)) c.args.name.now old new c.import.result c.number.result
-    (λ ds stop. (ds, stop, refl)) c.number.ensures c.import.ensures.moves
+    let fed : Feed = g.I.Source.feed c.args.input.now in
+    let left : Feed = g.I.Source.feed c.import.new.reader in
+    import_performs (held g.S.Store c.args.store.now) (held g.S.Store c.import.new.self) c.args.name.now (Complains words.Import (map string_bytes c.args.words.now) fed left) fed left c.import.result c.number.result c.number.ensures c.import.ensures.moves
+
+pub returns-then-not-is_empty : goal.returns-then-not-is_empty
+returns-then-not-is_empty g c =
+    let fed : Feed = g.I.Source.feed c.args.input.now in
+    unworded (held g.S.Store c.args.store.now) (held g.S.Store c.args.store.now) (IsOfStream c.args.name.now fed fed) c.args.name.now (Complains words.Import (map string_bytes c.args.words.now) fed fed) fed fed complaints.Usage
+    (not_empty c.args.words.now (sym c.is_empty.ensures ∙ c.if-not-is_empty.true), refl)

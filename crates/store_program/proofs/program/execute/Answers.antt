@@ -1,28 +1,44 @@
+use Rattle.std.proofs.Common.{Ok, Err, refl, subst}
+use Rattle.sqlite.specs.State.{State}
+use Rattle.bson_base.specs.Device.{Feed, Tally}
+use Rattle.bson_table.specs.Moves.{Moves}
 use Rattle.bson_store.specs.Calls.{held}
-use Rattle.store_program.specs.Commands.{IsAskedBy}
-use Rattle.store_program.proofs.Ending.{with_0, with_1, with_2}
-use Rattle.store_program.proofs.Telling.{complaint_told, refusal_told}
+use Rattle.store_words.specs.Lines.{complaint_line, refusal_line}
+use Rattle.store_program.specs.Execute.{Executes}
+use Rattle.store_program.specs.declared.stop.Stop.{Stop}
+use Rattle.store_program.specs.declared.stop.Stop.TheVariants.{Refused, Words}
+use Rattle.store_program.proofs.Telling.{writes}
 use Rattle.store_program.proofs.program.execute.Goals as goal
 
 pub returns-in-Ok-clause-step : goal.returns-in-Ok-clause-step
-returns-in-Ok-clause-step g c = with_0 (held g.S.Store c.args.store.now) (held g.S.Store c.serve.new.store) (IsAskedBy c.args.words.now) c.in-Ok.ensures.step
+returns-in-Ok-clause-step g c = (Ok tt, refl, c.in-Ok.ensures.step)
 
 pub returns-in-Err-Refused-clause-step : goal.returns-in-Err-Refused-clause-step
 returns-in-Err-Refused-clause-step g c =
-    with_1 (held g.S.Store c.args.store.now) (held g.S.Store c.serve.new.store) (IsAskedBy c.args.words.now) c.in-Err-Refused.field-0 c.in-Err-Refused.error c.in-Err-Refused.field-0-is c.in-Err-Refused.ensures.step
+    let e = c.in-Err-Refused.error in
+    let line = c.write_refusal in
+    let s : State = held g.S.Store c.args.store.now in
+    let t : State = held g.S.Store c.serve.new.store in
+    let fed : Feed = g.I.Source.feed c.args.input.now in
+    let left : Feed = g.I.Source.feed c.serve.new.input in
+    let old : Tally = g.O.Sink.tally c.args.output.now in
+    let new : Tally = g.O.Sink.tally c.serve.new.output in (
+      Err (Refused e),
+      (refl, writes line.result (g.F.Sink.tally c.args.faults.now) (g.F.Sink.tally line.new.sink) (refusal_line e.kind e.document) line.ensures.counts line.ensures.ok line.ensures.err),
+      subst (λ (x : Stop). Moves s t (Executes c.args.words.now fed left old new (Err x))) c.in-Err-Refused.field-0-is c.in-Err-Refused.ensures.step,
+    )
 
 pub returns-in-Err-Words-clause-step : goal.returns-in-Err-Words-clause-step
 returns-in-Err-Words-clause-step g c =
-    with_2 (held g.S.Store c.args.store.now) (held g.S.Store c.serve.new.store) (IsAskedBy c.args.words.now) c.in-Err-Words.field-0 c.in-Err-Words.complaint c.in-Err-Words.field-0-is c.in-Err-Words.ensures.step
-
-pub returns-in-Err-Refused-clause-refusal : goal.returns-in-Err-Refused-clause-refusal
-returns-in-Err-Refused-clause-refusal g c = λ is.
-    let told = c.write_refusal in
-    refusal_told c.in-Err-Refused.error.kind c.in-Err-Refused.error.document told.result (g.F.Sink.tally c.args.faults.now) (g.F.Sink.tally told.new.sink)
-    told.ensures.counts told.ensures.ok told.ensures.err
-
-pub returns-in-Err-Words-clause-complaint : goal.returns-in-Err-Words-clause-complaint
-returns-in-Err-Words-clause-complaint g c = λ is.
-    let told = c.write_complaint in
-    complaint_told c.in-Err-Words.complaint told.result (g.F.Sink.tally c.args.faults.now) (g.F.Sink.tally told.new.sink)
-    told.ensures.counts told.ensures.ok told.ensures.err
+    let w = c.in-Err-Words.complaint in
+    let line = c.write_complaint in
+    let s : State = held g.S.Store c.args.store.now in
+    let t : State = held g.S.Store c.serve.new.store in
+    let fed : Feed = g.I.Source.feed c.args.input.now in
+    let left : Feed = g.I.Source.feed c.serve.new.input in
+    let old : Tally = g.O.Sink.tally c.args.output.now in
+    let new : Tally = g.O.Sink.tally c.serve.new.output in (
+      Err (Words w),
+      (refl, writes line.result (g.F.Sink.tally c.args.faults.now) (g.F.Sink.tally line.new.sink) (complaint_line w) line.ensures.counts line.ensures.ok line.ensures.err),
+      subst (λ (x : Stop). Moves s t (Executes c.args.words.now fed left old new (Err x))) c.in-Err-Words.field-0-is c.in-Err-Words.ensures.step,
+    )
