@@ -3,6 +3,7 @@
 ghost use Rattle.std.specs.Prelude.{◌≡◌, ◌||◌, ◌<◌, ◌^◌, ◌-◌, ℕ, List, length, map, false, Some, None, IfOk, IsErrOf, IsTrue};
 ghost use Rattle.std.specs.List.{AllZip};
 ghost use Rattle.std.specs.Str.{bytes_eq};
+ghost use Rattle.serde_json.specs.Data.{Data};
 ghost use Rattle.serde_json.specs.View.{view as tree_of};
 ghost use Rattle.sqlite.specs.State.{HasCleanDisk, Survives};
 ghost use Rattle.bson_table.specs.Moves.{AddsRows, MayLeave, Moves, Stands, WasOpen, all_appended};
@@ -13,6 +14,7 @@ ghost use Rattle.bson_base.specs.Kinds.{AreBytes};
 ghost use Rattle.store_laws.specs.Reading.{ReadsStream, ReadsTrees};
 ghost use Rattle.store_streams.specs.Judging.{Judges};
 ghost use Rattle.store_streams.specs.Keys.{has_met};
+ghost use Rattle.store_streams.specs.Loading.{HasTaken};
 ghost use Rattle.bson_store.specs.Calls.{held};
 ghost use Rattle.bson_store.specs.Many.{AddsAll, DoesMany, FindsTaken, Imports, Lends, Meets};
 ghost use Rattle.bson_store.specs.Refusals.{as_number, refusal_at, reply_by};
@@ -28,7 +30,7 @@ use sqlite::Alter;
 use std::alloc::{AllocError, Global};
 use store_documents::{Name, Written};
 use store_laws::ErrorKind;
-use store_streams::{Keys, StreamError, first_repeated, judge_stream, judge_trees};
+use store_streams::{Keys, Loader, StreamError, first_repeated, judge_stream, judge_trees};
 
 /// The rows of the documents of a stream.
 fn judged(alloc: Global, stream: &[u8]) -> Result<Vec<Written<'_>>, StreamError>
@@ -181,6 +183,22 @@ impl<S: Alter + Drop> Store<S> {
     {
         let name = good_name(name)?;
         let rows = judge_trees(self.alloc, trees)?;
+        self.add_all(name, rows.as_slice())
+    }
+
+    /// Puts the documents whose trees a loader took last in the collection `name`, as `load_json` does with the trees, and answers
+    /// how many they are. So trees that come one after the other needn't be there at once.
+    ///
+    /// Refused as `load_json`.
+    pub fn load(&mut self, name: &str, loader: Loader) -> Result<u64, StoreError>
+        ensures moves { (js : List Data) → HasTaken loader js
+            → Moves (held S.Store self.old) (held S.Store self.new) (DoesMany name.now (ReadsTrees js) (reply_by as_number result)) }
+        ensures open { WasOpen (held S.Store self.old) (held S.Store self.new) result }
+        ensures crash { (js : List Data) → HasTaken loader js
+            → LeavesMany name.now (ReadsTrees js) (reply_by as_number result) (held S.Store self.old) (held S.Store self.new) }
+    {
+        let name = good_name(name)?;
+        let rows = loader.finish()?;
         self.add_all(name, rows.as_slice())
     }
 }

@@ -33,3 +33,4 @@ pub use dump::TakeJson;
 pub use error::StoreError;
 pub use store::Store;
 pub use store_laws::{ErrorKind, laws};
+pub use store_streams::Loader;

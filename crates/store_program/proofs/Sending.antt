@@ -90,8 +90,8 @@ module _ (n : List ℕ) (texts : List (List ℕ)) (f : Feed) (old new : Tally) w
   without_tree docs e a good h = stay a n dump (refused e.kind e.document) good (sym h, refl)
 
   -- the first pass was refused
-  pub not_judged : (s t : Connected) (e : StoreError) → new.failures ≡ old.failures → Moves s t (ChecksTrees n (Err e)) → Moves s t (Comes (Dumped (Err (Refused e))))
-  not_judged s t e same m = moved s t (ChecksTrees n (Err e)) (Comes (Dumped (Err (Refused e)))) m (λ docs after h a shown.
+  pub unchecked : (s t : Connected) (e : StoreError) → new.failures ≡ old.failures → Moves s t (ChecksTrees n (Err e)) → Moves s t (Comes (Dumped (Err (Refused e))))
+  unchecked s t e same m = moved s t (ChecksTrees n (Err e)) (Comes (Dumped (Err (Refused e)))) m (λ docs after h a shown.
       (a, subst (λ d. Show d a) (sym h.same) shown, by docs a shown (h.checked a shown)))
     where
       by : (docs : List Doc) (a : Table) → Show docs a → ((IsName n → ⊥) × (e ≡ refusal kind.BadName)) ⊎ (IsName n × (IsDenied e ⊎ (trees_reply (trees_of 0 (documents_of a n)) ≡ refused e.kind e.document))) → Dumped (Err (Refused e)) a a
@@ -125,7 +125,7 @@ module _ (n : List ℕ) (texts : List (List ℕ)) (f : Feed) (old new : Tally) w
         let r = h.checked a shown in
         (a, subst (λ d. Show d a) (sym l.same) here, by mid a here r.0 r.1 (l.handed a here)))
       where
-        by : (docs : List Doc) (a : Table) → Show docs a → IsName n → ((js : List Data) × (trees_of 0 (documents_of a n) ≡ Ok js)) → ((IsName n → ⊥) × (e ≡ refusal kind.BadName) × Printed y []) ⊎ (IsName n × Stops (Printed y) (Stopped y) (documents_of a n) e) → Dumped (Err (Refused e)) a a
+        by : (docs : List Doc) (a : Table) → Show docs a → IsName n → (js : List Data) × (trees_of 0 (documents_of a n) ≡ Ok js) → ((IsName n → ⊥) × (e ≡ refusal kind.BadName) × Printed y []) ⊎ (IsName n × Stops (Printed y) (Stopped y) (documents_of a n) e) → Dumped (Err (Refused e)) a a
         by docs a shown good all (inl (bad, is, none)) = absurd (bad good)
         by docs a shown good all (inr (named, (js, are, inl (same, why)))) =
             let fails : IsFault kind.Writer old.failures new.failures e = subst (λ (m : ℕ). IsFault kind.Writer old.failures m e) (sym (back same)) why in

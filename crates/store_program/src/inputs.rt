@@ -9,7 +9,7 @@ ghost use Rattle.store_program.specs.Execute.{PerformsFed};
 
 use crate::answer::{Answer, number};
 use crate::stop::{Stop, USAGE};
-use crate::texts::trees_in;
+use crate::texts::judged_input;
 use bson_store::{Source, Store};
 use sqlite::Alter;
 use std::alloc::Global;
@@ -46,6 +46,6 @@ pub fn load<S: Alter + Drop, I: Source>(
     if !words.is_empty() {
         return Err(USAGE);
     }
-    let trees = trees_in(alloc, input)?;
-    number(store.load_json(name, trees))
+    let loader = judged_input(alloc, input)?;
+    number(store.load(name, loader))
 }

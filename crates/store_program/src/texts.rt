@@ -1,9 +1,11 @@
 //! What the texts among the words of a command stand for.
 
-ghost use Rattle.std.specs.Prelude.{◌≡◌, ◌<◌, ◌^◌, ◌-◌, Some, Err, IfErr, MatchResult, map, string_bytes};
+ghost use Rattle.std.specs.Prelude.{◌≡◌, ◌<◌, ◌^◌, ◌-◌, ℕ, List, Some, Err, IfErr, OnOk, MatchResult, map, string_bytes};
+ghost use Rattle.serde_json.specs.Data.{Data};
 ghost use Rattle.serde_json.specs.Read.{read as tree_of};
 ghost use Rattle.serde_json.specs.View.{view as data_of};
 ghost use Rattle.bson_model.specs.View.{view};
+ghost use Rattle.store_streams.specs.Loading.{HasTaken};
 ghost use Rattle.store_words.specs.Texts.{AnswersId, AnswersText};
 ghost use Rattle.store_words.specs.declared.texts.TextError.TheVariants.{Unreadable};
 ghost use Rattle.store_program.specs.Commands.{IsIdText, IsNoForm, TookSome, mode_of};
@@ -13,11 +15,11 @@ use crate::stop::{Stop, USAGE, refused};
 use bson_base::{ReadAllError, read_all};
 use bson_filter::Filter;
 use bson_store::extjson::Mode;
-use bson_store::{Bson, ErrorKind, Source};
+use bson_store::{Bson, ErrorKind, Loader, Source};
 use serde_json::Value;
 use std::alloc::Global;
 use store_words::{
-    Complaint, LinesError, RELAXED, TextError, read_filter, read_id, read_json, read_lines,
+    Complaint, RELAXED, TextError, read_filter, read_id, read_json, read_line,
 };
 
 /// The tree of a JSON text.
@@ -70,19 +72,44 @@ pub fn filter_of(alloc: Global, text: &str) -> Result<Filter, Stop>
     }
 }
 
-/// The trees of the input's lines, which is read to its end.
-pub fn trees_in<I: Source>(alloc: Global, input: &mut I) -> Result<Vec<Value>, Stop>
+/// Takes the tree of a line, if it has one.
+fn take_line(alloc: Global, loader: &mut Loader, line: &[u8], number: u64) -> Result<(), Stop>
+    ensures ok { OnOk result ((js : List Data) → HasTaken loader.old js → (all : List Data) × HasTaken loader.new all) }
+    ensures err { IfErr result (StopsFor (Complaint.Line number) (Unit {0})) }
+{
+    match read_line(alloc, line) {
+        Ok(Some(tree)) => {
+            loader.take(tree);
+            Ok(())
+        }
+        Ok(None) => Ok(()),
+        Err(TextError::Unreadable) => Err(Stop::Words(Complaint::Line(number))),
+        Err(TextError::Memory) => Err(refused(ErrorKind::Memory)),
+    }
+}
+
+/// Judges the trees of lines, one after the other: one tree is held at a time.
+fn judged_lines(alloc: Global, bytes: &[u8]) -> Result<Loader, Stop>
+    ensures { MatchResult result (λ l. (js : List Data) × HasTaken l js) (λ stop. (i : ℕ) × StopsFor (Complaint.Line i) (Unit {0}) stop) }
+{
+    let mut loader = Loader::new(alloc);
+    let mut number = 0u64;
+    for line in bytes.split(|byte| *byte == b'\n') {
+        number = number.saturating_add(1);
+        take_line(alloc, &mut loader, line, number)?;
+    }
+    Ok(loader)
+}
+
+/// The trees of the input's lines, judged. The input is read to its end.
+pub fn judged_input<I: Source>(alloc: Global, input: &mut I) -> Result<Loader, Stop>
     requires { (I.feed input.old).failures < 2 ^ 64 - 1 }
-    ensures { MatchResult result (λ _. TookSome (I.feed input.old) (I.feed input.new)) (StopsLines (I.feed input.old) (I.feed input.new)) }
+    ensures { MatchResult result (λ l. TookSome (I.feed input.old) (I.feed input.new) × ((js : List Data) × HasTaken l js)) (StopsLines (I.feed input.old) (I.feed input.new)) }
 {
     let bytes = match read_all(alloc, input) {
         Ok(bytes) => bytes,
         Err(ReadAllError::Reader) => return Err(refused(ErrorKind::Reader)),
         Err(ReadAllError::Memory) => return Err(refused(ErrorKind::Memory)),
     };
-    match read_lines(alloc, bytes.as_slice()) {
-        Ok(trees) => Ok(trees),
-        Err(LinesError::Line(number)) => Err(Stop::Words(Complaint::Line(number))),
-        Err(LinesError::Memory) => Err(refused(ErrorKind::Memory)),
-    }
+    judged_lines(alloc, bytes.as_slice())
 }

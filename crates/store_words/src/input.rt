@@ -39,12 +39,16 @@ impl<T: Drop> From<AllocFailed<T>> for LinesError {
     }
 }
 
-/// The tree of a line (RFC 8259, which has UTF-8 alone).
-fn tree_of(alloc: Global, line: &[u8]) -> Result<Value, TextError> {
+/// The tree of a line of JSON text (RFC 8259, which has UTF-8 alone). A line of no bytes has none.
+pub fn read_line(alloc: Global, line: &[u8]) -> Result<Option<Value>, TextError> {
+    if line.is_empty() {
+        return Ok(None);
+    }
     let Ok(text) = str::from_utf8(line) else {
         return Err(TextError::Unreadable);
     };
-    read_json(alloc, text)
+    let tree = read_json(alloc, text)?;
+    Ok(Some(tree))
 }
 
 /// Reads lines of JSON text, each of which ends in a line feed, but for the last one also at the end. A line of no bytes has no
@@ -54,11 +58,9 @@ pub fn read_lines(alloc: Global, bytes: &[u8]) -> Result<Vec<Value>, LinesError>
     let mut number = 0u64;
     for line in bytes.split(|byte| *byte == b'\n') {
         number = number.saturating_add(1);
-        if line.is_empty() {
-            continue;
-        }
-        match tree_of(alloc, line) {
-            Ok(tree) => trees.push(tree)?,
+        match read_line(alloc, line) {
+            Ok(Some(tree)) => trees.push(tree)?,
+            Ok(None) => {}
             Err(TextError::Unreadable) => return Err(LinesError::Line(number)),
             Err(TextError::Memory) => return Err(LinesError::Memory),
         }

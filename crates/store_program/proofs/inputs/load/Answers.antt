@@ -14,11 +14,11 @@ use Rattle.store_program.proofs.inputs.load.Goals as goal
 pub returns : goal.returns
 returns g c =
     let n = c.args.name.now in
-    let js = map tree_of c.in_ok-trees.trees.items in
+    let js = c.in_ok-loader.ensures.1.0 in
     let fed : Feed = g.I.Source.feed c.args.input.now in
-    let left : Feed = g.I.Source.feed c.trees_in.new.input in
-    load_performs (held g.S.Store c.args.store.now) (held g.S.Store c.load_json.new.self) (IsOfLines n fed left) n (Complains words.Load (map string_bytes c.args.words.now) fed left) fed left (ReadsTrees js) c.load_json.result c.number.result
-    (λ ds stop reads. (c.in_ok-trees.ensures.0, js, ds, stop, c.in_ok-trees.ensures.1, reads, refl)) c.number.ensures c.load_json.ensures.moves
+    let left : Feed = g.I.Source.feed c.judged_input.new.input in
+    load_performs (held g.S.Store c.args.store.now) (held g.S.Store c.load.new.self) (IsOfLines n fed left) n (Complains words.Load (map string_bytes c.args.words.now) fed left) fed left (ReadsTrees js) c.load.result c.number.result
+    (λ ds stop reads. (c.in_ok-loader.ensures.0.0, js, ds, stop, c.in_ok-loader.ensures.0.1, reads, refl)) c.number.ensures (c.load.ensures.moves js c.in_ok-loader.ensures.1.1)
 
 pub returns-then-not-is_empty : goal.returns-then-not-is_empty
 returns-then-not-is_empty g c =
@@ -26,10 +26,10 @@ returns-then-not-is_empty g c =
     unworded (held g.S.Store c.args.store.now) (held g.S.Store c.args.store.now) (IsOfLines c.args.name.now fed fed) c.args.name.now (Complains words.Load (map string_bytes c.args.words.now) fed fed) fed fed complaints.Usage
     (not_empty c.args.words.now (sym c.is_empty.ensures ∙ c.if-not-is_empty.true), refl)
 
-pub returns-in_err-trees : goal.returns-in_err-trees
-returns-in_err-trees g c =
+pub returns-in_err-loader : goal.returns-in_err-loader
+returns-in_err-loader g c =
     let fed : Feed = g.I.Source.feed c.args.input.now in
-    let left : Feed = g.I.Source.feed c.trees_in.new.input in
+    let left : Feed = g.I.Source.feed c.judged_input.new.input in
     let p = err_from_is_err_and c.from_residual.result c.from_residual.ensures.1 in
-    rw (p.1, p.2) (unlined (held g.S.Store c.args.store.now) (held g.S.Store c.args.store.now) (IsOfLines c.args.name.now fed left) c.args.name.now (Complains words.Load (map string_bytes c.args.words.now) fed left) fed left c.in_err-trees.field-0.0
-    (λ i took. took) c.in_err-trees.ensures)
+    rw (p.1, p.2) (unlined (held g.S.Store c.args.store.now) (held g.S.Store c.args.store.now) (IsOfLines c.args.name.now fed left) c.args.name.now (Complains words.Load (map string_bytes c.args.words.now) fed left) fed left c.in_err-loader.field-0.0
+    (λ i took. took) c.in_err-loader.ensures)

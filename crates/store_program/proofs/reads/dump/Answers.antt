@@ -2,13 +2,13 @@ use Rattle.std.proofs.Common.{rules, ℕ, map, string_bytes, refl, ap}
 use Rattle.bson_base.specs.Device.{Tally}
 use Rattle.bson_store.specs.Calls.{held}
 use Rattle.store_program.specs.declared.dumping.Printer.{Printer}
-use Rattle.store_program.proofs.Sending.{dumped, not_dumped, not_judged}
+use Rattle.store_program.proofs.Sending.{dumped, not_dumped, unchecked}
 use Rattle.store_program.proofs.reads.dump.Goals as goal
 
 pub returns-in-Err-clause-step : goal.returns-in-Err-clause-step
 returns-in-Err-clause-step g c f =
     let old : Tally = g.O.Sink.tally c.args.output.now in
-    not_judged c.args.name.now (map string_bytes c.args.words.now) f old old (held g.S.Store c.args.store.now) (held g.S.Store c.check_json.new.self) c.in-Err.error refl c.in-Err.ensures.moves
+    unchecked c.args.name.now (map string_bytes c.args.words.now) f old old (held g.S.Store c.args.store.now) (held g.S.Store c.check_json.new.self) c.in-Err.error refl c.in-Err.ensures.moves
 
 pub returns-in-Ok-clause-step : goal.returns-in-Ok-clause-step
 returns-in-Ok-clause-step g c f =
