@@ -31,9 +31,9 @@ pub returns-clause-moves : goal.returns-clause-moves
 returns-clause-moves g c js taken =
     let n = c.args.name.now in
     let rows = c.in_ok-rows.rows in
-    moved (held g.S.Store c.args.self.now) (held g.S.Store c.add_all.new.self) (AddsAll (name_bytes c.in_ok-name.name) rows.items c.add_all.result) (DoesMany n (ReadsTrees js) (reply_by as_number c.add_all.result)) c.add_all.ensures.moves
+    moved (held g.S.Store c.args.self.now) (held g.S.Store c.add_all.new.self) (AddsAll (name_bytes c.in_ok-name.name) rows.items c.add_all.result) (DoesMany n (ReadsTrees js) (reply_by as_number c.add_all.result)) (rw c.as_slice.ensures.value at c.add_all.ensures.moves)
     (λ docs after h. many_added docs after n (ReadsTrees js) rows c.add_all.result (c.in_ok-rows.ensures js taken) (subst (λ m. AddsAll m rows.items c.add_all.result docs after) c.in_ok-name.ensures.0 h))
 
 pub returns-clause-crash : goal.returns-clause-crash
 returns-clause-crash g c js taken =
-    many_leave (held g.S.Store c.args.self.now) (held g.S.Store c.add_all.new.self) c.args.name.now (name_bytes c.in_ok-name.name) (ReadsTrees js) (trees_alike js) c.in_ok-rows.rows c.add_all.result c.in_ok-name.ensures.0 (c.in_ok-rows.ensures js taken) c.add_all.ensures.crash
+    many_leave (held g.S.Store c.args.self.now) (held g.S.Store c.add_all.new.self) c.args.name.now (name_bytes c.in_ok-name.name) (ReadsTrees js) (trees_alike js) c.in_ok-rows.rows c.add_all.result c.in_ok-name.ensures.0 (c.in_ok-rows.ensures js taken) (rw c.as_slice.ensures.value at c.add_all.ensures.crash)
