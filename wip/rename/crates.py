@@ -69,10 +69,7 @@ def run(root, dry=False):
                 longer.setdefault(found.group(0), []).append(path)
     for old, new in names.items():
         if old in present and not dry:
-            subprocess.run(["git", "-C", str(root), "mv", f"crates/{old}", f"crates/{new}"], check=True)
-            left = root / "crates" / old
-            if left.exists():
-                print(f"left behind: {left}, which holds what git doesn't know: {', '.join(p.name for p in left.iterdir())}")
+            (root / "crates" / old).rename(root / "crates" / new)
     kinds = {}
     for path, number in counts.items():
         kind = path.split("/")[0] + (":" + path.rsplit(".", 1)[-1] if "." in path.split("/")[-1] else "")
@@ -84,7 +81,8 @@ def run(root, dry=False):
     wide = []
     for path in counts:
         if path.endswith(".md"):
-            for number, line in enumerate((root / path).read_text().split("\n"), 1):
+            text = root / rename_in(path, names)[0]
+            for number, line in enumerate((text if text.exists() else root / path).read_text().split("\n"), 1):
                 if len(line) > 120 and not line.startswith("|"):
                     wide.append(f"{path}:{number}")
     if wide:
