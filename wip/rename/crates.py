@@ -49,7 +49,7 @@ def run(root, dry=False):
             del names[old]
         elif old not in present:
             print(f"{'done before' if new in present else 'not found'}: crates/{old} -> {new}")
-    counts, longer = {}, {}
+    counts, longer, wide = {}, {}, []
     for path in paths:
         file = root / path
         if not is_text(file):
@@ -62,6 +62,9 @@ def run(root, dry=False):
             elif path.endswith((".rt", ".rt.txt")):
                 new = imports_in_order(old, new)
             counts[path] = number
+            if path.endswith(".md"):
+                pairs = enumerate(zip(old.split("\n"), new.split("\n")), 1)
+                wide += [f"{path}:{k}" for k, (a, b) in pairs if len(a) <= 120 < len(b)]
             if not dry:
                 file.write_text(new)
         for found in re.finditer(r"[A-Za-z0-9_]*(?:" + "|".join(names) + r")[A-Za-z0-9_]*", new):
@@ -78,13 +81,6 @@ def run(root, dry=False):
         print(f"{number:6} in {kind}")
     for name, where in sorted(longer.items()):
         print(f"look: {name} in {', '.join(sorted(set(where)))}")
-    wide = []
-    for path in counts:
-        if path.endswith(".md"):
-            text = root / rename_in(path, names)[0]
-            for number, line in enumerate((text if text.exists() else root / path).read_text().split("\n"), 1):
-                if len(line) > 120 and not line.startswith("|"):
-                    wide.append(f"{path}:{number}")
     if wide:
         print(f"look: over 120 columns, which ./dev docs wraps: {', '.join(wide)}")
     for path in counts:

@@ -634,6 +634,84 @@ class Repository:
             number += proof.edit(changes)
         return number
 
+    # ---- modules of Rust
+
+    def module(self, crate, old, new):
+        """Renames a module of a crate's src/, which stands at the top: file and folder, paths, folders of proofs, edits."""
+        what = f"module {crate}::{old} -> {new}"
+        home = f"crates/{crate}/src/{old}.rt"
+        if home not in self.sources:
+            return self.report.say("done before" if f"crates/{crate}/src/{new}.rt" in self.sources else "not found", what)
+        number = 0
+        for source in self.sources.values():
+            if old not in source.text:
+                continue
+            changes = []
+            for found in re.finditer(rf"(Rattle\.{crate}\.(?:proofs|specs\.contracts|specs\.declared)\.){old}(?=\.)", source.plain):
+                changes.append((found.end(1), found.end(), new))
+            if source.is_rust:
+                heads = [r"\bcrate::"] if source.crate == crate else [rf"\b{crate}::"]
+                if source.crate == crate and "." not in source.module and source.path.endswith(("lib.rt", "main.rt")):
+                    heads += [r"\bmod ", r"^pub use ", r"^use "]
+                for head in heads:
+                    for found in re.finditer(rf"({head}){old}(?=::|;)", source.plain, re.M):
+                        changes.append((found.end(1), found.end(), new))
+                    for found in re.finditer(rf"({head}){{[^}}]*\b{old}::", source.plain, re.M):
+                        changes.append((found.end() - len(old) - 2, found.end() - 2, new))
+            number += source.edit(changes)
+        for path in list(self.sources):
+            for part in ("src", "proofs"):
+                folder = f"crates/{crate}/{part}/{old}"
+                if path == folder + ".rt" or path.startswith(folder + "/"):
+                    self.move(path, f"crates/{crate}/{part}/{new}" + path[len(folder):])
+        for path, text in self.others.items():
+            if path.startswith(f"crates/{crate}/") and path.endswith(".edit"):
+                self.others[path] = re.sub(rf"^file: src/{old}(?=[./])", f"file: src/{new}", text, flags=re.M)
+        self.count(what, number + 1)
+
+    def through(self, crate, module):
+        """Calls of the functions of a module are written with its path, and the functions are imported nowhere but in modules of
+        that name."""
+        what = f"{crate}::{module}::.."
+        number, seen = 0, False
+        for source in self.sources.values():
+            if not source.is_rust or source.part != "src" or module not in source.text or source.module.split(".")[0] in (module, "json_laws"):
+                continue
+            names = [i for i in source.rust_imports if self.target(source, i.path[:-1]) == (crate, module) and not i.public and not i.renamed and i.local[0].islower()]
+            if not names:
+                continue
+            seen = True
+            code, changes = self.code(source), []
+            head = crate
+            if source.crate == crate:
+                head = "" if not re.search(rf"\\b(?:use|mod) [^;]*\\b{module};|let (?:mut )?{module}\\b", code) else "crate"
+            for name in names:
+                for token in re.finditer(r"(?<![A-Za-z0-9_.:])" + re.escape(name.local) + r"(?=\()", code):
+                    if not re.search(r"\bfn $", code[:token.start()]):
+                        changes.append((*token.span(), f"{head}::{module}::{name.local}".removeprefix("::")))
+            locals_ = {n.local for n in names}
+            for found in re.finditer(r"^([ \t]*)use ((?:crate|[a-z_]+)(?:::[a-z_]+)*)::(\{([^{}]*)\}|[a-z_]+);\n", source.plain, re.M):
+                if self.target(source, found.group(2).split("::")) != (crate, module):
+                    continue
+                items = [w.strip() for w in (found.group(4) or found.group(3)).split(",") if w.strip()]
+                left = [w for w in items if w not in locals_]
+                if not left and head == "":
+                    changes.append((*found.span(), f"{found.group(1)}use crate::{module};\n"))
+                elif not left:
+                    changes.append((*found.span(), ""))
+                elif len(left) < len(items):
+                    inner = left[0] if len(left) == 1 else "{" + ", ".join(left) + "}"
+                    changes.append((*found.span(), f"{found.group(1)}use {found.group(2)}::{inner};\n"))
+            number += source.edit(changes)
+            for path, text in self.others.items():
+                if path.endswith(".edit") and path.startswith(f"crates/{source.crate}/") and ("file: " + source.path.split("/", 2)[2]) in text:
+                    for name in names:
+                        text = re.sub(r"(?m)^((?:old|new): .*?)(?<![A-Za-z0-9_.:])" + name.local + r"\(", rf"\1{head}::{module}::{name.local}(", text)
+                    self.others[path] = text
+        if not seen:
+            return self.report.say("done before", f"calls through {what}")
+        self.count(what, number)
+
     # ---- at the end
 
     def check_edits(self):

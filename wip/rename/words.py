@@ -46,6 +46,31 @@ fn bson_model display write_document write_braces
 fn bson_raw append close finish_append
 """
 
+# Modules whose functions are called for a fact alone: their calls are written with the path. Renamed are those of bson_meaning.
+MODULE_NAMES = """
+bson_meaning sound facts
+"""
+FACTS = """
+fn bson_meaning facts text is_utf8
+fn bson_meaning facts pattern fits_64_bits
+fn bson_meaning facts count fits_32_bits
+fn bson_meaning facts byte fits_8_bits
+fn bson_meaning facts integer fits_signed_32_bits
+fn bson_meaning facts long_integer fits_signed_64_bits
+fn bson_meaning facts bytes are_bytes
+fn bson_meaning facts twelve are_12_bytes
+fn bson_meaning facts sixteen are_16_bytes
+"""
+THROUGH = """
+bson_meaning facts
+bson_base laws
+bson_frame laws
+bson_model laws
+bson_bytes laws
+bson_raw laws
+bson_meaning laws
+"""
+
 # A definition or a lemma: its module, name, new name.
 SPECS = """
 Rattle.bson_store.specs.Calls held store_state
@@ -161,8 +186,12 @@ def lines(text):
 
 def run(root, dry=False):
     repository = Repository(root)
-    for kind, crate, module, old, to in lines(RUST):
+    for crate, module, to in lines(MODULE_NAMES):
+        repository.module(crate, module, to)
+    for kind, crate, module, old, to in lines(RUST) + lines(FACTS):
         repository.rust(kind, crate, module, old, to)
+    for crate, module in lines(THROUGH):
+        repository.through(crate, module)
     for module, old, to in lines(SPECS):
         repository.spec(module, old, to)
     for module, name, to, *everywhere in lines(ALIASES):
