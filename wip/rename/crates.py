@@ -6,6 +6,7 @@
 A crate's name is renamed wherever it stands as a word of its own; what looks like one and isn't is reported by the list LOOK."""
 import pathlib
 import re
+import shutil
 import subprocess
 import sys
 
@@ -22,6 +23,137 @@ raw_cases bson_raw_cases
 parts_cases store_parts_cases
 store_parts_tests store_tests
 """
+
+
+# Crates of tests that become one: its name, what its first lines and its page say, and the crates.
+MERGED = "bson_tests", ("bson_base_tests", "bson_model_tests", "bson_raw_tests")
+MERGED_HEAD = """\
+//! Tests of bson_base, bson_model and bson_raw: what no line of a program of cases can show. Cases whose answers are texts are lines
+//! of bson_tree_cases and bson_raw_cases.
+#![tactic(auto)]
+
+"""
+MERGED_PAGE = """\
+# bson_tests
+
+Tests of `bson_base`, `bson_model` and `bson_raw` that no line of `bson_tree_cases` or `bson_raw_cases` can show: among them
+that a failed allocation leaves a document unchanged. They are in a crate of their own, so that those are proved once.
+
+## Proved
+
+That its functions are safe to run. The gate runs its tests.
+
+## Read on
+
+[PROVING, 5](../../docs/PROVING.md#5-the-budget-of-the-gate) has the rules for programs of cases, and why they take the
+place of tests.
+"""
+# What pages say that the merging makes untrue: page, old text, new text. A line break in the old text is any white space.
+PAGES = [
+    (
+        "docs/ARCHITECTURE.md",
+        "[`bson_base_tests`](../crates/bson_base_tests/README.md),\n[`bson_model_tests`](../crates/bson_model_tests/README.md), "
+        "[`bson_raw_tests`](../crates/bson_raw_tests/README.md) and",
+        "[`bson_tests`](../crates/bson_tests/README.md) and",
+    ),
+    (
+        "docs/PROVING.md",
+        "`bson_base_tests`, `bson_model_tests` and `bson_raw_tests` have the tests of these crates; so has each crate with more than 20 tests.",
+        "`bson_tests` has the tests of bson_base, bson_model and bson_raw; a crate with more than 20 tests has them in another.",
+    ),
+    (
+        "CONTRIBUTING.md",
+        "a new one of the format is `bson_*`, of the store `store_*`; `*_cases` and `*_tests` are for the gate.",
+        "a new one of the format is `bson_*`, of the store `store_*`, of the program `cli_*`, and none stands on a later one of these\n"
+        "  three (bson_store keeps its name); `*_cases` and `*_tests` are for the gate.",
+    ),
+]
+
+
+def merge_tests(root, dry):
+    """The crates of tests become one, with the modules of all."""
+    name, parts = MERGED
+    there = [part for part in parts if (root / "crates" / part / "src").exists()]
+    if not there:
+        done = (root / "crates" / name).exists()
+        return print(f"{'done before' if done else 'not found'}: {', '.join(parts)} -> {name}")
+    files, ghosts = {}, []
+    for part in there:
+        for file in sorted((root / "crates" / part).rglob("*")):
+            inner = file.relative_to(root / "crates" / part)
+            if not file.is_file() or inner.parts[0] == "out" or str(inner) in ("src/lib.rt", "README.md"):
+                continue
+            if inner in files:
+                return print(f"name taken: {inner} is in more than one of {', '.join(there)}; they stay apart")
+            files[inner] = file
+        head = (root / "crates" / part / "src/lib.rt").read_text()
+        left = re.sub(r"//![^\n]*\n|#!\[tactic\(auto\)\]\n|#\[cfg\(test\)\]\n|mod [a-z_]+;\n|\n", "", head)
+        if left:
+            return print(f"ambiguous: crates/{part}/src/lib.rt has more than its modules ({left[:60]!r}); they stay apart")
+    text = (root / "crates.txt").read_text()
+    uses, out, last = set(), [], None
+    for line in text.split("\n"):
+        head, _, rest = line.partition(":")
+        if head in there:
+            uses |= set(rest.split())
+            last = len(out)
+        else:
+            out.append(line)
+    if not dry:
+        (root / "crates" / name / "src").mkdir(parents=True, exist_ok=True)
+        for inner, file in files.items():
+            (root / "crates" / name / inner).parent.mkdir(parents=True, exist_ok=True)
+            file.rename(root / "crates" / name / inner)
+        modules = sorted(inner.stem for inner in files if len(inner.parts) == 2 and inner.parts[0] == "src")
+        (root / "crates" / name / "src/lib.rt").write_text(MERGED_HEAD + "\n".join(f"#[cfg(test)]\nmod {m};" for m in modules) + "\n")
+        (root / "crates" / name / "README.md").write_text(MERGED_PAGE)
+        out.insert(last, f"{name}: {' '.join(sorted(uses))}")
+        (root / "crates.txt").write_text("\n".join(out))
+        for part in there:
+            shutil.rmtree(root / "crates" / part)
+    print(f"merged: {', '.join(there)} -> {name}, {len(files)} files")
+
+
+def facade(root, dry):
+    """The crate `bson`, from the draft beside this folder."""
+    draft = pathlib.Path(__file__).resolve().parent.parent / "bson_lib.rt"
+    crate = root / "crates/bson"
+    if crate.exists():
+        return print("done before: crates/bson")
+    if not draft.exists():
+        return print(f"not found: {draft}")
+    if not dry:
+        (crate / "src").mkdir(parents=True)
+        (crate / "src/lib.rt").write_text(draft.read_text())
+        page = draft.with_name("bson_readme.md")
+        if page.exists():
+            (crate / "README.md").write_text(page.read_text())
+        text = (root / "crates.txt").read_text()
+        line = "bson: bson_meaning bson_model bson_raw\n"
+        (root / "crates.txt").write_text(re.sub(r"(?m)^(bson_raw_cases|raw_cases|store_laws|store_model):", line + r"\1:", text, count=1))
+    print("made: crates/bson")
+
+
+def pages(root, dry):
+    for path, old, new in PAGES:
+        file = root / path
+        text = file.read_text() if file.exists() else ""
+        found = list(re.finditer(r"\s+".join(map(re.escape, old.split())), text))
+        if len(found) == 1:
+            text = text[: found[0].start()] + new + text[found[0].end() :]
+            if not dry:
+                file.write_text(text)
+        else:
+            done = re.search(r"\s+".join(map(re.escape, new.split())), text)
+            print(f"{'done before' if done else 'not found' if not found else 'ambiguous'}: {path}: {old[:60]!r}")
+    file = root / "docs/ARCHITECTURE.md"
+    text = file.read_text()
+    table = re.findall(r"(?m)^([a-z_]+) +uses  ", text)
+    if table:
+        width = max(map(len, table)) + 2
+        text = re.sub(r"(?m)^([a-z_]+) +uses  ", lambda m: m.group(1).ljust(width) + "uses  ", text)
+        if not dry:
+            file.write_text(text)
 
 
 def is_text(path):
@@ -73,6 +205,18 @@ def run(root, dry=False):
     for old, new in names.items():
         if old in present and not dry:
             (root / "crates" / old).rename(root / "crates" / new)
+    merge_tests(root, dry)
+    facade(root, dry)
+    pages(root, dry)
+    for part in MERGED[1]:
+        for path in paths:
+            file = root / rename_in(path, names)[0]
+            if file.exists() and is_text(file) and not path.startswith("crates/" + part) and re.search(rf"\b{part}\b", file.read_text()):
+                text = file.read_text()
+                if path.endswith("README.md") and not dry:
+                    file.write_text(re.sub(rf"\b{part}\b", MERGED[0], text))
+                else:
+                    print(f"look: {part} in {path}")
     kinds = {}
     for path, number in counts.items():
         kind = path.split("/")[0] + (":" + path.rsplit(".", 1)[-1] if "." in path.split("/")[-1] else "")

@@ -518,9 +518,9 @@ class Repository:
                     if re.search(r"\bfn $", code[max(0, at - 4):at]) and not re.search(r"^(pub(?:\([a-z]+\))? )?(const )?fn $", code[code.rfind("\n", 0, at) + 1:at]):
                         continue
                     changes.append((at, token.end(), new))
-                elif re.search(r"[(,] ?$", code[max(0, at - 2):at]) and re.match(r"[,)]", behind) and not re.search(r"\blet (?:mut )?" + re.escape(old) + r"\b|[(,]\s*(?:mut )?" + re.escape(old) + r": ", code):
+                elif re.search(r"[a-z0-9_]\((?:[^()]*, )?$", code[max(0, at - 80):at]) and re.match(r"[,)]", behind) and not self.is_variable(code, old):
                     changes.append((at, token.end(), new))
-                else:
+                elif not self.is_variable(code, old):
                     self.report.say("ambiguous", f"{what}: {source.path} has a variable {old} or hands it on; left: {code[max(0, at - 30):at + 30].strip()!r}")
             else:
                 changes.append((at, token.end(), new))
@@ -537,6 +537,10 @@ class Repository:
             if source.plain[token.start()] == " " and source.text[token.start() - 1] == "`" and source.text[token.end():token.end() + 1] in ("`", "("):
                 changes.append((token.start(), token.end(), new))
         return changes
+
+    def is_variable(self, code, name):
+        """Whether a file's code has a variable of the name: by `let`, a parameter, a pattern or a closure."""
+        return bool(re.search(rf"\b(?:let|for|mut|ref) (?:mut )?{name}\b|[(,|]\s*&?(?:mut )?{name}\b\s*(?:: |\||\)(?: \||[^\n]*=>)|,[^\n]*=>)|[A-Z][A-Za-z]*[({{][^(){{}}\n]*\b{name}\b[^(){{}}\n]*[)}}][^\n]*=>", code))
 
     def edits_of(self, source, kind, old, new, what):
         """The must-fail edits of a file in which the item is meant."""
@@ -684,7 +688,7 @@ class Repository:
             code, changes = self.code(source), []
             head = crate
             if source.crate == crate:
-                head = "" if not re.search(rf"\\b(?:use|mod) [^;]*\\b{module};|let (?:mut )?{module}\\b", code) else "crate"
+                head = "" if not re.search(rf"\b(?:use|mod) [^;]*\b{module};|let (?:mut )?{module}\b", code) else "crate"
             for name in names:
                 for token in re.finditer(r"(?<![A-Za-z0-9_.:])" + re.escape(name.local) + r"(?=\()", code):
                     if not re.search(r"\bfn $", code[:token.start()]):
@@ -706,7 +710,7 @@ class Repository:
             for path, text in self.others.items():
                 if path.endswith(".edit") and path.startswith(f"crates/{source.crate}/") and ("file: " + source.path.split("/", 2)[2]) in text:
                     for name in names:
-                        text = re.sub(r"(?m)^((?:old|new): .*?)(?<![A-Za-z0-9_.:])" + name.local + r"\(", rf"\1{head}::{module}::{name.local}(", text)
+                        text = re.sub(r"(?m)^((?:old|new): .*?)(?<![A-Za-z0-9_.:])" + name.local + r"\(", "\\1" + f"{head}::{module}::{name.local}(".removeprefix("::"), text)
                     self.others[path] = text
         if not seen:
             return self.report.say("done before", f"calls through {what}")

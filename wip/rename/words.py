@@ -180,6 +180,17 @@ docs/ held store_state
 """
 
 
+# Texts that change with the words: file, old text (once), new text.
+TEXTS = [
+    (
+        "crates/bson_meaning/src/facts.rt",
+        "//! That values are sound: their numbers and texts are those of their kinds, and no key stands twice.\n",
+        "//! Facts: that values are sound, as their numbers and texts are those of their kinds, and no key stands twice. These functions\n"
+        "//! do nothing when they run; their contracts are the facts.\n",
+    ),
+]
+
+
 def lines(text):
     return [line.split() for line in text.strip().split("\n") if line.strip() and not line.startswith("#")]
 
@@ -200,6 +211,12 @@ def run(root, dry=False):
         repository.module_alias(module, to)
     for only, old, to in lines(PAGES):
         repository.words_in_pages(old, to, only)
+    for path, old, to in TEXTS:
+        source = repository.sources.get(path)
+        if source and source.text.count(old) == 1:
+            source.set(source.text.replace(old, to))
+        else:
+            repository.report.say("done before" if source and to in source.text else "not found", f"{path}: {old.strip()}")
     repository.check_edits()
     for what, number in repository.made.items():
         print(f"{number:5} {what}")
