@@ -630,7 +630,8 @@ class Repository:
                     continue
                 if within([i.span for i in proof.imports] + [m.span for m in proof.modules], token.start()):
                     continue
-                if proof.plain[token.start() - 1] == "." or text in goals and text != old or text in goals and re.search(r"^(?:abbrev )?(?:pub )?$", proof.plain[proof.plain.rfind("\n", 0, token.start()) + 1:token.start()]):
+                at_root = re.search(r"(?<![A-Za-z0-9_'\-.])[A-Za-z0-9_'\-]+\.$", proof.plain[max(0, token.start() - 60):token.start()])
+                if at_root or text in goals and text != old or text in goals and re.search(r"^(?:abbrev )?(?:pub )?$", proof.plain[proof.plain.rfind("\n", 0, token.start()) + 1:token.start()]):
                     if also:
                         self.report.say("ambiguous", f"{what}: {source.path} has a variable {old} too, so look at {text} in {path}")
                     for found in part.finditer(text):

@@ -82,10 +82,11 @@ def walks(text):
         depth = 0
         for place in range(found.end(), len(text)):
             depth += {"(": 1, "{": 1, ")": -1, "}": -1}.get(text[place], 0)
-            if depth < 0:
+            if depth < 0 or depth == 0 and text[place] == "\n" and text[place + 1 : place + 2] != " ":
                 break
         body = " ".join(text[found.end() : place].split())
-        out.append((found.start(), place, f"OnWalk {found.group(1)} (λ elements fault. {body}) ".rstrip() + (" " if text[place] == "}" else ""), "OnWalk"))
+        arrow = "→ " if re.search(r"\)\s*$", text[: found.start()]) and not re.search(r"→\s*$", text[: found.start()]) else ""
+        out.append((found.start(), place, arrow + f"OnWalk {found.group(1)} (λ elements fault. {body}) ".rstrip() + (" " if text[place] == "}" else ""), "OnWalk"))
     return out
 
 
