@@ -20,7 +20,6 @@ store_program cli_commands
 store_pipe cli_pipe
 store_session cli_session
 session_lines cli_session_lines
-store_files cli_files
 bson_cases bson_tree_cases
 raw_cases bson_raw_cases
 parts_cases store_parts_cases

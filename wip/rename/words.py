@@ -77,7 +77,7 @@ Rattle.bson_store.specs.Calls held store_state
 Rattle.bson_store.specs.Shown Show Represents
 Rattle.bson_store.specs.Shown ShowOnce RepresentsOnce
 Rattle.bson_store.specs.Opening ShowSome RepresentsSome
-Rattle.bson_table.specs.Rows Shows IsTable
+Rattle.bson_table.specs.Rows Shows HasTable
 Rattle.bson_table.specs.Rows Doc TableRow
 Rattle.bson_table.specs.Rows stored columns_of
 Rattle.bson_table.specs.Rows replaced with_body_at
@@ -174,7 +174,7 @@ crates/ ShowSome RepresentsSome
 docs/ ShowSome RepresentsSome
 docs/ Show Represents
 docs/ ShowOnce RepresentsOnce
-docs/ Shows IsTable
+docs/ Shows HasTable
 docs/ Doc TableRow
 docs/ held store_state
 """
