@@ -447,7 +447,7 @@ class Repository:
                     parts, rest = parts[:-1], rest[1:]
             return (source.crate, ".".join(parts + rest))
         for item in source.rust_imports:
-            if item.local == head and not (len(item.path) == 1 and item.path[0] == head):
+            if item.local == head and item.path[0] != head:
                 crate, module = self.target(source, item.path)
                 return (crate, ".".join([p for p in [module] if p] + rest))
         inner = ".".join([p for p in [source.module] if p] + [head])
@@ -639,6 +639,41 @@ class Repository:
             number += proof.edit(changes)
         return number
 
+    # ---- variables
+
+    def variable(self, crate, module, old, new):
+        """Renames a parameter or a variable in all functions of a file, in their clauses, in edits, and in proofs as `c.args.old`."""
+        what = f"variable {crate}::{module}::{old} -> {new}"
+        home = [s for s in self.in_crate(crate, "src") if s.module == module]
+        if not home or not rust_word(old).search(home[0].plain):
+            return self.report.say("not found" if not home or not rust_word(new).search(home[0].plain) else "done before", what)
+        source = home[0]
+        if rust_word(new).search(source.plain):
+            return self.report.say("name taken", f"{what}: {source.path} has a {new} of its own")
+        changes = []
+        for token in rust_word(old).finditer(source.text):
+            at, end = token.span()
+            quoted = source.text[at - 1] == "`" and source.text[end:end + 1] == "`"
+            if source.plain[at - 1] == "." or source.plain[at] == " " and not quoted or re.match(r": (?!:)", source.plain[end:]) and re.search(r"\{[^}]*$", source.plain[max(0, at - 60):at]) and not re.search(r"\($|, $|\n\s*$", source.plain[max(0, at - 60):at]):
+                continue
+            changes.append((at, end, new))
+        number = source.edit(changes)
+        folder = f"crates/{crate}/proofs/" + (module.replace(".", "/") + "/" if module else "")
+        for path, proof in self.sources.items():
+            if path.startswith(folder):
+                number += proof.edit([(m.start(1), m.end(1), new) for m in re.finditer(rf"\bargs\.({old}){BEHIND}", proof.plain)])
+        for path, text in self.others.items():
+            if path.endswith(".edit") and path.startswith(f"crates/{crate}/"):
+                meant, out = False, []
+                for line in text.split("\n"):
+                    if line.startswith("file:"):
+                        meant = line[5:].strip() == source.path.split("/", 2)[2]
+                    elif meant and line.startswith(("old:", "new:")):
+                        line = re.sub(rf"(?<![A-Za-z0-9_.]){old}(?![A-Za-z0-9_])", new, line)
+                    out.append(line)
+                self.others[path] = "\n".join(out)
+        self.count(what, number)
+
     # ---- modules of Rust
 
     def module(self, crate, old, new):
@@ -748,6 +783,15 @@ class Repository:
                 self.others[path] = out
                 number += n
         return number
+
+    def stale_pages(self, names):
+        """Pages that still have, in backticks, a name that was renamed; common words, which mean more than one thing, are left away."""
+        for path, text in self.others.items():
+            if path.endswith(".md"):
+                for number, line in enumerate(text.split("\n"), 1):
+                    for found in re.findall(r"`([A-Za-z_]+)[`(]", line):
+                        if found in names:
+                            self.report.say("look", f"{path}:{number} has `{found}`, which is {names[found]} now")
 
     def write(self):
         for old, new in self.moves:

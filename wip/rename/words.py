@@ -71,13 +71,20 @@ bson_raw laws
 bson_meaning laws
 """
 
+# A parameter or a variable in all functions of a file: crate, module, name, new name.
+VARIABLES = """
+store_documents row coll collection
+bson_store import coll collection
+bson_store store coll collection
+"""
+
 # A definition or a lemma: its module, name, new name.
 SPECS = """
 Rattle.bson_store.specs.Calls held store_state
 Rattle.bson_store.specs.Shown Show Represents
 Rattle.bson_store.specs.Shown ShowOnce RepresentsOnce
 Rattle.bson_store.specs.Opening ShowSome RepresentsSome
-Rattle.bson_table.specs.Rows Shows HasTable
+Rattle.bson_table.specs.Rows Shows HoldsRows
 Rattle.bson_table.specs.Rows Doc TableRow
 Rattle.bson_table.specs.Rows stored columns_of
 Rattle.bson_table.specs.Rows replaced with_body_at
@@ -174,9 +181,14 @@ crates/ ShowSome RepresentsSome
 docs/ ShowSome RepresentsSome
 docs/ Show Represents
 docs/ ShowOnce RepresentsOnce
-docs/ Shows HasTable
+docs/ Shows HoldsRows
 docs/ Doc TableRow
 docs/ held store_state
+docs/ARCHITECTURE shown display_text
+docs/PROMISES shown display_text
+crates/bson_model shown display_text
+docs/DECISIONS Sender ExportVisitor
+docs/PROVING serve perform_and_print
 """
 
 
@@ -201,6 +213,8 @@ def run(root, dry=False):
         repository.module(crate, module, to)
     for kind, crate, module, old, to in lines(RUST) + lines(FACTS):
         repository.rust(kind, crate, module, old, to)
+    for crate, module, old, to in lines(VARIABLES):
+        repository.variable(crate, module, old, to)
     for crate, module in lines(THROUGH):
         repository.through(crate, module)
     for module, old, to in lines(SPECS):
@@ -217,6 +231,10 @@ def run(root, dry=False):
             source.set(source.text.replace(old, to))
         else:
             repository.report.say("done before" if source and to in source.text else "not found", f"{path}: {old.strip()}")
+    common = {"count", "close", "bytes", "pattern", "stored", "text", "add", "written", "unread", "told", "byte", "integer"}
+    names = {line[3]: line[4] for line in lines(RUST) if line[3] not in common}
+    names.update({line[1]: line[2] for line in lines(SPECS) if line[1] not in common})
+    repository.stale_pages(names)
     repository.check_edits()
     for what, number in repository.made.items():
         print(f"{number:5} {what}")
