@@ -3,14 +3,11 @@
 #![tactic(auto)]
 
 pub use bson_meaning as meaning;
-pub use bson_model::document;
-pub use bson_model::extjson;
 pub use bson_model::{
     Array, Binary, BinarySubtype, Bson, DateTime, DbPointer, Decimal128, Document, DoubleBits,
     ElementType, JavaScriptCodeWithScope, ObjectId, Regex, Sink, SliceSource, Source, Timestamp,
-    Uuid, VecSink,
+    Uuid, VecSink, binary, datetime, decimal128, document, extjson, oid, spec, uuid,
 };
-pub use bson_model::{binary, datetime, decimal128, oid, spec, uuid};
 pub use bson_raw as raw;
 pub use bson_raw::{
     RawArray, RawArrayBuf, RawBinaryRef, RawBson, RawBsonRef, RawDbPointerRef, RawDocument,

@@ -4,7 +4,10 @@
     words.py ROOT [--dry]
 
 A line below is what is renamed, its place, and the new name. What isn't there, or was done before, is reported."""
+import re
 import sys
+
+import crates
 from engine import Repository
 
 # A function or a type of Rust: crate, module, name, new name.
@@ -203,12 +206,22 @@ TEXTS = [
 ]
 
 
+CRATES = {}
+
+
 def lines(text):
-    return [line.split() for line in text.strip().split("\n") if line.strip() and not line.startswith("#")]
+    """The words of each line; a crate that has its new name already is called by that."""
+    rows = [line.split() for line in text.strip().split("\n") if line.strip() and not line.startswith("#")]
+    return [[re.sub(r"(?<![A-Za-z0-9_])[a-z]+_[a-z_]+(?![A-Za-z0-9_])", lambda m: CRATES.get(m.group(0), m.group(0)), w) for w in row] for row in rows]
 
 
 def run(root, dry=False):
     repository = Repository(root)
+    there = {source.crate for source in repository.sources.values()}
+    for line in crates.NAMES.strip().split("\n"):
+        old, new = line.split()
+        if old not in there and new in there:
+            CRATES[old] = new
     for crate, module, to in lines(MODULE_NAMES):
         repository.module(crate, module, to)
     for kind, crate, module, old, to in lines(RUST) + lines(FACTS):
