@@ -118,7 +118,7 @@ def merge_tests(root, dry):
 
 def facade(root, dry):
     """The crate `bson`, from the draft beside this folder."""
-    draft = pathlib.Path(__file__).resolve().parent.parent / "bson_lib.rt"
+    draft = pathlib.Path(__file__).resolve().parent.parent / "bson_lib.rt.txt"
     crate = root / "crates/bson"
     if crate.exists():
         return print("done before: crates/bson")
