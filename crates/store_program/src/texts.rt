@@ -18,9 +18,7 @@ use bson_store::extjson::Mode;
 use bson_store::{Bson, ErrorKind, Loader, Source};
 use serde_json::Value;
 use std::alloc::Global;
-use store_words::{
-    Complaint, RELAXED, TextError, read_filter, read_id, read_json, read_line,
-};
+use store_words::{Complaint, RELAXED, TextError, read_filter, read_id, read_json, read_line};
 
 /// The tree of a JSON text.
 pub fn json_of(alloc: Global, text: &str) -> Result<Value, Stop>
