@@ -11,3 +11,4 @@ pub mod JsonReadLemmas
 pub mod JsonGrammarLemmas
 pub mod ExtendLemmas
 pub mod Seen
+pub mod LendLemmas

@@ -12,14 +12,18 @@ use Rattle.bson_base.specs.declared.spec.BinarySubtype.{BinarySubtype}
 use Rattle.bson_base.specs.declared.spec.BinarySubtype.TheVariants.{Generic}
 use Rattle.bson_base.specs.declared.timestamp.Timestamp.{Timestamp}
 use Rattle.bson_model.specs.Accessors.{as_binary, as_binary_generic}
-use Rattle.bson_model.specs.Trees.{f64_tree, text_tree, bool_tree, i32_tree, i64_tree, timestamp_tree, binary_tree, object_id_tree, date_time_tree, decimal128_tree}
+use Rattle.bson_model.specs.Trees.{f64_tree, text_tree, document_tree, bool_tree, i32_tree, i64_tree, timestamp_tree, binary_tree, object_id_tree, date_time_tree, decimal128_tree}
 use Rattle.bson_model.specs.View.{view, items_of, members_of, pairs_of}
 use Rattle.bson_model.specs.declared.bson.JavaScriptCodeWithScope.{JavaScriptCodeWithScope}
+use Rattle.bson_model.specs.declared.document.Document.{Document}
 use Rattle.bson_model.specs.declared.bson.Bson as bson
 use Rattle.bson_model.specs.declared.bson.Bson.{Bson, Array, JavaScriptCodeWithScope as WithScope, the_lemmas}
 
 pub view-Array : (v : Vec Bson Global) → view (Array v) ≡ array (items_of (map view v.items))
 view-Array v = search (rules, the_lemmas)
+
+pub view-Document : (d : Document) → view (bson.Document d) ≡ document_tree d
+view-Document d = search (rules, the_lemmas)
 
 pub view-WithScope : (c : JavaScriptCodeWithScope) → view (WithScope c) ≡ scoped_code (string_bytes c.code) (members_of (pairs_of c.scope))
 view-WithScope c = search (rules, the_lemmas)

@@ -10,6 +10,7 @@ ghost use Rattle.bson_model.specs.Lending.{LendsValueAt, LendsValue, LendsOrInse
 
 mod entry;
 mod iter;
+mod lent;
 
 use crate::bson::{Array, Bson};
 use crate::copy::copy_document;
@@ -17,6 +18,7 @@ use bson_base::{Binary, BinarySubtype, DateTime, Decimal128, DoubleBits, ObjectI
 use bson_pairs::Pairs;
 pub use entry::{Entry, OccupiedEntry, VacantEntry};
 pub use iter::{Ascending, IntoIter, Iter, Keys, Values};
+use lent::document_in;
 use std::alloc::{AllocError, Global};
 use thiserror::Error;
 
@@ -217,9 +219,9 @@ impl Document {
     ghost use Rattle.bson_base.specs.Scalars.{id_bytes, millis_of, decimal_bytes};
     ghost use Rattle.bson_base.specs.Answer.{result_map};
     ghost use Rattle.bson_model.specs.Accessors.{typed, as_f64, as_decimal128, as_str, as_array, as_document, as_bool, as_i32, as_i64, as_timestamp, as_binary_generic, as_object_id, as_datetime, has_null};
-    ghost use Rattle.bson_model.specs.Rows.{double_row, decimal128_row, text_row, array_row, timestamp_row, bytes_row, object_id_row, date_time_row};
-    ghost use Rattle.bson_model.specs.Trees.{f64_tree, decimal128_tree, text_tree, array_tree, bool_tree, i32_tree, i64_tree, timestamp_tree, generic_tree, object_id_tree, date_time_tree};
-    ghost use Rattle.bson_model.specs.Lending.{LendsPart};
+    ghost use Rattle.bson_model.specs.Rows.{double_row, decimal128_row, text_row, array_row, document_row, timestamp_row, bytes_row, object_id_row, date_time_row};
+    ghost use Rattle.bson_model.specs.Trees.{f64_tree, decimal128_tree, text_tree, array_tree, document_tree, bool_tree, i32_tree, i64_tree, timestamp_tree, generic_tree, object_id_tree, date_time_tree};
+    ghost use Rattle.bson_model.specs.Lending.{LendsPart, LendsPairs};
 
     /// The double under a key.
     pub fn get_f64(&self, key: &str) -> ValueAccessResult<DoubleBits>
@@ -332,19 +334,20 @@ impl Document {
         }
     }
 
-    // A clause cannot say yet what a value ends as that lends a value of its own type. `get_mut` and `as_document_mut` say it
-    // step by step.
     /// The document under a key, to be written to.
     pub fn get_document_mut(&mut self, key: &str) -> ValueAccessResult<&mut Document>
-        ensures { result_map (λ d. members_of (pairs_of d.now)) result ≡ typed as_document (get key.now (pairs_of self.old)) }
+        ensures* writes_back { sem 𝓛 (LendsPart document_row document_tree self.entry key.now result) }
+        ensures value { result_map (λ d. members_of (pairs_of d.now)) result ≡ typed as_document (get key.now (pairs_of self.old)) }
     {
-        match self.get_mut(key) {
-            Some(value) => match value.as_document_mut() {
-                Some(lent) => Ok(lent),
-                None => Err(ValueAccessError::UnexpectedType),
-            },
-            None => Err(ValueAccessError::NotPresent),
-        }
+        document_in(self.pairs_mut(), key)
+    }
+
+    // What a `&mut` ends as that lends one of its own type is proved by hand, over two calls that each lend another type.
+    fn pairs_mut(&mut self) -> &mut Pairs<Bson>
+        ensures* writes_back { sem 𝓛 (LendsPairs self.entry result) }
+        ensures value { result.now ≡ self.old.pairs }
+    {
+        &mut self.pairs
     }
 
     /// The truth value under a key.
