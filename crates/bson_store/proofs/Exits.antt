@@ -1,5 +1,5 @@
 -- Exits of the calls, as moves of the rows.
-use Rattle.std.proofs.Common.{◌≡◌, inl, inr, refl, ℕ, List, Option, Some, None, Ok, Err, subst}
+use Rattle.std.proofs.Common.{◌≡◌, inl, inr, refl, ℕ, ℤ, List, Option, Some, None, Ok, Err, subst}
 use Rattle.std.specs.Cow.{cow_slice_items}
 use Rattle.std.specs.Prelude.{IsUtf8}
 use Rattle.serde_json.specs.Data.{Data, object, Members as JsonMembers}
@@ -7,7 +7,7 @@ use Rattle.sqlite.specs.State.{State}
 use Rattle.bson_base.specs.Kinds.{IsSound}
 use Rattle.bson_base.specs.Value.{Value, Members}
 use Rattle.bson_table.specs.Rows.{Doc, replaced, without_place}
-use Rattle.bson_table.specs.Moves.{Moves, FindsRow, Changes, AddsRows, appended}
+use Rattle.bson_table.specs.Moves.{Moves, FindsRow, FindsPlace, Changes, AddsRows, appended}
 use Rattle.bson_table.specs.declared.fault.Fault.{Fault}
 use Rattle.bson_table.specs.declared.row.Found.{Found}
 use Rattle.store_documents.specs.Answers.{AnswersBytes, AnswersTree}
@@ -114,23 +114,23 @@ unkept_tree s n j call k t unwritten good (inr (inr memory)) wants =
 pub unwritten_insert : (s : State) (n : List ℕ) (d : Members) (k : ErrorKind) → IsName n → AnswersWritten d (Err k) → Moves s s (DoesRead n insert d (refused k None))
 unwritten_insert s n d k good h = rests s (DoesRead n insert d (refused k None)) (λ docs. insert_unwritten docs n d k good h)
 
-pub unfound_insert : (s t : State) (n k : List ℕ) (d : Members) (x : Fault) → IsName n → Moves s t (FindsRow n k (Err x)) → Moves s t (DoesRead n insert d (refused (kind_of_fault x) None))
-unfound_insert s t n k d x good m = moved s t (FindsRow n k (Err x)) (DoesRead n insert d (refused (kind_of_fault x) None)) m (λ docs after h. insert_unfound docs after n k d x good h)
+pub unfound_insert : (s t : State) (n k : List ℕ) (d : Members) (x : Fault) → IsName n → Moves s t (FindsPlace n k (Err x)) → Moves s t (DoesRead n insert d (refused (kind_of_fault x) None))
+unfound_insert s t n k d x good m = moved s t (FindsPlace n k (Err x)) (DoesRead n insert d (refused (kind_of_fault x) None)) m (λ docs after h. insert_unfound docs after n k d x good h)
 
-pub duplicate_insert : (s t : State) (n : List ℕ) (d : Members) (w : Written) (f : Option Found) (x : Found) → IsName n → IsRead d → AnswersWritten d (Ok w) → f ≡ Some x → Moves s t (FindsRow n w.key.items (Ok f)) → Moves s t (DoesRead n insert d (refused kind.DuplicateId None))
+pub duplicate_insert : (s t : State) (n : List ℕ) (d : Members) (w : Written) (f : Option ℤ) (x : ℤ) → IsName n → IsRead d → AnswersWritten d (Ok w) → f ≡ Some x → Moves s t (FindsPlace n w.key.items (Ok f)) → Moves s t (DoesRead n insert d (refused kind.DuplicateId None))
 duplicate_insert s t n d w f x good read written e m =
-    moved s t (FindsRow n w.key.items (Ok f)) (DoesRead n insert d (refused kind.DuplicateId None)) m
-    (λ docs after h. duplicate docs after n w.key.items (cow_slice_items w.body) d x good (written_fits d w read written) (subst (λ o. FindsRow n w.key.items (Ok o) docs after) e h))
+    moved s t (FindsPlace n w.key.items (Ok f)) (DoesRead n insert d (refused kind.DuplicateId None)) m
+    (λ docs after h. duplicate docs after n w.key.items (cow_slice_items w.body) d x good (written_fits d w read written) (subst (λ o. FindsPlace n w.key.items (Ok o) docs after) e h))
 
-pub put_moves : (s t u : State) (n : List ℕ) (d : Members) (w : Written) (f : Option Found) → IsName n → IsUtf8 n → IsRead d → AnswersWritten d (Ok w) → f ≡ None → Moves s t (FindsRow n w.key.items (Ok f)) → Moves t u (AddsRows 1 (appended n w.key.items (cow_slice_items w.body)) (Ok tt)) → Moves s u (DoesRead n insert d done)
+pub put_moves : (s t u : State) (n : List ℕ) (d : Members) (w : Written) (f : Option ℤ) → IsName n → IsUtf8 n → IsRead d → AnswersWritten d (Ok w) → f ≡ None → Moves s t (FindsPlace n w.key.items (Ok f)) → Moves t u (AddsRows 1 (appended n w.key.items (cow_slice_items w.body)) (Ok tt)) → Moves s u (DoesRead n insert d done)
 put_moves s t u n d w f good text read written e m k =
-    moved_twice s t u (FindsRow n w.key.items (Ok f)) (AddsRows 1 (appended n w.key.items (cow_slice_items w.body)) (Ok tt)) (DoesRead n insert d done) m k
-    (λ docs mid after h l. put_in docs mid after n w.key.items (cow_slice_items w.body) d good text (written_fits d w read written) (subst (λ o. FindsRow n w.key.items (Ok o) docs mid) e h) l)
+    moved_twice s t u (FindsPlace n w.key.items (Ok f)) (AddsRows 1 (appended n w.key.items (cow_slice_items w.body)) (Ok tt)) (DoesRead n insert d done) m k
+    (λ docs mid after h l. put_in docs mid after n w.key.items (cow_slice_items w.body) d good text (written_fits d w read written) (subst (λ o. FindsPlace n w.key.items (Ok o) docs mid) e h) l)
 
-pub not_put_moves : (s t u : State) (n : List ℕ) (d : Members) (w : Written) (f : Option Found) (x : Fault) → IsName n → IsRead d → AnswersWritten d (Ok w) → f ≡ None → Moves s t (FindsRow n w.key.items (Ok f)) → Moves t u (AddsRows 1 (appended n w.key.items (cow_slice_items w.body)) (Err x)) → Moves s u (DoesRead n insert d (refused (kind_of_fault x) None))
+pub not_put_moves : (s t u : State) (n : List ℕ) (d : Members) (w : Written) (f : Option ℤ) (x : Fault) → IsName n → IsRead d → AnswersWritten d (Ok w) → f ≡ None → Moves s t (FindsPlace n w.key.items (Ok f)) → Moves t u (AddsRows 1 (appended n w.key.items (cow_slice_items w.body)) (Err x)) → Moves s u (DoesRead n insert d (refused (kind_of_fault x) None))
 not_put_moves s t u n d w f x good read written e m k =
-    moved_twice s t u (FindsRow n w.key.items (Ok f)) (AddsRows 1 (appended n w.key.items (cow_slice_items w.body)) (Err x)) (DoesRead n insert d (refused (kind_of_fault x) None)) m k
-    (λ docs mid after h l. not_put_in docs mid after n w.key.items (cow_slice_items w.body) d x good (written_fits d w read written) (subst (λ o. FindsRow n w.key.items (Ok o) docs mid) e h) l)
+    moved_twice s t u (FindsPlace n w.key.items (Ok f)) (AddsRows 1 (appended n w.key.items (cow_slice_items w.body)) (Err x)) (DoesRead n insert d (refused (kind_of_fault x) None)) m k
+    (λ docs mid after h l. not_put_in docs mid after n w.key.items (cow_slice_items w.body) d x good (written_fits d w read written) (subst (λ o. FindsPlace n w.key.items (Ok o) docs mid) e h) l)
 
 -- ---- replacements
 

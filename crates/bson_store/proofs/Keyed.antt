@@ -1,15 +1,14 @@
 -- The written keys of a collection, and the rows whose key is there already.
-use Rattle.std.proofs.Common.{◌≡◌, ℕ, ◌+◌, ◌<◌, ◌≤◌, List, [], ◌∷◌, length, get_or, map, filter, Bool, true, false, not, ◌||◌, ◌&&◌, cond, IsTrue, Result, Option, Some, None, is_some, Ok, Err, refl, ap, ◌∙◌, sym, subst, arith}
+use Rattle.std.proofs.Common.{◌≡◌, ℕ, ℤ, ◌+◌, ◌<◌, ◌≤◌, List, [], ◌∷◌, length, get_or, map, filter, Bool, true, false, not, ◌||◌, ◌&&◌, cond, IsTrue, Result, Option, Some, None, is_some, Ok, Err, refl, ap, ◌∙◌, sym, subst, arith}
 use Rattle.std.specs.List.{list_any, find}
 use Rattle.std.proofs.lemmas.List.{length-map}
 use Rattle.std.specs.Option.{option_map}
 use Rattle.std.specs.Str.{bytes_eq}
 use Rattle.bson_meaning.specs.Meaning.{key}
 use Rattle.bson_table.specs.Rows.{Doc, is_in, is_row_named}
-use Rattle.bson_table.specs.Moves.{FindsNone, FindsRow, kept, seen}
+use Rattle.bson_table.specs.Moves.{FindsNone, FindsPlace}
 use Rattle.bson_table.specs.declared.fault.Fault.{Fault}
 use Rattle.bson_table.specs.declared.fault.Fault.TheVariants as faults
-use Rattle.bson_table.specs.declared.row.Found.{Found}
 use Rattle.store_documents.specs.declared.write.Written.{Written}
 use Rattle.store_laws.specs.Reading.{Documents}
 use Rattle.store_laws.specs.Table.{Table, documents_of, own_id}
@@ -63,30 +62,30 @@ row_keys_are (w ∷ ws) (d ∷ ds) h = ap (λ k. k ∷ keys_of_rows ws) h.1 ∙ 
 
 -- ---- one key
 
-pub meets_unfound : (n k : List ℕ) (met : Keys) (x : Fault) (docs after : List Doc) → FindsRow n k (Err x) docs after → Meets n k met (Err (refusal (kind_of_fault x))) docs after
+pub meets_unfound : (n k : List ℕ) (met : Keys) (x : Fault) (docs after : List Doc) → FindsPlace n k (Err x) docs after → Meets n k met (Err (refusal (kind_of_fault x))) docs after
 meets_unfound n k met x docs after h = record { same = h.same; there = tt; denied = (x, h.faults, refl) }
 
-some_named : (n k : List ℕ) (x : Found) (docs : List Doc) → option_map kept (Some x) ≡ option_map seen (find (is_row_named n k) docs) → list_any (bytes_eq k) (keys_in n docs) ≡ true
-some_named n k x docs h = sym (named_there n k docs) ∙ ap is_some (some_is (find (is_row_named n k) docs) (kept x) h).1
+some_named : (n k : List ℕ) (x : ℤ) (docs : List Doc) → Some x ≡ option_map (λ (d : Doc). d.place) (find (is_row_named n k) docs) → list_any (bytes_eq k) (keys_in n docs) ≡ true
+some_named n k x docs h = sym (named_there n k docs) ∙ ap is_some (some_is (find (is_row_named n k) docs) x h).1
 
-none_named : (n k : List ℕ) (docs : List Doc) → option_map kept None ≡ option_map seen (find (is_row_named n k) docs) → list_any (bytes_eq k) (keys_in n docs) ≡ false
+none_named : (n k : List ℕ) (docs : List Doc) → None ≡ option_map (λ (d : Doc). d.place) (find (is_row_named n k) docs) → list_any (bytes_eq k) (keys_in n docs) ≡ false
 none_named n k docs h = sym (named_there n k docs) ∙ ap is_some (none_is (find (is_row_named n k) docs) h)
 
-pub meets_found : (n k : List ℕ) (met : Keys) (f : Option Found) (x : Found) (docs after : List Doc) → f ≡ Some x → FindsRow n k (Ok f) docs after → Meets n k met (Ok true) docs after
+pub meets_found : (n k : List ℕ) (met : Keys) (f : Option ℤ) (x : ℤ) (docs after : List Doc) → f ≡ Some x → FindsPlace n k (Ok f) docs after → Meets n k met (Ok true) docs after
 meets_found n k met f x docs after is h =
-    let e = some_named n k x docs (subst (λ o. option_map kept o ≡ option_map seen (find (is_row_named n k) docs)) is h.found) in
+    let e = some_named n k x docs (subst (λ o. o ≡ option_map (λ (d : Doc). d.place) (find (is_row_named n k) docs)) is h.found) in
     record { same = h.same; there = sym (ap (λ b. b || has_met met k) e); denied = tt }
 
-pub meets_memory : (n k : List ℕ) (met : Keys) (f : Option Found) (docs after : List Doc) → FindsRow n k (Ok f) docs after → Meets n k met (Err (refusal Memory)) docs after
+pub meets_memory : (n k : List ℕ) (met : Keys) (f : Option ℤ) (docs after : List Doc) → FindsPlace n k (Ok f) docs after → Meets n k met (Err (refusal Memory)) docs after
 meets_memory n k met f docs after h = record { same = h.same; there = tt; denied = (faults.Memory, memory_other, refl) }
 
 not_twice : (b c : Bool) → b ≡ not c → not b ≡ c
 not_twice b true e = ap not e
 not_twice b false e = ap not e
 
-pub meets_new : (n k : List ℕ) (met : Keys) (f : Option Found) (is_new : Bool) (docs after : List Doc) → f ≡ None → is_new ≡ not (has_met met k) → FindsRow n k (Ok f) docs after → Meets n k met (Ok (not is_new)) docs after
+pub meets_new : (n k : List ℕ) (met : Keys) (f : Option ℤ) (is_new : Bool) (docs after : List Doc) → f ≡ None → is_new ≡ not (has_met met k) → FindsPlace n k (Ok f) docs after → Meets n k met (Ok (not is_new)) docs after
 meets_new n k met f is_new docs after is fresh h =
-    let e = none_named n k docs (subst (λ o. option_map kept o ≡ option_map seen (find (is_row_named n k) docs)) is h.found) in
+    let e = none_named n k docs (subst (λ o. o ≡ option_map (λ (d : Doc). d.place) (find (is_row_named n k) docs)) is h.found) in
     record { same = h.same; there = not_twice is_new (has_met met k) fresh ∙ sym (ap (λ b. b || has_met met k) e); denied = tt }
 
 -- ---- one key after the other

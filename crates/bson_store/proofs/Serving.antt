@@ -15,10 +15,9 @@ use Rattle.bson_meaning.specs.Meaning.{key}
 use Rattle.bson_meaning.proofs.Now.{same_itself}
 use Rattle.bson_table.specs.Rows.{Doc, is_row_named}
 use Rattle.bson_table.specs.Rows as table
-use Rattle.bson_table.specs.Moves.{FindsRow, AddsRows, IsRoomFor, appended, kept, seen}
+use Rattle.bson_table.specs.Moves.{FindsPlace, AddsRows, IsRoomFor, appended}
 use Rattle.bson_table.specs.declared.fault.Fault.{Fault}
 use Rattle.bson_table.specs.declared.fault.Fault.TheVariants as faults
-use Rattle.bson_table.specs.declared.row.Found.{Found}
 use Rattle.store_documents.specs.Bodies.{IsKeyOf, AnswersWritten}
 use Rattle.store_documents.specs.declared.write.Written.{Written}
 use Rattle.store_laws.specs.Reading.{Documents, readable, IsRead}
@@ -135,17 +134,17 @@ insert_unwritten docs n d k good (inr is) f = rw is (denied docs (on n (insert f
 insert_denied : (docs : List Doc) (n : List ℕ) (d : Members) (x : Fault) → IsName n → x ≢ faults.Places → DoesRead n insert d (refused (kind_of_fault x) None) docs docs
 insert_denied docs n d x good other f = denied docs (on n (insert f (readable d))) x other (undecided n (insert f (readable d)) good (read_open f d))
 
-pub insert_unfound : (docs after : List Doc) (n k : List ℕ) (d : Members) (x : Fault) → IsName n → FindsRow n k (Err x) docs after → DoesRead n insert d (refused (kind_of_fault x) None) docs after
+pub insert_unfound : (docs after : List Doc) (n k : List ℕ) (d : Members) (x : Fault) → IsName n → FindsPlace n k (Err x) docs after → DoesRead n insert d (refused (kind_of_fault x) None) docs after
 insert_unfound docs after n k d x good h = rw h.same (insert_denied docs n d x good h.faults)
 
 duplicate_answers : (f : Form) (d : Members) (id : Value) (l : Documents) → look_up id_key d ≡ Some id → size d ≤ size_limit → SomeHasId id l → Answers (insert f (readable d)) l (refused DuplicateId None) l
 duplicate_answers f d id l has short taken = rw (has, le-ltb size_limit (size d) short) (inl (taken, (refl, refl)))
 
-pub some_is : (o : Option Doc) (x : ℤ × List ℕ) → Some x ≡ option_map seen o → (e : Doc) × (o ≡ Some e) × (x ≡ seen e)
+pub some_is : (o : Option Doc) (x : ℤ) → Some x ≡ option_map (λ (d : Doc). d.place) o → (e : Doc) × (o ≡ Some e) × (x ≡ e.place)
 some_is None x h = cc
 some_is (Some e) x h = (e, refl, cc)
 
-pub none_is : (o : Option Doc) → None ≡ option_map seen o → o ≡ None
+pub none_is : (o : Option Doc) → None ≡ option_map (λ (d : Doc). d.place) o → o ≡ None
 none_is None h = refl
 none_is (Some e) h = cc
 
@@ -156,9 +155,9 @@ duplicate_of docs n k b d e good fits is f =
     let q = stands_at n k fits.id docs a e p in
     duplicate_answers f d fits.id (documents_of a n) fits.has fits.short (subst (SomeHasId fits.id) (sym q.split) (some_behind fits.id (documents_of p.front n) p.r.document (documents_of p.back n) q.has)))
 
-pub duplicate : (docs after : List Doc) (n k b : List ℕ) (d : Members) (x : Found) → IsName n → Fits d k b → FindsRow n k (Ok (Some x)) docs after → DoesRead n insert d (refused DuplicateId None) docs after
+pub duplicate : (docs after : List Doc) (n k b : List ℕ) (d : Members) (x : ℤ) → IsName n → Fits d k b → FindsPlace n k (Ok (Some x)) docs after → DoesRead n insert d (refused DuplicateId None) docs after
 duplicate docs after n k b d x good fits h =
-    let e = some_is (find (is_row_named n k) docs) (kept x) h.found in
+    let e = some_is (find (is_row_named n k) docs) x h.found in
     rw h.same (duplicate_of docs n k b d e.0 good fits e.1)
 
 insert_answers : (f : Form) (d : Members) (id : Value) (l : Documents) → look_up id_key d ≡ Some id → size d ≤ size_limit → (SomeHasId id l → ⊥) → Answers (insert f (readable d)) l done (l ++ d ∷ [])
@@ -217,7 +216,7 @@ no_place f docs n k b d good h free full a s =
     (a, s, (Some places, ((refl, refl), stays a, (undecided n (insert f (readable d)) good (read_open f d), (g, done, state_of (a ++ r ∷ []), step_in f docs n k b d a r good h free s refl refl, λ x. x)))))
 
 -- what a row more makes of the state, whether there is a place for it or not
-pub row_makes : (f : Form) (docs mid : List Doc) (n k b : List ℕ) (d : Members) → IsName n → IsUtf8 n → Fits d k b → FindsRow n k (Ok None) docs mid
+pub row_makes : (f : Form) (docs mid : List Doc) (n k b : List ℕ) (d : Members) → IsName n → IsUtf8 n → Fits d k b → FindsPlace n k (Ok None) docs mid
     → (a : Table) → Show docs a → (q : Reply) × (e : Table) × Show (appended n k b docs) e × Step (state_of a) (on n (insert f (readable d))) q (state_of e)
 row_makes f docs mid n k b d good text h none a s =
     let r : Row = record { place = suc (greatest a); name = n; document = d } in
@@ -232,13 +231,13 @@ row_makes f docs mid n k b d good text h none a s =
     } in
     (done, a ++ r ∷ [], shows_more docs a r _ s one refl (rows_after a (a ++ r ∷ []) (on n (insert f (readable d))) done s.good h.read step), step)
 
-pub put_in : (docs mid after : List Doc) (n k b : List ℕ) (d : Members) → IsName n → IsUtf8 n → Fits d k b → FindsRow n k (Ok None) docs mid → AddsRows 1 (appended n k b) (Ok tt) mid after → DoesRead n insert d done docs after
+pub put_in : (docs mid after : List Doc) (n k b : List ℕ) (d : Members) → IsName n → IsUtf8 n → Fits d k b → FindsPlace n k (Ok None) docs mid → AddsRows 1 (appended n k b) (Ok tt) mid after → DoesRead n insert d done docs after
 put_in docs mid after n k b d good text fits none h f =
     let room = subst (IsRoomFor 1) none.same h.room in
     rw (h.done, none.same) (goes_in f docs n k b d good text fits (none_is (find (is_row_named n k) docs) none.found) room)
 
 -- the table refuses a row more
-pub not_put_in : (docs mid after : List Doc) (n k b : List ℕ) (d : Members) (x : Fault) → IsName n → Fits d k b → FindsRow n k (Ok None) docs mid → AddsRows 1 (appended n k b) (Err x) mid after → DoesRead n insert d (refused (kind_of_fault x) None) docs after
+pub not_put_in : (docs mid after : List Doc) (n k b : List ℕ) (d : Members) (x : Fault) → IsName n → Fits d k b → FindsPlace n k (Ok None) docs mid → AddsRows 1 (appended n k b) (Err x) mid after → DoesRead n insert d (refused (kind_of_fault x) None) docs after
 not_put_in docs mid after n k b d faults.Memory good fits none h f = rw (h.refused, none.same) (insert_denied docs n d faults.Memory good memory_other f)
 not_put_in docs mid after n k b d faults.Database good fits none h f = rw (h.refused, none.same) (insert_denied docs n d faults.Database good (λ e. cc) f)
 not_put_in docs mid after n k b d faults.Places good fits none h f =

@@ -77,7 +77,7 @@ impl<S: Alter + Drop> Store<S> {
         ensures crash { Survives (held S.Store self.old) (held S.Store self.new) (λ _. ⊥) }
         ensures met { IfOk result (λ taken. taken ≡ false → (k : List ℕ) → has_met met.new k ≡ bytes_eq k key.now || has_met met.old k) }
     {
-        let found = self.table.named(coll, key)?;
+        let found = self.table.place_of(coll, key)?;
         if let Some(_) = found {
             return Ok(true);
         }

@@ -130,7 +130,7 @@ impl<S: Alter + Drop> Store<S> {
     {
         let coll = name.as_str();
         let key = row.key.as_slice();
-        let found = self.table.named(coll, key)?;
+        let found = self.table.place_of(coll, key)?;
         if let Some(_) = found {
             return Err(StoreError::from(ErrorKind::DuplicateId));
         }

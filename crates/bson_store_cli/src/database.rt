@@ -2,11 +2,11 @@
 
 ghost use Rattle.std.specs.Prelude.{◌<◌, ◌^◌, ◌-◌};
 
-use crate::opening;
 use bson_store::{ErrorKind, Sink, Source, Store};
 use sqlite::{Alter, Connection, File, FileStore};
 use std::alloc::Global;
 use std::io;
+use store_files::open;
 use store_program::execute;
 use store_words::{Complaint, Words, read_words, write_complaint, write_refusal};
 
@@ -81,7 +81,7 @@ pub fn serve<I: Source, O: Sink, F: Sink>(
     let Some(words) = read_words(words) else {
         return misuse(faults);
     };
-    match opening::open(rt, words.file) {
+    match open(rt, words.file) {
         Ok(connection) => {
             let (status, connection) = over(rt.alloc(), connection, &words, input, output, faults);
             close(connection);

@@ -3,7 +3,6 @@
 #![tactic(auto)]
 
 mod database;
-mod opening;
 
 use bson_store::Counted;
 use database::serve;

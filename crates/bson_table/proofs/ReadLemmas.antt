@@ -26,7 +26,7 @@ use Rattle.bson_table.specs.Schema.{documents_schema}
 use Rattle.bson_table.specs.Rows.{Doc, stored, Shows, IsRising, is_row_named}
 use Rattle.bson_table.proofs.AnswerLemmas.{and_true, Outputs, outputs_of, equal_is, map_map}
 use Rattle.bson_table.proofs.SortLemmas.{same_order, Strict, Rises}
-use Rattle.bson_table.proofs.Texts.{plain_query, program, equals, by_place, find_text, find_is, find_plain}
+use Rattle.bson_table.proofs.Texts.{plain_query, program, equals, by_place, find_text, find_is, find_plain, places_text, places_is, places_plain}
 use Rattle.std.proofs.lemmas.Map.Text.{is_eq-slice_cmp}
 
 pub text_test : (a b : List ℕ) → is_eq (value_cmp (Text a) (Text b)) ≡ bytes_eq a b
@@ -110,23 +110,38 @@ answers_of : (sql : List ℕ) (params : Row) (old new : State) (docs : List Doc)
 answers_of sql params old new docs names terms project order rows h is plain s =
     reads_as sql params old new documents_schema h.schema (Select (program (plain_query terms project order)) names) is.0 plain is.1 rows s
 
-pub named_rows : (coll idkey : List ℕ) (old new : State) (docs : List Doc) (rows : List Row) → Shows old docs → Shown find_text (Text coll ∷ Blob idkey ∷ []) old new rows
-    → rows ≡ map (λ d. Int d.place ∷ Blob d.body ∷ []) (filter (is_row_named coll idkey) docs)
-named_rows coll idkey old new docs rows h s =
-    let params = Text coll ∷ Blob idkey ∷ [] in
-    let terms = equals 2 0 ∷ equals 3 1 ∷ [] in
-    let project = col 1 0 ∷ col 1 4 ∷ [] in
-    in_order terms project params (is_row_named coll idkey) docs rows h.table.rising
-    (outputs_of terms project by_place params (is_row_named coll idkey) docs old.now rows h.table (named_test coll idkey) (answers_of find_text params old new docs _ terms project by_place rows h find_is find_plain s))
+abbrev named_terms : List Term
+named_terms = equals 2 0 ∷ equals 3 1 ∷ []
+
+module _ (coll idkey : List ℕ) (old new : State) (docs : List Doc) (rows : List Row) (h : Shows old docs) where
+  rows_of : (text : List ℕ) (names : List (List ℕ)) (project : List Term)
+      → (command_of (understood documents_schema text) ≡ Select (program (plain_query named_terms project by_place)) names) × (reads_listing documents_schema text ≡ false) → IsPlain (understood documents_schema text)
+      → Shown text (Text coll ∷ Blob idkey ∷ []) old new rows → Outputs named_terms project by_place (Text coll ∷ Blob idkey ∷ []) (is_row_named coll idkey) docs rows
+  rows_of text names project is plain s =
+      let params = Text coll ∷ Blob idkey ∷ [] in
+      outputs_of named_terms project by_place params (is_row_named coll idkey) docs old.now rows h.table (named_test coll idkey) (answers_of text params old new docs names named_terms project by_place rows h is plain s)
+
+  pub named_rows : Shown find_text (Text coll ∷ Blob idkey ∷ []) old new rows → rows ≡ map (λ d. Int d.place ∷ Blob d.body ∷ []) (filter (is_row_named coll idkey) docs)
+  named_rows s =
+      let project = col 1 0 ∷ col 1 4 ∷ [] in
+      in_order named_terms project (Text coll ∷ Blob idkey ∷ []) (is_row_named coll idkey) docs rows h.table.rising (rows_of find_text _ project find_is find_plain s)
+
+  pub named_places : Shown places_text (Text coll ∷ Blob idkey ∷ []) old new rows → rows ≡ map (λ d. Int d.place ∷ []) (filter (is_row_named coll idkey) docs)
+  named_places s =
+      let project = col 1 0 ∷ [] in
+      in_order named_terms project (Text coll ∷ Blob idkey ∷ []) (is_row_named coll idkey) docs rows h.table.rising (rows_of places_text _ project places_is places_plain s)
 
 abbrev pub found_row : Doc → Row
 found_row d = Int d.place ∷ Blob d.body ∷ []
 
+abbrev pub found_place : Doc → Row
+found_place d = Int d.place ∷ []
+
 -- the first of them is what is found
-pub first_found : (p : Doc → Bool) (docs : List Doc) → slice_get (map found_row (filter p docs)) 0 ≡ option_map found_row (find p docs)
-first_found p [] = refl
-first_found p (d ∷ docs) = go (p d) (first_found p docs)
+pub first_found : (f : Doc → Row) (p : Doc → Bool) (docs : List Doc) → slice_get (map f (filter p docs)) 0 ≡ option_map f (find p docs)
+first_found f p [] = refl
+first_found f p (d ∷ docs) = go (p d) (first_found f p docs)
   where
-    go : (b : Bool) → slice_get (map found_row (filter p docs)) 0 ≡ option_map found_row (find p docs) → slice_get (map found_row (cond b (d ∷ filter p docs) (filter p docs))) 0 ≡ option_map found_row (cond b (Some d) (find p docs))
+    go : (b : Bool) → slice_get (map f (filter p docs)) 0 ≡ option_map f (find p docs) → slice_get (map f (cond b (d ∷ filter p docs) (filter p docs))) 0 ≡ option_map f (cond b (Some d) (find p docs))
     go true h = refl
     go false h = h

@@ -20,7 +20,7 @@ use Rattle.bson_table.specs.declared.fault.Fault.{Fault}
 use Rattle.bson_table.proofs.ScanLemmas.{some_scan}
 use Rattle.bson_table.proofs.StatementLemmas.{unchanged_shows}
 use Rattle.bson_table.proofs.LastPlaceLemmas.{below_next}
-use Rattle.bson_table.proofs.ReadLemmas.{found_row}
+use Rattle.bson_table.proofs.ReadLemmas.{found_row, found_place}
 
 pub not_places : (e : Error) → fault_of e ≢ Places
 not_places (SqliteFailure OutOfMemory) h = cc
@@ -52,6 +52,16 @@ found_is None row f e p b = absurd (cc)
 found_is (Some d) row f e p b =
     let same : found_row d ≡ row = cc in
     ap₂ (λ (x : ℤ) (y : List ℕ). Some (x, y)) (p ∙ ap (λ (r : Row). int_in (column r 0)) (sym same)) (b ∙ ap (λ (r : Row). bytes_in (column r 1)) (sym same))
+
+pub place_is : (o : Option Doc) (row : Row) → option_map found_place o ≡ Some row → Some (int_in (column row 0)) ≡ option_map (λ (d : Doc). d.place) o
+place_is None row e = absurd (cc)
+place_is (Some d) row e =
+    let same : found_place d ≡ row = cc in
+    ap (λ (r : Row). Some (int_in (column r 0))) (sym same)
+
+pub place_none : (o : Option Doc) → option_map found_place o ≡ None → None ≡ option_map (λ (d : Doc). d.place) o
+place_none None e = refl
+place_none (Some d) e = absurd (cc)
 
 pub found_none : (o : Option Doc) → option_map found_row o ≡ None → option_map kept None ≡ option_map seen o
 found_none None e = refl

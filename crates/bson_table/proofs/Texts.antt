@@ -103,6 +103,21 @@ pub find_plain : IsPlain (understood documents_schema find_text)
 unfolding understood everything
 find_plain = (refl, refl)
 
+abbrev pub places_text : List ℕ
+places_text = codes "SELECT place FROM documents WHERE coll = ?1 COLLATE BINARY AND idkey = ?2 ORDER BY place"
+
+pub places_is : (command_of (understood documents_schema places_text) ≡ Select (program (plain_query (equals 2 0 ∷ equals 3 1 ∷ []) (col 1 0 ∷ []) by_place)) (codes "place" ∷ [])) × (reads_listing documents_schema places_text ≡ false)
+unfolding understood everything
+places_is = (refl, refl)
+
+pub places_plain : IsPlain (understood documents_schema places_text)
+unfolding understood everything
+places_plain = (refl, refl)
+
+pub places_asks : IsSelect places_text
+unfolding everything
+places_asks = (refl, refl)
+
 abbrev pub all_query : Query
 all_query = plain_query [] (col 1 0 ∷ col 1 2 ∷ col 1 3 ∷ col 1 4 ∷ []) by_place
 

@@ -61,6 +61,12 @@ pub record FindsNone (result : Result Bool Fault) (docs after : List Doc) : Type
   pub none : IfOk result (λ none. IsTrue none ↔ (docs ≡ []))
   pub faults : IfErr result (λ e. e ≢ Places)
 
+-- the place of the first row with this collection and key is found, or that there is none
+pub record FindsPlace (coll idkey : List ℕ) (result : Result (Option ℤ) Fault) (docs after : List Doc) : Type 0 where
+  pub same : after ≡ docs
+  pub found : IfOk result (λ p. p ≡ option_map (λ (d : Doc). d.place) (find (is_row_named coll idkey) docs))
+  pub faults : IfErr result (λ e. e ≢ Places)
+
 -- the rows are changed so, or the call is refused
 pub record Changes (change : List Doc → List Doc) (result : Result (Unit {0}) Fault) (docs after : List Doc) : Type 0 where
   pub done : OnOk result (after ≡ change docs)

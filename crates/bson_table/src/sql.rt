@@ -21,6 +21,10 @@ pub(crate) const PUT_KEY: &str = "UPDATE documents SET idkey = ?2 WHERE place = 
 pub(crate) const NAMED: &str =
     "SELECT place, body FROM documents WHERE coll = ?1 COLLATE BINARY AND idkey = ?2 ORDER BY place";
 
+/// The place of each of these rows.
+pub(crate) const PLACES: &str =
+    "SELECT place FROM documents WHERE coll = ?1 COLLATE BINARY AND idkey = ?2 ORDER BY place";
+
 pub(crate) const GREATEST_PLACE: &str = "SELECT place FROM documents ORDER BY place DESC LIMIT 1";
 
 pub(crate) const ALL_ROWS: &str = "SELECT place, coll, idkey, body FROM documents ORDER BY place";

@@ -108,6 +108,23 @@ pub(crate) fn named<'a, S: Alter>(
     )
 }
 
+/// The places of the rows with this collection and key, ascending.
+pub(crate) fn places<'a, S: Alter>(
+    conn: &mut Connection<S>,
+    coll: &'a str,
+    idkey: &'a [u8],
+) -> Result<Vec<Row>, Error>
+    ensures rows { HasCleanDisk (state S.Store conn.new) → (docs : List Doc) → Shows (state S.Store conn.old) docs
+        → IfOk result (λ rows. rows.items ≡ map (λ d. Int d.place ∷ []) (filter (is_row_named coll.now idkey.now) docs)) }
+    ensures read { HasCleanDisk (state S.Store conn.new) → ReadsRows (state S.Store conn.old) (state S.Store conn.new) result }
+    ensures crash { Survives (state S.Store conn.old) (state S.Store conn.new) (λ _. ⊥) }
+{
+    conn.query_all(
+        sql::PLACES,
+        &[ValueRef::Text(coll.as_bytes()), ValueRef::Blob(idkey)],
+    )
+}
+
 /// The greatest place, where the table has a row.
 pub(crate) fn greatest_if_any<S: Alter>(conn: &mut Connection<S>) -> Result<Option<i64>, Error>
     ensures place { HasCleanDisk (state S.Store conn.new) → (docs : List Doc) → Shows (state S.Store conn.old) docs

@@ -4,7 +4,7 @@ ghost use Rattle.std.specs.Prelude.{◌≡◌, length, false, IsTrue, IfOk, IfEr
 ghost use Rattle.sqlite.specs.Held.{state};
 ghost use Rattle.sqlite.specs.State.{HasCleanDisk, Survives};
 ghost use Rattle.bson_table.specs.Rows.{without_place, replaced};
-ghost use Rattle.bson_table.specs.Moves.{Moves, WasOpen, MayLeave, Settles, FindsNone, FindsRow, Changes, AddsRows, Lists, Visits, appended, all_appended};
+ghost use Rattle.bson_table.specs.Moves.{Moves, WasOpen, MayLeave, Settles, FindsNone, FindsRow, FindsPlace, Changes, AddsRows, Lists, Visits, appended, all_appended};
 ghost use Rattle.bson_table.specs.Renewal.{Opened, Unopened, Makes};
 ghost use Rattle.bson_table.specs.Open.{KeepsAll, HasNoTable, IsNameTaken};
 ghost use Rattle.sqlite_value.specs.Order.{column};
@@ -79,6 +79,19 @@ impl<S: Alter + Drop> Table<S> {
         let rows = statements::named(&mut self.conn, coll, idkey)?;
         match rows.first() {
             Some(row) => Ok(Some(found_in(self.alloc, row)?)),
+            None => Ok(None),
+        }
+    }
+
+    /// The place of the first row of the collection with this key.
+    pub fn place_of(&mut self, coll: &str, idkey: &[u8]) -> Result<Option<i64>, Fault>
+        ensures moves { Moves (table_state S.Store self.old) (table_state S.Store self.new) (FindsPlace coll.now idkey.now result) }
+        ensures open { WasOpen (table_state S.Store self.old) (table_state S.Store self.new) result }
+        ensures crash { Survives (table_state S.Store self.old) (table_state S.Store self.new) (λ _. ⊥) }
+    {
+        let rows = statements::places(&mut self.conn, coll, idkey)?;
+        match rows.first() {
+            Some(row) => Ok(Some(place_in(row))),
             None => Ok(None),
         }
     }

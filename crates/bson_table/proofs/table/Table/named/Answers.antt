@@ -16,7 +16,7 @@ returns-in-Some-clause-moves g c clean =
           let test = is_row_named c.args.coll.now c.args.idkey.now in
           let items = c.deref.ensures.value ∙ c.in_ok-rows.ensures.rows clean docs (stands u.0.was_open) in
           let first : slice_get c.deref.result.now 0 ≡ Some row = (let v = c.in-Some.ensures.value in search rules) in
-          let is : option_map found_row (find test docs) ≡ Some row = sym (first_found test docs) ∙ ap (λ rows. slice_get rows 0) (sym items) ∙ first in
+          let is : option_map found_row (find test docs) ≡ Some row = sym (first_found found_row test docs) ∙ ap (λ rows. slice_get rows 0) (sym items) ∙ first in
           (docs, stands_still old new docs u stands, record { same = refl; found = found_is (find test docs) row c.in_ok-found_in-in-Some.field-0 is c.in_ok-found_in-in-Some.ensures.0 c.in_ok-found_in-in-Some.ensures.1; faults = tt }),
     )
 
@@ -30,6 +30,6 @@ returns-clause-moves g c clean =
           let test = is_row_named c.args.coll.now c.args.idkey.now in
           let items = c.deref.ensures.value ∙ c.in_ok-rows.ensures.rows clean docs (stands u.0.was_open) in
           let first : slice_get c.deref.result.now 0 ≡ None = sym c.in-None.ensures.value in
-          let is : option_map found_row (find test docs) ≡ None = sym (first_found test docs) ∙ ap (λ rows. slice_get rows 0) (sym items) ∙ first in
+          let is : option_map found_row (find test docs) ≡ None = sym (first_found found_row test docs) ∙ ap (λ rows. slice_get rows 0) (sym items) ∙ first in
           (docs, stands_still old new docs u stands, record { same = refl; found = found_none (find test docs) is; faults = tt }),
     )

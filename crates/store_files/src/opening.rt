@@ -1,10 +1,13 @@
 //! Database files, opened with room in memory for their pages.
 
-use bson_store::ErrorKind;
+ghost use Rattle.std.specs.Prelude.{◌≡◌, ◌⊎◌, IfErr};
+ghost use Rattle.store_laws.specs.declared.error.ErrorKind.TheVariants.{Memory, Database};
+
 use sqlite::{Connection, Error, ErrorCode, File, FileStore, Options, Unknown};
 use sqlite_std_file::OpenError;
 use std::hash::{BuildHasher, RandomState};
 use std::{fs, io};
+use store_laws::ErrorKind;
 
 /// How many bytes a page of a new file has, and one of most others.
 const PAGE: u64 = 4096;
@@ -26,7 +29,9 @@ fn cache_pages(rt: &HostRuntime, path: &str) -> usize {
 }
 
 /// Why the files at a path can't be had.
-fn kind_of_path(error: OpenError) -> ErrorKind {
+fn kind_of_path(error: OpenError) -> ErrorKind
+    ensures { (result ≡ Memory) ⊎ (result ≡ Database) }
+{
     match error {
         OpenError::OutOfMemory => ErrorKind::Memory,
         OpenError::Io(error) if error.kind() == io::ErrorKind::OutOfMemory => ErrorKind::Memory,
@@ -35,7 +40,9 @@ fn kind_of_path(error: OpenError) -> ErrorKind {
 }
 
 /// Why files aren't opened as a database.
-fn kind_of(error: Error) -> ErrorKind {
+fn kind_of(error: Error) -> ErrorKind
+    ensures { (result ≡ Memory) ⊎ (result ≡ Database) }
+{
     match error {
         Error::SqliteFailure(ErrorCode::OutOfMemory) => ErrorKind::Memory,
         _ => ErrorKind::Database,
@@ -51,7 +58,9 @@ fn options_for(rt: &HostRuntime, path: &str) -> io::Result<Options> {
 
 /// Opens the database file at a path, which is made if it isn't there. `Memory` if memory ran out, and `Database` for every other
 /// fault; also for the paths `:memory:` and those that begin with `file:`, which name no file to SQLite.
-pub fn open(rt: &HostRuntime, path: &str) -> Result<Connection<FileStore<File>>, ErrorKind> {
+pub fn open(rt: &HostRuntime, path: &str) -> Result<Connection<FileStore<File>>, ErrorKind>
+    ensures { IfErr result (λ kind. (kind ≡ Memory) ⊎ (kind ≡ Database)) }
+{
     if path == ":memory:" || path.starts_with("file:") {
         return Err(ErrorKind::Database);
     }

@@ -1,0 +1,88 @@
+//! A session over a database file.
+
+ghost use Rattle.std.specs.Prelude.{◌<◌, ◌^◌, ◌-◌};
+
+use bson_store::{ErrorKind, Sink, Source, Store};
+use sqlite::{Alter, Connection, File, FileStore};
+use std::alloc::Global;
+use std::io;
+use store_files::open;
+use store_session::serve;
+use store_words::{Complaint, write_complaint, write_refusal};
+
+/// Tells a refusal, and answers the status of one.
+fn refuse<F: Sink>(faults: &mut F, kind: ErrorKind) -> u8
+    requires { (F.tally faults.old).failures < 2 ^ 64 - 1 }
+{
+    let _ = write_refusal(faults, kind, None);
+    1
+}
+
+/// Tells that there isn't just one word, and answers the status of that.
+pub fn misuse<F: Sink>(faults: &mut F) -> u8
+    requires { (F.tally faults.old).failures < 2 ^ 64 - 1 }
+{
+    let _ = write_complaint(faults, Complaint::Usage);
+    2
+}
+
+/// What is told where the words can't be had: want of memory, or that some word is no text.
+pub fn unread<F: Sink>(error: io::Error, faults: &mut F) -> u8
+    requires { (F.tally faults.old).failures < 2 ^ 64 - 1 }
+{
+    match error.kind() {
+        io::ErrorKind::OutOfMemory => refuse(faults, ErrorKind::Memory),
+        _ => misuse(faults),
+    }
+}
+
+/// Closes the files. Where that fails nothing is lost: what was committed stands in the log beside the file, and the next open
+/// finds it there.
+fn close(connection: Connection<FileStore<File>>) {
+    let _ = connection.close();
+}
+
+/// The session over a connection, which it gives back beside the reason for an early end. It is over any store, as what closing
+/// one of files does would else be gone through at each of its ends.
+fn over<S: Alter + Drop, I: Source, O: Sink>(
+    alloc: Global,
+    connection: Connection<S>,
+    input: &mut I,
+    output: &mut O,
+) -> (Result<(), ErrorKind>, Connection<S>)
+    requires input { (I.feed input.old).failures < 2 ^ 64 - 1 }
+    requires output { (O.tally output.old).failures < 2 ^ 64 - 1 }
+{
+    match Store::open(alloc, connection) {
+        Ok(mut store) => {
+            let end = serve(alloc, &mut store, input, output);
+            (end, store.close())
+        }
+        Err((error, connection)) => (Err(error.kind), connection),
+    }
+}
+
+/// Opens the file, holds the session, closes the file, and answers the program's status. A file that isn't there is made.
+pub fn hold<I: Source, O: Sink, F: Sink>(
+    rt: &HostRuntime,
+    file: &str,
+    input: &mut I,
+    output: &mut O,
+    faults: &mut F,
+) -> u8
+    requires input { (I.feed input.old).failures < 2 ^ 64 - 1 }
+    requires output { (O.tally output.old).failures < 2 ^ 64 - 1 }
+    requires faults { (F.tally faults.old).failures < 2 ^ 64 - 1 }
+{
+    match open(rt, file) {
+        Ok(connection) => {
+            let (end, connection) = over(rt.alloc(), connection, input, output);
+            close(connection);
+            match end {
+                Ok(()) => 0,
+                Err(kind) => refuse(faults, kind),
+            }
+        }
+        Err(kind) => refuse(faults, kind),
+    }
+}

@@ -1,0 +1,6 @@
+//! Database files, opened for the programs.
+#![tactic(auto)]
+
+mod opening;
+
+pub use opening::open;

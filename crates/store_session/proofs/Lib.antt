@@ -1,0 +1,2 @@
+mod Obeying
+mod Holding

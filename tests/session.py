@@ -1,0 +1,114 @@
+#!/usr/bin/python3
+"""Runs sessions of the program over a database file: lines in, lines out, and tools/bson_session.py beside Python's bson.
+
+    tests/session.py PROGRAM [NUMBER]
+
+prints one line a step, and ends with status 1 at the first that isn't as it should be.
+"""
+import json
+import pathlib
+import subprocess
+import sys
+import tempfile
+import time
+
+try:
+    import bson
+except ImportError:
+    sys.exit("session.py: needs Python's bson, of Debian: apt-get install python3-bson")
+
+sys.path.insert(0, str(pathlib.Path(__file__).resolve().parent.parent / "tools"))
+from bson_session import Refused, Session
+
+PROGRAM = sys.argv[1]
+FOLDER = pathlib.Path(tempfile.mkdtemp())
+
+
+def run(lines, file="test.db", **more):
+    done = subprocess.run([PROGRAM, str(FOLDER / file)], input=lines, stdout=subprocess.PIPE, stderr=subprocess.PIPE, **more)
+    return done.returncode, done.stdout.decode().splitlines(), done.stderr.decode()
+
+
+def asks(*words, **more):
+    return json.dumps({"words": words, **more}).encode() + b"\n"
+
+
+def holds(step, found, wanted):
+    if found != wanted:
+        print(f"{step}: {found!r} in place of {wanted!r}")
+        sys.exit(1)
+    print(f"{step}: {found!r}"[:150])
+
+
+DONE = '{"status":0,"output":""}'
+NO_LINE = '{"status":2,"told":"words: line %d"}'
+
+# The input that the crate's stdin and stdout have, and an end without a line feed.
+holds("nothing", run(b""), (0, [], ""))
+holds("empty lines", run(b"\n\n" + asks("collections")), (0, [DONE], ""))
+holds("no line feed at the end", run(asks("insert", "c", '{"_id":1}')[:-1]), (0, [DONE], ""))
+holds("it is kept", run(asks("count", "c", '{"and":[]}')), (0, ['{"status":0,"output":"1\\n"}'], ""))
+holds("a carriage return", run(asks("collections")[:-1] + b"\r\n"), (0, ['{"status":0,"output":"c\\n"}'], ""))
+
+# Lines that ask for nothing.
+wrong = [b"[]", b"{", b"{}", b'{"words":"collections"}', b'{"words":[1]}', b'{"words":["collections"],"more":1}',
+         b'{"words":["import","c"],"input":"?"}', b'{"words":["import","c"],"input":1}', b'{"input":"","words":[]} 1', b"\xff", b"\0"]
+holds("lines that ask for nothing", run(b"\n".join(wrong)), (0, [NO_LINE % (n + 1) for n in range(len(wrong))], ""))
+for words in [[], ["frob"], ["insert", "c"], ["collections", "c"]]:
+    holds(f"words {words}", run(asks(*words)), (0, ['{"status":2,"output":"","told":"words: usage"}'], ""))
+holds("JSON", run(asks("insert", "c", "{")), (0, ['{"status":2,"output":"","told":"words: JSON"}'], ""))
+
+# A line of 64 MiB is read, and one byte more is too long; the session goes on.
+most = 64 << 20
+padded = asks("collections")[:-1].ljust(most)
+holds("a line of 64 MiB", run(padded + b"\n"), (0, ['{"status":0,"output":"c\\n"}'], ""))
+holds("one byte more", run(padded + b" \n" + asks("collections")), (0, [NO_LINE % 1, '{"status":0,"output":"c\\n"}'], ""))
+holds("the same at the end", run(padded + b" "), (0, [NO_LINE % 1], ""))
+
+# Each answer comes before the next line is asked for.
+process = subprocess.Popen([PROGRAM, str(FOLDER / "test.db")], stdin=subprocess.PIPE, stdout=subprocess.PIPE)
+for number in range(2, 5):
+    process.stdin.write(asks("insert", "c", '{"_id":%d}' % number))
+    process.stdin.flush()
+    holds("an answer", process.stdout.readline(), DONE.encode() + b"\n")
+holds("another process meanwhile", run(asks("collections")), (1, [], "refused: Database\n"))
+process.stdin.close()
+holds("the end", (process.stdout.read(), process.wait()), (b"", 0))
+
+# An output that fails: no further command is done.
+with open("/dev/full", "wb") as full:
+    done = subprocess.run([PROGRAM, str(FOLDER / "test.db")], input=asks("remove", "c", "1") + asks("remove", "c", "2"), stdout=full, stderr=subprocess.PIPE)
+holds("an output that fails", (done.returncode, done.stderr), (1, b"refused: Writer\n"))
+holds("what was done", run(asks("get", "c", "1") + asks("count", "c", '{"and":[]}')),
+      (0, ['{"status":1,"output":"","told":"refused: NotFound"}', '{"status":0,"output":"3\\n"}'], ""))
+
+# Words and files that can't be had.
+holds("no word", subprocess.run([PROGRAM], stdin=subprocess.DEVNULL, capture_output=True).stderr, b"words: usage\n")
+holds("a folder", run(b"", "."), (1, [], "refused: Database\n"))
+(FOLDER / "text").write_text("this is no database, but a text" * 100)
+holds("no database", run(b"", "text"), (1, [], "refused: Database\n"))
+
+# The class for Python beside its bson.
+documents = [{"_id": i, "name": f"n{i} \u00fc\n", "list": [i, {"x": True}]} for i in range(10)]
+stream = b"".join(bson.encode(document) for document in documents)
+with Session(str(FOLDER / "python.db"), PROGRAM) as store:
+    holds("import", store("import", "c", input=stream), "10\n")
+    holds("export", bson.decode_all(store("export", "c")), documents)
+    holds("find", bson.decode_all(store("find", "c", {"eq": [["list", "0"], 7]})), documents[7:8])
+    holds("get", json.loads(store("get", "c", 3, "--relaxed")), documents[3])
+    holds("load", store("load", "d", input=store("dump", "c").encode()), "10\n")
+    holds("insert", store("insert", "c", {"_id": "\u00e4"}), "")
+    try:
+        store("insert", "c", {"_id": 3})
+        holds("insert again", "done", "refused")
+    except Refused as refused:
+        holds("insert again", str(refused), "refused: DuplicateId")
+
+# Many inserts and gets in one session: a thousand of each, or as many as is told.
+count = int(sys.argv[2]) if len(sys.argv) > 2 else 1000
+began = time.time()
+lines = b"".join(asks("insert", "c", '{"_id":%d,"n":"%d"}' % (n, n)) + asks("get", "c", str(n)) for n in range(count))
+status, answers, told = run(lines, "many.db")
+holds("many inserts and gets", (status, len(answers), told, answers[0::2] == [DONE] * count), (0, 2 * count, "", True))
+holds("the last", json.loads(json.loads(answers[-1])["output"])["n"], str(count - 1))
+print(f"{time.time() - began:.1f} s")
