@@ -3,12 +3,12 @@ use Rattle.std.proofs.Common.{◌≡◌, ◌≢◌, ℕ, zero, suc, ◌/◌, ◌
 use Rattle.std.specs.Int.{byte_at, bytes_low_first}
 use Rattle.std.proofs.lemmas.Bool.{eqb-true}
 use Rattle.std.proofs.Math.Nat.{pow-suc, div-div-eq-div-mul}
-use Rattle.bson_base.specs.Decimal.{low_bytes, Decimal, not_a_number, infinity, finite, IsUnpacked, limited, is_negative_decimal, pack, unpack}
+use Rattle.bson_base.specs.Decimal.{low_bytes, Decimal, not_a_number, infinity, finite, IsUnpacked, within_limit, is_negative_decimal, pack, unpack}
 
-limited_low : (c : ℕ) → limited c < 10 ^ 34
+limited_low : (c : ℕ) → within_limit c < 10 ^ 34
 limited_low c = grind arith
 
-limited_same : (c : ℕ) → c < 10 ^ 34 → limited c ≡ c
+limited_same : (c : ℕ) → c < 10 ^ 34 → within_limit c ≡ c
 limited_same c h = grind arith
 
 eq_no : (m n : ℕ) → (m == n) ≡ false → m ≢ n
@@ -26,7 +26,7 @@ unfolding unpack
 unpack_is n = by (n / 2 ^ 123 % 16 == 15) refl
   where
     finite_or : (b : Bool) → (n / 2 ^ 123 % 16 == 15) ≡ false → (n / 2 ^ 125 % 4 == 3) ≡ b
-        → IsUnpacked (if b then finite (is_negative_decimal n) 0 (n / 2 ^ 111 % 2 ^ 14) else finite (is_negative_decimal n) (limited (n % 2 ^ 113)) (n / 2 ^ 113 % 2 ^ 14))
+        → IsUnpacked (if b then finite (is_negative_decimal n) 0 (n / 2 ^ 111 % 2 ^ 14) else finite (is_negative_decimal n) (within_limit (n % 2 ^ 113)) (n / 2 ^ 113 % 2 ^ 14))
     finite_or true e f = (omega arith, large_low n (eq_no (n / 2 ^ 123 % 16) 15 e) (eqb-true (n / 2 ^ 125 % 4) 3 f))
     finite_or false e f = (limited_low (n % 2 ^ 113), exponent_low n (eq_no (n / 2 ^ 125 % 4) 3 f))
 
@@ -35,12 +35,12 @@ unpack_is n = by (n / 2 ^ 123 % 16 == 15) refl
     special false = tt
 
     by : (b : Bool) → (n / 2 ^ 123 % 16 == 15) ≡ b → IsUnpacked (if b then (if n / 2 ^ 122 % 2 == 1 then not_a_number else infinity (is_negative_decimal n))
-        else if n / 2 ^ 125 % 4 == 3 then finite (is_negative_decimal n) 0 (n / 2 ^ 111 % 2 ^ 14) else finite (is_negative_decimal n) (limited (n % 2 ^ 113)) (n / 2 ^ 113 % 2 ^ 14))
+        else if n / 2 ^ 125 % 4 == 3 then finite (is_negative_decimal n) 0 (n / 2 ^ 111 % 2 ^ 14) else finite (is_negative_decimal n) (within_limit (n % 2 ^ 113)) (n / 2 ^ 113 % 2 ^ 14))
     by true e = special (n / 2 ^ 122 % 2 == 1)
     by false e = finite_or (n / 2 ^ 125 % 4 == 3) e refl
 
 -- the tests of `unpack` at a packed finite
-unpack-finite : (s : Bool) (n c e : ℕ) → (n / 2 ^ 123 % 16 == 15) ≡ false → (n / 2 ^ 125 % 4 == 3) ≡ false → is_negative_decimal n ≡ s → limited (n % 2 ^ 113) ≡ c → n / 2 ^ 113 % 2 ^ 14 ≡ e
+unpack-finite : (s : Bool) (n c e : ℕ) → (n / 2 ^ 123 % 16 == 15) ≡ false → (n / 2 ^ 125 % 4 == 3) ≡ false → is_negative_decimal n ≡ s → within_limit (n % 2 ^ 113) ≡ c → n / 2 ^ 113 % 2 ^ 14 ≡ e
     → unpack n ≡ finite s c e
 unfolding unpack
 unpack-finite s n c e special large sign coefficient exponent = rw (special, large, sign, coefficient, exponent) refl
@@ -55,13 +55,13 @@ unpack-pack (finite true c e) h =
     let low = h.0 in
     let small = h.1 in
     let coefficient : n % 2 ^ 113 ≡ c = omega arith in
-    unpack-finite true n c e (grind arith) (grind arith) (grind arith) (ap limited coefficient ∙ limited_same c low) (omega arith)
+    unpack-finite true n c e (grind arith) (grind arith) (grind arith) (ap within_limit coefficient ∙ limited_same c low) (omega arith)
 unpack-pack (finite false c e) h =
     let n = pack (finite false c e) in
     let low = h.0 in
     let small = h.1 in
     let coefficient : n % 2 ^ 113 ≡ c = omega arith in
-    unpack-finite false n c e (grind arith) (grind arith) (grind arith) (ap limited coefficient ∙ limited_same c low) (omega arith)
+    unpack-finite false n c e (grind arith) (grind arith) (grind arith) (ap within_limit coefficient ∙ limited_same c low) (omega arith)
 
 -- ---- bytes
 

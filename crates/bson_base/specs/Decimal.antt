@@ -44,8 +44,8 @@ unfoldable pub sixteen_bytes : ℕ → List ℕ
 sixteen_bytes n = low_bytes 16 n
 
 -- a coefficient over the limit counts as 0
-abbrev pub limited : ℕ → ℕ
-limited c = if nat_lt c (10 ^ 34) then c else 0
+abbrev pub within_limit : ℕ → ℕ
+within_limit c = if nat_lt c (10 ^ 34) then c else 0
 
 abbrev pub is_negative_decimal : ℕ → Bool
 is_negative_decimal n = n / 2 ^ 127 == 1
@@ -54,7 +54,7 @@ unfoldable pub unpack : ℕ → Decimal
 unpack n =
     if n / 2 ^ 123 % 16 == 15 then (if n / 2 ^ 122 % 2 == 1 then not_a_number else infinity (is_negative_decimal n))
     else if n / 2 ^ 125 % 4 == 3 then finite (is_negative_decimal n) 0 (n / 2 ^ 111 % 2 ^ 14)
-    else finite (is_negative_decimal n) (limited (n % 2 ^ 113)) (n / 2 ^ 113 % 2 ^ 14)
+    else finite (is_negative_decimal n) (within_limit (n % 2 ^ 113)) (n / 2 ^ 113 % 2 ^ 14)
 
 abbrev pub decimal_sign_bit : Bool → ℕ
 decimal_sign_bit s = if s then 2 ^ 127 else 0

@@ -6,16 +6,16 @@ use Rattle.bson_base.specs.declared.decimal128.parts.Parts.{Parts}
 use Rattle.bson_base.specs.declared.decimal128.parts.Parts.TheVariants.{NotANumber, Infinite, Finite}
 
 -- the decimal that parts stand for
-abbrev pub meant : Parts → Decimal
-meant (NotANumber s q) = not_a_number
-meant (Infinite s) = infinity s
-meant (Finite s c e) = finite s c e
+abbrev pub decimal_of_parts : Parts → Decimal
+decimal_of_parts (NotANumber s q) = not_a_number
+decimal_of_parts (Infinite s) = infinity s
+decimal_of_parts (Finite s c e) = finite s c e
 
 -- the bits of parts
-abbrev pub packed : Parts → ℕ
-packed (NotANumber s q) = pack_nan s q
-packed (Infinite s) = pack (infinity s)
-packed (Finite s c e) = pack (finite s c e)
+abbrev pub bits_of_parts : Parts → ℕ
+bits_of_parts (NotANumber s q) = pack_nan s q
+bits_of_parts (Infinite s) = pack (infinity s)
+bits_of_parts (Finite s c e) = pack (finite s c e)
 
 abbrev pub IsPackable : Parts → Type 0
 IsPackable (NotANumber s q) = Unit {0}

@@ -6,7 +6,7 @@ use Rattle.base64.specs.Engines.{standard}
 use Rattle.uuid_text.specs.UuidText.{uuid_of}
 use Rattle.bson_base.specs.Tags.{subtype_byte}
 use Rattle.bson_base.specs.declared.binary.Binary.{Binary}
-use Rattle.bson_base.specs.declared.binary.Error.{Error as BinaryError}
+use Rattle.bson_base.specs.declared.binary.Error.{Error as AnyBinaryError}
 use Rattle.bson_base.specs.declared.binary.Error.TheVariants.{DecodingError, Vector, Memory}
 use Rattle.bson_base.specs.declared.regex.Regex.{Regex}
 use Rattle.bson_base.specs.declared.timestamp.Timestamp.{Timestamp}
@@ -22,7 +22,7 @@ abbrev pub read_uuid : List ℕ → Result (List ℕ) Error
 read_uuid text = valid_uuid (uuid_of text)
 
 -- whether a text is Base64 with padding and zero bits at its end (RFC 4648, section 4)
-abbrev pub RefusesBase64 : List ℕ → BinaryError → Type 0
+abbrev pub RefusesBase64 : List ℕ → AnyBinaryError → Type 0
 RefusesBase64 text DecodingError = IsTrue (is_err (decode_of standard text))
 RefusesBase64 text Memory = Unit {0}
 RefusesBase64 text Vector = ⊥

@@ -3,7 +3,7 @@
 ghost use Rattle.std.specs.Prelude.{◌≡◌, Some};
 ghost use Rattle.bson_base.specs.Answer.{result_map};
 ghost use Rattle.bson_base.specs.Decimal.{decimal_text, number_of, read, sixteen_bytes, unpack};
-ghost use Rattle.bson_base.specs.DecimalParts.{meant};
+ghost use Rattle.bson_base.specs.DecimalParts.{decimal_of_parts};
 
 mod digits;
 mod parse;
@@ -72,7 +72,7 @@ impl Decimal128 {
     }
 
     fn parts(&self) -> Parts
-        ensures { meant result ≡ unpack (number_of (decimal_bytes self.now)) }
+        ensures { decimal_of_parts result ≡ unpack (number_of (decimal_bytes self.now)) }
     {
         Parts::of_bits(number_of_bytes(&self.bytes))
     }

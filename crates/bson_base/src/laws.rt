@@ -17,13 +17,13 @@ ghost use Rattle.bson_base.specs.declared.binary.vector.PackedBitVector.{PackedB
 ghost use Rattle.bson_base.specs.declared.binary.vector.Vector.{Vector as AnyVector};
 ghost use Rattle.bson_base.specs.declared.datetime.DateTime.{DateTime as AnyDateTime};
 ghost use Rattle.bson_base.specs.declared.datetime.Error.{Error as AnyDateTimeError};
-ghost use Rattle.bson_base.specs.declared.decimal128.Decimal128.{Decimal128 as AnyDecimal128};
+ghost use Rattle.bson_base.specs.declared.decimal128.Decimal128.{Decimal128 as AnyDecimal};
 ghost use Rattle.bson_base.specs.declared.decimal128.ParseError.{ParseError as AnyDecimalError};
 ghost use Rattle.bson_base.specs.declared.device.DeviceFault.{DeviceFault as AnyDeviceFault};
 ghost use Rattle.bson_base.specs.declared.double.DoubleBits.{DoubleBits as AnyDouble};
 ghost use Rattle.bson_base.specs.declared.oid.Error.{Error as AnyObjectIdError};
 ghost use Rattle.bson_base.specs.declared.oid.ObjectId.{ObjectId as AnyObjectId};
-ghost use Rattle.bson_base.specs.declared.pointer.DbPointer.{DbPointer as AnyDbPointer};
+ghost use Rattle.bson_base.specs.declared.pointer.DbPointer.{DbPointer as AnyPointer};
 ghost use Rattle.bson_base.specs.declared.regex.Regex.{Regex as AnyRegex};
 ghost use Rattle.bson_base.specs.declared.spec.BinarySubtype.{BinarySubtype as AnySubtype};
 ghost use Rattle.bson_base.specs.declared.spec.ElementType.{ElementType as AnyKind};
@@ -63,7 +63,7 @@ pub fn equal_scalars()
     ensures subtypes { (x y : AnySubtype) → IsTrue (⟦<BinarySubtype as PartialEq>⟧.eq x y) ↔ (x ≡ y) }
     ensures object_ids { (x y : AnyObjectId) → IsTrue (⟦<ObjectId as PartialEq>⟧.eq x y) ↔ (x ≡ y) }
     ensures moments { (x y : AnyDateTime) → IsTrue (⟦<DateTime as PartialEq>⟧.eq x y) ↔ (x ≡ y) }
-    ensures decimals { (x y : AnyDecimal128) → IsTrue (⟦<Decimal128 as PartialEq>⟧.eq x y) ↔ (x ≡ y) }
+    ensures decimals { (x y : AnyDecimal) → IsTrue (⟦<Decimal128 as PartialEq>⟧.eq x y) ↔ (x ≡ y) }
     ensures timestamps { (x y : AnyTimestamp) → IsTrue (⟦<Timestamp as PartialEq>⟧.eq x y) ↔ (x ≡ y) }
     ensures uuids { (x y : AnyUuid) → IsTrue (⟦<Uuid as PartialEq>⟧.eq x y) ↔ (x ≡ y) }
     ensures kinds { (x y : AnyKind) → IsTrue (⟦<ElementType as PartialEq>⟧.eq x y) ↔ (x ≡ y) }
@@ -87,7 +87,7 @@ pub fn equal_parts()
     ensures binaries { (x y : AnyBinary) → IsTrue (⟦<Binary as PartialEq>⟧.eq x y) ↔ ((x.subtype ≡ y.subtype) × (x.bytes.items ≡ y.bytes.items)) }
     ensures expressions { (x y : AnyRegex) → IsTrue (⟦<Regex as PartialEq>⟧.eq x y)
         ↔ ((string_bytes x.pattern ≡ string_bytes y.pattern) × (string_bytes x.options ≡ string_bytes y.options)) }
-    ensures pointers { (x y : AnyDbPointer) → IsTrue (⟦<DbPointer as PartialEq>⟧.eq x y)
+    ensures pointers { (x y : AnyPointer) → IsTrue (⟦<DbPointer as PartialEq>⟧.eq x y)
         ↔ ((string_bytes x.namespace ≡ string_bytes y.namespace) × (x.id ≡ y.id)) }
 {}
 

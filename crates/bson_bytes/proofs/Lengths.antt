@@ -3,7 +3,7 @@ use Rattle.std.proofs.Common.{◌≡◌, ℕ, suc, ◌+◌, List, length, refl, 
 use Rattle.bson_base.specs.declared.spec.BinarySubtype.{BinarySubtype}
 use Rattle.bson_base.specs.declared.spec.BinarySubtype.TheVariants as subtypes
 use Rattle.bson_base.specs.Value.{Scalar, double, string, binary, undefined, object_id, boolean, date_time, null, regex, db_pointer, code, symbol, int32, timestamp, int64, decimal, max_key, min_key, Value, scalar, array, document, scoped_code, Items, no_items, item, Members, no_members, member}
-use Rattle.bson_bytes.specs.Encode.{le32, le64, text_bytes, ended, is_old, inner, scalar_bytes, scalar_size, framed, scoped, value_bytes, items_bytes, members_bytes, value_size, items_size, members_size, encode, size}
+use Rattle.bson_bytes.specs.Encode.{le32, le64, text_bytes, cstring_of, is_old, inner, scalar_bytes, scalar_size, frame_of, scope_frame_of, value_bytes, items_bytes, members_bytes, value_size, items_size, members_size, encode, size}
 use Rattle.std.specs.Prelude.{if◌then◌else◌}
 
 pub le32_length : (n : ℕ) → length (le32 n) ≡ 4
@@ -14,20 +14,20 @@ pub le64_length : (n : ℕ) → length (le64 n) ≡ 8
 unfolding le64
 le64_length n = refl
 
-pub ended_length : (t : List ℕ) → length (ended t) ≡ length t + 1
-unfolding ended
+pub ended_length : (t : List ℕ) → length (cstring_of t) ≡ length t + 1
+unfolding cstring_of
 ended_length t = simp length-append
 
 pub text_length : (t : List ℕ) → length (text_bytes t) ≡ length t + 5
 unfolding text_bytes
 text_length t = simp (length-append, le32_length) (omega arith)
 
-pub framed_length : (b : List ℕ) → length (framed b) ≡ length b + 5
-unfolding framed
+pub framed_length : (b : List ℕ) → length (frame_of b) ≡ length b + 5
+unfolding frame_of
 framed_length b = simp (length-append, le32_length) (omega arith)
 
-pub scoped_length : (t b : List ℕ) → length (scoped t b) ≡ length t + length b + 9
-unfolding scoped
+pub scoped_length : (t b : List ℕ) → length (scope_frame_of t b) ≡ length t + length b + 9
+unfolding scope_frame_of
 scoped_length t b = simp (length-append, le32_length, text_length) (omega arith)
 
 pub inner_length : (s : BinarySubtype) (bs : List ℕ) → length (inner s bs) + 5 ≡ length bs + (if is_old s then 9 else 5)
@@ -60,7 +60,7 @@ mutual
   value_length (scalar s) = payload_length s
   value_length (array vs) = framed_length _ ∙ ap (λ n. n + 5) (items_length 0 vs)
   value_length (document ms) = framed_length _ ∙ ap (λ n. n + 5) (members_length ms)
-  value_length (scoped_code t ms) = omega (arith, scoped_length t (framed (members_bytes ms)), framed_length (members_bytes ms), members_length ms)
+  value_length (scoped_code t ms) = omega (arith, scoped_length t (frame_of (members_bytes ms)), framed_length (members_bytes ms), members_length ms)
 
   pub items_length : (i : ℕ) (vs : Items) → length (items_bytes i vs) ≡ items_size i vs
   items_length i no_items = refl

@@ -11,7 +11,7 @@ use Rattle.bson_base.specs.declared.spec.BinarySubtype.TheVariants as subtypes
 use Rattle.bson_base.specs.Kinds.{HasNo00, IsPlainScalar, IsCleanScalar, IsRangedScalar}
 use Rattle.bson_base.specs.Tags.{subtype_of, subtype_byte}
 use Rattle.bson_base.specs.Value.{Scalar, double, string, binary, undefined, object_id, boolean, date_time, null, regex, db_pointer, code, symbol, int32, timestamp, int64, decimal, max_key, min_key, scalar_kind}
-use Rattle.bson_bytes.specs.Encode.{le32, le64, text_bytes, ended, inner, truth, scalar_bytes, scalar_size}
+use Rattle.bson_bytes.specs.Encode.{le32, le64, text_bytes, cstring_of, inner, truth, scalar_bytes, scalar_size}
 use Rattle.bson_bytes.specs.Spells.{HoldsScalar}
 use Rattle.bson_bytes.proofs.Lengths.{le32_length, le64_length, text_length, inner_length, payload_length}
 use Rattle.bson_bytes.proofs.Extents.{number_back, text_number, text_size}
@@ -26,8 +26,8 @@ pub record IsTold (s : Scalar) : Type 0 where
   pub ranged : IsRangedScalar s
   pub small : scalar_size s < 2 ^ 31
 
-regex_size : (p o rest : List ℕ) → HasNo00 p × HasNo00 o → IsUtf8 p × IsUtf8 o → IsRegexSize ((ended p ++ ended o) ++ rest) (length (ended p ++ ended o))
-unfolding ended
+regex_size : (p o rest : List ℕ) → HasNo00 p × HasNo00 o → IsUtf8 p × IsUtf8 o → IsRegexSize ((cstring_of p ++ cstring_of o) ++ rest) (length (cstring_of p ++ cstring_of o))
+unfolding cstring_of
 regex_size p o rest plain ranged = record {
   pattern = p;
   options = o;
@@ -182,8 +182,8 @@ pointer_back t bs h =
     let n : number (text_bytes t ++ bs) + 4 ≡ length (text_bytes t) = omega (arith, text_number t bs h, text_length t) in
     sym (ap (λ n. drop n (text_bytes t ++ bs)) n ∙ drop-append_seam (text_bytes t) bs)
 
-regex_back : (p o : List ℕ) → ended p ++ ended o ≡ p ++ 0 ∷ (o ++ 0 ∷ [])
-unfolding ended
+regex_back : (p o : List ℕ) → cstring_of p ++ cstring_of o ≡ p ++ 0 ∷ (o ++ 0 ∷ [])
+unfolding cstring_of
 regex_back p o = append_assoc p (0 ∷ []) (o ++ 0 ∷ [])
 
 pub scalar_held : (s : Scalar) → IsTold s → HoldsScalar (scalar_bytes s) s

@@ -6,7 +6,7 @@ use Rattle.bson_base.specs.Tags.{tag_byte}
 use Rattle.bson_base.specs.Value.{Scalar, value_kind, Value, scalar, array, document, scoped_code, Items, no_items, item, Members, no_members, member, EachPart, EachItem, EachMember}
 use Rattle.std.proofs.lemmas.Fmt.{IsAscii-decimal, decimal_by_steps_wide}
 use Rattle.std.proofs.lemmas.Str.{IsUtf8-from_ascii}
-use Rattle.bson_bytes.specs.Encode.{le32, text_bytes, ended, framed, scoped, scalar_size, value_bytes, items_bytes, members_bytes, value_size, items_size, members_size}
+use Rattle.bson_bytes.specs.Encode.{le32, text_bytes, cstring_of, frame_of, scope_frame_of, scalar_size, value_bytes, items_bytes, members_bytes, value_size, items_size, members_size}
 use Rattle.bson_bytes.specs.Spells.{SpellsValue, SpellsItems, SpellsMembers}
 use Rattle.bson_bytes.proofs.Lengths.{text_length, framed_length, scoped_length, items_length, members_length}
 use Rattle.bson_bytes.proofs.Extents.{number_back, text_size, framed_size, framed_envelope}
@@ -26,33 +26,33 @@ told s clean ranged small = record { plain = clean.0; clean = clean.1; ranged = 
 
 -- ---- a code with its scope
 
-scoped_sized : (t b rest : List ℕ) → length t + length b + 14 < 2 ^ 31 → IsCodeSize (scoped t (framed b) ++ rest) (length (scoped t (framed b)))
-unfolding scoped
+scoped_sized : (t b rest : List ℕ) → length t + length b + 14 < 2 ^ 31 → IsCodeSize (scope_frame_of t (frame_of b) ++ rest) (length (scope_frame_of t (frame_of b)))
+unfolding scope_frame_of
 scoped_sized t b rest h =
-    let inside : length (text_bytes t ++ framed b) ≡ length t + length b + 10 = simp (length-append, text_length, framed_length) (omega arith) in
-    let l : length (scoped t (framed b)) ≡ length t + length b + 14 = omega (arith, scoped_length t (framed b), framed_length b) in
-    let n : number (scoped t (framed b) ++ rest) ≡ length (text_bytes t ++ framed b) + 4 = ap number (append_assoc (le32 (length (text_bytes t ++ framed b) + 4)) (text_bytes t ++ framed b) rest) ∙ number_back (length (text_bytes t ++ framed b) + 4) _ (omega (arith, h, inside)) in
+    let inside : length (text_bytes t ++ frame_of b) ≡ length t + length b + 10 = simp (length-append, text_length, framed_length) (omega arith) in
+    let l : length (scope_frame_of t (frame_of b)) ≡ length t + length b + 14 = omega (arith, scoped_length t (frame_of b), framed_length b) in
+    let n : number (scope_frame_of t (frame_of b) ++ rest) ≡ length (text_bytes t ++ frame_of b) + 4 = ap number (append_assoc (le32 (length (text_bytes t ++ frame_of b) + 4)) (text_bytes t ++ frame_of b) rest) ∙ number_back (length (text_bytes t ++ frame_of b) + 4) _ (omega (arith, h, inside)) in
     record {
       declared = omega (arith, l, n, inside);
       fits = omega (arith, n, inside, h);
-      there = omega (arith, l, length-append (scoped t (framed b)) rest);
+      there = omega (arith, l, length-append (scope_frame_of t (frame_of b)) rest);
     }
 
-pub code_back : (t scope : List ℕ) → code_in (scoped t scope) ≡ text_bytes t ++ scope
-unfolding scoped le32
+pub code_back : (t scope : List ℕ) → code_in (scope_frame_of t scope) ≡ text_bytes t ++ scope
+unfolding scope_frame_of le32
 code_back t scope = refl
 
-pub scope_back : (t scope : List ℕ) → length t + 5 < 2 ^ 31 → scope_in (scoped t scope) ≡ scope
+pub scope_back : (t scope : List ℕ) → length t + 5 < 2 ^ 31 → scope_in (scope_frame_of t scope) ≡ scope
 scope_back t scope h = ap (λ (x : List ℕ). drop (number x + 4) x) (code_back t scope) ∙ sym (pointer_back t scope h)
 
-scoped_faultless : (t b : List ℕ) → length t + length b + 14 < 2 ^ 31 → IsUtf8 t → (kind : ErrorKind) → CodeFault (scoped t (framed b)) kind → ⊥
-scoped_faultless t b h utf MalformedValue (inl short) = omega (arith, short, scoped_length t (framed b), framed_length b)
+scoped_faultless : (t b : List ℕ) → length t + length b + 14 < 2 ^ 31 → IsUtf8 t → (kind : ErrorKind) → CodeFault (scope_frame_of t (frame_of b)) kind → ⊥
+scoped_faultless t b h utf MalformedValue (inl short) = omega (arith, short, scoped_length t (frame_of b), framed_length b)
 scoped_faultless t b h utf MalformedValue (inr (inl never)) =
-    let c = code_back t (framed b) in
-    let s = subst (λ (x : List ℕ). IsTextSize x (length (text_bytes t))) (sym c) (text_size t (framed b) (omega (arith, h))) in
-    never (length (text_bytes t)) s (omega (arith, ap length c, length-append (text_bytes t) (framed b)))
-scoped_faultless t b h utf MalformedValue (inr (inr loose)) = loose.2 (subst IsEnvelope (sym (scope_back t (framed b) (omega (arith, h)))) (framed_envelope b (omega (arith, h))))
-scoped_faultless t b h utf Utf8EncodingError fault = fault.1.1 (subst IsUtf8 (sym (ap text_in (code_back t (framed b)) ∙ text_back t (framed b) (omega (arith, h)))) utf)
+    let c = code_back t (frame_of b) in
+    let s = subst (λ (x : List ℕ). IsTextSize x (length (text_bytes t))) (sym c) (text_size t (frame_of b) (omega (arith, h))) in
+    never (length (text_bytes t)) s (omega (arith, ap length c, length-append (text_bytes t) (frame_of b)))
+scoped_faultless t b h utf MalformedValue (inr (inr loose)) = loose.2 (subst IsEnvelope (sym (scope_back t (frame_of b) (omega (arith, h)))) (framed_envelope b (omega (arith, h))))
+scoped_faultless t b h utf Utf8EncodingError fault = fault.1.1 (subst IsUtf8 (sym (ap text_in (code_back t (frame_of b)) ∙ text_back t (frame_of b) (omega (arith, h)))) utf)
 scoped_faultless t b h utf OutOfMemory fault = fault
 
 -- ---- keys of arrays
@@ -65,12 +65,12 @@ digits_name i h = record { no_zero = no_zero_digits i (omega (arith, h)); text =
 
 -- ---- elements
 
-pub element_parts : (tag : ℕ) (key payload more : List ℕ) → (tag ∷ (ended key ++ (payload ++ more))) ++ 0 ∷ [] ≡ tag ∷ (key ++ 0 ∷ (payload ++ (more ++ 0 ∷ [])))
-unfolding ended
+pub element_parts : (tag : ℕ) (key payload more : List ℕ) → (tag ∷ (cstring_of key ++ (payload ++ more))) ++ 0 ∷ [] ≡ tag ∷ (key ++ 0 ∷ (payload ++ (more ++ 0 ∷ [])))
+unfolding cstring_of
 element_parts tag key payload more = simp append_assoc
 
-pub framed_inside : (b : List ℕ) → drop 4 (framed b) ≡ b ++ 0 ∷ []
-unfolding framed le32
+pub framed_inside : (b : List ℕ) → drop 4 (frame_of b) ≡ b ++ 0 ∷ []
+unfolding frame_of le32
 framed_inside b = refl
 
 pub value_sized : (v : Value) (rest : List ℕ) → IsPlain v → EachPart IsUtf8 IsRangedScalar v → value_size v < 2 ^ 31 → HasSize (value_kind v) (value_bytes v ++ rest) (length (value_bytes v))
@@ -90,8 +90,8 @@ mutual
   spelled_value (document ms) clean ranged h = subst (λ (x : List ℕ). SpellsMembers x ms) (sym (framed_inside (members_bytes ms))) (spelled_members ms clean ranged (omega (arith, h)))
   spelled_value (scoped_code t ms) clean ranged h = (
     scoped_faultless t (members_bytes ms) (omega (arith, h, members_length ms)) ranged.0,
-    sym (ap text_in (code_back t (framed (members_bytes ms))) ∙ text_back t (framed (members_bytes ms)) (omega (arith, h))),
-    subst (λ (x : List ℕ). SpellsMembers x ms) (sym (ap (drop 4) (scope_back t (framed (members_bytes ms)) (omega (arith, h))) ∙ framed_inside (members_bytes ms))) (spelled_members ms clean.1 ranged.1 (omega (arith, h))),
+    sym (ap text_in (code_back t (frame_of (members_bytes ms))) ∙ text_back t (frame_of (members_bytes ms)) (omega (arith, h))),
+    subst (λ (x : List ℕ). SpellsMembers x ms) (sym (ap (drop 4) (scope_back t (frame_of (members_bytes ms)) (omega (arith, h))) ∙ framed_inside (members_bytes ms))) (spelled_members ms clean.1 ranged.1 (omega (arith, h))),
   )
 
   pub spelled_items : (i : ℕ) (vs : Items) → EachItem HasNo00 IsCleanPart vs → EachItem IsUtf8 IsRangedScalar vs → items_size i vs < 2 ^ 31 → i + items_size i vs < 2 ^ 32 → SpellsItems (items_bytes i vs ++ 0 ∷ []) vs

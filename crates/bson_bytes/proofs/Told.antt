@@ -5,7 +5,7 @@ use Rattle.std.proofs.lemmas.Str.{IsUtf8-nil}
 use Rattle.bson_base.specs.Kinds.{HasNo00, IsPlain, IsClean, IsSound}
 use Rattle.bson_base.specs.Tags.{tag_byte}
 use Rattle.bson_base.specs.Value.{Value, document, Members, value_kind}
-use Rattle.bson_bytes.specs.Encode.{ended, members_bytes, value_bytes, value_size, encode, size}
+use Rattle.bson_bytes.specs.Encode.{cstring_of, members_bytes, value_bytes, value_size, encode, size}
 use Rattle.bson_bytes.specs.Spells.{SpellsValue, Means}
 use Rattle.bson_bytes.proofs.Extents.{framed_size}
 use Rattle.bson_bytes.proofs.Lengths.{members_length}
@@ -31,8 +31,8 @@ bytes_tell d e x y clean sound clean' sound' h k same =
 
 -- an element as it is written is the first frame of its bytes
 pub written_frame : (k : List ℕ) (v : Value) (rest : List ℕ) → HasNo00 k → IsUtf8 k → IsPlain v → IsSound v → value_size v < 2 ^ 31
-    → IsFirstFrame (tag_byte (value_kind v) ∷ (ended k ++ (value_bytes v ++ rest))) (record { tag = value_kind v; key = k; payload = value_bytes v }) rest
-unfolding ended
+    → IsFirstFrame (tag_byte (value_kind v) ∷ (cstring_of k ++ (value_bytes v ++ rest))) (record { tag = value_kind v; key = k; payload = value_bytes v }) rest
+unfolding cstring_of
 written_frame k v rest zero text plain sound h = record {
   parts = ap (λ (x : List ℕ). tag_byte (value_kind v) ∷ x) (append_assoc k (0 ∷ []) (value_bytes v ++ rest));
   key_name = record { no_zero = zero; text = text };

@@ -6,7 +6,7 @@ use Rattle.std.proofs.lemmas.Result.{on_ok_weaker, on_err_weaker, IfErr-weaker}
 use Rattle.bson_base.specs.Kinds.{IsPlain}
 use Rattle.bson_base.specs.Tags.{tag_byte}
 use Rattle.bson_base.specs.Value.{Value, value_kind, array, Items, item, no_items}
-use Rattle.bson_bytes.specs.Encode.{le32, ended, framed, scoped, text_bytes, value_bytes, value_size, items_bytes}
+use Rattle.bson_bytes.specs.Encode.{le32, cstring_of, frame_of, scope_frame_of, text_bytes, value_bytes, value_size, items_bytes}
 use Rattle.bson_bytes.specs.Writing.{CanBeWritten, IsWriteRefusal, RefusesWriting, StartsWith}
 use Rattle.bson_bytes.proofs.Extents.{framed_envelope}
 use Rattle.bson_frame.specs.Payload.{IsEnvelope}
@@ -28,8 +28,8 @@ written_in old begun out new body s e is =
     is ∙ ap (λ (x : List ℕ). x ++ 0 ∷ []) (sym (append-nil out) ∙ e ∙ ap (λ (x : List ℕ). x ++ body) s) ∙ append_assoc (old ++ room) body (0 ∷ []) ∙ append_assoc old room (body ++ 0 ∷ [])
 
 -- with their length in its place they are a document
-pub framed_ok : (r : Result (Unit {0}) Error) (old new body : List ℕ) → OnOk r (new ≡ old ++ (le32 (length (body ++ 0 ∷ []) + 4) ++ (body ++ 0 ∷ []))) → OnOk r (new ≡ old ++ framed body)
-unfolding framed
+pub framed_ok : (r : Result (Unit {0}) Error) (old new body : List ℕ) → OnOk r (new ≡ old ++ (le32 (length (body ++ 0 ∷ []) + 4) ++ (body ++ 0 ∷ []))) → OnOk r (new ≡ old ++ frame_of body)
+unfolding frame_of
 framed_ok r old new body h =
     let len : length (body ++ 0 ∷ []) + 4 ≡ length body + 5 = omega (arith, length-append {A = ℕ} body (0 ∷ [])) in
     on_ok_weaker r (λ is. is ∙ ap (λ n. old ++ (le32 n ++ (body ++ 0 ∷ []))) len) h
@@ -39,8 +39,8 @@ pub scoped_in : (old begun with_text new t scope : List ℕ) → begun ≡ old +
 scoped_in old begun with_text new t scope s e is =
     is ∙ ap (λ (x : List ℕ). x ++ scope) (e ∙ ap (λ (x : List ℕ). x ++ text_bytes t) s) ∙ append_assoc (old ++ room) (text_bytes t) scope ∙ append_assoc old room (text_bytes t ++ scope)
 
-pub scoped_ok : (r : Result (Unit {0}) Error) (old new t scope : List ℕ) → OnOk r (new ≡ old ++ (le32 (length (text_bytes t ++ scope) + 4) ++ (text_bytes t ++ scope))) → OnOk r (new ≡ old ++ scoped t scope)
-unfolding scoped
+pub scoped_ok : (r : Result (Unit {0}) Error) (old new t scope : List ℕ) → OnOk r (new ≡ old ++ (le32 (length (text_bytes t ++ scope) + 4) ++ (text_bytes t ++ scope))) → OnOk r (new ≡ old ++ scope_frame_of t scope)
+unfolding scope_frame_of
 scoped_ok r old new t scope h = h
 
 -- where put_length had no fault, the value isn't too long
@@ -65,7 +65,7 @@ pub begun_kept : (r : Result (Unit {0}) Error) (old whole new more : List ℕ) �
 begun_kept r old whole new more e h = on_err_weaker r (λ is. (more, is ∙ e)) h
 
 -- what is a document's, and short, declares its own length and ends in 00
-pub written_envelope : (bytes body : List ℕ) → bytes ≡ framed body → length body + 5 < 2 ^ 31 → IsEnvelope bytes
+pub written_envelope : (bytes body : List ℕ) → bytes ≡ frame_of body → length body + 5 < 2 ^ 31 → IsEnvelope bytes
 written_envelope bytes body e h = subst IsEnvelope (sym e) (framed_envelope body h)
 
 -- ---- items by index
@@ -92,10 +92,10 @@ item_refused whole rest i v begun out e to h = (weaker e.kind h.0, h.1)
     weaker Utf8EncodingError never = never
     weaker OutOfMemory never = tt
 
-pub item_written : (whole rest : Items) (i : ℕ) (v : Value) (begun out after_place now : List ℕ) → ItemsTo whole i (item v rest) begun out → after_place ≡ out ++ tag_byte (value_kind v) ∷ ended (decimal i) → now ≡ after_place ++ value_bytes v → IsPlain v
+pub item_written : (whole rest : Items) (i : ℕ) (v : Value) (begun out after_place now : List ℕ) → ItemsTo whole i (item v rest) begun out → after_place ≡ out ++ tag_byte (value_kind v) ∷ cstring_of (decimal i) → now ≡ after_place ++ value_bytes v → IsPlain v
     → ItemsTo whole (i + 1) rest begun now
 item_written whole rest i v begun out after_place now to place is plain =
-    let front = tag_byte (value_kind v) ∷ ended (decimal i) in
+    let front = tag_byte (value_kind v) ∷ cstring_of (decimal i) in
     let one : now ++ items_bytes (i + 1) rest ≡ out ++ (front ++ (value_bytes v ++ items_bytes (i + 1) rest)) =
     ap (λ (x : List ℕ). x ++ items_bytes (i + 1) rest) (is ∙ ap (λ (x : List ℕ). x ++ value_bytes v) place) ∙ append_assoc (out ++ front) (value_bytes v) (items_bytes (i + 1) rest) ∙ append_assoc out front (value_bytes v ++ items_bytes (i + 1) rest) in
     record {

@@ -18,8 +18,8 @@ unfoldable pub text_bytes : List ℕ → List ℕ
 text_bytes t = le32 (length t + 1) ++ (t ++ 0 ∷ [])
 
 -- bytes that end in a 00, as a key or a pattern (bsonspec.org 1.1, "cstring")
-unfoldable pub ended : List ℕ → List ℕ
-ended t = t ++ 0 ∷ []
+unfoldable pub cstring_of : List ℕ → List ℕ
+cstring_of t = t ++ 0 ∷ []
 
 abbrev pub is_old : BinarySubtype → Bool
 is_old subtypes.BinaryOld = true
@@ -42,7 +42,7 @@ scalar_bytes (object_id bs) = bs
 scalar_bytes (boolean b) = truth b ∷ []
 scalar_bytes (date_time z) = le64 (cast_unsigned w64 z)
 scalar_bytes null = []
-scalar_bytes (regex p o) = ended p ++ ended o
+scalar_bytes (regex p o) = cstring_of p ++ cstring_of o
 scalar_bytes (db_pointer t bs) = text_bytes t ++ bs
 scalar_bytes (code t) = text_bytes t
 scalar_bytes (symbol t) = text_bytes t
@@ -54,33 +54,33 @@ scalar_bytes max_key = []
 scalar_bytes min_key = []
 
 -- elements, with a length that counts all in front and a 00 behind (bsonspec.org 1.1, "document")
-unfoldable pub framed : List ℕ → List ℕ
-framed elements = le32 (length elements + 5) ++ (elements ++ 0 ∷ [])
+unfoldable pub frame_of : List ℕ → List ℕ
+frame_of elements = le32 (length elements + 5) ++ (elements ++ 0 ∷ [])
 
 -- a length that counts itself, the code, the scope (bsonspec.org 1.1, "code_w_s")
-unfoldable pub scoped : List ℕ → List ℕ → List ℕ
-scoped t scope = le32 (length (text_bytes t ++ scope) + 4) ++ (text_bytes t ++ scope)
+unfoldable pub scope_frame_of : List ℕ → List ℕ → List ℕ
+scope_frame_of t scope = le32 (length (text_bytes t ++ scope) + 4) ++ (text_bytes t ++ scope)
 
 abbrev mutual
   -- the payload of a value
   pub value_bytes : Value → List ℕ
   value_bytes (scalar s) = scalar_bytes s
-  value_bytes (array vs) = framed (items_bytes 0 vs)
-  value_bytes (document ms) = framed (members_bytes ms)
-  value_bytes (scoped_code t ms) = scoped t (framed (members_bytes ms))
+  value_bytes (array vs) = frame_of (items_bytes 0 vs)
+  value_bytes (document ms) = frame_of (members_bytes ms)
+  value_bytes (scoped_code t ms) = scope_frame_of t (frame_of (members_bytes ms))
 
   -- the elements of an array from the place i on: the keys are the places in decimal
   pub items_bytes : ℕ → Items → List ℕ
   items_bytes i no_items = []
-  items_bytes i (item v vs) = tag_byte (value_kind v) ∷ (ended (digits i) ++ (value_bytes v ++ items_bytes (suc i) vs))
+  items_bytes i (item v vs) = tag_byte (value_kind v) ∷ (cstring_of (digits i) ++ (value_bytes v ++ items_bytes (suc i) vs))
 
   pub members_bytes : Members → List ℕ
   members_bytes no_members = []
-  members_bytes (member k v ms) = tag_byte (value_kind v) ∷ (ended k ++ (value_bytes v ++ members_bytes ms))
+  members_bytes (member k v ms) = tag_byte (value_kind v) ∷ (cstring_of k ++ (value_bytes v ++ members_bytes ms))
 
 -- the bytes of a document
 abbrev pub encode : Members → List ℕ
-encode d = framed (members_bytes d)
+encode d = frame_of (members_bytes d)
 
 -- ---- how many bytes
 

@@ -4,7 +4,7 @@ ghost use Rattle.std.specs.Prelude.{◌≡◌, ◌<◌, ◌^◌, ◌∷◌, ◌+
 ghost use Rattle.bson_base.specs.Kinds.{AreBytes, HasNo00, IsPlain, IsClean, IsSound};
 ghost use Rattle.bson_base.specs.Tags.{tag_byte};
 ghost use Rattle.bson_base.specs.Value.{Value, document, Members, value_kind};
-ghost use Rattle.bson_bytes.specs.Encode.{encode, size, ended, value_bytes, value_size};
+ghost use Rattle.bson_bytes.specs.Encode.{encode, size, cstring_of, value_bytes, value_size};
 ghost use Rattle.bson_bytes.specs.Spells.{Means};
 ghost use Rattle.bson_frame.specs.Frame.{IsFirstFrame};
 
@@ -33,7 +33,7 @@ pub fn values_tell()
 /// An element as it is written is the first frame of its bytes, whatever follows it.
 pub fn written_frames()
     ensures { (k : List ℕ) (v : Value) (rest : List ℕ) → HasNo00 k → IsUtf8 k → IsPlain v → IsSound v → value_size v < 2 ^ 31
-        → IsFirstFrame (tag_byte (value_kind v) ∷ (ended k ++ (value_bytes v ++ rest)))
+        → IsFirstFrame (tag_byte (value_kind v) ∷ (cstring_of k ++ (value_bytes v ++ rest)))
         (record { tag = value_kind v; key = k; payload = value_bytes v }) rest }
 {}
 

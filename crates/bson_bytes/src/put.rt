@@ -7,7 +7,7 @@ ghost use Rattle.bson_base.specs.Kinds.{HasNo00, IsPlainScalar};
 ghost use Rattle.bson_base.specs.Scalars.{id_bytes};
 ghost use Rattle.bson_base.specs.Tags.{tag_byte};
 ghost use Rattle.bson_base.specs.Value.{binary, regex, timestamp, db_pointer};
-ghost use Rattle.bson_bytes.specs.Encode.{le32, ended, inner, text_bytes, scalar_bytes, scalar_size};
+ghost use Rattle.bson_bytes.specs.Encode.{le32, cstring_of, inner, text_bytes, scalar_bytes, scalar_size};
 ghost use Rattle.bson_bytes.specs.Writing.{IsWriteRefusal, StartsWith};
 ghost use Rattle.bson_frame.specs.View.{IsBare};
 ghost use Rattle.bson_frame.specs.declared.error.ErrorKind.TheVariants.{MalformedValue, OutOfMemory};
@@ -57,9 +57,9 @@ pub fn has_no_zero(bytes: &[u8]) -> bool
 }
 
 /// Appends a key, a pattern or options, and 00 (bsonspec.org 1.1, "cstring"). `MalformedValue` where a 00 stands in it.
-#[tactic(auto, unfolding(crate::specs::Encode::ended))]
+#[tactic(auto, unfolding(crate::specs::Encode::cstring_of))]
 pub fn write_name(name: &str, out: &mut Vec<u8>) -> Result<()>
-    ensures ok { OnOk result (out.new.items ≡ out.old.items ++ ended name.now) }
+    ensures ok { OnOk result (out.new.items ≡ out.old.items ++ cstring_of name.now) }
     ensures plain { OnOk result (HasNo00 name.now) }
     ensures refused { IfErr result (IsWriteRefusal (HasNo00 name.now → ⊥)) }
     ensures kept { OnErr result (StartsWith out.new.items out.old.items) }
@@ -73,9 +73,9 @@ pub fn write_name(name: &str, out: &mut Vec<u8>) -> Result<()>
 
 /// Appends what stands in front of an element's payload: its tag, its key and 00 (bsonspec.org 1.1, "element").
 /// `MalformedValue` where a 00 stands in the key.
-#[tactic(auto, unfolding(crate::specs::Encode::ended))]
+#[tactic(auto, unfolding(crate::specs::Encode::cstring_of))]
 pub fn write_front(kind: ElementType, key: &str, out: &mut Vec<u8>) -> Result<()>
-    ensures ok { OnOk result (out.new.items ≡ out.old.items ++ tag_byte kind ∷ ended key.now) }
+    ensures ok { OnOk result (out.new.items ≡ out.old.items ++ tag_byte kind ∷ cstring_of key.now) }
     ensures plain { OnOk result (HasNo00 key.now) }
     ensures refused { IfErr result (IsWriteRefusal (HasNo00 key.now → ⊥)) }
     ensures kept { OnErr result (StartsWith out.new.items out.old.items) }
@@ -86,9 +86,9 @@ pub fn write_front(kind: ElementType, key: &str, out: &mut Vec<u8>) -> Result<()
 
 /// Appends what stands in front of an item's payload: its tag, its place in the array in decimal, and 00 (bsonspec.org 1.1,
 /// element type 04). The error is a refused growth.
-#[tactic(auto, unfolding(crate::specs::Encode::ended))]
+#[tactic(auto, unfolding(crate::specs::Encode::cstring_of))]
 pub fn write_place(kind: ElementType, place: usize, out: &mut Vec<u8>) -> Result<()>
-    ensures ok { OnOk result (out.new.items ≡ out.old.items ++ tag_byte kind ∷ ended (decimal place)) }
+    ensures ok { OnOk result (out.new.items ≡ out.old.items ++ tag_byte kind ∷ cstring_of (decimal place)) }
     ensures refused { IfErr result (IsBare OutOfMemory) }
     ensures kept { OnErr result (StartsWith out.new.items out.old.items) }
 {

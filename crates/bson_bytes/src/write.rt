@@ -3,7 +3,7 @@
 ghost use Rattle.std.specs.Prelude.{◌≡◌, ◌+◌, ◌<◌, ◌≤◌, ◌^◌, ◌++◌, ◌∷◌, [], List, ℕ, length, map, string_bytes, OnOk, OnErr, IfOk, IfErr};
 ghost use Rattle.bson_base.specs.Kinds.{HasNo00, IsPlain, IsPlainScalar};
 ghost use Rattle.bson_base.specs.Value.{array};
-ghost use Rattle.bson_bytes.specs.Encode.{value_bytes, value_size, items_bytes, items_size, members_bytes, members_size, encode, framed, scoped};
+ghost use Rattle.bson_bytes.specs.Encode.{value_bytes, value_size, items_bytes, items_size, members_bytes, members_size, encode, frame_of, scope_frame_of};
 ghost use Rattle.bson_bytes.specs.Writing.{CanBeWritten, IsWriteRefusal, StartsWith};
 ghost use Rattle.bson_frame.specs.Payload.{IsEnvelope};
 ghost use Rattle.bson_model.specs.Trees.{document_tree, scoped_code_tree};
@@ -85,7 +85,7 @@ pub fn write_scoped(code: &JavaScriptCodeWithScope, out: &mut Vec<u8>) -> Result
 /// Appends an array: the keys are the places in decimal (bsonspec.org 1.1, element type 04). `MalformedValue` as of a document.
 #[cycle(write)]
 pub fn write_items(items: &[Bson], out: &mut Vec<u8>) -> Result<()>
-    ensures ok { OnOk result (out.new.items ≡ out.old.items ++ framed (items_bytes 0 (items_of (map view items.now)))) }
+    ensures ok { OnOk result (out.new.items ≡ out.old.items ++ frame_of (items_bytes 0 (items_of (map view items.now)))) }
     ensures fits { OnOk result (CanBeWritten (array (items_of (map view items.now)))) }
     ensures refused { IfErr result (IsWriteRefusal (CanBeWritten (array (items_of (map view items.now))) → ⊥)) }
     ensures kept { OnErr result (StartsWith out.new.items out.old.items) }

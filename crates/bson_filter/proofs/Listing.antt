@@ -5,7 +5,7 @@ use Rattle.std.specs.List.{list_any}
 use Rattle.std.proofs.Math.Seq.{take-append_seam}
 use Rattle.bson_base.specs.Tags.{tag_byte}
 use Rattle.bson_base.specs.Value.{Value, Members, no_members, member, value_kind}
-use Rattle.bson_bytes.specs.Encode.{le32, ended, framed, members_bytes}
+use Rattle.bson_bytes.specs.Encode.{le32, cstring_of, frame_of, members_bytes}
 use Rattle.bson_bytes.proofs.Lengths.{framed_length}
 use Rattle.bson_bytes.proofs.Spelled.{framed_inside}
 use Rattle.bson_frame.proofs.Frames.{nothing}
@@ -36,7 +36,7 @@ front_taken bytes front rest is =
     ap (λ n. take n bytes) l ∙ ap (take (length front)) is ∙ take-append_seam front rest
 
 member_front : (e : Element) (v : Value) (ms : Members) → IsWrittenFor e v → members_bytes (member e.key v ms) ≡ element_bytes e ++ members_bytes ms
-unfolding ended
+unfolding cstring_of
 member_front e v ms w =
     let tail = members_bytes ms in
     let grouped : tag_byte e.tag ∷ ((e.key ++ 0 ∷ e.payload) ++ tail) ≡ tag_byte e.tag ∷ ((e.key ++ 0 ∷ []) ++ (e.payload ++ tail)) = ap (λ (x : List ℕ). tag_byte e.tag ∷ x) (append_assoc e.key (0 ∷ e.payload) tail ∙ sym (append_assoc e.key (0 ∷ []) (e.payload ++ tail))) in
@@ -100,11 +100,11 @@ few_left_out old new left n e rest f c =
 
 -- ---- the whole
 
-pub body_inside : (bytes body : List ℕ) → bytes ≡ framed body → slice_range bytes 4 (length bytes - 1) ≡ body
+pub body_inside : (bytes body : List ℕ) → bytes ≡ frame_of body → slice_range bytes 4 (length bytes - 1) ≡ body
 body_inside bytes body is =
     let l : length bytes - 1 - 4 ≡ length body = omega (arith, ap length is, framed_length body) in
     ap (λ n. take n (drop 4 bytes)) l ∙ ap (λ (x : List ℕ). take (length body) (drop 4 x)) is ∙ ap (take (length body)) (framed_inside body) ∙ take-append_seam body (0 ∷ [])
 
-pub framed_now : (more now : List ℕ) → now ≡ le32 (length (more ++ 0 ∷ []) + 4) ++ (more ++ 0 ∷ []) → now ≡ framed more
-unfolding framed
+pub framed_now : (more now : List ℕ) → now ≡ le32 (length (more ++ 0 ∷ []) + 4) ++ (more ++ 0 ∷ []) → now ≡ frame_of more
+unfolding frame_of
 framed_now more now is = is ∙ ap (λ n. le32 n ++ (more ++ 0 ∷ [])) (omega (arith, length-append more (0 ∷ [])))

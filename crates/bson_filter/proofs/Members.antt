@@ -4,7 +4,7 @@ use Rattle.std.specs.Prelude.{IsUtf8, option_and_then, decimal as digits}
 use Rattle.bson_base.specs.Kinds.{HasNo00, IsClean, IsSound, IsRangedScalar}
 use Rattle.bson_base.specs.Tags.{tag_byte}
 use Rattle.bson_base.specs.Value.{Value, scalar, array, document, scoped_code, Items, no_items, item, Members, no_members, member, look_up, value_kind, EachItem, EachMember, ItemsHaveDistinctKeys, MembersHaveDistinctKeys}
-use Rattle.bson_bytes.specs.Encode.{ended, framed, encode, value_bytes, items_bytes, members_bytes, items_size, members_size}
+use Rattle.bson_bytes.specs.Encode.{cstring_of, frame_of, encode, value_bytes, items_bytes, members_bytes, items_size, members_size}
 use Rattle.bson_bytes.proofs.Lengths.{encode_length}
 use Rattle.bson_bytes.proofs.Spelled.{IsCleanPart, digits_name, plain_value}
 use Rattle.bson_bytes.proofs.Told.{written_frame}
@@ -18,11 +18,11 @@ use Rattle.store_laws.specs.Filter.{under_places, pairs, at, Path}
 
 keyed_bytes : (i : ℕ) (vs : Items) → members_bytes (under_places i vs) ≡ items_bytes i vs
 keyed_bytes i no_items = refl
-keyed_bytes i (item v vs) = ap (λ (x : List ℕ). tag_byte (value_kind v) ∷ (ended (digits i) ++ (value_bytes v ++ x))) (keyed_bytes (suc i) vs)
+keyed_bytes i (item v vs) = ap (λ (x : List ℕ). tag_byte (value_kind v) ∷ (cstring_of (digits i) ++ (value_bytes v ++ x))) (keyed_bytes (suc i) vs)
 
 -- an array is written as the document of its pairs
 pub array_bytes_pairs : (vs : Items) → value_bytes (array vs) ≡ encode (under_places 0 vs)
-array_bytes_pairs vs = ap framed (sym (keyed_bytes 0 vs))
+array_bytes_pairs vs = ap frame_of (sym (keyed_bytes 0 vs))
 
 members_back : (ms : Members) → EachMember HasNo00 IsCleanPart ms → EachMember IsUtf8 IsRangedScalar ms → MembersHaveDistinctKeys ms → members_size ms < 2 ^ 31 → ComeBack ms
 members_back no_members clean ranged distinct short = tt
@@ -73,7 +73,7 @@ document_back d bytes envelope clean sound is = record {
 -- ---- the first of the members that are left
 
 written_front : (k : List ℕ) (v : Value) (ms : Members) (tail : List ℕ)
-    → members_bytes (member k v ms) ++ tail ≡ tag_byte (value_kind v) ∷ (ended k ++ (value_bytes v ++ (members_bytes ms ++ tail)))
+    → members_bytes (member k v ms) ++ tail ≡ tag_byte (value_kind v) ∷ (cstring_of k ++ (value_bytes v ++ (members_bytes ms ++ tail)))
 written_front k v ms tail = simp append_assoc
 
 abbrev element : List ℕ → Value → Element

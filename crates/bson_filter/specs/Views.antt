@@ -71,6 +71,6 @@ document_room None = 0
 document_room (Some d) = length (bytes_of d) - 4
 
 -- how many bytes the payload of what was found takes
-abbrev pub taken : Option RawElement → ℕ
-taken None = 0
-taken (Some e) = length (parts_of e).payload
+abbrev pub payload_length : Option RawElement → ℕ
+payload_length None = 0
+payload_length (Some e) = length (parts_of e).payload

@@ -5,10 +5,9 @@ ghost use Rattle.bson_base.specs.Value.{document as tree, look_up as member_unde
 ghost use Rattle.bson_bytes.specs.Encode.{encode};
 ghost use Rattle.bson_raw.specs.View.{bytes_of, parts_of};
 ghost use Rattle.bson_filter.specs.Filters.{path_of};
-ghost use Rattle.bson_filter.specs.Views.{ComeBack, ComesBack, document_room, Encodes, Finds, FindsElement, HoldsPairs, IsWrittenFor, OfWritten, room, room_of, taken};
+ghost use Rattle.bson_filter.specs.Views.{ComeBack, ComesBack, document_room, Encodes, Finds, FindsElement, HoldsPairs, IsWrittenFor, OfWritten, room, room_of, payload_length};
 ghost use Rattle.store_laws.specs.Filter.{at, frames, pairs, place_among};
 
-use bson_raw::laws::payload_of_an_element;
 use bson_raw::{RawBsonRef, RawDocument, RawElement};
 
 /// The value at a path of keys, and how many elements were met at all steps of the path together: up to and with the one that
@@ -67,7 +66,7 @@ fn elements_of(value: RawBsonRef<'_>) -> Option<RawDocument<'_>>
 fn find<'a>(document: RawDocument<'a>, key: &str) -> (Option<RawElement<'a>>, u64)
     ensures found { (ms : Members) → bytes_of document.entry ≡ encode ms → ComeBack ms → FindsElement result.0 (member_under key.now ms) }
     ensures met { (ms : Members) → bytes_of document.entry ≡ encode ms → ComeBack ms → result.1 ≡ place_among key.now ms }
-    ensures few { 2 * result.1 + 4 + taken result.0 ≤ length (bytes_of document.entry) }
+    ensures few { 2 * result.1 + 4 + payload_length result.0 ≤ length (bytes_of document.entry) }
 {
     let mut met = 0;
     for item in document.iter_elements() {
@@ -87,7 +86,7 @@ fn value_of<'a>(element: &RawElement<'a>) -> Option<RawBsonRef<'a>>
     ensures written { (v : Value) → IsWrittenFor (parts_of element.now) v → ComesBack v → Finds result (Some v) }
     ensures room { room_of result ≤ length (parts_of element.now).payload }
 {
-    payload_of_an_element(element);
+    bson_raw::laws::payload_of_an_element(element);
     match element.value_or_kind() {
         Ok(value) => Some(value),
         Err(_) => None,

@@ -7,7 +7,7 @@ use Rattle.bson_frame.specs.declared.error.ErrorKind.TheVariants.{OutOfMemory}
 use Rattle.bson_frame.specs.declared.error.Error.{Error}
 use Rattle.bson_frame.specs.declared.error.ValueAccessError.{ValueAccessError}
 use Rattle.bson_frame.specs.declared.error.ValueAccessErrorKind.{ValueAccessErrorKind}
-use Rattle.bson_frame.specs.declared.error.ValueAccessErrorKind.TheVariants as reasons
+use Rattle.bson_frame.specs.declared.error.ValueAccessErrorKind.TheVariants as refusals
 use Rattle.bson_frame.specs.Frame.{Element}
 
 -- a frame without where it lies in memory, and without what follows it
@@ -38,7 +38,7 @@ pub data Reason : Type 0 where
   out_of_memory : Reason
 
 abbrev pub reason_of : ValueAccessErrorKind → Reason
-reason_of reasons.NotPresent = not_present
-reason_of reasons.UnexpectedType = unexpected_type
-reason_of (reasons.InvalidBson e) = invalid_bson (fault_key e) e.kind
-reason_of reasons.OutOfMemory = out_of_memory
+reason_of refusals.NotPresent = not_present
+reason_of refusals.UnexpectedType = unexpected_type
+reason_of (refusals.InvalidBson e) = invalid_bson (fault_key e) e.kind
+reason_of refusals.OutOfMemory = out_of_memory

@@ -7,7 +7,7 @@ ghost use Rattle.bson_frame.specs.View.{element_of};
 
 use crate::error::ErrorKind;
 use crate::extent::{extent, name_at};
-use crate::laws::payload_by_itself;
+use crate::laws;
 use crate::parts::Frame;
 use bson_base::ElementType;
 
@@ -40,7 +40,7 @@ pub fn sized_frame(bytes: &[u8]) -> Option<Frame<'_>>
     ensures { MatchOption result (HasNoFrame bytes.now)
         (λ f. IsFirstFrame bytes.now (element_of f) f.rest.now × IsPayload f.tag f.payload.now) }
 {
-    payload_by_itself();
+    laws::payload_by_itself();
     match frame(bytes) {
         Ok(frame) => Some(frame),
         Err(_) => None,

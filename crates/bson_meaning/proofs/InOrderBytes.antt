@@ -4,7 +4,7 @@ use Rattle.bson_base.specs.Kinds.{IsPlain}
 use Rattle.bson_base.specs.Tags.{tag_byte}
 use Rattle.bson_base.specs.declared.spec.ElementType.{ElementType}
 use Rattle.bson_base.specs.Value.{Value, scalar, array, document, scoped_code, value_kind, Items, item, Members, member, no_members}
-use Rattle.bson_bytes.specs.Encode.{encode, ended, le32, members_bytes, value_bytes, value_size}
+use Rattle.bson_bytes.specs.Encode.{encode, cstring_of, le32, members_bytes, value_bytes, value_size}
 use Rattle.bson_bytes.specs.Writing.{CanBeWritten, IsWriteRefusal}
 use Rattle.bson_bytes.proofs.Lengths.{members_length}
 use Rattle.bson_bytes.proofs.Writing.{MembersTo, ItemsTo}
@@ -49,11 +49,11 @@ module _ (zeros : Zeros) where
   next_item whole xs i b begun out h is to = subst (λ vs. ItemsTo whole i vs begun out) (ap (norm_items_in_order zeros) (items_from xs i b h is)) to
 
 -- one element behind what was begun
-pub one_element : (begun front out k : List ℕ) (v : Value) (kind : ElementType) → kind ≡ value_kind v → front ≡ begun ++ tag_byte kind ∷ ended k → out ≡ front ++ value_bytes v
+pub one_element : (begun front out k : List ℕ) (v : Value) (kind : ElementType) → kind ≡ value_kind v → front ≡ begun ++ tag_byte kind ∷ cstring_of k → out ≡ front ++ value_bytes v
     → out ++ [] ≡ begun ++ members_bytes (member k v no_members)
 one_element begun front out k v kind t f o =
-    append-nil out ∙ o ∙ ap (λ (x : List ℕ). x ++ value_bytes v) (f ∙ ap (λ tag. begun ++ tag_byte tag ∷ ended k) t) ∙ append_assoc begun (tag_byte (value_kind v) ∷ ended k) (value_bytes v)
-    ∙ ap (λ (x : List ℕ). begun ++ tag_byte (value_kind v) ∷ (ended k ++ x)) (sym (append-nil (value_bytes v)))
+    append-nil out ∙ o ∙ ap (λ (x : List ℕ). x ++ value_bytes v) (f ∙ ap (λ tag. begun ++ tag_byte tag ∷ cstring_of k) t) ∙ append_assoc begun (tag_byte (value_kind v) ∷ cstring_of k) (value_bytes v)
+    ∙ ap (λ (x : List ℕ). begun ++ tag_byte (value_kind v) ∷ (cstring_of k ++ x)) (sym (append-nil (value_bytes v)))
 
 -- elements that stand between the room for their length and the final 00, once put_length is done
 pub between : (r : Result (Unit {0}) Error) (ms : Members) (old begun out closed new : List ℕ) (start : ℕ) → start ≡ length old → begun ≡ old ++ room → out ++ [] ≡ begun ++ members_bytes ms → closed ≡ out ++ 0 ∷ []

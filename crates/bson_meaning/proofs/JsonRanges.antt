@@ -8,7 +8,7 @@ use Rattle.bson_base.specs.Decimal.{sixteen_bytes, cut, is_e, is_named, all_zero
 use Rattle.bson_base.specs.Kinds.{AreBytes}
 use Rattle.bson_base.specs.ObjectIdText.{object_id_of, even_text, first_other, digit_bytes, digit_value}
 use Rattle.bson_base.specs.declared.oid.Error.TheVariants.{InvalidHexStringLength}
-use Rattle.bson_model.specs.JsonTexts.{int_of, long_of, integer_of, fits_32, fits_64, only_where, double_of, double_sign_bit, read_unsigned_double, read_numeral, is_numeral, signed, without_dot, byte_of, byte_from}
+use Rattle.bson_model.specs.JsonTexts.{int_of, long_of, integer_of, fits_32, fits_64, only_where, double_of, double_sign_bit, read_unsigned_double, read_numeral, is_numeral, sign_and_rest, without_dot, byte_of, byte_from}
 use Rattle.bson_model.specs.declared.extjson.de.Error.TheVariants.{DeserializationError, FiniteDouble}
 use Rattle.bson_model.proofs.JsonTextsLemmas.{so_fits_64, so_fits_32}
 use Rattle.bson_meaning.proofs.Decimals.{bytes_length, bytes_are}
@@ -103,7 +103,7 @@ unsigned_low s t n e = by (is_named t (codes "nan")) (is_named t (codes "inf") |
 
 pub double_ranged : (t : List ℕ) (n : ℕ) → double_of t ≡ Ok n → n < 2 ^ 64
 unfolding double_of
-double_ranged t n e = by (signed t) e
+double_ranged t n e = by (sign_and_rest t) e
   where
     by : (p : Bool × List ℕ) → read_unsigned_double p ≡ Ok n → n < 2 ^ 64
     by (s, u) f = unsigned_low s u n f

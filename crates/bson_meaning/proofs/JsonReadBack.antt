@@ -15,7 +15,7 @@ use Rattle.bson_base.specs.Kinds.{AreBytes}
 use Rattle.bson_base.specs.ObjectIdText.{object_id_of, even_text, first_other, digit_bytes}
 use Rattle.bson_base.specs.declared.oid.Error.TheVariants.{InvalidHexStringLength}
 use Rattle.bson_base.proofs.PrintedReads.{digits-decimal, printed_reads}
-use Rattle.bson_model.specs.JsonTexts.{int_of, long_of, integer_of, signed, fits_32, fits_64, only_where, double_of, byte_of}
+use Rattle.bson_model.specs.JsonTexts.{int_of, long_of, integer_of, sign_and_rest, fits_32, fits_64, only_where, double_of, byte_of}
 use Rattle.bson_model.proofs.JsonTextsLemmas.{fits_64_so, fits_32_so}
 use Rattle.bson_meaning.proofs.JsonBase64.{each_byte}
 use Rattle.std.proofs.lemmas.Bool.{and_parts}
@@ -69,7 +69,7 @@ id_back bs n h =
 
 -- ---- whole numbers
 
-unsigned_back : (ds : List ℕ) → all_digits ds ≡ true → 0 < length ds → signed ds ≡ (false, ds)
+unsigned_back : (ds : List ℕ) → all_digits ds ≡ true → 0 < length ds → sign_and_rest ds ≡ (false, ds)
 unsigned_back [] h k = absurd (omega arith)
 unsigned_back (c ∷ cs) h k =
     let d : is_ascii_digit c ≡ true = (and_parts (is_ascii_digit c) (all_digits cs) h).0 in

@@ -6,7 +6,7 @@ use Rattle.std.specs.declared.cmp.Ordering.{Ordering}
 use Rattle.std.specs.declared.cmp.Ordering.TheVariants.{Less, Equal, Greater}
 use Rattle.std.specs.Ordering.{match_ordering, ordering_reverse}
 use Rattle.std.proofs.lemmas.Cmp.{nat_list_cmp_total}
-use Rattle.serde_json.specs.Data as tree
+use Rattle.serde_json.specs.Data as json
 use Rattle.serde_json.specs.Data.{Data, object}
 use Rattle.bson_base.specs.Decimal.{IsUnpacked, number_of, sixteen_bytes, pack, unpack, print, minus_if}
 use Rattle.bson_base.specs.Doubles.{exponent, fraction, is_nan, is_infinite, is_zero, is_negative}
@@ -15,7 +15,7 @@ use Rattle.bson_base.specs.Tags.{subtype_byte}
 use Rattle.bson_base.specs.Value.{Scalar, double, binary, regex, decimal, Value, scalar, array, document, scoped_code, Items, no_items, item, Members, no_members, member, look_up, EachPart, EachItem, EachMember, HasDistinctKeys, ItemsHaveDistinctKeys, MembersHaveDistinctKeys}
 use Rattle.bson_base.proofs.DecimalBits.{unpack_is, unpack-pack}
 use Rattle.bson_model.specs.JsonKeys.{is_reserved, of_decimal, of_double, of_regex, object_of_two}
-use Rattle.bson_model.specs.JsonWrite.{double_text, wrapped_text, with_scope, write, write_binary, write_items, write_members, write_scalar, wrapped}
+use Rattle.bson_model.specs.JsonWrite.{double_text, text_wrapper, with_scope, write, write_binary, write_items, write_members, write_scalar, wrapper_of}
 use Rattle.bson_model.specs.declared.extjson.ser.Mode.{Mode}
 use Rattle.bson_meaning.specs.JsonReserved.{some_reserved, reserved_in, reserved_in_items, has_reserved}
 use Rattle.bson_meaning.specs.Forms.{normal_double, normal_decimal}
@@ -69,13 +69,13 @@ unpack_again bs =
     ap unpack (number_again 16 (pack d) (pack_low d u)) ∙ unpack-pack d u
 
 abbrev regex_tree : List ℕ → List ℕ → Data
-regex_tree p t = wrapped of_regex (object_of_two (codes "options") (tree.string t) (codes "pattern") (tree.string p))
+regex_tree p t = wrapper_of of_regex (object_of_two (codes "options") (json.string t) (codes "pattern") (json.string p))
 
 pub write_normal : (m : Mode) (s : Scalar) → IsRangedScalar s → write_scalar m (normal_scalar s) ≡ write_scalar m s
-write_normal m (double n) h = ap (option_map (wrapped_text of_double)) (double_again n)
+write_normal m (double n) h = ap (option_map (text_wrapper of_double)) (double_again n)
 write_normal m (binary s bs) h = ap (λ b. Some (write_binary b bs)) (subtype_back (subtype_byte s))
 write_normal m (regex p o) h = ap (λ t. Some (regex_tree p t)) (sorted_text_twice o h.1)
-write_normal m (decimal bs) h = ap (λ d. Some (wrapped_text of_decimal (print d))) (unpack_again bs)
+write_normal m (decimal bs) h = ap (λ d. Some (text_wrapper of_decimal (print d))) (unpack_again bs)
 write_normal m _ h = refl
 
 -- ---- the normal form of a value
@@ -84,53 +84,53 @@ pub then_alike : {A B : Type 0} (o : Option A) (f g : A → Option B) → ((a : 
 then_alike (Some a) f g h = h a
 then_alike None f g h = refl
 
-abbrev item_in : Option Data → Option tree.Items → Option tree.Items
-item_in j js = option_and_then (λ d. option_map (tree.item d) js) j
+abbrev item_in : Option Data → Option json.Items → Option json.Items
+item_in j js = option_and_then (λ d. option_map (json.item d) js) j
 
 mutual
   pub write_norm : (m : Mode) (K : List ℕ → Type 0) (v : Value) → EachPart K IsRangedScalar v → write m (norm v) ≡ write m v
   write_norm m K (scalar s) h = write_normal m s h
-  write_norm m K (array vs) h = ap (option_map tree.array) (write_norm_items m K vs h)
-  write_norm m K (document ms) h = ap (option_map object) (write_norm_members m K ms h tree.no_members)
-  write_norm m K (scoped_code t ms) h = ap (option_map (with_scope t)) (write_norm_members m K ms h.1 tree.no_members)
+  write_norm m K (array vs) h = ap (option_map json.array) (write_norm_items m K vs h)
+  write_norm m K (document ms) h = ap (option_map object) (write_norm_members m K ms h json.no_members)
+  write_norm m K (scoped_code t ms) h = ap (option_map (with_scope t)) (write_norm_members m K ms h.1 json.no_members)
 
   write_norm_items : (m : Mode) (K : List ℕ → Type 0) (vs : Items) → EachItem K IsRangedScalar vs → write_items m (norm_items vs) ≡ write_items m vs
   write_norm_items m K no_items h = refl
   write_norm_items m K (item v vs) h = ap (λ j. item_in j (write_items m (norm_items vs))) (write_norm m K v h.0) ∙ ap (item_in (write m v)) (write_norm_items m K vs h.1)
 
-  pub write_norm_members : (m : Mode) (K : List ℕ → Type 0) (ms : Members) → EachMember K IsRangedScalar ms → (found : tree.Members)
+  pub write_norm_members : (m : Mode) (K : List ℕ → Type 0) (ms : Members) → EachMember K IsRangedScalar ms → (found : json.Members)
       → write_members m (norm_members ms) found ≡ write_members m ms found
   write_norm_members m K no_members h found = refl
   write_norm_members m K (member k v ms) h found =
-      ap (option_and_then (λ j. write_members m (norm_members ms) (tree.put k j found))) (write_norm m K v h.1)
-      ∙ then_alike (write m v) _ _ (λ j. write_norm_members m K ms h.2 (tree.put k j found))
+      ap (option_and_then (λ j. write_members m (norm_members ms) (json.put k j found))) (write_norm m K v h.1)
+      ∙ then_alike (write m v) _ _ (λ j. write_norm_members m K ms h.2 (json.put k j found))
 
 -- ---- members of a tree put in one after the other
 
-abbrev With : List ℕ → Data → List ℕ → Data → tree.Members → Ordering → tree.Members
-With k d l e js o = match_ordering o (tree.member k d (tree.member l e js)) (tree.member l d js) (tree.member l e (tree.put k d js))
+abbrev With : List ℕ → Data → List ℕ → Data → json.Members → Ordering → json.Members
+With k d l e js o = match_ordering o (json.member k d (json.member l e js)) (json.member l d js) (json.member l e (json.put k d js))
 
 after : (k l : List ℕ) → Order k l ≡ Less → Order l k ≡ Greater
 after k l e = nat_list_cmp_total.antisymm l k ∙ ap ordering_reverse e
 
 -- one before l and l itself, put in either order
-pub commute : (k l : List ℕ) (d e : Data) → Order k l ≡ Less → (js : tree.Members) → tree.put k d (tree.put l e js) ≡ tree.put l e (tree.put k d js)
-commute k l d e h tree.no_members = ap (With k d l e tree.no_members) h ∙ sym (ap (With l e k d tree.no_members) (after k l h))
-commute k l d e h (tree.member m f js) = by (commute k l d e h js) (Order l m) (Order k m) refl refl
+pub commute : (k l : List ℕ) (d e : Data) → Order k l ≡ Less → (js : json.Members) → json.put k d (json.put l e js) ≡ json.put l e (json.put k d js)
+commute k l d e h json.no_members = ap (With k d l e json.no_members) h ∙ sym (ap (With l e k d json.no_members) (after k l h))
+commute k l d e h (json.member m f js) = by (commute k l d e h js) (Order l m) (Order k m) refl refl
   where
     before : Order l k ≡ Greater
     before = after k l h
 
-    first : tree.put l e (tree.member k d (tree.member m f js)) ≡ tree.member k d (tree.put l e (tree.member m f js))
-    first = ap (With l e k d (tree.member m f js)) before
+    first : json.put l e (json.member k d (json.member m f js)) ≡ json.member k d (json.put l e (json.member m f js))
+    first = ap (With l e k d (json.member m f js)) before
 
-    by : tree.put k d (tree.put l e js) ≡ tree.put l e (tree.put k d js) → (o p : Ordering) → Order l m ≡ o → Order k m ≡ p
-        → tree.put k d (With l e m f js o) ≡ tree.put l e (With k d m f js p)
-    by r Less Less a b = ap (With k d l e (tree.member m f js)) h ∙ ap (tree.member k d) (sym (ap (With l e m f js) a)) ∙ sym first
-    by r Equal Less a b = ap (With k d m e js) b ∙ ap (tree.member k d) (sym (ap (With l e m f js) a)) ∙ sym first
-    by r Greater Less a b = ap (With k d m f (tree.put l e js)) b ∙ ap (tree.member k d) (sym (ap (With l e m f js) a)) ∙ sym first
-    by r Greater Equal a b = ap (With k d m f (tree.put l e js)) b ∙ sym (ap (With l e m d js) a)
-    by r Greater Greater a b = ap (With k d m f (tree.put l e js)) b ∙ ap (tree.member m f) r ∙ sym (ap (With l e m f (tree.put k d js)) a)
+    by : json.put k d (json.put l e js) ≡ json.put l e (json.put k d js) → (o p : Ordering) → Order l m ≡ o → Order k m ≡ p
+        → json.put k d (With l e m f js o) ≡ json.put l e (With k d m f js p)
+    by r Less Less a b = ap (With k d l e (json.member m f js)) h ∙ ap (json.member k d) (sym (ap (With l e m f js) a)) ∙ sym first
+    by r Equal Less a b = ap (With k d m e js) b ∙ ap (json.member k d) (sym (ap (With l e m f js) a)) ∙ sym first
+    by r Greater Less a b = ap (With k d m f (json.put l e js)) b ∙ ap (json.member k d) (sym (ap (With l e m f js) a)) ∙ sym first
+    by r Greater Equal a b = ap (With k d m f (json.put l e js)) b ∙ sym (ap (With l e m d js) a)
+    by r Greater Greater a b = ap (With k d m f (json.put l e js)) b ∙ ap (json.member m f) r ∙ sym (ap (With l e m f (json.put k d js)) a)
     by r Less Equal a b = let x : Order k m ≡ Less = nat_list_cmp_total.trans k l m h a in cc
     by r Less Greater a b = let x : Order k m ≡ Less = nat_list_cmp_total.trans k l m h a in cc
     by r Equal Equal a b = let x : Order k m ≡ Less = ap (Order k) (sym (tied l m a)) ∙ h in cc
@@ -150,21 +150,21 @@ in_turns (Some a) None f g h = refl
 in_turns None (Some b) f g h = refl
 in_turns None None f g h = refl
 
-write_place : (m : Mode) (k : List ℕ) (v : Value) (ms : Members) → look_up k ms ≡ None → (found : tree.Members)
-    → write_members m (place k v ms) found ≡ option_and_then (λ j. write_members m ms (tree.put k j found)) (write m v)
+write_place : (m : Mode) (k : List ℕ) (v : Value) (ms : Members) → look_up k ms ≡ None → (found : json.Members)
+    → write_members m (place k v ms) found ≡ option_and_then (λ j. write_members m ms (json.put k j found)) (write m v)
 write_place m k v no_members h found = refl
 write_place m k v (member l w ms) h found = by (Order k l) refl (write_place m k v ms)
   where
     by : (o : Ordering) → Order k l ≡ o
-        → (look_up k ms ≡ None → (js : tree.Members) → write_members m (place k v ms) js ≡ option_and_then (λ j. write_members m ms (tree.put k j js)) (write m v))
+        → (look_up k ms ≡ None → (js : json.Members) → write_members m (place k v ms) js ≡ option_and_then (λ j. write_members m ms (json.put k j js)) (write m v))
         → write_members m (match_ordering o (member k v (member l w ms)) (member k v ms) (member l w (place k v ms))) found
-        ≡ option_and_then (λ j. write_members m (member l w ms) (tree.put k j found)) (write m v)
+        ≡ option_and_then (λ j. write_members m (member l w ms) (json.put k j found)) (write m v)
     by Less e r = refl
     by Equal e r = absurd (met k l w (look_up k ms) e h)
     by Greater e r =
-        then_alike (write m w) (λ i. write_members m (place k v ms) (tree.put l i found)) (λ i. option_and_then (λ j. write_members m ms (tree.put k j (tree.put l i found))) (write m v))
-        (λ i. r (not_first k l w ms h).1 (tree.put l i found))
-        ∙ in_turns (write m w) (write m v) (λ i j. write_members m ms (tree.put k j (tree.put l i found))) (λ j i. write_members m ms (tree.put l i (tree.put k j found)))
+        then_alike (write m w) (λ i. write_members m (place k v ms) (json.put l i found)) (λ i. option_and_then (λ j. write_members m ms (json.put k j (json.put l i found))) (write m v))
+        (λ i. r (not_first k l w ms h).1 (json.put l i found))
+        ∙ in_turns (write m w) (write m v) (λ i j. write_members m ms (json.put k j (json.put l i found))) (λ j i. write_members m ms (json.put l i (json.put k j found)))
         (λ i j. ap (write_members m ms) (sym (commute l k i j (turned k l e) found)))
 
 pub none_ordered : (k : List ℕ) (ms : Members) → look_up k ms ≡ None → look_up k (asc_members ms) ≡ None
@@ -173,19 +173,19 @@ none_ordered k ms h = look_up-asc k ms ∙ ap (option_map asc) h
 mutual
   pub write_asc : (m : Mode) (v : Value) → HasDistinctKeys v → write m (asc v) ≡ write m v
   write_asc m (scalar s) h = refl
-  write_asc m (array vs) h = ap (option_map tree.array) (write_asc_items m vs h)
-  write_asc m (document ms) h = ap (option_map object) (write_asc_members m ms h tree.no_members)
-  write_asc m (scoped_code t ms) h = ap (option_map (with_scope t)) (write_asc_members m ms h tree.no_members)
+  write_asc m (array vs) h = ap (option_map json.array) (write_asc_items m vs h)
+  write_asc m (document ms) h = ap (option_map object) (write_asc_members m ms h json.no_members)
+  write_asc m (scoped_code t ms) h = ap (option_map (with_scope t)) (write_asc_members m ms h json.no_members)
 
   write_asc_items : (m : Mode) (vs : Items) → ItemsHaveDistinctKeys vs → write_items m (asc_items vs) ≡ write_items m vs
   write_asc_items m no_items h = refl
   write_asc_items m (item v vs) h = ap (λ j. item_in j (write_items m (asc_items vs))) (write_asc m v h.0) ∙ ap (item_in (write m v)) (write_asc_items m vs h.1)
 
-  pub write_asc_members : (m : Mode) (ms : Members) → MembersHaveDistinctKeys ms → (found : tree.Members) → write_members m (asc_members ms) found ≡ write_members m ms found
+  pub write_asc_members : (m : Mode) (ms : Members) → MembersHaveDistinctKeys ms → (found : json.Members) → write_members m (asc_members ms) found ≡ write_members m ms found
   write_asc_members m no_members h found = refl
   write_asc_members m (member k v ms) h found = write_place m k (asc v) (asc_members ms) (none_ordered k ms h.0) found
-      ∙ ap (option_and_then (λ j. write_members m (asc_members ms) (tree.put k j found))) (write_asc m v h.1)
-      ∙ then_alike (write m v) _ _ (λ j. write_asc_members m ms h.2 (tree.put k j found))
+      ∙ ap (option_and_then (λ j. write_members m (asc_members ms) (json.put k j found))) (write_asc m v h.1)
+      ∙ then_alike (write m v) _ _ (λ j. write_asc_members m ms h.2 (json.put k j found))
 
 pub write_same : (m : Mode) (v w : Value) → IsSound v → IsSound w → Same v w → write m v ≡ write m w
 write_same m v w s t h = sym (write_asc m (norm v) (norm_distinct v s.distinct) ∙ write_norm m _ v s.ranged) ∙ ap (write m) (in_order_same v w h)

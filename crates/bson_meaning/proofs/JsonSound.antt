@@ -3,7 +3,7 @@ use Rattle.std.proofs.Common.{◌≡◌, ℕ, ℤ, ◌<◌, ◌^◌, nat_lt, Lis
 use Rattle.std.specs.Prelude.{◌&&◌, bytes_eq, codes, FitsSigned, IsUtf8}
 use Rattle.std.specs.Int.{w32, w64}
 use Rattle.std.proofs.lemmas.Bool.{ltb-true}
-use Rattle.serde_json.specs.Data as tree
+use Rattle.serde_json.specs.Data as json
 use Rattle.serde_json.specs.Data.{Data, number, object, unsigned, negative, float}
 use Rattle.serde_json.specs.Find.{as_i64}
 use Rattle.base64.specs.GeneralPurpose.{decode_of}
@@ -17,7 +17,7 @@ use Rattle.bson_base.specs.Tags.{subtype_of}
 use Rattle.bson_base.specs.Value.{Scalar, undefined, int32, int64, max_key, min_key, Value, scalar, document, Items, no_items, Members, no_members, look_up, EachPart, EachItem, EachMember, HasDistinctKeys, ItemsHaveDistinctKeys, MembersHaveDistinctKeys}
 use Rattle.bson_model.specs.JsonKeys.{Reserved, any_reserved, key_of, reserved_of, scope_key, of_id, of_symbol, of_regex, of_int, of_long, of_double, of_decimal, of_binary, of_uuid, of_code, of_timestamp, of_date, of_min, of_max, of_pointer, of_undefined}
 use Rattle.bson_base.specs.Answer.{◌>>=◌}
-use Rattle.bson_model.specs.JsonRead.{accepted, text_of, single, under, bodies_under, bodies_in, below_32, u32_of, is_one, is_true, integer, whole, id_body, regex_body, int_body, long_body, double_body, decimal_body, base64_body, byte_body, binary_body, uuid_body, timestamp_body, read_date_body, pointer_body, constant, read_body, read_wrapped, code_and_scope, read, read_items, read_members, read_typed, read_scope}
+use Rattle.bson_model.specs.JsonRead.{ok_or_error, text_of, single, under, bodies_under, bodies_in, below_32, u32_of, is_one, is_true, integer, whole, id_body, regex_body, int_body, long_body, double_body, decimal_body, base64_body, byte_body, binary_body, uuid_body, timestamp_body, read_date_body, pointer_body, constant, read_body, read_wrapped, code_and_scope, read, read_items, read_members, read_typed, read_scope}
 use Rattle.bson_model.specs.JsonTexts.{fits_32, int_of, long_of, byte_of}
 use Rattle.bson_model.specs.declared.extjson.de.Error.{Error}
 use Rattle.bson_model.specs.declared.extjson.de.Error.TheVariants.{DeserializationError}
@@ -44,11 +44,11 @@ same_ok x y e = cc
 -- ---- bodies
 
 text_ranged : (j : Data) (t : List ℕ) → IsJson j → text_of j ≡ Ok t → IsUtf8 t
-text_ranged (tree.string u) t h e = subst IsUtf8 (same_ok u t e) h
+text_ranged (json.string u) t h e = subst IsUtf8 (same_ok u t e) h
 text_ranged _ t h e = cc
 
-pair_json : (k l : List ℕ) (js : tree.Members) (p : Data × Data) → IsJsonObject js → bodies_in k l js ≡ Ok p → IsJson p.0 × IsJson p.1
-pair_json k l (tree.member m i (tree.member n j tree.no_members)) p h e = by (bytes_eq m k && bytes_eq n l) e
+pair_json : (k l : List ℕ) (js : json.Members) (p : Data × Data) → IsJsonObject js → bodies_in k l js ≡ Ok p → IsJson p.0 × IsJson p.1
+pair_json k l (json.member m i (json.member n j json.no_members)) p h e = by (bytes_eq m k && bytes_eq n l) e
   where
     by : (b : Bool) → (if b then Ok (i, j) else Err DeserializationError) ≡ Ok p → IsJson p.0 × IsJson p.1
     by true f = subst (λ (q : Data × Data). IsJson q.0 × IsJson q.1) (same_ok _ p f) (h.2, h.3.2)
@@ -74,13 +74,13 @@ double_body_ranged j n e = let a = bound (text_of j) _ n e in double_ranged a.fi
 decimal_body_ranged : (j : Data) (bs : List ℕ) → decimal_body j ≡ Ok bs → (length bs ≡ 16) × AreBytes bs
 decimal_body_ranged j bs e =
     let a = bound (text_of j) _ bs e in
-    let b = bound (accepted (decimals.read a.first)) _ bs a.there in
+    let b = bound (ok_or_error (decimals.read a.first)) _ bs a.there in
     subst (λ xs. (length xs ≡ 16) × AreBytes xs) (same_ok _ bs b.there) (sixteen_ranged b.first)
 
 base64_body_ranged : (b : ℕ) → b < 256 → (j : Data) (s : Scalar) → IsJson j → base64_body (subtype_of b) j ≡ Ok s → IsRangedScalar s
 base64_body_ranged b h j s u e =
     let a = bound (text_of j) _ s e in
-    let c = bound (accepted (decode_of standard a.first)) _ s a.there in
+    let c = bound (ok_or_error (decode_of standard a.first)) _ s a.there in
     subst IsRangedScalar (same_ok _ s c.there) (subst (λ n. n < 256) (sym (subtype_back b)) h, base64_ranged a.first c.first (text_ranged j a.first u a.here) (accepted_ok (decode_of standard a.first) c.first c.here))
 
 binary_body_ranged : (j : Data) (s : Scalar) → IsJson j → binary_body j ≡ Ok s → IsRangedScalar s
@@ -93,7 +93,7 @@ binary_body_ranged j s h e =
 uuid_body_ranged : (j : Data) (s : Scalar) → uuid_body j ≡ Ok s → IsRangedScalar s
 uuid_body_ranged j s e =
     let a = bound (text_of j) _ s e in
-    let b = bound (accepted (read_uuid a.first)) _ s a.there in
+    let b = bound (ok_or_error (read_uuid a.first)) _ s a.there in
     subst IsRangedScalar (same_ok _ s b.there) (omega arith, uuid_ranged a.first b.first (accepted_ok (read_uuid a.first) b.first b.here))
 
 below_low : (m n : ℕ) → below_32 m ≡ Some n → n < 2 ^ 32
@@ -117,7 +117,7 @@ timestamp_body_ranged j p e =
     subst (λ (q : ℕ × ℕ). (q.0 < 2 ^ 32) × (q.1 < 2 ^ 32)) (same_ok _ p c.there) (u32_low a.first.1 c.first c.here, u32_low a.first.0 b.first b.here)
 
 date_body_ranged : (j : Data) (z : ℤ) → IsJson j → read_date_body j ≡ Ok z → FitsSigned w64 z
-date_body_ranged (tree.string t) z h e = date_ranged t z (accepted_ok (date_of t) z e)
+date_body_ranged (json.string t) z h e = date_ranged t z (accepted_ok (date_of t) z e)
 date_body_ranged (number n) z h e = h z (wanted_ok (as_i64 n) z e)
 date_body_ranged (object js) z h e = let a = bound (single (key_of of_long) js) long_body z e in long_body_ranged a.first z a.there
 date_body_ranged _ z h e = cc
@@ -187,9 +187,9 @@ either : {X : Type 0} (b : Bool) (r s : Result Value Error) (v : Value) → (r �
 either true r s v f g e = f e
 either false r s v f g e = g e
 
-absent : (k : List ℕ) (js : tree.Members) (ms : Members) → LacksKey k js → read_members js ≡ Ok ms → look_up k ms ≡ None
-absent k tree.no_members ms a e = ap (look_up k) (sym (same_ok no_members ms e))
-absent k (tree.member l j js) ms a e =
+absent : (k : List ℕ) (js : json.Members) (ms : Members) → LacksKey k js → read_members js ≡ Ok ms → look_up k ms ≡ None
+absent k json.no_members ms a e = ap (look_up k) (sym (same_ok no_members ms e))
+absent k (json.member l j js) ms a e =
     let v = bound (read j) _ ms e in
     let r = bound (read_members js) _ ms v.there in
     subst (λ ns. look_up k ns ≡ None) (same_ok _ ms r.there) (ap (λ b. cond b (Some v.first) (look_up k r.first)) a.0 ∙ absent k js r.first a.1 r.here)
@@ -204,55 +204,55 @@ scope_fine t (Some ms) u h = ((u, h.0), h.1)
 
 mutual
   fine : (j : Data) (v : Value) → IsJson j → read j ≡ Ok v → Fine v
-  fine tree.null v h e = subst Fine (same_ok _ v e) (tt, tt)
-  fine (tree.boolean b) v h e = subst Fine (same_ok _ v e) (tt, tt)
+  fine json.null v h e = subst Fine (same_ok _ v e) (tt, tt)
+  fine (json.boolean b) v h e = subst Fine (same_ok _ v e) (tt, tt)
   fine (number n) v h e = whole_fine (as_i64 n) v h e
-  fine (tree.string t) v h e = subst Fine (same_ok _ v e) (h, tt)
-  fine (tree.array js) v h e = let a = bound (read_items js) _ v e in subst Fine (same_ok _ v a.there) (fine_items js a.first h a.here)
+  fine (json.string t) v h e = subst Fine (same_ok _ v e) (h, tt)
+  fine (json.array js) v h e = let a = bound (read_items js) _ v e in subst Fine (same_ok _ v a.there) (fine_items js a.first h a.here)
   fine (object js) v h e = either (any_reserved js) (read_typed js) (read_members js >>= λ ms. Ok (document ms)) v (fine_typed js v h)
       (λ f. let a = bound (read_members js) (λ ms. Ok (document ms)) v f in subst Fine (same_ok _ v a.there) (fine_members js a.first h a.here)) e
 
-  fine_items : (js : tree.Items) (vs : Items) → AreJson js → read_items js ≡ Ok vs → EachItem IsUtf8 IsRangedScalar vs × ItemsHaveDistinctKeys vs
-  fine_items tree.no_items vs h e = subst (λ ws. EachItem IsUtf8 IsRangedScalar ws × ItemsHaveDistinctKeys ws) (same_ok no_items vs e) (tt, tt)
-  fine_items (tree.item j js) vs h e =
+  fine_items : (js : json.Items) (vs : Items) → AreJson js → read_items js ≡ Ok vs → EachItem IsUtf8 IsRangedScalar vs × ItemsHaveDistinctKeys vs
+  fine_items json.no_items vs h e = subst (λ ws. EachItem IsUtf8 IsRangedScalar ws × ItemsHaveDistinctKeys ws) (same_ok no_items vs e) (tt, tt)
+  fine_items (json.item j js) vs h e =
       let a = bound (read j) _ vs e in
       let b = bound (read_items js) _ vs a.there in
       let p = fine j a.first h.0 a.here in
       let q = fine_items js b.first h.1 b.here in
       subst (λ ws. EachItem IsUtf8 IsRangedScalar ws × ItemsHaveDistinctKeys ws) (same_ok _ vs b.there) ((p.0, q.0), (p.1, q.1))
 
-  fine_members : (js : tree.Members) (ms : Members) → IsJsonObject js → read_members js ≡ Ok ms → EachMember IsUtf8 IsRangedScalar ms × MembersHaveDistinctKeys ms
-  fine_members tree.no_members ms h e = subst (λ ns. EachMember IsUtf8 IsRangedScalar ns × MembersHaveDistinctKeys ns) (same_ok no_members ms e) (tt, tt)
-  fine_members (tree.member k j js) ms h e =
+  fine_members : (js : json.Members) (ms : Members) → IsJsonObject js → read_members js ≡ Ok ms → EachMember IsUtf8 IsRangedScalar ms × MembersHaveDistinctKeys ms
+  fine_members json.no_members ms h e = subst (λ ns. EachMember IsUtf8 IsRangedScalar ns × MembersHaveDistinctKeys ns) (same_ok no_members ms e) (tt, tt)
+  fine_members (json.member k j js) ms h e =
       let a = bound (read j) _ ms e in
       let b = bound (read_members js) _ ms a.there in
       let p = fine j a.first h.2 a.here in
       let q = fine_members js b.first h.3 b.here in
       subst (λ ns. EachMember IsUtf8 IsRangedScalar ns × MembersHaveDistinctKeys ns) (same_ok _ ms b.there) ((h.0, p.0, q.0), (absent k js b.first h.1 b.here, p.1, q.1))
 
-  fine_typed : (js : tree.Members) (v : Value) → IsJsonObject js → read_typed js ≡ Ok v → Fine v
-  fine_typed tree.no_members v h e = cc
-  fine_typed (tree.member k j tree.no_members) v h e = wrapped_fine (reserved_of k) j v h.2 e
-  fine_typed (tree.member k j (tree.member l i tree.no_members)) v h e =
+  fine_typed : (js : json.Members) (v : Value) → IsJsonObject js → read_typed js ≡ Ok v → Fine v
+  fine_typed json.no_members v h e = cc
+  fine_typed (json.member k j json.no_members) v h e = wrapped_fine (reserved_of k) j v h.2 e
+  fine_typed (json.member k j (json.member l i json.no_members)) v h e =
       either (bytes_eq k (key_of of_code) && bytes_eq l scope_key) (text_of j >>= λ t. read_scope i >>= λ o. Ok (code_and_scope t o)) (Err DeserializationError) v
       (λ f. let a = bound (text_of j) (λ t. read_scope i >>= λ o. Ok (code_and_scope t o)) v f in
       let b = bound (read_scope i) (λ o. Ok (code_and_scope a.first o)) v a.there in
       subst Fine (same_ok _ v b.there) (scope_fine a.first b.first (text_ranged j a.first h.2 a.here) (fine_scope i b.first h.3.2 b.here)))
       (λ f. cc) e
-  fine_typed (tree.member k j (tree.member l i (tree.member m g js))) v h e = cc
+  fine_typed (json.member k j (json.member l i (json.member m g js))) v h e = cc
 
   fine_scope : (j : Data) (o : Option Members) → IsJson j → read_scope j ≡ Ok o → FineScope o
-  fine_scope tree.null o h e = subst FineScope (same_ok _ o e) tt
+  fine_scope json.null o h e = subst FineScope (same_ok _ o e) tt
   fine_scope (object js) o h e = let a = bound (read_members js) _ o e in subst FineScope (same_ok _ o a.there) (fine_members js a.first h a.here)
-  fine_scope (tree.boolean b) o h e = cc
+  fine_scope (json.boolean b) o h e = cc
   fine_scope (number n) o h e = cc
-  fine_scope (tree.string t) o h e = cc
-  fine_scope (tree.array js) o h e = cc
+  fine_scope (json.string t) o h e = cc
+  fine_scope (json.array js) o h e = cc
 
 pub value_sound : (j : Data) (v : Value) → IsJson j → read j ≡ Ok v → IsSound v
 value_sound j v h e = let f = fine j v h e in record { ranged = f.0; distinct = f.1 }
 
-pub document_sound : (js : tree.Members) (e : Members) → IsJsonObject js → read_members js ≡ Ok e → IsSound (document e)
+pub document_sound : (js : json.Members) (e : Members) → IsJsonObject js → read_members js ≡ Ok e → IsSound (document e)
 document_sound js e h r = let f = fine_members js e h r in record { ranged = f.0; distinct = f.1 }
 
 -- ---- the document that is kept

@@ -9,7 +9,6 @@ ghost use Rattle.bson_meaning.specs.Sames.{IsScalar};
 
 use crate::options::same_options;
 use crate::scalars::{Zeros, normal_decimal, normal_double, normal_subtype};
-use bson_model::laws::{distinct_keys_of_level, equality_of_trees};
 use bson_model::{Binary, Bson, Document, Regex};
 
 /// Whether two values mean the same: their normal forms are equal, with documents compared as maps at every depth.
@@ -60,7 +59,7 @@ fn same_items(items: &[Bson], others: &[Bson]) -> bool
 fn same_documents(document: &Document, other: &Document) -> bool
     ensures { IsTrue result ↔ SameKeys (members_of (pairs_of document.now)) (members_of (pairs_of other.now)) × SameUnder (members_of (pairs_of document.now)) (members_of (pairs_of other.now)) }
 {
-    distinct_keys_of_level(document);
+    bson_model::laws::distinct_keys_of_level(document);
     let mut others = other.ascending();
     for (key, value) in document.ascending() {
         let Some((name, found)) = others.next() else {
@@ -102,7 +101,7 @@ fn same_scalar(value: &Bson, other: &Bson) -> bool
             Bson::Decimal128(other) => normal_decimal(decimal) == normal_decimal(other),
             _ => false,
         },
-        _ => equality_of_trees(value, other),
+        _ => bson_model::laws::equality_of_trees(value, other),
     }
 }
 

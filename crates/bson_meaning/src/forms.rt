@@ -10,8 +10,7 @@ ghost use Rattle.bson_meaning.specs.Pairs.{normal_pair};
 ghost use Rattle.bson_meaning.specs.Sames.{IsScalar};
 
 use crate::scalars::{Zeros, normal_decimal, normal_double, normal_subtype};
-use crate::sound::{ranged_scalar, text};
-use bson_model::laws::distinct_keys_of_level;
+use crate::facts;
 use bson_model::{Binary, Bson, Document, JavaScriptCodeWithScope, Regex};
 use std::alloc::{AllocError, Global};
 
@@ -28,12 +27,12 @@ pub fn normalize(alloc: Global, value: Bson) -> Result<Bson, AllocError>
         Bson::Document(document) => Ok(Bson::Document(normalize_document(alloc, document)?)),
         Bson::JavaScriptCodeWithScope(code) => {
             let JavaScriptCodeWithScope { code, scope } = code;
-            text(code.as_str());
+            facts::is_utf8(code.as_str());
             let scope = normalize_document(alloc, scope)?;
             Ok(Bson::JavaScriptCodeWithScope(JavaScriptCodeWithScope { code, scope }))
         }
         scalar => {
-            ranged_scalar(&scalar);
+            facts::ranged_scalar(&scalar);
             normal_scalar(alloc, scalar)
         }
     }
@@ -69,10 +68,10 @@ fn normal_pairs(alloc: Global, document: Document) -> Result<Vec<(String, Bson)>
     ensures ranged { IfOk result (λ _. EachMember IsUtf8 IsRangedScalar (members_of (pairs_of document))) }
     ensures distinct { IfOk result (λ _. MembersHaveDistinctKeys (members_of (pairs_of document))) }
 {
-    distinct_keys_of_level(&document);
+    bson_model::laws::distinct_keys_of_level(&document);
     let mut pairs = Vec::with_capacity(alloc, document.len())?;
     for (key, value) in document {
-        text(key.as_str());
+        facts::is_utf8(key.as_str());
         pairs.push((key, normalize(alloc, value)?))?;
     }
     Ok(pairs)

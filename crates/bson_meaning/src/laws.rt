@@ -23,7 +23,7 @@ pub use crate::json_laws::{
     trees_go_by_meaning,
 };
 use crate::key::KeyError;
-pub use crate::sound::{soundness, soundness_of_document};
+pub use crate::facts::{soundness, soundness_of_document};
 use bson_model::Document;
 use bson_raw::RawDocumentBuf;
 use std::alloc::Global;

@@ -9,8 +9,7 @@ ghost use Rattle.bson_meaning.specs.Meaning.{norm, norm_items, norm_members, nor
 ghost use Rattle.bson_meaning.specs.Sames.{IsScalar};
 
 use crate::scalars::normal_subtype;
-use crate::sound::{ranged_scalar, text};
-use bson_model::laws::distinct_keys_of_level;
+use crate::facts;
 use bson_model::{Binary, BinarySubtype, Bson, Document, Regex};
 use itoa::Buffer;
 
@@ -30,7 +29,7 @@ pub(crate) fn normal_length_of_element(name: &str, value: &Bson) -> usize
     ensures length { result ≡ min (size (norm_members (member name.now (view value.now) no_members))) (2 ^ 64 - 1) }
     ensures sound { IsSound (tree (member name.now (view value.now) no_members)) }
 {
-    text(name);
+    facts::is_utf8(name);
     length_of_value(value)
         .saturating_add(name.len())
         .saturating_add(7)
@@ -46,13 +45,13 @@ fn length_of_value(value: &Bson) -> usize
         Bson::Array(items) => length_of_items(items.as_slice()).saturating_add(5),
         Bson::Document(document) => length_of_members(document).saturating_add(5),
         Bson::JavaScriptCodeWithScope(code) => {
-            text(code.code.as_str());
+            facts::is_utf8(code.code.as_str());
             length_of_members(&code.scope)
                 .saturating_add(code.code.len())
                 .saturating_add(14)
         }
         scalar => {
-            ranged_scalar(scalar);
+            facts::ranged_scalar(scalar);
             length_of_scalar(scalar)
         }
     }
@@ -64,10 +63,10 @@ fn length_of_members(document: &Document) -> usize
     ensures ranged { EachMember IsUtf8 IsRangedScalar (members_of (pairs_of document.now)) }
     ensures distinct { MembersHaveDistinctKeys (members_of (pairs_of document.now)) }
 {
-    distinct_keys_of_level(document);
+    bson_model::laws::distinct_keys_of_level(document);
     let mut length: usize = 0;
     for (key, value) in document {
-        text(key.as_str());
+        facts::is_utf8(key.as_str());
         let element = length_of_value(value)
             .saturating_add(key.len())
             .saturating_add(2);

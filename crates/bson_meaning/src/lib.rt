@@ -13,7 +13,7 @@ mod options;
 mod plain;
 mod scalars;
 mod sorting;
-mod sound;
+mod facts;
 mod views;
 mod writing;
 

@@ -9,7 +9,6 @@ ghost use Rattle.bson_model.specs.View.{view, pairs_of, items_of, members_of};
 ghost use Rattle.bson_meaning.specs.Meaning.{asc, asc_items, asc_members};
 ghost use Rattle.bson_meaning.specs.Pairs.{sorted_pair};
 
-use bson_model::laws::distinct_keys_of_level;
 use bson_model::{Bson, Document, JavaScriptCodeWithScope};
 use std::alloc::{AllocError, Global};
 
@@ -19,7 +18,7 @@ use std::alloc::{AllocError, Global};
 pub fn sorted(alloc: Global, document: Document) -> Result<Document, AllocError>
     ensures { IfOk result (λ d. members_of (pairs_of d) ≡ asc_members (members_of (pairs_of document))) }
 {
-    distinct_keys_of_level(&document);
+    bson_model::laws::distinct_keys_of_level(&document);
     let mut pairs = sorted_pairs(alloc, document)?;
     sort_by_keys(&mut pairs);
     Document::from_pairs(alloc, pairs)

@@ -13,9 +13,7 @@ ghost use Rattle.bson_meaning.specs.Views.{ComparesPayload, view_scalar, ShowsFi
 
 use crate::options::same_options;
 use crate::scalars::{Zeros, normal_decimal, normal_double, normal_subtype};
-use bson_model::laws::distinct_keys_of_level;
 use bson_model::{Bson, Document};
-use bson_raw::laws::payload_of_an_element;
 use bson_raw::{RawArray, RawBsonRef, RawDocument, RawElement};
 
 /// Whether a view means the same as a value, where the view has no fault and no key twice at any level; of other views nothing
@@ -48,7 +46,7 @@ fn same_members(raw: RawDocument<'_>, document: &Document) -> bool
     ensures { (ms : Members) → SpellsMembers (drop 4 (bytes_of raw.entry)) ms → MembersHaveDistinctKeys ms
         → IsTrue result ↔ SameKeys ms (members_of (pairs_of document.now)) × SameUnder ms (members_of (pairs_of document.now)) }
 {
-    distinct_keys_of_level(document);
+    bson_model::laws::distinct_keys_of_level(document);
     let mut left = document.len();
     for item in raw.iter_elements() {
         let Ok(element) = item else {
@@ -96,7 +94,7 @@ fn same_elements(raw: RawArray<'_>, items: &[Bson]) -> bool
 fn same_element(element: &RawElement<'_>, value: &Bson) -> bool
     ensures { ComparesPayload (parts_of element.now) (view value.now) result }
 {
-    payload_of_an_element(element);
+    bson_raw::laws::payload_of_an_element(element);
     match element.value_or_kind() {
         Ok(raw) => same_as_raw(raw, value),
         Err(_) => false,

@@ -5,7 +5,7 @@
 ghost use Rattle.std.specs.Prelude.{◌≡◌, ◌++◌, map, IfErr, IfOk, OnOk};
 ghost use Rattle.bson_base.specs.Kinds.{IsPlain};
 ghost use Rattle.bson_base.specs.Value.{array, document as tree, member, no_members, value_kind};
-ghost use Rattle.bson_bytes.specs.Encode.{encode, framed, items_bytes, members_bytes, value_bytes};
+ghost use Rattle.bson_bytes.specs.Encode.{encode, frame_of, items_bytes, members_bytes, value_bytes};
 ghost use Rattle.bson_bytes.specs.Writing.{CanBeWritten, IsWriteRefusal};
 ghost use Rattle.bson_model.specs.Trees.{regex_tree, scoped_code_tree};
 ghost use Rattle.bson_model.specs.View.{view, pairs_of, items_of, members_of};
@@ -95,7 +95,7 @@ fn write_members(zeros: Zeros, document: &Document, out: &mut Vec<u8>) -> Result
 /// Appends an array.
 #[cycle(in_order)]
 fn write_items(zeros: Zeros, items: &[Bson], out: &mut Vec<u8>) -> Result<()>
-    ensures ok { OnOk result (out.new.items ≡ out.old.items ++ framed (items_bytes 0 (norm_items_in_order zeros (items_of (map view items.now))))) }
+    ensures ok { OnOk result (out.new.items ≡ out.old.items ++ frame_of (items_bytes 0 (norm_items_in_order zeros (items_of (map view items.now))))) }
     ensures fits { OnOk result (CanBeWritten (array (norm_items_in_order zeros (items_of (map view items.now))))) }
     ensures refused { IfErr result (IsWriteRefusal (CanBeWritten (array (norm_items_in_order zeros (items_of (map view items.now)))) → ⊥)) }
 {

@@ -8,7 +8,7 @@ use Rattle.std.specs.Ordering.{ordering_reverse}
 use Rattle.std.proofs.lemmas.Cmp.{nat_list_cmp_total}
 use Rattle.std.proofs.lemmas.Map.Text.{is_eq-slice_cmp}
 use Rattle.std.proofs.lemmas.Result.{err_from_is_err_and}
-use Rattle.serde_json.specs.View.{view as tree_of, items_view, members_view}
+use Rattle.serde_json.specs.View.{view as data_of, items_view, members_view}
 use Rattle.serde_json.specs.Data.{Data}
 use Rattle.serde_json.specs.declared.value.Value as json
 use Rattle.bson_base.specs.Value.{Value, Items, no_items, item, Members, no_members, member}
@@ -67,7 +67,7 @@ after_items-more bs b (Ok us) = ap Ok (items_then-more bs b us)
 after_items-more bs b (Err e) = refl
 
 pub items_step : (all : Result Items Error) (bs cs : List Bson) (vs ws : List json.Value) (v : json.Value) (b : Bson)
-    → all ≡ after_items (values_view bs) (read_items (items_view vs)) → vs ≡ v ∷ ws → read (tree_of v) ≡ Ok (view b) → cs ≡ bs ++ b ∷ []
+    → all ≡ after_items (values_view bs) (read_items (items_view vs)) → vs ≡ v ∷ ws → read (data_of v) ≡ Ok (view b) → cs ≡ bs ++ b ∷ []
     → all ≡ after_items (values_view cs) (read_items (items_view ws))
 items_step all bs cs vs ws v b so first is more =
     so ∙ ap (λ us. after_items (values_view bs) (read_items (items_view us))) first
@@ -160,7 +160,7 @@ members_begin all left same = record {
 }
 
 pub members_step : (all left more : List Entry) (ps qs : List Named) (k : String Global) (v : json.Value) (b : Bson)
-    → IsStrictlySortedBy string_cmp (keys_of all) → SoFar all left ps → left ≡ (k, v) ∷ more → read (tree_of v) ≡ Ok (view b) → qs ≡ put (string_bytes k) (view b) ps → SoFar all more qs
+    → IsStrictlySortedBy string_cmp (keys_of all) → SoFar all left ps → left ≡ (k, v) ∷ more → read (data_of v) ≡ Ok (view b) → qs ≡ put (string_bytes k) (view b) ps → SoFar all more qs
 members_step all left more ps qs k v b sorted so first is puts =
     let whole : all ≡ so.done ++ (k, v) ∷ more = so.splits ∙ ap (λ es. so.done ++ es) first in
     let last : qs ≡ ps ++ (string_bytes k, view b) ∷ [] = puts ∙ put_new so.done (k, v) more ps (view b) (subst (λ es. IsStrictlySortedBy string_cmp (keys_of es)) whole sorted) so.keys in
@@ -181,7 +181,7 @@ members_end all left ps so none = so.reads ∙ ap (λ us. after_members (members
 
 pub typed_two : (es fs gs : List Entry) (k l : String Global) (v w : json.Value)
     → es ≡ (k, v) ∷ fs → fs ≡ (l, w) ∷ gs → gs ≡ [] → bytes_eq (string_bytes k) (key_of of_code) ≡ true → bytes_eq (string_bytes l) scope_key ≡ true
-    → read_typed (members_view es) ≡ (text_of (tree_of v) >>= λ s. read_scope (tree_of w) >>= λ o. Ok (code_and_scope s o))
+    → read_typed (members_view es) ≡ (text_of (data_of v) >>= λ s. read_scope (data_of w) >>= λ o. Ok (code_and_scope s o))
 typed_two es fs gs k l v w first second third code scope = rw (first, second, third, code, scope) refl
 
 pub none_left : {A : Type 0} (r : Option A) (xs ys : List Entry) (Q : A → Type 0) → is_some r ≡ false → MatchOption r ((xs ≡ []) × (ys ≡ [])) Q → xs ≡ []

@@ -7,8 +7,8 @@ use Rattle.hex.specs.Hex.{decode_pairs, decode_sized, hex_digit_value}
 use Rattle.hex.specs.declared.error.FromHexError.{FromHexError}
 use Rattle.hex.specs.declared.error.FromHexError.TheVariants.{OddLength, InvalidStringLength}
 use Rattle.bson_base.specs.Decimal.{all_digits, value_after}
-use Rattle.bson_model.specs.JsonTexts.{signed, is_digits, with_sign, integer_of, fits_32, fits_64, only_where, int_of, long_of, byte_from, byte_of}
-use Rattle.bson_model.specs.JsonRead.{wanted}
+use Rattle.bson_model.specs.JsonTexts.{sign_and_rest, is_digits, with_sign, integer_of, fits_32, fits_64, only_where, int_of, long_of, byte_from, byte_of}
+use Rattle.bson_model.specs.JsonRead.{some_or_error}
 use Rattle.bson_model.specs.declared.extjson.de.Error.{Error}
 use Rattle.bson_model.specs.declared.extjson.de.Error.TheVariants.{DeserializationError}
 use Rattle.std.proofs.lemmas.Bool.{and_parts}
@@ -41,22 +41,22 @@ is_numeral ds h = let k : nat_lt 0 (length ds) ≡ true = grind (arith, h.0) in 
 
 -- ---- the sign
 
-by_sign : (c : ℕ) (cs : List ℕ) (p m : Bool) → (c == 43) ≡ p → (c == 45) ≡ m → signed (c ∷ cs) ≡ (starts_with_minus (c ∷ cs), without_leading_sign (c ∷ cs))
+by_sign : (c : ℕ) (cs : List ℕ) (p m : Bool) → (c == 43) ≡ p → (c == 45) ≡ m → sign_and_rest (c ∷ cs) ≡ (starts_with_minus (c ∷ cs), without_leading_sign (c ∷ cs))
 by_sign c cs true true e f = absurd (grind arith)
 by_sign c cs true false e f = rw (e, f) refl
 by_sign c cs false true e f = rw (e, f) refl
 by_sign c cs false false e f = rw (e, f) refl
 
-signed_is : (t : List ℕ) → signed t ≡ (starts_with_minus t, without_leading_sign t)
+signed_is : (t : List ℕ) → sign_and_rest t ≡ (starts_with_minus t, without_leading_sign t)
 signed_is [] = refl
 signed_is (c ∷ cs) = by_sign c cs (c == 43) (c == 45) refl refl
 
-number_is : (t : List ℕ) → with_sign (signed t) ≡ signed_digits_value 10 t
+number_is : (t : List ℕ) → with_sign (sign_and_rest t) ≡ signed_digits_value 10 t
 number_is t = rw (signed_is t, value_is 0 (without_leading_sign t)) refl
 
 integer_some : (t : List ℕ) → IsNumeral 10 (without_leading_sign t) → integer_of t ≡ Some (signed_digits_value 10 t)
 integer_some t h =
-    let digits : is_digits (signed t).1 ≡ true = ap (λ s. is_digits s.1) (signed_is t) ∙ is_numeral (without_leading_sign t) h in
+    let digits : is_digits (sign_and_rest t).1 ≡ true = ap (λ s. is_digits s.1) (signed_is t) ∙ is_numeral (without_leading_sign t) h in
     rw digits (ap Some (number_is t))
 
 -- ---- ranges
@@ -91,29 +91,29 @@ module _ (F : ℤ → Type 0) (fits : ℤ → Bool) (so : (z : ℤ) → F z → 
       by false e = rw e refl
 
   read_none : (t : List ℕ) → (IsNumeral 10 (without_leading_sign t) × F (signed_digits_value 10 t) → ⊥) → only_where fits (integer_of t) ≡ None
-  read_none t h = by (is_digits (signed t).1) refl
+  read_none t h = by (is_digits (sign_and_rest t).1) refl
     where
-      by : (b : Bool) → is_digits (signed t).1 ≡ b → only_where fits (integer_of t) ≡ None
+      by : (b : Bool) → is_digits (sign_and_rest t).1 ≡ b → only_where fits (integer_of t) ≡ None
       by true e =
           let n = numeral (without_leading_sign t) (sym (ap (λ s. is_digits s.1) (signed_is t)) ∙ e) in
           ap (only_where fits) (integer_some t n) ∙ out_of_range t (λ f. h (n, f))
       by false e = rw e refl
 
-pub int_some : (t : List ℕ) (z : ℤ) → (IsNumeral 10 (without_leading_sign t) × FitsSigned w32 (signed_digits_value 10 t)) × (z ≡ signed_digits_value 10 t) → Ok z ≡ wanted (int_of t)
+pub int_some : (t : List ℕ) (z : ℤ) → (IsNumeral 10 (without_leading_sign t) × FitsSigned w32 (signed_digits_value 10 t)) × (z ≡ signed_digits_value 10 t) → Ok z ≡ some_or_error (int_of t)
 unfolding int_of
-int_some t z h = ap wanted (sym (read_some (FitsSigned w32) fits_32 fits_32_so so_fits_32 t z h))
+int_some t z h = ap some_or_error (sym (read_some (FitsSigned w32) fits_32 fits_32_so so_fits_32 t z h))
 
-pub int_none : (t : List ℕ) → (IsNumeral 10 (without_leading_sign t) × FitsSigned w32 (signed_digits_value 10 t) → ⊥) → Err DeserializationError ≡ wanted (int_of t)
+pub int_none : (t : List ℕ) → (IsNumeral 10 (without_leading_sign t) × FitsSigned w32 (signed_digits_value 10 t) → ⊥) → Err DeserializationError ≡ some_or_error (int_of t)
 unfolding int_of
-int_none t h = ap wanted (sym (read_none (FitsSigned w32) fits_32 fits_32_so so_fits_32 t h))
+int_none t h = ap some_or_error (sym (read_none (FitsSigned w32) fits_32 fits_32_so so_fits_32 t h))
 
-pub long_some : (t : List ℕ) (z : ℤ) → (IsNumeral 10 (without_leading_sign t) × FitsSigned w64 (signed_digits_value 10 t)) × (z ≡ signed_digits_value 10 t) → Ok z ≡ wanted (long_of t)
+pub long_some : (t : List ℕ) (z : ℤ) → (IsNumeral 10 (without_leading_sign t) × FitsSigned w64 (signed_digits_value 10 t)) × (z ≡ signed_digits_value 10 t) → Ok z ≡ some_or_error (long_of t)
 unfolding long_of
-long_some t z h = ap wanted (sym (read_some (FitsSigned w64) fits_64 fits_64_so so_fits_64 t z h))
+long_some t z h = ap some_or_error (sym (read_some (FitsSigned w64) fits_64 fits_64_so so_fits_64 t z h))
 
-pub long_none : (t : List ℕ) → (IsNumeral 10 (without_leading_sign t) × FitsSigned w64 (signed_digits_value 10 t) → ⊥) → Err DeserializationError ≡ wanted (long_of t)
+pub long_none : (t : List ℕ) → (IsNumeral 10 (without_leading_sign t) × FitsSigned w64 (signed_digits_value 10 t) → ⊥) → Err DeserializationError ≡ some_or_error (long_of t)
 unfolding long_of
-long_none t h = ap wanted (sym (read_none (FitsSigned w64) fits_64 fits_64_so so_fits_64 t h))
+long_none t h = ap some_or_error (sym (read_none (FitsSigned w64) fits_64 fits_64_so so_fits_64 t h))
 
 -- ---- a byte
 
@@ -122,13 +122,13 @@ abbrev pub byte_told : Result (List ℕ) FromHexError → Result ℕ Error
 byte_told (Ok bs) = Ok (slice_index_or bs 0 0)
 byte_told (Err e) = Err DeserializationError
 
-two_digits : (h l : ℕ) (o p : Option ℕ) → hex_digit_value h ≡ o → hex_digit_value l ≡ p → byte_told (decode_pairs 0 (h ∷ l ∷ [])) ≡ wanted (byte_from (hex_digit_value h) (hex_digit_value l))
+two_digits : (h l : ℕ) (o p : Option ℕ) → hex_digit_value h ≡ o → hex_digit_value l ≡ p → byte_told (decode_pairs 0 (h ∷ l ∷ [])) ≡ some_or_error (byte_from (hex_digit_value h) (hex_digit_value l))
 unfolding decode_pairs
 two_digits h l (Some x) (Some y) e f = rw (e, f) refl
 two_digits h l (Some x) None e f = rw (e, f) refl
 two_digits h l None p e f = rw e refl
 
-pub byte_read : (t : List ℕ) → byte_told (decode_sized t 1) ≡ wanted (byte_of t)
+pub byte_read : (t : List ℕ) → byte_told (decode_sized t 1) ≡ some_or_error (byte_of t)
 unfolding byte_of
 byte_read [] = refl
 byte_read (h ∷ []) = refl

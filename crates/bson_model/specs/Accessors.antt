@@ -139,6 +139,6 @@ or_unexpected None = Err UnexpectedType
 or_unexpected (Some x) = Ok x
 
 -- NotPresent where the key isn't there, UnexpectedType where another kind stands
-abbrev pub typed : {A : Type 0} → (Value → Option A) → Option Value → Result A ValueAccessError
-typed as' None = Err NotPresent
-typed as' (Some v) = or_unexpected (as' v)
+abbrev pub of_kind : {A : Type 0} → (Value → Option A) → Option Value → Result A ValueAccessError
+of_kind as' None = Err NotPresent
+of_kind as' (Some v) = or_unexpected (as' v)

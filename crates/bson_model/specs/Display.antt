@@ -12,8 +12,8 @@ use Rattle.bson_base.specs.Value.{Scalar, double, string, binary, undefined, obj
 use Rattle.bson_base.specs.Dates.{shown_date}
 
 -- between two quotes, without escapes
-abbrev pub quoted : List ℕ → List ℕ
-quoted t = 34 ∷ t ++ 34 ∷ []
+abbrev pub in_quotes : List ℕ → List ℕ
+in_quotes t = 34 ∷ t ++ 34 ∷ []
 
 -- `name(a, b)`
 abbrev pub call_of_two : List ℕ → List ℕ → List ℕ → List ℕ
@@ -29,7 +29,7 @@ shown_double n = codes "0x" ++ encode_lower (to_be_bytes w64 n)
 
 abbrev pub shown_scalar : Scalar → List ℕ
 shown_scalar (double n) = shown_double n
-shown_scalar (string t) = quoted t
+shown_scalar (string t) = in_quotes t
 shown_scalar (binary s bs) = call_of_two (codes "Binary") (codes "0x" ++ digits 16 false (subtype_byte s)) (encode_of standard bs)
 shown_scalar undefined = codes "undefined"
 shown_scalar (object_id bs) = debug_text bs
@@ -48,29 +48,29 @@ shown_scalar max_key = codes "MaxKey"
 shown_scalar min_key = codes "MinKey"
 
 -- `{ .. }` around members, and `{}` where there are none
-abbrev pub braced : Members → List ℕ → List ℕ
-braced no_members t = codes "{}"
-braced (member k v ms) t = codes "{ " ++ t ++ codes " }"
+abbrev pub in_braces : Members → List ℕ → List ℕ
+in_braces no_members t = codes "{}"
+in_braces (member k v ms) t = codes "{ " ++ t ++ codes " }"
 
 -- what stands before a part: nothing before the first
 abbrev pub mark_before : Bool → List ℕ
 mark_before first = if first then [] else codes ", "
 
 abbrev mutual
-  pub shown : Value → List ℕ
-  shown (scalar s) = shown_scalar s
-  shown (array vs) = codes "[" ++ shown_items true vs ++ codes "]"
-  shown (document ms) = braced ms (shown_members true ms)
-  shown (scoped_code t ms) = t
+  pub display_text : Value → List ℕ
+  display_text (scalar s) = shown_scalar s
+  display_text (array vs) = codes "[" ++ shown_items true vs ++ codes "]"
+  display_text (document ms) = in_braces ms (shown_members true ms)
+  display_text (scoped_code t ms) = t
 
   -- items, of which the first is the first of all or not
   pub shown_items : Bool → Items → List ℕ
   shown_items first no_items = []
-  shown_items first (item v vs) = mark_before first ++ shown v ++ shown_items false vs
+  shown_items first (item v vs) = mark_before first ++ display_text v ++ shown_items false vs
 
   pub shown_members : Bool → Members → List ℕ
   shown_members first no_members = []
-  shown_members first (member k v ms) = mark_before first ++ (quoted k ++ codes ": ") ++ shown v ++ shown_members false ms
+  shown_members first (member k v ms) = mark_before first ++ (in_quotes k ++ codes ": ") ++ display_text v ++ shown_members false ms
 
 abbrev pub shown_document : Members → List ℕ
-shown_document ms = braced ms (shown_members true ms)
+shown_document ms = in_braces ms (shown_members true ms)

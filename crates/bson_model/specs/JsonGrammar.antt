@@ -3,7 +3,7 @@
 use Rattle.std.specs.Prelude.{◌≡◌, ℕ, ◌^◌, ◌<◌, ℤ, MatchBool, true, List, codes, Some, Ok}
 use Rattle.base64.specs.GeneralPurpose.{decode_of}
 use Rattle.base64.specs.Engines.{standard}
-use Rattle.serde_json.specs.Data as tree
+use Rattle.serde_json.specs.Data as json
 use Rattle.serde_json.specs.Data.{unsigned, Data, number, string as text, object}
 use Rattle.serde_json.specs.Find.{as_i64}
 use Rattle.bson_base.specs.DateText.{date_of}
@@ -43,39 +43,39 @@ ReadsBody of_min j s = (j ≡ number (unsigned 1)) × (s ≡ min_key)
 ReadsBody of_max j s = (j ≡ number (unsigned 1)) × (s ≡ max_key)
 ReadsBody of_pointer j s = (t : List ℕ) × (u : List ℕ) × (bs : List ℕ)
     × (j ≡ object_of_two (codes "$id") (object_of_one (key_of of_id) (text t)) (codes "$ref") (text u)) × (object_id_of t ≡ Ok bs) × (s ≡ db_pointer u bs)
-ReadsBody of_undefined j s = (j ≡ tree.boolean true) × (s ≡ undefined)
+ReadsBody of_undefined j s = (j ≡ json.boolean true) × (s ≡ undefined)
 
 abbrev mutual
   pub Reads : Data → Value → Type 0
-  Reads tree.null v = v ≡ scalar null
-  Reads (tree.boolean b) v = v ≡ scalar (boolean b)
+  Reads json.null v = v ≡ scalar null
+  Reads (json.boolean b) v = v ≡ scalar (boolean b)
   Reads (number n) v = (z : ℤ) × (as_i64 n ≡ Some z) × (v ≡ integer z)
   Reads (text t) v = v ≡ scalar (string t)
-  Reads (tree.array js) v = (vs : Items) × ReadsItems js vs × (v ≡ array vs)
+  Reads (json.array js) v = (vs : Items) × ReadsItems js vs × (v ≡ array vs)
   Reads (object js) v = MatchBool (any_reserved js) (ReadsTyped js v) ((ms : Members) × ReadsMembers js ms × (v ≡ document ms))
 
-  pub ReadsItems : tree.Items → Items → Type 0
-  ReadsItems tree.no_items no_items = Unit {0}
-  ReadsItems (tree.item j js) (item v vs) = Reads j v × ReadsItems js vs
+  pub ReadsItems : json.Items → Items → Type 0
+  ReadsItems json.no_items no_items = Unit {0}
+  ReadsItems (json.item j js) (item v vs) = Reads j v × ReadsItems js vs
   ReadsItems _ _ = ⊥
 
   -- the keys are not tested
-  pub ReadsMembers : tree.Members → Members → Type 0
-  ReadsMembers tree.no_members no_members = Unit {0}
-  ReadsMembers (tree.member k j js) (member l v ms) = (k ≡ l) × Reads j v × ReadsMembers js ms
+  pub ReadsMembers : json.Members → Members → Type 0
+  ReadsMembers json.no_members no_members = Unit {0}
+  ReadsMembers (json.member k j js) (member l v ms) = (k ≡ l) × Reads j v × ReadsMembers js ms
   ReadsMembers _ _ = ⊥
 
   -- a wrapper has no further key, but for `$scope` beside `$code`
-  pub ReadsTyped : tree.Members → Value → Type 0
-  ReadsTyped tree.no_members v = ⊥
-  ReadsTyped (tree.member k j tree.no_members) v = (r : Reserved) × (s : Scalar) × (reserved_of k ≡ Some r) × ReadsBody r j s × (v ≡ scalar s)
-  ReadsTyped (tree.member k j (tree.member l i tree.no_members)) v = (t : List ℕ) × (k ≡ key_of of_code) × (l ≡ scope_key) × (j ≡ text t) × ReadsScope t i v
-  ReadsTyped (tree.member k j (tree.member l i (tree.member m h js))) v = ⊥
+  pub ReadsTyped : json.Members → Value → Type 0
+  ReadsTyped json.no_members v = ⊥
+  ReadsTyped (json.member k j json.no_members) v = (r : Reserved) × (s : Scalar) × (reserved_of k ≡ Some r) × ReadsBody r j s × (v ≡ scalar s)
+  ReadsTyped (json.member k j (json.member l i json.no_members)) v = (t : List ℕ) × (k ≡ key_of of_code) × (l ≡ scope_key) × (j ≡ text t) × ReadsScope t i v
+  ReadsTyped (json.member k j (json.member l i (json.member m h js))) v = ⊥
 
   pub ReadsScope : List ℕ → Data → Value → Type 0
-  ReadsScope t tree.null v = v ≡ scalar (code t)
+  ReadsScope t json.null v = v ≡ scalar (code t)
   ReadsScope t (object js) v = (ms : Members) × ReadsMembers js ms × (v ≡ scoped_code t ms)
-  ReadsScope t (tree.boolean b) v = ⊥
+  ReadsScope t (json.boolean b) v = ⊥
   ReadsScope t (number n) v = ⊥
   ReadsScope t (text u) v = ⊥
-  ReadsScope t (tree.array js) v = ⊥
+  ReadsScope t (json.array js) v = ⊥

@@ -4,7 +4,7 @@ use Rattle.std.specs.Prelude.{◌≡◌, ℕ, ◌^◌, ◌==◌, ◌&&◌, nat_l
 use Rattle.std.specs.Str.{bytes_eq}
 use Rattle.base64.specs.GeneralPurpose.{decode_of}
 use Rattle.base64.specs.Engines.{standard}
-use Rattle.serde_json.specs.Data as tree
+use Rattle.serde_json.specs.Data as json
 use Rattle.serde_json.specs.Data.{Num, unsigned, negative, float, Data, number, string as text, object}
 use Rattle.serde_json.specs.Find.{as_i64}
 use Rattle.bson_base.specs.Answer.{◌>>=◌}
@@ -26,23 +26,23 @@ use Rattle.bson_model.specs.declared.extjson.de.Error.TheVariants.{InvalidObject
 
 -- ---- refusals
 
-abbrev pub wanted : {A : Type 0} → Option A → Result A Error
-wanted (Some x) = Ok x
-wanted None = Err DeserializationError
+abbrev pub some_or_error : {A : Type 0} → Option A → Result A Error
+some_or_error (Some x) = Ok x
+some_or_error None = Err DeserializationError
 
 -- every fault of a text but that of an object id is one
-abbrev pub accepted : {A E : Type 0} → Result A E → Result A Error
-accepted (Ok x) = Ok x
-accepted (Err e) = Err DeserializationError
+abbrev pub ok_or_error : {A E : Type 0} → Result A E → Result A Error
+ok_or_error (Ok x) = Ok x
+ok_or_error (Err e) = Err DeserializationError
 
 abbrev pub of_object_id : oid.Error → Error
 of_object_id oid_errors.Memory = Memory
 of_object_id (oid_errors.InvalidHexStringCharacter c i) = InvalidObjectId (oid_errors.InvalidHexStringCharacter c i)
 of_object_id (oid_errors.InvalidHexStringLength n) = InvalidObjectId (oid_errors.InvalidHexStringLength n)
 
-abbrev pub accepted_id : {A : Type 0} → Result A oid.Error → Result A Error
-accepted_id (Ok x) = Ok x
-accepted_id (Err e) = Err (of_object_id e)
+abbrev pub id_or_error : {A : Type 0} → Result A oid.Error → Result A Error
+id_or_error (Ok x) = Ok x
+id_or_error (Err e) = Err (of_object_id e)
 
 -- ---- forms of bodies
 
@@ -51,8 +51,8 @@ text_of (text t) = Ok t
 text_of _ = Err DeserializationError
 
 -- the body of an object with this key alone
-abbrev pub single : List ℕ → tree.Members → Result Data Error
-single k (tree.member l j tree.no_members) = if bytes_eq l k then Ok j else Err DeserializationError
+abbrev pub single : List ℕ → json.Members → Result Data Error
+single k (json.member l j json.no_members) = if bytes_eq l k then Ok j else Err DeserializationError
 single k _ = Err DeserializationError
 
 abbrev pub under : List ℕ → Data → Result Data Error
@@ -60,8 +60,8 @@ under k (object js) = single k js
 under k _ = Err DeserializationError
 
 -- the bodies of an object with these two keys alone
-abbrev pub bodies_in : List ℕ → List ℕ → tree.Members → Result (Data × Data) Error
-bodies_in k l (tree.member m i (tree.member n j tree.no_members)) = if bytes_eq m k && bytes_eq n l then Ok (i, j) else Err DeserializationError
+abbrev pub bodies_in : List ℕ → List ℕ → json.Members → Result (Data × Data) Error
+bodies_in k l (json.member m i (json.member n j json.no_members)) = if bytes_eq m k && bytes_eq n l then Ok (i, j) else Err DeserializationError
 bodies_in k l _ = Err DeserializationError
 
 abbrev pub bodies_under : List ℕ → List ℕ → Data → Result (Data × Data) Error
@@ -77,7 +77,7 @@ u32_from (unsigned n) = below_32 n
 u32_from _ = None
 
 abbrev pub u32_of : Data → Result ℕ Error
-u32_of (number n) = wanted (u32_from n)
+u32_of (number n) = some_or_error (u32_from n)
 u32_of _ = Err DeserializationError
 
 -- whether a body is the integer 1
@@ -86,7 +86,7 @@ is_one (number (unsigned n)) = n == 1
 is_one _ = false
 
 abbrev pub is_true : Data → Bool
-is_true (tree.boolean b) = b
+is_true (json.boolean b) = b
 is_true _ = false
 
 -- ---- numbers
@@ -102,45 +102,45 @@ whole None = Err FiniteDouble
 -- ---- bodies under reserved keys
 
 abbrev pub id_body : Data → Result (List ℕ) Error
-id_body j = text_of j >>= λ t. accepted_id (object_id_of t)
+id_body j = text_of j >>= λ t. id_or_error (object_id_of t)
 
 -- pattern and options
 abbrev pub regex_body : Data → Result (List ℕ × List ℕ) Error
 regex_body j = bodies_under (codes "options") (codes "pattern") j >>= λ p. text_of p.0 >>= λ o. text_of p.1 >>= λ t. Ok (t, sorted_text o)
 
 abbrev pub int_body : Data → Result ℤ Error
-int_body j = text_of j >>= λ t. wanted (int_of t)
+int_body j = text_of j >>= λ t. some_or_error (int_of t)
 
 abbrev pub long_body : Data → Result ℤ Error
-long_body j = text_of j >>= λ t. wanted (long_of t)
+long_body j = text_of j >>= λ t. some_or_error (long_of t)
 
 abbrev pub double_body : Data → Result ℕ Error
 double_body j = text_of j >>= λ t. double_of t
 
 -- the 16 bytes
 abbrev pub decimal_body : Data → Result (List ℕ) Error
-decimal_body j = text_of j >>= λ t. accepted (decimal_of t) >>= λ n. Ok (sixteen_bytes n)
+decimal_body j = text_of j >>= λ t. ok_or_error (decimal_of t) >>= λ n. Ok (sixteen_bytes n)
 
 -- bytes of a subtype
 abbrev pub base64_body : BinarySubtype → Data → Result Scalar Error
-base64_body s j = text_of j >>= λ t. accepted (decode_of standard t) >>= λ bs. Ok (binary s bs)
+base64_body s j = text_of j >>= λ t. ok_or_error (decode_of standard t) >>= λ bs. Ok (binary s bs)
 
 abbrev pub byte_body : Data → Result ℕ Error
-byte_body j = text_of j >>= λ t. wanted (byte_of t)
+byte_body j = text_of j >>= λ t. some_or_error (byte_of t)
 
 abbrev pub binary_body : Data → Result Scalar Error
 binary_body j = bodies_under (codes "base64") (codes "subType") j >>= λ p. byte_body p.1 >>= λ b. base64_body (subtype_of b) p.0
 
 abbrev pub uuid_body : Data → Result Scalar Error
-uuid_body j = text_of j >>= λ t. accepted (read_uuid t) >>= λ bs. Ok (binary Uuid bs)
+uuid_body j = text_of j >>= λ t. ok_or_error (read_uuid t) >>= λ bs. Ok (binary Uuid bs)
 
 -- time and increment
 abbrev pub timestamp_body : Data → Result (ℕ × ℕ) Error
 timestamp_body j = bodies_under (codes "i") (codes "t") j >>= λ p. u32_of p.0 >>= λ i. u32_of p.1 >>= λ t. Ok (t, i)
 
 abbrev pub read_date_body : Data → Result ℤ Error
-read_date_body (text t) = accepted (date_of t)
-read_date_body (number n) = wanted (as_i64 n)
+read_date_body (text t) = ok_or_error (date_of t)
+read_date_body (number n) = some_or_error (as_i64 n)
 read_date_body (object js) = single (key_of of_long) js >>= long_body
 read_date_body _ = Err DeserializationError
 
@@ -188,37 +188,37 @@ code_and_scope t None = scalar (code t)
 -- An object with a reserved key has no further one, but for `$scope` beside `$code`.
 abbrev mutual
   pub read : Data → Result Value Error
-  read tree.null = Ok (scalar null)
-  read (tree.boolean b) = Ok (scalar (boolean b))
+  read json.null = Ok (scalar null)
+  read (json.boolean b) = Ok (scalar (boolean b))
   read (number n) = whole (as_i64 n)
   read (text t) = Ok (scalar (string t))
-  read (tree.array js) = read_items js >>= λ vs. Ok (array vs)
+  read (json.array js) = read_items js >>= λ vs. Ok (array vs)
   read (object js) = if any_reserved js then read_typed js else (read_members js >>= λ ms. Ok (document ms))
 
-  pub read_items : tree.Items → Result Items Error
-  read_items tree.no_items = Ok no_items
-  read_items (tree.item j js) = read j >>= λ v. read_items js >>= λ vs. Ok (item v vs)
+  pub read_items : json.Items → Result Items Error
+  read_items json.no_items = Ok no_items
+  read_items (json.item j js) = read j >>= λ v. read_items js >>= λ vs. Ok (item v vs)
 
   -- the keys are not tested
-  pub read_members : tree.Members → Result Members Error
-  read_members tree.no_members = Ok no_members
-  read_members (tree.member k j js) = read j >>= λ v. read_members js >>= λ ms. Ok (member k v ms)
+  pub read_members : json.Members → Result Members Error
+  read_members json.no_members = Ok no_members
+  read_members (json.member k j js) = read j >>= λ v. read_members js >>= λ ms. Ok (member k v ms)
 
-  pub read_typed : tree.Members → Result Value Error
-  read_typed tree.no_members = Err DeserializationError
-  read_typed (tree.member k j tree.no_members) = read_wrapped (reserved_of k) j
-  read_typed (tree.member k j (tree.member l i tree.no_members)) =
+  pub read_typed : json.Members → Result Value Error
+  read_typed json.no_members = Err DeserializationError
+  read_typed (json.member k j json.no_members) = read_wrapped (reserved_of k) j
+  read_typed (json.member k j (json.member l i json.no_members)) =
       if bytes_eq k (key_of of_code) && bytes_eq l scope_key then (text_of j >>= λ t. read_scope i >>= λ o. Ok (code_and_scope t o)) else Err DeserializationError
-  read_typed (tree.member k j (tree.member l i (tree.member m h js))) = Err DeserializationError
+  read_typed (json.member k j (json.member l i (json.member m h js))) = Err DeserializationError
 
   -- the members of a scope, where there is one
   pub read_scope : Data → Result (Option Members) Error
-  read_scope tree.null = Ok None
+  read_scope json.null = Ok None
   read_scope (object js) = read_members js >>= λ ms. Ok (Some ms)
-  read_scope (tree.boolean b) = Err DeserializationError
+  read_scope (json.boolean b) = Err DeserializationError
   read_scope (number n) = Err DeserializationError
   read_scope (text t) = Err DeserializationError
-  read_scope (tree.array js) = Err DeserializationError
+  read_scope (json.array js) = Err DeserializationError
 
 -- ---- what a call answers
 

@@ -7,9 +7,9 @@ use Rattle.bson_model.specs.declared.extjson.de.Error.{Error}
 use Rattle.bson_model.specs.declared.extjson.de.Error.TheVariants.{DeserializationError, FiniteDouble}
 
 -- whether a minus stands in front, and what stands behind a sign or none
-abbrev pub signed : List ℕ → Bool × List ℕ
-signed [] = (false, [])
-signed (c ∷ cs) = if c == 43 then (false, cs) else if c == 45 then (true, cs) else (false, c ∷ cs)
+abbrev pub sign_and_rest : List ℕ → Bool × List ℕ
+sign_and_rest [] = (false, [])
+sign_and_rest (c ∷ cs) = if c == 43 then (false, cs) else if c == 45 then (true, cs) else (false, c ∷ cs)
 
 -- one digit or more
 abbrev pub is_digits : List ℕ → Bool
@@ -22,7 +22,7 @@ with_sign (s, ds) = if s then neg_ℤ (pos (value ds)) else pos (value ds)
 
 -- a sign or none, and digits
 abbrev pub integer_of : List ℕ → Option ℤ
-integer_of t = if is_digits (signed t).1 then Some (with_sign (signed t)) else None
+integer_of t = if is_digits (sign_and_rest t).1 then Some (with_sign (sign_and_rest t)) else None
 
 abbrev pub fits_32 : ℤ → Bool
 fits_32 z = int_le (negsuc 2147483647) z && int_le z (pos 2147483647)
@@ -58,7 +58,7 @@ without_dot t = joined_parts (cut is_dot t)
 -- behind `e`: a sign or none, and digits
 abbrev pub is_exponent : Option (List ℕ) → Bool
 is_exponent None = true
-is_exponent (Some t) = is_digits (signed t).1
+is_exponent (Some t) = is_digits (sign_and_rest t).1
 
 -- digits with at most one dot, and an exponent or none
 abbrev pub is_numeral : List ℕ × Option (List ℕ) → Bool
@@ -79,7 +79,7 @@ read_unsigned_double (s, t) =
 
 -- the pattern of 64 bits
 unfoldable pub double_of : List ℕ → Result ℕ Error
-double_of t = read_unsigned_double (signed t)
+double_of t = read_unsigned_double (sign_and_rest t)
 
 -- ---- a byte
 

@@ -22,11 +22,11 @@ use Rattle.bson_model.specs.declared.extjson.ser.Mode.{Mode}
 use Rattle.bson_model.specs.declared.extjson.ser.Mode.TheVariants.{Canonical, Relaxed}
 
 -- a typed value
-abbrev pub wrapped : Reserved → Data → Data
-wrapped r j = object_of_one (key_of r) j
+abbrev pub wrapper_of : Reserved → Data → Data
+wrapper_of r j = object_of_one (key_of r) j
 
-abbrev pub wrapped_text : Reserved → List ℕ → Data
-wrapped_text r t = wrapped r (json.string t)
+abbrev pub text_wrapper : Reserved → List ℕ → Data
+text_wrapper r t = wrapper_of r (json.string t)
 
 -- a NaN or an infinity with the sign of its top bit, or a zero, whose sign counts for nothing; any other double has none
 abbrev pub double_text : ℕ → Option (List ℕ)
@@ -37,10 +37,10 @@ double_text n =
     else None
 
 abbrev pub write_double : ℕ → Option Data
-write_double n = option_map (wrapped_text of_double) (double_text n)
+write_double n = option_map (text_wrapper of_double) (double_text n)
 
 abbrev pub write_integer : Mode → Reserved → ℤ → Data
-write_integer Canonical r z = wrapped_text r (signed_decimal z)
+write_integer Canonical r z = text_wrapper r (signed_decimal z)
 write_integer Relaxed r z = number (of_integer z)
 
 -- from 1970-01-01T00:00:00Z to 9999-12-31T23:59:59.999Z
@@ -48,30 +48,30 @@ abbrev pub is_relaxed_date : ℤ → Bool
 is_relaxed_date z = int_le (pos 0) z && int_le z last_text
 
 abbrev pub write_millis : ℤ → Data
-write_millis z = wrapped_text of_long (signed_decimal z)
+write_millis z = text_wrapper of_long (signed_decimal z)
 
 abbrev pub date_body : Mode → ℤ → Data
 date_body Canonical z = write_millis z
 date_body Relaxed z = if is_relaxed_date z then json.string (date_text z) else write_millis z
 
 abbrev pub write_date : Mode → ℤ → Data
-write_date m z = wrapped of_date (date_body m z)
+write_date m z = wrapper_of of_date (date_body m z)
 
 -- Base64, and the subtype in two digits
 abbrev pub write_binary : ℕ → List ℕ → Data
-write_binary b bs = wrapped of_binary (object_of_two (codes "base64") (json.string (encode_of standard bs)) (codes "subType") (json.string (encode_lower (b ∷ []))))
+write_binary b bs = wrapper_of of_binary (object_of_two (codes "base64") (json.string (encode_of standard bs)) (codes "subType") (json.string (encode_lower (b ∷ []))))
 
 abbrev pub write_regex : List ℕ → List ℕ → Data
-write_regex p o = wrapped of_regex (object_of_two (codes "options") (json.string (sorted_text o)) (codes "pattern") (json.string p))
+write_regex p o = wrapper_of of_regex (object_of_two (codes "options") (json.string (sorted_text o)) (codes "pattern") (json.string p))
 
 abbrev pub write_timestamp : ℕ → ℕ → Data
-write_timestamp t i = wrapped of_timestamp (object_of_two (codes "i") (number (unsigned i)) (codes "t") (number (unsigned t)))
+write_timestamp t i = wrapper_of of_timestamp (object_of_two (codes "i") (number (unsigned i)) (codes "t") (number (unsigned t)))
 
 abbrev pub write_id : List ℕ → Data
-write_id bs = wrapped_text of_id (encode_lower bs)
+write_id bs = text_wrapper of_id (encode_lower bs)
 
 abbrev pub write_pointer : List ℕ → List ℕ → Data
-write_pointer t bs = wrapped of_pointer (object_of_two (codes "$id") (write_id bs) (codes "$ref") (json.string t))
+write_pointer t bs = wrapper_of of_pointer (object_of_two (codes "$id") (write_id bs) (codes "$ref") (json.string t))
 
 abbrev pub with_scope : List ℕ → json.Members → Data
 with_scope t js = object_of_two (key_of of_code) (json.string t) scope_key (object js)
@@ -80,21 +80,21 @@ abbrev pub write_scalar : Mode → Scalar → Option Data
 write_scalar m (double n) = write_double n
 write_scalar m (string t) = Some (json.string t)
 write_scalar m (binary s bs) = Some (write_binary (subtype_byte s) bs)
-write_scalar m undefined = Some (wrapped of_undefined (json.boolean true))
+write_scalar m undefined = Some (wrapper_of of_undefined (json.boolean true))
 write_scalar m (object_id bs) = Some (write_id bs)
 write_scalar m (boolean b) = Some (json.boolean b)
 write_scalar m (date_time z) = Some (write_date m z)
 write_scalar m null = Some json.null
 write_scalar m (regex p o) = Some (write_regex p o)
 write_scalar m (db_pointer t bs) = Some (write_pointer t bs)
-write_scalar m (code t) = Some (wrapped_text of_code t)
-write_scalar m (symbol t) = Some (wrapped_text of_symbol t)
+write_scalar m (code t) = Some (text_wrapper of_code t)
+write_scalar m (symbol t) = Some (text_wrapper of_symbol t)
 write_scalar m (int32 z) = Some (write_integer m of_int z)
 write_scalar m (timestamp t i) = Some (write_timestamp t i)
 write_scalar m (int64 z) = Some (write_integer m of_long z)
-write_scalar m (decimal bs) = Some (wrapped_text of_decimal (decimal_text bs))
-write_scalar m max_key = Some (wrapped of_max (number (unsigned 1)))
-write_scalar m min_key = Some (wrapped of_min (number (unsigned 1)))
+write_scalar m (decimal bs) = Some (text_wrapper of_decimal (decimal_text bs))
+write_scalar m max_key = Some (wrapper_of of_max (number (unsigned 1)))
+write_scalar m min_key = Some (wrapper_of of_min (number (unsigned 1)))
 
 -- the tree of a value; none exactly where it holds a finite double that isn't zero
 abbrev mutual

@@ -5,7 +5,7 @@ ghost use Rattle.std.specs.Fmt.{WritesOnOk};
 ghost use Rattle.bson_base.specs.Scalars.{id_bytes, millis_of};
 ghost use Rattle.bson_base.specs.Value.{db_pointer};
 ghost use Rattle.bson_base.specs.Dates.{shown_date};
-ghost use Rattle.bson_model.specs.Display.{call_of_text, mark_before, quoted, shown, shown_document, shown_double, shown_items, shown_members, shown_scalar};
+ghost use Rattle.bson_model.specs.Display.{call_of_text, mark_before, in_quotes, display_text, shown_document, shown_double, shown_items, shown_members, shown_scalar};
 ghost use Rattle.bson_model.specs.View.{view, pairs_of, items_of, members_of};
 
 use crate::bson::{Bson, JavaScriptCodeWithScope};
@@ -17,9 +17,9 @@ use std::{fmt, str};
 /// The value as text: `"text"`, `[a, b]`, `{ "k": v, "l": w }`, integers in decimal, a double as `0x` and the 16 digits of its
 /// pattern, the other kinds by their names.
 impl fmt::Display for Bson {
-    ghost output = { λ v. Some (shown (view v)) };
+    ghost output = { λ v. Some (display_text (view v)) };
 
-    ghost styled_output = { λ v s. Some (shown (view v)) };
+    ghost styled_output = { λ v s. Some (display_text (view v)) };
 
     fn fmt<W: fmt::Write>(&self, f: &mut fmt::Formatter<W>) -> fmt::Result {
         write_plainly(f, ShownValue { value: self })
@@ -55,7 +55,7 @@ struct ShownValue<'a> {
 }
 
 impl<'a> fmt::Display for ShownValue<'a> {
-    ghost output = { λ s. Some (shown (view s.value.now)) };
+    ghost output = { λ s. Some (display_text (view s.value.now)) };
 
     fn fmt<W: fmt::Write>(&self, f: &mut fmt::Formatter<W>) -> fmt::Result {
         write_value(f, self.value)
@@ -72,19 +72,19 @@ impl<'a> fmt::Display for ShownDocument<'a> {
     ghost output = { λ s. Some (shown_document (members_of (pairs_of s.document.now))) };
 
     fn fmt<W: fmt::Write>(&self, f: &mut fmt::Formatter<W>) -> fmt::Result {
-        write_document(f, self.document)
+        write_braces(f, self.document)
     }
 }
 
 #[cycle(show)]
 fn write_value<W: fmt::Write>(f: &mut fmt::Formatter<W>, value: &Bson) -> fmt::Result
-    ensures { WritesOnOk W.write_str_gives f.old result (shown (view value.now)) f.new }
+    ensures { WritesOnOk W.write_str_gives f.old result (display_text (view value.now)) f.new }
 {
     match value {
         Bson::Double(double) => write_double(f, *double),
         Bson::String(text) => write!(f, "\"{text}\""),
         Bson::Array(items) => write_array(f, items),
-        Bson::Document(document) => write_document(f, document),
+        Bson::Document(document) => write_braces(f, document),
         Bson::Boolean(truth) => write!(f, "{truth}"),
         Bson::Null => f.write_str("null"),
         Bson::RegularExpression(regex) => write!(f, "{regex}"),
@@ -128,7 +128,7 @@ fn write_items<W: fmt::Write>(f: &mut fmt::Formatter<W>, items: &[Bson]) -> fmt:
 }
 
 #[cycle(show)]
-fn write_document<W: fmt::Write>(f: &mut fmt::Formatter<W>, document: &Document) -> fmt::Result
+fn write_braces<W: fmt::Write>(f: &mut fmt::Formatter<W>, document: &Document) -> fmt::Result
     ensures { WritesOnOk W.write_str_gives f.old result (shown_document (members_of (pairs_of document.now))) f.new }
 {
     if document.is_empty() {
@@ -160,7 +160,7 @@ fn write_mark<W: fmt::Write>(f: &mut fmt::Formatter<W>, first: bool) -> fmt::Res
 }
 
 fn write_key<W: fmt::Write>(f: &mut fmt::Formatter<W>, key: &str) -> fmt::Result
-    ensures { WritesOnOk W.write_str_gives f.old result (quoted key.now ++ codes ": ") f.new }
+    ensures { WritesOnOk W.write_str_gives f.old result (in_quotes key.now ++ codes ": ") f.new }
 {
     write!(f, "\"{key}\": ")
 }

@@ -218,14 +218,14 @@ impl Document {
     ghost use Rattle.std.specs.Borrow.{bool as truth_row, i32 as i32_row, i64 as i64_row};
     ghost use Rattle.bson_base.specs.Scalars.{id_bytes, millis_of, decimal_bytes};
     ghost use Rattle.bson_base.specs.Answer.{result_map};
-    ghost use Rattle.bson_model.specs.Accessors.{typed, as_f64, as_decimal128, as_str, as_array, as_document, as_bool, as_i32, as_i64, as_timestamp, as_binary_generic, as_object_id, as_datetime, has_null};
+    ghost use Rattle.bson_model.specs.Accessors.{of_kind, as_f64, as_decimal128, as_str, as_array, as_document, as_bool, as_i32, as_i64, as_timestamp, as_binary_generic, as_object_id, as_datetime, has_null};
     ghost use Rattle.bson_model.specs.Rows.{double_row, decimal128_row, text_row, array_row, document_row, timestamp_row, bytes_row, object_id_row, date_time_row};
     ghost use Rattle.bson_model.specs.Trees.{f64_tree, decimal128_tree, text_tree, array_tree, document_tree, bool_tree, i32_tree, i64_tree, timestamp_tree, generic_tree, object_id_tree, date_time_tree};
     ghost use Rattle.bson_model.specs.Lending.{LendsPart, LendsPairs};
 
     /// The double under a key.
     pub fn get_f64(&self, key: &str) -> ValueAccessResult<DoubleBits>
-        ensures { result_map (λ d. d.0) result ≡ typed as_f64 (get key.now (pairs_of self.now)) }
+        ensures { result_map (λ d. d.0) result ≡ of_kind as_f64 (get key.now (pairs_of self.now)) }
     {
         match self.get(key) {
             Some(Bson::Double(double)) => Ok(*double),
@@ -237,7 +237,7 @@ impl Document {
     /// The double under a key, to be written to.
     pub fn get_f64_mut(&mut self, key: &str) -> ValueAccessResult<&mut DoubleBits>
         ensures* writes_back { sem 𝓛 (LendsPart double_row f64_tree self.entry key.now result) }
-        ensures value { result_map (λ d. d.now.0) result ≡ typed as_f64 (get key.now (pairs_of self.old)) }
+        ensures value { result_map (λ d. d.now.0) result ≡ of_kind as_f64 (get key.now (pairs_of self.old)) }
     {
         match self.get_mut(key) {
             Some(value) => match value.as_f64_mut() {
@@ -250,7 +250,7 @@ impl Document {
 
     /// The decimal number under a key.
     pub fn get_decimal128(&self, key: &str) -> ValueAccessResult<&Decimal128>
-        ensures { result_map (λ d. decimal_bytes d.now) result ≡ typed as_decimal128 (get key.now (pairs_of self.now)) }
+        ensures { result_map (λ d. decimal_bytes d.now) result ≡ of_kind as_decimal128 (get key.now (pairs_of self.now)) }
     {
         match self.get(key) {
             Some(Bson::Decimal128(decimal)) => Ok(decimal),
@@ -262,7 +262,7 @@ impl Document {
     /// The decimal number under a key, to be written to.
     pub fn get_decimal128_mut(&mut self, key: &str) -> ValueAccessResult<&mut Decimal128>
         ensures* writes_back { sem 𝓛 (LendsPart decimal128_row decimal128_tree self.entry key.now result) }
-        ensures value { result_map (λ d. decimal_bytes d.now) result ≡ typed as_decimal128 (get key.now (pairs_of self.old)) }
+        ensures value { result_map (λ d. decimal_bytes d.now) result ≡ of_kind as_decimal128 (get key.now (pairs_of self.old)) }
     {
         match self.get_mut(key) {
             Some(value) => match value.as_decimal128_mut() {
@@ -275,7 +275,7 @@ impl Document {
 
     /// The text under a key.
     pub fn get_str(&self, key: &str) -> ValueAccessResult<&str>
-        ensures { result_map (λ s. s.now) result ≡ typed as_str (get key.now (pairs_of self.now)) }
+        ensures { result_map (λ s. s.now) result ≡ of_kind as_str (get key.now (pairs_of self.now)) }
     {
         match self.get(key) {
             Some(Bson::String(text)) => Ok(text.as_str()),
@@ -287,7 +287,7 @@ impl Document {
     /// The text under a key, to be written to.
     pub fn get_str_mut(&mut self, key: &str) -> ValueAccessResult<&mut String>
         ensures* writes_back { sem 𝓛 (LendsPart text_row text_tree self.entry key.now result) }
-        ensures value { result_map (λ s. string_bytes s.now) result ≡ typed as_str (get key.now (pairs_of self.old)) }
+        ensures value { result_map (λ s. string_bytes s.now) result ≡ of_kind as_str (get key.now (pairs_of self.old)) }
     {
         match self.get_mut(key) {
             Some(value) => match value.as_str_mut() {
@@ -300,7 +300,7 @@ impl Document {
 
     /// The array under a key.
     pub fn get_array(&self, key: &str) -> ValueAccessResult<&Array>
-        ensures { result_map (λ a. items_of (map view a.now.items)) result ≡ typed as_array (get key.now (pairs_of self.now)) }
+        ensures { result_map (λ a. items_of (map view a.now.items)) result ≡ of_kind as_array (get key.now (pairs_of self.now)) }
     {
         match self.get(key) {
             Some(Bson::Array(items)) => Ok(items),
@@ -312,7 +312,7 @@ impl Document {
     /// The array under a key, to be written to.
     pub fn get_array_mut(&mut self, key: &str) -> ValueAccessResult<&mut Array>
         ensures* writes_back { sem 𝓛 (LendsPart array_row array_tree self.entry key.now result) }
-        ensures value { result_map (λ a. items_of (map view a.now.items)) result ≡ typed as_array (get key.now (pairs_of self.old)) }
+        ensures value { result_map (λ a. items_of (map view a.now.items)) result ≡ of_kind as_array (get key.now (pairs_of self.old)) }
     {
         match self.get_mut(key) {
             Some(value) => match value.as_array_mut() {
@@ -325,7 +325,7 @@ impl Document {
 
     /// The document under a key.
     pub fn get_document(&self, key: &str) -> ValueAccessResult<&Document>
-        ensures { result_map (λ d. members_of (pairs_of d.now)) result ≡ typed as_document (get key.now (pairs_of self.now)) }
+        ensures { result_map (λ d. members_of (pairs_of d.now)) result ≡ of_kind as_document (get key.now (pairs_of self.now)) }
     {
         match self.get(key) {
             Some(Bson::Document(document)) => Ok(document),
@@ -337,7 +337,7 @@ impl Document {
     /// The document under a key, to be written to.
     pub fn get_document_mut(&mut self, key: &str) -> ValueAccessResult<&mut Document>
         ensures* writes_back { sem 𝓛 (LendsPart document_row document_tree self.entry key.now result) }
-        ensures value { result_map (λ d. members_of (pairs_of d.now)) result ≡ typed as_document (get key.now (pairs_of self.old)) }
+        ensures value { result_map (λ d. members_of (pairs_of d.now)) result ≡ of_kind as_document (get key.now (pairs_of self.old)) }
     {
         document_in(self.pairs_mut(), key)
     }
@@ -352,7 +352,7 @@ impl Document {
 
     /// The truth value under a key.
     pub fn get_bool(&self, key: &str) -> ValueAccessResult<bool>
-        ensures { result ≡ typed as_bool (get key.now (pairs_of self.now)) }
+        ensures { result ≡ of_kind as_bool (get key.now (pairs_of self.now)) }
     {
         match self.get(key) {
             Some(Bson::Boolean(truth)) => Ok(*truth),
@@ -364,7 +364,7 @@ impl Document {
     /// The truth value under a key, to be written to.
     pub fn get_bool_mut(&mut self, key: &str) -> ValueAccessResult<&mut bool>
         ensures* writes_back { sem 𝓛 (LendsPart truth_row bool_tree self.entry key.now result) }
-        ensures value { result_map (λ b. b.now) result ≡ typed as_bool (get key.now (pairs_of self.old)) }
+        ensures value { result_map (λ b. b.now) result ≡ of_kind as_bool (get key.now (pairs_of self.old)) }
     {
         match self.get_mut(key) {
             Some(value) => match value.as_bool_mut() {
@@ -377,7 +377,7 @@ impl Document {
 
     /// The Int32 under a key.
     pub fn get_i32(&self, key: &str) -> ValueAccessResult<i32>
-        ensures { result ≡ typed as_i32 (get key.now (pairs_of self.now)) }
+        ensures { result ≡ of_kind as_i32 (get key.now (pairs_of self.now)) }
     {
         match self.get(key) {
             Some(Bson::Int32(number)) => Ok(*number),
@@ -389,7 +389,7 @@ impl Document {
     /// The Int32 under a key, to be written to.
     pub fn get_i32_mut(&mut self, key: &str) -> ValueAccessResult<&mut i32>
         ensures* writes_back { sem 𝓛 (LendsPart i32_row i32_tree self.entry key.now result) }
-        ensures value { result_map (λ z. z.now) result ≡ typed as_i32 (get key.now (pairs_of self.old)) }
+        ensures value { result_map (λ z. z.now) result ≡ of_kind as_i32 (get key.now (pairs_of self.old)) }
     {
         match self.get_mut(key) {
             Some(value) => match value.as_i32_mut() {
@@ -402,7 +402,7 @@ impl Document {
 
     /// The Int64 under a key.
     pub fn get_i64(&self, key: &str) -> ValueAccessResult<i64>
-        ensures { result ≡ typed as_i64 (get key.now (pairs_of self.now)) }
+        ensures { result ≡ of_kind as_i64 (get key.now (pairs_of self.now)) }
     {
         match self.get(key) {
             Some(Bson::Int64(number)) => Ok(*number),
@@ -414,7 +414,7 @@ impl Document {
     /// The Int64 under a key, to be written to.
     pub fn get_i64_mut(&mut self, key: &str) -> ValueAccessResult<&mut i64>
         ensures* writes_back { sem 𝓛 (LendsPart i64_row i64_tree self.entry key.now result) }
-        ensures value { result_map (λ z. z.now) result ≡ typed as_i64 (get key.now (pairs_of self.old)) }
+        ensures value { result_map (λ z. z.now) result ≡ of_kind as_i64 (get key.now (pairs_of self.old)) }
     {
         match self.get_mut(key) {
             Some(value) => match value.as_i64_mut() {
@@ -427,7 +427,7 @@ impl Document {
 
     /// The timestamp under a key.
     pub fn get_timestamp(&self, key: &str) -> ValueAccessResult<Timestamp>
-        ensures { result_map (λ t. (t.time, t.increment)) result ≡ typed as_timestamp (get key.now (pairs_of self.now)) }
+        ensures { result_map (λ t. (t.time, t.increment)) result ≡ of_kind as_timestamp (get key.now (pairs_of self.now)) }
     {
         match self.get(key) {
             Some(Bson::Timestamp(timestamp)) => Ok(*timestamp),
@@ -439,7 +439,7 @@ impl Document {
     /// The timestamp under a key, to be written to.
     pub fn get_timestamp_mut(&mut self, key: &str) -> ValueAccessResult<&mut Timestamp>
         ensures* writes_back { sem 𝓛 (LendsPart timestamp_row timestamp_tree self.entry key.now result) }
-        ensures value { result_map (λ t. (t.now.time, t.now.increment)) result ≡ typed as_timestamp (get key.now (pairs_of self.old)) }
+        ensures value { result_map (λ t. (t.now.time, t.now.increment)) result ≡ of_kind as_timestamp (get key.now (pairs_of self.old)) }
     {
         match self.get_mut(key) {
             Some(value) => match value.as_timestamp_mut() {
@@ -452,7 +452,7 @@ impl Document {
 
     /// The bytes of a Binary of subtype Generic under a key.
     pub fn get_binary_generic(&self, key: &str) -> ValueAccessResult<&Vec<u8>>
-        ensures { result_map (λ b. b.now.items) result ≡ typed as_binary_generic (get key.now (pairs_of self.now)) }
+        ensures { result_map (λ b. b.now.items) result ≡ of_kind as_binary_generic (get key.now (pairs_of self.now)) }
     {
         match self.get(key) {
             Some(
@@ -471,7 +471,7 @@ impl Document {
     /// The bytes of a Binary of subtype Generic under a key, to be written to.
     pub fn get_binary_generic_mut(&mut self, key: &str) -> ValueAccessResult<&mut Vec<u8>>
         ensures* writes_back { sem 𝓛 (LendsPart bytes_row generic_tree self.entry key.now result) }
-        ensures value { result_map (λ b. b.now.items) result ≡ typed as_binary_generic (get key.now (pairs_of self.old)) }
+        ensures value { result_map (λ b. b.now.items) result ≡ of_kind as_binary_generic (get key.now (pairs_of self.old)) }
     {
         match self.get_mut(key) {
             Some(value) => match value.as_binary_generic_mut() {
@@ -484,7 +484,7 @@ impl Document {
 
     /// The object id under a key.
     pub fn get_object_id(&self, key: &str) -> ValueAccessResult<ObjectId>
-        ensures { result_map id_bytes result ≡ typed as_object_id (get key.now (pairs_of self.now)) }
+        ensures { result_map id_bytes result ≡ of_kind as_object_id (get key.now (pairs_of self.now)) }
     {
         match self.get(key) {
             Some(Bson::ObjectId(id)) => Ok(*id),
@@ -496,7 +496,7 @@ impl Document {
     /// The object id under a key, to be written to.
     pub fn get_object_id_mut(&mut self, key: &str) -> ValueAccessResult<&mut ObjectId>
         ensures* writes_back { sem 𝓛 (LendsPart object_id_row object_id_tree self.entry key.now result) }
-        ensures value { result_map (λ i. id_bytes i.now) result ≡ typed as_object_id (get key.now (pairs_of self.old)) }
+        ensures value { result_map (λ i. id_bytes i.now) result ≡ of_kind as_object_id (get key.now (pairs_of self.old)) }
     {
         match self.get_mut(key) {
             Some(value) => match value.as_object_id_mut() {
@@ -509,7 +509,7 @@ impl Document {
 
     /// The moment under a key.
     pub fn get_datetime(&self, key: &str) -> ValueAccessResult<&DateTime>
-        ensures { result_map (λ t. millis_of t.now) result ≡ typed as_datetime (get key.now (pairs_of self.now)) }
+        ensures { result_map (λ t. millis_of t.now) result ≡ of_kind as_datetime (get key.now (pairs_of self.now)) }
     {
         match self.get(key) {
             Some(Bson::DateTime(moment)) => Ok(moment),
@@ -521,7 +521,7 @@ impl Document {
     /// The moment under a key, to be written to.
     pub fn get_datetime_mut(&mut self, key: &str) -> ValueAccessResult<&mut DateTime>
         ensures* writes_back { sem 𝓛 (LendsPart date_time_row date_time_tree self.entry key.now result) }
-        ensures value { result_map (λ t. millis_of t.now) result ≡ typed as_datetime (get key.now (pairs_of self.old)) }
+        ensures value { result_map (λ t. millis_of t.now) result ≡ of_kind as_datetime (get key.now (pairs_of self.old)) }
     {
         match self.get_mut(key) {
             Some(value) => match value.as_datetime_mut() {

@@ -20,7 +20,7 @@ use Rattle.std.proofs.lemmas.Map.Text.{is_eq-slice_cmp}
 use Rattle.std.proofs.lemmas.Option.{slice_get_within, slice_get-map, get_or_from_slice_get}
 use Rattle.std.proofs.lemmas.Slice.Eq.{bytes_eq-Decides}
 use Rattle.bson_pairs.specs.Ascending.{key_cmp, ascending, find-ascending, is_sorted-ascending, same_ascending}
-use Rattle.bson_pairs.specs.Index.{numbered_from, index_of, places_of, is_key, lowered, IsIndexedAt, GoesAt}
+use Rattle.bson_pairs.specs.Index.{numbered_from, index_of, places_of, is_key, place_without, IsIndexedAt, GoesAt}
 use Rattle.bson_pairs.specs.Keyed.{Key, key_bytes, get}
 use Rattle.bson_pairs.specs.Over.{over}
 
@@ -273,7 +273,7 @@ module _ {V W : Type 0} (h : V → W) where
   is_sorted-over [] = refl
   is_sorted-over (e ∷ es) = λ i. below_all-over e.0 es i && is_sorted-over es i
 
-one_less : (n m : ℕ) → m ≤ n → lowered m (n + 1) ≡ n
+one_less : (n m : ℕ) → m ≤ n → place_without m (n + 1) ≡ n
 one_less n m h = elim (nat_lt m (n + 1)) as (λ b. nat_lt m (n + 1) ≡ b → cond b (n + 1 - 1) (n + 1) ≡ n) [
   | true ↦ λ e. omega arith
   | false ↦ λ e. absurd (true≢false (sym (above (n + 1) m (omega arith)) ∙ e))
@@ -282,7 +282,7 @@ one_less n m h = elim (nat_lt m (n + 1)) as (λ b. nat_lt m (n + 1) ≡ b → co
     above : (n m : ℕ) → m < n → nat_lt m n ≡ true
     above n m h = search (rules, h)
 
-the_same : (n m : ℕ) → n ≤ m → lowered m n ≡ n
+the_same : (n m : ℕ) → n ≤ m → place_without m n ≡ n
 the_same n m h = search (rules, h)
 
 option_over : {V W : Type 0} (h : V → W) (b : Bool) (o : Option V) → option_map h (cond b None o) ≡ cond b None (option_map h o)
@@ -294,30 +294,30 @@ option_some h true v o = refl
 option_some h false v o = refl
 
 -- places that begin one further on, moved down
-moved_down : (q : Key) (n m : ℕ) (ks : List Key) → m ≤ n → get q (numbered_from n ks) ≡ option_map (lowered m) (get q (numbered_from (n + 1) ks))
+moved_down : (q : Key) (n m : ℕ) (ks : List Key) → m ≤ n → get q (numbered_from n ks) ≡ option_map (place_without m) (get q (numbered_from (n + 1) ks))
 moved_down q n m [] h = refl
 moved_down q n m (k ∷ ks) h =
     (λ i. cond (bytes_eq q k) (Some (sym (one_less n m h) i)) (moved_down q (n + 1) m ks (omega arith) i))
-    ∙ sym (option_some (lowered m) (bytes_eq q k) (n + 1) (get q (numbered_from (n + 1 + 1) ks)))
+    ∙ sym (option_some (place_without m) (bytes_eq q k) (n + 1) (get q (numbered_from (n + 1 + 1) ks)))
 
 -- what a look-up finds of the other keys
 get-removed : (q k : Key) (n m i : ℕ) (ks : List Key) → m ≡ n + i → IsDistinct bytes_eq ks → slice_get ks i ≡ Some k
-    → get q (numbered_from n (remove ks i)) ≡ cond (bytes_eq q k) None (option_map (lowered m) (get q (numbered_from n ks)))
+    → get q (numbered_from n (remove ks i)) ≡ cond (bytes_eq q k) None (option_map (place_without m) (get q (numbered_from n ks)))
 get-removed q k n m i [] e d is = absurd (cc)
 get-removed q k n m zero (l ∷ ks) e d is =
     let same : l ≡ k = cc in
     let at : m ≡ n = omega (arith, e) in
-    elim (bytes_eq q l) as (λ b. bytes_eq q l ≡ b → get q (numbered_from n ks) ≡ cond b None (option_map (lowered m) (cond b (Some n) (get q (numbered_from (n + 1) ks))))) [
+    elim (bytes_eq q l) as (λ b. bytes_eq q l ≡ b → get q (numbered_from n ks) ≡ cond b None (option_map (place_without m) (cond b (Some n) (get q (numbered_from (n + 1) ks))))) [
       | true ↦ λ t. ap (λ r. get r (numbered_from n ks)) ((bytes_eq-Decides q l).0 t) ∙ none-numbered l n ks (IsDistinct-head bytes_eq l ks d)
       | false ↦ λ t. moved_down q n m ks (omega arith)
     ] refl
-    ∙ ap (λ l. cond (bytes_eq q l) None (option_map (lowered m) (get q (numbered_from n (l ∷ ks))))) same
-    ∙ ap (λ l. cond (bytes_eq q k) None (option_map (lowered m) (get q (numbered_from n (l ∷ ks))))) (sym same)
+    ∙ ap (λ l. cond (bytes_eq q l) None (option_map (place_without m) (get q (numbered_from n (l ∷ ks))))) same
+    ∙ ap (λ l. cond (bytes_eq q k) None (option_map (place_without m) (get q (numbered_from n (l ∷ ks))))) (sym same)
 get-removed q k n m (suc i) (l ∷ ks) e d is =
     let apart : bytes_eq l k ≡ false = all_at (λ y. bytes_eq l y ≡ false) ks i k (IsDistinct-head bytes_eq l ks d) is in
     let later = get-removed q k (n + 1) m i ks (omega arith) (IsDistinct-tail bytes_eq l ks d) is in
-    elim (bytes_eq q l) as (λ b. bytes_eq q l ≡ b → cond b (Some n) (get q (numbered_from (n + 1) (remove ks i))) ≡ cond (bytes_eq q k) None (option_map (lowered m) (cond b (Some n) (get q (numbered_from (n + 1) ks))))) [
-      | true ↦ λ t. ap Some (sym (the_same n m (omega arith))) ∙ ap (λ b. cond b None (Some (lowered m n))) (sym (ap (λ r. bytes_eq r k) ((bytes_eq-Decides q l).0 t) ∙ apart))
+    elim (bytes_eq q l) as (λ b. bytes_eq q l ≡ b → cond b (Some n) (get q (numbered_from (n + 1) (remove ks i))) ≡ cond (bytes_eq q k) None (option_map (place_without m) (cond b (Some n) (get q (numbered_from (n + 1) ks))))) [
+      | true ↦ λ t. ap Some (sym (the_same n m (omega arith))) ∙ ap (λ b. cond b None (Some (place_without m n))) (sym (ap (λ r. bytes_eq r k) ((bytes_eq-Decides q l).0 t) ∙ apart))
       | false ↦ λ t. later
     ] refl
 
@@ -335,20 +335,20 @@ alike k q x t = ap (λ x. not (eq_by_cmp key_cmp k x)) (sym (same_key q x t))
 flipped : (k q : Key) → is_eq (key_cmp k q) ≡ bytes_eq q k
 flipped k q = is_eq-slice_cmp k q ∙ nat_list_eq_equiv.symm k q
 
-pub index-remove : (ks : List Key) (k : Key) (i j : ℕ) → IsDistinct bytes_eq ks → slice_get (index_of ks) j ≡ Some (k, i) → index_of (remove ks i) ≡ over (lowered i) (remove (index_of ks) j)
+pub index-remove : (ks : List Key) (k : Key) (i j : ℕ) → IsDistinct bytes_eq ks → slice_get (index_of ks) j ≡ Some (k, i) → index_of (remove ks i) ≡ over (place_without i) (remove (index_of ks) j)
 index-remove ks k i j d is =
     let es = index_of ks in
     let rest = where_key key_cmp (λ x. not (eq_by_cmp key_cmp k x)) es in
     let there = all_at (λ e. slice_get ks e.1 ≡ Some e.0) es j (k, i) (standing ks) is in
-    let sorted : T (is_sorted key_cmp (over (lowered i) rest)) = subst T (sym (is_sorted-over (lowered i) rest)) (is_sorted-where_key key_cmp (λ x. not (eq_by_cmp key_cmp k x)) es (is_sorted-index ks)) in
-    let found : (q : Key) → find key_cmp q (index_of (remove ks i)) ≡ find key_cmp q (over (lowered i) rest)
+    let sorted : T (is_sorted key_cmp (over (place_without i) rest)) = subst T (sym (is_sorted-over (place_without i) rest)) (is_sorted-where_key key_cmp (λ x. not (eq_by_cmp key_cmp k x)) es (is_sorted-index ks)) in
+    let found : (q : Key) → find key_cmp q (index_of (remove ks i)) ≡ find key_cmp q (over (place_without i) rest)
     = λ q. find-ascending q (numbered_from 0 (remove ks i)) ∙ get-removed q k 0 i i ks (let e : i ≡ 0 + i = omega arith in e) d there
-    ∙ sym (find-over (lowered i) q rest
-    ∙ ap (option_map (lowered i)) (find-where_key key_cmp (λ x. not (eq_by_cmp key_cmp k x)) q (alike k q) es ∙ ap (λ b. cond (not b) (find key_cmp q es) None) (flipped k q) ∙ not_cond (bytes_eq q k) (find key_cmp q es))
-    ∙ option_over (lowered i) (bytes_eq q k) (find key_cmp q es)
-    ∙ ap (λ o. cond (bytes_eq q k) None (option_map (lowered i) o)) (find-ascending q (numbered_from 0 ks))) in
-    same_entries key_cmp nat_list_cmp_total same_key (index_of (remove ks i)) (over (lowered i) rest) (is_sorted-index (remove ks i)) sorted found
-    ∙ ap (over (lowered i)) (remove_is k i es j (is_sorted-index ks) is)
+    ∙ sym (find-over (place_without i) q rest
+    ∙ ap (option_map (place_without i)) (find-where_key key_cmp (λ x. not (eq_by_cmp key_cmp k x)) q (alike k q) es ∙ ap (λ b. cond (not b) (find key_cmp q es) None) (flipped k q) ∙ not_cond (bytes_eq q k) (find key_cmp q es))
+    ∙ option_over (place_without i) (bytes_eq q k) (find key_cmp q es)
+    ∙ ap (λ o. cond (bytes_eq q k) None (option_map (place_without i) o)) (find-ascending q (numbered_from 0 ks))) in
+    same_entries key_cmp nat_list_cmp_total same_key (index_of (remove ks i)) (over (place_without i) rest) (is_sorted-index (remove ks i)) sorted found
+    ∙ ap (over (place_without i)) (remove_is k i es j (is_sorted-index ks) is)
 
 values_of-over_places : (h : ℕ → ℕ) (es : List (Key × ℕ)) → values_of (over h es) ≡ map h (values_of es)
 values_of-over_places h [] = refl
@@ -357,8 +357,8 @@ values_of-over_places h (e ∷ es) = ap (λ l. h e.1 ∷ l) (values_of-over_plac
 map-remove : {A B : Type 0} (f : A → B) (xs : List A) (j : ℕ) → map f (remove xs j) ≡ remove (map f xs) j
 map-remove f xs j = map-append f (take j xs) (drop (suc j) xs) ∙ (λ i. sym (take-map f j xs) i ++ sym (drop-map f (suc j) xs) i)
 
-pub places-remove : (ks : List Key) (k : Key) (i j : ℕ) → IsDistinct bytes_eq ks → slice_get (index_of ks) j ≡ Some (k, i) → places_of (remove ks i) ≡ map (lowered i) (remove (places_of ks) j)
-places-remove ks k i j d is = ap values_of (index-remove ks k i j d is) ∙ values_of-over_places (lowered i) (remove (index_of ks) j) ∙ ap (map (lowered i)) (map-remove (λ e. e.1) (index_of ks) j)
+pub places-remove : (ks : List Key) (k : Key) (i j : ℕ) → IsDistinct bytes_eq ks → slice_get (index_of ks) j ≡ Some (k, i) → places_of (remove ks i) ≡ map (place_without i) (remove (places_of ks) j)
+places-remove ks k i j d is = ap values_of (index-remove ks k i j d is) ∙ values_of-over_places (place_without i) (remove (index_of ks) j) ∙ ap (map (place_without i)) (map-remove (λ e. e.1) (index_of ks) j)
 
 pub distinct-remove : (ks : List Key) (k : Key) (i : ℕ) → IsDistinct bytes_eq ks → slice_get ks i ≡ Some k → IsDistinct bytes_eq (remove ks i)
 distinct-remove ks k i d is =
@@ -399,10 +399,10 @@ pushed ts us t order places at n is d goes long grown put =
     )
 
 pub removed : (ts us : List (String Global)) (k : Key) (order places : List ℕ) (j x : ℕ) → order ≡ places_of (key_bytes ts) → IsDistinct bytes_eq (key_bytes ts) → IsIndexedAt k j (key_bytes ts) → x ≡ get_or order j x
-    → us ≡ remove ts x → places ≡ map (lowered x) (remove order j) → (places ≡ places_of (key_bytes us)) × IsDistinct bytes_eq (key_bytes us)
+    → us ≡ remove ts x → places ≡ map (place_without x) (remove order j) → (places ≡ places_of (key_bytes us)) × IsDistinct bytes_eq (key_bytes us)
 removed ts us k order places j x is d s read shrunk taken =
     let whole : key_bytes us ≡ remove (key_bytes ts) x = ap key_bytes shrunk ∙ map-remove string_bytes ts x in (
-      taken ∙ ap (λ l. map (lowered x) (remove l j)) is ∙ sym (places-remove (key_bytes ts) k x j d (found_entry ts k order j x is s read)) ∙ ap places_of (sym whole),
+      taken ∙ ap (λ l. map (place_without x) (remove l j)) is ∙ sym (places-remove (key_bytes ts) k x j d (found_entry ts k order j x is s read)) ∙ ap places_of (sym whole),
       subst (IsDistinct bytes_eq) (sym whole) (distinct-remove (key_bytes ts) k x d (found_there ts k order j x is s read)),
     )
 

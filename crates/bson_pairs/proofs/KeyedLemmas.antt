@@ -8,16 +8,16 @@ use Rattle.std.specs.Map.{keys_of, values_of}
 use Rattle.std.proofs.lemmas.Iterator.Adapters.{position_from-zero}
 use Rattle.std.specs.declared.alloc.Global.{Global}
 pub use Rattle.bson_pairs.specs.Over.{over, get-over}
-use Rattle.bson_pairs.specs.Keyed.{Key, key_bytes, keyed, get, put, without, set_at}
+use Rattle.bson_pairs.specs.Keyed.{Key, key_bytes, entries_of, get, put, without, set_at}
 use Rattle.bson_pairs.specs.Index.{is_key}
 
-pub length-keyed : {V : Type 0} (ks : List (String Global)) (vs : List V) → length vs ≡ length ks → length (keyed ks vs) ≡ length vs
+pub length-keyed : {V : Type 0} (ks : List (String Global)) (vs : List V) → length vs ≡ length ks → length (entries_of ks vs) ≡ length vs
 length-keyed [] [] e = refl
 length-keyed [] (v ∷ vs) e = absurd (omega arith)
 length-keyed (k ∷ ks) [] e = absurd (omega arith)
 length-keyed (k ∷ ks) (v ∷ vs) e = ap suc (length-keyed ks vs (omega arith))
 
-pub values_of-keyed : {V : Type 0} (ks : List (String Global)) (vs : List V) → length vs ≡ length ks → values_of (keyed ks vs) ≡ vs
+pub values_of-keyed : {V : Type 0} (ks : List (String Global)) (vs : List V) → length vs ≡ length ks → values_of (entries_of ks vs) ≡ vs
 values_of-keyed [] [] e = refl
 values_of-keyed [] (v ∷ vs) e = absurd (omega arith)
 values_of-keyed (k ∷ ks) [] e = absurd (omega arith)
@@ -75,59 +75,59 @@ module _ {A : Type 0} (p : A → Bool) where
   absent_if xs e = absent_from xs 0 (sym (position_from-zero p xs) ∙ sym e)
 
 module _ {V : Type 0} (k : Key) where
-  pub get-found : (ks : List (String Global)) (vs : List V) (n : ℕ) → FoundAt (is_key k) ks n → length vs ≡ length ks → get k (keyed ks vs) ≡ slice_get vs n
+  pub get-found : (ks : List (String Global)) (vs : List V) (n : ℕ) → FoundAt (is_key k) ks n → length vs ≡ length ks → get k (entries_of ks vs) ≡ slice_get vs n
   get-found [] vs n f e = absurd f
   get-found (s ∷ ks) [] n f e = absurd (omega arith)
   get-found (s ∷ ks) (v ∷ vs) zero f e = rw f
   get-found (s ∷ ks) (v ∷ vs) (suc n) f e = rw (f.0) (get-found ks vs n f.1 (omega arith))
 
-  pub get-found_value : (ks : List (String Global)) (vs : List V) (n : ℕ) (d : V) → FoundAt (is_key k) ks n → length vs ≡ length ks → get k (keyed ks vs) ≡ Some (get_or vs n d)
+  pub get-found_value : (ks : List (String Global)) (vs : List V) (n : ℕ) (d : V) → FoundAt (is_key k) ks n → length vs ≡ length ks → get k (entries_of ks vs) ≡ Some (get_or vs n d)
   get-found_value [] vs n d f e = absurd f
   get-found_value (s ∷ ks) [] n d f e = absurd (omega arith)
   get-found_value (s ∷ ks) (v ∷ vs) zero d f e = rw f
   get-found_value (s ∷ ks) (v ∷ vs) (suc n) d f e = rw (f.0) (get-found_value ks vs n d f.1 (omega arith))
 
-  pub get-absent : (ks : List (String Global)) (vs : List V) → Absent (is_key k) ks → get k (keyed ks vs) ≡ None
+  pub get-absent : (ks : List (String Global)) (vs : List V) → Absent (is_key k) ks → get k (entries_of ks vs) ≡ None
   get-absent [] vs a = refl
   get-absent (s ∷ ks) [] a = refl
   get-absent (s ∷ ks) (v ∷ vs) a = rw (a.0) (get-absent ks vs a.1)
 
-  pub put-found : (ks : List (String Global)) (vs : List V) (n : ℕ) (w : V) → FoundAt (is_key k) ks n → length vs ≡ length ks → put k w (keyed ks vs) ≡ keyed ks (set vs n w)
+  pub put-found : (ks : List (String Global)) (vs : List V) (n : ℕ) (w : V) → FoundAt (is_key k) ks n → length vs ≡ length ks → put k w (entries_of ks vs) ≡ entries_of ks (set vs n w)
   put-found [] vs n w f e = absurd f
   put-found (s ∷ ks) [] n w f e = absurd (omega arith)
   put-found (s ∷ ks) (v ∷ vs) zero w f e = rw f
   put-found (s ∷ ks) (v ∷ vs) (suc n) w f e = rw (f.0) (ap (λ l. (string_bytes s, v) ∷ l) (put-found ks vs n w f.1 (omega arith)))
 
-  pub put-absent : (ks : List (String Global)) (vs : List V) (w : V) → Absent (is_key k) ks → length vs ≡ length ks → put k w (keyed ks vs) ≡ keyed ks vs ++ (k, w) ∷ []
+  pub put-absent : (ks : List (String Global)) (vs : List V) (w : V) → Absent (is_key k) ks → length vs ≡ length ks → put k w (entries_of ks vs) ≡ entries_of ks vs ++ (k, w) ∷ []
   put-absent [] vs w a e = refl
   put-absent (s ∷ ks) [] w a e = absurd (omega arith)
   put-absent (s ∷ ks) (v ∷ vs) w a e = rw (a.0) (ap (λ l. (string_bytes s, v) ∷ l) (put-absent ks vs w a.1 (omega arith)))
 
-  pub without-found : (ks : List (String Global)) (vs : List V) (n : ℕ) → FoundAt (is_key k) ks n → length vs ≡ length ks → without k (keyed ks vs) ≡ keyed (remove ks n) (remove vs n)
+  pub without-found : (ks : List (String Global)) (vs : List V) (n : ℕ) → FoundAt (is_key k) ks n → length vs ≡ length ks → without k (entries_of ks vs) ≡ entries_of (remove ks n) (remove vs n)
   without-found [] vs n f e = absurd f
   without-found (s ∷ ks) [] n f e = absurd (omega arith)
   without-found (s ∷ ks) (v ∷ vs) zero f e = rw f
   without-found (s ∷ ks) (v ∷ vs) (suc n) f e = rw (f.0) (ap (λ l. (string_bytes s, v) ∷ l) (without-found ks vs n f.1 (omega arith)))
 
-  pub without-absent : (ks : List (String Global)) (vs : List V) → Absent (is_key k) ks → without k (keyed ks vs) ≡ keyed ks vs
+  pub without-absent : (ks : List (String Global)) (vs : List V) → Absent (is_key k) ks → without k (entries_of ks vs) ≡ entries_of ks vs
   without-absent [] vs a = refl
   without-absent (s ∷ ks) [] a = refl
   without-absent (s ∷ ks) (v ∷ vs) a = rw (a.0) (ap (λ l. (string_bytes s, v) ∷ l) (without-absent ks vs a.1))
 
-  pub set_at-found : (ks : List (String Global)) (vs : List V) (n : ℕ) (w : V) → FoundAt (is_key k) ks n → length vs ≡ length ks → set_at (keyed ks vs) n w ≡ put k w (keyed ks vs)
+  pub set_at-found : (ks : List (String Global)) (vs : List V) (n : ℕ) (w : V) → FoundAt (is_key k) ks n → length vs ≡ length ks → set_at (entries_of ks vs) n w ≡ put k w (entries_of ks vs)
   set_at-found [] vs n w f e = absurd f
   set_at-found (s ∷ ks) [] n w f e = absurd (omega arith)
   set_at-found (s ∷ ks) (v ∷ vs) zero w f e = rw f
   set_at-found (s ∷ ks) (v ∷ vs) (suc n) w f e = rw (f.0) (ap (λ l. (string_bytes s, v) ∷ l) (set_at-found ks vs n w f.1 (omega arith)))
 
 module _ {V : Type 0} where
-  pub set_at-keyed : (ks : List (String Global)) (vs : List V) (n : ℕ) (w : V) → set_at (keyed ks vs) n w ≡ keyed ks (set vs n w)
+  pub set_at-keyed : (ks : List (String Global)) (vs : List V) (n : ℕ) (w : V) → set_at (entries_of ks vs) n w ≡ entries_of ks (set vs n w)
   set_at-keyed [] vs n w = refl
   set_at-keyed (s ∷ ks) [] n w = refl
   set_at-keyed (s ∷ ks) (v ∷ vs) zero w = refl
   set_at-keyed (s ∷ ks) (v ∷ vs) (suc n) w = ap (λ l. (string_bytes s, v) ∷ l) (set_at-keyed ks vs n w)
 
-  pub keyed-push : (ks : List (String Global)) (vs : List V) (s : String Global) (v : V) → length vs ≡ length ks → keyed (ks ++ s ∷ []) (vs ++ v ∷ []) ≡ keyed ks vs ++ (string_bytes s, v) ∷ []
+  pub keyed-push : (ks : List (String Global)) (vs : List V) (s : String Global) (v : V) → length vs ≡ length ks → entries_of (ks ++ s ∷ []) (vs ++ v ∷ []) ≡ entries_of ks vs ++ (string_bytes s, v) ∷ []
   keyed-push [] [] s v e = refl
   keyed-push [] (x ∷ vs) s v e = absurd (omega arith)
   keyed-push (k ∷ ks) [] s v e = absurd (omega arith)
@@ -163,7 +163,7 @@ pub on_some_weaker : {T : Type 0} (r : Option T) {P Q : Type 0} → (P → Q) �
 on_some_weaker None f p = tt
 on_some_weaker (Some x) f p = f p
 
-pub keys_of-keyed : {V : Type 0} (ks : List (String Global)) (vs : List V) → length vs ≡ length ks → keys_of (keyed ks vs) ≡ key_bytes ks
+pub keys_of-keyed : {V : Type 0} (ks : List (String Global)) (vs : List V) → length vs ≡ length ks → keys_of (entries_of ks vs) ≡ key_bytes ks
 keys_of-keyed [] vs e = refl
 keys_of-keyed (k ∷ ks) [] e = absurd (omega arith)
 keys_of-keyed (k ∷ ks) (v ∷ vs) e = ap (λ l. string_bytes k ∷ l) (keys_of-keyed ks vs (omega arith))
@@ -208,7 +208,7 @@ module _ {V : Type 0} (k : Key) where
   set_at-put-new v w ps e = ap (λ l. set_at l (length ps) w) (put-new v ps e) ∙ set_at-last v w ps ∙ sym (put-new w ps e)
 
 -- how many pairs there are
-pub length-pairs : {V : Type 0} (ks : List (String Global)) (vs : List V) (ps : List (Key × V)) → length vs ≡ length ks → keyed ks vs ≡ ps → length ps ≡ length vs
+pub length-pairs : {V : Type 0} (ks : List (String Global)) (vs : List V) (ps : List (Key × V)) → length vs ≡ length ks → entries_of ks vs ≡ ps → length ps ≡ length vs
 length-pairs ks vs ps e is = sym (ap length is) ∙ length-keyed ks vs e
 
 pub value-last : {V : Type 0} (k : Key) (v : V) (ps : List (Key × V)) → slice_get (values_of (ps ++ (k, v) ∷ [])) (length ps) ≡ Some v
@@ -219,7 +219,7 @@ pub same_some : {V : Type 0} (x y d : V) → Some x ≡ Some y → x ≡ y
 same_some x y d e = ap (λ o. unwrap_or o d) e
 
 -- what a set of keys answers of a key that it lacks, said of the pairs
-pub get-missing : {V : Type 0} (ks : List (String Global)) (vs : List V) (ps : List (Key × V)) (k q : Key) → keyed ks vs ≡ ps → k ≡ q → None ≡ position (is_key k) ks → get q ps ≡ None
+pub get-missing : {V : Type 0} (ks : List (String Global)) (vs : List V) (ps : List (Key × V)) (k q : Key) → entries_of ks vs ≡ ps → k ≡ q → None ≡ position (is_key k) ks → get q ps ≡ None
 get-missing ks vs ps k q is same gone = ap (λ l. get l ps) (sym same) ∙ sym (ap (get k) is) ∙ get-absent k ks vs (absent_if (is_key k) ks gone)
 
 pub unwrap-map : {V W : Type 0} (h : V → W) (r : Option V) (d : V) → h (unwrap_or r d) ≡ unwrap_or (option_map h r) (h d)

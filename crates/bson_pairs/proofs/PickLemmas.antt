@@ -8,7 +8,7 @@ use Rattle.std.specs.declared.alloc.Global.{Global}
 use Rattle.bson_pairs.proofs.IndexLemmas.{all-ascending, slice_get_seam, places_within}
 use Rattle.bson_pairs.specs.Ascending.{ascending, ascending-over}
 use Rattle.bson_pairs.specs.Index.{numbered_from, index_of, places_of, pick, with_first}
-use Rattle.bson_pairs.specs.Keyed.{Key, key_bytes, keyed}
+use Rattle.bson_pairs.specs.Keyed.{Key, key_bytes, entries_of}
 use Rattle.bson_pairs.specs.Over.{over}
 
 module _ {V : Type 0} where
@@ -58,20 +58,20 @@ module _ {V : Type 0} where
       let first = ap (head_or (x.0, Some x.1)) e in
       λ i. ((first i).0, unwrap_or (first i).1 x.1) ∷ same_some xs ys (ap tail_of e) i
 
-  pub pick-index : (ks : List (String Global)) (vs : List V) → length vs ≡ length ks → pick (keyed ks vs) (places_of (key_bytes ks)) ≡ ascending (keyed ks vs)
+  pub pick-index : (ks : List (String Global)) (vs : List V) → length vs ≡ length ks → pick (entries_of ks vs) (places_of (key_bytes ks)) ≡ ascending (entries_of ks vs)
   pick-index ks vs l =
       let bs = key_bytes ks in
       let long : length vs ≡ length bs = l ∙ length_bytes ks in
-      same_some (pick (keyed ks vs) (places_of bs)) (ascending (keyed ks vs))
-      (picked (keyed ks vs) vs (index_of bs) (all-ascending (HasPair (keyed ks vs) vs) (numbered_from 0 bs) (pairs_stand [] [] vs bs 0 refl refl long))
-      ∙ sym (ascending-over (slice_get vs) (numbered_from 0 bs)) ∙ ap ascending (values_at [] vs bs 0 refl long) ∙ ascending-over Some (keyed ks vs))
+      same_some (pick (entries_of ks vs) (places_of bs)) (ascending (entries_of ks vs))
+      (picked (entries_of ks vs) vs (index_of bs) (all-ascending (HasPair (entries_of ks vs) vs) (numbered_from 0 bs) (pairs_stand [] [] vs bs 0 refl refl long))
+      ∙ sym (ascending-over (slice_get vs) (numbered_from 0 bs)) ∙ ap ascending (values_at [] vs bs 0 refl long) ∙ ascending-over Some (entries_of ks vs))
     where
       length_bytes : (ks : List (String Global)) → length ks ≡ length (key_bytes ks)
       length_bytes [] = refl
       length_bytes (k ∷ ks) = ap suc (length_bytes ks)
 
   -- what stands at a place
-  slice_get-keyed : (ks : List (String Global)) (vs : List V) (i : ℕ) (d : String Global) (e : V) → i < length ks → length vs ≡ length ks → slice_get (keyed ks vs) i ≡ Some (string_bytes (get_or ks i d), get_or vs i e)
+  slice_get-keyed : (ks : List (String Global)) (vs : List V) (i : ℕ) (d : String Global) (e : V) → i < length ks → length vs ≡ length ks → slice_get (entries_of ks vs) i ≡ Some (string_bytes (get_or ks i d), get_or vs i e)
   slice_get-keyed [] vs i d e h l = absurd (omega arith)
   slice_get-keyed (x ∷ ks) [] i d e h l = absurd (omega arith)
   slice_get-keyed (x ∷ ks) (y ∷ vs) zero d e h l = refl
@@ -82,9 +82,9 @@ texts_within ks = All-from_recursion (λ i. i < length ks) (places_of (key_bytes
 
 -- the pair at the first of some places, and those at the others
 pub pick-next : {V : Type 0} (ks : List (String Global)) (vs : List V) (i : ℕ) (rest places : List ℕ) (d : String Global) (e : V) → All (λ i. i < length ks) places → length vs ≡ length ks → places ≡ i ∷ rest
-    → pick (keyed ks vs) places ≡ (string_bytes (get_or ks i d), get_or vs i e) ∷ pick (keyed ks vs) rest
+    → pick (entries_of ks vs) places ≡ (string_bytes (get_or ks i d), get_or vs i e) ∷ pick (entries_of ks vs) rest
 pick-next ks vs i rest places d e within l is =
-    ap (pick (keyed ks vs)) is ∙ ap (λ o. with_first o (pick (keyed ks vs) rest)) (slice_get-keyed ks vs i d e (first_within ks i rest places within is) l)
+    ap (pick (entries_of ks vs)) is ∙ ap (λ o. with_first o (pick (entries_of ks vs) rest)) (slice_get-keyed ks vs i d e (first_within ks i rest places within is) l)
   where
     first_within : (ks : List (String Global)) (i : ℕ) (rest places : List ℕ) → All (λ i. i < length ks) places → places ≡ i ∷ rest → i < length ks
     first_within ks i rest places within is = All-head (λ i. i < length ks) i rest (All-same (λ i. i < length ks) (i ∷ rest) places (sym is) within)

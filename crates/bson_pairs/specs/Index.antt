@@ -41,8 +41,8 @@ abbrev pub GoesAt : Key → ℕ → List Key → Type 0
 GoesAt k j ks = (j ≤ length (index_of ks)) × (find key_cmp k (index_of ks) ≡ None) × ((n : ℕ) → place key_cmp k n (index_of ks) ≡ insert (index_of ks) j (k, n))
 
 -- a place, once the one at p was taken out
-abbrev pub lowered : ℕ → ℕ → ℕ
-lowered p i = cond (nat_lt p i) (i - 1) i
+abbrev pub place_without : ℕ → ℕ → ℕ
+place_without p i = cond (nat_lt p i) (i - 1) i
 
 abbrev pub with_first : {A : Type 0} → Option A → List A → List A
 with_first None xs = xs

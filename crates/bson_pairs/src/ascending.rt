@@ -4,7 +4,7 @@ ghost use Rattle.std.specs.Iterator.{at_most};
 ghost use Rattle.std.specs.Map.Iter.{TakesFirst};
 ghost use Rattle.bson_pairs.specs.Ascending.{ascending};
 ghost use Rattle.bson_pairs.specs.Index.{places_of, pick};
-ghost use Rattle.bson_pairs.specs.Keyed.{key_bytes, keyed, lent_pair};
+ghost use Rattle.bson_pairs.specs.Keyed.{key_bytes, entries_of, lent_pair};
 
 use std::marker::Model;
 use std::slice;
@@ -22,13 +22,13 @@ impl<'a, V> Model for Ascending<'a, V> {
     ghost use Rattle.std.specs.List.{All};
     ghost use Rattle.std.specs.Slice.Iter.{iter_rest};
     ghost use Rattle.bson_pairs.specs.Index.{pick};
-    ghost use Rattle.bson_pairs.specs.Keyed.{Key, keyed, keyed_code};
+    ghost use Rattle.bson_pairs.specs.Keyed.{Key, entries_of, keyed_code};
 
     ghost Value = { List (Key × V) };
 
     ghost coded = { keyed_code V.code };
 
-    ghost view = { λ a. pick (keyed a.keys.now a.values.now) (iter_rest a.places) };
+    ghost view = { λ a. pick (entries_of a.keys.now a.values.now) (iter_rest a.places) };
 
     ghost invariant = { λ a. All (λ i. i < length a.keys.now) (iter_rest a.places) × (length a.values.now ≡ length a.keys.now) };
 }
@@ -37,7 +37,7 @@ impl<'a, V> Ascending<'a, V> {
     pub(crate) fn new(places: &'a [usize], keys: &'a [String], values: &'a [V]) -> Self
         requires places { places.now ≡ places_of (key_bytes keys.now) }
         requires lengths { length values.now ≡ length keys.now }
-        ensures { result ≡ ascending (keyed keys.now values.now) }
+        ensures { result ≡ ascending (entries_of keys.now values.now) }
     {
         Ascending {
             places: places.iter(),

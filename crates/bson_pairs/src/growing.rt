@@ -1,6 +1,6 @@
 //! Pairs to which many are added.
 ghost use Rattle.std.specs.Prelude.{◌≡◌, None, length, string_bytes, OnOk, OnErr};
-ghost use Rattle.bson_pairs.specs.Keyed.{get, put, keyed};
+ghost use Rattle.bson_pairs.specs.Keyed.{get, put, entries_of};
 ghost use Rattle.bson_pairs.specs.Putting.{put_each, PutsBeforeNew};
 
 use crate::growing_keys::GrowingKeys;
@@ -17,13 +17,13 @@ pub(crate) struct GrowingPairs<V> {
 
 impl<V> Model for GrowingPairs<V> {
     ghost use Rattle.std.specs.Prelude.{◌≡◌, length, List};
-    ghost use Rattle.bson_pairs.specs.Keyed.{Key, keyed, keyed_code};
+    ghost use Rattle.bson_pairs.specs.Keyed.{Key, entries_of, keyed_code};
 
     ghost Value = { List (Key × V) };
 
     ghost coded = { keyed_code V.code };
 
-    ghost view = { λ p. keyed p.keys p.values.items };
+    ghost view = { λ p. entries_of p.keys p.values.items };
 
     ghost invariant = { λ p. length p.values.items ≡ length p.keys };
 }
@@ -31,7 +31,7 @@ impl<V> Model for GrowingPairs<V> {
 impl<V: Drop> GrowingPairs<V> {
     pub(crate) fn new(keys: GrowingKeys, values: Vec<V>) -> GrowingPairs<V>
         requires { length values.items ≡ length keys }
-        ensures { result ≡ keyed keys values.items }
+        ensures { result ≡ entries_of keys values.items }
     {
         GrowingPairs { keys, values }
     }

@@ -2,7 +2,7 @@
 ghost use Rattle.std.specs.Prelude.{◌≡◌, length, zip};
 ghost use Rattle.std.specs.Iterator.{at_most};
 ghost use Rattle.std.specs.Map.Iter.{TakesFirst};
-ghost use Rattle.bson_pairs.specs.Keyed.{keyed, lent_pair, owned_pair};
+ghost use Rattle.bson_pairs.specs.Keyed.{entries_of, lent_pair, owned_pair};
 
 use std::marker::Model;
 use std::{slice, vec};
@@ -17,13 +17,13 @@ pub struct Iter<'a, V> {
 impl<'a, V> Model for Iter<'a, V> {
     ghost use Rattle.std.specs.Prelude.{◌≡◌, List, length};
     ghost use Rattle.std.specs.Slice.Iter.{iter_rest};
-    ghost use Rattle.bson_pairs.specs.Keyed.{Key, keyed, keyed_code};
+    ghost use Rattle.bson_pairs.specs.Keyed.{Key, entries_of, keyed_code};
 
     ghost Value = { List (Key × V) };
 
     ghost coded = { keyed_code V.code };
 
-    ghost view = { λ a. keyed (iter_rest a.keys) (iter_rest a.values) };
+    ghost view = { λ a. entries_of (iter_rest a.keys) (iter_rest a.values) };
 
     ghost invariant = { λ a. length (iter_rest a.values) ≡ length (iter_rest a.keys) };
 }
@@ -31,7 +31,7 @@ impl<'a, V> Model for Iter<'a, V> {
 impl<'a, V> Iter<'a, V> {
     pub(crate) fn new(keys: &'a [String], values: &'a [V]) -> Self
         requires { length values.now ≡ length keys.now }
-        ensures { result ≡ keyed keys.now values.now }
+        ensures { result ≡ entries_of keys.now values.now }
     {
         Iter {
             keys: keys.iter(),
@@ -63,13 +63,13 @@ pub struct IntoIter<V> {
 impl<V> Model for IntoIter<V> {
     ghost use Rattle.std.specs.Prelude.{◌≡◌, List, length};
     ghost use Rattle.std.specs.Vec.Iter.{into_iter_items};
-    ghost use Rattle.bson_pairs.specs.Keyed.{Key, keyed, keyed_code};
+    ghost use Rattle.bson_pairs.specs.Keyed.{Key, entries_of, keyed_code};
 
     ghost Value = { List (Key × V) };
 
     ghost coded = { keyed_code V.code };
 
-    ghost view = { λ a. keyed (into_iter_items a.keys) (into_iter_items a.values) };
+    ghost view = { λ a. entries_of (into_iter_items a.keys) (into_iter_items a.values) };
 
     ghost invariant = { λ a. length (into_iter_items a.values) ≡ length (into_iter_items a.keys) };
 }
@@ -77,7 +77,7 @@ impl<V> Model for IntoIter<V> {
 impl<V> IntoIter<V> {
     pub(crate) fn new(keys: Vec<String>, values: Vec<V>) -> Self
         requires { length values.items ≡ length keys.items }
-        ensures { result ≡ keyed keys.items values.items }
+        ensures { result ≡ entries_of keys.items values.items }
     {
         IntoIter {
             keys: keys.into_iter(),

@@ -2,7 +2,7 @@
 ghost use Rattle.std.specs.Prelude.{◌≡◌, ◌<◌, Some, None, ◌∷◌, ◌++◌, [], length, map, bytes_eq, string_bytes, MatchOption, IfSome, IfOk, IfErr, OnOk, OnErr, remove};
 ghost use Rattle.std.specs.List.{AllZip, IsDistinct, position};
 ghost use Rattle.bson_pairs.specs.Keyed.{key_bytes};
-ghost use Rattle.bson_pairs.specs.Index.{places_of, is_key, AtMostDigits, IsIndexedAt, GoesAt, lowered};
+ghost use Rattle.bson_pairs.specs.Index.{places_of, is_key, AtMostDigits, IsIndexedAt, GoesAt, place_without};
 
 use std::alloc::{AllocError, Global};
 use std::cmp::Ordering;
@@ -55,14 +55,14 @@ fn search(texts: &[String], order: &[usize], key: &str) -> (Result<usize, usize>
 
 // A place, once the one at `taken` was taken out.
 fn place_without(taken: usize, place: usize) -> usize
-    ensures { result ≡ lowered taken place }
+    ensures { result ≡ place_without taken place }
 {
     if taken < place { place - 1 } else { place }
 }
 
 // The places above the one that was taken out move down.
 fn lower(order: &mut [usize], taken: usize)
-    ensures { order.new ≡ map (lowered taken) order.old }
+    ensures { order.new ≡ map (place_without taken) order.old }
 {
     for i in 0..order.len() {
         order[i] = place_without(taken, order[i]);

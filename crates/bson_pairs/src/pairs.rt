@@ -6,7 +6,7 @@ ghost use Rattle.std.specs.Map.{keys_of, values_of};
 ghost use Rattle.std.specs.List.{list_all, zip};
 ghost use Rattle.bson_pairs.specs.Ascending.{ascending};
 ghost use Rattle.bson_pairs.specs.Index.{index_of, place_of, seen_places, AtMostDigits};
-ghost use Rattle.bson_pairs.specs.Keyed.{key_bytes, keyed, get, has_key, put, without, set_at, HasDistinctKeys};
+ghost use Rattle.bson_pairs.specs.Keyed.{key_bytes, entries_of, get, has_key, put, without, set_at, HasDistinctKeys};
 ghost use Rattle.bson_pairs.specs.Putting.{put_each, PutsBeforeNew};
 ghost use Rattle.bson_pairs.specs.Lending.{LendsAt, LendsUnder, LendsValueOf, LendsOrInserts};
 
@@ -32,13 +32,13 @@ pub struct Pairs<V> {
 
 impl<V> Model for Pairs<V> {
     ghost use Rattle.std.specs.Prelude.{◌≡◌, length, List};
-    ghost use Rattle.bson_pairs.specs.Keyed.{Key, keyed, keyed_code};
+    ghost use Rattle.bson_pairs.specs.Keyed.{Key, entries_of, keyed_code};
 
     ghost Value = { List (Key × V) };
 
     ghost coded = { keyed_code V.code };
 
-    ghost view = { λ p. keyed p.keys p.values.items };
+    ghost view = { λ p. entries_of p.keys p.values.items };
 
     ghost invariant = { λ p. length p.values.items ≡ length p.keys };
 }
@@ -56,7 +56,7 @@ impl<V> Pairs<V> {
     // The pairs of these keys and values.
     pub(crate) fn from_parts(keys: Keys, values: Vec<V>) -> Pairs<V>
         requires { length values.items ≡ length keys }
-        ensures { result ≡ keyed keys values.items }
+        ensures { result ≡ entries_of keys values.items }
     {
         Pairs { keys, values }
     }

@@ -6,7 +6,7 @@ use Rattle.bson_bytes.specs.Spells.{HoldsScalar, SpellsValue, SpellsItems, Spell
 use Rattle.bson_frame.specs.Frame.{number}
 use Rattle.bson_frame.specs.Payload.{code_in, scope_in, IsFaultless}
 use Rattle.bson_raw.specs.declared.bson_ref.RawBsonRef.{RawBsonRef}
-use Rattle.bson_raw.specs.declared.bson_ref.RawBsonRef.TheVariants as values
+use Rattle.bson_raw.specs.declared.bson_ref.RawBsonRef.TheVariants as views
 use Rattle.bson_raw.specs.ReadValue.{IsValue, Holds}
 use Rattle.bson_raw.specs.Raw.{RawValue, leaf, array, document, scoped_code, ref_value, raw_kind}
 use Rattle.bson_raw.specs.View.{bytes_of, array_bytes}
@@ -20,9 +20,9 @@ use Rattle.bson_raw.proofs.Progress.{told_on}
 
 -- how many bytes a value has inside that are read once more
 abbrev pub inner_length : RawBsonRef → ℕ
-inner_length (values.Array x) = length (array_bytes x)
-inner_length (values.Document x) = length (bytes_of x)
-inner_length (values.JavaScriptCodeWithScope x) = length (bytes_of x.scope) + 1
+inner_length (views.Array x) = length (array_bytes x)
+inner_length (views.Document x) = length (bytes_of x)
+inner_length (views.JavaScriptCodeWithScope x) = length (bytes_of x.scope) + 1
 inner_length v = 0
 
 scope_shorter : (payload : List ℕ) → 5 ≤ length (scope_in payload) → length (scope_in payload) + 1 ≤ length payload
@@ -31,9 +31,9 @@ scope_shorter payload some = omega (arith, some, length-drop {A = ℕ} (number (
 module _ (tag : ElementType) (payload : List ℕ) where
   -- a payload has more bytes than are read once more
   pub inner_shorter : (r : RawBsonRef) → Holds payload (ref_value r) → inner_length r ≤ length payload
-  inner_shorter (values.Array x) holds = omega (arith, ap length holds)
-  inner_shorter (values.Document x) holds = omega (arith, ap length holds)
-  inner_shorter (values.JavaScriptCodeWithScope x) holds =
+  inner_shorter (views.Array x) holds = omega (arith, ap length holds)
+  inner_shorter (views.Document x) holds = omega (arith, ap length holds)
+  inner_shorter (views.JavaScriptCodeWithScope x) holds =
       let same = ap length holds.1 in
       omega (arith, same, scope_shorter payload (omega (arith, same, x.scope.envelope.some)))
   inner_shorter r holds = omega arith

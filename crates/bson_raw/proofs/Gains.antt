@@ -5,7 +5,7 @@ use Rattle.std.proofs.lemmas.List.{length-append, length-drop, take_at, drop_at}
 use Rattle.bson_base.specs.declared.spec.ElementType.{ElementType}
 use Rattle.bson_base.specs.declared.spec.ElementType.TheVariants as kinds
 use Rattle.bson_base.specs.Tags.{tag_byte}
-use Rattle.bson_bytes.specs.Encode.{le32, ended, framed}
+use Rattle.bson_bytes.specs.Encode.{le32, cstring_of, frame_of}
 use Rattle.bson_bytes.proofs.Lengths.{le32_length}
 use Rattle.bson_frame.specs.declared.error.Error.{Error}
 use Rattle.bson_frame.specs.declared.error.ErrorKind.{ErrorKind}
@@ -86,13 +86,13 @@ walk_goes_on elements bytes more others fault ends w v = walk_beside elements by
 -- ---- an element that was put into a document
 
 put_frame : (e : Element) → IsCstring e.key → HasSize e.tag (e.payload ++ 0 ∷ []) (length e.payload) → IsFirstFrame (element_bytes e ++ 0 ∷ []) e (0 ∷ [])
-unfolding ended
+unfolding cstring_of
 put_frame e named sized =
     let grouped : (tag_byte e.tag ∷ ((e.key ++ 0 ∷ []) ++ e.payload)) ++ 0 ∷ [] ≡ tag_byte e.tag ∷ (e.key ++ 0 ∷ (e.payload ++ 0 ∷ [])) = simp append_assoc in
     record { parts = grouped; key_name = named; size = sized }
 
 without_length : (old : List ℕ) (e : Element) → drop 4 (with_element old e) ≡ body_of old ++ (element_bytes e ++ 0 ∷ [])
-unfolding framed
+unfolding frame_of
 without_length old e =
     let elements : List ℕ = body_of old ++ element_bytes e in
     drop_at (le32 (length elements + 5)) (elements ++ 0 ∷ []) 4 (le32_length (length elements + 5)) ∙ append_assoc (body_of old) (element_bytes e) (0 ∷ [])

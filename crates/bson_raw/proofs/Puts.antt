@@ -6,7 +6,7 @@ use Rattle.bson_base.specs.declared.spec.BinarySubtype.{BinarySubtype}
 use Rattle.bson_base.specs.Kinds.{HasNo00}
 use Rattle.bson_base.specs.Tags.{tag_byte}
 use Rattle.bson_base.specs.Value.{binary}
-use Rattle.bson_bytes.specs.Encode.{le32, ended, framed, text_bytes, scoped, scalar_bytes, scalar_size}
+use Rattle.bson_bytes.specs.Encode.{le32, cstring_of, frame_of, text_bytes, scope_frame_of, scalar_bytes, scalar_size}
 use Rattle.bson_bytes.specs.Writing.{IsWriteRefusal, RefusesWriting, StartsWith}
 use Rattle.bson_frame.specs.declared.error.Error.{Error}
 use Rattle.bson_frame.specs.declared.error.ErrorKind.{ErrorKind}
@@ -62,19 +62,19 @@ module _ (old a b m t scope : List ℕ) (ea : a ≡ old ++ 0 ∷ 0 ∷ 0 ∷ 0 �
 
   pub scoped_put : (new : List ℕ) (start : ℕ) (r : Result (Unit {0}) Error) → start ≡ length old
       → ((before middle after : List ℕ) → m ≡ before ++ (middle ++ after) → length before ≡ start → length middle ≡ 4 → OnOk r (new ≡ before ++ (le32 (length after + 4) ++ after)))
-      → OnOk r (new ≡ old ++ scoped t scope)
-  unfolding scoped
+      → OnOk r (new ≡ old ++ scope_frame_of t scope)
+  unfolding scope_frame_of
   scoped_put new start r at puts = puts old (0 ∷ 0 ∷ 0 ∷ 0 ∷ []) (text_bytes t ++ scope) pieces (sym at) refl
 
   pub long_scoped : (start : ℕ) (r : Result (Unit {0}) Error) → start ≡ length old → IfErr r (λ e. IsBare MalformedValue e × (start + 2 ^ 31 ≤ length m))
-      → IfErr r (IsWriteRefusal (Unit {0} × (length (scoped t scope) < 2 ^ 31) → ⊥))
+      → IfErr r (IsWriteRefusal (Unit {0} × (length (scope_frame_of t scope) < 2 ^ 31) → ⊥))
   long_scoped start (Ok x) at h = tt
   long_scoped start (Err e) at h =
       let total : length m ≡ length old + length t + length scope + 9 = omega (arith, ap length pieces, length-append old ((0 ∷ 0 ∷ 0 ∷ 0 ∷ []) ++ (text_bytes t ++ scope)), length-append (text_bytes t) scope, text_length t) in
-      bare_refusal (Unit {0} × (length (scoped t scope) < 2 ^ 31) → ⊥) e h.0 (λ can. omega (arith, h.1, can.1, total, scoped_length t scope, at))
+      bare_refusal (Unit {0} × (length (scope_frame_of t scope) < 2 ^ 31) → ⊥) e h.0 (λ can. omega (arith, h.1, can.1, total, scoped_length t scope, at))
 
-pub long_code : (t scope : List ℕ) (e : Error) → IsWriteRefusal (2 ^ 31 ≤ length t + 5) e → IsWriteRefusal (Unit {0} × (length (scoped t scope) < 2 ^ 31) → ⊥) e
-long_code t scope e h = refusal_for (2 ^ 31 ≤ length t + 5) (Unit {0} × (length (scoped t scope) < 2 ^ 31) → ⊥) e (λ long can. omega (arith, long, can.1, scoped_length t scope)) h
+pub long_code : (t scope : List ℕ) (e : Error) → IsWriteRefusal (2 ^ 31 ≤ length t + 5) e → IsWriteRefusal (Unit {0} × (length (scope_frame_of t scope) < 2 ^ 31) → ⊥) e
+long_code t scope e h = refusal_for (2 ^ 31 ≤ length t + 5) (Unit {0} × (length (scope_frame_of t scope) < 2 ^ 31) → ⊥) e (λ long can. omega (arith, long, can.1, scoped_length t scope)) h
 
 -- ---- a document's parts
 
@@ -133,7 +133,7 @@ closed_length old four body more e len = omega (arith, ap length e, length-appen
 pub with_element_length : (old key : List ℕ) (v : RawValue) → IsEnvelope old → length (with_element old (element_for key v)) ≡ length old + length key + length (raw_payload v) + 2
 with_element_length old key v env =
     let e = element_bytes (element_for key v) in
-    omega (arith, framed_length (body_of old ++ e), length-append (body_of old) e, length-append (ended key) (raw_payload v), ended_length key, body_length old env)
+    omega (arith, framed_length (body_of old ++ e), length-append (body_of old) e, length-append (cstring_of key) (raw_payload v), ended_length key, body_length old env)
 
 pub can_write : (old key : List ℕ) (v : RawValue) → IsEnvelope old → CanTake old key v → CanWrite v
 can_write old key v env c = (c.value_plain, omega (arith, c.fits, with_element_length old key v env))
@@ -141,16 +141,16 @@ can_write old key v env c = (c.value_plain, omega (arith, c.fits, with_element_l
 module _ (old key : List ℕ) (v : RawValue) (env : IsEnvelope old) where
   -- what stands behind the tag
   abbrev pub rest_of : List ℕ
-  rest_of = ended key ++ (raw_payload v ++ 0 ∷ [])
+  rest_of = cstring_of key ++ (raw_payload v ++ 0 ∷ [])
 
   rest_length : length rest_of ≡ length key + length (raw_payload v) + 2
-  rest_length = omega (arith, length-append (ended key) (raw_payload v ++ 0 ∷ []), length-append (raw_payload v) (0 ∷ []), ended_length key)
+  rest_length = omega (arith, length-append (cstring_of key) (raw_payload v ++ 0 ∷ []), length-append (raw_payload v) (0 ∷ []), ended_length key)
 
-  framed_with : (tag : ℕ) → le32 (length (body_of old) + length rest_of + 5) ++ (body_of old ++ tag ∷ rest_of) ≡ framed (body_of old ++ tag ∷ (ended key ++ raw_payload v))
-  unfolding framed
+  framed_with : (tag : ℕ) → le32 (length (body_of old) + length rest_of + 5) ++ (body_of old ++ tag ∷ rest_of) ≡ frame_of (body_of old ++ tag ∷ (cstring_of key ++ raw_payload v))
+  unfolding frame_of
   framed_with tag =
       let body : List ℕ = body_of old in
-      let k : List ℕ = ended key in
+      let k : List ℕ = cstring_of key in
       let p : List ℕ = raw_payload v in
       let elements : List ℕ = body ++ tag ∷ (k ++ p) in
       let size : length body + length rest_of + 5 ≡ length elements + 5 = omega (arith, length-append body (tag ∷ (k ++ p)), length-append k p, ended_length key, rest_length) in

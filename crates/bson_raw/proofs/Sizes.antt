@@ -6,7 +6,7 @@ use Rattle.bson_base.specs.declared.spec.ElementType.TheVariants as kinds
 use Rattle.bson_base.specs.declared.spec.BinarySubtype.{BinarySubtype}
 use Rattle.bson_base.specs.Tags.{subtype_byte}
 use Rattle.bson_base.specs.Value.{double, string, binary, undefined, object_id, boolean, date_time, null, regex, db_pointer, code, symbol, int32, timestamp, int64, decimal, max_key, min_key}
-use Rattle.bson_bytes.specs.Encode.{le32, ended, text_bytes, scoped, inner, scalar_bytes}
+use Rattle.bson_bytes.specs.Encode.{le32, cstring_of, text_bytes, scope_frame_of, inner, scalar_bytes}
 use Rattle.bson_frame.specs.Frame.{number, HasSize, IsTextSize, IsDocumentSize, IsBinarySize, IsCodeSize, IsRegexSize, IsPointerSize, IsCstring}
 use Rattle.bson_frame.specs.Payload.{IsEnvelope}
 use Rattle.bson_frame.proofs.Frames.{front_is_one}
@@ -119,8 +119,8 @@ binary_whole s bs lt =
     let n : number ((head ++ subtype_byte s ∷ i) ++ 0 ∷ []) ≡ length i = ap number (append_assoc head (subtype_byte s ∷ i) (0 ∷ [])) ∙ number_back (length i) ((subtype_byte s ∷ i) ++ 0 ∷ []) (omega (arith, size)) in
     record { declared = omega (arith, n, size); fits = omega (arith, n, size) }
 
-regex_whole : (p o : List ℕ) → IsCstring p → IsCstring o → IsRegexSize ((ended p ++ ended o) ++ 0 ∷ []) (length (ended p ++ ended o))
-unfolding ended
+regex_whole : (p o : List ℕ) → IsCstring p → IsCstring o → IsRegexSize ((cstring_of p ++ cstring_of o) ++ 0 ∷ []) (length (cstring_of p ++ cstring_of o))
+unfolding cstring_of
 regex_whole p o pattern options =
     let grouped : ((p ++ 0 ∷ []) ++ (o ++ 0 ∷ [])) ++ 0 ∷ [] ≡ p ++ 0 ∷ (o ++ 0 ∷ (0 ∷ [])) = simp append_assoc in
     record {
@@ -133,8 +133,8 @@ regex_whole p o pattern options =
       declared = omega (arith, length-append (p ++ 0 ∷ []) (o ++ 0 ∷ []), length-append p (0 ∷ []), length-append o (0 ∷ []));
     }
 
-scoped_whole : (t scope : List ℕ) → length (scoped t scope) < 2 ^ 31 → IsCodeSize (scoped t scope ++ 0 ∷ []) (length (scoped t scope))
-unfolding scoped
+scoped_whole : (t scope : List ℕ) → length (scope_frame_of t scope) < 2 ^ 31 → IsCodeSize (scope_frame_of t scope ++ 0 ∷ []) (length (scope_frame_of t scope))
+unfolding scope_frame_of
 scoped_whole t scope lt =
     let inside : List ℕ = text_bytes t ++ scope in
     let head : List ℕ = le32 (length inside + 4) in

@@ -3,7 +3,7 @@ use Rattle.std.specs.Prelude.{◌≡◌, ℕ, ◌-◌, ◌<◌, ◌≤◌, ◌^�
 use Rattle.bson_base.specs.declared.spec.ElementType.TheVariants as kinds
 use Rattle.bson_base.specs.Kinds.{HasNo00}
 use Rattle.bson_base.specs.Tags.{tag_byte}
-use Rattle.bson_bytes.specs.Encode.{ended, framed}
+use Rattle.bson_bytes.specs.Encode.{cstring_of, frame_of}
 use Rattle.bson_bytes.specs.Writing.{IsWriteRefusal}
 use Rattle.bson_frame.specs.declared.error.Error.{Error}
 use Rattle.bson_frame.specs.declared.error.ErrorKind.TheVariants.{OutOfMemory}
@@ -17,7 +17,7 @@ abbrev pub element_for : List ℕ → RawValue → Element
 element_for key v = record { tag = raw_kind v; key = key; payload = raw_payload v }
 
 abbrev pub element_bytes : Element → List ℕ
-element_bytes e = tag_byte e.tag ∷ (ended e.key ++ e.payload)
+element_bytes e = tag_byte e.tag ∷ (cstring_of e.key ++ e.payload)
 
 -- the bytes of a document's elements, without its length and its final 00
 abbrev pub body_of : List ℕ → List ℕ
@@ -25,7 +25,7 @@ body_of bytes = take (length bytes - 5) (drop 4 bytes)
 
 -- the element in front of the final 00, and the length corrected
 abbrev pub with_element : List ℕ → Element → List ℕ
-with_element bytes e = framed (body_of bytes ++ element_bytes e)
+with_element bytes e = frame_of (body_of bytes ++ element_bytes e)
 
 -- no 00 in the key, a pattern or options, and at most 2147483647 bytes afterwards
 pub record CanTake (bytes : List ℕ) (key : List ℕ) (v : RawValue) : Type 0 where

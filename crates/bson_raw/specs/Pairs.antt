@@ -9,6 +9,6 @@ abbrev pub raw_pair : String Global × RawBson → List ℕ × RawValue
 raw_pair p = (string_bytes p.0, own_value p.1)
 
 -- the values of an array from the place i on, under their places in decimal
-abbrev pub placed : ℕ → List RawBson → List (List ℕ × RawValue)
-placed i [] = []
-placed i (v ∷ values) = (decimal i, own_value v) ∷ placed (i + 1) values
+abbrev pub items_from : ℕ → List RawBson → List (List ℕ × RawValue)
+items_from i [] = []
+items_from i (v ∷ values) = (decimal i, own_value v) ∷ items_from (i + 1) values

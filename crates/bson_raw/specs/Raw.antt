@@ -6,11 +6,11 @@ use Rattle.bson_base.specs.declared.spec.BinarySubtype.{BinarySubtype}
 use Rattle.bson_base.specs.Scalars.{id_bytes, millis_of, decimal_bytes}
 use Rattle.bson_base.specs.Kinds.{IsPlainScalar}
 use Rattle.bson_base.specs.Value.{Scalar, double, string, binary, undefined, object_id, boolean, date_time, null, regex, db_pointer, code, symbol, int32, timestamp, int64, decimal, max_key, min_key, scalar_kind}
-use Rattle.bson_bytes.specs.Encode.{scalar_bytes, scoped}
+use Rattle.bson_bytes.specs.Encode.{scalar_bytes, scope_frame_of}
 use Rattle.bson_raw.specs.declared.bson_ref.RawBsonRef.{RawBsonRef}
-use Rattle.bson_raw.specs.declared.bson_ref.RawBsonRef.TheVariants as refs
+use Rattle.bson_raw.specs.declared.bson_ref.RawBsonRef.TheVariants as views
 use Rattle.bson_raw.specs.declared.bson.RawBson.{RawBson}
-use Rattle.bson_raw.specs.declared.bson.RawBson.TheVariants as owned
+use Rattle.bson_raw.specs.declared.bson.RawBson.TheVariants as raw
 use Rattle.bson_raw.specs.View.{bytes_of, array_bytes}
 use Rattle.bson_raw.specs.Buffer.{buffer_bytes, array_buffer_bytes}
 
@@ -32,7 +32,7 @@ abbrev pub raw_payload : RawValue → List ℕ
 raw_payload (leaf s) = scalar_bytes s
 raw_payload (array bs) = bs
 raw_payload (document bs) = bs
-raw_payload (scoped_code t bs) = scoped t bs
+raw_payload (scoped_code t bs) = scope_frame_of t bs
 
 -- no 00 in a pattern or in options; what stands inside was written before
 abbrev pub IsPlainRaw : RawValue → Type 0
@@ -43,51 +43,51 @@ IsPlainRaw (scoped_code t bs) = Unit {0}
 
 -- the value that is borrowed
 abbrev pub ref_value : RawBsonRef → RawValue
-ref_value (refs.Double x) = leaf (double x.0)
-ref_value (refs.String x) = leaf (string x.now)
-ref_value (refs.Array x) = array (array_bytes x)
-ref_value (refs.Document x) = document (bytes_of x)
-ref_value (refs.Boolean x) = leaf (boolean x)
-ref_value refs.Null = leaf null
-ref_value (refs.RegularExpression x) = leaf (regex x.pattern.now x.options.now)
-ref_value (refs.JavaScriptCode x) = leaf (code x.now)
-ref_value (refs.JavaScriptCodeWithScope x) = scoped_code x.code.now (bytes_of x.scope)
-ref_value (refs.Int32 x) = leaf (int32 x)
-ref_value (refs.Int64 x) = leaf (int64 x)
-ref_value (refs.Timestamp x) = leaf (timestamp x.time x.increment)
-ref_value (refs.Binary x) = leaf (binary x.subtype x.bytes.now)
-ref_value (refs.ObjectId x) = leaf (object_id (id_bytes x))
-ref_value (refs.DateTime x) = leaf (date_time (millis_of x))
-ref_value (refs.Symbol x) = leaf (symbol x.now)
-ref_value (refs.Decimal128 x) = leaf (decimal (decimal_bytes x))
-ref_value refs.Undefined = leaf undefined
-ref_value refs.MaxKey = leaf max_key
-ref_value refs.MinKey = leaf min_key
-ref_value (refs.DbPointer x) = leaf (db_pointer x.namespace.now (id_bytes x.id))
+ref_value (views.Double x) = leaf (double x.0)
+ref_value (views.String x) = leaf (string x.now)
+ref_value (views.Array x) = array (array_bytes x)
+ref_value (views.Document x) = document (bytes_of x)
+ref_value (views.Boolean x) = leaf (boolean x)
+ref_value views.Null = leaf null
+ref_value (views.RegularExpression x) = leaf (regex x.pattern.now x.options.now)
+ref_value (views.JavaScriptCode x) = leaf (code x.now)
+ref_value (views.JavaScriptCodeWithScope x) = scoped_code x.code.now (bytes_of x.scope)
+ref_value (views.Int32 x) = leaf (int32 x)
+ref_value (views.Int64 x) = leaf (int64 x)
+ref_value (views.Timestamp x) = leaf (timestamp x.time x.increment)
+ref_value (views.Binary x) = leaf (binary x.subtype x.bytes.now)
+ref_value (views.ObjectId x) = leaf (object_id (id_bytes x))
+ref_value (views.DateTime x) = leaf (date_time (millis_of x))
+ref_value (views.Symbol x) = leaf (symbol x.now)
+ref_value (views.Decimal128 x) = leaf (decimal (decimal_bytes x))
+ref_value views.Undefined = leaf undefined
+ref_value views.MaxKey = leaf max_key
+ref_value views.MinKey = leaf min_key
+ref_value (views.DbPointer x) = leaf (db_pointer x.namespace.now (id_bytes x.id))
 
 -- the value that is owned
 abbrev pub own_value : RawBson → RawValue
-own_value (owned.Double x) = leaf (double x.0)
-own_value (owned.String x) = leaf (string (string_bytes x))
-own_value (owned.Array x) = array (array_buffer_bytes x)
-own_value (owned.Document x) = document (buffer_bytes x)
-own_value (owned.Boolean x) = leaf (boolean x)
-own_value owned.Null = leaf null
-own_value (owned.RegularExpression x) = leaf (regex (string_bytes x.pattern) (string_bytes x.options))
-own_value (owned.JavaScriptCode x) = leaf (code (string_bytes x))
-own_value (owned.JavaScriptCodeWithScope x) = scoped_code (string_bytes x.code) (buffer_bytes x.scope)
-own_value (owned.Int32 x) = leaf (int32 x)
-own_value (owned.Int64 x) = leaf (int64 x)
-own_value (owned.Timestamp x) = leaf (timestamp x.time x.increment)
-own_value (owned.Binary x) = leaf (binary x.subtype x.bytes.items)
-own_value (owned.ObjectId x) = leaf (object_id (id_bytes x))
-own_value (owned.DateTime x) = leaf (date_time (millis_of x))
-own_value (owned.Symbol x) = leaf (symbol (string_bytes x))
-own_value (owned.Decimal128 x) = leaf (decimal (decimal_bytes x))
-own_value owned.Undefined = leaf undefined
-own_value owned.MaxKey = leaf max_key
-own_value owned.MinKey = leaf min_key
-own_value (owned.DbPointer x) = leaf (db_pointer (string_bytes x.namespace) (id_bytes x.id))
+own_value (raw.Double x) = leaf (double x.0)
+own_value (raw.String x) = leaf (string (string_bytes x))
+own_value (raw.Array x) = array (array_buffer_bytes x)
+own_value (raw.Document x) = document (buffer_bytes x)
+own_value (raw.Boolean x) = leaf (boolean x)
+own_value raw.Null = leaf null
+own_value (raw.RegularExpression x) = leaf (regex (string_bytes x.pattern) (string_bytes x.options))
+own_value (raw.JavaScriptCode x) = leaf (code (string_bytes x))
+own_value (raw.JavaScriptCodeWithScope x) = scoped_code (string_bytes x.code) (buffer_bytes x.scope)
+own_value (raw.Int32 x) = leaf (int32 x)
+own_value (raw.Int64 x) = leaf (int64 x)
+own_value (raw.Timestamp x) = leaf (timestamp x.time x.increment)
+own_value (raw.Binary x) = leaf (binary x.subtype x.bytes.items)
+own_value (raw.ObjectId x) = leaf (object_id (id_bytes x))
+own_value (raw.DateTime x) = leaf (date_time (millis_of x))
+own_value (raw.Symbol x) = leaf (symbol (string_bytes x))
+own_value (raw.Decimal128 x) = leaf (decimal (decimal_bytes x))
+own_value raw.Undefined = leaf undefined
+own_value raw.MaxKey = leaf max_key
+own_value raw.MinKey = leaf min_key
+own_value (raw.DbPointer x) = leaf (db_pointer (string_bytes x.namespace) (id_bytes x.id))
 
 -- ---- the value, if it is of this kind
 

@@ -16,7 +16,7 @@ use Rattle.bson_raw.specs.Raw.{RawValue, leaf, array, document, scoped_code, raw
 use Rattle.bson_raw.specs.declared.document.RawDocument.{RawDocument}
 use Rattle.bson_raw.specs.declared.array.RawArray.{RawArray}
 use Rattle.bson_raw.specs.declared.bson_ref.RawBsonRef.{RawBsonRef}
-use Rattle.bson_raw.specs.declared.bson_ref.RawBsonRef.TheVariants as values
+use Rattle.bson_raw.specs.declared.bson_ref.RawBsonRef.TheVariants as views
 use Rattle.bson_raw.specs.declared.bson_ref.RawBinaryRef.{RawBinaryRef}
 use Rattle.bson_raw.specs.declared.bson_ref.RawRegexRef.{RawRegexRef}
 use Rattle.bson_raw.specs.declared.bson_ref.RawDbPointerRef.{RawDbPointerRef}
@@ -51,69 +51,69 @@ ReadsElement e result = MatchResult result (IsValue e.tag e.payload)
 -- ---- the value, if it is of this kind
 
 abbrev pub as_f64 : RawBsonRef → Option DoubleBits
-as_f64 (values.Double x) = Some x
+as_f64 (views.Double x) = Some x
 as_f64 v = None
 
 abbrev pub as_str : RawBsonRef → Option (Bor (List ℕ))
-as_str (values.String x) = Some x
+as_str (views.String x) = Some x
 as_str v = None
 
 abbrev pub as_array : RawBsonRef → Option RawArray
-as_array (values.Array x) = Some x
+as_array (views.Array x) = Some x
 as_array v = None
 
 abbrev pub as_document : RawBsonRef → Option RawDocument
-as_document (values.Document x) = Some x
+as_document (views.Document x) = Some x
 as_document v = None
 
 abbrev pub as_bool : RawBsonRef → Option Bool
-as_bool (values.Boolean x) = Some x
+as_bool (views.Boolean x) = Some x
 as_bool v = None
 
 abbrev pub as_i32 : RawBsonRef → Option ℤ
-as_i32 (values.Int32 x) = Some x
+as_i32 (views.Int32 x) = Some x
 as_i32 v = None
 
 abbrev pub as_i64 : RawBsonRef → Option ℤ
-as_i64 (values.Int64 x) = Some x
+as_i64 (views.Int64 x) = Some x
 as_i64 v = None
 
 abbrev pub as_object_id : RawBsonRef → Option ObjectId
-as_object_id (values.ObjectId x) = Some x
+as_object_id (views.ObjectId x) = Some x
 as_object_id v = None
 
 abbrev pub as_binary : RawBsonRef → Option RawBinaryRef
-as_binary (values.Binary x) = Some x
+as_binary (views.Binary x) = Some x
 as_binary v = None
 
 abbrev pub as_regex : RawBsonRef → Option RawRegexRef
-as_regex (values.RegularExpression x) = Some x
+as_regex (views.RegularExpression x) = Some x
 as_regex v = None
 
 abbrev pub as_datetime : RawBsonRef → Option DateTime
-as_datetime (values.DateTime x) = Some x
+as_datetime (views.DateTime x) = Some x
 as_datetime v = None
 
 abbrev pub as_symbol : RawBsonRef → Option (Bor (List ℕ))
-as_symbol (values.Symbol x) = Some x
+as_symbol (views.Symbol x) = Some x
 as_symbol v = None
 
 abbrev pub as_timestamp : RawBsonRef → Option Timestamp
-as_timestamp (values.Timestamp x) = Some x
+as_timestamp (views.Timestamp x) = Some x
 as_timestamp v = None
 
 abbrev pub as_null : RawBsonRef → Option (Unit {0})
-as_null values.Null = Some tt
+as_null views.Null = Some tt
 as_null v = None
 
 abbrev pub as_db_pointer : RawBsonRef → Option RawDbPointerRef
-as_db_pointer (values.DbPointer x) = Some x
+as_db_pointer (views.DbPointer x) = Some x
 as_db_pointer v = None
 
 abbrev pub as_javascript : RawBsonRef → Option (Bor (List ℕ))
-as_javascript (values.JavaScriptCode x) = Some x
+as_javascript (views.JavaScriptCode x) = Some x
 as_javascript v = None
 
 abbrev pub as_javascript_with_scope : RawBsonRef → Option RawJavaScriptCodeWithScopeRef
-as_javascript_with_scope (values.JavaScriptCodeWithScope x) = Some x
+as_javascript_with_scope (views.JavaScriptCodeWithScope x) = Some x
 as_javascript_with_scope v = None

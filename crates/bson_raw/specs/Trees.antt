@@ -4,7 +4,7 @@ use Rattle.std.specs.Io.KnownBytes.{Appends}
 use Rattle.bson_base.specs.Device.{Tally, TakesBeginning}
 use Rattle.bson_base.specs.Value as values
 use Rattle.bson_base.specs.Value.{Value, Members}
-use Rattle.bson_bytes.specs.Encode.{framed, items_bytes, encode}
+use Rattle.bson_bytes.specs.Encode.{frame_of, items_bytes, encode}
 use Rattle.bson_bytes.specs.Writing.{CanBeWritten}
 use Rattle.bson_frame.specs.declared.error.Error.{Error}
 use Rattle.bson_frame.specs.declared.error.ErrorKind.TheVariants.{MalformedValue}
@@ -19,7 +19,7 @@ use Rattle.bson_raw.specs.Raw.{RawValue, leaf, array, document, scoped_code, own
 -- the tree with what stands inside written
 abbrev pub raw_of : Value → RawValue
 raw_of (values.scalar s) = leaf s
-raw_of (values.array vs) = array (framed (items_bytes 0 vs))
+raw_of (values.array vs) = array (frame_of (items_bytes 0 vs))
 raw_of (values.document ms) = document (encode ms)
 raw_of (values.scoped_code t ms) = scoped_code t (encode ms)
 

@@ -3,7 +3,7 @@
 ghost use Rattle.std.specs.Prelude.{◌≡◌, ◌+◌, ◌<◌, ◌≤◌, ◌^◌, ◌++◌, ◌∷◌, [], List, ℕ, length, OnOk, OnErr, IfErr};
 ghost use Rattle.bson_base.specs.Kinds.{HasNo00};
 ghost use Rattle.bson_base.specs.Tags.{tag_byte};
-ghost use Rattle.bson_bytes.specs.Encode.{ended};
+ghost use Rattle.bson_bytes.specs.Encode.{cstring_of};
 ghost use Rattle.bson_bytes.specs.Writing.{IsWriteRefusal, StartsWith};
 ghost use Rattle.bson_frame.specs.Payload.{IsEnvelope};
 ghost use Rattle.bson_raw.specs.Append.{AppendsElement, Gains, element_for};
@@ -66,7 +66,7 @@ fn write_payload(value: RawBsonRef<'_>, out: &mut Vec<u8>) -> Result<()>
 
 /// Appends an element without its tag, and the document's final 00.
 fn write_rest(key: &str, value: RawBsonRef<'_>, out: &mut Vec<u8>) -> Result<()>
-    ensures ok { OnOk result (out.new.items ≡ out.old.items ++ (ended key.now ++ (raw_payload (ref_value value.entry) ++ 0 ∷ []))) }
+    ensures ok { OnOk result (out.new.items ≡ out.old.items ++ (cstring_of key.now ++ (raw_payload (ref_value value.entry) ++ 0 ∷ []))) }
     ensures plain { OnOk result (HasNo00 key.now × IsPlainRaw (ref_value value.entry)) }
     ensures formed { OnOk result (IsFormed (ref_value value.entry)) }
     ensures refused { IfErr result (IsWriteRefusal (HasNo00 key.now → CanWrite (ref_value value.entry) → ⊥)) }
@@ -79,7 +79,7 @@ fn write_rest(key: &str, value: RawBsonRef<'_>, out: &mut Vec<u8>) -> Result<()>
 
 /// Makes a document of one to which an element without its tag was appended: the tag takes the place of the old final 00. If
 /// that is too long, cuts it down to the old one.
-fn close(bytes: &mut Vec<u8>, end: usize, tag: u8) -> Result<()>
+fn finish_append(bytes: &mut Vec<u8>, end: usize, tag: u8) -> Result<()>
     requires some { 5 ≤ end }
     requires within { end ≤ length bytes.old.items }
     ensures ok { (four body more : List ℕ) → bytes.old.items ≡ four ++ ((body ++ 0 ∷ []) ++ more) → length four ≡ 4 → length body + 5 ≡ end
@@ -106,7 +106,7 @@ pub(crate) fn append_to(bytes: &mut Vec<u8>, key: &str, value: RawBsonRef<'_>) -
 {
     let end = bytes.len();
     match write_rest(key, value, bytes) {
-        Ok(()) => close(bytes, end, value.element_type().tag()),
+        Ok(()) => finish_append(bytes, end, value.element_type().tag()),
         Err(e) => {
             bytes.truncate(end);
             Err(e)

@@ -32,7 +32,7 @@ impl<'a> RawArray<'a> {
     ghost use Rattle.bson_raw.specs.ReadValue.{as_f64, as_str, as_document, as_array, as_binary, as_object_id, as_bool, as_datetime, as_regex, as_timestamp, as_i32, as_i64};
     ghost use Rattle.bson_raw.specs.View.{array_bytes, values_left};
     ghost use Rattle.bson_raw.specs.Walk.{IsDocumentWalk, YieldsWalk, IsFound, found_at};
-    ghost use Rattle.bson_raw.specs.declared.bson_ref.RawBsonRef.{RawBsonRef as Value};
+    ghost use Rattle.bson_raw.specs.declared.bson_ref.RawBsonRef.{RawBsonRef as AnyValue};
 
     /// The bytes.
     pub fn as_bytes(self) -> &'a [u8]
@@ -52,7 +52,7 @@ impl<'a> RawArray<'a> {
     /// payload fault alone; where it finds none, want of memory stands in its place and the walk goes on.
     pub fn iter(self, alloc: Global) -> RawArrayIter<'a>
         ensures start { values_left result ≡ Some (drop 4 (array_bytes self.entry)) }
-        ensures walk { (items : List (Result Value Fault)) → Drains value_steps result items
+        ensures walk { (items : List (Result AnyValue Fault)) → Drains value_steps result items
             → YieldsWalk IsItemRead (array_bytes self.entry) items }
     {
         RawArrayIter {

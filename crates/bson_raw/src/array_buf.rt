@@ -28,12 +28,12 @@ pub struct RawArrayBuf {
 impl RawArrayBuf {
     ghost use Rattle.bson_raw.specs.Append.{AppendsElement, Builds, Gains, element_for};
     ghost use Rattle.bson_raw.specs.Buffer.{array_buffer_bytes, next_place};
-    ghost use Rattle.bson_raw.specs.Pairs.{placed};
+    ghost use Rattle.bson_raw.specs.Pairs.{items_from};
     ghost use Rattle.bson_raw.specs.Raw.{own_value};
     ghost use Rattle.bson_raw.specs.Read.{IsItemRead, value_steps};
     ghost use Rattle.bson_raw.specs.View.{array_bytes, values_left};
     ghost use Rattle.bson_raw.specs.Walk.{YieldsWalk};
-    ghost use Rattle.bson_raw.specs.declared.bson_ref.RawBsonRef.{RawBsonRef as Value};
+    ghost use Rattle.bson_raw.specs.declared.bson_ref.RawBsonRef.{RawBsonRef as AnyValue};
 
     /// The empty array. The buffer takes all its memory from `alloc`. The error is a refused growth.
     pub fn new(alloc: Global) -> Result<RawArrayBuf, AllocError>
@@ -64,7 +64,7 @@ impl RawArrayBuf {
     /// The first refusal ends it and is answered: `MalformedValue`, under no key, where a 00 stands in a pattern or options,
     /// and where the array would be over 2147483647 bytes; `OutOfMemory` where a growth is refused.
     pub fn from_iter(alloc: Global, values: Vec<RawBson>) -> Result<RawArrayBuf, Error>
-        ensures bytes { Builds array_buffer_bytes (placed 0 values.items) result }
+        ensures bytes { Builds array_buffer_bytes (items_from 0 values.items) result }
         ensures place { IfOk result (λ a. next_place a ≡ length values.items) }
     {
         let mut array = RawArrayBuf::new(alloc)?;
@@ -107,7 +107,7 @@ impl RawArrayBuf {
     /// payload fault alone; where it finds none, want of memory stands in its place and the walk goes on.
     pub fn iter(&self) -> RawArrayIter<'_>
         ensures start { values_left result ≡ Some (drop 4 (array_buffer_bytes self.now)) }
-        ensures walk { (items : List (Result Value Fault)) → Drains value_steps result items
+        ensures walk { (items : List (Result AnyValue Fault)) → Drains value_steps result items
             → YieldsWalk IsItemRead (array_buffer_bytes self.now) items }
     {
         self.as_ref().iter(*self.document.bytes.allocator())

@@ -36,7 +36,7 @@ impl<'a> RawDocument<'a> {
     ghost use Rattle.bson_raw.specs.ReadValue.{as_f64, as_str, as_document, as_array, as_binary, as_object_id, as_bool, as_datetime, as_regex, as_timestamp, as_i32, as_i64};
     ghost use Rattle.bson_raw.specs.View.{bytes_of, left_of, pairs_left};
     ghost use Rattle.bson_raw.specs.Walk.{IsDocumentWalk, YieldsWalk, IsItem, IsFound, found_under, raw_steps};
-    ghost use Rattle.bson_raw.specs.declared.bson_ref.RawBsonRef.{RawBsonRef as Value};
+    ghost use Rattle.bson_raw.specs.declared.bson_ref.RawBsonRef.{RawBsonRef as AnyValue};
     ghost use Rattle.bson_raw.specs.declared.element.RawElement.{RawElement as Item};
     ghost use Rattle.std.specs.Borrow.{Bor};
     ghost use Rattle.std.specs.Prelude.{ℕ};
@@ -82,7 +82,7 @@ impl<'a> RawDocument<'a> {
     /// of a payload fault alone; where it finds none, want of memory stands in its place and the walk goes on.
     pub fn iter(self, alloc: Global) -> Iter<'a>
         ensures start { pairs_left result ≡ Some (drop 4 (bytes_of self.entry)) }
-        ensures walk { (items : List (Result (Bor (List ℕ) × Value) Fault)) → Drains pair_steps result items
+        ensures walk { (items : List (Result (Bor (List ℕ) × AnyValue) Fault)) → Drains pair_steps result items
             → YieldsWalk IsPairRead (bytes_of self.entry) items }
     {
         Iter {

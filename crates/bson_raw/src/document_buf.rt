@@ -32,7 +32,7 @@ impl RawDocumentBuf {
     ghost use Rattle.bson_raw.specs.Read.{IsPairRead, pair_steps};
     ghost use Rattle.bson_raw.specs.View.{bytes_of, left_of, pairs_left};
     ghost use Rattle.bson_raw.specs.Walk.{YieldsWalk, IsItem, raw_steps};
-    ghost use Rattle.bson_raw.specs.declared.bson_ref.RawBsonRef.{RawBsonRef as Value};
+    ghost use Rattle.bson_raw.specs.declared.bson_ref.RawBsonRef.{RawBsonRef as AnyValue};
     ghost use Rattle.bson_raw.specs.declared.element.RawElement.{RawElement as Item};
     ghost use Rattle.std.specs.Borrow.{Bor};
     ghost use Rattle.std.specs.Prelude.{ℕ};
@@ -124,7 +124,7 @@ impl RawDocumentBuf {
     /// of a payload fault alone; where it finds none, want of memory stands in its place and the walk goes on.
     pub fn iter(&self) -> Iter<'_>
         ensures start { pairs_left result ≡ Some (drop 4 (buffer_bytes self.now)) }
-        ensures walk { (items : List (Result (Bor (List ℕ) × Value) Fault)) → Drains pair_steps result items
+        ensures walk { (items : List (Result (Bor (List ℕ) × AnyValue) Fault)) → Drains pair_steps result items
             → YieldsWalk IsPairRead (buffer_bytes self.now) items }
     {
         self.as_ref().iter(*self.bytes.allocator())

@@ -7,7 +7,7 @@ ghost use Rattle.bson_frame.specs.View.{IsFaultUnder};
 use crate::bson_ref::RawBsonRef;
 use crate::convert::tree_of;
 use crate::decode::value_of;
-use crate::laws::payload_of_an_element;
+use crate::laws;
 use bson_base::ElementType;
 use bson_frame::{Error, ErrorKind, Frame};
 use bson_model::{Bson, STACK_LEVELS};
@@ -51,7 +51,7 @@ impl<'a> RawElement<'a> {
     pub fn value_or_kind(&self) -> Result<RawBsonRef<'a>, ErrorKind>
         ensures { IsDecoded (parts_of self.now).tag (parts_of self.now).payload result }
     {
-        payload_of_an_element(self);
+        laws::payload_of_an_element(self);
         value_of(self.frame.tag, self.frame.payload)
     }
 

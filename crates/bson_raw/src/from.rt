@@ -1,7 +1,7 @@
 //! Conversions into values that borrow their bytes.
 
 ghost use Rattle.std.specs.Prelude.{◌≡◌};
-ghost use Rattle.bson_raw.specs.declared.bson_ref.RawBsonRef.TheVariants as values;
+ghost use Rattle.bson_raw.specs.declared.bson_ref.RawBsonRef.TheVariants as views;
 
 use crate::array::RawArray;
 use crate::array_buf::RawArrayBuf;
@@ -11,7 +11,7 @@ use crate::document_buf::RawDocumentBuf;
 use bson_base::{DateTime, Decimal128, DoubleBits, ObjectId, Timestamp};
 
 impl<'a> From<&'a str> for RawBsonRef<'a> {
-    ghost from_gives = { λ value result. result ≡ values.String value };
+    ghost from_gives = { λ value result. result ≡ views.String value };
 
     fn from(value: &'a str) -> RawBsonRef<'a> {
         RawBsonRef::String(value)
@@ -19,7 +19,7 @@ impl<'a> From<&'a str> for RawBsonRef<'a> {
 }
 
 impl<'a> From<i32> for RawBsonRef<'a> {
-    ghost from_gives = { λ value result. result ≡ values.Int32 value };
+    ghost from_gives = { λ value result. result ≡ views.Int32 value };
 
     fn from(value: i32) -> RawBsonRef<'a> {
         RawBsonRef::Int32(value)
@@ -27,7 +27,7 @@ impl<'a> From<i32> for RawBsonRef<'a> {
 }
 
 impl<'a> From<i64> for RawBsonRef<'a> {
-    ghost from_gives = { λ value result. result ≡ values.Int64 value };
+    ghost from_gives = { λ value result. result ≡ views.Int64 value };
 
     fn from(value: i64) -> RawBsonRef<'a> {
         RawBsonRef::Int64(value)
@@ -35,7 +35,7 @@ impl<'a> From<i64> for RawBsonRef<'a> {
 }
 
 impl<'a> From<DoubleBits> for RawBsonRef<'a> {
-    ghost from_gives = { λ value result. result ≡ values.Double value };
+    ghost from_gives = { λ value result. result ≡ views.Double value };
 
     fn from(value: DoubleBits) -> RawBsonRef<'a> {
         RawBsonRef::Double(value)
@@ -43,7 +43,7 @@ impl<'a> From<DoubleBits> for RawBsonRef<'a> {
 }
 
 impl<'a> From<bool> for RawBsonRef<'a> {
-    ghost from_gives = { λ value result. result ≡ values.Boolean value };
+    ghost from_gives = { λ value result. result ≡ views.Boolean value };
 
     fn from(value: bool) -> RawBsonRef<'a> {
         RawBsonRef::Boolean(value)
@@ -51,7 +51,7 @@ impl<'a> From<bool> for RawBsonRef<'a> {
 }
 
 impl<'a> From<RawDocument<'a>> for RawBsonRef<'a> {
-    ghost from_gives = { λ value result. result ≡ values.Document value };
+    ghost from_gives = { λ value result. result ≡ views.Document value };
 
     fn from(value: RawDocument<'a>) -> RawBsonRef<'a> {
         RawBsonRef::Document(value)
@@ -59,7 +59,7 @@ impl<'a> From<RawDocument<'a>> for RawBsonRef<'a> {
 }
 
 impl<'a> From<RawArray<'a>> for RawBsonRef<'a> {
-    ghost from_gives = { λ value result. result ≡ values.Array value };
+    ghost from_gives = { λ value result. result ≡ views.Array value };
 
     fn from(value: RawArray<'a>) -> RawBsonRef<'a> {
         RawBsonRef::Array(value)
@@ -89,7 +89,7 @@ impl<'a> From<&'a RawArrayBuf> for RawBsonRef<'a> {
 }
 
 impl<'a> From<DateTime> for RawBsonRef<'a> {
-    ghost from_gives = { λ value result. result ≡ values.DateTime value };
+    ghost from_gives = { λ value result. result ≡ views.DateTime value };
 
     fn from(value: DateTime) -> RawBsonRef<'a> {
         RawBsonRef::DateTime(value)
@@ -97,7 +97,7 @@ impl<'a> From<DateTime> for RawBsonRef<'a> {
 }
 
 impl<'a> From<Timestamp> for RawBsonRef<'a> {
-    ghost from_gives = { λ value result. result ≡ values.Timestamp value };
+    ghost from_gives = { λ value result. result ≡ views.Timestamp value };
 
     fn from(value: Timestamp) -> RawBsonRef<'a> {
         RawBsonRef::Timestamp(value)
@@ -105,7 +105,7 @@ impl<'a> From<Timestamp> for RawBsonRef<'a> {
 }
 
 impl<'a> From<ObjectId> for RawBsonRef<'a> {
-    ghost from_gives = { λ value result. result ≡ values.ObjectId value };
+    ghost from_gives = { λ value result. result ≡ views.ObjectId value };
 
     fn from(value: ObjectId) -> RawBsonRef<'a> {
         RawBsonRef::ObjectId(value)
@@ -113,7 +113,7 @@ impl<'a> From<ObjectId> for RawBsonRef<'a> {
 }
 
 impl<'a> From<Decimal128> for RawBsonRef<'a> {
-    ghost from_gives = { λ value result. result ≡ values.Decimal128 value };
+    ghost from_gives = { λ value result. result ≡ views.Decimal128 value };
 
     fn from(value: Decimal128) -> RawBsonRef<'a> {
         RawBsonRef::Decimal128(value)
@@ -121,7 +121,7 @@ impl<'a> From<Decimal128> for RawBsonRef<'a> {
 }
 
 impl<'a> From<RawBinaryRef<'a>> for RawBsonRef<'a> {
-    ghost from_gives = { λ value result. result ≡ values.Binary value };
+    ghost from_gives = { λ value result. result ≡ views.Binary value };
 
     fn from(value: RawBinaryRef<'a>) -> RawBsonRef<'a> {
         RawBsonRef::Binary(value)
@@ -129,7 +129,7 @@ impl<'a> From<RawBinaryRef<'a>> for RawBsonRef<'a> {
 }
 
 impl<'a> From<RawRegexRef<'a>> for RawBsonRef<'a> {
-    ghost from_gives = { λ value result. result ≡ values.RegularExpression value };
+    ghost from_gives = { λ value result. result ≡ views.RegularExpression value };
 
     fn from(value: RawRegexRef<'a>) -> RawBsonRef<'a> {
         RawBsonRef::RegularExpression(value)
@@ -137,7 +137,7 @@ impl<'a> From<RawRegexRef<'a>> for RawBsonRef<'a> {
 }
 
 impl<'a> From<RawJavaScriptCodeWithScopeRef<'a>> for RawBsonRef<'a> {
-    ghost from_gives = { λ value result. result ≡ values.JavaScriptCodeWithScope value };
+    ghost from_gives = { λ value result. result ≡ views.JavaScriptCodeWithScope value };
 
     fn from(value: RawJavaScriptCodeWithScopeRef<'a>) -> RawBsonRef<'a> {
         RawBsonRef::JavaScriptCodeWithScope(value)

@@ -11,7 +11,7 @@ ghost use Rattle.bson_raw.specs.View.{left_of, pairs_left, parts_of, values_left
 ghost use Rattle.bson_raw.specs.Convert.{HasFault};
 ghost use Rattle.bson_raw.specs.Read.{pair_steps, value_steps};
 ghost use Rattle.bson_raw.specs.declared.array_iter.RawArrayIter.{RawArrayIter as Values};
-ghost use Rattle.bson_raw.specs.declared.bson_ref.RawBsonRef.{RawBsonRef as Value};
+ghost use Rattle.bson_raw.specs.declared.bson_ref.RawBsonRef.{RawBsonRef as AnyValue};
 ghost use Rattle.bson_raw.specs.declared.element.RawElement.{RawElement as Item};
 ghost use Rattle.bson_raw.specs.declared.iter.Iter.{Iter as Pairs};
 ghost use Rattle.bson_raw.specs.declared.raw_iter.RawIter.{RawIter as Elements};
@@ -70,13 +70,13 @@ pub fn raw_iter_ends()
 
 /// The iterator over keys and values ends.
 pub fn iter_ends()
-    ensures { (s t : Pairs) (items : List (Result (Bor (List ℕ) × Value) Fault)) → Yields pair_steps s items t
+    ensures { (s t : Pairs) (items : List (Result (Bor (List ℕ) × AnyValue) Fault)) → Yields pair_steps s items t
         → length items ≤ items_left (pairs_left s) }
 {}
 
 /// The iterator over the values of an array ends.
 pub fn array_iter_ends()
-    ensures { (s t : Values) (items : List (Result Value Fault)) → Yields value_steps s items t
+    ensures { (s t : Values) (items : List (Result AnyValue Fault)) → Yields value_steps s items t
         → length items ≤ items_left (values_left s) }
 {}
 

@@ -8,7 +8,7 @@ use std::alloc::Global;
 use std::io;
 use store_files::open;
 use store_session::serve;
-use store_words::{Complaint, write_complaint, write_refusal};
+use store_words::{UsageError, write_complaint, write_refusal};
 
 /// Tells a refusal, and answers the status of one.
 fn refuse<F: Sink>(faults: &mut F, kind: ErrorKind) -> u8
@@ -22,7 +22,7 @@ fn refuse<F: Sink>(faults: &mut F, kind: ErrorKind) -> u8
 pub fn misuse<F: Sink>(faults: &mut F) -> u8
     requires { (F.tally faults.old).failures < 2 ^ 64 - 1 }
 {
-    let _ = write_complaint(faults, Complaint::Usage);
+    let _ = write_complaint(faults, UsageError::Usage);
     2
 }
 

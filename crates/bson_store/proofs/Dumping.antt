@@ -7,21 +7,21 @@ use Rattle.sqlite.specs.State.{State}
 use Rattle.bson_base.specs.Value.{Members}
 use Rattle.bson_bytes.specs.Encode.{encode}
 use Rattle.bson_model.specs.declared.extjson.ser.Mode.TheVariants.{Canonical}
-use Rattle.bson_table.specs.Rows.{Doc}
+use Rattle.bson_table.specs.Rows.{TableRow}
 use Rattle.bson_table.specs.Moves.{Moves, Visits}
 use Rattle.bson_table.specs.declared.fault.Fault.{Fault}
 use Rattle.bson_table.specs.declared.fault.Fault.TheVariants as faults
 use Rattle.store_laws.specs.Reading.{Documents}
-use Rattle.store_laws.specs.State.{on, dump, Answers, AreKept, IsKept, IsName, Reply, json_list, refused, tree_of, tree_first, trees_of, trees_reply}
+use Rattle.store_laws.specs.State.{on, dump, Answers, AreKept, IsKept, IsName, Reply, json_list, refused, json_of, tree_first, trees_of, trees_reply}
 use Rattle.store_laws.specs.Run.{IsDecided}
-use Rattle.store_laws.specs.Table.{Table, documents_of}
+use Rattle.store_laws.specs.Table.{DocumentTable, documents_of}
 use Rattle.store_laws.specs.declared.error.ErrorKind.{ErrorKind}
 use Rattle.store_laws.specs.declared.error.ErrorKind.TheVariants as kind
-use Rattle.bson_store.specs.Shown.{Show}
+use Rattle.bson_store.specs.Shown.{Represents}
 use Rattle.bson_store.specs.Calls.{Does}
 use Rattle.bson_store.specs.Dump.{AreFirstTrees, HandedOn, HandsOn, HandsTrees, Stops, TellsTree, TakesAll}
 use Rattle.bson_store.specs.Refusals.{IsDenied, kind_of_fault, refusal}
-use Rattle.bson_store.specs.declared.dump.Teller.{Teller}
+use Rattle.bson_store.specs.declared.dump.JsonVisitor.{JsonVisitor}
 use Rattle.bson_store.specs.declared.dump.Trees.{Trees}
 use Rattle.bson_store.specs.declared.error.StoreError.{StoreError}
 use Rattle.bson_store.proofs.Adding.{kept_there}
@@ -35,9 +35,9 @@ Told = Result (List Data) (ErrorKind × ℕ)
 -- ---- trees of documents, and of more behind them
 
 -- a document behind that has a tree
-pub trees_longer : (i : ℕ) (ds : Documents) (d : Members) (js : List Data) (j : Data) → trees_of i ds ≡ Ok js → tree_of Canonical d ≡ Ok j → trees_of i (ds ++ d ∷ []) ≡ Ok (js ++ j ∷ [])
+pub trees_longer : (i : ℕ) (ds : Documents) (d : Members) (js : List Data) (j : Data) → trees_of i ds ≡ Ok js → json_of Canonical d ≡ Ok j → trees_of i (ds ++ d ∷ []) ≡ Ok (js ++ j ∷ [])
 trees_longer i [] d js j h t = let none : [] ≡ js = cc in ap (λ x. tree_first i x (Ok [])) t ∙ ap (λ l. Ok (l ++ j ∷ [])) none
-trees_longer i (e ∷ ds) d js j h t = by (tree_of Canonical e) (trees_of (suc i) ds) refl h (λ xs k. trees_longer (suc i) ds d xs j k t)
+trees_longer i (e ∷ ds) d js j h t = by (json_of Canonical e) (trees_of (suc i) ds) refl h (λ xs k. trees_longer (suc i) ds d xs j k t)
   where
     by : (r : Result Data ErrorKind) (rest : Told) → trees_of (suc i) ds ≡ rest → tree_first i r rest ≡ Ok js → ((xs : List Data) → trees_of (suc i) ds ≡ Ok xs → trees_of (suc i) (ds ++ d ∷ []) ≡ Ok (xs ++ j ∷ []))
         → tree_first i r (trees_of (suc i) (ds ++ d ∷ [])) ≡ Ok (js ++ j ∷ [])
@@ -46,12 +46,12 @@ trees_longer i (e ∷ ds) d js j h t = by (tree_of Canonical e) (trees_of (suc i
     by (Err k) rest e h next = cc
 
 -- a document behind that has none
-pub trees_stop : (i : ℕ) (ds : Documents) (d : Members) (js : List Data) (k : ErrorKind) → trees_of i ds ≡ Ok js → tree_of Canonical d ≡ Err k → trees_of i (ds ++ d ∷ []) ≡ Err (k, i + length js)
+pub trees_stop : (i : ℕ) (ds : Documents) (d : Members) (js : List Data) (k : ErrorKind) → trees_of i ds ≡ Ok js → json_of Canonical d ≡ Err k → trees_of i (ds ++ d ∷ []) ≡ Err (k, i + length js)
 trees_stop i [] d js k h t =
     let none : [] ≡ js = cc in
     let at : i ≡ i + length js = omega (arith, ap (λ (l : List Data). length l) none) in
     ap (λ x. tree_first i x (Ok [])) t ∙ ap (λ n. Err (k, n)) at
-trees_stop i (e ∷ ds) d js k h t = by (tree_of Canonical e) (trees_of (suc i) ds) refl h (λ xs m. trees_stop (suc i) ds d xs k m t)
+trees_stop i (e ∷ ds) d js k h t = by (json_of Canonical e) (trees_of (suc i) ds) refl h (λ xs m. trees_stop (suc i) ds d xs k m t)
   where
     by : (r : Result Data ErrorKind) (rest : Told) → trees_of (suc i) ds ≡ rest → tree_first i r rest ≡ Ok js → ((xs : List Data) → trees_of (suc i) ds ≡ Ok xs → trees_of (suc i) (ds ++ d ∷ []) ≡ Err (k, suc i + length xs))
         → tree_first i r (trees_of (suc i) (ds ++ d ∷ [])) ≡ Err (k, i + length js)
@@ -65,7 +65,7 @@ trees_stop i (e ∷ ds) d js k h t = by (tree_of Canonical e) (trees_of (suc i) 
 -- once one has none, nothing behind it matters
 pub trees_stay : (i : ℕ) (ds more : Documents) (x : ErrorKind × ℕ) → trees_of i ds ≡ Err x → trees_of i (ds ++ more) ≡ Err x
 trees_stay i [] more x h = cc
-trees_stay i (e ∷ ds) more x h = by (tree_of Canonical e) (trees_of (suc i) ds) refl h (λ z k. trees_stay (suc i) ds more z k)
+trees_stay i (e ∷ ds) more x h = by (json_of Canonical e) (trees_of (suc i) ds) refl h (λ z k. trees_stay (suc i) ds more z k)
   where
     by : (r : Result Data ErrorKind) (rest : Told) → trees_of (suc i) ds ≡ rest → tree_first i r rest ≡ Err x → ((z : ErrorKind × ℕ) → trees_of (suc i) ds ≡ Err z → trees_of (suc i) (ds ++ more) ≡ Err z) → tree_first i r (trees_of (suc i) (ds ++ more)) ≡ Err x
     by (Ok y) (Ok ys) e h next = cc
@@ -148,7 +148,7 @@ handed_stays took refused_by i bodies body (Some e) some h ds kept is =
 
 -- the body's tree was taken
 pub handed_one : (old new : List Data → Type 0) (was refused_by : List Data → StoreError → Type 0) (i next : ℕ) (bodies : List (List ℕ)) (body : List ℕ) (o : Option StoreError) → is_some o ≡ false
-    → ((out : List Data) (d : Members) → IsKept d → body ≡ encode d → old out → HandsOn new refused_by out i (tree_of Canonical d) (Ok next)) → HandedOn old was i bodies o → HandedOn new refused_by next (bodies ++ body ∷ []) o
+    → ((out : List Data) (d : Members) → IsKept d → body ≡ encode d → old out → HandsOn new refused_by out i (json_of Canonical d) (Ok next)) → HandedOn old was i bodies o → HandedOn new refused_by next (bodies ++ body ∷ []) o
 handed_one old new was refused_by i next bodies body (Some e) none hands h ds kept is = absurd (cc)
 handed_one old new was refused_by i next bodies body None none hands h ds kept is =
     let p = last_of bodies body ds is in
@@ -159,7 +159,7 @@ handed_one old new was refused_by i next bodies body None none hands h ds kept i
 
 -- the body has no tree, or it is refused
 pub handed_none : (old new : List Data → Type 0) (was refused_by : List Data → StoreError → Type 0) (i next : ℕ) (bodies : List (List ℕ)) (body : List ℕ) (o : Option StoreError) (e : StoreError) → is_some o ≡ false
-    → ((out : List Data) (d : Members) → IsKept d → body ≡ encode d → old out → HandsOn new refused_by out i (tree_of Canonical d) (Err e)) → HandedOn old was i bodies o → HandedOn new refused_by next (bodies ++ body ∷ []) (Some e)
+    → ((out : List Data) (d : Members) → IsKept d → body ≡ encode d → old out → HandsOn new refused_by out i (json_of Canonical d) (Err e)) → HandedOn old was i bodies o → HandedOn new refused_by next (bodies ++ body ∷ []) (Some e)
 handed_none old new was refused_by i next bodies body (Some x) e none hands h ds kept is = absurd (cc)
 handed_none old new was refused_by i next bodies body None e none hands h ds kept is = by (hands t.0 p.d (kept_last p.front p.d k) p.last t.2.0)
   where
@@ -175,7 +175,7 @@ handed_none old new was refused_by i next bodies body None e none hands h ds kep
     first : AreFirstTrees t.0 ds
     first = (p.front, p.d ∷ [], p.split, t.1)
 
-    by : HandsOn new refused_by t.0 i (tree_of Canonical p.d) (Err e) → Stops new refused_by ds e
+    by : HandsOn new refused_by t.0 i (json_of Canonical p.d) (Err e) → Stops new refused_by ds e
     by (inl x) = (t.0, first, inl x)
     by (inr (took, inl x)) = (t.0, first, inr (took, inl x))
     by (inr (took, inr (x, tells, at))) = (
@@ -216,10 +216,10 @@ pub unnamed : {T : Type 0} (took : T → List Data → Type 0) (refused_by : T �
 unnamed took refused_by s n t e start bad is = rests s (HandsTrees took refused_by n (Err (e, t))) (λ docs. record { same = refl; handed = λ a _. inl (bad, is, start) })
 
 -- what a visitor has handed on since it was the first
-abbrev pub Took : {T : Type 0} → (T → T → List Data → Type 0) → (T → T → List Data → StoreError → Type 0) → Teller T → Teller T → List (List ℕ) → Type 0
+abbrev pub Took : {T : Type 0} → (T → T → List Data → Type 0) → (T → T → List Data → StoreError → Type 0) → JsonVisitor T → JsonVisitor T → List (List ℕ) → Type 0
 Took took refused_by first v bodies = HandedOn (took first.taker v.taker) (refused_by first.taker v.taker) v.place bodies v.refusal
 
-module _ {T : Type 0} (took : T → T → List Data → Type 0) (refused_by : T → T → List Data → StoreError → Type 0) (first last : Teller T) (n : List ℕ) (docs after : List Doc) (start : took first.taker first.taker []) (at : first.place ≡ 0) (fine : first.refusal ≡ None) (good : IsName n) where
+module _ {T : Type 0} (took : T → T → List Data → Type 0) (refused_by : T → T → List Data → StoreError → Type 0) (first last : JsonVisitor T) (n : List ℕ) (docs after : List TableRow) (start : took first.taker first.taker []) (at : first.place ≡ 0) (fine : first.refusal ≡ None) (good : IsName n) where
   starts : Took took refused_by first first []
   starts = subst (λ o. HandedOn (took first.taker first.taker) (refused_by first.taker first.taker) first.place [] o) (sym fine) (handed_nothing (took first.taker first.taker) (refused_by first.taker first.taker) first.place start at)
 
@@ -277,10 +277,10 @@ dumped_moves s t n v m =
     moved s t (HandsTrees HasTrees Denied n (Ok v)) (Does (on n dump) r) m
     (λ docs after h. rw h.same (λ a shown. let k = h.handed a shown in (a, shown, stay a n dump r k.0 (answered (documents_of a n) r (ap trees_reply k.1.1 ∙ ap json_list (sym k.1.2))))))
 
-undumped : (docs after : List Doc) (n : List ℕ) (e : StoreError) (v : Trees) → HandsTrees HasTrees Denied n (Err (e, v)) docs after → Does (on n dump) (refused e.kind e.document) docs docs
+undumped : (docs after : List TableRow) (n : List ℕ) (e : StoreError) (v : Trees) → HandsTrees HasTrees Denied n (Err (e, v)) docs after → Does (on n dump) (refused e.kind e.document) docs docs
 undumped docs after n e v h a s = by (h.handed a s)
   where
-    by : ((IsName n → ⊥) × (e ≡ refusal kind.BadName) × HasTrees v []) ⊎ (IsName n × Stops (HasTrees v) (Denied v) (documents_of a n) e) → (b : Table) × Show docs b × Rattle.store_laws.specs.Table.Serves a (on n dump) (refused e.kind e.document) b
+    by : ((IsName n → ⊥) × (e ≡ refusal kind.BadName) × HasTrees v []) ⊎ (IsName n × Stops (HasTrees v) (Denied v) (documents_of a n) e) → (b : DocumentTable) × Represents docs b × Rattle.store_laws.specs.Table.Serves a (on n dump) (refused e.kind e.document) b
     by (inl (bad, is, none)) = rw is (bad_name docs n dump bad a s)
     by (inr (good, (js, are, inl d))) = rw d.2 (denied docs (on n dump) d.0 d.1 (dump_open n good) a s)
     by (inr (good, (js, are, inr (took, inl d)))) = rw d.2 (denied docs (on n dump) d.0 d.1 (dump_open n good) a s)

@@ -9,17 +9,17 @@ use Rattle.std.specs.List.{flat_map}
 use Rattle.std.specs.Io.KnownBytes.{Appends}
 use Rattle.bson_base.specs.Device.{TakesBeginning, Tally}
 use Rattle.bson_bytes.specs.Encode.{encode}
-use Rattle.bson_table.specs.Rows.{Doc, is_in}
+use Rattle.bson_table.specs.Rows.{TableRow, is_in}
 use Rattle.bson_table.specs.Moves.{bodies_of, Visits}
 use Rattle.bson_table.specs.declared.fault.Fault.{Fault}
 use Rattle.bson_table.specs.declared.fault.Fault.TheVariants as faults
 use Rattle.store_laws.specs.Reading.{Documents}
 use Rattle.store_laws.specs.State.{list_of, IsName, on, export, bytes, refused}
-use Rattle.store_laws.specs.Table.{Table, state_of, documents_of}
+use Rattle.store_laws.specs.Table.{DocumentTable, state_of, documents_of}
 use Rattle.store_laws.specs.declared.error.ErrorKind.{ErrorKind}
 use Rattle.store_laws.specs.declared.error.ErrorKind.TheVariants as kind
 use Rattle.store_laws.proofs.Rows.{list_of-state_of}
-use Rattle.bson_store.specs.Shown.{AreRowsOf, Show}
+use Rattle.bson_store.specs.Shown.{AreRowsOf, Represents}
 use Rattle.bson_store.specs.Calls.{Does}
 use Rattle.bson_store.specs.Refusals.{refusal, kind_of_fault}
 use Rattle.bson_store.specs.Export.{ExportRefused, Exports, SendsCollection, Sent}
@@ -70,17 +70,17 @@ sent_some old mid new bodies b (none, before) one (n, begun) =
 
 -- ---- the bodies of a collection are its written documents
 
-pub bodies_are : (n : List ℕ) (a : Table) (docs : List Doc) → AreRowsOf a docs → bodies_of n docs ≡ map encode (documents_of a n)
+pub bodies_are : (n : List ℕ) (a : DocumentTable) (docs : List TableRow) → AreRowsOf a docs → bodies_of n docs ≡ map encode (documents_of a n)
 bodies_are n [] [] each = refl
 bodies_are n [] (d ∷ docs) each = absurd each
 bodies_are n (r ∷ rs) [] each = absurd each
 bodies_are n (r ∷ rs) (d ∷ docs) each = by (bytes_eq n r.name) refl (bytes_eq d.coll n) refl (bodies_are n rs docs each.1)
   where
-    body : Doc → List ℕ
+    body : TableRow → List ℕ
     body x = x.body
 
     by : (b : Bool) → bytes_eq n r.name ≡ b → (c : Bool) → bytes_eq d.coll n ≡ c → bodies_of n docs ≡ map encode (documents_of rs n)
-        → map (λ (x : Doc). x.body) (cond c (d ∷ filter (is_in n) docs) (filter (is_in n) docs)) ≡ map encode (cond b (r.document ∷ documents_of rs n) (documents_of rs n))
+        → map (λ (x : TableRow). x.body) (cond c (d ∷ filter (is_in n) docs) (filter (is_in n) docs)) ≡ map encode (cond b (r.document ∷ documents_of rs n) (documents_of rs n))
     by true e true i rest = ap (λ x. x ∷ bodies_of n docs) each.0.body ∙ ap (λ l. encode r.document ∷ l) rest
     by false e false i rest = rest
     by true e false i rest = let t : bytes_eq d.coll n ≡ true = rw (each.0.name, equal_keys n r.name e) (same_key r.name) in cc
@@ -90,12 +90,12 @@ flat_map_is : (ds : Documents) → flat (map encode ds) ≡ flat_map encode ds
 flat_map_is [] = refl
 flat_map_is (d ∷ ds) = ap (λ l. encode d ++ l) (flat_map_is ds)
 
-flat_written : (n : List ℕ) (docs : List Doc) (a : Table) → Show docs a → flat (bodies_of n docs) ≡ flat_map encode (list_of (state_of a) n)
+flat_written : (n : List ℕ) (docs : List TableRow) (a : DocumentTable) → Represents docs a → flat (bodies_of n docs) ≡ flat_map encode (list_of (state_of a) n)
 flat_written n docs a s = ap flat (bodies_are n a docs s.each) ∙ flat_map_is (documents_of a n) ∙ ap (flat_map encode) (sym (list_of-state_of a n))
 
 -- ---- exits
 
-pub sends_none : (docs : List Doc) (n : List ℕ) (t : Tally) → (IsName n → ⊥) → SendsCollection n t t (Err (refusal kind.BadName)) docs docs
+pub sends_none : (docs : List TableRow) (n : List ℕ) (t : Tally) → (IsName n → ⊥) → SendsCollection n t t (Err (refusal kind.BadName)) docs docs
 sends_none docs n t bad = record { same = refl; exports = λ a s. (refl, (bad, refl)) }
 
 -- A visitor of a collection's bodies, which has sent what it was handed. Its writer is known again by a name.
@@ -113,7 +113,7 @@ module _ {V N : Type 0} (tally : V → Tally) (failed : V → Bool) (name : V �
   out_by : (b : Bool) (bodies : List (List ℕ)) → failed last ≡ b → Took last bodies → Sent (tally first) new b bodies
   out_by b bodies is took = subst (λ t. Sent (tally first) t b bodies) (sym (back took.0)) (subst (λ x. Sent (tally first) (tally last) x bodies) is took.1)
 
-  pub writer_failed : (docs after : List Doc) (n : List ℕ) (r : Result Bool Fault) → IsName n → failed first ≡ false → failed last ≡ true → Visits Took first last n r docs after
+  pub writer_failed : (docs after : List TableRow) (n : List ℕ) (r : Result Bool Fault) → IsName n → failed first ≡ false → failed last ≡ true → Visits Took first last n r docs after
       → SendsCollection n (tally first) new (Err (refusal kind.Writer)) docs after
   writer_failed docs after n r good begins ends h =
       let (taken, rest, whole, took) = h.some (starts begins) in
@@ -122,7 +122,7 @@ module _ {V N : Type 0} (tally : V → Tally) (failed : V → Bool) (name : V �
       subst (TakesBeginning (tally first).taken new.taken) (sym (flat-append taken rest) ∙ ap flat whole) (begun_first (tally first).taken new.taken (flat taken) (flat rest) out.1) in
       record { same = h.same; exports = λ a s. (refl, (good, (out.0, subst (TakesBeginning (tally first).taken new.taken) (flat_written n docs a s) begun))) }
 
-  pub table_failed : (docs after : List Doc) (n : List ℕ) (x : Fault) → IsName n → failed first ≡ false → failed last ≡ false → Visits Took first last n (Err x) docs after
+  pub table_failed : (docs after : List TableRow) (n : List ℕ) (x : Fault) → IsName n → failed first ≡ false → failed last ≡ false → Visits Took first last n (Err x) docs after
       → SendsCollection n (tally first) new (Err (refusal (kind_of_fault x))) docs after
   table_failed docs after n x good begins ends h =
       let (taken, rest, whole, took) = h.some (starts begins) in
@@ -131,13 +131,13 @@ module _ {V N : Type 0} (tally : V → Tally) (failed : V → Bool) (name : V �
       subst (TakesBeginning (tally first).taken new.taken) (sym (flat-append taken rest) ∙ ap flat whole) (whole_begins (tally first).taken new.taken (flat taken) (flat rest) out.1) in
       record { same = h.same; exports = λ a s. by a x h.faults (out.0, subst (TakesBeginning (tally first).taken new.taken) (flat_written n docs a s) begun) }
     where
-      by : (a : Table) (x : Fault) → x ≢ faults.Places → (new.failures ≡ (tally first).failures) × TakesBeginning (tally first).taken new.taken (flat_map encode (list_of (state_of a) n))
+      by : (a : DocumentTable) (x : Fault) → x ≢ faults.Places → (new.failures ≡ (tally first).failures) × TakesBeginning (tally first).taken new.taken (flat_map encode (list_of (state_of a) n))
           → Exports (state_of a) n (tally first) new (Err (refusal (kind_of_fault x)))
       by a faults.Memory other out = (refl, (good, out))
       by a faults.Database other out = (refl, (good, out))
       by a faults.Places other out = absurd (other refl)
 
-  pub all_sent : (docs after : List Doc) (n : List ℕ) (b : Bool) → IsName n → failed first ≡ false → failed last ≡ false → (b ≡ false → failed last ≡ true) → Visits Took first last n (Ok b) docs after
+  pub all_sent : (docs after : List TableRow) (n : List ℕ) (b : Bool) → IsName n → failed first ≡ false → failed last ≡ false → (b ≡ false → failed last ≡ true) → Visits Took first last n (Ok b) docs after
       → SendsCollection n (tally first) new (Ok tt) docs after
   all_sent docs after n true good begins ends stopped h =
       let out = out_by false (bodies_of n docs) ends (h.whole (starts begins) refl) in
@@ -149,31 +149,31 @@ module _ {V N : Type 0} (tally : V → Tally) (failed : V → Bool) (name : V �
 export_open : (n : List ℕ) → IsName n → Rattle.store_laws.specs.Run.IsDecided (on n export) → ⊥
 export_open n good = undecided n export good (λ x. x)
 
-sent_in : (docs : List Doc) (n out : List ℕ) (old new : Tally) → old.taken ≡ Some [] → new.taken ≡ Some out → ((a : Table) → Show docs a → Exports (state_of a) n old new (Ok tt)) → Does (on n export) (bytes out) docs docs
+sent_in : (docs : List TableRow) (n out : List ℕ) (old new : Tally) → old.taken ≡ Some [] → new.taken ≡ Some out → ((a : DocumentTable) → Represents docs a → Exports (state_of a) n old new (Ok tt)) → Does (on n export) (bytes out) docs docs
 sent_in docs n out old new before after h a s = answers_stay docs n export (bytes out) (h a s).0 (λ b t. (ap bytes (all b (h b t)), refl)) a s
   where
-    all : (b : Table) → Exports (state_of b) n old new (Ok tt) → out ≡ flat_map encode (documents_of b n)
+    all : (b : DocumentTable) → Exports (state_of b) n old new (Ok tt) → out ≡ flat_map encode (documents_of b n)
     all b e =
         let k : Appends (Some []) (Some out) (flat_map encode (list_of (state_of b) n)) = subst (λ o. Appends o (Some out) (flat_map encode (list_of (state_of b) n))) before (subst (λ o. Appends old.taken o (flat_map encode (list_of (state_of b) n))) after e.1.1) in
         k ∙ ap (flat_map encode) (list_of-state_of b n)
 
-pub sent : (docs after : List Doc) (n out : List ℕ) (old new : Tally) → old.taken ≡ Some [] → new.taken ≡ Some out → SendsCollection n old new (Ok tt) docs after → Does (on n export) (bytes out) docs after
+pub sent : (docs after : List TableRow) (n out : List ℕ) (old new : Tally) → old.taken ≡ Some [] → new.taken ≡ Some out → SendsCollection n old new (Ok tt) docs after → Does (on n export) (bytes out) docs after
 sent docs after n out old new before now h = rw h.same (sent_in docs n out old new before now h.exports)
 
-not_sent_in : (docs : List Doc) (n : List ℕ) (old new : Tally) (e : StoreError) → ((a : Table) → Show docs a → Exports (state_of a) n old new (Err e)) → e.kind ≢ kind.Writer → Does (on n export) (refused e.kind e.document) docs docs
+not_sent_in : (docs : List TableRow) (n : List ℕ) (old new : Tally) (e : StoreError) → ((a : DocumentTable) → Represents docs a → Exports (state_of a) n old new (Err e)) → e.kind ≢ kind.Writer → Does (on n export) (refused e.kind e.document) docs docs
 not_sent_in docs n old new e h other a s = let k = h a s in rw k.0 (at_kind e.kind other k.1)
   where
-    at_kind : (k : ErrorKind) → k ≢ kind.Writer → ExportRefused (state_of a) n old new k → (b : Table) × Show docs b × Rattle.store_laws.specs.Table.Serves a (on n export) (refused k None) b
+    at_kind : (k : ErrorKind) → k ≢ kind.Writer → ExportRefused (state_of a) n old new k → (b : DocumentTable) × Represents docs b × Rattle.store_laws.specs.Table.Serves a (on n export) (refused k None) b
     at_kind kind.Memory other h = denied docs (on n export) faults.Memory memory_other (export_open n h.0) a s
     at_kind kind.Database other h = denied docs (on n export) faults.Database (λ e. cc) (export_open n h.0) a s
     at_kind kind.Writer other h = absurd (other refl)
     at_kind kind.BadName other h = bad_name docs n export h.0 a s
     at_kind _ other h = absurd h.1
 
-pub not_sent : (docs after : List Doc) (n : List ℕ) (old new : Tally) (e : StoreError) → SendsCollection n old new (Err e) docs after → e.kind ≢ kind.Writer → Does (on n export) (refused e.kind e.document) docs after
+pub not_sent : (docs after : List TableRow) (n : List ℕ) (old new : Tally) (e : StoreError) → SendsCollection n old new (Err e) docs after → e.kind ≢ kind.Writer → Does (on n export) (refused e.kind e.document) docs after
 not_sent docs after n old new e h other = rw h.same (not_sent_in docs n old new e h.exports other)
 
-sink_failed_in : (docs : List Doc) (n : List ℕ) (old new : Tally) (e : StoreError) → ((a : Table) → Show docs a → Exports (state_of a) n old new (Err e)) → e.kind ≡ kind.Writer → Does (on n export) (refused kind.Memory None) docs docs
+sink_failed_in : (docs : List TableRow) (n : List ℕ) (old new : Tally) (e : StoreError) → ((a : DocumentTable) → Represents docs a → Exports (state_of a) n old new (Err e)) → e.kind ≡ kind.Writer → Does (on n export) (refused kind.Memory None) docs docs
 sink_failed_in docs n old new e h is a s = denied docs (on n export) faults.Memory memory_other (export_open n (at_kind e.kind is (h a s).1)) a s
   where
     at_kind : (k : ErrorKind) → k ≡ kind.Writer → ExportRefused (state_of a) n old new k → IsName n
@@ -181,5 +181,5 @@ sink_failed_in docs n old new e h is a s = denied docs (on n export) faults.Memo
     at_kind kind.BadName is h = cc
     at_kind _ is h = h.0
 
-pub sink_failed : (docs after : List Doc) (n : List ℕ) (old new : Tally) (e : StoreError) → SendsCollection n old new (Err e) docs after → e.kind ≡ kind.Writer → Does (on n export) (refused kind.Memory None) docs after
+pub sink_failed : (docs after : List TableRow) (n : List ℕ) (old new : Tally) (e : StoreError) → SendsCollection n old new (Err e) docs after → e.kind ≡ kind.Writer → Does (on n export) (refused kind.Memory None) docs after
 sink_failed docs after n old new e h is = rw h.same (sink_failed_in docs n old new e h.exports is)

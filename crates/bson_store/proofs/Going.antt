@@ -2,7 +2,7 @@
 use Rattle.std.proofs.Common.{◌≡◌, ℕ, List, [], ◌∷◌, ◌++◌, length, map, Option, Result, Ok, Err, refl, ap, ◌∙◌, sym, subst, arith, append_assoc, append-nil, length-append}
 use Rattle.std.specs.FinMap.{empty}
 use Rattle.sqlite.specs.State.{State}
-use Rattle.bson_table.specs.Rows.{Doc}
+use Rattle.bson_table.specs.Rows.{TableRow}
 use Rattle.bson_table.specs.Moves.{Moves, WasOpen}
 use Rattle.bson_store.specs.Refusals.{reply_by}
 use Rattle.bson_store.specs.declared.error.StoreError.{StoreError}
@@ -21,7 +21,7 @@ use Rattle.bson_store.specs.declared.command.Reply.{Reply}
 use Rattle.bson_store.proofs.Moving.{rests, moved, moved_twice}
 use Rattle.sqlite_trees.specs.Tree.{Trees}
 use Rattle.store_laws.specs.Run.{Denials, Run}
-use Rattle.store_laws.specs.Table.{Table, state_of}
+use Rattle.store_laws.specs.Table.{DocumentTable, state_of}
 use Rattle.store_laws.specs.Left.{LeftAlong}
 use Rattle.store_laws.proofs.Left.{left_goes_on, left_in_the_end, left_more}
 use Rattle.store_laws.proofs.Rows.{rows_not_empty}
@@ -37,10 +37,10 @@ asks_last [] (d ∷ cs) x c h k = absurd h
 asks_last (y ∷ xs) [] x c h k = absurd h
 asks_last (y ∷ xs) (d ∷ cs) x c h k = (h.0, asks_last xs cs x c h.1 k)
 
-none_yet : (docs : List Doc) → AnswersThroughTables [] [] docs docs
+none_yet : (docs : List TableRow) → AnswersThroughTables [] [] docs docs
 none_yet docs a s = record { b = a; shown = s; asked = []; asks = tt; denials = empty; run = refl }
 
-one_command : (old mid new : List Doc) (xs : List Command) (rs : List Reply) (x : Command) (r : Reply) → AnswersThroughTables xs rs old mid → Obeys x r mid new → AnswersThroughTables (xs ++ x ∷ []) (rs ++ r ∷ []) old new
+one_command : (old mid new : List TableRow) (xs : List Command) (rs : List Reply) (x : Command) (r : Reply) → AnswersThroughTables xs rs old mid → Obeys x r mid new → AnswersThroughTables (xs ++ x ∷ []) (rs ++ r ∷ []) old new
 one_command old mid new xs rs x r so_far one a s =
     let h = so_far a s in
     let d = one.2 h.b h.shown in
@@ -54,7 +54,7 @@ one_command old mid new xs rs x r so_far one a s =
       run = subst (λ qs. RunThrough more.0 0 a (h.asked ++ one.0 ∷ []) qs d.0) (sym (map_parts reply_of rs (r ∷ []))) more.1;
     }
 
-on_lists : (xs : List Command) (rs : List Reply) (old new : List Doc) → AnswersThroughTables xs rs old new → AnswersAsLists xs rs old new
+on_lists : (xs : List Command) (rs : List Reply) (old new : List TableRow) → AnswersThroughTables xs rs old new → AnswersAsLists xs rs old new
 on_lists xs rs old new h a s =
     let k = h a s in
     record {
@@ -76,7 +76,7 @@ none_left : (s : State) → Moves s s (LeavesAsLists [] [] s.may_leave s.may_lea
 none_left s = rests s (LeavesAsLists [] [] s.may_leave s.may_leave) (λ docs a shown. record { b = a; shown = shown; asked = []; asks = tt; denials = empty; run = refl; left = λ db may. may })
 
 -- a run, and that what a crash leaves is left along it
-abbrev LeftRun : (Trees → Type 0) → (Trees → Type 0) → Denials → Table → List model.Command → Table → List model.Reply → Type 0
+abbrev LeftRun : (Trees → Type 0) → (Trees → Type 0) → Denials → DocumentTable → List model.Command → DocumentTable → List model.Reply → Type 0
 LeftRun Before After w a cs b qs = (run : Run w 0 (state_of a) cs qs (state_of b)) × ((db : Trees) → After db → LeftAlong Holds Before w 0 (state_of a) cs qs (state_of b) run db)
 
 one_left : (old mid new : State) (xs : List Command) (rs : List Reply) (x : Command) (r : Reply) → Moves old mid (LeavesAsLists xs rs old.may_leave mid.may_leave) → Moves mid new (Obeys x r) → LeavesCommand x r mid new
@@ -101,7 +101,7 @@ one_left old mid new xs rs x r so_far one crash clean =
           ),
     )
 
-the_end : (xs : List Command) (rs : List Reply) (Before After : Trees → Type 0) (old new : List Doc) → LeavesAsLists xs rs Before After old new → LeavesTheEnd xs rs Before After old new
+the_end : (xs : List Command) (rs : List Reply) (Before After : Trees → Type 0) (old new : List TableRow) → LeavesAsLists xs rs Before After old new → LeavesTheEnd xs rs Before After old new
 the_end xs rs Before After old new h a s alone =
     let k = h a s in
     record {

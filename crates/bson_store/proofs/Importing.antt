@@ -7,10 +7,10 @@ use Rattle.bson_base.specs.Kinds.{AreBytes}
 use Rattle.bson_base.specs.Value.{Members, has_key}
 use Rattle.bson_bytes.specs.Encode.{size}
 use Rattle.bson_frame.specs.Frame.{size_limit}
-use Rattle.bson_table.specs.Rows.{Doc}
+use Rattle.bson_table.specs.Rows.{TableRow}
 use Rattle.bson_table.specs.declared.fault.Fault.{Fault}
 use Rattle.bson_table.specs.declared.fault.Fault.TheVariants as faults
-use Rattle.store_documents.specs.declared.write.Written.{Written}
+use Rattle.store_documents.specs.declared.write.KeptRow.{KeptRow}
 use Rattle.store_laws.specs.Reading.{Documents, IsReadingKind, IsStop, ReadsStream}
 use Rattle.store_laws.specs.State.{id_key, import, on, Reply, number, refused, refusal_of, or_later, first_refusal, Answers, IsName}
 use Rattle.store_laws.specs.declared.error.ErrorKind.{ErrorKind}
@@ -69,50 +69,50 @@ first_is i (d ∷ ds) stop k j h e = by (refusal_of d) refl e (first_is (suc i) 
 -- ---- many documents, in whatever form they came
 
 -- under a bad name
-pub many_bad_name : (docs : List Doc) (n : List ℕ) (Reads : Documents → Option ErrorKind → Type 0) → (ds : Documents) × (stop : Option ErrorKind) × Reads ds stop → (IsName n → ⊥) → DoesMany n Reads (refused kind.BadName None) docs docs
+pub many_bad_name : (docs : List TableRow) (n : List ℕ) (Reads : Documents → Option ErrorKind → Type 0) → (ds : Documents) × (stop : Option ErrorKind) × Reads ds stop → (IsName n → ⊥) → DoesMany n Reads (refused kind.BadName None) docs docs
 many_bad_name docs n Reads (ds, stop, reads) bad = (ds, stop, reads, bad_name docs n (import ds stop) bad)
 
 refused_by : (ds l : Documents) (stop : Option ErrorKind) (k : ErrorKind) (i : ℕ) → first_refusal 0 ds stop ≡ Some (k, i) → Answers (import ds stop) l (refused k (Some i)) l
 refused_by ds l stop k i is = rw is (refl, refl)
 
-wanted : (docs : List Doc) (n : List ℕ) (Reads : Documents → Option ErrorKind → Type 0) (ds : Documents) (stop : Option ErrorKind) → IsName n → Reads ds stop → DoesMany n Reads (refused kind.Memory None) docs docs
+wanted : (docs : List TableRow) (n : List ℕ) (Reads : Documents → Option ErrorKind → Type 0) (ds : Documents) (stop : Option ErrorKind) → IsName n → Reads ds stop → DoesMany n Reads (refused kind.Memory None) docs docs
 wanted docs n Reads ds stop good reads = (ds, stop, reads, denied docs (on n (import ds stop)) faults.Memory memory_other (import_open n ds stop good))
 
 -- they aren't judged to be kept
-pub many_refused : (docs : List Doc) (n : List ℕ) (Reads : Documents → Option ErrorKind → Type 0) (x : StreamError) → IsName n → Judges Reads (Err x)
+pub many_refused : (docs : List TableRow) (n : List ℕ) (Reads : Documents → Option ErrorKind → Type 0) (x : StreamError) → IsName n → Judges Reads (Err x)
     → DoesMany n Reads (reply_by as_number (Err (refusal_of_stream x))) docs docs
 many_refused docs n Reads (streams.Refused k i) good h = (h.0, h.1, h.2, answers_stay docs n (import h.0 h.1) (refused k (Some i)) good (λ a s. refused_by h.0 _ h.1 k i h.3))
 many_refused docs n Reads streams.Memory good h = wanted docs n Reads h.0 h.1 good h.2
 
 -- they are
-pub many_added : (docs after : List Doc) (n : List ℕ) (Reads : Documents → Option ErrorKind → Type 0) (rows : Vec Written Global) (r : Result ℕ StoreError) → Judges Reads (Ok rows) → AddsAll n rows.items r docs after → DoesMany n Reads (reply_by as_number r) docs after
+pub many_added : (docs after : List TableRow) (n : List ℕ) (Reads : Documents → Option ErrorKind → Type 0) (rows : Vec KeptRow Global) (r : Result ℕ StoreError) → Judges Reads (Ok rows) → AddsAll n rows.items r docs after → DoesMany n Reads (reply_by as_number r) docs after
 many_added docs after n Reads rows r h added = (h.0, None, h.1, added.does h.0 h.2 h.3 h.4)
 
 -- ---- over a reader
 
-pub import_unnamed : (docs : List Doc) (n : List ℕ) (f : Feed) → (IsName n → ⊥) → Imports n f f (Err (refusal kind.BadName)) docs docs
+pub import_unnamed : (docs : List TableRow) (n : List ℕ) (f : Feed) → (IsName n → ⊥) → Imports n f f (Err (refusal kind.BadName)) docs docs
 import_unnamed docs n f bad = (bad, refl, refl, refl)
 
-pub import_unread : (docs : List Doc) (n : List ℕ) (old new : Feed) (x : ReadAllError) → IsName n → StopsReading x old new → Imports n old new (Err (refusal (kind_of_reading x))) docs docs
+pub import_unread : (docs : List TableRow) (n : List ℕ) (old new : Feed) (x : ReadAllError) → IsName n → StopsReading x old new → Imports n old new (Err (refusal (kind_of_reading x))) docs docs
 import_unread docs n old new reads.Reader good h = (good, refl, h, refl)
 import_unread docs n old new reads.Memory good h = (good, refl, h, refl)
 
 -- memory was wanted once all was read
-memory_left : (docs after : List Doc) (n bytes : List ℕ) (old new : Feed) → IsName n → TookAll old new bytes → after ≡ docs → ImportRefused n old new kind.Memory None docs after
+memory_left : (docs after : List TableRow) (n bytes : List ℕ) (old new : Feed) → IsName n → TookAll old new bytes → after ≡ docs → ImportRefused n old new kind.Memory None docs after
 memory_left docs after n bytes old new good all same = (good, refl, (bytes, all.0), same)
 
-of_documents : (docs after : List Doc) (n : List ℕ) (old new : Feed) (k : ErrorKind) (i : Option ℕ) → IsOfDocuments k → TakesStream n old new (refused k i) docs after → ImportRefused n old new k i docs after
+of_documents : (docs after : List TableRow) (n : List ℕ) (old new : Feed) (k : ErrorKind) (i : Option ℕ) → IsOfDocuments k → TakesStream n old new (refused k i) docs after → ImportRefused n old new k i docs after
 of_documents docs after n old new kind.BadName i told h = absurd told
 of_documents docs after n old new kind.Reader i told h = absurd told
 of_documents docs after n old new kind.Memory i told h = absurd told
 of_documents docs after n old new _ i told h = h
 
-pub import_refused : (docs : List Doc) (n bytes : List ℕ) (old new : Feed) (x : StreamError) → IsName n → AreBytes bytes → TookAll old new bytes → Judges (ReadsStream bytes) (Err x) → Imports n old new (Err (refusal_of_stream x)) docs docs
+pub import_refused : (docs : List TableRow) (n bytes : List ℕ) (old new : Feed) (x : StreamError) → IsName n → AreBytes bytes → TookAll old new bytes → Judges (ReadsStream bytes) (Err x) → Imports n old new (Err (refusal_of_stream x)) docs docs
 import_refused docs n bytes old new (streams.Refused k i) good range all h =
     of_documents docs docs n old new k (Some i) (first_is 0 h.0 h.1 k i (stream_read bytes h.0 h.1 range h.2).1 h.3) (good, (bytes, all, many_refused docs n (ReadsStream bytes) (streams.Refused k i) good h))
 import_refused docs n bytes old new streams.Memory good range all h = memory_left docs docs n bytes old new good all refl
 
-pub import_added : (docs after : List Doc) (n bytes : List ℕ) (old new : Feed) (rows : Vec Written Global) (r : Result ℕ StoreError) → IsName n → TookAll old new bytes → Judges (ReadsStream bytes) (Ok rows)
+pub import_added : (docs after : List TableRow) (n bytes : List ℕ) (old new : Feed) (rows : Vec KeptRow Global) (r : Result ℕ StoreError) → IsName n → TookAll old new bytes → Judges (ReadsStream bytes) (Ok rows)
     → AddsAll n rows.items r docs after → Imports n old new r docs after
 import_added docs after n bytes old new rows (Ok k) good all h added = (good, (bytes, all, many_added docs after n (ReadsStream bytes) rows (Ok k) h added))
 import_added docs after n bytes old new rows (Err e) good all h added = by e added.fault added.same (many_added docs after n (ReadsStream bytes) rows (Err e) h added)
@@ -129,7 +129,7 @@ import_added docs after n bytes old new rows (Err e) good all h added = by e add
 -- ---- from memory
 
 -- a source that never fails and gives what it has left
-pub from_memory : (docs after : List Doc) (n bytes : List ℕ) (old new : Feed) (r : Result ℕ StoreError) → old.failures ≡ 0 → new.failures ≡ 0 → ((bs : List ℕ) → TookAll old new bs → bs ≡ bytes)
+pub from_memory : (docs after : List TableRow) (n bytes : List ℕ) (old new : Feed) (r : Result ℕ StoreError) → old.failures ≡ 0 → new.failures ≡ 0 → ((bs : List ℕ) → TookAll old new bs → bs ≡ bytes)
     → Imports n old new r docs after → DoesMany n (ReadsStream bytes) (reply_by as_number r) docs after
 from_memory docs after n bytes old new r before now whole h = by r h
   where

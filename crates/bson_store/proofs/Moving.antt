@@ -1,22 +1,22 @@
 -- Calls of the store as moves of the rows: none, one, or one after the other.
 use Rattle.std.proofs.Common.{List}
 use Rattle.sqlite.specs.State.{State}
-use Rattle.bson_table.specs.Rows.{Doc}
+use Rattle.bson_table.specs.Rows.{TableRow}
 use Rattle.bson_table.specs.Moves.{Moves}
 
 abbrev pub Relation : Type 1
-Relation = List Doc → List Doc → Type 0
+Relation = List TableRow → List TableRow → Type 0
 
 -- nothing was asked of the table
-pub rests : (s : State) (P : Relation) → ((docs : List Doc) → P docs docs) → Moves s s P
+pub rests : (s : State) (P : Relation) → ((docs : List TableRow) → P docs docs) → Moves s s P
 rests s P h clean = (clean, λ docs stands. (docs, stands, h docs))
 
 -- a move that is also another
-pub moved : (s t : State) (P Q : Relation) → Moves s t P → ((docs after : List Doc) → P docs after → Q docs after) → Moves s t Q
+pub moved : (s t : State) (P Q : Relation) → Moves s t P → ((docs after : List TableRow) → P docs after → Q docs after) → Moves s t Q
 moved s t P Q m f clean = let r = m clean in (r.0, λ docs stands. let x = r.1 docs stands in (x.0, x.1, f docs x.0 x.2))
 
 -- two moves
-pub moved_twice : (s t u : State) (P Q R : Relation) → Moves s t P → Moves t u Q → ((docs mid after : List Doc) → P docs mid → Q mid after → R docs after) → Moves s u R
+pub moved_twice : (s t u : State) (P Q R : Relation) → Moves s t P → Moves t u Q → ((docs mid after : List TableRow) → P docs mid → Q mid after → R docs after) → Moves s u R
 moved_twice s t u P Q R m n f clean =
     let b = n clean in
     let a = m b.0 in (

@@ -10,11 +10,11 @@ use Rattle.std.specs.declared.cmp.Ordering.{Ordering}
 use Rattle.std.specs.declared.cmp.Ordering.TheVariants.{Less}
 use Rattle.bson_table.specs.Moves.{Lists}
 use Rattle.bson_table.specs.Names.{has_name}
-use Rattle.bson_table.specs.Rows.{Doc, is_in}
+use Rattle.bson_table.specs.Rows.{TableRow, is_in}
 use Rattle.bson_table.specs.declared.fault.Fault.{Fault}
 use Rattle.bson_table.specs.declared.fault.Fault.TheVariants as faults
 use Rattle.store_laws.specs.State.{AllAfter, AreAscending, collections, holds, refused}
-use Rattle.store_laws.specs.Table.{Table, documents_of}
+use Rattle.store_laws.specs.Table.{DocumentTable, documents_of}
 use Rattle.store_laws.specs.declared.error.ErrorKind.TheVariants.{Memory}
 use Rattle.store_laws.proofs.Rows.{list_of-state_of}
 use Rattle.bson_store.specs.Calls.{Does}
@@ -87,7 +87,7 @@ has_bytes : (n : List ℕ) (xs : List Name) → list_any (bytes_eq n) (bytes_of_
 has_bytes n [] = refl
 has_bytes n (x ∷ xs) = ap (λ b. bytes_eq n x.items || b) (has_bytes n xs)
 
-holds_is : (n : List ℕ) (a : Table) (docs : List Doc) → AreRowsOf a docs → list_any (is_in n) docs ≡ holds (documents_of a n)
+holds_is : (n : List ℕ) (a : DocumentTable) (docs : List TableRow) → AreRowsOf a docs → list_any (is_in n) docs ≡ holds (documents_of a n)
 holds_is n [] [] each = refl
 holds_is n [] (d ∷ docs) each = absurd each
 holds_is n (r ∷ rs) [] each = absurd each
@@ -101,7 +101,7 @@ holds_is n (r ∷ rs) (d ∷ docs) each = by (bytes_eq d.coll n) refl (bytes_eq 
     by true i false e rest = let t : bytes_eq n r.name ≡ true = rw (← each.0.name, equal_keys d.coll n i) (same_key n) in cc
 
 -- each is a text
-texts_in : (n : List ℕ) (a : Table) (docs : List Doc) → AreRowsOf a docs → IsTrue (list_any (is_in n) docs) → IsUtf8 n
+texts_in : (n : List ℕ) (a : DocumentTable) (docs : List TableRow) → AreRowsOf a docs → IsTrue (list_any (is_in n) docs) → IsUtf8 n
 texts_in n [] [] each h = cc
 texts_in n [] (d ∷ docs) each h = absurd each
 texts_in n (r ∷ rs) [] each h = absurd each
@@ -113,20 +113,20 @@ texts_in n (r ∷ rs) (d ∷ docs) each h = by (bytes_eq d.coll n) refl h (texts
 
 -- ---- exits
 
-listed_in : (docs : List Doc) (ns : List (List ℕ)) → AreAscending ns → ((n : List ℕ) → list_any (bytes_eq n) ns ≡ list_any (is_in n) docs) → Does collections (Rattle.store_laws.specs.State.names ns) docs docs
+listed_in : (docs : List TableRow) (ns : List (List ℕ)) → AreAscending ns → ((n : List ℕ) → list_any (bytes_eq n) ns ≡ list_any (is_in n) docs) → Does collections (Rattle.store_laws.specs.State.names ns) docs docs
 listed_in docs ns asc each a s = (
   a,
   s,
   (None, (((ns, record { ascending = asc; each = λ n. each n ∙ holds_is n a docs s.each ∙ ap holds (sym (list_of-state_of a n)) }, refl), refl), stays a, tt)),
 )
 
-untold_in : (docs : List Doc) (e : StoreError) → (((n : List ℕ) → IsTrue (list_any (is_in n) docs) → IsUtf8 n) → e ≡ refusal Memory) → Does collections (refused e.kind e.document) docs docs
+untold_in : (docs : List TableRow) (e : StoreError) → (((n : List ℕ) → IsTrue (list_any (is_in n) docs) → IsUtf8 n) → e ≡ refusal Memory) → Does collections (refused e.kind e.document) docs docs
 untold_in docs e h a s = rw (h (λ n t. texts_in n a docs s.each t)) (denied docs collections faults.Memory memory_other (λ d. d) a s)
 
-pub told : (docs after : List Doc) (set : BTreeSet Name) (r : Result (Vec (String Global) Global) StoreError) → IfOk r (λ v. map string_bytes v.items ≡ bytes_of_each set.keys) → IfOk r (λ v. AreAscending (map string_bytes v.items))
+pub told : (docs after : List TableRow) (set : BTreeSet Name) (r : Result (Vec (String Global) Global) StoreError) → IfOk r (λ v. map string_bytes v.items ≡ bytes_of_each set.keys) → IfOk r (λ v. AreAscending (map string_bytes v.items))
     → (((n : List ℕ) → IsTrue (has_name set.keys n) → IsUtf8 n) → IfErr r (λ e. e ≡ refusal Memory)) → Lists (Ok set) docs after → Does collections (reply_by as_names r) docs after
 told docs after set (Ok v) same asc refuses h = rw h.same (listed_in docs (map string_bytes v.items) asc (λ n. ap (list_any (bytes_eq n)) same ∙ has_bytes n set.keys ∙ h.names n))
 told docs after set (Err e) same asc refuses h = rw h.same (untold_in docs e (λ texts. refuses (λ n t. texts n (subst IsTrue (h.names n) t))))
 
-pub unlisted : (docs after : List Doc) (x : Fault) → Lists (Err x) docs after → Does collections (refused (kind_of_fault x) None) docs after
+pub unlisted : (docs after : List TableRow) (x : Fault) → Lists (Err x) docs after → Does collections (refused (kind_of_fault x) None) docs after
 unlisted docs after x h = rw h.same (denied docs collections x h.faults (λ d. d))

@@ -3,7 +3,7 @@ use Rattle.std.proofs.Common.{◌≡◌, ◌⊎◌, inl, inr, ℕ, List, [], Boo
 use Rattle.std.specs.Prelude.{MatchOption, length}
 use Rattle.serde_json.specs.Data.{Data}
 use Rattle.sqlite.specs.State.{State}
-use Rattle.bson_table.specs.Rows.{Doc}
+use Rattle.bson_table.specs.Rows.{TableRow}
 use Rattle.bson_table.specs.Moves.{Moves, Visits}
 use Rattle.bson_table.specs.declared.fault.Fault.{Fault}
 use Rattle.store_laws.specs.Reading.{Documents}
@@ -39,7 +39,7 @@ told : (ds : Documents) (e : StoreError) → Stops Anything Nothing ds e → IsD
 told ds e (js, first, inl never) = absurd never
 told ds e (js, first, inr (t, h)) = h
 
-module _ (first last : Checker) (n : List ℕ) (docs after : List Doc) (at : first.place ≡ 0) (fine : first.refusal ≡ None) (good : IsName n) where
+module _ (first last : Checker) (n : List ℕ) (docs after : List TableRow) (at : first.place ≡ 0) (fine : first.refusal ≡ None) (good : IsName n) where
   starts : Passed first []
   starts = subst (λ o. HandedOn Anything Nothing first.place [] o) (sym fine) (handed_nothing Anything Nothing first.place tt at)
 

@@ -6,7 +6,7 @@ use Rattle.bson_base.specs.Value.{Members}
 use Rattle.bson_bytes.specs.Encode.{encode}
 use Rattle.bson_meaning.specs.Before.{key as key_before}
 use Rattle.bson_meaning.specs.Meaning.{key}
-use Rattle.bson_table.specs.Rows.{Doc, is_row_named}
+use Rattle.bson_table.specs.Rows.{TableRow, is_row_named}
 use Rattle.bson_table.specs.Rows as table
 use Rattle.bson_table.specs.Check.{AreGoodAfter, AreGood}
 use Rattle.bson_table.specs.Renewal.{IsOwn, IsRenewed, AreRenewed}
@@ -15,16 +15,16 @@ use Rattle.store_documents.specs.declared.row.RowKey.TheVariants.{Neither}
 use Rattle.store_laws.proofs.Restore.{written_reads}
 use Rattle.store_laws.specs.Reading.{Reading, ReadsBytes, readable}
 use Rattle.store_laws.specs.State.{IsKept, IsName}
-use Rattle.store_laws.specs.Table.{Row, Table, AreRows, IsAlone, own_id}
-use Rattle.bson_store.specs.Shown.{IsRowOf, AreRowsOf, Rises, Show, IsRowOnceOf, AreRowsOnceOf, ShowOnce}
-use Rattle.bson_store.specs.Opening.{IsRowUnder, ShowSome, StandFor}
+use Rattle.store_laws.specs.Table.{DocumentRow, DocumentTable, AreRows, IsAlone, own_id}
+use Rattle.bson_store.specs.Shown.{IsRowOf, AreRowsOf, Rises, Represents, IsRowOnceOf, AreRowsOnceOf, RepresentsOnce}
+use Rattle.bson_store.specs.Opening.{IsRowUnder, RepresentsSome, StandFor}
 use Rattle.bson_store.proofs.Opened.{good_rows, last_of}
 use Rattle.bson_store.proofs.Tables.{named_is}
 
 -- ---- keys of now
 
 -- a row under its own key is one that the store can have written
-own_rows : (seen docs : List Doc) → AreGoodAfter (IsOwn IsRowUnder) seen docs → AreGoodAfter IsRow seen docs
+own_rows : (seen docs : List TableRow) → AreGoodAfter (IsOwn IsRowUnder) seen docs → AreGoodAfter IsRow seen docs
 own_rows seen [] h = tt
 own_rows seen (d ∷ docs) h = (record { above = h.0.above; fresh = h.0.fresh; accepted = h.0.accepted.0 }, own_rows (seen ++ d ∷ []) docs h.1)
 
@@ -37,7 +37,7 @@ same_written a b k l e = same_read a b ((written_reads b l (readable a)).0 (subs
 
 -- ---- one row
 
-module _ (r : Row) (d e : Doc) (kept : IsKept r.document) (h : IsRenewed IsRowUnder d e) where
+module _ (r : DocumentRow) (d e : TableRow) (kept : IsKept r.document) (h : IsRenewed IsRowUnder d e) where
   -- the document of the row is the one that its body is of
   its_document : d.body ≡ encode r.document → h.key.0.document ≡ r.document
   its_document body = same_written h.key.0.document r.document h.key.0.kept kept (sym h.key.0.body ∙ body)
@@ -64,7 +64,7 @@ module _ (r : Row) (d e : Doc) (kept : IsKept r.document) (h : IsRenewed IsRowUn
 
 -- ---- all rows
 
-rows_now : (t : Table) (docs after : List Doc) → AreRows t → AreRenewed IsRowUnder docs after → AreRowsOnceOf t docs → AreRowsOf t after
+rows_now : (t : DocumentTable) (docs after : List TableRow) → AreRows t → AreRenewed IsRowUnder docs after → AreRowsOnceOf t docs → AreRowsOf t after
 rows_now [] [] [] good h each = tt
 rows_now [] [] (e ∷ after) good h each = absurd h
 rows_now [] (d ∷ docs) after good h each = absurd each
@@ -72,7 +72,7 @@ rows_now (r ∷ t) [] after good h each = absurd each
 rows_now (r ∷ t) (d ∷ docs) [] good h each = absurd h
 rows_now (r ∷ t) (d ∷ docs) (e ∷ after) good h each = (row_now r d e good.1 h.0 each.0, rows_now t docs after good.3 h.1 each.1)
 
-rows_before : (t : Table) (docs after : List Doc) → AreRows t → AreRenewed IsRowUnder docs after → AreRowsOf t after → AreRowsOnceOf t docs
+rows_before : (t : DocumentTable) (docs after : List TableRow) → AreRows t → AreRenewed IsRowUnder docs after → AreRowsOf t after → AreRowsOnceOf t docs
 rows_before [] [] [] good h each = tt
 rows_before [] [] (e ∷ after) good h each = absurd h
 rows_before [] (d ∷ docs) [] good h each = absurd h
@@ -82,52 +82,52 @@ rows_before (r ∷ t) [] (e ∷ after) good h each = absurd h
 rows_before (r ∷ t) (d ∷ docs) (e ∷ after) good h each = (row_before r d e good.1 h.0 each.0, rows_before t docs after good.3 h.1 each.1)
 
 -- what the rows showed is shown under the keys of now
-pub shown_now : (docs after : List Doc) → AreRenewed IsRowUnder docs after → (t : Table) → ShowOnce docs t → Show after t
+pub shown_now : (docs after : List TableRow) → AreRenewed IsRowUnder docs after → (t : DocumentTable) → RepresentsOnce docs t → Represents after t
 shown_now docs after h t s = record { each = rows_now t docs after s.good h s.each; good = s.good; rising = s.rising }
 
-pub stand_for : (docs after : List Doc) → AreRenewed IsRowUnder docs after → AreGood (IsOwn IsRowUnder) after → StandFor docs after
+pub stand_for : (docs after : List TableRow) → AreRenewed IsRowUnder docs after → AreGood (IsOwn IsRowUnder) after → StandFor docs after
 stand_for docs after h good =
     let some = good_rows after (own_rows [] after good) in
     ((some.0, record { each = rows_before some.0 docs after some.1.good h some.1.each; good = some.1.good; rising = some.1.rising }, some.1), shown_now docs after h)
 
-row_once : (r : Row) (d : Doc) → IsRowOf r d → IsRowOnceOf r d
+row_once : (r : DocumentRow) (d : TableRow) → IsRowOf r d → IsRowOnceOf r d
 row_once r d is = record { place = is.place; name = is.name; text = is.text; key = inl is.key; body = is.body }
 
-rows_once : (t : Table) (docs : List Doc) → AreRowsOf t docs → AreRowsOnceOf t docs
+rows_once : (t : DocumentTable) (docs : List TableRow) → AreRowsOf t docs → AreRowsOnceOf t docs
 rows_once [] [] each = tt
 rows_once [] (d ∷ docs) each = absurd each
 rows_once (r ∷ t) [] each = absurd each
 rows_once (r ∷ t) (d ∷ docs) each = (row_once r d each.0, rows_once t docs each.1)
 
-pub shown_once : (docs : List Doc) (t : Table) → Show docs t → ShowOnce docs t
+pub shown_once : (docs : List TableRow) (t : DocumentTable) → Represents docs t → RepresentsOnce docs t
 shown_once docs t s = record { each = rows_once t docs s.each; good = s.good; rising = s.rising }
 
 -- ---- rows that show a table are good under their own keys
 
 -- no row of the table has the name and the key of this one
-abbrev IsNew : Row → Table → Type 0
+abbrev IsNew : DocumentRow → DocumentTable → Type 0
 IsNew q [] = Unit {0}
 IsNew q (b ∷ before) = (q.name ≡ b.name → key (own_id q.document) ≡ key (own_id b.document) → ⊥) × IsNew q before
 
-abbrev AreNew : Table → Table → Type 0
+abbrev AreNew : DocumentTable → DocumentTable → Type 0
 AreNew [] before = Unit {0}
 AreNew (q ∷ rs) before = IsNew q before × AreNew rs before
 
-new_on : (q r : Row) (before : Table) → IsNew q before → (q.name ≡ r.name → key (own_id q.document) ≡ key (own_id r.document) → ⊥) → IsNew q (before ++ r ∷ [])
+new_on : (q r : DocumentRow) (before : DocumentTable) → IsNew q before → (q.name ≡ r.name → key (own_id q.document) ≡ key (own_id r.document) → ⊥) → IsNew q (before ++ r ∷ [])
 new_on q r [] h k = (k, tt)
 new_on q r (b ∷ before) h k = (h.0, new_on q r before h.1 k)
 
-all_new_on : (rs : Table) (r : Row) (before : Table) → AreNew rs before → IsAlone r rs → AreNew rs (before ++ r ∷ [])
+all_new_on : (rs : DocumentTable) (r : DocumentRow) (before : DocumentTable) → AreNew rs before → IsAlone r rs → AreNew rs (before ++ r ∷ [])
 all_new_on [] r before h alone = tt
 all_new_on (q ∷ rs) r before h alone = (new_on q r before h.0 alone.0, all_new_on rs r before h.1 alone.1)
 
-each_on : (before : Table) (seen : List Doc) (r : Row) (d : Doc) → AreRowsOf before seen → IsRowOf r d → AreRowsOf (before ++ r ∷ []) (seen ++ d ∷ [])
+each_on : (before : DocumentTable) (seen : List TableRow) (r : DocumentRow) (d : TableRow) → AreRowsOf before seen → IsRowOf r d → AreRowsOf (before ++ r ∷ []) (seen ++ d ∷ [])
 each_on [] [] r d each is = (is, tt)
 each_on [] (e ∷ seen) r d each is = absurd each
 each_on (b ∷ before) [] r d each is = absurd each
 each_on (b ∷ before) (e ∷ seen) r d each is = (each.0, each_on before seen r d each.1 is)
 
-fresh : (q : Row) (d : Doc) (before : Table) (seen : List Doc) → IsRowOf q d → AreRowsOf before seen → IsNew q before → list_any (is_row_named d.coll d.idkey) seen ≡ false
+fresh : (q : DocumentRow) (d : TableRow) (before : DocumentTable) (seen : List TableRow) → IsRowOf q d → AreRowsOf before seen → IsNew q before → list_any (is_row_named d.coll d.idkey) seen ≡ false
 fresh q d [] [] is each h = refl
 fresh q d [] (e ∷ seen) is each h = absurd each
 fresh q d (b ∷ before) [] is each h = absurd each
@@ -137,7 +137,7 @@ fresh q d (b ∷ before) (e ∷ seen) is each h = by (is_row_named d.coll d.idke
     by true hit rest = absurd (let n = named_is d.coll d.idkey e hit in h.0 (sym is.name ∙ sym n.0 ∙ each.0.name) (sym is.key ∙ sym n.1 ∙ each.0.key))
     by false miss rest = rest
 
-good_after : (n : ℕ) (before rs : Table) (seen docs : List Doc) → table.last_place seen ≡ pos n → Rises n rs → AreRowsOf before seen → AreRowsOf rs docs → AreRows rs → AreNew rs before → AreGoodAfter (IsOwn IsRowUnder) seen docs
+good_after : (n : ℕ) (before rs : DocumentTable) (seen docs : List TableRow) → table.last_place seen ≡ pos n → Rises n rs → AreRowsOf before seen → AreRowsOf rs docs → AreRows rs → AreNew rs before → AreGoodAfter (IsOwn IsRowUnder) seen docs
 good_after n before [] seen [] last up was each good new = tt
 good_after n before [] seen (d ∷ docs) last up was each good new = absurd each
 good_after n before (r ∷ rs) seen [] last up was each good new = absurd each
@@ -150,11 +150,11 @@ good_after n before (r ∷ rs) seen (d ∷ docs) last up was each good new =
       good_after r.place (before ++ r ∷ []) rs (seen ++ d ∷ []) docs (last_of seen d ∙ is.place) up.1 (each_on before seen r d was is) each.1 good.3 (all_new_on rs r before new.1 good.2),
     )
 
-all_new : (rs : Table) → AreNew rs []
+all_new : (rs : DocumentTable) → AreNew rs []
 all_new [] = tt
 all_new (r ∷ rs) = (tt, all_new rs)
 
-pub shown_good : (docs : List Doc) → ShowSome docs → AreGood (IsOwn IsRowUnder) docs
+pub shown_good : (docs : List TableRow) → RepresentsSome docs → AreGood (IsOwn IsRowUnder) docs
 shown_good docs some = good_after 0 [] some.0 [] docs refl some.1.rising tt some.1.each some.1.good (all_new some.0)
 
 -- ---- the test of a row

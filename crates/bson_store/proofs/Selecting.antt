@@ -5,23 +5,23 @@ use Rattle.sqlite.specs.State.{State}
 use Rattle.bson_base.specs.Value.{Members, document}
 use Rattle.bson_bytes.specs.Encode.{encode}
 use Rattle.bson_filter.specs.Filters.{filter_of, path_of}
-use Rattle.bson_table.specs.Rows.{Doc}
+use Rattle.bson_table.specs.Rows.{TableRow}
 use Rattle.bson_table.specs.Moves.{Moves, Visits}
 use Rattle.bson_table.specs.declared.fault.Fault.{Fault}
 use Rattle.store_laws.specs.Filter.{Filter, Selects}
 use Rattle.store_laws.specs.Reading.{Documents}
 use Rattle.store_laws.specs.Run.{IsDecidedCall}
 use Rattle.store_laws.specs.State.{Answers, AreKept, Call, IsKept, IsName, Picks, Reply, on, only, refused}
-use Rattle.store_laws.specs.Table.{Table, documents_of}
+use Rattle.store_laws.specs.Table.{DocumentTable, documents_of}
 use Rattle.bson_store.specs.Calls.{Does}
 use Rattle.bson_store.specs.Export.{bytes_of_each}
 use Rattle.bson_store.specs.Questions.{GivesPicked, Picked, Turns}
 use Rattle.bson_store.specs.Refusals.{IsDenied, kind_of_fault, refusal}
-use Rattle.bson_store.specs.Shown.{Show}
+use Rattle.bson_store.specs.Shown.{Represents}
 use Rattle.bson_store.specs.declared.error.StoreError.{StoreError}
 use Rattle.bson_store.specs.declared.picking.Copies.{Copies}
 use Rattle.bson_store.specs.declared.picking.Count.{Count}
-use Rattle.bson_store.specs.declared.picking.Picker.{Picker}
+use Rattle.bson_store.specs.declared.picking.FilterVisitor.{FilterVisitor}
 use Rattle.bson_store.specs.declared.picking.Projections.{Projections}
 use Rattle.bson_store.proofs.Exporting.{bodies_are}
 use Rattle.bson_store.proofs.Moving.{moved}
@@ -121,10 +121,10 @@ front_of (x ∷ xs) ys (d ∷ ds) h =
     front_behind d x xs ds head (front_of xs ys ds tail)
 
 -- what a picker has taken since it was the first
-abbrev pub Took : {T : Type 0} → (T → T → Documents → Type 0) → Picker T → Picker T → List (List ℕ) → Type 0
+abbrev pub Took : {T : Type 0} → (T → T → Documents → Type 0) → FilterVisitor T → FilterVisitor T → List (List ℕ) → Type 0
 Took took first v bodies = (v.filter.now ≡ first.filter.now) × GivesPicked (took first.taker v.taker) (filter_of v.filter.now) bodies v.fault
 
-module _ {T : Type 0} (took : T → T → Documents → Type 0) (first last : Picker T) (n : List ℕ) (docs after : List Doc) (start : took first.taker first.taker []) (faultless : first.fault ≡ None) where
+module _ {T : Type 0} (took : T → T → Documents → Type 0) (first last : FilterVisitor T) (n : List ℕ) (docs after : List TableRow) (start : took first.taker first.taker []) (faultless : first.fault ≡ None) where
   starts : Took took first first []
   starts = (refl, subst (λ o. GivesPicked (took first.taker first.taker) (filter_of first.filter.now) [] o) (sym faultless) (gives_none (took first.taker first.taker) (filter_of first.filter.now) start))
 
@@ -162,8 +162,8 @@ module _ {T : Type 0} (took : T → T → Documents → Type 0) (first last : Pi
 
 -- ---- exits
 
-picked_as : {T : Type 0} (took : T → Documents → Type 0) (docs : List Doc) (n : List ℕ) (f : Filter) (t : T) (c : Call) (q : Reply) → IsName n → ((l out : Documents) → Picks f l out → took t out → Answers c l q l)
-    → ((a : Table) → Show docs a → (out : Documents) × Picks f (documents_of a n) out × took t out) → Does (on n c) q docs docs
+picked_as : {T : Type 0} (took : T → Documents → Type 0) (docs : List TableRow) (n : List ℕ) (f : Filter) (t : T) (c : Call) (q : Reply) → IsName n → ((l out : Documents) → Picks f l out → took t out → Answers c l q l)
+    → ((a : DocumentTable) → Represents docs a → (out : Documents) × Picks f (documents_of a n) out × took t out) → Does (on n c) q docs docs
 picked_as took docs n f t c q good answers h = answers_stay docs n c q good (λ a s. let p = h a s in answers (documents_of a n) p.0 p.1 p.2)
 
 pub picked_moves : {T : Type 0} (took : T → Documents → Type 0) (s u : State) (n nb : List ℕ) (f : Filter) (t : T) (c : Call) (q : Reply) → nb ≡ n → IsName n → ((l out : Documents) → Picks f l out → took t out → Answers c l q l)
@@ -172,7 +172,7 @@ picked_moves took s u n nb f t c q e good answers m =
     moved s u (Picked took nb f (Ok t)) (Does (on n c) q) m
     (λ docs after h. let k = subst (λ x. Picked took x f (Ok t) docs after) e h in rw k.same (picked_as took docs n f t c q good answers k.taken))
 
-denied_as : (docs : List Doc) (n : List ℕ) (e : StoreError) (c : Call) → IsName n → (IsDecidedCall c → ⊥) → ((a : Table) → Show docs a → IsDenied e) → Does (on n c) (refused e.kind e.document) docs docs
+denied_as : (docs : List TableRow) (n : List ℕ) (e : StoreError) (c : Call) → IsName n → (IsDecidedCall c → ⊥) → ((a : DocumentTable) → Represents docs a → IsDenied e) → Does (on n c) (refused e.kind e.document) docs docs
 denied_as docs n e c good open_call h a s = let d = h a s in rw d.2 (denied docs (on n c) d.0 d.1 (undecided n c good open_call) a s)
 
 pub unpicked_moves : {T : Type 0} (took : T → Documents → Type 0) (s u : State) (n nb : List ℕ) (f : Filter) (e : StoreError) (c : Call) → nb ≡ n → IsName n → (IsDecidedCall c → ⊥) → Moves s u (Picked took nb f (Err e)) → Moves s u (Does (on n c) (refused e.kind e.document))

@@ -13,45 +13,45 @@ use Rattle.bson_bytes.specs.Encode.{encode, size}
 use Rattle.bson_frame.specs.Frame.{size_limit}
 use Rattle.bson_meaning.specs.Meaning.{key}
 use Rattle.bson_meaning.proofs.Now.{same_itself}
-use Rattle.bson_table.specs.Rows.{Doc, is_row_named}
+use Rattle.bson_table.specs.Rows.{TableRow, is_row_named}
 use Rattle.bson_table.specs.Rows as table
-use Rattle.bson_table.specs.Moves.{FindsPlace, AddsRows, IsRoomFor, appended}
+use Rattle.bson_table.specs.Moves.{FindsPlace, AddsRows, IsRoomFor, with_row}
 use Rattle.bson_table.specs.declared.fault.Fault.{Fault}
 use Rattle.bson_table.specs.declared.fault.Fault.TheVariants as faults
 use Rattle.store_documents.specs.Bodies.{IsKeyOf, AnswersWritten}
-use Rattle.store_documents.specs.declared.write.Written.{Written}
+use Rattle.store_documents.specs.declared.write.KeptRow.{KeptRow}
 use Rattle.store_laws.specs.Reading.{Documents, readable, IsRead}
 use Rattle.store_laws.specs.State.{id_key, list_of, store, HasId, SomeHasId, NoneHasId, Form, in_bytes, in_json, Call, insert, Command, on, Reply, done, refused, refusal_of, Answers, IsName, IsKept, Step}
 use Rattle.store_laws.specs.Run.{memory, database, places, IsDecided, IsDecidedCall, IsUnread}
-use Rattle.store_laws.specs.Table.{Row, Table, state_of, documents_of, greatest, greatest_place, Follows, Serves}
+use Rattle.store_laws.specs.Table.{DocumentRow, DocumentTable, state_of, documents_of, greatest, greatest_place, Follows, Serves}
 use Rattle.store_laws.specs.declared.error.ErrorKind.{ErrorKind}
 use Rattle.store_laws.specs.declared.error.ErrorKind.TheVariants.{BadName, NoId, TooLong, DuplicateId, Places}
 use Rattle.store_laws.proofs.Rows.{rows_not_empty, list_of-state_of, rows_last}
 use Rattle.store_laws.proofs.States.{stored_again}
 use Rattle.store_laws.proofs.Ids.{own_is, own_of, has_written}
-use Rattle.bson_store.specs.Shown.{IsRowOf, Show}
+use Rattle.bson_store.specs.Shown.{IsRowOf, Represents}
 use Rattle.bson_store.specs.Calls.{Does, DoesRead}
 use Rattle.bson_store.specs.Refusals.{kind_of_fault}
 use Rattle.bson_store.proofs.Tables.{last_greatest, shows_more, rows_after, absent, found, stands_at}
 
-pub stays : (a : Table) → Follows a a
+pub stays : (a : DocumentTable) → Follows a a
 stays a = inl ([], sym (append-nil a), tt)
 
-pub bad_name : (docs : List Doc) (n : List ℕ) (c : Call) → (IsName n → ⊥) → Does (on n c) (refused BadName None) docs docs
+pub bad_name : (docs : List TableRow) (n : List ℕ) (c : Call) → (IsName n → ⊥) → Does (on n c) (refused BadName None) docs docs
 bad_name docs n c bad a s = (a, s, (None, (inr (bad, (refl, refl)), stays a, tt)))
 
 -- a call that leaves the list of its name
-pub stay : (a : Table) (n : List ℕ) (c : Call) (r : Reply) → IsName n → Answers c (documents_of a n) r (documents_of a n) → Serves a (on n c) r a
+pub stay : (a : DocumentTable) (n : List ℕ) (c : Call) (r : Reply) → IsName n → Answers c (documents_of a n) r (documents_of a n) → Serves a (on n c) r a
 stay a n c r good answers = (None, (inl (good, (list_of (state_of a) n, subst (λ l. Answers c l r l) (sym (list_of-state_of a n)) answers, sym (stored_again (state_of a) n (rows_not_empty a)))), stays a, tt))
 
-pub answers_stay : (docs : List Doc) (n : List ℕ) (c : Call) (r : Reply) → IsName n → ((a : Table) → Show docs a → Answers c (documents_of a n) r (documents_of a n)) → Does (on n c) r docs docs
+pub answers_stay : (docs : List TableRow) (n : List ℕ) (c : Call) (r : Reply) → IsName n → ((a : DocumentTable) → Represents docs a → Answers c (documents_of a n) r (documents_of a n)) → Does (on n c) r docs docs
 answers_stay docs n c r good answers a s = (a, s, stay a n c r good (answers a s))
 
 pub memory_other : faults.Memory ≢ faults.Places
 memory_other e = cc
 
 -- memory was wanted, or the database refused
-pub denied : (docs : List Doc) (c : Command) (x : Fault) → x ≢ faults.Places → (IsDecided c → ⊥) → Does c (refused (kind_of_fault x) None) docs docs
+pub denied : (docs : List TableRow) (c : Command) (x : Fault) → x ≢ faults.Places → (IsDecided c → ⊥) → Does c (refused (kind_of_fault x) None) docs docs
 denied docs c faults.Memory other undecided a s = (a, s, (Some memory, ((refl, refl), stays a, undecided)))
 denied docs c faults.Database other undecided a s = (a, s, (Some database, ((refl, refl), stays a, undecided)))
 denied docs c faults.Places other undecided a s = absurd (other refl)
@@ -96,7 +96,7 @@ id_in d h = by (look_up id_key d) refl h
     by None e h = cc
     by (Some id) e h = (id, e)
 
-pub written_fits : (d : Members) (w : Written) → IsRead d → AnswersWritten d (Ok w) → Fits d w.key.items (cow_slice_items w.body)
+pub written_fits : (d : Members) (w : KeptRow) → IsRead d → AnswersWritten d (Ok w) → Fits d w.key.items (cow_slice_items w.body)
 written_fits d w read h =
     let s = refused_short d h.0 in
     let i = id_in d s.0 in
@@ -127,35 +127,35 @@ none_not_some id (d ∷ l) n (inr h) = none_not_some id l n.1 h
 unfit_answers : (f : Form) (d : Members) (k : ErrorKind) (l : Documents) → refusal_of d ≡ Some k → Answers (insert f (readable d)) l (refused k None) l
 unfit_answers f d k l is = rw is (refl, refl)
 
-pub insert_unwritten : (docs : List Doc) (n : List ℕ) (d : Members) (k : ErrorKind) → IsName n → AnswersWritten d (Err k) → DoesRead n insert d (refused k None) docs docs
+pub insert_unwritten : (docs : List TableRow) (n : List ℕ) (d : Members) (k : ErrorKind) → IsName n → AnswersWritten d (Err k) → DoesRead n insert d (refused k None) docs docs
 insert_unwritten docs n d k good (inl is) f = answers_stay docs n (insert f (readable d)) (refused k None) good (λ a s. unfit_answers f d k (documents_of a n) is)
 insert_unwritten docs n d k good (inr is) f = rw is (denied docs (on n (insert f (readable d))) faults.Memory memory_other (undecided n (insert f (readable d)) good (read_open f d)))
 
-insert_denied : (docs : List Doc) (n : List ℕ) (d : Members) (x : Fault) → IsName n → x ≢ faults.Places → DoesRead n insert d (refused (kind_of_fault x) None) docs docs
+insert_denied : (docs : List TableRow) (n : List ℕ) (d : Members) (x : Fault) → IsName n → x ≢ faults.Places → DoesRead n insert d (refused (kind_of_fault x) None) docs docs
 insert_denied docs n d x good other f = denied docs (on n (insert f (readable d))) x other (undecided n (insert f (readable d)) good (read_open f d))
 
-pub insert_unfound : (docs after : List Doc) (n k : List ℕ) (d : Members) (x : Fault) → IsName n → FindsPlace n k (Err x) docs after → DoesRead n insert d (refused (kind_of_fault x) None) docs after
+pub insert_unfound : (docs after : List TableRow) (n k : List ℕ) (d : Members) (x : Fault) → IsName n → FindsPlace n k (Err x) docs after → DoesRead n insert d (refused (kind_of_fault x) None) docs after
 insert_unfound docs after n k d x good h = rw h.same (insert_denied docs n d x good h.faults)
 
 duplicate_answers : (f : Form) (d : Members) (id : Value) (l : Documents) → look_up id_key d ≡ Some id → size d ≤ size_limit → SomeHasId id l → Answers (insert f (readable d)) l (refused DuplicateId None) l
 duplicate_answers f d id l has short taken = rw (has, le-ltb size_limit (size d) short) (inl (taken, (refl, refl)))
 
-pub some_is : (o : Option Doc) (x : ℤ) → Some x ≡ option_map (λ (d : Doc). d.place) o → (e : Doc) × (o ≡ Some e) × (x ≡ e.place)
+pub some_is : (o : Option TableRow) (x : ℤ) → Some x ≡ option_map (λ (d : TableRow). d.place) o → (e : TableRow) × (o ≡ Some e) × (x ≡ e.place)
 some_is None x h = cc
 some_is (Some e) x h = (e, refl, cc)
 
-pub none_is : (o : Option Doc) → None ≡ option_map (λ (d : Doc). d.place) o → o ≡ None
+pub none_is : (o : Option TableRow) → None ≡ option_map (λ (d : TableRow). d.place) o → o ≡ None
 none_is None h = refl
 none_is (Some e) h = cc
 
-duplicate_of : (docs : List Doc) (n k b : List ℕ) (d : Members) (e : Doc) → IsName n → Fits d k b → find (is_row_named n k) docs ≡ Some e → DoesRead n insert d (refused DuplicateId None) docs docs
+duplicate_of : (docs : List TableRow) (n k b : List ℕ) (d : Members) (e : TableRow) → IsName n → Fits d k b → find (is_row_named n k) docs ≡ Some e → DoesRead n insert d (refused DuplicateId None) docs docs
 duplicate_of docs n k b d e good fits is f =
     answers_stay docs n (insert f (readable d)) (refused DuplicateId None) good
     (λ a s. let p = found n k fits.id docs a e fits.key s.each s.good is in
     let q = stands_at n k fits.id docs a e p in
     duplicate_answers f d fits.id (documents_of a n) fits.has fits.short (subst (SomeHasId fits.id) (sym q.split) (some_behind fits.id (documents_of p.front n) p.r.document (documents_of p.back n) q.has)))
 
-pub duplicate : (docs after : List Doc) (n k b : List ℕ) (d : Members) (x : ℤ) → IsName n → Fits d k b → FindsPlace n k (Ok (Some x)) docs after → DoesRead n insert d (refused DuplicateId None) docs after
+pub duplicate : (docs after : List TableRow) (n k b : List ℕ) (d : Members) (x : ℤ) → IsName n → Fits d k b → FindsPlace n k (Ok (Some x)) docs after → DoesRead n insert d (refused DuplicateId None) docs after
 duplicate docs after n k b d x good fits h =
     let e = some_is (find (is_row_named n k) docs) x h.found in
     rw h.same (duplicate_of docs n k b d e.0 good fits e.1)
@@ -163,7 +163,7 @@ duplicate docs after n k b d x good fits h =
 insert_answers : (f : Form) (d : Members) (id : Value) (l : Documents) → look_up id_key d ≡ Some id → size d ≤ size_limit → (SomeHasId id l → ⊥) → Answers (insert f (readable d)) l done (l ++ d ∷ [])
 insert_answers f d id l has short free = rw (has, le-ltb size_limit (size d) short) (inr (free, (refl, refl)))
 
-step_in : (f : Form) (docs : List Doc) (n k b : List ℕ) (d : Members) (a : Table) (r : Row) → IsName n → Fits d k b → find (is_row_named n k) docs ≡ None → Show docs a → r.name ≡ n → r.document ≡ d
+step_in : (f : Form) (docs : List TableRow) (n k b : List ℕ) (d : Members) (a : DocumentTable) (r : DocumentRow) → IsName n → Fits d k b → find (is_row_named n k) docs ≡ None → Represents docs a → r.name ≡ n → r.document ≡ d
     → Step (state_of a) (on n (insert f (readable d))) done (state_of (a ++ r ∷ []))
 step_in f docs n k b d a r good h free s name is =
     let l = list_of (state_of a) n in
@@ -191,9 +191,9 @@ full_is l g k e h = by (leb_tells (g + k) greatest_place)
     by (inl i) = let low : (l +ℤ pos k) <ℤ pos (2 ^ 63) = omega (arith, ints, e, i.1) in absurd (h low)
     by (inr i) = i.1
 
-goes_in : (f : Form) (docs : List Doc) (n k b : List ℕ) (d : Members) → IsName n → IsUtf8 n → Fits d k b → find (is_row_named n k) docs ≡ None → IsRoomFor 1 docs → Does (on n (insert f (readable d))) done docs (appended n k b docs)
+goes_in : (f : Form) (docs : List TableRow) (n k b : List ℕ) (d : Members) → IsName n → IsUtf8 n → Fits d k b → find (is_row_named n k) docs ≡ None → IsRoomFor 1 docs → Does (on n (insert f (readable d))) done docs (with_row n k b docs)
 goes_in f docs n k b d good text h free room a s =
-    let r : Row = record { place = suc (greatest a); name = n; document = d } in
+    let r : DocumentRow = record { place = suc (greatest a); name = n; document = d } in
     let last = last_greatest a docs s in
     let below : greatest a < greatest_place = omega (arith, room_is (table.last_place docs) (greatest a) 1 last room) in
     let step = step_in f docs n k b d a r good h free s refl refl in
@@ -209,17 +209,17 @@ goes_in f docs n k b d good text h free room a s =
       (None, (step, inl (r ∷ [], refl, (refl, omega (arith, below), tt)), tt)),
     )
 
-no_place : (f : Form) (docs : List Doc) (n k b : List ℕ) (d : Members) → IsName n → Fits d k b → find (is_row_named n k) docs ≡ None → (IsRoomFor 1 docs → ⊥) → Does (on n (insert f (readable d))) (refused Places None) docs docs
+no_place : (f : Form) (docs : List TableRow) (n k b : List ℕ) (d : Members) → IsName n → Fits d k b → find (is_row_named n k) docs ≡ None → (IsRoomFor 1 docs → ⊥) → Does (on n (insert f (readable d))) (refused Places None) docs docs
 no_place f docs n k b d good h free full a s =
-    let r : Row = record { place = suc (greatest a); name = n; document = d } in
+    let r : DocumentRow = record { place = suc (greatest a); name = n; document = d } in
     let g : greatest_place < greatest a + 1 = full_is (table.last_place docs) (greatest a) 1 (last_greatest a docs s) full in
     (a, s, (Some places, ((refl, refl), stays a, (undecided n (insert f (readable d)) good (read_open f d), (g, done, state_of (a ++ r ∷ []), step_in f docs n k b d a r good h free s refl refl, λ x. x)))))
 
 -- what a row more makes of the state, whether there is a place for it or not
-pub row_makes : (f : Form) (docs mid : List Doc) (n k b : List ℕ) (d : Members) → IsName n → IsUtf8 n → Fits d k b → FindsPlace n k (Ok None) docs mid
-    → (a : Table) → Show docs a → (q : Reply) × (e : Table) × Show (appended n k b docs) e × Step (state_of a) (on n (insert f (readable d))) q (state_of e)
+pub row_makes : (f : Form) (docs mid : List TableRow) (n k b : List ℕ) (d : Members) → IsName n → IsUtf8 n → Fits d k b → FindsPlace n k (Ok None) docs mid
+    → (a : DocumentTable) → Represents docs a → (q : Reply) × (e : DocumentTable) × Represents (with_row n k b docs) e × Step (state_of a) (on n (insert f (readable d))) q (state_of e)
 row_makes f docs mid n k b d good text h none a s =
-    let r : Row = record { place = suc (greatest a); name = n; document = d } in
+    let r : DocumentRow = record { place = suc (greatest a); name = n; document = d } in
     let last = last_greatest a docs s in
     let step = step_in f docs n k b d a r good h (none_is (find (is_row_named n k) docs) none.found) s refl refl in
     let one : IsRowOf r (record { place = table.last_place docs +ℤ pos 1; coll = n; idkey = k; body = b }) = record {
@@ -231,13 +231,13 @@ row_makes f docs mid n k b d good text h none a s =
     } in
     (done, a ++ r ∷ [], shows_more docs a r _ s one refl (rows_after a (a ++ r ∷ []) (on n (insert f (readable d))) done s.good h.read step), step)
 
-pub put_in : (docs mid after : List Doc) (n k b : List ℕ) (d : Members) → IsName n → IsUtf8 n → Fits d k b → FindsPlace n k (Ok None) docs mid → AddsRows 1 (appended n k b) (Ok tt) mid after → DoesRead n insert d done docs after
+pub put_in : (docs mid after : List TableRow) (n k b : List ℕ) (d : Members) → IsName n → IsUtf8 n → Fits d k b → FindsPlace n k (Ok None) docs mid → AddsRows 1 (with_row n k b) (Ok tt) mid after → DoesRead n insert d done docs after
 put_in docs mid after n k b d good text fits none h f =
     let room = subst (IsRoomFor 1) none.same h.room in
     rw (h.done, none.same) (goes_in f docs n k b d good text fits (none_is (find (is_row_named n k) docs) none.found) room)
 
 -- the table refuses a row more
-pub not_put_in : (docs mid after : List Doc) (n k b : List ℕ) (d : Members) (x : Fault) → IsName n → Fits d k b → FindsPlace n k (Ok None) docs mid → AddsRows 1 (appended n k b) (Err x) mid after → DoesRead n insert d (refused (kind_of_fault x) None) docs after
+pub not_put_in : (docs mid after : List TableRow) (n k b : List ℕ) (d : Members) (x : Fault) → IsName n → Fits d k b → FindsPlace n k (Ok None) docs mid → AddsRows 1 (with_row n k b) (Err x) mid after → DoesRead n insert d (refused (kind_of_fault x) None) docs after
 not_put_in docs mid after n k b d faults.Memory good fits none h f = rw (h.refused, none.same) (insert_denied docs n d faults.Memory good memory_other f)
 not_put_in docs mid after n k b d faults.Database good fits none h f = rw (h.refused, none.same) (insert_denied docs n d faults.Database good (λ e. cc) f)
 not_put_in docs mid after n k b d faults.Places good fits none h f =

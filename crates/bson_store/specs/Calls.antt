@@ -3,14 +3,14 @@ use Rattle.std.specs.Prelude.{◌≡◌, ℕ, List, Option, Some, None, Result, 
 use Rattle.std.specs.List.{find}
 use Rattle.serde_json.specs.Data.{Data}
 use Rattle.bson_base.specs.Value.{Value, Members}
-use Rattle.bson_table.specs.Rows.{Doc, is_row_named}
-use Rattle.bson_table.specs.Moves.{kept, seen}
+use Rattle.bson_table.specs.Rows.{TableRow, is_row_named}
+use Rattle.bson_table.specs.Moves.{parts_of_found, parts_of_row}
 use Rattle.bson_table.specs.declared.row.Found.{Found}
 use Rattle.store_laws.specs.Reading.{Reading, ReadsBytes, ReadsTree, readable}
 use Rattle.store_laws.specs.State as model
-use Rattle.store_laws.specs.Table.{Table, Serves, documents_of}
+use Rattle.store_laws.specs.Table.{DocumentTable, Serves, documents_of}
 use Rattle.store_documents.specs.Bodies.{IsKeyOf}
-use Rattle.bson_store.specs.Shown.{Show}
+use Rattle.bson_store.specs.Shown.{Represents}
 use Rattle.bson_store.specs.Refusals.{IsDenied}
 use Rattle.bson_store.specs.declared.error.StoreError.{StoreError}
 use Rattle.sqlite_trees.specs.declared.store.Store.{Ghosts}
@@ -23,31 +23,31 @@ use Rattle.bson_store.specs.declared.store.Store.{Store}
 abbrev pub store_connection : {S : Type 0} → Store S → Held S
 store_connection s = table_connection s.table
 
-abbrev pub held : {S : Type 0} → Ghosts S → Store S → State
-held g s = table_state g s.table
+abbrev pub store_state : {S : Type 0} → Ghosts S → Store S → State
+store_state g s = table_state g s.table
 
 -- whatever table the rows showed, they show one now that the command took it to
-abbrev pub Does : model.Command → model.Reply → List Doc → List Doc → Type 0
-Does c r old new = (a : Table) → Show old a → (b : Table) × Show new b × Serves a c r b
+abbrev pub Does : model.Command → model.Reply → List TableRow → List TableRow → Type 0
+Does c r old new = (a : DocumentTable) → Represents old a → (b : DocumentTable) × Represents new b × Serves a c r b
 
 -- so does a call with bytes, which stand for what they read as
-abbrev pub DoesBytes : List ℕ → (Reading → model.Call) → List ℕ → model.Reply → List Doc → List Doc → Type 0
+abbrev pub DoesBytes : List ℕ → (Reading → model.Call) → List ℕ → model.Reply → List TableRow → List TableRow → Type 0
 DoesBytes n call bytes r old new = (x : Reading) × ReadsBytes bytes x × Does (model.on n (call x)) r old new
 
 -- and a call with JSON
-abbrev pub DoesTree : List ℕ → (Reading → model.Call) → Data → model.Reply → List Doc → List Doc → Type 0
+abbrev pub DoesTree : List ℕ → (Reading → model.Call) → Data → model.Reply → List TableRow → List TableRow → Type 0
 DoesTree n call j r old new = (x : Reading) × ReadsTree j x × Does (model.on n (call x)) r old new
 
 -- a call with a document that was read, in whatever form it was given
-abbrev pub DoesRead : List ℕ → (model.Form → Reading → model.Call) → Members → model.Reply → List Doc → List Doc → Type 0
+abbrev pub DoesRead : List ℕ → (model.Form → Reading → model.Call) → Members → model.Reply → List TableRow → List TableRow → Type 0
 DoesRead n call d r old new = (f : model.Form) → Does (model.on n (call f (readable d))) r old new
 
 -- an id's look-up: no document has it, or one has it, whose row is the first of the collection under its key
-abbrev pub FindsIn : List Doc → List ℕ → Value → Option Found → Type 0
-FindsIn docs n id None = (a : Table) → Show docs a → model.NoneHasId id (documents_of a n)
-FindsIn docs n id (Some f) = (k : List ℕ) × (d : Doc) × IsKeyOf k id × (find (is_row_named n k) docs ≡ Some d) × (kept f ≡ seen d)
+abbrev pub FindsIn : List TableRow → List ℕ → Value → Option Found → Type 0
+FindsIn docs n id None = (a : DocumentTable) → Represents docs a → model.NoneHasId id (documents_of a n)
+FindsIn docs n id (Some f) = (k : List ℕ) × (d : TableRow) × IsKeyOf k id × (find (is_row_named n k) docs ≡ Some d) × (parts_of_found f ≡ parts_of_row d)
 
-pub record Looks (n : List ℕ) (id : Value) (result : Result (Option Found) StoreError) (docs after : List Doc) : Type 0 where
+pub record Looks (n : List ℕ) (id : Value) (result : Result (Option Found) StoreError) (docs after : List TableRow) : Type 0 where
   pub same : after ≡ docs
   pub found : IfOk result (FindsIn docs n id)
   pub denied : IfErr result IsDenied

@@ -1,17 +1,17 @@
 -- The trees of a collection, as they are made and handed on.
 use Rattle.std.specs.Prelude.{◌≡◌, ◌⊎◌, ℕ, ◌+◌, List, [], ◌∷◌, ◌++◌, length, Option, Result, Ok, Err, map, MatchOption, MatchResult}
 use Rattle.serde_json.specs.Data.{Data}
-use Rattle.serde_json.specs.View.{view as tree_of}
+use Rattle.serde_json.specs.View.{view as data_of}
 use Rattle.serde_json.specs.declared.value.Value.{Value as Json}
 use Rattle.bson_bytes.specs.Encode.{encode}
-use Rattle.bson_table.specs.Rows.{Doc}
+use Rattle.bson_table.specs.Rows.{TableRow}
 use Rattle.store_laws.specs.Reading.{Documents}
 use Rattle.store_laws.specs.State.{AreKept, IsName, refused, trees_of, trees_reply}
-use Rattle.store_laws.specs.Table.{Table, documents_of}
+use Rattle.store_laws.specs.Table.{DocumentTable, documents_of}
 use Rattle.store_laws.specs.declared.error.ErrorKind.{ErrorKind}
 use Rattle.store_laws.specs.declared.error.ErrorKind.TheVariants.{BadName, Memory}
 use Rattle.bson_store.specs.Refusals.{IsDenied, refusal, refusal_at}
-use Rattle.bson_store.specs.Shown.{Show}
+use Rattle.bson_store.specs.Shown.{Represents}
 use Rattle.bson_store.specs.declared.error.StoreError.{StoreError}
 
 -- the refusal of the document at a place; want of memory has none
@@ -21,7 +21,7 @@ told_at k i = refusal_at k i
 
 -- the tree that is wanted, or the refusal that stands in its place, or want of memory
 abbrev pub TellsTree : Result Data ErrorKind → ℕ → Result Json StoreError → Type 0
-TellsTree r i (Ok j) = r ≡ Ok (tree_of j)
+TellsTree r i (Ok j) = r ≡ Ok (data_of j)
 TellsTree r i (Err e) = (e ≡ refusal Memory) ⊎ ((k : ErrorKind) × (r ≡ Err k) × (e ≡ refusal_at k i))
 
 -- The tree that is wanted was taken behind these; or the taker refused it; or these were taken, and what stands in its place is
@@ -50,16 +50,16 @@ HandedOn took refused_by i bodies refusal = (ds : Documents) → AreKept ds → 
 
 -- Whatever table the rows show, the trees of its list were taken; or the name is bad, and none was, or a beginning of them was, and
 -- it is told why no more were; the rows stay.
-pub record HandsTrees {T : Type 0} (took : T → List Data → Type 0) (refused_by : T → List Data → StoreError → Type 0) (n : List ℕ) (result : Result T (StoreError × T)) (docs after : List Doc) : Type 0 where
+pub record HandsTrees {T : Type 0} (took : T → List Data → Type 0) (refused_by : T → List Data → StoreError → Type 0) (n : List ℕ) (result : Result T (StoreError × T)) (docs after : List TableRow) : Type 0 where
   pub same : after ≡ docs
-  pub handed : (a : Table) → Show docs a → MatchResult result
+  pub handed : (a : DocumentTable) → Represents docs a → MatchResult result
       (λ t. IsName n × TakesAll (took t) (documents_of a n))
       (λ e. ((IsName n → ⊥) × (e.0 ≡ refusal BadName) × took e.1 []) ⊎ (IsName n × Stops (took e.1) (refused_by e.1) (documents_of a n) e.0))
 
 -- Whatever table the rows show, each document of its list has a tree; or the name is bad; or memory or the database was wanting, or
 -- the first of the documents that has no tree is told; the rows stay.
-pub record ChecksTrees (n : List ℕ) (result : Result (Unit {0}) StoreError) (docs after : List Doc) : Type 0 where
+pub record ChecksTrees (n : List ℕ) (result : Result (Unit {0}) StoreError) (docs after : List TableRow) : Type 0 where
   pub same : after ≡ docs
-  pub checked : (a : Table) → Show docs a → MatchResult result
+  pub checked : (a : DocumentTable) → Represents docs a → MatchResult result
       (λ _. IsName n × ((js : List Data) × (trees_of 0 (documents_of a n) ≡ Ok js)))
       (λ e. ((IsName n → ⊥) × (e ≡ refusal BadName)) ⊎ (IsName n × (IsDenied e ⊎ (trees_reply (trees_of 0 (documents_of a n)) ≡ refused e.kind e.document))))

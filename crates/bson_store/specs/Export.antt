@@ -5,12 +5,12 @@ use Rattle.std.specs.Io.KnownBytes.{Appends}
 use Rattle.std.specs.declared.alloc.Global.{Global}
 use Rattle.bson_base.specs.Device.{TakesBeginning, Tally}
 use Rattle.bson_bytes.specs.Encode.{encode}
-use Rattle.bson_table.specs.Rows.{Doc}
+use Rattle.bson_table.specs.Rows.{TableRow}
 use Rattle.store_laws.specs.State.{State, list_of, IsName}
-use Rattle.store_laws.specs.Table.{Table, state_of}
+use Rattle.store_laws.specs.Table.{DocumentTable, state_of}
 use Rattle.store_laws.specs.declared.error.ErrorKind.{ErrorKind}
 use Rattle.store_laws.specs.declared.error.ErrorKind.TheVariants.{BadName, Memory, Database, Writer}
-use Rattle.bson_store.specs.Shown.{Show}
+use Rattle.bson_store.specs.Shown.{Represents}
 use Rattle.bson_store.specs.declared.error.StoreError.{StoreError}
 
 -- All of bs went out; or a beginning of it did, and a call of the sink failed where `Writer` is told, and none where `Memory` or
@@ -33,9 +33,9 @@ Exports s n old new (Ok x) = IsName n × Delivers (flat_map encode (list_of s n)
 Exports s n old new (Err e) = (e.document ≡ None) × ExportRefused s n old new e.kind
 
 -- whatever table the rows show, its list goes out, and the rows stay
-pub record SendsCollection (n : List ℕ) (old new : Tally) (result : Result (Unit {0}) StoreError) (docs after : List Doc) : Type 0 where
+pub record SendsCollection (n : List ℕ) (old new : Tally) (result : Result (Unit {0}) StoreError) (docs after : List TableRow) : Type 0 where
   pub same : after ≡ docs
-  pub exports : (a : Table) → Show docs a → Exports (state_of a) n old new result
+  pub exports : (a : DocumentTable) → Represents docs a → Exports (state_of a) n old new result
 
 -- the bodies of a collection, one after the other
 abbrev pub bytes_of_each : List (Vec ℕ Global) → List (List ℕ)

@@ -2,15 +2,15 @@
 use Rattle.std.specs.Prelude.{◌≡◌, ◌⊎◌, ℕ, List, []}
 use Rattle.sqlite.specs.State.{State, IsUnchanged}
 use Rattle.bson_meaning.specs.Before.{key as key_before}
-use Rattle.bson_table.specs.Rows.{Doc, Shows, IsBlank}
+use Rattle.bson_table.specs.Rows.{TableRow, HoldsRows, IsBlank}
 use Rattle.bson_table.specs.Open.{HasNoTable}
 use Rattle.bson_table.specs.Beside.{StandsBeside}
 use Rattle.bson_table.specs.Renewal.{Unopened, PassesOnce}
 use Rattle.bson_table.specs.Schema.{documents_schema}
 use Rattle.bson_table.specs.declared.opening.OpenError.{OpenError}
 use Rattle.store_documents.specs.Bodies.{IsRow}
-use Rattle.store_laws.specs.Table.{Table, own_id}
-use Rattle.bson_store.specs.Shown.{Show, ShowOnce}
+use Rattle.store_laws.specs.Table.{DocumentTable, own_id}
+use Rattle.bson_store.specs.Shown.{Represents, RepresentsOnce}
 use Rattle.bson_store.specs.Refusals.{kind_of_opening, refusal}
 use Rattle.bson_store.specs.declared.error.StoreError.{StoreError}
 
@@ -20,22 +20,22 @@ abbrev pub IsRowUnder : List ℕ → List ℕ → List ℕ → List ℕ → Type
 IsRowUnder coll k body now = (row : IsRow coll now body) × ((k ≡ now) ⊎ (k ≡ key_before (own_id row.document)))
 
 -- the rows show a table of documents
-abbrev pub ShowSome : List Doc → Type 0
-ShowSome docs = (a : Table) × Show docs a
+abbrev pub RepresentsSome : List TableRow → Type 0
+RepresentsSome docs = (a : DocumentTable) × Represents docs a
 
 -- rows under keys of now or from before show a table of documents, and other rows show the same one under keys of now
-abbrev pub StandFor : List Doc → List Doc → Type 0
-StandFor docs after = ((a : Table) × ShowOnce docs a × Show after a) × ((a : Table) → ShowOnce docs a → Show after a)
+abbrev pub StandFor : List TableRow → List TableRow → Type 0
+StandFor docs after = ((a : DocumentTable) × RepresentsOnce docs a × Represents after a) × ((a : DocumentTable) → RepresentsOnce docs a → Represents after a)
 
 -- The table was made, beside what there was, or is found with the rows that it had, each under its key of now; nothing is written
 -- where all had that.
 pub record Opens (old new : State) : Type 0 where
-  pub made : IsBlank old → Shows new []
+  pub made : IsBlank old → HoldsRows new []
   pub beside : HasNoTable old → StandsBeside old new
-  pub found : (docs : List Doc) → Shows old docs → (after : List Doc) × Shows new after × StandFor docs after
-  pub listed : old.now.schema ≡ documents_schema → (docs : List Doc) × (after : List Doc) × Shows old docs × Shows new after × StandFor docs after
+  pub found : (docs : List TableRow) → HoldsRows old docs → (after : List TableRow) × HoldsRows new after × StandFor docs after
+  pub listed : old.now.schema ≡ documents_schema → (docs : List TableRow) × (after : List TableRow) × HoldsRows old docs × HoldsRows new after × StandFor docs after
   pub other : HasNoTable old ⊎ PassesOnce IsRowUnder old new
-  pub unwritten : (docs : List Doc) → Shows old docs → ShowSome docs → IsUnchanged old new
+  pub unwritten : (docs : List TableRow) → HoldsRows old docs → RepresentsSome docs → IsUnchanged old new
 
 -- why the database isn't opened
 abbrev pub RefusesToOpen : State → State → StoreError → Type 0

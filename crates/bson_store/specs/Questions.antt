@@ -5,14 +5,14 @@ use Rattle.bson_base.specs.Value.{document, Members}
 use Rattle.bson_bytes.specs.Encode.{encode}
 use Rattle.bson_raw.specs.View.{bytes_of as view_bytes}
 use Rattle.bson_raw.specs.declared.document.RawDocument.{RawDocument}
-use Rattle.bson_table.specs.Rows.{Doc}
+use Rattle.bson_table.specs.Rows.{TableRow}
 use Rattle.store_laws.specs.Filter.{Filter, Selects}
 use Rattle.store_laws.specs.Reading.{Documents}
 use Rattle.store_laws.specs.State.{AreKept, Picks, When, Reply, bytes_list, names}
-use Rattle.store_laws.specs.Table.{Table, documents_of}
+use Rattle.store_laws.specs.Table.{DocumentTable, documents_of}
 use Rattle.bson_store.specs.Export.{bytes_of_each}
 use Rattle.bson_store.specs.Refusals.{IsDenied}
-use Rattle.bson_store.specs.Shown.{Show}
+use Rattle.bson_store.specs.Shown.{Represents}
 use Rattle.bson_store.specs.declared.error.StoreError.{StoreError}
 
 abbrev pub as_list : Vec (Vec ℕ Global) Global → Reply
@@ -36,7 +36,7 @@ abbrev pub GivesPicked : (Documents → Type 0) → Filter → List (List ℕ) �
 GivesPicked took f bodies fault = (ds : Documents) → AreKept ds → bodies ≡ map encode ds → MatchOption fault ((out : Documents) × Picks f ds out × took out) IsDenied
 
 -- whatever table the rows show, what the filter selects of a collection was taken; the rows stay
-pub record Picked {T : Type 0} (took : T → Documents → Type 0) (n : List ℕ) (f : Filter) (result : Result T StoreError) (docs after : List Doc) : Type 0 where
+pub record Picked {T : Type 0} (took : T → Documents → Type 0) (n : List ℕ) (f : Filter) (result : Result T StoreError) (docs after : List TableRow) : Type 0 where
   pub same : after ≡ docs
-  pub taken : (a : Table) → Show docs a → IfOk result (λ t. (out : Documents) × Picks f (documents_of a n) out × took t out)
-  pub denied : (a : Table) → Show docs a → IfErr result IsDenied
+  pub taken : (a : DocumentTable) → Represents docs a → IfOk result (λ t. (out : Documents) × Picks f (documents_of a n) out × took t out)
+  pub denied : (a : DocumentTable) → Represents docs a → IfErr result IsDenied

@@ -1,7 +1,7 @@
 -- What the refusals of the table are told as, and what a call's result is as a reply.
 use Rattle.std.specs.Prelude.{◌≡◌, ◌≢◌, Bool, ℕ, Some, None, Result, Ok, Err, Vec, map}
 use Rattle.std.specs.declared.alloc.Global.{Global}
-use Rattle.serde_json.specs.View.{view as tree_of}
+use Rattle.serde_json.specs.View.{view as data_of}
 use Rattle.serde_json.specs.declared.value.Value.{Value as Json}
 use Rattle.bson_table.specs.declared.fault.Fault.{Fault}
 use Rattle.bson_table.specs.declared.fault.Fault.TheVariants as faults
@@ -63,10 +63,10 @@ abbrev pub as_bytes : Vec ℕ Global → model.Reply
 as_bytes v = model.bytes v.items
 
 abbrev pub as_json : Json → model.Reply
-as_json j = model.json (tree_of j)
+as_json j = model.json (data_of j)
 
 abbrev pub as_number : ℕ → model.Reply
 as_number i = model.number i
 
 abbrev pub as_json_list : Vec Json Global → model.Reply
-as_json_list v = model.json_list (map tree_of v.items)
+as_json_list v = model.json_list (map data_of v.items)

@@ -2,7 +2,7 @@
 
 ghost use Rattle.std.specs.Prelude.{◌≡◌, IfOk, OnErr};
 ghost use Rattle.bson_table.specs.Moves.{Moves};
-ghost use Rattle.bson_store.specs.Calls.{held};
+ghost use Rattle.bson_store.specs.Calls.{store_state};
 ghost use Rattle.bson_store.specs.Questions.{as_list, as_names};
 ghost use Rattle.bson_store.specs.Refusals.{reply_by, as_done, as_flag, as_bytes, as_json, as_json_list, as_number};
 ghost use Rattle.store_laws.specs.Reading.{ReadsStream};
@@ -37,7 +37,7 @@ fn flag(outcome: Result<bool, StoreError>) -> Reply
     }
 }
 
-fn written(outcome: Result<Vec<u8>, StoreError>) -> Reply
+fn bytes_reply(outcome: Result<Vec<u8>, StoreError>) -> Reply
     ensures { reply_of result ≡ reply_by as_bytes outcome }
 {
     match outcome {
@@ -93,9 +93,9 @@ fn json_list(outcome: Result<Vec<Value>, StoreError>) -> Reply
 
 /// The written documents of a collection, in memory.
 fn exported<S: Alter + Drop>(store: &mut Store<S>, name: &str) -> Reply
-    ensures moves { Moves (held S.Store store.old) (held S.Store store.new) (Exported name.now result) }
-    ensures open { WasOpenFor result (held S.Store store.old) (held S.Store store.new) }
-    ensures crash { Leaves (held S.Store store.old) (held S.Store store.new) (on name.now export) (reply_of result) }
+    ensures moves { Moves (store_state S.Store store.old) (store_state S.Store store.new) (Exported name.now result) }
+    ensures open { WasOpenFor result (store_state S.Store store.old) (store_state S.Store store.new) }
+    ensures crash { Leaves (store_state S.Store store.old) (store_state S.Store store.new) (on name.now export) (reply_of result) }
 {
     let mut sink = VecSink::new(store.allocator());
     match store.export(name, &mut sink) {
@@ -110,9 +110,9 @@ fn exported<S: Alter + Drop>(store: &mut Store<S>, name: &str) -> Reply
 
 /// Documents that go into a collection from memory.
 fn imported<S: Alter + Drop>(store: &mut Store<S>, name: &str, bytes: &[u8]) -> Reply
-    ensures moves { Moves (held S.Store store.old) (held S.Store store.new) (Imported name.now bytes.now result) }
-    ensures open { WasOpenFor result (held S.Store store.old) (held S.Store store.new) }
-    ensures crash { LeavesMany name.now (ReadsStream bytes.now) (reply_of result) (held S.Store store.old) (held S.Store store.new) }
+    ensures moves { Moves (store_state S.Store store.old) (store_state S.Store store.new) (Imported name.now bytes.now result) }
+    ensures open { WasOpenFor result (store_state S.Store store.old) (store_state S.Store store.new) }
+    ensures crash { LeavesMany name.now (ReadsStream bytes.now) (reply_of result) (store_state S.Store store.old) (store_state S.Store store.new) }
 {
     let mut source = SliceSource::new(bytes);
     counted(store.import(name, &mut source))
@@ -120,9 +120,9 @@ fn imported<S: Alter + Drop>(store: &mut Store<S>, name: &str, bytes: &[u8]) -> 
 
 /// One command. JSON is handed over to the call that keeps it; all else is lent.
 fn execute<S: Alter + Drop>(store: &mut Store<S>, command: Command) -> Reply
-    ensures moves { Moves (held S.Store store.old) (held S.Store store.new) (Obeys command result) }
-    ensures open { WasOpenFor result (held S.Store store.old) (held S.Store store.new) }
-    ensures crash { LeavesCommand command result (held S.Store store.old) (held S.Store store.new) }
+    ensures moves { Moves (store_state S.Store store.old) (store_state S.Store store.new) (Obeys command result) }
+    ensures open { WasOpenFor result (store_state S.Store store.old) (store_state S.Store store.new) }
+    ensures crash { LeavesCommand command result (store_state S.Store store.old) (store_state S.Store store.new) }
 {
     match command {
         Command::InsertJson { name, json } => done(store.insert_json(name.as_str(), json)),
@@ -141,9 +141,9 @@ fn execute<S: Alter + Drop>(store: &mut Store<S>, command: Command) -> Reply
 /// One command that hands no JSON over. It is lent, as what it holds would else be dropped anew in each of the cases.
 fn execute_lent<S: Alter + Drop>(store: &mut Store<S>, command: &Command) -> Reply
     requires { IsLent command.now }
-    ensures moves { Moves (held S.Store store.old) (held S.Store store.new) (Obeys command.now result) }
-    ensures open { WasOpenFor result (held S.Store store.old) (held S.Store store.new) }
-    ensures crash { LeavesCommand command.now result (held S.Store store.old) (held S.Store store.new) }
+    ensures moves { Moves (store_state S.Store store.old) (store_state S.Store store.new) (Obeys command.now result) }
+    ensures open { WasOpenFor result (store_state S.Store store.old) (store_state S.Store store.new) }
+    ensures crash { LeavesCommand command.now result (store_state S.Store store.old) (store_state S.Store store.new) }
 {
     match command {
         Command::InsertRaw { name, bytes } => done(store.insert_raw(
@@ -156,7 +156,7 @@ fn execute_lent<S: Alter + Drop>(store: &mut Store<S>, command: &Command) -> Rep
         )),
         Command::Unset { name, id, key } => flag(store.unset(name.as_str(), id, key.as_str())),
         Command::Remove { name, id } => done(store.remove(name.as_str(), id)),
-        Command::GetRaw { name, id } => written(store.get_raw(name.as_str(), id)),
+        Command::GetRaw { name, id } => bytes_reply(store.get_raw(name.as_str(), id)),
         Command::GetJson { name, id, mode } => json(store.get_json(name.as_str(), id, *mode)),
         Command::Collections => names(store.collections()),
         Command::Find { name, filter } => list(store.find(name.as_str(), filter)),
@@ -182,17 +182,17 @@ pub fn run<S: Alter + Drop>(
     commands: Vec<Command>,
 ) -> Result<Vec<Reply>, AllocError>
     // Whatever table the rows showed, the replies and the table that they show now are those of a run through tables.
-    ensures tables { IfOk result (λ replies. Moves (held S.Store store.old) (held S.Store store.new) (AnswersThroughTables commands.items replies.items)) }
+    ensures tables { IfOk result (λ replies. Moves (store_state S.Store store.old) (store_state S.Store store.new) (AnswersThroughTables commands.items replies.items)) }
     // So they are those of the commands on plain lists of documents, but where memory, the database or places were wanted.
-    ensures lists { IfOk result (λ replies. Moves (held S.Store store.old) (held S.Store store.new) (AnswersAsLists commands.items replies.items)) }
+    ensures lists { IfOk result (λ replies. Moves (store_state S.Store store.old) (store_state S.Store store.new) (AnswersAsLists commands.items replies.items)) }
     // Where the last command was accepted the connection is open, so these rows are in its table.
-    ensures open { IfOk result (λ replies. EndsOpen replies.items (held S.Store store.old) (held S.Store store.new)) }
+    ensures open { IfOk result (λ replies. EndsOpen replies.items (store_state S.Store store.old) (store_state S.Store store.new)) }
     // What a crash leaves now is left along this run, from what it might leave before.
-    ensures crash { IfOk result (λ replies. Moves (held S.Store store.old) (held S.Store store.new)
-        (LeavesAsLists commands.items replies.items (held S.Store store.old).may_leave (held S.Store store.new).may_leave)) }
+    ensures crash { IfOk result (λ replies. Moves (store_state S.Store store.old) (store_state S.Store store.new)
+        (LeavesAsLists commands.items replies.items (store_state S.Store store.old).may_leave (store_state S.Store store.new).may_leave)) }
     // So where a crash could leave one state alone before, it leaves the state at the end, or what one of the commands makes of that.
-    ensures ends { IfOk result (λ replies. Moves (held S.Store store.old) (held S.Store store.new)
-        (LeavesTheEnd commands.items replies.items (held S.Store store.old).may_leave (held S.Store store.new).may_leave)) }
+    ensures ends { IfOk result (λ replies. Moves (store_state S.Store store.old) (store_state S.Store store.new)
+        (LeavesTheEnd commands.items replies.items (store_state S.Store store.old).may_leave (store_state S.Store store.new).may_leave)) }
     // Where memory was wanted for the replies, no command was done.
     ensures err { OnErr result (store.new ≡ store.old) }
 {

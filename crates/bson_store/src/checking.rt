@@ -6,9 +6,9 @@ ghost use Rattle.bson_base.specs.Value.{Members};
 ghost use Rattle.bson_bytes.specs.Encode.{encode};
 ghost use Rattle.bson_model.specs.declared.extjson.ser.Mode.TheVariants.{Canonical};
 ghost use Rattle.bson_table.specs.Moves.{Moves, WasOpen};
-ghost use Rattle.store_laws.specs.State.{IsKept, tree_of};
+ghost use Rattle.store_laws.specs.State.{IsKept, json_of};
 ghost use Rattle.sqlite.specs.State.{Survives};
-ghost use Rattle.bson_store.specs.Calls.{held};
+ghost use Rattle.bson_store.specs.Calls.{store_state};
 ghost use Rattle.bson_store.specs.Dump.{ChecksTrees, HandsOn};
 
 use crate::dump::refused_at;
@@ -23,7 +23,7 @@ use store_laws::ErrorKind;
 
 /// Answers the place behind that of a body of the collection, if its document has a tree.
 fn pass(alloc: Global, body: &[u8], place: u64) -> Result<u64, StoreError>
-    ensures { (out : List Data) (d : Members) → IsKept d → body.now ≡ encode d → HandsOn (λ _. Unit {0}) (λ _ _. ⊥) out place (tree_of Canonical d) result }
+    ensures { (out : List Data) (d : Members) → IsKept d → body.now ≡ encode d → HandsOn (λ _. Unit {0}) (λ _ _. ⊥) out place (json_of Canonical d) result }
 {
     if let Err(kind) = check_json(alloc, body, Mode::Canonical) {
         return Err(refused_at(kind, place));
@@ -75,9 +75,9 @@ impl<S: Alter + Drop> Store<S> {
     /// Refused by BadName; by ReservedKey and FiniteDouble of the first document that has no such tree, of the two by
     /// ReservedKey, and `document` tells which it is; and by Memory and Database.
     pub fn check_json(&mut self, name: &str) -> Result<(), StoreError>
-        ensures moves { Moves (held S.Store self.old) (held S.Store self.new) (ChecksTrees name.now result) }
-        ensures open { WasOpen (held S.Store self.old) (held S.Store self.new) result }
-        ensures crash { Survives (held S.Store self.old) (held S.Store self.new) (λ _. ⊥) }
+        ensures moves { Moves (store_state S.Store self.old) (store_state S.Store self.new) (ChecksTrees name.now result) }
+        ensures open { WasOpen (store_state S.Store self.old) (store_state S.Store self.new) result }
+        ensures crash { Survives (store_state S.Store self.old) (store_state S.Store self.new) (λ _. ⊥) }
     {
         let name = good_name(name)?;
         let mut checker = Checker {

@@ -7,9 +7,9 @@ ghost use Rattle.bson_base.specs.Value.{Members};
 ghost use Rattle.bson_bytes.specs.Encode.{encode};
 ghost use Rattle.bson_model.specs.declared.extjson.ser.Mode.TheVariants.{Canonical};
 ghost use Rattle.bson_table.specs.Moves.{Moves, WasOpen};
-ghost use Rattle.store_laws.specs.State.{IsKept, dump, on, tree_of};
+ghost use Rattle.store_laws.specs.State.{IsKept, dump, on, json_of};
 ghost use Rattle.sqlite.specs.State.{Survives};
-ghost use Rattle.bson_store.specs.Calls.{held, Does};
+ghost use Rattle.bson_store.specs.Calls.{store_state, Does};
 ghost use Rattle.bson_store.specs.Dump.{HandsOn, HandsTrees, TellsTree, told_at};
 ghost use Rattle.bson_store.specs.Refusals.{as_json_list, reply_by};
 
@@ -20,7 +20,7 @@ use bson_table::Visit;
 use serde_json::Value;
 use sqlite::Alter;
 use std::alloc::Global;
-use store_documents::json_of;
+use store_documents::json_of_body;
 use store_laws::ErrorKind;
 
 /// What is done with the trees of a collection's documents, which come one at a time.
@@ -54,9 +54,9 @@ pub(crate) fn refused_at(kind: ErrorKind, document: u64) -> StoreError
 
 /// The tree of the body at a place of the collection.
 fn tree_at(alloc: Global, body: &[u8], place: u64) -> Result<Value, StoreError>
-    ensures { (d : Members) → IsKept d → body.now ≡ encode d → TellsTree (tree_of Canonical d) place result }
+    ensures { (d : Members) → IsKept d → body.now ≡ encode d → TellsTree (json_of Canonical d) place result }
 {
-    match json_of(alloc, body, Mode::Canonical) {
+    match json_of_body(alloc, body, Mode::Canonical) {
         Ok(json) => Ok(json),
         Err(kind) => Err(refused_at(kind, place)),
     }
@@ -70,7 +70,7 @@ fn hand_on<T: TakeJson>(
     place: u64,
 ) -> Result<u64, StoreError>
     ensures { (first : T) (out : List Data) (d : Members) → IsKept d → body.now ≡ encode d → T.took first taker.old out
-        → HandsOn (T.took first taker.new) (T.refused first taker.new) out place (tree_of Canonical d) result }
+        → HandsOn (T.took first taker.new) (T.refused first taker.new) out place (json_of Canonical d) result }
 {
     let tree = tree_at(alloc, body, place)?;
     let Some(next) = place.checked_add(1) else {
@@ -84,14 +84,14 @@ fn hand_on<T: TakeJson>(
 /// Hands the trees of the bodies on that the table hands out, one body at a time. After the first that has no tree, or that is
 /// refused, none are asked for.
 #[derive(Drop)]
-pub struct Teller<T> {
+pub struct JsonVisitor<T> {
     pub taker: T,
     pub alloc: Global,
     pub place: u64,
     pub refusal: Option<StoreError>,
 }
 
-impl<T: TakeJson> Visit for Teller<T> {
+impl<T: TakeJson> Visit for JsonVisitor<T> {
     ghost use Rattle.std.specs.Prelude.{IsSome};
     ghost use Rattle.bson_store.specs.Dump.{HandedOn};
 
@@ -149,22 +149,22 @@ impl<S: Alter + Drop> Store<S> {
         name: &str,
         taker: T,
     ) -> Result<T, (StoreError, T)>
-        ensures moves { T.took taker taker [] → Moves (held S.Store self.old) (held S.Store self.new) (HandsTrees (T.took taker) (T.refused taker) name.now result) }
-        ensures open { WasOpen (held S.Store self.old) (held S.Store self.new) result }
-        ensures crash { Survives (held S.Store self.old) (held S.Store self.new) (λ _. ⊥) }
+        ensures moves { T.took taker taker [] → Moves (store_state S.Store self.old) (store_state S.Store self.new) (HandsTrees (T.took taker) (T.refused taker) name.now result) }
+        ensures open { WasOpen (store_state S.Store self.old) (store_state S.Store self.new) result }
+        ensures crash { Survives (store_state S.Store self.old) (store_state S.Store self.new) (λ _. ⊥) }
     {
         let name = match good_name(name) {
             Ok(name) => name,
             Err(error) => return Err((error, taker)),
         };
-        let mut teller = Teller {
+        let mut teller = JsonVisitor {
             taker,
             alloc: self.alloc,
             place: 0,
             refusal: None,
         };
         let visited = self.table.visit_bodies(name.as_str(), &mut teller);
-        let Teller {
+        let JsonVisitor {
             taker,
             alloc: _,
             place: _,
@@ -184,9 +184,9 @@ impl<S: Alter + Drop> Store<S> {
     /// Refused by BadName; by ReservedKey and FiniteDouble of the first document that has no such tree, of the two by
     /// ReservedKey, and `document` tells which it is; and by Memory and Database.
     pub fn dump_json(&mut self, name: &str) -> Result<Vec<Value>, StoreError>
-        ensures moves { Moves (held S.Store self.old) (held S.Store self.new) (Does (on name.now dump) (reply_by as_json_list result)) }
-        ensures open { WasOpen (held S.Store self.old) (held S.Store self.new) result }
-        ensures crash { Survives (held S.Store self.old) (held S.Store self.new) (λ _. ⊥) }
+        ensures moves { Moves (store_state S.Store self.old) (store_state S.Store self.new) (Does (on name.now dump) (reply_by as_json_list result)) }
+        ensures open { WasOpen (store_state S.Store self.old) (store_state S.Store self.new) result }
+        ensures crash { Survives (store_state S.Store self.old) (store_state S.Store self.new) (λ _. ⊥) }
     {
         let trees = Vec::new(self.alloc);
         match self.each_json(name, Trees { trees }) {

@@ -9,7 +9,7 @@ use bson_table::Visit;
 use std::alloc::{AllocError, Global};
 
 /// Puts a copy of a body last.
-pub(crate) fn add(bodies: &mut Vec<Vec<u8>>, alloc: Global, body: &[u8]) -> Result<(), AllocError>
+pub(crate) fn push_copy(bodies: &mut Vec<Vec<u8>>, alloc: Global, body: &[u8]) -> Result<(), AllocError>
     ensures { OnOk result (bytes_of_each bodies.new.items ≡ bytes_of_each bodies.old.items ++ body.now ∷ []) }
 {
     let copy = Vec::from_slice(alloc, body)?;
@@ -19,13 +19,13 @@ pub(crate) fn add(bodies: &mut Vec<Vec<u8>>, alloc: Global, body: &[u8]) -> Resu
 
 /// Writes the bodies that the table hands out, until a write fails.
 #[derive(Drop)]
-pub struct Sender<'w, W: Sink> {
+pub struct ExportVisitor<'w, W: Sink> {
     pub writer: &'w mut W,
     pub failed: bool,
     ghost ready: { failed ≡ false → (W.tally writer.now).failures < 2 ^ 64 - 1 },
 }
 
-impl<'w, W: Sink> Visit for Sender<'w, W> {
+impl<'w, W: Sink> Visit for ExportVisitor<'w, W> {
     ghost use Rattle.std.specs.Prelude.{◌≡◌, true};
     ghost use Rattle.bson_store.specs.Export.{Sent};
 

@@ -4,10 +4,10 @@ ghost use Rattle.std.specs.Prelude.{◌≡◌, ◌||◌, ◌<◌, ◌^◌, ◌-�
 ghost use Rattle.std.specs.List.{AllZip};
 ghost use Rattle.std.specs.Str.{bytes_eq};
 ghost use Rattle.serde_json.specs.Data.{Data};
-ghost use Rattle.serde_json.specs.View.{view as tree_of};
+ghost use Rattle.serde_json.specs.View.{view as data_of};
 ghost use Rattle.sqlite.specs.State.{HasCleanDisk, Survives};
-ghost use Rattle.bson_table.specs.Moves.{AddsRows, MayLeave, Moves, Stands, WasOpen, all_appended};
-ghost use Rattle.bson_table.specs.Rows.{Doc};
+ghost use Rattle.bson_table.specs.Moves.{AddsRows, MayLeave, Moves, Stands, WasOpen, with_rows};
+ghost use Rattle.bson_table.specs.Rows.{TableRow};
 ghost use Rattle.bson_store.specs.Left.{LeavesMany, LeavesRows, ReadsFed};
 ghost use Rattle.store_documents.specs.Names.{name_bytes};
 ghost use Rattle.bson_base.specs.Kinds.{AreBytes};
@@ -15,7 +15,7 @@ ghost use Rattle.store_laws.specs.Reading.{ReadsStream, ReadsTrees};
 ghost use Rattle.store_streams.specs.Judging.{Judges};
 ghost use Rattle.store_streams.specs.Keys.{has_met};
 ghost use Rattle.store_streams.specs.Loading.{HasTaken};
-ghost use Rattle.bson_store.specs.Calls.{held};
+ghost use Rattle.bson_store.specs.Calls.{store_state};
 ghost use Rattle.bson_store.specs.Many.{AddsAll, DoesMany, FindsTaken, Imports, Lends, Meets};
 ghost use Rattle.bson_store.specs.Refusals.{as_number, refusal_at, reply_by};
 ghost use Rattle.store_laws.specs.declared.error.ErrorKind.TheVariants.{DuplicateId};
@@ -28,12 +28,12 @@ use bson_table::{Fault, NewRow};
 use serde_json::Value;
 use sqlite::Alter;
 use std::alloc::{AllocError, Global};
-use store_documents::{Name, Written};
+use store_documents::{Name, KeptRow};
 use store_laws::ErrorKind;
 use store_streams::{Keys, Loader, StreamError, first_repeated, judge_stream, judge_trees};
 
 /// The rows of the documents of a stream.
-fn judged(alloc: Global, stream: &[u8]) -> Result<Vec<Written<'_>>, StreamError>
+fn judged(alloc: Global, stream: &[u8]) -> Result<Vec<KeptRow<'_>>, StreamError>
     ensures rows { Judges (ReadsStream stream.now) result }
     ensures range { AreBytes stream.now }
 {
@@ -41,7 +41,7 @@ fn judged(alloc: Global, stream: &[u8]) -> Result<Vec<Written<'_>>, StreamError>
 }
 
 /// The rows in the table's terms. No bytes are copied.
-fn new_rows<'a>(alloc: Global, rows: &'a [Written<'_>]) -> Result<Vec<NewRow<'a>>, AllocError>
+fn new_rows<'a>(alloc: Global, rows: &'a [KeptRow<'_>]) -> Result<Vec<NewRow<'a>>, AllocError>
     ensures { IfOk result (λ new. AllZip Lends new.items rows.now) }
 {
     let mut new = Vec::new(alloc);
@@ -68,16 +68,16 @@ impl<S: Alter + Drop> Store<S> {
     /// Whether a key is in the collection or was met before. Where it wasn't, it is met now.
     fn is_taken<'a>(
         &mut self,
-        coll: &str,
+        collection: &str,
         met: &mut Keys<'a>,
         key: &'a [u8],
     ) -> Result<bool, StoreError>
-        ensures moves { Moves (held S.Store self.old) (held S.Store self.new) (Meets coll.now key.now met.old result) }
-        ensures open { WasOpen (held S.Store self.old) (held S.Store self.new) result }
-        ensures crash { Survives (held S.Store self.old) (held S.Store self.new) (λ _. ⊥) }
+        ensures moves { Moves (store_state S.Store self.old) (store_state S.Store self.new) (Meets collection.now key.now met.old result) }
+        ensures open { WasOpen (store_state S.Store self.old) (store_state S.Store self.new) result }
+        ensures crash { Survives (store_state S.Store self.old) (store_state S.Store self.new) (λ _. ⊥) }
         ensures met { IfOk result (λ taken. taken ≡ false → (k : List ℕ) → has_met met.new k ≡ bytes_eq k key.now || has_met met.old k) }
     {
-        let found = self.table.place_of(coll, key)?;
+        let found = self.table.place_of(collection, key)?;
         if let Some(_) = found {
             return Ok(true);
         }
@@ -88,18 +88,18 @@ impl<S: Alter + Drop> Store<S> {
     /// The place of the first row whose key is in the collection or that of a row before, where each is looked up.
     fn first_looked_up(
         &mut self,
-        coll: &str,
-        rows: &[Written<'_>],
+        collection: &str,
+        rows: &[KeptRow<'_>],
     ) -> Result<Option<u64>, StoreError>
-        ensures moves { Moves (held S.Store self.old) (held S.Store self.new) (FindsTaken coll.now rows.now result) }
-        ensures open { HasCleanDisk (held S.Store self.new) → (docs : List Doc) → Stands (held S.Store self.old) docs → IfOk result (λ _. IsTrue (held S.Store self.new).is_open → IsTrue (held S.Store self.old).is_open) }
-        ensures crash { Survives (held S.Store self.old) (held S.Store self.new) (λ _. ⊥) }
+        ensures moves { Moves (store_state S.Store self.old) (store_state S.Store self.new) (FindsTaken collection.now rows.now result) }
+        ensures open { HasCleanDisk (store_state S.Store self.new) → (docs : List TableRow) → Stands (store_state S.Store self.old) docs → IfOk result (λ _. IsTrue (store_state S.Store self.new).is_open → IsTrue (store_state S.Store self.old).is_open) }
+        ensures crash { Survives (store_state S.Store self.old) (store_state S.Store self.new) (λ _. ⊥) }
     {
         let mut met = Keys::new(self.alloc);
         for at in 0..rows.len() {
             let row = &rows[at];
             let key = row.key.as_slice();
-            if self.is_taken(coll, &mut met, key)? {
+            if self.is_taken(collection, &mut met, key)? {
                 return Ok(Some(at as u64));
             }
         }
@@ -108,42 +108,42 @@ impl<S: Alter + Drop> Store<S> {
 
     /// The place of the first row whose key is in the collection or that of a row before. In a table without rows no key
     /// is looked up.
-    fn first_taken(&mut self, coll: &str, rows: &[Written<'_>]) -> Result<Option<u64>, StoreError>
-        ensures moves { Moves (held S.Store self.old) (held S.Store self.new) (FindsTaken coll.now rows.now result) }
-        ensures open { HasCleanDisk (held S.Store self.new) → (docs : List Doc) → Stands (held S.Store self.old) docs → IfOk result (λ _. IsTrue (held S.Store self.new).is_open → IsTrue (held S.Store self.old).is_open) }
-        ensures crash { Survives (held S.Store self.old) (held S.Store self.new) (λ _. ⊥) }
+    fn first_taken(&mut self, collection: &str, rows: &[KeptRow<'_>]) -> Result<Option<u64>, StoreError>
+        ensures moves { Moves (store_state S.Store self.old) (store_state S.Store self.new) (FindsTaken collection.now rows.now result) }
+        ensures open { HasCleanDisk (store_state S.Store self.new) → (docs : List TableRow) → Stands (store_state S.Store self.old) docs → IfOk result (λ _. IsTrue (store_state S.Store self.new).is_open → IsTrue (store_state S.Store self.old).is_open) }
+        ensures crash { Survives (store_state S.Store self.old) (store_state S.Store self.new) (λ _. ⊥) }
     {
         let is_empty = self.table.is_empty()?;
         if is_empty {
             let place = first_repeated(self.alloc, rows)?;
             return Ok(place);
         }
-        self.first_looked_up(coll, rows)
+        self.first_looked_up(collection, rows)
     }
 
     /// Writes all rows, in one transaction.
-    fn write_all(&mut self, coll: &str, rows: &[NewRow<'_>]) -> Result<(), Fault>
-        ensures moves { Moves (held S.Store self.old) (held S.Store self.new) (AddsRows (length rows.now) (all_appended coll.now rows.now) result) }
-        ensures open { WasOpen (held S.Store self.old) (held S.Store self.new) result }
-        ensures crash { Survives (held S.Store self.old) (held S.Store self.new) (MayLeave (all_appended coll.now rows.now) (held S.Store self.old)) }
-        ensures full { IsErrOf result Fault.Places → Survives (held S.Store self.old) (held S.Store self.new) (λ _. ⊥) }
+    fn write_all(&mut self, collection: &str, rows: &[NewRow<'_>]) -> Result<(), Fault>
+        ensures moves { Moves (store_state S.Store self.old) (store_state S.Store self.new) (AddsRows (length rows.now) (with_rows collection.now rows.now) result) }
+        ensures open { WasOpen (store_state S.Store self.old) (store_state S.Store self.new) result }
+        ensures crash { Survives (store_state S.Store self.old) (store_state S.Store self.new) (MayLeave (with_rows collection.now rows.now) (store_state S.Store self.old)) }
+        ensures full { IsErrOf result Fault.Places → Survives (store_state S.Store self.old) (store_state S.Store self.new) (λ _. ⊥) }
     {
-        self.table.append_all(coll, rows)
+        self.table.append_all(collection, rows)
     }
 
     /// Puts the documents that these rows are last in a collection, and says how many they are.
-    fn add_all(&mut self, name: Name<'_>, rows: &[Written<'_>]) -> Result<u64, StoreError>
-        ensures moves { Moves (held S.Store self.old) (held S.Store self.new) (AddsAll (name_bytes name.entry) rows.now result) }
-        ensures open { WasOpen (held S.Store self.old) (held S.Store self.new) result }
-        ensures crash { LeavesRows (name_bytes name.entry) rows.now result (held S.Store self.old) (held S.Store self.new) }
+    fn add_all(&mut self, name: Name<'_>, rows: &[KeptRow<'_>]) -> Result<u64, StoreError>
+        ensures moves { Moves (store_state S.Store self.old) (store_state S.Store self.new) (AddsAll (name_bytes name.entry) rows.now result) }
+        ensures open { WasOpen (store_state S.Store self.old) (store_state S.Store self.new) result }
+        ensures crash { LeavesRows (name_bytes name.entry) rows.now result (store_state S.Store self.old) (store_state S.Store self.new) }
     {
-        let coll = name.as_str();
-        let taken = self.first_taken(coll, rows)?;
+        let collection = name.as_str();
+        let taken = self.first_taken(collection, rows)?;
         if let Some(document) = taken {
             return Err(duplicate(document));
         }
         let new = new_rows(self.alloc, rows)?;
-        self.write_all(coll, new.as_slice())?;
+        self.write_all(collection, new.as_slice())?;
         Ok(new.len() as u64)
     }
 
@@ -157,11 +157,11 @@ impl<S: Alter + Drop> Store<S> {
     /// Reader; with any other refusal none of its reads failed.
     pub fn import<R: Source>(&mut self, name: &str, reader: &mut R) -> Result<u64, StoreError>
         requires { (R.feed reader.old).failures < 2 ^ 64 - 1 }
-        ensures moves { Moves (held S.Store self.old) (held S.Store self.new) (Imports name.now (R.feed reader.old)
+        ensures moves { Moves (store_state S.Store self.old) (store_state S.Store self.new) (Imports name.now (R.feed reader.old)
             (R.feed reader.new) result) }
-        ensures open { WasOpen (held S.Store self.old) (held S.Store self.new) result }
+        ensures open { WasOpen (store_state S.Store self.old) (store_state S.Store self.new) result }
         ensures crash { LeavesMany name.now (ReadsFed (R.feed reader.old) (R.feed reader.new)) (reply_by as_number result)
-            (held S.Store self.old) (held S.Store self.new) }
+            (store_state S.Store self.old) (store_state S.Store self.new) }
     {
         let name = good_name(name)?;
         let bytes = read_all(self.alloc, reader)?;
@@ -177,9 +177,9 @@ impl<S: Alter + Drop> Store<S> {
     /// one of these; else by DuplicateId of the first whose `_id` is in the collection or in an earlier tree; by Places; and by
     /// Memory and Database, but never in the place of BadName. `document` tells which document was refused.
     pub fn load_json(&mut self, name: &str, trees: Vec<Value>) -> Result<u64, StoreError>
-        ensures moves { Moves (held S.Store self.old) (held S.Store self.new) (DoesMany name.now (ReadsTrees (map tree_of trees.items)) (reply_by as_number result)) }
-        ensures open { WasOpen (held S.Store self.old) (held S.Store self.new) result }
-        ensures crash { LeavesMany name.now (ReadsTrees (map tree_of trees.items)) (reply_by as_number result) (held S.Store self.old) (held S.Store self.new) }
+        ensures moves { Moves (store_state S.Store self.old) (store_state S.Store self.new) (DoesMany name.now (ReadsTrees (map data_of trees.items)) (reply_by as_number result)) }
+        ensures open { WasOpen (store_state S.Store self.old) (store_state S.Store self.new) result }
+        ensures crash { LeavesMany name.now (ReadsTrees (map data_of trees.items)) (reply_by as_number result) (store_state S.Store self.old) (store_state S.Store self.new) }
     {
         let name = good_name(name)?;
         let rows = judge_trees(self.alloc, trees)?;
@@ -192,10 +192,10 @@ impl<S: Alter + Drop> Store<S> {
     /// Refused as `load_json`.
     pub fn load(&mut self, name: &str, loader: Loader) -> Result<u64, StoreError>
         ensures moves { (js : List Data) → HasTaken loader js
-            → Moves (held S.Store self.old) (held S.Store self.new) (DoesMany name.now (ReadsTrees js) (reply_by as_number result)) }
-        ensures open { WasOpen (held S.Store self.old) (held S.Store self.new) result }
+            → Moves (store_state S.Store self.old) (store_state S.Store self.new) (DoesMany name.now (ReadsTrees js) (reply_by as_number result)) }
+        ensures open { WasOpen (store_state S.Store self.old) (store_state S.Store self.new) result }
         ensures crash { (js : List Data) → HasTaken loader js
-            → LeavesMany name.now (ReadsTrees js) (reply_by as_number result) (held S.Store self.old) (held S.Store self.new) }
+            → LeavesMany name.now (ReadsTrees js) (reply_by as_number result) (store_state S.Store self.old) (store_state S.Store self.new) }
     {
         let name = good_name(name)?;
         let rows = loader.finish()?;

@@ -4,24 +4,24 @@ ghost use Rattle.std.specs.Prelude.{◌≡◌, ◌++◌, ℕ, List, [], map, Ok,
 ghost use Rattle.serde_json.specs.Data.{Data};
 ghost use Rattle.bson_base.specs.Device.{Feed, Tally};
 ghost use Rattle.bson_meaning.specs.Meaning.{norm_members_in_order};
-ghost use Rattle.bson_table.specs.Rows.{Doc};
+ghost use Rattle.bson_table.specs.Rows.{TableRow};
 ghost use Rattle.store_laws.specs.Reading.{ReadsStream, ReadsTrees};
 ghost use Rattle.store_laws.specs.Same.{SameReplies, SameStates};
 ghost use Rattle.store_laws.specs.State.{bytes, dump, export, json_list, number, on};
-ghost use Rattle.store_laws.specs.Table.{Table, documents_of, state_of};
+ghost use Rattle.store_laws.specs.Table.{DocumentTable, documents_of, state_of};
 ghost use Rattle.bson_store.specs.Calls.{Does};
 ghost use Rattle.bson_store.specs.Export.{SendsCollection};
 ghost use Rattle.bson_store.specs.Many.{DoesMany, Imports, Restored};
 ghost use Rattle.bson_store.specs.Runs.{MeanTheSame, RunsOnLists, reply_of};
-ghost use Rattle.bson_store.specs.Shown.{Show};
+ghost use Rattle.bson_store.specs.Shown.{Represents};
 ghost use Rattle.bson_store.specs.declared.command.Command.{Command};
 ghost use Rattle.bson_store.specs.declared.command.Reply.{Reply};
 
 /// Two lists of commands that mean the same, run from tables that mean the same with the same denied to both, are answered with
 /// the same meaning and leave tables that mean the same.
 pub fn runs_go_by_meaning()
-    ensures { (xs ys : List Command) (rs qs : List Reply) (old older new newer : List Doc) (a b : Table)
-        → MeanTheSame xs ys → Show old a → Show older b → SameStates (state_of a) (state_of b)
+    ensures { (xs ys : List Command) (rs qs : List Reply) (old older new newer : List TableRow) (a b : DocumentTable)
+        → MeanTheSame xs ys → Represents old a → Represents older b → SameStates (state_of a) (state_of b)
         → (h : RunsOnLists a xs rs new) (k : RunsOnLists b ys qs newer) → h.denials ≡ k.denials
         → SameReplies h.asked (map reply_of rs) (map reply_of qs) × SameStates (state_of h.b) (state_of k.b) }
 {}
@@ -29,18 +29,18 @@ pub fn runs_go_by_meaning()
 /// What an accepted export wrote, an accepted import into an empty collection brings back, pattern for pattern: by commands, and by
 /// calls over a writer and a reader that has just these bytes left.
 pub fn exports_are_restored()
-    ensures commands { (n m bs : List ℕ) (count : ℕ) (docs after more last : List Doc) (a b : Table)
-        → Does (on n export) (bytes bs) docs after → Show docs a → DoesMany m (ReadsStream bs) (number count) more last → Show more b
+    ensures commands { (n m bs : List ℕ) (count : ℕ) (docs after more last : List TableRow) (a b : DocumentTable)
+        → Does (on n export) (bytes bs) docs after → Represents docs a → DoesMany m (ReadsStream bs) (number count) more last → Represents more b
         → documents_of b m ≡ [] → Restored m (documents_of a n) count last }
-    ensures calls { (n m taken bs : List ℕ) (old new : Tally) (fed left : Feed) (count : ℕ) (docs after more last : List Doc) (a b : Table)
-        → SendsCollection n old new (Ok tt) docs after → Show docs a → old.taken ≡ Some taken → new.taken ≡ Some (taken ++ bs)
-        → Imports m fed left (Ok count) more last → Show more b → fed.supply.left ≡ Some bs
+    ensures calls { (n m taken bs : List ℕ) (old new : Tally) (fed left : Feed) (count : ℕ) (docs after more last : List TableRow) (a b : DocumentTable)
+        → SendsCollection n old new (Ok tt) docs after → Represents docs a → old.taken ≡ Some taken → new.taken ≡ Some (taken ++ bs)
+        → Imports m fed left (Ok count) more last → Represents more b → fed.supply.left ≡ Some bs
         → documents_of b m ≡ [] → Restored m (documents_of a n) count last }
 {}
 
 /// What an accepted dump gave, an accepted load into an empty collection brings back, in normal form with the keys in order.
 pub fn dumps_are_restored()
-    ensures { (n m : List ℕ) (js : List Data) (count : ℕ) (docs after more last : List Doc) (a b : Table)
-        → Does (on n dump) (json_list js) docs after → Show docs a → DoesMany m (ReadsTrees js) (number count) more last → Show more b
+    ensures { (n m : List ℕ) (js : List Data) (count : ℕ) (docs after more last : List TableRow) (a b : DocumentTable)
+        → Does (on n dump) (json_list js) docs after → Represents docs a → DoesMany m (ReadsTrees js) (number count) more last → Represents more b
         → documents_of b m ≡ [] → Restored m (map (λ d. norm_members_in_order d) (documents_of a n)) count last }
 {}

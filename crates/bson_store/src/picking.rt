@@ -13,7 +13,7 @@ ghost use Rattle.bson_store.specs.Questions.{IsPick, Turns};
 ghost use Rattle.bson_store.specs.Refusals.{IsDenied};
 
 use crate::error::StoreError;
-use crate::export::add;
+use crate::export::push_copy;
 use bson_filter::{Filter, project, selects};
 use bson_raw::RawDocument;
 use bson_table::Visit;
@@ -47,7 +47,7 @@ impl Take for Copies {
     ghost took = { λ _ t out. bytes_of_each t.bodies.items ≡ map encode out };
 
     fn take(&mut self, document: RawDocument<'_>) -> Result<(), StoreError> {
-        add(&mut self.bodies, self.alloc, document.as_bytes())?;
+        push_copy(&mut self.bodies, self.alloc, document.as_bytes())?;
         Ok(())
     }
 }
@@ -129,7 +129,7 @@ fn selected<'a>(filter: &Filter, body: &'a [u8]) -> Result<Option<RawDocument<'a
 }
 
 /// Hands the document of a body on, where the filter selects it.
-fn pick<T: Take>(taker: &mut T, filter: &Filter, body: &[u8]) -> Result<(), StoreError>
+fn pick_row<T: Take>(taker: &mut T, filter: &Filter, body: &[u8]) -> Result<(), StoreError>
     ensures picked { (first : T) (out : Documents) (d : Members) → IsKept d → body.now ≡ encode d → T.took first taker.old out
         → OnOk result (Turns (T.took first taker.new) (filter_of filter.now) out d) }
     ensures denied { (d : Members) → IsKept d → body.now ≡ encode d → IfErr result IsDenied }
@@ -142,13 +142,13 @@ fn pick<T: Take>(taker: &mut T, filter: &Filter, body: &[u8]) -> Result<(), Stor
 
 /// Hands the documents that a filter selects on, until a refusal.
 #[derive(Drop)]
-pub struct Picker<'a, T> {
+pub struct FilterVisitor<'a, T> {
     pub filter: &'a Filter,
     pub taker: T,
     pub fault: Option<StoreError>,
 }
 
-impl<'a, T: Take> Visit for Picker<'a, T> {
+impl<'a, T: Take> Visit for FilterVisitor<'a, T> {
     ghost use Rattle.std.specs.Prelude.{◌≡◌, ◌≢◌, None};
     ghost use Rattle.bson_filter.specs.Filters.{filter_of};
     ghost use Rattle.bson_store.specs.Questions.{GivesPicked};
@@ -159,7 +159,7 @@ impl<'a, T: Take> Visit for Picker<'a, T> {
     ghost is_done = { λ v. v.fault ≢ None };
 
     fn visit(&mut self, body: &[u8]) -> bool {
-        match pick(&mut self.taker, self.filter, body) {
+        match pick_row(&mut self.taker, self.filter, body) {
             Ok(()) => true,
             Err(error) => {
                 self.fault = Some(error);

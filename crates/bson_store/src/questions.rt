@@ -6,13 +6,13 @@ ghost use Rattle.bson_table.specs.Moves.{Moves, WasOpen};
 ghost use Rattle.store_documents.specs.Names.{name_bytes};
 ghost use Rattle.store_laws.specs.State.{collections, count, find, on, project};
 ghost use Rattle.sqlite.specs.State.{Survives};
-ghost use Rattle.bson_store.specs.Calls.{Does, held};
+ghost use Rattle.bson_store.specs.Calls.{Does, store_state};
 ghost use Rattle.bson_store.specs.Questions.{Picked, as_list, as_names};
 ghost use Rattle.bson_store.specs.Refusals.{as_number, reply_by};
 
 use crate::error::StoreError;
 use crate::names::names_of;
-use crate::picking::{Copies, Count, Picker, Projections, Take};
+use crate::picking::{Copies, Count, FilterVisitor, Projections, Take};
 use crate::store::{Store, good_name};
 use bson_filter::Filter;
 use sqlite::Alter;
@@ -23,9 +23,9 @@ impl<S: Alter + Drop> Store<S> {
     ///
     /// Refused by Memory and Database.
     pub fn collections(&mut self) -> Result<Vec<String>, StoreError>
-        ensures moves { Moves (held S.Store self.old) (held S.Store self.new) (Does collections (reply_by as_names result)) }
-        ensures open { WasOpen (held S.Store self.old) (held S.Store self.new) result }
-        ensures crash { Survives (held S.Store self.old) (held S.Store self.new) (λ _. ⊥) }
+        ensures moves { Moves (store_state S.Store self.old) (store_state S.Store self.new) (Does collections (reply_by as_names result)) }
+        ensures open { WasOpen (store_state S.Store self.old) (store_state S.Store self.new) result }
+        ensures crash { Survives (store_state S.Store self.old) (store_state S.Store self.new) (λ _. ⊥) }
     {
         let names = self.table.collections()?;
         names_of(self.alloc, names)
@@ -39,17 +39,17 @@ impl<S: Alter + Drop> Store<S> {
         taker: T,
     ) -> Result<T, StoreError>
         requires { T.took taker taker [] }
-        ensures moves { Moves (held S.Store self.old) (held S.Store self.new) (Picked (T.took taker) (name_bytes name.entry) (filter_of filter.now) result) }
-        ensures open { WasOpen (held S.Store self.old) (held S.Store self.new) result }
-        ensures crash { Survives (held S.Store self.old) (held S.Store self.new) (λ _. ⊥) }
+        ensures moves { Moves (store_state S.Store self.old) (store_state S.Store self.new) (Picked (T.took taker) (name_bytes name.entry) (filter_of filter.now) result) }
+        ensures open { WasOpen (store_state S.Store self.old) (store_state S.Store self.new) result }
+        ensures crash { Survives (store_state S.Store self.old) (store_state S.Store self.new) (λ _. ⊥) }
     {
-        let mut picker = Picker {
+        let mut picker = FilterVisitor {
             filter,
             taker,
             fault: None,
         };
         self.table.visit_bodies(name.as_str(), &mut picker)?;
-        let Picker {
+        let FilterVisitor {
             filter: _,
             taker,
             fault,
@@ -65,9 +65,9 @@ impl<S: Alter + Drop> Store<S> {
     ///
     /// Refused by BadName, Memory and Database.
     pub fn find(&mut self, name: &str, filter: &Filter) -> Result<Vec<Vec<u8>>, StoreError>
-        ensures moves { Moves (held S.Store self.old) (held S.Store self.new) (Does (on name.now (find (filter_of filter.now))) (reply_by as_list result)) }
-        ensures open { WasOpen (held S.Store self.old) (held S.Store self.new) result }
-        ensures crash { Survives (held S.Store self.old) (held S.Store self.new) (λ _. ⊥) }
+        ensures moves { Moves (store_state S.Store self.old) (store_state S.Store self.new) (Does (on name.now (find (filter_of filter.now))) (reply_by as_list result)) }
+        ensures open { WasOpen (store_state S.Store self.old) (store_state S.Store self.new) result }
+        ensures crash { Survives (store_state S.Store self.old) (store_state S.Store self.new) (λ _. ⊥) }
     {
         let name = good_name(name)?;
         let bodies = Vec::new(self.alloc);
@@ -80,9 +80,9 @@ impl<S: Alter + Drop> Store<S> {
     ///
     /// Refused by BadName, Memory and Database.
     pub fn count(&mut self, name: &str, filter: &Filter) -> Result<u64, StoreError>
-        ensures moves { Moves (held S.Store self.old) (held S.Store self.new) (Does (on name.now (count (filter_of filter.now))) (reply_by as_number result)) }
-        ensures open { WasOpen (held S.Store self.old) (held S.Store self.new) result }
-        ensures crash { Survives (held S.Store self.old) (held S.Store self.new) (λ _. ⊥) }
+        ensures moves { Moves (store_state S.Store self.old) (store_state S.Store self.new) (Does (on name.now (count (filter_of filter.now))) (reply_by as_number result)) }
+        ensures open { WasOpen (store_state S.Store self.old) (store_state S.Store self.new) result }
+        ensures crash { Survives (store_state S.Store self.old) (store_state S.Store self.new) (λ _. ⊥) }
     {
         let name = good_name(name)?;
         let count = self.pick(name, filter, Count { number: 0 })?;
@@ -99,9 +99,9 @@ impl<S: Alter + Drop> Store<S> {
         filter: &Filter,
         keys: &[String],
     ) -> Result<Vec<Vec<u8>>, StoreError>
-        ensures moves { Moves (held S.Store self.old) (held S.Store self.new) (Does (on name.now (project (filter_of filter.now) (path_of keys.now))) (reply_by as_list result)) }
-        ensures open { WasOpen (held S.Store self.old) (held S.Store self.new) result }
-        ensures crash { Survives (held S.Store self.old) (held S.Store self.new) (λ _. ⊥) }
+        ensures moves { Moves (store_state S.Store self.old) (store_state S.Store self.new) (Does (on name.now (project (filter_of filter.now) (path_of keys.now))) (reply_by as_list result)) }
+        ensures open { WasOpen (store_state S.Store self.old) (store_state S.Store self.new) result }
+        ensures crash { Survives (store_state S.Store self.old) (store_state S.Store self.new) (λ _. ⊥) }
     {
         let name = good_name(name)?;
         let projections = Projections {

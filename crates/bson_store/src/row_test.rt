@@ -2,7 +2,7 @@
 
 use bson_table::RowCheck;
 use std::alloc::{AllocError, Global};
-use store_documents::{RowKey, is_row, key_of_row};
+use store_documents::{RowKey, is_store_row, key_of_row};
 
 /// The test that `Store::open` makes of each row, beside what the table itself asks.
 #[derive(Drop)]
@@ -16,7 +16,7 @@ impl RowCheck for RowTest {
     ghost renews = { λ _ coll idkey body now. IsRowUnder coll idkey body now };
 
     fn passes(&self, coll: &[u8], idkey: &[u8], body: &[u8]) -> Result<bool, AllocError> {
-        is_row(self.alloc, coll, idkey, body)
+        is_store_row(self.alloc, coll, idkey, body)
     }
 
     fn renewed(

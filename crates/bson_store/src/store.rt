@@ -5,14 +5,14 @@ ghost use Rattle.sqlite.specs.Held.{state};
 ghost use Rattle.sqlite.specs.State.{HasCleanDisk, Survives};
 ghost use Rattle.bson_table.specs.Open.{HasNoTable, IsNameTaken, KeepsAll};
 ghost use Rattle.bson_store.specs.Opening.{Opens, RefusesToOpen};
-ghost use Rattle.serde_json.specs.View.{view as tree_of};
+ghost use Rattle.serde_json.specs.View.{view as data_of};
 ghost use Rattle.bson_base.specs.Value.{Members};
 ghost use Rattle.bson_model.specs.View.{view};
-ghost use Rattle.bson_table.specs.Moves.{AddsRows, Changes, MayLeave, Moves, Stands, WasOpen, appended};
+ghost use Rattle.bson_table.specs.Moves.{AddsRows, Changes, MayLeave, Moves, Stands, WasOpen, with_row};
 ghost use Rattle.store_laws.specs.State.{State as Lists};
 ghost use Rattle.bson_store.specs.Left.{FindsState, Holds, HoldsOnce, Keeps, Leaves, LeavesBytes, LeavesOnly, LeavesRead, LeavesTree};
-ghost use Rattle.bson_table.specs.Rows.{Doc, replaced};
-ghost use Rattle.bson_store.specs.Calls.{store_connection, held, Does, DoesBytes, DoesTree, DoesRead, Looks};
+ghost use Rattle.bson_table.specs.Rows.{TableRow, with_body_at};
+ghost use Rattle.bson_store.specs.Calls.{store_connection, store_state, Does, DoesBytes, DoesTree, DoesRead, Looks};
 ghost use Rattle.bson_store.specs.Export.{SendsCollection};
 ghost use Rattle.bson_store.specs.Refusals.{refusal, reply_by, as_done, as_flag, as_bytes, as_json};
 ghost use Rattle.store_documents.specs.Bodies.{AnswersWritten};
@@ -22,7 +22,7 @@ ghost use Rattle.store_laws.specs.State.{IsName, IsFreeKey, in_bytes, in_json, i
 ghost use Rattle.store_laws.specs.declared.error.ErrorKind.TheVariants.{BadName, Database, NotAStore};
 
 use crate::error::StoreError;
-use crate::export::Sender;
+use crate::export::ExportVisitor;
 use crate::row_test::RowTest;
 use bson_bytes::put::has_no_zero;
 use bson_meaning::KeyError;
@@ -33,8 +33,8 @@ use serde_json::Value;
 use sqlite::{Alter, Connection};
 use std::alloc::Global;
 use store_documents::{
-    Name, Written, json_of, key_of_id, read_value, row_of_bytes, row_of_json, set_member,
-    unset_member,
+    Name, KeptRow, json_of_body, key_of_id, value_of_json, row_of_bytes, row_of_json, body_with,
+    body_without,
 };
 use store_laws::ErrorKind;
 
@@ -75,7 +75,7 @@ impl<S: Alter + Drop> Store<S> {
         alloc: Global,
         connection: Connection<S>,
     ) -> Result<Store<S>, (StoreError, Connection<S>)>
-        ensures opened { IfOk result (λ s. HasCleanDisk (held S.Store s) → Opens (state S.Store connection) (held S.Store s)) }
+        ensures opened { IfOk result (λ s. HasCleanDisk (store_state S.Store s) → Opens (state S.Store connection) (store_state S.Store s)) }
         ensures refused { IfErr result (λ e. HasCleanDisk (state S.Store e.1) → RefusesToOpen (state S.Store connection) (state S.Store e.1) e.0) }
         ensures kept { IfErr result (λ e. HasCleanDisk (state S.Store e.1) → KeepsAll (state S.Store connection) (state S.Store e.1)) }
         ensures taken { (state S.Store connection).in_transaction ≡ false → HasNoTable (state S.Store connection) → IsNameTaken (state S.Store connection) → IsErrAnd result (λ e. (e.0 ≡ refusal NotAStore) × (e.1 ≡ connection)) }
@@ -83,7 +83,7 @@ impl<S: Alter + Drop> Store<S> {
         // Where `sqlite` opened the connection over a database that holds a state, under keys of now or from before, whatever a
         // crash did to it, the store has that state, and a crash leaves it alone. A crash in the open leaves the old keys or the
         // new ones, and both stand for the state; keys of now are left where the database had no others.
-        ensures finds { (x : Lists) → FindsState HoldsOnce (state S.Store connection) x → IfOk result (λ s. HasCleanDisk (held S.Store s) → Keeps (held S.Store s) x) }
+        ensures finds { (x : Lists) → FindsState HoldsOnce (state S.Store connection) x → IfOk result (λ s. HasCleanDisk (store_state S.Store s) → Keeps (store_state S.Store s) x) }
         ensures leaves { (x : Lists) → FindsState Holds (state S.Store connection) x → IfErr result (λ e. HasCleanDisk (state S.Store e.1) → LeavesOnly Holds (state S.Store e.1) x) }
         ensures leaves_old { (x : Lists) → FindsState HoldsOnce (state S.Store connection) x → IfErr result (λ e. HasCleanDisk (state S.Store e.1) → LeavesOnly HoldsOnce (state S.Store e.1) x) }
     {
@@ -102,54 +102,54 @@ impl<S: Alter + Drop> Store<S> {
     }
 
     /// Writes a row behind all others.
-    fn put_last(&mut self, coll: &str, key: &[u8], body: &[u8]) -> Result<(), Fault>
-        ensures moves { Moves (held S.Store self.old) (held S.Store self.new) (AddsRows 1 (appended coll.now key.now body.now) result) }
-        ensures open { WasOpen (held S.Store self.old) (held S.Store self.new) result }
-        ensures crash { Survives (held S.Store self.old) (held S.Store self.new) (MayLeave (appended coll.now key.now body.now) (held S.Store self.old)) }
-        ensures full { IsErrOf result Fault.Places → Survives (held S.Store self.old) (held S.Store self.new) (λ _. ⊥) }
+    fn put_last(&mut self, collection: &str, key: &[u8], body: &[u8]) -> Result<(), Fault>
+        ensures moves { Moves (store_state S.Store self.old) (store_state S.Store self.new) (AddsRows 1 (with_row collection.now key.now body.now) result) }
+        ensures open { WasOpen (store_state S.Store self.old) (store_state S.Store self.new) result }
+        ensures crash { Survives (store_state S.Store self.old) (store_state S.Store self.new) (MayLeave (with_row collection.now key.now body.now) (store_state S.Store self.old)) }
+        ensures full { IsErrOf result Fault.Places → Survives (store_state S.Store self.old) (store_state S.Store self.new) (λ _. ⊥) }
     {
-        self.table.append(coll, key, body)
+        self.table.append(collection, key, body)
     }
 
     /// Writes a body in the place of a row's.
     fn put_back(&mut self, found: &Found, body: &[u8]) -> Result<(), Fault>
-        ensures moves { Moves (held S.Store self.old) (held S.Store self.new) (Changes (replaced found.now.place body.now) result) }
-        ensures open { WasOpen (held S.Store self.old) (held S.Store self.new) result }
-        ensures crash { Survives (held S.Store self.old) (held S.Store self.new) (MayLeave (replaced found.now.place body.now) (held S.Store self.old)) }
+        ensures moves { Moves (store_state S.Store self.old) (store_state S.Store self.new) (Changes (with_body_at found.now.place body.now) result) }
+        ensures open { WasOpen (store_state S.Store self.old) (store_state S.Store self.new) result }
+        ensures crash { Survives (store_state S.Store self.old) (store_state S.Store self.new) (MayLeave (with_body_at found.now.place body.now) (store_state S.Store self.old)) }
     {
         self.table.rewrite_at(found, body)
     }
 
     /// Puts a document last in a collection, whose row this is.
-    fn insert_row(&mut self, name: Name<'_>, row: &Written<'_>) -> Result<(), StoreError>
+    fn insert_row(&mut self, name: Name<'_>, row: &KeptRow<'_>) -> Result<(), StoreError>
         ensures moves { (d : Members) → IsRead d → AnswersWritten d (Ok row.now)
-            → Moves (held S.Store self.old) (held S.Store self.new) (DoesRead (name_bytes name.entry) insert d (reply_by as_done result)) }
-        ensures open { WasOpen (held S.Store self.old) (held S.Store self.new) result }
+            → Moves (store_state S.Store self.old) (store_state S.Store self.new) (DoesRead (name_bytes name.entry) insert d (reply_by as_done result)) }
+        ensures open { WasOpen (store_state S.Store self.old) (store_state S.Store self.new) result }
         ensures crash { (d : Members) → IsRead d → AnswersWritten d (Ok row.now)
-            → LeavesRead (name_bytes name.entry) insert d (reply_by as_done result) (held S.Store self.old) (held S.Store self.new) }
+            → LeavesRead (name_bytes name.entry) insert d (reply_by as_done result) (store_state S.Store self.old) (store_state S.Store self.new) }
     {
-        let coll = name.as_str();
+        let collection = name.as_str();
         let key = row.key.as_slice();
-        let found = self.table.place_of(coll, key)?;
+        let found = self.table.place_of(collection, key)?;
         if let Some(_) = found {
             return Err(StoreError::from(ErrorKind::DuplicateId));
         }
         let body = row.body.as_slice();
-        self.put_last(coll, key, body)?;
+        self.put_last(collection, key, body)?;
         Ok(())
     }
 
     /// Puts a document, whose row this is, in the place of that of a collection with its `_id`.
-    fn replace_row(&mut self, name: Name<'_>, row: &Written<'_>) -> Result<(), StoreError>
+    fn replace_row(&mut self, name: Name<'_>, row: &KeptRow<'_>) -> Result<(), StoreError>
         ensures moves { (d : Members) → IsRead d → AnswersWritten d (Ok row.now)
-            → Moves (held S.Store self.old) (held S.Store self.new) (DoesRead (name_bytes name.entry) replace d (reply_by as_done result)) }
-        ensures open { WasOpen (held S.Store self.old) (held S.Store self.new) result }
+            → Moves (store_state S.Store self.old) (store_state S.Store self.new) (DoesRead (name_bytes name.entry) replace d (reply_by as_done result)) }
+        ensures open { WasOpen (store_state S.Store self.old) (store_state S.Store self.new) result }
         ensures crash { (d : Members) → IsRead d → AnswersWritten d (Ok row.now)
-            → LeavesRead (name_bytes name.entry) replace d (reply_by as_done result) (held S.Store self.old) (held S.Store self.new) }
+            → LeavesRead (name_bytes name.entry) replace d (reply_by as_done result) (store_state S.Store self.old) (store_state S.Store self.new) }
     {
-        let coll = name.as_str();
+        let collection = name.as_str();
         let key = row.key.as_slice();
-        let Some(found) = self.table.named(coll, key)? else {
+        let Some(found) = self.table.named(collection, key)? else {
             return Err(StoreError::from(ErrorKind::NotFound));
         };
         let body = row.body.as_slice();
@@ -159,9 +159,9 @@ impl<S: Alter + Drop> Store<S> {
 
     /// The row of the document of a collection whose `_id` means the same as `id`.
     fn row_of(&mut self, name: Name<'_>, id: &Bson) -> Result<Option<Found>, StoreError>
-        ensures moves { Moves (held S.Store self.old) (held S.Store self.new) (Looks (name_bytes name.entry) (view id.now) result) }
-        ensures open { HasCleanDisk (held S.Store self.new) → (docs : List Doc) → Stands (held S.Store self.old) docs → IfOk result (λ found. IsSome found → IsTrue (held S.Store self.old).is_open × IsTrue (held S.Store self.new).is_open) }
-        ensures crash { Survives (held S.Store self.old) (held S.Store self.new) (λ _. ⊥) }
+        ensures moves { Moves (store_state S.Store self.old) (store_state S.Store self.new) (Looks (name_bytes name.entry) (view id.now) result) }
+        ensures open { HasCleanDisk (store_state S.Store self.new) → (docs : List TableRow) → Stands (store_state S.Store self.old) docs → IfOk result (λ found. IsSome found → IsTrue (store_state S.Store self.old).is_open × IsTrue (store_state S.Store self.new).is_open) }
+        ensures crash { Survives (store_state S.Store self.old) (store_state S.Store self.new) (λ _. ⊥) }
     {
         let key = match key_of_id(self.alloc, id) {
             Ok(key) => key,
@@ -170,9 +170,9 @@ impl<S: Alter + Drop> Store<S> {
             Err(KeyError::TooLong) => return Ok(None),
             Err(KeyError::Memory) => return Err(StoreError::from(ErrorKind::Memory)),
         };
-        let coll = name.as_str();
+        let collection = name.as_str();
         let key = key.as_slice();
-        let found = self.table.named(coll, key)?;
+        let found = self.table.named(collection, key)?;
         Ok(found)
     }
 
@@ -183,9 +183,9 @@ impl<S: Alter + Drop> Store<S> {
     /// NoId, TooLong, DuplicateId, Places; and by Memory and Database, but never in the place of a refusal by the name or
     /// the bytes.
     pub fn insert_raw(&mut self, name: &str, bytes: &[u8]) -> Result<(), StoreError>
-        ensures moves { Moves (held S.Store self.old) (held S.Store self.new) (DoesBytes name.now (insert in_bytes) bytes.now (reply_by as_done result)) }
-        ensures open { WasOpen (held S.Store self.old) (held S.Store self.new) result }
-        ensures crash { LeavesBytes name.now (insert in_bytes) bytes.now (reply_by as_done result) (held S.Store self.old) (held S.Store self.new) }
+        ensures moves { Moves (store_state S.Store self.old) (store_state S.Store self.new) (DoesBytes name.now (insert in_bytes) bytes.now (reply_by as_done result)) }
+        ensures open { WasOpen (store_state S.Store self.old) (store_state S.Store self.new) result }
+        ensures crash { LeavesBytes name.now (insert in_bytes) bytes.now (reply_by as_done result) (store_state S.Store self.old) (store_state S.Store self.new) }
     {
         let name = good_name(name)?;
         let row = row_of_bytes(self.alloc, bytes)?;
@@ -197,9 +197,9 @@ impl<S: Alter + Drop> Store<S> {
     /// Refused, in this order, by BadName; NotAnObject; JsonRefused, TooDeep and Nul; NoId, TooLong, DuplicateId, Places; and
     /// by Memory and Database, but never in the place of BadName or NotAnObject.
     pub fn insert_json(&mut self, name: &str, json: Value) -> Result<(), StoreError>
-        ensures moves { Moves (held S.Store self.old) (held S.Store self.new) (DoesTree name.now (insert in_json) (tree_of json) (reply_by as_done result)) }
-        ensures open { WasOpen (held S.Store self.old) (held S.Store self.new) result }
-        ensures crash { LeavesTree name.now (insert in_json) (tree_of json) (reply_by as_done result) (held S.Store self.old) (held S.Store self.new) }
+        ensures moves { Moves (store_state S.Store self.old) (store_state S.Store self.new) (DoesTree name.now (insert in_json) (data_of json) (reply_by as_done result)) }
+        ensures open { WasOpen (store_state S.Store self.old) (store_state S.Store self.new) result }
+        ensures crash { LeavesTree name.now (insert in_json) (data_of json) (reply_by as_done result) (store_state S.Store self.old) (store_state S.Store self.new) }
     {
         let name = good_name(name)?;
         let row = row_of_json(self.alloc, json)?;
@@ -210,9 +210,9 @@ impl<S: Alter + Drop> Store<S> {
     ///
     /// Refused as `insert_raw`, but by NotFound where that is refused by DuplicateId, and never by Places.
     pub fn replace_raw(&mut self, name: &str, bytes: &[u8]) -> Result<(), StoreError>
-        ensures moves { Moves (held S.Store self.old) (held S.Store self.new) (DoesBytes name.now (replace in_bytes) bytes.now (reply_by as_done result)) }
-        ensures open { WasOpen (held S.Store self.old) (held S.Store self.new) result }
-        ensures crash { LeavesBytes name.now (replace in_bytes) bytes.now (reply_by as_done result) (held S.Store self.old) (held S.Store self.new) }
+        ensures moves { Moves (store_state S.Store self.old) (store_state S.Store self.new) (DoesBytes name.now (replace in_bytes) bytes.now (reply_by as_done result)) }
+        ensures open { WasOpen (store_state S.Store self.old) (store_state S.Store self.new) result }
+        ensures crash { LeavesBytes name.now (replace in_bytes) bytes.now (reply_by as_done result) (store_state S.Store self.old) (store_state S.Store self.new) }
     {
         let name = good_name(name)?;
         let row = row_of_bytes(self.alloc, bytes)?;
@@ -224,9 +224,9 @@ impl<S: Alter + Drop> Store<S> {
     ///
     /// Refused as `insert_json`, but by NotFound where that is refused by DuplicateId, and never by Places.
     pub fn replace_json(&mut self, name: &str, json: Value) -> Result<(), StoreError>
-        ensures moves { Moves (held S.Store self.old) (held S.Store self.new) (DoesTree name.now (replace in_json) (tree_of json) (reply_by as_done result)) }
-        ensures open { WasOpen (held S.Store self.old) (held S.Store self.new) result }
-        ensures crash { LeavesTree name.now (replace in_json) (tree_of json) (reply_by as_done result) (held S.Store self.old) (held S.Store self.new) }
+        ensures moves { Moves (store_state S.Store self.old) (store_state S.Store self.new) (DoesTree name.now (replace in_json) (data_of json) (reply_by as_done result)) }
+        ensures open { WasOpen (store_state S.Store self.old) (store_state S.Store self.new) result }
+        ensures crash { LeavesTree name.now (replace in_json) (data_of json) (reply_by as_done result) (store_state S.Store self.old) (store_state S.Store self.new) }
     {
         let name = good_name(name)?;
         let row = row_of_json(self.alloc, json)?;
@@ -240,20 +240,20 @@ impl<S: Alter + Drop> Store<S> {
     /// TooDeep, Nul and TooLong of the changed document; and by Memory and Database, but never in the place of BadName or
     /// BadKey.
     pub fn set(&mut self, name: &str, id: &Bson, key: &str, value: Value) -> Result<(), StoreError>
-        ensures moves { Moves (held S.Store self.old) (held S.Store self.new) (Does (on name.now (set (view id.now) key.now (read_value (tree_of value)))) (reply_by as_done result)) }
-        ensures open { WasOpen (held S.Store self.old) (held S.Store self.new) result }
-        ensures crash { Leaves (held S.Store self.old) (held S.Store self.new) (on name.now (set (view id.now) key.now (read_value (tree_of value)))) (reply_by as_done result) }
+        ensures moves { Moves (store_state S.Store self.old) (store_state S.Store self.new) (Does (on name.now (set (view id.now) key.now (read_value (data_of value)))) (reply_by as_done result)) }
+        ensures open { WasOpen (store_state S.Store self.old) (store_state S.Store self.new) result }
+        ensures crash { Leaves (store_state S.Store self.old) (store_state S.Store self.new) (on name.now (set (view id.now) key.now (read_value (data_of value)))) (reply_by as_done result) }
     {
         let name = good_name(name)?;
         if !is_free(key) {
             return Err(StoreError::from(ErrorKind::BadKey));
         }
-        let value = read_value(self.alloc, value)?;
+        let value = value_of_json(self.alloc, value)?;
         let Some(found) = self.row_of(name, id)? else {
             return Err(StoreError::from(ErrorKind::NotFound));
         };
         let old = found.body.as_slice();
-        let body = set_member(self.alloc, old, key, value)?;
+        let body = body_with(self.alloc, old, key, value)?;
         let body = body.as_slice();
         self.put_back(&found, body)?;
         Ok(())
@@ -265,9 +265,9 @@ impl<S: Alter + Drop> Store<S> {
     /// Refused, in this order, by BadName; BadKey, where the key is `_id` or holds a 00; NotFound; and by Memory and
     /// Database, but never in the place of BadName or BadKey.
     pub fn unset(&mut self, name: &str, id: &Bson, key: &str) -> Result<bool, StoreError>
-        ensures moves { Moves (held S.Store self.old) (held S.Store self.new) (Does (on name.now (unset (view id.now) key.now)) (reply_by as_flag result)) }
-        ensures open { WasOpen (held S.Store self.old) (held S.Store self.new) result }
-        ensures crash { Leaves (held S.Store self.old) (held S.Store self.new) (on name.now (unset (view id.now) key.now)) (reply_by as_flag result) }
+        ensures moves { Moves (store_state S.Store self.old) (store_state S.Store self.new) (Does (on name.now (unset (view id.now) key.now)) (reply_by as_flag result)) }
+        ensures open { WasOpen (store_state S.Store self.old) (store_state S.Store self.new) result }
+        ensures crash { Leaves (store_state S.Store self.old) (store_state S.Store self.new) (on name.now (unset (view id.now) key.now)) (reply_by as_flag result) }
     {
         let name = good_name(name)?;
         if !is_free(key) {
@@ -277,7 +277,7 @@ impl<S: Alter + Drop> Store<S> {
             return Err(StoreError::from(ErrorKind::NotFound));
         };
         let old = found.body.as_slice();
-        let unset = unset_member(self.alloc, old, key)?;
+        let unset = body_without(self.alloc, old, key)?;
         if !unset.was_there {
             return Ok(false);
         }
@@ -290,9 +290,9 @@ impl<S: Alter + Drop> Store<S> {
     ///
     /// Refused by BadName, NotFound, Memory and Database.
     pub fn remove(&mut self, name: &str, id: &Bson) -> Result<(), StoreError>
-        ensures moves { Moves (held S.Store self.old) (held S.Store self.new) (Does (on name.now (remove (view id.now))) (reply_by as_done result)) }
-        ensures open { WasOpen (held S.Store self.old) (held S.Store self.new) result }
-        ensures crash { Leaves (held S.Store self.old) (held S.Store self.new) (on name.now (remove (view id.now))) (reply_by as_done result) }
+        ensures moves { Moves (store_state S.Store self.old) (store_state S.Store self.new) (Does (on name.now (remove (view id.now))) (reply_by as_done result)) }
+        ensures open { WasOpen (store_state S.Store self.old) (store_state S.Store self.new) result }
+        ensures crash { Leaves (store_state S.Store self.old) (store_state S.Store self.new) (on name.now (remove (view id.now))) (reply_by as_done result) }
     {
         let name = good_name(name)?;
         let Some(found) = self.row_of(name, id)? else {
@@ -306,9 +306,9 @@ impl<S: Alter + Drop> Store<S> {
     ///
     /// Refused by BadName, NotFound, Memory and Database.
     pub fn get_raw(&mut self, name: &str, id: &Bson) -> Result<Vec<u8>, StoreError>
-        ensures moves { Moves (held S.Store self.old) (held S.Store self.new) (Does (on name.now (get_raw (view id.now))) (reply_by as_bytes result)) }
-        ensures open { WasOpen (held S.Store self.old) (held S.Store self.new) result }
-        ensures crash { Survives (held S.Store self.old) (held S.Store self.new) (λ _. ⊥) }
+        ensures moves { Moves (store_state S.Store self.old) (store_state S.Store self.new) (Does (on name.now (get_raw (view id.now))) (reply_by as_bytes result)) }
+        ensures open { WasOpen (store_state S.Store self.old) (store_state S.Store self.new) result }
+        ensures crash { Survives (store_state S.Store self.old) (store_state S.Store self.new) (λ _. ⊥) }
     {
         let name = good_name(name)?;
         let Some(found) = self.row_of(name, id)? else {
@@ -322,16 +322,16 @@ impl<S: Alter + Drop> Store<S> {
     /// Refused, in this order, by BadName; NotFound; ReservedKey, where a document below the top has a key that Extended
     /// JSON reserves; FiniteDouble, where a double is finite and no zero; and by Memory and Database.
     pub fn get_json(&mut self, name: &str, id: &Bson, mode: Mode) -> Result<Value, StoreError>
-        ensures moves { Moves (held S.Store self.old) (held S.Store self.new) (Does (on name.now (get_json mode (view id.now))) (reply_by as_json result)) }
-        ensures open { WasOpen (held S.Store self.old) (held S.Store self.new) result }
-        ensures crash { Survives (held S.Store self.old) (held S.Store self.new) (λ _. ⊥) }
+        ensures moves { Moves (store_state S.Store self.old) (store_state S.Store self.new) (Does (on name.now (get_json mode (view id.now))) (reply_by as_json result)) }
+        ensures open { WasOpen (store_state S.Store self.old) (store_state S.Store self.new) result }
+        ensures crash { Survives (store_state S.Store self.old) (store_state S.Store self.new) (λ _. ⊥) }
     {
         let name = good_name(name)?;
         let Some(found) = self.row_of(name, id)? else {
             return Err(StoreError::from(ErrorKind::NotFound));
         };
         let body = found.body.as_slice();
-        let json = json_of(self.alloc, body, mode)?;
+        let json = json_of_body(self.alloc, body, mode)?;
         Ok(json)
     }
 
@@ -341,13 +341,13 @@ impl<S: Alter + Drop> Store<S> {
     /// Database. A beginning may have been written.
     pub fn export<W: Sink>(&mut self, name: &str, writer: &mut W) -> Result<(), StoreError>
         requires { (W.tally writer.old).failures < 2 ^ 64 - 1 }
-        ensures moves { Moves (held S.Store self.old) (held S.Store self.new) (SendsCollection name.now (W.tally writer.old)
+        ensures moves { Moves (store_state S.Store self.old) (store_state S.Store self.new) (SendsCollection name.now (W.tally writer.old)
             (W.tally writer.new) result) }
-        ensures open { WasOpen (held S.Store self.old) (held S.Store self.new) result }
-        ensures crash { Survives (held S.Store self.old) (held S.Store self.new) (λ _. ⊥) }
+        ensures open { WasOpen (store_state S.Store self.old) (store_state S.Store self.new) result }
+        ensures crash { Survives (store_state S.Store self.old) (store_state S.Store self.new) (λ _. ⊥) }
     {
         let name = good_name(name)?;
-        let mut sender = Sender {
+        let mut sender = ExportVisitor {
             writer,
             failed: false,
         };

@@ -8,7 +8,7 @@ use std::alloc::Global;
 use std::io;
 use store_files::open;
 use store_program::execute;
-use store_words::{Complaint, Words, read_words, write_complaint, write_refusal};
+use store_words::{UsageError, Words, read_words, write_complaint, write_refusal};
 
 /// Tells a refusal, and answers the status of one.
 fn refuse<F: Sink>(faults: &mut F, kind: ErrorKind) -> u8
@@ -22,12 +22,12 @@ fn refuse<F: Sink>(faults: &mut F, kind: ErrorKind) -> u8
 fn misuse<F: Sink>(faults: &mut F) -> u8
     requires { (F.tally faults.old).failures < 2 ^ 64 - 1 }
 {
-    let _ = write_complaint(faults, Complaint::Usage);
+    let _ = write_complaint(faults, UsageError::Usage);
     2
 }
 
 /// What is told where the words can't be had: want of memory, or that some word is no text.
-pub fn unread<F: Sink>(error: io::Error, faults: &mut F) -> u8
+pub fn misuse_or_memory<F: Sink>(error: io::Error, faults: &mut F) -> u8
     requires { (F.tally faults.old).failures < 2 ^ 64 - 1 }
 {
     match error.kind() {
@@ -38,7 +38,7 @@ pub fn unread<F: Sink>(error: io::Error, faults: &mut F) -> u8
 
 /// Closes the files. Where that fails nothing is lost: what was committed stands in the log beside the file, and the next open
 /// finds it there.
-fn close(connection: Connection<FileStore<File>>) {
+fn close_file(connection: Connection<FileStore<File>>) {
     let _ = connection.close();
 }
 
@@ -84,7 +84,7 @@ pub fn serve<I: Source, O: Sink, F: Sink>(
     match open(rt, words.file) {
         Ok(connection) => {
             let (status, connection) = over(rt.alloc(), connection, &words, input, output, faults);
-            close(connection);
+            close_file(connection);
             status
         }
         Err(kind) => refuse(faults, kind),

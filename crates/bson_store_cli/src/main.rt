@@ -31,7 +31,7 @@ fn main(rt: HostRuntime) -> ExitCode {
                 serve(&rt, words.as_slice(), &mut input, &mut output, &mut faults)
             }
         }
-        Err(error) => database::unread(error, &mut faults),
+        Err(error) => database::misuse_or_memory(error, &mut faults),
     };
     ExitCode::from(status)
 }

@@ -15,7 +15,7 @@ use Rattle.sqlite_catalog.specs.Listing.{Lists, IsTableRow, IsIndexRow, IsViewRo
 use Rattle.sqlite.specs.Effect.{Database}
 use Rattle.sqlite.specs.State.{State, Opens, IsLive}
 use Rattle.bson_table.specs.Schema.{documents, by_idkey, documents_schema, no_schema}
-use Rattle.bson_table.specs.Rows.{Doc, HasRows, IsBlank, ListsNothing, ListsTable, Shows}
+use Rattle.bson_table.specs.Rows.{TableRow, HasRows, IsBlank, ListsNothing, ListsTable, HoldsRows}
 
 same_tree : (v : Value) (m n : ℕ) → v ≡ Int (pos (m + 1)) → v ≡ Int (pos (n + 1)) → n ≡ m
 same_tree v m n h k =
@@ -114,7 +114,7 @@ again_blank s opens live none =
     }
 
 -- a connection that was opened over trees with these rows shows them
-pub again_shows : (s : State) (docs : List Doc) → Opens s → IsLive s → HasRows s.committed.trees docs → Shows s docs
+pub again_shows : (s : State) (docs : List TableRow) → Opens s → IsLive s → HasRows s.committed.trees docs → HoldsRows s docs
 unfolding ListsTable
 again_shows s docs opens live rows =
     let sound = (live opens.is_open).1 in

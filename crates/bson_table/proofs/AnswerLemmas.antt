@@ -17,7 +17,7 @@ use Rattle.sqlite_sql.specs.Query.{end, matches_as, IsAnswerAs, Output, output, 
 use Rattle.sqlite_sql.specs.Program.{overlay}
 use Rattle.sqlite.specs.Tree.{Trees}
 use Rattle.sqlite.specs.Effect.{Answers, Database}
-use Rattle.bson_table.specs.Rows.{Doc, stored, HasRows}
+use Rattle.bson_table.specs.Rows.{TableRow, columns_of, HasRows}
 use Rattle.bson_table.proofs.Texts.{plain_query, program}
 
 -- = on two values that are not NULL, as a test
@@ -44,19 +44,19 @@ matches_are lost db terms params (d ∷ rows) = go (passes terms params d) (matc
     go false k = k
 
 -- for a test on documents
-stored_pass : (terms : List Term) (params : Row) (t : Doc → Bool) (docs : List Doc) → ((d : Doc) → passes terms params (stored d) ≡ t d) → filter (passes terms params) (map stored docs) ≡ map stored (filter t docs)
+stored_pass : (terms : List Term) (params : Row) (t : TableRow → Bool) (docs : List TableRow) → ((d : TableRow) → passes terms params (columns_of d) ≡ t d) → filter (passes terms params) (map columns_of docs) ≡ map columns_of (filter t docs)
 stored_pass terms params t [] h = refl
 stored_pass terms params t (d ∷ docs) h = go (t d) (h d) (stored_pass terms params t docs h)
   where
-    go : (b : Bool) → passes terms params (stored d) ≡ b → filter (passes terms params) (map stored docs) ≡ map stored (filter t docs)
-        → cond (passes terms params (stored d)) (stored d ∷ filter (passes terms params) (map stored docs)) (filter (passes terms params) (map stored docs)) ≡ map stored (cond b (d ∷ filter t docs) (filter t docs))
-    go true e k = rw e (ap (λ rs. stored d ∷ rs) k)
+    go : (b : Bool) → passes terms params (columns_of d) ≡ b → filter (passes terms params) (map columns_of docs) ≡ map columns_of (filter t docs)
+        → cond (passes terms params (columns_of d)) (columns_of d ∷ filter (passes terms params) (map columns_of docs)) (filter (passes terms params) (map columns_of docs)) ≡ map columns_of (cond b (d ∷ filter t docs) (filter t docs))
+    go true e k = rw e (ap (λ rs. columns_of d ∷ rs) k)
     go false e k = rw e k
 
 -- the outputs of a query, in some order that ORDER BY allows
-pub record Outputs (filter_terms project : List Term) (order : List (Term × Key)) (params : Row) (t : Doc → Bool) (docs : List Doc) (rows : List Row) : Type 0 where
+pub record Outputs (filter_terms project : List Term) (order : List (Term × Key)) (params : Row) (t : TableRow → Bool) (docs : List TableRow) (rows : List Row) : Type 0 where
   pub all : List Output
-  pub same : IsPermutation (map (λ d. output (plain_query filter_terms project order) (params ∷ stored d ∷ [])) (filter t docs)) all
+  pub same : IsPermutation (map (λ d. output (plain_query filter_terms project order) (params ∷ columns_of d ∷ [])) (filter t docs)) all
   pub sorted : IsSorted (output_cmp (plain_query filter_terms project order)) all
   pub shown : rows ≡ map (λ o. o.1) all
 
@@ -69,16 +69,16 @@ pub map_map : {A B C : Type 0} (f : B → C) (g : A → B) (xs : List A) → map
 map_map f g [] = refl
 map_map f g (x ∷ xs) = ap (λ ys. f (g x) ∷ ys) (map_map f g xs)
 
-pub outputs_of : (terms project : List Term) (order : List (Term × Key)) (params : Row) (t : Doc → Bool) (docs : List Doc) (db : Database) (rows : List Row)
-    → HasRows db.trees docs → ((d : Doc) → list_all (holds (params ∷ stored d ∷ [])) terms ≡ t d) → Answers db (program (plain_query terms project order)) params rows → Outputs terms project order params t docs rows
+pub outputs_of : (terms project : List Term) (order : List (Term × Key)) (params : Row) (t : TableRow → Bool) (docs : List TableRow) (db : Database) (rows : List Row)
+    → HasRows db.trees docs → ((d : TableRow) → list_all (holds (params ∷ columns_of d ∷ [])) terms ≡ t d) → Answers db (program (plain_query terms project order)) params rows → Outputs terms project order params t docs rows
 outputs_of terms project order params t docs db rows has test answers =
     let q = plain_query terms project order in
     let a : IsAnswerAs Null q (overlay db.trees []) params rows = answers.answer Null in
     let env = λ (r : Row). params ∷ r ∷ [] in
     let found = filter (passes terms params) (db.trees 0) in
     let kept : a.kept ≡ map (λ r. output q (env r)) found = a.distinct ∙ ap (map (output q)) (a.grouped ∙ matches_are Null (overlay db.trees []) terms params (db.trees 0)) ∙ map_map (output q) env found in
-    let moved : IsPermutation (map stored (filter t docs)) found = subst (λ xs. IsPermutation xs found) (stored_pass terms params t docs test) (IsPermutation-filter (passes terms params) (map stored docs) (db.trees 0) has.rows) in
-    let outs = subst (λ xs. IsPermutation xs (map (λ r. output q (env r)) found)) (map_map (λ r. output q (env r)) stored (filter t docs)) (IsPermutation-map (λ r. output q (env r)) (map stored (filter t docs)) found moved) in
+    let moved : IsPermutation (map columns_of (filter t docs)) found = subst (λ xs. IsPermutation xs found) (stored_pass terms params t docs test) (IsPermutation-filter (passes terms params) (map columns_of docs) (db.trees 0) has.rows) in
+    let outs = subst (λ xs. IsPermutation xs (map (λ r. output q (env r)) found)) (map_map (λ r. output q (env r)) columns_of (filter t docs)) (IsPermutation-map (λ r. output q (env r)) (map columns_of (filter t docs)) found moved) in
     record { all = a.ordered; same = IsPermutation-trans _ _ a.ordered outs (subst (λ k. IsPermutation k a.ordered) kept a.same); sorted = a.sorted; shown = a.shown }
 
 -- a column that equals a parameter

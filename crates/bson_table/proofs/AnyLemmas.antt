@@ -20,7 +20,7 @@ use Rattle.sqlite.specs.Held.{Held, state}
 use Rattle.sqlite.specs.Given.{HasBegun, HasGiven, Returns}
 use Rattle.sqlite.specs.State.{State, Shown, ShowsRows, CommitsShowing, FailsToQuery, FailsToShow, IsNotRun, QueriesRow, store_error, IsUnchanged, Survives}
 use Rattle.sqlite.proofs.StateLemmas.{survives_weaker}
-use Rattle.bson_table.specs.Rows.{Doc, Shows}
+use Rattle.bson_table.specs.Rows.{TableRow, HoldsRows}
 use Rattle.bson_table.specs.Visit.{ReadsRows}
 use Rattle.bson_table.proofs.StatementLemmas.{unchanged_shows, undone_shows}
 use Rattle.bson_table.proofs.PlainLemmas.{AsksForRows, Bare, bare_if, if_select_is}
@@ -58,7 +58,7 @@ module _ (text : List ℕ) (asked : AsksForRows (first text)) where
   leaves_nothing params old new = survives_weaker old new _ _ (λ _ db h. absurd (let e = subst IsSome (bare old.now.schema h.0 h.1.is).0 h.2 in cc))
 
   -- a refused one leaves what the connection showed, or shuts it
-  pub refused_shows_still : (params : Row) (old new : State) (docs : List Doc) (e : Error) → FailsToQuery text params old new e → Shows old docs → IsTrue new.is_open → Shows new docs
+  pub refused_shows_still : (params : Row) (old new : State) (docs : List TableRow) (e : Error) → FailsToQuery text params old new e → HoldsRows old docs → IsTrue new.is_open → HoldsRows new docs
   unfolding FailsToQuery IsNotRun
   refused_shows_still params old new docs e (inl (inl not_run)) h still = unchanged_shows old new docs h not_run.1
   refused_shows_still params old new docs e (inl (inr failed)) h still = undone_shows old new docs h failed.3 still
@@ -101,7 +101,7 @@ module _ (text : List ℕ) (asked : AsksForRows (first text)) where
   no_rows params old new (inl q) = absurd (not_failed params old new q)
   no_rows params old new (inr q) = q.1
 
-  pub row_refused : (params : Row) (old new : State) (e : Error) → QueriesRow text params old new (Err e) → IsTrue new.is_open → IsTrue old.is_open × ((docs : List Doc) → Shows old docs → Shows new docs)
+  pub row_refused : (params : Row) (old new : State) (e : Error) → QueriesRow text params old new (Err e) → IsTrue new.is_open → IsTrue old.is_open × ((docs : List TableRow) → HoldsRows old docs → HoldsRows new docs)
   unfolding QueriesRow
   row_refused params old new e (inl q) still = (refused_was_open params old new e q still, λ docs shows. refused_shows_still params old new docs e q shows still)
   row_refused params old new e (inr q) still = let u = shown_same params old new [] q.1 in (u.0.was_open, λ docs shows. unchanged_shows old new docs shows u)

@@ -14,7 +14,7 @@ use Rattle.sqlite.specs.declared.error.Error.{Error}
 use Rattle.sqlite.specs.State.{State, mode_of, Executes, CommitsBy, Survives}
 use Rattle.sqlite.proofs.Callers.{runs_as}
 use Rattle.bson_table.specs.Schema.{documents, documents_schema, no_schema}
-use Rattle.bson_table.specs.Rows.{HasRows, Shows, IsBlank}
+use Rattle.bson_table.specs.Rows.{HasRows, HoldsRows, IsBlank}
 use Rattle.bson_table.proofs.StatementLemmas.{commits_as, listed_by}
 use Rattle.bson_table.proofs.InsertLemmas.{went, same_value}
 use Rattle.bson_table.proofs.Texts.{create_text, create_is, create_plain}
@@ -43,7 +43,7 @@ create_commits old h db commits =
     subst (λ t. HasRows t []) (sym c.4) made.1
 
 module _ (old new : State) (h : IsBlank old) where
-  pub create_ok : (r : Result ℕ Error) → Executes create_text [] old new r → OnOk r (Shows new [])
+  pub create_ok : (r : Result ℕ Error) → Executes create_text [] old new r → OnOk r (HoldsRows new [])
   create_ok (Err e) ran = tt
   create_ok (Ok count) ran =
       let w = subst (λ t. Rattle.sqlite.specs.State.Writes old new None CreateTable t [] count) create_is.1 (runs_as create_text [] old new no_schema h.schema CreateTable create_is.0 create_plain count ran) in

@@ -6,7 +6,7 @@ use Rattle.std.proofs.lemmas.List.Folds.{list_all-append}
 use Rattle.sqlite.specs.Order.{Row, column}
 use Rattle.bson_table.specs.declared.opening.OpenError.{OpenError}
 use Rattle.bson_table.specs.declared.opening.OpenError.TheVariants.{NotAStore, BadRow, IdsCollide, Memory, Database}
-use Rattle.bson_table.specs.Rows.{Doc, last_place}
+use Rattle.bson_table.specs.Rows.{TableRow, last_place}
 use Rattle.bson_table.specs.Cells.{is_listed, int_in, doc_of}
 use Rattle.bson_table.specs.Check.{IsGoodAfter, AreGood, IsFirstBad}
 use Rattle.bson_table.specs.Seen.{Pair, HasSeen}
@@ -27,12 +27,12 @@ mistyped_at : (rows : List Row) (r : Row) → is_listed r ≡ false → list_all
 mistyped_at rows r q = elim (cases_Bool (list_all is_listed rows)) [ inl p ↦ same_listed rows r true false p q | inr p ↦ same_listed rows r false false p q ]
 
 module _ (accepts : List ℕ → List ℕ → List ℕ → Type 0) where
-  bad_on : (docs : List Doc) (d : Doc) (place : ℤ) → IsFirstBad accepts docs place → IsFirstBad accepts (docs ++ d ∷ []) place
+  bad_on : (docs : List TableRow) (d : TableRow) (place : ℤ) → IsFirstBad accepts docs place → IsFirstBad accepts (docs ++ d ∷ []) place
   bad_on docs d place h = record {
     front = h.front;
     bad = h.bad;
     back = h.back ++ d ∷ [];
-    all = ap (λ (ds : List Doc). ds ++ d ∷ []) h.all ∙ append_assoc h.front (h.bad ∷ h.back) (d ∷ []);
+    all = ap (λ (ds : List TableRow). ds ++ d ∷ []) h.all ∙ append_assoc h.front (h.bad ∷ h.back) (d ∷ []);
     good = h.good;
     refused = h.refused;
     is = h.is;
@@ -42,7 +42,7 @@ module _ (accepts : List ℕ → List ℕ → List ℕ → Type 0) where
       → JudgesRow accepts keys' last' (rows ++ r ∷ []) verdict
   still_wrong keys keys' last last' rows r (Ok done) e t h = absurd (cc)
   still_wrong keys keys' last last' rows r (Err NotAStore) e t h = mistyped_on rows r h
-  still_wrong keys keys' last last' rows r (Err (BadRow place)) e t h = record { typed = typed_on rows r h.typed t; first = subst (λ (ds : List Doc). IsFirstBad accepts ds place) (sym (map_end r rows)) (bad_on (map doc_of rows) (doc_of r) place h.first) }
+  still_wrong keys keys' last last' rows r (Err (BadRow place)) e t h = record { typed = typed_on rows r h.typed t; first = subst (λ (ds : List TableRow). IsFirstBad accepts ds place) (sym (map_end r rows)) (bad_on (map doc_of rows) (doc_of r) place h.first) }
   still_wrong keys keys' last last' rows r (Err (IdsCollide first second)) e t h = absurd h
   still_wrong keys keys' last last' rows r (Err Memory) e t h = absurd h
   still_wrong keys keys' last last' rows r (Err Database) e t h = absurd h
@@ -60,8 +60,8 @@ module _ (accepts : List ℕ → List ℕ → List ℕ → Type 0) where
       → HasSeen keys' (map doc_of rows ++ doc_of r ∷ []) → ArePassed accepts keys' (int_in (column r 0)) (rows ++ r ∷ [])
   passed_on keys keys' last rows r t h good seen = record {
     typed = typed_on rows r h.typed t;
-    good = subst (λ (ds : List Doc). AreGood accepts ds) (sym (map_end r rows)) (good_on accepts (map doc_of rows) (doc_of r) h.good good);
-    seen = subst (λ (ds : List Doc). HasSeen keys' ds) (sym (map_end r rows)) seen;
+    good = subst (λ (ds : List TableRow). AreGood accepts ds) (sym (map_end r rows)) (good_on accepts (map doc_of rows) (doc_of r) h.good good);
+    seen = subst (λ (ds : List TableRow). HasSeen keys' ds) (sym (map_end r rows)) seen;
     place = sym (ap last_place (map_end r rows) ∙ last_last (map doc_of rows) (doc_of r));
   }
 

@@ -21,7 +21,7 @@ use Rattle.sqlite.proofs.Callers.{runs_as, one_step, statement_of}
 use Rattle.bson_table.specs.declared.row.NewKey.{NewKey}
 use Rattle.bson_table.specs.Open.{IsSettled, KeepsAll, HasCommitted}
 use Rattle.bson_table.specs.Schema.{documents, documents_schema}
-use Rattle.bson_table.specs.Rows.{Doc, stored, HasRows, Inside, is_at, rekeyed, all_rekeyed}
+use Rattle.bson_table.specs.Rows.{TableRow, columns_of, HasRows, Inside, is_at, with_key_at, with_keys_at}
 use Rattle.bson_table.proofs.StatementLemmas.{listed_by}
 use Rattle.bson_table.proofs.RowLemmas.{cast_null, cast_int}
 use Rattle.bson_table.proofs.PlaceLemmas.{rising_rekeyed}
@@ -36,16 +36,16 @@ rekey_project = col 1 0 ∷ col 1 0 ∷ lit Null ∷ col 1 2 ∷ col 0 1 ∷ col
 abbrev rekey_command : Rattle.sqlite.specs.Command.Command
 rekey_command = Update 0 (program (plain_query (equals 0 0 ∷ []) rekey_project []))
 
-none_rekeyed : (p : ℤ) (idkey : List ℕ) (docs : List Doc) → filter (is_at p) docs ≡ [] → rekeyed p idkey docs ≡ docs
+none_rekeyed : (p : ℤ) (idkey : List ℕ) (docs : List TableRow) → filter (is_at p) docs ≡ [] → with_key_at p idkey docs ≡ docs
 none_rekeyed p idkey [] h = refl
 none_rekeyed p idkey (d ∷ docs) h = go (is_at p d) refl (none_rekeyed p idkey docs)
   where
-    go : (b : Bool) → is_at p d ≡ b → (filter (is_at p) docs ≡ [] → rekeyed p idkey docs ≡ docs) → rekeyed p idkey (d ∷ docs) ≡ d ∷ docs
+    go : (b : Bool) → is_at p d ≡ b → (filter (is_at p) docs ≡ [] → with_key_at p idkey docs ≡ docs) → with_key_at p idkey (d ∷ docs) ≡ d ∷ docs
     go true e k = absurd (let x = rw e at h in cc)
     go false e k = rw e (ap (λ ds. d ∷ ds) (k (rw e at h)))
 
-rekeys : (limit : Option ℕ) (mode : Mode) (text : List ℕ) (p : ℤ) (idkey : List ℕ) (docs : List Doc) (db : Database) (tally : Tally) (after : Database) → db.schema ≡ documents_schema → HasRows db.trees docs
-    → Does limit mode (Int p ∷ Blob idkey ∷ []) db text None rekey_command (Ok (tally, after)) → IsDatabase after → (after.schema ≡ documents_schema) × HasRows after.trees (rekeyed p idkey docs)
+rekeys : (limit : Option ℕ) (mode : Mode) (text : List ℕ) (p : ℤ) (idkey : List ℕ) (docs : List TableRow) (db : Database) (tally : Tally) (after : Database) → db.schema ≡ documents_schema → HasRows db.trees docs
+    → Does limit mode (Int p ∷ Blob idkey ∷ []) db text None rekey_command (Ok (tally, after)) → IsDatabase after → (after.schema ≡ documents_schema) × HasRows after.trees (with_key_at p idkey docs)
 rekeys limit mode text p idkey docs db tally after has rows h sound =
     let done = went (subst (λ s. Does limit mode (Int p ∷ Blob idkey ∷ []) (record db { schema = s }) text None rekey_command (Ok (tally, after))) has h) in
     let now = ap (λ (x : Tally × Database). x.1) (same_value (went (went done.2).2).2) in
@@ -55,22 +55,22 @@ rekeys limit mode text p idkey docs db tally after has rows h sound =
     let edit : Edit = edit_of db.trees documents (ids_of from.0) Given 1 from.0 in
     let made = (one_step documents_schema _ db.trees written.0 edit refl written.1).rows in
     let found = by_place p (Blob idkey ∷ []) rekey_project docs (record db { schema = documents_schema }) from.0 rows from.1 in
-    let left : IsPermutation (map stored (rekeyed p idkey docs)) (edited db.trees edit) = elim found [
+    let left : IsPermutation (map columns_of (with_key_at p idkey docs)) (edited db.trees edit) = elim found [
       | inl none ↦ rw (none.1, none_rekeyed p idkey docs none.0) rows.rows
       | inr one ↦ rw (one.3, cast_null, cast_int one.0.place)
-          (subst (λ q. IsPermutation (map stored (rekeyed p idkey docs)) (put_row (stored (record one.0 { idkey = idkey })) (without_rowid q (db.trees 0)))) (sym one.2) (key_perm p idkey one.0 docs (db.trees 0) rows.rising one.1 one.2 rows.rows))
+          (subst (λ q. IsPermutation (map columns_of (with_key_at p idkey docs)) (put_row (columns_of (record one.0 { idkey = idkey })) (without_rowid q (db.trees 0)))) (sym one.2) (key_perm p idkey one.0 docs (db.trees 0) rows.rising one.1 one.2 rows.rows))
     ] in
     let is = ap (λ (x : Database). x.trees 0) now ∙ ap (λ (t : Trees). t 0) trees ∙ made in (
       ap (λ (x : Database). x.schema) now,
       record {
         listed = listed_by after (ap (λ (x : Database). x.schema) now) sound;
-        rows = subst (λ rs. IsPermutation (map stored (rekeyed p idkey docs)) rs) (sym is) left;
+        rows = subst (λ rs. IsPermutation (map columns_of (with_key_at p idkey docs)) rs) (sym is) left;
         rising = rising_rekeyed p idkey docs rows.rising;
       },
     )
 
-module _ (p : ℤ) (idkey : List ℕ) (old new : State) (first docs : List Doc) (h : Inside old first docs) where
-  rekey_ok : (count : ℕ) → ExecutesInside 0 rekey_text (Int p ∷ Blob idkey ∷ []) old new (Ok count) → Inside new first (rekeyed p idkey docs)
+module _ (p : ℤ) (idkey : List ℕ) (old new : State) (first docs : List TableRow) (h : Inside old first docs) where
+  rekey_ok : (count : ℕ) → ExecutesInside 0 rekey_text (Int p ∷ Blob idkey ∷ []) old new (Ok count) → Inside new first (with_key_at p idkey docs)
   rekey_ok count ran =
       let w = runs_as rekey_text (Int p ∷ Blob idkey ∷ []) old new documents_schema h.schema rekey_command rekey_is rekey_plain count ran.0 in
       let made = rekeys old.step_limit (mode_of old) (statement_of rekey_text (understood documents_schema rekey_text)) p idkey docs old.now w.tally new.now h.schema h.table w.changed w.sound in
@@ -84,20 +84,20 @@ module _ (p : ℤ) (idkey : List ℕ) (old new : State) (first docs : List Doc) 
         first_table = subst (λ (x : Database). HasRows x.trees first) (sym shown.committed_is) h.first_table;
       }
 
-  pub rekey_done : (r : Result ℕ Error) → ExecutesInside 0 rekey_text (Int p ∷ Blob idkey ∷ []) old new r → OnOk r (Inside new first (rekeyed p idkey docs))
+  pub rekey_done : (r : Result ℕ Error) → ExecutesInside 0 rekey_text (Int p ∷ Blob idkey ∷ []) old new r → OnOk r (Inside new first (with_key_at p idkey docs))
   rekey_done (Ok count) ran = rekey_ok count ran
   rekey_done (Err e) ran = tt
 
 -- one more key
-pub all_but_one : (keys : List NewKey) (i : ℕ) (k : NewKey) (docs : List Doc) → i < length keys → k ≡ get_or keys i k
-    → all_rekeyed (take (i + 1) keys) docs ≡ rekeyed k.place k.idkey.items (all_rekeyed (take i keys) docs)
+pub all_but_one : (keys : List NewKey) (i : ℕ) (k : NewKey) (docs : List TableRow) → i < length keys → k ≡ get_or keys i k
+    → with_keys_at (take (i + 1) keys) docs ≡ with_key_at k.place k.idkey.items (with_keys_at (take i keys) docs)
 all_but_one [] i k docs low is = absurd (omega (arith, low))
-all_but_one (x ∷ keys) zero k docs low is = ap (λ (y : NewKey). rekeyed y.place y.idkey.items docs) (sym is)
+all_but_one (x ∷ keys) zero k docs low is = ap (λ (y : NewKey). with_key_at y.place y.idkey.items docs) (sym is)
 all_but_one (x ∷ keys) (suc i) k docs low is =
     let e : suc i + 1 ≡ suc (i + 1) = omega arith in
-    ap (λ n. all_rekeyed (take n (x ∷ keys)) docs) e ∙ all_but_one keys i k (rekeyed x.place x.idkey.items docs) (omega (arith, low)) is
+    ap (λ n. with_keys_at (take n (x ∷ keys)) docs) e ∙ all_but_one keys i k (with_key_at x.place x.idkey.items docs) (omega (arith, low)) is
 
-pub same_rekey : (p q : ℤ) (k l : List ℕ) (docs : List Doc) → p ≡ q → k ≡ l → rekeyed p k docs ≡ rekeyed q l docs
+pub same_rekey : (p q : ℤ) (k l : List ℕ) (docs : List TableRow) → p ≡ q → k ≡ l → with_key_at p k docs ≡ with_key_at q l docs
 same_rekey p q k l docs e f = rw (e, f) refl
 
 -- ---- what a statement in a transaction leaves, whatever the schema

@@ -21,7 +21,7 @@ use Rattle.sqlite_tied.specs.Compute.{everything}
 use Rattle.sqlite.proofs.Callers.{IsPlain, reads_as, first_as, command_of}
 use Rattle.bson_table.specs.Schema.{documents_schema}
 use Rattle.bson_table.specs.Visit.{IsSelect}
-use Rattle.bson_table.specs.Rows.{Doc, stored, IsRising, Shows, last_place}
+use Rattle.bson_table.specs.Rows.{TableRow, columns_of, IsRising, HoldsRows, last_place}
 use Rattle.bson_table.proofs.AnswerLemmas.{passes, matches_are, map_map, keeps_all}
 use Rattle.bson_table.proofs.LastPlaceLemmas.{below_next}
 use Rattle.bson_table.proofs.Texts.{plain_query, program}
@@ -64,29 +64,29 @@ falls x (y ∷ os) p s =
     let more = falls y os p.1 (λ k d low lt. rw add-one (rw add-one at (s (suc k) d (omega arith) (omega (arith, lt))))) in
     (le, all_down (key_of x) (key_of y) os le more)
 
-abbrev out : Doc → Output
-out d = output desc_query ([] ∷ stored d ∷ [])
+abbrev out : TableRow → Output
+out d = output desc_query ([] ∷ columns_of d ∷ [])
 
-placed : (ds : List Doc) → AllByRecursion IsPlaced (map out ds)
+placed : (ds : List TableRow) → AllByRecursion IsPlaced (map out ds)
 placed [] = tt
 placed (d ∷ ds) = ((refl, refl), placed ds)
 
-up_to : (k : ℤ) (ds : List Doc) → AllByRecursion (λ d. d.place <ℤ (k +ℤ pos 1)) ds → AllByRecursion (λ o. key_of o ≤ℤ k) (map out ds)
+up_to : (k : ℤ) (ds : List TableRow) → AllByRecursion (λ d. d.place <ℤ (k +ℤ pos 1)) ds → AllByRecursion (λ o. key_of o ≤ℤ k) (map out ds)
 up_to k [] h = tt
 up_to k (d ∷ ds) h = (omega (arith, ints, h.0), up_to k ds h.1)
 
-last_at_most : (k : ℤ) (d : Doc) (ds : List Doc) → AllByRecursion (λ o. key_of o ≤ℤ k) (map out (d ∷ ds)) → last_place (d ∷ ds) ≤ℤ k
+last_at_most : (k : ℤ) (d : TableRow) (ds : List TableRow) → AllByRecursion (λ o. key_of o ≤ℤ k) (map out (d ∷ ds)) → last_place (d ∷ ds) ≤ℤ k
 last_at_most k d [] h = h.0
 last_at_most k d (e ∷ ds) h = last_at_most k e ds h.1
 
-abbrev Finds : List Doc → Option Row → Type 0
+abbrev Finds : List TableRow → Option Row → Type 0
 Finds docs None = docs ≡ []
 Finds docs (Some row) = (docs ≢ []) × (column row 0 ≡ Int (last_place docs))
 
 same_place : (a b : ℤ) → a ≤ℤ b → b ≤ℤ a → a ≡ b
 same_place a b h k = omega (arith, ints, h, k)
 
-first_is : (docs : List Doc) (xs : List Output) → IsRising docs → IsPermutation (map out docs) xs → IsSorted (output_cmp desc_query) xs → Finds docs (slice_get (map (λ (o : Output). o.1) xs) 0)
+first_is : (docs : List TableRow) (xs : List Output) → IsRising docs → IsPermutation (map out docs) xs → IsSorted (output_cmp desc_query) xs → Finds docs (slice_get (map (λ (o : Output). o.1) xs) 0)
 first_is [] [] up p s = refl
 first_is (d ∷ docs) [] up p s = absurd (let n = length_permutation _ _ p in cc)
 first_is [] (x ∷ xs) up p s = absurd (let n = length_permutation _ _ p in cc)
@@ -103,14 +103,14 @@ first_of_page : (xs : List Row) → slice_get (take 1 xs) 0 ≡ slice_get xs 0
 first_of_page [] = refl
 first_of_page (x ∷ xs) = refl
 
-module _ (old new : State) (docs : List Doc) (h : Shows old docs) where
+module _ (old new : State) (docs : List TableRow) (h : HoldsRows old docs) where
   of_answer : (rows : List Row) → Answers old.now (program desc_query) [] rows → Finds docs (slice_get rows 0)
   of_answer rows answers =
       let a : IsAnswerAs Null desc_query (overlay old.now.trees []) [] rows = answers.answer Null in
       let shown = λ (r : Row). output desc_query ([] ∷ r ∷ []) in
       let all = old.now.trees 0 in
       let kept : a.kept ≡ map shown all = a.distinct ∙ ap (map (output desc_query)) (a.grouped ∙ matches_are Null (overlay old.now.trees []) [] [] all) ∙ map_map (output desc_query) (λ (r : Row). [] ∷ r ∷ []) (filter (passes [] []) all) ∙ ap (map shown) (keeps_all all) in
-      let outs : IsPermutation (map out docs) (map shown all) = subst (λ xs. IsPermutation xs (map shown all)) (map_map shown stored docs) (IsPermutation-map shown (map stored docs) all h.table.rows) in
+      let outs : IsPermutation (map out docs) (map shown all) = subst (λ xs. IsPermutation xs (map shown all)) (map_map shown columns_of docs) (IsPermutation-map shown (map columns_of docs) all h.table.rows) in
       let same : IsPermutation (map out docs) a.ordered = IsPermutation-trans (map out docs) (map shown all) a.ordered outs (subst (λ k. IsPermutation k a.ordered) kept a.same) in
       subst (λ (found : Option Row). Finds docs found) (sym (ap (λ (rs : List Row). slice_get rs 0) a.shown ∙ first_of_page (map (λ (o : Output). o.1) a.ordered))) (first_is docs a.ordered h.table.rising same a.sorted)
 

@@ -16,7 +16,7 @@ use Rattle.sqlite.specs.Command.TheVariants.{Select}
 use Rattle.sqlite.specs.State.{State, IsLive}
 use Rattle.sqlite.proofs.Callers.{reads_as}
 use Rattle.bson_table.specs.Schema.{documents, documents_schema}
-use Rattle.bson_table.specs.Rows.{Doc, stored, HasRows, Shows, IsRising}
+use Rattle.bson_table.specs.Rows.{TableRow, columns_of, HasRows, HoldsRows, IsRising}
 use Rattle.bson_table.specs.Open.{all_text, Reads}
 use Rattle.bson_table.specs.Cells.{doc_of}
 use Rattle.bson_table.specs.Check.{AreGood}
@@ -58,16 +58,16 @@ put_down_all db has live =
     let p = subst (λ s. AllByRecursion (λ tb. AllByRecursion (λ row. passes NotNull s db.trees tb row ≡ true) (db.trees tb.tree)) s.tables) has (rules NotNull) in
     typed_all (db.trees 0) t.0 p.0
 
-pub listed_rows : (old new : State) (docs : List Doc) → old.now.schema ≡ documents_schema → IsDatabase old.now → Reads old new docs → IsRising docs → HasRows old.now.trees docs
+pub listed_rows : (old new : State) (docs : List TableRow) → old.now.schema ≡ documents_schema → IsDatabase old.now → Reads old new docs → IsRising docs → HasRows old.now.trees docs
 listed_rows old new docs has live h up =
     let read : Answers old.now (program all_query) [] h.rows = reads_as all_text [] old new documents_schema has (Select (program all_query) _) all_is.0 all_plain all_is.1 h.rows h.answered in
     let moved = IsPermutation-map put_down (map cols (old.now.trees 0)) h.rows (answered old.now h.rows read) in
-    let both = subst₂ (λ x y. IsPermutation x y) (put_down_all old.now has live) (put_down_is h.rows h.typed ∙ ap (map stored) (sym h.same)) moved in
-    record { listed = listed_by old.now has live; rows = IsPermutation-sym (old.now.trees 0) (map stored docs) both; rising = up }
+    let both = subst₂ (λ x y. IsPermutation x y) (put_down_all old.now has live) (put_down_is h.rows h.typed ∙ ap (map columns_of) (sym h.same)) moved in
+    record { listed = listed_by old.now has live; rows = IsPermutation-sym (old.now.trees 0) (map columns_of docs) both; rising = up }
 
 -- an open on a table of this schema
-pub listed_shows : (accepts : List ℕ → List ℕ → List ℕ → Type 0) (old new : State) (docs : List Doc) → old.now.schema ≡ documents_schema → IsDatabase old.now → old.in_transaction ≡ false → old.now ≡ old.committed
-    → Reads old new docs → AreGood accepts docs → Shows new docs
+pub listed_shows : (accepts : List ℕ → List ℕ → List ℕ → Type 0) (old new : State) (docs : List TableRow) → old.now.schema ≡ documents_schema → IsDatabase old.now → old.in_transaction ≡ false → old.now ≡ old.committed
+    → Reads old new docs → AreGood accepts docs → HoldsRows new docs
 listed_shows accepts old new docs has live auto settled h good =
     let u = h.unchanged in
     record {
@@ -78,12 +78,12 @@ listed_shows accepts old new docs has live auto settled h good =
       table = subst (λ (d : Database). HasRows d.trees docs) (sym u.0.now_is) (listed_rows old new docs has live h (good_rises accepts docs good));
     }
 
-as_read : (docs : List Doc) → map doc_of (map (λ d. Int d.place ∷ Text d.coll ∷ Blob d.idkey ∷ Blob d.body ∷ []) (filter (λ (_ : Doc). true) docs)) ≡ docs
+as_read : (docs : List TableRow) → map doc_of (map (λ d. Int d.place ∷ Text d.coll ∷ Blob d.idkey ∷ Blob d.body ∷ []) (filter (λ (_ : TableRow). true) docs)) ≡ docs
 as_read [] = refl
 as_read (d ∷ docs) = ap (λ ds. d ∷ ds) (as_read docs)
 
 -- the rows that are read of a table are those that it shows
-pub read_shown : (old new : State) (shown docs : List Doc) → Shows old shown → Reads old new docs → docs ≡ shown
+pub read_shown : (old new : State) (shown docs : List TableRow) → HoldsRows old shown → Reads old new docs → docs ≡ shown
 read_shown old new shown docs h r =
     let project = col 1 0 ∷ col 1 2 ∷ col 1 3 ∷ col 1 4 ∷ [] in
     let answers : Answers old.now (program all_query) [] r.rows = reads_as all_text [] old new documents_schema h.schema (Select (program all_query) _) all_is.0 all_plain all_is.1 r.rows r.answered in
@@ -91,8 +91,8 @@ read_shown old new shown docs h r =
     r.same ∙ ap (map doc_of) ordered ∙ as_read shown
 
 -- a table that lists good rows shows them
-pub shows_read : (accepts : List ℕ → List ℕ → List ℕ → Type 0) (old new : State) (docs : List Doc) → old.now.schema ≡ documents_schema → IsLive old → old.in_transaction ≡ false → (IsTrue old.is_open → old.now ≡ old.committed)
-    → Reads old new docs → AreGood accepts docs → Shows old docs
+pub shows_read : (accepts : List ℕ → List ℕ → List ℕ → Type 0) (old new : State) (docs : List TableRow) → old.now.schema ≡ documents_schema → IsLive old → old.in_transaction ≡ false → (IsTrue old.is_open → old.now ≡ old.committed)
+    → Reads old new docs → AreGood accepts docs → HoldsRows old docs
 shows_read accepts old new docs has live auto settled h good =
     let was = h.unchanged.0.was_open in
     record { is_open = was; autocommit = auto; settled = settled was; schema = has; table = listed_rows old new docs has (live was).0 h (good_rises accepts docs good) }

@@ -5,7 +5,7 @@ use Rattle.std.proofs.lemmas.Bool.{and_parts}
 use Rattle.sqlite.specs.declared.types.Value.{Value}
 use Rattle.sqlite.specs.declared.types.Value.TheVariants.{Null, Int, Real, Text, Blob}
 use Rattle.sqlite.specs.Order.{Row, column}
-use Rattle.bson_table.specs.Rows.{stored}
+use Rattle.bson_table.specs.Rows.{columns_of}
 use Rattle.bson_table.specs.Cells.{is_int, is_text, is_blob, is_listed, int_in, bytes_in, doc_of}
 
 an_int : (v : Value) → is_int v ≡ true → v ≡ Int (int_in v)
@@ -35,7 +35,7 @@ put_down r = column r 0 ∷ Null ∷ column r 1 ∷ column r 2 ∷ column r 3 �
 same_four : (a b c d a' b' c' d' : Value) → a ≡ a' → b ≡ b' → c ≡ c' → d ≡ d' → ◌≡◌ {A = Row} (a ∷ Null ∷ b ∷ c ∷ d ∷ []) (a' ∷ Null ∷ b' ∷ c' ∷ d' ∷ [])
 same_four a b c d a' b' c' d' p q r s = rw (p, q, r, s) refl
 
-pub put_down_is : (rows : List Row) → list_all is_listed rows ≡ true → map put_down rows ≡ map stored (map doc_of rows)
+pub put_down_is : (rows : List Row) → list_all is_listed rows ≡ true → map put_down rows ≡ map columns_of (map doc_of rows)
 put_down_is [] h = refl
 put_down_is (r ∷ rows) h =
     let all = and_parts (is_listed r) (list_all is_listed rows) h in

@@ -14,7 +14,7 @@ use Rattle.sqlite.specs.State.{State, Shown}
 use Rattle.sqlite.proofs.Callers.{IsPlain, command_of, reads_as}
 use Rattle.sqlite_tied.specs.Compute.{everything}
 use Rattle.bson_table.specs.Schema.{documents_schema}
-use Rattle.bson_table.specs.Rows.{Doc, Shows, is_in}
+use Rattle.bson_table.specs.Rows.{TableRow, HoldsRows, is_in}
 use Rattle.bson_table.specs.Visit.{IsSelect, first_value}
 use Rattle.bson_table.specs.Names.{has_name, is_same_name, names_text}
 use Rattle.bson_table.proofs.Texts.{plain_query, program, by_place}
@@ -56,17 +56,17 @@ names_plain : IsPlain (understood documents_schema names_text)
 unfolding understood everything
 names_plain = (refl, refl)
 
-every : (docs : List Doc) → filter (λ _. true) docs ≡ docs
+every : (docs : List TableRow) → filter (λ _. true) docs ≡ docs
 every [] = refl
 every (d ∷ docs) = ap (λ ds. d ∷ ds) (every docs)
 
-in_docs : (c : List ℕ) (docs : List Doc) → list_any (is_same_name c) (map first_value (map (λ (d : Doc). Text d.coll ∷ []) docs)) ≡ list_any (is_in c) docs
+in_docs : (c : List ℕ) (docs : List TableRow) → list_any (is_same_name c) (map first_value (map (λ (d : TableRow). Text d.coll ∷ []) docs)) ≡ list_any (is_in c) docs
 in_docs c [] = refl
 in_docs c (d ∷ docs) = ap₂ (λ p q. p || q) (nat_list_eq_equiv.symm c d.coll) (in_docs c docs)
 
-pub names_of : (old new : State) (docs : List Doc) (rows : List Row) (c : List ℕ) → Shows old docs → Shown names_text [] old new rows → list_any (is_same_name c) (map first_value rows) ≡ list_any (is_in c) docs
+pub names_of : (old new : State) (docs : List TableRow) (rows : List Row) (c : List ℕ) → HoldsRows old docs → Shown names_text [] old new rows → list_any (is_same_name c) (map first_value rows) ≡ list_any (is_in c) docs
 names_of old new docs rows c h s =
     let project = col 1 2 ∷ [] in
     let answer = reads_as names_text [] old new documents_schema h.schema (Select (program (plain_query [] project by_place)) (codes "coll" ∷ [])) names_is.0 names_plain names_is.1 rows s in
-    let is = in_order [] project [] (λ _. true) docs rows h.table.rising (outputs_of [] project by_place [] (λ _. true) docs old.now rows h.table (λ d. refl) answer) ∙ ap (map (λ (d : Doc). Text d.coll ∷ [])) (every docs) in
+    let is = in_order [] project [] (λ _. true) docs rows h.table.rising (outputs_of [] project by_place [] (λ _. true) docs old.now rows h.table (λ d. refl) answer) ∙ ap (map (λ (d : TableRow). Text d.coll ∷ [])) (every docs) in
     ap (λ (rs : List Row). list_any (is_same_name c) (map first_value rs)) is ∙ in_docs c docs

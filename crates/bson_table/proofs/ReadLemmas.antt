@@ -23,7 +23,7 @@ use Rattle.sqlite.specs.Given.{IsPlain}
 use Rattle.sqlite.specs.State.{State, Shown}
 use Rattle.sqlite.proofs.Callers.{reads_as, command_of}
 use Rattle.bson_table.specs.Schema.{documents_schema}
-use Rattle.bson_table.specs.Rows.{Doc, stored, Shows, IsRising, is_row_named}
+use Rattle.bson_table.specs.Rows.{TableRow, columns_of, HoldsRows, IsRising, is_row_named}
 use Rattle.bson_table.proofs.AnswerLemmas.{and_true, Outputs, outputs_of, equal_is, map_map}
 use Rattle.bson_table.proofs.SortLemmas.{same_order, Strict, Rises}
 use Rattle.bson_table.proofs.Texts.{plain_query, program, equals, by_place, find_text, find_is, find_plain, places_text, places_is, places_plain}
@@ -37,7 +37,7 @@ blob_test a b = ap is_eq (value_cmp-Blob a b) ∙ is_eq-slice_cmp a b
 
 -- ---- the tests of the queries, on documents
 
-pub named_test : (coll idkey : List ℕ) (d : Doc) → list_all (holds ((Text coll ∷ Blob idkey ∷ []) ∷ stored d ∷ [])) (equals 2 0 ∷ equals 3 1 ∷ []) ≡ is_row_named coll idkey d
+pub named_test : (coll idkey : List ℕ) (d : TableRow) → list_all (holds ((Text coll ∷ Blob idkey ∷ []) ∷ columns_of d ∷ [])) (equals 2 0 ∷ equals 3 1 ∷ []) ≡ is_row_named coll idkey d
 named_test coll idkey d =
     rw (equal_is (Text d.coll) (Text coll) (bytes_eq d.coll coll) refl refl (text_test d.coll coll), equal_is (Blob d.idkey) (Blob idkey) (bytes_eq d.idkey idkey) refl refl (blob_test d.idkey idkey))
     (ap (λ b. bytes_eq d.coll coll && b) (and_true (bytes_eq d.idkey idkey)))
@@ -54,11 +54,11 @@ IsPlaced o = column o.0 0 ≡ Int (key_of o)
 pub not_below : (a b : ℤ) (u v : Value) → u ≡ Int a → v ≡ Int b → is_lt (ordering_then (value_cmp u v) Equal) ≡ false → b ≤ℤ a
 not_below a b u v p q h = let e : is_lt (int_cmp a b) ≡ false = ap is_lt (sym (then-Equal (value_cmp u v) ∙ ap₂ value_cmp p q ∙ value_cmp-Int a b)) ∙ h in grind (arith, ints, nat_tests)
 
-module _ (terms project : List Term) (params : Row) (t : Doc → Bool) where
-  abbrev out : Doc → Output
-  out d = output (plain_query terms project by_place) (params ∷ stored d ∷ [])
+module _ (terms project : List Term) (params : Row) (t : TableRow → Bool) where
+  abbrev out : TableRow → Output
+  out d = output (plain_query terms project by_place) (params ∷ columns_of d ∷ [])
 
-  strict : (docs : List Doc) → IsRising docs → Strict key_of (map out (filter t docs))
+  strict : (docs : List TableRow) → IsRising docs → Strict key_of (map out (filter t docs))
   strict [] up = tt
   strict (d ∷ docs) up = go (t d) (strict docs up.1) (above docs up.0)
     where
@@ -66,7 +66,7 @@ module _ (terms project : List Term) (params : Row) (t : Doc → Bool) where
       go true h k = (k, h)
       go false h k = h
 
-      above : (ds : List Doc) → AllByRecursion (λ b. d.place <ℤ b.place) ds → AllByRecursion (λ o. d.place <ℤ key_of o) (map out (filter t ds))
+      above : (ds : List TableRow) → AllByRecursion (λ b. d.place <ℤ b.place) ds → AllByRecursion (λ o. d.place <ℤ key_of o) (map out (filter t ds))
       above [] k = tt
       above (e ∷ ds) k = at (t e) (above ds k.1)
         where
@@ -89,12 +89,12 @@ module _ (terms project : List Term) (params : Row) (t : Doc → Bool) where
       le_all a b [] h k = tt
       le_all a b (z ∷ zs) h k = (omega (arith, ints, h, k.0), le_all a b zs h k.1)
 
-  placed : (ds : List Doc) → AllByRecursion IsPlaced (map out ds)
+  placed : (ds : List TableRow) → AllByRecursion IsPlaced (map out ds)
   placed [] = tt
   placed (d ∷ ds) = (refl, placed ds)
 
   -- the rows in order of place are those of the documents that pass, in their order
-  pub in_order : (docs : List Doc) (rows : List Row) → IsRising docs → Outputs terms project by_place params t docs rows → rows ≡ map (λ d. (out d).1) (filter t docs)
+  pub in_order : (docs : List TableRow) (rows : List Row) → IsRising docs → Outputs terms project by_place params t docs rows → rows ≡ map (λ d. (out d).1) (filter t docs)
   in_order docs rows up o =
       let xs = map out (filter t docs) in
       let all : (P : Output → Type 0) → AllByRecursion P xs → AllByRecursion P o.all = λ P h. recursion_from_All P o.all (All-permutation P xs o.all o.same (All-from_recursion P xs h)) in
@@ -104,7 +104,7 @@ module _ (terms project : List Term) (params : Row) (t : Doc → Bool) where
 
 -- ---- a row by its collection and key
 
-answers_of : (sql : List ℕ) (params : Row) (old new : State) (docs : List Doc) (names : List (List ℕ)) (terms project : List Term) (order : List (Term × Key)) (rows : List Row) → Shows old docs
+answers_of : (sql : List ℕ) (params : Row) (old new : State) (docs : List TableRow) (names : List (List ℕ)) (terms project : List Term) (order : List (Term × Key)) (rows : List Row) → HoldsRows old docs
     → (command_of (understood documents_schema sql) ≡ Select (program (plain_query terms project order)) names) × (reads_listing documents_schema sql ≡ false) → IsPlain (understood documents_schema sql)
     → Shown sql params old new rows → Answers old.now (program (plain_query terms project order)) params rows
 answers_of sql params old new docs names terms project order rows h is plain s =
@@ -113,7 +113,7 @@ answers_of sql params old new docs names terms project order rows h is plain s =
 abbrev named_terms : List Term
 named_terms = equals 2 0 ∷ equals 3 1 ∷ []
 
-module _ (coll idkey : List ℕ) (old new : State) (docs : List Doc) (rows : List Row) (h : Shows old docs) where
+module _ (coll idkey : List ℕ) (old new : State) (docs : List TableRow) (rows : List Row) (h : HoldsRows old docs) where
   rows_of : (text : List ℕ) (names : List (List ℕ)) (project : List Term)
       → (command_of (understood documents_schema text) ≡ Select (program (plain_query named_terms project by_place)) names) × (reads_listing documents_schema text ≡ false) → IsPlain (understood documents_schema text)
       → Shown text (Text coll ∷ Blob idkey ∷ []) old new rows → Outputs named_terms project by_place (Text coll ∷ Blob idkey ∷ []) (is_row_named coll idkey) docs rows
@@ -131,14 +131,14 @@ module _ (coll idkey : List ℕ) (old new : State) (docs : List Doc) (rows : Lis
       let project = col 1 0 ∷ [] in
       in_order named_terms project (Text coll ∷ Blob idkey ∷ []) (is_row_named coll idkey) docs rows h.table.rising (rows_of places_text _ project places_is places_plain s)
 
-abbrev pub found_row : Doc → Row
+abbrev pub found_row : TableRow → Row
 found_row d = Int d.place ∷ Blob d.body ∷ []
 
-abbrev pub found_place : Doc → Row
+abbrev pub found_place : TableRow → Row
 found_place d = Int d.place ∷ []
 
 -- the first of them is what is found
-pub first_found : (f : Doc → Row) (p : Doc → Bool) (docs : List Doc) → slice_get (map f (filter p docs)) 0 ≡ option_map f (find p docs)
+pub first_found : (f : TableRow → Row) (p : TableRow → Bool) (docs : List TableRow) → slice_get (map f (filter p docs)) 0 ≡ option_map f (find p docs)
 first_found f p [] = refl
 first_found f p (d ∷ docs) = go (p d) (first_found f p docs)
   where

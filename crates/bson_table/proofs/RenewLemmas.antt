@@ -15,7 +15,7 @@ use Rattle.bson_table.specs.declared.opening.OpenError.TheVariants.{NotAStore, B
 use Rattle.bson_table.specs.declared.renewal.Renewals.{Renewals}
 use Rattle.bson_table.specs.Check.{AreGood, AreGoodAfter}
 use Rattle.bson_table.specs.Open.{all_text, Reads, ReadsNot, RefusesOpening, PassesOpening, IsSettled, KeepsAll}
-use Rattle.bson_table.specs.Rows.{Doc, HasRows, Shows, all_rekeyed}
+use Rattle.bson_table.specs.Rows.{TableRow, HasRows, HoldsRows, with_keys_at}
 use Rattle.bson_table.specs.Renewal.{IsOwn, AreRenewed, AcceptsOnce, AreRenewals, Renewed, Unrenewed, MayRenew, RenewsOld, AreGoodOnce, PassesOnce}
 use Rattle.bson_table.proofs.ListedLemmas.{listed_shows}
 use Rattle.bson_table.proofs.StatementLemmas.{unchanged_shows, unchanged_keeps, keeps_then, settled_still}
@@ -34,10 +34,10 @@ shown_here old mid rows h =
     let it = subst (λ k. ShowsRows old mid all_text h.0 (timed [] h.0.formats h.1.now) rows k) none h.2 in
     (h.0, h.1, subst (λ k. ShowsRows old old all_text h.0 (timed [] h.0.formats h.1.now) rows k) (sym none) (it.0, it.1, it.2, unchanged_here old mid it.3))
 
-pub read_here : (old mid : State) (docs : List Doc) → Reads old mid docs → Reads old old docs
+pub read_here : (old mid : State) (docs : List TableRow) → Reads old mid docs → Reads old old docs
 read_here old mid docs h = record { rows = h.rows; answered = shown_here old mid h.rows h.answered; typed = h.typed; same = h.same; unchanged = unchanged_here old mid h.unchanged }
 
-pub read_before : (old mid : State) (docs : List Doc) → IsUnchanged old mid → Reads mid mid docs → Reads old old docs
+pub read_before : (old mid : State) (docs : List TableRow) → IsUnchanged old mid → Reads mid mid docs → Reads old old docs
 read_before old mid docs u h =
     read_here old mid docs (record { rows = h.rows; answered = shown_before all_text [] old mid mid h.rows all_asks u h.answered; typed = h.typed; same = h.same; unchanged = unchanged_then old mid mid u h.unchanged })
 
@@ -57,12 +57,12 @@ module _ (accepts : List ℕ → List ℕ → List ℕ → Type 0) (renews : Lis
 
   -- what the survey found
   pub record Found (r : Renewals) : Type 0 where
-    pub docs : List Doc
+    pub docs : List TableRow
     pub reads : Reads old mid docs
     pub good : AreGood (AcceptsOnce renews) docs
     pub renewals : AreRenewals accepts renews docs r
 
-  pub found : (r : Renewals) → (docs : List Doc) × Reads old mid docs × AreGood (AcceptsOnce renews) docs × AreRenewals accepts renews docs r → Found r
+  pub found : (r : Renewals) → (docs : List TableRow) × Reads old mid docs × AreGood (AcceptsOnce renews) docs × AreRenewals accepts renews docs r → Found r
   found r h = record { docs = h.0; reads = h.1; good = h.2; renewals = h.3 }
 
   module _ (r : Renewals) (f : Found r) where
@@ -75,20 +75,20 @@ module _ (accepts : List ℕ → List ℕ → List ℕ → Type 0) (renews : Lis
     pub nothing_written : KeepsAll old mid
     nothing_written = unchanged_keeps old mid f.reads.unchanged
 
-    same : IsLive old → (ds : List Doc) → Shows old ds → ds ≡ f.docs
+    same : IsLive old → (ds : List TableRow) → HoldsRows old ds → ds ≡ f.docs
     same live ds shows = one_list mid.now.trees ds f.docs (unchanged_shows old mid ds shows f.reads.unchanged).table
         (listed_shows (AcceptsOnce renews) old mid f.docs shows.schema (live shows.is_open).0 shows.autocommit shows.settled f.reads f.good).table
 
-    there : IsLive old → (ds : List Doc) → Shows old ds → Shows mid f.docs
-    there live ds shows = subst (Shows mid) (same live ds shows) (unchanged_shows old mid ds shows f.reads.unchanged)
+    there : IsLive old → (ds : List TableRow) → HoldsRows old ds → HoldsRows mid f.docs
+    there live ds shows = subst (HoldsRows mid) (same live ds shows) (unchanged_shows old mid ds shows f.reads.unchanged)
 
     module _ (none : r.twin ≡ None) (new : State) where
-      pub renewed_so : IsLive old → ((ds : List Doc) → Shows mid ds → Shows new (all_rekeyed r.keys.items ds)) → Renewed accepts renews old new
+      pub renewed_so : IsLive old → ((ds : List TableRow) → HoldsRows mid ds → HoldsRows new (with_keys_at r.keys.items ds)) → Renewed accepts renews old new
       renewed_so live done ds shows =
           let yet = apart_yet accepts renews f.docs r f.renewals none in
-          (f.renewals.after, subst (Shows new) yet.keys (done f.docs (there live ds shows)), subst (λ xs. AreRenewed renews xs f.renewals.after) (sym (same live ds shows)) f.renewals.renewed, yet.good)
+          (f.renewals.after, subst (HoldsRows new) yet.keys (done f.docs (there live ds shows)), subst (λ xs. AreRenewed renews xs f.renewals.after) (sym (same live ds shows)) f.renewals.renewed, yet.good)
 
-      pub may_renew : (db : Trees) → ((ds : List Doc) → Shows mid ds → HasRows db (all_rekeyed r.keys.items ds)) → MayRenew accepts renews old db
+      pub may_renew : (db : Trees) → ((ds : List TableRow) → HoldsRows mid ds → HasRows db (with_keys_at r.keys.items ds)) → MayRenew accepts renews old db
       may_renew db made live ds shows =
           let yet = apart_yet accepts renews f.docs r f.renewals none in
           (f.renewals.after, subst (λ xs. AreRenewed renews xs f.renewals.after) (sym (same live ds shows)) f.renewals.renewed, subst (HasRows db) yet.keys (made f.docs (there live ds shows)))
@@ -105,7 +105,7 @@ pub if_err_on : (r : Result (Unit {0}) OpenError) (P Q : OpenError → Type 0) �
 if_err_on (Ok u) P Q f h = tt
 if_err_on (Err e) P Q f h = f e h
 
-own_renewed : (renews : List ℕ → List ℕ → List ℕ → List ℕ → Type 0) (seen docs : List Doc) → AreGoodAfter (IsOwn renews) seen docs → AreRenewed renews docs docs
+own_renewed : (renews : List ℕ → List ℕ → List ℕ → List ℕ → Type 0) (seen docs : List TableRow) → AreGoodAfter (IsOwn renews) seen docs → AreRenewed renews docs docs
 own_renewed renews seen [] h = tt
 own_renewed renews seen (d ∷ docs) h = (record { place = refl; coll = refl; body = refl; key = h.0.accepted }, own_renewed renews (seen ++ d ∷ []) docs h.1)
 
@@ -114,7 +114,7 @@ module _ (renews : List ℕ → List ℕ → List ℕ → List ℕ → Type 0) (
   passed_renewed live p ds shows =
       let still = unchanged_shows old new ds shows p.1.unchanged in
       let same : ds ≡ p.0 = one_list new.now.trees ds p.0 still.table (listed_shows (IsOwn renews) old new p.0 shows.schema (live shows.is_open).0 shows.autocommit shows.settled p.1 p.2).table in
-      (p.0, subst (Shows new) same still, subst (λ xs. AreRenewed renews xs p.0) (sym same) (own_renewed renews [] p.0 p.2), p.2)
+      (p.0, subst (HoldsRows new) same still, subst (λ xs. AreRenewed renews xs p.0) (sym same) (own_renewed renews [] p.0 p.2), p.2)
 
   pub unrenewed_by : (r : Result (Unit {0}) OpenError) → ((place : ℤ) → r ≡ Err (BadRow place) → ⊥) → IfErr r (RefusesOpening (IsOwn renews) old new) → IfErr r (Unrenewed (IsOwn renews) renews old new)
   unrenewed_by (Ok u) other h = tt
@@ -128,7 +128,7 @@ module _ (renews : List ℕ → List ℕ → List ℕ → List ℕ → Type 0) (
     pub live_still : IsLive old → IsLive mid
     live_still live open_mid = let l = live u.0.was_open in (subst IsDatabase (sym u.0.now_is) l.0, subst IsDatabase (sym u.0.committed_is) l.1)
 
-    reads_back : (docs : List Doc) → Reads mid new docs → Reads old new docs
+    reads_back : (docs : List TableRow) → Reads mid new docs → Reads old new docs
     reads_back docs h = record { rows = h.rows; answered = shown_before all_text [] old mid new h.rows all_asks u h.answered; typed = h.typed; same = h.same; unchanged = unchanged_then old mid new u h.unchanged }
 
     pub back_renewed : Renewed (IsOwn renews) renews mid new → Renewed (IsOwn renews) renews old new

@@ -6,7 +6,7 @@ use Rattle.sqlite.specs.declared.types.Value.TheVariants.{Null, Int}
 use Rattle.sqlite_sql.specs.Ops.{unary}
 use Rattle.sqlite_schema.specs.declared.schema.Kind.TheVariants.{Integer}
 use Rattle.sqlite_rules.specs.Cast.{cast}
-use Rattle.bson_table.specs.Rows.{Doc, IsRising, AreBelow}
+use Rattle.bson_table.specs.Rows.{TableRow, IsRising, AreBelow}
 
 either : (b : Bool) (x : Value) → cond b x x ≡ x
 either true x = refl
@@ -20,10 +20,10 @@ pub cast_int : (n : ℤ) → cast Integer (Int n) ≡ Int n
 unfolding unary
 cast_int n = either _ (Int n)
 
-pub rising_last : (d : Doc) (docs : List Doc) → IsRising docs → AreBelow d.place docs → IsRising (docs ++ d ∷ [])
+pub rising_last : (d : TableRow) (docs : List TableRow) → IsRising docs → AreBelow d.place docs → IsRising (docs ++ d ∷ [])
 rising_last d [] up h = (tt, tt)
 rising_last d (x ∷ docs) up h = (all_last docs up.0, rising_last d docs up.1 h.1)
   where
-    all_last : (ys : List Doc) → AllByRecursion (λ b. x.place <ℤ b.place) ys → AllByRecursion (λ b. x.place <ℤ b.place) (ys ++ d ∷ [])
+    all_last : (ys : List TableRow) → AllByRecursion (λ b. x.place <ℤ b.place) ys → AllByRecursion (λ b. x.place <ℤ b.place) (ys ++ d ∷ [])
     all_last [] k = (h.0, tt)
     all_last (y ∷ ys) k = (k.0, all_last ys k.1)

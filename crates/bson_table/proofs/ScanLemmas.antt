@@ -16,7 +16,7 @@ use Rattle.sqlite.specs.State.{State}
 use Rattle.sqlite.proofs.Callers.{IsPlain, command_of, reads_as, begins_as}
 use Rattle.sqlite_tied.specs.Compute.{everything}
 use Rattle.bson_table.specs.Schema.{documents_schema}
-use Rattle.bson_table.specs.Rows.{Doc, stored, Shows, is_in}
+use Rattle.bson_table.specs.Rows.{TableRow, columns_of, HoldsRows, is_in}
 use Rattle.bson_table.specs.Visit.{IsSelect, TookRows, TookSome, first_value, scan_text}
 use Rattle.bson_table.specs.Moves.{bodies_of}
 use Rattle.bson_table.proofs.Texts.{plain_query, program, by_place}
@@ -34,7 +34,7 @@ coalesced : (a : List ℕ) → binary Coalesce (Text a) Null ≡ Text a
 unfolding binary
 coalesced a = refl
 
-scan_test : (coll : List ℕ) (d : Doc) → list_all (holds ((Text coll ∷ []) ∷ stored d ∷ [])) scan_terms ≡ is_in coll d
+scan_test : (coll : List ℕ) (d : TableRow) → list_all (holds ((Text coll ∷ []) ∷ columns_of d ∷ [])) scan_terms ≡ is_in coll d
 scan_test coll d =
     and_true _ ∙ ap (λ v. is_true (binary (Compare Eq Binary) v (Text coll))) (coalesced d.coll) ∙ equal_is (Text d.coll) (Text coll) (bytes_eq d.coll coll) refl refl (text_test d.coll coll)
 
@@ -50,7 +50,7 @@ scan_plain : IsPlain (understood documents_schema scan_text)
 unfolding understood everything
 scan_plain = (refl, refl)
 
-values_are : (docs : List Doc) → map first_value (map (λ (d : Doc). Blob d.body ∷ []) docs) ≡ map (λ (d : Doc). d.body) docs
+values_are : (docs : List TableRow) → map first_value (map (λ (d : TableRow). Blob d.body ∷ []) docs) ≡ map (λ (d : TableRow). d.body) docs
 values_are [] = refl
 values_are (d ∷ docs) = ap (λ vs. d.body ∷ vs) (values_are docs)
 
@@ -58,7 +58,7 @@ some_values : (taken rest : List Row) → map first_value (taken ++ rest) ≡ ma
 some_values [] rest = refl
 some_values (r ∷ taken) rest = ap (λ vs. first_value r ∷ vs) (some_values taken rest)
 
-module _ {V : Type 0} (took : V → List (List ℕ) → Type 0) (v : V) (coll : List ℕ) (old : State) (docs : List Doc) (h : Shows old docs) where
+module _ {V : Type 0} (took : V → List (List ℕ) → Type 0) (v : V) (coll : List ℕ) (old : State) (docs : List TableRow) (h : HoldsRows old docs) where
   pub whole_scan : (new : State) → TookRows took v scan_text (Text coll ∷ []) old new → took v (bodies_of coll docs)
   whole_scan new t =
       let params = Text coll ∷ [] in

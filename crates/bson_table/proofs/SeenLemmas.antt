@@ -4,7 +4,7 @@ use Rattle.std.specs.List.{list_any}
 use Rattle.std.specs.Ordering.{nat_cmp, ordering_then}
 use Rattle.std.specs.Cmp.Lexicographic.{slice_cmp}
 use Rattle.std.specs.BTreeSet.{insert_key}
-use Rattle.bson_table.specs.Rows.{Doc, is_row_named}
+use Rattle.bson_table.specs.Rows.{TableRow, is_row_named}
 use Rattle.bson_table.specs.Seen.{Pair, pair_cmp, has_pair, HasSeen}
 use Rattle.std.proofs.lemmas.Cmp.{nat_list_eq_equiv}
 use Rattle.std.proofs.lemmas.Map.Text.{is_eq-slice_cmp}
@@ -50,12 +50,12 @@ inserted x (y ∷ keys) c k new = go (pair_cmp x y) refl (λ absent. inserted x 
     go Equal e more = absurd (let t = rw e at new in cc)
     go Greater e more = rw e (ap (λ b. here y || b) (more (let t = rw e at new in t)) ∙ or_swap (here y) (here x) (has_pair keys c k))
 
-any_last : (p : Doc → Bool) (docs : List Doc) (d : Doc) → list_any p (docs ++ d ∷ []) ≡ p d || list_any p docs
+any_last : (p : TableRow → Bool) (docs : List TableRow) (d : TableRow) → list_any p (docs ++ d ∷ []) ≡ p d || list_any p docs
 any_last p [] d = refl
 any_last p (e ∷ docs) d = ap (λ b. p e || b) (any_last p docs d) ∙ or_swap (p e) (p d) (list_any p docs)
 
 -- one more row
-pub seen_more : (old new : List Pair) (docs : List Doc) (d : Doc) → HasSeen old docs → ((c k : List ℕ) → has_pair new c k ≡ (bytes_eq c d.coll && bytes_eq k d.idkey) || has_pair old c k) → HasSeen new (docs ++ d ∷ [])
+pub seen_more : (old new : List Pair) (docs : List TableRow) (d : TableRow) → HasSeen old docs → ((c k : List ℕ) → has_pair new c k ≡ (bytes_eq c d.coll && bytes_eq k d.idkey) || has_pair old c k) → HasSeen new (docs ++ d ∷ [])
 seen_more old new docs d h added c k =
     added c k ∙ ap₂ (λ p q. p || q) (ap₂ (λ p q. p && q) (nat_list_eq_equiv.symm c d.coll) (nat_list_eq_equiv.symm k d.idkey)) (h c k) ∙ sym (any_last (is_row_named c k) docs d)
 

@@ -17,14 +17,14 @@ use Rattle.sqlite_trees.specs.Objects.{catalog_tree}
 use Rattle.sqlite_catalog.specs.Listing.{Lists}
 use Rattle.bson_table.specs.Schema.{documents_schema}
 use Rattle.bson_table.specs.Open.{IsSettled, KeepsAll}
-use Rattle.bson_table.specs.Rows.{Doc, HasRows, ListsTable, Shows}
+use Rattle.bson_table.specs.Rows.{TableRow, HasRows, ListsTable, HoldsRows}
 
 -- a database with the schema lists it
 pub listed_by : (db : Database) → db.schema ≡ documents_schema → IsDatabase db → ListsTable db.trees
 unfolding ListsTable
 listed_by db has sound = subst (λ (s : Schema). Lists (db.trees catalog_tree) s) has sound.lists
 
-pub unchanged_shows : (old new : State) (docs : List Doc) → Shows old docs → IsUnchanged old new → Shows new docs
+pub unchanged_shows : (old new : State) (docs : List TableRow) → HoldsRows old docs → IsUnchanged old new → HoldsRows new docs
 unchanged_shows old new docs h u = record {
   is_open = u.0.is_open;
   autocommit = u.0.mode ∙ h.autocommit;
@@ -33,7 +33,7 @@ unchanged_shows old new docs h u = record {
   table = subst (λ (d : Database). HasRows d.trees docs) (sym u.0.now_is) h.table;
 }
 
-pub undone_shows : (old new : State) (docs : List Doc) → Shows old docs → IsRolledBack old new → IsTrue new.is_open → Shows new docs
+pub undone_shows : (old new : State) (docs : List TableRow) → HoldsRows old docs → IsRolledBack old new → IsTrue new.is_open → HoldsRows new docs
 undone_shows old new docs h u still =
     let back = u.undone still in
     let now : new.now ≡ old.now = back.0 ∙ sym h.settled in
@@ -46,7 +46,7 @@ undone_shows old new docs h u still =
     }
 
 -- a statement that is refused leaves the table, or the connection is shut
-pub refused_shows : (sql : List ℕ) (params : Row) (old new : State) (docs : List Doc) (e : Error) → Executes sql params old new (Err e) → Shows old docs → IsTrue new.is_open → Shows new docs
+pub refused_shows : (sql : List ℕ) (params : Row) (old new : State) (docs : List TableRow) (e : Error) → Executes sql params old new (Err e) → HoldsRows old docs → IsTrue new.is_open → HoldsRows new docs
 unfolding ExecutesIn IsNotRun
 refused_shows sql params old new docs e (inl (inl not_run)) h still = unchanged_shows old new docs h not_run.1
 refused_shows sql params old new docs e (inl (inr failed)) h still = undone_shows old new docs h failed.3 still

@@ -7,7 +7,7 @@ use Rattle.sqlite_schema.specs.Names.{table_named}
 use Rattle.bson_table.specs.declared.opening.OpenError.{OpenError}
 use Rattle.bson_table.specs.declared.opening.OpenError.TheVariants.{NotAStore, BadRow, IdsCollide, Memory, Database}
 use Rattle.bson_table.specs.Schema.{documents_schema, no_schema}
-use Rattle.bson_table.specs.Rows.{Doc, HasRows, Shows, IsBlank}
+use Rattle.bson_table.specs.Rows.{TableRow, HasRows, HoldsRows, IsBlank}
 use Rattle.bson_table.specs.Beside.{StandsBeside, AreBeside}
 use Rattle.bson_table.specs.Check.{IsGoodAfter, AreGoodAfter, AreGood, IsFirstBad}
 use Rattle.bson_table.specs.Open.{RefusesOpening, HasTable, HasNoTable, table_name}
@@ -41,29 +41,29 @@ module _ (accepts : List ℕ → List ℕ → List ℕ → Type 0) (old new : St
   refuses_other e (inr is) = subst (RefusesOpening accepts old new) (sym is) tt
 
 -- good rows have no bad one among them
-good_at : (accepts : List ℕ → List ℕ → List ℕ → Type 0) (seen front : List Doc) (d : Doc) (back : List Doc) → AreGoodAfter accepts seen (front ++ d ∷ back) → IsGoodAfter accepts (seen ++ front) d
-good_at accepts seen [] d back h = subst (λ (s : List Doc). IsGoodAfter accepts s d) (sym (append-nil seen)) h.0
-good_at accepts seen (x ∷ front) d back h = subst (λ (s : List Doc). IsGoodAfter accepts s d) (append_assoc seen (x ∷ []) front) (good_at accepts (seen ++ x ∷ []) front d back h.1)
+good_at : (accepts : List ℕ → List ℕ → List ℕ → Type 0) (seen front : List TableRow) (d : TableRow) (back : List TableRow) → AreGoodAfter accepts seen (front ++ d ∷ back) → IsGoodAfter accepts (seen ++ front) d
+good_at accepts seen [] d back h = subst (λ (s : List TableRow). IsGoodAfter accepts s d) (sym (append-nil seen)) h.0
+good_at accepts seen (x ∷ front) d back h = subst (λ (s : List TableRow). IsGoodAfter accepts s d) (append_assoc seen (x ∷ []) front) (good_at accepts (seen ++ x ∷ []) front d back h.1)
 
-none_bad : (accepts : List ℕ → List ℕ → List ℕ → Type 0) (docs : List Doc) (place : ℤ) → AreGood accepts docs → IsFirstBad accepts docs place → ⊥
+none_bad : (accepts : List ℕ → List ℕ → List ℕ → Type 0) (docs : List TableRow) (place : ℤ) → AreGood accepts docs → IsFirstBad accepts docs place → ⊥
 none_bad accepts docs place good bad = bad.refused (good_at accepts [] bad.front bad.bad bad.back (subst (AreGood accepts) bad.all good))
 
 module _ (renews : List ℕ → List ℕ → List ℕ → List ℕ → Type 0) (old new : State) where
   module _ (found : Renewed (IsOwn renews) renews old new) (passed : PassesOnce renews old new) where
-    one_list_of : (docs : List Doc) → Shows old docs → (docs : List Doc) × (after : List Doc) × Shows old docs × Shows new after × AreRenewed renews docs after × AreGood (IsOwn renews) after
+    one_list_of : (docs : List TableRow) → HoldsRows old docs → (docs : List TableRow) × (after : List TableRow) × HoldsRows old docs × HoldsRows new after × AreRenewed renews docs after × AreGood (IsOwn renews) after
     one_list_of docs shows = let f = found docs shows in (docs, f.0, shows, f.1, f.2, f.3)
 
     listed_by_read : IsLive old → old.in_transaction ≡ false → (IsTrue old.is_open → old.now ≡ old.committed) → old.now.schema ≡ documents_schema
-        → (docs : List Doc) × (after : List Doc) × Shows old docs × Shows new after × AreRenewed renews docs after × AreGood (IsOwn renews) after
+        → (docs : List TableRow) × (after : List TableRow) × HoldsRows old docs × HoldsRows new after × AreRenewed renews docs after × AreGood (IsOwn renews) after
     listed_by_read live auto settled has = elim passed [
       | inl p ↦ one_list_of p.0 (shows_read (IsOwn renews) old new p.0 has live auto settled p.1 p.2)
       | inr p ↦ one_list_of p.1.0 (shows_read (AcceptsOnce renews) old old p.1.0 has live auto settled p.1.1 p.1.2)
     ]
 
-    unwritten_by : (docs : List Doc) → Shows old docs → AreGood (IsOwn renews) docs → IsUnchanged old new
+    unwritten_by : (docs : List TableRow) → HoldsRows old docs → AreGood (IsOwn renews) docs → IsUnchanged old new
     unwritten_by docs shows good = elim passed [
       | inl p ↦ p.1.unchanged
-      | inr p ↦ absurd (none_bad (IsOwn renews) docs p.0.1 good (subst (λ (ds : List Doc). IsFirstBad (IsOwn renews) ds p.0.1) (read_shown old old docs p.0.0 shows p.0.2) p.0.3))
+      | inr p ↦ absurd (none_bad (IsOwn renews) docs p.0.1 good (subst (λ (ds : List TableRow). IsFirstBad (IsOwn renews) ds p.0.1) (read_shown old old docs p.0.0 shows p.0.2) p.0.3))
     ]
 
     opened_by : IsLive old → old.in_transaction ≡ false → (IsTrue old.is_open → old.now ≡ old.committed) → is_some (table_named old.now.schema table_name) ≡ true → Opened renews old new
@@ -95,7 +95,7 @@ module _ (renews : List ℕ → List ℕ → List ℕ → List ℕ → Type 0) (
   pub renews_if : is_some (table_named old.now.schema table_name) ≡ true → Survives old new (RenewsOld renews old) → Survives old new (Makes renews old)
   renews_if there kept = survives_weaker old new _ _ (λ _ db made. inr (one_there old there, made)) kept
 
-  made_by : is_some (table_named old.now.schema table_name) ≡ false → (IsBlank old → Shows new []) → StandsBeside old new → Opened renews old new
+  made_by : is_some (table_named old.now.schema table_name) ≡ false → (IsBlank old → HoldsRows new []) → StandsBeside old new → Opened renews old new
   made_by missing made beside =
       let no_such : old.now.schema ≡ documents_schema → ⊥ = λ has. let e : is_some (table_named old.now.schema table_name) ≡ true = ap (λ s. is_some (table_named s table_name)) has ∙ a_table in cc in
       record {
@@ -107,7 +107,7 @@ module _ (renews : List ℕ → List ℕ → List ℕ → List ℕ → Type 0) (
         unwritten = λ docs shows good. absurd (no_such shows.schema);
       }
 
-  pub made_if : is_some (table_named old.now.schema table_name) ≡ false → (r : Result (Unit {0}) OpenError) → (IsBlank old → OnOk r (Shows new [])) → OnOk r (StandsBeside old new) → OnOk r (Opened renews old new)
+  pub made_if : is_some (table_named old.now.schema table_name) ≡ false → (r : Result (Unit {0}) OpenError) → (IsBlank old → OnOk r (HoldsRows new [])) → OnOk r (StandsBeside old new) → OnOk r (Opened renews old new)
   made_if missing (Ok u) made beside = made_by missing made beside
   made_if missing (Err e) made beside = tt
 

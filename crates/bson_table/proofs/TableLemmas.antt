@@ -12,9 +12,9 @@ use Rattle.sqlite.proofs.StateLemmas.{survives_then}
 use Rattle.bson_table.specs.declared.fault.Fault.TheVariants.{Places}
 use Rattle.bson_table.specs.declared.row.Found.{Found}
 use Rattle.bson_table.specs.Fault.{fault_of}
-use Rattle.bson_table.specs.Rows.{Doc, HasRows, Shows, AreBelow, last_place}
+use Rattle.bson_table.specs.Rows.{TableRow, HasRows, HoldsRows, AreBelow, last_place}
 use Rattle.bson_table.specs.Cells.{int_in, bytes_in}
-use Rattle.bson_table.specs.Moves.{Stands, Visits, AddsRows, appended, bodies_of, kept, seen}
+use Rattle.bson_table.specs.Moves.{Stands, Visits, AddsRows, with_row, bodies_of, parts_of_found, parts_of_row}
 use Rattle.bson_table.specs.Visit.{TookSome, first_value, scan_text}
 use Rattle.bson_table.specs.declared.fault.Fault.{Fault}
 use Rattle.bson_table.proofs.ScanLemmas.{some_scan}
@@ -26,7 +26,7 @@ pub not_places : (e : Error) → fault_of e ≢ Places
 not_places (SqliteFailure OutOfMemory) h = cc
 not_places _ h = cc
 
-shows_back : (old new : State) (docs : List Doc) → IsUnchanged old new → Shows new docs → Shows old docs
+shows_back : (old new : State) (docs : List TableRow) → IsUnchanged old new → HoldsRows new docs → HoldsRows old docs
 shows_back old new docs u h = record {
   is_open = u.0.was_open;
   autocommit = sym u.0.mode ∙ h.autocommit;
@@ -36,51 +36,51 @@ shows_back old new docs u h = record {
 }
 
 -- where the last commit is what a crash leaves, it leaves the rows that are shown
-pub left_rows : (s : State) (docs : List Doc) (db : Trees) → Shows s docs → db ≡ s.committed.trees → HasRows db docs
+pub left_rows : (s : State) (docs : List TableRow) (db : Trees) → HoldsRows s docs → db ≡ s.committed.trees → HasRows db docs
 left_rows s docs db h is = subst (λ (t : Trees). HasRows t docs) (sym (is ∙ sym (ap (λ (d : Database). d.trees) h.settled))) h.table
 
 module _ (old new : State) where
-  pub stands_still : (docs : List Doc) → IsUnchanged old new → Stands old docs → Stands new docs
+  pub stands_still : (docs : List TableRow) → IsUnchanged old new → Stands old docs → Stands new docs
   stands_still docs u stands still = unchanged_shows old new docs (stands u.0.was_open) u
 
   -- the place after the greatest one that was read is above all
-  pub below_greatest : (last : ℤ) → IsUnchanged old new → ((docs : List Doc) → Shows old docs → last ≡ last_place docs) → (docs : List Doc) → Shows new docs → AreBelow (last +ℤ pos 1) docs
+  pub below_greatest : (last : ℤ) → IsUnchanged old new → ((docs : List TableRow) → HoldsRows old docs → last ≡ last_place docs) → (docs : List TableRow) → HoldsRows new docs → AreBelow (last +ℤ pos 1) docs
   below_greatest last u is docs h = subst (λ (p : ℤ). AreBelow (p +ℤ pos 1) docs) (sym (is docs (shows_back old new docs u h))) (below_next docs h.table.rising)
 
-pub found_is : (o : Option Doc) (row : Row) (f : Found) → option_map found_row o ≡ Some row → f.place ≡ int_in (column row 0) → f.body.items ≡ bytes_in (column row 1) → option_map kept (Some f) ≡ option_map seen o
+pub found_is : (o : Option TableRow) (row : Row) (f : Found) → option_map found_row o ≡ Some row → f.place ≡ int_in (column row 0) → f.body.items ≡ bytes_in (column row 1) → option_map parts_of_found (Some f) ≡ option_map parts_of_row o
 found_is None row f e p b = absurd (cc)
 found_is (Some d) row f e p b =
     let same : found_row d ≡ row = cc in
     ap₂ (λ (x : ℤ) (y : List ℕ). Some (x, y)) (p ∙ ap (λ (r : Row). int_in (column r 0)) (sym same)) (b ∙ ap (λ (r : Row). bytes_in (column r 1)) (sym same))
 
-pub place_is : (o : Option Doc) (row : Row) → option_map found_place o ≡ Some row → Some (int_in (column row 0)) ≡ option_map (λ (d : Doc). d.place) o
+pub place_is : (o : Option TableRow) (row : Row) → option_map found_place o ≡ Some row → Some (int_in (column row 0)) ≡ option_map (λ (d : TableRow). d.place) o
 place_is None row e = absurd (cc)
 place_is (Some d) row e =
     let same : found_place d ≡ row = cc in
     ap (λ (r : Row). Some (int_in (column r 0))) (sym same)
 
-pub place_none : (o : Option Doc) → option_map found_place o ≡ None → None ≡ option_map (λ (d : Doc). d.place) o
+pub place_none : (o : Option TableRow) → option_map found_place o ≡ None → None ≡ option_map (λ (d : TableRow). d.place) o
 place_none None e = refl
 place_none (Some d) e = absurd (cc)
 
-pub found_none : (o : Option Doc) → option_map found_row o ≡ None → option_map kept None ≡ option_map seen o
+pub found_none : (o : Option TableRow) → option_map found_row o ≡ None → option_map parts_of_found None ≡ option_map parts_of_row o
 found_none None e = refl
 found_none (Some d) e = absurd (cc)
 
 -- a read and then a write of the rows: what a crash may leave
-pub crash_written : (old mid new : State) (change made : List Doc → List Doc) → (HasCleanDisk mid → IsUnchanged old mid) → Survives old mid (λ _. ⊥)
-    → Survives mid new (λ trees. (docs : List Doc) → Shows mid docs → HasRows trees (made docs)) → (HasCleanDisk mid → (docs : List Doc) → Shows old docs → made docs ≡ change docs)
-    → Survives old new (λ trees. (docs : List Doc) → Stands old docs → HasRows trees (change docs))
+pub crash_written : (old mid new : State) (change made : List TableRow → List TableRow) → (HasCleanDisk mid → IsUnchanged old mid) → Survives old mid (λ _. ⊥)
+    → Survives mid new (λ trees. (docs : List TableRow) → HoldsRows mid docs → HasRows trees (made docs)) → (HasCleanDisk mid → (docs : List TableRow) → HoldsRows old docs → made docs ≡ change docs)
+    → Survives old new (λ trees. (docs : List TableRow) → Stands old docs → HasRows trees (change docs))
 crash_written old mid new change made same first later is =
-    survives_then old mid new (λ _. ⊥) (λ trees. (docs : List Doc) → Shows mid docs → HasRows trees (made docs)) (λ trees. (docs : List Doc) → Stands old docs → HasRows trees (change docs)) (λ _ db none. absurd none)
+    survives_then old mid new (λ _. ⊥) (λ trees. (docs : List TableRow) → HoldsRows mid docs → HasRows trees (made docs)) (λ trees. (docs : List TableRow) → Stands old docs → HasRows trees (change docs)) (λ _ db none. absurd none)
     (λ clean db commits docs stands.
     let early : HasCleanDisk mid = omega (arith, clean, later.clean) in
     let u = same early in
     let h = stands u.0.was_open in
-    subst (λ (ds : List Doc). HasRows db ds) (is early docs h) (commits docs (unchanged_shows old mid docs h u))) first later
+    subst (λ (ds : List TableRow). HasRows db ds) (is early docs h) (commits docs (unchanged_shows old mid docs h u))) first later
 
 -- a visit that is refused: whatever was taken is a beginning
-pub visits_refused : {V : Type 0} (took : V → List (List ℕ) → Type 0) (first last : V) (coll : List ℕ) (old : State) (docs : List Doc) → Stands old docs → (r : Result Bool Fault) (why : Error) → IsErrAnd r (λ e. e ≡ fault_of why)
+pub visits_refused : {V : Type 0} (took : V → List (List ℕ) → Type 0) (first last : V) (coll : List ℕ) (old : State) (docs : List TableRow) → Stands old docs → (r : Result Bool Fault) (why : Error) → IsErrAnd r (λ e. e ≡ fault_of why)
     → (took first [] → TookSome took last scan_text (Text coll ∷ []) old) → Visits took first last coll r docs docs
 visits_refused took first last coll old docs stands (Ok all) why is some = absurd is
 visits_refused took first last coll old docs stands (Err e) why is some = record {
@@ -94,13 +94,13 @@ visits_refused took first last coll old docs stands (Err e) why is some = record
     begun (rows, inl none, t) = ([], bodies_of coll docs, refl, subst (λ (rs : List Row). took last (map first_value rs)) none t)
     begun (rows, inr given, t) = some_scan took last coll old docs (stands given.0) (rows, inr given, t)
 
-pub appends_err : (n : ℕ) (change : List Doc → List Doc) (docs : List Doc) (r : Result (Unit {0}) Fault) (why : Error) → IsErrAnd r (λ e. e ≡ fault_of why) → AddsRows n change r docs docs
+pub appends_err : (n : ℕ) (change : List TableRow → List TableRow) (docs : List TableRow) (r : Result (Unit {0}) Fault) (why : Error) → IsErrAnd r (λ e. e ≡ fault_of why) → AddsRows n change r docs docs
 appends_err n change docs (Ok u) why is = absurd is
 appends_err n change docs (Err e) why is = record { done = tt; room = tt; refused = refl; full = λ places. absurd (not_places why (sym is ∙ places)) }
 
 -- a row at the place after the greatest one that was read
-pub added_shows : (old mid new : State) (last place : ℤ) (coll idkey body : List ℕ) (docs : List Doc) → IsUnchanged old mid → Shows old docs → last ≡ last_place docs → place ≡ (last +ℤ pos 1)
-    → (Shows mid docs → Shows new (docs ++ record { place = place; coll = coll; idkey = idkey; body = body } ∷ [])) → Shows new (appended coll idkey body docs)
+pub added_shows : (old mid new : State) (last place : ℤ) (coll idkey body : List ℕ) (docs : List TableRow) → IsUnchanged old mid → HoldsRows old docs → last ≡ last_place docs → place ≡ (last +ℤ pos 1)
+    → (HoldsRows mid docs → HoldsRows new (docs ++ record { place = place; coll = coll; idkey = idkey; body = body } ∷ [])) → HoldsRows new (with_row coll idkey body docs)
 added_shows old mid new last place coll idkey body docs u h greatest next added =
     let is : place ≡ (last_place docs +ℤ pos 1) = next ∙ ap (λ (p : ℤ). p +ℤ pos 1) greatest in
-    subst (λ (p : ℤ). Shows new (docs ++ record { place = p; coll = coll; idkey = idkey; body = body } ∷ [])) is (added (unchanged_shows old mid docs h u))
+    subst (λ (p : ℤ). HoldsRows new (docs ++ record { place = p; coll = coll; idkey = idkey; body = body } ∷ [])) is (added (unchanged_shows old mid docs h u))

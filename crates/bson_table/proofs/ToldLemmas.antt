@@ -6,7 +6,7 @@ use Rattle.bson_table.specs.declared.opening.OpenError.{OpenError}
 use Rattle.bson_table.specs.declared.opening.OpenError.TheVariants.{NotAStore, BadRow, IdsCollide, Memory, Database}
 use Rattle.bson_table.specs.Cells.{doc_of}
 use Rattle.bson_table.specs.Open.{all_text, Reads, RefusesOpening, PassesOpening}
-use Rattle.bson_table.specs.Rows.{Doc}
+use Rattle.bson_table.specs.Rows.{TableRow}
 use Rattle.bson_table.specs.Check.{AreGood}
 use Rattle.bson_table.specs.Renewal.{AreRenewals}
 use Rattle.bson_table.specs.declared.renewal.Renewals.{Renewals}
@@ -25,7 +25,7 @@ module _ (accepts : List ℕ → List ℕ → List ℕ → Type 0) (old mid new 
 
   pub told_renewals : (own : List ℕ → List ℕ → List ℕ → Type 0) (renews : List ℕ → List ℕ → List ℕ → List ℕ → Type 0) (keys : List Pair) (last : ℤ) (verdict : Result (Unit {0}) OpenError) (r : Renewals) (result : Result Renewals OpenError)
       → MatchResult verdict (λ _. result ≡ Ok r) (λ e. result ≡ Err e) → JudgesRow accepts keys last rows verdict → (IsOk verdict → AreRenewals own renews (map doc_of rows) r)
-      → IfOk result (λ x. (docs : List Doc) × Reads old new docs × AreGood accepts docs × AreRenewals own renews docs x)
+      → IfOk result (λ x. (docs : List TableRow) × Reads old new docs × AreGood accepts docs × AreRenewals own renews docs x)
   told_renewals own renews keys last (Ok done) r result is h more = rw is (map doc_of rows, record { rows = rows; answered = whole; typed = h.typed; same = refl; unchanged = listed_same old new rows whole }, h.good, more refl)
   told_renewals own renews keys last (Err error) r result is h more = rw is tt
 

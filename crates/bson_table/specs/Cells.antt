@@ -3,7 +3,7 @@ use Rattle.std.specs.Prelude.{ℕ, ℤ, pos, Bool, true, false, ◌&&◌, List, 
 use Rattle.sqlite.specs.declared.types.Value.{Value}
 use Rattle.sqlite.specs.declared.types.Value.TheVariants.{Int, Text, Blob}
 use Rattle.sqlite_value.specs.Order.{Row, column}
-use Rattle.bson_table.specs.Rows.{Doc}
+use Rattle.bson_table.specs.Rows.{TableRow}
 
 abbrev pub is_int : Value → Bool
 is_int (Int n) = true
@@ -30,5 +30,5 @@ bytes_in (Text t) = t
 bytes_in (Blob b) = b
 bytes_in _ = []
 
-abbrev pub doc_of : Row → Doc
+abbrev pub doc_of : Row → TableRow
 doc_of r = record { place = int_in (column r 0); coll = bytes_in (column r 1); idkey = bytes_in (column r 2); body = bytes_in (column r 3) }

@@ -8,7 +8,7 @@ use Rattle.sqlite.specs.State.{State, Shown, Shows as Sees, IsUnchanged}
 use Rattle.bson_table.specs.declared.opening.OpenError.{OpenError}
 use Rattle.bson_table.specs.declared.opening.OpenError.TheVariants.{NotAStore, BadRow, IdsCollide, Memory, Database}
 use Rattle.sqlite_schema.specs.Names.{table_named, index_named, view_named}
-use Rattle.bson_table.specs.Rows.{Doc}
+use Rattle.bson_table.specs.Rows.{TableRow}
 use Rattle.bson_table.specs.Cells.{is_listed, doc_of}
 use Rattle.bson_table.specs.Check.{AreGood, IsFirstBad}
 
@@ -30,7 +30,7 @@ abbrev pub IsNameTaken : State → Type 0
 IsNameTaken s = (view_named s.now.schema table_name ≢ None) ⊎ (index_named s.now.schema table_name ≢ None)
 
 -- the table is read by the four columns, with these rows, and nothing changes
-pub record Reads (old new : State) (docs : List Doc) : Type 0 where
+pub record Reads (old new : State) (docs : List TableRow) : Type 0 where
   pub rows : List Row
   pub answered : Shown all_text [] old new rows
   pub typed : list_all is_listed rows ≡ true
@@ -60,10 +60,10 @@ module _ (accepts : List ℕ → List ℕ → List ℕ → Type 0) where
   -- why the rows of a table are refused, and what that leaves
   abbrev pub RefusesOpening : State → State → OpenError → Type 0
   RefusesOpening old new NotAStore = ReadsNot old new
-  RefusesOpening old new (BadRow place) = (docs : List Doc) × Reads old new docs × IsFirstBad accepts docs place
+  RefusesOpening old new (BadRow place) = (docs : List TableRow) × Reads old new docs × IsFirstBad accepts docs place
   RefusesOpening old new (IdsCollide first second) = ⊥
   RefusesOpening old new Memory = Unit {0}
   RefusesOpening old new Database = Unit {0}
 
   abbrev pub PassesOpening : State → State → Type 0
-  PassesOpening old new = (docs : List Doc) × Reads old new docs × AreGood accepts docs
+  PassesOpening old new = (docs : List TableRow) × Reads old new docs × AreGood accepts docs

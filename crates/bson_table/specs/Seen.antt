@@ -6,7 +6,7 @@ use Rattle.std.specs.Ordering.{nat_cmp, ordering_then}
 use Rattle.std.specs.declared.cmp.Ordering.{Ordering}
 use Rattle.std.specs.declared.alloc.Global.{Global}
 use Rattle.std.specs.Prelude.{Vec}
-use Rattle.bson_table.specs.Rows.{Doc, is_row_named}
+use Rattle.bson_table.specs.Rows.{TableRow, is_row_named}
 
 abbrev pub Pair : Type 0
 Pair = Vec ℕ Global × Vec ℕ Global
@@ -18,5 +18,5 @@ abbrev pub pair_cmp : Pair → Pair → Ordering
 pair_cmp x y = ordering_then (slice_cmp nat_cmp x.0.items y.0.items) (slice_cmp nat_cmp x.1.items y.1.items)
 
 -- the pairs are those of these rows
-abbrev pub HasSeen : List Pair → List Doc → Type 0
+abbrev pub HasSeen : List Pair → List TableRow → Type 0
 HasSeen keys docs = (coll idkey : List ℕ) → has_pair keys coll idkey ≡ list_any (is_row_named coll idkey) docs

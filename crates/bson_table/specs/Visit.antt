@@ -7,7 +7,7 @@ use Rattle.sqlite_syntax.specs.declared.statement.Parsed.{Parsed}
 use Rattle.sqlite_resolve.specs.declared.error.CompileError.{CompileError}
 use Rattle.sqlite_resolve.specs.Compile.{first}
 use Rattle.sqlite.specs.State.{State, Shown, Begins, IsUnchanged}
-use Rattle.bson_table.specs.Rows.{Doc, Shows}
+use Rattle.bson_table.specs.Rows.{TableRow, HoldsRows}
 use Rattle.bson_table.specs.Cells.{bytes_in}
 
 abbrev pub asks : Statement → Bool
@@ -36,7 +36,7 @@ TookSome took v sql params old = (rows : List Row) × ((rows ≡ []) ⊎ (IsTrue
 -- a read that is answered leaves everything; one that is refused leaves the rows, or the connection is shut
 pub record ReadsRows {A E : Type 0} (old new : State) (result : Result A E) : Type 0 where
   pub unchanged : OnOk result (IsUnchanged old new)
-  pub refused : OnErr result (IsTrue new.is_open → IsTrue old.is_open × ((docs : List Doc) → Shows old docs → Shows new docs))
+  pub refused : OnErr result (IsTrue new.is_open → IsTrue old.is_open × ((docs : List TableRow) → HoldsRows old docs → HoldsRows new docs))
 
 -- The + keeps the engine from the index on (coll, idkey), by which it would have to sort the whole answer before the first row.
 abbrev pub scan_text : List ℕ

@@ -4,14 +4,14 @@ ghost use Rattle.std.specs.Prelude.{◌≡◌, ◌++◌, ◌∷◌, [], ◌&&◌
 ghost use Rattle.sqlite_value.specs.Order.{column};
 ghost use Rattle.sqlite.specs.Held.{state};
 ghost use Rattle.sqlite.specs.State.{HasCleanDisk, Survives};
-ghost use Rattle.bson_table.specs.Rows.{Doc, last_place};
+ghost use Rattle.bson_table.specs.Rows.{TableRow, last_place};
 ghost use Rattle.bson_table.specs.Cells.{is_listed, int_in, doc_of};
 ghost use Rattle.bson_table.specs.Check.{IsGoodAfter};
 ghost use Rattle.bson_table.specs.Seen.{has_pair, HasSeen};
 ghost use Rattle.bson_table.specs.Judged.{JudgesRow};
 ghost use Rattle.bson_table.specs.Open.{RefusesOpening, PassesOpening, IsSettled, KeepsAll};
 
-use crate::opening::{OpenError, bytes_at, is_row, place_in, refusal};
+use crate::opening::{OpenError, bytes_at, has_row_types, place_in, refusal};
 use crate::sql;
 use sqlite::{Alter, Connection, Error, Row};
 use std::alloc::{AllocError, Global};
@@ -83,9 +83,9 @@ fn is_good_after<J: TestsRows>(
     row: &Row,
     check: &J,
 ) -> Result<bool, AllocError>
-    ensures good { (docs : List Doc) → HasSeen seen.old.keys docs → last ≡ last_place docs
+    ensures good { (docs : List TableRow) → HasSeen seen.old.keys docs → last ≡ last_place docs
         → IfOk result (λ good. MatchBool good (IsGoodAfter (J.accepts check.now) docs (doc_of row.now)) (¬ IsGoodAfter (J.accepts check.now) docs (doc_of row.now))) }
-    ensures seen { (docs : List Doc) → HasSeen seen.old.keys docs → IfOk result (λ good. IsTrue good → HasSeen seen.new.keys (docs ++ doc_of row.now ∷ [])) }
+    ensures seen { (docs : List TableRow) → HasSeen seen.old.keys docs → IfOk result (λ good. IsTrue good → HasSeen seen.new.keys (docs ++ doc_of row.now ∷ [])) }
 {
     let coll = bytes_at(row, 1);
     let idkey = bytes_at(row, 2);
@@ -103,7 +103,7 @@ fn unless_mistyped(verdict: Result<(), OpenError>, row: &Row) -> Result<(), Open
     ensures kept { IsTrue (is_listed row.now) → result ≡ verdict }
     ensures mistyped { is_listed row.now ≡ false → result ≡ Err OpenError.NotAStore }
 {
-    if is_row(row) {
+    if has_row_types(row) {
         verdict
     } else {
         Err(OpenError::NotAStore)

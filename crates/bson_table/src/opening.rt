@@ -7,7 +7,7 @@ ghost use Rattle.sqlite.specs.State.{HasCleanDisk, Survives, IsLive};
 ghost use Rattle.sqlite_schema.specs.Names.{table_named, index_named, view_named};
 ghost use Rattle.bson_table.specs.Cells.{is_listed, int_in, bytes_in};
 ghost use Rattle.bson_table.specs.Renewal.{Opened, Unopened, Makes};
-ghost use Rattle.bson_table.specs.Rows.{HasRows, IsBlank, Shows};
+ghost use Rattle.bson_table.specs.Rows.{HasRows, IsBlank, HoldsRows};
 ghost use Rattle.bson_table.specs.Beside.{StandsBeside, AreBeside};
 ghost use Rattle.bson_table.specs.Open.{IsSettled, KeepsAll, table_name, HasNoTable, IsNameTaken};
 
@@ -45,7 +45,7 @@ pub(crate) fn refusal(error: Error) -> OpenError
     }
 }
 
-pub(crate) fn is_row(row: &Row) -> bool
+pub(crate) fn has_row_types(row: &Row) -> bool
     ensures { result ≡ is_listed row.now }
 {
     matches!(row.get_ref(0), Ok(ValueRef::Int(_)))
@@ -101,7 +101,7 @@ pub(crate) fn prepare<S: Alter, C: RowCheck>(
 
 /// Makes the table in a database that has no object of the name.
 fn make_table<S: Alter>(conn: &mut Connection<S>) -> Result<(), OpenError>
-    ensures made { HasCleanDisk (state S.Store conn.new) → IsBlank (state S.Store conn.old) → OnOk result (Shows (state S.Store conn.new) []) }
+    ensures made { HasCleanDisk (state S.Store conn.new) → IsBlank (state S.Store conn.old) → OnOk result (HoldsRows (state S.Store conn.new) []) }
     ensures beside { HasCleanDisk (state S.Store conn.new) → (state S.Store conn.old).in_transaction ≡ false → OnOk result (StandsBeside (state S.Store conn.old) (state S.Store conn.new)) }
     ensures told { IfErr result (λ e. (e ≡ OpenError.Memory) ⊎ (e ≡ OpenError.Database)) }
     ensures kept { HasCleanDisk (state S.Store conn.new) → IsSettled (state S.Store conn.old) → OnErr result (KeepsAll (state S.Store conn.old) (state S.Store conn.new)) }

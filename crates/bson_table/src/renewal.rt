@@ -6,7 +6,7 @@ ghost use Rattle.sqlite.specs.Held.{state};
 ghost use Rattle.sqlite.specs.State.{HasCleanDisk, Survives, IsLive};
 ghost use Rattle.bson_table.specs.Check.{AreGood, IsGoodAfter};
 ghost use Rattle.bson_table.specs.Open.{IsSettled, KeepsAll, Reads, RefusesOpening};
-ghost use Rattle.bson_table.specs.Rows.{Doc, HasRows, Shows, all_rekeyed, is_row_named};
+ghost use Rattle.bson_table.specs.Rows.{TableRow, HasRows, HoldsRows, with_keys_at, is_row_named};
 ghost use Rattle.bson_table.specs.Renewal.{HasPlaces, AcceptsOnce, IsOwn, AreRenewals, Renewed, Unrenewed, MayRenew, RenewsOld, AreGoodOnce, PassesOnce};
 
 use crate::check::{Own, RowCheck, TestsRows, judge, survey};
@@ -26,8 +26,8 @@ pub(crate) fn meet_place(
     idkey: &[u8],
     place: i64,
 ) -> Result<Option<i64>, AllocError>
-    ensures met { (docs : List Doc) → HasPlaces places.old docs → IfOk result (λ p. p ≡ option_map (λ (d : Doc). d.place) (find (is_row_named coll.now idkey.now) docs)) }
-    ensures added { (docs : List Doc) (d : Doc) → HasPlaces places.old docs → d.coll ≡ coll.now → d.idkey ≡ idkey.now → d.place ≡ place
+    ensures met { (docs : List TableRow) → HasPlaces places.old docs → IfOk result (λ p. p ≡ option_map (λ (d : TableRow). d.place) (find (is_row_named coll.now idkey.now) docs)) }
+    ensures added { (docs : List TableRow) (d : TableRow) → HasPlaces places.old docs → d.coll ≡ coll.now → d.idkey ≡ idkey.now → d.place ≡ place
         → IfOk result (λ p. p ≡ None → HasPlaces places.new (docs ++ d ∷ [])) }
 {
     let key = Vec::from_slice(alloc, idkey)?;
@@ -68,7 +68,7 @@ impl Renewals {
         row: &Row,
         check: &C,
     ) -> Result<(), AllocError>
-        ensures { (docs : List Doc) → IsGoodAfter (AcceptsOnce (C.renews check.now)) docs (doc_of row.now) → AreRenewals (IsOwn (C.renews check.now)) (C.renews check.now) docs self.old
+        ensures { (docs : List TableRow) → IsGoodAfter (AcceptsOnce (C.renews check.now)) docs (doc_of row.now) → AreRenewals (IsOwn (C.renews check.now)) (C.renews check.now) docs self.old
             → OnOk result (AreRenewals (IsOwn (C.renews check.now)) (C.renews check.now) (docs ++ doc_of row.now ∷ []) self.new) }
     {
         if self.twin.is_some() {
@@ -100,7 +100,7 @@ impl Renewals {
         row: &Row,
         check: &C,
     ) -> Result<(), AllocError>
-        ensures { (docs : List Doc) → (IsOk verdict.now → IsGoodAfter (AcceptsOnce (C.renews check.now)) docs (doc_of row.now)) → (IsOk verdict.now → AreRenewals (IsOwn (C.renews check.now)) (C.renews check.now) docs self.old)
+        ensures { (docs : List TableRow) → (IsOk verdict.now → IsGoodAfter (AcceptsOnce (C.renews check.now)) docs (doc_of row.now)) → (IsOk verdict.now → AreRenewals (IsOwn (C.renews check.now)) (C.renews check.now) docs self.old)
             → OnOk result (IsOk verdict.now → AreRenewals (IsOwn (C.renews check.now)) (C.renews check.now) (docs ++ doc_of row.now ∷ []) self.new) }
     {
         if verdict.is_err() {
@@ -143,7 +143,7 @@ pub(crate) fn survey_old<S: Alter, C: RowCheck>(
     conn: &mut Connection<S>,
     check: &C,
 ) -> Result<Renewals, OpenError>
-    ensures read { HasCleanDisk (state S.Store conn.new) → IfOk result (λ r. (docs : List Doc) × Reads (state S.Store conn.old) (state S.Store conn.new) docs × AreGood (AcceptsOnce (C.renews check.now)) docs × AreRenewals (IsOwn (C.renews check.now)) (C.renews check.now) docs r) }
+    ensures read { HasCleanDisk (state S.Store conn.new) → IfOk result (λ r. (docs : List TableRow) × Reads (state S.Store conn.old) (state S.Store conn.new) docs × AreGood (AcceptsOnce (C.renews check.now)) docs × AreRenewals (IsOwn (C.renews check.now)) (C.renews check.now) docs r) }
     ensures refused { HasCleanDisk (state S.Store conn.new) → IfErr result (λ e. RefusesOpening (AcceptsOnce (C.renews check.now)) (state S.Store conn.old) (state S.Store conn.new) e) }
     ensures kept { HasCleanDisk (state S.Store conn.new) → IsSettled (state S.Store conn.old)
         → OnErr result (KeepsAll (state S.Store conn.old) (state S.Store conn.new)) }
@@ -178,12 +178,12 @@ pub(crate) fn survey_old<S: Alter, C: RowCheck>(
 
 /// Puts the keys at their places, in one transaction.
 fn write_keys<S: Alter>(conn: &mut Connection<S>, keys: &[NewKey]) -> Result<(), Error>
-    ensures done { HasCleanDisk (state S.Store conn.new) → (docs : List Doc) → Shows (state S.Store conn.old) docs
-        → OnOk result (Shows (state S.Store conn.new) (all_rekeyed keys.now docs)) }
+    ensures done { HasCleanDisk (state S.Store conn.new) → (docs : List TableRow) → HoldsRows (state S.Store conn.old) docs
+        → OnOk result (HoldsRows (state S.Store conn.new) (with_keys_at keys.now docs)) }
     ensures kept { HasCleanDisk (state S.Store conn.new) → IsSettled (state S.Store conn.old)
         → OnErr result (KeepsAll (state S.Store conn.old) (state S.Store conn.new)) }
     ensures crash { Survives (state S.Store conn.old) (state S.Store conn.new)
-        (λ trees. (docs : List Doc) → Shows (state S.Store conn.old) docs → HasRows trees (all_rekeyed keys.now docs)) }
+        (λ trees. (docs : List TableRow) → HoldsRows (state S.Store conn.old) docs → HasRows trees (with_keys_at keys.now docs)) }
 {
     rekey_all(conn, keys)
 }

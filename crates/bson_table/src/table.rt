@@ -3,8 +3,8 @@
 ghost use Rattle.std.specs.Prelude.{◌≡◌, length, false, IsTrue, IfOk, IfErr, IsErrAnd, IsErrOf};
 ghost use Rattle.sqlite.specs.Held.{state};
 ghost use Rattle.sqlite.specs.State.{HasCleanDisk, Survives};
-ghost use Rattle.bson_table.specs.Rows.{without_place, replaced};
-ghost use Rattle.bson_table.specs.Moves.{Moves, WasOpen, MayLeave, Settles, FindsNone, FindsRow, FindsPlace, Changes, AddsRows, Lists, Visits, appended, all_appended};
+ghost use Rattle.bson_table.specs.Rows.{without_place, with_body_at};
+ghost use Rattle.bson_table.specs.Moves.{Moves, WasOpen, MayLeave, Settles, FindsNone, FindsRow, FindsPlace, Changes, AddsRows, Lists, Visits, with_row, with_rows};
 ghost use Rattle.bson_table.specs.Renewal.{Opened, Unopened, Makes};
 ghost use Rattle.bson_table.specs.Open.{KeepsAll, HasNoTable, IsNameTaken};
 ghost use Rattle.sqlite_value.specs.Order.{column};
@@ -108,10 +108,10 @@ impl<S: Alter + Drop> Table<S> {
 
     /// Adds a row to the collection, at the place after the greatest one.
     pub fn append(&mut self, coll: &str, idkey: &[u8], body: &[u8]) -> Result<(), Fault>
-        ensures moves { Moves (table_state S.Store self.old) (table_state S.Store self.new) (AddsRows 1 (appended coll.now idkey.now body.now) result) }
+        ensures moves { Moves (table_state S.Store self.old) (table_state S.Store self.new) (AddsRows 1 (with_row coll.now idkey.now body.now) result) }
         ensures open { WasOpen (table_state S.Store self.old) (table_state S.Store self.new) result }
-        ensures crash { Survives (table_state S.Store self.old) (table_state S.Store self.new) (MayLeave (appended coll.now idkey.now body.now) (table_state S.Store self.old)) }
-        ensures settled { Settles (appended coll.now idkey.now body.now) (table_state S.Store self.old) (table_state S.Store self.new) result }
+        ensures crash { Survives (table_state S.Store self.old) (table_state S.Store self.new) (MayLeave (with_row coll.now idkey.now body.now) (table_state S.Store self.old)) }
+        ensures settled { Settles (with_row coll.now idkey.now body.now) (table_state S.Store self.old) (table_state S.Store self.new) result }
         ensures full { IsErrOf result Fault.Places → Survives (table_state S.Store self.old) (table_state S.Store self.new) (λ _. ⊥) }
     {
         let last = statements::greatest(&mut self.conn)?;
@@ -124,10 +124,10 @@ impl<S: Alter + Drop> Table<S> {
 
     /// Adds rows to the collection, at the places after the greatest one: all of them or, where the call is refused, none.
     pub fn append_all(&mut self, coll: &str, rows: &[NewRow<'_>]) -> Result<(), Fault>
-        ensures moves { Moves (table_state S.Store self.old) (table_state S.Store self.new) (AddsRows (length rows.now) (all_appended coll.now rows.now) result) }
+        ensures moves { Moves (table_state S.Store self.old) (table_state S.Store self.new) (AddsRows (length rows.now) (with_rows coll.now rows.now) result) }
         ensures open { WasOpen (table_state S.Store self.old) (table_state S.Store self.new) result }
-        ensures crash { Survives (table_state S.Store self.old) (table_state S.Store self.new) (MayLeave (all_appended coll.now rows.now) (table_state S.Store self.old)) }
-        ensures settled { Settles (all_appended coll.now rows.now) (table_state S.Store self.old) (table_state S.Store self.new) result }
+        ensures crash { Survives (table_state S.Store self.old) (table_state S.Store self.new) (MayLeave (with_rows coll.now rows.now) (table_state S.Store self.old)) }
+        ensures settled { Settles (with_rows coll.now rows.now) (table_state S.Store self.old) (table_state S.Store self.new) result }
         ensures full { IsErrOf result Fault.Places → Survives (table_state S.Store self.old) (table_state S.Store self.new) (λ _. ⊥) }
     {
         let last = statements::greatest(&mut self.conn)?;
@@ -140,10 +140,10 @@ impl<S: Alter + Drop> Table<S> {
 
     /// Puts another body in the place of a row's.
     pub fn rewrite_at(&mut self, found: &Found, body: &[u8]) -> Result<(), Fault>
-        ensures moves { Moves (table_state S.Store self.old) (table_state S.Store self.new) (Changes (replaced found.now.place body.now) result) }
+        ensures moves { Moves (table_state S.Store self.old) (table_state S.Store self.new) (Changes (with_body_at found.now.place body.now) result) }
         ensures open { WasOpen (table_state S.Store self.old) (table_state S.Store self.new) result }
-        ensures crash { Survives (table_state S.Store self.old) (table_state S.Store self.new) (MayLeave (replaced found.now.place body.now) (table_state S.Store self.old)) }
-        ensures settled { Settles (replaced found.now.place body.now) (table_state S.Store self.old) (table_state S.Store self.new) result }
+        ensures crash { Survives (table_state S.Store self.old) (table_state S.Store self.new) (MayLeave (with_body_at found.now.place body.now) (table_state S.Store self.old)) }
+        ensures settled { Settles (with_body_at found.now.place body.now) (table_state S.Store self.old) (table_state S.Store self.new) result }
     {
         statements::rewrite_at(&mut self.conn, found.place, body)?;
         Ok(())

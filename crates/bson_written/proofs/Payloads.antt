@@ -21,7 +21,7 @@ use Rattle.bson_base.specs.Kinds.{AreBytes, NeverDescends}
 use Rattle.bson_base.specs.Options.{sorted_text}
 use Rattle.bson_base.specs.Tags.{subtype_byte}
 use Rattle.bson_base.specs.Value.{Scalar, double, string, binary, undefined, object_id, boolean, date_time, null, regex, db_pointer, code, symbol, int32, timestamp, int64, decimal, max_key, min_key, scalar_kind}
-use Rattle.bson_bytes.specs.Encode.{le32, le64, ended, text_bytes, framed, inner, is_old, scalar_bytes, truth}
+use Rattle.bson_bytes.specs.Encode.{le32, le64, cstring_of, text_bytes, frame_of, inner, is_old, scalar_bytes, truth}
 use Rattle.bson_bytes.specs.Spells.{HoldsScalar, settle_scalar}
 use Rattle.bson_frame.specs.Frame.{number, IsCstring, IsTextSize, IsDocumentSize, IsBinarySize, IsRegexSize}
 use Rattle.bson_frame.specs.Payload.{IsPayload, text_in}
@@ -76,8 +76,8 @@ text_back p t are size is =
     in_front p are (omega (arith, size.declared)) ∙ ap (λ (x : ℕ). le32 x ++ q) counted ∙ ap (λ (x : List ℕ). le32 (length t + 1) ++ x) whole
 
 -- a document or an array that ends in a 00 behind these elements
-pub framed_back : (p body : List ℕ) → AreBytes p → IsDocumentSize p (length p) → drop 4 p ≡ body ++ 0 ∷ [] → p ≡ framed body
-unfolding framed
+pub framed_back : (p body : List ℕ) → AreBytes p → IsDocumentSize p (length p) → drop 4 p ≡ body ++ 0 ∷ [] → p ≡ frame_of body
+unfolding frame_of
 framed_back p body are size is =
     let long : length p - 4 ≡ length body + 1 = sym (length-drop 4 p) ∙ ap length is ∙ length-append body (0 ∷ []) in
     let counted : number p ≡ length body + 5 = omega (arith, long, size.declared, size.some) in
@@ -179,7 +179,7 @@ ordered_options payload pattern rest options more is_pattern parts is_options be
 
 pub regex_back : (payload p o : List ℕ) → IsRegexSize payload (length payload) → HasOrderedOptions payload → HoldsScalar payload (regex p o)
     → (settle_scalar (regex p o) ≡ regex p o) × (payload ≡ scalar_bytes (regex p o))
-unfolding ended
+unfolding cstring_of
 regex_back payload p o size ordered holds =
     let stays = subst (λ (t : List ℕ). sorted_text t ≡ t) (sym (parts_in payload p o size holds).1) (ordered size) in
     (ap (regex p) stays, holds ∙ sym (append_assoc p (0 ∷ []) (o ++ 0 ∷ [])))

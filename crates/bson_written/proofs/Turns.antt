@@ -8,7 +8,7 @@ use Rattle.std.specs.Str.{bytes_eq}
 use Rattle.std.proofs.lemmas.Slice.Eq.{bytes_eq-Decides}
 use Rattle.bson_base.specs.Tags.{tag_byte}
 use Rattle.bson_base.specs.Value.{Value, value_kind, no_items, item, Members, no_members, member, look_up, without}
-use Rattle.bson_bytes.specs.Encode.{ended, value_bytes, items_bytes, members_bytes}
+use Rattle.bson_bytes.specs.Encode.{cstring_of, value_bytes, items_bytes, members_bytes}
 use Rattle.bson_bytes.specs.Spells.{SpellsValue, SpellsItems, SpellsMembers, settle_value, settle_items, settle}
 use Rattle.bson_bytes.proofs.One.{end_no_frame}
 use Rattle.bson_frame.specs.Frame.{Element, IsFirstFrame}
@@ -99,7 +99,7 @@ settled k v ms value rest none =
 -- an element whose payload and whose rest are written
 module _ (bytes next : List ℕ) (e : Element) (first : IsFirstFrame bytes e next) (k : List ℕ) (v : Value) (more : List ℕ)
     (key : e.key ≡ k) (tag : value_kind v ≡ e.tag) (payload : e.payload ≡ value_bytes v) (rest : next ≡ more ++ 0 ∷ []) where
-  joined : bytes ≡ (tag_byte (value_kind v) ∷ (ended k ++ (value_bytes v ++ more))) ++ 0 ∷ []
+  joined : bytes ≡ (tag_byte (value_kind v) ∷ (cstring_of k ++ (value_bytes v ++ more))) ++ 0 ∷ []
   joined =
       first.parts
       ∙ ap (λ t. tag_byte t ∷ (e.key ++ 0 ∷ (e.payload ++ next))) (sym tag)

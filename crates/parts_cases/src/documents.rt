@@ -6,15 +6,15 @@ use bson_model::extjson::Mode;
 use serde_json::Value;
 use std::alloc::Global;
 use store_documents::{
-    Name, Unset, check_json, is_row, json_of, read_bytes, read_json, read_value, set_member,
-    unset_member, write_document,
+    Name, Unset, check_json, is_store_row, json_of_body, document_of_bytes, document_of_json, value_of_json, body_with,
+    body_without, row_of_document,
 };
 use store_laws::ErrorKind;
 use store_words::TextError;
 
 /// The name of a collection.
 pub fn name(alloc: Global, rest: &str) -> Result<String, TextError> {
-    let json = store_words::read_json(alloc, rest)?;
+    let json = store_words::parse_json(alloc, rest)?;
     match json.as_str() {
         Some(text) => tell::shown(alloc, &Name::new(text).map(|name| name.as_str())),
         None => Err(TextError::Unreadable),
@@ -23,9 +23,9 @@ pub fn name(alloc: Global, rest: &str) -> Result<String, TextError> {
 
 /// A case about JSON.
 pub fn of_json(alloc: Global, word: &str, rest: &str) -> Result<String, TextError> {
-    let json = store_words::read_json(alloc, rest)?;
+    let json = store_words::parse_json(alloc, rest)?;
     match word {
-        "value" => tell::outcome(alloc, read_value(alloc, json)),
+        "value" => tell::outcome(alloc, value_of_json(alloc, json)),
         "document" => document(alloc, json),
         _ => tell::digits_of(alloc, kept(alloc, json)),
     }
@@ -33,7 +33,7 @@ pub fn of_json(alloc: Global, word: &str, rest: &str) -> Result<String, TextErro
 
 /// The document that JSON stands for.
 fn document(alloc: Global, json: Value) -> Result<String, TextError> {
-    match read_json(alloc, json) {
+    match document_of_json(alloc, json) {
         Ok(document) => tell::digits_of(alloc, told::written(alloc, &document)),
         Err(kind) => tell::shown(alloc, &kind),
     }
@@ -41,13 +41,13 @@ fn document(alloc: Global, json: Value) -> Result<String, TextError> {
 
 /// What the document that JSON stands for is written as.
 fn kept(alloc: Global, json: Value) -> Result<Vec<u8>, ErrorKind> {
-    let document = read_json(alloc, json)?;
+    let document = document_of_json(alloc, json)?;
     body(alloc, &document)
 }
 
 /// What a document is written as.
 fn body(alloc: Global, document: &Document) -> Result<Vec<u8>, ErrorKind> {
-    let row = write_document(alloc, document)?;
+    let row = row_of_document(alloc, document)?;
     row.body.into_owned(alloc).map_err(|_| ErrorKind::Memory)
 }
 
@@ -65,19 +65,19 @@ pub fn of_bytes(alloc: Global, word: &str, rest: &str) -> Result<String, TextErr
 
 /// What bytes are written as again.
 fn rewritten(alloc: Global, bytes: &[u8]) -> Result<Vec<u8>, ErrorKind> {
-    let document = read_bytes(alloc, bytes)?;
+    let document = document_of_bytes(alloc, bytes)?;
     body(alloc, &document)
 }
 
 /// The key under which bytes are written.
 fn row_key(alloc: Global, bytes: &[u8]) -> Result<Vec<u8>, ErrorKind> {
-    let document = read_bytes(alloc, bytes)?;
-    Ok(write_document(alloc, &document)?.key)
+    let document = document_of_bytes(alloc, bytes)?;
+    Ok(row_of_document(alloc, &document)?.key)
 }
 
 /// A document as JSON.
 fn json(alloc: Global, bytes: &[u8], mode: Mode) -> Result<String, TextError> {
-    match json_of(alloc, bytes, mode) {
+    match json_of_body(alloc, bytes, mode) {
         Ok(tree) => Ok(tree.to_string(alloc)?),
         Err(kind) => tell::shown(alloc, &kind),
     }
@@ -86,7 +86,7 @@ fn json(alloc: Global, bytes: &[u8], mode: Mode) -> Result<String, TextError> {
 /// Why a document has no tree, as it is told without the tree and with it.
 fn checked(alloc: Global, bytes: &[u8]) -> Result<String, TextError> {
     let checked = check_json(alloc, bytes, Mode::Canonical).err();
-    let written = json_of(alloc, bytes, Mode::Canonical).err();
+    let written = json_of_body(alloc, bytes, Mode::Canonical).err();
     tell::shown(alloc, &(checked, written))
 }
 
@@ -109,14 +109,14 @@ pub fn set(alloc: Global, rest: &str) -> Result<String, TextError> {
 
 fn set_in(alloc: Global, bytes: &[u8], key: &str, value: &str) -> Result<String, TextError> {
     let value = told::value(alloc, value)?;
-    tell::digits_of(alloc, set_member(alloc, bytes, key, value))
+    tell::digits_of(alloc, body_with(alloc, bytes, key, value))
 }
 
 /// Whether a member was there, and the document without it.
 pub fn unset(alloc: Global, rest: &str) -> Result<String, TextError> {
     let (key, bytes) = told::halves(rest)?;
     let bytes = told::bytes(alloc, bytes)?;
-    match unset_member(alloc, &bytes, key) {
+    match body_without(alloc, &bytes, key) {
         Ok(unset) => without(alloc, &unset),
         Err(kind) => tell::shown(alloc, &kind),
     }
@@ -138,6 +138,6 @@ pub fn row(alloc: Global, rest: &str) -> Result<String, TextError> {
 
 fn row_with(alloc: Global, name: &str, key: &[u8], body: &str) -> Result<String, TextError> {
     let body = told::bytes(alloc, body)?;
-    let is_row = is_row(alloc, name.as_bytes(), key, &body)?;
+    let is_row = is_store_row(alloc, name.as_bytes(), key, &body)?;
     tell::shown(alloc, &is_row)
 }

@@ -2,12 +2,12 @@
 
 use crate::{tell, told};
 use std::alloc::{AllocError, Global};
-use store_documents::Written;
+use store_documents::KeptRow;
 use store_streams::{Keys, StreamError, judge_stream, judge_trees};
 use store_words::{TextError, read_lines};
 
 /// The bytes of the rows.
-fn bodies(alloc: Global, rows: &[Written<'_>]) -> Result<String, AllocError> {
+fn bodies(alloc: Global, rows: &[KeptRow<'_>]) -> Result<String, AllocError> {
     let mut text = String::new(alloc);
     for row in rows {
         if !text.is_empty() {
@@ -19,7 +19,7 @@ fn bodies(alloc: Global, rows: &[Written<'_>]) -> Result<String, AllocError> {
 }
 
 /// How many rows there are, and their bytes; or the refusal.
-fn judged(alloc: Global, rows: Result<Vec<Written<'_>>, StreamError>) -> Result<String, TextError> {
+fn judged(alloc: Global, rows: Result<Vec<KeptRow<'_>>, StreamError>) -> Result<String, TextError> {
     match rows {
         Ok(rows) if rows.is_empty() => Ok(String::from_str(alloc, "no documents")?),
         Ok(rows) => Ok(bodies(alloc, &rows)?),

@@ -4,8 +4,8 @@ use bson_bytes::encode_document;
 use bson_model::{Binary, BinarySubtype, Bson, Decimal128, Document, DoubleBits, Regex};
 use hex::FromHex;
 use std::alloc::{AllocError, Global};
-use store_documents::read_bytes;
-use store_words::{TextError, read_id, read_json};
+use store_documents::document_of_bytes;
+use store_words::{TextError, read_id, parse_json};
 
 /// The part before the first bar, and what follows.
 pub fn halves(rest: &str) -> Result<(&str, &str), TextError> {
@@ -57,7 +57,7 @@ fn user_defined(alloc: Global, digits: &str) -> Result<Bson, TextError> {
 /// The document of these bytes, with its keys in their order there.
 pub fn read(alloc: Global, digits: &str) -> Result<Document, TextError> {
     let bytes = of_digits(alloc, digits)?;
-    read_bytes(alloc, &bytes).map_err(|_| TextError::Unreadable)
+    document_of_bytes(alloc, &bytes).map_err(|_| TextError::Unreadable)
 }
 
 /// The document `{v: value}`.
@@ -98,7 +98,7 @@ fn of_object(alloc: Global, text: &str) -> Result<Vec<u8>, TextError> {
 
 /// The bytes of the characters of a JSON string.
 fn of_string(alloc: Global, text: &str) -> Result<Vec<u8>, TextError> {
-    match read_json(alloc, text)?.as_str() {
+    match parse_json(alloc, text)?.as_str() {
         Some(text) => Ok(Vec::from_slice(alloc, text.as_bytes())?),
         None => Err(TextError::Unreadable),
     }

@@ -5,7 +5,7 @@ use bson_base::{DeviceFault, VecSink};
 use std::alloc::Global;
 use store_laws::ErrorKind;
 use store_words::{
-    Complaint, TextError, read_id, read_lines, read_words, write_complaint, write_flag,
+    UsageError, TextError, read_id, read_lines, read_words, write_complaint, write_flag,
     write_number, write_refusal,
 };
 
@@ -76,13 +76,13 @@ pub fn refusal(alloc: Global, rest: &str) -> Result<String, TextError> {
 }
 
 /// The complaint of a name, or of the number of a line.
-fn complaint_named(name: &str) -> Option<Complaint> {
+fn complaint_named(name: &str) -> Option<UsageError> {
     match name {
-        "usage" => Some(Complaint::Usage),
-        "JSON" => Some(Complaint::Json),
-        "id" => Some(Complaint::Id),
-        "filter" => Some(Complaint::Filter),
-        _ => Some(Complaint::Line(name.parse::<u64>().ok()?)),
+        "usage" => Some(UsageError::Usage),
+        "JSON" => Some(UsageError::Json),
+        "id" => Some(UsageError::Id),
+        "filter" => Some(UsageError::Filter),
+        _ => Some(UsageError::Line(name.parse::<u64>().ok()?)),
     }
 }
 

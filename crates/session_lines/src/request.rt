@@ -2,7 +2,7 @@
 
 ghost use Rattle.std.specs.Prelude.{◌≡◌, ℕ, List, Option, MatchOption, option_map, string_bytes};
 ghost use Rattle.serde_json.specs.Data.{Data, string};
-ghost use Rattle.serde_json.specs.View.{view, members_view};
+ghost use Rattle.serde_json.specs.View.{view as data_of, members_view};
 ghost use Rattle.session_lines.specs.Requests.{AnswersBytes, AnswersLine, AnswersTexts, parts};
 
 use base64::DecodeAllocError;
@@ -71,7 +71,7 @@ impl From<serde_json::Error> for RequestError {
 fn parts_of(members: Map<String, Value>) -> Option<(Option<Value>, Value)>
     ensures { MatchOption result
         ((input : Option Data) (words : Data) → members_view members.entries ≡ parts input words → ⊥)
-        (λ p. members_view members.entries ≡ parts (option_map view p.0) (view p.1)) }
+        (λ p. members_view members.entries ≡ parts (option_map data_of p.0) (data_of p.1)) }
 {
     let mut entries = members.into_iter();
     let (key, first) = entries.next()?;
@@ -90,7 +90,7 @@ fn parts_of(members: Map<String, Value>) -> Option<(Option<Value>, Value)>
 
 /// The text that a tree is.
 fn text_of(tree: Value) -> Option<String>
-    ensures { MatchOption result ((text : List ℕ) → view tree ≡ string text → ⊥) (λ text. view tree ≡ string (string_bytes text)) }
+    ensures { MatchOption result ((text : List ℕ) → data_of tree ≡ string text → ⊥) (λ text. data_of tree ≡ string (string_bytes text)) }
 {
     match tree {
         Value::String(text) => Some(text),
@@ -100,7 +100,7 @@ fn text_of(tree: Value) -> Option<String>
 
 /// The texts of an array of texts.
 fn texts_of(alloc: Global, tree: Value) -> Result<Vec<String>, RequestError>
-    ensures { AnswersTexts (view tree) result }
+    ensures { AnswersTexts (data_of tree) result }
 {
     let Value::Array(items) = tree else {
         return Err(RequestError::Unreadable);
@@ -117,7 +117,7 @@ fn texts_of(alloc: Global, tree: Value) -> Result<Vec<String>, RequestError>
 
 /// The bytes of a text in base64; none, where there is no text.
 fn bytes_of(alloc: Global, tree: Option<Value>) -> Result<Vec<u8>, RequestError>
-    ensures { AnswersBytes (option_map view tree) result }
+    ensures { AnswersBytes (option_map data_of tree) result }
 {
     let Some(tree) = tree else {
         return Ok(Vec::new(alloc));

@@ -2,13 +2,13 @@
 
 use serde_json::{Map, Value};
 use std::alloc::{AllocError, Global};
-use store_words::read_json;
+use store_words::parse_json;
 
 /// The tree that a text tells: of JSON, or so many objects inside each other. None where it tells none, or where memory is wanted.
 pub fn told_by(alloc: Global, text: &str) -> Option<Value> {
     match text.strip_prefix("levels:") {
         Some(levels) => tree_of_levels(alloc, levels.parse::<u32>().ok()?).ok(),
-        None => read_json(alloc, text).ok(),
+        None => parse_json(alloc, text).ok(),
     }
 }
 

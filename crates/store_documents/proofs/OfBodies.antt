@@ -8,7 +8,7 @@ use Rattle.bson_bytes.specs.Encode.{size}
 use Rattle.bson_frame.specs.Frame.{size_limit}
 use Rattle.bson_meaning.specs.Meaning.{key}
 use Rattle.bson_meaning.specs.declared.key.KeyError.{KeyError}
-use Rattle.bson_meaning.specs.declared.key.KeyError.TheVariants as faults
+use Rattle.bson_meaning.specs.declared.key.KeyError.TheVariants as key_errors
 use Rattle.store_laws.specs.Reading.{IsRead}
 use Rattle.store_laws.specs.State.{id_key, IsKept, refusal_of}
 use Rattle.store_laws.specs.Table.{only_id, own_id}
@@ -42,10 +42,10 @@ kept_read d id read has short = record { read = read; identified = ap is_some ha
 
 -- the `_id` has no key: memory was wanted
 pub no_key : (d : Members) (id : Value) (e : KeyError) (k : ErrorKind) → IsRead d → look_up id_key d ≡ Some id → size d ≤ size_limit → k ≡ refusal_of_key e
-    → (e ≡ faults.NotPlain → IsPlain id → ⊥) → (e ≡ faults.TooLong → 2147483647 < length (key (only_id id))) → Refused d k
-no_key d id faults.NotPlain k read has short is not_plain too_long = absurd (not_plain refl (plain_of id (own_of d id (kept_read d id read has short) has).clean))
-no_key d id faults.TooLong k read has short is not_plain too_long = absurd (omega (arith, too_long refl, key_long d id (own_of d id (kept_read d id read has short) has)))
-no_key d id faults.Memory k read has short is not_plain too_long = inr is
+    → (e ≡ key_errors.NotPlain → IsPlain id → ⊥) → (e ≡ key_errors.TooLong → 2147483647 < length (key (only_id id))) → Refused d k
+no_key d id key_errors.NotPlain k read has short is not_plain too_long = absurd (not_plain refl (plain_of id (own_of d id (kept_read d id read has short) has).clean))
+no_key d id key_errors.TooLong k read has short is not_plain too_long = absurd (omega (arith, too_long refl, key_long d id (own_of d id (kept_read d id read has short) has)))
+no_key d id key_errors.Memory k read has short is not_plain too_long = inr is
 
 pub own_key : (d : Members) (id : Value) (k : List ℕ) → look_up id_key d ≡ Some id → IsKeyOf k id → k ≡ key (own_id d)
 own_key d id k has h = h.key ∙ ap key (sym (own_is d id has))

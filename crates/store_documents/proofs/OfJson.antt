@@ -7,7 +7,7 @@ use Rattle.bson_base.specs.Value.{document, Members}
 use Rattle.bson_model.specs.View.{members_of, pairs_of}
 use Rattle.bson_model.specs.declared.document.Document.{Document}
 use Rattle.bson_model.specs.JsonRead.{read_members, Fails}
-use Rattle.bson_model.specs.declared.extjson.de.Error.TheVariants as errors
+use Rattle.bson_model.specs.declared.extjson.de.Error.TheVariants as json_faults
 use Rattle.bson_model.specs.declared.extjson.de.Error.{Error}
 use Rattle.store_laws.specs.Reading.{Reading, readable, unreadable, IsRead, Keeps, ReadsTree, IsUnfit}
 use Rattle.store_laws.specs.Run.{IsUnread}
@@ -24,7 +24,7 @@ Refused j k = ReadsTree j (unreadable k) ⊎ ((k ≡ Memory) × (a : Reading) ×
 
 -- the refusal for a fault of the reader
 abbrev pub TellsJsonFault : Error → ErrorKind → Type 0
-TellsJsonFault x k = ((x ≡ errors.Memory) × (k ≡ Memory)) ⊎ ((x ≢ errors.Memory) × (k ≡ JsonRefused))
+TellsJsonFault x k = ((x ≡ json_faults.Memory) × (k ≡ Memory)) ⊎ ((x ≢ json_faults.Memory) × (k ≡ JsonRefused))
 
 wanted : (j : Data) (js : JsonMembers) (k : ErrorKind) → j ≡ object js → k ≡ Memory → Refused j k
 wanted j js k is memory = let t = object_tree js in inr (memory, t.0, rw is t.1, t.2)
@@ -35,10 +35,10 @@ refused j js x k is reads kind = inl (rw (is, reads, kind) refl)
 -- the JSON reader answered a fault
 pub faulted : (j : Data) (js : JsonMembers) (x : Error) (k : ErrorKind) → j ≡ object js → Fails x (read_members js) → TellsJsonFault x k → Refused j k
 faulted j js x k is fails (inl h) = wanted j js k is h.1
-faulted j js errors.Memory k is fails (inr h) = absurd (h.0 refl)
-faulted j js (errors.InvalidObjectId e) k is fails (inr h) = refused j js (errors.InvalidObjectId e) k is fails h.1
-faulted j js errors.DeserializationError k is fails (inr h) = refused j js errors.DeserializationError k is fails h.1
-faulted j js errors.FiniteDouble k is fails (inr h) = refused j js errors.FiniteDouble k is fails h.1
+faulted j js json_faults.Memory k is fails (inr h) = absurd (h.0 refl)
+faulted j js (json_faults.InvalidObjectId e) k is fails (inr h) = refused j js (json_faults.InvalidObjectId e) k is fails h.1
+faulted j js json_faults.DeserializationError k is fails (inr h) = refused j js json_faults.DeserializationError k is fails h.1
+faulted j js json_faults.FiniteDouble k is fails (inr h) = refused j js json_faults.FiniteDouble k is fails h.1
 
 -- a document that was read isn't kept, or memory was wanted
 unfit : (j : Data) (js : JsonMembers) (d : Members) (k : ErrorKind) → j ≡ object js → read_members js ≡ Ok d → (k ≡ Memory) ⊎ IsUnfit d k → Refused j k

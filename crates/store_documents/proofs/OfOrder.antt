@@ -13,11 +13,11 @@ use Rattle.bson_frame.specs.Frame.{size_limit}
 use Rattle.bson_meaning.specs.Gate.{level_limit}
 use Rattle.bson_meaning.specs.Meaning.{key, norm_in_order, norm_members_in_order}
 use Rattle.bson_meaning.specs.declared.key.KeyError.{KeyError}
-use Rattle.bson_meaning.specs.declared.key.KeyError.TheVariants as faults
+use Rattle.bson_meaning.specs.declared.key.KeyError.TheVariants as key_errors
 use Rattle.bson_meaning.proofs.Now.{in_order_same, look_up-in_order}
 use Rattle.bson_model.specs.JsonRead.{read_members, Fails}
 use Rattle.bson_model.specs.declared.extjson.de.Error.{Error}
-use Rattle.bson_model.specs.declared.extjson.de.Error.TheVariants as errors
+use Rattle.bson_model.specs.declared.extjson.de.Error.TheVariants as json_faults
 use Rattle.store_laws.specs.Reading.{readable, IsRead, Keeps, ReadsTree}
 use Rattle.store_laws.specs.State.{id_key}
 use Rattle.store_laws.specs.Table.{only_id, own_id}
@@ -26,7 +26,7 @@ use Rattle.store_laws.specs.declared.error.ErrorKind.TheVariants.{NoId, Nul}
 use Rattle.store_laws.proofs.Ids.{key_long, own_is, own_of}
 use Rattle.store_laws.proofs.Restore.{in_order_read, in_order_same_form}
 use Rattle.store_documents.specs.Bodies.{AnswersInput, IsKeyOf, IsOrderedBody, IsUnordered, refusal_of_key}
-use Rattle.store_documents.specs.declared.write.Written.{Written}
+use Rattle.store_documents.specs.declared.write.KeptRow.{KeptRow}
 use Rattle.store_documents.proofs.OfBodies.{kept_read, no_refusal}
 use Rattle.store_documents.proofs.OfJson.{TellsJsonFault}
 
@@ -76,7 +76,7 @@ module _ (e : Members) (shallow : levels (document e) ≤ level_limit) where
     read = in_order_read e o.2 o.1 shallow
 
     -- the row
-    pub ordered : (w : Written) → IsKeyOf w.key.items id → cow_slice_items w.body ≡ b → AnswersInput (Keeps e) (Ok w)
+    pub ordered : (w : KeptRow) → IsKeyOf w.key.items id → cow_slice_items w.body ≡ b → AnswersInput (Keeps e) (Ok w)
     ordered w is body = (
       norm_members_in_order e,
       keeps o.2,
@@ -86,18 +86,18 @@ module _ (e : Members) (shallow : levels (document e) ≤ level_limit) where
 
     -- the `_id` has no key: memory was wanted
     pub no_key : (x : KeyError) (k : ErrorKind) → k ≡ refusal_of_key x → IsSound id
-        → (x ≡ faults.NotPlain → IsPlain id → ⊥) → (x ≡ faults.TooLong → 2147483647 < length (key (only_id id))) → AnswersInput (Keeps e) (Err k)
-    no_key faults.NotPlain k is sound not_plain too_long = absurd (not_plain refl (key_at HasNo00 IsPlainScalar e id_key id o.2 has).1)
-    no_key faults.TooLong k is sound not_plain too_long =
+        → (x ≡ key_errors.NotPlain → IsPlain id → ⊥) → (x ≡ key_errors.TooLong → 2147483647 < length (key (only_id id))) → AnswersInput (Keeps e) (Err k)
+    no_key key_errors.NotPlain k is sound not_plain too_long = absurd (not_plain refl (key_at HasNo00 IsPlainScalar e id_key id o.2 has).1)
+    no_key key_errors.TooLong k is sound not_plain too_long =
         let kept = kept_read (norm_members_in_order e) (norm_in_order id) read (found id has) short in
         let own = own_of (norm_members_in_order e) (norm_in_order id) kept (found id has) in
         let same = same_key e id o.1 sound has ∙ ap key (own_is (norm_members_in_order e) (norm_in_order id) (found id has)) in
         absurd (omega (arith, too_long refl, ap length same, key_long (norm_members_in_order e) (norm_in_order id) own))
-    no_key faults.Memory k is sound not_plain too_long = inr (inr is)
+    no_key key_errors.Memory k is sound not_plain too_long = inr (inr is)
 
 -- ---- trees
 
-pub from_tree : (j : Data) (js : JsonMembers) (e : Members) (r : Result Written ErrorKind) → j ≡ object js → read_members js ≡ Ok e → AnswersInput (Keeps e) r → AnswersInput (ReadsTree j) r
+pub from_tree : (j : Data) (js : JsonMembers) (e : Members) (r : Result KeptRow ErrorKind) → j ≡ object js → read_members js ≡ Ok e → AnswersInput (Keeps e) r → AnswersInput (ReadsTree j) r
 from_tree j js e (Ok w) is reads (m, kept, read, row) = (m, rw (is, reads) kept, read, row)
 from_tree j js e (Err k) is reads (inl unfit) = inl (rw (is, reads) unfit)
 from_tree j js e (Err k) is reads (inr (inl (m, kept, refused))) = inr (inl (m, rw (is, reads) kept, refused))
@@ -106,7 +106,7 @@ from_tree j js e (Err k) is reads (inr (inr memory)) = inr (inr memory)
 -- the JSON reader answered a fault
 pub faulted : (j : Data) (js : JsonMembers) (x : Error) (k : ErrorKind) → j ≡ object js → Fails x (read_members js) → TellsJsonFault x k → AnswersInput (ReadsTree j) (Err k)
 faulted j js x k is fails (inl h) = inr (inr h.1)
-faulted j js errors.Memory k is fails (inr h) = absurd (h.0 refl)
-faulted j js (errors.InvalidObjectId e) k is fails (inr h) = inl (rw (is, fails, h.1) refl)
-faulted j js errors.DeserializationError k is fails (inr h) = inl (rw (is, fails, h.1) refl)
-faulted j js errors.FiniteDouble k is fails (inr h) = inl (rw (is, fails, h.1) refl)
+faulted j js json_faults.Memory k is fails (inr h) = absurd (h.0 refl)
+faulted j js (json_faults.InvalidObjectId e) k is fails (inr h) = inl (rw (is, fails, h.1) refl)
+faulted j js json_faults.DeserializationError k is fails (inr h) = inl (rw (is, fails, h.1) refl)
+faulted j js json_faults.FiniteDouble k is fails (inr h) = inl (rw (is, fails, h.1) refl)

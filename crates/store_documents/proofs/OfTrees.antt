@@ -19,7 +19,7 @@ use Rattle.bson_model.specs.JsonKeys.{is_reserved, reserved_of}
 use Rattle.bson_model.specs.JsonWrite.{holds_finite, items_hold_finite, members_hold_finite, scalar_is_finite, write}
 use Rattle.bson_model.specs.declared.extjson.ser.Mode.{Mode}
 use Rattle.bson_model.proofs.FiniteLemmas.{is_written}
-use Rattle.store_laws.specs.State.{IsKept, or_finite, tree_of}
+use Rattle.store_laws.specs.State.{IsKept, or_finite, json_of}
 use Rattle.store_laws.specs.declared.error.ErrorKind.TheVariants.{ReservedKey}
 use Rattle.store_documents.specs.Answers.{HasTree}
 use Rattle.store_documents.specs.Trees.{AreItemsTold, AreMembersTold, AreTold, HasNoDouble, IsTold}
@@ -131,7 +131,7 @@ spelled b d kept is =
     let inside : SpellsMembers (drop 4 (encode d)) d = subst (λ (x : List ℕ). SpellsMembers x d) (sym (framed_inside (members_bytes d))) (spelled_members d kept.read.clean kept.read.sound.ranged (omega (arith, kept.small, members_length d))) in
     subst (λ (x : List ℕ). SpellsMembers (drop 4 x) d) (sym is) inside
 
-pub told_tree : (b : List ℕ) (d : Members) → IsKept d → b ≡ encode d → AreTold Free (drop 4 b) → (m : Mode) → HasTree (tree_of m d)
+pub told_tree : (b : List ℕ) (d : Members) → IsKept d → b ≡ encode d → AreTold Free (drop 4 b) → (m : Mode) → HasTree (json_of m d)
 told_tree b d kept is told m =
     let seen = told.0 d (spelled b d kept is) in
     subst (λ (r : Bool). HasTree (if r then Err ReservedKey else or_finite (write m (document d)))) (sym seen.0) (there (write m (document d)) (is_written m (document d) ∙ ap not seen.1))

@@ -12,7 +12,7 @@ use Rattle.bson_meaning.specs.Gate.{level_limit}
 use Rattle.bson_meaning.specs.Before.{key as key_before}
 use Rattle.bson_meaning.specs.Meaning.{key}
 use Rattle.bson_meaning.specs.declared.key.KeyError.{KeyError}
-use Rattle.bson_meaning.specs.declared.key.KeyError.TheVariants as faults
+use Rattle.bson_meaning.specs.declared.key.KeyError.TheVariants as key_errors
 use Rattle.store_laws.specs.Reading.{Reading, IsRead, ReadsBytes, readable, unreadable}
 use Rattle.store_laws.specs.State.{IsKept, IsName, refusal_of}
 use Rattle.store_laws.specs.Table.{only_id, own_id}
@@ -21,7 +21,7 @@ use Rattle.store_laws.specs.declared.error.ErrorKind.TheVariants.{TooDeep, Nul, 
 use Rattle.store_documents.specs.declared.change.Unset.{Unset}
 use Rattle.store_documents.specs.declared.row.RowKey.{RowKey}
 use Rattle.store_documents.specs.declared.row.RowKey.TheVariants.{Own, Before, Neither}
-use Rattle.store_documents.specs.declared.write.Written.{Written}
+use Rattle.store_documents.specs.declared.write.KeptRow.{KeptRow}
 
 -- ---- ids
 
@@ -45,9 +45,9 @@ MeansItself _ = Unit {0}
 
 -- what is told for an `_id` that has no key; none that is kept is such
 abbrev pub refusal_of_key : KeyError → ErrorKind
-refusal_of_key faults.NotPlain = Nul
-refusal_of_key faults.TooLong = TooLong
-refusal_of_key faults.Memory = Memory
+refusal_of_key key_errors.NotPlain = Nul
+refusal_of_key key_errors.TooLong = TooLong
+refusal_of_key key_errors.Memory = Memory
 
 -- ---- bytes
 
@@ -66,7 +66,7 @@ IsUnwritten d k = ((k ≡ Nul) × (IsPlain (document d) → ⊥)) ⊎ ((k ≡ To
 -- ---- what is answered
 
 -- a document is written beside the key of its `_id`, or refused
-abbrev pub AnswersWritten : Members → Result Written ErrorKind → Type 0
+abbrev pub AnswersWritten : Members → Result KeptRow ErrorKind → Type 0
 AnswersWritten d (Ok w) = (refusal_of d ≡ None) × (w.key.items ≡ key (own_id d)) × (cow_slice_items w.body ≡ encode d)
 AnswersWritten d (Err k) = (refusal_of d ≡ Some k) ⊎ (k ≡ Memory)
 
@@ -84,7 +84,7 @@ AnswersUnset k d (Ok u) = (u.was_there ≡ has_key k d) × (u.body.items ≡ enc
 AnswersUnset k d (Err x) = x ≡ Memory
 
 -- the row of the document that bytes mean, or why there is none
-abbrev pub AnswersKept : List ℕ → Result Written ErrorKind → Type 0
+abbrev pub AnswersKept : List ℕ → Result KeptRow ErrorKind → Type 0
 AnswersKept bytes (Ok w) = (d : Members) × ReadsBytes bytes (readable d) × IsRead d × AnswersWritten d (Ok w)
 AnswersKept bytes (Err k) = ReadsBytes bytes (unreadable k) ⊎ ((d : Members) × ReadsBytes bytes (readable d) × IsRead d × AnswersWritten d (Err k))
 
@@ -126,6 +126,6 @@ abbrev pub IsUnordered : Members → ErrorKind → Type 0
 IsUnordered e k = ((k ≡ Nul) × (IsPlain (document e) → ⊥)) ⊎ ((k ≡ TooLong) × IsPlain (document e) × (size_limit < length (key e))) ⊎ (k ≡ Memory)
 
 -- the row of the document that an input reads as, or why there is none, or memory was wanted
-abbrev pub AnswersInput : (Reading → Type 0) → Result Written ErrorKind → Type 0
+abbrev pub AnswersInput : (Reading → Type 0) → Result KeptRow ErrorKind → Type 0
 AnswersInput Reads (Ok w) = (d : Members) × Reads (readable d) × IsRead d × AnswersWritten d (Ok w)
 AnswersInput Reads (Err k) = Reads (unreadable k) ⊎ ((d : Members) × Reads (readable d) × (refusal_of d ≡ Some k)) ⊎ (k ≡ Memory)

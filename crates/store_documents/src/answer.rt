@@ -5,10 +5,10 @@ ghost use Rattle.bson_base.specs.Value.{Members, document as tree};
 ghost use Rattle.bson_bytes.specs.Encode.{encode};
 ghost use Rattle.bson_model.specs.JsonWrite.{write};
 ghost use Rattle.bson_model.specs.View.{members_of, pairs_of};
-ghost use Rattle.store_laws.specs.State.{IsKept, or_finite, tree_of};
+ghost use Rattle.store_laws.specs.State.{IsKept, or_finite, json_of};
 ghost use Rattle.store_documents.specs.Answers.{AnswersJson};
 
-use crate::read::read_bytes;
+use crate::read::document_of_bytes;
 use crate::reserved::has_reserved_below;
 use bson_model::extjson::Mode;
 use bson_model::{Bson, Document, extjson};
@@ -35,7 +35,7 @@ fn json_written(alloc: Global, document: Document, mode: Mode) -> Result<Value, 
 
 /// The JSON tree of a document. `ReservedKey` where it has a reserved key below its top, else `FiniteDouble`, or `Memory`.
 fn json_of_document(alloc: Global, document: Document, mode: Mode) -> Result<Value, ErrorKind>
-    ensures { AnswersJson (tree_of mode (members_of (pairs_of document))) result }
+    ensures { AnswersJson (json_of mode (members_of (pairs_of document))) result }
 {
     if has_reserved_below(&document) {
         return Err(ErrorKind::ReservedKey);
@@ -48,10 +48,10 @@ fn json_of_document(alloc: Global, document: Document, mode: Mode) -> Result<Val
 /// `ReservedKey` where a document below the top has a reserved key (`$oid` or another that marks a typed value), which would be
 /// read as another value; the keys of a code's scope are free. Else `FiniteDouble` where a finite double other than the zeros
 /// stands in the document. `Memory` where a growth was refused. Bytes that aren't the written form of a kept document may be
-/// refused as `read_bytes` refuses them.
-pub fn json_of(alloc: Global, body: &[u8], mode: Mode) -> Result<Value, ErrorKind>
-    ensures { (d : Members) → IsKept d → body.now ≡ encode d → AnswersJson (tree_of mode d) result }
+/// refused as `document_of_bytes` refuses them.
+pub fn json_of_body(alloc: Global, body: &[u8], mode: Mode) -> Result<Value, ErrorKind>
+    ensures { (d : Members) → IsKept d → body.now ≡ encode d → AnswersJson (json_of mode d) result }
 {
-    let document = read_bytes(alloc, body)?;
+    let document = document_of_bytes(alloc, body)?;
     json_of_document(alloc, document, mode)
 }

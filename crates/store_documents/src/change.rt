@@ -10,7 +10,7 @@ ghost use Rattle.bson_model.specs.View.{view, members_of, pairs_of};
 ghost use Rattle.store_laws.specs.State.{IsKept};
 ghost use Rattle.store_documents.specs.Bodies.{AnswersChanged, AnswersUnset};
 
-use crate::read::read_bytes;
+use crate::read::document_of_bytes;
 use crate::write::body_of;
 use bson_frame::LEVEL_LIMIT;
 use bson_meaning::{depth_of_document, normalize, sort_keys};
@@ -64,12 +64,12 @@ fn changed_body(alloc: Global, document: &Document) -> Result<Vec<u8>, ErrorKind
 ///
 /// `TooDeep` where the document then has over 100 levels, else `Nul` where a 00 stands in a key, a pattern or options, else
 /// `TooLong` where its bytes are over 16777216; `Memory` where a growth was refused. Bytes that aren't the written form of a
-/// kept document may be refused as `read_bytes` refuses them. Where it isn't refused, the value is known to be sound.
-pub fn set_member(alloc: Global, body: &[u8], key: &str, value: Bson) -> Result<Vec<u8>, ErrorKind>
+/// kept document may be refused as `document_of_bytes` refuses them. Where it isn't refused, the value is known to be sound.
+pub fn body_with(alloc: Global, body: &[u8], key: &str, value: Bson) -> Result<Vec<u8>, ErrorKind>
     ensures changed { (d : Members) → IsKept d → body.now ≡ encode d → AnswersChanged (put key.now (norm_in_order (view value)) d) result }
     ensures sound { IfOk result (λ _. IsSound (view value)) }
 {
-    let mut document = read_bytes(alloc, body)?;
+    let mut document = document_of_bytes(alloc, body)?;
     match put_normal(alloc, &mut document, key, value) {
         Ok(()) => changed_body(alloc, &document),
         Err(_) => Err(ErrorKind::Memory),
@@ -96,12 +96,12 @@ fn take_out(document: &mut Document, key: &str) -> bool
 /// What a kept document is written as without the member under a key, and whether there was one. `body` is the written form of
 /// the document.
 ///
-/// `Memory` where a growth was refused. Bytes that aren't the written form of a kept document may be refused as `read_bytes` and
+/// `Memory` where a growth was refused. Bytes that aren't the written form of a kept document may be refused as `document_of_bytes` and
 /// `write_document` refuse them.
-pub fn unset_member(alloc: Global, body: &[u8], key: &str) -> Result<Unset, ErrorKind>
+pub fn body_without(alloc: Global, body: &[u8], key: &str) -> Result<Unset, ErrorKind>
     ensures { (d : Members) → IsKept d → body.now ≡ encode d → AnswersUnset key.now d result }
 {
-    let mut document = read_bytes(alloc, body)?;
+    let mut document = document_of_bytes(alloc, body)?;
     let was_there = take_out(&mut document, key);
     let body = body_of(alloc, &document)?;
     Ok(Unset { was_there, body })

@@ -4,7 +4,7 @@ ghost use Rattle.std.specs.Prelude.{◌≡◌, ◌<◌, length, IfOk, Err};
 ghost use Rattle.bson_base.specs.Kinds.{IsPlain, IsSound};
 ghost use Rattle.bson_frame.specs.Frame.{length_limit};
 ghost use Rattle.bson_meaning.specs.Meaning.{key};
-ghost use Rattle.bson_meaning.specs.declared.key.KeyError.TheVariants as KeyErrors;
+ghost use Rattle.bson_meaning.specs.declared.key.KeyError.TheVariants as key_errors;
 ghost use Rattle.bson_model.specs.View.{view};
 ghost use Rattle.store_laws.specs.Table.{only_id};
 ghost use Rattle.store_documents.specs.Bodies.{IsKeyOf};
@@ -24,8 +24,8 @@ pub(crate) const ID_KEY: &str = "_id";
 pub fn key_of_id(alloc: Global, id: &Bson) -> Result<Vec<u8>, KeyError>
     ensures ok { IfOk result (λ k. IsKeyOf k.items (view id.now)) }
     ensures sound { IsSound (view id.now) }
-    ensures not_plain { result ≡ Err KeyErrors.NotPlain → IsPlain (view id.now) → ⊥ }
-    ensures too_long { result ≡ Err KeyErrors.TooLong → length_limit < length (key (only_id (view id.now))) }
+    ensures not_plain { result ≡ Err key_errors.NotPlain → IsPlain (view id.now) → ⊥ }
+    ensures too_long { result ≡ Err key_errors.TooLong → length_limit < length (key (only_id (view id.now))) }
 {
     meaning_key_of_element(alloc, ID_KEY, id)
 }

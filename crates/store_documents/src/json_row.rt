@@ -2,7 +2,7 @@
 
 ghost use Rattle.std.specs.Prelude.{◌≡◌, ◌⊎◌, Err, MatchResult};
 ghost use Rattle.serde_json.specs.Data.{object, Members as JsonMembers};
-ghost use Rattle.serde_json.specs.View.{view as tree_of};
+ghost use Rattle.serde_json.specs.View.{view as data_of};
 ghost use Rattle.bson_base.specs.Kinds.{IsPlain};
 ghost use Rattle.bson_base.specs.Value.{document as tree};
 ghost use Rattle.bson_model.specs.View.{members_of, pairs_of};
@@ -12,7 +12,7 @@ ghost use Rattle.store_documents.specs.Bodies.{AnswersInput, IsOrderedBody, IsUn
 
 use crate::ids::{ID_KEY, key_of_id};
 use crate::read::{json_refusal, object_of};
-use crate::write::{Written, key_refusal};
+use crate::write::{KeptRow, key_refusal};
 use bson_frame::{LEVEL_LIMIT, SIZE_LIMIT};
 use bson_meaning::{depth_of_document, is_plain_document, meaning_key};
 use bson_model::Document;
@@ -51,7 +51,7 @@ fn unidentified(document: &Document) -> ErrorKind
 }
 
 /// The row of the normal form of a document, with its keys in order, where that is kept. Neither is made as a tree.
-fn row_in_order(alloc: Global, document: &Document) -> Result<Written<'static>, ErrorKind>
+fn row_in_order(alloc: Global, document: &Document) -> Result<KeptRow<'static>, ErrorKind>
     ensures { AnswersInput (Keeps (members_of (pairs_of document.now))) result }
 {
     if depth_of_document(document) > LEVEL_LIMIT {
@@ -62,7 +62,7 @@ fn row_in_order(alloc: Global, document: &Document) -> Result<Written<'static>, 
     };
     let body = ordered_body(alloc, document)?;
     match key_of_id(alloc, id) {
-        Ok(key) => Ok(Written {
+        Ok(key) => Ok(KeptRow {
             key,
             body: CowSlice::Owned(body),
         }),
@@ -77,9 +77,9 @@ fn row_in_order(alloc: Global, document: &Document) -> Result<Written<'static>, 
 /// the zeros; `TooDeep` where the document has over 100 levels; `Nul` where a 00 stands in a key, a pattern or options of it;
 /// `NoId` where it has no `_id`; `TooLong` where its bytes are over 16777216; each where none before it is told. `Memory` where a
 /// growth was refused, and never in the place of `NotAnObject`.
-pub fn row_of_json(alloc: Global, json: Value) -> Result<Written<'static>, ErrorKind>
-    ensures row { AnswersInput (ReadsTree (tree_of json)) result }
-    ensures object { result ≡ Err Memory → (js : JsonMembers) × (tree_of json ≡ object js) }
+pub fn row_of_json(alloc: Global, json: Value) -> Result<KeptRow<'static>, ErrorKind>
+    ensures row { AnswersInput (ReadsTree (data_of json)) result }
+    ensures object { result ≡ Err Memory → (js : JsonMembers) × (data_of json ≡ object js) }
 {
     let Some(map) = object_of(json) else {
         return Err(ErrorKind::NotAnObject);

@@ -15,13 +15,13 @@ mod stored;
 mod trees;
 mod write;
 
-pub use answer::json_of;
-pub use change::{Unset, set_member, unset_member};
+pub use answer::json_of_body;
+pub use change::{Unset, body_with, body_without};
 pub use ids::key_of_id;
 pub use json_row::row_of_json;
 pub use name::Name;
-pub use read::{read_bytes, read_json, read_value};
-pub use row::{RowKey, is_row, key_of_row};
+pub use read::{document_of_bytes, document_of_json, value_of_json};
+pub use row::{RowKey, is_store_row, key_of_row};
 pub use stored::row_of_bytes;
 pub use trees::check_json;
-pub use write::{Written, write_document};
+pub use write::{KeptRow, row_of_document};

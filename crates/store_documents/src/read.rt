@@ -2,7 +2,7 @@
 
 ghost use Rattle.std.specs.Prelude.{◌≡◌, ◌⊎◌, ◌≢◌, IfOk, MatchOption, MatchResult};
 ghost use Rattle.serde_json.specs.Data.{object};
-ghost use Rattle.serde_json.specs.View.{view as tree_of, members_view};
+ghost use Rattle.serde_json.specs.View.{view as data_of, members_view};
 ghost use Rattle.bson_base.specs.Kinds.{IsSound};
 ghost use Rattle.bson_base.specs.Value.{document as tree, Members};
 ghost use Rattle.bson_bytes.specs.Spells.{Means};
@@ -70,7 +70,7 @@ pub(crate) fn document_of(alloc: Global, bytes: &[u8]) -> Result<Document, Error
 ///
 /// `EndInside`, `BadLength`, `NotTerminated`, `Faulty` and `TooDeep` are those of the gate, the first whose test fails. `Memory`
 /// comes only where the gate refuses nothing, and where a growth was refused.
-pub fn read_bytes(alloc: Global, bytes: &[u8]) -> Result<Document, ErrorKind>
+pub fn document_of_bytes(alloc: Global, bytes: &[u8]) -> Result<Document, ErrorKind>
     ensures answer { AnswersBytes bytes.now result }
     ensures read { IfOk result (λ d. IsRead (members_of (pairs_of d))) }
 {
@@ -106,7 +106,7 @@ fn kept(alloc: Global, document: Document) -> Result<Document, ErrorKind>
 
 /// The members of an object.
 pub(crate) fn object_of(json: Value) -> Option<Map<String, Value>>
-    ensures { MatchOption result (ReadsTree (tree_of json) (unreadable NotAnObject)) (λ m. tree_of json ≡ object (members_view m.entries)) }
+    ensures { MatchOption result (ReadsTree (data_of json) (unreadable NotAnObject)) (λ m. data_of json ≡ object (members_view m.entries)) }
 {
     match json {
         Value::Object(map) => Some(map),
@@ -119,8 +119,8 @@ pub(crate) fn object_of(json: Value) -> Option<Map<String, Value>>
 /// `NotAnObject` where the tree is no object; `JsonRefused` where it is no Extended JSON, or holds a finite double other than
 /// the zeros; `TooDeep` where the document has over 100 levels; `Nul` where a 00 stands in a key, a pattern or options of it;
 /// each where none before it is told. `Memory` where a growth was refused, and never in the place of `NotAnObject`.
-pub fn read_json(alloc: Global, json: Value) -> Result<Document, ErrorKind>
-    ensures answer { AnswersTree (tree_of json) result }
+pub fn document_of_json(alloc: Global, json: Value) -> Result<Document, ErrorKind>
+    ensures answer { AnswersTree (data_of json) result }
     ensures read { IfOk result (λ d. IsRead (members_of (pairs_of d))) }
 {
     let Some(map) = object_of(json) else {
@@ -134,8 +134,8 @@ pub fn read_json(alloc: Global, json: Value) -> Result<Document, ErrorKind>
 
 /// The value that a JSON tree stands for, as it is set under a key. `JsonRefused` where it is no Extended JSON, or holds a
 /// finite double other than the zeros; `Memory` where a growth was refused.
-pub fn read_value(alloc: Global, json: Value) -> Result<Bson, ErrorKind>
-    ensures { AnswersValue (tree_of json) result }
+pub fn value_of_json(alloc: Global, json: Value) -> Result<Bson, ErrorKind>
+    ensures { AnswersValue (data_of json) result }
 {
     Bson::try_from_value(alloc, json).map_err(json_refusal)
 }

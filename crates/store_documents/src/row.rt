@@ -4,7 +4,7 @@ ghost use Rattle.std.specs.Prelude.{◌≡◌, ◌≢◌, ◌↔◌, false, IfOk
 ghost use Rattle.std.specs.Cow.{cow_slice_items};
 ghost use Rattle.bson_base.specs.Value.{Members};
 ghost use Rattle.bson_bytes.specs.Encode.{encode};
-ghost use Rattle.bson_meaning.specs.Before.{key as key_of_before};
+ghost use Rattle.bson_meaning.specs.Before.{key as key_before};
 ghost use Rattle.store_laws.specs.Reading.{ReadsBytes, readable};
 ghost use Rattle.store_laws.specs.State.{IsKept, IsName};
 ghost use Rattle.store_laws.specs.Table.{own_id};
@@ -15,30 +15,30 @@ use crate::ids::ID_KEY;
 use crate::name::Name;
 use crate::read::{document_of, gate_refusal};
 use crate::stored::{key_as_it_stands, row_by_tree, row_of_bytes};
-use crate::write::Written;
+use crate::write::KeptRow;
 use bson_meaning::{KeyError, gate, meaning_key_before_of_element};
 use std::alloc::{AllocError, Global};
 use store_laws::ErrorKind;
 
 /// Whether the bytes are those of a name.
-fn is_text_of_name(coll: &[u8]) -> bool
-    ensures { IsTrue result ↔ (IsName coll.now × IsUtf8 coll.now) }
+fn is_text_of_name(collection: &[u8]) -> bool
+    ensures { IsTrue result ↔ (IsName collection.now × IsUtf8 collection.now) }
 {
-    match str::from_utf8(coll) {
+    match str::from_utf8(collection) {
         Ok(text) => Name::new(text).is_some(),
         Err(_) => false,
     }
 }
 
 /// Whether a document is written as these bytes, under this key.
-fn is_written_so(written: &Written<'_>, key: &[u8], body: &[u8]) -> bool
+fn is_written_so(written: &KeptRow<'_>, key: &[u8], body: &[u8]) -> bool
     ensures { IsTrue result ↔ ((written.now.key.items ≡ key.now) × (cow_slice_items written.now.body ≡ body.now)) }
 {
     written.key.as_slice() == key && written.body.as_slice() == body
 }
 
 /// What a refusal tells of a row: that no store can have written it, but for want of memory.
-fn refused(kind: ErrorKind) -> Result<bool, AllocError>
+fn outcome_of_refusal(kind: ErrorKind) -> Result<bool, AllocError>
     ensures { IfOk result (λ b. (b ≡ false) × (kind ≢ Memory)) }
 {
     match kind {
@@ -47,25 +47,25 @@ fn refused(kind: ErrorKind) -> Result<bool, AllocError>
     }
 }
 
-/// Whether a store can have written a row: `coll` is the name of a collection, `body` the written form of a document that is
+/// Whether a store can have written a row: `collection` is the name of a collection, `body` the written form of a document that is
 /// kept, and `key` the key of its `_id`. The error is a refused growth. A body that is seen to be a written form is gone over
 /// without a tree, and not written again.
-pub fn is_row(alloc: Global, coll: &[u8], key: &[u8], body: &[u8]) -> Result<bool, AllocError>
-    ensures { IfOk result (λ b. IsTrue b ↔ IsRow coll.now key.now body.now) }
+pub fn is_store_row(alloc: Global, collection: &[u8], key: &[u8], body: &[u8]) -> Result<bool, AllocError>
+    ensures { IfOk result (λ b. IsTrue b ↔ IsRow collection.now key.now body.now) }
 {
-    if !is_text_of_name(coll) {
+    if !is_text_of_name(collection) {
         return Ok(false);
     }
     if let Err(error) = gate(body) {
-        return refused(gate_refusal(error));
+        return outcome_of_refusal(gate_refusal(error));
     }
     match key_as_it_stands(alloc, body) {
         Ok(Some(own)) => Ok(is_same(own.as_slice(), key)),
         Ok(None) => match row_by_tree(alloc, body) {
             Ok(written) => Ok(is_written_so(&written, key, body)),
-            Err(kind) => refused(kind),
+            Err(kind) => outcome_of_refusal(kind),
         },
-        Err(kind) => refused(kind),
+        Err(kind) => outcome_of_refusal(kind),
     }
 }
 
@@ -85,7 +85,7 @@ pub enum RowKey {
 /// The error is a refused growth.
 fn key_before(alloc: Global, body: &[u8]) -> Result<Vec<u8>, AllocError>
     requires { (d : Members) × IsKept d × (body.now ≡ encode d) }
-    ensures { (d : Members) → IsKept d → body.now ≡ encode d → IfOk result (λ k. k.items ≡ key_of_before (own_id d)) }
+    ensures { (d : Members) → IsKept d → body.now ≡ encode d → IfOk result (λ k. k.items ≡ key_before (own_id d)) }
 {
     let Ok(document) = document_of(alloc, body) else {
         return Err(AllocError);
@@ -110,14 +110,14 @@ fn is_same(bytes: &[u8], others: &[u8]) -> bool
 /// What is told of the key of a row under a good name, whose body a document reads from that is written so.
 fn key_against(
     alloc: Global,
-    written: Written<'_>,
+    written: KeptRow<'_>,
     key: &[u8],
     body: &[u8],
 ) -> Result<RowKey, AllocError>
     requires { AnswersKept body.now (Ok written) }
-    ensures { (coll : List ℕ) → IsName coll → IsUtf8 coll → IfOk result (TellsKey coll key.now body.now) }
+    ensures { (collection : List ℕ) → IsName collection → IsUtf8 collection → IfOk result (TellsKey collection key.now body.now) }
 {
-    let Written {
+    let KeptRow {
         key: now,
         body: own,
     } = written;
@@ -149,10 +149,10 @@ fn keyless(kind: ErrorKind) -> Result<RowKey, AllocError>
 
 /// The key of a row, held against the document in its body: the key of that document's `_id`, or the one that the `_id` had before
 /// the two zeros of a double meant the same. The error is a refused growth.
-pub fn key_of_row(alloc: Global, coll: &[u8], key: &[u8], body: &[u8]) -> Result<RowKey, AllocError>
-    ensures { IfOk result (TellsKey coll.now key.now body.now) }
+pub fn key_of_row(alloc: Global, collection: &[u8], key: &[u8], body: &[u8]) -> Result<RowKey, AllocError>
+    ensures { IfOk result (TellsKey collection.now key.now body.now) }
 {
-    if !is_text_of_name(coll) {
+    if !is_text_of_name(collection) {
         return Ok(RowKey::Neither);
     }
     match row_of_bytes(alloc, body) {

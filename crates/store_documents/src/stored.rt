@@ -3,7 +3,7 @@
 ghost use Rattle.std.specs.Prelude.{◌≡◌, ◌+◌, ◌<◌, ◌^◌, ◌++◌, ◌∷◌, length, IfOk, IfSome, IsTrue, MatchResult, Ok};
 ghost use Rattle.bson_base.specs.Tags.{tag_byte};
 ghost use Rattle.bson_base.specs.Value.{Members};
-ghost use Rattle.bson_bytes.specs.Encode.{ended, framed};
+ghost use Rattle.bson_bytes.specs.Encode.{cstring_of, frame_of};
 ghost use Rattle.bson_frame.specs.View.{element_of};
 ghost use Rattle.bson_meaning.specs.Gate.{Passes};
 ghost use Rattle.bson_meaning.specs.Meaning.{key};
@@ -15,7 +15,7 @@ ghost use Rattle.store_documents.specs.Bodies.{AnswersKept, MeansItself, StandUn
 
 use crate::ids::ID_KEY;
 use crate::read::{document_of, gate_refusal};
-use crate::write::{Written, key_refusal, write_document};
+use crate::write::{KeptRow, key_refusal, row_of_document};
 use bson_base::ElementType;
 use bson_frame::Frame;
 use bson_meaning::{gate, meaning_key};
@@ -30,7 +30,7 @@ const AROUND: usize = 10;
 /// The document whose one element has the key `_id`, this kind and this payload.
 fn alone(alloc: Global, id: &Frame<'_>) -> Result<Vec<u8>, AllocError>
     requires { length id.now.payload.now + 10 < 2 ^ 32 }
-    ensures { IfOk result (λ b. b.items ≡ framed (tag_byte id.now.tag ∷ (ended id_key ++ id.now.payload.now))) }
+    ensures { IfOk result (λ b. b.items ≡ frame_of (tag_byte id.now.tag ∷ (cstring_of id_key ++ id.now.payload.now))) }
 {
     let size = id.payload.len() + AROUND;
     let mut bytes = Vec::with_capacity(alloc, size)?;
@@ -94,12 +94,12 @@ pub(crate) fn key_as_it_stands(alloc: Global, bytes: &[u8]) -> Result<Option<Vec
 }
 
 /// The row of the document that bytes mean, by its tree.
-pub(crate) fn row_by_tree(alloc: Global, bytes: &[u8]) -> Result<Written<'static>, ErrorKind>
+pub(crate) fn row_by_tree(alloc: Global, bytes: &[u8]) -> Result<KeptRow<'static>, ErrorKind>
     requires { Passes bytes.now }
     ensures { AnswersKept bytes.now result }
 {
     let document = document_of(alloc, bytes)?;
-    write_document(alloc, &document)
+    row_of_document(alloc, &document)
 }
 
 /// The row of the document that bytes mean, which is kept as it means: of a repeated key the last value, in the place of the
@@ -108,14 +108,14 @@ pub(crate) fn row_by_tree(alloc: Global, bytes: &[u8]) -> Result<Written<'static
 /// `EndInside`, `BadLength`, `NotTerminated`, `Faulty` and `TooDeep` are those of the gate, the first whose test fails; then
 /// `NoId` where it has no `_id`, and `TooLong` where its bytes are over 16777216. `Memory` comes only where the gate refuses
 /// nothing, and where a growth was refused.
-pub fn row_of_bytes(alloc: Global, bytes: &[u8]) -> Result<Written<'_>, ErrorKind>
+pub fn row_of_bytes(alloc: Global, bytes: &[u8]) -> Result<KeptRow<'_>, ErrorKind>
     ensures { AnswersKept bytes.now result }
 {
     if let Err(error) = gate(bytes) {
         return Err(gate_refusal(error));
     }
     if let Some(key) = key_as_it_stands(alloc, bytes)? {
-        return Ok(Written {
+        return Ok(KeptRow {
             key,
             body: CowSlice::Borrowed(bytes),
         });

@@ -5,12 +5,12 @@ ghost use Rattle.bson_base.specs.Value.{Members};
 ghost use Rattle.bson_bytes.specs.Encode.{encode};
 ghost use Rattle.bson_model.specs.JsonKeys.{is_reserved};
 ghost use Rattle.bson_model.specs.declared.extjson.ser.Mode.{Mode as Form};
-ghost use Rattle.store_laws.specs.State.{IsKept, tree_of};
+ghost use Rattle.store_laws.specs.State.{IsKept, json_of};
 ghost use Rattle.store_documents.specs.Answers.{AnswersChecked, HasTree};
 ghost use Rattle.store_documents.specs.Trees.{AreTold, HasNoDouble, IsTold};
 ghost use Rattle.store_documents.specs.declared.trees.Keys.TheVariants.{Unreserved};
 
-use crate::answer::json_of;
+use crate::answer::json_of_body;
 use bson_base::ElementType;
 use bson_frame::{LEVEL_LIMIT, is_end, sized_frame};
 use bson_model::extjson::Mode;
@@ -105,22 +105,22 @@ fn holds_told(bytes: &[u8], keys: Keys, inner: usize) -> bool
 /// True: the kept document whose written form these bytes are has a tree. False says nothing: that is told, too, of documents with
 /// any double, with code with scope, or with another key that begins with `$` below the top.
 fn has_tree(body: &[u8]) -> bool
-    ensures { IsTrue result → (d : Members) → IsKept d → body.now ≡ encode d → (m : Form) → HasTree (tree_of m d) }
+    ensures { IsTrue result → (d : Members) → IsKept d → body.now ≡ encode d → (m : Form) → HasTree (json_of m d) }
 {
     holds_told(body, Keys::Free, LEVEL_LIMIT)
 }
 
-/// Whether a kept document, of which `body` is the written form, has a JSON tree: `json_of` without the tree. Most documents are
+/// Whether a kept document, of which `body` is the written form, has a JSON tree: `json_of_body` without the tree. Most documents are
 /// seen to have one from their bytes alone, without memory; of others the tree is made.
 ///
-/// Refuses what `json_of` refuses, by the same kinds.
+/// Refuses what `json_of_body` refuses, by the same kinds.
 pub fn check_json(alloc: Global, body: &[u8], mode: Mode) -> Result<(), ErrorKind>
-    ensures { (d : Members) → IsKept d → body.now ≡ encode d → AnswersChecked (tree_of mode d) result }
+    ensures { (d : Members) → IsKept d → body.now ≡ encode d → AnswersChecked (json_of mode d) result }
 {
     if has_tree(body) {
         return Ok(());
     }
-    let tree = json_of(alloc, body, mode)?;
+    let tree = json_of_body(alloc, body, mode)?;
     drop(tree);
     Ok(())
 }

@@ -19,7 +19,7 @@ use store_laws::ErrorKind;
 
 /// A document as it is kept.
 #[derive(Debug, Drop)]
-pub struct Written<'a> {
+pub struct KeptRow<'a> {
     /// The key of its `_id`.
     pub key: Vec<u8>,
     /// Its bytes: the caller's, where it gave them as they are kept.
@@ -72,7 +72,7 @@ pub(crate) fn body_of(alloc: Global, document: &Document) -> Result<Vec<u8>, Err
 ///
 /// `NoId` where it has no `_id`, else `TooLong` where its bytes are over 16777216; `Memory` where a growth was refused. A document
 /// that isn't as it is read may be refused by `Nul`, where a 00 stands in a key, a pattern or options.
-pub fn write_document(alloc: Global, document: &Document) -> Result<Written<'static>, ErrorKind>
+pub fn row_of_document(alloc: Global, document: &Document) -> Result<KeptRow<'static>, ErrorKind>
     ensures { IsRead (members_of (pairs_of document.now)) → AnswersWritten (members_of (pairs_of document.now)) result }
 {
     let Some(id) = document.get(ID_KEY) else {
@@ -80,7 +80,7 @@ pub fn write_document(alloc: Global, document: &Document) -> Result<Written<'sta
     };
     let body = body_of(alloc, document)?;
     match key_of_id(alloc, id) {
-        Ok(key) => Ok(Written {
+        Ok(key) => Ok(KeptRow {
             key,
             body: CowSlice::Owned(body),
         }),

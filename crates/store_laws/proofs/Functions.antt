@@ -7,8 +7,8 @@ use Rattle.bson_base.specs.Value.{Value, Members, look_up, has_key, without, put
 use Rattle.bson_bytes.specs.Encode.{encode}
 use Rattle.store_laws.specs.Filter.{Filter}
 use Rattle.store_laws.specs.Reading.{Documents, readable, unreadable}
-use Rattle.store_laws.specs.State.{id_key, State, list_of, store, HasId, NoneHasId, AtId, Call, insert, replace, set, unset, remove, get_raw, get_json, find, count, project, import, export, dump, Command, on, collections, Reply, done, flag, number, bytes, bytes_list, names, refused, tree_of, tree_reply, trees_of, trees_reply, When, Refuses, refusal_of, first_refusal, Appends, Picks, only, Answers, IsName, Step}
-use Rattle.store_laws.specs.Run.{Denial, kind_of_denial, Denials, Turn, Run, asked, told}
+use Rattle.store_laws.specs.State.{id_key, State, list_of, store, HasId, NoneHasId, AtId, Call, insert, replace, set, unset, remove, get_raw, get_json, find, count, project, import, export, dump, Command, on, collections, Reply, done, flag, number, bytes, bytes_list, names, refused, json_of, tree_reply, trees_of, trees_reply, When, Refuses, refusal_of, first_refusal, Appends, Picks, only, Answers, IsName, Step}
+use Rattle.store_laws.specs.Run.{Denial, kind_of_denial, Denials, Turn, Run, calls_of, replies_of}
 use Rattle.store_laws.specs.declared.error.ErrorKind.{ErrorKind}
 use Rattle.store_laws.specs.declared.error.ErrorKind.TheVariants.{BadName, BadKey, JsonRefused, TooDeep, Nul, TooLong, NotFound, DuplicateId}
 use Rattle.bson_meaning.specs.Meaning.{norm_in_order}
@@ -99,7 +99,7 @@ one_answer (unset id k) ds p q =
     (λ a b. no BadKey ds a b) p q
 one_answer (remove id) ds p q = one_at id ds _ _ _ _ (λ front d back a b. alone done (front ++ back) a b) (λ a b. no NotFound ds a b) p q
 one_answer (get_raw id) ds p q = one_at id ds _ _ _ _ (λ front d back a b. alone (bytes (encode d)) ds a b) (λ a b. no NotFound ds a b) p q
-one_answer (get_json m id) ds p q = one_at id ds _ _ _ _ (λ front d back a b. alone (tree_reply (tree_of m d)) ds a b) (λ a b. no NotFound ds a b) p q
+one_answer (get_json m id) ds p q = one_at id ds _ _ _ _ (λ front d back a b. alone (tree_reply (json_of m d)) ds a b) (λ a b. no NotFound ds a b) p q
 one_answer (find f) ds p q = from_picks f ds p.0 q.0 (λ out. bytes_list (map encode out)) p.1 q.1 (p.2, p.3) (q.2, q.3)
 one_answer (count f) ds p q = from_picks f ds p.0 q.0 (λ out. number (length out)) p.1 q.1 (p.2, p.3) (q.2, q.3)
 one_answer (project f ks) ds p q = from_picks f ds p.0 q.0 (λ out. bytes_list (map (λ d. encode (only ks d)) out)) p.1 q.1 (p.2, p.3) (q.2, q.3)
@@ -152,25 +152,25 @@ collections_here : (r : Reply) (o : Option Denial) (n : List ℕ) (s t : State) 
 collections_here r None n s t p = ap (λ u. list_of u n) p.1
 collections_here r (Some k) n s t p = ap (λ u. list_of u n) p.1
 
-seen : (n : List ℕ) (w : Denials) (i : ℕ) (cs : List Command) (rs : List Reply) (s t : State) → Run w i s cs rs t → RunAlone n (list_of s n) (asked n w i cs) (told n cs rs) (list_of t n)
+seen : (n : List ℕ) (w : Denials) (i : ℕ) (cs : List Command) (rs : List Reply) (s t : State) → Run w i s cs rs t → RunAlone n (list_of s n) (calls_of n w i cs) (replies_of n cs rs) (list_of t n)
 seen n w i [] [] s t p = (refl, ap (λ u. list_of u n) p)
 seen n w i (on m x ∷ cs) (r ∷ rs) s t (u, a, p) = by (seen n w (suc i) cs rs u t p) (bytes_eq n m) refl
   where
-    by : RunAlone n (list_of u n) (asked n w (suc i) cs) (told n cs rs) (list_of t n) → (b : Bool) → bytes_eq n m ≡ b
-        → RunAlone n (list_of s n) (cond b ((get w i, x) ∷ asked n w (suc i) cs) (asked n w (suc i) cs)) (cond b (r ∷ told n cs rs) (told n cs rs)) (list_of t n)
+    by : RunAlone n (list_of u n) (calls_of n w (suc i) cs) (replies_of n cs rs) (list_of t n) → (b : Bool) → bytes_eq n m ≡ b
+        → RunAlone n (list_of s n) (cond b ((get w i, x) ∷ calls_of n w (suc i) cs) (calls_of n w (suc i) cs)) (cond b (r ∷ replies_of n cs rs) (replies_of n cs rs)) (list_of t n)
     by rest true e = (list_of u n, here_does r (get w i) n x s u (subst (λ z. Turn (get w i) s (on z x) r u) (sym (equal_keys n m e)) a), rest)
-    by rest false e = subst (λ l. RunAlone n l (asked n w (suc i) cs) (told n cs rs) (list_of t n)) (elsewhere r (get w i) n m x s u e a) rest
+    by rest false e = subst (λ l. RunAlone n l (calls_of n w (suc i) cs) (replies_of n cs rs) (list_of t n)) (elsewhere r (get w i) n m x s u e a) rest
 seen n w i (collections ∷ cs) (r ∷ rs) s t (u, a, p) =
-    subst (λ l. RunAlone n l (asked n w (suc i) cs) (told n cs rs) (list_of t n)) (collections_here r (get w i) n s u a) (seen n w (suc i) cs rs u t p)
+    subst (λ l. RunAlone n l (calls_of n w (suc i) cs) (replies_of n cs rs) (list_of t n)) (collections_here r (get w i) n s u a) (seen n w (suc i) cs rs u t p)
 seen n w i [] (r ∷ rs) s t p = absurd p
 seen n w i (on m x ∷ cs) [] s t p = absurd p
 seen n w i (collections ∷ cs) [] s t p = absurd p
 
-pub one_collection : (n : List ℕ) (w v : Denials) (cs ds : List Command) (rs qs : List Reply) (s t s' t' : State) → list_of s n ≡ list_of t n → asked n w 0 cs ≡ asked n v 0 ds
-    → Run w 0 s cs rs s' → Run v 0 t ds qs t' → (told n cs rs ≡ told n ds qs) × (list_of s' n ≡ list_of t' n)
+pub one_collection : (n : List ℕ) (w v : Denials) (cs ds : List Command) (rs qs : List Reply) (s t s' t' : State) → list_of s n ≡ list_of t n → calls_of n w 0 cs ≡ calls_of n v 0 ds
+    → Run w 0 s cs rs s' → Run v 0 t ds qs t' → (replies_of n cs rs ≡ replies_of n ds qs) × (list_of s' n ≡ list_of t' n)
 one_collection n w v cs ds rs qs s t s' t' h k p q =
-    one_run n (asked n w 0 cs) (list_of s n) (told n cs rs) (told n ds qs) (list_of s' n) (list_of t' n) (seen n w 0 cs rs s s' p)
-    (subst (λ xs. RunAlone n (list_of s n) xs (told n ds qs) (list_of t' n)) (sym k) (subst (λ l. RunAlone n l (asked n v 0 ds) (told n ds qs) (list_of t' n)) (sym h) (seen n v 0 ds qs t t' q)))
+    one_run n (calls_of n w 0 cs) (list_of s n) (replies_of n cs rs) (replies_of n ds qs) (list_of s' n) (list_of t' n) (seen n w 0 cs rs s s' p)
+    (subst (λ xs. RunAlone n (list_of s n) xs (replies_of n ds qs) (list_of t' n)) (sym k) (subst (λ l. RunAlone n l (calls_of n v 0 ds) (replies_of n ds qs) (list_of t' n)) (sym h) (seen n v 0 ds qs t t' q)))
 
 -- ---- whole steps
 

@@ -6,9 +6,9 @@ use Rattle.std.proofs.lemmas.Cmp.{nat_cmp_total}
 use Rattle.std.specs.Cmp.{unsigned_ties}
 use Rattle.store_laws.specs.State.{Command, Reply}
 use Rattle.store_laws.specs.Run.{Denials}
-use Rattle.store_laws.specs.Table.{Table, TurnThrough, Serves, RunThrough}
+use Rattle.store_laws.specs.Table.{DocumentTable, TurnThrough, Serves, RunThrough}
 
-run_last : (w v : Denials) (i n : ℕ) (a : Table) (cs : List Command) (rs : List Reply) (m b : Table) (c : Command) (r : Reply) → i + length cs ≡ n → ((j : ℕ) → j < n → get w j ≡ get v j) → RunThrough w i a cs rs m
+run_last : (w v : Denials) (i n : ℕ) (a : DocumentTable) (cs : List Command) (rs : List Reply) (m b : DocumentTable) (c : Command) (r : Reply) → i + length cs ≡ n → ((j : ℕ) → j < n → get w j ≡ get v j) → RunThrough w i a cs rs m
     → TurnThrough (get v n) m c r b → RunThrough v i a (cs ++ c ∷ []) (rs ++ r ∷ []) b
 run_last w v i n a [] [] m b c r is same run turn =
     let e : n ≡ i = omega (arith, is) in
@@ -24,7 +24,7 @@ unlike j n h = sym (unsigned_ties j n) ∙ ne_eqb j n h
 pub alike : (n : ℕ) → eq_by_cmp nat_cmp n n ≡ true
 alike n = sym (unsigned_ties n n) ∙ eq-eqb n n refl
 
-pub one_more : (w : Denials) (a m b : Table) (cs : List Command) (rs : List Reply) (c : Command) (r : Reply) → RunThrough w 0 a cs rs m → Serves m c r b
+pub one_more : (w : Denials) (a m b : DocumentTable) (cs : List Command) (rs : List Reply) (c : Command) (r : Reply) → RunThrough w 0 a cs rs m → Serves m c r b
     → (v : Denials) × RunThrough v 0 a (cs ++ c ∷ []) (rs ++ r ∷ []) b
 one_more w a m b cs rs c r run (None, turn) =
     let n = length cs in

@@ -5,12 +5,12 @@ use Rattle.bson_base.specs.Kinds.{IsSound}
 use Rattle.bson_base.specs.Value.{Value, look_up}
 use Rattle.bson_meaning.specs.Meaning.{key}
 use Rattle.store_laws.specs.State.{id_key, SomeHasId, IsTaken, IsName, AreKept, HaveOwnIds, IsStore, HasId, IsKept}
-use Rattle.store_laws.specs.Table.{Row, Table, state_of, documents_of, IsAlone, AreRows, own_id}
+use Rattle.store_laws.specs.Table.{DocumentRow, DocumentTable, state_of, documents_of, IsAlone, AreRows, own_id}
 use Rattle.store_laws.proofs.Ids.{own_of, own_is, has_written, key_long, plain_of, written_has}
 use Rattle.store_laws.proofs.Rows.{list_of-state_of, rows_not_empty, own_row}
 use Rattle.bson_base.proofs.Members.{equal_keys, same_key}
 
-pub rows_kept : (rs : Table) (n : List ℕ) → AreRows rs → AreKept (documents_of rs n)
+pub rows_kept : (rs : DocumentTable) (n : List ℕ) → AreRows rs → AreKept (documents_of rs n)
 rows_kept [] n h = tt
 rows_kept (r ∷ rs) n h = by (bytes_eq n r.name) (rows_kept rs n h.3)
   where
@@ -18,7 +18,7 @@ rows_kept (r ∷ rs) n h = by (bytes_eq n r.name) (rows_kept rs n h.3)
     by true k = (h.1, k)
     by false k = k
 
-none_has : (r : Row) (id : Value) → look_up id_key r.document ≡ Some id → IsSound id → (rs : Table) → IsAlone r rs → AreRows rs → SomeHasId id (documents_of rs r.name) → ⊥
+none_has : (r : DocumentRow) (id : Value) → look_up id_key r.document ≡ Some id → IsSound id → (rs : DocumentTable) → IsAlone r rs → AreRows rs → SomeHasId id (documents_of rs r.name) → ⊥
 none_has r id i s [] a k h = h
 none_has r id i s (q ∷ rs) a k h = by (bytes_eq r.name q.name) refl h (none_has r id i s rs a.1 k.3)
   where
@@ -27,14 +27,14 @@ none_has r id i s (q ∷ rs) a k h = by (bytes_eq r.name q.name) refl h (none_ha
     by true e (inr more) rest = rest more
     by false e h rest = rest h
 
-free : (r : Row) (rs : Table) → AreRows (r ∷ rs) → IsTaken r.document (documents_of rs r.name) → ⊥
+free : (r : DocumentRow) (rs : DocumentTable) → AreRows (r ∷ rs) → IsTaken r.document (documents_of rs r.name) → ⊥
 free r rs h = by (look_up id_key r.document) refl
   where
     by : (o : Option Value) → look_up id_key r.document ≡ o → IsSomeAnd o (λ id. SomeHasId id (documents_of rs r.name)) → ⊥
     by None e t = t
     by (Some id) e t = none_has r id e (own_of r.document id h.1 e).sound rs h.2 h.3 t
 
-rows_own : (rs : Table) (n : List ℕ) → AreRows rs → HaveOwnIds (documents_of rs n)
+rows_own : (rs : DocumentTable) (n : List ℕ) → AreRows rs → HaveOwnIds (documents_of rs n)
 rows_own [] n h = tt
 rows_own (r ∷ rs) n h = by (bytes_eq n r.name) refl (rows_own rs n h.3)
   where
@@ -42,7 +42,7 @@ rows_own (r ∷ rs) n h = by (bytes_eq n r.name) refl (rows_own rs n h.3)
     by true e k = (λ t. free r rs h (subst (λ m. IsTaken r.document (documents_of rs m)) (equal_keys n r.name e) t), k)
     by false e k = k
 
-rows_named : (rs : Table) (n : List ℕ) → AreRows rs → documents_of rs n ≢ [] → IsName n
+rows_named : (rs : DocumentTable) (n : List ℕ) → AreRows rs → documents_of rs n ≢ [] → IsName n
 rows_named [] n h some = absurd (some refl)
 rows_named (r ∷ rs) n h some = by (bytes_eq n r.name) refl some (rows_named rs n h.3)
   where
@@ -50,7 +50,7 @@ rows_named (r ∷ rs) n h some = by (bytes_eq n r.name) refl some (rows_named rs
     by true e f rest = subst IsName (sym (equal_keys n r.name e)) h.0
     by false e f rest = rest f
 
-pub rows_are_a_state : (rs : Table) → AreRows rs → IsStore (state_of rs)
+pub rows_are_a_state : (rs : DocumentTable) → AreRows rs → IsStore (state_of rs)
 rows_are_a_state rs h = record {
   kept = λ n. subst AreKept (sym (list_of-state_of rs n)) (rows_kept rs n h);
   own_ids = λ n. subst HaveOwnIds (sym (list_of-state_of rs n)) (rows_own rs n h);
@@ -60,10 +60,10 @@ rows_are_a_state rs h = record {
 
 -- ---- and back
 
-some_of : (r : Row) (id : Value) (q : Row) (rs : Table) → q.name ≡ r.name → HasId id q.document → SomeHasId id (documents_of (q ∷ rs) r.name)
+some_of : (r : DocumentRow) (id : Value) (q : DocumentRow) (rs : DocumentTable) → q.name ≡ r.name → HasId id q.document → SomeHasId id (documents_of (q ∷ rs) r.name)
 some_of r id q rs e has = subst (λ b. SomeHasId id (cond b (q.document ∷ documents_of rs r.name) (documents_of rs r.name))) (sym (ap (bytes_eq r.name) e ∙ same_key r.name)) (inl has)
 
-some_later : (r : Row) (id : Value) (q : Row) (rs : Table) → SomeHasId id (documents_of rs r.name) → SomeHasId id (documents_of (q ∷ rs) r.name)
+some_later : (r : DocumentRow) (id : Value) (q : DocumentRow) (rs : DocumentTable) → SomeHasId id (documents_of rs r.name) → SomeHasId id (documents_of (q ∷ rs) r.name)
 some_later r id q rs h = by (bytes_eq r.name q.name)
   where
     by : (b : Bool) → SomeHasId id (cond b (q.document ∷ documents_of rs r.name) (documents_of rs r.name))
@@ -71,28 +71,28 @@ some_later r id q rs h = by (bytes_eq r.name q.name)
     by false = h
 
 -- what holds of each list holds of each list without the first row
-rest_kept : (r : Row) (rs : Table) (n : List ℕ) → AreKept (documents_of (r ∷ rs) n) → AreKept (documents_of rs n)
+rest_kept : (r : DocumentRow) (rs : DocumentTable) (n : List ℕ) → AreKept (documents_of (r ∷ rs) n) → AreKept (documents_of rs n)
 rest_kept r rs n h = by (bytes_eq n r.name) h
   where
     by : (b : Bool) → AreKept (cond b (r.document ∷ documents_of rs n) (documents_of rs n)) → AreKept (documents_of rs n)
     by true k = k.1
     by false k = k
 
-rest_own : (r : Row) (rs : Table) (n : List ℕ) → HaveOwnIds (documents_of (r ∷ rs) n) → HaveOwnIds (documents_of rs n)
+rest_own : (r : DocumentRow) (rs : DocumentTable) (n : List ℕ) → HaveOwnIds (documents_of (r ∷ rs) n) → HaveOwnIds (documents_of rs n)
 rest_own r rs n h = by (bytes_eq n r.name) h
   where
     by : (b : Bool) → HaveOwnIds (cond b (r.document ∷ documents_of rs n) (documents_of rs n)) → HaveOwnIds (documents_of rs n)
     by true k = k.1
     by false k = k
 
-rest_some : (r : Row) (rs : Table) (n : List ℕ) → documents_of rs n ≢ [] → documents_of (r ∷ rs) n ≢ []
+rest_some : (r : DocumentRow) (rs : DocumentTable) (n : List ℕ) → documents_of rs n ≢ [] → documents_of (r ∷ rs) n ≢ []
 rest_some r rs n some = by (bytes_eq n r.name)
   where
     by : (b : Bool) → cond b (r.document ∷ documents_of rs n) (documents_of rs n) ≡ [] → ⊥
     by true e = cc
     by false e = some e
 
-alone_of : (r : Row) → IsKept r.document → (rs : Table) → ((n : List ℕ) → AreKept (documents_of rs n)) → (IsTaken r.document (documents_of rs r.name) → ⊥) → IsAlone r rs
+alone_of : (r : DocumentRow) → IsKept r.document → (rs : DocumentTable) → ((n : List ℕ) → AreKept (documents_of rs n)) → (IsTaken r.document (documents_of rs r.name) → ⊥) → IsAlone r rs
 alone_of r k [] kept none = tt
 alone_of r k (q ∷ rs) kept none = (λ e same. none (taken e same (look_up id_key r.document) refl), alone_of r k rs (λ n. rest_kept q rs n (kept n)) (λ t. none (still (look_up id_key r.document) t)))
   where
@@ -109,7 +109,7 @@ alone_of r k (q ∷ rs) kept none = (λ e same. none (taken e same (look_up id_k
     still None h = h
     still (Some id) h = some_later r id q rs h
 
-rows_from : (rs : Table) → ((n : List ℕ) → AreKept (documents_of rs n)) → ((n : List ℕ) → HaveOwnIds (documents_of rs n)) → ((n : List ℕ) → documents_of rs n ≢ [] → IsName n) → AreRows rs
+rows_from : (rs : DocumentTable) → ((n : List ℕ) → AreKept (documents_of rs n)) → ((n : List ℕ) → HaveOwnIds (documents_of rs n)) → ((n : List ℕ) → documents_of rs n ≢ [] → IsName n) → AreRows rs
 rows_from [] kept own named = tt
 rows_from (r ∷ rs) kept own named =
     let k = subst AreKept (own_row r rs) (kept r.name) in
@@ -120,5 +120,5 @@ rows_from (r ∷ rs) kept own named =
       rows_from rs (λ n. rest_kept r rs n (kept n)) (λ n. rest_own r rs n (own n)) (λ n some. named n (rest_some r rs n some)),
     )
 
-pub a_state_has_rows : (rs : Table) → IsStore (state_of rs) → AreRows rs
+pub a_state_has_rows : (rs : DocumentTable) → IsStore (state_of rs) → AreRows rs
 a_state_has_rows rs h = rows_from rs (λ n. subst AreKept (list_of-state_of rs n) (h.kept n)) (λ n. subst HaveOwnIds (list_of-state_of rs n) (h.own_ids n)) (λ n some. h.named n (λ e. some (sym (list_of-state_of rs n) ∙ e)))

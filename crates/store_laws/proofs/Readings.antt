@@ -1,6 +1,6 @@
 -- What inputs read as is as it is said of every reading, and is one but in a single point.
 use Rattle.std.proofs.Common.{◌≡◌, ◌⊎◌, inl, inr, ℕ, ◌≤◌, List, [], ◌∷◌, ◌++◌, Option, Some, None, Result, Ok, Err, refl, ap, ◌∙◌, sym, subst, arith}
-use Rattle.serde_json.specs.Data as tree
+use Rattle.serde_json.specs.Data as json
 use Rattle.serde_json.specs.Data.{Data, object}
 use Rattle.bson_base.specs.Kinds.{AreBytes}
 use Rattle.bson_base.specs.Value.{Value, document, Members, levels}
@@ -48,7 +48,7 @@ unfit_kind e TooDeep h = tt
 unfit_kind e Nul h = tt
 unfit_kind e _ h = absurd h
 
-kept_reading : (js : tree.Members) (r : Result Members Error) (a : Reading) → read_members js ≡ r → IsJsonObject js → KeepsRead r a → IsReading a
+kept_reading : (js : json.Members) (r : Result Members Error) (a : Reading) → read_members js ≡ r → IsJsonObject js → KeepsRead r a → IsReading a
 kept_reading js (Ok e) (readable d) i j h = subst IsRead (sym h.2) (in_order_read e h.1 (document_sound js e j i) h.0)
 kept_reading js (Ok e) (unreadable k) i j h = unfit_kind e k h
 kept_reading js (Err x) a i j h = subst IsReading (sym h) tt

@@ -4,7 +4,7 @@ use Rattle.std.specs.Prelude.{bytes_eq, nat_lt, option_map, IsUtf8, MatchOption}
 use Rattle.std.specs.List.{flat_map}
 use Rattle.std.proofs.lemmas.Bool.{ltb-true}
 use Rattle.std.proofs.lemmas.List.{length-map}
-use Rattle.serde_json.specs.Data as tree
+use Rattle.serde_json.specs.Data as json
 use Rattle.serde_json.specs.Data.{Data, object}
 use Rattle.bson_base.specs.Kinds.{IsPlain, IsSound}
 use Rattle.bson_base.specs.Value.{Value, scalar, array, document, scoped_code, Items, no_items, item, Members, no_members, member, look_up, levels}
@@ -19,7 +19,7 @@ use Rattle.bson_meaning.specs.JsonReserved.{has_reserved}
 use Rattle.bson_meaning.specs.Meaning.{norm_members_in_order, norm_items_in_order, norm_in_order, asc, asc_items, asc_members, norm, norm_members, place, Same}
 use Rattle.store_laws.specs.Reading.{Documents, Reading, readable, unreadable, ReadsBytes, IsUnfit, KeepsRead, ReadsTree, ReadsEach, IsUncut, Cuts, ReadsStream, ReadsTrees, IsRead, AreRead}
 use Rattle.store_laws.specs.Same.{SameDocuments}
-use Rattle.store_laws.specs.State.{id_key, State, list_of, SomeHasId, IsTaken, import, export, dump, on, Reply, number, bytes, json_list, refused, or_finite, tree_of, tree_first, trees_of, trees_reply, refusal_of, or_later, first_refusal, Appends, Answers, IsName, Step, IsKept, AreKept, HaveOwnIds, IsStore}
+use Rattle.store_laws.specs.State.{id_key, State, list_of, SomeHasId, IsTaken, import, export, dump, on, Reply, number, bytes, json_list, refused, or_finite, json_of, tree_first, trees_of, trees_reply, refusal_of, or_later, first_refusal, Appends, Answers, IsName, Step, IsKept, AreKept, HaveOwnIds, IsStore}
 use Rattle.store_laws.specs.declared.error.ErrorKind.{ErrorKind}
 use Rattle.store_laws.specs.declared.error.ErrorKind.TheVariants.{BadName, EndInside, BadLength, TooDeep, Nul, NoId, TooLong, ReservedKey}
 use Rattle.bson_bytes.proofs.Extents.{framed_size, framed_envelope}
@@ -233,7 +233,7 @@ record IsTree (m : Mode) (d : Members) (j : Data) : Type 0 where
   free : has_reserved d ≡ false
   there : write m (document d) ≡ Some j
 
-tree_is : (m : Mode) (d : Members) (j : Data) → tree_of m d ≡ Ok j → IsTree m d j
+tree_is : (m : Mode) (d : Members) (j : Data) → json_of m d ≡ Ok j → IsTree m d j
 tree_is m d j = by (has_reserved d) (write m (document d)) refl refl
   where
     by : (b : Bool) (o : Option Data) → has_reserved d ≡ b → write m (document d) ≡ o → cond b (Err ReservedKey) (or_finite o) ≡ Ok j → IsTree m d j
@@ -246,7 +246,7 @@ fit e TooDeep low plain h = omega (arith, h, low)
 fit e Nul low plain h = h.1 plain
 fit e _ low plain h = h
 
-object_reading : (d : Members) (js : tree.Members) → IsKept d → AllCome js d → (a : Reading) → ReadsTree (object js) a ↔ (a ≡ readable (norm_members_in_order d))
+object_reading : (d : Members) (js : json.Members) → IsKept d → AllCome js d → (a : Reading) → ReadsTree (object js) a ↔ (a ≡ readable (norm_members_in_order d))
 object_reading d js k c a = (λ h. to a (subst (λ r. KeepsRead r a) c.reads h), λ h. subst (ReadsTree (object js)) (sym h) (subst (λ r. KeepsRead r (readable (norm_members_in_order d))) (sym c.reads) (low, plain, sym c.same)))
   where
     low : levels (document c.values) ≤ level_limit
@@ -260,10 +260,10 @@ object_reading d js k c a = (λ h. to a (subst (λ r. KeepsRead r a) c.reads h),
     to (unreadable kind) h = absurd (fit c.values kind low plain h)
 
 -- the canonical tree of a kept document reads as its normal form in order, and as nothing else
-pub tree_reading : (d : Members) (j : Data) → IsKept d → tree_of Canonical d ≡ Ok j → (a : Reading) → ReadsTree j a ↔ (a ≡ readable (norm_members_in_order d))
+pub tree_reading : (d : Members) (j : Data) → IsKept d → json_of Canonical d ≡ Ok j → (a : Reading) → ReadsTree j a ↔ (a ≡ readable (norm_members_in_order d))
 tree_reading d j k e a =
     let t = tree_is Canonical d j e in
-    let m = mapped (write_members Canonical d tree.no_members) object j t.there in
+    let m = mapped (write_members Canonical d json.no_members) object j t.there in
     subst (λ z. ReadsTree z a ↔ (a ≡ readable (norm_members_in_order d))) m.to (object_reading d m.from k (canonical_comes d k.read.sound t.free m.from m.here) a)
 
 -- the first tree and the others
@@ -271,13 +271,13 @@ record Begins (i : ℕ) (d : Members) (ds : Documents) (js : List Data) : Type 0
   first : Data
   rest : List Data
   is : js ≡ first ∷ rest
-  tree : tree_of Canonical d ≡ Ok first
+  tree : json_of Canonical d ≡ Ok first
   trees : trees_of (suc i) ds ≡ Ok rest
 
 begins : (i : ℕ) (d : Members) (ds : Documents) (js : List Data) → trees_of i (d ∷ ds) ≡ Ok js → Begins i d ds js
-begins i d ds js = by (tree_of Canonical d) (trees_of (suc i) ds) refl refl
+begins i d ds js = by (json_of Canonical d) (trees_of (suc i) ds) refl refl
   where
-    by : (t : Result Data ErrorKind) (ts : Result (List Data) (ErrorKind × ℕ)) → tree_of Canonical d ≡ t → trees_of (suc i) ds ≡ ts → tree_first i t ts ≡ Ok js → Begins i d ds js
+    by : (t : Result Data ErrorKind) (ts : Result (List Data) (ErrorKind × ℕ)) → json_of Canonical d ≡ t → trees_of (suc i) ds ≡ ts → tree_first i t ts ≡ Ok js → Begins i d ds js
     by (Ok j) (Ok rest) e f h = let q : js ≡ j ∷ rest = cc in record { first = j; rest = rest; is = q; tree = e; trees = f }
     by (Ok j) (Err x) e f h = cc
     by (Err k) ts e f h = cc

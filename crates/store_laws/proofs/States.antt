@@ -6,20 +6,20 @@ use Rattle.std.specs.Cmp.Lexicographic.{slice_cmp, texts_ties}
 use Rattle.std.specs.FinMap.{get, get-insert, get-remove, same_map, slice_cmp-IsAntisymmetric, nat_cmp-IsAntisymmetric}
 use Rattle.std.proofs.lemmas.Cmp.{nat_list_cmp_total}
 use Rattle.store_laws.specs.Reading.{Documents}
-use Rattle.store_laws.specs.State.{State, list_of, listed, store}
+use Rattle.store_laws.specs.State.{State, list_of, or_no_documents, store}
 use Rattle.bson_base.proofs.Members.{equal_keys}
 
-listed_if : (b : Bool) (ds : Documents) (o : Option Documents) → listed (cond b (Some ds) o) ≡ cond b ds (listed o)
+listed_if : (b : Bool) (ds : Documents) (o : Option Documents) → or_no_documents (cond b (Some ds) o) ≡ cond b ds (or_no_documents o)
 listed_if true ds o = refl
 listed_if false ds o = refl
 
-gone_if : (b : Bool) (o : Option Documents) → listed (cond b None o) ≡ cond b [] (listed o)
+gone_if : (b : Bool) (o : Option Documents) → or_no_documents (cond b None o) ≡ cond b [] (or_no_documents o)
 gone_if true o = refl
 gone_if false o = refl
 
 pub list_of-store : (s : State) (n m : List ℕ) (ds : Documents) → list_of (store s n ds) m ≡ cond (bytes_eq m n) ds (list_of s m)
-list_of-store s n m [] = ap listed (get-remove nat_list_cmp_total s n m) ∙ gone_if (eq_by_cmp (slice_cmp nat_cmp) m n) (get s m) ∙ ap (λ b. cond b [] (list_of s m)) (sym (texts_ties m n))
-list_of-store s n m (d ∷ ds) = ap listed (get-insert nat_list_cmp_total s n (d ∷ ds) m) ∙ listed_if (eq_by_cmp (slice_cmp nat_cmp) m n) (d ∷ ds) (get s m) ∙ ap (λ b. cond b (d ∷ ds) (list_of s m)) (sym (texts_ties m n))
+list_of-store s n m [] = ap or_no_documents (get-remove nat_list_cmp_total s n m) ∙ gone_if (eq_by_cmp (slice_cmp nat_cmp) m n) (get s m) ∙ ap (λ b. cond b [] (list_of s m)) (sym (texts_ties m n))
+list_of-store s n m (d ∷ ds) = ap or_no_documents (get-insert nat_list_cmp_total s n (d ∷ ds) m) ∙ listed_if (eq_by_cmp (slice_cmp nat_cmp) m n) (d ∷ ds) (get s m) ∙ ap (λ b. cond b (d ∷ ds) (list_of s m)) (sym (texts_ties m n))
 
 -- no name has the empty list
 abbrev pub HasNoEmpty : State → Type 0
@@ -41,7 +41,7 @@ never_empty s n m (d ∷ ds) h e = by (eq_by_cmp (slice_cmp nat_cmp) m n) (sym (
 pub same_lists : (s t : State) → HasNoEmpty s → HasNoEmpty t → ((n : List ℕ) → list_of s n ≡ list_of t n) → s ≡ t
 same_lists s t h k e = same_map nat_list_cmp_total (slice_cmp-IsAntisymmetric nat_cmp-IsAntisymmetric) s t (λ q. at_name (get s q) (get t q) (h q) (k q) (e q))
   where
-    at_name : (o p : Option Documents) → o ≢ Some [] → p ≢ Some [] → listed o ≡ listed p → o ≡ p
+    at_name : (o p : Option Documents) → o ≢ Some [] → p ≢ Some [] → or_no_documents o ≡ or_no_documents p → o ≡ p
     at_name None None a b c = refl
     at_name None (Some []) a b c = absurd (b refl)
     at_name None (Some (d ∷ ds)) a b c = cc

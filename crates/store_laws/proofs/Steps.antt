@@ -15,7 +15,7 @@ use Rattle.bson_meaning.specs.JsonReserved.{has_reserved}
 use Rattle.bson_meaning.specs.Meaning.{norm_in_order, Same, SameOption}
 use Rattle.store_laws.specs.Reading.{Documents, Reading, readable, unreadable, IsRead, AreRead, IsReading, IsReadingKind, IsStop}
 use Rattle.store_laws.specs.Same.{SameDocuments, SameReading, SameStop, SameCall, ReadsDocuments, SameReply}
-use Rattle.store_laws.specs.State.{id_key, Form, Call, insert, replace, set, unset, remove, get_raw, get_json, find, count, project, import, export, dump, Command, on, Reply, done, flag, number, bytes, bytes_list, refused, or_finite, tree_of, tree_reply, tree_first, trees_of, trees_reply, Refuses, refusal_of, or_later, first_refusal, Appends, only, PutsBack, Answers, IsCall}
+use Rattle.store_laws.specs.State.{id_key, Form, Call, insert, replace, set, unset, remove, get_raw, get_json, find, count, project, import, export, dump, Command, on, Reply, done, flag, number, bytes, bytes_list, refused, or_finite, json_of, tree_reply, tree_first, trees_of, trees_reply, Refuses, refusal_of, or_later, first_refusal, Appends, only, PutsBack, Answers, IsCall}
 use Rattle.store_laws.specs.declared.error.ErrorKind.{ErrorKind}
 use Rattle.store_laws.specs.declared.error.ErrorKind.TheVariants.{BadKey, JsonRefused, TooDeep, Nul, TooLong, NotFound, DuplicateId, ReservedKey}
 use Rattle.bson_meaning.proofs.Now.{in_order_same, same_in_order}
@@ -193,7 +193,7 @@ unset_same id jd k ds es i h a b p q =
 
 -- ---- JSON answers
 
-pub tree_same : (m : Mode) (d e : Members) → Same (document d) (document e) → IsSound (document d) → IsSound (document e) → tree_of m d ≡ tree_of m e
+pub tree_same : (m : Mode) (d e : Members) → Same (document d) (document e) → IsSound (document d) → IsSound (document e) → json_of m d ≡ json_of m e
 tree_same m d e h a b =
     ap (λ c. cond c (Err ReservedKey) (or_finite (write m (document d)))) (reserved_same d e a b h)
     ∙ ap (λ o. cond (has_reserved e) (Err ReservedKey) (or_finite o)) (write_same m (document d) (document e) a b h)
@@ -205,7 +205,7 @@ tree_itself c (Err k) = (inl refl, refl)
 trees_same : (i : ℕ) (ds es : Documents) → SameDocuments ds es → AreRead ds → AreRead es → trees_of i ds ≡ trees_of i es
 trees_same i [] [] h a b = refl
 trees_same i (d ∷ ds) (e ∷ es) h a b =
-    ap (λ t. tree_first i t (trees_of (suc i) ds)) (tree_same Canonical d e h.0 a.0.sound b.0.sound) ∙ ap (tree_first i (tree_of Canonical e)) (trees_same (suc i) ds es h.1 a.1 b.1)
+    ap (λ t. tree_first i t (trees_of (suc i) ds)) (tree_same Canonical d e h.0 a.0.sound b.0.sound) ∙ ap (tree_first i (json_of Canonical e)) (trees_same (suc i) ds es h.1 a.1 b.1)
 trees_same i [] (e ∷ es) h a b = absurd h
 trees_same i (d ∷ ds) [] h a b = absurd h
 
@@ -233,9 +233,9 @@ answers_same z (get_raw id) (get_raw jd) ds es i c c' h a b p q =
 answers_same z (get_json m id) (get_json n jd) ds es i c c' h a b p q =
     at_id_same id jd ds es _ _ _ _ i.1 h a b
     (λ front d back gront e cack found t u.
-    alike (tree_reply (tree_of m d)) (tree_reply (tree_of n e)) ds es t.0 t.1 u.0 u.1
-    (subst (λ x. SameReply (on z (get_json m id)) (tree_reply (tree_of m d)) (tree_reply x)) (tree_same m d e found.place.here (read_at front d back found.read).sound (read_at gront e cack found.also).sound ∙ ap (λ x. tree_of x e) i.0)
-    (tree_itself (on z (get_json m id)) (tree_of m d))) h)
+    alike (tree_reply (json_of m d)) (tree_reply (json_of n e)) ds es t.0 t.1 u.0 u.1
+    (subst (λ x. SameReply (on z (get_json m id)) (tree_reply (json_of m d)) (tree_reply x)) (tree_same m d e found.place.here (read_at front d back found.read).sound (read_at gront e cack found.also).sound ∙ ap (λ x. json_of x e) i.0)
+    (tree_itself (on z (get_json m id)) (json_of m d))) h)
     (λ t u. both_refuse NotFound ds es h t u) p q
 answers_same z (find f) (find g) ds es i c c' h a b p q =
     alike (bytes_list (map encode p.0)) (bytes_list (map encode q.0)) ds es p.2 p.3 q.2 q.3 (p.0, q.0, picks_read f ds p.0 a p.1, picks_read g es q.0 b q.1, refl, refl, picks_same f g ds es p.0 q.0 i h a b p.1 q.1) h

@@ -64,13 +64,13 @@ SparesDecided w i (c ∷ cs) = (IsDecided c → get w i ≡ None) × SparesDecid
 -- ---- one collection
 
 -- the calls to a name, with what is denied of them
-abbrev pub asked : List ℕ → Denials → ℕ → List Command → List (Option Denial × Call)
-asked n w i [] = []
-asked n w i (on m call ∷ cs) = if bytes_eq n m then (get w i, call) ∷ asked n w (suc i) cs else asked n w (suc i) cs
-asked n w i (collections ∷ cs) = asked n w (suc i) cs
+abbrev pub calls_of : List ℕ → Denials → ℕ → List Command → List (Option Denial × Call)
+calls_of n w i [] = []
+calls_of n w i (on m call ∷ cs) = if bytes_eq n m then (get w i, call) ∷ calls_of n w (suc i) cs else calls_of n w (suc i) cs
+calls_of n w i (collections ∷ cs) = calls_of n w (suc i) cs
 
 -- the replies to them
-abbrev pub told : List ℕ → List Command → List Reply → List Reply
-told n (on m call ∷ cs) (r ∷ rs) = if bytes_eq n m then r ∷ told n cs rs else told n cs rs
-told n (collections ∷ cs) (r ∷ rs) = told n cs rs
-told n _ _ = []
+abbrev pub replies_of : List ℕ → List Command → List Reply → List Reply
+replies_of n (on m call ∷ cs) (r ∷ rs) = if bytes_eq n m then r ∷ replies_of n cs rs else replies_of n cs rs
+replies_of n (collections ∷ cs) (r ∷ rs) = replies_of n cs rs
+replies_of n _ _ = []

@@ -33,13 +33,13 @@ id_key = 0x5F ∷ 0x69 ∷ 0x64 ∷ []
 abbrev pub State : Type 0
 State = FinMap (slice_cmp nat_cmp) Documents
 
-abbrev pub listed : Option Documents → Documents
-listed None = []
-listed (Some ds) = ds
+abbrev pub or_no_documents : Option Documents → Documents
+or_no_documents None = []
+or_no_documents (Some ds) = ds
 
 -- the list of a name, empty where the name isn't there
 abbrev pub list_of : State → List ℕ → Documents
-list_of s n = listed (get s n)
+list_of s n = or_no_documents (get s n)
 
 -- the state with ds as the list of the name; a list that becomes empty leaves the map
 abbrev pub store : State → List ℕ → Documents → State
@@ -122,8 +122,8 @@ or_finite None = Err FiniteDouble
 or_finite (Some j) = Ok j
 
 -- the tree of a document; a reserved key is told before a finite double
-abbrev pub tree_of : Mode → Members → Result Data ErrorKind
-tree_of m d = if has_reserved d then Err ReservedKey else or_finite (write m (document d))
+abbrev pub json_of : Mode → Members → Result Data ErrorKind
+json_of m d = if has_reserved d then Err ReservedKey else or_finite (write m (document d))
 
 abbrev pub tree_reply : Result Data ErrorKind → Reply
 tree_reply (Ok j) = json j
@@ -138,7 +138,7 @@ tree_first i (Err k) rest = Err (k, i)
 -- the canonical trees, from the place i on
 abbrev pub trees_of : ℕ → Documents → Result (List Data) (ErrorKind × ℕ)
 trees_of i [] = Ok []
-trees_of i (d ∷ ds) = tree_first i (tree_of Canonical d) (trees_of (suc i) ds)
+trees_of i (d ∷ ds) = tree_first i (json_of Canonical d) (trees_of (suc i) ds)
 
 abbrev pub trees_reply : Result (List Data) (ErrorKind × ℕ) → Reply
 trees_reply (Ok js) = json_list js
@@ -215,7 +215,7 @@ Answers (unset id k) ds r es = When (IsFreeKey k)
     (Refuses BadKey ds r es)
 Answers (remove id) ds r es = AtId id ds (λ front d back. (r ≡ done) × (es ≡ front ++ back)) (Refuses NotFound ds r es)
 Answers (get_raw id) ds r es = AtId id ds (λ front d back. (r ≡ bytes (encode d)) × (es ≡ ds)) (Refuses NotFound ds r es)
-Answers (get_json m id) ds r es = AtId id ds (λ front d back. (r ≡ tree_reply (tree_of m d)) × (es ≡ ds)) (Refuses NotFound ds r es)
+Answers (get_json m id) ds r es = AtId id ds (λ front d back. (r ≡ tree_reply (json_of m d)) × (es ≡ ds)) (Refuses NotFound ds r es)
 Answers (find f) ds r es = (out : Documents) × Picks f ds out × (r ≡ bytes_list (map encode out)) × (es ≡ ds)
 Answers (count f) ds r es = (out : Documents) × Picks f ds out × (r ≡ number (length out)) × (es ≡ ds)
 Answers (project f ks) ds r es = (out : Documents) × Picks f ds out × (r ≡ bytes_list (map (λ d. encode (only ks d)) out)) × (es ≡ ds)

@@ -17,9 +17,9 @@ ghost use Rattle.store_laws.specs.Reading.{Documents, Reading, readable, unreada
 ghost use Rattle.store_laws.specs.State.{State, HasId, id_key, Call, in_bytes, in_json, replace, set, unset, import, export, first_refusal, done, flag, refused, dump, Command, on, Reply, number, bytes, json_list, Answers, IsName, Step, IsCommand, AreCommands, IsKept, AreKept, HaveOwnIds, IsStore, IsSoundIfAny, list_of, store};
 ghost use Rattle.store_laws.specs.declared.error.ErrorKind.{ErrorKind as Kind};
 ghost use Rattle.store_laws.specs.Same.{SameStates, SameCommand, SameCommands, SameReply, SameReplies};
-ghost use Rattle.store_laws.specs.Run.{Denial, Denials, Run, SparesDecided, IsUnread, Turn, asked, told};
+ghost use Rattle.store_laws.specs.Run.{Denial, Denials, Run, SparesDecided, IsUnread, Turn, calls_of, replies_of};
 ghost use Rattle.store_laws.specs.Left.{Is, IsEndOrOneMore, LeftAlong, LeftBy};
-ghost use Rattle.store_laws.specs.Table.{Follows, IsRefusal, Row, Table, state_of, documents_of, AreOf, with_document, Serves, RunThrough, only_id, own_id, AreRows};
+ghost use Rattle.store_laws.specs.Table.{Follows, IsRefusal, DocumentRow, DocumentTable, state_of, documents_of, AreOf, with_document, Serves, RunThrough, only_id, own_id, AreRows};
 
 /// A filter selects both or neither of two values of the same meaning, and so do two filters of one shape with values of the
 /// same meaning.
@@ -71,16 +71,16 @@ pub fn runs_keep_states()
 /// Replies about one collection, and its list at the end, depend alone on its list, the calls to it, and what is denied of these.
 pub fn one_collection()
     ensures { (n : List ℕ) (w v : Denials) (cs ds : List Command) (rs qs : List Reply) (s t s2 t2 : State)
-        → list_of s n ≡ list_of t n → asked n w 0 cs ≡ asked n v 0 ds
+        → list_of s n ≡ list_of t n → calls_of n w 0 cs ≡ calls_of n v 0 ds
         → Run w 0 s cs rs s2 → Run v 0 t ds qs t2
-        → (told n cs rs ≡ told n ds qs) × (list_of s2 n ≡ list_of t2 n) }
+        → (replies_of n cs rs ≡ replies_of n ds qs) × (list_of s2 n ≡ list_of t2 n) }
 {}
 
 /// A run through tables is a run of the states that they stand for, and denies nothing of what is decided before anything grows.
 pub fn tables_run_as_states()
-    ensures run { (w : Denials) (a b : Table) (cs : List Command) (rs : List Reply) → RunThrough w 0 a cs rs b
+    ensures run { (w : Denials) (a b : DocumentTable) (cs : List Command) (rs : List Reply) → RunThrough w 0 a cs rs b
         → Run w 0 (state_of a) cs rs (state_of b) }
-    ensures spared { (w : Denials) (a b : Table) (cs : List Command) (rs : List Reply) → RunThrough w 0 a cs rs b
+    ensures spared { (w : Denials) (a b : DocumentTable) (cs : List Command) (rs : List Reply) → RunThrough w 0 a cs rs b
         → SparesDecided w 0 cs }
 {}
 
@@ -149,7 +149,7 @@ pub fn dumps_come_back()
 
 /// A run through tables goes on by one call more. So a list of calls, each served by itself, is a run.
 pub fn runs_go_on()
-    ensures { (w : Denials) (a m b : Table) (cs : List Command) (rs : List Reply) (c : Command) (r : Reply)
+    ensures { (w : Denials) (a m b : DocumentTable) (cs : List Command) (rs : List Reply) (c : Command) (r : Reply)
         → RunThrough w 0 a cs rs m → Serves m c r b
         → (v : Denials) × RunThrough v 0 a (cs ++ c ∷ []) (rs ++ r ∷ []) b }
 {}
@@ -176,15 +176,15 @@ pub fn refusals_stay()
 /// A table stands for the documents of its rows, in their order. Rows that come last put their documents last in the list of
 /// their name; a row that changes or goes does so in its place there.
 pub fn tables_stand_for_lists()
-    ensures lists { (a : Table) (n : List ℕ) → list_of (state_of a) n ≡ documents_of a n }
-    ensures last { (a new : Table) (n : List ℕ) → AreOf n new
+    ensures lists { (a : DocumentTable) (n : List ℕ) → list_of (state_of a) n ≡ documents_of a n }
+    ensures last { (a new : DocumentTable) (n : List ℕ) → AreOf n new
         → state_of (a ++ new) ≡ store (state_of a) n (list_of (state_of a) n ++ map (λ r. r.document) new) }
-    ensures there { (front : Table) (r : Row) (back : Table)
+    ensures there { (front : DocumentTable) (r : DocumentRow) (back : DocumentTable)
         → list_of (state_of (front ++ r ∷ back)) r.name ≡ documents_of front r.name ++ r.document ∷ documents_of back r.name }
-    ensures changed { (front : Table) (r : Row) (back : Table) (d : Members)
+    ensures changed { (front : DocumentTable) (r : DocumentRow) (back : DocumentTable) (d : Members)
         → state_of (front ++ with_document d r ∷ back)
         ≡ store (state_of (front ++ r ∷ back)) r.name (documents_of front r.name ++ d ∷ documents_of back r.name) }
-    ensures gone { (front : Table) (r : Row) (back : Table)
+    ensures gone { (front : DocumentTable) (r : DocumentRow) (back : DocumentTable)
         → state_of (front ++ back) ≡ store (state_of (front ++ r ∷ back)) r.name (documents_of front r.name ++ documents_of back r.name) }
 {}
 
@@ -226,10 +226,10 @@ pub fn ids_go_by_keys()
 
 /// Rows of kept documents under good names, no two of one name with the same written key, stand for a state, and no others do.
 pub fn rows_are_a_state()
-    ensures { (rows : Table) → AreRows rows ↔ IsStore (state_of rows) }
+    ensures { (rows : DocumentTable) → AreRows rows ↔ IsStore (state_of rows) }
 {}
 
 /// Where a command leaves the state, it leaves every row as it was.
 pub fn rows_stay()
-    ensures { (a b : Table) → Follows a b → state_of b ≡ state_of a → b ≡ a }
+    ensures { (a b : DocumentTable) → Follows a b → state_of b ≡ state_of a → b ≡ a }
 {}

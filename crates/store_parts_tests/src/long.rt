@@ -3,7 +3,7 @@
 use bson_model::{Binary, BinarySubtype, Bson, Document};
 use std::alloc::{AllocError, Global};
 use std::test::Fail;
-use store_documents::{Written, set_member, write_document};
+use store_documents::{KeptRow, body_with, row_of_document};
 use store_laws::ErrorKind;
 use store_streams::{Keys, StreamError, judge_stream};
 
@@ -29,7 +29,7 @@ fn long(alloc: Global, count: usize) -> Result<Document, AllocError> {
 /// Why a document of so many bytes isn't written.
 fn refusal(alloc: Global, count: usize) -> Result<Option<ErrorKind>, AllocError> {
     let document = long(alloc, count)?;
-    Ok(write_document(alloc, &document).err())
+    Ok(row_of_document(alloc, &document).err())
 }
 
 #[test]
@@ -43,7 +43,7 @@ fn a_document_of_too_many_bytes(rt: HostRuntime) -> Result<(), Fail> {
 #[test]
 fn a_member_that_makes_a_document_too_long(rt: HostRuntime) -> Result<(), Fail> {
     let zeros = zeros(rt.alloc(), 16777200)?;
-    let refused = set_member(rt.alloc(), &ONE, "a", zeros).err();
+    let refused = body_with(rt.alloc(), &ONE, "a", zeros).err();
     assert_eq!(rt; refused, Some(ErrorKind::TooLong));
     Ok(())
 }
@@ -86,7 +86,7 @@ fn numbered(alloc: Global, count: u32) -> Result<Vec<u8>, AllocError> {
 }
 
 /// How many rows have a key that no row before them has.
-fn fresh(alloc: Global, rows: &[Written<'_>]) -> Result<u32, AllocError> {
+fn fresh(alloc: Global, rows: &[KeptRow<'_>]) -> Result<u32, AllocError> {
     let mut keys = Keys::new(alloc);
     let mut fresh = 0u32;
     for row in rows {

@@ -3,18 +3,18 @@ use Rattle.std.proofs.Common.{◌≡◌, inl, inr, ℕ, List, [], ◌∷◌, ◌
 use Rattle.std.specs.Prelude.{IsSomeAnd, MatchOption, codes}
 use Rattle.sqlite.specs.State.{State, HasCleanDisk}
 use Rattle.bson_base.specs.Value.{Value, Members, look_up}
-use Rattle.bson_table.specs.Rows.{Doc}
+use Rattle.bson_table.specs.Rows.{TableRow}
 use Rattle.bson_table.specs.Moves.{Moves, Stands}
 use Rattle.store_laws.specs.Reading.{Documents, Reading, readable, unreadable, ReadsBytes}
 use Rattle.store_laws.specs.State.{IsName, id_key, in_bytes, insert, on, Reply, done, refused, When, Refuses, IsTaken, SomeHasId, refusal_of, list_of, store}
 use Rattle.store_laws.specs.Run.{Denial, memory, database, places, kind_of_denial}
-use Rattle.store_laws.specs.Table.{Table, Serves, MayBeDenied, state_of}
+use Rattle.store_laws.specs.Table.{DocumentTable, Serves, MayBeDenied, state_of}
 use Rattle.store_laws.specs.declared.error.ErrorKind.{ErrorKind}
 use Rattle.store_laws.specs.declared.error.ErrorKind.TheVariants.{DuplicateId, Memory, Database}
 use Rattle.store_laws.proofs.States.{list_of-store}
 use Rattle.store_laws.proofs.Rows.{list_of-state_of}
 use Rattle.bson_base.specs.Device.{Feed, TookAll}
-use Rattle.bson_store.specs.Shown.{Show}
+use Rattle.bson_store.specs.Shown.{Represents}
 use Rattle.bson_store.specs.Calls.{DoesBytes}
 use Rattle.store_pipe.specs.Pipe.{KeepsInput, RefusesInput}
 use Rattle.store_pipe.proofs.Refusing.{input_refused}
@@ -28,7 +28,7 @@ pub is_name : IsName name
 is_name = (omega arith, (omega arith, tt))
 
 -- no rows show no documents
-no_rows : Show [] []
+no_rows : Represents [] []
 no_rows = record { each = tt; good = tt; rising = tt }
 
 none_is_taken : (d : Members) (ds : Documents) → ds ≡ [] → IsTaken d ds → ⊥
@@ -43,16 +43,16 @@ abbrev AnswersAs : Option ErrorKind → Members → Documents → Reply → Docu
 AnswersAs o d ds r es = MatchOption o (When (IsTaken d ds) (Refuses DuplicateId ds r es) ((r ≡ done) × (es ≡ ds ++ d ∷ []))) (λ k. Refuses k ds r es)
 
 -- what the table of no rows serves an insert with
-abbrev Served : Reading → Reply → List Doc → Type 0
-Served x r after = (b : Table) × Show after b × Serves [] (on name (insert in_bytes x)) r b
+abbrev Served : Reading → Reply → List TableRow → Type 0
+Served x r after = (b : DocumentTable) × Represents after b × Serves [] (on name (insert in_bytes x)) r b
 
 -- ---- an insert that is done
 
 -- the bytes mean a document that is kept, and a table that the rows show has it alone
-abbrev Inserted : List ℕ → List Doc → Type 0
-Inserted bytes after = (d : Members) × ReadsBytes bytes (readable d) × (refusal_of d ≡ None) × ((b : Table) × Show after b × (list_of (state_of b) name ≡ d ∷ []))
+abbrev Inserted : List ℕ → List TableRow → Type 0
+Inserted bytes after = (d : Members) × ReadsBytes bytes (readable d) × (refusal_of d ≡ None) × ((b : DocumentTable) × Represents after b × (list_of (state_of b) name ≡ d ∷ []))
 
-alone : (b : Table) (d : Members) (es : Documents) → es ≡ list_of (state_of []) name ++ d ∷ [] → state_of b ≡ store (state_of []) name es → list_of (state_of b) name ≡ d ∷ []
+alone : (b : DocumentTable) (d : Members) (es : Documents) → es ≡ list_of (state_of []) name ++ d ∷ [] → state_of b ≡ store (state_of []) name es → list_of (state_of b) name ≡ d ∷ []
 alone b d es is put =
     ap (λ u. list_of u name) put
     ∙ list_of-store (state_of []) name name es
@@ -60,13 +60,13 @@ alone b d es is put =
     ∙ is
     ∙ ap (λ ds. ds ++ d ∷ []) (list_of-state_of [] name)
 
-judged : (bytes : List ℕ) (after : List Doc) (d : Members) (b : Table) (es : Documents) → ReadsBytes bytes (readable d) → Show after b → state_of b ≡ store (state_of []) name es
+judged : (bytes : List ℕ) (after : List TableRow) (d : Members) (b : DocumentTable) (es : Documents) → ReadsBytes bytes (readable d) → Represents after b → state_of b ≡ store (state_of []) name es
     → (o : Option ErrorKind) → refusal_of d ≡ o → AnswersAs o d (list_of (state_of []) name) done es → Inserted bytes after
 judged bytes after d b es reads shown put None e (inl taken) = let f = taken.1.0 in cc
 judged bytes after d b es reads shown put None e (inr free) = (d, reads, e, (b, shown, alone b d es free.1.1 put))
 judged bytes after d b es reads shown put (Some k) e refuses = let f = refuses.0 in cc
 
-inserted : (bytes : List ℕ) (after : List Doc) (x : Reading) → ReadsBytes bytes x → Served x done after → Inserted bytes after
+inserted : (bytes : List ℕ) (after : List TableRow) (x : Reading) → ReadsBytes bytes x → Served x done after → Inserted bytes after
 inserted bytes after x reads (b, shown, (Some w, (turn, follows, may))) = let e = turn.0 in cc
 inserted bytes after x reads (b, shown, (None, (inr bad, follows, may))) = absurd (bad.0 is_name)
 inserted bytes after (unreadable k) reads (b, shown, (None, (inl (good, (es, answers, put)), follows, may))) = let e = answers.0 in cc
@@ -99,7 +99,7 @@ not_judged kind old new bytes place d es all reads (Some k) e refuses =
     let is : k ≡ kind = cc in
     input_refused kind old new (bytes, all, inr (d, reads, e ∙ ap (λ (x : ErrorKind). Some x) is))
 
-not_inserted : (kind : ErrorKind) (old new : Feed) (bytes : List ℕ) (place : Option ℕ) (after : List Doc) (x : Reading) → TookAll old new bytes → ReadsBytes bytes x
+not_inserted : (kind : ErrorKind) (old new : Feed) (bytes : List ℕ) (place : Option ℕ) (after : List TableRow) (x : Reading) → TookAll old new bytes → ReadsBytes bytes x
     → Served x (refused kind place) after → RefusesInput kind old new
 not_inserted kind old new bytes place after x all reads (b, shown, (Some w, (turn, follows, may))) = denied kind w old new bytes place x all reads turn.0 may
 not_inserted kind old new bytes place after x all reads (b, shown, (None, (inr bad, follows, may))) = absurd (bad.0 is_name)

@@ -6,7 +6,7 @@ use Rattle.bson_base.specs.Value.{Members}
 use Rattle.bson_bytes.specs.Encode.{encode}
 use Rattle.bson_table.specs.Moves.{Moves}
 use Rattle.store_laws.specs.State.{list_of, refusal_of}
-use Rattle.store_laws.specs.Table.{Table, state_of}
+use Rattle.store_laws.specs.Table.{DocumentTable, state_of}
 use Rattle.store_laws.specs.declared.error.ErrorKind.{ErrorKind}
 use Rattle.store_laws.specs.declared.error.ErrorKind.TheVariants.{BadName, Memory, Database, Reader, Writer}
 use Rattle.bson_base.specs.Device.{Feed, Tally}
@@ -27,7 +27,7 @@ nothing_out Writer old new out h = absurd ((of_input h.0 Writer h.2).3 refl)
 nothing_out _ old new out h = (h, refl)
 
 -- the written documents of a list of one
-one_written : (a : Table) (d : Members) → list_of (state_of a) name ≡ d ∷ [] → flat_map encode (list_of (state_of a) name) ≡ encode d
+one_written : (a : DocumentTable) (d : Members) → list_of (state_of a) name ≡ d ∷ [] → flat_map encode (list_of (state_of a) name) ≡ encode d
 one_written a d is = ap (flat_map encode) is ∙ append-nil (encode d)
 
 pub all_out : (s t : State) (old new : Feed) (before after : Tally) → HasCleanDisk t → KeepsInput old new s → Moves s t (SendsCollection name before after (Ok tt)) → Exchanges old new before after (Ok tt)
@@ -35,7 +35,7 @@ all_out s t old new before after clean (d, reads, kept, (docs, a, stands, shown,
     let m = (moves clean).1 docs stands in
     (d, reads, kept, subst (λ bs. Delivers bs before after (Ok tt)) (one_written a d is) (m.2.exports a shown).1)
 
-cut_short : (kind : ErrorKind) (a : Table) (d : Members) (old new : Feed) (before after : Tally) → ReadsInput old new d → refusal_of d ≡ None → list_of (state_of a) name ≡ d ∷ []
+cut_short : (kind : ErrorKind) (a : DocumentTable) (d : Members) (old new : Feed) (before after : Tally) → ReadsInput old new d → refusal_of d ≡ None → list_of (state_of a) name ≡ d ∷ []
     → ExportRefused (state_of a) name before after kind → Exchanges old new before after (Err kind)
 cut_short BadName a d old new before after reads kept is h = absurd (h.0 is_name)
 cut_short Memory a d old new before after reads kept is h = inr (d, reads, inr (kept, subst (λ bs. Delivers bs before after (Err Memory)) (one_written a d is) h.1))

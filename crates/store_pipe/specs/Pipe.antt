@@ -4,16 +4,16 @@ use Rattle.bson_base.specs.Device.{Feed, TookAll, Tally, TakesText, StopsReading
 use Rattle.bson_base.specs.Value.{Members}
 use Rattle.bson_bytes.specs.Encode.{encode}
 use Rattle.sqlite.specs.State.{State}
-use Rattle.bson_table.specs.Rows.{Doc}
+use Rattle.bson_table.specs.Rows.{TableRow}
 use Rattle.bson_table.specs.Moves.{Stands}
 use Rattle.store_laws.specs.Reading.{readable, unreadable, ReadsBytes}
 use Rattle.store_laws.specs.State.{list_of, refusal_of}
-use Rattle.store_laws.specs.Table.{Table, state_of}
+use Rattle.store_laws.specs.Table.{DocumentTable, state_of}
 use Rattle.store_laws.specs.declared.error.ErrorKind.{ErrorKind}
 use Rattle.store_laws.specs.declared.error.ErrorKind.TheVariants.{Memory, Database, Reader, Writer}
-use Rattle.bson_base.specs.declared.whole.ReadAllError.TheVariants as reading
+use Rattle.bson_base.specs.declared.whole.ReadAllError.TheVariants as reads
 use Rattle.store_words.specs.Lines.{refusal_line}
-use Rattle.bson_store.specs.Shown.{Show}
+use Rattle.bson_store.specs.Shown.{Represents}
 use Rattle.bson_store.specs.Export.{Delivers}
 
 -- ---- the document
@@ -28,7 +28,7 @@ ReadsRefused old new kind = (bytes : List ℕ) × TookAll old new bytes × (Read
 
 -- the rows are those of a table whose list under the program's name is the document alone
 abbrev pub HasAlone : State → Members → Type 0
-HasAlone s d = (docs : List Doc) × (a : Table) × Stands s docs × Show docs a × (list_of (state_of a) (codes "c") ≡ d ∷ [])
+HasAlone s d = (docs : List TableRow) × (a : DocumentTable) × Stands s docs × Represents docs a × (list_of (state_of a) (codes "c") ≡ d ∷ [])
 
 -- the document of the input is kept, alone
 abbrev pub KeepsInput : Feed → Feed → State → Type 0
@@ -36,8 +36,8 @@ KeepsInput old new s = (d : Members) × ReadsInput old new d × (refusal_of d �
 
 -- why it is not
 abbrev pub RefusesInput : ErrorKind → Feed → Feed → Type 0
-RefusesInput Reader old new = StopsReading reading.Reader old new
-RefusesInput Memory old new = StopsReading reading.Memory old new ⊎ ((d : Members) × ReadsInput old new d)
+RefusesInput Reader old new = StopsReading reads.Reader old new
+RefusesInput Memory old new = StopsReading reads.Memory old new ⊎ ((d : Members) × ReadsInput old new d)
 RefusesInput Database old new = (new ≡ old) ⊎ ((d : Members) × ReadsInput old new d)
 RefusesInput kind old new = ReadsRefused old new kind
 
@@ -53,9 +53,9 @@ Denies kind old new before after = (d : Members) × ReadsInput old new d × ((af
 abbrev pub Exchanges : Feed → Feed → Tally → Tally → Result (Unit {0}) ErrorKind → Type 0
 Exchanges old new before after (Ok x) = (d : Members) × ReadsInput old new d × (refusal_of d ≡ None) × Delivers (encode d) before after (Ok x)
 Exchanges old new before after (Err Writer) = (d : Members) × ReadsInput old new d × (refusal_of d ≡ None) × Delivers (encode d) before after (Err Writer)
-Exchanges old new before after (Err Memory) = (StopsReading reading.Memory old new × (after ≡ before)) ⊎ Denies Memory old new before after
+Exchanges old new before after (Err Memory) = (StopsReading reads.Memory old new × (after ≡ before)) ⊎ Denies Memory old new before after
 Exchanges old new before after (Err Database) = ((new ≡ old) × (after ≡ before)) ⊎ Denies Database old new before after
-Exchanges old new before after (Err Reader) = StopsReading reading.Reader old new × (after ≡ before)
+Exchanges old new before after (Err Reader) = StopsReading reads.Reader old new × (after ≡ before)
 Exchanges old new before after (Err kind) = ReadsRefused old new kind × (after ≡ before)
 
 -- the three devices

@@ -4,7 +4,7 @@ ghost use Rattle.std.specs.Prelude.{◌≡◌, ◌⊎◌, ◌<◌, ◌^◌, ◌-
 ghost use Rattle.sqlite.specs.Steps.{over_memory};
 ghost use Rattle.store_laws.specs.declared.error.ErrorKind.TheVariants.{Memory, Database};
 ghost use Rattle.bson_table.specs.Moves.{Stands};
-ghost use Rattle.bson_store.specs.Calls.{held};
+ghost use Rattle.bson_store.specs.Calls.{store_state};
 ghost use Rattle.bson_store.specs.Refusals.{kind_of_reading};
 ghost use Rattle.store_pipe.specs.Pipe.{KeepsInput, RefusesInput, Exchanges, Pipes};
 
@@ -19,7 +19,7 @@ const NAME: &str = "c";
 
 /// A new store in memory, without a document.
 fn new_store(alloc: Global) -> Result<Store<MemStore>, ErrorKind>
-    ensures empty { IfOk result (λ store. Stands (held over_memory store) []) }
+    ensures empty { IfOk result (λ store. Stands (store_state over_memory store) []) }
     ensures denied { IfErr result (λ kind. (kind ≡ Memory) ⊎ (kind ≡ Database)) }
 {
     let Ok(connection) = Connection::open_in_memory(alloc) else {
@@ -48,7 +48,7 @@ fn kind_of_reading(error: ReadAllError) -> ErrorKind
 fn keep<I: Source>(alloc: Global, input: &mut I) -> Result<Store<MemStore>, ErrorKind>
     requires { (I.feed input.old).failures < 2 ^ 64 - 1 }
     ensures ok { IfOk result (λ store. KeepsInput (I.feed input.old)
-        (I.feed input.new) (held over_memory store)) }
+        (I.feed input.new) (store_state over_memory store)) }
     ensures err { IfErr result (λ kind. RefusesInput kind (I.feed input.old)
         (I.feed input.new)) }
 {

@@ -4,7 +4,7 @@ use Rattle.store_laws.specs.declared.error.ErrorKind.{ErrorKind}
 use Rattle.store_laws.specs.declared.error.ErrorKind.TheVariants.{Memory}
 use Rattle.bson_store.specs.declared.error.StoreError.{StoreError}
 use Rattle.store_program.specs.Execute.{Fails, IsFault}
-use Rattle.store_program.specs.declared.stop.Stop.TheVariants.{Refused}
+use Rattle.store_program.specs.declared.stop.Failure.TheVariants.{Refused}
 use Rattle.store_program.proofs.Told.{IsDevice}
 
 -- no device is reported

@@ -6,8 +6,8 @@ use Rattle.store_laws.specs.Reading.{Reading, readable, unreadable, ReadsTree}
 use Rattle.store_laws.specs.State.{Command, insert, replace, in_json, on}
 use Rattle.store_words.specs.declared.call.Call.{Call}
 use Rattle.store_words.specs.declared.call.Call.TheVariants.{Insert, Replace, Get, Set, Unset, Remove, Find, Count, Import, Export, Dump, Load, Collections}
-use Rattle.store_words.specs.declared.lines.Complaint.{Complaint}
-use Rattle.store_words.specs.declared.lines.Complaint.TheVariants as words
+use Rattle.store_words.specs.declared.lines.UsageError.{UsageError}
+use Rattle.store_words.specs.declared.lines.UsageError.TheVariants as words
 use Rattle.store_program.specs.Commands.{Complains, IsCommandOf, IsOfLines, IsOfStream}
 use Rattle.store_program.proofs.Told.{IsReadCommand, stream_stop, tree_kind, trees_stop}
 
@@ -47,10 +47,10 @@ lines_read n fed left c (bytes, js, ds, stop, took, reads, is) = subst IsReadCom
 pub lines_quiet : (n : List ℕ) (fed left : Feed) (c : Command) → IsOfLines n fed left c → left.failures ≡ fed.failures
 lines_quiet n fed left c (bytes, js, ds, stop, took, reads, is) = took.0.0
 
-pub import_hush : (texts : List (List ℕ)) (fed left : Feed) (w : Complaint) → Complains Import texts fed left w → left.failures ≡ fed.failures
+pub import_hush : (texts : List (List ℕ)) (fed left : Feed) (w : UsageError) → Complains Import texts fed left w → left.failures ≡ fed.failures
 import_hush texts fed left w h = ap (λ (f : Feed). f.failures) h.1
 
-pub load_hush : (texts : List (List ℕ)) (fed left : Feed) (w : Complaint) → Complains Load texts fed left w → left.failures ≡ fed.failures
+pub load_hush : (texts : List (List ℕ)) (fed left : Feed) (w : UsageError) → Complains Load texts fed left w → left.failures ≡ fed.failures
 load_hush texts fed left (words.Line i) h = h.1.0.0
 load_hush texts fed left words.Usage h = ap (λ (f : Feed). f.failures) h.1
 load_hush texts fed left words.Json h = ap (λ (f : Feed). f.failures) h.1

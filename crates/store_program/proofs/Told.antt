@@ -14,8 +14,8 @@ use Rattle.bson_meaning.specs.declared.gating.GateError.{GateError}
 use Rattle.bson_meaning.specs.declared.gating.GateError.TheVariants as gate
 use Rattle.store_laws.specs.Reading.{Documents, Reading, readable, unreadable, kind_of_gate_error, IsReadingKind, IsStop, IsUncut, IsUnfit, KeepsRead, Cuts, ReadsBytes, ReadsEach, ReadsStream, ReadsTree, ReadsTrees}
 use Rattle.store_laws.specs.Run.{Denial, Turn, kind_of_denial, memory, database, places}
-use Rattle.store_laws.specs.State.{State, id_key, Call, insert, replace, set, unset, remove, get_raw, get_json, find, count, project, import, export, dump, Command, on, collections, done, refused, or_finite, tree_of, tree_reply, tree_first, trees_of, trees_reply, When, Refuses, refusal_of, or_later, first_refusal, Appends, AtId, IsTaken, PutsBack, Answers, Step}
-use Rattle.store_laws.specs.Table.{Table, state_of, Serves}
+use Rattle.store_laws.specs.State.{State, id_key, Call, insert, replace, set, unset, remove, get_raw, get_json, find, count, project, import, export, dump, Command, on, collections, done, refused, or_finite, json_of, tree_reply, tree_first, trees_of, trees_reply, When, Refuses, refusal_of, or_later, first_refusal, Appends, AtId, IsTaken, PutsBack, Answers, Step}
+use Rattle.store_laws.specs.Table.{DocumentTable, state_of, Serves}
 use Rattle.store_laws.specs.declared.error.ErrorKind.{ErrorKind}
 use Rattle.store_laws.specs.declared.error.ErrorKind.TheVariants as kind
 
@@ -161,7 +161,7 @@ tree_device : (r : Result Data ErrorKind) (k : ErrorKind) (i : Option ℕ) → (
 tree_device (Ok j) k i kinds e d = cc
 tree_device (Err x) k i kinds e d = told_as k x i None e (kinds x refl) d
 
-tree_kinds : (m : Mode) (t : Members) (x : ErrorKind) → tree_of m t ≡ Err x → IsDevice x → ⊥
+tree_kinds : (m : Mode) (t : Members) (x : ErrorKind) → json_of m t ≡ Err x → IsDevice x → ⊥
 tree_kinds m t x e d = by (has_reserved t) (write m (document t)) e
   where
     this : (y : ErrorKind) → (IsDevice y → ⊥) → ◌≡◌ {A = Result Data ErrorKind} (Err y) (Err x) → ⊥
@@ -175,9 +175,9 @@ tree_kinds m t x e d = by (has_reserved t) (write m (document t)) e
 -- so of the first such of many
 trees_kinds : (n : ℕ) (ds : Documents) (x : ErrorKind × ℕ) → trees_of n ds ≡ Err x → IsDevice x.0 → ⊥
 trees_kinds n [] x e d = cc
-trees_kinds n (t ∷ ds) x e d = by (tree_of Canonical t) (trees_of (suc n) ds) refl refl e (λ is. trees_kinds (suc n) ds x is d)
+trees_kinds n (t ∷ ds) x e d = by (json_of Canonical t) (trees_of (suc n) ds) refl refl e (λ is. trees_kinds (suc n) ds x is d)
   where
-    by : (r : Result Data ErrorKind) (rest : Result (List Data) (ErrorKind × ℕ)) → tree_of Canonical t ≡ r → trees_of (suc n) ds ≡ rest → tree_first n r rest ≡ Err x → (trees_of (suc n) ds ≡ Err x → ⊥) → ⊥
+    by : (r : Result Data ErrorKind) (rest : Result (List Data) (ErrorKind × ℕ)) → json_of Canonical t ≡ r → trees_of (suc n) ds ≡ rest → tree_first n r rest ≡ Err x → (trees_of (suc n) ds ≡ Err x → ⊥) → ⊥
     by (Ok j) (Ok js) is later e next = cc
     by (Ok j) (Err y) is later e next = let same : y ≡ x = cc in next (later ∙ ap Err same)
     by (Err k) rest is later e next = let same : (k, n) ≡ x = cc in tree_kinds Canonical t x.0 (is ∙ ap (λ p. Err p.0) same) d
@@ -199,7 +199,7 @@ list_device (unset id key) ds es k i fine (inl h) d = at_id_device id ds es k i 
 list_device (unset id key) ds es k i fine (inr h) d = told_as k kind.BadKey i None h.1.0 (λ z. z) d
 list_device (remove id) ds es k i fine h d = at_id_device id ds es k i _ (λ front m back x z. let e = x.0 in cc) h d
 list_device (get_raw id) ds es k i fine h d = at_id_device id ds es k i _ (λ front m back x z. let e = x.0 in cc) h d
-list_device (get_json m id) ds es k i fine h d = at_id_device id ds es k i _ (λ front t back x z. tree_device (tree_of m t) k i (tree_kinds m t) x.0 z) h d
+list_device (get_json m id) ds es k i fine h d = at_id_device id ds es k i _ (λ front t back x z. tree_device (json_of m t) k i (tree_kinds m t) x.0 z) h d
 list_device (find f) ds es k i fine (out, picks, e, same) d = cc
 list_device (count f) ds es k i fine (out, picks, e, same) d = cc
 list_device (project f keys) ds es k i fine (out, picks, e, same) d = cc
@@ -222,5 +222,5 @@ turn_device None s c k i t fine h d = step_device s c k i t fine h d
 turn_device (Some x) s c k i t fine h d = denial_device x k i h.0 d
 
 -- a command that is refused isn't by a device
-pub no_device : (a b : Table) (c : Command) (k : ErrorKind) (i : Option ℕ) → IsReadCommand c → Serves a c (refused k i) b → IsDevice k → ⊥
+pub no_device : (a b : DocumentTable) (c : Command) (k : ErrorKind) (i : Option ℕ) → IsReadCommand c → Serves a c (refused k i) b → IsDevice k → ⊥
 no_device a b c k i fine (o, (turn, follows, may)) = turn_device o (state_of a) c k i (state_of b) fine turn

@@ -2,14 +2,14 @@
 use Rattle.std.proofs.Common.{◌≡◌, ◌==◌, false, inl, inr, ℕ, suc, ◌<◌, ◌≤◌, List, [], ◌∷◌, length, map, drop, get_or, Some, Err, String, Global, string_bytes, refl, sym, ap, ◌∙◌, arith}
 use Rattle.std.proofs.lemmas.List.{length-map}
 use Rattle.serde_json.specs.Data.{Data}
-use Rattle.serde_json.specs.Read.{read as tree_of}
+use Rattle.serde_json.specs.Read.{read as data_of_text}
 use Rattle.bson_base.specs.Value.{Value}
 use Rattle.bson_model.specs.declared.extjson.ser.Mode.{Mode}
 use Rattle.store_laws.specs.Reading.{Reading, ReadsTree, read_value}
 use Rattle.store_laws.specs.State.{Call, on, set, get_json}
 use Rattle.store_words.specs.declared.call.Call.TheVariants as words
 use Rattle.store_words.specs.Texts.{AnswersId, AnswersText}
-use Rattle.store_words.specs.Words.{Takes, relaxed}
+use Rattle.store_words.specs.Words.{Takes, relaxed_word}
 use Rattle.store_words.specs.declared.texts.TextError.TheVariants.{Unreadable}
 use Rattle.store_program.specs.Commands.{IsIdText, IsNoForm, IsNoId, IsNoJson, IsOfTree, IsOfId, IsCommandOf, mode_of}
 
@@ -33,7 +33,7 @@ three_texts (x ∷ y ∷ z ∷ []) a b c d e f low high = rw (d, e, f) refl
 three_texts (x ∷ y ∷ z ∷ u ∷ ws) a b c d e f low high = absurd (omega arith)
 
 -- the only text is a document's
-pub of_tree : (call : Reading → Call) (n : List ℕ) (ws : List (String Global)) (a : String Global) (text : List ℕ) (j : Data) → a ≡ get_or ws 0 a → 1 ≤ length ws → length ws < 2 → text ≡ string_bytes a → tree_of text ≡ Some j
+pub of_tree : (call : Reading → Call) (n : List ℕ) (ws : List (String Global)) (a : String Global) (text : List ℕ) (j : Data) → a ≡ get_or ws 0 a → 1 ≤ length ws → length ws < 2 → text ≡ string_bytes a → data_of_text text ≡ Some j
     → (x : Reading) → ReadsTree j x → IsOfTree call n (map string_bytes ws) (on n (call x))
 of_tree call n ws a text j d low high e tree x reads = (text, j, x, rw e (one_text ws a d low high), tree, reads, refl)
 
@@ -49,7 +49,7 @@ of_id_and_key call n ws a b text key id d e low high is_a is_b is = (text, key �
 
 -- an id's, a key, and a value's
 pub of_set : (n : List ℕ) (ws : List (String Global)) (a b c : String Global) (text key value : List ℕ) (id : Value) (j : Data) → a ≡ get_or ws 0 a → b ≡ get_or ws 1 b → c ≡ get_or ws 2 c → 3 ≤ length ws → length ws < 4
-    → text ≡ string_bytes a → key ≡ string_bytes b → value ≡ string_bytes c → IsIdText text id → tree_of value ≡ Some j → IsCommandOf words.Set n (map string_bytes ws) (on n (set id key (read_value j)))
+    → text ≡ string_bytes a → key ≡ string_bytes b → value ≡ string_bytes c → IsIdText text id → data_of_text value ≡ Some j → IsCommandOf words.Set n (map string_bytes ws) (on n (set id key (read_value j)))
 of_set n ws a b c text key value id j d e f low high is_a is_b is_c is tree = (text, key, value, id, j, rw (is_a, is_b, is_c) (three_texts ws a b c d e f low high), is, tree, refl)
 
 -- an id's, and the form that is asked for
@@ -95,7 +95,7 @@ no_form_here ws forms text split bad (inl one) = bad.0 (none forms (ap (λ (l : 
     none : (l : List (List ℕ)) → suc (length l) ≡ 1 → l ≡ []
     none [] e = refl
     none (x ∷ l) e = absurd (omega (arith, e))
-no_form_here ws forms text split bad (inr (id, is)) = bad.1 (let both : text ∷ forms ≡ id ∷ relaxed ∷ [] = sym split ∙ is in ap (drop 1) both)
+no_form_here ws forms text split bad (inr (id, is)) = bad.1 (let both : text ∷ forms ≡ id ∷ relaxed_word ∷ [] = sym split ∙ is in ap (drop 1) both)
 
 pub no_form : (ws forms : List (String Global)) (a : String Global) → ws ≡ a ∷ forms → IsNoForm (map string_bytes forms) → Takes words.Get (map string_bytes ws) → ⊥
 no_form ws forms a split = no_form_here (map string_bytes ws) (map string_bytes forms) (string_bytes a) (ap (map string_bytes) split)

@@ -5,11 +5,11 @@ use Rattle.serde_json.specs.declared.value.Value.{Value as Json}
 use Rattle.bson_store.specs.declared.error.StoreError.{StoreError}
 use Rattle.store_program.specs.declared.answer.Answer.{Answer}
 use Rattle.store_program.specs.declared.answer.Answer.TheVariants.{Nothing, Flag, Number, Tree, Documents, Names}
-use Rattle.store_program.specs.declared.stop.Stop.{Stop}
-use Rattle.store_program.specs.declared.stop.Stop.TheVariants.{Refused}
+use Rattle.store_program.specs.declared.stop.Failure.{Failure}
+use Rattle.store_program.specs.declared.stop.Failure.TheVariants.{Refused}
 
 -- a result as the answer that it is
-abbrev pub answer_by : {A : Type 0} → (A → Answer) → Result A StoreError → Result Answer Stop
+abbrev pub answer_by : {A : Type 0} → (A → Answer) → Result A StoreError → Result Answer Failure
 answer_by f (Ok x) = Ok (f x)
 answer_by f (Err e) = Err (Refused e)
 

@@ -1,7 +1,7 @@
 -- Which commands the words of the program ask for.
 use Rattle.std.specs.Prelude.{◌≡◌, ◌≢◌, ℕ, List, [], ◌∷◌, ◌++◌, Option, Some, Ok, Err}
 use Rattle.serde_json.specs.Data.{Data}
-use Rattle.serde_json.specs.Read.{read as tree_of}
+use Rattle.serde_json.specs.Read.{read as data_of_text}
 use Rattle.bson_base.specs.Device.{Feed, TookAll}
 use Rattle.bson_base.specs.Value.{Value}
 use Rattle.bson_model.specs.JsonRead.{read as value_of}
@@ -14,15 +14,15 @@ use Rattle.store_laws.specs.declared.error.ErrorKind.{ErrorKind}
 use Rattle.store_words.specs.declared.call.Call.{Call}
 use Rattle.store_words.specs.declared.call.Call.TheVariants.{Insert, Replace, Get, Set, Unset, Remove, Find, Count, Import, Export, Dump, Load, Collections}
 use Rattle.store_words.specs.Texts.{AnswersId, AnswersText}
-use Rattle.store_words.specs.Words.{Takes, relaxed}
-use Rattle.store_words.specs.declared.lines.Complaint.{Complaint}
-use Rattle.store_words.specs.declared.lines.Complaint.TheVariants.{Usage, Json, Id, Line}
-use Rattle.store_words.specs.declared.lines.Complaint.TheVariants as words
+use Rattle.store_words.specs.Words.{Takes, relaxed_word}
+use Rattle.store_words.specs.declared.lines.UsageError.{UsageError}
+use Rattle.store_words.specs.declared.lines.UsageError.TheVariants.{Usage, Json, Id, Line}
+use Rattle.store_words.specs.declared.lines.UsageError.TheVariants as words
 use Rattle.store_words.specs.declared.texts.TextError.TheVariants.{Unreadable}
 
 -- the value of an Extended JSON text
 abbrev pub IsIdText : List ℕ → Value → Type 0
-IsIdText text id = (j : Data) × (tree_of text ≡ Some j) × (value_of j ≡ Ok id)
+IsIdText text id = (j : Data) × (data_of_text text ≡ Some j) × (value_of j ≡ Ok id)
 
 -- the form that the words behind an id ask for: canonical, if there are none
 abbrev pub mode_of : List (List ℕ) → Mode
@@ -36,7 +36,7 @@ first_key (key ∷ more) = key
 
 -- the call of a document, which the only text stands for
 abbrev pub IsOfTree : (Reading → model.Call) → List ℕ → List (List ℕ) → model.Command → Type 0
-IsOfTree call n texts c = (text : List ℕ) × (j : Data) × (a : Reading) × (texts ≡ text ∷ []) × (tree_of text ≡ Some j) × ReadsTree j a × (c ≡ model.on n (call a))
+IsOfTree call n texts c = (text : List ℕ) × (j : Data) × (a : Reading) × (texts ≡ text ∷ []) × (data_of_text text ≡ Some j) × ReadsTree j a × (c ≡ model.on n (call a))
 
 -- the call of an id, which the first text stands for
 abbrev pub IsOfId : (Value → List (List ℕ) → model.Call) → List ℕ → List (List ℕ) → model.Command → Type 0
@@ -44,7 +44,7 @@ IsOfId call n texts c = (text : List ℕ) × (more : List (List ℕ)) × (id : V
 
 -- the call of an id, a key and a value, which the texts stand for
 abbrev pub IsOfSet : List ℕ → List (List ℕ) → model.Command → Type 0
-IsOfSet n texts c = (text : List ℕ) × (key : List ℕ) × (value : List ℕ) × (id : Value) × (j : Data) × (texts ≡ text ∷ key ∷ value ∷ []) × IsIdText text id × (tree_of value ≡ Some j)
+IsOfSet n texts c = (text : List ℕ) × (key : List ℕ) × (value : List ℕ) × (id : Value) × (j : Data) × (texts ≡ text ∷ key ∷ value ∷ []) × IsIdText text id × (data_of_text value ≡ Some j)
     × (c ≡ model.on n (model.set id key (read_value j)))
 
 -- what the bytes of the input read as, taken to its end; under a bad name nothing is read
@@ -88,7 +88,7 @@ IsNoJson texts = (front : List (List ℕ)) × (text : List ℕ) × (texts ≡ fr
 
 -- the words behind an id ask for no form
 abbrev pub IsNoForm : List (List ℕ) → Type 0
-IsNoForm forms = (forms ≢ []) × (forms ≢ relaxed ∷ [])
+IsNoForm forms = (forms ≢ []) × (forms ≢ relaxed_word ∷ [])
 
 -- the input was taken to its end
 abbrev pub TookSome : Feed → Feed → Type 0
@@ -96,7 +96,7 @@ TookSome old new = (bytes : List ℕ) × TookAll old new bytes
 
 -- What is reported of the texts of a call is so: they are no line of the table, or the text can't be read. Of the text of a filter this
 -- is its reader's own answer.
-abbrev pub IsUnread : Call → List (List ℕ) → Complaint → Type 0
+abbrev pub IsUnread : Call → List (List ℕ) → UsageError → Type 0
 IsUnread call texts Usage = Takes call texts → ⊥
 IsUnread Insert texts Json = IsNoJson texts
 IsUnread Replace texts Json = IsNoJson texts
@@ -110,6 +110,6 @@ IsUnread Count texts words.Filter = Unit {0}
 IsUnread _ texts _ = ⊥
 
 -- then nothing of the input is read; or, of `load`, it was taken to its end, and its reader's own answer is that this line can't be read
-abbrev pub Complains : Call → List (List ℕ) → Feed → Feed → Complaint → Type 0
+abbrev pub Complains : Call → List (List ℕ) → Feed → Feed → UsageError → Type 0
 Complains Load texts old new (Line i) = TookSome old new
 Complains call texts old new w = IsUnread call texts w × (new ≡ old)

@@ -3,7 +3,7 @@
 ghost use Rattle.std.specs.Prelude.{◌≡◌};
 ghost use Rattle.store_program.specs.Answers.{answer_by, as_nothing, flag_answer, number_answer, as_tree, as_documents, names_answer};
 
-use crate::stop::Stop;
+use crate::stop::Failure;
 use bson_store::StoreError;
 use serde_json::Value;
 
@@ -25,7 +25,7 @@ pub enum Answer {
 }
 
 /// A change is answered with nothing.
-pub fn nothing(outcome: Result<(), StoreError>) -> Result<Answer, Stop>
+pub fn nothing(outcome: Result<(), StoreError>) -> Result<Answer, Failure>
     ensures { result ≡ answer_by as_nothing outcome }
 {
     outcome?;
@@ -33,35 +33,35 @@ pub fn nothing(outcome: Result<(), StoreError>) -> Result<Answer, Stop>
 }
 
 /// Whether something was there.
-pub fn flag(outcome: Result<bool, StoreError>) -> Result<Answer, Stop>
+pub fn flag(outcome: Result<bool, StoreError>) -> Result<Answer, Failure>
     ensures { result ≡ answer_by flag_answer outcome }
 {
     Ok(Answer::Flag(outcome?))
 }
 
 /// A document as a tree.
-pub fn tree(outcome: Result<Value, StoreError>) -> Result<Answer, Stop>
+pub fn tree(outcome: Result<Value, StoreError>) -> Result<Answer, Failure>
     ensures { result ≡ answer_by as_tree outcome }
 {
     Ok(Answer::Tree(outcome?))
 }
 
 /// How many there are.
-pub fn number(outcome: Result<u64, StoreError>) -> Result<Answer, Stop>
+pub fn number(outcome: Result<u64, StoreError>) -> Result<Answer, Failure>
     ensures { result ≡ answer_by number_answer outcome }
 {
     Ok(Answer::Number(outcome?))
 }
 
 /// Documents as they are written.
-pub fn documents(outcome: Result<Vec<Vec<u8>>, StoreError>) -> Result<Answer, Stop>
+pub fn documents(outcome: Result<Vec<Vec<u8>>, StoreError>) -> Result<Answer, Failure>
     ensures { result ≡ answer_by as_documents outcome }
 {
     Ok(Answer::Documents(outcome?))
 }
 
 /// Names of collections.
-pub fn names(outcome: Result<Vec<String>, StoreError>) -> Result<Answer, Stop>
+pub fn names(outcome: Result<Vec<String>, StoreError>) -> Result<Answer, Failure>
     ensures { result ≡ answer_by names_answer outcome }
 {
     Ok(Answer::Names(outcome?))

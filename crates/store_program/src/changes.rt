@@ -2,14 +2,14 @@
 
 ghost use Rattle.std.specs.Prelude.{map, string_bytes};
 ghost use Rattle.bson_table.specs.Moves.{Moves};
-ghost use Rattle.bson_store.specs.Calls.{held};
+ghost use Rattle.bson_store.specs.Calls.{store_state};
 ghost use Rattle.store_words.specs.declared.call.Call.TheVariants.{Insert, Replace, Set, Unset, Remove};
 ghost use Rattle.store_program.specs.Commands.{IsCommandOf, IsUnread};
 ghost use Rattle.store_program.specs.Execute.{Performs};
 
 use crate::answer::{Answer, flag, nothing};
-use crate::stop::{Stop, USAGE};
-use crate::texts::{id_of, json_of};
+use crate::stop::{Failure, USAGE};
+use crate::texts::{id_of, json_of_text};
 use bson_store::Store;
 use sqlite::Alter;
 use std::alloc::Global;
@@ -20,13 +20,13 @@ pub fn insert<S: Alter + Drop>(
     store: &mut Store<S>,
     name: &str,
     words: &[String],
-) -> Result<Answer, Stop>
-    ensures { Moves (held S.Store store.old) (held S.Store store.new) (Performs (IsCommandOf Insert name.now (map string_bytes words.now)) (IsUnread Insert (map string_bytes words.now)) result) }
+) -> Result<Answer, Failure>
+    ensures { Moves (store_state S.Store store.old) (store_state S.Store store.new) (Performs (IsCommandOf Insert name.now (map string_bytes words.now)) (IsUnread Insert (map string_bytes words.now)) result) }
 {
     let [text] = words else {
         return Err(USAGE);
     };
-    let json = json_of(alloc, text.as_str())?;
+    let json = json_of_text(alloc, text.as_str())?;
     nothing(store.insert_json(name, json))
 }
 
@@ -36,13 +36,13 @@ pub fn replace<S: Alter + Drop>(
     store: &mut Store<S>,
     name: &str,
     words: &[String],
-) -> Result<Answer, Stop>
-    ensures { Moves (held S.Store store.old) (held S.Store store.new) (Performs (IsCommandOf Replace name.now (map string_bytes words.now)) (IsUnread Replace (map string_bytes words.now)) result) }
+) -> Result<Answer, Failure>
+    ensures { Moves (store_state S.Store store.old) (store_state S.Store store.new) (Performs (IsCommandOf Replace name.now (map string_bytes words.now)) (IsUnread Replace (map string_bytes words.now)) result) }
 {
     let [text] = words else {
         return Err(USAGE);
     };
-    let json = json_of(alloc, text.as_str())?;
+    let json = json_of_text(alloc, text.as_str())?;
     nothing(store.replace_json(name, json))
 }
 
@@ -52,14 +52,14 @@ pub fn set<S: Alter + Drop>(
     store: &mut Store<S>,
     name: &str,
     words: &[String],
-) -> Result<Answer, Stop>
-    ensures { Moves (held S.Store store.old) (held S.Store store.new) (Performs (IsCommandOf Set name.now (map string_bytes words.now)) (IsUnread Set (map string_bytes words.now)) result) }
+) -> Result<Answer, Failure>
+    ensures { Moves (store_state S.Store store.old) (store_state S.Store store.new) (Performs (IsCommandOf Set name.now (map string_bytes words.now)) (IsUnread Set (map string_bytes words.now)) result) }
 {
     let [id, key, text] = words else {
         return Err(USAGE);
     };
     let id = id_of(alloc, id.as_str())?;
-    let json = json_of(alloc, text.as_str())?;
+    let json = json_of_text(alloc, text.as_str())?;
     nothing(store.set(name, &id, key.as_str(), json))
 }
 
@@ -69,8 +69,8 @@ pub fn unset<S: Alter + Drop>(
     store: &mut Store<S>,
     name: &str,
     words: &[String],
-) -> Result<Answer, Stop>
-    ensures { Moves (held S.Store store.old) (held S.Store store.new) (Performs (IsCommandOf Unset name.now (map string_bytes words.now)) (IsUnread Unset (map string_bytes words.now)) result) }
+) -> Result<Answer, Failure>
+    ensures { Moves (store_state S.Store store.old) (store_state S.Store store.new) (Performs (IsCommandOf Unset name.now (map string_bytes words.now)) (IsUnread Unset (map string_bytes words.now)) result) }
 {
     let [id, key] = words else {
         return Err(USAGE);
@@ -85,8 +85,8 @@ pub fn remove<S: Alter + Drop>(
     store: &mut Store<S>,
     name: &str,
     words: &[String],
-) -> Result<Answer, Stop>
-    ensures { Moves (held S.Store store.old) (held S.Store store.new) (Performs (IsCommandOf Remove name.now (map string_bytes words.now)) (IsUnread Remove (map string_bytes words.now)) result) }
+) -> Result<Answer, Failure>
+    ensures { Moves (store_state S.Store store.old) (store_state S.Store store.new) (Performs (IsCommandOf Remove name.now (map string_bytes words.now)) (IsUnread Remove (map string_bytes words.now)) result) }
 {
     let [id] = words else {
         return Err(USAGE);

@@ -2,13 +2,13 @@
 
 ghost use Rattle.std.specs.Prelude.{◌<◌, ◌^◌, ◌-◌, map, string_bytes};
 ghost use Rattle.bson_table.specs.Moves.{Moves};
-ghost use Rattle.bson_store.specs.Calls.{held};
+ghost use Rattle.bson_store.specs.Calls.{store_state};
 ghost use Rattle.store_words.specs.declared.call.Call.TheVariants.{Import, Load};
 ghost use Rattle.store_program.specs.Commands.{Complains, IsOfLines, IsOfStream};
 ghost use Rattle.store_program.specs.Execute.{PerformsFed};
 
 use crate::answer::{Answer, number};
-use crate::stop::{Stop, USAGE};
+use crate::stop::{Failure, USAGE};
 use crate::texts::judged_input;
 use bson_store::{Source, Store};
 use sqlite::Alter;
@@ -20,9 +20,9 @@ pub fn import<S: Alter + Drop, I: Source>(
     name: &str,
     words: &[String],
     input: &mut I,
-) -> Result<Answer, Stop>
+) -> Result<Answer, Failure>
     requires { (I.feed input.old).failures < 2 ^ 64 - 1 }
-    ensures { Moves (held S.Store store.old) (held S.Store store.new) (PerformsFed (IsOfStream name.now (I.feed input.old) (I.feed input.new))
+    ensures { Moves (store_state S.Store store.old) (store_state S.Store store.new) (PerformsFed (IsOfStream name.now (I.feed input.old) (I.feed input.new))
         (Complains Import (map string_bytes words.now) (I.feed input.old) (I.feed input.new)) (I.feed input.old) (I.feed input.new) result) }
 {
     if !words.is_empty() {
@@ -38,9 +38,9 @@ pub fn load<S: Alter + Drop, I: Source>(
     name: &str,
     words: &[String],
     input: &mut I,
-) -> Result<Answer, Stop>
+) -> Result<Answer, Failure>
     requires { (I.feed input.old).failures < 2 ^ 64 - 1 }
-    ensures { Moves (held S.Store store.old) (held S.Store store.new) (PerformsFed (IsOfLines name.now (I.feed input.old) (I.feed input.new))
+    ensures { Moves (store_state S.Store store.old) (store_state S.Store store.new) (PerformsFed (IsOfLines name.now (I.feed input.old) (I.feed input.new))
         (Complains Load (map string_bytes words.now) (I.feed input.old) (I.feed input.new)) (I.feed input.old) (I.feed input.new) result) }
 {
     if !words.is_empty() {

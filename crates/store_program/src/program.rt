@@ -2,23 +2,23 @@
 
 ghost use Rattle.std.specs.Prelude.{◌≡◌, ◌≤◌, ◌<◌, ◌^◌, ◌-◌, Result};
 ghost use Rattle.bson_table.specs.Moves.{Moves};
-ghost use Rattle.bson_store.specs.Calls.{held};
+ghost use Rattle.bson_store.specs.Calls.{store_state};
 ghost use Rattle.store_program.specs.Execute.{Executes, Reports, SilentUnread, Tells};
-ghost use Rattle.store_program.specs.declared.stop.Stop.{Stop as Outcome};
+ghost use Rattle.store_program.specs.declared.stop.Failure.{Failure as Outcome};
 
 use crate::answer::Answer;
 use crate::changes::{insert, remove, replace, set, unset};
 use crate::inputs::{import, load};
 use crate::printing::print;
 use crate::reads::{collections, count, dump, export, find, get};
-use crate::stop::Stop;
+use crate::stop::Failure;
 use bson_store::{Sink, Source, Store};
 use sqlite::Alter;
 use std::alloc::Global;
 use store_words::{Call, Words, write_complaint, write_refusal};
 
 /// Prints what a command answers. Of one that isn't done nothing is printed.
-fn told<O: Sink>(alloc: Global, outcome: Result<Answer, Stop>, output: &mut O) -> Result<(), Stop>
+fn print_outcome<O: Sink>(alloc: Global, outcome: Result<Answer, Failure>, output: &mut O) -> Result<(), Failure>
     requires { (O.tally output.old).failures < 2 ^ 64 - 1 }
     ensures told { Tells outcome result (O.tally output.old).failures (O.tally output.new).failures }
     ensures unread { SilentUnread result output.old output.new }
@@ -26,42 +26,42 @@ fn told<O: Sink>(alloc: Global, outcome: Result<Answer, Stop>, output: &mut O) -
     match outcome {
         Ok(answer) => match print(alloc, &answer, output) {
             Ok(()) => Ok(()),
-            Err(error) => Err(Stop::Refused(error)),
+            Err(error) => Err(Failure::Refused(error)),
         },
         Err(stop) => Err(stop),
     }
 }
 
 /// Does what the words ask for, and prints the answer.
-fn serve<S: Alter + Drop, I: Source, O: Sink>(
+fn perform_and_print<S: Alter + Drop, I: Source, O: Sink>(
     alloc: Global,
     store: &mut Store<S>,
     words: &Words<'_>,
     input: &mut I,
     output: &mut O,
-) -> Result<(), Stop>
+) -> Result<(), Failure>
     requires input { (I.feed input.old).failures < 2 ^ 64 - 1 }
     requires output { (O.tally output.old).failures < 2 ^ 64 - 1 }
-    ensures step { Moves (held S.Store store.old) (held S.Store store.new) (Executes words.now (I.feed input.old) (I.feed input.new)
+    ensures step { Moves (store_state S.Store store.old) (store_state S.Store store.new) (Executes words.now (I.feed input.old) (I.feed input.new)
         (O.tally output.old) (O.tally output.new) result) }
     ensures unread { SilentUnread result output.old output.new }
 {
     let name = words.coll;
     let rest = words.rest;
     match words.call {
-        Call::Insert => told(alloc, insert(alloc, store, name, rest), output),
-        Call::Replace => told(alloc, replace(alloc, store, name, rest), output),
-        Call::Get => told(alloc, get(alloc, store, name, rest), output),
-        Call::Set => told(alloc, set(alloc, store, name, rest), output),
-        Call::Unset => told(alloc, unset(alloc, store, name, rest), output),
-        Call::Remove => told(alloc, remove(alloc, store, name, rest), output),
-        Call::Find => told(alloc, find(alloc, store, name, rest), output),
-        Call::Count => told(alloc, count(alloc, store, name, rest), output),
-        Call::Import => told(alloc, import(store, name, rest, input), output),
+        Call::Insert => print_outcome(alloc, insert(alloc, store, name, rest), output),
+        Call::Replace => print_outcome(alloc, replace(alloc, store, name, rest), output),
+        Call::Get => print_outcome(alloc, get(alloc, store, name, rest), output),
+        Call::Set => print_outcome(alloc, set(alloc, store, name, rest), output),
+        Call::Unset => print_outcome(alloc, unset(alloc, store, name, rest), output),
+        Call::Remove => print_outcome(alloc, remove(alloc, store, name, rest), output),
+        Call::Find => print_outcome(alloc, find(alloc, store, name, rest), output),
+        Call::Count => print_outcome(alloc, count(alloc, store, name, rest), output),
+        Call::Import => print_outcome(alloc, import(store, name, rest, input), output),
         Call::Export => export(store, name, rest, output),
         Call::Dump => dump(alloc, store, name, rest, output),
-        Call::Load => told(alloc, load(alloc, store, name, rest, input), output),
-        Call::Collections => told(alloc, collections(store, name, rest), output),
+        Call::Load => print_outcome(alloc, load(alloc, store, name, rest, input), output),
+        Call::Collections => print_outcome(alloc, collections(store, name, rest), output),
     }
 }
 
@@ -87,16 +87,16 @@ pub fn execute<S: Alter + Drop, I: Source, O: Sink, F: Sink>(
     ensures unread { result ≡ 2 → output.new ≡ output.old }
     // What was done, and that just this is reported: the refusal of the command's own step, or of a device exactly if that failed.
     ensures step { (outcome : Result (Unit {0}) Outcome) × Reports outcome result (F.tally faults.old) (F.tally faults.new)
-        × Moves (held S.Store store.old) (held S.Store store.new) (Executes words.now (I.feed input.old) (I.feed input.new)
+        × Moves (store_state S.Store store.old) (store_state S.Store store.new) (Executes words.now (I.feed input.old) (I.feed input.new)
         (O.tally output.old) (O.tally output.new) outcome) }
 {
-    match serve(alloc, store, words, input, output) {
+    match perform_and_print(alloc, store, words, input, output) {
         Ok(()) => 0,
-        Err(Stop::Refused(error)) => {
+        Err(Failure::Refused(error)) => {
             let _ = write_refusal(faults, error.kind, error.document);
             1
         }
-        Err(Stop::Words(complaint)) => {
+        Err(Failure::Words(complaint)) => {
             let _ = write_complaint(faults, complaint);
             2
         }

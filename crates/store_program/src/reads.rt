@@ -2,7 +2,7 @@
 
 ghost use Rattle.std.specs.Prelude.{◌<◌, ◌^◌, ◌-◌, map, string_bytes};
 ghost use Rattle.bson_table.specs.Moves.{Moves};
-ghost use Rattle.bson_store.specs.Calls.{held};
+ghost use Rattle.bson_store.specs.Calls.{store_state};
 ghost use Rattle.store_words.specs.declared.call.Call.TheVariants.{Get, Find, Count, Export, Dump, Collections};
 ghost use Rattle.store_program.specs.Commands.{IsCommandOf, IsUnread};
 ghost use Rattle.store_program.specs.Execute.{Comes, Executed, Performs, SilentUnread};
@@ -10,8 +10,8 @@ ghost use Rattle.bson_base.specs.Device.{Feed};
 
 use crate::answer::{Answer, documents, names, number, tree};
 use crate::dumping::Printer;
-use crate::stop::{Stop, USAGE};
-use crate::texts::{filter_of, id_of, mode_of};
+use crate::stop::{Failure, USAGE};
+use crate::texts::{filter_of_text, id_of, mode_of};
 use bson_store::{Sink, Store};
 use sqlite::Alter;
 use std::alloc::Global;
@@ -22,8 +22,8 @@ pub fn get<S: Alter + Drop>(
     store: &mut Store<S>,
     name: &str,
     words: &[String],
-) -> Result<Answer, Stop>
-    ensures { Moves (held S.Store store.old) (held S.Store store.new) (Performs (IsCommandOf Get name.now (map string_bytes words.now)) (IsUnread Get (map string_bytes words.now)) result) }
+) -> Result<Answer, Failure>
+    ensures { Moves (store_state S.Store store.old) (store_state S.Store store.new) (Performs (IsCommandOf Get name.now (map string_bytes words.now)) (IsUnread Get (map string_bytes words.now)) result) }
 {
     let Some((id, form)) = words.split_first() else {
         return Err(USAGE);
@@ -39,9 +39,9 @@ pub fn export<S: Alter + Drop, O: Sink>(
     name: &str,
     words: &[String],
     output: &mut O,
-) -> Result<(), Stop>
+) -> Result<(), Failure>
     requires { (O.tally output.old).failures < 2 ^ 64 - 1 }
-    ensures step { (f : Feed) → Moves (held S.Store store.old) (held S.Store store.new) (Comes (Executed Export name.now (map string_bytes words.now) f f (O.tally output.old) (O.tally output.new) result)) }
+    ensures step { (f : Feed) → Moves (store_state S.Store store.old) (store_state S.Store store.new) (Comes (Executed Export name.now (map string_bytes words.now) f f (O.tally output.old) (O.tally output.new) result)) }
     ensures unread { SilentUnread result output.old output.new }
 {
     if !words.is_empty() {
@@ -49,7 +49,7 @@ pub fn export<S: Alter + Drop, O: Sink>(
     }
     match store.export(name, output) {
         Ok(()) => Ok(()),
-        Err(error) => Err(Stop::Refused(error)),
+        Err(error) => Err(Failure::Refused(error)),
     }
 }
 
@@ -59,13 +59,13 @@ pub fn find<S: Alter + Drop>(
     store: &mut Store<S>,
     name: &str,
     words: &[String],
-) -> Result<Answer, Stop>
-    ensures { Moves (held S.Store store.old) (held S.Store store.new) (Performs (IsCommandOf Find name.now (map string_bytes words.now)) (IsUnread Find (map string_bytes words.now)) result) }
+) -> Result<Answer, Failure>
+    ensures { Moves (store_state S.Store store.old) (store_state S.Store store.new) (Performs (IsCommandOf Find name.now (map string_bytes words.now)) (IsUnread Find (map string_bytes words.now)) result) }
 {
     let [text] = words else {
         return Err(USAGE);
     };
-    let filter = filter_of(alloc, text.as_str())?;
+    let filter = filter_of_text(alloc, text.as_str())?;
     documents(store.find(name, &filter))
 }
 
@@ -75,13 +75,13 @@ pub fn count<S: Alter + Drop>(
     store: &mut Store<S>,
     name: &str,
     words: &[String],
-) -> Result<Answer, Stop>
-    ensures { Moves (held S.Store store.old) (held S.Store store.new) (Performs (IsCommandOf Count name.now (map string_bytes words.now)) (IsUnread Count (map string_bytes words.now)) result) }
+) -> Result<Answer, Failure>
+    ensures { Moves (store_state S.Store store.old) (store_state S.Store store.new) (Performs (IsCommandOf Count name.now (map string_bytes words.now)) (IsUnread Count (map string_bytes words.now)) result) }
 {
     let [text] = words else {
         return Err(USAGE);
     };
-    let filter = filter_of(alloc, text.as_str())?;
+    let filter = filter_of_text(alloc, text.as_str())?;
     number(store.count(name, &filter))
 }
 
@@ -93,16 +93,16 @@ pub fn dump<S: Alter + Drop, O: Sink>(
     name: &str,
     words: &[String],
     output: &mut O,
-) -> Result<(), Stop>
+) -> Result<(), Failure>
     requires { (O.tally output.old).failures < 2 ^ 64 - 1 }
-    ensures step { (f : Feed) → Moves (held S.Store store.old) (held S.Store store.new) (Comes (Executed Dump name.now (map string_bytes words.now) f f (O.tally output.old) (O.tally output.new) result)) }
+    ensures step { (f : Feed) → Moves (store_state S.Store store.old) (store_state S.Store store.new) (Comes (Executed Dump name.now (map string_bytes words.now) f f (O.tally output.old) (O.tally output.new) result)) }
     ensures unread { SilentUnread result output.old output.new }
 {
     if !words.is_empty() {
         return Err(USAGE);
     }
     if let Err(error) = store.check_json(name) {
-        return Err(Stop::Refused(error));
+        return Err(Failure::Refused(error));
     }
     let printer = Printer {
         output,
@@ -117,7 +117,7 @@ pub fn dump<S: Alter + Drop, O: Sink>(
         }
         Err((error, printer)) => {
             let _output = printer.output;
-            Err(Stop::Refused(error))
+            Err(Failure::Refused(error))
         }
     }
 }
@@ -127,8 +127,8 @@ pub fn collections<S: Alter + Drop>(
     store: &mut Store<S>,
     name: &str,
     words: &[String],
-) -> Result<Answer, Stop>
-    ensures { Moves (held S.Store store.old) (held S.Store store.new) (Performs (IsCommandOf Collections name.now (map string_bytes words.now)) (IsUnread Collections (map string_bytes words.now)) result) }
+) -> Result<Answer, Failure>
+    ensures { Moves (store_state S.Store store.old) (store_state S.Store store.new) (Performs (IsCommandOf Collections name.now (map string_bytes words.now)) (IsUnread Collections (map string_bytes words.now)) result) }
 {
     if !words.is_empty() {
         return Err(USAGE);

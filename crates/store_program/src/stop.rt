@@ -3,43 +3,43 @@
 ghost use Rattle.std.specs.Prelude.{◌≡◌};
 ghost use Rattle.bson_store.specs.Refusals.{refusal};
 ghost use Rattle.store_laws.specs.declared.error.ErrorKind.TheVariants.{Memory};
-ghost use Rattle.store_program.specs.declared.stop.Stop.TheVariants.{Refused};
+ghost use Rattle.store_program.specs.declared.stop.Failure.TheVariants.{Refused};
 
 use bson_store::{ErrorKind, StoreError};
 use std::alloc::AllocError;
-use store_words::Complaint;
+use store_words::UsageError;
 
 /// Why a command isn't done, or its answer not printed.
 #[derive(Clone, Copy, Debug, PartialEq, Eq)]
-pub enum Stop {
+pub enum Failure {
     /// A text among the words, or a line of the input, can't be read. The store was asked nothing.
-    Words(Complaint),
+    Words(UsageError),
     /// A refusal: of the store, of the reader or the writer, or for want of memory.
     Refused(StoreError),
 }
 
 /// The words are no line of the program's table.
-pub const USAGE: Stop = Stop::Words(Complaint::Usage);
+pub const USAGE: Failure = Failure::Words(UsageError::Usage);
 
-impl From<StoreError> for Stop {
+impl From<StoreError> for Failure {
     ghost from_gives = { λ e s. s ≡ Refused e };
 
-    fn from(error: StoreError) -> Stop {
-        Stop::Refused(error)
+    fn from(error: StoreError) -> Failure {
+        Failure::Refused(error)
     }
 }
 
-impl From<AllocError> for Stop {
+impl From<AllocError> for Failure {
     ghost from_gives = { λ _ s. s ≡ Refused (refusal Memory) };
 
-    fn from(error: AllocError) -> Stop {
-        Stop::Refused(StoreError::from(error))
+    fn from(error: AllocError) -> Failure {
+        Failure::Refused(StoreError::from(error))
     }
 }
 
 /// A refusal of a call of many documents or of none.
-pub fn refused(kind: ErrorKind) -> Stop
+pub fn refuse(kind: ErrorKind) -> Failure
     ensures { result ≡ Refused (refusal kind) }
 {
-    Stop::Refused(StoreError::from(kind))
+    Failure::Refused(StoreError::from(kind))
 }

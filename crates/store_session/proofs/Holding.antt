@@ -7,7 +7,7 @@ use Rattle.sqlite.specs.State.{State}
 use Rattle.bson_base.specs.Device.{Feed, Gives, Tally}
 use Rattle.bson_base.proofs.DeviceLemmas.{Gives-trans}
 use Rattle.bson_table.specs.Moves.{Moves}
-use Rattle.bson_table.specs.Rows.{Doc}
+use Rattle.bson_table.specs.Rows.{TableRow}
 use Rattle.bson_store.proofs.Moving.{moved_twice, rests}
 use Rattle.session_lines.specs.Line.{IsUnbroken, Keeps}
 use Rattle.session_lines.specs.Lines.{Reads, ReadsNext, waiting}
@@ -20,7 +20,7 @@ use Rattle.store_laws.specs.declared.error.ErrorKind.TheVariants.{Reader, Writer
 use Rattle.store_session.specs.Answering.{Answers}
 use Rattle.store_session.specs.Session.{Turn, lines_of, answers_of, Holds, ReadsSome, WritesAll, Sends, Ends}
 
-Holds-snoc : (n m : ℕ) (ts : List Turn) (t : Turn) (docs mid after : List Doc) → n + length ts ≡ m → Holds n ts docs mid → Answers m t.text t.answer mid after → Holds n (ts ++ t ∷ []) docs after
+Holds-snoc : (n m : ℕ) (ts : List Turn) (t : Turn) (docs mid after : List TableRow) → n + length ts ≡ m → Holds n ts docs mid → Answers m t.text t.answer mid after → Holds n (ts ++ t ∷ []) docs after
 Holds-snoc n m [] t docs mid after e is answers =
     let here : n ≡ m = omega (arith, e) in
     (after, subst (λ k. Answers k t.text t.answer docs after) (sym here) (subst (λ d. Answers m t.text t.answer d after) is answers), refl)

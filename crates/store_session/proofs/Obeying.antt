@@ -6,7 +6,7 @@ use Rattle.sqlite.specs.State.{State}
 use Rattle.bson_base.specs.Device.{Feed, Tally, TakesText}
 use Rattle.bson_base.specs.declared.device.SliceSource.{SliceSource}
 use Rattle.bson_base.specs.declared.device.VecSink.{VecSink}
-use Rattle.bson_table.specs.Rows.{Doc}
+use Rattle.bson_table.specs.Rows.{TableRow}
 use Rattle.bson_table.specs.Moves.{Moves}
 use Rattle.bson_store.proofs.Moving.{moved}
 use Rattle.session_lines.specs.Line.{KeepsSo}
@@ -19,7 +19,7 @@ use Rattle.session_lines.specs.declared.request.RequestError.TheVariants.{Unread
 use Rattle.store_words.specs.Words.{IsLine}
 use Rattle.store_words.specs.declared.words.Words.{Words}
 use Rattle.store_program.specs.Execute.{Executes, Reports}
-use Rattle.store_program.specs.declared.stop.Stop.{Stop}
+use Rattle.store_program.specs.declared.stop.Failure.{Failure}
 use Rattle.store_session.specs.Answering.{Answers, ComesOf, Grants, IsAnswerTo, Obeys, ReadsLine, Does, form_of, fresh, source_of, tally_of}
 use Rattle.store_session.specs.Session.{Sends}
 use Rattle.store_laws.specs.declared.error.ErrorKind.TheVariants.{Writer}
@@ -53,7 +53,7 @@ source_is bytes input at e zero = ap (feed bytes) zero ∙ ap source_of e
 -- what `execute` says, of sinks and a source in memory
 abbrev pub Done : State → State → Words → SliceSource → Feed → VecSink → VecSink → Outcome → Type 0
 Done s t w from left output faults o =
-    (outcome : Result (Unit {0}) Stop) × Reports outcome o.status (tally_of faults) (tally_of o.faults) × Moves s t (Executes w (feed from.bytes.now from.at) left (tally_of output) (tally_of o.output) outcome)
+    (outcome : Result (Unit {0}) Failure) × Reports outcome o.status (tally_of faults) (tally_of o.faults) × Moves s t (Executes w (feed from.bytes.now from.at) left (tally_of output) (tally_of o.output) outcome)
 
 -- a word without a byte in front
 pub in_front : (xs all shown : List (String Global)) (x : String Global) → string_bytes x ≡ [] → all ≡ insert xs 0 x → shown ≡ all → map string_bytes shown ≡ [] ∷ map string_bytes xs
@@ -66,7 +66,7 @@ module _ (s t : State) where
   obeyed words input w o from left faults output line form all start none zero nothing whole silent unread (outcome, told, m) =
       moved s t (Executes w (feed from.bytes.now from.at) left (tally_of output) (tally_of o.output) outcome) (Obeys words input o) m (λ docs after h. inr (w.file.now, w.coll.now, w.call, map string_bytes w.rest.now, line, form, does docs after h))
     where
-      does : (docs after : List Doc) → Executes w (feed from.bytes.now from.at) left (tally_of output) (tally_of o.output) outcome docs after → Does w.call w.coll.now (map string_bytes w.rest.now) input o docs after
+      does : (docs after : List TableRow) → Executes w (feed from.bytes.now from.at) left (tally_of output) (tally_of o.output) outcome docs after → Does w.call w.coll.now (map string_bytes w.rest.now) input o docs after
       does docs after h = record {
         silent = λ is. ap (λ (s : VecSink). s.bytes.items) (silent is) ∙ none;
         unread = λ is. ap (λ (s : VecSink). s.bytes.items) (unread is) ∙ nothing;

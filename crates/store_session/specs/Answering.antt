@@ -2,7 +2,7 @@
 use Rattle.std.specs.Prelude.{◌≡◌, ◌⊎◌, ◌<◌, ◌-◌, ℕ, List, [], ◌∷◌, Some, None, Result, Ok, Err, length, map, string_bytes, take, IsUtf8}
 use Rattle.bson_base.specs.Device.{Feed, Tally, TakesText}
 use Rattle.bson_base.specs.declared.device.VecSink.{VecSink}
-use Rattle.bson_table.specs.Rows.{Doc}
+use Rattle.bson_table.specs.Rows.{TableRow}
 use Rattle.session_lines.specs.Answers.{answer_text, bytes_text, memory_line, printed_text}
 use Rattle.session_lines.specs.Line.{Keeps}
 use Rattle.session_lines.specs.Requests.{AsksFor}
@@ -11,14 +11,14 @@ use Rattle.session_lines.specs.declared.line.TheConstants.{MOST}
 use Rattle.session_lines.specs.declared.request.Request.{Request}
 use Rattle.session_lines.specs.declared.request.RequestError.{RequestError}
 use Rattle.session_lines.specs.declared.request.RequestError.TheVariants.{Unreadable, Memory}
-use Rattle.store_laws.specs.declared.error.ErrorKind.TheVariants as kinds
+use Rattle.store_laws.specs.declared.error.ErrorKind.TheVariants as kind
 use Rattle.store_words.specs.Lines.{complaint_line, refusal_line}
 use Rattle.store_words.specs.Words.{IsLine}
 use Rattle.store_words.specs.declared.call.Call.{Call}
 use Rattle.store_words.specs.declared.call.Call.TheVariants.{Find, Export}
-use Rattle.store_words.specs.declared.lines.Complaint.TheVariants as complaints
+use Rattle.store_words.specs.declared.lines.UsageError.TheVariants as complaints
 use Rattle.store_program.specs.Execute.{Comes, Executed, Reports}
-use Rattle.store_program.specs.declared.stop.Stop.{Stop}
+use Rattle.store_program.specs.declared.stop.Failure.{Failure}
 use Rattle.store_session.specs.declared.outcome.Form.{Form}
 use Rattle.store_session.specs.declared.outcome.Form.TheVariants.{Nothing, Text, Bytes}
 use Rattle.store_session.specs.declared.outcome.Outcome.{Outcome}
@@ -41,11 +41,11 @@ abbrev pub source_of : List ℕ → Feed
 source_of bytes = record { failures = 0; supply = record { given = Some []; left = Some bytes } }
 
 -- the command was done so, as `execute` says, and it is told how it ended
-pub record Does (call : Call) (coll : List ℕ) (rest : List (List ℕ)) (input : List ℕ) (o : Outcome) (docs after : List Doc) : Type 0 where
+pub record Does (call : Call) (coll : List ℕ) (rest : List (List ℕ)) (input : List ℕ) (o : Outcome) (docs after : List TableRow) : Type 0 where
   pub silent : o.status ≡ 0 → o.faults.bytes.items ≡ []
   pub unread : o.status ≡ 2 → o.output.bytes.items ≡ []
   pub left : Feed
-  pub outcome : Result (Unit {0}) Stop
+  pub outcome : Result (Unit {0}) Failure
   pub told : Reports outcome o.status fresh (tally_of o.faults)
   pub done : Comes (Executed call coll rest (source_of input) left fresh (tally_of o.output) outcome) docs after
 
@@ -59,17 +59,17 @@ abbrev pub IsNoLine : List (List ℕ) → Type 0
 IsNoLine words = (file coll : List ℕ) (call : Call) (rest : List (List ℕ)) → IsLine words file call coll rest → ⊥
 
 -- that is told; or the command of the words was done
-abbrev pub Obeys : List (List ℕ) → List ℕ → Outcome → List Doc → List Doc → Type 0
+abbrev pub Obeys : List (List ℕ) → List ℕ → Outcome → List TableRow → List TableRow → Type 0
 Obeys words input o docs after =
     (IsNoLine words × Tells o 2 Text (complaint_line complaints.Usage) × (after ≡ docs))
     ⊎ ((file coll : List ℕ) × (call : Call) × (rest : List (List ℕ)) × IsLine words file call coll rest × (o.form ≡ form_of call) × Does call coll rest input o docs after)
 
 -- memory was wanted, and nothing was done
-abbrev pub WantsMemory : Outcome → List Doc → List Doc → Type 0
-WantsMemory o docs after = Tells o 1 Nothing (refusal_line kinds.Memory None) × (after ≡ docs)
+abbrev pub WantsMemory : Outcome → List TableRow → List TableRow → Type 0
+WantsMemory o docs after = Tells o 1 Nothing (refusal_line kind.Memory None) × (after ≡ docs)
 
 -- that, or the command of the words, behind one for the file, was obeyed
-abbrev pub Grants : List (List ℕ) → List ℕ → Outcome → List Doc → List Doc → Type 0
+abbrev pub Grants : List (List ℕ) → List ℕ → Outcome → List TableRow → List TableRow → Type 0
 Grants words input o docs after = WantsMemory o docs after ⊎ Obeys ([] ∷ words) input o docs after
 
 -- the text asks for no command, or is too long
@@ -77,7 +77,7 @@ abbrev pub AsksNothing : List ℕ → Type 0
 AsksNothing text = ((words : List (List ℕ)) (input : List ℕ) → AsksFor text words input → ⊥) ⊎ (MOST < length text)
 
 -- what came of the line at this place: it is told that it is no command, or that memory was wanted, or what it asks for is obeyed
-abbrev pub ComesOf : ℕ → List ℕ → Outcome → List Doc → List Doc → Type 0
+abbrev pub ComesOf : ℕ → List ℕ → Outcome → List TableRow → List TableRow → Type 0
 ComesOf number text o docs after =
     (AsksNothing text × Tells o 2 Nothing (complaint_line (complaints.Line number)) × (after ≡ docs))
     ⊎ (WantsMemory o docs after ⊎ ((words : List (List ℕ)) × (input : List ℕ) × AsksFor text words input × Grants words input o docs after))
@@ -103,7 +103,7 @@ IsAnswerTo o answer =
     (output : List ℕ) × (told : List ℕ) × IsOutput o.form o.output.bytes.items output × IsTold o.faults.bytes.items told × ((answer ≡ answer_text o.status output told) ⊎ (answer ≡ memory_line))
 
 -- a line without a byte is skipped; of every other one something came, which is answered
-abbrev pub Answers : ℕ → List ℕ → List ℕ → List Doc → List Doc → Type 0
+abbrev pub Answers : ℕ → List ℕ → List ℕ → List TableRow → List TableRow → Type 0
 Answers number text answer docs after = ((text ≡ []) × (answer ≡ []) × (after ≡ docs)) ⊎ ((o : Outcome) × ComesOf number text o docs after × IsAnswerTo o answer)
 
 -- the request of a line

@@ -2,7 +2,7 @@
 use Rattle.std.specs.Prelude.{◌≡◌, ◌⊎◌, ◌≤◌, ℕ, suc, ◌+◌, ◌-◌, ◌^◌, List, [], ◌∷◌, ◌++◌, Result, Ok, Err, length}
 use Rattle.std.specs.Io.KnownBytes.{Appends}
 use Rattle.bson_base.specs.Device.{Feed, Tally, Gives, IsExhausted, TakesBeginning}
-use Rattle.bson_table.specs.Rows.{Doc}
+use Rattle.bson_table.specs.Rows.{TableRow}
 use Rattle.session_lines.specs.Line.{IsUnbroken}
 use Rattle.store_laws.specs.declared.error.ErrorKind.{ErrorKind}
 use Rattle.store_laws.specs.declared.error.ErrorKind.TheVariants.{Memory, Reader, Writer}
@@ -24,9 +24,9 @@ answers_of [] = []
 answers_of (t ∷ ts) = t.answer ++ answers_of ts
 
 -- the lines from this place on are answered one after the other, each over the rows that the one before it left
-abbrev pub Holds : ℕ → List Turn → List Doc → List Doc → Type 0
+abbrev pub Holds : ℕ → List Turn → List TableRow → List TableRow → Type 0
 Holds n [] docs after = after ≡ docs
-Holds n (t ∷ ts) docs after = (mid : List Doc) × Answers n t.text t.answer docs mid × Holds (suc n) ts mid after
+Holds n (t ∷ ts) docs after = (mid : List TableRow) × Answers n t.text t.answer docs mid × Holds (suc n) ts mid after
 
 -- all of the input was read, and it is these lines, of which the last may lack its line feed
 abbrev pub ReadsAll : List Turn → Feed → Feed → Type 0

@@ -2,7 +2,7 @@
 
 ghost use Rattle.std.specs.Prelude.{[], ◌∷◌, ℕ, List, map, string_bytes};
 ghost use Rattle.bson_table.specs.Moves.{Moves};
-ghost use Rattle.bson_store.specs.Calls.{held};
+ghost use Rattle.bson_store.specs.Calls.{store_state};
 ghost use Rattle.session_lines.specs.Line.{Keeps};
 ghost use Rattle.store_session.specs.Answering.{ComesOf, Grants, Obeys, ReadsLine};
 
@@ -13,7 +13,7 @@ use session_lines::{Kept, Line, Request, RequestError, read_request};
 use sqlite::Alter;
 use std::alloc::Global;
 use store_program::execute;
-use store_words::{Complaint, read_words};
+use store_words::{UsageError, read_words};
 
 /// The request of a line.
 fn request_of(alloc: Global, line: &Line) -> Result<Request, RequestError>
@@ -33,10 +33,10 @@ fn perform<S: Alter + Drop>(
     words: &[String],
     input: &[u8],
 ) -> Outcome
-    ensures { Moves (held S.Store store.old) (held S.Store store.new) (Obeys (map string_bytes words.now) input.now result) }
+    ensures { Moves (store_state S.Store store.old) (store_state S.Store store.new) (Obeys (map string_bytes words.now) input.now result) }
 {
     let Some(words) = read_words(words) else {
-        return Outcome::complaint(alloc, Form::Text, Complaint::Usage);
+        return Outcome::complaint(alloc, Form::Text, UsageError::Usage);
     };
     let mut input = SliceSource::new(input);
     let mut output = VecSink::new(alloc);
@@ -52,7 +52,7 @@ fn perform<S: Alter + Drop>(
 
 /// Does what a request asks for.
 fn grant<S: Alter + Drop>(alloc: Global, store: &mut Store<S>, request: Request) -> Outcome
-    ensures { Moves (held S.Store store.old) (held S.Store store.new) (Grants (map string_bytes request.words.items) request.input.items result) }
+    ensures { Moves (store_state S.Store store.old) (store_state S.Store store.new) (Grants (map string_bytes request.words.items) request.input.items result) }
 {
     let mut words = request.words;
     match words.insert(0, String::new(alloc)) {
@@ -68,12 +68,12 @@ pub fn obey<S: Alter + Drop>(
     number: u64,
     line: &Line,
 ) -> Outcome
-    ensures { (text : List ℕ) → Keeps line.now text → Moves (held S.Store store.old) (held S.Store store.new) (ComesOf number text result) }
+    ensures { (text : List ℕ) → Keeps line.now text → Moves (store_state S.Store store.old) (store_state S.Store store.new) (ComesOf number text result) }
 {
     match request_of(alloc, line) {
         Ok(request) => grant(alloc, store, request),
         Err(RequestError::Unreadable) => {
-            Outcome::complaint(alloc, Form::Nothing, Complaint::Line(number))
+            Outcome::complaint(alloc, Form::Nothing, UsageError::Line(number))
         }
         Err(RequestError::Memory) => Outcome::no_memory(alloc),
     }

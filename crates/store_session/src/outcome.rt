@@ -8,7 +8,7 @@ use bson_base::VecSink;
 use bson_store::ErrorKind;
 use session_lines::{Answer, Output};
 use std::alloc::Global;
-use store_words::{Call, Complaint, write_complaint, write_refusal};
+use store_words::{Call, UsageError, write_complaint, write_refusal};
 
 /// What the output of a command is, in its answer.
 #[derive(Clone, Copy, Debug, PartialEq, Eq)]
@@ -78,7 +78,7 @@ impl Outcome {
     ghost use Rattle.store_session.specs.declared.outcome.Form.TheVariants.{Nothing};
 
     /// A complaint is told, and nothing was done.
-    pub fn complaint(alloc: Global, form: Form, complaint: Complaint) -> Outcome
+    pub fn complaint(alloc: Global, form: Form, complaint: UsageError) -> Outcome
         ensures { Tells result 2 form (complaint_line complaint) }
     {
         let mut faults = VecSink::new(alloc);

@@ -2,7 +2,7 @@
 
 ghost use Rattle.std.specs.Prelude.{◌<◌, ◌^◌, ◌-◌, ℕ, List};
 ghost use Rattle.bson_table.specs.Moves.{Moves};
-ghost use Rattle.bson_store.specs.Calls.{held};
+ghost use Rattle.bson_store.specs.Calls.{store_state};
 ghost use Rattle.session_lines.specs.Line.{Keeps};
 ghost use Rattle.store_session.specs.Answering.{Answers};
 ghost use Rattle.store_session.specs.Session.{Ends, Holds, Sends, Turn};
@@ -24,7 +24,7 @@ fn reply<S: Alter + Drop, O: Sink>(
 ) -> Result<(), ErrorKind>
     requires { (O.tally output.old).failures < 2 ^ 64 - 1 }
     ensures { (answer : List ℕ) × Sends result answer (O.tally output.old) (O.tally output.new)
-        × ((text : List ℕ) → Keeps line.now text → Moves (held S.Store store.old) (held S.Store store.new) (Answers number text answer)) }
+        × ((text : List ℕ) → Keeps line.now text → Moves (store_state S.Store store.old) (store_state S.Store store.new) (Answers number text answer)) }
 {
     if line.kept == Kept::Whole && line.bytes.is_empty() {
         return Ok(());
@@ -50,7 +50,7 @@ pub fn serve<S: Alter + Drop, I: Source, O: Sink>(
     requires input { (I.feed input.old).failures < 2 ^ 64 - 1 }
     requires output { (O.tally output.old).failures < 2 ^ 64 - 1 }
     ensures { (turns : List Turn) × Ends result turns (I.feed input.old) (I.feed input.new) (O.tally output.old) (O.tally output.new)
-        × Moves (held S.Store store.old) (held S.Store store.new) (Holds 1 turns) }
+        × Moves (store_state S.Store store.old) (store_state S.Store store.new) (Holds 1 turns) }
 {
     let Ok(mut lines) = Lines::new(alloc) else {
         return Err(ErrorKind::Memory);

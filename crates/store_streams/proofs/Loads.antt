@@ -6,10 +6,10 @@ use Rattle.serde_json.specs.Data.{Data}
 use Rattle.store_laws.specs.Reading.{Documents, ReadsTree, ReadsTrees}
 use Rattle.store_laws.specs.State.{refusal_of, or_later, first_refusal}
 use Rattle.store_laws.specs.declared.error.ErrorKind.{ErrorKind}
-use Rattle.store_documents.specs.declared.write.Written.{Written}
+use Rattle.store_documents.specs.declared.write.KeptRow.{KeptRow}
 use Rattle.store_streams.specs.Judging.{AnswersRow, AreWrittenRows, Judges, stream_refusal}
 use Rattle.store_streams.specs.declared.error.StreamError.{StreamError}
-use Rattle.store_streams.specs.declared.error.StreamError.TheVariants as errors
+use Rattle.store_streams.specs.declared.error.StreamError.TheVariants as streams
 use Rattle.store_streams.proofs.Going.{judged_refused, tree_refused}
 use Rattle.store_streams.proofs.SoFar.{SoFar, so_far_done, so_far_pushed}
 use Rattle.store_streams.proofs.Streams.{any_trees, trees_end, trees_more}
@@ -34,14 +34,14 @@ kept_on i (d ∷ ds) more stop h = by (refusal_of d) h (kept_on (suc i) ds more 
     by None h next = next h ∙ ap (λ (n : ℕ). first_refusal n more stop) (omega arith)
     by (Some k) h next = cc
 
-as_long : (rows : List Written) (ds : Documents) → AreWrittenRows rows ds → length rows ≡ length ds
+as_long : (rows : List KeptRow) (ds : Documents) → AreWrittenRows rows ds → length rows ≡ length ds
 as_long [] [] h = refl
 as_long (r ∷ rows) (d ∷ ds) h = ap suc (as_long rows ds h.2)
 as_long [] (d ∷ ds) h = absurd h
 as_long (r ∷ rows) [] h = absurd h
 
 -- trees that were judged, with these to come
-so_far : (js rest : List Data) (rows : Vec Written Global) → Judges (ReadsTrees js) (Ok rows) → SoFar (ReadsTrees (js ++ rest)) (ReadsTrees rest) rows.items (length rows.items)
+so_far : (js rest : List Data) (rows : Vec KeptRow Global) → Judges (ReadsTrees js) (Ok rows) → SoFar (ReadsTrees (js ++ rest)) (ReadsTrees rest) rows.items (length rows.items)
 so_far js rest rows (ds, reads, read, fits, are) = record {
   done = ds;
   reads = λ more stop h. read_on js ds rest more stop reads h;
@@ -53,14 +53,14 @@ so_far js rest rows (ds, reads, read, fits, are) = record {
 -- ---- one tree more
 
 -- its document is kept
-pub taken : (js : List Data) (j : Data) (rows new : Vec Written Global) (w : Written) → Judges (ReadsTrees js) (Ok rows) → AnswersRow (ReadsTree j) (Ok w) → new.items ≡ rows.items ++ w ∷ [] → Judges (ReadsTrees (js ++ j ∷ [])) (Ok new)
+pub taken : (js : List Data) (j : Data) (rows new : Vec KeptRow Global) (w : KeptRow) → Judges (ReadsTrees js) (Ok rows) → AnswersRow (ReadsTree j) (Ok w) → new.items ≡ rows.items ++ w ∷ [] → Judges (ReadsTrees (js ++ j ∷ [])) (Ok new)
 taken js j rows new w h a pushed =
     let whole = ReadsTrees (js ++ j ∷ []) in
     let more = so_far_pushed whole (ReadsTrees (j ∷ [])) (ReadsTrees []) rows.items new.items a.0 w (so_far js (j ∷ []) rows h) (λ ds stop reads. trees_more j [] a.0 ds stop a.1 reads) a.2 a.3 a.4 a.5 pushed in
     so_far_done whole (ReadsTrees []) new (length new.items) more trees_end
 
 -- it is refused, whatever comes behind it
-pub refused : (js : List Data) (j : Data) (rows : Vec Written Global) (k : ErrorKind) (i : ℕ) (e : StreamError) → Judges (ReadsTrees js) (Ok rows) → AnswersRow (ReadsTree j) (Err k) → i ≡ length rows.items → e ≡ stream_refusal k i
+pub refused : (js : List Data) (j : Data) (rows : Vec KeptRow Global) (k : ErrorKind) (i : ℕ) (e : StreamError) → Judges (ReadsTrees js) (Ok rows) → AnswersRow (ReadsTree j) (Err k) → i ≡ length rows.items → e ≡ stream_refusal k i
     → (more : List Data) → Judges (ReadsTrees ((js ++ j ∷ []) ++ more)) (Err e)
 refused js j rows k i e h a place is more =
     let told = judged_refused (ReadsTrees (js ++ j ∷ more)) (ReadsTrees (j ∷ more)) rows.items (length rows.items) k (so_far js (j ∷ more) rows h) (any_trees (j ∷ more)) (tree_refused j more k a) in
@@ -68,7 +68,7 @@ refused js j rows k i e h a place is more =
     subst (λ (l : List Data). Judges (ReadsTrees l) (Err e)) (sym (append_assoc js (j ∷ []) more)) here
 
 -- memory was wanted
-pub wanted : (js more : List Data) (e : StreamError) → e ≡ errors.Memory → Judges (ReadsTrees (js ++ more)) (Err e)
+pub wanted : (js more : List Data) (e : StreamError) → e ≡ streams.Memory → Judges (ReadsTrees (js ++ more)) (Err e)
 wanted js more e is = subst (λ (x : StreamError). Judges (ReadsTrees (js ++ more)) (Err x)) (sym is) (any_trees (js ++ more))
 
 -- ---- once something is refused

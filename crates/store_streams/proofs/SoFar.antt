@@ -9,28 +9,28 @@ use Rattle.store_laws.specs.Reading.{Documents, AreRead, IsRead}
 use Rattle.store_laws.specs.State.{refusal_of, first_refusal}
 use Rattle.store_laws.specs.Table.{own_id}
 use Rattle.store_laws.specs.declared.error.ErrorKind.{ErrorKind}
-use Rattle.store_documents.specs.declared.write.Written.{Written}
+use Rattle.store_documents.specs.declared.write.KeptRow.{KeptRow}
 use Rattle.store_laws.proofs.Documents.{read_join}
 use Rattle.store_streams.specs.declared.error.StreamError.TheVariants.{Refused}
 use Rattle.store_streams.specs.Judging.{AreWrittenRows, Judges}
 
 -- Some documents, so many, were read and kept: what the rest reads as stands behind them in what the whole reads as, and is
 -- refused where it is.
-pub record SoFar (Whole Rest : Documents → Option ErrorKind → Type 0) (rows : List Written) (place : ℕ) : Type 0 where
+pub record SoFar (Whole Rest : Documents → Option ErrorKind → Type 0) (rows : List KeptRow) (place : ℕ) : Type 0 where
   pub done : Documents
   pub reads : (more : Documents) (stop : Option ErrorKind) → Rest more stop → Whole (done ++ more) stop
   pub kept : (more : Documents) (stop : Option ErrorKind) → first_refusal 0 (done ++ more) stop ≡ first_refusal place more stop
   pub read : AreRead done
   pub are_rows : AreWrittenRows rows done
 
-rows_more : (rows : List Written) (done : Documents) (w : Written) (d : Members) → AreWrittenRows rows done → cow_slice_items w.body ≡ encode d → w.key.items ≡ key (own_id d) → AreWrittenRows (rows ++ w ∷ []) (done ++ d ∷ [])
+rows_more : (rows : List KeptRow) (done : Documents) (w : KeptRow) (d : Members) → AreWrittenRows rows done → cow_slice_items w.body ≡ encode d → w.key.items ≡ key (own_id d) → AreWrittenRows (rows ++ w ∷ []) (done ++ d ∷ [])
 rows_more [] [] w d h body is = (body, is, tt)
 rows_more (r ∷ rows) (e ∷ done) w d h body is = (h.0, h.1, rows_more rows done w d h.2 body is)
 rows_more [] (e ∷ done) w d h body is = absurd h
 rows_more (r ∷ rows) [] w d h body is = absurd h
 
 -- one document more is kept
-pub so_far_more : (Whole Rest Next : Documents → Option ErrorKind → Type 0) (rows : List Written) (place : ℕ) (d : Members) (w : Written)
+pub so_far_more : (Whole Rest Next : Documents → Option ErrorKind → Type 0) (rows : List KeptRow) (place : ℕ) (d : Members) (w : KeptRow)
     → SoFar Whole Rest rows place → ((more : Documents) (stop : Option ErrorKind) → Next more stop → Rest (d ∷ more) stop)
     → IsRead d → refusal_of d ≡ None → cow_slice_items w.body ≡ encode d → w.key.items ≡ key (own_id d) → SoFar Whole Next (rows ++ w ∷ []) (place + 1)
 so_far_more Whole Rest Next rows place d w s step read fits body is = record {
@@ -42,22 +42,22 @@ so_far_more Whole Rest Next rows place d w s step read fits body is = record {
 }
 
 -- the same, where the place is the number of rows
-pub so_far_pushed : (Whole Rest Next : Documents → Option ErrorKind → Type 0) (rows pushed : List Written) (d : Members) (w : Written)
+pub so_far_pushed : (Whole Rest Next : Documents → Option ErrorKind → Type 0) (rows pushed : List KeptRow) (d : Members) (w : KeptRow)
     → SoFar Whole Rest rows (length rows) → ((more : Documents) (stop : Option ErrorKind) → Next more stop → Rest (d ∷ more) stop)
     → IsRead d → refusal_of d ≡ None → cow_slice_items w.body ≡ encode d → w.key.items ≡ key (own_id d) → pushed ≡ rows ++ w ∷ [] → SoFar Whole Next pushed (length pushed)
 so_far_pushed Whole Rest Next rows pushed d w s step read fits body is e =
     subst (λ r. SoFar Whole Next r (length r)) (sym e) (subst (SoFar Whole Next (rows ++ w ∷ [])) (sym (length_push rows w)) (so_far_more Whole Rest Next rows (length rows) d w s step read fits body is))
 
 -- the next document can't be kept
-pub so_far_refused : (Whole Rest : Documents → Option ErrorKind → Type 0) (rows : List Written) (place : ℕ) (k : ErrorKind) (d : Members) (more : Documents) (stop : Option ErrorKind)
+pub so_far_refused : (Whole Rest : Documents → Option ErrorKind → Type 0) (rows : List KeptRow) (place : ℕ) (k : ErrorKind) (d : Members) (more : Documents) (stop : Option ErrorKind)
     → SoFar Whole Rest rows place → Rest (d ∷ more) stop → refusal_of d ≡ Some k → Judges Whole (Err (Refused k place))
 so_far_refused Whole Rest rows place k d more stop s h why = (s.done ++ d ∷ more, stop, s.reads (d ∷ more) stop h, s.kept (d ∷ more) stop ∙ rw why refl)
 
 -- the next can't be read
-pub so_far_stopped : (Whole Rest : Documents → Option ErrorKind → Type 0) (rows : List Written) (place : ℕ) (k : ErrorKind)
+pub so_far_stopped : (Whole Rest : Documents → Option ErrorKind → Type 0) (rows : List KeptRow) (place : ℕ) (k : ErrorKind)
     → SoFar Whole Rest rows place → Rest [] (Some k) → Judges Whole (Err (Refused k place))
 so_far_stopped Whole Rest rows place k s h = (s.done ++ [], Some k, s.reads [] (Some k) h, s.kept [] (Some k))
 
 -- nothing more
-pub so_far_done : (Whole Rest : Documents → Option ErrorKind → Type 0) (rows : Vec Written Global) (place : ℕ) → SoFar Whole Rest rows.items place → Rest [] None → Judges Whole (Ok rows)
+pub so_far_done : (Whole Rest : Documents → Option ErrorKind → Type 0) (rows : Vec KeptRow Global) (place : ℕ) → SoFar Whole Rest rows.items place → Rest [] None → Judges Whole (Ok rows)
 so_far_done Whole Rest rows place s h = (s.done ++ [], s.reads [] None h, subst AreRead (sym (append-nil s.done)) s.read, s.kept [] None, subst (AreWrittenRows rows.items) (sym (append-nil s.done)) s.are_rows)

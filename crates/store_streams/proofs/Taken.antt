@@ -7,7 +7,7 @@ use Rattle.std.proofs.Math.Seq.{drop-cons, take-suc}
 use Rattle.std.proofs.Math.ListN.{drop_of_length-le}
 use Rattle.std.proofs.lemmas.List.{append-nil, length-map}
 use Rattle.std.proofs.lemmas.List.Folds.{list_any-append}
-use Rattle.store_documents.specs.declared.write.Written.{Written}
+use Rattle.store_documents.specs.declared.write.KeptRow.{KeptRow}
 use Rattle.store_streams.specs.declared.keys.Keys.{Keys}
 use Rattle.store_streams.specs.Keys.{has_met, first_taken, keys_of_rows}
 
@@ -71,12 +71,12 @@ come_end there ks met at c h = c.same ∙ ap (first_taken at (there ++ take at k
 
 -- ---- the keys of rows
 
-pub rows_below : (rows : List Written) (at : ℕ) → at < length rows → at < length (keys_of_rows rows)
-rows_below rows at h = omega (arith, h, length-map rows (λ (w : Written). w.key.items))
+pub rows_below : (rows : List KeptRow) (at : ℕ) → at < length rows → at < length (keys_of_rows rows)
+rows_below rows at h = omega (arith, h, length-map rows (λ (w : KeptRow). w.key.items))
 
-pub key_at : (rows : List Written) (at : ℕ) (w : Written) → at < length rows → w ≡ get_or rows at w → w.key.items ≡ get_or (keys_of_rows rows) at []
+pub key_at : (rows : List KeptRow) (at : ℕ) (w : KeptRow) → at < length rows → w ≡ get_or rows at w → w.key.items ≡ get_or (keys_of_rows rows) at []
 key_at [] at w h is = absurd (omega (arith, h))
-key_at (r ∷ rows) zero w h is = ap (λ (x : Written). x.key.items) is
+key_at (r ∷ rows) zero w h is = ap (λ (x : KeptRow). x.key.items) is
 key_at (r ∷ rows) (suc at) w h is = key_at rows at w (omega (arith, h)) is
 
 -- what `meet` says of a key

@@ -5,7 +5,7 @@ use Rattle.std.specs.Str.{bytes_eq}
 use Rattle.bson_meaning.specs.Meaning.{key}
 use Rattle.store_laws.specs.Reading.{Documents}
 use Rattle.store_laws.specs.Table.{own_id}
-use Rattle.store_documents.specs.declared.write.Written.{Written}
+use Rattle.store_documents.specs.declared.write.KeptRow.{KeptRow}
 use Rattle.store_streams.specs.declared.keys.Keys.{Keys}
 
 -- the key is among those that were met
@@ -13,8 +13,8 @@ abbrev pub has_met : Keys → List ℕ → Bool
 has_met s k = list_any (λ x. bytes_eq k x.now) s.met.keys
 
 -- the written keys of rows
-abbrev pub keys_of_rows : List Written → List (List ℕ)
-keys_of_rows = map (λ (w : Written). w.key.items)
+abbrev pub keys_of_rows : List KeptRow → List (List ℕ)
+keys_of_rows = map (λ (w : KeptRow). w.key.items)
 
 -- The keys come in order to those that are there: the place, from i on, of the first that is there already.
 abbrev pub first_taken : ℕ → List (List ℕ) → List (List ℕ) → Option ℕ

@@ -2,29 +2,29 @@
 
 ghost use Rattle.std.specs.Prelude.{◌≡◌, ◌++◌, ◌∷◌, [], List, Ok, Err, MatchResult};
 ghost use Rattle.serde_json.specs.Data.{Data};
-ghost use Rattle.serde_json.specs.View.{view as tree_of};
+ghost use Rattle.serde_json.specs.View.{view as data_of};
 ghost use Rattle.store_laws.specs.Reading.{ReadsTree, ReadsTrees};
 ghost use Rattle.store_streams.specs.Judging.{AnswersRow, Judges};
 
 use crate::error::StreamError;
 use serde_json::Value;
 use std::alloc::Global;
-use store_documents::{Written, row_of_json};
+use store_documents::{KeptRow, row_of_json};
 use store_laws::ErrorKind;
 
 /// The row of the document that a tree stands for.
 #[tactic(auto, using(crate::proofs::Going::input_row))]
-fn row_of(alloc: Global, json: Value) -> Result<Written<'static>, ErrorKind>
-    ensures { AnswersRow (ReadsTree (tree_of json)) result }
+fn row_of(alloc: Global, json: Value) -> Result<KeptRow<'static>, ErrorKind>
+    ensures { AnswersRow (ReadsTree (data_of json)) result }
 {
     row_of_json(alloc, json)
 }
 
 /// Judges the next tree behind those of the rows, and puts its row last.
-fn judge(alloc: Global, rows: &mut Vec<Written<'static>>, json: Value) -> Result<(), StreamError>
+fn judge(alloc: Global, rows: &mut Vec<KeptRow<'static>>, json: Value) -> Result<(), StreamError>
     ensures { (js : List Data) → Judges (ReadsTrees js) (Ok rows.old)
-        → MatchResult result (λ _. Judges (ReadsTrees (js ++ tree_of json ∷ [])) (Ok rows.new))
-        (λ e. (more : List Data) → Judges (ReadsTrees ((js ++ tree_of json ∷ []) ++ more)) (Err e)) }
+        → MatchResult result (λ _. Judges (ReadsTrees (js ++ data_of json ∷ [])) (Ok rows.new))
+        (λ e. (more : List Data) → Judges (ReadsTrees ((js ++ data_of json ∷ []) ++ more)) (Err e)) }
 {
     match row_of(alloc, json) {
         Ok(row) => {
@@ -39,7 +39,7 @@ fn judge(alloc: Global, rows: &mut Vec<Written<'static>>, json: Value) -> Result
 /// that they are kept as. No tree is kept.
 #[derive(Drop)]
 pub struct Loader {
-    rows: Vec<Written<'static>>,
+    rows: Vec<KeptRow<'static>>,
     /// The first refusal, behind which nothing is judged.
     refusal: Option<StreamError>,
     alloc: Global,
@@ -61,7 +61,7 @@ impl Loader {
 
     /// Takes the next tree. Behind the first that is refused, trees are let go.
     pub fn take(&mut self, json: Value)
-        ensures { (js : List Data) → HasTaken self.old js → HasTaken self.new (js ++ tree_of json ∷ []) }
+        ensures { (js : List Data) → HasTaken self.old js → HasTaken self.new (js ++ data_of json ∷ []) }
     {
         if self.refusal.is_some() {
             return;
@@ -75,7 +75,7 @@ impl Loader {
     ///
     /// The first document that is refused decides: `NotAnObject`, `JsonRefused`, `TooDeep` and `Nul` of its tree, then `NoId` and
     /// `TooLong`. `Memory` where a growth was refused.
-    pub fn finish(self) -> Result<Vec<Written<'static>>, StreamError>
+    pub fn finish(self) -> Result<Vec<KeptRow<'static>>, StreamError>
         ensures { (js : List Data) → HasTaken self js → Judges (ReadsTrees js) result }
     {
         let Loader {

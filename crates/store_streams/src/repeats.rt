@@ -5,10 +5,10 @@ ghost use Rattle.store_streams.specs.Keys.{first_taken, keys_of_rows};
 
 use crate::keys::Keys;
 use std::alloc::{AllocError, Global};
-use store_documents::Written;
+use store_documents::KeptRow;
 
 /// The place of the first row whose key is that of a row before. The error is a refused growth.
-pub fn first_repeated(alloc: Global, rows: &[Written<'_>]) -> Result<Option<u64>, AllocError>
+pub fn first_repeated(alloc: Global, rows: &[KeptRow<'_>]) -> Result<Option<u64>, AllocError>
     ensures { IfOk result (λ place. place ≡ first_taken 0 [] (keys_of_rows rows.now)) }
 {
     let mut met = Keys::new(alloc);

@@ -8,7 +8,7 @@ ghost use Rattle.store_streams.specs.Judging.{AnswersFront, AnswersRow, Judges};
 use crate::error::StreamError;
 use bson_frame::SIZE_LIMIT;
 use std::alloc::Global;
-use store_documents::{Written, row_of_bytes};
+use store_documents::{KeptRow, row_of_bytes};
 use store_laws::ErrorKind;
 
 /// The least length that a document declares: that of one without elements.
@@ -34,20 +34,20 @@ fn cut(bytes: &[u8]) -> Result<(&[u8], &[u8]), ErrorKind>
 
 /// The row of the document that bytes mean.
 #[tactic(auto, using(crate::proofs::Going::kept_row))]
-fn row_of(alloc: Global, bytes: &[u8]) -> Result<Written<'_>, ErrorKind>
+fn row_of_piece(alloc: Global, bytes: &[u8]) -> Result<KeptRow<'_>, ErrorKind>
     ensures { AnswersRow (ReadsBytes bytes.now) result }
 {
     row_of_bytes(alloc, bytes)
 }
 
 /// The row of the first document of a stream that isn't at its end, and what follows the document.
-fn first_row(alloc: Global, bytes: &[u8]) -> Result<(Written<'_>, &[u8]), ErrorKind>
+fn first_row(alloc: Global, bytes: &[u8]) -> Result<(KeptRow<'_>, &[u8]), ErrorKind>
     requires { 0 < length bytes.now }
     ensures answer { AnswersFront bytes.now result }
     ensures shorter { IfOk result (λ r. length r.1.now < length bytes.now) }
 {
     let (document, rest) = cut(bytes)?;
-    let row = row_of(alloc, document)?;
+    let row = row_of_piece(alloc, document)?;
     Ok((row, rest))
 }
 
@@ -56,7 +56,7 @@ fn first_row(alloc: Global, bytes: &[u8]) -> Result<(Written<'_>, &[u8]), ErrorK
 ///
 /// The first document that is refused decides: `EndInside`, `BadLength`, `NotTerminated`, `Faulty` and `TooDeep` of its bytes,
 /// then `NoId` and `TooLong`. `Memory` where a growth was refused. Takes time in proportion to the bytes.
-pub fn judge_stream(alloc: Global, bytes: &[u8]) -> Result<Vec<Written<'_>>, StreamError>
+pub fn judge_stream(alloc: Global, bytes: &[u8]) -> Result<Vec<KeptRow<'_>>, StreamError>
     ensures { Judges (ReadsStream bytes.now) result }
 {
     let mut rows = Vec::new(alloc);

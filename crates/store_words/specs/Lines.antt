@@ -5,13 +5,13 @@ use Rattle.std.specs.Borrow.{Bor}
 use Rattle.store_laws.specs.Refusal.{kind_name}
 use Rattle.store_laws.specs.declared.error.ErrorKind.{ErrorKind}
 use Rattle.store_laws.specs.declared.error.ErrorKind.TheVariants.{BadRow, IdsCollide}
-use Rattle.store_words.specs.declared.lines.Complaint.{Complaint}
-use Rattle.store_words.specs.declared.lines.Complaint.TheVariants.{Usage, Json, Id, Filter, Line}
+use Rattle.store_words.specs.declared.lines.UsageError.{UsageError}
+use Rattle.store_words.specs.declared.lines.UsageError.TheVariants.{Usage, Json, Id, Filter, Line}
 
 -- the texts one after the other
-abbrev pub joined : List (Bor (List ℕ)) → List ℕ
-joined [] = []
-joined (p ∷ ps) = p.now ++ joined ps
+abbrev pub concatenation : List (Bor (List ℕ)) → List ℕ
+concatenation [] = []
+concatenation (p ∷ ps) = p.now ++ concatenation ps
 
 -- the text and a line feed
 abbrev pub line : List ℕ → List ℕ
@@ -38,12 +38,12 @@ place_text k None = []
 abbrev pub refusal_line : ErrorKind → Option ℕ → List ℕ
 refusal_line k i = line (codes "refused: " ++ (kind_name k ++ place_text k i))
 
-abbrev pub complaint_text : Complaint → List ℕ
+abbrev pub complaint_text : UsageError → List ℕ
 complaint_text Usage = codes "usage"
 complaint_text Json = codes "JSON"
 complaint_text Id = codes "id"
 complaint_text Filter = codes "filter"
 complaint_text (Line n) = codes "line " ++ decimal n
 
-abbrev pub complaint_line : Complaint → List ℕ
+abbrev pub complaint_line : UsageError → List ℕ
 complaint_line c = line (codes "words: " ++ complaint_text c)

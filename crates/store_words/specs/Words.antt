@@ -18,12 +18,12 @@ command_name Dump = codes "dump"
 command_name Load = codes "load"
 command_name Collections = codes "collections"
 
-abbrev pub relaxed : List ℕ
-relaxed = codes "--relaxed"
+abbrev pub relaxed_word : List ℕ
+relaxed_word = codes "--relaxed"
 
 -- the words that may follow the name of the collection
 abbrev pub Takes : Call → List (List ℕ) → Type 0
-Takes Get rest = (length rest ≡ 1) ⊎ ((id : List ℕ) × (rest ≡ id ∷ relaxed ∷ []))
+Takes Get rest = (length rest ≡ 1) ⊎ ((id : List ℕ) × (rest ≡ id ∷ relaxed_word ∷ []))
 Takes Set rest = length rest ≡ 3
 Takes Unset rest = length rest ≡ 2
 Takes Insert rest = length rest ≡ 1

@@ -37,11 +37,11 @@ pub const RELAXED: &str = "--relaxed";
 impl Call {
     ghost use Rattle.std.specs.Prelude.{◌≡◌, ◌↔◌, IsTrue, MatchOption, map, string_bytes};
     ghost use Rattle.store_words.specs.Words.{command_name, Takes};
-    ghost use Rattle.store_words.specs.declared.call.Call.{Call as Command};
+    ghost use Rattle.store_words.specs.declared.call.Call.{Call};
 
     /// The command that a word names.
     pub fn from_word(word: &str) -> Option<Call>
-        ensures { MatchOption result ((call : Command) → command_name call ≡ word.now → ⊥) (λ call. command_name call ≡ word.now) }
+        ensures { MatchOption result ((call : Call) → command_name call ≡ word.now → ⊥) (λ call. command_name call ≡ word.now) }
     {
         match word {
             "insert" => Some(Call::Insert),

@@ -1,6 +1,6 @@
 //! Filters as JSON texts.
 
-use crate::texts::{TextError, read_json};
+use crate::texts::{TextError, parse_json};
 use bson_filter::Filter;
 use bson_model::{Bson, ElementType};
 use serde_json::Value;
@@ -10,12 +10,12 @@ use std::alloc::Global;
 /// `{"not":filter}`, `{"and":[filter,..]}` or `{"or":[filter,..]}`. A path is an array of texts, a value Extended JSON, and a
 /// tag the number of an element type (bsonspec.org 1.1, "element").
 pub fn read_filter(alloc: Global, text: &str) -> Result<Filter, TextError> {
-    filter_of(alloc, read_json(alloc, text)?)
+    filter_of_json(alloc, parse_json(alloc, text)?)
 }
 
 /// The filter that a tree stands for.
 #[cycle(filter)]
-fn filter_of(alloc: Global, tree: Value) -> Result<Filter, TextError> {
+fn filter_of_json(alloc: Global, tree: Value) -> Result<Filter, TextError> {
     let Value::Object(members) = tree else {
         return Err(TextError::Unreadable);
     };
@@ -39,7 +39,7 @@ fn filter_of(alloc: Global, tree: Value) -> Result<Filter, TextError> {
             Ok(Filter::Kind(path, kind_of(&tag)?))
         }
         "not" => {
-            let filter = filter_of(alloc, body)?;
+            let filter = filter_of_json(alloc, body)?;
             Ok(Filter::Not(Box::new(alloc, filter)?))
         }
         "and" => Ok(Filter::And(filters_of(alloc, body)?)),
@@ -56,7 +56,7 @@ fn filters_of(alloc: Global, tree: Value) -> Result<Vec<Filter>, TextError> {
     };
     let mut filters = Vec::new(alloc);
     for item in items {
-        filters.push(filter_of(alloc, item)?)?;
+        filters.push(filter_of_json(alloc, item)?)?;
     }
     Ok(filters)
 }

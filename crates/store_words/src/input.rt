@@ -1,6 +1,6 @@
 //! The lines of JSON text that `load` reads.
 
-use crate::texts::{TextError, read_json};
+use crate::texts::{TextError, parse_json};
 use serde_json::Value;
 use std::alloc::{AllocError, AllocFailed, Global};
 use thiserror::Error;
@@ -47,7 +47,7 @@ pub fn read_line(alloc: Global, line: &[u8]) -> Result<Option<Value>, TextError>
     let Ok(text) = str::from_utf8(line) else {
         return Err(TextError::Unreadable);
     };
-    let tree = read_json(alloc, text)?;
+    let tree = parse_json(alloc, text)?;
     Ok(Some(tree))
 }
 

@@ -3,7 +3,7 @@
 ghost use Rattle.std.specs.Prelude.{◌≡◌, ◌<◌, ◌^◌, ◌-◌, OnOk, OnErr, decimal};
 ghost use Rattle.std.specs.Io.KnownBytes.{Appends};
 ghost use Rattle.bson_base.specs.Device.{Counts, TakesBeginning};
-ghost use Rattle.store_words.specs.Lines.{collision_line, complaint_line, flag_text, joined, line, refusal_line};
+ghost use Rattle.store_words.specs.Lines.{collision_line, complaint_line, flag_text, concatenation, line, refusal_line};
 
 use bson_base::{DeviceFault, Sink, write_all};
 use itoa::Buffer;
@@ -11,7 +11,7 @@ use store_laws::ErrorKind;
 
 /// What is wrong with the words that the program is given.
 #[derive(Clone, Copy, Debug, PartialEq, Eq)]
-pub enum Complaint {
+pub enum UsageError {
     /// They are no line of the table of commands.
     Usage,
     /// The text of a document or of a value is no JSON text.
@@ -28,8 +28,8 @@ pub enum Complaint {
 fn write_parts<S: Sink>(sink: &mut S, parts: &[&str]) -> Result<(), DeviceFault>
     requires { (S.tally sink.old).failures < 2 ^ 64 - 1 }
     ensures counts { Counts (S.tally sink.old).failures (S.tally sink.new).failures result }
-    ensures ok { OnOk result (Appends (S.tally sink.old).taken (S.tally sink.new).taken (joined parts.now)) }
-    ensures err { OnErr result (TakesBeginning (S.tally sink.old).taken (S.tally sink.new).taken (joined parts.now)) }
+    ensures ok { OnOk result (Appends (S.tally sink.old).taken (S.tally sink.new).taken (concatenation parts.now)) }
+    ensures err { OnErr result (TakesBeginning (S.tally sink.old).taken (S.tally sink.new).taken (concatenation parts.now)) }
 {
     for part in parts {
         write_all(sink, part.as_bytes())?;
@@ -117,18 +117,18 @@ pub fn write_refusal<S: Sink>(
 
 /// Writes the line that tells what is wrong with the words, as `words: usage`. After a failure a beginning of the line was
 /// written.
-pub fn write_complaint<S: Sink>(sink: &mut S, complaint: Complaint) -> Result<(), DeviceFault>
+pub fn write_complaint<S: Sink>(sink: &mut S, complaint: UsageError) -> Result<(), DeviceFault>
     requires { (S.tally sink.old).failures < 2 ^ 64 - 1 }
     ensures counts { Counts (S.tally sink.old).failures (S.tally sink.new).failures result }
     ensures ok { OnOk result (Appends (S.tally sink.old).taken (S.tally sink.new).taken (complaint_line complaint)) }
     ensures err { OnErr result (TakesBeginning (S.tally sink.old).taken (S.tally sink.new).taken (complaint_line complaint)) }
 {
     match complaint {
-        Complaint::Usage => write_line(sink, "words: usage"),
-        Complaint::Json => write_line(sink, "words: JSON"),
-        Complaint::Id => write_line(sink, "words: id"),
-        Complaint::Filter => write_line(sink, "words: filter"),
-        Complaint::Line(number) => {
+        UsageError::Usage => write_line(sink, "words: usage"),
+        UsageError::Json => write_line(sink, "words: JSON"),
+        UsageError::Id => write_line(sink, "words: id"),
+        UsageError::Filter => write_line(sink, "words: filter"),
+        UsageError::Line(number) => {
             let mut digits = Buffer::new();
             write_parts(sink, &["words: line ", digits.format(number), "\n"])
         }

@@ -56,11 +56,11 @@ impl From<serde_json::Error> for TextError {
 }
 
 impl From<extjson::de::Error> for TextError {
-    ghost use Rattle.bson_model.specs.declared.extjson.de.Error.TheVariants as faults;
+    ghost use Rattle.bson_model.specs.declared.extjson.de.Error.TheVariants as json_faults;
     ghost use Rattle.std.specs.Prelude.{◌⊎◌, ◌≢◌};
     ghost use Rattle.store_words.specs.declared.texts.TextError.TheVariants.{Memory, Unreadable};
 
-    ghost from_gives = { λ x e. ((x ≡ faults.Memory) × (e ≡ Memory)) ⊎ ((x ≢ faults.Memory) × (e ≡ Unreadable)) };
+    ghost from_gives = { λ x e. ((x ≡ json_faults.Memory) × (e ≡ Memory)) ⊎ ((x ≢ json_faults.Memory) × (e ≡ Unreadable)) };
 
     fn from(error: extjson::de::Error) -> TextError {
         match error {
@@ -73,7 +73,7 @@ impl From<extjson::de::Error> for TextError {
 }
 
 /// The tree of a JSON text (RFC 8259).
-pub fn read_json(alloc: Global, text: &str) -> Result<Value, TextError>
+pub fn parse_json(alloc: Global, text: &str) -> Result<Value, TextError>
     ensures { AnswersText text.now result }
 {
     let tree = Value::from_str(alloc, text)?;
@@ -84,7 +84,7 @@ pub fn read_json(alloc: Global, text: &str) -> Result<Value, TextError>
 pub fn read_id(alloc: Global, text: &str) -> Result<Bson, TextError>
     ensures { AnswersId text.now result }
 {
-    let tree = read_json(alloc, text)?;
+    let tree = parse_json(alloc, text)?;
     let id = Bson::try_from_value(alloc, tree)?;
     Ok(id)
 }

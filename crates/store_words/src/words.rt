@@ -3,7 +3,7 @@
 ghost use Rattle.std.specs.Prelude.{◌≡◌, ◌≢◌, ℕ, List, [], map, MatchOption, string_bytes};
 ghost use Rattle.store_words.specs.declared.call.Call.TheVariants.{Collections};
 ghost use Rattle.store_words.specs.Words.{HasName, IsLine};
-ghost use Rattle.store_words.specs.declared.call.Call.{Call as Command};
+ghost use Rattle.store_words.specs.declared.call.Call.{Call};
 
 use crate::call::Call;
 
@@ -37,7 +37,7 @@ fn collection(call: Call, words: &[String]) -> Option<(&str, &[String])>
 /// line of the program's table. What the texts say isn't looked at.
 pub fn read_words(words: &[String]) -> Option<Words<'_>>
     ensures { MatchOption result
-        ((file coll : List ℕ) (call : Command) (rest : List (List ℕ)) → IsLine (map string_bytes words.now) file call coll rest → ⊥)
+        ((file coll : List ℕ) (call : Call) (rest : List (List ℕ)) → IsLine (map string_bytes words.now) file call coll rest → ⊥)
         (λ w. IsLine (map string_bytes words.now) w.file.now w.call w.coll.now (map string_bytes w.rest.now)) }
 {
     let (file, behind) = words.split_first()?;

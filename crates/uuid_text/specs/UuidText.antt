@@ -7,5 +7,5 @@ unfoldable pub uuid_of : List ℕ → Option (List ℕ)
 uuid_of text = parsed text
 
 -- the form with hyphens, in lower case
-unfoldable pub hyphenated : List ℕ → List ℕ
-hyphenated bytes = hyphenated_text lower bytes
+unfoldable pub with_hyphens : List ℕ → List ℕ
+with_hyphens bytes = hyphenated_text lower bytes

@@ -4,7 +4,7 @@
 
 ghost use Rattle.std.specs.Prelude.{◌≡◌};
 ghost use Rattle.std.specs.Fmt.{WritesOnOk, WritesStyledOnOk};
-ghost use Rattle.uuid_text.specs.UuidText.{hyphenated, uuid_of};
+ghost use Rattle.uuid_text.specs.UuidText.{with_hyphens, uuid_of};
 
 use std::fmt;
 use uuid::Uuid;
@@ -22,10 +22,10 @@ pub fn parse(text: &str) -> Option<[u8; 16]>
 }
 
 /// Writes the form with hyphens, in lower case, whatever options the formatter has.
-#[tactic(auto, unfolding(crate::specs::UuidText::hyphenated))]
+#[tactic(auto, unfolding(crate::specs::UuidText::with_hyphens))]
 pub fn write_hyphenated<W: fmt::Write>(f: &mut fmt::Formatter<W>, bytes: [u8; 16]) -> fmt::Result
-    ensures plain { WritesOnOk W.write_str_gives f.old result (hyphenated bytes) f.new }
-    ensures styled { WritesStyledOnOk W.write_str_gives f.old result (hyphenated bytes) f.new }
+    ensures plain { WritesOnOk W.write_str_gives f.old result (with_hyphens bytes) f.new }
+    ensures styled { WritesStyledOnOk W.write_str_gives f.old result (with_hyphens bytes) f.new }
 {
     let mut buffer = Uuid::encode_buffer();
     let text = Uuid::from_bytes(bytes)

@@ -1,7 +1,7 @@
 //! The digits of a decimal's text, which stand on both sides of the dot.
 
 ghost use Rattle.std.specs.Prelude.{◌≡◌, ◌<◌, ◌≤◌, ◌^◌, ◌+◌, ◌-◌, ◌++◌, ℕ, true, min, length, take, drop, replicate};
-ghost use Rattle.bson_base.specs.Decimal.{all_digits as are_digits, all_zeros as are_zeros, strip as stripped, value as value_of, value_after as value_behind};
+ghost use Rattle.bson_base.specs.Decimal.{all_digits as are_digits, all_zeros as are_zeros, strip as stripped, value as number_of, value_after as value_behind};
 ghost use Rattle.bson_base.specs.DecimalParts.{digits_of};
 
 use crate::texts::{all_digits, all_zeros};
@@ -109,7 +109,7 @@ impl<'a> Digits<'a> {
     pub(crate) fn value(self) -> u128
         requires few { length (digits_of self) ≤ 34 }
         requires all { are_digits (digits_of self) ≡ true }
-        ensures value { result ≡ value_of (digits_of self.entry) }
+        ensures value { result ≡ number_of (digits_of self.entry) }
         ensures bound { result < 10 ^ 34 }
         ensures small { result < 10 ^ length (digits_of self.entry) }
     {

@@ -3,8 +3,8 @@
 ghost use Rattle.std.specs.Prelude.{◌≡◌, ◌<◌, ◌≤◌, ◌^◌, ◌+◌, ◌-◌, ℕ, Bool, true, min, length, option_map, IfOk, replicate};
 ghost use Rattle.std.specs.Str.{str_to_ascii_lowercase};
 ghost use Rattle.bson_base.specs.Answer.{result_map};
-ghost use Rattle.bson_base.specs.Decimal.{all_digits as are_digits, append_zeros as appended, checked_digits as checked, cut, digit_limit, downward as downward_of, drop_last as without_last, drop_tail as without_tail, finite as finite_of, fit as fitted, greatest_in_range, in_range as ranged, is_dot, is_e, is_named as is_named_by, least_in_range, lift as lifted, lower as lowered, marks, pack, raise as raised, read, read_coefficient as coefficient_of, read_cut as read_of_cut, read_exponent as exponent_of, read_number as number_read, read_unsigned_decimal as unsigned_read, shorten as shortened, strip as stripped, upward as upward_of, value as value_of, value_after as value_behind, with_places as placed};
-ghost use Rattle.bson_base.specs.DecimalParts.{digits_of, IsFinite, IsPackable, IsShortened, meant, packed};
+ghost use Rattle.bson_base.specs.Decimal.{all_digits as are_digits, append_zeros as appended, checked_digits as checked, cut, digit_limit, downward as downward_of, drop_last as without_last, drop_tail as without_tail, finite as finite_of, fit as fitted, greatest_in_range, in_range as ranged, is_dot, is_e, is_named as is_named_by, least_in_range, lift as lifted, lower as lowered, marks, pack, raise as raised, read, read_coefficient as coefficient_of, read_cut as read_of_cut, read_exponent as exponent_of, read_number as number_read, read_unsigned_decimal as unsigned_read, shorten as shortened, strip as stripped, upward as upward_of, value as number_of, value_after as value_behind, with_places as placed};
+ghost use Rattle.bson_base.specs.DecimalParts.{digits_of, IsFinite, IsPackable, IsShortened, decimal_of_parts, bits_of_parts};
 
 use super::ParseError;
 use super::digits::Digits;
@@ -23,7 +23,7 @@ type Shortened<'a> = Result<(Digits<'a>, u32), ParseError>;
 /// The value of digits, or 100000 where it is more.
 fn small_value(digits: &[u8]) -> u32
     requires { are_digits digits.now ≡ true }
-    ensures { result ≡ min (value_of digits.now) 100000 }
+    ensures { result ≡ min (number_of digits.now) 100000 }
 {
     let mut n = 0u32;
     for c in digits {
@@ -153,7 +153,7 @@ fn shorten(digits: Digits<'_>, exponent: u32) -> Shortened<'_>
 fn finite(negative: bool, coefficient: u128, exponent: u16) -> Parts
     requires coefficient { coefficient < 10 ^ 34 }
     requires exponent { exponent < 12288 }
-    ensures value { meant result ≡ finite_of negative coefficient exponent }
+    ensures value { decimal_of_parts result ≡ finite_of negative coefficient exponent }
     ensures finite { IsFinite result }
 {
     Parts::Finite {
@@ -167,7 +167,7 @@ fn finite(negative: bool, coefficient: u128, exponent: u16) -> Parts
 fn drop_last(negative: bool, digits: Digits<'_>, missing: usize) -> Result<Parts, ParseError>
     requires few { length (digits_of digits) ≤ digit_limit }
     requires all { are_digits (digits_of digits) ≡ true }
-    ensures value { result_map meant result ≡ without_last negative (digits_of digits.entry) missing }
+    ensures value { result_map decimal_of_parts result ≡ without_last negative (digits_of digits.entry) missing }
     ensures finite { IfOk result IsFinite }
 {
     if digits.len() < missing {
@@ -185,7 +185,7 @@ fn raise(negative: bool, digits: Digits<'_>, exponent: u32) -> Result<Parts, Par
     requires few { length (digits_of digits) ≤ digit_limit }
     requires all { are_digits (digits_of digits) ≡ true }
     requires low { exponent < least_in_range }
-    ensures value { result_map meant result ≡ raised negative (digits_of digits.entry) exponent }
+    ensures value { result_map decimal_of_parts result ≡ raised negative (digits_of digits.entry) exponent }
     ensures finite { IfOk result IsFinite }
 {
     if digits.value() == 0 {
@@ -213,7 +213,7 @@ fn append_zeros(negative: bool, digits: Digits<'_>, zeros: usize) -> Result<Part
     requires few { length (digits_of digits) ≤ digit_limit }
     requires low { zeros < 2 ^ 20 }
     requires all { are_digits (digits_of digits) ≡ true }
-    ensures value { result_map meant result ≡ appended negative (digits_of digits.entry) zeros }
+    ensures value { result_map decimal_of_parts result ≡ appended negative (digits_of digits.entry) zeros }
     ensures finite { IfOk result IsFinite }
 {
     if digits.len() + zeros <= DIGITS {
@@ -229,7 +229,7 @@ fn lower(negative: bool, digits: Digits<'_>, exponent: u32) -> Result<Parts, Par
     requires all { are_digits (digits_of digits) ≡ true }
     requires high { greatest_in_range < exponent }
     requires fits { exponent < 98304 }
-    ensures value { result_map meant result ≡ lowered negative (digits_of digits.entry) exponent }
+    ensures value { result_map decimal_of_parts result ≡ lowered negative (digits_of digits.entry) exponent }
     ensures finite { IfOk result IsFinite }
 {
     if digits.value() == 0 {
@@ -243,7 +243,7 @@ fn in_range(negative: bool, digits: Digits<'_>, exponent: u32) -> Result<Parts, 
     requires few { length (digits_of digits) ≤ digit_limit }
     requires all { are_digits (digits_of digits) ≡ true }
     requires fits { exponent < 98304 }
-    ensures value { result_map meant result ≡ ranged negative (digits_of digits.entry, exponent) }
+    ensures value { result_map decimal_of_parts result ≡ ranged negative (digits_of digits.entry, exponent) }
     ensures finite { IfOk result IsFinite }
 {
     if exponent < LEAST_IN_RANGE {
@@ -258,7 +258,7 @@ fn in_range(negative: bool, digits: Digits<'_>, exponent: u32) -> Result<Parts, 
 fn fit(negative: bool, digits: Digits<'_>, exponent: u32) -> Result<Parts, ParseError>
     requires all { are_digits (digits_of digits) ≡ true }
     requires fits { exponent < 98304 }
-    ensures value { result_map meant result ≡ fitted negative (digits_of digits.entry) exponent }
+    ensures value { result_map decimal_of_parts result ≡ fitted negative (digits_of digits.entry) exponent }
     ensures finite { IfOk result IsFinite }
 {
     let (digits, exponent) = shorten(digits, exponent)?;
@@ -273,7 +273,7 @@ fn with_places(
 ) -> Result<Parts, ParseError>
     requires all { are_digits (digits_of digits) ≡ true }
     requires fits { exponent < 98304 }
-    ensures value { result_map meant result ≡ placed negative exponent (digits_of digits.entry, places) }
+    ensures value { result_map decimal_of_parts result ≡ placed negative exponent (digits_of digits.entry, places) }
     ensures finite { IfOk result IsFinite }
 {
     if places > 32767 || (exponent as usize) < places + 32768 {
@@ -283,7 +283,7 @@ fn with_places(
 }
 
 fn read_number(negative: bool, text: &[u8]) -> Result<Parts, ParseError>
-    ensures value { result_map meant result ≡ number_read negative text.now }
+    ensures value { result_map decimal_of_parts result ≡ number_read negative text.now }
     ensures finite { IfOk result IsFinite }
 {
     let (front, behind) = cut_at(text, b'e', b'E');
@@ -293,7 +293,7 @@ fn read_number(negative: bool, text: &[u8]) -> Result<Parts, ParseError>
 }
 
 fn read_unsigned(negative: bool, text: &[u8]) -> Result<Parts, ParseError>
-    ensures value { result_map packed result ≡ unsigned_read negative text.now }
+    ensures value { result_map bits_of_parts result ≡ unsigned_read negative text.now }
     ensures packable { IfOk result IsPackable }
 {
     if is_named(text, b"nan") {
@@ -318,7 +318,7 @@ fn read_unsigned(negative: bool, text: &[u8]) -> Result<Parts, ParseError>
 
 /// The parts of the decimal that a text reads as.
 pub(crate) fn read_decimal(text: &str) -> Result<Parts, ParseError>
-    ensures value { result_map packed result ≡ read text.now }
+    ensures value { result_map bits_of_parts result ≡ read text.now }
     ensures packable { IfOk result IsPackable }
 {
     match text.as_bytes() {

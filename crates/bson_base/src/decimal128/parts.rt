@@ -1,8 +1,8 @@
 //! A decimal's sign, coefficient and exponent, and its 128 bits.
 
 ghost use Rattle.std.specs.Prelude.{◌≡◌};
-ghost use Rattle.bson_base.specs.Decimal.{limited as limited_of, number_of, decimal_sign_bit as sign_bit_of, sixteen_bytes, unpack};
-ghost use Rattle.bson_base.specs.DecimalParts.{IsPackable, meant, packed};
+ghost use Rattle.bson_base.specs.Decimal.{within_limit as limited_of, number_of, decimal_sign_bit as sign_bit_of, sixteen_bytes, unpack};
+ghost use Rattle.bson_base.specs.DecimalParts.{IsPackable, decimal_of_parts, bits_of_parts};
 
 /// The digits of a coefficient (IEEE 754-2008, decimal128).
 pub(super) const DIGITS: usize = 34;
@@ -33,7 +33,7 @@ impl Parts {
     /// The parts of 128 bits.
     #[tactic(auto, unfolding(crate::specs::Decimal::unpack))]
     pub(crate) fn of_bits(bits: u128) -> Parts
-        ensures { meant result ≡ unpack bits }
+        ensures { decimal_of_parts result ≡ unpack bits }
     {
         let negative = bits / (1 << 127) == 1;
         if bits / (1 << 123) % 16 == 15 {
@@ -64,7 +64,7 @@ impl Parts {
     /// The 128 bits of parts.
     pub(crate) fn to_bits(self) -> u128
         requires { IsPackable self }
-        ensures { result ≡ packed self }
+        ensures { result ≡ bits_of_parts self }
     {
         match self {
             Parts::NotANumber {

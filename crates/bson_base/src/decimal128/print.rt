@@ -4,7 +4,7 @@ ghost use Rattle.std.specs.Prelude.{◌≡◌, ◌<◌, ◌≤◌, ◌^◌, ◌+
 ghost use Rattle.std.specs.Fmt.{WritesOnOk, decimal};
 ghost use Rattle.std.specs.Str.{IsAscii};
 ghost use Rattle.bson_base.specs.Decimal.{digits_text, exponent_text, is_plain as is_plain_at, mantissa, minus_if as minus_of, print, with_dot};
-ghost use Rattle.bson_base.specs.DecimalParts.{meant};
+ghost use Rattle.bson_base.specs.DecimalParts.{decimal_of_parts};
 
 use super::parts::{BIAS, Parts};
 use std::fmt;
@@ -115,7 +115,7 @@ fn write_finite<W: fmt::Write>(
 
 /// The text of a decimal.
 impl fmt::Display for Parts {
-    ghost output = { λ parts. Some (print (meant parts)) };
+    ghost output = { λ parts. Some (print (decimal_of_parts parts)) };
 
     fn fmt<W: fmt::Write>(&self, f: &mut fmt::Formatter<W>) -> fmt::Result {
         write_parts(f, *self)
@@ -123,7 +123,7 @@ impl fmt::Display for Parts {
 }
 
 fn write_parts<W: fmt::Write>(f: &mut fmt::Formatter<W>, parts: Parts) -> fmt::Result
-    ensures { WritesOnOk W.write_str_gives f.old result (print (meant parts)) f.new }
+    ensures { WritesOnOk W.write_str_gives f.old result (print (decimal_of_parts parts)) f.new }
 {
     match parts {
         Parts::NotANumber { .. } => f.write_str("NaN"),

@@ -1,7 +1,7 @@
 //! The texts of UUIDs.
 
 ghost use Rattle.std.specs.Prelude.{◌≡◌, Some};
-ghost use Rattle.uuid_text.specs.UuidText.{hyphenated};
+ghost use Rattle.uuid_text.specs.UuidText.{with_hyphens};
 ghost use Rattle.bson_base.specs.Answer.{result_map};
 ghost use Rattle.bson_base.specs.ScalarTexts.{read_uuid};
 ghost use Rattle.bson_base.specs.Scalars.{uuid_bytes};
@@ -24,9 +24,9 @@ impl Uuid {
 
 /// The form with hyphens, in lower case.
 impl fmt::Display for Uuid {
-    ghost output = { λ u. Some (hyphenated (uuid_bytes u)) };
+    ghost output = { λ u. Some (with_hyphens (uuid_bytes u)) };
 
-    ghost styled_output = { λ u s. Some (hyphenated (uuid_bytes u)) };
+    ghost styled_output = { λ u s. Some (with_hyphens (uuid_bytes u)) };
 
     fn fmt<W: fmt::Write>(&self, f: &mut fmt::Formatter<W>) -> fmt::Result {
         uuid_text::write_hyphenated(f, self.bytes())

@@ -1,7 +1,7 @@
 //! Extended JSON v2 as it is read (MongoDB Extended JSON v2, "Parsing").
 ghost use Rattle.std.specs.Prelude.{◌≡◌, map, string_bytes};
 ghost use Rattle.std.specs.Option.{option_map};
-ghost use Rattle.serde_json.specs.View.{view as tree_of, number_view, items_view, members_view};
+ghost use Rattle.serde_json.specs.View.{view as data_of, number_view, items_view, members_view};
 ghost use Rattle.bson_model.specs.View.{view, pairs_of, items_of, members_of};
 ghost use Rattle.bson_model.specs.JsonKeys.{any_reserved};
 ghost use Rattle.bson_model.specs.JsonRead.{GivesReading, read as value_of, read_items as items_read, read_members as members_read, read_typed as typed_of, read_scope as scope_of, text_of as spec_text, whole, code_and_scope as spec_scoped, integer as integer_of};
@@ -118,7 +118,7 @@ fn with_scope(code: String, scope: Option<Document>) -> Bson
 /// The value of a JSON tree, among which so many levels may lie.
 #[cycle(read)]
 fn read(alloc: Global, value: Value, levels: u32) -> Result<Bson>
-    ensures { GivesReading view result (value_of (tree_of value)) }
+    ensures { GivesReading view result (value_of (data_of value)) }
 {
     match value {
         Value::Null => Ok(Bson::Null),
@@ -185,7 +185,7 @@ fn read_typed(alloc: Global, members: Map<String, Value>, levels: u32) -> Result
 
 #[cycle(read)]
 fn read_scope(alloc: Global, scope: Value, levels: u32) -> Result<Option<Document>>
-    ensures { GivesReading (λ o. option_map (λ d. members_of (pairs_of d)) o) result (scope_of (tree_of scope)) }
+    ensures { GivesReading (λ o. option_map (λ d. members_of (pairs_of d)) o) result (scope_of (data_of scope)) }
 {
     match scope {
         Value::Null => Ok(None),
@@ -200,7 +200,7 @@ fn read_scope(alloc: Global, scope: Value, levels: u32) -> Result<Option<Documen
 
 impl Bson {
     ghost use Rattle.std.specs.Prelude.{◌≡◌};
-    ghost use Rattle.serde_json.specs.View.{view as tree_of, members_view};
+    ghost use Rattle.serde_json.specs.View.{view as data_of, members_view};
     ghost use Rattle.serde_json.specs.Data.{object};
     ghost use Rattle.bson_model.specs.View.{view};
     ghost use Rattle.bson_model.specs.JsonRead.{GivesReading, read};
@@ -211,7 +211,7 @@ impl Bson {
     /// more than 1000 documents, arrays and scopes inside each other, which it doesn't enter; a scope counts twice, as an object
     /// in an object. Of several faults the first one in the order of keys is told, a further key before the fault of a body.
     pub fn try_from_value(alloc: Global, json: Value) -> Result<Bson>
-        ensures { GivesReading view result (read (tree_of json)) }
+        ensures { GivesReading view result (read (data_of json)) }
     {
         read(alloc, json, STACK_LEVELS)
     }

@@ -10,7 +10,7 @@ ghost use Rattle.bson_base.specs.Scalars.{id_bytes, millis_of, decimal_bytes};
 ghost use Rattle.bson_base.specs.Tags.{subtype_byte};
 ghost use Rattle.bson_base.specs.Dates.{date_text as date_text_of};
 ghost use Rattle.bson_model.specs.JsonKeys as keys;
-ghost use Rattle.bson_model.specs.JsonWrite.{WritesForm, date_body as body_of, double_text as double_text_of, is_relaxed_date as is_relaxed, with_scope as with_scope_of, wrapped_text as wrapped_text_of, write, write_binary as binary_of, write_date as date_of, write_double as double_of, write_id as id_of, write_integer, write_items as items_of, write_members as members_written, write_millis as millis_of_date, write_pointer as pointer_of, write_regex as regex_of, write_timestamp as timestamp_of};
+ghost use Rattle.bson_model.specs.JsonWrite.{WritesForm, date_body as body_of, double_text as double_text_of, is_relaxed_date as is_relaxed, with_scope as with_scope_of, text_wrapper as wrapped_text_of, write, write_binary as binary_of, write_date as date_of, write_double as double_written, write_id as id_of, write_integer, write_items as items_of, write_members as members_written, write_millis as millis_of_date, write_pointer as pointer_of, write_regex as regex_of, write_timestamp as timestamp_of};
 ghost use Rattle.bson_model.specs.View.{view, pairs_of, items_of as trees_of, members_of};
 
 use super::de::Error;
@@ -167,7 +167,7 @@ fn double_text(double: DoubleBits) -> Option<&'static str>
 }
 
 fn write_double(alloc: Global, double: DoubleBits) -> Result<Value, Error>
-    ensures { WritesForm data_of result (double_of double.0) }
+    ensures { WritesForm data_of result (double_written double.0) }
 {
     match double_text(double) {
         Some(text) => Ok(wrapped_text(alloc, "$numberDouble", String::from_str(alloc, text)?)?),

@@ -10,11 +10,11 @@ ghost use Rattle.bson_raw.specs.declared.array.RawArray.{RawArray as AnyArray};
 ghost use Rattle.bson_raw.specs.declared.array_buf.RawArrayBuf.{RawArrayBuf as AnyArrayBuffer};
 ghost use Rattle.bson_raw.specs.declared.bson.RawBson.{RawBson as AnyOwned};
 ghost use Rattle.bson_raw.specs.declared.bson.RawJavaScriptCodeWithScope.{RawJavaScriptCodeWithScope as AnyOwnedCode};
-ghost use Rattle.bson_raw.specs.declared.bson_ref.RawBinaryRef.{RawBinaryRef as AnyBinary};
+ghost use Rattle.bson_raw.specs.declared.bson_ref.RawBinaryRef.{RawBinaryRef as AnyBinaryRef};
 ghost use Rattle.bson_raw.specs.declared.bson_ref.RawBsonRef.{RawBsonRef as AnyValue};
-ghost use Rattle.bson_raw.specs.declared.bson_ref.RawDbPointerRef.{RawDbPointerRef as AnyPointer};
-ghost use Rattle.bson_raw.specs.declared.bson_ref.RawJavaScriptCodeWithScopeRef.{RawJavaScriptCodeWithScopeRef as AnyCode};
-ghost use Rattle.bson_raw.specs.declared.bson_ref.RawRegexRef.{RawRegexRef as AnyRegex};
+ghost use Rattle.bson_raw.specs.declared.bson_ref.RawDbPointerRef.{RawDbPointerRef as AnyPointerRef};
+ghost use Rattle.bson_raw.specs.declared.bson_ref.RawJavaScriptCodeWithScopeRef.{RawJavaScriptCodeWithScopeRef as AnyCodeRef};
+ghost use Rattle.bson_raw.specs.declared.bson_ref.RawRegexRef.{RawRegexRef as AnyRegexRef};
 ghost use Rattle.bson_raw.specs.declared.document.RawDocument.{RawDocument as AnyDocument};
 ghost use Rattle.bson_raw.specs.declared.document_buf.RawDocumentBuf.{RawDocumentBuf as AnyDocumentBuffer};
 ghost use Rattle.bson_raw.specs.declared.read_error.ReadError.{ReadError as AnyReadError};
@@ -41,12 +41,12 @@ pub fn equal_documents()
 
 /// Binary values, regular expressions, pointers and code with a scope are equal where all their parts are.
 pub fn equal_parts()
-    ensures binaries { (x y : AnyBinary) → IsTrue (⟦<RawBinaryRef<'static> as PartialEq>⟧.eq x y) ↔ ((x.subtype ≡ y.subtype) × (x.bytes.now ≡ y.bytes.now)) }
-    ensures expressions { (x y : AnyRegex) → IsTrue (⟦<RawRegexRef<'static> as PartialEq>⟧.eq x y)
+    ensures binaries { (x y : AnyBinaryRef) → IsTrue (⟦<RawBinaryRef<'static> as PartialEq>⟧.eq x y) ↔ ((x.subtype ≡ y.subtype) × (x.bytes.now ≡ y.bytes.now)) }
+    ensures expressions { (x y : AnyRegexRef) → IsTrue (⟦<RawRegexRef<'static> as PartialEq>⟧.eq x y)
         ↔ ((x.pattern.now ≡ y.pattern.now) × (x.options.now ≡ y.options.now)) }
-    ensures pointers { (x y : AnyPointer) → IsTrue (⟦<RawDbPointerRef<'static> as PartialEq>⟧.eq x y)
+    ensures pointers { (x y : AnyPointerRef) → IsTrue (⟦<RawDbPointerRef<'static> as PartialEq>⟧.eq x y)
         ↔ ((x.namespace.now ≡ y.namespace.now) × (id_bytes x.id ≡ id_bytes y.id)) }
-    ensures scoped_code { (x y : AnyCode) → IsTrue (⟦<RawJavaScriptCodeWithScopeRef<'static> as PartialEq>⟧.eq x y)
+    ensures scoped_code { (x y : AnyCodeRef) → IsTrue (⟦<RawJavaScriptCodeWithScopeRef<'static> as PartialEq>⟧.eq x y)
         ↔ ((x.code.now ≡ y.code.now) × (bytes_of x.scope ≡ bytes_of y.scope)) }
     ensures owned_code { (x y : AnyOwnedCode) → IsTrue (⟦<RawJavaScriptCodeWithScope as PartialEq>⟧.eq x y)
         ↔ ((string_bytes x.code ≡ string_bytes y.code) × (buffer_bytes x.scope ≡ buffer_bytes y.scope)) }

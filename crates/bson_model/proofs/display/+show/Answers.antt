@@ -6,8 +6,8 @@ use Rattle.bson_model.proofs.ShowLemmas.{shown_some, item_at, items_more, member
 use Rattle.bson_model.proofs.SizeLemmas.{last_rest}
 use Rattle.bson_model.proofs.display.+show.Goals as goal
 
-pub write_document-returns : goal.write_document-returns
-write_document-returns c t d plain ok =
+pub write_braces-returns : goal.write_braces-returns
+write_braces-returns c t d plain ok =
     let a = d.write_str-2.ensures.writes plain (search rules) in
     let b = d.write_members.ensures a.plain (search rules) in
     let e = d.write_str-3.ensures.writes b.plain ok in

@@ -1,7 +1,7 @@
 //! The bodies under reserved keys, but for the scope of a code.
 ghost use Rattle.std.specs.Prelude.{◌≡◌, if◌then◌else◌, string_bytes, Ok, Err};
 ghost use Rattle.serde_json.specs.Find.{as_i64};
-ghost use Rattle.serde_json.specs.View.{view as tree_of, number_view, members_view};
+ghost use Rattle.serde_json.specs.View.{view as data_of, number_view, members_view};
 ghost use Rattle.bson_base.specs.DateText.{date_of};
 ghost use Rattle.bson_base.specs.Scalars.{id_bytes, millis_of, decimal_bytes};
 ghost use Rattle.bson_base.specs.Value.{binary};
@@ -9,7 +9,7 @@ ghost use Rattle.bson_model.specs.View.{view};
 ghost use Rattle.bson_model.specs.JsonKeys.{reserved_of};
 ghost use Rattle.bson_model.specs.JsonWrappers.{reserved_key};
 ghost use Rattle.bson_model.specs.declared.extjson.de.Error.TheVariants.{DeserializationError};
-ghost use Rattle.bson_model.specs.JsonRead.{accepted, GivesReading, base64_body, binary_body, bodies_under as both_of, byte_body as byte_of, read_date_body, decimal_body, double_body as double_of, id_body, int_body as int_of, is_one as one_of, is_true as true_of, long_body as long_of, bodies_in, pointer_body, read_body as body_read, read_wrapped as wrapped_of, regex_body, scalar_of, single, text_of as text_read, timestamp_body, u32_from, u32_of, under as under_of, uuid_body, wanted};
+ghost use Rattle.bson_model.specs.JsonRead.{ok_or_error, GivesReading, base64_body, binary_body, bodies_under as both_of, byte_body as byte_of, read_date_body, decimal_body, double_body as double_of, id_body, int_body as int_of, is_one as one_of, is_true as true_of, long_body as long_of, bodies_in, pointer_body, read_body as body_read, read_wrapped as wrapped_of, regex_body, scalar_of, single, text_of as spec_text, timestamp_body, u32_from, u32_of, under as under_of, uuid_body, some_or_error};
 
 use super::keys::{Wrapper, wrapper_of};
 use super::texts::{read_byte, read_double, read_int, read_long};
@@ -23,7 +23,7 @@ use serde_json::{Map, Number, Value};
 use std::alloc::Global;
 
 pub(super) fn text_of(value: Value) -> Result<String>
-    ensures { GivesReading (λ t. string_bytes t) result (text_read (tree_of value)) }
+    ensures { GivesReading (λ t. string_bytes t) result (spec_text (data_of value)) }
 {
     match value {
         Value::String(text) => Ok(text),
@@ -33,7 +33,7 @@ pub(super) fn text_of(value: Value) -> Result<String>
 
 // The body of an object with this key alone.
 fn single(members: Map<String, Value>, key: &str) -> Result<Value>
-    ensures { GivesReading (λ v. tree_of v) result (single key.now (members_view members.entries)) }
+    ensures { GivesReading (λ v. data_of v) result (single key.now (members_view members.entries)) }
 {
     let mut entries = members.into_iter();
     let Some((first, value)) = entries.next() else {
@@ -50,7 +50,7 @@ fn single(members: Map<String, Value>, key: &str) -> Result<Value>
 }
 
 fn under(value: Value, key: &str) -> Result<Value>
-    ensures { GivesReading (λ v. tree_of v) result (under_of key.now (tree_of value)) }
+    ensures { GivesReading (λ v. data_of v) result (under_of key.now (data_of value)) }
 {
     match value {
         Value::Object(members) => single(members, key),
@@ -60,7 +60,7 @@ fn under(value: Value, key: &str) -> Result<Value>
 
 // The bodies of an object with these two keys alone, the first one below the second.
 fn pair(members: Map<String, Value>, first: &str, second: &str) -> Result<(Value, Value)>
-    ensures { GivesReading (λ p. (tree_of p.0, tree_of p.1)) result (bodies_in first.now second.now (members_view members.entries)) }
+    ensures { GivesReading (λ p. (data_of p.0, data_of p.1)) result (bodies_in first.now second.now (members_view members.entries)) }
 {
     let mut entries = members.into_iter();
     let Some((key, value)) = entries.next() else {
@@ -80,7 +80,7 @@ fn pair(members: Map<String, Value>, first: &str, second: &str) -> Result<(Value
 }
 
 fn both(value: Value, first: &str, second: &str) -> Result<(Value, Value)>
-    ensures { GivesReading (λ p. (tree_of p.0, tree_of p.1)) result (both_of first.now second.now (tree_of value)) }
+    ensures { GivesReading (λ p. (data_of p.0, data_of p.1)) result (both_of first.now second.now (data_of value)) }
 {
     match value {
         Value::Object(members) => pair(members, first, second),
@@ -89,14 +89,14 @@ fn both(value: Value, first: &str, second: &str) -> Result<(Value, Value)>
 }
 
 fn object_id(value: Value) -> Result<ObjectId>
-    ensures { GivesReading (λ i. id_bytes i) result (id_body (tree_of value)) }
+    ensures { GivesReading (λ i. id_bytes i) result (id_body (data_of value)) }
 {
     let text = text_of(value)?;
     Ok(ObjectId::parse_str(&text)?)
 }
 
 fn regex(alloc: Global, value: Value) -> Result<Regex>
-    ensures { GivesReading (λ r. (string_bytes r.pattern, string_bytes r.options)) result (regex_body (tree_of value)) }
+    ensures { GivesReading (λ r. (string_bytes r.pattern, string_bytes r.options)) result (regex_body (data_of value)) }
 {
     let (options, pattern) = both(value, "options", "pattern")?;
     let options = text_of(options)?;
@@ -105,28 +105,28 @@ fn regex(alloc: Global, value: Value) -> Result<Regex>
 }
 
 fn int(value: Value) -> Result<i32>
-    ensures { GivesReading (λ z. z) result (int_of (tree_of value)) }
+    ensures { GivesReading (λ z. z) result (int_of (data_of value)) }
 {
     let text = text_of(value)?;
     read_int(&text)
 }
 
 fn long(value: Value) -> Result<i64>
-    ensures { GivesReading (λ z. z) result (long_of (tree_of value)) }
+    ensures { GivesReading (λ z. z) result (long_of (data_of value)) }
 {
     let text = text_of(value)?;
     read_long(&text)
 }
 
 fn double(value: Value) -> Result<u64>
-    ensures { GivesReading (λ n. n) result (double_of (tree_of value)) }
+    ensures { GivesReading (λ n. n) result (double_of (data_of value)) }
 {
     let text = text_of(value)?;
     read_double(&text)
 }
 
 fn decimal(value: Value) -> Result<Decimal128>
-    ensures { GivesReading (λ d. decimal_bytes d) result (decimal_body (tree_of value)) }
+    ensures { GivesReading (λ d. decimal_bytes d) result (decimal_body (data_of value)) }
 {
     let text = text_of(value)?;
     text.parse::<Decimal128>()
@@ -135,14 +135,14 @@ fn decimal(value: Value) -> Result<Decimal128>
 }
 
 fn byte(value: Value) -> Result<u8>
-    ensures { GivesReading (λ b. b) result (byte_of (tree_of value)) }
+    ensures { GivesReading (λ b. b) result (byte_of (data_of value)) }
 {
     let text = text_of(value)?;
     read_byte(&text)
 }
 
 fn bytes(alloc: Global, value: Value, subtype: BinarySubtype) -> Result<Binary>
-    ensures { GivesReading (λ b. binary b.subtype b.bytes.items) result (base64_body subtype (tree_of value)) }
+    ensures { GivesReading (λ b. binary b.subtype b.bytes.items) result (base64_body subtype (data_of value)) }
 {
     let text = text_of(value)?;
     match Binary::from_base64(alloc, &text, Some(subtype)) {
@@ -153,7 +153,7 @@ fn bytes(alloc: Global, value: Value, subtype: BinarySubtype) -> Result<Binary>
 }
 
 fn binary_value(alloc: Global, value: Value) -> Result<Binary>
-    ensures { GivesReading (λ b. binary b.subtype b.bytes.items) result (binary_body (tree_of value)) }
+    ensures { GivesReading (λ b. binary b.subtype b.bytes.items) result (binary_body (data_of value)) }
 {
     let (base64, subtype) = both(value, "base64", "subType")?;
     let subtype = BinarySubtype::from(byte(subtype)?);
@@ -161,7 +161,7 @@ fn binary_value(alloc: Global, value: Value) -> Result<Binary>
 }
 
 fn uuid(alloc: Global, value: Value) -> Result<Binary>
-    ensures { GivesReading (λ b. binary b.subtype b.bytes.items) result (uuid_body (tree_of value)) }
+    ensures { GivesReading (λ b. binary b.subtype b.bytes.items) result (uuid_body (data_of value)) }
 {
     let text = text_of(value)?;
     let uuid = Uuid::parse_str(&text)
@@ -182,7 +182,7 @@ fn u32_from(n: Number) -> Option<u32>
 }
 
 fn unsigned(value: Value) -> Result<u32>
-    ensures { GivesReading (λ n. n) result (u32_of (tree_of value)) }
+    ensures { GivesReading (λ n. n) result (u32_of (data_of value)) }
 {
     let Value::Number(n) = value else {
         return Err(Error::DeserializationError);
@@ -191,7 +191,7 @@ fn unsigned(value: Value) -> Result<u32>
 }
 
 fn timestamp(value: Value) -> Result<Timestamp>
-    ensures { GivesReading (λ t. (t.time, t.increment)) result (timestamp_body (tree_of value)) }
+    ensures { GivesReading (λ t. (t.time, t.increment)) result (timestamp_body (data_of value)) }
 {
     let (increment, time) = both(value, "i", "t")?;
     let increment = unsigned(increment)?;
@@ -200,7 +200,7 @@ fn timestamp(value: Value) -> Result<Timestamp>
 }
 
 fn date_of_text(text: &str) -> Result<DateTime>
-    ensures { GivesReading (λ d. millis_of d) result (accepted (date_of text.now)) }
+    ensures { GivesReading (λ d. millis_of d) result (ok_or_error (date_of text.now)) }
 {
     DateTime::parse_rfc3339_str(text)
         .ok()
@@ -208,7 +208,7 @@ fn date_of_text(text: &str) -> Result<DateTime>
 }
 
 fn date_of_number(n: Number) -> Result<DateTime>
-    ensures { GivesReading (λ d. millis_of d) result (wanted (as_i64 (number_view n))) }
+    ensures { GivesReading (λ d. millis_of d) result (some_or_error (as_i64 (number_view n))) }
 {
     match n.as_i64() {
         Some(millis) => Ok(DateTime::from_millis(millis)),
@@ -217,7 +217,7 @@ fn date_of_number(n: Number) -> Result<DateTime>
 }
 
 fn date(value: Value) -> Result<DateTime>
-    ensures { GivesReading (λ d. millis_of d) result (read_date_body (tree_of value)) }
+    ensures { GivesReading (λ d. millis_of d) result (read_date_body (data_of value)) }
 {
     match value {
         Value::String(text) => date_of_text(&text),
@@ -231,7 +231,7 @@ fn date(value: Value) -> Result<DateTime>
 }
 
 fn pointer(value: Value) -> Result<DbPointer>
-    ensures { GivesReading (λ p. (string_bytes p.namespace, id_bytes p.id)) result (pointer_body (tree_of value)) }
+    ensures { GivesReading (λ p. (string_bytes p.namespace, id_bytes p.id)) result (pointer_body (data_of value)) }
 {
     let (id, namespace) = both(value, "$id", "$ref")?;
     let id = object_id(under(id, "$oid")?)?;
@@ -240,7 +240,7 @@ fn pointer(value: Value) -> Result<DbPointer>
 }
 
 fn is_one(value: Value) -> bool
-    ensures { result ≡ one_of (tree_of value) }
+    ensures { result ≡ one_of (data_of value) }
 {
     match value {
         Value::Number(n) => n.as_u64() == Some(1),
@@ -249,7 +249,7 @@ fn is_one(value: Value) -> bool
 }
 
 fn is_true(value: Value) -> bool
-    ensures { result ≡ true_of (tree_of value) }
+    ensures { result ≡ true_of (data_of value) }
 {
     match value {
         Value::Bool(truth) => truth,
@@ -269,7 +269,7 @@ fn constant(is_right: bool, constant: Bson) -> Result<Bson>
 }
 
 fn read_body(alloc: Global, wrapper: Wrapper, value: Value) -> Result<Bson>
-    ensures { GivesReading view result (scalar_of (body_read (reserved_key wrapper) (tree_of value))) }
+    ensures { GivesReading view result (scalar_of (body_read (reserved_key wrapper) (data_of value))) }
 {
     match wrapper {
         Wrapper::Oid => Ok(Bson::ObjectId(object_id(value)?)),
@@ -295,7 +295,7 @@ fn read_body(alloc: Global, wrapper: Wrapper, value: Value) -> Result<Bson>
 // What it keeps on the stack stays out of the frames of `read`, which calls itself for each level.
 #[inline(never)]
 pub(super) fn read_wrapped(alloc: Global, key: &str, value: Value) -> Result<Bson>
-    ensures { GivesReading view result (wrapped_of (reserved_of key.now) (tree_of value)) }
+    ensures { GivesReading view result (wrapped_of (reserved_of key.now) (data_of value)) }
 {
     match wrapper_of(key) {
         Some(wrapper) => read_body(alloc, wrapper, value),

@@ -1,8 +1,8 @@
 //! The texts in Extended JSON that no scalar has by itself: whole numbers, doubles, and a byte in hexadecimal.
 ghost use Rattle.std.specs.Prelude.{◌≡◌, ◌++◌, option_map};
 ghost use Rattle.bson_base.specs.Decimal.{all_digits as are_digits, all_zeros as are_zeros, cut, is_dot, is_e, is_named as is_named_by, marks};
-ghost use Rattle.bson_model.specs.JsonTexts.{byte_of, double_of, int_of, is_digits as digits_alone, is_exponent as exponent_of, long_of, read_numeral as numeral_read, read_unsigned_double as unsigned_of, double_sign_bit as bit_of, signed, without_dot};
-ghost use Rattle.bson_model.specs.JsonRead.{wanted};
+ghost use Rattle.bson_model.specs.JsonTexts.{byte_of, double_of, int_of, is_digits as digits_alone, is_exponent as exponent_of, long_of, read_numeral as numeral_read, read_unsigned_double as unsigned_of, double_sign_bit as bit_of, sign_and_rest, without_dot};
+ghost use Rattle.bson_model.specs.JsonRead.{some_or_error};
 
 use super::{Error, Result};
 use bson_base::texts::{all_digits, all_zeros, cut_at, is_named};
@@ -17,7 +17,7 @@ const INFINITY: u64 = 0x7FF0_0000_0000_0000;
 /// The number of a text under `$numberInt`.
 #[tactic(auto, unfolding(crate::specs::JsonTexts::int_of))]
 pub(super) fn read_int(text: &str) -> Result<i32>
-    ensures { result ≡ wanted (int_of text.now) }
+    ensures { result ≡ some_or_error (int_of text.now) }
 {
     match text.parse::<i32>() {
         Ok(n) => Ok(n),
@@ -28,7 +28,7 @@ pub(super) fn read_int(text: &str) -> Result<i32>
 /// The number of a text under `$numberLong`.
 #[tactic(auto, unfolding(crate::specs::JsonTexts::long_of))]
 pub(super) fn read_long(text: &str) -> Result<i64>
-    ensures { result ≡ wanted (long_of text.now) }
+    ensures { result ≡ some_or_error (long_of text.now) }
 {
     match text.parse::<i64>() {
         Ok(n) => Ok(n),
@@ -38,7 +38,7 @@ pub(super) fn read_long(text: &str) -> Result<i64>
 
 /// Whether a minus stands in front, and what stands behind a sign or none.
 fn split_sign(text: &[u8]) -> (bool, &[u8])
-    ensures { (result.0, result.1.now) ≡ signed text.now }
+    ensures { (result.0, result.1.now) ≡ sign_and_rest text.now }
 {
     match text {
         [b'+', rest @ ..] => (false, rest),
@@ -135,7 +135,7 @@ pub(super) fn read_double(text: &str) -> Result<u64>
 
 /// The byte of two hexadecimal digits.
 pub(super) fn read_byte(text: &str) -> Result<u8>
-    ensures { result ≡ wanted (byte_of text.now) }
+    ensures { result ≡ some_or_error (byte_of text.now) }
 {
     match <[u8; 1]>::from_hex(text) {
         Ok(bytes) => Ok(bytes[0]),

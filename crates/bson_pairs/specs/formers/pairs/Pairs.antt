@@ -19,7 +19,7 @@ use denote.Model.Placed.{held, view_places_where}
 use base.Stored.{gcons, code_map, coded×}
 use Rattle.std.specs.formers.vec.Vec as vec
 use Rattle.std.specs.declared.alloc.Global.{Global}
-use Rattle.std.specs.contracts.alloc.Global as heap
+use Rattle.std.specs.contracts.alloc.Global as global
 use Rattle.std.specs.contracts.impls.GlobalAllocator.TheImpl.{ghosts}
 use Rattle.std.specs.Map.{values_of}
 use Rattle.bson_pairs.specs.Entries.{entry, on_value, entries_puts, values_listed}
@@ -75,7 +75,7 @@ module _ (R R' : RattleType) (h : R.Denot → R'.Denot) where
       (λ u e. length-map u.values.items h ∙ e) (λ u e. sym (length-map u.values.items h) ∙ e) (λ u e. e)
       (over (I.the_row R)) (over (I.the_row R'))
       (struct_places (I.the_type R) (I.the_type R') (λ n. n, (vec.mapped h, tt)) _ (λ d. refl) refl
-      ((refl, (λ n. refl, λ n. refl)), (laid _ _ _ (vec.the_places heap.the_row ghosts R R' h a), tt)))
+      ((refl, (λ n. refl, λ n. refl)), (laid _ _ _ (vec.the_places global.the_row ghosts R R' h a), tt)))
 
   pub the_codes_placed : Recodes R R' h → Recodes (C.the_row R) (C.the_row R') ((the_former this).map R.Denot R'.Denot h)
   the_codes_placed e es = sym (code_map (coded× key_code R.coded).code (coded× key_code R'.coded).code (on_value h) (λ x. λ i. gcons (key_code.code x.0) (sym (e x.1) i)) es)

@@ -16,8 +16,8 @@ returns-in-Ok-clause-bytes c =
     let plain = (c.in-Ok.ensures).plain in
     let rest : List ℕ = rest_of old key v c.requires in
     let tag : c.tag.result ≡ tag_byte (raw_kind v) = c.tag.ensures ∙ ap tag_byte c.element_type.ensures in
-    let done = c.close.ensures.ok (take 4 old) (body_of old) rest (behind old c.write_rest.new.out.items rest c.requires (c.in-Ok.ensures).ok) (four_length old c.requires) (omega (arith, body_length old c.requires, c.len-end.ensures, c.args.bytes.now.ok.0)) in
-    closes_to old key v c.requires c.close.new.bytes.items c.close.result plain.0 plain.1 (subst (λ (t : ℕ). Closes (take 4 old) (body_of old) rest t c.close.new.bytes.items c.close.result) tag done)
+    let done = c.finish_append.ensures.ok (take 4 old) (body_of old) rest (behind old c.write_rest.new.out.items rest c.requires (c.in-Ok.ensures).ok) (four_length old c.requires) (omega (arith, body_length old c.requires, c.len-end.ensures, c.args.bytes.now.ok.0)) in
+    closes_to old key v c.requires c.finish_append.new.bytes.items c.finish_append.result plain.0 plain.1 (subst (λ (t : ℕ). Closes (take 4 old) (body_of old) rest t c.finish_append.new.bytes.items c.finish_append.result) tag done)
 
 pub returns-in-Err-clause-bytes : goal.returns-in-Err-clause-bytes
 returns-in-Err-clause-bytes c =
@@ -28,4 +28,4 @@ returns-in-Err-clause-bytes c =
     (refused, cut_down old c.write_rest.new.out.items c.truncate.new.self.items c.len-end.result (omega (arith, c.len-end.ensures, c.args.bytes.now.ok.0)) (c.in-Err.ensures).kept c.truncate.ensures.items)
 
 pub returns-in-Ok-clause-walk : goal.returns-in-Ok-clause-walk
-returns-in-Ok-clause-walk c = gains_where_taken c.args.bytes.now.items c.close.new.bytes.items c.args.key.now (ref_value c.args.value) c.close.result c.requires c.utf8.key (c.in-Ok.ensures).formed (returns-in-Ok-clause-bytes c)
+returns-in-Ok-clause-walk c = gains_where_taken c.args.bytes.now.items c.finish_append.new.bytes.items c.args.key.now (ref_value c.args.value) c.finish_append.result c.requires c.utf8.key (c.in-Ok.ensures).formed (returns-in-Ok-clause-bytes c)

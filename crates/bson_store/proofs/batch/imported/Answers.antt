@@ -3,7 +3,7 @@ use Rattle.store_laws.specs.Reading.{ReadsStream}
 use Rattle.bson_base.specs.Device.{Feed}
 use Rattle.store_laws.specs.State.{import, on}
 use Rattle.bson_store.specs.Left.{Leaves}
-use Rattle.bson_store.specs.Calls.{held}
+use Rattle.bson_store.specs.Calls.{store_state}
 use Rattle.bson_store.specs.Many.{DoesMany, Imports}
 use Rattle.bson_store.specs.Runs.{Imported}
 use Rattle.bson_store.proofs.Importing.{from_memory, whole_slice}
@@ -21,7 +21,7 @@ returns-clause-moves g c =
     let old : Feed = record { failures = 0; supply = record { given = Some (take s.at s.bytes.now); left = Some (drop s.at s.bytes.now) } } in
     let new : Feed = record { failures = 0; supply = record { given = Some (take t.at t.bytes.now); left = Some (drop t.at t.bytes.now) } } in
     let all = ap (λ at. drop at s.bytes.now) c.new-source.ensures.at ∙ c.new-source.ensures.bytes in
-    moved (held g.S.Store c.args.store.now) (held g.S.Store c.import.new.self) (Imports n old new c.import.result) (Imported n bytes c.counted.result) c.import.ensures.moves
+    moved (store_state g.S.Store c.args.store.now) (store_state g.S.Store c.import.new.self) (Imports n old new c.import.result) (Imported n bytes c.counted.result) c.import.ensures.moves
     (λ docs after h. subst (λ q. DoesMany n (ReadsStream bytes) q docs after) (sym c.counted.ensures)
     (from_memory docs after n bytes old new c.import.result refl refl (λ bs all_read. whole_slice (drop s.at s.bytes.now) new.supply.left bs all_read.0.1.1 all_read.1 ∙ all) h))
 
@@ -31,8 +31,8 @@ returns-clause-crash g c ds stop told =
     let s = c.new-source.result in
     let t = c.import.new.reader in
     let all = ap (λ at. drop at s.bytes.now) c.new-source.ensures.at ∙ c.new-source.ensures.bytes in
-    subst (λ q. Leaves (held g.S.Store c.args.store.now) (held g.S.Store c.import.new.self) (on n (import ds stop)) q) (sym c.counted.ensures)
+    subst (λ q. Leaves (store_state g.S.Store c.args.store.now) (store_state g.S.Store c.import.new.self) (on n (import ds stop)) q) (sym c.counted.ensures)
     (c.import.ensures.crash ds stop (λ bs took. subst (λ b. ReadsStream b ds stop) (sym (whole_slice (drop s.at s.bytes.now) (Some (drop t.at t.bytes.now)) bs took.0.1.1 took.1 ∙ all)) told))
 
 pub returns-clause-open : goal.returns-clause-open
-returns-clause-open g c = reply_open (held g.S.Store c.args.store.now) (held g.S.Store c.import.new.self) as_number c.import.result c.counted.result c.counted.ensures c.import.ensures.open
+returns-clause-open g c = reply_open (store_state g.S.Store c.args.store.now) (store_state g.S.Store c.import.new.self) as_number c.import.result c.counted.result c.counted.ensures c.import.ensures.open

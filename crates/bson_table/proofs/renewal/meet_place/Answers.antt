@@ -1,7 +1,7 @@
 use Rattle.std.proofs.lemmas.Int.{to_z-of_z}
 use Rattle.std.proofs.Common.{w64, ℤ, Some, cond, is_eq, option_map, find, sym, ap, ap₂, ◌∙◌}
 use Rattle.std.specs.BTreeMap.{get}
-use Rattle.bson_table.specs.Rows.{Doc, is_row_named}
+use Rattle.bson_table.specs.Rows.{TableRow, is_row_named}
 use Rattle.bson_table.specs.Seen.{Pair, pair_cmp}
 use Rattle.bson_table.proofs.PlacesLemmas.{places_more}
 use Rattle.bson_table.proofs.renewal.meet_place.Goals as goal
@@ -9,7 +9,7 @@ use Rattle.bson_table.proofs.renewal.meet_place.Goals as goal
 pub returns-clause-met : goal.returns-clause-met
 returns-clause-met c docs has =
     let key : Pair = (c.in_ok-key.key, c.in_ok-name.name) in
-    c.in_ok-met.ensures.old ∙ has key ∙ ap₂ (λ a b. option_map (λ (d : Doc). d.place) (find (is_row_named a b) docs)) c.in_ok-name.ensures.items c.in_ok-key.ensures.items
+    c.in_ok-met.ensures.old ∙ has key ∙ ap₂ (λ a b. option_map (λ (d : TableRow). d.place) (find (is_row_named a b) docs)) c.in_ok-name.ensures.items c.in_ok-key.ensures.items
 
 pub returns-clause-added : goal.returns-clause-added
 returns-clause-added c docs d has coll idkey place none =

@@ -3,7 +3,7 @@ use Rattle.sqlite.specs.State.{HasCleanDisk}
 use Rattle.sqlite.specs.Held.{state}
 use Rattle.sqlite.proofs.StateLemmas.{survives_then}
 use Rattle.bson_table.specs.declared.row.NewKey.{NewKey}
-use Rattle.bson_table.specs.Rows.{HasRows, Shows, all_rekeyed}
+use Rattle.bson_table.specs.Rows.{HasRows, HoldsRows, with_keys_at}
 use Rattle.bson_table.specs.Renewal.{IsOwn, MayRenew}
 use Rattle.bson_table.proofs.RenewalLemmas.{none_of}
 use Rattle.bson_table.proofs.RenewLemmas.{found, good_once, renewed_so, may_renew}
@@ -20,7 +20,7 @@ returns-in-Ok-clause-renewed g c clean live =
     let r = c.in_ok-renewals.renewals in
     let f = found accepts renews old mid r (c.in_ok-renewals.ensures.read early) in
     renewed_so accepts renews old mid r f (none_of r.twin c.in_default.not-Some) new live
-    (λ ds shows. subst (λ (ks : List NewKey). Shows new (all_rekeyed ks ds)) c.as_slice.ensures.value (c.in-Ok.ensures.done clean ds shows))
+    (λ ds shows. subst (λ (ks : List NewKey). HoldsRows new (with_keys_at ks ds)) c.as_slice.ensures.value (c.in-Ok.ensures.done clean ds shows))
 
 pub returns-in-Ok-clause-read : goal.returns-in-Ok-clause-read
 returns-in-Ok-clause-read g c clean =
@@ -44,7 +44,7 @@ returns-in-Ok-clause-crash g c =
     (λ clean db made.
     let early : HasCleanDisk mid = omega (arith, clean, c.write_keys.ensures.crash.clean) in
     let f = found accepts renews old mid r (c.in_ok-renewals.ensures.read early) in
-    may_renew accepts renews old mid r f (none_of r.twin c.in_default.not-Some) new db (λ ds shows. subst (λ (ks : List NewKey). HasRows db (all_rekeyed ks ds)) c.as_slice.ensures.value (made ds shows)))
+    may_renew accepts renews old mid r f (none_of r.twin c.in_default.not-Some) new db (λ ds shows. subst (λ (ks : List NewKey). HasRows db (with_keys_at ks ds)) c.as_slice.ensures.value (made ds shows)))
     c.survey_old.ensures.crash c.write_keys.ensures.crash
 
 pub returns-clause-crash : goal.returns-clause-crash
@@ -59,5 +59,5 @@ returns-clause-crash g c =
     (λ clean db made.
     let early : HasCleanDisk mid = omega (arith, clean, c.write_keys.ensures.crash.clean) in
     let f = found accepts renews old mid r (c.in_ok-renewals.ensures.read early) in
-    may_renew accepts renews old mid r f (none_of r.twin c.in_default.not-Some) new db (λ ds shows. subst (λ (ks : List NewKey). HasRows db (all_rekeyed ks ds)) c.as_slice.ensures.value (made ds shows)))
+    may_renew accepts renews old mid r f (none_of r.twin c.in_default.not-Some) new db (λ ds shows. subst (λ (ks : List NewKey). HasRows db (with_keys_at ks ds)) c.as_slice.ensures.value (made ds shows)))
     c.survey_old.ensures.crash c.write_keys.ensures.crash

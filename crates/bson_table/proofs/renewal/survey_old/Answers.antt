@@ -11,7 +11,7 @@ use Rattle.bson_table.specs.Renewal.{IsOwn, AcceptsOnce, AreRenewals}
 use Rattle.bson_table.proofs.LastPlaceLemmas.{map_end}
 use Rattle.bson_table.proofs.RenewalLemmas.{ok_of, good_last, none_yet, passed_good}
 use Rattle.bson_table.specs.Open.{all_text, Reads, RefusesOpening}
-use Rattle.bson_table.specs.Rows.{Doc}
+use Rattle.bson_table.specs.Rows.{TableRow}
 use Rattle.bson_table.specs.Judged.{ArePassed, JudgesRow}
 use Rattle.bson_table.proofs.PlainLemmas.{all_asks, listing_leaves, not_understood, unread_keeps}
 use Rattle.bson_table.proofs.AnyLemmas.{begun_any}
@@ -86,10 +86,10 @@ returns-in-Ok-None-clause-read g c clean =
     let late : HasCleanDisk (state g.S.Store now) = search rules in
     let was = c.rows.invariant.given (omega (arith, late, moved.survives.clean)) in
     let shown : Shown all_text [] mid (state g.S.Store now) was.0 = (rw (c.in-Ok-None.is, c.in-Ok-None.field-0-is) at (moved.ok late)) all_text [] was.0 was.1 in
-    let told : IfOk c.ended.result (λ x. (docs : List Doc) × Reads old (state g.S.Store now) docs × AreGood once docs × AreRenewals (IsOwn (g.C.RowCheck.renews c.args.check.now)) (g.C.RowCheck.renews c.args.check.now) docs x) =
+    let told : IfOk c.ended.result (λ x. (docs : List TableRow) × Reads old (state g.S.Store now) docs × AreGood once docs × AreRenewals (IsOwn (g.C.RowCheck.renews c.args.check.now)) (g.C.RowCheck.renews c.args.check.now) docs x) =
     told_renewals once old mid (state g.S.Store now) was.0 was.2 shown (IsOwn (g.C.RowCheck.renews c.args.check.now)) (g.C.RowCheck.renews c.args.check.now) c.rows.seen.keys _ c.rows.verdict c.rows.renewals c.ended.result c.ended.ensures was.3 was.4 in
     let it : now ≡ c.conn-in-Ok-None-1.given.0 = search rules in
-    subst (λ k. IfOk c.ended.result (λ x. (docs : List Doc) × Reads old (state g.S.Store k) docs × AreGood once docs × AreRenewals (IsOwn (g.C.RowCheck.renews c.args.check.now)) (g.C.RowCheck.renews c.args.check.now) docs x)) it told
+    subst (λ k. IfOk c.ended.result (λ x. (docs : List TableRow) × Reads old (state g.S.Store k) docs × AreGood once docs × AreRenewals (IsOwn (g.C.RowCheck.renews c.args.check.now)) (g.C.RowCheck.renews c.args.check.now) docs x)) it told
 
 pub returns-in-Ok-None-clause-refused : goal.returns-in-Ok-None-clause-refused
 returns-in-Ok-None-clause-refused g c clean =
@@ -129,7 +129,7 @@ rows-preserved g c =
             on,
             unchanged_then old mid (state g.S.Store now) was.2 still,
             subst (λ (z : ℤ). JudgesRow accepts c.judge.new.seen.keys z (was.0 ++ row ∷ []) c.in-Ok-judge.now) (sym place) judged,
-            λ ok. subst (λ (ds : List Doc). AreRenewals (IsOwn (g.C.RowCheck.renews c.args.check.now)) (g.C.RowCheck.renews c.args.check.now) ds c.go_on.new.self) (sym (map_end row was.0))
+            λ ok. subst (λ (ds : List TableRow). AreRenewals (IsOwn (g.C.RowCheck.renews c.args.check.now)) (g.C.RowCheck.renews c.args.check.now) ds c.go_on.new.self) (sym (map_end row was.0))
                 (ok_of c.go_on.result (sym c.is_err.ensures.value ∙ c.if-is_err.false) more ok),
           );
     }

@@ -5,7 +5,7 @@ use Rattle.sqlite.specs.Held.{state}
 use Rattle.sqlite.proofs.StateLemmas.{survives_then, survives_weaker}
 use Rattle.sqlite.specs.Tree.{Trees}
 use Rattle.bson_table.specs.declared.row.NewRow.{NewRow}
-use Rattle.bson_table.specs.Rows.{Doc, AreBelow, HasRows, Inside, Shows, docs_from}
+use Rattle.bson_table.specs.Rows.{TableRow, AreBelow, HasRows, Inside, HoldsRows, docs_from}
 use Rattle.std.proofs.Common.{OnOk}
 use Rattle.bson_table.proofs.ManyLemmas.{next_rows, below_rows, doc_at, committed_shows}
 use Rattle.bson_table.proofs.statements.add_all.Goals as goal
@@ -25,7 +25,7 @@ loop-row-preserved g c =
     let low : i < length rows = omega (arith, c.loop-row-test.true, c.loop-row.auto.row-index-end) in
     let at : Q ≡ (P +ℤ pos i) = omega (arith, ints) in
     let made = docs_from P coll (take i rows) in
-    let grown = λ (docs : List Doc) (d : NewRow). ap (λ ys. docs ++ ys) (ap (λ (q : ℤ). made ++ doc_at q coll (get_or rows i d) ∷ []) at ∙ sym (next_rows P coll rows i d low)) in
+    let grown = λ (docs : List TableRow) (d : NewRow). ap (λ ys. docs ++ ys) (ap (λ (q : ℤ). made ++ doc_at q coll (get_or rows i d) ∷ []) at ∙ sym (next_rows P coll rows i d low)) in
     record {
       same = search rules;
       survives = survives_then old mid new _ _ (λ _. ⊥) (λ _ db none. none) (λ _ db none. none) h.survives c.put.ensures.crash;
@@ -34,7 +34,7 @@ loop-row-preserved g c =
           let first : AreBelow P docs = subst (λ q. AreBelow q docs) (sym same) (c.requires.last (omega (arith, c.put.ensures.crash.clean, h.survives.clean)) docs shows) in
           let below : AreBelow Q (docs ++ made) = subst (λ q. AreBelow q (docs ++ made)) (sym at) (below_rows P coll rows i docs first) in
           let got = c.in_ok-put.ensures.added clean docs (docs ++ made) was below in
-          subst (λ (ds : List Doc). Inside new docs ds) (append_assoc docs made _ ∙ grown docs _) got;
+          subst (λ (ds : List TableRow). Inside new docs ds) (append_assoc docs made _ ∙ grown docs _) got;
       place = omega (arith, ints);
     }
 
@@ -47,7 +47,7 @@ returns-clause-crash g c =
     let rows = c.args.rows.now in
     let same : (to_z w64 (of_z w64 c.args.last) +ℤ pos 1) ≡ (c.args.last +ℤ pos 1) = ap (λ q. q +ℤ pos 1) (to_z-of_z w64 c.args.last c.ranges.last) in
     let all : take c.loop-row.row-index rows ≡ rows = take_all c.loop-row.row-index rows (omega (arith, c.loop-row-test.false, c.loop-row.auto.row-index-end)) in
-    let P = λ (trees : Trees). (docs : List Doc) → Shows old docs → HasRows trees (docs ++ docs_from (c.args.last +ℤ pos 1) c.args.coll.now rows) in
+    let P = λ (trees : Trees). (docs : List TableRow) → HoldsRows old docs → HasRows trees (docs ++ docs_from (c.args.last +ℤ pos 1) c.args.coll.now rows) in
     let whole = survives_then old last (state g.S.Store end) _ _ P (λ _ db none. absurd none)
     (λ clean db is docs shows. subst (λ (trees : Trees). HasRows trees (docs ++ docs_from (c.args.last +ℤ pos 1) c.args.coll.now rows)) (sym is) (subst₂ (λ (q : ℤ) (rs : List NewRow). HasRows last.now.trees (docs ++ docs_from q c.args.coll.now rs)) same all
     (h.inside (omega (arith, clean, c.commit.ensures.survives.clean)) docs shows).table)) h.survives c.commit.ensures.survives in
@@ -66,7 +66,7 @@ returns-clause-added g c clean docs shows =
     let now : HasCleanDisk (state g.S.Store end) = subst (λ k. HasCleanDisk (state g.S.Store k)) (sym it) clean in
     let inside = subst₂ (λ (q : ℤ) (rs : List NewRow). Inside last docs (docs ++ docs_from q c.args.coll.now rs)) same all (h.inside (omega (arith, now, c.commit.ensures.survives.clean)) docs shows) in
     let done = committed_shows last (state g.S.Store end) docs (docs ++ docs_from (c.args.last +ℤ pos 1) c.args.coll.now rows) c.commit.result inside c.commit.ensures.ended (c.commit.ensures.ok now) in
-    subst (λ k. OnOk c.commit.result (Shows (state g.S.Store k) (docs ++ docs_from (c.args.last +ℤ pos 1) c.args.coll.now rows))) it done
+    subst (λ k. OnOk c.commit.result (HoldsRows (state g.S.Store k) (docs ++ docs_from (c.args.last +ℤ pos 1) c.args.coll.now rows))) it done
 
 pub returns-in_err-put-clause-crash : goal.returns-in_err-put-clause-crash
 returns-in_err-put-clause-crash g c =

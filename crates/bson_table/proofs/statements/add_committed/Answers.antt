@@ -5,4 +5,4 @@ use Rattle.bson_table.proofs.statements.add_committed.Goals as goal
 pub returns-clause-crash : goal.returns-clause-crash
 returns-clause-crash g c =
     let same : to_z w64 (of_z w64 c.args.place) ≡ c.args.place = to_z-of_z w64 c.args.place c.ranges.place in
-    rw same at c.add.ensures.crash
+    rw same at c.insert_row.ensures.crash

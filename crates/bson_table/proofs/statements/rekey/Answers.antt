@@ -4,7 +4,7 @@ use Rattle.sqlite.specs.Held.{state}
 use Rattle.bson_table.proofs.InsertLemmas.{put_refused}
 use Rattle.bson_table.proofs.KeyLemmas.{rekey_done, still_committed, still_inside}
 use Rattle.bson_table.proofs.Texts.{rekey_text}
-use Rattle.bson_table.specs.Rows.{Doc}
+use Rattle.bson_table.specs.Rows.{TableRow}
 use Rattle.bson_table.proofs.statements.rekey.Goals as goal
 
 pub returns-clause-done : goal.returns-clause-done
@@ -14,7 +14,7 @@ returns-clause-done g c clean first docs inside =
 
 pub returns-clause-refused : goal.returns-clause-refused
 returns-clause-refused g c clean first docs inside =
-    let d : Doc = record { place = c.args.place; coll = c.args.idkey.now; idkey = c.args.idkey.now; body = c.args.idkey.now } in
+    let d : TableRow = record { place = c.args.place; coll = c.args.idkey.now; idkey = c.args.idkey.now; body = c.args.idkey.now } in
     put_refused d (state g.S.Store c.args.tx.now.conn.now) (state g.S.Store c.execute.new.self.conn.now) first docs inside rekey_text _ c.execute.result (c.execute.ensures.runs clean inside.mode)
 
 pub returns-clause-inside : goal.returns-clause-inside

@@ -4,7 +4,7 @@ use Rattle.sqlite.specs.Held.{state}
 use Rattle.sqlite.proofs.StateLemmas.{survives_then, survives_weaker}
 use Rattle.sqlite.specs.Tree.{Trees}
 use Rattle.bson_table.specs.declared.row.NewKey.{NewKey}
-use Rattle.bson_table.specs.Rows.{Doc, HasRows, Inside, Shows, all_rekeyed}
+use Rattle.bson_table.specs.Rows.{TableRow, HasRows, Inside, HoldsRows, with_keys_at}
 use Rattle.bson_table.proofs.KeyLemmas.{all_but_one, same_rekey, committed_then}
 use Rattle.bson_table.proofs.ManyLemmas.{committed_shows}
 use Rattle.bson_table.proofs.statements.rekey_all.Goals as goal
@@ -26,8 +26,8 @@ loop-key-preserved g c =
       committed = λ clean. committed_then old mid new (h.committed (omega (arith, clean, c.rekey.ensures.crash.clean))) (c.rekey.ensures.committed clean (h.mode (omega (arith, clean, c.rekey.ensures.crash.clean))));
       inside = λ clean docs shows.
           let was = h.inside (omega (arith, c.rekey.ensures.crash.clean)) docs shows in
-          let got = c.in_ok-rekey.ensures.done clean docs (all_rekeyed (take i keys) docs) was in
-          subst (λ (ds : List Doc). Inside new docs ds) (same_rekey _ k.place c.as_slice.result.now k.idkey.items (all_rekeyed (take i keys) docs) (search rules) c.as_slice.ensures.value ∙ sym (all_but_one keys i k docs low c.key-item.is)) got;
+          let got = c.in_ok-rekey.ensures.done clean docs (with_keys_at (take i keys) docs) was in
+          subst (λ (ds : List TableRow). Inside new docs ds) (same_rekey _ k.place c.as_slice.result.now k.idkey.items (with_keys_at (take i keys) docs) (search rules) c.as_slice.ensures.value ∙ sym (all_but_one keys i k docs low c.key-item.is)) got;
     }
 
 pub returns-clause-crash : goal.returns-clause-crash
@@ -38,9 +38,9 @@ returns-clause-crash g c =
     let h = c.loop-key.invariant in
     let keys = c.args.keys.now in
     let all : take c.loop-key.key-index keys ≡ keys = take_all c.loop-key.key-index keys (omega (arith, c.loop-key-test.false, c.loop-key.auto.key-index-end)) in
-    let P = λ (trees : Trees). (docs : List Doc) → Shows old docs → HasRows trees (all_rekeyed keys docs) in
+    let P = λ (trees : Trees). (docs : List TableRow) → HoldsRows old docs → HasRows trees (with_keys_at keys docs) in
     let whole = survives_then old last (state g.S.Store end) _ _ P (λ _ db none. absurd none)
-    (λ clean db is docs shows. subst (λ (trees : Trees). HasRows trees (all_rekeyed keys docs)) (sym is) (subst (λ (ks : List NewKey). HasRows last.now.trees (all_rekeyed ks docs)) all
+    (λ clean db is docs shows. subst (λ (trees : Trees). HasRows trees (with_keys_at keys docs)) (sym is) (subst (λ (ks : List NewKey). HasRows last.now.trees (with_keys_at ks docs)) all
     (h.inside (omega (arith, clean, c.commit.ensures.survives.clean)) docs shows).table)) h.survives c.commit.ensures.survives in
     let it : end ≡ c.conn-2-1.given.0 = search rules in
     subst (λ k. Survives old (state g.S.Store k) P) it whole
@@ -54,9 +54,9 @@ returns-clause-done g c clean docs shows =
     let all : take c.loop-key.key-index keys ≡ keys = take_all c.loop-key.key-index keys (omega (arith, c.loop-key-test.false, c.loop-key.auto.key-index-end)) in
     let it : end ≡ c.conn-2-1.given.0 = search rules in
     let now : HasCleanDisk (state g.S.Store end) = subst (λ k. HasCleanDisk (state g.S.Store k)) (sym it) clean in
-    let inside = subst (λ (ks : List NewKey). Inside last docs (all_rekeyed ks docs)) all (h.inside (omega (arith, now, c.commit.ensures.survives.clean)) docs shows) in
-    let done = committed_shows last (state g.S.Store end) docs (all_rekeyed keys docs) c.commit.result inside c.commit.ensures.ended (c.commit.ensures.ok now) in
-    subst (λ k. OnOk c.commit.result (Shows (state g.S.Store k) (all_rekeyed keys docs))) it done
+    let inside = subst (λ (ks : List NewKey). Inside last docs (with_keys_at ks docs)) all (h.inside (omega (arith, now, c.commit.ensures.survives.clean)) docs shows) in
+    let done = committed_shows last (state g.S.Store end) docs (with_keys_at keys docs) c.commit.result inside c.commit.ensures.ended (c.commit.ensures.ok now) in
+    subst (λ k. OnOk c.commit.result (HoldsRows (state g.S.Store k) (with_keys_at keys docs))) it done
 
 pub returns-in_err-rekey-clause-crash : goal.returns-in_err-rekey-clause-crash
 returns-in_err-rekey-clause-crash g c =

@@ -2,7 +2,7 @@ use Rattle.std.proofs.Common.{◌≡◌, List, take, IsTrue}
 use Rattle.sqlite.specs.State.{HasCleanDisk, Survives}
 use Rattle.sqlite.specs.Held.{state}
 use Rattle.bson_table.specs.Open.{HasCommitted}
-use Rattle.bson_table.specs.Rows.{Doc, Shows, Inside, all_rekeyed}
+use Rattle.bson_table.specs.Rows.{TableRow, HoldsRows, Inside, with_keys_at}
 use Rattle.bson_table.proofs.statements.rekey_all.Given as goal
 
 abbrev pub invariant-loop-key : goal.invariant-loop-key
@@ -14,5 +14,5 @@ invariant-loop-key g l =
       survives : Survives old now (λ _. ⊥);
       mode : HasCleanDisk now → IsTrue now.in_transaction;
       committed : HasCleanDisk now → HasCommitted old now;
-      inside : HasCleanDisk now → (docs : List Doc) → Shows old docs → Inside now docs (all_rekeyed (take l.key-index l.keys) docs);
+      inside : HasCleanDisk now → (docs : List TableRow) → HoldsRows old docs → Inside now docs (with_keys_at (take l.key-index l.keys) docs);
     }

@@ -14,4 +14,4 @@ returns-in_err-document c =
     rw (p.1, p.2) (wants c.args.bytes.now (are_bytes c.args.bytes.now c.type_inv.bytes) c.requires c.in_err-document.field-0.0 c.in_err-document.ensures)
 
 pub returns : goal.returns
-returns c = by_tree c.args.bytes.now (members_of (pairs_of c.in_ok-document.document)) c.write_document.result (are_bytes c.args.bytes.now c.type_inv.bytes) c.requires c.in_ok-document.ensures c.write_document.ensures
+returns c = by_tree c.args.bytes.now (members_of (pairs_of c.in_ok-document.document)) c.row_of_document.result (are_bytes c.args.bytes.now c.type_inv.bytes) c.requires c.in_ok-document.ensures c.row_of_document.ensures

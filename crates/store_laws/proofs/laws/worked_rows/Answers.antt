@@ -1,7 +1,7 @@
 use Rattle.std.proofs.Common.{◌∷◌, [], inl, inr, Some, None, refl, arith}
 use Rattle.std.specs.Prelude.{codes}
 use Rattle.std.specs.Fmt.{digits}
-use Rattle.bson_bytes.specs.Encode.{le32, le64, text_bytes, ended, framed}
+use Rattle.bson_bytes.specs.Encode.{le32, le64, text_bytes, cstring_of, frame_of}
 use Rattle.store_laws.specs.Rows.{with_a, with_id, with_two, int_one}
 use Rattle.store_laws.specs.State.{IsFreeKey}
 use Rattle.store_laws.specs.declared.error.ErrorKind.TheVariants.{EndInside}
@@ -11,7 +11,7 @@ free : IsFreeKey (codes "a")
 free = (λ e. cc, (omega arith, tt))
 
 pub returns : goal.returns
-unfolding le32 le64 text_bytes ended framed digits
+unfolding le32 le64 text_bytes cstring_of frame_of digits
 returns c = record {
   found = refl;
   absent = refl;

@@ -2,7 +2,7 @@ use Rattle.std.proofs.lemmas.Result.{err_from_is_err_and}
 use Rattle.sqlite.specs.Steps.{over_memory}
 use Rattle.sqlite.proofs.Callers.{memory_is_clean}
 use Rattle.bson_base.specs.Device.{Feed, Tally}
-use Rattle.bson_store.specs.Calls.{store_connection, held}
+use Rattle.bson_store.specs.Calls.{store_connection, store_state}
 use Rattle.store_pipe.proofs.Sending.{nothing_out, all_out, some_out}
 use Rattle.store_pipe.proofs.program.exchange.Goals as goal
 
@@ -20,7 +20,7 @@ returns-in-Ok g c =
     let new : Feed = g.I.Source.feed c.keep.new.input in
     let before : Tally = g.O.Sink.tally c.args.output.now in
     let after : Tally = g.O.Sink.tally c.export.new.writer in
-    all_out (held over_memory c.in_ok-store.store) (held over_memory c.export.new.self) old new before after (memory_is_clean (store_connection c.export.new.self)) c.in_ok-store.ensures.ok c.in-Ok.ensures.moves
+    all_out (store_state over_memory c.in_ok-store.store) (store_state over_memory c.export.new.self) old new before after (memory_is_clean (store_connection c.export.new.self)) c.in_ok-store.ensures.ok c.in-Ok.ensures.moves
 
 pub returns : goal.returns
 returns g c =
@@ -28,4 +28,4 @@ returns g c =
     let new : Feed = g.I.Source.feed c.keep.new.input in
     let before : Tally = g.O.Sink.tally c.args.output.now in
     let after : Tally = g.O.Sink.tally c.export.new.writer in
-    some_out (held over_memory c.in_ok-store.store) (held over_memory c.export.new.self) old new before after c.in-Err.error (memory_is_clean (store_connection c.export.new.self)) c.in_ok-store.ensures.ok c.in-Err.ensures.moves
+    some_out (store_state over_memory c.in_ok-store.store) (store_state over_memory c.export.new.self) old new before after c.in-Err.error (memory_is_clean (store_connection c.export.new.self)) c.in_ok-store.ensures.ok c.in-Err.ensures.moves

@@ -1,9 +1,9 @@
 use Rattle.std.proofs.Common.{map, string_bytes, refl, sym, ◌∙◌}
 use Rattle.bson_base.specs.Device.{Feed}
-use Rattle.bson_store.specs.Calls.{held}
+use Rattle.bson_store.specs.Calls.{store_state}
 use Rattle.store_words.specs.declared.call.Call.TheVariants as words
 use Rattle.store_program.specs.Commands.{Complains, IsOfStream}
-use Rattle.store_words.specs.declared.lines.Complaint.TheVariants as complaints
+use Rattle.store_words.specs.declared.lines.UsageError.TheVariants as complaints
 use Rattle.store_program.proofs.Wording.{not_empty}
 use Rattle.store_program.proofs.Taking.{import_performs, unworded}
 use Rattle.store_program.proofs.inputs.import.Goals as goal
@@ -12,10 +12,10 @@ pub returns : goal.returns
 returns g c =
     let fed : Feed = g.I.Source.feed c.args.input.now in
     let left : Feed = g.I.Source.feed c.import.new.reader in
-    import_performs (held g.S.Store c.args.store.now) (held g.S.Store c.import.new.self) c.args.name.now (Complains words.Import (map string_bytes c.args.words.now) fed left) fed left c.import.result c.number.result c.number.ensures c.import.ensures.moves
+    import_performs (store_state g.S.Store c.args.store.now) (store_state g.S.Store c.import.new.self) c.args.name.now (Complains words.Import (map string_bytes c.args.words.now) fed left) fed left c.import.result c.number.result c.number.ensures c.import.ensures.moves
 
 pub returns-then-not-is_empty : goal.returns-then-not-is_empty
 returns-then-not-is_empty g c =
     let fed : Feed = g.I.Source.feed c.args.input.now in
-    unworded (held g.S.Store c.args.store.now) (held g.S.Store c.args.store.now) (IsOfStream c.args.name.now fed fed) c.args.name.now (Complains words.Import (map string_bytes c.args.words.now) fed fed) fed fed complaints.Usage
+    unworded (store_state g.S.Store c.args.store.now) (store_state g.S.Store c.args.store.now) (IsOfStream c.args.name.now fed fed) c.args.name.now (Complains words.Import (map string_bytes c.args.words.now) fed fed) fed fed complaints.Usage
     (not_empty c.args.words.now (sym c.is_empty.ensures ∙ c.if-not-is_empty.true), refl)

@@ -2,11 +2,11 @@ use Rattle.std.proofs.Common.{Ok, Err, refl, subst}
 use Rattle.sqlite.specs.State.{State}
 use Rattle.bson_base.specs.Device.{Feed, Tally}
 use Rattle.bson_table.specs.Moves.{Moves}
-use Rattle.bson_store.specs.Calls.{held}
+use Rattle.bson_store.specs.Calls.{store_state}
 use Rattle.store_words.specs.Lines.{complaint_line, refusal_line}
 use Rattle.store_program.specs.Execute.{Executes}
-use Rattle.store_program.specs.declared.stop.Stop.{Stop}
-use Rattle.store_program.specs.declared.stop.Stop.TheVariants.{Refused, Words}
+use Rattle.store_program.specs.declared.stop.Failure.{Failure}
+use Rattle.store_program.specs.declared.stop.Failure.TheVariants.{Refused, Words}
 use Rattle.store_program.proofs.Telling.{writes}
 use Rattle.store_program.proofs.program.execute.Goals as goal
 
@@ -17,28 +17,28 @@ pub returns-in-Err-Refused-clause-step : goal.returns-in-Err-Refused-clause-step
 returns-in-Err-Refused-clause-step g c =
     let e = c.in-Err-Refused.error in
     let line = c.write_refusal in
-    let s : State = held g.S.Store c.args.store.now in
-    let t : State = held g.S.Store c.serve.new.store in
+    let s : State = store_state g.S.Store c.args.store.now in
+    let t : State = store_state g.S.Store c.perform_and_print.new.store in
     let fed : Feed = g.I.Source.feed c.args.input.now in
-    let left : Feed = g.I.Source.feed c.serve.new.input in
+    let left : Feed = g.I.Source.feed c.perform_and_print.new.input in
     let old : Tally = g.O.Sink.tally c.args.output.now in
-    let new : Tally = g.O.Sink.tally c.serve.new.output in (
+    let new : Tally = g.O.Sink.tally c.perform_and_print.new.output in (
       Err (Refused e),
       (refl, writes line.result (g.F.Sink.tally c.args.faults.now) (g.F.Sink.tally line.new.sink) (refusal_line e.kind e.document) line.ensures.counts line.ensures.ok line.ensures.err),
-      subst (λ (x : Stop). Moves s t (Executes c.args.words.now fed left old new (Err x))) c.in-Err-Refused.field-0-is c.in-Err-Refused.ensures.step,
+      subst (λ (x : Failure). Moves s t (Executes c.args.words.now fed left old new (Err x))) c.in-Err-Refused.field-0-is c.in-Err-Refused.ensures.step,
     )
 
 pub returns-in-Err-Words-clause-step : goal.returns-in-Err-Words-clause-step
 returns-in-Err-Words-clause-step g c =
     let w = c.in-Err-Words.complaint in
     let line = c.write_complaint in
-    let s : State = held g.S.Store c.args.store.now in
-    let t : State = held g.S.Store c.serve.new.store in
+    let s : State = store_state g.S.Store c.args.store.now in
+    let t : State = store_state g.S.Store c.perform_and_print.new.store in
     let fed : Feed = g.I.Source.feed c.args.input.now in
-    let left : Feed = g.I.Source.feed c.serve.new.input in
+    let left : Feed = g.I.Source.feed c.perform_and_print.new.input in
     let old : Tally = g.O.Sink.tally c.args.output.now in
-    let new : Tally = g.O.Sink.tally c.serve.new.output in (
+    let new : Tally = g.O.Sink.tally c.perform_and_print.new.output in (
       Err (Words w),
       (refl, writes line.result (g.F.Sink.tally c.args.faults.now) (g.F.Sink.tally line.new.sink) (complaint_line w) line.ensures.counts line.ensures.ok line.ensures.err),
-      subst (λ (x : Stop). Moves s t (Executes c.args.words.now fed left old new (Err x))) c.in-Err-Words.field-0-is c.in-Err-Words.ensures.step,
+      subst (λ (x : Failure). Moves s t (Executes c.args.words.now fed left old new (Err x))) c.in-Err-Words.field-0-is c.in-Err-Words.ensures.step,
     )

@@ -1,7 +1,7 @@
 use Rattle.std.proofs.Common.{refl, sym, ap, ◌∙◌, true≢false}
 use Rattle.bson_pairs.specs.Keyed.{put}
 use Rattle.bson_pairs.proofs.KeyedLemmas.{on_some_use, put-same}
-use Rattle.bson_model.specs.Accessors.{typed, or_unexpected, as_datetime}
+use Rattle.bson_model.specs.Accessors.{of_kind, or_unexpected, as_datetime}
 use Rattle.bson_model.specs.View.{view, pairs_of}
 use Rattle.bson_model.specs.declared.bson.Bson as bson
 use Rattle.bson_model.proofs.ViewLemmas.{view-DateTime}
@@ -15,7 +15,7 @@ returns-in-Some-as_datetime_mut c =
         λ w _. on_some_use c.get_mut.result c.in-Some.value c.in-Some.is (c.get_mut.follows.holds (bson.DateTime w)) ∙ ap (λ v. put c.args.key.now v now) (view-DateTime w),
         tt,
       ),
-      ap or_unexpected c.in-Some-as_datetime_mut.ensures.value ∙ ap (typed as_datetime) c.in-Some.ensures.value,
+      ap or_unexpected c.in-Some-as_datetime_mut.ensures.value ∙ ap (of_kind as_datetime) c.in-Some.ensures.value,
     )
 
 pub returns-in-None-as_datetime_mut : goal.returns-in-None-as_datetime_mut
@@ -27,5 +27,5 @@ returns-in-None-as_datetime_mut c =
         λ w h. absurd (true≢false (sym h)),
         on_some_use c.get_mut.result c.in-Some.value c.in-Some.is (c.get_mut.follows.holds c.in-Some.value.now) ∙ put-same k (view c.in-Some.value.now) now (sym c.in-Some.ensures.value),
       ),
-      ap or_unexpected c.in-None-as_datetime_mut.ensures.value ∙ ap (typed as_datetime) c.in-Some.ensures.value,
+      ap or_unexpected c.in-None-as_datetime_mut.ensures.value ∙ ap (of_kind as_datetime) c.in-Some.ensures.value,
     )

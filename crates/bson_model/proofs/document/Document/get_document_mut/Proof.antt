@@ -40,7 +40,7 @@ use Rattle.std.specs.contracts.result.Result as result
 use Rattle.bson_base.specs.Value.{Value}
 use Rattle.bson_base.specs.Answer.{result_map}
 use Rattle.bson_pairs.specs.Keyed.{Key, get, put}
-use Rattle.bson_model.specs.Accessors.{typed, as_document}
+use Rattle.bson_model.specs.Accessors.{of_kind, as_document}
 use Rattle.bson_model.specs.Lending.{pairs_row, document_of, LendsPairs, LendsDocumentIn, LendsPart}
 use Rattle.bson_model.specs.Rows.{document_row}
 use Rattle.bson_model.specs.Trees.{document_tree}
@@ -111,7 +111,7 @@ get_document_mut_spec 𝓤 𝓛 𝓜 𝓡 wired =
     calls_at ! (framed 𝓤 𝓛.H 𝓜 (tables 𝓤 𝓛.H 𝓜 𝓡 𝓡.env)) H (h-thm.met 𝓤 𝓛 𝓜 𝓡 (code.calls-bson_model::document::lent::document_in 𝓡.env wired)) x
     (and_then ! (read ! refl) (and_then ! (read ! refl) (no_more !))) (λ v₁.
     use1 𝓛 (later (some (λ (r : (Lent κ).Denot). (Tokens ⊛ ‵ ((Lent κ).own_val r (v₁ ∷ []))) ⊛
-    some (λ (ws : Unit {0} × (Unit {0} × Unit {0})). ‵ (lasts h.ended κs (u, (k, tt)) ws) ⊛ ‵ (LendsDocumentIn u k.now r) ⊛ raw (fact 𝓤 (result_map (λ d. members_of (pairs_of d.now)) r ≡ typed as_document (get k.now (seen u.now)))))))) (id⊢ 𝓤 _) $
+    some (λ (ws : Unit {0} × (Unit {0} × Unit {0})). ‵ (lasts h.ended κs (u, (k, tt)) ws) ⊛ ‵ (LendsDocumentIn u k.now r) ⊛ raw (fact 𝓤 (result_map (λ d. members_of (pairs_of d.now)) r ≡ of_kind as_document (get k.now (seen u.now)))))))) (id⊢ 𝓤 _) $
     await ! tt $ pick ! (λ r. split ! $ split ! $ move ! (1 ∷ []) $ peeks ! (Lent κ) _ (shows 𝓛 (Lent κ)) r (v₁ ∷ []) (λ is_r.
     lands_as ! refl refl ((lawful 𝓛 κ).typed r (v₁ ∷ []) is_r).0 $
     returns ! (look_at ! 0 refl) $ free_all ! refl $
@@ -124,4 +124,4 @@ get_document_mut_spec 𝓤 𝓛 𝓜 𝓡 wired =
     (λ n p. subst (λ (ps : List (Key × Bson)). OnErr r (seen n ≡ seen ps)) now_is p)) $
     suffices ! _ (ends_at 𝓛 f.ended stayed c ((κs, qs, bounds, a, (mut_vals s, (shr_slice_vals k, tt))), tt) v₁ r (tt, (tt, tt)) (tt, (tt, tt))) $
     nothing ! $ nothing ! $ join ! $ nothing ! $ join ! $ move ! (3 ∷ 0 ∷ 2 ∷ []) $ group ! 3 $ frame ! $
-    says ! (value ∙ ap (λ (ps : List (Key × Bson)). typed as_document (get k.now (seen ps))) now_is) $ done !))))))))))))
+    says ! (value ∙ ap (λ (ps : List (Key × Bson)). of_kind as_document (get k.now (seen ps))) now_is) $ done !))))))))))))

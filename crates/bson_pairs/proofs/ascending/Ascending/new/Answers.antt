@@ -1,6 +1,6 @@
 use Rattle.std.proofs.Common.{◌<◌, length, All, sym, ap, ◌∙◌, subst}
 use Rattle.bson_pairs.specs.Index.{pick}
-use Rattle.bson_pairs.specs.Keyed.{keyed}
+use Rattle.bson_pairs.specs.Keyed.{entries_of}
 use Rattle.bson_pairs.proofs.PickLemmas.{pick-index, texts_within}
 use Rattle.bson_pairs.proofs.ascending.Ascending.new.Goals as goal
 
@@ -13,4 +13,4 @@ pub returns : goal.returns
 returns g c =
     let ks = c.args.keys.now in
     let vs = c.args.values.now in
-    ap (pick (keyed ks vs)) (c.iter.ensures.rest ∙ c.requires.places) ∙ pick-index ks vs c.requires.lengths
+    ap (pick (entries_of ks vs)) (c.iter.ensures.rest ∙ c.requires.places) ∙ pick-index ks vs c.requires.lengths

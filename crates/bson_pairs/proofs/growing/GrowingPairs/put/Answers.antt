@@ -1,5 +1,5 @@
 use Rattle.std.proofs.Common.{◌∷◌, ◌++◌, [], string_bytes, sym, ap, ◌∙◌, subst}
-use Rattle.bson_pairs.specs.Keyed.{keyed, put}
+use Rattle.bson_pairs.specs.Keyed.{entries_of, put}
 use Rattle.bson_pairs.specs.Index.{is_key}
 use Rattle.bson_pairs.proofs.KeyedLemmas.{Absent, found_at, absent_if, get-missing, put-found, put-absent, keyed-push, on_err}
 use Rattle.bson_pairs.proofs.growing.GrowingPairs.put.Goals as goal
@@ -27,5 +27,5 @@ returns-in_ok-push-in-None-2-clause-ok g c =
     let k = string_bytes c.args.key in
     let gone = subst (λ q. Absent (is_key q) i.keys) c.as_str.ensures.value (absent_if (is_key c.as_str.result.now) i.keys c.in-None.ensures.index) in
     let values = c.in_ok-push-in-None-2.ensures.items ∙ ap (λ l. l ++ c.args.value ∷ []) c.in_ok-reserve-in-None.ensures.items in
-    (λ j. keyed (c.in_ok-push-in-None.ensures.ok j) (values j)) ∙ keyed-push i.keys i.values.items c.args.key c.args.value c.self.invariant
+    (λ j. entries_of (c.in_ok-push-in-None.ensures.ok j) (values j)) ∙ keyed-push i.keys i.values.items c.args.key c.args.value c.self.invariant
     ∙ sym (put-absent k i.keys i.values.items c.args.value gone c.self.invariant) ∙ ap (put k c.args.value) c.self.view_is

@@ -2,7 +2,7 @@ use Rattle.std.proofs.Common.{◌≡◌, set, slice_get, sym, ap, ◌∙◌}
 use borrow.Follows.Closed.{read_of}
 use Rattle.std.specs.Option.{ghost_name_of}
 use Rattle.std.specs.Map.{values_of}
-use Rattle.bson_pairs.specs.Keyed.{keyed, set_at}
+use Rattle.bson_pairs.specs.Keyed.{entries_of, set_at}
 use Rattle.bson_pairs.proofs.KeyedLemmas.{as_item, set_at-keyed, values_of-keyed}
 use Rattle.bson_pairs.proofs.pairs.Pairs.get_index_mut.Goals as goal
 
@@ -10,7 +10,7 @@ pub returns : goal.returns
 returns g c =
     let i = c.self.inside in
     let at = c.args.index in
-    let written : (w : g.row.V.Denot) → keyed i.keys (set i.values.items at w) ≡ set_at c.args.self.now at w = λ w. sym (set_at-keyed i.keys i.values.items at w) ∙ ap (λ ps. set_at ps at w) c.self.view_is in (
+    let written : (w : g.row.V.Denot) → entries_of i.keys (set i.values.items at w) ≡ set_at c.args.self.now at w = λ w. sym (set_at-keyed i.keys i.values.items at w) ∙ ap (λ ps. set_at ps at w) c.self.view_is in (
       (λ j. read_of (ghost_name_of c.get_mut.result) (λ w. written w j) (c.self.view_is j)),
       record {
         writes_back = tt;

@@ -1,5 +1,5 @@
 use Rattle.std.proofs.Common.{Some, ◌∷◌, ◌++◌, [], set, string_bytes, sym, ap, ◌∙◌, subst}
-use Rattle.bson_pairs.specs.Keyed.{keyed, get, put}
+use Rattle.bson_pairs.specs.Keyed.{entries_of, get, put}
 use Rattle.bson_pairs.specs.Index.{is_key}
 use Rattle.bson_pairs.proofs.KeyedLemmas.{Absent, found_at, absent_if, get-found_value, get-absent, get-missing, put-found, put-absent, keyed-push, on_err}
 use Rattle.bson_pairs.proofs.pairs.Pairs.insert.Goals as goal
@@ -17,7 +17,7 @@ returns-in-Ok-clause-ok g c =
     let i = c.self.inside in
     let k = c.as_str.result.now in
     let f = found_at (is_key k) i.keys c.in-Ok.at c.in-Ok.ensures.index in
-    ap (λ w. keyed i.keys (set i.values.items c.in-Ok.at w)) c.replace.ensures.after ∙ sym (put-found k i.keys i.values.items c.in-Ok.at c.args.value f c.self.invariant)
+    ap (λ w. entries_of i.keys (set i.values.items c.in-Ok.at w)) c.replace.ensures.after ∙ sym (put-found k i.keys i.values.items c.in-Ok.at c.args.value f c.self.invariant)
     ∙ ap (put k c.args.value) c.self.view_is ∙ ap (λ q. put q c.args.value c.args.self.now) c.as_str.ensures.value
 
 gone : (g : _) (c : goal.In_ok-push-in-Err g) → Absent (is_key (string_bytes c.args.key)) c.self.inside.keys
@@ -34,7 +34,7 @@ returns-in_ok-push-in-Err-clause-ok g c =
     let i = c.self.inside in
     let k = string_bytes c.args.key in
     let values = c.in_ok-push-in-Err.ensures.items ∙ ap (λ l. l ++ c.args.value ∷ []) c.in_ok-reserve-in-Err.ensures.items in
-    (λ j. keyed (c.in_ok-insert_at-in-Err.ensures.ok j) (values j)) ∙ keyed-push i.keys i.values.items c.args.key c.args.value c.self.invariant
+    (λ j. entries_of (c.in_ok-insert_at-in-Err.ensures.ok j) (values j)) ∙ keyed-push i.keys i.values.items c.args.key c.args.value c.self.invariant
     ∙ sym (put-absent k i.keys i.values.items c.args.value (gone g c) c.self.invariant) ∙ ap (put k c.args.value) c.self.view_is
 
 pub returns-in_err-reserve-in-Err-clause-absent : goal.returns-in_err-reserve-in-Err-clause-absent

@@ -1,10 +1,10 @@
 use Rattle.std.proofs.Common.{length, None, Ok, Err, ap, refl, sym, ◌∙◌, arith}
 use Rattle.std.proofs.lemmas.Result.{err_from_is_err_and}
-use Rattle.bson_table.specs.Moves.{AddsRows, all_appended}
+use Rattle.bson_table.specs.Moves.{AddsRows, with_rows}
 use Rattle.bson_table.specs.declared.fault.Fault.TheVariants as faults
 use Rattle.store_documents.specs.Names.{name_bytes}
 use Rattle.store_laws.specs.State.{import, number, on}
-use Rattle.bson_store.specs.Calls.{held, store_connection, Does}
+use Rattle.bson_store.specs.Calls.{store_state, store_connection, Does}
 use Rattle.bson_store.specs.Many.{AddsAll, FindsTaken}
 use Rattle.bson_store.specs.Refusals.{refusal, kind_of_fault}
 use Rattle.bson_store.proofs.Adding.{rows_make, unadded, add_refused, add_wants, not_added, added}
@@ -20,7 +20,7 @@ returns-in_err-taken-clause-moves g c =
     let e = c.in_err-taken.field-0.0 in
     let p = err_from_is_err_and c.from_residual.result c.from_residual.ensures.1 in
     rw (p.1, p.2)
-    (moved (held g.S.Store c.args.self.now) (held g.S.Store c.first_taken.new.self) (FindsTaken n rows (Err e)) (AddsAll n rows (Err e)) (rw c.as_str-coll.ensures.text at c.in_err-taken.ensures.moves)
+    (moved (store_state g.S.Store c.args.self.now) (store_state g.S.Store c.first_taken.new.self) (FindsTaken n rows (Err e)) (AddsAll n rows (Err e)) (rw c.as_str-coll.ensures.text at c.in_err-taken.ensures.moves)
     (λ docs after h. unadded docs after n rows e (rw c.as_str-coll.ensures.text at c.as_str-coll.ensures.named) h))
 
 pub returns-in-Some-clause-moves : goal.returns-in-Some-clause-moves
@@ -28,7 +28,7 @@ returns-in-Some-clause-moves g c =
     let n = name_bytes c.args.name in
     let rows = c.args.rows.now in
     let o = c.in_ok-taken.taken in
-    moved (held g.S.Store c.args.self.now) (held g.S.Store c.first_taken.new.self) (FindsTaken n rows (Ok o)) (AddsAll n rows (Err c.duplicate.result)) (rw c.as_str-coll.ensures.text at c.in_ok-taken.ensures.moves)
+    moved (store_state g.S.Store c.args.self.now) (store_state g.S.Store c.first_taken.new.self) (FindsTaken n rows (Ok o)) (AddsAll n rows (Err c.duplicate.result)) (rw c.as_str-coll.ensures.text at c.in_ok-taken.ensures.moves)
     (λ docs after h. add_refused docs after n rows o c.in-Some.document c.duplicate.result (rw c.as_str-coll.ensures.text at c.as_str-coll.ensures.named) c.in-Some.is c.duplicate.ensures h)
 
 pub returns-in_err-new-clause-moves : goal.returns-in_err-new-clause-moves
@@ -39,7 +39,7 @@ returns-in_err-new-clause-moves g c =
     let e = refusal (kind_of_fault faults.Memory) in
     let p = err_from_is_err_and c.from_residual-in_err-new.result c.from_residual-in_err-new.ensures.1 in
     rw (p.1, p.2)
-    (moved (held g.S.Store c.args.self.now) (held g.S.Store c.first_taken.new.self) (FindsTaken n rows (Ok o)) (AddsAll n rows (Err e)) (rw c.as_str-coll.ensures.text at c.in_ok-taken.ensures.moves)
+    (moved (store_state g.S.Store c.args.self.now) (store_state g.S.Store c.first_taken.new.self) (FindsTaken n rows (Ok o)) (AddsAll n rows (Err e)) (rw c.as_str-coll.ensures.text at c.in_ok-taken.ensures.moves)
     (λ docs after h. add_wants docs after n rows o e (rw c.as_str-coll.ensures.text at c.as_str-coll.ensures.named) refl h))
 
 pub returns-in_err-write_all-clause-moves : goal.returns-in_err-write_all-clause-moves
@@ -51,7 +51,7 @@ returns-in_err-write_all-clause-moves g c =
     let e = refusal (kind_of_fault x) in
     let p = err_from_is_err_and c.from_residual-in_err-write_all.result c.from_residual-in_err-write_all.ensures.1 in
     rw (p.1, p.2)
-    (moved_twice (held g.S.Store c.args.self.now) (held g.S.Store c.first_taken.new.self) (held g.S.Store c.write_all.new.self) (FindsTaken n rows (Ok o)) (AddsRows (length c.in_ok-new.new.items) (all_appended n c.in_ok-new.new.items) (Err x)) (AddsAll n rows (Err e))
+    (moved_twice (store_state g.S.Store c.args.self.now) (store_state g.S.Store c.first_taken.new.self) (store_state g.S.Store c.write_all.new.self) (FindsTaken n rows (Ok o)) (AddsRows (length c.in_ok-new.new.items) (with_rows n c.in_ok-new.new.items) (Err x)) (AddsAll n rows (Err e))
     (rw c.as_str-coll.ensures.text at c.in_ok-taken.ensures.moves) (rw (c.as_str-coll.ensures.text, c.as_slice.ensures.value) at c.in_err-write_all.ensures.moves)
     (λ docs mid after h l. not_added docs mid after n c.in_ok-new.new.items rows o x e c.in_ok-new.ensures (rw c.as_str-coll.ensures.text at c.as_str-coll.ensures.named) c.in_default.is refl h l))
 
@@ -60,31 +60,31 @@ returns-clause-moves g c =
     let n = name_bytes c.args.name in
     let rows = c.args.rows.now in
     let o = c.in_ok-taken.taken in
-    moved_twice (held g.S.Store c.args.self.now) (held g.S.Store c.first_taken.new.self) (held g.S.Store c.write_all.new.self) (FindsTaken n rows (Ok o)) (AddsRows (length c.in_ok-new.new.items) (all_appended n c.in_ok-new.new.items) (Ok tt)) (AddsAll n rows (Ok c.len.result))
+    moved_twice (store_state g.S.Store c.args.self.now) (store_state g.S.Store c.first_taken.new.self) (store_state g.S.Store c.write_all.new.self) (FindsTaken n rows (Ok o)) (AddsRows (length c.in_ok-new.new.items) (with_rows n c.in_ok-new.new.items) (Ok tt)) (AddsAll n rows (Ok c.len.result))
     (rw c.as_str-coll.ensures.text at c.in_ok-taken.ensures.moves) (rw (c.as_str-coll.ensures.text, c.as_slice.ensures.value) at c.in_ok-write_all.ensures.moves)
     (λ docs mid after h l. added docs mid after n c.in_ok-new.new.items rows o c.len.result c.in_ok-new.ensures (rw c.as_str-coll.ensures.text at c.as_str-coll.ensures.named) (rw c.as_str-coll.ensures.text at c.as_str-coll.utf8) c.in_default.is
     (c.len.ensures ∙ c.in_ok-new.new.ok.0) h l)
 
 pub returns-in_err-write_all-clause-crash : goal.returns-in_err-write_all-clause-crash
 returns-in_err-write_all-clause-crash g c ds read fit written =
-    let s = held g.S.Store c.args.self.now in
-    let m = held g.S.Store c.first_taken.new.self in
-    let t = held g.S.Store c.write_all.new.self in
+    let s = store_state g.S.Store c.args.self.now in
+    let m = store_state g.S.Store c.first_taken.new.self in
+    let t = store_state g.S.Store c.write_all.new.self in
     let n = name_bytes c.args.name in
     let rows = c.args.rows.now in
     let o = c.in_ok-taken.taken in
     let p = err_from_is_err_and c.from_residual-in_err-write_all.result c.from_residual-in_err-write_all.ensures.1 in
     rw (p.1, p.2)
-    (denied_leaves s m t (on n (import ds None)) (all_appended n c.in_ok-new.new.items) (FindsTaken n rows (Ok o)) (rw c.as_str-coll.ensures.text at c.in_ok-taken.ensures.moves)
+    (denied_leaves s m t (on n (import ds None)) (with_rows n c.in_ok-new.new.items) (FindsTaken n rows (Ok o)) (rw c.as_str-coll.ensures.text at c.in_ok-taken.ensures.moves)
     (λ docs after h. h.same) c.in_ok-taken.ensures.crash
     (λ docs after h. rows_make docs n ds c.in_ok-new.new.items rows c.in_ok-new.ensures (rw c.as_str-coll.ensures.text at c.as_str-coll.ensures.named) (rw c.as_str-coll.ensures.text at c.as_str-coll.utf8) (record { read = read; fit = fit; rows = written }) (sym c.in_default.is ∙ h.place))
     c.in_err-write_all.field-0.0 (rw (c.as_str-coll.ensures.text, c.as_slice.ensures.value) at c.in_err-write_all.ensures.crash) (λ e. c.in_err-write_all.ensures.full (ap Err e)))
 
 pub returns-clause-crash : goal.returns-clause-crash
 returns-clause-crash g c ds read fit written =
-    let s = held g.S.Store c.args.self.now in
-    let m = held g.S.Store c.first_taken.new.self in
-    let t = held g.S.Store c.write_all.new.self in
+    let s = store_state g.S.Store c.args.self.now in
+    let m = store_state g.S.Store c.first_taken.new.self in
+    let t = store_state g.S.Store c.write_all.new.self in
     let n = name_bytes c.args.name in
     let rows = c.args.rows.now in
     accepted_leaves s t (on n (import ds None)) (number c.len.result) (λ e. e)
@@ -94,7 +94,7 @@ returns-clause-crash g c ds read fit written =
 
 pub returns-clause-open : goal.returns-clause-open
 returns-clause-open g c clean docs stands =
-    let early : HasCleanDisk (held g.S.Store c.first_taken.new.self) = omega (arith, clean, c.write_all.ensures.crash.clean) in
+    let early : HasCleanDisk (store_state g.S.Store c.first_taken.new.self) = omega (arith, clean, c.write_all.ensures.crash.clean) in
     let y = (c.in_ok-taken.ensures.moves early).1 docs stands in
     let up = c.in_ok-write_all.ensures.open clean y.0 y.1 in
     (c.in_ok-taken.ensures.open early docs stands up.0, up.1)

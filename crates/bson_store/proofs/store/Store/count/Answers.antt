@@ -3,7 +3,7 @@ use Rattle.std.proofs.lemmas.Result.{err_from_is_err_and}
 use Rattle.bson_filter.specs.Filters.{filter_of}
 use Rattle.store_documents.specs.Names.{name_bytes}
 use Rattle.store_laws.specs.State as model
-use Rattle.bson_store.specs.Calls.{held}
+use Rattle.bson_store.specs.Calls.{store_state}
 use Rattle.bson_store.specs.Refusals.{as_number}
 use Rattle.bson_store.proofs.Exits.{bad_moves}
 use Rattle.bson_store.proofs.Selecting.{HasCounted, picked_moves, unpicked_moves}
@@ -12,16 +12,16 @@ use Rattle.bson_store.proofs.store.Store.count.Goals as goal
 pub returns-in_err-name-clause-moves : goal.returns-in_err-name-clause-moves
 returns-in_err-name-clause-moves g c =
     let p = err_from_is_err_and c.from_residual.result c.from_residual.ensures.1 in
-    rw (p.1, p.2, c.in_err-name.ensures.0) (bad_moves (held g.S.Store c.args.self.now) c.args.name.now (model.count (filter_of c.args.filter.now)) c.in_err-name.ensures.1)
+    rw (p.1, p.2, c.in_err-name.ensures.0) (bad_moves (store_state g.S.Store c.args.self.now) c.args.name.now (model.count (filter_of c.args.filter.now)) c.in_err-name.ensures.1)
 
 pub returns-in_err-count-clause-moves : goal.returns-in_err-count-clause-moves
 returns-in_err-count-clause-moves g c =
     let p = err_from_is_err_and c.from_residual-in_err-count.result c.from_residual-in_err-count.ensures.1 in
     rw (p.1, p.2)
-    (unpicked_moves (HasCounted) (held g.S.Store c.args.self.now) (held g.S.Store c.pick.new.self) c.args.name.now (name_bytes c.in_ok-name.name) (filter_of c.args.filter.now) c.in_err-count.field-0.0 (model.count (filter_of c.args.filter.now))
+    (unpicked_moves (HasCounted) (store_state g.S.Store c.args.self.now) (store_state g.S.Store c.pick.new.self) c.args.name.now (name_bytes c.in_ok-name.name) (filter_of c.args.filter.now) c.in_err-count.field-0.0 (model.count (filter_of c.args.filter.now))
     c.in_ok-name.ensures.0 c.in_ok-name.ensures.1 (λ d. d) c.in_err-count.ensures.moves)
 
 pub returns-clause-moves : goal.returns-clause-moves
 returns-clause-moves g c =
-    picked_moves (HasCounted) (held g.S.Store c.args.self.now) (held g.S.Store c.pick.new.self) c.args.name.now (name_bytes c.in_ok-name.name) (filter_of c.args.filter.now) c.in_ok-count.count (model.count (filter_of c.args.filter.now)) (as_number c.in_ok-count.count.number)
+    picked_moves (HasCounted) (store_state g.S.Store c.args.self.now) (store_state g.S.Store c.pick.new.self) c.args.name.now (name_bytes c.in_ok-name.name) (filter_of c.args.filter.now) c.in_ok-count.count (model.count (filter_of c.args.filter.now)) (as_number c.in_ok-count.count.number)
     c.in_ok-name.ensures.0 c.in_ok-name.ensures.1 (λ l out picks t. (out, picks, ap model.number t, refl)) c.in_ok-count.ensures.moves

@@ -3,10 +3,10 @@ use Rattle.bson_table.specs.Moves.{Visits}
 use Rattle.bson_table.specs.Table.{table_state}
 use Rattle.store_documents.specs.Names.{name_bytes}
 use Rattle.store_laws.specs.State.{IsName}
-use Rattle.bson_store.specs.Calls.{held}
+use Rattle.bson_store.specs.Calls.{store_state}
 use Rattle.bson_store.specs.Dump.{HandsTrees}
 use Rattle.bson_store.specs.Refusals.{kind_of_fault, refusal}
-use Rattle.bson_store.specs.declared.dump.Teller.{Teller}
+use Rattle.bson_store.specs.declared.dump.JsonVisitor.{JsonVisitor}
 use Rattle.bson_store.proofs.Moving.{moved}
 use Rattle.bson_store.proofs.Dumping.{Took, handed, stopped_at, unhanded}
 use Rattle.bson_store.proofs.store.Store.each_json.Goals as goal
@@ -15,10 +15,10 @@ pub returns-in-Some-clause-moves : goal.returns-in-Some-clause-moves
 returns-in-Some-clause-moves g c start =
     let took = g.T.TakeJson.took in
     let refused_by = g.T.TakeJson.refused in
-    let first : Teller g.row.T.Denot = record { taker = c.args.taker; alloc = c.args.self.now.alloc; place = 0; refusal = None } in
+    let first : JsonVisitor g.row.T.Denot = record { taker = c.args.taker; alloc = c.args.self.now.alloc; place = 0; refusal = None } in
     let last = c.visit_bodies-visited.new.visitor in
     let n = name_bytes c.in-Ok.name in
-    moved (held g.S.Store c.args.self.now) (table_state g.S.Store c.visit_bodies-visited.new.self) (Visits (Took took refused_by first) first last n (c.visit_bodies-visited.result)) (HandsTrees (took c.args.taker) (refused_by c.args.taker) c.args.name.now (Err (c.in-Some.error, last.taker)))
+    moved (store_state g.S.Store c.args.self.now) (table_state g.S.Store c.visit_bodies-visited.new.self) (Visits (Took took refused_by first) first last n (c.visit_bodies-visited.result)) (HandsTrees (took c.args.taker) (refused_by c.args.taker) c.args.name.now (Err (c.in-Some.error, last.taker)))
     (rw c.as_str.ensures.text at c.visit_bodies-visited.ensures.moves)
     (λ docs after h. subst (λ m. HandsTrees (took c.args.taker) (refused_by c.args.taker) m (Err (c.in-Some.error, last.taker)) docs after) c.in-Ok.ensures.0
     (stopped_at took refused_by first last n docs after start refl refl (subst IsName (sym c.in-Ok.ensures.0) c.in-Ok.ensures.1) c.visit_bodies-visited.result c.in-Some.error c.in-Some.is h))
@@ -27,10 +27,10 @@ pub returns-in-Ok-visited-clause-moves : goal.returns-in-Ok-visited-clause-moves
 returns-in-Ok-visited-clause-moves g c start =
     let took = g.T.TakeJson.took in
     let refused_by = g.T.TakeJson.refused in
-    let first : Teller g.row.T.Denot = record { taker = c.args.taker; alloc = c.args.self.now.alloc; place = 0; refusal = None } in
+    let first : JsonVisitor g.row.T.Denot = record { taker = c.args.taker; alloc = c.args.self.now.alloc; place = 0; refusal = None } in
     let last = c.visit_bodies-visited.new.visitor in
     let n = name_bytes c.in-Ok.name in
-    moved (held g.S.Store c.args.self.now) (table_state g.S.Store c.visit_bodies-visited.new.self) (Visits (Took took refused_by first) first last n (Ok c.in-Ok-visited.field-0)) (HandsTrees (took c.args.taker) (refused_by c.args.taker) c.args.name.now (Ok last.taker))
+    moved (store_state g.S.Store c.args.self.now) (table_state g.S.Store c.visit_bodies-visited.new.self) (Visits (Took took refused_by first) first last n (Ok c.in-Ok-visited.field-0)) (HandsTrees (took c.args.taker) (refused_by c.args.taker) c.args.name.now (Ok last.taker))
     (rw c.as_str.ensures.text at c.in-Ok-visited.ensures.moves)
     (λ docs after h. subst (λ m. HandsTrees (took c.args.taker) (refused_by c.args.taker) m (Ok last.taker) docs after) c.in-Ok.ensures.0
     (handed took refused_by first last n docs after start refl refl (subst IsName (sym c.in-Ok.ensures.0) c.in-Ok.ensures.1) c.in-Ok-visited.field-0 c.in_default.is c.in-Ok-visited.ensures.stopped h))
@@ -39,11 +39,11 @@ pub returns-in-Err-visited-clause-moves : goal.returns-in-Err-visited-clause-mov
 returns-in-Err-visited-clause-moves g c start =
     let took = g.T.TakeJson.took in
     let refused_by = g.T.TakeJson.refused in
-    let first : Teller g.row.T.Denot = record { taker = c.args.taker; alloc = c.args.self.now.alloc; place = 0; refusal = None } in
+    let first : JsonVisitor g.row.T.Denot = record { taker = c.args.taker; alloc = c.args.self.now.alloc; place = 0; refusal = None } in
     let last = c.visit_bodies-visited.new.visitor in
     let n = name_bytes c.in-Ok.name in
     rw c.from.ensures
-    (moved (held g.S.Store c.args.self.now) (table_state g.S.Store c.visit_bodies-visited.new.self) (Visits (Took took refused_by first) first last n (Err c.in-Err-visited.fault)) (HandsTrees (took c.args.taker) (refused_by c.args.taker) c.args.name.now (Err (refusal (kind_of_fault c.in-Err-visited.fault), last.taker)))
+    (moved (store_state g.S.Store c.args.self.now) (table_state g.S.Store c.visit_bodies-visited.new.self) (Visits (Took took refused_by first) first last n (Err c.in-Err-visited.fault)) (HandsTrees (took c.args.taker) (refused_by c.args.taker) c.args.name.now (Err (refusal (kind_of_fault c.in-Err-visited.fault), last.taker)))
     (rw c.as_str.ensures.text at c.in-Err-visited.ensures.moves)
     (λ docs after h. subst (λ m. HandsTrees (took c.args.taker) (refused_by c.args.taker) m (Err (refusal (kind_of_fault c.in-Err-visited.fault), last.taker)) docs after) c.in-Ok.ensures.0
     (unhanded took refused_by first last n docs after start refl refl (subst IsName (sym c.in-Ok.ensures.0) c.in-Ok.ensures.1) c.in-Err-visited.fault c.in_default.is h)))

@@ -2,10 +2,10 @@ use Rattle.std.proofs.Common.{rules, Err, refl, ap}
 use Rattle.std.proofs.lemmas.Result.{err_from_is_err_and}
 use Rattle.bson_base.specs.Device.{Tally}
 use Rattle.store_laws.specs.declared.error.ErrorKind.TheVariants as kind
-use Rattle.bson_store.specs.Calls.{held}
+use Rattle.bson_store.specs.Calls.{store_state}
 use Rattle.bson_store.specs.Export.{SendsCollection}
 use Rattle.bson_store.specs.Refusals.{refusal}
-use Rattle.bson_store.specs.declared.export.Sender.{Sender}
+use Rattle.bson_store.specs.declared.export.ExportVisitor.{ExportVisitor}
 use Rattle.bson_table.specs.Table.{table_state}
 use Rattle.bson_store.proofs.Moving.{rests, moved}
 use Rattle.bson_store.proofs.Exporting.{sends_none, all_sent, table_failed, writer_failed}
@@ -15,28 +15,28 @@ pub returns-in_err-name-clause-moves : goal.returns-in_err-name-clause-moves
 returns-in_err-name-clause-moves g c =
     let p = err_from_is_err_and c.from_residual.result c.from_residual.ensures.1 in
     let t : Tally = g.W.Sink.tally c.args.writer.now in
-    rw (p.1, p.2, c.in_err-name.ensures.0) (rests (held g.S.Store c.args.self.now) (SendsCollection c.args.name.now t t (Err (refusal kind.BadName))) (λ docs. sends_none docs c.args.name.now t c.in_err-name.ensures.1))
+    rw (p.1, p.2, c.in_err-name.ensures.0) (rests (store_state g.S.Store c.args.self.now) (SendsCollection c.args.name.now t t (Err (refusal kind.BadName))) (λ docs. sends_none docs c.args.name.now t c.in_err-name.ensures.1))
 
 pub returns-then-sender-clause-moves : goal.returns-then-sender-clause-moves
 returns-then-sender-clause-moves g c =
     let of_writer : g.row.W.Denot → Tally = λ w. g.W.Sink.tally w in
-    let tally : Sender g.row.W.Denot g.W.Sink → Tally = λ v. of_writer v.writer.now in
+    let tally : ExportVisitor g.row.W.Denot g.W.Sink → Tally = λ v. of_writer v.writer.now in
     rw c.from.ensures
-    (moved (held g.S.Store c.args.self.now) (table_state g.S.Store c.visit_bodies-sent.new.self) _ _ (rw c.as_str.ensures.text at c.visit_bodies-sent.ensures.moves)
+    (moved (store_state g.S.Store c.args.self.now) (table_state g.S.Store c.visit_bodies-sent.new.self) _ _ (rw c.as_str.ensures.text at c.visit_bodies-sent.ensures.moves)
     (λ docs after h. writer_failed tally (λ v. v.failed) (λ v. v.writer.ghost_name) _ _ _ (λ e. ap of_writer (search rules)) docs after c.args.name.now _ c.in_ok-name.ensures.1 refl c.if-sender.true (rw c.in_ok-name.ensures.0 at h)))
 
 pub returns-in_err-sent-clause-moves : goal.returns-in_err-sent-clause-moves
 returns-in_err-sent-clause-moves g c =
     let p = err_from_is_err_and c.from_residual-in_err-sent.result c.from_residual-in_err-sent.ensures.1 in
     let of_writer : g.row.W.Denot → Tally = λ w. g.W.Sink.tally w in
-    let tally : Sender g.row.W.Denot g.W.Sink → Tally = λ v. of_writer v.writer.now in
+    let tally : ExportVisitor g.row.W.Denot g.W.Sink → Tally = λ v. of_writer v.writer.now in
     rw (p.1, p.2)
-    (moved (held g.S.Store c.args.self.now) (table_state g.S.Store c.visit_bodies-sent.new.self) _ _ (rw c.as_str.ensures.text at c.in_err-sent.ensures.moves)
+    (moved (store_state g.S.Store c.args.self.now) (table_state g.S.Store c.visit_bodies-sent.new.self) _ _ (rw c.as_str.ensures.text at c.in_err-sent.ensures.moves)
     (λ docs after h. table_failed tally (λ v. v.failed) (λ v. v.writer.ghost_name) _ _ _ (λ e. ap of_writer (search rules)) docs after c.args.name.now c.in_err-sent.field-0.0 c.in_ok-name.ensures.1 refl c.if-sender.false (rw c.in_ok-name.ensures.0 at h)))
 
 pub returns-clause-moves : goal.returns-clause-moves
 returns-clause-moves g c =
     let of_writer : g.row.W.Denot → Tally = λ w. g.W.Sink.tally w in
-    let tally : Sender g.row.W.Denot g.W.Sink → Tally = λ v. of_writer v.writer.now in
-    moved (held g.S.Store c.args.self.now) (table_state g.S.Store c.visit_bodies-sent.new.self) _ _ (rw c.as_str.ensures.text at c.in_ok-sent.ensures.moves)
+    let tally : ExportVisitor g.row.W.Denot g.W.Sink → Tally = λ v. of_writer v.writer.now in
+    moved (store_state g.S.Store c.args.self.now) (table_state g.S.Store c.visit_bodies-sent.new.self) _ _ (rw c.as_str.ensures.text at c.in_ok-sent.ensures.moves)
     (λ docs after h. all_sent tally (λ v. v.failed) (λ v. v.writer.ghost_name) _ _ _ (λ e. ap of_writer (search rules)) docs after c.args.name.now c.in_ok-sent.field-0 c.in_ok-name.ensures.1 refl c.if-sender.false c.in_ok-sent.ensures.stopped (rw c.in_ok-name.ensures.0 at h))

@@ -4,7 +4,7 @@ use Rattle.sqlite.specs.State.{HasCleanDisk}
 use Rattle.bson_table.specs.Moves.{FindsNone}
 use Rattle.bson_table.specs.Table.{table_state}
 use Rattle.store_laws.specs.declared.error.ErrorKind.TheVariants as kind
-use Rattle.bson_store.specs.Calls.{held}
+use Rattle.bson_store.specs.Calls.{store_state}
 use Rattle.bson_store.specs.Many.{FindsTaken}
 use Rattle.bson_store.specs.Refusals.{refusal, kind_of_fault}
 use Rattle.bson_store.proofs.Keyed.{taken_unknown, repeats_unknown, taken_of_none, taken_later}
@@ -13,40 +13,40 @@ use Rattle.bson_store.proofs.store.Store.first_taken.Goals as goal
 
 pub returns-in_err-is_empty-clause-moves : goal.returns-in_err-is_empty-clause-moves
 returns-in_err-is_empty-clause-moves g c =
-    let n = c.args.coll.now in
+    let n = c.args.collection.now in
     let rows = c.args.rows.now in
     let x = c.in_err-is_empty.field-0.0 in
     let p = err_from_is_err_and c.from_residual.result c.from_residual.ensures.1 in
     rw (p.1, p.2)
-    (moved (held g.S.Store c.args.self.now) (table_state g.S.Store c.is_empty.new.self) (FindsNone (Err x)) (FindsTaken n rows (Err (refusal (kind_of_fault x)))) c.in_err-is_empty.ensures.moves
+    (moved (store_state g.S.Store c.args.self.now) (table_state g.S.Store c.is_empty.new.self) (FindsNone (Err x)) (FindsTaken n rows (Err (refusal (kind_of_fault x)))) c.in_err-is_empty.ensures.moves
     (λ docs after h. taken_unknown n rows x docs after h))
 
 pub returns-in_err-place-clause-moves : goal.returns-in_err-place-clause-moves
 returns-in_err-place-clause-moves g c =
-    let n = c.args.coll.now in
+    let n = c.args.collection.now in
     let rows = c.args.rows.now in
     let b = c.in_ok-is_empty.is_empty in
     let p = err_from_is_err_and c.from_residual-in_err-place.result c.from_residual-in_err-place.ensures.1 in
     rw (p.1, p.2)
-    (moved (held g.S.Store c.args.self.now) (table_state g.S.Store c.is_empty.new.self) (FindsNone (Ok b)) (FindsTaken n rows (Err (refusal kind.Memory))) c.in_ok-is_empty.ensures.moves
+    (moved (store_state g.S.Store c.args.self.now) (table_state g.S.Store c.is_empty.new.self) (FindsNone (Ok b)) (FindsTaken n rows (Err (refusal kind.Memory))) c.in_ok-is_empty.ensures.moves
     (λ docs after h. repeats_unknown n rows b docs after h))
 
 pub returns-then-is_empty-clause-moves : goal.returns-then-is_empty-clause-moves
 returns-then-is_empty-clause-moves g c =
-    let n = c.args.coll.now in
+    let n = c.args.collection.now in
     let rows = c.args.rows.now in
     let b = c.in_ok-is_empty.is_empty in
     let o = c.in_ok-place.place in
-    moved (held g.S.Store c.args.self.now) (table_state g.S.Store c.is_empty.new.self) (FindsNone (Ok b)) (FindsTaken n rows (Ok o)) c.in_ok-is_empty.ensures.moves
+    moved (store_state g.S.Store c.args.self.now) (table_state g.S.Store c.is_empty.new.self) (FindsNone (Ok b)) (FindsTaken n rows (Ok o)) c.in_ok-is_empty.ensures.moves
     (λ docs after h. taken_of_none n rows b o docs after c.if-is_empty.true c.in_ok-place.ensures h)
 
 pub returns-clause-moves : goal.returns-clause-moves
 returns-clause-moves g c =
-    let n = c.args.coll.now in
+    let n = c.args.collection.now in
     let rows = c.args.rows.now in
     let b = c.in_ok-is_empty.is_empty in
     let r = c.first_looked_up.result in
-    moved_twice (held g.S.Store c.args.self.now) (table_state g.S.Store c.is_empty.new.self) (held g.S.Store c.first_looked_up.new.self) (FindsNone (Ok b)) (FindsTaken n rows r) (FindsTaken n rows r) c.in_ok-is_empty.ensures.moves c.first_looked_up.ensures.moves
+    moved_twice (store_state g.S.Store c.args.self.now) (table_state g.S.Store c.is_empty.new.self) (store_state g.S.Store c.first_looked_up.new.self) (FindsNone (Ok b)) (FindsTaken n rows r) (FindsTaken n rows r) c.in_ok-is_empty.ensures.moves c.first_looked_up.ensures.moves
     (λ docs mid after h m. taken_later n rows b r docs mid after h m)
 
 pub returns-clause-open : goal.returns-clause-open

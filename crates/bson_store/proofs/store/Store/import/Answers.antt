@@ -5,7 +5,7 @@ use Rattle.store_laws.specs.declared.error.ErrorKind.TheVariants as kind
 use Rattle.store_laws.specs.Reading.{ReadsStream}
 use Rattle.bson_base.specs.Device.{Feed}
 use Rattle.store_streams.specs.Judging.{Judges}
-use Rattle.bson_store.specs.Calls.{held}
+use Rattle.bson_store.specs.Calls.{store_state}
 use Rattle.bson_store.specs.Many.{AddsAll, Imports}
 use Rattle.bson_store.specs.Refusals.{kind_of_reading, refusal, refusal_of_stream}
 use Rattle.bson_store.proofs.Importing.{import_unnamed, import_unread, import_refused, import_added}
@@ -18,7 +18,7 @@ returns-in_err-name-clause-moves g c =
     let n = c.args.name.now in
     let f : Feed = g.R.Source.feed c.args.reader.now in
     let p = err_from_is_err_and c.from_residual.result c.from_residual.ensures.1 in
-    rw (p.1, p.2, c.in_err-name.ensures.0) (rests (held g.S.Store c.args.self.now) (Imports n f f (Err (refusal kind.BadName))) (λ docs. import_unnamed docs n f c.in_err-name.ensures.1))
+    rw (p.1, p.2, c.in_err-name.ensures.0) (rests (store_state g.S.Store c.args.self.now) (Imports n f f (Err (refusal kind.BadName))) (λ docs. import_unnamed docs n f c.in_err-name.ensures.1))
 
 pub returns-in_err-bytes-clause-moves : goal.returns-in_err-bytes-clause-moves
 returns-in_err-bytes-clause-moves g c =
@@ -27,7 +27,7 @@ returns-in_err-bytes-clause-moves g c =
     let old : Feed = g.R.Source.feed c.args.reader.now in
     let new : Feed = g.R.Source.feed c.read_all.new.source in
     let p = err_from_is_err_and c.from_residual-in_err-bytes.result c.from_residual-in_err-bytes.ensures.1 in
-    rw (p.1, p.2) (rests (held g.S.Store c.args.self.now) (Imports n old new (Err (refusal (kind_of_reading x)))) (λ docs. import_unread docs n old new x c.in_ok-name.ensures.1 c.in_err-bytes.ensures.err))
+    rw (p.1, p.2) (rests (store_state g.S.Store c.args.self.now) (Imports n old new (Err (refusal (kind_of_reading x)))) (λ docs. import_unread docs n old new x c.in_ok-name.ensures.1 c.in_err-bytes.ensures.err))
 
 pub returns-in_err-rows-clause-moves : goal.returns-in_err-rows-clause-moves
 returns-in_err-rows-clause-moves g c =
@@ -38,7 +38,7 @@ returns-in_err-rows-clause-moves g c =
     let new : Feed = g.R.Source.feed c.read_all.new.source in
     let p = err_from_is_err_and c.from_residual-in_err-rows.result c.from_residual-in_err-rows.ensures.1 in
     rw (p.1, p.2)
-    (rests (held g.S.Store c.args.self.now) (Imports n old new (Err (refusal_of_stream x)))
+    (rests (store_state g.S.Store c.args.self.now) (Imports n old new (Err (refusal_of_stream x)))
     (λ docs. import_refused docs n bytes old new x c.in_ok-name.ensures.1 (rw c.as_slice-stream.ensures.value at c.judged.ensures.range) c.in_ok-bytes.ensures.ok (subst (λ b. Judges (ReadsStream b) (Err x)) c.as_slice-stream.ensures.value c.in_err-rows.ensures.rows)))
 
 pub returns-clause-moves : goal.returns-clause-moves
@@ -48,7 +48,7 @@ returns-clause-moves g c =
     let rows = c.in_ok-rows.rows in
     let old : Feed = g.R.Source.feed c.args.reader.now in
     let new : Feed = g.R.Source.feed c.read_all.new.source in
-    moved (held g.S.Store c.args.self.now) (held g.S.Store c.add_all.new.self) (AddsAll (name_bytes c.in_ok-name.name) rows.items c.add_all.result) (Imports n old new c.add_all.result) (rw c.as_slice.ensures.value at c.add_all.ensures.moves)
+    moved (store_state g.S.Store c.args.self.now) (store_state g.S.Store c.add_all.new.self) (AddsAll (name_bytes c.in_ok-name.name) rows.items c.add_all.result) (Imports n old new c.add_all.result) (rw c.as_slice.ensures.value at c.add_all.ensures.moves)
     (λ docs after h. import_added docs after n bytes old new rows c.add_all.result c.in_ok-name.ensures.1 c.in_ok-bytes.ensures.ok (rw c.as_slice-stream.ensures.value at c.in_ok-rows.ensures.rows)
     (subst (λ m. AddsAll m rows.items c.add_all.result docs after) c.in_ok-name.ensures.0 h))
 
@@ -57,5 +57,5 @@ returns-clause-crash g c =
     let bytes = c.in_ok-bytes.bytes.items in
     let old : Feed = g.R.Source.feed c.args.reader.now in
     let new : Feed = g.R.Source.feed c.read_all.new.source in
-    fed_leave (held g.S.Store c.args.self.now) (held g.S.Store c.add_all.new.self) c.args.name.now (name_bytes c.in_ok-name.name) bytes old new c.in_ok-rows.rows c.add_all.result c.in_ok-name.ensures.0 c.in_ok-bytes.ensures.ok
+    fed_leave (store_state g.S.Store c.args.self.now) (store_state g.S.Store c.add_all.new.self) c.args.name.now (name_bytes c.in_ok-name.name) bytes old new c.in_ok-rows.rows c.add_all.result c.in_ok-name.ensures.0 c.in_ok-bytes.ensures.ok
     (rw c.as_slice-stream.ensures.value at c.in_ok-rows.ensures.rows) (rw c.as_slice.ensures.value at c.add_all.ensures.crash)

@@ -1,10 +1,10 @@
 use Rattle.std.proofs.lemmas.Result.{err_from_is_err_and}
 use Rattle.std.specs.Cow.{cow_slice_items}
 use Rattle.std.proofs.Common.{Ok, Err, ap, subst, arith}
-use Rattle.bson_table.specs.Moves.{FindsPlace, appended}
+use Rattle.bson_table.specs.Moves.{FindsPlace, with_row}
 use Rattle.store_laws.specs.Reading.{readable}
 use Rattle.store_laws.specs.State.{insert, on, done}
-use Rattle.bson_store.specs.Calls.{held, store_connection, Does, DoesRead}
+use Rattle.bson_store.specs.Calls.{store_state, store_connection, Does, DoesRead}
 use Rattle.bson_store.proofs.Moving.{moved}
 use Rattle.bson_store.proofs.Serving.{row_makes, written_fits}
 use Rattle.bson_store.proofs.Leaving.{denied_leaves, accepted_leaves}
@@ -17,40 +17,40 @@ use Rattle.sqlite.specs.State.{HasCleanDisk}
 pub returns-in_err-found-clause-moves : goal.returns-in_err-found-clause-moves
 returns-in_err-found-clause-moves g c d read told =
     let p = err_from_is_err_and c.from_residual.result c.from_residual.ensures.1 in
-    rw (p.1, p.2) (unfound_insert (held g.S.Store c.args.self.now) (table_state g.S.Store c.place_of.new.self) (name_bytes c.args.name) c.args.row.now.key.items d c.in_err-found.field-0.0 (rw c.as_str-coll.ensures.text at c.as_str-coll.ensures.named) (rw (c.as_str-coll.ensures.text, c.as_slice-key.ensures.value) at c.in_err-found.ensures.moves))
+    rw (p.1, p.2) (unfound_insert (store_state g.S.Store c.args.self.now) (table_state g.S.Store c.place_of.new.self) (name_bytes c.args.name) c.args.row.now.key.items d c.in_err-found.field-0.0 (rw c.as_str-coll.ensures.text at c.as_str-coll.ensures.named) (rw (c.as_str-coll.ensures.text, c.as_slice-key.ensures.value) at c.in_err-found.ensures.moves))
 
 pub returns-in-Some-clause-moves : goal.returns-in-Some-clause-moves
 returns-in-Some-clause-moves g c d read told =
-    rw c.from.ensures (duplicate_insert (held g.S.Store c.args.self.now) (table_state g.S.Store c.place_of.new.self) (name_bytes c.args.name) d c.args.row.now c.in_ok-found.found c.in-Some.field-0 (rw c.as_str-coll.ensures.text at c.as_str-coll.ensures.named) read told c.in-Some.is (rw (c.as_str-coll.ensures.text, c.as_slice-key.ensures.value) at c.in_ok-found.ensures.moves))
+    rw c.from.ensures (duplicate_insert (store_state g.S.Store c.args.self.now) (table_state g.S.Store c.place_of.new.self) (name_bytes c.args.name) d c.args.row.now c.in_ok-found.found c.in-Some.field-0 (rw c.as_str-coll.ensures.text at c.as_str-coll.ensures.named) read told c.in-Some.is (rw (c.as_str-coll.ensures.text, c.as_slice-key.ensures.value) at c.in_ok-found.ensures.moves))
 
 pub returns-in_err-put_last-clause-moves : goal.returns-in_err-put_last-clause-moves
 returns-in_err-put_last-clause-moves g c d read told =
     let p = err_from_is_err_and c.from_residual-in_err-put_last.result c.from_residual-in_err-put_last.ensures.1 in
-    rw (p.1, p.2) (not_put_moves (held g.S.Store c.args.self.now) (table_state g.S.Store c.place_of.new.self) (held g.S.Store c.put_last.new.self) (name_bytes c.args.name) d c.args.row.now c.in_ok-found.found c.in_err-put_last.field-0.0 (rw c.as_str-coll.ensures.text at c.as_str-coll.ensures.named) read told c.in_default.is (rw (c.as_str-coll.ensures.text, c.as_slice-key.ensures.value) at c.in_ok-found.ensures.moves) (rw (c.as_str-coll.ensures.text, c.as_slice-key.ensures.value, c.as_slice-body.ensures.value) at c.in_err-put_last.ensures.moves))
+    rw (p.1, p.2) (not_put_moves (store_state g.S.Store c.args.self.now) (table_state g.S.Store c.place_of.new.self) (store_state g.S.Store c.put_last.new.self) (name_bytes c.args.name) d c.args.row.now c.in_ok-found.found c.in_err-put_last.field-0.0 (rw c.as_str-coll.ensures.text at c.as_str-coll.ensures.named) read told c.in_default.is (rw (c.as_str-coll.ensures.text, c.as_slice-key.ensures.value) at c.in_ok-found.ensures.moves) (rw (c.as_str-coll.ensures.text, c.as_slice-key.ensures.value, c.as_slice-body.ensures.value) at c.in_err-put_last.ensures.moves))
 
 pub returns-clause-moves : goal.returns-clause-moves
 returns-clause-moves g c d read told =
-    put_moves (held g.S.Store c.args.self.now) (table_state g.S.Store c.place_of.new.self) (held g.S.Store c.put_last.new.self) (name_bytes c.args.name) d c.args.row.now c.in_ok-found.found (rw c.as_str-coll.ensures.text at c.as_str-coll.ensures.named) (rw c.as_str-coll.ensures.text at c.as_str-coll.utf8) read told c.in_default.is (rw (c.as_str-coll.ensures.text, c.as_slice-key.ensures.value) at c.in_ok-found.ensures.moves) (rw (c.as_str-coll.ensures.text, c.as_slice-key.ensures.value, c.as_slice-body.ensures.value) at c.in_ok-put_last.ensures.moves)
+    put_moves (store_state g.S.Store c.args.self.now) (table_state g.S.Store c.place_of.new.self) (store_state g.S.Store c.put_last.new.self) (name_bytes c.args.name) d c.args.row.now c.in_ok-found.found (rw c.as_str-coll.ensures.text at c.as_str-coll.ensures.named) (rw c.as_str-coll.ensures.text at c.as_str-coll.utf8) read told c.in_default.is (rw (c.as_str-coll.ensures.text, c.as_slice-key.ensures.value) at c.in_ok-found.ensures.moves) (rw (c.as_str-coll.ensures.text, c.as_slice-key.ensures.value, c.as_slice-body.ensures.value) at c.in_ok-put_last.ensures.moves)
 
 pub returns-in_err-put_last-clause-crash : goal.returns-in_err-put_last-clause-crash
 returns-in_err-put_last-clause-crash g c d read told f =
-    let s = held g.S.Store c.args.self.now in
+    let s = store_state g.S.Store c.args.self.now in
     let m = table_state g.S.Store c.place_of.new.self in
-    let t = held g.S.Store c.put_last.new.self in
+    let t = store_state g.S.Store c.put_last.new.self in
     let n = name_bytes c.args.name in
     let w = c.args.row.now in
     let p = err_from_is_err_and c.from_residual-in_err-put_last.result c.from_residual-in_err-put_last.ensures.1 in
     rw (p.1, p.2)
-    (denied_leaves s m t (on n (insert f (readable d))) (appended n w.key.items (cow_slice_items w.body)) (FindsPlace n w.key.items (Ok c.in_ok-found.found)) (rw (c.as_str-coll.ensures.text, c.as_slice-key.ensures.value) at c.in_ok-found.ensures.moves)
+    (denied_leaves s m t (on n (insert f (readable d))) (with_row n w.key.items (cow_slice_items w.body)) (FindsPlace n w.key.items (Ok c.in_ok-found.found)) (rw (c.as_str-coll.ensures.text, c.as_slice-key.ensures.value) at c.in_ok-found.ensures.moves)
     (λ docs after h. h.same) c.in_ok-found.ensures.crash
     (λ docs after h. row_makes f docs after n w.key.items (cow_slice_items w.body) d (rw c.as_str-coll.ensures.text at c.as_str-coll.ensures.named) (rw c.as_str-coll.ensures.text at c.as_str-coll.utf8) (written_fits d w read told) (subst (λ o. FindsPlace n w.key.items (Ok o) docs after) c.in_default.is h))
     c.in_err-put_last.field-0.0 (rw (c.as_str-coll.ensures.text, c.as_slice-key.ensures.value, c.as_slice-body.ensures.value) at c.in_err-put_last.ensures.crash) (λ e. c.in_err-put_last.ensures.full (ap Err e)))
 
 pub returns-clause-crash : goal.returns-clause-crash
 returns-clause-crash g c d read told f =
-    let s = held g.S.Store c.args.self.now in
+    let s = store_state g.S.Store c.args.self.now in
     let m = table_state g.S.Store c.place_of.new.self in
-    let t = held g.S.Store c.put_last.new.self in
+    let t = store_state g.S.Store c.put_last.new.self in
     let n = name_bytes c.args.name in
     let found = rw (c.as_str-coll.ensures.text, c.as_slice-key.ensures.value) at c.in_ok-found.ensures.moves in
     accepted_leaves s t (on n (insert f (readable d))) done (λ e. e)

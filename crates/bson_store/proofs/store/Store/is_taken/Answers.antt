@@ -3,7 +3,7 @@ use Rattle.std.proofs.lemmas.Result.{err_from_is_err_and}
 use Rattle.bson_table.specs.Moves.{FindsPlace}
 use Rattle.bson_table.specs.Table.{table_state}
 use Rattle.store_laws.specs.declared.error.ErrorKind.TheVariants as kind
-use Rattle.bson_store.specs.Calls.{held}
+use Rattle.bson_store.specs.Calls.{store_state}
 use Rattle.bson_store.specs.Many.{Meets}
 use Rattle.bson_store.specs.Refusals.{refusal, kind_of_fault}
 use Rattle.bson_store.proofs.Keyed.{meets_unfound, meets_found, meets_memory, meets_new}
@@ -14,22 +14,22 @@ pub returns-in_err-found-clause-moves : goal.returns-in_err-found-clause-moves
 returns-in_err-found-clause-moves g c =
     let p = err_from_is_err_and c.from_residual.result c.from_residual.ensures.1 in
     rw (p.1, p.2)
-    (moved (held g.S.Store c.args.self.now) (table_state g.S.Store c.place_of.new.self) (FindsPlace c.args.coll.now c.args.key.now (Err c.in_err-found.field-0.0)) (Meets c.args.coll.now c.args.key.now c.args.met.now (Err (refusal (kind_of_fault c.in_err-found.field-0.0)))) c.in_err-found.ensures.moves
-    (λ docs after h. meets_unfound c.args.coll.now c.args.key.now c.args.met.now c.in_err-found.field-0.0 docs after h))
+    (moved (store_state g.S.Store c.args.self.now) (table_state g.S.Store c.place_of.new.self) (FindsPlace c.args.collection.now c.args.key.now (Err c.in_err-found.field-0.0)) (Meets c.args.collection.now c.args.key.now c.args.met.now (Err (refusal (kind_of_fault c.in_err-found.field-0.0)))) c.in_err-found.ensures.moves
+    (λ docs after h. meets_unfound c.args.collection.now c.args.key.now c.args.met.now c.in_err-found.field-0.0 docs after h))
 
 pub returns-in-Some-clause-moves : goal.returns-in-Some-clause-moves
 returns-in-Some-clause-moves g c =
-    moved (held g.S.Store c.args.self.now) (table_state g.S.Store c.place_of.new.self) (FindsPlace c.args.coll.now c.args.key.now (Ok c.in_ok-found.found)) (Meets c.args.coll.now c.args.key.now c.args.met.now (Ok true)) c.in_ok-found.ensures.moves
-    (λ docs after h. meets_found c.args.coll.now c.args.key.now c.args.met.now c.in_ok-found.found c.in-Some.field-0 docs after c.in-Some.is h)
+    moved (store_state g.S.Store c.args.self.now) (table_state g.S.Store c.place_of.new.self) (FindsPlace c.args.collection.now c.args.key.now (Ok c.in_ok-found.found)) (Meets c.args.collection.now c.args.key.now c.args.met.now (Ok true)) c.in_ok-found.ensures.moves
+    (λ docs after h. meets_found c.args.collection.now c.args.key.now c.args.met.now c.in_ok-found.found c.in-Some.field-0 docs after c.in-Some.is h)
 
 pub returns-in_err-is_new-clause-moves : goal.returns-in_err-is_new-clause-moves
 returns-in_err-is_new-clause-moves g c =
     let p = err_from_is_err_and c.from_residual-in_err-is_new.result c.from_residual-in_err-is_new.ensures.1 in
     rw (p.1, p.2)
-    (moved (held g.S.Store c.args.self.now) (table_state g.S.Store c.place_of.new.self) (FindsPlace c.args.coll.now c.args.key.now (Ok c.in_ok-found.found)) (Meets c.args.coll.now c.args.key.now c.args.met.now (Err (refusal kind.Memory))) c.in_ok-found.ensures.moves
-    (λ docs after h. meets_memory c.args.coll.now c.args.key.now c.args.met.now c.in_ok-found.found docs after h))
+    (moved (store_state g.S.Store c.args.self.now) (table_state g.S.Store c.place_of.new.self) (FindsPlace c.args.collection.now c.args.key.now (Ok c.in_ok-found.found)) (Meets c.args.collection.now c.args.key.now c.args.met.now (Err (refusal kind.Memory))) c.in_ok-found.ensures.moves
+    (λ docs after h. meets_memory c.args.collection.now c.args.key.now c.args.met.now c.in_ok-found.found docs after h))
 
 pub returns-clause-moves : goal.returns-clause-moves
 returns-clause-moves g c =
-    moved (held g.S.Store c.args.self.now) (table_state g.S.Store c.place_of.new.self) (FindsPlace c.args.coll.now c.args.key.now (Ok c.in_ok-found.found)) (Meets c.args.coll.now c.args.key.now c.args.met.now (Ok (not c.in_ok-is_new.is_new))) c.in_ok-found.ensures.moves
-    (λ docs after h. meets_new c.args.coll.now c.args.key.now c.args.met.now c.in_ok-found.found c.in_ok-is_new.is_new docs after c.in_default.is c.in_ok-is_new.ensures.new h)
+    moved (store_state g.S.Store c.args.self.now) (table_state g.S.Store c.place_of.new.self) (FindsPlace c.args.collection.now c.args.key.now (Ok c.in_ok-found.found)) (Meets c.args.collection.now c.args.key.now c.args.met.now (Ok (not c.in_ok-is_new.is_new))) c.in_ok-found.ensures.moves
+    (λ docs after h. meets_new c.args.collection.now c.args.key.now c.args.met.now c.in_ok-found.found c.in_ok-is_new.is_new docs after c.in_default.is c.in_ok-is_new.ensures.new h)

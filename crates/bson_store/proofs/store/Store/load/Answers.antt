@@ -6,7 +6,7 @@ use Rattle.store_laws.specs.State.{refused}
 use Rattle.store_laws.specs.declared.error.ErrorKind.TheVariants as kind
 use Rattle.store_laws.proofs.OneMany.{trees_alike}
 use Rattle.store_streams.proofs.Streams.{any_trees}
-use Rattle.bson_store.specs.Calls.{held}
+use Rattle.bson_store.specs.Calls.{store_state}
 use Rattle.bson_store.specs.Many.{AddsAll, DoesMany}
 use Rattle.bson_store.specs.Refusals.{as_number, refusal_of_stream, reply_by}
 use Rattle.bson_store.proofs.Importing.{many_added, many_bad_name, many_refused}
@@ -18,22 +18,22 @@ pub returns-in_err-name-clause-moves : goal.returns-in_err-name-clause-moves
 returns-in_err-name-clause-moves g c js taken =
     let n = c.args.name.now in
     let p = err_from_is_err_and c.from_residual.result c.from_residual.ensures.1 in
-    rw (p.1, p.2, c.in_err-name.ensures.0) (rests (held g.S.Store c.args.self.now) (DoesMany n (ReadsTrees js) (refused kind.BadName None)) (λ docs. many_bad_name docs n (ReadsTrees js) (any_trees js) c.in_err-name.ensures.1))
+    rw (p.1, p.2, c.in_err-name.ensures.0) (rests (store_state g.S.Store c.args.self.now) (DoesMany n (ReadsTrees js) (refused kind.BadName None)) (λ docs. many_bad_name docs n (ReadsTrees js) (any_trees js) c.in_err-name.ensures.1))
 
 pub returns-in_err-rows-clause-moves : goal.returns-in_err-rows-clause-moves
 returns-in_err-rows-clause-moves g c js taken =
     let n = c.args.name.now in
     let x = c.in_err-rows.field-0.0 in
     let p = err_from_is_err_and c.from_residual-in_err-rows.result c.from_residual-in_err-rows.ensures.1 in
-    rw (p.1, p.2) (rests (held g.S.Store c.args.self.now) (DoesMany n (ReadsTrees js) (reply_by as_number (Err (refusal_of_stream x)))) (λ docs. many_refused docs n (ReadsTrees js) x c.in_ok-name.ensures.1 (c.in_err-rows.ensures js taken)))
+    rw (p.1, p.2) (rests (store_state g.S.Store c.args.self.now) (DoesMany n (ReadsTrees js) (reply_by as_number (Err (refusal_of_stream x)))) (λ docs. many_refused docs n (ReadsTrees js) x c.in_ok-name.ensures.1 (c.in_err-rows.ensures js taken)))
 
 pub returns-clause-moves : goal.returns-clause-moves
 returns-clause-moves g c js taken =
     let n = c.args.name.now in
     let rows = c.in_ok-rows.rows in
-    moved (held g.S.Store c.args.self.now) (held g.S.Store c.add_all.new.self) (AddsAll (name_bytes c.in_ok-name.name) rows.items c.add_all.result) (DoesMany n (ReadsTrees js) (reply_by as_number c.add_all.result)) (rw c.as_slice.ensures.value at c.add_all.ensures.moves)
+    moved (store_state g.S.Store c.args.self.now) (store_state g.S.Store c.add_all.new.self) (AddsAll (name_bytes c.in_ok-name.name) rows.items c.add_all.result) (DoesMany n (ReadsTrees js) (reply_by as_number c.add_all.result)) (rw c.as_slice.ensures.value at c.add_all.ensures.moves)
     (λ docs after h. many_added docs after n (ReadsTrees js) rows c.add_all.result (c.in_ok-rows.ensures js taken) (subst (λ m. AddsAll m rows.items c.add_all.result docs after) c.in_ok-name.ensures.0 h))
 
 pub returns-clause-crash : goal.returns-clause-crash
 returns-clause-crash g c js taken =
-    many_leave (held g.S.Store c.args.self.now) (held g.S.Store c.add_all.new.self) c.args.name.now (name_bytes c.in_ok-name.name) (ReadsTrees js) (trees_alike js) c.in_ok-rows.rows c.add_all.result c.in_ok-name.ensures.0 (c.in_ok-rows.ensures js taken) (rw c.as_slice.ensures.value at c.add_all.ensures.crash)
+    many_leave (store_state g.S.Store c.args.self.now) (store_state g.S.Store c.add_all.new.self) c.args.name.now (name_bytes c.in_ok-name.name) (ReadsTrees js) (trees_alike js) c.in_ok-rows.rows c.add_all.result c.in_ok-name.ensures.0 (c.in_ok-rows.ensures js taken) (rw c.as_slice.ensures.value at c.add_all.ensures.crash)

@@ -4,10 +4,10 @@ use Rattle.bson_filter.specs.Filters.{filter_of}
 use Rattle.bson_table.specs.Moves.{Visits}
 use Rattle.bson_table.specs.Table.{table_state}
 use Rattle.store_documents.specs.Names.{name_bytes}
-use Rattle.bson_store.specs.Calls.{held}
+use Rattle.bson_store.specs.Calls.{store_state}
 use Rattle.bson_store.specs.Questions.{Picked}
 use Rattle.bson_store.specs.Refusals.{kind_of_fault, refusal}
-use Rattle.bson_store.specs.declared.picking.Picker.{Picker}
+use Rattle.bson_store.specs.declared.picking.FilterVisitor.{FilterVisitor}
 use Rattle.bson_store.proofs.Moving.{moved}
 use Rattle.bson_store.proofs.Selecting.{Took, taken, refused_one, untaken}
 use Rattle.bson_store.proofs.store.Store.pick.Goals as goal
@@ -16,33 +16,33 @@ pub returns-in_err-visit_bodies-clause-moves : goal.returns-in_err-visit_bodies-
 returns-in_err-visit_bodies-clause-moves g c =
     let p = err_from_is_err_and c.from_residual.result c.from_residual.ensures.1 in
     let took = g.T.Take.took in
-    let first : Picker g.row.T.Denot = record { filter = c.args.filter; taker = c.args.taker; fault = None } in
+    let first : FilterVisitor g.row.T.Denot = record { filter = c.args.filter; taker = c.args.taker; fault = None } in
     let last = c.visit_bodies.new.visitor in
     let n = name_bytes c.args.name in
     let x = c.in_err-visit_bodies.field-0.0 in
     rw (p.1, p.2)
-    (moved (held g.S.Store c.args.self.now) (table_state g.S.Store c.visit_bodies.new.self) (Visits (Took took first) first last n (Err x)) (Picked (took c.args.taker) n (filter_of c.args.filter.now) (Err (refusal (kind_of_fault x))))
+    (moved (store_state g.S.Store c.args.self.now) (table_state g.S.Store c.visit_bodies.new.self) (Visits (Took took first) first last n (Err x)) (Picked (took c.args.taker) n (filter_of c.args.filter.now) (Err (refusal (kind_of_fault x))))
     (rw c.as_str.ensures.text at c.in_err-visit_bodies.ensures.moves)
     (λ docs after h. untaken took first last n docs after c.requires refl x h))
 
 pub returns-in-None-clause-moves : goal.returns-in-None-clause-moves
 returns-in-None-clause-moves g c =
     let took = g.T.Take.took in
-    let first : Picker g.row.T.Denot = record { filter = c.args.filter; taker = c.args.taker; fault = None } in
+    let first : FilterVisitor g.row.T.Denot = record { filter = c.args.filter; taker = c.args.taker; fault = None } in
     let last = c.visit_bodies.new.visitor in
     let n = name_bytes c.args.name in
     let all = c.in_ok-visit_bodies.field-0 in
-    moved (held g.S.Store c.args.self.now) (table_state g.S.Store c.visit_bodies.new.self) (Visits (Took took first) first last n (Ok all)) (Picked (took c.args.taker) n (filter_of c.args.filter.now) (Ok last.taker))
+    moved (store_state g.S.Store c.args.self.now) (table_state g.S.Store c.visit_bodies.new.self) (Visits (Took took first) first last n (Ok all)) (Picked (took c.args.taker) n (filter_of c.args.filter.now) (Ok last.taker))
     (rw c.as_str.ensures.text at c.in_ok-visit_bodies.ensures.moves)
     (λ docs after h. taken took first last n docs after c.requires refl all c.in-None.is c.in_ok-visit_bodies.ensures.stopped h)
 
 pub returns-in-Some-clause-moves : goal.returns-in-Some-clause-moves
 returns-in-Some-clause-moves g c =
     let took = g.T.Take.took in
-    let first : Picker g.row.T.Denot = record { filter = c.args.filter; taker = c.args.taker; fault = None } in
+    let first : FilterVisitor g.row.T.Denot = record { filter = c.args.filter; taker = c.args.taker; fault = None } in
     let last = c.visit_bodies.new.visitor in
     let n = name_bytes c.args.name in
     let all = c.in_ok-visit_bodies.field-0 in
-    moved (held g.S.Store c.args.self.now) (table_state g.S.Store c.visit_bodies.new.self) (Visits (Took took first) first last n (Ok all)) (Picked (took c.args.taker) n (filter_of c.args.filter.now) (Err c.in-Some.error))
+    moved (store_state g.S.Store c.args.self.now) (table_state g.S.Store c.visit_bodies.new.self) (Visits (Took took first) first last n (Ok all)) (Picked (took c.args.taker) n (filter_of c.args.filter.now) (Err c.in-Some.error))
     (rw c.as_str.ensures.text at c.in_ok-visit_bodies.ensures.moves)
     (λ docs after h. refused_one took first last n docs after c.requires refl all c.in-Some.error c.in-Some.is h)

@@ -3,7 +3,7 @@ use Rattle.std.proofs.lemmas.Result.{err_from_is_err_and}
 use Rattle.bson_filter.specs.Filters.{filter_of, path_of}
 use Rattle.store_documents.specs.Names.{name_bytes}
 use Rattle.store_laws.specs.State as model
-use Rattle.bson_store.specs.Calls.{held}
+use Rattle.bson_store.specs.Calls.{store_state}
 use Rattle.bson_store.specs.Questions.{as_list}
 use Rattle.bson_store.proofs.Exits.{bad_moves}
 use Rattle.bson_store.proofs.Selecting.{HasProjected, projected, picked_moves, unpicked_moves}
@@ -12,16 +12,16 @@ use Rattle.bson_store.proofs.store.Store.project.Goals as goal
 pub returns-in_err-name-clause-moves : goal.returns-in_err-name-clause-moves
 returns-in_err-name-clause-moves g c =
     let p = err_from_is_err_and c.from_residual.result c.from_residual.ensures.1 in
-    rw (p.1, p.2, c.in_err-name.ensures.0) (bad_moves (held g.S.Store c.args.self.now) c.args.name.now (model.project (filter_of c.args.filter.now) (path_of c.args.keys.now)) c.in_err-name.ensures.1)
+    rw (p.1, p.2, c.in_err-name.ensures.0) (bad_moves (store_state g.S.Store c.args.self.now) c.args.name.now (model.project (filter_of c.args.filter.now) (path_of c.args.keys.now)) c.in_err-name.ensures.1)
 
 pub returns-in_err-taken-clause-moves : goal.returns-in_err-taken-clause-moves
 returns-in_err-taken-clause-moves g c =
     let p = err_from_is_err_and c.from_residual-in_err-taken.result c.from_residual-in_err-taken.ensures.1 in
     rw (p.1, p.2)
-    (unpicked_moves (HasProjected c.args.keys.now) (held g.S.Store c.args.self.now) (held g.S.Store c.pick.new.self) c.args.name.now (name_bytes c.in_ok-name.name) (filter_of c.args.filter.now) c.in_err-taken.field-0.0 (model.project (filter_of c.args.filter.now) (path_of c.args.keys.now))
+    (unpicked_moves (HasProjected c.args.keys.now) (store_state g.S.Store c.args.self.now) (store_state g.S.Store c.pick.new.self) c.args.name.now (name_bytes c.in_ok-name.name) (filter_of c.args.filter.now) c.in_err-taken.field-0.0 (model.project (filter_of c.args.filter.now) (path_of c.args.keys.now))
     c.in_ok-name.ensures.0 c.in_ok-name.ensures.1 (λ d. d) c.in_err-taken.ensures.moves)
 
 pub returns-clause-moves : goal.returns-clause-moves
 returns-clause-moves g c =
-    picked_moves (HasProjected c.args.keys.now) (held g.S.Store c.args.self.now) (held g.S.Store c.pick.new.self) c.args.name.now (name_bytes c.in_ok-name.name) (filter_of c.args.filter.now) c.in_ok-taken.taken (model.project (filter_of c.args.filter.now) (path_of c.args.keys.now)) (as_list c.in_ok-taken.taken.bodies)
+    picked_moves (HasProjected c.args.keys.now) (store_state g.S.Store c.args.self.now) (store_state g.S.Store c.pick.new.self) c.args.name.now (name_bytes c.in_ok-name.name) (filter_of c.args.filter.now) c.in_ok-taken.taken (model.project (filter_of c.args.filter.now) (path_of c.args.keys.now)) (as_list c.in_ok-taken.taken.bodies)
     c.in_ok-name.ensures.0 c.in_ok-name.ensures.1 (λ l out picks t. (out, picks, ap model.bytes_list (projected c.args.keys.now c.in_ok-taken.taken out t), refl)) c.in_ok-taken.ensures.moves

@@ -1,11 +1,11 @@
 use Rattle.std.proofs.lemmas.Result.{err_from_is_err_and}
 use Rattle.std.specs.Cow.{cow_slice_items}
 use Rattle.std.proofs.Common.{Ok, arith}
-use Rattle.bson_table.specs.Rows.{replaced}
+use Rattle.bson_table.specs.Rows.{with_body_at}
 use Rattle.bson_table.specs.Moves.{FindsRow}
 use Rattle.store_laws.specs.Reading.{readable}
 use Rattle.store_laws.specs.State.{replace, on, done}
-use Rattle.bson_store.specs.Calls.{held, store_connection, Does, DoesRead}
+use Rattle.bson_store.specs.Calls.{store_state, store_connection, Does, DoesRead}
 use Rattle.bson_store.proofs.Moving.{moved}
 use Rattle.bson_store.proofs.Serving.{written_fits}
 use Rattle.bson_store.proofs.Leaving.{accepted_leaves, changed_leaves, row_replaces}
@@ -18,40 +18,40 @@ use Rattle.sqlite.specs.State.{HasCleanDisk}
 pub returns-in_err-found-clause-moves : goal.returns-in_err-found-clause-moves
 returns-in_err-found-clause-moves g c d read told =
     let p = err_from_is_err_and c.from_residual.result c.from_residual.ensures.1 in
-    rw (p.1, p.2) (unfound_replace (held g.S.Store c.args.self.now) (table_state g.S.Store c.named.new.self) (name_bytes c.args.name) d c.args.row.now c.in_err-found.field-0.0 (rw c.as_str-coll.ensures.text at c.as_str-coll.ensures.named) read told (rw (c.as_str-coll.ensures.text, c.as_slice-key.ensures.value) at c.in_err-found.ensures.moves))
+    rw (p.1, p.2) (unfound_replace (store_state g.S.Store c.args.self.now) (table_state g.S.Store c.named.new.self) (name_bytes c.args.name) d c.args.row.now c.in_err-found.field-0.0 (rw c.as_str-coll.ensures.text at c.as_str-coll.ensures.named) read told (rw (c.as_str-coll.ensures.text, c.as_slice-key.ensures.value) at c.in_err-found.ensures.moves))
 
 pub returns-in_default-clause-moves : goal.returns-in_default-clause-moves
 returns-in_default-clause-moves g c d read told =
-    rw c.from.ensures (none_replace (held g.S.Store c.args.self.now) (table_state g.S.Store c.named.new.self) (name_bytes c.args.name) d c.args.row.now c.in_ok-found.field-0 (rw c.as_str-coll.ensures.text at c.as_str-coll.ensures.named) read told c.in_default.is (rw (c.as_str-coll.ensures.text, c.as_slice-key.ensures.value) at c.in_ok-found.ensures.moves))
+    rw c.from.ensures (none_replace (store_state g.S.Store c.args.self.now) (table_state g.S.Store c.named.new.self) (name_bytes c.args.name) d c.args.row.now c.in_ok-found.field-0 (rw c.as_str-coll.ensures.text at c.as_str-coll.ensures.named) read told c.in_default.is (rw (c.as_str-coll.ensures.text, c.as_slice-key.ensures.value) at c.in_ok-found.ensures.moves))
 
 pub returns-in_err-put_back-clause-moves : goal.returns-in_err-put_back-clause-moves
 returns-in_err-put_back-clause-moves g c d read told =
     let p = err_from_is_err_and c.from_residual-in_err-put_back.result c.from_residual-in_err-put_back.ensures.1 in
-    rw (p.1, p.2) (not_place_moves (held g.S.Store c.args.self.now) (table_state g.S.Store c.named.new.self) (held g.S.Store c.put_back.new.self) (name_bytes c.args.name) d c.args.row.now c.in_ok-found.field-0 c.in-Some.found c.in_err-put_back.field-0.0 (rw c.as_str-coll.ensures.text at c.as_str-coll.ensures.named) read told c.in-Some.is (rw (c.as_str-coll.ensures.text, c.as_slice-key.ensures.value) at c.in_ok-found.ensures.moves) (rw c.as_slice-body.ensures.value at c.in_err-put_back.ensures.moves))
+    rw (p.1, p.2) (not_place_moves (store_state g.S.Store c.args.self.now) (table_state g.S.Store c.named.new.self) (store_state g.S.Store c.put_back.new.self) (name_bytes c.args.name) d c.args.row.now c.in_ok-found.field-0 c.in-Some.found c.in_err-put_back.field-0.0 (rw c.as_str-coll.ensures.text at c.as_str-coll.ensures.named) read told c.in-Some.is (rw (c.as_str-coll.ensures.text, c.as_slice-key.ensures.value) at c.in_ok-found.ensures.moves) (rw c.as_slice-body.ensures.value at c.in_err-put_back.ensures.moves))
 
 pub returns-clause-moves : goal.returns-clause-moves
 returns-clause-moves g c d read told =
-    place_moves (held g.S.Store c.args.self.now) (table_state g.S.Store c.named.new.self) (held g.S.Store c.put_back.new.self) (name_bytes c.args.name) d c.args.row.now c.in_ok-found.field-0 c.in-Some.found (rw c.as_str-coll.ensures.text at c.as_str-coll.ensures.named) read told c.in-Some.is (rw (c.as_str-coll.ensures.text, c.as_slice-key.ensures.value) at c.in_ok-found.ensures.moves) (rw c.as_slice-body.ensures.value at c.in_ok-put_back.ensures.moves)
+    place_moves (store_state g.S.Store c.args.self.now) (table_state g.S.Store c.named.new.self) (store_state g.S.Store c.put_back.new.self) (name_bytes c.args.name) d c.args.row.now c.in_ok-found.field-0 c.in-Some.found (rw c.as_str-coll.ensures.text at c.as_str-coll.ensures.named) read told c.in-Some.is (rw (c.as_str-coll.ensures.text, c.as_slice-key.ensures.value) at c.in_ok-found.ensures.moves) (rw c.as_slice-body.ensures.value at c.in_ok-put_back.ensures.moves)
 
 pub returns-in_err-put_back-clause-crash : goal.returns-in_err-put_back-clause-crash
 returns-in_err-put_back-clause-crash g c d read told f =
-    let s = held g.S.Store c.args.self.now in
+    let s = store_state g.S.Store c.args.self.now in
     let m = table_state g.S.Store c.named.new.self in
-    let t = held g.S.Store c.put_back.new.self in
+    let t = store_state g.S.Store c.put_back.new.self in
     let n = name_bytes c.args.name in
     let w = c.args.row.now in
     let x = c.in-Some.found in
     let p = err_from_is_err_and c.from_residual-in_err-put_back.result c.from_residual-in_err-put_back.ensures.1 in
     rw (p.1, p.2)
-    (changed_leaves s m t (on n (replace f (readable d))) (replaced x.place (cow_slice_items w.body)) (FindsRow n w.key.items (Ok c.in_ok-found.field-0)) (rw (c.as_str-coll.ensures.text, c.as_slice-key.ensures.value) at c.in_ok-found.ensures.moves)
+    (changed_leaves s m t (on n (replace f (readable d))) (with_body_at x.place (cow_slice_items w.body)) (FindsRow n w.key.items (Ok c.in_ok-found.field-0)) (rw (c.as_str-coll.ensures.text, c.as_slice-key.ensures.value) at c.in_ok-found.ensures.moves)
     (λ docs after h. h.same) c.in_ok-found.ensures.crash
     (λ docs after h. row_replaces f docs after n w.key.items (cow_slice_items w.body) d c.in_ok-found.field-0 x (rw c.as_str-coll.ensures.text at c.as_str-coll.ensures.named) (written_fits d w read told) c.in-Some.is h)
     c.in_err-put_back.field-0.0 (rw c.as_slice-body.ensures.value at c.in_err-put_back.ensures.crash) (rw c.as_slice-body.ensures.value at c.in_err-put_back.ensures.moves))
 
 pub returns-clause-crash : goal.returns-clause-crash
 returns-clause-crash g c d read told f =
-    let s = held g.S.Store c.args.self.now in
-    let t = held g.S.Store c.put_back.new.self in
+    let s = store_state g.S.Store c.args.self.now in
+    let t = store_state g.S.Store c.put_back.new.self in
     let n = name_bytes c.args.name in
     accepted_leaves s t (on n (replace f (readable d))) done (λ e. e)
     (λ clean docs stands. let y = (c.in_ok-found.ensures.moves (omega (arith, clean, c.put_back.ensures.crash.clean))).1 docs stands in (c.in_ok-put_back.ensures.open clean y.0 y.1).1)

@@ -1,5 +1,5 @@
 use Rattle.std.proofs.Common.{Ok, Err, None, ap}
-use Rattle.bson_store.specs.Calls.{held}
+use Rattle.bson_store.specs.Calls.{store_state}
 use Rattle.bson_table.specs.Table.{table_state}
 use Rattle.store_documents.specs.Names.{name_bytes}
 use Rattle.bson_model.specs.View.{view}
@@ -10,12 +10,12 @@ use Rattle.bson_store.proofs.store.Store.row_of.Goals as goal
 
 pub returns-in-Err-NotPlain-clause-moves : goal.returns-in-Err-NotPlain-clause-moves
 returns-in-Err-NotPlain-clause-moves g c =
-    rests (held g.S.Store c.args.self.now) (Looks (name_bytes c.args.name) (view c.args.id.now) (Ok None)) (λ docs. unplain_looks docs (name_bytes c.args.name) (view c.args.id.now) c.key_of_id.ensures.sound (c.in-Err-NotPlain.ensures.not_plain (ap Err c.in-Err-NotPlain.field-0-is)))
+    rests (store_state g.S.Store c.args.self.now) (Looks (name_bytes c.args.name) (view c.args.id.now) (Ok None)) (λ docs. unplain_looks docs (name_bytes c.args.name) (view c.args.id.now) c.key_of_id.ensures.sound (c.in-Err-NotPlain.ensures.not_plain (ap Err c.in-Err-NotPlain.field-0-is)))
 
 pub returns-in-Err-TooLong-clause-moves : goal.returns-in-Err-TooLong-clause-moves
 returns-in-Err-TooLong-clause-moves g c =
-    rests (held g.S.Store c.args.self.now) (Looks (name_bytes c.args.name) (view c.args.id.now) (Ok None)) (λ docs. long_looks docs (name_bytes c.args.name) (view c.args.id.now) c.key_of_id.ensures.sound (c.in-Err-TooLong.ensures.too_long (ap Err c.in-Err-TooLong.field-0-is)))
+    rests (store_state g.S.Store c.args.self.now) (Looks (name_bytes c.args.name) (view c.args.id.now) (Ok None)) (λ docs. long_looks docs (name_bytes c.args.name) (view c.args.id.now) c.key_of_id.ensures.sound (c.in-Err-TooLong.ensures.too_long (ap Err c.in-Err-TooLong.field-0-is)))
 
 pub returns-clause-moves : goal.returns-clause-moves
 returns-clause-moves g c =
-    moved (held g.S.Store c.args.self.now) (table_state g.S.Store c.named.new.self) _ (Looks (name_bytes c.args.name) (view c.args.id.now) (Ok c.in_ok-found.found)) (rw (c.as_str-coll.ensures.text, c.as_slice-key.ensures.value) at c.in_ok-found.ensures.moves) (λ docs after h. found_looks docs after (name_bytes c.args.name) c.in-Ok.key.items (view c.args.id.now) c.in_ok-found.found c.in-Ok.ensures.ok h)
+    moved (store_state g.S.Store c.args.self.now) (table_state g.S.Store c.named.new.self) _ (Looks (name_bytes c.args.name) (view c.args.id.now) (Ok c.in_ok-found.found)) (rw (c.as_str-coll.ensures.text, c.as_slice-key.ensures.value) at c.in_ok-found.ensures.moves) (λ docs after h. found_looks docs after (name_bytes c.args.name) c.in-Ok.key.items (view c.args.id.now) c.in_ok-found.found c.in-Ok.ensures.ok h)

@@ -1,12 +1,12 @@
 use Rattle.std.proofs.Common.{inl, inr, None, refl, ◌∙◌, true, false, Ok, arith}
 use Rattle.std.proofs.lemmas.Result.{err_from_is_err_and}
-use Rattle.bson_store.specs.Calls.{held, store_connection, Looks}
+use Rattle.bson_store.specs.Calls.{store_state, store_connection, Looks}
 use Rattle.bson_store.proofs.Leaving.{accepted_leaves, changed_leaves, id_rewrites}
 use Rattle.store_documents.specs.Names.{name_bytes}
 use Rattle.bson_model.specs.View.{view}
 use Rattle.store_laws.specs.State as model
 use Rattle.bson_store.proofs.Exits.{bad_moves, stays_moves, unlooked_moves, none_moves, there_moves, rewritten_moves, unchanged_moves}
-use Rattle.bson_table.specs.Rows.{replaced}
+use Rattle.bson_table.specs.Rows.{with_body_at}
 use Rattle.bson_store.proofs.Setting.{unset_bad_key, unset_refused, unset_stays, unset_remakes}
 use Rattle.bson_store.proofs.store.Store.unset.Goals as goal
 use Rattle.bson_raw.proofs.Progress.{untrue}
@@ -15,44 +15,44 @@ use Rattle.sqlite.specs.State.{HasCleanDisk}
 pub returns-in_err-name-clause-moves : goal.returns-in_err-name-clause-moves
 returns-in_err-name-clause-moves g c =
     let p = err_from_is_err_and c.from_residual.result c.from_residual.ensures.1 in
-    rw (p.1, p.2, c.in_err-name.ensures.0) (bad_moves (held g.S.Store c.args.self.now) c.args.name.now (model.unset (view c.args.id.now) c.args.key.now) c.in_err-name.ensures.1)
+    rw (p.1, p.2, c.in_err-name.ensures.0) (bad_moves (store_state g.S.Store c.args.self.now) c.args.name.now (model.unset (view c.args.id.now) c.args.key.now) c.in_err-name.ensures.1)
 
 pub returns-then-not-is_free-clause-moves : goal.returns-then-not-is_free-clause-moves
 returns-then-not-is_free-clause-moves g c =
-    rw c.from.ensures (stays_moves (held g.S.Store c.args.self.now) c.args.name.now (model.unset (view c.args.id.now) c.args.key.now) (model.refused Rattle.store_laws.specs.declared.error.ErrorKind.TheVariants.BadKey None) c.in_ok-name.ensures.1 (λ a. unset_bad_key (view c.args.id.now) c.args.key.now _ (λ free. untrue c.is_free.result c.if-not-is_free.true (c.is_free.ensures.1 free))))
+    rw c.from.ensures (stays_moves (store_state g.S.Store c.args.self.now) c.args.name.now (model.unset (view c.args.id.now) c.args.key.now) (model.refused Rattle.store_laws.specs.declared.error.ErrorKind.TheVariants.BadKey None) c.in_ok-name.ensures.1 (λ a. unset_bad_key (view c.args.id.now) c.args.key.now _ (λ free. untrue c.is_free.result c.if-not-is_free.true (c.is_free.ensures.1 free))))
 
 pub returns-in_default-clause-moves : goal.returns-in_default-clause-moves
 returns-in_default-clause-moves g c =
-    rw c.from-in_default.ensures (none_moves (held g.S.Store c.args.self.now) (held g.S.Store c.row_of.new.self) c.args.name.now (name_bytes c.in_ok-name.name) (view c.args.id.now) c.in_ok-found.field-0 (model.unset (view c.args.id.now) c.args.key.now) c.in_ok-name.ensures.0 c.in_default.is c.in_ok-name.ensures.1 (λ a none. inl ((c.is_free.ensures.0 c.if-not-is_free.false), inr (none, (refl, refl)))) c.in_ok-found.ensures.moves)
+    rw c.from-in_default.ensures (none_moves (store_state g.S.Store c.args.self.now) (store_state g.S.Store c.row_of.new.self) c.args.name.now (name_bytes c.in_ok-name.name) (view c.args.id.now) c.in_ok-found.field-0 (model.unset (view c.args.id.now) c.args.key.now) c.in_ok-name.ensures.0 c.in_default.is c.in_ok-name.ensures.1 (λ a none. inl ((c.is_free.ensures.0 c.if-not-is_free.false), inr (none, (refl, refl)))) c.in_ok-found.ensures.moves)
 
 pub returns-in_err-unset-clause-moves : goal.returns-in_err-unset-clause-moves
 returns-in_err-unset-clause-moves g c =
     let p = err_from_is_err_and c.from_residual-in_err-unset.result c.from_residual-in_err-unset.ensures.1 in
-    rw (p.1, p.2) (there_moves (held g.S.Store c.args.self.now) (held g.S.Store c.row_of.new.self) c.args.name.now (name_bytes c.in_ok-name.name) (view c.args.id.now) c.in_ok-found.field-0 c.in-Some.found (model.unset (view c.args.id.now) c.args.key.now) (model.refused c.in_err-unset.field-0.0 None) c.in_ok-name.ensures.0 c.in-Some.is c.in_ok-name.ensures.1 (λ bad. bad (c.is_free.ensures.0 c.if-not-is_free.false)) (unset_refused (view c.args.id.now) c.args.key.now c.in-Some.found c.in_err-unset.field-0.0 (λ d kept was. c.in_err-unset.ensures d kept (c.as_slice-old.ensures.value ∙ was))) c.in_ok-found.ensures.moves)
+    rw (p.1, p.2) (there_moves (store_state g.S.Store c.args.self.now) (store_state g.S.Store c.row_of.new.self) c.args.name.now (name_bytes c.in_ok-name.name) (view c.args.id.now) c.in_ok-found.field-0 c.in-Some.found (model.unset (view c.args.id.now) c.args.key.now) (model.refused c.in_err-unset.field-0.0 None) c.in_ok-name.ensures.0 c.in-Some.is c.in_ok-name.ensures.1 (λ bad. bad (c.is_free.ensures.0 c.if-not-is_free.false)) (unset_refused (view c.args.id.now) c.args.key.now c.in-Some.found c.in_err-unset.field-0.0 (λ d kept was. c.in_err-unset.ensures d kept (c.as_slice-old.ensures.value ∙ was))) c.in_ok-found.ensures.moves)
 
 pub returns-then-not-unset-clause-moves : goal.returns-then-not-unset-clause-moves
 returns-then-not-unset-clause-moves g c =
-    there_moves (held g.S.Store c.args.self.now) (held g.S.Store c.row_of.new.self) c.args.name.now (name_bytes c.in_ok-name.name) (view c.args.id.now) c.in_ok-found.field-0 c.in-Some.found (model.unset (view c.args.id.now) c.args.key.now) (model.flag false) c.in_ok-name.ensures.0 c.in-Some.is c.in_ok-name.ensures.1 (λ bad. bad (c.is_free.ensures.0 c.if-not-is_free.false)) (unset_stays (view c.args.id.now) c.args.key.now c.in-Some.found c.in_ok-unset.unset (c.is_free.ensures.0 c.if-not-is_free.false) c.if-not-unset.true (λ d kept was. c.in_ok-unset.ensures d kept (c.as_slice-old.ensures.value ∙ was))) c.in_ok-found.ensures.moves
+    there_moves (store_state g.S.Store c.args.self.now) (store_state g.S.Store c.row_of.new.self) c.args.name.now (name_bytes c.in_ok-name.name) (view c.args.id.now) c.in_ok-found.field-0 c.in-Some.found (model.unset (view c.args.id.now) c.args.key.now) (model.flag false) c.in_ok-name.ensures.0 c.in-Some.is c.in_ok-name.ensures.1 (λ bad. bad (c.is_free.ensures.0 c.if-not-is_free.false)) (unset_stays (view c.args.id.now) c.args.key.now c.in-Some.found c.in_ok-unset.unset (c.is_free.ensures.0 c.if-not-is_free.false) c.if-not-unset.true (λ d kept was. c.in_ok-unset.ensures d kept (c.as_slice-old.ensures.value ∙ was))) c.in_ok-found.ensures.moves
 
 pub returns-in_err-put_back-clause-moves : goal.returns-in_err-put_back-clause-moves
 returns-in_err-put_back-clause-moves g c =
     let p = err_from_is_err_and c.from_residual-in_err-put_back.result c.from_residual-in_err-put_back.ensures.1 in
-    rw (p.1, p.2) (unchanged_moves (held g.S.Store c.args.self.now) (held g.S.Store c.row_of.new.self) (held g.S.Store c.put_back.new.self) c.args.name.now (name_bytes c.in_ok-name.name) (view c.args.id.now) c.in_ok-found.field-0 c.in-Some.found (model.unset (view c.args.id.now) c.args.key.now) (replaced c.in-Some.found.place c.as_slice-body.result.now) c.in_err-put_back.field-0.0 c.in_ok-name.ensures.0 c.in-Some.is c.in_ok-name.ensures.1 (λ bad. bad (c.is_free.ensures.0 c.if-not-is_free.false)) c.in_ok-found.ensures.moves c.in_err-put_back.ensures.moves)
+    rw (p.1, p.2) (unchanged_moves (store_state g.S.Store c.args.self.now) (store_state g.S.Store c.row_of.new.self) (store_state g.S.Store c.put_back.new.self) c.args.name.now (name_bytes c.in_ok-name.name) (view c.args.id.now) c.in_ok-found.field-0 c.in-Some.found (model.unset (view c.args.id.now) c.args.key.now) (with_body_at c.in-Some.found.place c.as_slice-body.result.now) c.in_err-put_back.field-0.0 c.in_ok-name.ensures.0 c.in-Some.is c.in_ok-name.ensures.1 (λ bad. bad (c.is_free.ensures.0 c.if-not-is_free.false)) c.in_ok-found.ensures.moves c.in_err-put_back.ensures.moves)
 
 pub returns-clause-moves : goal.returns-clause-moves
 returns-clause-moves g c =
-    rewritten_moves (held g.S.Store c.args.self.now) (held g.S.Store c.row_of.new.self) (held g.S.Store c.put_back.new.self) c.args.name.now (name_bytes c.in_ok-name.name) (view c.args.id.now) c.in_ok-found.field-0 c.in-Some.found (model.unset (view c.args.id.now) c.args.key.now) (model.flag true) c.in_ok-unset.unset.body.items c.in_ok-name.ensures.0 c.in-Some.is c.in_ok-name.ensures.1 (λ sound. sound) (unset_remakes (view c.args.id.now) c.args.key.now c.in-Some.found c.in_ok-unset.unset (c.is_free.ensures.0 c.if-not-is_free.false) c.if-not-unset.false (λ d kept was. c.in_ok-unset.ensures d kept (c.as_slice-old.ensures.value ∙ was))) c.in_ok-found.ensures.moves (rw c.as_slice-body.ensures.value at c.in_ok-put_back.ensures.moves)
+    rewritten_moves (store_state g.S.Store c.args.self.now) (store_state g.S.Store c.row_of.new.self) (store_state g.S.Store c.put_back.new.self) c.args.name.now (name_bytes c.in_ok-name.name) (view c.args.id.now) c.in_ok-found.field-0 c.in-Some.found (model.unset (view c.args.id.now) c.args.key.now) (model.flag true) c.in_ok-unset.unset.body.items c.in_ok-name.ensures.0 c.in-Some.is c.in_ok-name.ensures.1 (λ sound. sound) (unset_remakes (view c.args.id.now) c.args.key.now c.in-Some.found c.in_ok-unset.unset (c.is_free.ensures.0 c.if-not-is_free.false) c.if-not-unset.false (λ d kept was. c.in_ok-unset.ensures d kept (c.as_slice-old.ensures.value ∙ was))) c.in_ok-found.ensures.moves (rw c.as_slice-body.ensures.value at c.in_ok-put_back.ensures.moves)
 
 pub returns-in_err-found-clause-moves : goal.returns-in_err-found-clause-moves
 returns-in_err-found-clause-moves g c =
     let p = err_from_is_err_and c.from_residual-in_err-found.result c.from_residual-in_err-found.ensures.1 in
-    rw (p.1, p.2) (unlooked_moves (held g.S.Store c.args.self.now) (held g.S.Store c.row_of.new.self) c.args.name.now (name_bytes c.in_ok-name.name) (view c.args.id.now) (model.unset (view c.args.id.now) c.args.key.now) c.in_err-found.field-0.0 c.in_ok-name.ensures.0 c.in_ok-name.ensures.1 (λ bad. bad (c.is_free.ensures.0 c.if-not-is_free.false)) c.in_err-found.ensures.moves)
+    rw (p.1, p.2) (unlooked_moves (store_state g.S.Store c.args.self.now) (store_state g.S.Store c.row_of.new.self) c.args.name.now (name_bytes c.in_ok-name.name) (view c.args.id.now) (model.unset (view c.args.id.now) c.args.key.now) c.in_err-found.field-0.0 c.in_ok-name.ensures.0 c.in_ok-name.ensures.1 (λ bad. bad (c.is_free.ensures.0 c.if-not-is_free.false)) c.in_err-found.ensures.moves)
 
 pub returns-in_err-put_back-clause-crash : goal.returns-in_err-put_back-clause-crash
 returns-in_err-put_back-clause-crash g c =
-    let s = held g.S.Store c.args.self.now in
-    let m = held g.S.Store c.row_of.new.self in
-    let t = held g.S.Store c.put_back.new.self in
+    let s = store_state g.S.Store c.args.self.now in
+    let m = store_state g.S.Store c.row_of.new.self in
+    let t = store_state g.S.Store c.put_back.new.self in
     let n = c.args.name.now in
     let nb = name_bytes c.in_ok-name.name in
     let id = view c.args.id.now in
@@ -60,30 +60,30 @@ returns-in_err-put_back-clause-crash g c =
     let call = model.unset (view c.args.id.now) c.args.key.now in
     let p = err_from_is_err_and c.from_residual-in_err-put_back.result c.from_residual-in_err-put_back.ensures.1 in
     rw (p.1, p.2)
-    (changed_leaves s m t (model.on n call) (replaced x.place c.in_ok-unset.unset.body.items) (Looks nb id (Ok c.in_ok-found.field-0)) c.in_ok-found.ensures.moves
+    (changed_leaves s m t (model.on n call) (with_body_at x.place c.in_ok-unset.unset.body.items) (Looks nb id (Ok c.in_ok-found.field-0)) c.in_ok-found.ensures.moves
     (λ docs after h. h.same) c.in_ok-found.ensures.crash
     (λ docs after h. id_rewrites docs after n nb id c.in_ok-found.field-0 x call (model.flag true) c.in_ok-unset.unset.body.items c.in_ok-name.ensures.1 (λ e. e) (λ sound. sound) c.in_ok-name.ensures.0 c.in-Some.is h (unset_remakes (view c.args.id.now) c.args.key.now c.in-Some.found c.in_ok-unset.unset (c.is_free.ensures.0 c.if-not-is_free.false) c.if-not-unset.false (λ d kept was. c.in_ok-unset.ensures d kept (c.as_slice-old.ensures.value ∙ was))))
     c.in_err-put_back.field-0.0 (rw c.as_slice-body.ensures.value at c.in_err-put_back.ensures.crash) (rw c.as_slice-body.ensures.value at c.in_err-put_back.ensures.moves))
 
 pub returns-clause-crash : goal.returns-clause-crash
 returns-clause-crash g c =
-    let s = held g.S.Store c.args.self.now in
-    let t = held g.S.Store c.put_back.new.self in
+    let s = store_state g.S.Store c.args.self.now in
+    let t = store_state g.S.Store c.put_back.new.self in
     accepted_leaves s t (model.on c.args.name.now (model.unset (view c.args.id.now) c.args.key.now)) (model.flag true) (λ e. e)
     (λ clean docs stands. let y = (c.in_ok-found.ensures.moves (omega (arith, clean, c.put_back.ensures.crash.clean))).1 docs stands in (c.in_ok-put_back.ensures.open clean y.0 y.1).1)
     (λ db up may. g.met.S.Store.settled (store_connection c.put_back.new.self).store db up may) (returns-clause-moves g c)
 
 pub returns-then-not-unset-clause-crash : goal.returns-then-not-unset-clause-crash
 returns-then-not-unset-clause-crash g c =
-    let s = held g.S.Store c.args.self.now in
-    let t = held g.S.Store c.row_of.new.self in
+    let s = store_state g.S.Store c.args.self.now in
+    let t = store_state g.S.Store c.row_of.new.self in
     accepted_leaves s t (model.on c.args.name.now (model.unset (view c.args.id.now) c.args.key.now)) (model.flag false) (λ e. e)
     (λ clean docs stands. (c.in_ok-found.ensures.open clean docs stands (rw c.in-Some.is refl)).1)
     (λ db up may. g.met.S.Store.settled (store_connection c.row_of.new.self).store db up may) (returns-then-not-unset-clause-moves g c)
 
 pub returns-clause-open : goal.returns-clause-open
 returns-clause-open g c clean docs stands =
-    let early : HasCleanDisk (held g.S.Store c.row_of.new.self) = omega (arith, clean, c.put_back.ensures.crash.clean) in
+    let early : HasCleanDisk (store_state g.S.Store c.row_of.new.self) = omega (arith, clean, c.put_back.ensures.crash.clean) in
     let y = (c.in_ok-found.ensures.moves early).1 docs stands in
     ((c.in_ok-found.ensures.open early docs stands (rw c.in-Some.is refl)).0, (c.in_ok-put_back.ensures.open clean y.0 y.1).1)
 

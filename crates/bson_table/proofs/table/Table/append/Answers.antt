@@ -5,7 +5,7 @@ use Rattle.sqlite.specs.Tree.{Trees}
 use Rattle.sqlite.specs.Effect.{Database}
 use Rattle.sqlite.specs.State.{HasCleanDisk}
 use Rattle.bson_table.specs.Rows.{AreBelow, HasRows}
-use Rattle.bson_table.specs.Moves.{appended}
+use Rattle.bson_table.specs.Moves.{with_row}
 use Rattle.bson_table.proofs.TableLemmas.{stands_still, below_greatest, crash_written, appends_err, added_shows}
 use Rattle.bson_table.proofs.table.Table.append.Goals as goal
 
@@ -27,7 +27,7 @@ returns-in_err-add_committed-clause-moves g c clean =
       λ docs stands. (
         docs,
         (λ still. let it = w.refused still in it.1 docs (stands_still old mid docs u stands it.0)),
-        appends_err 1 (appended c.args.coll.now c.args.idkey.now c.args.body.now) docs c.from_residual-in_err-add_committed.result c.in_err-add_committed.field-0.0 c.from_residual-in_err-add_committed.ensures.1,
+        appends_err 1 (with_row c.args.coll.now c.args.idkey.now c.args.body.now) docs c.from_residual-in_err-add_committed.result c.in_err-add_committed.field-0.0 c.from_residual-in_err-add_committed.ensures.1,
       ),
     )
 
@@ -36,7 +36,7 @@ returns-in_err-add_committed-clause-crash g c =
     let Q : ℤ = to_z w64 (of_z w64 c.in-Some.place) in
     let sum = rw c.in-Some.is at c.checked_add.ensures in
     let same : Q ≡ (c.in_ok-last.last +ℤ pos 1) = omega (arith, ints, sum.0, sum.1) in
-    crash_written (state g.S.Store c.args.self.now.conn) (state g.S.Store c.greatest.new.conn) (state g.S.Store c.add_committed.new.conn) (appended c.args.coll.now c.args.idkey.now c.args.body.now)
+    crash_written (state g.S.Store c.args.self.now.conn) (state g.S.Store c.greatest.new.conn) (state g.S.Store c.add_committed.new.conn) (with_row c.args.coll.now c.args.idkey.now c.args.body.now)
     (λ docs. docs ++ record { place = Q; coll = c.args.coll.now; idkey = c.args.idkey.now; body = c.args.body.now } ∷ [])
     (λ clean. (c.in_ok-last.ensures.read clean).unchanged) c.greatest.ensures.crash c.add_committed.ensures.crash
     (λ clean docs h. ap (λ (p : ℤ). docs ++ record { place = p; coll = c.args.coll.now; idkey = c.args.idkey.now; body = c.args.body.now } ∷ []) (same ∙ ap (λ (p : ℤ). p +ℤ pos 1) (c.in_ok-last.ensures.place clean docs h)))
@@ -57,7 +57,7 @@ returns-clause-moves g c clean =
       λ docs stands.
           let h = stands u.0.was_open in
           let greatest = c.in_ok-last.ensures.place early docs h in (
-            appended c.args.coll.now c.args.idkey.now c.args.body.now docs,
+            with_row c.args.coll.now c.args.idkey.now c.args.body.now docs,
             (λ _. added_shows old mid new c.in_ok-last.last Q c.args.coll.now c.args.idkey.now c.args.body.now docs u h greatest same (w.done.1 docs)),
             record { done = refl; room = subst (λ (p : ℤ). (p +ℤ pos 1) <ℤ pos (2 ^ 63)) greatest fits; refused = tt; full = tt },
           ),
@@ -68,7 +68,7 @@ returns-clause-crash g c =
     let Q : ℤ = to_z w64 (of_z w64 c.in-Some.place) in
     let sum = rw c.in-Some.is at c.checked_add.ensures in
     let same : Q ≡ (c.in_ok-last.last +ℤ pos 1) = omega (arith, ints, sum.0, sum.1) in
-    crash_written (state g.S.Store c.args.self.now.conn) (state g.S.Store c.greatest.new.conn) (state g.S.Store c.add_committed.new.conn) (appended c.args.coll.now c.args.idkey.now c.args.body.now)
+    crash_written (state g.S.Store c.args.self.now.conn) (state g.S.Store c.greatest.new.conn) (state g.S.Store c.add_committed.new.conn) (with_row c.args.coll.now c.args.idkey.now c.args.body.now)
     (λ docs. docs ++ record { place = Q; coll = c.args.coll.now; idkey = c.args.idkey.now; body = c.args.body.now } ∷ [])
     (λ clean. (c.in_ok-last.ensures.read clean).unchanged) c.greatest.ensures.crash c.add_committed.ensures.crash
     (λ clean docs h. ap (λ (p : ℤ). docs ++ record { place = p; coll = c.args.coll.now; idkey = c.args.idkey.now; body = c.args.body.now } ∷ []) (same ∙ ap (λ (p : ℤ). p +ℤ pos 1) (c.in_ok-last.ensures.place clean docs h)))
@@ -87,4 +87,4 @@ returns-clause-settled g c clean docs stands db may =
     let h = stands u.0.was_open in
     let shows = added_shows old mid new c.in_ok-last.last Q c.args.coll.now c.args.idkey.now c.args.body.now docs u h (c.in_ok-last.ensures.place early docs h) same (w.done.1 docs) in
     let is = g.met.S.Store.settled c.add_committed.new.conn.store db shows.is_open may ∙ sym (ap (λ (d : Database). d.trees) shows.settled) in
-    subst (λ (t : Trees). HasRows t (appended c.args.coll.now c.args.idkey.now c.args.body.now docs)) (sym is) shows.table
+    subst (λ (t : Trees). HasRows t (with_row c.args.coll.now c.args.idkey.now c.args.body.now docs)) (sym is) shows.table

@@ -2,8 +2,8 @@ use Rattle.std.proofs.Common.{◌≡◌, ◌+ℤ◌, ◌++◌, List, ℤ, pos, w
 use Rattle.std.proofs.lemmas.Int.{ints}
 use Rattle.sqlite.specs.Held.{state}
 use Rattle.sqlite.specs.State.{HasCleanDisk}
-use Rattle.bson_table.specs.Rows.{Doc, HasRows, docs_from}
-use Rattle.bson_table.specs.Moves.{all_appended}
+use Rattle.bson_table.specs.Rows.{TableRow, HasRows, docs_from}
+use Rattle.bson_table.specs.Moves.{with_rows}
 use Rattle.bson_table.proofs.StatementLemmas.{unchanged_shows}
 use Rattle.bson_table.proofs.TableLemmas.{below_greatest, crash_written, left_rows}
 use Rattle.bson_table.proofs.table.Table.append_all.Goals as goal
@@ -17,7 +17,7 @@ pub returns-in_err-add_all-clause-crash : goal.returns-in_err-add_all-clause-cra
 returns-in_err-add_all-clause-crash g c =
     let same : to_z w64 (of_z w64 c.in_ok-last.last) ≡ c.in_ok-last.last = omega (arith, ints) in
     let rows = c.args.rows.now in
-    crash_written (state g.S.Store c.args.self.now.conn) (state g.S.Store c.greatest.new.conn) (state g.S.Store c.add_all.new.conn) (all_appended c.args.coll.now rows) (λ docs. docs ++ docs_from (to_z w64 (of_z w64 c.in_ok-last.last) +ℤ pos 1) c.args.coll.now rows)
+    crash_written (state g.S.Store c.args.self.now.conn) (state g.S.Store c.greatest.new.conn) (state g.S.Store c.add_all.new.conn) (with_rows c.args.coll.now rows) (λ docs. docs ++ docs_from (to_z w64 (of_z w64 c.in_ok-last.last) +ℤ pos 1) c.args.coll.now rows)
     (λ clean. (c.in_ok-last.ensures.read clean).unchanged) c.greatest.ensures.crash c.add_all.ensures.crash
     (λ clean docs h. ap (λ (p : ℤ). docs ++ docs_from (p +ℤ pos 1) c.args.coll.now rows) (same ∙ c.in_ok-last.ensures.place clean docs h))
 
@@ -25,7 +25,7 @@ pub returns-clause-crash : goal.returns-clause-crash
 returns-clause-crash g c =
     let same : to_z w64 (of_z w64 c.in_ok-last.last) ≡ c.in_ok-last.last = omega (arith, ints) in
     let rows = c.args.rows.now in
-    crash_written (state g.S.Store c.args.self.now.conn) (state g.S.Store c.greatest.new.conn) (state g.S.Store c.add_all.new.conn) (all_appended c.args.coll.now rows) (λ docs. docs ++ docs_from (to_z w64 (of_z w64 c.in_ok-last.last) +ℤ pos 1) c.args.coll.now rows)
+    crash_written (state g.S.Store c.args.self.now.conn) (state g.S.Store c.greatest.new.conn) (state g.S.Store c.add_all.new.conn) (with_rows c.args.coll.now rows) (λ docs. docs ++ docs_from (to_z w64 (of_z w64 c.in_ok-last.last) +ℤ pos 1) c.args.coll.now rows)
     (λ clean. (c.in_ok-last.ensures.read clean).unchanged) c.greatest.ensures.crash c.add_all.ensures.crash
     (λ clean docs h. ap (λ (p : ℤ). docs ++ docs_from (p +ℤ pos 1) c.args.coll.now rows) (same ∙ c.in_ok-last.ensures.place clean docs h))
 
@@ -40,5 +40,5 @@ returns-clause-settled g c clean docs stands db may =
     let u = (c.in_ok-last.ensures.read early).unchanged in
     let h = stands u.0.was_open in
     let shows = c.in_ok-add_all.ensures.added clean docs (unchanged_shows old mid docs h u) in
-    subst (λ (ds : List Doc). HasRows db ds) (ap (λ (p : ℤ). docs ++ docs_from (p +ℤ pos 1) c.args.coll.now rows) (same ∙ c.in_ok-last.ensures.place early docs h))
+    subst (λ (ds : List TableRow). HasRows db ds) (ap (λ (p : ℤ). docs ++ docs_from (p +ℤ pos 1) c.args.coll.now rows) (same ∙ c.in_ok-last.ensures.place early docs h))
     (left_rows new _ db shows (g.met.S.Store.settled c.add_all.new.conn.store db shows.is_open may))

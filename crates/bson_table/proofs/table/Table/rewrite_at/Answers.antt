@@ -3,7 +3,7 @@ use Rattle.std.proofs.lemmas.Int.{ints}
 use Rattle.sqlite.specs.Held.{state}
 use Rattle.sqlite.specs.Tree.{Trees}
 use Rattle.sqlite.specs.State.{Survives}
-use Rattle.bson_table.specs.Rows.{Doc, HasRows, replaced}
+use Rattle.bson_table.specs.Rows.{TableRow, HasRows, with_body_at}
 use Rattle.bson_table.specs.Moves.{Stands}
 use Rattle.bson_table.proofs.TableLemmas.{left_rows}
 use Rattle.bson_table.proofs.table.Table.rewrite_at.Goals as goal
@@ -13,14 +13,14 @@ returns-in_err-rewrite_at-clause-crash g c =
     let old = state g.S.Store c.args.self.now.conn in
     let new = state g.S.Store c.rewrite_at.new.conn in
     let same : to_z w64 (of_z w64 c.args.found.now.place) ≡ c.args.found.now.place = omega (arith, ints) in
-    subst (λ (p : ℤ). Survives old new (λ (trees : Trees). (docs : List Doc) → Stands old docs → HasRows trees (replaced p c.args.body.now docs))) same c.rewrite_at.ensures.crash
+    subst (λ (p : ℤ). Survives old new (λ (trees : Trees). (docs : List TableRow) → Stands old docs → HasRows trees (with_body_at p c.args.body.now docs))) same c.rewrite_at.ensures.crash
 
 pub returns-clause-crash : goal.returns-clause-crash
 returns-clause-crash g c =
     let old = state g.S.Store c.args.self.now.conn in
     let new = state g.S.Store c.rewrite_at.new.conn in
     let same : to_z w64 (of_z w64 c.args.found.now.place) ≡ c.args.found.now.place = omega (arith, ints) in
-    subst (λ (p : ℤ). Survives old new (λ (trees : Trees). (docs : List Doc) → Stands old docs → HasRows trees (replaced p c.args.body.now docs))) same c.rewrite_at.ensures.crash
+    subst (λ (p : ℤ). Survives old new (λ (trees : Trees). (docs : List TableRow) → Stands old docs → HasRows trees (with_body_at p c.args.body.now docs))) same c.rewrite_at.ensures.crash
 
 pub returns-clause-settled : goal.returns-clause-settled
 returns-clause-settled g c clean docs stands db may =
@@ -28,4 +28,4 @@ returns-clause-settled g c clean docs stands db may =
     let same : to_z w64 (of_z w64 c.args.found.now.place) ≡ c.args.found.now.place = omega (arith, ints) in
     let done = (c.in_ok-rewrite_at.ensures.written clean).done in
     let shows = done.1 docs (stands done.0) in
-    subst (λ (p : ℤ). HasRows db (replaced p c.args.body.now docs)) same (left_rows new _ db shows (g.met.S.Store.settled c.rewrite_at.new.conn.store db shows.is_open may))
+    subst (λ (p : ℤ). HasRows db (with_body_at p c.args.body.now docs)) same (left_rows new _ db shows (g.met.S.Store.settled c.rewrite_at.new.conn.store db shows.is_open may))

@@ -1,5 +1,0 @@
-use Rattle.bson_meaning.proofs.sound.bytes.Goals as goal
-use Rattle.bson_bytes.proofs.Meant.{are_bytes}
-
-pub returns : goal.returns
-returns c = are_bytes c.args.bytes.now c.type_inv.bytes
