@@ -1,5 +1,5 @@
 -- What a call does to a device: how often it failed, and the bytes that it gave or took, where it knows them.
-use Rattle.std.specs.Prelude.{◌≡◌, ◌⊎◌, ℕ, ◌+◌, List, [], Option, Result, Ok, Err, take}
+use Rattle.std.specs.Prelude.{◌≡◌, ◌⊎◌, ℕ, ◌+◌, List, [], Option, Result, Ok, Err, take, ◌<◌, ◌^◌, ◌-◌}
 use Rattle.std.specs.Io.KnownBytes.{Appends, Consumes, IsAtEnd}
 use Rattle.bson_base.specs.declared.whole.ReadAllError.{ReadAllError}
 use Rattle.bson_base.specs.declared.whole.ReadAllError.TheVariants.{Reader, Memory}
@@ -64,3 +64,11 @@ TookAll old new bytes = Took old new bytes × IsExhausted new.supply
 abbrev pub StopsReading : ReadAllError → Feed → Feed → Type 0
 StopsReading Reader old new = new.failures ≡ old.failures + 1
 StopsReading Memory old new = (bytes : List ℕ) × Took old new bytes
+
+-- a source's count of failures can rise by one
+abbrev pub CanFail : Feed → Type 0
+CanFail f = f.failures < 2 ^ 64 - 1
+
+-- a sink's count of failures can rise by one
+abbrev pub CanRefuse : Tally → Type 0
+CanRefuse t = t.failures < 2 ^ 64 - 1

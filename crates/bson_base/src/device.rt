@@ -1,8 +1,8 @@
 //! What gives and takes bytes and counts its failures.
 
-ghost use Rattle.std.specs.Prelude.{◌≡◌, ℕ, ◌^◌, ◌-◌, ◌<◌, ◌≤◌, List, [], Option, Some, None, length, take, drop, IfOk, OnOk, OnErr};
+ghost use Rattle.std.specs.Prelude.{◌≡◌, ℕ, ◌<◌, ◌≤◌, List, [], Option, Some, None, length, take, drop, IfOk, OnOk, OnErr};
 ghost use Rattle.std.specs.Io.KnownBytes.{Appends};
-ghost use Rattle.bson_base.specs.Device.{Counts, Feed, Tally, Gives, IsExhausted, ReadGives, WriteTakes, TakesBeginning};
+ghost use Rattle.bson_base.specs.Device.{Counts, Feed, Tally, Gives, IsExhausted, ReadGives, WriteTakes, TakesBeginning, CanFail, CanRefuse};
 
 use std::alloc::Global;
 use std::io::{Read, Write};
@@ -21,7 +21,7 @@ pub trait Source {
     /// Gives up to as many bytes as `buf` has room for, and says how many; none only at the end, or where there is no
     /// room. Whoever calls it sees to it that fewer than 2⁶⁴ - 1 calls have failed.
     fn read(&mut self, buf: &mut [u8]) -> Result<usize, DeviceFault>
-        requires { (feed self.old).failures < 2 ^ 64 - 1 }
+        requires { CanFail (feed self.old) }
         ensures counts { Counts (feed self.old).failures (feed self.new).failures result }
         ensures bound { IfOk result (λ n. n ≤ length buf.new) }
         ensures bytes { ReadGives (feed self.old).supply (feed self.new).supply result buf.new }
@@ -36,7 +36,7 @@ pub trait Sink {
     /// Takes bytes from the front of `buf`, and says how many: at least one, where there are any. Whoever calls it sees
     /// to it that fewer than 2⁶⁴ - 1 calls have failed.
     fn write(&mut self, buf: &[u8]) -> Result<usize, DeviceFault>
-        requires { (tally self.old).failures < 2 ^ 64 - 1 }
+        requires { CanRefuse (tally self.old) }
         ensures counts { Counts (tally self.old).failures (tally self.new).failures result }
         ensures bound { IfOk result (λ n. n ≤ length buf.now) }
         ensures some { IfOk result (λ n. 0 < length buf.now → 0 < n) }
@@ -167,7 +167,7 @@ impl<T: Write> Sink for Counted<T> {
 
 /// Writes all of `bytes`, or tells the first failure, after which a beginning of them was taken.
 pub fn write_all<S: Sink>(sink: &mut S, bytes: &[u8]) -> Result<(), DeviceFault>
-    requires { (S.tally sink.old).failures < 2 ^ 64 - 1 }
+    requires { CanRefuse (S.tally sink.old) }
     ensures counts { Counts (S.tally sink.old).failures (S.tally sink.new).failures result }
     ensures ok { OnOk result (Appends (S.tally sink.old).taken (S.tally sink.new).taken bytes.now) }
     ensures err { OnErr result (TakesBeginning (S.tally sink.old).taken (S.tally sink.new).taken bytes.now) }
@@ -182,7 +182,7 @@ pub fn write_all<S: Sink>(sink: &mut S, bytes: &[u8]) -> Result<(), DeviceFault>
 /// Reads until `buf` is full or the source is at its end, and says how many bytes were read. After a failure `buf` may
 /// hold some of them.
 pub fn read_full<S: Source>(source: &mut S, buf: &mut [u8]) -> Result<usize, DeviceFault>
-    requires { (S.feed source.old).failures < 2 ^ 64 - 1 }
+    requires { CanFail (S.feed source.old) }
     ensures counts { Counts (S.feed source.old).failures (S.feed source.new).failures result }
     ensures bound { IfOk result (λ n. n ≤ length buf.new) }
     ensures bytes { IfOk result (λ n. Gives (S.feed source.old).supply (S.feed source.new).supply (take n buf.new)) }

@@ -1,7 +1,7 @@
 //! All that a source gives.
 
-ghost use Rattle.std.specs.Prelude.{◌<◌, ◌^◌, ◌-◌, IfOk, IfErr, vec_len};
-ghost use Rattle.bson_base.specs.Device.{StopsReading, TookAll};
+ghost use Rattle.std.specs.Prelude.{◌<◌, IfOk, IfErr, vec_len};
+ghost use Rattle.bson_base.specs.Device.{StopsReading, TookAll, CanFail};
 
 use crate::device::{Source, read_full};
 use std::alloc::{AllocError, Global};
@@ -42,7 +42,7 @@ fn room(alloc: Global) -> Result<Vec<u8>, AllocError>
 /// Reads a source to its end, and answers all that it had left. An interrupted call is a failure like any other. After
 /// `Reader` nothing is said of how far the source was read; with `Memory` no read failed.
 pub fn read_all<S: Source>(alloc: Global, source: &mut S) -> Result<Vec<u8>, ReadAllError>
-    requires { (S.feed source.old).failures < 2 ^ 64 - 1 }
+    requires { CanFail (S.feed source.old) }
     ensures ok { IfOk result (λ bytes. TookAll (S.feed source.old)
         (S.feed source.new) bytes.items) }
     ensures err { IfErr result (λ error. StopsReading error (S.feed source.old)

@@ -7,7 +7,7 @@ ghost use Rattle.bson_bytes.specs.Encode.{value_bytes, value_size, items_bytes, 
 ghost use Rattle.bson_bytes.specs.Writing.{CanBeWritten, IsWriteRefusal, StartsWith};
 ghost use Rattle.bson_frame.specs.Payload.{IsEnvelope};
 ghost use Rattle.bson_model.specs.Trees.{document_tree, scoped_code_tree};
-ghost use Rattle.bson_model.specs.View.{view, pairs_of, items_of, members_of};
+ghost use Rattle.bson_model.specs.View.{view, items_of, content};
 
 use crate::put::{
     put_length, refusal, write_binary, write_bytes, write_front, write_place, write_pointer,
@@ -52,7 +52,7 @@ fn put_value(value: &Bson, out: &mut Vec<u8>) -> Result<()>
 /// where its bytes are over 2147483647. No key is told.
 #[cycle(write)]
 pub fn write_document(document: &Document, out: &mut Vec<u8>) -> Result<()>
-    ensures ok { OnOk result (out.new.items ≡ out.old.items ++ encode (members_of (pairs_of document.now))) }
+    ensures ok { OnOk result (out.new.items ≡ out.old.items ++ encode (content document.now)) }
     ensures fits { OnOk result (CanBeWritten (document_tree document.now)) }
     ensures refused { IfErr result (IsWriteRefusal (CanBeWritten (document_tree document.now) → ⊥)) }
     ensures kept { OnErr result (StartsWith out.new.items out.old.items) }
@@ -120,7 +120,7 @@ pub fn write_value(value: &Bson, out: &mut Vec<u8>) -> Result<()>
 /// The bytes of a document (bsonspec.org 1.1, "document"). `MalformedValue` where a 00 stands in a key, a pattern or options,
 /// and where the bytes are over 2147483647; `OutOfMemory` where a growth is refused. No key is told.
 pub fn encode_document(alloc: Global, document: &Document) -> Result<Vec<u8>>
-    ensures ok { IfOk result (λ b. b.items ≡ encode (members_of (pairs_of document.now))) }
+    ensures ok { IfOk result (λ b. b.items ≡ encode (content document.now)) }
     ensures envelope { IfOk result (λ b. IsEnvelope b.items) }
     ensures fits { OnOk result (CanBeWritten (document_tree document.now)) }
     ensures refused { IfErr result (IsWriteRefusal (CanBeWritten (document_tree document.now) → ⊥)) }

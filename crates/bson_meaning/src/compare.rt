@@ -1,7 +1,7 @@
 //! Whether two trees mean the same.
 
 ghost use Rattle.std.specs.Prelude.{◌≡◌, ◌↔◌, map, IsTrue};
-ghost use Rattle.bson_model.specs.View.{view, pairs_of, items_of, members_of};
+ghost use Rattle.bson_model.specs.View.{view, items_of, content};
 ghost use Rattle.bson_model.specs.Equal.{SameKeys};
 ghost use Rattle.bson_model.specs.Trees.{regex_tree, binary_tree};
 ghost use Rattle.bson_meaning.specs.Meaning.{Same, SameItems, SameUnder};
@@ -57,7 +57,7 @@ fn same_items(items: &[Bson], others: &[Bson]) -> bool
 /// Both documents are walked with their keys ascending, pair beside pair. It takes no memory.
 #[cycle(same)]
 fn same_documents(document: &Document, other: &Document) -> bool
-    ensures { IsTrue result ↔ SameKeys (members_of (pairs_of document.now)) (members_of (pairs_of other.now)) × SameUnder (members_of (pairs_of document.now)) (members_of (pairs_of other.now)) }
+    ensures { IsTrue result ↔ SameKeys (content document.now) (content other.now) × SameUnder (content document.now) (content other.now) }
 {
     bson_model::laws::distinct_keys_of_level(document);
     let mut others = other.ascending();

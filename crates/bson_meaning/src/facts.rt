@@ -6,7 +6,7 @@ ghost use Rattle.std.specs.Int.{w32, w64};
 ghost use Rattle.bson_base.specs.Kinds.{AreBytes, IsRangedScalar, IsSound};
 ghost use Rattle.bson_base.specs.Value.{document as tree, EachItem, EachMember, EachPart};
 ghost use Rattle.bson_meaning.specs.Sames.{IsScalar};
-ghost use Rattle.bson_model.specs.View.{view, pairs_of, items_of, members_of};
+ghost use Rattle.bson_model.specs.View.{view, items_of, content};
 
 use bson_model::{Bson, Document};
 
@@ -20,7 +20,7 @@ pub fn soundness(value: &Bson)
 
 /// A document is sound. It goes through the whole document.
 pub fn soundness_of_document(document: &Document)
-    ensures { IsSound (tree (members_of (pairs_of document.now))) }
+    ensures { IsSound (tree (content document.now)) }
 {
     bson_model::laws::distinct_keys_of_document(document);
     ranged_members(document);
@@ -52,7 +52,7 @@ fn ranged_items(items: &[Bson])
 
 #[cycle(ranged)]
 fn ranged_members(document: &Document)
-    ensures { EachMember IsUtf8 IsRangedScalar (members_of (pairs_of document.now)) }
+    ensures { EachMember IsUtf8 IsRangedScalar (content document.now) }
 {
     for (key, value) in document {
         is_utf8(key.as_str());

@@ -4,7 +4,7 @@ ghost use Rattle.std.specs.Prelude.{◌≡◌, map, IfOk, IsUtf8};
 ghost use Rattle.bson_base.specs.Kinds.{IsRangedScalar, IsSound};
 ghost use Rattle.bson_base.specs.Value.{document as tree, EachItem, EachMember, ItemsHaveDistinctKeys, MembersHaveDistinctKeys};
 ghost use Rattle.bson_model.specs.Rest.{owned_member};
-ghost use Rattle.bson_model.specs.View.{view, pairs_of, items_of, members_of};
+ghost use Rattle.bson_model.specs.View.{view, pairs_of, items_of, content};
 ghost use Rattle.bson_meaning.specs.Meaning.{norm, norm_items, norm_members};
 ghost use Rattle.bson_meaning.specs.Pairs.{normal_pair};
 ghost use Rattle.bson_meaning.specs.Sames.{IsScalar};
@@ -55,8 +55,8 @@ fn normal_items(alloc: Global, items: Vec<Bson>) -> Result<Vec<Bson>, AllocError
 /// through the whole document, it tells that the document is sound.
 #[cycle(normal)]
 pub fn normalize_document(alloc: Global, document: Document) -> Result<Document, AllocError>
-    ensures normal { IfOk result (λ d. members_of (pairs_of d) ≡ norm_members (members_of (pairs_of document))) }
-    ensures sound { IfOk result (λ _. IsSound (tree (members_of (pairs_of document)))) }
+    ensures normal { IfOk result (λ d. content d ≡ norm_members (content document)) }
+    ensures sound { IfOk result (λ _. IsSound (tree (content document))) }
 {
     let pairs = normal_pairs(alloc, document)?;
     Document::from_pairs(alloc, pairs)
@@ -65,8 +65,8 @@ pub fn normalize_document(alloc: Global, document: Document) -> Result<Document,
 #[cycle(normal)]
 fn normal_pairs(alloc: Global, document: Document) -> Result<Vec<(String, Bson)>, AllocError>
     ensures normal { IfOk result (λ v. map owned_member v.items ≡ map normal_pair (pairs_of document)) }
-    ensures ranged { IfOk result (λ _. EachMember IsUtf8 IsRangedScalar (members_of (pairs_of document))) }
-    ensures distinct { IfOk result (λ _. MembersHaveDistinctKeys (members_of (pairs_of document))) }
+    ensures ranged { IfOk result (λ _. EachMember IsUtf8 IsRangedScalar (content document)) }
+    ensures distinct { IfOk result (λ _. MembersHaveDistinctKeys (content document)) }
 {
     bson_model::laws::distinct_keys_of_level(&document);
     let mut pairs = Vec::with_capacity(alloc, document.len())?;

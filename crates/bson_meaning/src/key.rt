@@ -7,7 +7,7 @@ ghost use Rattle.bson_bytes.specs.Encode.{size};
 ghost use Rattle.bson_bytes.specs.Writing.{CanBeWritten};
 ghost use Rattle.bson_frame.specs.Frame.{length_limit};
 ghost use Rattle.bson_frame.specs.declared.error.ErrorKind.TheVariants.{OutOfMemory};
-ghost use Rattle.bson_model.specs.View.{view, pairs_of, members_of};
+ghost use Rattle.bson_model.specs.View.{view, content};
 ghost use Rattle.bson_meaning.specs.Forms.{norm_members_in_order, norm_in_order, norm_members, key as key_by, Same as SameBy};
 ghost use Rattle.bson_meaning.specs.Meaning.{key as key_of, Same};
 ghost use Rattle.bson_meaning.specs.Before.{key as key_before, Same as SameBefore};
@@ -49,19 +49,19 @@ impl From<AllocError> for KeyError {
 /// The bytes of the document's normal form with its keys in order. Two documents have the same key exactly where they mean the
 /// same, as long as neither is refused. A document that has a key was counted first, which tells that it is sound.
 pub fn meaning_key(alloc: Global, document: &Document) -> Result<Vec<u8>, KeyError>
-    ensures bytes { IfOk result (λ k. k.items ≡ key_of (members_of (pairs_of document.now))) }
-    ensures fits { OnOk result (length (key_of (members_of (pairs_of document.now))) ≤ length_limit) }
-    ensures plain { OnOk result (IsPlain (tree (members_of (pairs_of document.now)))) }
-    ensures sound { OnOk result (IsSound (tree (members_of (pairs_of document.now)))) }
+    ensures bytes { IfOk result (λ k. k.items ≡ key_of (content document.now)) }
+    ensures fits { OnOk result (length (key_of (content document.now)) ≤ length_limit) }
+    ensures plain { OnOk result (IsPlain (tree (content document.now))) }
+    ensures sound { OnOk result (IsSound (tree (content document.now))) }
 
     // Each refusal comes exactly where it is due, and a 00 before the length; want of memory comes after both.
-    ensures not_plain { (result ≡ Err KeyError.NotPlain) ↔ (IsPlain (tree (members_of (pairs_of document.now))) → ⊥) }
+    ensures not_plain { (result ≡ Err KeyError.NotPlain) ↔ (IsPlain (tree (content document.now)) → ⊥) }
     ensures too_long { (result ≡ Err KeyError.TooLong)
-        ↔ IsPlain (tree (members_of (pairs_of document.now))) × (length_limit < length (key_of (members_of (pairs_of document.now)))) }
+        ↔ IsPlain (tree (content document.now)) × (length_limit < length (key_of (content document.now))) }
 
     // What keys are for, for every other document.
     ensures tells { (e : Members) → IsPlain (tree e) → IsSound (tree e) → length (key_of e) ≤ length_limit
-        → OnOk result ((key_of (members_of (pairs_of document.now)) ≡ key_of e) ↔ Same (tree (members_of (pairs_of document.now))) (tree e)) }
+        → OnOk result ((key_of (content document.now) ≡ key_of e) ↔ Same (tree (content document.now)) (tree e)) }
 {
     key_where(Zeros::Joined, alloc, document)
 }
@@ -69,37 +69,37 @@ pub fn meaning_key(alloc: Global, document: &Document) -> Result<Vec<u8>, KeyErr
 /// The key that the document had before the two zeros of a double meant the same. Two documents have the same such key exactly
 /// where they meant the same, as long as neither is refused. Refused as `meaning_key` is.
 pub fn meaning_key_before(alloc: Global, document: &Document) -> Result<Vec<u8>, KeyError>
-    ensures bytes { IfOk result (λ k. k.items ≡ key_before (members_of (pairs_of document.now))) }
-    ensures fits { OnOk result (length (key_before (members_of (pairs_of document.now))) ≤ length_limit) }
-    ensures plain { OnOk result (IsPlain (tree (members_of (pairs_of document.now)))) }
+    ensures bytes { IfOk result (λ k. k.items ≡ key_before (content document.now)) }
+    ensures fits { OnOk result (length (key_before (content document.now)) ≤ length_limit) }
+    ensures plain { OnOk result (IsPlain (tree (content document.now))) }
 
     // Each refusal comes exactly where it is due, and a 00 before the length; want of memory comes after both.
-    ensures not_plain { (result ≡ Err KeyError.NotPlain) ↔ (IsPlain (tree (members_of (pairs_of document.now))) → ⊥) }
+    ensures not_plain { (result ≡ Err KeyError.NotPlain) ↔ (IsPlain (tree (content document.now)) → ⊥) }
     ensures too_long { (result ≡ Err KeyError.TooLong)
-        ↔ IsPlain (tree (members_of (pairs_of document.now))) × (length_limit < length (key_before (members_of (pairs_of document.now)))) }
+        ↔ IsPlain (tree (content document.now)) × (length_limit < length (key_before (content document.now))) }
 
     // What keys are for, for every other document.
     ensures tells { (e : Members) → IsPlain (tree e) → IsSound (tree e) → length (key_before e) ≤ length_limit
-        → OnOk result ((key_before (members_of (pairs_of document.now)) ≡ key_before e) ↔ SameBefore (tree (members_of (pairs_of document.now))) (tree e)) }
+        → OnOk result ((key_before (content document.now) ≡ key_before e) ↔ SameBefore (tree (content document.now)) (tree e)) }
 {
     key_where(Zeros::Apart, alloc, document)
 }
 
 /// The key of a document, with its zeros taken so.
 fn key_where(zeros: Zeros, alloc: Global, document: &Document) -> Result<Vec<u8>, KeyError>
-    ensures bytes { IfOk result (λ k. k.items ≡ key_by zeros (members_of (pairs_of document.now))) }
-    ensures fits { OnOk result (length (key_by zeros (members_of (pairs_of document.now))) ≤ length_limit) }
-    ensures plain { OnOk result (IsPlain (tree (members_of (pairs_of document.now)))) }
-    ensures sound { OnOk result (IsSound (tree (members_of (pairs_of document.now)))) }
+    ensures bytes { IfOk result (λ k. k.items ≡ key_by zeros (content document.now)) }
+    ensures fits { OnOk result (length (key_by zeros (content document.now)) ≤ length_limit) }
+    ensures plain { OnOk result (IsPlain (tree (content document.now))) }
+    ensures sound { OnOk result (IsSound (tree (content document.now))) }
 
     // Each refusal comes exactly where it is due, and a 00 before the length; want of memory comes after both.
-    ensures not_plain { (result ≡ Err KeyError.NotPlain) ↔ (IsPlain (tree (members_of (pairs_of document.now))) → ⊥) }
+    ensures not_plain { (result ≡ Err KeyError.NotPlain) ↔ (IsPlain (tree (content document.now)) → ⊥) }
     ensures too_long { (result ≡ Err KeyError.TooLong)
-        ↔ IsPlain (tree (members_of (pairs_of document.now))) × (length_limit < length (key_by zeros (members_of (pairs_of document.now)))) }
+        ↔ IsPlain (tree (content document.now)) × (length_limit < length (key_by zeros (content document.now))) }
 
     // What keys are for, for every other document.
     ensures tells { (e : Members) → IsPlain (tree e) → IsSound (tree e) → length (key_by zeros e) ≤ length_limit
-        → OnOk result ((key_by zeros (members_of (pairs_of document.now)) ≡ key_by zeros e) ↔ SameBy zeros (tree (members_of (pairs_of document.now))) (tree e)) }
+        → OnOk result ((key_by zeros (content document.now) ≡ key_by zeros e) ↔ SameBy zeros (tree (content document.now)) (tree e)) }
 {
     if !has_plain_members(document) {
         return Err(KeyError::NotPlain);
@@ -187,8 +187,8 @@ fn element_key_where(
 
 /// Whether the key would be over 2147483647 bytes. What counts them tells that the document is sound.
 fn is_too_long(document: &Document) -> bool
-    ensures long { (zeros : AnyZeros) → IsTrue result ↔ (length_limit < size (norm_members zeros (members_of (pairs_of document.now)))) }
-    ensures sound { IsSound (tree (members_of (pairs_of document.now))) }
+    ensures long { (zeros : AnyZeros) → IsTrue result ↔ (length_limit < size (norm_members zeros (content document.now))) }
+    ensures sound { IsSound (tree (content document.now)) }
 {
     normal_length(document) > LENGTH_LIMIT
 }
@@ -203,10 +203,10 @@ fn is_element_too_long(name: &str, value: &Bson) -> bool
 
 /// The bytes of the normal form with its keys in order, of a document without a 00 in a key, a pattern or options.
 fn written(zeros: Zeros, alloc: Global, document: &Document) -> Result<Vec<u8>, KeyError>
-    ensures bytes { IfOk result (λ k. k.items ≡ key_by zeros (members_of (pairs_of document.now))) }
-    ensures fits { OnOk result (CanBeWritten (tree (norm_members_in_order zeros (members_of (pairs_of document.now))))) }
+    ensures bytes { IfOk result (λ k. k.items ≡ key_by zeros (content document.now)) }
+    ensures fits { OnOk result (CanBeWritten (tree (norm_members_in_order zeros (content document.now)))) }
     ensures never_not_plain { result ≢ Err KeyError.NotPlain }
-    ensures too_long { result ≡ Err KeyError.TooLong → CanBeWritten (tree (norm_members_in_order zeros (members_of (pairs_of document.now)))) → ⊥ }
+    ensures too_long { result ≡ Err KeyError.TooLong → CanBeWritten (tree (norm_members_in_order zeros (content document.now))) → ⊥ }
 {
     encode_in_order(zeros, alloc, document).map_err(unwritten)
 }

@@ -10,7 +10,7 @@ ghost use Rattle.bson_bytes.specs.Writing.{CanBeWritten, IsWriteRefusal};
 ghost use Rattle.bson_frame.specs.Frame.{length_limit};
 ghost use Rattle.bson_model.specs.Equal.{Equal};
 ghost use Rattle.bson_model.specs.Trees.{document_tree};
-ghost use Rattle.bson_model.specs.View.{members_of, pairs_of};
+ghost use Rattle.bson_model.specs.View.{content};
 ghost use Rattle.bson_meaning.specs.Gate.{IsFaultyOrDeep, IsRefused, level_limit, Passes};
 ghost use Rattle.bson_meaning.specs.Before.{key as key_before, Same as SameBefore};
 ghost use Rattle.bson_meaning.specs.Meaning.{norm_members_in_order, norm_in_order, norm, key, Same};
@@ -102,7 +102,7 @@ pub fn equal_errors()
 /// A clean document that is written into a buffer comes back from it. It is refused where it has no written form, or a growth
 /// is refused, and for no other reason.
 pub fn documents_come_back(alloc: Global, document: &Document) -> bson_frame::Result<Document>
-    ensures { IsClean (document_tree document.now) → MatchResult result (λ back. members_of (pairs_of back) ≡ members_of (pairs_of document.now))
+    ensures { IsClean (document_tree document.now) → MatchResult result (λ back. content back ≡ content document.now)
         (IsWriteRefusal (CanBeWritten (document_tree document.now) → ⊥)) }
 {
     soundness_of_document(document);

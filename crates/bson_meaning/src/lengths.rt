@@ -4,7 +4,7 @@ ghost use Rattle.std.specs.Prelude.{◌≡◌, ◌^◌, ◌-◌, decimal, length
 ghost use Rattle.bson_base.specs.Kinds.{IsRangedScalar, IsSound};
 ghost use Rattle.bson_base.specs.Value.{binary as with_subtype, document as tree, member, no_members, regex as expression, EachItem, EachMember, EachPart, HasDistinctKeys, ItemsHaveDistinctKeys, MembersHaveDistinctKeys};
 ghost use Rattle.bson_bytes.specs.Encode.{items_size, members_size, scalar_size, size, value_size};
-ghost use Rattle.bson_model.specs.View.{view, pairs_of, items_of, members_of};
+ghost use Rattle.bson_model.specs.View.{view, items_of, content};
 ghost use Rattle.bson_meaning.specs.Meaning.{norm, norm_items, norm_members, normal_scalar};
 ghost use Rattle.bson_meaning.specs.Sames.{IsScalar};
 
@@ -17,8 +17,8 @@ use itoa::Buffer;
 /// takes more than `usize::MAX`; it would be answered for such. Takes no memory. As it goes through the whole document, it
 /// tells that the document is sound.
 pub(crate) fn normal_length(document: &Document) -> usize
-    ensures length { result ≡ min (size (norm_members (members_of (pairs_of document.now)))) (2 ^ 64 - 1) }
-    ensures sound { IsSound (tree (members_of (pairs_of document.now))) }
+    ensures length { result ≡ min (size (norm_members (content document.now))) (2 ^ 64 - 1) }
+    ensures sound { IsSound (tree (content document.now)) }
 {
     length_of_members(document).saturating_add(5)
 }
@@ -59,9 +59,9 @@ fn length_of_value(value: &Bson) -> usize
 
 #[cycle(lengths)]
 fn length_of_members(document: &Document) -> usize
-    ensures length { result ≡ min (members_size (norm_members (members_of (pairs_of document.now)))) (2 ^ 64 - 1) }
-    ensures ranged { EachMember IsUtf8 IsRangedScalar (members_of (pairs_of document.now)) }
-    ensures distinct { MembersHaveDistinctKeys (members_of (pairs_of document.now)) }
+    ensures length { result ≡ min (members_size (norm_members (content document.now))) (2 ^ 64 - 1) }
+    ensures ranged { EachMember IsUtf8 IsRangedScalar (content document.now) }
+    ensures distinct { MembersHaveDistinctKeys (content document.now) }
 {
     bson_model::laws::distinct_keys_of_level(document);
     let mut length: usize = 0;

@@ -2,7 +2,7 @@
 
 ghost use Rattle.std.specs.Prelude.{◌≡◌, ◌^◌, ◌-◌, map, min};
 ghost use Rattle.bson_base.specs.Value.{document as tree, levels, items_levels, members_levels};
-ghost use Rattle.bson_model.specs.View.{view, pairs_of, items_of, members_of};
+ghost use Rattle.bson_model.specs.View.{view, items_of, content};
 
 use bson_model::{Bson, Document};
 
@@ -22,7 +22,7 @@ pub fn depth(value: &Bson) -> usize
 
 /// How many documents, arrays and scopes lie inside each other, the document itself counted. Else as `depth`.
 pub fn depth_of_document(document: &Document) -> usize
-    ensures { result ≡ min (levels (tree (members_of (pairs_of document.now)))) (2 ^ 64 - 1) }
+    ensures { result ≡ min (levels (tree (content document.now))) (2 ^ 64 - 1) }
 {
     depth_of_members(document).saturating_add(1)
 }
@@ -40,7 +40,7 @@ fn depth_of_items(items: &[Bson]) -> usize
 
 #[cycle(depth)]
 fn depth_of_members(document: &Document) -> usize
-    ensures { result ≡ min (members_levels (members_of (pairs_of document.now))) (2 ^ 64 - 1) }
+    ensures { result ≡ min (members_levels (content document.now)) (2 ^ 64 - 1) }
 {
     let mut greatest = 0;
     for (_, value) in document {

@@ -3,7 +3,7 @@
 ghost use Rattle.std.specs.Prelude.{◌↔◌, map, IsTrue};
 ghost use Rattle.bson_base.specs.Kinds.{HasNo00, IsPlain, IsPlainScalar};
 ghost use Rattle.bson_base.specs.Value.{document as tree, member, no_members, EachItem, EachMember};
-ghost use Rattle.bson_model.specs.View.{view, pairs_of, items_of, members_of};
+ghost use Rattle.bson_model.specs.View.{view, items_of, content};
 
 use bson_bytes::put::has_no_zero;
 use bson_model::{Bson, Document};
@@ -27,7 +27,7 @@ pub fn is_plain(value: &Bson) -> bool
 
 /// Whether no key, no pattern and no options in the document hold a byte 00.
 pub fn is_plain_document(document: &Document) -> bool
-    ensures { IsTrue result ↔ IsPlain (tree (members_of (pairs_of document.now))) }
+    ensures { IsTrue result ↔ IsPlain (tree (content document.now)) }
 {
     has_plain_members(document)
 }
@@ -53,7 +53,7 @@ fn are_plain(items: &[Bson]) -> bool
 
 #[cycle(plain)]
 pub(crate) fn has_plain_members(document: &Document) -> bool
-    ensures { IsTrue result ↔ EachMember HasNo00 IsPlainScalar (members_of (pairs_of document.now)) }
+    ensures { IsTrue result ↔ EachMember HasNo00 IsPlainScalar (content document.now) }
 {
     for (key, value) in document {
         if !has_no_zero(key.as_bytes()) || !is_plain(value) {

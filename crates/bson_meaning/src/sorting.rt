@@ -5,7 +5,7 @@ ghost use Rattle.std.specs.Cmp.Lexicographic.{slice_cmp};
 ghost use Rattle.std.specs.List.Sorted.{IsPermutation, IsSortedByKey};
 ghost use Rattle.std.specs.Ordering.{nat_cmp};
 ghost use Rattle.bson_model.specs.Rest.{owned_member};
-ghost use Rattle.bson_model.specs.View.{view, pairs_of, items_of, members_of};
+ghost use Rattle.bson_model.specs.View.{view, pairs_of, items_of, content};
 ghost use Rattle.bson_meaning.specs.Meaning.{asc, asc_items, asc_members};
 ghost use Rattle.bson_meaning.specs.Pairs.{sorted_pair};
 
@@ -16,7 +16,7 @@ use std::alloc::{AllocError, Global};
 /// error is a refused growth; the document is dropped then.
 #[cycle(sorted)]
 pub fn sorted(alloc: Global, document: Document) -> Result<Document, AllocError>
-    ensures { IfOk result (λ d. members_of (pairs_of d) ≡ asc_members (members_of (pairs_of document))) }
+    ensures { IfOk result (λ d. content d ≡ asc_members (content document)) }
 {
     bson_model::laws::distinct_keys_of_level(&document);
     let mut pairs = sorted_pairs(alloc, document)?;

@@ -4,7 +4,7 @@ ghost use Rattle.std.specs.Prelude.{◌≡◌, ◌↔◌, ◌≤◌, drop, map, 
 ghost use Rattle.bson_base.specs.Value.{HasDistinctKeys, ItemsHaveDistinctKeys, MembersHaveDistinctKeys, Items, levels, look_up, Members, members_levels, scalar, Value};
 ghost use Rattle.bson_bytes.specs.Spells.{SpellsItems, SpellsMembers};
 ghost use Rattle.bson_model.specs.Equal.{SameKeys};
-ghost use Rattle.bson_model.specs.View.{view, pairs_of, items_of, members_of};
+ghost use Rattle.bson_model.specs.View.{view, items_of, content};
 ghost use Rattle.bson_raw.specs.Convert.{SpellsRawValue};
 ghost use Rattle.bson_raw.specs.Raw.{ref_value};
 ghost use Rattle.bson_raw.specs.View.{bytes_of, array_bytes, parts_of};
@@ -44,7 +44,7 @@ pub fn same_as_raw(raw: RawBsonRef<'_>, value: &Bson) -> bool
 #[cycle(views)]
 fn same_members(raw: RawDocument<'_>, document: &Document) -> bool
     ensures { (ms : Members) → SpellsMembers (drop 4 (bytes_of raw.entry)) ms → MembersHaveDistinctKeys ms
-        → IsTrue result ↔ SameKeys ms (members_of (pairs_of document.now)) × SameUnder ms (members_of (pairs_of document.now)) }
+        → IsTrue result ↔ SameKeys ms (content document.now) × SameUnder ms (content document.now) }
 {
     bson_model::laws::distinct_keys_of_level(document);
     let mut left = document.len();
@@ -103,9 +103,9 @@ fn same_element(element: &RawElement<'_>, value: &Bson) -> bool
 
 /// The value under a key.
 fn value_under<'a>(document: &'a Document, key: &str) -> Option<&'a Bson>
-    ensures { MatchOption result (look_up key.now (members_of (pairs_of document.now)) ≡ None)
-        (λ v. (look_up key.now (members_of (pairs_of document.now)) ≡ Some (view v.now))
-        × (levels (view v.now) ≤ members_levels (members_of (pairs_of document.now)))) }
+    ensures { MatchOption result (look_up key.now (content document.now) ≡ None)
+        (λ v. (look_up key.now (content document.now) ≡ Some (view v.now))
+        × (levels (view v.now) ≤ members_levels (content document.now))) }
 {
     match document.get(key) {
         Some(value) => Some(value),

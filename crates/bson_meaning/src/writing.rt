@@ -8,7 +8,7 @@ ghost use Rattle.bson_base.specs.Value.{array, document as tree, member, no_memb
 ghost use Rattle.bson_bytes.specs.Encode.{encode, frame_of, items_bytes, members_bytes, value_bytes};
 ghost use Rattle.bson_bytes.specs.Writing.{CanBeWritten, IsWriteRefusal};
 ghost use Rattle.bson_model.specs.Trees.{regex_tree, scoped_code_tree};
-ghost use Rattle.bson_model.specs.View.{view, pairs_of, items_of, members_of};
+ghost use Rattle.bson_model.specs.View.{view, items_of, content};
 ghost use Rattle.bson_meaning.specs.Forms.{norm_members_in_order, norm_items_in_order, norm_in_order};
 ghost use Rattle.bson_meaning.specs.declared.scalars.Zeros.{Zeros as AnyZeros};
 ghost use Rattle.bson_meaning.specs.Sames.{IsScalar};
@@ -25,9 +25,9 @@ use std::alloc::Global;
 /// The bytes of a document. `MalformedValue` where a 00 stands in a key, a pattern or options, and where the bytes are over
 /// 2147483647; `OutOfMemory` where a growth is refused. No key is told.
 pub(crate) fn encode_in_order(zeros: Zeros, alloc: Global, document: &Document) -> Result<Vec<u8>>
-    ensures ok { IfOk result (λ b. b.items ≡ encode (norm_members_in_order zeros (members_of (pairs_of document.now)))) }
-    ensures fits { OnOk result (CanBeWritten (tree (norm_members_in_order zeros (members_of (pairs_of document.now))))) }
-    ensures refused { IfErr result (IsWriteRefusal (CanBeWritten (tree (norm_members_in_order zeros (members_of (pairs_of document.now)))) → ⊥)) }
+    ensures ok { IfOk result (λ b. b.items ≡ encode (norm_members_in_order zeros (content document.now))) }
+    ensures fits { OnOk result (CanBeWritten (tree (norm_members_in_order zeros (content document.now)))) }
+    ensures refused { IfErr result (IsWriteRefusal (CanBeWritten (tree (norm_members_in_order zeros (content document.now))) → ⊥)) }
 {
     let mut out = Vec::new(alloc);
     write_in_order(zeros, document, &mut out)?;
@@ -53,9 +53,9 @@ pub(crate) fn encode_element_in_order(
 /// Appends a document. Refused as `encode_in_order` is.
 #[cycle(in_order)]
 fn write_in_order(zeros: Zeros, document: &Document, out: &mut Vec<u8>) -> Result<()>
-    ensures ok { OnOk result (out.new.items ≡ out.old.items ++ encode (norm_members_in_order zeros (members_of (pairs_of document.now)))) }
-    ensures fits { OnOk result (CanBeWritten (tree (norm_members_in_order zeros (members_of (pairs_of document.now))))) }
-    ensures refused { IfErr result (IsWriteRefusal (CanBeWritten (tree (norm_members_in_order zeros (members_of (pairs_of document.now)))) → ⊥)) }
+    ensures ok { OnOk result (out.new.items ≡ out.old.items ++ encode (norm_members_in_order zeros (content document.now))) }
+    ensures fits { OnOk result (CanBeWritten (tree (norm_members_in_order zeros (content document.now)))) }
+    ensures refused { IfErr result (IsWriteRefusal (CanBeWritten (tree (norm_members_in_order zeros (content document.now))) → ⊥)) }
 {
     let start = out.len();
     write_bytes(&[0, 0, 0, 0], out)?;
@@ -81,9 +81,9 @@ fn write_element(zeros: Zeros, name: &str, value: &Bson, out: &mut Vec<u8>) -> R
 /// Appends the elements of a document.
 #[cycle(in_order)]
 fn write_members(zeros: Zeros, document: &Document, out: &mut Vec<u8>) -> Result<()>
-    ensures ok { OnOk result (out.new.items ≡ out.old.items ++ members_bytes (norm_members_in_order zeros (members_of (pairs_of document.now)))) }
-    ensures plain { OnOk result (IsPlain (tree (norm_members_in_order zeros (members_of (pairs_of document.now))))) }
-    ensures refused { IfErr result (IsWriteRefusal (CanBeWritten (tree (norm_members_in_order zeros (members_of (pairs_of document.now)))) → ⊥)) }
+    ensures ok { OnOk result (out.new.items ≡ out.old.items ++ members_bytes (norm_members_in_order zeros (content document.now))) }
+    ensures plain { OnOk result (IsPlain (tree (norm_members_in_order zeros (content document.now)))) }
+    ensures refused { IfErr result (IsWriteRefusal (CanBeWritten (tree (norm_members_in_order zeros (content document.now))) → ⊥)) }
 {
     for (key, value) in document.ascending() {
         write_front(normal_kind(value), key.as_str(), out)?;

@@ -13,7 +13,7 @@ use Rattle.bson_base.specs.declared.pointer.DbPointer.{DbPointer}
 use Rattle.bson_base.specs.declared.regex.Regex.{Regex}
 use Rattle.bson_base.specs.declared.spec.BinarySubtype.TheVariants.{Generic}
 use Rattle.bson_base.specs.declared.timestamp.Timestamp.{Timestamp}
-use Rattle.bson_model.specs.View.{view, pairs_of, items_of, members_of}
+use Rattle.bson_model.specs.View.{view, items_of, content}
 use Rattle.bson_model.specs.declared.bson.Bson.{Bson}
 use Rattle.bson_model.specs.declared.bson.JavaScriptCodeWithScope.{JavaScriptCodeWithScope}
 use Rattle.bson_model.specs.declared.document.Document.{Document}
@@ -28,7 +28,7 @@ abbrev pub array_tree : Vec Bson Global → Value
 array_tree a = array (items_of (map view a.items))
 
 abbrev pub document_tree : Document → Value
-document_tree d = document (members_of (pairs_of d))
+document_tree d = document (content d)
 
 abbrev pub bool_tree : Bool → Value
 bool_tree b = scalar (boolean b)
@@ -37,7 +37,7 @@ abbrev pub regex_tree : Regex → Value
 regex_tree r = scalar (regex (string_bytes r.pattern) (string_bytes r.options))
 
 abbrev pub scoped_code_tree : JavaScriptCodeWithScope → Value
-scoped_code_tree c = scoped_code (string_bytes c.code) (members_of (pairs_of c.scope))
+scoped_code_tree c = scoped_code (string_bytes c.code) (content c.scope)
 
 abbrev pub i32_tree : ℤ → Value
 i32_tree z = scalar (int32 z)

@@ -59,6 +59,10 @@ pair_view p = (p.0, view p.1)
 abbrev pub pairs_of : Document → List (Key × Value)
 pairs_of d = map pair_view d.pairs
 
+-- the members of a document
+abbrev pub content : Document → Members
+content d = members_of (pairs_of d)
+
 -- t is the tree of a value of which P holds
 abbrev pub IsTreeOf : (Bson → Type 0) → Value → Type 0
 IsTreeOf P t = (v : Bson) × P v × (t ≡ view v)

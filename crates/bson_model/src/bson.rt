@@ -6,7 +6,7 @@ ghost use Rattle.bson_base.specs.Scalars.{id_bytes, millis_of, decimal_bytes, uu
 ghost use Rattle.bson_base.specs.VectorBytes.{vector_bytes};
 ghost use Rattle.bson_base.specs.Vectors.{vector_value};
 ghost use Rattle.bson_base.specs.Value.{value_kind, scalar, array, binary, string, null, object_id};
-ghost use Rattle.bson_model.specs.View.{view, pairs_of, items_of, members_of};
+ghost use Rattle.bson_model.specs.View.{view, items_of, content};
 ghost use Rattle.bson_model.specs.Trees.{array_tree, binary_tree, bool_tree, date_time_tree, db_pointer_tree, decimal128_tree, document_tree, f64_tree, i32_tree, i64_tree, object_id_tree, option_tree, regex_tree, scoped_code_tree, text_tree, timestamp_tree, u32_tree};
 ghost use Rattle.bson_model.specs.Accessors as kinds;
 ghost use Rattle.bson_model.specs.Rows.{binary_row, bytes_row, with_bytes};
@@ -175,7 +175,7 @@ impl Bson {
 
     /// The document, where it is one.
     pub fn as_document(&self) -> Option<&Document>
-        ensures { option_map (λ d. members_of (pairs_of d.now)) result ≡ kinds.as_document (view self.now) }
+        ensures { option_map (λ d. content d.now) result ≡ kinds.as_document (view self.now) }
     {
         match self {
             Bson::Document(document) => Some(document),
@@ -300,7 +300,7 @@ impl Bson {
     /// The document, where it is one, to be written to.
     pub fn as_document_mut(&mut self) -> Option<&mut Document>
         ensures* writes_back { sem 𝓛 (LendsIf the_row document_row self.entry result bson.Document self.old) }
-        ensures value { option_map (λ d. members_of (pairs_of d.now)) result ≡ kinds.as_document (view self.old) }
+        ensures value { option_map (λ d. content d.now) result ≡ kinds.as_document (view self.old) }
     {
         if let Bson::Document(document) = self {
             Some(document)

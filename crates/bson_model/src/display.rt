@@ -6,7 +6,7 @@ ghost use Rattle.bson_base.specs.Scalars.{id_bytes, millis_of};
 ghost use Rattle.bson_base.specs.Value.{db_pointer};
 ghost use Rattle.bson_base.specs.Dates.{shown_date};
 ghost use Rattle.bson_model.specs.Display.{call_of_text, mark_before, in_quotes, display_text, shown_document, shown_double, shown_items, shown_members, shown_scalar};
-ghost use Rattle.bson_model.specs.View.{view, pairs_of, items_of, members_of};
+ghost use Rattle.bson_model.specs.View.{view, items_of, content};
 
 use crate::bson::{Bson, JavaScriptCodeWithScope};
 use crate::document::Document;
@@ -28,9 +28,9 @@ impl fmt::Display for Bson {
 
 /// `{ "k": v, "l": w }`, or `{}`.
 impl fmt::Display for Document {
-    ghost output = { λ d. Some (shown_document (members_of (pairs_of d))) };
+    ghost output = { λ d. Some (shown_document (content d)) };
 
-    ghost styled_output = { λ d s. Some (shown_document (members_of (pairs_of d))) };
+    ghost styled_output = { λ d s. Some (shown_document (content d)) };
 
     fn fmt<W: fmt::Write>(&self, f: &mut fmt::Formatter<W>) -> fmt::Result {
         write_plainly(f, ShownDocument { document: self })
@@ -69,7 +69,7 @@ struct ShownDocument<'a> {
 }
 
 impl<'a> fmt::Display for ShownDocument<'a> {
-    ghost output = { λ s. Some (shown_document (members_of (pairs_of s.document.now))) };
+    ghost output = { λ s. Some (shown_document (content s.document.now)) };
 
     fn fmt<W: fmt::Write>(&self, f: &mut fmt::Formatter<W>) -> fmt::Result {
         write_braces(f, self.document)
@@ -129,7 +129,7 @@ fn write_items<W: fmt::Write>(f: &mut fmt::Formatter<W>, items: &[Bson]) -> fmt:
 
 #[cycle(show)]
 fn write_braces<W: fmt::Write>(f: &mut fmt::Formatter<W>, document: &Document) -> fmt::Result
-    ensures { WritesOnOk W.write_str_gives f.old result (shown_document (members_of (pairs_of document.now))) f.new }
+    ensures { WritesOnOk W.write_str_gives f.old result (shown_document (content document.now)) f.new }
 {
     if document.is_empty() {
         return f.write_str("{}");
@@ -141,7 +141,7 @@ fn write_braces<W: fmt::Write>(f: &mut fmt::Formatter<W>, document: &Document) -
 
 #[cycle(show)]
 fn write_members<W: fmt::Write>(f: &mut fmt::Formatter<W>, document: &Document) -> fmt::Result
-    ensures { WritesOnOk W.write_str_gives f.old result (shown_members true (members_of (pairs_of document.now))) f.new }
+    ensures { WritesOnOk W.write_str_gives f.old result (shown_members true (content document.now)) f.new }
 {
     let mut first = true;
     for (key, value) in document.pairs.iter() {

@@ -4,7 +4,7 @@ ghost use Rattle.std.specs.Option.{option_map, ForNone};
 ghost use Rattle.std.specs.Borrow.{sem};
 ghost use Rattle.std.specs.Map.{values_of};
 ghost use Rattle.bson_model.specs.Keyed.{get, has_key, put, without, place_of, AtMostDigits};
-ghost use Rattle.bson_model.specs.View.{view, pairs_of, items_of, members_of, IsTreeOf};
+ghost use Rattle.bson_model.specs.View.{view, pairs_of, items_of, IsTreeOf, content};
 ghost use Rattle.bson_model.specs.Extend.{put_all, PutsSome, PutsUpToNew};
 ghost use Rattle.bson_model.specs.Lending.{LendsValueAt, LendsValue, LendsOrInsertsValue};
 
@@ -325,7 +325,7 @@ impl Document {
 
     /// The document under a key.
     pub fn get_document(&self, key: &str) -> ValueAccessResult<&Document>
-        ensures { result_map (λ d. members_of (pairs_of d.now)) result ≡ of_kind as_document (get key.now (pairs_of self.now)) }
+        ensures { result_map (λ d. content d.now) result ≡ of_kind as_document (get key.now (pairs_of self.now)) }
     {
         match self.get(key) {
             Some(Bson::Document(document)) => Ok(document),
@@ -337,7 +337,7 @@ impl Document {
     /// The document under a key, to be written to.
     pub fn get_document_mut(&mut self, key: &str) -> ValueAccessResult<&mut Document>
         ensures* writes_back { sem 𝓛 (LendsPart document_row document_tree self.entry key.now result) }
-        ensures value { result_map (λ d. members_of (pairs_of d.now)) result ≡ of_kind as_document (get key.now (pairs_of self.old)) }
+        ensures value { result_map (λ d. content d.now) result ≡ of_kind as_document (get key.now (pairs_of self.old)) }
     {
         document_in(self.pairs_mut(), key)
     }

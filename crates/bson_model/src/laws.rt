@@ -7,7 +7,7 @@ ghost use Rattle.std.specs.List.{IsDistinct};
 ghost use Rattle.std.specs.Map.{keys_of};
 ghost use Rattle.bson_base.specs.Value.{document, HasDistinctKeys, ItemsHaveDistinctKeys, MembersHaveDistinctKeys};
 ghost use Rattle.bson_model.specs.Laws.{bson_eq, document_eq, bson_writes, document_writes};
-ghost use Rattle.bson_model.specs.View.{view, pairs_of, items_of, members_of};
+ghost use Rattle.bson_model.specs.View.{view, pairs_of, items_of, content};
 ghost use Rattle.bson_model.specs.declared.bson.Bson.{Bson as Tree};
 ghost use Rattle.bson_model.specs.declared.document.Document.{Document as Pairs};
 
@@ -72,7 +72,7 @@ pub fn equality_of_trees(a: &Bson, b: &Bson) -> bool
 
 /// Two documents are equal exactly where each has the other's keys, and equal trees under them.
 pub fn equality_of_members(a: &Document, b: &Document) -> bool
-    ensures { IsTrue result ↔ Equal (document (members_of (pairs_of a.now))) (document (members_of (pairs_of b.now))) }
+    ensures { IsTrue result ↔ Equal (document (content a.now)) (document (content b.now)) }
 {
     distinct_keys_of_document(a);
     distinct_keys_of_document(b);
@@ -105,7 +105,7 @@ pub fn distinct_keys_of_items(items: &[Bson])
 /// No key stands twice in the document, nor in any document inside. It goes through the whole document.
 #[cycle(distinct)]
 pub fn distinct_keys_of_document(document: &Document)
-    ensures { MembersHaveDistinctKeys (members_of (pairs_of document.now)) }
+    ensures { MembersHaveDistinctKeys (content document.now) }
 {
     let _keys = document.pairs.keys();
     distinct_keys_of_items(document.pairs.values());

@@ -14,7 +14,7 @@ use Rattle.bson_frame.specs.View.{fault_key}
 use Rattle.bson_model.specs.declared.bson.Bson.{Bson}
 use Rattle.bson_model.specs.declared.bson.JavaScriptCodeWithScope.{JavaScriptCodeWithScope}
 use Rattle.bson_model.specs.declared.document.Document.{Document}
-use Rattle.bson_model.specs.View.{view, items_of, members_of, pairs_of}
+use Rattle.bson_model.specs.View.{view, items_of, content}
 use Rattle.bson_raw.specs.declared.bson_ref.RawJavaScriptCodeWithScopeRef.{RawJavaScriptCodeWithScopeRef}
 use Rattle.bson_raw.specs.Raw as raws
 use Rattle.bson_raw.specs.Raw.{RawValue}
@@ -65,7 +65,7 @@ TellsFault Fault e = Told Fault (fault_key e) e.kind
 
 -- elements spell the tree of a document
 abbrev pub IsDocumentOf : List ℕ → Document → Type 0
-IsDocumentOf bytes d = (ms : Members) × SpellsMembers bytes ms × (members_of (pairs_of d) ≡ settle ms)
+IsDocumentOf bytes d = (ms : Members) × SpellsMembers bytes ms × (content d ≡ settle ms)
 
 -- elements spell the items of an array, whatever their keys
 abbrev pub IsArrayOf : List ℕ → Vec Bson Global → Type 0

@@ -10,7 +10,7 @@ use Rattle.bson_frame.specs.View.{fault_key, IsBare}
 use Rattle.bson_frame.specs.declared.error.Error.{Error as Fault}
 use Rattle.bson_frame.specs.declared.error.ErrorKind.TheVariants.{MalformedValue, OutOfMemory}
 use Rattle.bson_model.specs.declared.document.Document.{Document}
-use Rattle.bson_model.specs.View.{members_of, pairs_of}
+use Rattle.bson_model.specs.View.{content}
 use Rattle.bson_raw.specs.declared.read_error.ReadError.{ReadError}
 use Rattle.bson_raw.specs.declared.read_error.ReadError.TheVariants.{Reader, EndInside, BadLength, Raw, Memory}
 use Rattle.bson_raw.specs.Convert.{HasFault}
@@ -33,7 +33,7 @@ IsRawFault bytes e = (e.kind ≢ OutOfMemory) × (((IsEnvelope bytes → ⊥) ×
     × ((d : Members) → Means bytes d → ⊥)
 
 abbrev pub ReadsDocument : Feed → Feed → Result Document ReadError → Type 0
-ReadsDocument old new (Ok d) = (bytes : List ℕ) × Took old new bytes × AreDeclared bytes × Means bytes (members_of (pairs_of d))
+ReadsDocument old new (Ok d) = (bytes : List ℕ) × Took old new bytes × AreDeclared bytes × Means bytes (content d)
 ReadsDocument old new (Err Reader) = new.failures ≡ old.failures + 1
 ReadsDocument old new (Err EndInside) = (bytes : List ℕ) × TookAll old new bytes × EndInDocument bytes
 ReadsDocument old new (Err BadLength) = (bytes : List ℕ) × Took old new bytes × (length bytes ≡ 4) × (IsInputLength (number bytes) → ⊥)
@@ -72,7 +72,7 @@ IsConversionRefusal e told = ((e.kind ≡ OutOfMemory) × (told ≡ Memory)) ⊎
 
 -- what bytes are read as
 abbrev pub ReadsDeclared : List ℕ → Result Document ReadError → Type 0
-ReadsDeclared bytes (Ok d) = Means bytes (members_of (pairs_of d))
+ReadsDeclared bytes (Ok d) = Means bytes (content d)
 ReadsDeclared bytes (Err (Raw e)) = IsRawFault bytes e
 ReadsDeclared bytes (Err Memory) = Unit {0}
 ReadsDeclared bytes (Err _) = ⊥

@@ -1,16 +1,15 @@
 -- The places of an array's values.
-use Rattle.std.specs.Prelude.{◌≡◌, List, Option, length}
+use Rattle.std.specs.Prelude.{◌≡◌, length}
 use Rattle.bson_frame.specs.declared.error.ErrorKind.{ErrorKind}
-use Rattle.bson_frame.specs.Frame.{Element}
 use Rattle.bson_raw.specs.declared.array_buf.RawArrayBuf.{RawArrayBuf}
 use Rattle.bson_raw.specs.declared.bson.RawBson.{RawBson}
 use Rattle.bson_raw.specs.declared.bson.RawBson.TheVariants.{Array}
 use Rattle.bson_raw.specs.Buffer.{array_buffer_bytes, next_place}
-use Rattle.bson_raw.specs.Walk.{IsDocumentWalk, walk_items}
+use Rattle.bson_raw.specs.Walk.{walk_items, OnWalk}
 
 -- the next value has the number of the items as its place; a fault counts as an item
 abbrev pub GoesOn : RawArrayBuf → Type 0
-GoesOn a = (elements : List Element) (fault : Option ErrorKind) → IsDocumentWalk (array_buffer_bytes a) elements fault → next_place a ≡ length (walk_items elements fault)
+GoesOn a = OnWalk (array_buffer_bytes a) (λ elements fault. next_place a ≡ length (walk_items elements fault))
 
 -- the same, if it is an array
 abbrev pub ArrayGoesOn : RawBson → Type 0

@@ -20,6 +20,10 @@ IsWalk bytes (e ∷ elements) fault = (rest : List ℕ) × IsFirstFrame bytes e 
 abbrev pub IsDocumentWalk : List ℕ → List Element → Option ErrorKind → Type 0
 IsDocumentWalk bytes elements fault = IsWalk (drop 4 bytes) elements fault
 
+-- it holds of the walk of the bytes: of its elements, and of the structural fault that it ends at
+abbrev pub OnWalk : List ℕ → (List Element → Option ErrorKind → Type 0) → Type 0
+OnWalk bytes P = (elements : List Element) (fault : Option ErrorKind) → IsDocumentWalk bytes elements fault → P elements fault
+
 -- the items of a walk: its elements in order, a structural fault last
 abbrev pub walk_items : List Element → Option ErrorKind → List (Result Element ErrorKind)
 walk_items [] None = []

@@ -1,11 +1,9 @@
 //! Arrays as views over their bytes.
 
-ghost use Rattle.std.specs.Prelude.{◌≡◌, ◌↔◌, [], IsTrue, List, Result, Option, drop, Some, None};
+ghost use Rattle.std.specs.Prelude.{◌≡◌, ◌↔◌, [], IsTrue, List, Result, drop, Some, None};
 ghost use Rattle.std.specs.Iterator.{Drains};
 ghost use Rattle.std.specs.Fmt.{decimal};
-ghost use Rattle.bson_frame.specs.Frame.{Element};
 ghost use Rattle.bson_frame.specs.declared.error.Error.{Error as Fault};
-ghost use Rattle.bson_frame.specs.declared.error.ErrorKind.{ErrorKind as Kind};
 
 use crate::access;
 use crate::access::Asked;
@@ -31,7 +29,7 @@ impl<'a> RawArray<'a> {
     ghost use Rattle.bson_raw.specs.Read.{GetAnswer, IsItemRead, value_steps};
     ghost use Rattle.bson_raw.specs.ReadValue.{as_f64, as_str, as_document, as_array, as_binary, as_object_id, as_bool, as_datetime, as_regex, as_timestamp, as_i32, as_i64};
     ghost use Rattle.bson_raw.specs.View.{array_bytes, values_left};
-    ghost use Rattle.bson_raw.specs.Walk.{IsDocumentWalk, YieldsWalk, IsFound, found_at};
+    ghost use Rattle.bson_raw.specs.Walk.{IsDocumentWalk, YieldsWalk, IsFound, found_at, OnWalk};
     ghost use Rattle.bson_raw.specs.declared.bson_ref.RawBsonRef.{RawBsonRef as AnyValue};
 
     /// The bytes.
@@ -63,8 +61,7 @@ impl<'a> RawArray<'a> {
 
     /// The item of the walk at the place, counted from 0, whatever its key. A fault counts as an item.
     fn item_at(self, index: usize) -> Option<Result<RawElement<'a>, Error>>
-        ensures { (elements : List Element) (fault : Option Kind) → IsDocumentWalk (array_bytes self.entry) elements fault
-            → IsFound (found_at index elements fault) result }
+        ensures { OnWalk (array_bytes self.entry) (λ elements fault. IsFound (found_at index elements fault) result) }
     {
         bson_frame::laws::one_first_frame();
         bson_frame::laws::one_structural_fault();
@@ -74,8 +71,7 @@ impl<'a> RawArray<'a> {
     /// The value at the place, counted from 0, whatever its key, or the fault there; none past the end. Memory is taken for
     /// the key of a payload fault alone.
     pub fn get(self, alloc: Global, index: usize) -> Result<Option<RawBsonRef<'a>>, Error>
-        ensures { (elements : List Element) (fault : Option Kind) → IsDocumentWalk (array_bytes self.entry) elements fault
-            → GetAnswer (found_at index elements fault) result }
+        ensures { OnWalk (array_bytes self.entry) (λ elements fault. GetAnswer (found_at index elements fault) result) }
     {
         access::read(alloc, self.item_at(index))
     }
@@ -85,8 +81,7 @@ impl<'a> RawArray<'a> {
     /// `NotPresent` past the end, `UnexpectedType` where a value of another kind stands, `InvalidBson` where `get` answers a
     /// fault. Memory is taken for an error alone.
     pub fn get_f64(self, alloc: Global, index: usize) -> ValueAccessResult<DoubleBits>
-        ensures { (elements : List Element) (fault : Option Kind) → IsDocumentWalk (array_bytes self.entry) elements fault
-            → AccessAnswer as_f64 (decimal index) (found_at index elements fault) result }
+        ensures { OnWalk (array_bytes self.entry) (λ elements fault. AccessAnswer as_f64 (decimal index) (found_at index elements fault) result) }
     {
         access::take_f64(alloc, Asked::Place(index), self.get(alloc, index))
     }
@@ -96,8 +91,7 @@ impl<'a> RawArray<'a> {
     /// `NotPresent` past the end, `UnexpectedType` where a value of another kind stands, `InvalidBson` where `get` answers a
     /// fault. Memory is taken for an error alone.
     pub fn get_str(self, alloc: Global, index: usize) -> ValueAccessResult<&'a str>
-        ensures { (elements : List Element) (fault : Option Kind) → IsDocumentWalk (array_bytes self.entry) elements fault
-            → AccessAnswer as_str (decimal index) (found_at index elements fault) result }
+        ensures { OnWalk (array_bytes self.entry) (λ elements fault. AccessAnswer as_str (decimal index) (found_at index elements fault) result) }
     {
         access::take_str(alloc, Asked::Place(index), self.get(alloc, index))
     }
@@ -107,8 +101,7 @@ impl<'a> RawArray<'a> {
     /// `NotPresent` past the end, `UnexpectedType` where a value of another kind stands, `InvalidBson` where `get` answers a
     /// fault. Memory is taken for an error alone.
     pub fn get_document(self, alloc: Global, index: usize) -> ValueAccessResult<RawDocument<'a>>
-        ensures { (elements : List Element) (fault : Option Kind) → IsDocumentWalk (array_bytes self.entry) elements fault
-            → AccessAnswer as_document (decimal index) (found_at index elements fault) result }
+        ensures { OnWalk (array_bytes self.entry) (λ elements fault. AccessAnswer as_document (decimal index) (found_at index elements fault) result) }
     {
         access::take_document(alloc, Asked::Place(index), self.get(alloc, index))
     }
@@ -118,8 +111,7 @@ impl<'a> RawArray<'a> {
     /// `NotPresent` past the end, `UnexpectedType` where a value of another kind stands, `InvalidBson` where `get` answers a
     /// fault. Memory is taken for an error alone.
     pub fn get_array(self, alloc: Global, index: usize) -> ValueAccessResult<RawArray<'a>>
-        ensures { (elements : List Element) (fault : Option Kind) → IsDocumentWalk (array_bytes self.entry) elements fault
-            → AccessAnswer as_array (decimal index) (found_at index elements fault) result }
+        ensures { OnWalk (array_bytes self.entry) (λ elements fault. AccessAnswer as_array (decimal index) (found_at index elements fault) result) }
     {
         access::take_array(alloc, Asked::Place(index), self.get(alloc, index))
     }
@@ -129,8 +121,7 @@ impl<'a> RawArray<'a> {
     /// `NotPresent` past the end, `UnexpectedType` where a value of another kind stands, `InvalidBson` where `get` answers a
     /// fault. Memory is taken for an error alone.
     pub fn get_binary(self, alloc: Global, index: usize) -> ValueAccessResult<RawBinaryRef<'a>>
-        ensures { (elements : List Element) (fault : Option Kind) → IsDocumentWalk (array_bytes self.entry) elements fault
-            → AccessAnswer as_binary (decimal index) (found_at index elements fault) result }
+        ensures { OnWalk (array_bytes self.entry) (λ elements fault. AccessAnswer as_binary (decimal index) (found_at index elements fault) result) }
     {
         access::take_binary(alloc, Asked::Place(index), self.get(alloc, index))
     }
@@ -140,8 +131,7 @@ impl<'a> RawArray<'a> {
     /// `NotPresent` past the end, `UnexpectedType` where a value of another kind stands, `InvalidBson` where `get` answers a
     /// fault. Memory is taken for an error alone.
     pub fn get_object_id(self, alloc: Global, index: usize) -> ValueAccessResult<ObjectId>
-        ensures { (elements : List Element) (fault : Option Kind) → IsDocumentWalk (array_bytes self.entry) elements fault
-            → AccessAnswer as_object_id (decimal index) (found_at index elements fault) result }
+        ensures { OnWalk (array_bytes self.entry) (λ elements fault. AccessAnswer as_object_id (decimal index) (found_at index elements fault) result) }
     {
         access::take_object_id(alloc, Asked::Place(index), self.get(alloc, index))
     }
@@ -151,8 +141,7 @@ impl<'a> RawArray<'a> {
     /// `NotPresent` past the end, `UnexpectedType` where a value of another kind stands, `InvalidBson` where `get` answers a
     /// fault. Memory is taken for an error alone.
     pub fn get_bool(self, alloc: Global, index: usize) -> ValueAccessResult<bool>
-        ensures { (elements : List Element) (fault : Option Kind) → IsDocumentWalk (array_bytes self.entry) elements fault
-            → AccessAnswer as_bool (decimal index) (found_at index elements fault) result }
+        ensures { OnWalk (array_bytes self.entry) (λ elements fault. AccessAnswer as_bool (decimal index) (found_at index elements fault) result) }
     {
         access::take_bool(alloc, Asked::Place(index), self.get(alloc, index))
     }
@@ -162,8 +151,7 @@ impl<'a> RawArray<'a> {
     /// `NotPresent` past the end, `UnexpectedType` where a value of another kind stands, `InvalidBson` where `get` answers a
     /// fault. Memory is taken for an error alone.
     pub fn get_datetime(self, alloc: Global, index: usize) -> ValueAccessResult<DateTime>
-        ensures { (elements : List Element) (fault : Option Kind) → IsDocumentWalk (array_bytes self.entry) elements fault
-            → AccessAnswer as_datetime (decimal index) (found_at index elements fault) result }
+        ensures { OnWalk (array_bytes self.entry) (λ elements fault. AccessAnswer as_datetime (decimal index) (found_at index elements fault) result) }
     {
         access::take_datetime(alloc, Asked::Place(index), self.get(alloc, index))
     }
@@ -173,8 +161,7 @@ impl<'a> RawArray<'a> {
     /// `NotPresent` past the end, `UnexpectedType` where a value of another kind stands, `InvalidBson` where `get` answers a
     /// fault. Memory is taken for an error alone.
     pub fn get_regex(self, alloc: Global, index: usize) -> ValueAccessResult<RawRegexRef<'a>>
-        ensures { (elements : List Element) (fault : Option Kind) → IsDocumentWalk (array_bytes self.entry) elements fault
-            → AccessAnswer as_regex (decimal index) (found_at index elements fault) result }
+        ensures { OnWalk (array_bytes self.entry) (λ elements fault. AccessAnswer as_regex (decimal index) (found_at index elements fault) result) }
     {
         access::take_regex(alloc, Asked::Place(index), self.get(alloc, index))
     }
@@ -184,8 +171,7 @@ impl<'a> RawArray<'a> {
     /// `NotPresent` past the end, `UnexpectedType` where a value of another kind stands, `InvalidBson` where `get` answers a
     /// fault. Memory is taken for an error alone.
     pub fn get_timestamp(self, alloc: Global, index: usize) -> ValueAccessResult<Timestamp>
-        ensures { (elements : List Element) (fault : Option Kind) → IsDocumentWalk (array_bytes self.entry) elements fault
-            → AccessAnswer as_timestamp (decimal index) (found_at index elements fault) result }
+        ensures { OnWalk (array_bytes self.entry) (λ elements fault. AccessAnswer as_timestamp (decimal index) (found_at index elements fault) result) }
     {
         access::take_timestamp(alloc, Asked::Place(index), self.get(alloc, index))
     }
@@ -195,8 +181,7 @@ impl<'a> RawArray<'a> {
     /// `NotPresent` past the end, `UnexpectedType` where a value of another kind stands, `InvalidBson` where `get` answers a
     /// fault. Memory is taken for an error alone.
     pub fn get_i32(self, alloc: Global, index: usize) -> ValueAccessResult<i32>
-        ensures { (elements : List Element) (fault : Option Kind) → IsDocumentWalk (array_bytes self.entry) elements fault
-            → AccessAnswer as_i32 (decimal index) (found_at index elements fault) result }
+        ensures { OnWalk (array_bytes self.entry) (λ elements fault. AccessAnswer as_i32 (decimal index) (found_at index elements fault) result) }
     {
         access::take_i32(alloc, Asked::Place(index), self.get(alloc, index))
     }
@@ -206,8 +191,7 @@ impl<'a> RawArray<'a> {
     /// `NotPresent` past the end, `UnexpectedType` where a value of another kind stands, `InvalidBson` where `get` answers a
     /// fault. Memory is taken for an error alone.
     pub fn get_i64(self, alloc: Global, index: usize) -> ValueAccessResult<i64>
-        ensures { (elements : List Element) (fault : Option Kind) → IsDocumentWalk (array_bytes self.entry) elements fault
-            → AccessAnswer as_i64 (decimal index) (found_at index elements fault) result }
+        ensures { OnWalk (array_bytes self.entry) (λ elements fault. AccessAnswer as_i64 (decimal index) (found_at index elements fault) result) }
     {
         access::take_i64(alloc, Asked::Place(index), self.get(alloc, index))
     }

@@ -1,11 +1,9 @@
 //! Documents as views over their bytes.
 
-ghost use Rattle.std.specs.Prelude.{◌≡◌, ◌↔◌, [], IsTrue, MatchResult, List, Result, Option, drop, Some, None};
+ghost use Rattle.std.specs.Prelude.{◌≡◌, ◌↔◌, [], IsTrue, MatchResult, List, Result, drop, Some, None};
 ghost use Rattle.std.specs.Iterator.{Drains};
 ghost use Rattle.bson_frame.specs.Payload.{IsEnvelope};
-ghost use Rattle.bson_frame.specs.Frame.{Element};
 ghost use Rattle.bson_frame.specs.declared.error.Error.{Error as Fault};
-ghost use Rattle.bson_frame.specs.declared.error.ErrorKind.{ErrorKind as Kind};
 ghost use Rattle.bson_frame.specs.declared.error.ErrorKind.TheVariants.{MalformedValue};
 
 use crate::access;
@@ -35,7 +33,7 @@ impl<'a> RawDocument<'a> {
     ghost use Rattle.bson_raw.specs.Read.{GetAnswer, IsPairRead, pair_steps};
     ghost use Rattle.bson_raw.specs.ReadValue.{as_f64, as_str, as_document, as_array, as_binary, as_object_id, as_bool, as_datetime, as_regex, as_timestamp, as_i32, as_i64};
     ghost use Rattle.bson_raw.specs.View.{bytes_of, left_of, pairs_left};
-    ghost use Rattle.bson_raw.specs.Walk.{IsDocumentWalk, YieldsWalk, IsItem, IsFound, found_under, raw_steps};
+    ghost use Rattle.bson_raw.specs.Walk.{IsDocumentWalk, YieldsWalk, IsItem, IsFound, found_under, raw_steps, OnWalk};
     ghost use Rattle.bson_raw.specs.declared.bson_ref.RawBsonRef.{RawBsonRef as AnyValue};
     ghost use Rattle.bson_raw.specs.declared.element.RawElement.{RawElement as Item};
     ghost use Rattle.std.specs.Borrow.{Bor};
@@ -93,8 +91,7 @@ impl<'a> RawDocument<'a> {
 
     /// The first element with the key, or the structural fault before it.
     pub(crate) fn find(self, key: &str) -> Option<Result<RawElement<'a>, Error>>
-        ensures { (elements : List Element) (fault : Option Kind) → IsDocumentWalk (bytes_of self.entry) elements fault
-            → IsFound (found_under key.now elements fault) result }
+        ensures { OnWalk (bytes_of self.entry) (λ elements fault. IsFound (found_under key.now elements fault) result) }
     {
         bson_frame::laws::one_first_frame();
         bson_frame::laws::one_structural_fault();
@@ -114,8 +111,7 @@ impl<'a> RawDocument<'a> {
     /// The value of the first element with the key, or its payload fault, or the structural fault before it. Memory is taken
     /// for the key of a payload fault alone.
     pub fn get(self, alloc: Global, key: &str) -> Result<Option<RawBsonRef<'a>>, Error>
-        ensures { (elements : List Element) (fault : Option Kind) → IsDocumentWalk (bytes_of self.entry) elements fault
-            → GetAnswer (found_under key.now elements fault) result }
+        ensures { OnWalk (bytes_of self.entry) (λ elements fault. GetAnswer (found_under key.now elements fault) result) }
     {
         access::read(alloc, self.find(key))
     }
@@ -125,8 +121,7 @@ impl<'a> RawDocument<'a> {
     /// `NotPresent` where no element has the key, `UnexpectedType` where the first one has a value of another kind, `InvalidBson`
     /// where `get` answers a fault. Memory is taken for an error alone.
     pub fn get_f64(self, alloc: Global, key: &str) -> ValueAccessResult<DoubleBits>
-        ensures { (elements : List Element) (fault : Option Kind) → IsDocumentWalk (bytes_of self.entry) elements fault
-            → AccessAnswer as_f64 key.now (found_under key.now elements fault) result }
+        ensures { OnWalk (bytes_of self.entry) (λ elements fault. AccessAnswer as_f64 key.now (found_under key.now elements fault) result) }
     {
         access::take_f64(alloc, Asked::Key(key), self.get(alloc, key))
     }
@@ -136,8 +131,7 @@ impl<'a> RawDocument<'a> {
     /// `NotPresent` where no element has the key, `UnexpectedType` where the first one has a value of another kind, `InvalidBson`
     /// where `get` answers a fault. Memory is taken for an error alone.
     pub fn get_str(self, alloc: Global, key: &str) -> ValueAccessResult<&'a str>
-        ensures { (elements : List Element) (fault : Option Kind) → IsDocumentWalk (bytes_of self.entry) elements fault
-            → AccessAnswer as_str key.now (found_under key.now elements fault) result }
+        ensures { OnWalk (bytes_of self.entry) (λ elements fault. AccessAnswer as_str key.now (found_under key.now elements fault) result) }
     {
         access::take_str(alloc, Asked::Key(key), self.get(alloc, key))
     }
@@ -147,8 +141,7 @@ impl<'a> RawDocument<'a> {
     /// `NotPresent` where no element has the key, `UnexpectedType` where the first one has a value of another kind, `InvalidBson`
     /// where `get` answers a fault. Memory is taken for an error alone.
     pub fn get_document(self, alloc: Global, key: &str) -> ValueAccessResult<RawDocument<'a>>
-        ensures { (elements : List Element) (fault : Option Kind) → IsDocumentWalk (bytes_of self.entry) elements fault
-            → AccessAnswer as_document key.now (found_under key.now elements fault) result }
+        ensures { OnWalk (bytes_of self.entry) (λ elements fault. AccessAnswer as_document key.now (found_under key.now elements fault) result) }
     {
         access::take_document(alloc, Asked::Key(key), self.get(alloc, key))
     }
@@ -158,8 +151,7 @@ impl<'a> RawDocument<'a> {
     /// `NotPresent` where no element has the key, `UnexpectedType` where the first one has a value of another kind, `InvalidBson`
     /// where `get` answers a fault. Memory is taken for an error alone.
     pub fn get_array(self, alloc: Global, key: &str) -> ValueAccessResult<RawArray<'a>>
-        ensures { (elements : List Element) (fault : Option Kind) → IsDocumentWalk (bytes_of self.entry) elements fault
-            → AccessAnswer as_array key.now (found_under key.now elements fault) result }
+        ensures { OnWalk (bytes_of self.entry) (λ elements fault. AccessAnswer as_array key.now (found_under key.now elements fault) result) }
     {
         access::take_array(alloc, Asked::Key(key), self.get(alloc, key))
     }
@@ -169,8 +161,7 @@ impl<'a> RawDocument<'a> {
     /// `NotPresent` where no element has the key, `UnexpectedType` where the first one has a value of another kind, `InvalidBson`
     /// where `get` answers a fault. Memory is taken for an error alone.
     pub fn get_binary(self, alloc: Global, key: &str) -> ValueAccessResult<RawBinaryRef<'a>>
-        ensures { (elements : List Element) (fault : Option Kind) → IsDocumentWalk (bytes_of self.entry) elements fault
-            → AccessAnswer as_binary key.now (found_under key.now elements fault) result }
+        ensures { OnWalk (bytes_of self.entry) (λ elements fault. AccessAnswer as_binary key.now (found_under key.now elements fault) result) }
     {
         access::take_binary(alloc, Asked::Key(key), self.get(alloc, key))
     }
@@ -180,8 +171,7 @@ impl<'a> RawDocument<'a> {
     /// `NotPresent` where no element has the key, `UnexpectedType` where the first one has a value of another kind, `InvalidBson`
     /// where `get` answers a fault. Memory is taken for an error alone.
     pub fn get_object_id(self, alloc: Global, key: &str) -> ValueAccessResult<ObjectId>
-        ensures { (elements : List Element) (fault : Option Kind) → IsDocumentWalk (bytes_of self.entry) elements fault
-            → AccessAnswer as_object_id key.now (found_under key.now elements fault) result }
+        ensures { OnWalk (bytes_of self.entry) (λ elements fault. AccessAnswer as_object_id key.now (found_under key.now elements fault) result) }
     {
         access::take_object_id(alloc, Asked::Key(key), self.get(alloc, key))
     }
@@ -191,8 +181,7 @@ impl<'a> RawDocument<'a> {
     /// `NotPresent` where no element has the key, `UnexpectedType` where the first one has a value of another kind, `InvalidBson`
     /// where `get` answers a fault. Memory is taken for an error alone.
     pub fn get_bool(self, alloc: Global, key: &str) -> ValueAccessResult<bool>
-        ensures { (elements : List Element) (fault : Option Kind) → IsDocumentWalk (bytes_of self.entry) elements fault
-            → AccessAnswer as_bool key.now (found_under key.now elements fault) result }
+        ensures { OnWalk (bytes_of self.entry) (λ elements fault. AccessAnswer as_bool key.now (found_under key.now elements fault) result) }
     {
         access::take_bool(alloc, Asked::Key(key), self.get(alloc, key))
     }
@@ -202,8 +191,7 @@ impl<'a> RawDocument<'a> {
     /// `NotPresent` where no element has the key, `UnexpectedType` where the first one has a value of another kind, `InvalidBson`
     /// where `get` answers a fault. Memory is taken for an error alone.
     pub fn get_datetime(self, alloc: Global, key: &str) -> ValueAccessResult<DateTime>
-        ensures { (elements : List Element) (fault : Option Kind) → IsDocumentWalk (bytes_of self.entry) elements fault
-            → AccessAnswer as_datetime key.now (found_under key.now elements fault) result }
+        ensures { OnWalk (bytes_of self.entry) (λ elements fault. AccessAnswer as_datetime key.now (found_under key.now elements fault) result) }
     {
         access::take_datetime(alloc, Asked::Key(key), self.get(alloc, key))
     }
@@ -213,8 +201,7 @@ impl<'a> RawDocument<'a> {
     /// `NotPresent` where no element has the key, `UnexpectedType` where the first one has a value of another kind, `InvalidBson`
     /// where `get` answers a fault. Memory is taken for an error alone.
     pub fn get_regex(self, alloc: Global, key: &str) -> ValueAccessResult<RawRegexRef<'a>>
-        ensures { (elements : List Element) (fault : Option Kind) → IsDocumentWalk (bytes_of self.entry) elements fault
-            → AccessAnswer as_regex key.now (found_under key.now elements fault) result }
+        ensures { OnWalk (bytes_of self.entry) (λ elements fault. AccessAnswer as_regex key.now (found_under key.now elements fault) result) }
     {
         access::take_regex(alloc, Asked::Key(key), self.get(alloc, key))
     }
@@ -224,8 +211,7 @@ impl<'a> RawDocument<'a> {
     /// `NotPresent` where no element has the key, `UnexpectedType` where the first one has a value of another kind, `InvalidBson`
     /// where `get` answers a fault. Memory is taken for an error alone.
     pub fn get_timestamp(self, alloc: Global, key: &str) -> ValueAccessResult<Timestamp>
-        ensures { (elements : List Element) (fault : Option Kind) → IsDocumentWalk (bytes_of self.entry) elements fault
-            → AccessAnswer as_timestamp key.now (found_under key.now elements fault) result }
+        ensures { OnWalk (bytes_of self.entry) (λ elements fault. AccessAnswer as_timestamp key.now (found_under key.now elements fault) result) }
     {
         access::take_timestamp(alloc, Asked::Key(key), self.get(alloc, key))
     }
@@ -235,8 +221,7 @@ impl<'a> RawDocument<'a> {
     /// `NotPresent` where no element has the key, `UnexpectedType` where the first one has a value of another kind, `InvalidBson`
     /// where `get` answers a fault. Memory is taken for an error alone.
     pub fn get_i32(self, alloc: Global, key: &str) -> ValueAccessResult<i32>
-        ensures { (elements : List Element) (fault : Option Kind) → IsDocumentWalk (bytes_of self.entry) elements fault
-            → AccessAnswer as_i32 key.now (found_under key.now elements fault) result }
+        ensures { OnWalk (bytes_of self.entry) (λ elements fault. AccessAnswer as_i32 key.now (found_under key.now elements fault) result) }
     {
         access::take_i32(alloc, Asked::Key(key), self.get(alloc, key))
     }
@@ -246,8 +231,7 @@ impl<'a> RawDocument<'a> {
     /// `NotPresent` where no element has the key, `UnexpectedType` where the first one has a value of another kind, `InvalidBson`
     /// where `get` answers a fault. Memory is taken for an error alone.
     pub fn get_i64(self, alloc: Global, key: &str) -> ValueAccessResult<i64>
-        ensures { (elements : List Element) (fault : Option Kind) → IsDocumentWalk (bytes_of self.entry) elements fault
-            → AccessAnswer as_i64 key.now (found_under key.now elements fault) result }
+        ensures { OnWalk (bytes_of self.entry) (λ elements fault. AccessAnswer as_i64 key.now (found_under key.now elements fault) result) }
     {
         access::take_i64(alloc, Asked::Key(key), self.get(alloc, key))
     }
@@ -257,7 +241,7 @@ impl<'a> RawDocument<'a> {
 impl RawDocument<'_> {
     ghost use Rattle.std.specs.Prelude.{IfErr};
     ghost use Rattle.bson_bytes.specs.Spells.{Means, IsFaulty};
-    ghost use Rattle.bson_model.specs.View.{members_of, pairs_of};
+    ghost use Rattle.bson_model.specs.View.{content};
     ghost use Rattle.bson_raw.specs.Convert.{HasFault, TellsFault};
     ghost use Rattle.bson_raw.specs.View.{bytes_of};
 
@@ -269,7 +253,7 @@ impl RawDocument<'_> {
     /// bytes begin with no element. `OutOfMemory`, under no key, where a growth was refused, and where over 1000 documents, arrays
     /// and scopes lie inside each other, this one among them: the stack is memory too, and the call goes no deeper.
     pub fn to_document(self, alloc: Global) -> Result<Document, Error>
-        ensures tree { MatchResult result (λ d. Means (bytes_of self.entry) (members_of (pairs_of d)))
+        ensures tree { MatchResult result (λ d. Means (bytes_of self.entry) (content d))
             (TellsFault (HasFault (drop 4 (bytes_of self.entry)))) }
         ensures none { IfErr result (TellsFault (λ _ _. IsFaulty (bytes_of self.entry))) }
     {

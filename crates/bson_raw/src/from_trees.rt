@@ -4,7 +4,7 @@ ghost use Rattle.std.specs.Prelude.{◌≡◌, IfOk, IfErr, OnOk, MatchResult, d
 ghost use Rattle.bson_bytes.specs.Encode.{encode};
 ghost use Rattle.bson_bytes.specs.Writing.{CanBeWritten, IsWriteRefusal};
 ghost use Rattle.bson_bytes.specs.Spells.{Means, IsFaulty};
-ghost use Rattle.bson_model.specs.View.{view, pairs_of, members_of};
+ghost use Rattle.bson_model.specs.View.{view, content};
 ghost use Rattle.bson_model.specs.Trees.{document_tree};
 ghost use Rattle.bson_raw.specs.Buffer.{buffer_bytes};
 ghost use Rattle.bson_raw.specs.Convert.{HasFault, TellsFault};
@@ -26,7 +26,7 @@ impl RawDocumentBuf {
     /// `MalformedValue`, under no key, where a 00 stands in a key, a pattern or options, and where the bytes would be over
     /// 2147483647; `OutOfMemory` where a growth is refused.
     pub fn from_document(alloc: Global, document: &Document) -> Result<RawDocumentBuf, Error>
-        ensures ok { IfOk result (λ d. buffer_bytes d ≡ encode (members_of (pairs_of document.now))) }
+        ensures ok { IfOk result (λ d. buffer_bytes d ≡ encode (content document.now)) }
         ensures fits { OnOk result (CanBeWritten (document_tree document.now)) }
         ensures refused { IfErr result (IsWriteRefusal (CanBeWritten (document_tree document.now) → ⊥)) }
     {
@@ -36,7 +36,7 @@ impl RawDocumentBuf {
 
     /// The document that the bytes mean, as `RawDocument::to_document` gives it, and its errors.
     pub fn to_document(&self) -> Result<Document, Error>
-        ensures tree { MatchResult result (λ d. Means (buffer_bytes self.now) (members_of (pairs_of d)))
+        ensures tree { MatchResult result (λ d. Means (buffer_bytes self.now) (content d))
             (TellsFault (HasFault (drop 4 (buffer_bytes self.now)))) }
         ensures none { IfErr result (TellsFault (λ _ _. IsFaulty (buffer_bytes self.now))) }
     {

@@ -6,7 +6,7 @@ ghost use Rattle.std.specs.List.{All};
 ghost use Rattle.bson_frame.specs.Frame.{Element};
 ghost use Rattle.bson_frame.specs.declared.error.Error.{Error as Fault};
 ghost use Rattle.bson_frame.specs.declared.error.ErrorKind.{ErrorKind as Kind};
-ghost use Rattle.bson_raw.specs.Walk.{IsWalk, IsDocumentWalk, walk_items, raw_steps, items_left};
+ghost use Rattle.bson_raw.specs.Walk.{IsWalk, IsDocumentWalk, walk_items, raw_steps, items_left, OnWalk};
 ghost use Rattle.bson_raw.specs.View.{left_of, pairs_left, parts_of, values_left};
 ghost use Rattle.bson_raw.specs.Convert.{HasFault};
 ghost use Rattle.bson_raw.specs.Read.{pair_steps, value_steps};
@@ -45,8 +45,7 @@ pub fn one_walk()
 
 /// A document of n bytes has at most (n - 4) / 2 elements.
 pub fn at_most_half()
-    ensures { (bytes : List ℕ) (elements : List Element) (fault : Option Kind) → IsDocumentWalk bytes elements fault
-        → length elements ≤ (length bytes - 4) / 2 }
+    ensures { (bytes : List ℕ) → OnWalk bytes (λ elements fault. length elements ≤ (length bytes - 4) / 2) }
 {}
 
 /// A structural fault is the last item of a walk, so there is at most one.
@@ -58,8 +57,7 @@ pub fn fault_comes_last()
 
 /// A document yields nothing exactly where it is empty.
 pub fn empty_yields_nothing()
-    ensures { (bytes : List ℕ) (elements : List Element) (fault : Option Kind) → IsDocumentWalk bytes elements fault
-        → (IsDocumentWalk bytes [] None ↔ (walk_items elements fault ≡ [])) }
+    ensures { (bytes : List ℕ) → OnWalk bytes (λ elements fault. (IsDocumentWalk bytes [] None ↔ (walk_items elements fault ≡ []))) }
 {}
 
 /// The iterator over elements ends: it yields no more items than are left.

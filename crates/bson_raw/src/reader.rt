@@ -1,6 +1,7 @@
 //! One document from a reader.
 
-ghost use Rattle.std.specs.Prelude.{◌≡◌, ◌<◌, ◌≤◌, ◌^◌, ◌-◌, length, MatchResult};
+ghost use Rattle.std.specs.Prelude.{◌≡◌, ◌≤◌, length, MatchResult};
+ghost use Rattle.bson_base.specs.Device.{CanFail};
 ghost use Rattle.bson_frame.specs.Frame.{number};
 ghost use Rattle.bson_raw.specs.Input.{IsInputLength, IsConversionRefusal, ReadsDocument, ReadsHead, ReadsRest, TakesDeclared, ReadsDeclared};
 ghost use Rattle.bson_raw.specs.declared.read_error.ReadError.TheVariants.{BadLength};
@@ -14,7 +15,7 @@ use std::alloc::Global;
 
 /// The first four bytes.
 fn read_head<R: Source>(reader: &mut R) -> Result<[u8; 4], ReadError>
-    requires { (R.feed reader.old).failures < 2 ^ 64 - 1 }
+    requires { CanFail (R.feed reader.old) }
     ensures { ReadsHead (R.feed reader.old)
         (R.feed reader.new) result }
 {
@@ -52,7 +53,7 @@ fn read_rest<R: Source>(
     head: [u8; 4],
     declared: usize,
 ) -> Result<Vec<u8>, ReadError>
-    requires failures { (R.feed reader.old).failures < 2 ^ 64 - 1 }
+    requires failures { CanFail (R.feed reader.old) }
     requires declared { 4 ≤ declared }
     ensures { ReadsRest (R.feed reader.old)
         (R.feed reader.new) head declared result }
@@ -73,7 +74,7 @@ fn read_rest<R: Source>(
 
 /// The bytes of one document.
 fn read_bytes<R: Source>(alloc: Global, reader: &mut R) -> Result<Vec<u8>, ReadError>
-    requires { (R.feed reader.old).failures < 2 ^ 64 - 1 }
+    requires { CanFail (R.feed reader.old) }
     ensures { TakesDeclared (R.feed reader.old)
         (R.feed reader.new) result }
 {
@@ -115,7 +116,7 @@ fn document_in(alloc: Global, bytes: &[u8]) -> Result<Document, ReadError>
 /// `to_document` tells; `Memory` where a growth was refused, and where over 1000 levels lie inside each other, which took as many as
 /// are declared.
 pub fn from_reader<R: Source>(alloc: Global, reader: &mut R) -> Result<Document, ReadError>
-    requires { (R.feed reader.old).failures < 2 ^ 64 - 1 }
+    requires { CanFail (R.feed reader.old) }
     ensures { ReadsDocument (R.feed reader.old)
         (R.feed reader.new) result }
 {

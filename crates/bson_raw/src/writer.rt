@@ -1,7 +1,7 @@
 //! Documents that are written to devices.
 
-ghost use Rattle.std.specs.Prelude.{◌<◌, ◌-◌, ◌^◌};
-ghost use Rattle.bson_model.specs.View.{pairs_of, members_of};
+ghost use Rattle.bson_base.specs.Device.{CanRefuse};
+ghost use Rattle.bson_model.specs.View.{content};
 ghost use Rattle.bson_raw.specs.Trees.{SendsDocument};
 
 use crate::write_error::WriteError;
@@ -20,8 +20,8 @@ pub fn to_writer<W: Sink>(
     document: &Document,
     writer: &mut W,
 ) -> Result<(), WriteError>
-    requires { (W.tally writer.old).failures < 2 ^ 64 - 1 }
-    ensures { SendsDocument (members_of (pairs_of document.now)) (W.tally writer.old) (W.tally writer.new) result }
+    requires { CanRefuse (W.tally writer.old) }
+    ensures { SendsDocument (content document.now) (W.tally writer.old) (W.tally writer.new) result }
 {
     match encode_document(alloc, document) {
         Ok(bytes) => match write_all(writer, &bytes) {

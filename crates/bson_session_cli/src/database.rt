@@ -1,6 +1,6 @@
 //! A session over a database file.
 
-ghost use Rattle.std.specs.Prelude.{◌<◌, ◌^◌, ◌-◌};
+ghost use Rattle.bson_base.specs.Device.{CanFail, CanRefuse};
 
 use bson_store::{ErrorKind, Sink, Source, Store};
 use sqlite::{Alter, Connection, File, FileStore};
@@ -12,7 +12,7 @@ use store_words::{UsageError, write_complaint, write_refusal};
 
 /// Tells a refusal, and answers the status of one.
 fn refuse<F: Sink>(faults: &mut F, kind: ErrorKind) -> u8
-    requires { (F.tally faults.old).failures < 2 ^ 64 - 1 }
+    requires { CanRefuse (F.tally faults.old) }
 {
     let _ = write_refusal(faults, kind, None);
     1
@@ -20,7 +20,7 @@ fn refuse<F: Sink>(faults: &mut F, kind: ErrorKind) -> u8
 
 /// Tells that there isn't just one word, and answers the status of that.
 pub fn misuse<F: Sink>(faults: &mut F) -> u8
-    requires { (F.tally faults.old).failures < 2 ^ 64 - 1 }
+    requires { CanRefuse (F.tally faults.old) }
 {
     let _ = write_complaint(faults, UsageError::Usage);
     2
@@ -28,7 +28,7 @@ pub fn misuse<F: Sink>(faults: &mut F) -> u8
 
 /// What is told where the words can't be had: want of memory, or that some word is no text.
 pub fn unread<F: Sink>(error: io::Error, faults: &mut F) -> u8
-    requires { (F.tally faults.old).failures < 2 ^ 64 - 1 }
+    requires { CanRefuse (F.tally faults.old) }
 {
     match error.kind() {
         io::ErrorKind::OutOfMemory => refuse(faults, ErrorKind::Memory),
@@ -50,8 +50,8 @@ fn over<S: Alter + Drop, I: Source, O: Sink>(
     input: &mut I,
     output: &mut O,
 ) -> (Result<(), ErrorKind>, Connection<S>)
-    requires input { (I.feed input.old).failures < 2 ^ 64 - 1 }
-    requires output { (O.tally output.old).failures < 2 ^ 64 - 1 }
+    requires input { CanFail (I.feed input.old) }
+    requires output { CanRefuse (O.tally output.old) }
 {
     match Store::open(alloc, connection) {
         Ok(mut store) => {
@@ -70,9 +70,9 @@ pub fn hold<I: Source, O: Sink, F: Sink>(
     output: &mut O,
     faults: &mut F,
 ) -> u8
-    requires input { (I.feed input.old).failures < 2 ^ 64 - 1 }
-    requires output { (O.tally output.old).failures < 2 ^ 64 - 1 }
-    requires faults { (F.tally faults.old).failures < 2 ^ 64 - 1 }
+    requires input { CanFail (I.feed input.old) }
+    requires output { CanRefuse (O.tally output.old) }
+    requires faults { CanRefuse (F.tally faults.old) }
 {
     match open(rt, file) {
         Ok(connection) => {

@@ -4,7 +4,7 @@ use Rattle.std.specs.List.{find}
 use Rattle.serde_json.specs.Data.{Data}
 use Rattle.bson_base.specs.Value.{Value, Members}
 use Rattle.bson_table.specs.Rows.{TableRow, is_row_named}
-use Rattle.bson_table.specs.Moves.{parts_of_found, parts_of_row}
+use Rattle.bson_table.specs.Moves.{parts_of_found, parts_of_row, Moves}
 use Rattle.bson_table.specs.declared.row.Found.{Found}
 use Rattle.store_laws.specs.Reading.{Reading, ReadsBytes, ReadsTree, readable}
 use Rattle.store_laws.specs.State as model
@@ -25,6 +25,10 @@ store_connection s = table_connection s.table
 
 abbrev pub store_state : {S : Type 0} → Ghosts S → Store S → State
 store_state g s = table_state g s.table
+
+-- the rows of a store before a call and behind it are related so
+abbrev pub Relates : {S : Type 0} → Ghosts S → Store S → Store S → (List TableRow → List TableRow → Type 0) → Type 0
+Relates g old new P = Moves (store_state g old) (store_state g new) P
 
 -- whatever table the rows showed, they show one now that the command took it to
 abbrev pub Does : model.Command → model.Reply → List TableRow → List TableRow → Type 0

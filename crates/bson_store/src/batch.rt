@@ -2,7 +2,7 @@
 
 ghost use Rattle.std.specs.Prelude.{◌≡◌, IfOk, OnErr};
 ghost use Rattle.bson_table.specs.Moves.{Moves};
-ghost use Rattle.bson_store.specs.Calls.{store_state};
+ghost use Rattle.bson_store.specs.Calls.{store_state, Relates};
 ghost use Rattle.bson_store.specs.Questions.{as_list, as_names};
 ghost use Rattle.bson_store.specs.Refusals.{reply_by, as_done, as_flag, as_bytes, as_json, as_json_list, as_number};
 ghost use Rattle.store_laws.specs.Reading.{ReadsStream};
@@ -93,7 +93,7 @@ fn json_list(outcome: Result<Vec<Value>, StoreError>) -> Reply
 
 /// The written documents of a collection, in memory.
 fn exported<S: Alter + Drop>(store: &mut Store<S>, name: &str) -> Reply
-    ensures moves { Moves (store_state S.Store store.old) (store_state S.Store store.new) (Exported name.now result) }
+    ensures moves { Relates S.Store store.old store.new (Exported name.now result) }
     ensures open { WasOpenFor result (store_state S.Store store.old) (store_state S.Store store.new) }
     ensures crash { Leaves (store_state S.Store store.old) (store_state S.Store store.new) (on name.now export) (reply_of result) }
 {
@@ -110,7 +110,7 @@ fn exported<S: Alter + Drop>(store: &mut Store<S>, name: &str) -> Reply
 
 /// Documents that go into a collection from memory.
 fn imported<S: Alter + Drop>(store: &mut Store<S>, name: &str, bytes: &[u8]) -> Reply
-    ensures moves { Moves (store_state S.Store store.old) (store_state S.Store store.new) (Imported name.now bytes.now result) }
+    ensures moves { Relates S.Store store.old store.new (Imported name.now bytes.now result) }
     ensures open { WasOpenFor result (store_state S.Store store.old) (store_state S.Store store.new) }
     ensures crash { LeavesMany name.now (ReadsStream bytes.now) (reply_of result) (store_state S.Store store.old) (store_state S.Store store.new) }
 {
@@ -120,7 +120,7 @@ fn imported<S: Alter + Drop>(store: &mut Store<S>, name: &str, bytes: &[u8]) -> 
 
 /// One command. JSON is handed over to the call that keeps it; all else is lent.
 fn execute<S: Alter + Drop>(store: &mut Store<S>, command: Command) -> Reply
-    ensures moves { Moves (store_state S.Store store.old) (store_state S.Store store.new) (Obeys command result) }
+    ensures moves { Relates S.Store store.old store.new (Obeys command result) }
     ensures open { WasOpenFor result (store_state S.Store store.old) (store_state S.Store store.new) }
     ensures crash { LeavesCommand command result (store_state S.Store store.old) (store_state S.Store store.new) }
 {
@@ -141,7 +141,7 @@ fn execute<S: Alter + Drop>(store: &mut Store<S>, command: Command) -> Reply
 /// One command that hands no JSON over. It is lent, as what it holds would else be dropped anew in each of the cases.
 fn execute_lent<S: Alter + Drop>(store: &mut Store<S>, command: &Command) -> Reply
     requires { IsLent command.now }
-    ensures moves { Moves (store_state S.Store store.old) (store_state S.Store store.new) (Obeys command.now result) }
+    ensures moves { Relates S.Store store.old store.new (Obeys command.now result) }
     ensures open { WasOpenFor result (store_state S.Store store.old) (store_state S.Store store.new) }
     ensures crash { LeavesCommand command.now result (store_state S.Store store.old) (store_state S.Store store.new) }
 {
@@ -182,9 +182,9 @@ pub fn run<S: Alter + Drop>(
     commands: Vec<Command>,
 ) -> Result<Vec<Reply>, AllocError>
     // Whatever table the rows showed, the replies and the table that they show now are those of a run through tables.
-    ensures tables { IfOk result (λ replies. Moves (store_state S.Store store.old) (store_state S.Store store.new) (AnswersThroughTables commands.items replies.items)) }
+    ensures tables { IfOk result (λ replies. Relates S.Store store.old store.new (AnswersThroughTables commands.items replies.items)) }
     // So they are those of the commands on plain lists of documents, but where memory, the database or places were wanted.
-    ensures lists { IfOk result (λ replies. Moves (store_state S.Store store.old) (store_state S.Store store.new) (AnswersAsLists commands.items replies.items)) }
+    ensures lists { IfOk result (λ replies. Relates S.Store store.old store.new (AnswersAsLists commands.items replies.items)) }
     // Where the last command was accepted the connection is open, so these rows are in its table.
     ensures open { IfOk result (λ replies. EndsOpen replies.items (store_state S.Store store.old) (store_state S.Store store.new)) }
     // What a crash leaves now is left along this run, from what it might leave before.

@@ -5,10 +5,10 @@ ghost use Rattle.serde_json.specs.Data.{Data};
 ghost use Rattle.bson_base.specs.Value.{Members};
 ghost use Rattle.bson_bytes.specs.Encode.{encode};
 ghost use Rattle.bson_model.specs.declared.extjson.ser.Mode.TheVariants.{Canonical};
-ghost use Rattle.bson_table.specs.Moves.{Moves, WasOpen};
+ghost use Rattle.bson_table.specs.Moves.{WasOpen};
 ghost use Rattle.store_laws.specs.State.{IsKept, json_of};
 ghost use Rattle.sqlite.specs.State.{Survives};
-ghost use Rattle.bson_store.specs.Calls.{store_state};
+ghost use Rattle.bson_store.specs.Calls.{store_state, Relates};
 ghost use Rattle.bson_store.specs.Dump.{ChecksTrees, HandsOn};
 
 use crate::dump::refused_at;
@@ -75,7 +75,7 @@ impl<S: Alter + Drop> Store<S> {
     /// Refused by BadName; by ReservedKey and FiniteDouble of the first document that has no such tree, of the two by
     /// ReservedKey, and `document` tells which it is; and by Memory and Database.
     pub fn check_json(&mut self, name: &str) -> Result<(), StoreError>
-        ensures moves { Moves (store_state S.Store self.old) (store_state S.Store self.new) (ChecksTrees name.now result) }
+        ensures moves { Relates S.Store self.old self.new (ChecksTrees name.now result) }
         ensures open { WasOpen (store_state S.Store self.old) (store_state S.Store self.new) result }
         ensures crash { Survives (store_state S.Store self.old) (store_state S.Store self.new) (λ _. ⊥) }
     {

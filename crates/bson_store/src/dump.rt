@@ -6,10 +6,10 @@ ghost use Rattle.serde_json.specs.View.{view as data_of};
 ghost use Rattle.bson_base.specs.Value.{Members};
 ghost use Rattle.bson_bytes.specs.Encode.{encode};
 ghost use Rattle.bson_model.specs.declared.extjson.ser.Mode.TheVariants.{Canonical};
-ghost use Rattle.bson_table.specs.Moves.{Moves, WasOpen};
+ghost use Rattle.bson_table.specs.Moves.{WasOpen};
 ghost use Rattle.store_laws.specs.State.{IsKept, dump, on, json_of};
 ghost use Rattle.sqlite.specs.State.{Survives};
-ghost use Rattle.bson_store.specs.Calls.{store_state, Does};
+ghost use Rattle.bson_store.specs.Calls.{store_state, Does, Relates};
 ghost use Rattle.bson_store.specs.Dump.{HandsOn, HandsTrees, TellsTree, told_at};
 ghost use Rattle.bson_store.specs.Refusals.{as_json_list, reply_by};
 
@@ -149,7 +149,7 @@ impl<S: Alter + Drop> Store<S> {
         name: &str,
         taker: T,
     ) -> Result<T, (StoreError, T)>
-        ensures moves { T.took taker taker [] → Moves (store_state S.Store self.old) (store_state S.Store self.new) (HandsTrees (T.took taker) (T.refused taker) name.now result) }
+        ensures moves { T.took taker taker [] → Relates S.Store self.old self.new (HandsTrees (T.took taker) (T.refused taker) name.now result) }
         ensures open { WasOpen (store_state S.Store self.old) (store_state S.Store self.new) result }
         ensures crash { Survives (store_state S.Store self.old) (store_state S.Store self.new) (λ _. ⊥) }
     {
@@ -184,7 +184,7 @@ impl<S: Alter + Drop> Store<S> {
     /// Refused by BadName; by ReservedKey and FiniteDouble of the first document that has no such tree, of the two by
     /// ReservedKey, and `document` tells which it is; and by Memory and Database.
     pub fn dump_json(&mut self, name: &str) -> Result<Vec<Value>, StoreError>
-        ensures moves { Moves (store_state S.Store self.old) (store_state S.Store self.new) (Does (on name.now dump) (reply_by as_json_list result)) }
+        ensures moves { Relates S.Store self.old self.new (Does (on name.now dump) (reply_by as_json_list result)) }
         ensures open { WasOpen (store_state S.Store self.old) (store_state S.Store self.new) result }
         ensures crash { Survives (store_state S.Store self.old) (store_state S.Store self.new) (λ _. ⊥) }
     {

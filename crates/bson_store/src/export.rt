@@ -1,6 +1,7 @@
 //! The written documents of a collection, one after the other.
 
-ghost use Rattle.std.specs.Prelude.{◌≡◌, ◌<◌, ◌^◌, ◌-◌, ◌∷◌, ◌++◌, [], false, OnOk};
+ghost use Rattle.std.specs.Prelude.{◌≡◌, ◌∷◌, ◌++◌, [], false, OnOk};
+ghost use Rattle.bson_base.specs.Device.{CanRefuse};
 ghost use Rattle.bson_store.specs.Export.{bytes_of_each};
 
 use bson_base::write_all;
@@ -22,7 +23,7 @@ pub(crate) fn push_copy(bodies: &mut Vec<Vec<u8>>, alloc: Global, body: &[u8]) -
 pub struct ExportVisitor<'w, W: Sink> {
     pub writer: &'w mut W,
     pub failed: bool,
-    ghost ready: { failed ≡ false → (W.tally writer.now).failures < 2 ^ 64 - 1 },
+    ghost ready: { failed ≡ false → CanRefuse (W.tally writer.now) },
 }
 
 impl<'w, W: Sink> Visit for ExportVisitor<'w, W> {

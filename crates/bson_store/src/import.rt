@@ -1,12 +1,13 @@
 //! Many documents at once: all of them go into a collection, or none.
 
-ghost use Rattle.std.specs.Prelude.{◌≡◌, ◌||◌, ◌<◌, ◌^◌, ◌-◌, ℕ, List, length, map, false, Some, None, IfOk, IsErrOf, IsTrue};
+ghost use Rattle.std.specs.Prelude.{◌≡◌, ◌||◌, ℕ, List, length, map, false, Some, None, IfOk, IsErrOf, IsTrue};
+ghost use Rattle.bson_base.specs.Device.{CanFail};
 ghost use Rattle.std.specs.List.{AllZip};
 ghost use Rattle.std.specs.Str.{bytes_eq};
 ghost use Rattle.serde_json.specs.Data.{Data};
 ghost use Rattle.serde_json.specs.View.{view as data_of};
 ghost use Rattle.sqlite.specs.State.{HasCleanDisk, Survives};
-ghost use Rattle.bson_table.specs.Moves.{AddsRows, MayLeave, Moves, Stands, WasOpen, with_rows};
+ghost use Rattle.bson_table.specs.Moves.{AddsRows, MayLeave, Stands, WasOpen, with_rows};
 ghost use Rattle.bson_table.specs.Rows.{TableRow};
 ghost use Rattle.bson_store.specs.Left.{LeavesMany, LeavesRows, ReadsFed};
 ghost use Rattle.store_documents.specs.Names.{name_bytes};
@@ -15,7 +16,7 @@ ghost use Rattle.store_laws.specs.Reading.{ReadsStream, ReadsTrees};
 ghost use Rattle.store_streams.specs.Judging.{Judges};
 ghost use Rattle.store_streams.specs.Keys.{has_met};
 ghost use Rattle.store_streams.specs.Loading.{HasTaken};
-ghost use Rattle.bson_store.specs.Calls.{store_state};
+ghost use Rattle.bson_store.specs.Calls.{store_state, Relates};
 ghost use Rattle.bson_store.specs.Many.{AddsAll, DoesMany, FindsTaken, Imports, Lends, Meets};
 ghost use Rattle.bson_store.specs.Refusals.{as_number, refusal_at, reply_by};
 ghost use Rattle.store_laws.specs.declared.error.ErrorKind.TheVariants.{DuplicateId};
@@ -72,7 +73,7 @@ impl<S: Alter + Drop> Store<S> {
         met: &mut Keys<'a>,
         key: &'a [u8],
     ) -> Result<bool, StoreError>
-        ensures moves { Moves (store_state S.Store self.old) (store_state S.Store self.new) (Meets collection.now key.now met.old result) }
+        ensures moves { Relates S.Store self.old self.new (Meets collection.now key.now met.old result) }
         ensures open { WasOpen (store_state S.Store self.old) (store_state S.Store self.new) result }
         ensures crash { Survives (store_state S.Store self.old) (store_state S.Store self.new) (λ _. ⊥) }
         ensures met { IfOk result (λ taken. taken ≡ false → (k : List ℕ) → has_met met.new k ≡ bytes_eq k key.now || has_met met.old k) }
@@ -91,7 +92,7 @@ impl<S: Alter + Drop> Store<S> {
         collection: &str,
         rows: &[KeptRow<'_>],
     ) -> Result<Option<u64>, StoreError>
-        ensures moves { Moves (store_state S.Store self.old) (store_state S.Store self.new) (FindsTaken collection.now rows.now result) }
+        ensures moves { Relates S.Store self.old self.new (FindsTaken collection.now rows.now result) }
         ensures open { HasCleanDisk (store_state S.Store self.new) → (docs : List TableRow) → Stands (store_state S.Store self.old) docs → IfOk result (λ _. IsTrue (store_state S.Store self.new).is_open → IsTrue (store_state S.Store self.old).is_open) }
         ensures crash { Survives (store_state S.Store self.old) (store_state S.Store self.new) (λ _. ⊥) }
     {
@@ -109,7 +110,7 @@ impl<S: Alter + Drop> Store<S> {
     /// The place of the first row whose key is in the collection or that of a row before. In a table without rows no key
     /// is looked up.
     fn first_taken(&mut self, collection: &str, rows: &[KeptRow<'_>]) -> Result<Option<u64>, StoreError>
-        ensures moves { Moves (store_state S.Store self.old) (store_state S.Store self.new) (FindsTaken collection.now rows.now result) }
+        ensures moves { Relates S.Store self.old self.new (FindsTaken collection.now rows.now result) }
         ensures open { HasCleanDisk (store_state S.Store self.new) → (docs : List TableRow) → Stands (store_state S.Store self.old) docs → IfOk result (λ _. IsTrue (store_state S.Store self.new).is_open → IsTrue (store_state S.Store self.old).is_open) }
         ensures crash { Survives (store_state S.Store self.old) (store_state S.Store self.new) (λ _. ⊥) }
     {
@@ -123,7 +124,7 @@ impl<S: Alter + Drop> Store<S> {
 
     /// Writes all rows, in one transaction.
     fn write_all(&mut self, collection: &str, rows: &[NewRow<'_>]) -> Result<(), Fault>
-        ensures moves { Moves (store_state S.Store self.old) (store_state S.Store self.new) (AddsRows (length rows.now) (with_rows collection.now rows.now) result) }
+        ensures moves { Relates S.Store self.old self.new (AddsRows (length rows.now) (with_rows collection.now rows.now) result) }
         ensures open { WasOpen (store_state S.Store self.old) (store_state S.Store self.new) result }
         ensures crash { Survives (store_state S.Store self.old) (store_state S.Store self.new) (MayLeave (with_rows collection.now rows.now) (store_state S.Store self.old)) }
         ensures full { IsErrOf result Fault.Places → Survives (store_state S.Store self.old) (store_state S.Store self.new) (λ _. ⊥) }
@@ -133,7 +134,7 @@ impl<S: Alter + Drop> Store<S> {
 
     /// Puts the documents that these rows are last in a collection, and says how many they are.
     fn add_all(&mut self, name: Name<'_>, rows: &[KeptRow<'_>]) -> Result<u64, StoreError>
-        ensures moves { Moves (store_state S.Store self.old) (store_state S.Store self.new) (AddsAll (name_bytes name.entry) rows.now result) }
+        ensures moves { Relates S.Store self.old self.new (AddsAll (name_bytes name.entry) rows.now result) }
         ensures open { WasOpen (store_state S.Store self.old) (store_state S.Store self.new) result }
         ensures crash { LeavesRows (name_bytes name.entry) rows.now result (store_state S.Store self.old) (store_state S.Store self.new) }
     {
@@ -156,8 +157,8 @@ impl<S: Alter + Drop> Store<S> {
     /// but never in the place of BadName. `document` tells which document was refused. Of the reader nothing is said after
     /// Reader; with any other refusal none of its reads failed.
     pub fn import<R: Source>(&mut self, name: &str, reader: &mut R) -> Result<u64, StoreError>
-        requires { (R.feed reader.old).failures < 2 ^ 64 - 1 }
-        ensures moves { Moves (store_state S.Store self.old) (store_state S.Store self.new) (Imports name.now (R.feed reader.old)
+        requires { CanFail (R.feed reader.old) }
+        ensures moves { Relates S.Store self.old self.new (Imports name.now (R.feed reader.old)
             (R.feed reader.new) result) }
         ensures open { WasOpen (store_state S.Store self.old) (store_state S.Store self.new) result }
         ensures crash { LeavesMany name.now (ReadsFed (R.feed reader.old) (R.feed reader.new)) (reply_by as_number result)
@@ -177,7 +178,7 @@ impl<S: Alter + Drop> Store<S> {
     /// one of these; else by DuplicateId of the first whose `_id` is in the collection or in an earlier tree; by Places; and by
     /// Memory and Database, but never in the place of BadName. `document` tells which document was refused.
     pub fn load_json(&mut self, name: &str, trees: Vec<Value>) -> Result<u64, StoreError>
-        ensures moves { Moves (store_state S.Store self.old) (store_state S.Store self.new) (DoesMany name.now (ReadsTrees (map data_of trees.items)) (reply_by as_number result)) }
+        ensures moves { Relates S.Store self.old self.new (DoesMany name.now (ReadsTrees (map data_of trees.items)) (reply_by as_number result)) }
         ensures open { WasOpen (store_state S.Store self.old) (store_state S.Store self.new) result }
         ensures crash { LeavesMany name.now (ReadsTrees (map data_of trees.items)) (reply_by as_number result) (store_state S.Store self.old) (store_state S.Store self.new) }
     {
@@ -192,7 +193,7 @@ impl<S: Alter + Drop> Store<S> {
     /// Refused as `load_json`.
     pub fn load(&mut self, name: &str, loader: Loader) -> Result<u64, StoreError>
         ensures moves { (js : List Data) → HasTaken loader js
-            → Moves (store_state S.Store self.old) (store_state S.Store self.new) (DoesMany name.now (ReadsTrees js) (reply_by as_number result)) }
+            → Relates S.Store self.old self.new (DoesMany name.now (ReadsTrees js) (reply_by as_number result)) }
         ensures open { WasOpen (store_state S.Store self.old) (store_state S.Store self.new) result }
         ensures crash { (js : List Data) → HasTaken loader js
             → LeavesMany name.now (ReadsTrees js) (reply_by as_number result) (store_state S.Store self.old) (store_state S.Store self.new) }

@@ -2,11 +2,11 @@
 
 ghost use Rattle.std.specs.Prelude.{◌≡◌, []};
 ghost use Rattle.bson_filter.specs.Filters.{filter_of, path_of};
-ghost use Rattle.bson_table.specs.Moves.{Moves, WasOpen};
+ghost use Rattle.bson_table.specs.Moves.{WasOpen};
 ghost use Rattle.store_documents.specs.Names.{name_bytes};
 ghost use Rattle.store_laws.specs.State.{collections, count, find, on, project};
 ghost use Rattle.sqlite.specs.State.{Survives};
-ghost use Rattle.bson_store.specs.Calls.{Does, store_state};
+ghost use Rattle.bson_store.specs.Calls.{Does, store_state, Relates};
 ghost use Rattle.bson_store.specs.Questions.{Picked, as_list, as_names};
 ghost use Rattle.bson_store.specs.Refusals.{as_number, reply_by};
 
@@ -23,7 +23,7 @@ impl<S: Alter + Drop> Store<S> {
     ///
     /// Refused by Memory and Database.
     pub fn collections(&mut self) -> Result<Vec<String>, StoreError>
-        ensures moves { Moves (store_state S.Store self.old) (store_state S.Store self.new) (Does collections (reply_by as_names result)) }
+        ensures moves { Relates S.Store self.old self.new (Does collections (reply_by as_names result)) }
         ensures open { WasOpen (store_state S.Store self.old) (store_state S.Store self.new) result }
         ensures crash { Survives (store_state S.Store self.old) (store_state S.Store self.new) (λ _. ⊥) }
     {
@@ -39,7 +39,7 @@ impl<S: Alter + Drop> Store<S> {
         taker: T,
     ) -> Result<T, StoreError>
         requires { T.took taker taker [] }
-        ensures moves { Moves (store_state S.Store self.old) (store_state S.Store self.new) (Picked (T.took taker) (name_bytes name.entry) (filter_of filter.now) result) }
+        ensures moves { Relates S.Store self.old self.new (Picked (T.took taker) (name_bytes name.entry) (filter_of filter.now) result) }
         ensures open { WasOpen (store_state S.Store self.old) (store_state S.Store self.new) result }
         ensures crash { Survives (store_state S.Store self.old) (store_state S.Store self.new) (λ _. ⊥) }
     {
@@ -65,7 +65,7 @@ impl<S: Alter + Drop> Store<S> {
     ///
     /// Refused by BadName, Memory and Database.
     pub fn find(&mut self, name: &str, filter: &Filter) -> Result<Vec<Vec<u8>>, StoreError>
-        ensures moves { Moves (store_state S.Store self.old) (store_state S.Store self.new) (Does (on name.now (find (filter_of filter.now))) (reply_by as_list result)) }
+        ensures moves { Relates S.Store self.old self.new (Does (on name.now (find (filter_of filter.now))) (reply_by as_list result)) }
         ensures open { WasOpen (store_state S.Store self.old) (store_state S.Store self.new) result }
         ensures crash { Survives (store_state S.Store self.old) (store_state S.Store self.new) (λ _. ⊥) }
     {
@@ -80,7 +80,7 @@ impl<S: Alter + Drop> Store<S> {
     ///
     /// Refused by BadName, Memory and Database.
     pub fn count(&mut self, name: &str, filter: &Filter) -> Result<u64, StoreError>
-        ensures moves { Moves (store_state S.Store self.old) (store_state S.Store self.new) (Does (on name.now (count (filter_of filter.now))) (reply_by as_number result)) }
+        ensures moves { Relates S.Store self.old self.new (Does (on name.now (count (filter_of filter.now))) (reply_by as_number result)) }
         ensures open { WasOpen (store_state S.Store self.old) (store_state S.Store self.new) result }
         ensures crash { Survives (store_state S.Store self.old) (store_state S.Store self.new) (λ _. ⊥) }
     {
@@ -99,7 +99,7 @@ impl<S: Alter + Drop> Store<S> {
         filter: &Filter,
         keys: &[String],
     ) -> Result<Vec<Vec<u8>>, StoreError>
-        ensures moves { Moves (store_state S.Store self.old) (store_state S.Store self.new) (Does (on name.now (project (filter_of filter.now) (path_of keys.now))) (reply_by as_list result)) }
+        ensures moves { Relates S.Store self.old self.new (Does (on name.now (project (filter_of filter.now) (path_of keys.now))) (reply_by as_list result)) }
         ensures open { WasOpen (store_state S.Store self.old) (store_state S.Store self.new) result }
         ensures crash { Survives (store_state S.Store self.old) (store_state S.Store self.new) (λ _. ⊥) }
     {

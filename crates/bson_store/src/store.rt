@@ -1,6 +1,7 @@
 //! The store.
 
-ghost use Rattle.std.specs.Prelude.{◌≡◌, ◌↔◌, ◌<◌, ◌^◌, ◌-◌, false, IsTrue, IfOk, IfErr, IsErrAnd, IsErrOf, IsSome, List, MatchResult, Ok};
+ghost use Rattle.std.specs.Prelude.{◌≡◌, ◌↔◌, false, IsTrue, IfOk, IfErr, IsErrAnd, IsErrOf, IsSome, List, MatchResult, Ok};
+ghost use Rattle.bson_base.specs.Device.{CanRefuse};
 ghost use Rattle.sqlite.specs.Held.{state};
 ghost use Rattle.sqlite.specs.State.{HasCleanDisk, Survives};
 ghost use Rattle.bson_table.specs.Open.{HasNoTable, IsNameTaken, KeepsAll};
@@ -8,11 +9,11 @@ ghost use Rattle.bson_store.specs.Opening.{Opens, RefusesToOpen};
 ghost use Rattle.serde_json.specs.View.{view as data_of};
 ghost use Rattle.bson_base.specs.Value.{Members};
 ghost use Rattle.bson_model.specs.View.{view};
-ghost use Rattle.bson_table.specs.Moves.{AddsRows, Changes, MayLeave, Moves, Stands, WasOpen, with_row};
+ghost use Rattle.bson_table.specs.Moves.{AddsRows, Changes, MayLeave, Stands, WasOpen, with_row};
 ghost use Rattle.store_laws.specs.State.{State as Lists};
 ghost use Rattle.bson_store.specs.Left.{FindsState, Holds, HoldsOnce, Keeps, Leaves, LeavesBytes, LeavesOnly, LeavesRead, LeavesTree};
 ghost use Rattle.bson_table.specs.Rows.{TableRow, with_body_at};
-ghost use Rattle.bson_store.specs.Calls.{store_connection, store_state, Does, DoesBytes, DoesTree, DoesRead, Looks};
+ghost use Rattle.bson_store.specs.Calls.{store_connection, store_state, Does, DoesBytes, DoesTree, DoesRead, Looks, Relates};
 ghost use Rattle.bson_store.specs.Export.{SendsCollection};
 ghost use Rattle.bson_store.specs.Refusals.{refusal, reply_by, as_done, as_flag, as_bytes, as_json};
 ghost use Rattle.store_documents.specs.Bodies.{AnswersWritten};
@@ -103,7 +104,7 @@ impl<S: Alter + Drop> Store<S> {
 
     /// Writes a row behind all others.
     fn put_last(&mut self, collection: &str, key: &[u8], body: &[u8]) -> Result<(), Fault>
-        ensures moves { Moves (store_state S.Store self.old) (store_state S.Store self.new) (AddsRows 1 (with_row collection.now key.now body.now) result) }
+        ensures moves { Relates S.Store self.old self.new (AddsRows 1 (with_row collection.now key.now body.now) result) }
         ensures open { WasOpen (store_state S.Store self.old) (store_state S.Store self.new) result }
         ensures crash { Survives (store_state S.Store self.old) (store_state S.Store self.new) (MayLeave (with_row collection.now key.now body.now) (store_state S.Store self.old)) }
         ensures full { IsErrOf result Fault.Places → Survives (store_state S.Store self.old) (store_state S.Store self.new) (λ _. ⊥) }
@@ -113,7 +114,7 @@ impl<S: Alter + Drop> Store<S> {
 
     /// Writes a body in the place of a row's.
     fn put_back(&mut self, found: &Found, body: &[u8]) -> Result<(), Fault>
-        ensures moves { Moves (store_state S.Store self.old) (store_state S.Store self.new) (Changes (with_body_at found.now.place body.now) result) }
+        ensures moves { Relates S.Store self.old self.new (Changes (with_body_at found.now.place body.now) result) }
         ensures open { WasOpen (store_state S.Store self.old) (store_state S.Store self.new) result }
         ensures crash { Survives (store_state S.Store self.old) (store_state S.Store self.new) (MayLeave (with_body_at found.now.place body.now) (store_state S.Store self.old)) }
     {
@@ -123,7 +124,7 @@ impl<S: Alter + Drop> Store<S> {
     /// Puts a document last in a collection, whose row this is.
     fn insert_row(&mut self, name: Name<'_>, row: &KeptRow<'_>) -> Result<(), StoreError>
         ensures moves { (d : Members) → IsRead d → AnswersWritten d (Ok row.now)
-            → Moves (store_state S.Store self.old) (store_state S.Store self.new) (DoesRead (name_bytes name.entry) insert d (reply_by as_done result)) }
+            → Relates S.Store self.old self.new (DoesRead (name_bytes name.entry) insert d (reply_by as_done result)) }
         ensures open { WasOpen (store_state S.Store self.old) (store_state S.Store self.new) result }
         ensures crash { (d : Members) → IsRead d → AnswersWritten d (Ok row.now)
             → LeavesRead (name_bytes name.entry) insert d (reply_by as_done result) (store_state S.Store self.old) (store_state S.Store self.new) }
@@ -142,7 +143,7 @@ impl<S: Alter + Drop> Store<S> {
     /// Puts a document, whose row this is, in the place of that of a collection with its `_id`.
     fn replace_row(&mut self, name: Name<'_>, row: &KeptRow<'_>) -> Result<(), StoreError>
         ensures moves { (d : Members) → IsRead d → AnswersWritten d (Ok row.now)
-            → Moves (store_state S.Store self.old) (store_state S.Store self.new) (DoesRead (name_bytes name.entry) replace d (reply_by as_done result)) }
+            → Relates S.Store self.old self.new (DoesRead (name_bytes name.entry) replace d (reply_by as_done result)) }
         ensures open { WasOpen (store_state S.Store self.old) (store_state S.Store self.new) result }
         ensures crash { (d : Members) → IsRead d → AnswersWritten d (Ok row.now)
             → LeavesRead (name_bytes name.entry) replace d (reply_by as_done result) (store_state S.Store self.old) (store_state S.Store self.new) }
@@ -159,7 +160,7 @@ impl<S: Alter + Drop> Store<S> {
 
     /// The row of the document of a collection whose `_id` means the same as `id`.
     fn row_of(&mut self, name: Name<'_>, id: &Bson) -> Result<Option<Found>, StoreError>
-        ensures moves { Moves (store_state S.Store self.old) (store_state S.Store self.new) (Looks (name_bytes name.entry) (view id.now) result) }
+        ensures moves { Relates S.Store self.old self.new (Looks (name_bytes name.entry) (view id.now) result) }
         ensures open { HasCleanDisk (store_state S.Store self.new) → (docs : List TableRow) → Stands (store_state S.Store self.old) docs → IfOk result (λ found. IsSome found → IsTrue (store_state S.Store self.old).is_open × IsTrue (store_state S.Store self.new).is_open) }
         ensures crash { Survives (store_state S.Store self.old) (store_state S.Store self.new) (λ _. ⊥) }
     {
@@ -183,7 +184,7 @@ impl<S: Alter + Drop> Store<S> {
     /// NoId, TooLong, DuplicateId, Places; and by Memory and Database, but never in the place of a refusal by the name or
     /// the bytes.
     pub fn insert_raw(&mut self, name: &str, bytes: &[u8]) -> Result<(), StoreError>
-        ensures moves { Moves (store_state S.Store self.old) (store_state S.Store self.new) (DoesBytes name.now (insert in_bytes) bytes.now (reply_by as_done result)) }
+        ensures moves { Relates S.Store self.old self.new (DoesBytes name.now (insert in_bytes) bytes.now (reply_by as_done result)) }
         ensures open { WasOpen (store_state S.Store self.old) (store_state S.Store self.new) result }
         ensures crash { LeavesBytes name.now (insert in_bytes) bytes.now (reply_by as_done result) (store_state S.Store self.old) (store_state S.Store self.new) }
     {
@@ -197,7 +198,7 @@ impl<S: Alter + Drop> Store<S> {
     /// Refused, in this order, by BadName; NotAnObject; JsonRefused, TooDeep and Nul; NoId, TooLong, DuplicateId, Places; and
     /// by Memory and Database, but never in the place of BadName or NotAnObject.
     pub fn insert_json(&mut self, name: &str, json: Value) -> Result<(), StoreError>
-        ensures moves { Moves (store_state S.Store self.old) (store_state S.Store self.new) (DoesTree name.now (insert in_json) (data_of json) (reply_by as_done result)) }
+        ensures moves { Relates S.Store self.old self.new (DoesTree name.now (insert in_json) (data_of json) (reply_by as_done result)) }
         ensures open { WasOpen (store_state S.Store self.old) (store_state S.Store self.new) result }
         ensures crash { LeavesTree name.now (insert in_json) (data_of json) (reply_by as_done result) (store_state S.Store self.old) (store_state S.Store self.new) }
     {
@@ -210,7 +211,7 @@ impl<S: Alter + Drop> Store<S> {
     ///
     /// Refused as `insert_raw`, but by NotFound where that is refused by DuplicateId, and never by Places.
     pub fn replace_raw(&mut self, name: &str, bytes: &[u8]) -> Result<(), StoreError>
-        ensures moves { Moves (store_state S.Store self.old) (store_state S.Store self.new) (DoesBytes name.now (replace in_bytes) bytes.now (reply_by as_done result)) }
+        ensures moves { Relates S.Store self.old self.new (DoesBytes name.now (replace in_bytes) bytes.now (reply_by as_done result)) }
         ensures open { WasOpen (store_state S.Store self.old) (store_state S.Store self.new) result }
         ensures crash { LeavesBytes name.now (replace in_bytes) bytes.now (reply_by as_done result) (store_state S.Store self.old) (store_state S.Store self.new) }
     {
@@ -224,7 +225,7 @@ impl<S: Alter + Drop> Store<S> {
     ///
     /// Refused as `insert_json`, but by NotFound where that is refused by DuplicateId, and never by Places.
     pub fn replace_json(&mut self, name: &str, json: Value) -> Result<(), StoreError>
-        ensures moves { Moves (store_state S.Store self.old) (store_state S.Store self.new) (DoesTree name.now (replace in_json) (data_of json) (reply_by as_done result)) }
+        ensures moves { Relates S.Store self.old self.new (DoesTree name.now (replace in_json) (data_of json) (reply_by as_done result)) }
         ensures open { WasOpen (store_state S.Store self.old) (store_state S.Store self.new) result }
         ensures crash { LeavesTree name.now (replace in_json) (data_of json) (reply_by as_done result) (store_state S.Store self.old) (store_state S.Store self.new) }
     {
@@ -240,7 +241,7 @@ impl<S: Alter + Drop> Store<S> {
     /// TooDeep, Nul and TooLong of the changed document; and by Memory and Database, but never in the place of BadName or
     /// BadKey.
     pub fn set(&mut self, name: &str, id: &Bson, key: &str, value: Value) -> Result<(), StoreError>
-        ensures moves { Moves (store_state S.Store self.old) (store_state S.Store self.new) (Does (on name.now (set (view id.now) key.now (read_value (data_of value)))) (reply_by as_done result)) }
+        ensures moves { Relates S.Store self.old self.new (Does (on name.now (set (view id.now) key.now (read_value (data_of value)))) (reply_by as_done result)) }
         ensures open { WasOpen (store_state S.Store self.old) (store_state S.Store self.new) result }
         ensures crash { Leaves (store_state S.Store self.old) (store_state S.Store self.new) (on name.now (set (view id.now) key.now (read_value (data_of value)))) (reply_by as_done result) }
     {
@@ -265,7 +266,7 @@ impl<S: Alter + Drop> Store<S> {
     /// Refused, in this order, by BadName; BadKey, where the key is `_id` or holds a 00; NotFound; and by Memory and
     /// Database, but never in the place of BadName or BadKey.
     pub fn unset(&mut self, name: &str, id: &Bson, key: &str) -> Result<bool, StoreError>
-        ensures moves { Moves (store_state S.Store self.old) (store_state S.Store self.new) (Does (on name.now (unset (view id.now) key.now)) (reply_by as_flag result)) }
+        ensures moves { Relates S.Store self.old self.new (Does (on name.now (unset (view id.now) key.now)) (reply_by as_flag result)) }
         ensures open { WasOpen (store_state S.Store self.old) (store_state S.Store self.new) result }
         ensures crash { Leaves (store_state S.Store self.old) (store_state S.Store self.new) (on name.now (unset (view id.now) key.now)) (reply_by as_flag result) }
     {
@@ -290,7 +291,7 @@ impl<S: Alter + Drop> Store<S> {
     ///
     /// Refused by BadName, NotFound, Memory and Database.
     pub fn remove(&mut self, name: &str, id: &Bson) -> Result<(), StoreError>
-        ensures moves { Moves (store_state S.Store self.old) (store_state S.Store self.new) (Does (on name.now (remove (view id.now))) (reply_by as_done result)) }
+        ensures moves { Relates S.Store self.old self.new (Does (on name.now (remove (view id.now))) (reply_by as_done result)) }
         ensures open { WasOpen (store_state S.Store self.old) (store_state S.Store self.new) result }
         ensures crash { Leaves (store_state S.Store self.old) (store_state S.Store self.new) (on name.now (remove (view id.now))) (reply_by as_done result) }
     {
@@ -306,7 +307,7 @@ impl<S: Alter + Drop> Store<S> {
     ///
     /// Refused by BadName, NotFound, Memory and Database.
     pub fn get_raw(&mut self, name: &str, id: &Bson) -> Result<Vec<u8>, StoreError>
-        ensures moves { Moves (store_state S.Store self.old) (store_state S.Store self.new) (Does (on name.now (get_raw (view id.now))) (reply_by as_bytes result)) }
+        ensures moves { Relates S.Store self.old self.new (Does (on name.now (get_raw (view id.now))) (reply_by as_bytes result)) }
         ensures open { WasOpen (store_state S.Store self.old) (store_state S.Store self.new) result }
         ensures crash { Survives (store_state S.Store self.old) (store_state S.Store self.new) (λ _. ⊥) }
     {
@@ -322,7 +323,7 @@ impl<S: Alter + Drop> Store<S> {
     /// Refused, in this order, by BadName; NotFound; ReservedKey, where a document below the top has a key that Extended
     /// JSON reserves; FiniteDouble, where a double is finite and no zero; and by Memory and Database.
     pub fn get_json(&mut self, name: &str, id: &Bson, mode: Mode) -> Result<Value, StoreError>
-        ensures moves { Moves (store_state S.Store self.old) (store_state S.Store self.new) (Does (on name.now (get_json mode (view id.now))) (reply_by as_json result)) }
+        ensures moves { Relates S.Store self.old self.new (Does (on name.now (get_json mode (view id.now))) (reply_by as_json result)) }
         ensures open { WasOpen (store_state S.Store self.old) (store_state S.Store self.new) result }
         ensures crash { Survives (store_state S.Store self.old) (store_state S.Store self.new) (λ _. ⊥) }
     {
@@ -340,8 +341,8 @@ impl<S: Alter + Drop> Store<S> {
     /// Refused by BadName, and then nothing is written; by Writer, where a write failed or took nothing; and by Memory and
     /// Database. A beginning may have been written.
     pub fn export<W: Sink>(&mut self, name: &str, writer: &mut W) -> Result<(), StoreError>
-        requires { (W.tally writer.old).failures < 2 ^ 64 - 1 }
-        ensures moves { Moves (store_state S.Store self.old) (store_state S.Store self.new) (SendsCollection name.now (W.tally writer.old)
+        requires { CanRefuse (W.tally writer.old) }
+        ensures moves { Relates S.Store self.old self.new (SendsCollection name.now (W.tally writer.old)
             (W.tally writer.new) result) }
         ensures open { WasOpen (store_state S.Store self.old) (store_state S.Store self.new) result }
         ensures crash { Survives (store_state S.Store self.old) (store_state S.Store self.new) (λ _. ⊥) }

@@ -1,6 +1,6 @@
 //! Commands over a database file.
 
-ghost use Rattle.std.specs.Prelude.{◌<◌, ◌^◌, ◌-◌};
+ghost use Rattle.bson_base.specs.Device.{CanFail, CanRefuse};
 
 use bson_store::{ErrorKind, Sink, Source, Store};
 use sqlite::{Alter, Connection, File, FileStore};
@@ -12,7 +12,7 @@ use store_words::{UsageError, Words, read_words, write_complaint, write_refusal}
 
 /// Tells a refusal, and answers the status of one.
 fn refuse<F: Sink>(faults: &mut F, kind: ErrorKind) -> u8
-    requires { (F.tally faults.old).failures < 2 ^ 64 - 1 }
+    requires { CanRefuse (F.tally faults.old) }
 {
     let _ = write_refusal(faults, kind, None);
     1
@@ -20,7 +20,7 @@ fn refuse<F: Sink>(faults: &mut F, kind: ErrorKind) -> u8
 
 /// Tells that the words are no line of the table of commands, and answers the status of that.
 fn misuse<F: Sink>(faults: &mut F) -> u8
-    requires { (F.tally faults.old).failures < 2 ^ 64 - 1 }
+    requires { CanRefuse (F.tally faults.old) }
 {
     let _ = write_complaint(faults, UsageError::Usage);
     2
@@ -28,7 +28,7 @@ fn misuse<F: Sink>(faults: &mut F) -> u8
 
 /// What is told where the words can't be had: want of memory, or that some word is no text.
 pub fn misuse_or_memory<F: Sink>(error: io::Error, faults: &mut F) -> u8
-    requires { (F.tally faults.old).failures < 2 ^ 64 - 1 }
+    requires { CanRefuse (F.tally faults.old) }
 {
     match error.kind() {
         io::ErrorKind::OutOfMemory => refuse(faults, ErrorKind::Memory),
@@ -52,9 +52,9 @@ fn over<S: Alter + Drop, I: Source, O: Sink, F: Sink>(
     output: &mut O,
     faults: &mut F,
 ) -> (u8, Connection<S>)
-    requires input { (I.feed input.old).failures < 2 ^ 64 - 1 }
-    requires output { (O.tally output.old).failures < 2 ^ 64 - 1 }
-    requires faults { (F.tally faults.old).failures < 2 ^ 64 - 1 }
+    requires input { CanFail (I.feed input.old) }
+    requires output { CanRefuse (O.tally output.old) }
+    requires faults { CanRefuse (F.tally faults.old) }
 {
     match Store::open(alloc, connection) {
         Ok(mut store) => {
@@ -74,9 +74,9 @@ pub fn serve<I: Source, O: Sink, F: Sink>(
     output: &mut O,
     faults: &mut F,
 ) -> u8
-    requires input { (I.feed input.old).failures < 2 ^ 64 - 1 }
-    requires output { (O.tally output.old).failures < 2 ^ 64 - 1 }
-    requires faults { (F.tally faults.old).failures < 2 ^ 64 - 1 }
+    requires input { CanFail (I.feed input.old) }
+    requires output { CanRefuse (O.tally output.old) }
+    requires faults { CanRefuse (F.tally faults.old) }
 {
     let Some(words) = read_words(words) else {
         return misuse(faults);

@@ -1,9 +1,9 @@
 //! What is answered to a line.
 
-ghost use Rattle.std.specs.Prelude.{◌≡◌, ◌<◌, ◌^◌, ◌-◌, ◌++◌, ℕ, List, IfOk, OnOk, OnErr, string_bytes};
+ghost use Rattle.std.specs.Prelude.{◌≡◌, ◌++◌, ℕ, List, IfOk, OnOk, OnErr, string_bytes};
 ghost use Rattle.serde_json.specs.Data.{string};
 ghost use Rattle.serde_json.specs.Written.{compact_text};
-ghost use Rattle.bson_base.specs.Device.{Counts, TakesText};
+ghost use Rattle.bson_base.specs.Device.{Counts, TakesText, CanRefuse};
 ghost use Rattle.session_lines.specs.Answers.{IsLineOf, answer_line, output_text};
 
 use base64::engine::general_purpose::STANDARD;
@@ -92,7 +92,7 @@ pub fn write_answer<O: Sink>(
     output: &mut O,
     answer: &Answer<'_>,
 ) -> Result<(), DeviceFault>
-    requires { (O.tally output.old).failures < 2 ^ 64 - 1 }
+    requires { CanRefuse (O.tally output.old) }
     ensures counts { Counts (O.tally output.old).failures (O.tally output.new).failures result }
     ensures line { (line : List ℕ) × IsLineOf answer.now line × TakesText (O.tally output.old)
         (O.tally output.new) line }

@@ -43,8 +43,8 @@ pub struct Lines {
 }
 
 impl Lines {
-    ghost use Rattle.std.specs.Prelude.{◌≡◌, ◌⊎◌, ◌^◌, ◌-◌, ◌++◌, ◌↔◌, List, [], ℕ, length, IsTrue};
-    ghost use Rattle.bson_base.specs.Device.{Counts, Gives, IsExhausted};
+    ghost use Rattle.std.specs.Prelude.{◌≡◌, ◌⊎◌, ◌++◌, ◌↔◌, List, [], ℕ, length, IsTrue};
+    ghost use Rattle.bson_base.specs.Device.{Counts, Gives, IsExhausted, CanFail};
     ghost use Rattle.session_lines.specs.Line.{IsUnbroken, Keeps};
     ghost use Rattle.session_lines.specs.Lines.{broken, waiting, ReadsNext};
 
@@ -62,7 +62,7 @@ impl Lines {
 
     /// Whether there is a byte that wasn't handed out. Reads some where all were.
     fn fill<S: Source>(&mut self, source: &mut S) -> Result<bool, DeviceFault>
-        requires { (S.feed source.old).failures < 2 ^ 64 - 1 }
+        requires { CanFail (S.feed source.old) }
         ensures counts { Counts (S.feed source.old).failures (S.feed source.new).failures result }
         ensures bytes { (given : List ℕ) × Gives (S.feed source.old).supply (S.feed source.new).supply given × (waiting self.new ≡ waiting self.old ++ given) }
         ensures some { IfOk result (λ some. IsTrue some ↔ (0 < length (waiting self.new))) }
@@ -100,7 +100,7 @@ impl Lines {
     /// Reads the next line. The error is a read that failed, or a line of 2⁶⁴ - 1 bytes or more. A source is read no further than
     /// until it has given a line feed.
     pub fn read<S: Source>(&mut self, source: &mut S, line: &mut Line) -> Result<Next, DeviceFault>
-        requires { (S.feed source.old).failures < 2 ^ 64 - 1 }
+        requires { CanFail (S.feed source.old) }
         ensures { ReadsNext result self.old self.new (S.feed source.old)
             (S.feed source.new) line.new }
     {

@@ -4,7 +4,7 @@ use Rattle.serde_json.specs.Data.{Data}
 use Rattle.serde_json.specs.View.{view as data_of}
 use Rattle.serde_json.specs.declared.value.Value.{Value as Json}
 use Rattle.bson_base.specs.Value.{Members}
-use Rattle.bson_model.specs.View.{view, members_of, pairs_of}
+use Rattle.bson_model.specs.View.{view, content}
 use Rattle.bson_model.specs.declared.bson.Bson.{Bson}
 use Rattle.bson_model.specs.declared.document.Document.{Document}
 use Rattle.store_laws.specs.Reading.{Reading, readable, unreadable, read_value, ReadsBytes, ReadsTree}
@@ -15,12 +15,12 @@ use Rattle.store_laws.specs.declared.error.ErrorKind.TheVariants.{JsonRefused, M
 
 -- what the bytes read as; or memory was wanted, and they read as some document
 abbrev pub AnswersBytes : List ℕ → Result Document ErrorKind → Type 0
-AnswersBytes bytes (Ok d) = ReadsBytes bytes (readable (members_of (pairs_of d)))
+AnswersBytes bytes (Ok d) = ReadsBytes bytes (readable (content d))
 AnswersBytes bytes (Err k) = ReadsBytes bytes (unreadable k) ⊎ ((k ≡ Memory) × (d : Members) × ReadsBytes bytes (readable d))
 
 -- what the tree reads as; or memory was wanted, and it reads as what isn't decided before anything grows
 abbrev pub AnswersTree : Data → Result Document ErrorKind → Type 0
-AnswersTree j (Ok d) = ReadsTree j (readable (members_of (pairs_of d)))
+AnswersTree j (Ok d) = ReadsTree j (readable (content d))
 AnswersTree j (Err k) = ReadsTree j (unreadable k) ⊎ ((k ≡ Memory) × (a : Reading) × ReadsTree j a × (IsUnread in_json a → ⊥))
 
 -- the value that the tree reads as, or why there is none

@@ -4,7 +4,7 @@ ghost use Rattle.std.specs.Prelude.{◌≡◌};
 ghost use Rattle.bson_base.specs.Value.{Members, document as tree};
 ghost use Rattle.bson_bytes.specs.Encode.{encode};
 ghost use Rattle.bson_model.specs.JsonWrite.{write};
-ghost use Rattle.bson_model.specs.View.{members_of, pairs_of};
+ghost use Rattle.bson_model.specs.View.{content};
 ghost use Rattle.store_laws.specs.State.{IsKept, or_finite, json_of};
 ghost use Rattle.store_documents.specs.Answers.{AnswersJson};
 
@@ -18,7 +18,7 @@ use store_laws::ErrorKind;
 
 /// The JSON tree of a document. `FiniteDouble` where a finite double other than the zeros stands in it, or `Memory`.
 fn json_written(alloc: Global, document: Document, mode: Mode) -> Result<Value, ErrorKind>
-    ensures { AnswersJson (or_finite (write mode (tree (members_of (pairs_of document))))) result }
+    ensures { AnswersJson (or_finite (write mode (tree (content document)))) result }
 {
     let value = Bson::Document(document);
     let written = match mode {
@@ -35,7 +35,7 @@ fn json_written(alloc: Global, document: Document, mode: Mode) -> Result<Value, 
 
 /// The JSON tree of a document. `ReservedKey` where it has a reserved key below its top, else `FiniteDouble`, or `Memory`.
 fn json_of_document(alloc: Global, document: Document, mode: Mode) -> Result<Value, ErrorKind>
-    ensures { AnswersJson (json_of mode (members_of (pairs_of document))) result }
+    ensures { AnswersJson (json_of mode (content document)) result }
 {
     if has_reserved_below(&document) {
         return Err(ErrorKind::ReservedKey);

@@ -6,7 +6,7 @@ ghost use Rattle.bson_base.specs.Value.{Members, put};
 ghost use Rattle.bson_bytes.specs.Encode.{encode};
 ghost use Rattle.bson_meaning.specs.Meaning.{norm_in_order};
 ghost use Rattle.bson_model.specs.Keyed.{has_key as has_pair, put as put_pair, without as without_pair};
-ghost use Rattle.bson_model.specs.View.{view, members_of, pairs_of};
+ghost use Rattle.bson_model.specs.View.{view, pairs_of, content};
 ghost use Rattle.store_laws.specs.State.{IsKept};
 ghost use Rattle.store_documents.specs.Bodies.{AnswersChanged, AnswersUnset};
 
@@ -41,7 +41,7 @@ fn put_normal(
     key: &str,
     value: Bson,
 ) -> Result<(), AllocError>
-    ensures put { OnOk result (members_of (pairs_of document.new) ≡ put key.now (norm_in_order (view value)) (members_of (pairs_of document.old))) }
+    ensures put { OnOk result (content document.new ≡ put key.now (norm_in_order (view value)) (content document.old)) }
     ensures sound { OnOk result (IsSound (view value)) }
 {
     let value = kept_value(alloc, value)?;
@@ -51,7 +51,7 @@ fn put_normal(
 
 /// The bytes of a changed document. `TooDeep`, `Nul` and `TooLong` where it can't be kept, in this order.
 fn changed_body(alloc: Global, document: &Document) -> Result<Vec<u8>, ErrorKind>
-    ensures { AnswersChanged (members_of (pairs_of document.now)) result }
+    ensures { AnswersChanged (content document.now) result }
 {
     if depth_of_document(document) > LEVEL_LIMIT {
         return Err(ErrorKind::TooDeep);

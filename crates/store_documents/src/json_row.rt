@@ -5,7 +5,7 @@ ghost use Rattle.serde_json.specs.Data.{object, Members as JsonMembers};
 ghost use Rattle.serde_json.specs.View.{view as data_of};
 ghost use Rattle.bson_base.specs.Kinds.{IsPlain};
 ghost use Rattle.bson_base.specs.Value.{document as tree};
-ghost use Rattle.bson_model.specs.View.{members_of, pairs_of};
+ghost use Rattle.bson_model.specs.View.{content};
 ghost use Rattle.store_laws.specs.Reading.{Keeps, ReadsTree};
 ghost use Rattle.store_laws.specs.declared.error.ErrorKind.TheVariants.{Memory, NoId, Nul};
 ghost use Rattle.store_documents.specs.Bodies.{AnswersInput, IsOrderedBody, IsUnordered};
@@ -25,7 +25,7 @@ use store_laws::ErrorKind;
 /// else `TooLong` where they are over 16777216; `Memory` where a growth was refused. Of a document with such bytes it is known
 /// that it is sound.
 fn ordered_body(alloc: Global, document: &Document) -> Result<Vec<u8>, ErrorKind>
-    ensures { MatchResult result (λ b. IsOrderedBody b.items (members_of (pairs_of document.now))) (IsUnordered (members_of (pairs_of document.now))) }
+    ensures { MatchResult result (λ b. IsOrderedBody b.items (content document.now)) (IsUnordered (content document.now)) }
 {
     match meaning_key(alloc, document) {
         Ok(body) => {
@@ -40,8 +40,8 @@ fn ordered_body(alloc: Global, document: &Document) -> Result<Vec<u8>, ErrorKind
 
 /// Why a document without an `_id` isn't kept.
 fn unidentified(document: &Document) -> ErrorKind
-    ensures { ((result ≡ Nul) × (IsPlain (tree (members_of (pairs_of document.now))) → ⊥))
-        ⊎ ((result ≡ NoId) × IsPlain (tree (members_of (pairs_of document.now)))) }
+    ensures { ((result ≡ Nul) × (IsPlain (tree (content document.now)) → ⊥))
+        ⊎ ((result ≡ NoId) × IsPlain (tree (content document.now))) }
 {
     if is_plain_document(document) {
         ErrorKind::NoId
@@ -52,7 +52,7 @@ fn unidentified(document: &Document) -> ErrorKind
 
 /// The row of the normal form of a document, with its keys in order, where that is kept. Neither is made as a tree.
 fn row_in_order(alloc: Global, document: &Document) -> Result<KeptRow<'static>, ErrorKind>
-    ensures { AnswersInput (Keeps (members_of (pairs_of document.now))) result }
+    ensures { AnswersInput (Keeps (content document.now)) result }
 {
     if depth_of_document(document) > LEVEL_LIMIT {
         return Err(ErrorKind::TooDeep);

@@ -7,7 +7,7 @@ ghost use Rattle.bson_base.specs.Kinds.{IsSound};
 ghost use Rattle.bson_base.specs.Value.{document as tree, Members};
 ghost use Rattle.bson_bytes.specs.Spells.{Means};
 ghost use Rattle.bson_meaning.specs.Meaning.{norm_members_in_order};
-ghost use Rattle.bson_model.specs.View.{members_of, pairs_of};
+ghost use Rattle.bson_model.specs.View.{content};
 ghost use Rattle.bson_model.specs.declared.extjson.de.Error.TheVariants as json_faults;
 ghost use Rattle.store_laws.specs.Reading.{IsRead, IsUnfit, Keeps, ReadsTree, kind_of_gate_error, readable, unreadable};
 ghost use Rattle.store_laws.specs.declared.error.ErrorKind.TheVariants.{JsonRefused, Memory, NotAnObject};
@@ -52,7 +52,7 @@ pub(crate) fn json_refusal(error: extjson::de::Error) -> ErrorKind
 /// The document that bytes mean. `Memory` where a growth was refused.
 pub(crate) fn document_of(alloc: Global, bytes: &[u8]) -> Result<Document, ErrorKind>
     requires { (d : Members) × Means bytes.now d }
-    ensures { MatchResult result (λ d. Means bytes.now (members_of (pairs_of d))) (λ k. k ≡ Memory) }
+    ensures { MatchResult result (λ d. Means bytes.now (content d)) (λ k. k ≡ Memory) }
 {
     let Ok(raw) = RawDocument::from_bytes(bytes) else {
         unreachable!()
@@ -72,7 +72,7 @@ pub(crate) fn document_of(alloc: Global, bytes: &[u8]) -> Result<Document, Error
 /// comes only where the gate refuses nothing, and where a growth was refused.
 pub fn document_of_bytes(alloc: Global, bytes: &[u8]) -> Result<Document, ErrorKind>
     ensures answer { AnswersBytes bytes.now result }
-    ensures read { IfOk result (λ d. IsRead (members_of (pairs_of d))) }
+    ensures read { IfOk result (λ d. IsRead (content d)) }
 {
     if let Err(error) = gate(bytes) {
         return Err(gate_refusal(error));
@@ -82,8 +82,8 @@ pub fn document_of_bytes(alloc: Global, bytes: &[u8]) -> Result<Document, ErrorK
 
 /// The normal form of a document, with its keys in order.
 fn in_order(alloc: Global, document: Document) -> Result<Document, AllocError>
-    ensures normal { IfOk result (λ d. members_of (pairs_of d) ≡ norm_members_in_order (members_of (pairs_of document))) }
-    ensures sound { IfOk result (λ _. IsSound (tree (members_of (pairs_of document)))) }
+    ensures normal { IfOk result (λ d. content d ≡ norm_members_in_order (content document)) }
+    ensures sound { IfOk result (λ _. IsSound (tree (content document))) }
 {
     let normal = normalize_document(alloc, document)?;
     sorted(alloc, normal)
@@ -91,9 +91,9 @@ fn in_order(alloc: Global, document: Document) -> Result<Document, AllocError>
 
 /// The normal form with its keys in order, of a document that can be kept. `TooDeep` or `Nul` where it can't be, in this order.
 fn kept(alloc: Global, document: Document) -> Result<Document, ErrorKind>
-    ensures kept { MatchResult result (λ e. Keeps (members_of (pairs_of document)) (readable (members_of (pairs_of e))))
-        (λ k. (k ≡ Memory) ⊎ IsUnfit (members_of (pairs_of document)) k) }
-    ensures sound { IfOk result (λ _. IsSound (tree (members_of (pairs_of document)))) }
+    ensures kept { MatchResult result (λ e. Keeps (content document) (readable (content e)))
+        (λ k. (k ≡ Memory) ⊎ IsUnfit (content document) k) }
+    ensures sound { IfOk result (λ _. IsSound (tree (content document))) }
 {
     if depth_of_document(&document) > LEVEL_LIMIT {
         return Err(ErrorKind::TooDeep);
@@ -121,7 +121,7 @@ pub(crate) fn object_of(json: Value) -> Option<Map<String, Value>>
 /// each where none before it is told. `Memory` where a growth was refused, and never in the place of `NotAnObject`.
 pub fn document_of_json(alloc: Global, json: Value) -> Result<Document, ErrorKind>
     ensures answer { AnswersTree (data_of json) result }
-    ensures read { IfOk result (λ d. IsRead (members_of (pairs_of d))) }
+    ensures read { IfOk result (λ d. IsRead (content d)) }
 {
     let Some(map) = object_of(json) else {
         return Err(ErrorKind::NotAnObject);

@@ -2,14 +2,14 @@
 
 ghost use Rattle.std.specs.Prelude.{◌≡◌, map};
 ghost use Rattle.bson_meaning.specs.JsonReserved.{has_reserved, reserved_in, reserved_in_items, some_reserved};
-ghost use Rattle.bson_model.specs.View.{view, items_of, members_of, pairs_of};
+ghost use Rattle.bson_model.specs.View.{view, items_of, content};
 
 use bson_model::extjson::is_reserved_key;
 use bson_model::{Bson, Document};
 
 /// Whether one of the keys is reserved.
 fn has_reserved_key(document: &Document) -> bool
-    ensures { result ≡ some_reserved (members_of (pairs_of document.now)) }
+    ensures { result ≡ some_reserved (content document.now) }
 {
     for (key, _) in document {
         if is_reserved_key(key.as_str()) {
@@ -47,7 +47,7 @@ fn have_reserved_inside(items: &[Bson]) -> bool
 /// Whether a document below this one has a reserved key. Its own keys are free.
 #[cycle(reserved)]
 pub(crate) fn has_reserved_below(document: &Document) -> bool
-    ensures { result ≡ has_reserved (members_of (pairs_of document.now)) }
+    ensures { result ≡ has_reserved (content document.now) }
 {
     for (_, value) in document {
         if has_reserved_inside(value) {

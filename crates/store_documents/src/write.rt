@@ -4,7 +4,7 @@ ghost use Rattle.std.specs.Prelude.{◌≡◌, MatchResult};
 ghost use Rattle.bson_base.specs.Kinds.{IsPlain};
 ghost use Rattle.bson_base.specs.Value.{document as tree};
 ghost use Rattle.bson_bytes.specs.Encode.{encode};
-ghost use Rattle.bson_model.specs.View.{members_of, pairs_of};
+ghost use Rattle.bson_model.specs.View.{content};
 ghost use Rattle.store_laws.specs.Reading.{IsRead};
 ghost use Rattle.store_documents.specs.Bodies.{AnswersWritten, IsBody, IsLong, IsUnwritten, refusal_of_key};
 
@@ -39,8 +39,8 @@ pub(crate) fn key_refusal(error: KeyError) -> ErrorKind
 
 /// The bytes of a document without a 00 in a key, a pattern or options. `TooLong` where they are over 2147483647, or `Memory`.
 fn encoded(alloc: Global, document: &Document) -> Result<Vec<u8>, ErrorKind>
-    requires { IsPlain (tree (members_of (pairs_of document.now))) }
-    ensures { MatchResult result (λ b. b.items ≡ encode (members_of (pairs_of document.now))) (IsLong (members_of (pairs_of document.now))) }
+    requires { IsPlain (tree (content document.now)) }
+    ensures { MatchResult result (λ b. b.items ≡ encode (content document.now)) (IsLong (content document.now)) }
 {
     match encode_document(alloc, document) {
         Ok(bytes) => Ok(bytes),
@@ -55,7 +55,7 @@ fn encoded(alloc: Global, document: &Document) -> Result<Vec<u8>, ErrorKind>
 /// The bytes of a document. `Nul` where a 00 stands in a key, a pattern or options, else `TooLong` where they are over
 /// 16777216; `Memory` where a growth was refused.
 pub(crate) fn body_of(alloc: Global, document: &Document) -> Result<Vec<u8>, ErrorKind>
-    ensures { MatchResult result (λ b. IsBody b.items (members_of (pairs_of document.now))) (IsUnwritten (members_of (pairs_of document.now))) }
+    ensures { MatchResult result (λ b. IsBody b.items (content document.now)) (IsUnwritten (content document.now)) }
 {
     if !is_plain_document(document) {
         return Err(ErrorKind::Nul);
@@ -73,7 +73,7 @@ pub(crate) fn body_of(alloc: Global, document: &Document) -> Result<Vec<u8>, Err
 /// `NoId` where it has no `_id`, else `TooLong` where its bytes are over 16777216; `Memory` where a growth was refused. A document
 /// that isn't as it is read may be refused by `Nul`, where a 00 stands in a key, a pattern or options.
 pub fn row_of_document(alloc: Global, document: &Document) -> Result<KeptRow<'static>, ErrorKind>
-    ensures { IsRead (members_of (pairs_of document.now)) → AnswersWritten (members_of (pairs_of document.now)) result }
+    ensures { IsRead (content document.now) → AnswersWritten (content document.now) result }
 {
     let Some(id) = document.get(ID_KEY) else {
         return Err(ErrorKind::NoId);

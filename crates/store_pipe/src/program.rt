@@ -1,6 +1,7 @@
 //! The program over any devices.
 
-ghost use Rattle.std.specs.Prelude.{◌≡◌, ◌⊎◌, ◌<◌, ◌^◌, ◌-◌, [], IfOk, IfErr};
+ghost use Rattle.std.specs.Prelude.{◌≡◌, ◌⊎◌, [], IfOk, IfErr};
+ghost use Rattle.bson_base.specs.Device.{CanFail, CanRefuse};
 ghost use Rattle.sqlite.specs.Steps.{over_memory};
 ghost use Rattle.store_laws.specs.declared.error.ErrorKind.TheVariants.{Memory, Database};
 ghost use Rattle.bson_table.specs.Moves.{Stands};
@@ -46,7 +47,7 @@ fn kind_of_reading(error: ReadAllError) -> ErrorKind
 
 /// Keeps the document of the input in a new store, which is there before the first byte is read.
 fn keep<I: Source>(alloc: Global, input: &mut I) -> Result<Store<MemStore>, ErrorKind>
-    requires { (I.feed input.old).failures < 2 ^ 64 - 1 }
+    requires { CanFail (I.feed input.old) }
     ensures ok { IfOk result (λ store. KeepsInput (I.feed input.old)
         (I.feed input.new) (store_state over_memory store)) }
     ensures err { IfErr result (λ kind. RefusesInput kind (I.feed input.old)
@@ -69,8 +70,8 @@ fn exchange<I: Source, O: Sink>(
     input: &mut I,
     output: &mut O,
 ) -> Result<(), ErrorKind>
-    requires input { (I.feed input.old).failures < 2 ^ 64 - 1 }
-    requires output { (O.tally output.old).failures < 2 ^ 64 - 1 }
+    requires input { CanFail (I.feed input.old) }
+    requires output { CanRefuse (O.tally output.old) }
     ensures { Exchanges (I.feed input.old)
         (I.feed input.new)
         (O.tally output.old)
@@ -96,9 +97,9 @@ pub fn pipe<I: Source, O: Sink, F: Sink>(
     output: &mut O,
     faults: &mut F,
 ) -> u8
-    requires input { (I.feed input.old).failures < 2 ^ 64 - 1 }
-    requires output { (O.tally output.old).failures < 2 ^ 64 - 1 }
-    requires faults { (F.tally faults.old).failures < 2 ^ 64 - 1 }
+    requires input { CanFail (I.feed input.old) }
+    requires output { CanRefuse (O.tally output.old) }
+    requires faults { CanRefuse (F.tally faults.old) }
     ensures { Pipes (record {
       input = I.feed input.old;
       output = O.tally output.old;

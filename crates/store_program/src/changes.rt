@@ -1,8 +1,7 @@
 //! The commands that change one document.
 
 ghost use Rattle.std.specs.Prelude.{map, string_bytes};
-ghost use Rattle.bson_table.specs.Moves.{Moves};
-ghost use Rattle.bson_store.specs.Calls.{store_state};
+ghost use Rattle.bson_store.specs.Calls.{Relates};
 ghost use Rattle.store_words.specs.declared.call.Call.TheVariants.{Insert, Replace, Set, Unset, Remove};
 ghost use Rattle.store_program.specs.Commands.{IsCommandOf, IsUnread};
 ghost use Rattle.store_program.specs.Execute.{Performs};
@@ -21,7 +20,7 @@ pub fn insert<S: Alter + Drop>(
     name: &str,
     words: &[String],
 ) -> Result<Answer, Failure>
-    ensures { Moves (store_state S.Store store.old) (store_state S.Store store.new) (Performs (IsCommandOf Insert name.now (map string_bytes words.now)) (IsUnread Insert (map string_bytes words.now)) result) }
+    ensures { Relates S.Store store.old store.new (Performs (IsCommandOf Insert name.now (map string_bytes words.now)) (IsUnread Insert (map string_bytes words.now)) result) }
 {
     let [text] = words else {
         return Err(USAGE);
@@ -37,7 +36,7 @@ pub fn replace<S: Alter + Drop>(
     name: &str,
     words: &[String],
 ) -> Result<Answer, Failure>
-    ensures { Moves (store_state S.Store store.old) (store_state S.Store store.new) (Performs (IsCommandOf Replace name.now (map string_bytes words.now)) (IsUnread Replace (map string_bytes words.now)) result) }
+    ensures { Relates S.Store store.old store.new (Performs (IsCommandOf Replace name.now (map string_bytes words.now)) (IsUnread Replace (map string_bytes words.now)) result) }
 {
     let [text] = words else {
         return Err(USAGE);
@@ -53,7 +52,7 @@ pub fn set<S: Alter + Drop>(
     name: &str,
     words: &[String],
 ) -> Result<Answer, Failure>
-    ensures { Moves (store_state S.Store store.old) (store_state S.Store store.new) (Performs (IsCommandOf Set name.now (map string_bytes words.now)) (IsUnread Set (map string_bytes words.now)) result) }
+    ensures { Relates S.Store store.old store.new (Performs (IsCommandOf Set name.now (map string_bytes words.now)) (IsUnread Set (map string_bytes words.now)) result) }
 {
     let [id, key, text] = words else {
         return Err(USAGE);
@@ -70,7 +69,7 @@ pub fn unset<S: Alter + Drop>(
     name: &str,
     words: &[String],
 ) -> Result<Answer, Failure>
-    ensures { Moves (store_state S.Store store.old) (store_state S.Store store.new) (Performs (IsCommandOf Unset name.now (map string_bytes words.now)) (IsUnread Unset (map string_bytes words.now)) result) }
+    ensures { Relates S.Store store.old store.new (Performs (IsCommandOf Unset name.now (map string_bytes words.now)) (IsUnread Unset (map string_bytes words.now)) result) }
 {
     let [id, key] = words else {
         return Err(USAGE);
@@ -86,7 +85,7 @@ pub fn remove<S: Alter + Drop>(
     name: &str,
     words: &[String],
 ) -> Result<Answer, Failure>
-    ensures { Moves (store_state S.Store store.old) (store_state S.Store store.new) (Performs (IsCommandOf Remove name.now (map string_bytes words.now)) (IsUnread Remove (map string_bytes words.now)) result) }
+    ensures { Relates S.Store store.old store.new (Performs (IsCommandOf Remove name.now (map string_bytes words.now)) (IsUnread Remove (map string_bytes words.now)) result) }
 {
     let [id] = words else {
         return Err(USAGE);

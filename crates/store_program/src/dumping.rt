@@ -1,6 +1,7 @@
 //! Documents as lines of JSON, printed while the store hands them out.
 
-ghost use Rattle.std.specs.Prelude.{◌≡◌, ◌<◌, ◌^◌, ◌-◌, false};
+ghost use Rattle.std.specs.Prelude.{◌≡◌, false};
+ghost use Rattle.bson_base.specs.Device.{CanRefuse};
 
 use crate::printing::print_tree;
 use bson_store::{ErrorKind, Sink, StoreError, TakeJson};
@@ -13,7 +14,7 @@ pub struct Printer<'w, O: Sink> {
     pub output: &'w mut O,
     pub alloc: Global,
     pub failed: bool,
-    ghost ready: { failed ≡ false → (O.tally output.now).failures < 2 ^ 64 - 1 },
+    ghost ready: { failed ≡ false → CanRefuse (O.tally output.now) },
 }
 
 impl<'w, O: Sink> TakeJson for Printer<'w, O> {

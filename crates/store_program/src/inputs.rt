@@ -1,8 +1,8 @@
 //! The commands that take in many documents.
 
-ghost use Rattle.std.specs.Prelude.{◌<◌, ◌^◌, ◌-◌, map, string_bytes};
-ghost use Rattle.bson_table.specs.Moves.{Moves};
-ghost use Rattle.bson_store.specs.Calls.{store_state};
+ghost use Rattle.std.specs.Prelude.{map, string_bytes};
+ghost use Rattle.bson_base.specs.Device.{CanFail};
+ghost use Rattle.bson_store.specs.Calls.{Relates};
 ghost use Rattle.store_words.specs.declared.call.Call.TheVariants.{Import, Load};
 ghost use Rattle.store_program.specs.Commands.{Complains, IsOfLines, IsOfStream};
 ghost use Rattle.store_program.specs.Execute.{PerformsFed};
@@ -21,8 +21,8 @@ pub fn import<S: Alter + Drop, I: Source>(
     words: &[String],
     input: &mut I,
 ) -> Result<Answer, Failure>
-    requires { (I.feed input.old).failures < 2 ^ 64 - 1 }
-    ensures { Moves (store_state S.Store store.old) (store_state S.Store store.new) (PerformsFed (IsOfStream name.now (I.feed input.old) (I.feed input.new))
+    requires { CanFail (I.feed input.old) }
+    ensures { Relates S.Store store.old store.new (PerformsFed (IsOfStream name.now (I.feed input.old) (I.feed input.new))
         (Complains Import (map string_bytes words.now) (I.feed input.old) (I.feed input.new)) (I.feed input.old) (I.feed input.new) result) }
 {
     if !words.is_empty() {
@@ -39,8 +39,8 @@ pub fn load<S: Alter + Drop, I: Source>(
     words: &[String],
     input: &mut I,
 ) -> Result<Answer, Failure>
-    requires { (I.feed input.old).failures < 2 ^ 64 - 1 }
-    ensures { Moves (store_state S.Store store.old) (store_state S.Store store.new) (PerformsFed (IsOfLines name.now (I.feed input.old) (I.feed input.new))
+    requires { CanFail (I.feed input.old) }
+    ensures { Relates S.Store store.old store.new (PerformsFed (IsOfLines name.now (I.feed input.old) (I.feed input.new))
         (Complains Load (map string_bytes words.now) (I.feed input.old) (I.feed input.new)) (I.feed input.old) (I.feed input.new) result) }
 {
     if !words.is_empty() {

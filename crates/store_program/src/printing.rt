@@ -1,6 +1,7 @@
 //! What is printed of an answer.
 
-ghost use Rattle.std.specs.Prelude.{◌≡◌, ◌<◌, ◌^◌, ◌-◌, MatchResult};
+ghost use Rattle.std.specs.Prelude.{◌≡◌, MatchResult};
+ghost use Rattle.bson_base.specs.Device.{CanRefuse};
 ghost use Rattle.store_laws.specs.declared.error.ErrorKind.TheVariants.{Writer};
 ghost use Rattle.store_program.specs.Execute.{IsFault};
 
@@ -13,7 +14,7 @@ use store_words::{write_flag, write_line, write_number};
 
 /// Writes a tree on one line.
 pub fn print_tree<O: Sink>(alloc: Global, tree: &Value, output: &mut O) -> Result<(), StoreError>
-    requires { (O.tally output.old).failures < 2 ^ 64 - 1 }
+    requires { CanRefuse (O.tally output.old) }
     ensures { MatchResult result (λ _. (O.tally output.new).failures ≡ (O.tally output.old).failures) (IsFault Writer (O.tally output.old).failures (O.tally output.new).failures) }
 {
     let text = tree.to_string(alloc)?;
@@ -23,7 +24,7 @@ pub fn print_tree<O: Sink>(alloc: Global, tree: &Value, output: &mut O) -> Resul
 
 /// Writes documents, one after the other.
 fn print_documents<O: Sink>(documents: &[Vec<u8>], output: &mut O) -> Result<(), StoreError>
-    requires { (O.tally output.old).failures < 2 ^ 64 - 1 }
+    requires { CanRefuse (O.tally output.old) }
     ensures { MatchResult result (λ _. (O.tally output.new).failures ≡ (O.tally output.old).failures) (IsFault Writer (O.tally output.old).failures (O.tally output.new).failures) }
 {
     for document in documents {
@@ -34,7 +35,7 @@ fn print_documents<O: Sink>(documents: &[Vec<u8>], output: &mut O) -> Result<(),
 
 /// Writes names, one a line.
 fn print_names<O: Sink>(names: &[String], output: &mut O) -> Result<(), StoreError>
-    requires { (O.tally output.old).failures < 2 ^ 64 - 1 }
+    requires { CanRefuse (O.tally output.old) }
     ensures { MatchResult result (λ _. (O.tally output.new).failures ≡ (O.tally output.old).failures) (IsFault Writer (O.tally output.old).failures (O.tally output.new).failures) }
 {
     for name in names {
@@ -45,7 +46,7 @@ fn print_names<O: Sink>(names: &[String], output: &mut O) -> Result<(), StoreErr
 
 /// Writes an answer. Refused by Writer, where a write failed, and by Memory, where it was wanted for a text.
 pub fn print<O: Sink>(alloc: Global, answer: &Answer, output: &mut O) -> Result<(), StoreError>
-    requires { (O.tally output.old).failures < 2 ^ 64 - 1 }
+    requires { CanRefuse (O.tally output.old) }
     ensures { MatchResult result (λ _. (O.tally output.new).failures ≡ (O.tally output.old).failures) (IsFault Writer (O.tally output.old).failures (O.tally output.new).failures) }
 {
     match answer {

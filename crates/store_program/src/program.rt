@@ -1,8 +1,8 @@
 //! A command of the program, from its words to its status.
 
-ghost use Rattle.std.specs.Prelude.{◌≡◌, ◌≤◌, ◌<◌, ◌^◌, ◌-◌, Result};
-ghost use Rattle.bson_table.specs.Moves.{Moves};
-ghost use Rattle.bson_store.specs.Calls.{store_state};
+ghost use Rattle.std.specs.Prelude.{◌≡◌, ◌≤◌, Result};
+ghost use Rattle.bson_base.specs.Device.{CanFail, CanRefuse};
+ghost use Rattle.bson_store.specs.Calls.{Relates};
 ghost use Rattle.store_program.specs.Execute.{Executes, Reports, SilentUnread, Tells};
 ghost use Rattle.store_program.specs.declared.stop.Failure.{Failure as Outcome};
 
@@ -19,7 +19,7 @@ use store_words::{Call, Words, write_complaint, write_refusal};
 
 /// Prints what a command answers. Of one that isn't done nothing is printed.
 fn print_outcome<O: Sink>(alloc: Global, outcome: Result<Answer, Failure>, output: &mut O) -> Result<(), Failure>
-    requires { (O.tally output.old).failures < 2 ^ 64 - 1 }
+    requires { CanRefuse (O.tally output.old) }
     ensures told { Tells outcome result (O.tally output.old).failures (O.tally output.new).failures }
     ensures unread { SilentUnread result output.old output.new }
 {
@@ -40,9 +40,9 @@ fn perform_and_print<S: Alter + Drop, I: Source, O: Sink>(
     input: &mut I,
     output: &mut O,
 ) -> Result<(), Failure>
-    requires input { (I.feed input.old).failures < 2 ^ 64 - 1 }
-    requires output { (O.tally output.old).failures < 2 ^ 64 - 1 }
-    ensures step { Moves (store_state S.Store store.old) (store_state S.Store store.new) (Executes words.now (I.feed input.old) (I.feed input.new)
+    requires input { CanFail (I.feed input.old) }
+    requires output { CanRefuse (O.tally output.old) }
+    ensures step { Relates S.Store store.old store.new (Executes words.now (I.feed input.old) (I.feed input.new)
         (O.tally output.old) (O.tally output.new) result) }
     ensures unread { SilentUnread result output.old output.new }
 {
@@ -79,15 +79,15 @@ pub fn execute<S: Alter + Drop, I: Source, O: Sink, F: Sink>(
     output: &mut O,
     faults: &mut F,
 ) -> u8
-    requires input { (I.feed input.old).failures < 2 ^ 64 - 1 }
-    requires output { (O.tally output.old).failures < 2 ^ 64 - 1 }
-    requires faults { (F.tally faults.old).failures < 2 ^ 64 - 1 }
+    requires input { CanFail (I.feed input.old) }
+    requires output { CanRefuse (O.tally output.old) }
+    requires faults { CanRefuse (F.tally faults.old) }
     ensures status { result ≤ 2 }
     ensures silent { result ≡ 0 → faults.new ≡ faults.old }
     ensures unread { result ≡ 2 → output.new ≡ output.old }
     // What was done, and that just this is reported: the refusal of the command's own step, or of a device exactly if that failed.
     ensures step { (outcome : Result (Unit {0}) Outcome) × Reports outcome result (F.tally faults.old) (F.tally faults.new)
-        × Moves (store_state S.Store store.old) (store_state S.Store store.new) (Executes words.now (I.feed input.old) (I.feed input.new)
+        × Relates S.Store store.old store.new (Executes words.now (I.feed input.old) (I.feed input.new)
         (O.tally output.old) (O.tally output.new) outcome) }
 {
     match perform_and_print(alloc, store, words, input, output) {

@@ -1,12 +1,11 @@
 //! The commands that read.
 
-ghost use Rattle.std.specs.Prelude.{◌<◌, ◌^◌, ◌-◌, map, string_bytes};
-ghost use Rattle.bson_table.specs.Moves.{Moves};
-ghost use Rattle.bson_store.specs.Calls.{store_state};
+ghost use Rattle.std.specs.Prelude.{map, string_bytes};
+ghost use Rattle.bson_store.specs.Calls.{Relates};
 ghost use Rattle.store_words.specs.declared.call.Call.TheVariants.{Get, Find, Count, Export, Dump, Collections};
 ghost use Rattle.store_program.specs.Commands.{IsCommandOf, IsUnread};
 ghost use Rattle.store_program.specs.Execute.{Comes, Executed, Performs, SilentUnread};
-ghost use Rattle.bson_base.specs.Device.{Feed};
+ghost use Rattle.bson_base.specs.Device.{Feed, CanRefuse};
 
 use crate::answer::{Answer, documents, names, number, tree};
 use crate::dumping::Printer;
@@ -23,7 +22,7 @@ pub fn get<S: Alter + Drop>(
     name: &str,
     words: &[String],
 ) -> Result<Answer, Failure>
-    ensures { Moves (store_state S.Store store.old) (store_state S.Store store.new) (Performs (IsCommandOf Get name.now (map string_bytes words.now)) (IsUnread Get (map string_bytes words.now)) result) }
+    ensures { Relates S.Store store.old store.new (Performs (IsCommandOf Get name.now (map string_bytes words.now)) (IsUnread Get (map string_bytes words.now)) result) }
 {
     let Some((id, form)) = words.split_first() else {
         return Err(USAGE);
@@ -40,8 +39,8 @@ pub fn export<S: Alter + Drop, O: Sink>(
     words: &[String],
     output: &mut O,
 ) -> Result<(), Failure>
-    requires { (O.tally output.old).failures < 2 ^ 64 - 1 }
-    ensures step { (f : Feed) → Moves (store_state S.Store store.old) (store_state S.Store store.new) (Comes (Executed Export name.now (map string_bytes words.now) f f (O.tally output.old) (O.tally output.new) result)) }
+    requires { CanRefuse (O.tally output.old) }
+    ensures step { (f : Feed) → Relates S.Store store.old store.new (Comes (Executed Export name.now (map string_bytes words.now) f f (O.tally output.old) (O.tally output.new) result)) }
     ensures unread { SilentUnread result output.old output.new }
 {
     if !words.is_empty() {
@@ -60,7 +59,7 @@ pub fn find<S: Alter + Drop>(
     name: &str,
     words: &[String],
 ) -> Result<Answer, Failure>
-    ensures { Moves (store_state S.Store store.old) (store_state S.Store store.new) (Performs (IsCommandOf Find name.now (map string_bytes words.now)) (IsUnread Find (map string_bytes words.now)) result) }
+    ensures { Relates S.Store store.old store.new (Performs (IsCommandOf Find name.now (map string_bytes words.now)) (IsUnread Find (map string_bytes words.now)) result) }
 {
     let [text] = words else {
         return Err(USAGE);
@@ -76,7 +75,7 @@ pub fn count<S: Alter + Drop>(
     name: &str,
     words: &[String],
 ) -> Result<Answer, Failure>
-    ensures { Moves (store_state S.Store store.old) (store_state S.Store store.new) (Performs (IsCommandOf Count name.now (map string_bytes words.now)) (IsUnread Count (map string_bytes words.now)) result) }
+    ensures { Relates S.Store store.old store.new (Performs (IsCommandOf Count name.now (map string_bytes words.now)) (IsUnread Count (map string_bytes words.now)) result) }
 {
     let [text] = words else {
         return Err(USAGE);
@@ -94,8 +93,8 @@ pub fn dump<S: Alter + Drop, O: Sink>(
     words: &[String],
     output: &mut O,
 ) -> Result<(), Failure>
-    requires { (O.tally output.old).failures < 2 ^ 64 - 1 }
-    ensures step { (f : Feed) → Moves (store_state S.Store store.old) (store_state S.Store store.new) (Comes (Executed Dump name.now (map string_bytes words.now) f f (O.tally output.old) (O.tally output.new) result)) }
+    requires { CanRefuse (O.tally output.old) }
+    ensures step { (f : Feed) → Relates S.Store store.old store.new (Comes (Executed Dump name.now (map string_bytes words.now) f f (O.tally output.old) (O.tally output.new) result)) }
     ensures unread { SilentUnread result output.old output.new }
 {
     if !words.is_empty() {
@@ -128,7 +127,7 @@ pub fn collections<S: Alter + Drop>(
     name: &str,
     words: &[String],
 ) -> Result<Answer, Failure>
-    ensures { Moves (store_state S.Store store.old) (store_state S.Store store.new) (Performs (IsCommandOf Collections name.now (map string_bytes words.now)) (IsUnread Collections (map string_bytes words.now)) result) }
+    ensures { Relates S.Store store.old store.new (Performs (IsCommandOf Collections name.now (map string_bytes words.now)) (IsUnread Collections (map string_bytes words.now)) result) }
 {
     if !words.is_empty() {
         return Err(USAGE);

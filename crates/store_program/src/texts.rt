@@ -1,6 +1,7 @@
 //! What the texts among the words of a command stand for.
 
-ghost use Rattle.std.specs.Prelude.{◌≡◌, ◌<◌, ◌^◌, ◌-◌, ℕ, List, Some, Err, IfErr, OnOk, MatchResult, map, string_bytes};
+ghost use Rattle.std.specs.Prelude.{◌≡◌, ℕ, List, Some, Err, IfErr, OnOk, MatchResult, map, string_bytes};
+ghost use Rattle.bson_base.specs.Device.{CanFail};
 ghost use Rattle.serde_json.specs.Data.{Data};
 ghost use Rattle.serde_json.specs.Read.{read as data_of_text};
 ghost use Rattle.serde_json.specs.View.{view as data_of};
@@ -101,7 +102,7 @@ fn judged_lines(alloc: Global, bytes: &[u8]) -> Result<Loader, Failure>
 
 /// The trees of the input's lines, judged. The input is read to its end.
 pub fn judged_input<I: Source>(alloc: Global, input: &mut I) -> Result<Loader, Failure>
-    requires { (I.feed input.old).failures < 2 ^ 64 - 1 }
+    requires { CanFail (I.feed input.old) }
     ensures { MatchResult result (λ l. TookSome (I.feed input.old) (I.feed input.new) × ((js : List Data) × HasTaken l js)) (StopsLines (I.feed input.old) (I.feed input.new)) }
 {
     let bytes = match read_all(alloc, input) {

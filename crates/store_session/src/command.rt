@@ -1,8 +1,7 @@
 //! A line of a session, from its bytes to what comes of it.
 
 ghost use Rattle.std.specs.Prelude.{[], ◌∷◌, ℕ, List, map, string_bytes};
-ghost use Rattle.bson_table.specs.Moves.{Moves};
-ghost use Rattle.bson_store.specs.Calls.{store_state};
+ghost use Rattle.bson_store.specs.Calls.{Relates};
 ghost use Rattle.session_lines.specs.Line.{Keeps};
 ghost use Rattle.store_session.specs.Answering.{ComesOf, Grants, Obeys, ReadsLine};
 
@@ -33,7 +32,7 @@ fn perform<S: Alter + Drop>(
     words: &[String],
     input: &[u8],
 ) -> Outcome
-    ensures { Moves (store_state S.Store store.old) (store_state S.Store store.new) (Obeys (map string_bytes words.now) input.now result) }
+    ensures { Relates S.Store store.old store.new (Obeys (map string_bytes words.now) input.now result) }
 {
     let Some(words) = read_words(words) else {
         return Outcome::complaint(alloc, Form::Text, UsageError::Usage);
@@ -52,7 +51,7 @@ fn perform<S: Alter + Drop>(
 
 /// Does what a request asks for.
 fn grant<S: Alter + Drop>(alloc: Global, store: &mut Store<S>, request: Request) -> Outcome
-    ensures { Moves (store_state S.Store store.old) (store_state S.Store store.new) (Grants (map string_bytes request.words.items) request.input.items result) }
+    ensures { Relates S.Store store.old store.new (Grants (map string_bytes request.words.items) request.input.items result) }
 {
     let mut words = request.words;
     match words.insert(0, String::new(alloc)) {
@@ -68,7 +67,7 @@ pub fn obey<S: Alter + Drop>(
     number: u64,
     line: &Line,
 ) -> Outcome
-    ensures { (text : List ℕ) → Keeps line.now text → Moves (store_state S.Store store.old) (store_state S.Store store.new) (ComesOf number text result) }
+    ensures { (text : List ℕ) → Keeps line.now text → Relates S.Store store.old store.new (ComesOf number text result) }
 {
     match request_of(alloc, line) {
         Ok(request) => grant(alloc, store, request),

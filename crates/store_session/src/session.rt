@@ -1,8 +1,8 @@
 //! The session, over any devices.
 
-ghost use Rattle.std.specs.Prelude.{◌<◌, ◌^◌, ◌-◌, ℕ, List};
-ghost use Rattle.bson_table.specs.Moves.{Moves};
-ghost use Rattle.bson_store.specs.Calls.{store_state};
+ghost use Rattle.std.specs.Prelude.{ℕ, List};
+ghost use Rattle.bson_base.specs.Device.{CanFail, CanRefuse};
+ghost use Rattle.bson_store.specs.Calls.{Relates};
 ghost use Rattle.session_lines.specs.Line.{Keeps};
 ghost use Rattle.store_session.specs.Answering.{Answers};
 ghost use Rattle.store_session.specs.Session.{Ends, Holds, Sends, Turn};
@@ -22,9 +22,9 @@ fn reply<S: Alter + Drop, O: Sink>(
     line: &Line,
     output: &mut O,
 ) -> Result<(), ErrorKind>
-    requires { (O.tally output.old).failures < 2 ^ 64 - 1 }
+    requires { CanRefuse (O.tally output.old) }
     ensures { (answer : List ℕ) × Sends result answer (O.tally output.old) (O.tally output.new)
-        × ((text : List ℕ) → Keeps line.now text → Moves (store_state S.Store store.old) (store_state S.Store store.new) (Answers number text answer)) }
+        × ((text : List ℕ) → Keeps line.now text → Relates S.Store store.old store.new (Answers number text answer)) }
 {
     if line.kept == Kept::Whole && line.bytes.is_empty() {
         return Ok(());
@@ -47,10 +47,10 @@ pub fn serve<S: Alter + Drop, I: Source, O: Sink>(
     input: &mut I,
     output: &mut O,
 ) -> Result<(), ErrorKind>
-    requires input { (I.feed input.old).failures < 2 ^ 64 - 1 }
-    requires output { (O.tally output.old).failures < 2 ^ 64 - 1 }
+    requires input { CanFail (I.feed input.old) }
+    requires output { CanRefuse (O.tally output.old) }
     ensures { (turns : List Turn) × Ends result turns (I.feed input.old) (I.feed input.new) (O.tally output.old) (O.tally output.new)
-        × Moves (store_state S.Store store.old) (store_state S.Store store.new) (Holds 1 turns) }
+        × Relates S.Store store.old store.new (Holds 1 turns) }
 {
     let Ok(mut lines) = Lines::new(alloc) else {
         return Err(ErrorKind::Memory);

@@ -1,8 +1,8 @@
 //! The lines that the program prints.
 
-ghost use Rattle.std.specs.Prelude.{◌≡◌, ◌<◌, ◌^◌, ◌-◌, OnOk, OnErr, decimal};
+ghost use Rattle.std.specs.Prelude.{◌≡◌, OnOk, OnErr, decimal};
 ghost use Rattle.std.specs.Io.KnownBytes.{Appends};
-ghost use Rattle.bson_base.specs.Device.{Counts, TakesBeginning};
+ghost use Rattle.bson_base.specs.Device.{Counts, TakesBeginning, CanRefuse};
 ghost use Rattle.store_words.specs.Lines.{collision_line, complaint_line, flag_text, concatenation, line, refusal_line};
 
 use bson_base::{DeviceFault, Sink, write_all};
@@ -26,7 +26,7 @@ pub enum UsageError {
 
 /// Writes texts, one after the other.
 fn write_parts<S: Sink>(sink: &mut S, parts: &[&str]) -> Result<(), DeviceFault>
-    requires { (S.tally sink.old).failures < 2 ^ 64 - 1 }
+    requires { CanRefuse (S.tally sink.old) }
     ensures counts { Counts (S.tally sink.old).failures (S.tally sink.new).failures result }
     ensures ok { OnOk result (Appends (S.tally sink.old).taken (S.tally sink.new).taken (concatenation parts.now)) }
     ensures err { OnErr result (TakesBeginning (S.tally sink.old).taken (S.tally sink.new).taken (concatenation parts.now)) }
@@ -39,7 +39,7 @@ fn write_parts<S: Sink>(sink: &mut S, parts: &[&str]) -> Result<(), DeviceFault>
 
 /// Writes a text and a line feed. After a failure a beginning of the line was written.
 pub fn write_line<S: Sink>(sink: &mut S, text: &str) -> Result<(), DeviceFault>
-    requires { (S.tally sink.old).failures < 2 ^ 64 - 1 }
+    requires { CanRefuse (S.tally sink.old) }
     ensures counts { Counts (S.tally sink.old).failures (S.tally sink.new).failures result }
     ensures ok { OnOk result (Appends (S.tally sink.old).taken (S.tally sink.new).taken (line text.now)) }
     ensures err { OnErr result (TakesBeginning (S.tally sink.old).taken (S.tally sink.new).taken (line text.now)) }
@@ -49,7 +49,7 @@ pub fn write_line<S: Sink>(sink: &mut S, text: &str) -> Result<(), DeviceFault>
 
 /// Writes a number in decimal and a line feed. After a failure a beginning of the line was written.
 pub fn write_number<S: Sink>(sink: &mut S, number: u64) -> Result<(), DeviceFault>
-    requires { (S.tally sink.old).failures < 2 ^ 64 - 1 }
+    requires { CanRefuse (S.tally sink.old) }
     ensures counts { Counts (S.tally sink.old).failures (S.tally sink.new).failures result }
     ensures ok { OnOk result (Appends (S.tally sink.old).taken (S.tally sink.new).taken (line (decimal number))) }
     ensures err { OnErr result (TakesBeginning (S.tally sink.old).taken (S.tally sink.new).taken (line (decimal number))) }
@@ -60,7 +60,7 @@ pub fn write_number<S: Sink>(sink: &mut S, number: u64) -> Result<(), DeviceFaul
 
 /// Writes `true` or `false` and a line feed. After a failure a beginning of the line was written.
 pub fn write_flag<S: Sink>(sink: &mut S, flag: bool) -> Result<(), DeviceFault>
-    requires { (S.tally sink.old).failures < 2 ^ 64 - 1 }
+    requires { CanRefuse (S.tally sink.old) }
     ensures counts { Counts (S.tally sink.old).failures (S.tally sink.new).failures result }
     ensures ok { OnOk result (Appends (S.tally sink.old).taken (S.tally sink.new).taken (line (flag_text flag))) }
     ensures err { OnErr result (TakesBeginning (S.tally sink.old).taken (S.tally sink.new).taken (line (flag_text flag))) }
@@ -75,7 +75,7 @@ fn write_collision<S: Sink>(
     first: &str,
     second: &str,
 ) -> Result<(), DeviceFault>
-    requires { (S.tally sink.old).failures < 2 ^ 64 - 1 }
+    requires { CanRefuse (S.tally sink.old) }
     ensures counts { Counts (S.tally sink.old).failures (S.tally sink.new).failures result }
     ensures ok { OnOk result (Appends (S.tally sink.old).taken (S.tally sink.new).taken (collision_line name.now first.now second.now)) }
     ensures err { OnErr result (TakesBeginning (S.tally sink.old).taken (S.tally sink.new).taken (collision_line name.now first.now second.now)) }
@@ -91,7 +91,7 @@ pub fn write_refusal<S: Sink>(
     kind: ErrorKind,
     document: Option<u64>,
 ) -> Result<(), DeviceFault>
-    requires { (S.tally sink.old).failures < 2 ^ 64 - 1 }
+    requires { CanRefuse (S.tally sink.old) }
     ensures counts { Counts (S.tally sink.old).failures (S.tally sink.new).failures result }
     ensures ok { OnOk result (Appends (S.tally sink.old).taken (S.tally sink.new).taken (refusal_line kind document)) }
     ensures err { OnErr result (TakesBeginning (S.tally sink.old).taken (S.tally sink.new).taken (refusal_line kind document)) }
@@ -118,7 +118,7 @@ pub fn write_refusal<S: Sink>(
 /// Writes the line that tells what is wrong with the words, as `words: usage`. After a failure a beginning of the line was
 /// written.
 pub fn write_complaint<S: Sink>(sink: &mut S, complaint: UsageError) -> Result<(), DeviceFault>
-    requires { (S.tally sink.old).failures < 2 ^ 64 - 1 }
+    requires { CanRefuse (S.tally sink.old) }
     ensures counts { Counts (S.tally sink.old).failures (S.tally sink.new).failures result }
     ensures ok { OnOk result (Appends (S.tally sink.old).taken (S.tally sink.new).taken (complaint_line complaint)) }
     ensures err { OnErr result (TakesBeginning (S.tally sink.old).taken (S.tally sink.new).taken (complaint_line complaint)) }

@@ -5,7 +5,7 @@ ghost use Rattle.bson_base.specs.Answer.{result_map};
 ghost use Rattle.bson_model.specs.Accessors.{of_kind, as_document};
 ghost use Rattle.bson_model.specs.Keyed.{get};
 ghost use Rattle.bson_model.specs.Lending.{LendsDocumentIn};
-ghost use Rattle.bson_model.specs.View.{pair_view, pairs_of, members_of};
+ghost use Rattle.bson_model.specs.View.{pair_view, content};
 
 use crate::bson::Bson;
 use crate::document::{Document, ValueAccessError, ValueAccessResult};
@@ -17,7 +17,7 @@ pub(crate) fn document_in<'a>(
     key: &str,
 ) -> ValueAccessResult<&'a mut Document>
     ensures* writes_back { sem 𝓛 (LendsDocumentIn pairs.entry key.now result) }
-    ensures value { result_map (λ d. members_of (pairs_of d.now)) result ≡ of_kind as_document (get key.now (map pair_view pairs.old)) }
+    ensures value { result_map (λ d. content d.now) result ≡ of_kind as_document (get key.now (map pair_view pairs.old)) }
 {
     match pairs.get_mut(key) {
         Some(value) => match value.as_document_mut() {

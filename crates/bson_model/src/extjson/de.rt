@@ -2,7 +2,7 @@
 ghost use Rattle.std.specs.Prelude.{◌≡◌, map, string_bytes};
 ghost use Rattle.std.specs.Option.{option_map};
 ghost use Rattle.serde_json.specs.View.{view as data_of, number_view, items_view, members_view};
-ghost use Rattle.bson_model.specs.View.{view, pairs_of, items_of, members_of};
+ghost use Rattle.bson_model.specs.View.{view, items_of, content};
 ghost use Rattle.bson_model.specs.JsonKeys.{any_reserved};
 ghost use Rattle.bson_model.specs.JsonRead.{GivesReading, read as value_of, read_items as items_read, read_members as members_read, read_typed as typed_of, read_scope as scope_of, text_of as spec_text, whole, code_and_scope as spec_scoped, integer as integer_of};
 ghost use Rattle.serde_json.specs.Find.{as_i64};
@@ -107,7 +107,7 @@ fn read_number(n: Number) -> Result<Bson>
 }
 
 fn with_scope(code: String, scope: Option<Document>) -> Bson
-    ensures { view result ≡ spec_scoped (string_bytes code) (option_map (λ d. members_of (pairs_of d)) scope) }
+    ensures { view result ≡ spec_scoped (string_bytes code) (option_map (λ d. content d) scope) }
 {
     match scope {
         Some(scope) => Bson::JavaScriptCodeWithScope(JavaScriptCodeWithScope { code, scope }),
@@ -151,7 +151,7 @@ fn read_items(alloc: Global, items: Vec<Value>, levels: u32) -> Result<Vec<Bson>
 
 #[cycle(read)]
 fn read_members(alloc: Global, members: Map<String, Value>, levels: u32) -> Result<Document>
-    ensures { GivesReading (λ d. members_of (pairs_of d)) result (members_read (members_view members.entries)) }
+    ensures { GivesReading (λ d. content d) result (members_read (members_view members.entries)) }
 {
     let mut document = Document::new(alloc);
     for (key, value) in members {
@@ -185,7 +185,7 @@ fn read_typed(alloc: Global, members: Map<String, Value>, levels: u32) -> Result
 
 #[cycle(read)]
 fn read_scope(alloc: Global, scope: Value, levels: u32) -> Result<Option<Document>>
-    ensures { GivesReading (λ o. option_map (λ d. members_of (pairs_of d)) o) result (scope_of (data_of scope)) }
+    ensures { GivesReading (λ o. option_map (λ d. content d) o) result (scope_of (data_of scope)) }
 {
     match scope {
         Value::Null => Ok(None),
@@ -228,13 +228,12 @@ impl Bson {
 impl Document {
     ghost use Rattle.std.specs.Prelude.{◌≡◌};
     ghost use Rattle.serde_json.specs.View.{members_view};
-    ghost use Rattle.bson_model.specs.View.{pairs_of, members_of};
     ghost use Rattle.bson_model.specs.JsonRead.{GivesReading, read_members};
 
     /// The document of a JSON object, whose own keys are never taken for reserved ones; those of the objects below are. The
     /// errors are those of `Bson::try_from_value`.
     pub fn try_from_map(alloc: Global, map: Map<String, Value>) -> Result<Document>
-        ensures { GivesReading (λ d. members_of (pairs_of d)) result (read_members (members_view map.entries)) }
+        ensures { GivesReading (λ d. content d) result (read_members (members_view map.entries)) }
     {
         read_members(alloc, map, STACK_LEVELS - 1)
     }

@@ -11,7 +11,7 @@ ghost use Rattle.bson_base.specs.Tags.{subtype_byte};
 ghost use Rattle.bson_base.specs.Dates.{date_text as date_text_of};
 ghost use Rattle.bson_model.specs.JsonKeys as keys;
 ghost use Rattle.bson_model.specs.JsonWrite.{WritesForm, date_body as body_of, double_text as double_text_of, is_relaxed_date as is_relaxed, with_scope as with_scope_of, text_wrapper as wrapped_text_of, write, write_binary as binary_of, write_date as date_of, write_double as double_written, write_id as id_of, write_integer, write_items as items_of, write_members as members_written, write_millis as millis_of_date, write_pointer as pointer_of, write_regex as regex_of, write_timestamp as timestamp_of};
-ghost use Rattle.bson_model.specs.View.{view, pairs_of, items_of as trees_of, members_of};
+ghost use Rattle.bson_model.specs.View.{view, items_of as trees_of, content};
 
 use super::de::Error;
 use crate::bson::{Bson, JavaScriptCodeWithScope};
@@ -93,7 +93,7 @@ fn write_items(alloc: Global, items: Vec<Bson>, mode: Mode) -> Result<Vec<Value>
 
 #[cycle(write)]
 fn write_members(alloc: Global, document: Document, mode: Mode) -> Result<Map<String, Value>, Error>
-    ensures { WritesForm (λ m. members_view m.entries) result (members_written mode (members_of (pairs_of document)) no_members) }
+    ensures { WritesForm (λ m. members_view m.entries) result (members_written mode (content document) no_members) }
 {
     let mut members = Map::new(alloc);
     for (key, value) in document.pairs.into_iter() {
