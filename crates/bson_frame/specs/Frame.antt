@@ -128,7 +128,7 @@ pub record NameThenNoText (bytes : List ℕ) : Type 0 where
 abbrev pub HasNoTextInRegex : List ℕ → Type 0
 HasNoTextInRegex bytes = StartsWithNoText bytes ⊎ NameThenNoText bytes
 
--- the same, behind the key of a regular expression
+-- behind the key of a regular expression stands a pattern or options that aren't UTF-8
 pub record HasNoTextBehindKey (tag : ℕ) (bytes : List ℕ) : Type 0 where
   pub key : List ℕ
   pub rest : List ℕ

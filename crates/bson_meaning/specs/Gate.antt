@@ -65,7 +65,7 @@ ReadsElements elements inner (Err Faulty) = (ms : Members) → SpellsMembers ele
 ReadsElements elements inner (Err TooDeep) = Nests (inner + 1) elements
 ReadsElements elements inner (Err _) = ⊥
 
--- the same of a payload
+-- what testing a payload reports, where so many levels may lie inside it
 abbrev pub ReadsPayload : ElementType → List ℕ → ℕ → Result (Unit {0}) GateError → Type 0
 ReadsPayload tag payload inner (Ok x) = (v : Value) × (value_kind v ≡ tag) × SpellsValue payload v × (levels v ≤ inner)
 ReadsPayload tag payload inner (Err Faulty) = (v : Value) → value_kind v ≡ tag → SpellsValue payload v → ⊥

@@ -24,7 +24,7 @@ ShowsScalar (views.Document x) = ⊥
 ShowsScalar (views.JavaScriptCodeWithScope x) = ⊥
 ShowsScalar _ = Unit {0}
 
--- nor a kind that has a normal form of its own
+-- the view shows a scalar of a kind that is its own normal form: no double, regular expression, binary value or decimal
 abbrev pub ShowsFixed : RawBsonRef → Type 0
 ShowsFixed (views.Double x) = ⊥
 ShowsFixed (views.RegularExpression x) = ⊥
@@ -32,7 +32,7 @@ ShowsFixed (views.Binary x) = ⊥
 ShowsFixed (views.Decimal128 x) = ⊥
 ShowsFixed raw = ShowsScalar raw
 
--- nor a text
+-- the view shows a scalar that is its own normal form and holds no text
 abbrev pub ShowsNumber : RawBsonRef → Type 0
 ShowsNumber (views.String x) = ⊥
 ShowsNumber (views.JavaScriptCode x) = ⊥

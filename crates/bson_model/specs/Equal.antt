@@ -2,7 +2,7 @@
 use Rattle.std.specs.Prelude.{◌≡◌, ℕ, List, IsSomeAnd}
 use Rattle.bson_base.specs.Value.{Value, scalar, array, document, scoped_code, Items, no_items, item, Members, no_members, member, has_key, look_up}
 
--- the same keys
+-- two documents have the same keys
 abbrev pub SameKeys : Members → Members → Type 0
 SameKeys ms ns = (k : List ℕ) → has_key k ms ≡ has_key k ns
 

@@ -222,7 +222,7 @@ abbrev mutual
 
 -- ---- what a call answers
 
--- that fault, unless memory ran out
+-- the result is this fault; where the fault is that memory ran out, nothing is said of it
 abbrev pub Fails : {Y : Type 0} → Error → Result Y Error → Type 0
 Fails Memory r = Unit {0}
 Fails (InvalidObjectId e) r = r ≡ Err (InvalidObjectId e)

@@ -34,11 +34,11 @@ abbrev pub only_where : (ℤ → Bool) → Option ℤ → Option ℤ
 only_where p None = None
 only_where p (Some z) = if p z then Some z else None
 
--- of 32 bits
+-- the whole number of 32 bits that a text spells
 unfoldable pub int_of : List ℕ → Option ℤ
 int_of t = only_where fits_32 (integer_of t)
 
--- of 64 bits
+-- the whole number of 64 bits that a text spells
 unfoldable pub long_of : List ℕ → Option ℤ
 long_of t = only_where fits_64 (integer_of t)
 
@@ -83,7 +83,7 @@ double_of t = read_unsigned_double (sign_and_rest t)
 
 -- ---- a byte
 
--- of two digits, the high one first
+-- the byte that two digits spell, the high one first
 abbrev pub byte_from : Option ℕ → Option ℕ → Option ℕ
 byte_from (Some h) (Some l) = Some (h * 16 + l)
 byte_from _ _ = None

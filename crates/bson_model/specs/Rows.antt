@@ -48,6 +48,6 @@ decimal128_row = decimal128.the_row
 abbrev pub timestamp_row : RattleType
 timestamp_row = timestamp.the_row
 
--- the same with other bytes
+-- the binary value with other bytes
 abbrev pub with_bytes : Binary → Vec ℕ Global → Binary
 with_bytes b bs = record b { bytes = bs }

@@ -14,7 +14,7 @@ module _ (V : RattleType) (m : MutBor (List (Key × V.Denot))) where
   abbrev pub LendsUnder : Key → Option (MutBor V.Denot) → Fml
   LendsUnder k r = LendsSo (the_row V) V m r (λ n w. OnSome r (n ≡ put k w m.now)) (λ n. n ≡ m.now)
 
-  -- the same where the place is there
+  -- the value at i, which is there, becomes the last one written through r
   abbrev pub LendsValueOf : ℕ → MutBor V.Denot → Fml
   LendsValueOf i r = Lends (the_row V) V m r (set_at m.now i)
 

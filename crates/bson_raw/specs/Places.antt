@@ -11,7 +11,7 @@ use Rattle.bson_raw.specs.Walk.{walk_items, OnWalk}
 abbrev pub GoesOn : RawArrayBuf → Type 0
 GoesOn a = OnWalk (array_buffer_bytes a) (λ elements fault. next_place a ≡ length (walk_items elements fault))
 
--- the same, if it is an array
+-- the place of the next value is that of `GoesOn`, if the value is an array
 abbrev pub ArrayGoesOn : RawBson → Type 0
 ArrayGoesOn (Array a) = GoesOn a
 ArrayGoesOn v = Unit {0}

@@ -22,7 +22,7 @@ IsItemRead (Ok e) (Err x) = (kind : ErrorKind) × IsPayloadFault e.tag e.payload
 IsItemRead (Err kind) (Ok v) = ⊥
 IsItemRead (Err kind) (Err x) = IsBare kind x
 
--- the same, with the key beside the value
+-- an item of a walk was read as a pair: the element's key beside its value, or the fault
 abbrev pub IsPairRead : Result Element ErrorKind → Result (Bor (List ℕ) × RawBsonRef) Error → Type 0
 IsPairRead (Ok e) (Ok p) = (p.0.now ≡ e.key) × IsItemRead (Ok e) (Ok p.1)
 IsPairRead (Ok e) (Err x) = IsItemRead (Ok e) (Err x)

@@ -39,7 +39,7 @@ pub record IsValue (tag : ElementType) (payload : List ℕ) (value : RawBsonRef)
 abbrev pub IsDecoded : ElementType → List ℕ → Result RawBsonRef ErrorKind → Type 0
 IsDecoded tag payload result = MatchResult result (IsValue tag payload) (IsPayloadFault tag payload)
 
--- the same of bytes that are a payload of this kind
+-- bytes that are a payload of this kind were read: its value, or its fault
 abbrev pub Decodes : ElementType → List ℕ → Result RawBsonRef ErrorKind → Type 0
 Decodes tag payload result = IsPayload tag payload → IsDecoded tag payload result
 

@@ -34,15 +34,15 @@ Relates g old new P = Moves (store_state g old) (store_state g new) P
 abbrev pub Does : model.Command → model.Reply → List TableRow → List TableRow → Type 0
 Does c r old new = (a : DocumentTable) → Represents old a → (b : DocumentTable) × Represents new b × Serves a c r b
 
--- so does a call with bytes, which stand for what they read as
+-- a call with bytes does what the command does with what they read as
 abbrev pub DoesBytes : List ℕ → (Reading → model.Call) → List ℕ → model.Reply → List TableRow → List TableRow → Type 0
 DoesBytes n call bytes r old new = (x : Reading) × ReadsBytes bytes x × Does (model.on n (call x)) r old new
 
--- and a call with JSON
+-- a call with JSON does what the command does with what it reads as
 abbrev pub DoesTree : List ℕ → (Reading → model.Call) → Data → model.Reply → List TableRow → List TableRow → Type 0
 DoesTree n call j r old new = (x : Reading) × ReadsTree j x × Does (model.on n (call x)) r old new
 
--- a call with a document that was read, in whatever form it was given
+-- a call with a document that was read does what the command does with it, in whatever form it was given
 abbrev pub DoesRead : List ℕ → (model.Form → Reading → model.Call) → Members → model.Reply → List TableRow → List TableRow → Type 0
 DoesRead n call d r old new = (f : model.Form) → Does (model.on n (call f (readable d))) r old new
 

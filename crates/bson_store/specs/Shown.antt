@@ -33,7 +33,7 @@ pub record Represents (docs : List TableRow) (t : DocumentTable) : Type 0 where
 
 -- ---- under keys from before
 
--- so it is, but the key may be the one that the `_id` had before the two zeros of a double meant the same
+-- a row of bytes is that of a document, but its key may be the one that the `_id` had before the two zeros of a double meant the same
 pub record IsRowOnceOf (r : DocumentRow) (d : TableRow) : Type 0 where
   pub place : d.place ≡ pos r.place
   pub name : d.coll ≡ r.name

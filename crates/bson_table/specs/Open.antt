@@ -37,7 +37,7 @@ pub record Reads (old new : State) (docs : List TableRow) : Type 0 where
   pub same : docs ≡ map doc_of rows
   pub unchanged : IsUnchanged old new
 
--- it can't be: a column isn't there, or a row has a value of another type
+-- the table can't be read as rows: a column isn't there, or a row has a value of another type
 abbrev pub ReadsNot : State → State → Type 0
 ReadsNot old new =
     (((fault : CompileError) × (understood old.now.schema all_text ≡ Err fault)) ⊎ ((rows : List Row) × Shown all_text [] old new rows × (list_all is_listed rows ≡ false)))

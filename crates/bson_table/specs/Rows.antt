@@ -35,7 +35,7 @@ AreBelow place = AllByRecursion (λ d. d.place <ℤ place)
 unfoldable pub ListsTable : Trees → Type 0
 ListsTable trees = Lists (trees catalog_tree) documents_schema
 
--- or no object at all
+-- the trees of a database list no object at all
 unfoldable pub ListsNothing : Trees → Type 0
 ListsNothing trees = Lists (trees catalog_tree) no_schema
 

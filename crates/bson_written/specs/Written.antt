@@ -19,7 +19,7 @@ IsWritten tag payload = (v : Value) → value_kind v ≡ tag → SpellsValue pay
 abbrev pub AreWritten : List ℕ → Type 0
 AreWritten elements = (ms : Members) → SpellsMembers elements ms → (settle ms ≡ ms) × (elements ≡ members_bytes ms ++ 0 ∷ [])
 
--- the same of an array's elements, from the place i on
+-- an array's elements, with the 00 behind them, are written as the items that they spell, from the place i on
 abbrev pub AreItemsWritten : ℕ → List ℕ → Type 0
 AreItemsWritten i elements = (vs : Items) → SpellsItems elements vs → (settle_items vs ≡ vs) × (elements ≡ items_bytes i vs ++ 0 ∷ [])
 

@@ -43,7 +43,7 @@ IsUnread in_bytes (unreadable k) = Unit {0}
 IsUnread in_json (unreadable NotAnObject) = Unit {0}
 IsUnread _ _ = ⊥
 
--- so is a key that can't be set
+-- a call is decided before anything grows: by what can't be read, or by a key that can't be set
 abbrev pub IsDecidedCall : Call → Type 0
 IsDecidedCall (insert f a) = IsUnread f a
 IsDecidedCall (replace f a) = IsUnread f a
@@ -51,7 +51,7 @@ IsDecidedCall (set id k a) = IsFreeKey k → ⊥
 IsDecidedCall (unset id k) = IsFreeKey k → ⊥
 IsDecidedCall _ = ⊥
 
--- and a bad name
+-- a command is decided before anything grows: by a bad name, or by its call
 abbrev pub IsDecided : Command → Type 0
 IsDecided (on n call) = (IsName n → ⊥) ⊎ IsDecidedCall call
 IsDecided collections = ⊥

@@ -93,7 +93,7 @@ pub data Call : Type 0 where
   find : Filter → Call
   count : Filter → Call
   project : Filter → List (List ℕ) → Call
-  -- of a stream of bytes, or of a list of trees: the documents before the first that can't be read, and why that can't
+  -- a stream of bytes, or a list of trees: the documents before the first that can't be read, and why that can't
   import : Documents → Option ErrorKind → Call
   export : Call
   dump : Call
