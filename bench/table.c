@@ -1,4 +1,4 @@
-/* Times SQLite on the statements of bson_table: table FILE ROWS. FILE must not be there. Build: see README.md beside this file. */
+/* Times SQLite on the statements of store_table: table FILE ROWS. FILE must not be there. Build: see README.md beside this file. */
 #include <sqlite3.h>
 #include <stdint.h>
 #include <stdio.h>

@@ -157,7 +157,7 @@ def missing():
             yield ROOT / "crates.txt", 1, f"{name} has no page crates/{name}/README.md"
         if f"../crates/{name}/README.md" not in architecture.read_text():
             yield architecture, 1, f"no link to the page of {name}"
-    kinds = re.search(r"pub enum ErrorKind \{(.*?)\n\}", (ROOT / "crates/store_laws/src/error.rt").read_text(), re.S)
+    kinds = re.search(r"pub enum ErrorKind \{(.*?)\n\}", (ROOT / "crates/store_model/src/error.rt").read_text(), re.S)
     for kind in re.findall(r"^    ([A-Z]\w*)", kinds[1], re.M):
         if f"`{kind}" not in refusals.read_text():
             yield refusals, 1, f"no line for {kind}"

@@ -3,12 +3,12 @@
 ghost use Rattle.bson_base.specs.Device.{CanFail, CanRefuse};
 
 use bson_store::{ErrorKind, Sink, Source, Store};
+use cli_session::serve;
+use cli_words::{UsageError, write_complaint, write_refusal};
 use sqlite::{Alter, Connection, File, FileStore};
 use std::alloc::Global;
 use std::io;
 use store_files::open;
-use store_session::serve;
-use store_words::{UsageError, write_complaint, write_refusal};
 
 /// Tells a refusal, and answers the status of one.
 fn refuse<F: Sink>(faults: &mut F, kind: ErrorKind) -> u8

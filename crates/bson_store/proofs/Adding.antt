@@ -3,21 +3,21 @@ use Rattle.std.proofs.Common.{◌≡◌, ◌≢◌, inl, inr, ℕ, ◌+◌, pos,
 use Rattle.std.specs.List.{AllZip}
 use Rattle.std.specs.Prelude.{MatchOption, IsUtf8}
 use Rattle.std.proofs.lemmas.Slice.Zip.{AllZip-long}
-use Rattle.bson_table.specs.Rows.{TableRow, docs_from}
-use Rattle.bson_table.specs.Rows as table
-use Rattle.bson_table.specs.Moves.{AddsRows as PutsRows, IsRoomFor, with_rows}
-use Rattle.bson_table.specs.declared.fault.Fault.{Fault}
-use Rattle.bson_table.specs.declared.fault.Fault.TheVariants as faults
-use Rattle.bson_table.specs.declared.row.NewRow.{NewRow}
+use Rattle.store_table.specs.Rows.{TableRow, docs_from}
+use Rattle.store_table.specs.Rows as table
+use Rattle.store_table.specs.Moves.{AddsRows as PutsRows, IsRoomFor, with_rows}
+use Rattle.store_table.specs.declared.fault.Fault.{Fault}
+use Rattle.store_table.specs.declared.fault.Fault.TheVariants as faults
+use Rattle.store_table.specs.declared.row.NewRow.{NewRow}
 use Rattle.store_documents.specs.declared.write.KeptRow.{KeptRow}
-use Rattle.store_laws.specs.Reading.{Documents, AreRead}
-use Rattle.store_laws.specs.State.{list_of, store, import, on, Reply, number, refused, first_refusal, Appends, Answers, IsName, AreKept, Step}
-use Rattle.store_laws.specs.Run.{places, IsDecided}
-use Rattle.store_laws.specs.Table.{DocumentRow, DocumentTable, state_of, documents_of, greatest, greatest_place, AreOf, TakePlaces}
-use Rattle.store_laws.specs.declared.error.ErrorKind.{ErrorKind}
-use Rattle.store_laws.specs.declared.error.ErrorKind.TheVariants.{DuplicateId, Places}
-use Rattle.store_laws.proofs.Keys.{rows_are_a_state}
-use Rattle.store_laws.proofs.Rows.{list_of-state_of, rows_last}
+use Rattle.store_model.specs.Reading.{Documents, AreRead}
+use Rattle.store_model.specs.State.{list_of, store, import, on, Reply, number, refused, first_refusal, Appends, Answers, IsName, AreKept, Step}
+use Rattle.store_model.specs.Run.{places, IsDecided}
+use Rattle.store_model.specs.Table.{DocumentRow, DocumentTable, state_of, documents_of, greatest, greatest_place, AreOf, TakePlaces}
+use Rattle.store_model.specs.declared.error.ErrorKind.{ErrorKind}
+use Rattle.store_model.specs.declared.error.ErrorKind.TheVariants.{DuplicateId, Places}
+use Rattle.store_model.proofs.Keys.{rows_are_a_state}
+use Rattle.store_model.proofs.Rows.{list_of-state_of, rows_last}
 use Rattle.store_streams.specs.Judging.{AreWrittenRows}
 use Rattle.store_streams.specs.Keys.{first_taken, keys_of, keys_of_rows}
 use Rattle.store_streams.proofs.Appending.{all_accepted, appending_all}

@@ -7,16 +7,16 @@ use Rattle.sqlite.specs.State.{State}
 use Rattle.bson_base.specs.Value.{Members}
 use Rattle.bson_bytes.specs.Encode.{encode}
 use Rattle.bson_model.specs.declared.extjson.ser.Mode.TheVariants.{Canonical}
-use Rattle.bson_table.specs.Rows.{TableRow}
-use Rattle.bson_table.specs.Moves.{Moves, Visits}
-use Rattle.bson_table.specs.declared.fault.Fault.{Fault}
-use Rattle.bson_table.specs.declared.fault.Fault.TheVariants as faults
-use Rattle.store_laws.specs.Reading.{Documents}
-use Rattle.store_laws.specs.State.{on, dump, Answers, AreKept, IsKept, IsName, Reply, json_list, refused, json_of, tree_first, trees_of, trees_reply}
-use Rattle.store_laws.specs.Run.{IsDecided}
-use Rattle.store_laws.specs.Table.{DocumentTable, documents_of}
-use Rattle.store_laws.specs.declared.error.ErrorKind.{ErrorKind}
-use Rattle.store_laws.specs.declared.error.ErrorKind.TheVariants as kind
+use Rattle.store_table.specs.Rows.{TableRow}
+use Rattle.store_table.specs.Moves.{Moves, Visits}
+use Rattle.store_table.specs.declared.fault.Fault.{Fault}
+use Rattle.store_table.specs.declared.fault.Fault.TheVariants as faults
+use Rattle.store_model.specs.Reading.{Documents}
+use Rattle.store_model.specs.State.{on, dump, Answers, AreKept, IsKept, IsName, Reply, json_list, refused, json_of, tree_first, trees_of, trees_reply}
+use Rattle.store_model.specs.Run.{IsDecided}
+use Rattle.store_model.specs.Table.{DocumentTable, documents_of}
+use Rattle.store_model.specs.declared.error.ErrorKind.{ErrorKind}
+use Rattle.store_model.specs.declared.error.ErrorKind.TheVariants as kind
 use Rattle.bson_store.specs.Shown.{Represents}
 use Rattle.bson_store.specs.Calls.{Does}
 use Rattle.bson_store.specs.Dump.{AreFirstTrees, HandedOn, HandsOn, HandsTrees, Stops, TellsTree, TakesAll}
@@ -280,7 +280,7 @@ dumped_moves s t n v m =
 undumped : (docs after : List TableRow) (n : List ℕ) (e : StoreError) (v : Trees) → HandsTrees HasTrees Denied n (Err (e, v)) docs after → Does (on n dump) (refused e.kind e.document) docs docs
 undumped docs after n e v h a s = by (h.handed a s)
   where
-    by : ((IsName n → ⊥) × (e ≡ refusal kind.BadName) × HasTrees v []) ⊎ (IsName n × Stops (HasTrees v) (Denied v) (documents_of a n) e) → (b : DocumentTable) × Represents docs b × Rattle.store_laws.specs.Table.Serves a (on n dump) (refused e.kind e.document) b
+    by : ((IsName n → ⊥) × (e ≡ refusal kind.BadName) × HasTrees v []) ⊎ (IsName n × Stops (HasTrees v) (Denied v) (documents_of a n) e) → (b : DocumentTable) × Represents docs b × Rattle.store_model.specs.Table.Serves a (on n dump) (refused e.kind e.document) b
     by (inl (bad, is, none)) = rw is (bad_name docs n dump bad a s)
     by (inr (good, (js, are, inl d))) = rw d.2 (denied docs (on n dump) d.0 d.1 (dump_open n good) a s)
     by (inr (good, (js, are, inr (took, inl d)))) = rw d.2 (denied docs (on n dump) d.0 d.1 (dump_open n good) a s)

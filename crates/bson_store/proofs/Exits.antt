@@ -6,20 +6,20 @@ use Rattle.serde_json.specs.Data.{Data, object, Members as JsonMembers}
 use Rattle.sqlite.specs.State.{State}
 use Rattle.bson_base.specs.Kinds.{IsSound}
 use Rattle.bson_base.specs.Value.{Value, Members}
-use Rattle.bson_table.specs.Rows.{TableRow, with_body_at, without_place}
-use Rattle.bson_table.specs.Moves.{Moves, FindsRow, FindsPlace, Changes, AddsRows, with_row}
-use Rattle.bson_table.specs.declared.fault.Fault.{Fault}
-use Rattle.bson_table.specs.declared.row.Found.{Found}
+use Rattle.store_table.specs.Rows.{TableRow, with_body_at, without_place}
+use Rattle.store_table.specs.Moves.{Moves, FindsRow, FindsPlace, Changes, AddsRows, with_row}
+use Rattle.store_table.specs.declared.fault.Fault.{Fault}
+use Rattle.store_table.specs.declared.row.Found.{Found}
 use Rattle.store_documents.specs.Answers.{AnswersBytes, AnswersTree}
 use Rattle.store_documents.specs.Bodies.{AnswersInput, AnswersKept, AnswersWritten}
 use Rattle.store_documents.specs.declared.write.KeptRow.{KeptRow}
-use Rattle.store_laws.specs.Reading.{Reading, readable, IsRead, ReadsBytes, ReadsTree}
-use Rattle.store_laws.specs.State.{NoneHasId, Form, in_bytes, in_json, Call, insert, replace, remove, on, Reply, done, refused, Answers, IsName, IsCall}
-use Rattle.store_laws.specs.Run.{IsDecidedCall}
-use Rattle.store_laws.specs.Table.{DocumentTable, documents_of}
-use Rattle.store_laws.proofs.Plain.{object_tree}
-use Rattle.store_laws.specs.declared.error.ErrorKind.{ErrorKind}
-use Rattle.store_laws.specs.declared.error.ErrorKind.TheVariants as kind
+use Rattle.store_model.specs.Reading.{Reading, readable, IsRead, ReadsBytes, ReadsTree}
+use Rattle.store_model.specs.State.{NoneHasId, Form, in_bytes, in_json, Call, insert, replace, remove, on, Reply, done, refused, Answers, IsName, IsCall}
+use Rattle.store_model.specs.Run.{IsDecidedCall}
+use Rattle.store_model.specs.Table.{DocumentTable, documents_of}
+use Rattle.store_model.proofs.Plain.{object_tree}
+use Rattle.store_model.specs.declared.error.ErrorKind.{ErrorKind}
+use Rattle.store_model.specs.declared.error.ErrorKind.TheVariants as kind
 use Rattle.bson_store.specs.Calls.{Does, DoesBytes, DoesTree, DoesRead, Looks}
 use Rattle.bson_store.specs.Refusals.{kind_of_fault}
 use Rattle.bson_store.specs.declared.error.StoreError.{StoreError}
@@ -29,7 +29,7 @@ use Rattle.bson_store.proofs.Replacing.{replace_unwritten, replace_unfound, repl
 use Rattle.bson_store.proofs.Reading.{TakesReading, bytes_bad_name, tree_bad_name, bytes_refused, tree_refused, bytes_read, tree_read}
 use Rattle.bson_store.proofs.Finding.{Answered, unlooked, not_there, there, removed, unchanged}
 use Rattle.bson_store.proofs.Rewriting.{Remakes, rewritten}
-use Rattle.bson_table.specs.declared.fault.Fault.TheVariants as faults
+use Rattle.store_table.specs.declared.fault.Fault.TheVariants as faults
 
 -- ---- a look-up of an id
 

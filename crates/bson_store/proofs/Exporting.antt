@@ -9,16 +9,16 @@ use Rattle.std.specs.List.{flat_map}
 use Rattle.std.specs.Io.KnownBytes.{Appends}
 use Rattle.bson_base.specs.Device.{TakesBeginning, Tally}
 use Rattle.bson_bytes.specs.Encode.{encode}
-use Rattle.bson_table.specs.Rows.{TableRow, is_in}
-use Rattle.bson_table.specs.Moves.{bodies_of, Visits}
-use Rattle.bson_table.specs.declared.fault.Fault.{Fault}
-use Rattle.bson_table.specs.declared.fault.Fault.TheVariants as faults
-use Rattle.store_laws.specs.Reading.{Documents}
-use Rattle.store_laws.specs.State.{list_of, IsName, on, export, bytes, refused}
-use Rattle.store_laws.specs.Table.{DocumentTable, state_of, documents_of}
-use Rattle.store_laws.specs.declared.error.ErrorKind.{ErrorKind}
-use Rattle.store_laws.specs.declared.error.ErrorKind.TheVariants as kind
-use Rattle.store_laws.proofs.Rows.{list_of-state_of}
+use Rattle.store_table.specs.Rows.{TableRow, is_in}
+use Rattle.store_table.specs.Moves.{bodies_of, Visits}
+use Rattle.store_table.specs.declared.fault.Fault.{Fault}
+use Rattle.store_table.specs.declared.fault.Fault.TheVariants as faults
+use Rattle.store_model.specs.Reading.{Documents}
+use Rattle.store_model.specs.State.{list_of, IsName, on, export, bytes, refused}
+use Rattle.store_model.specs.Table.{DocumentTable, state_of, documents_of}
+use Rattle.store_model.specs.declared.error.ErrorKind.{ErrorKind}
+use Rattle.store_model.specs.declared.error.ErrorKind.TheVariants as kind
+use Rattle.store_model.proofs.Rows.{list_of-state_of}
 use Rattle.bson_store.specs.Shown.{AreRowsOf, Represents}
 use Rattle.bson_store.specs.Calls.{Does}
 use Rattle.bson_store.specs.Refusals.{refusal, kind_of_fault}
@@ -146,7 +146,7 @@ module _ {V N : Type 0} (tally : V → Tally) (failed : V → Bool) (name : V �
 
 -- ---- an export into memory
 
-export_open : (n : List ℕ) → IsName n → Rattle.store_laws.specs.Run.IsDecided (on n export) → ⊥
+export_open : (n : List ℕ) → IsName n → Rattle.store_model.specs.Run.IsDecided (on n export) → ⊥
 export_open n good = undecided n export good (λ x. x)
 
 sent_in : (docs : List TableRow) (n out : List ℕ) (old new : Tally) → old.taken ≡ Some [] → new.taken ≡ Some out → ((a : DocumentTable) → Represents docs a → Exports (state_of a) n old new (Ok tt)) → Does (on n export) (bytes out) docs docs
@@ -163,7 +163,7 @@ sent docs after n out old new before now h = rw h.same (sent_in docs n out old n
 not_sent_in : (docs : List TableRow) (n : List ℕ) (old new : Tally) (e : StoreError) → ((a : DocumentTable) → Represents docs a → Exports (state_of a) n old new (Err e)) → e.kind ≢ kind.Writer → Does (on n export) (refused e.kind e.document) docs docs
 not_sent_in docs n old new e h other a s = let k = h a s in rw k.0 (at_kind e.kind other k.1)
   where
-    at_kind : (k : ErrorKind) → k ≢ kind.Writer → ExportRefused (state_of a) n old new k → (b : DocumentTable) × Represents docs b × Rattle.store_laws.specs.Table.Serves a (on n export) (refused k None) b
+    at_kind : (k : ErrorKind) → k ≢ kind.Writer → ExportRefused (state_of a) n old new k → (b : DocumentTable) × Represents docs b × Rattle.store_model.specs.Table.Serves a (on n export) (refused k None) b
     at_kind kind.Memory other h = denied docs (on n export) faults.Memory memory_other (export_open n h.0) a s
     at_kind kind.Database other h = denied docs (on n export) faults.Database (λ e. cc) (export_open n h.0) a s
     at_kind kind.Writer other h = absurd (other refl)

@@ -9,23 +9,23 @@ use Rattle.bson_base.specs.Kinds.{IsPlain, IsSound}
 use Rattle.bson_base.specs.Value.{Value, Members}
 use Rattle.bson_bytes.specs.Encode.{encode}
 use Rattle.bson_meaning.specs.Meaning.{key}
-use Rattle.bson_table.specs.Rows.{TableRow, is_row_named, is_at, without_place}
-use Rattle.bson_table.specs.Moves.{FindsRow, Changes, parts_of_found, parts_of_row}
-use Rattle.bson_table.specs.declared.fault.Fault.{Fault}
-use Rattle.bson_table.specs.declared.fault.Fault.TheVariants as faults
-use Rattle.bson_table.specs.declared.row.Found.{Found}
+use Rattle.store_table.specs.Rows.{TableRow, is_row_named, is_at, without_place}
+use Rattle.store_table.specs.Moves.{FindsRow, Changes, parts_of_found, parts_of_row}
+use Rattle.store_table.specs.declared.fault.Fault.{Fault}
+use Rattle.store_table.specs.declared.fault.Fault.TheVariants as faults
+use Rattle.store_table.specs.declared.row.Found.{Found}
 use Rattle.serde_json.specs.View.{view as data_of}
 use Rattle.serde_json.specs.declared.value.Value.{Value as Json}
 use Rattle.bson_model.specs.declared.extjson.ser.Mode.{Mode}
 use Rattle.store_documents.specs.Answers.{AnswersJson}
 use Rattle.store_documents.specs.Bodies.{IsKeyOf}
-use Rattle.store_laws.specs.State.{store, HasId, NoneHasId, StandsAt, get_raw, get_json, remove, Call, Command, on, Reply, done, bytes, json, refused, json_of, tree_reply, Answers, IsName, IsKept, Step}
-use Rattle.store_laws.specs.Run.{IsDecided, IsDecidedCall}
-use Rattle.store_laws.specs.Table.{DocumentRow, DocumentTable, state_of, documents_of, AreRows, Serves, only_id}
-use Rattle.store_laws.specs.declared.error.ErrorKind.{ErrorKind}
-use Rattle.store_laws.specs.declared.error.ErrorKind.TheVariants.{Memory, NotFound}
-use Rattle.store_laws.proofs.Ids.{has_written}
-use Rattle.store_laws.proofs.Rows.{list_of-state_of, row_gone}
+use Rattle.store_model.specs.State.{store, HasId, NoneHasId, StandsAt, get_raw, get_json, remove, Call, Command, on, Reply, done, bytes, json, refused, json_of, tree_reply, Answers, IsName, IsKept, Step}
+use Rattle.store_model.specs.Run.{IsDecided, IsDecidedCall}
+use Rattle.store_model.specs.Table.{DocumentRow, DocumentTable, state_of, documents_of, AreRows, Serves, only_id}
+use Rattle.store_model.specs.declared.error.ErrorKind.{ErrorKind}
+use Rattle.store_model.specs.declared.error.ErrorKind.TheVariants.{Memory, NotFound}
+use Rattle.store_model.proofs.Ids.{has_written}
+use Rattle.store_model.proofs.Rows.{list_of-state_of, row_gone}
 use Rattle.bson_store.specs.Shown.{IsRowOf, AreRowsOf, Rises, Represents}
 use Rattle.bson_store.specs.Calls.{Does, FindsIn, Looks}
 use Rattle.bson_store.specs.Refusals.{IsDenied, kind_of_fault, refusal}

@@ -2,29 +2,29 @@
 use Rattle.std.proofs.Common.{◌≡◌, ℕ, List, [], ◌∷◌, ◌++◌, length, map, Option, Result, Ok, Err, refl, ap, ◌∙◌, sym, subst, arith, append_assoc, append-nil, length-append}
 use Rattle.std.specs.FinMap.{empty}
 use Rattle.sqlite.specs.State.{State}
-use Rattle.bson_table.specs.Rows.{TableRow}
-use Rattle.bson_table.specs.Moves.{Moves, WasOpen}
+use Rattle.store_table.specs.Rows.{TableRow}
+use Rattle.store_table.specs.Moves.{Moves, WasOpen}
 use Rattle.bson_store.specs.Refusals.{reply_by}
 use Rattle.bson_store.specs.declared.error.StoreError.{StoreError}
 use Rattle.serde_json.specs.Data.{Data}
-use Rattle.store_laws.specs.Reading.{Documents, Reading, ReadsBytes, ReadsTree}
+use Rattle.store_model.specs.Reading.{Documents, Reading, ReadsBytes, ReadsTree}
 use Rattle.bson_store.specs.Calls.{Does, DoesBytes, DoesTree}
 use Rattle.bson_store.specs.Many.{DoesMany}
-use Rattle.store_laws.specs.declared.error.ErrorKind.{ErrorKind}
-use Rattle.store_laws.specs.State as model
-use Rattle.store_laws.specs.Table.{IsRefusal, RunThrough}
-use Rattle.store_laws.proofs.Going.{one_more}
-use Rattle.store_laws.proofs.Tables.{run_of_states, run_spares}
+use Rattle.store_model.specs.declared.error.ErrorKind.{ErrorKind}
+use Rattle.store_model.specs.State as model
+use Rattle.store_model.specs.Table.{IsRefusal, RunThrough}
+use Rattle.store_model.proofs.Going.{one_more}
+use Rattle.store_model.proofs.Tables.{run_of_states, run_spares}
 use Rattle.bson_store.specs.Runs.{Asks, AsksEach, reply_of, Obeys, AnswersThroughTables, AnswersAsLists, IsAccepted, EndsAccepted, EndsOpen, WasOpenFor}
 use Rattle.bson_store.specs.declared.command.Command.{Command}
 use Rattle.bson_store.specs.declared.command.Reply.{Reply}
 use Rattle.bson_store.proofs.Moving.{rests, moved, moved_twice}
 use Rattle.sqlite_trees.specs.Tree.{Trees}
-use Rattle.store_laws.specs.Run.{Denials, Run}
-use Rattle.store_laws.specs.Table.{DocumentTable, state_of}
-use Rattle.store_laws.specs.Left.{LeftAlong}
-use Rattle.store_laws.proofs.Left.{left_goes_on, left_in_the_end, left_more}
-use Rattle.store_laws.proofs.Rows.{rows_not_empty}
+use Rattle.store_model.specs.Run.{Denials, Run}
+use Rattle.store_model.specs.Table.{DocumentTable, state_of}
+use Rattle.store_model.specs.Left.{LeftAlong}
+use Rattle.store_model.proofs.Left.{left_goes_on, left_in_the_end, left_more}
+use Rattle.store_model.proofs.Rows.{rows_not_empty}
 use Rattle.bson_store.specs.Left.{Holds, Leaves, LeavesAsLists, LeavesTheEnd, LeavesBytes, LeavesCommand, LeavesMany, LeavesTree}
 
 map_parts : {X Y : Type 0} (f : X → Y) (xs ys : List X) → map f (xs ++ ys) ≡ map f xs ++ map f ys

@@ -7,15 +7,15 @@ use Rattle.bson_base.specs.Kinds.{AreBytes}
 use Rattle.bson_base.specs.Value.{Members, has_key}
 use Rattle.bson_bytes.specs.Encode.{size}
 use Rattle.bson_frame.specs.Frame.{size_limit}
-use Rattle.bson_table.specs.Rows.{TableRow}
-use Rattle.bson_table.specs.declared.fault.Fault.{Fault}
-use Rattle.bson_table.specs.declared.fault.Fault.TheVariants as faults
+use Rattle.store_table.specs.Rows.{TableRow}
+use Rattle.store_table.specs.declared.fault.Fault.{Fault}
+use Rattle.store_table.specs.declared.fault.Fault.TheVariants as faults
 use Rattle.store_documents.specs.declared.write.KeptRow.{KeptRow}
-use Rattle.store_laws.specs.Reading.{Documents, IsReadingKind, IsStop, ReadsStream}
-use Rattle.store_laws.specs.State.{id_key, import, on, Reply, number, refused, refusal_of, or_later, first_refusal, Answers, IsName}
-use Rattle.store_laws.specs.declared.error.ErrorKind.{ErrorKind}
-use Rattle.store_laws.specs.declared.error.ErrorKind.TheVariants as kind
-use Rattle.store_laws.proofs.Readings.{stream_read}
+use Rattle.store_model.specs.Reading.{Documents, IsReadingKind, IsStop, ReadsStream}
+use Rattle.store_model.specs.State.{id_key, import, on, Reply, number, refused, refusal_of, or_later, first_refusal, Answers, IsName}
+use Rattle.store_model.specs.declared.error.ErrorKind.{ErrorKind}
+use Rattle.store_model.specs.declared.error.ErrorKind.TheVariants as kind
+use Rattle.store_model.proofs.Readings.{stream_read}
 use Rattle.store_streams.specs.declared.error.StreamError.{StreamError}
 use Rattle.store_streams.specs.declared.error.StreamError.TheVariants as streams
 use Rattle.bson_base.specs.declared.whole.ReadAllError.{ReadAllError}

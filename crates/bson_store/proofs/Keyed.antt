@@ -5,14 +5,14 @@ use Rattle.std.proofs.lemmas.List.{length-map}
 use Rattle.std.specs.Option.{option_map}
 use Rattle.std.specs.Str.{bytes_eq}
 use Rattle.bson_meaning.specs.Meaning.{key}
-use Rattle.bson_table.specs.Rows.{TableRow, is_in, is_row_named}
-use Rattle.bson_table.specs.Moves.{FindsNone, FindsPlace}
-use Rattle.bson_table.specs.declared.fault.Fault.{Fault}
-use Rattle.bson_table.specs.declared.fault.Fault.TheVariants as faults
+use Rattle.store_table.specs.Rows.{TableRow, is_in, is_row_named}
+use Rattle.store_table.specs.Moves.{FindsNone, FindsPlace}
+use Rattle.store_table.specs.declared.fault.Fault.{Fault}
+use Rattle.store_table.specs.declared.fault.Fault.TheVariants as faults
 use Rattle.store_documents.specs.declared.write.KeptRow.{KeptRow}
-use Rattle.store_laws.specs.Reading.{Documents}
-use Rattle.store_laws.specs.Table.{DocumentTable, documents_of, own_id}
-use Rattle.store_laws.specs.declared.error.ErrorKind.TheVariants.{Memory}
+use Rattle.store_model.specs.Reading.{Documents}
+use Rattle.store_model.specs.Table.{DocumentTable, documents_of, own_id}
+use Rattle.store_model.specs.declared.error.ErrorKind.TheVariants.{Memory}
 use Rattle.store_streams.specs.declared.keys.Keys.{Keys}
 use Rattle.store_streams.specs.Judging.{AreWrittenRows}
 use Rattle.store_streams.specs.Keys.{first_taken, has_met, keys_of, keys_of_rows}

@@ -1,8 +1,8 @@
 -- Calls of the store as moves of the rows: none, one, or one after the other.
 use Rattle.std.proofs.Common.{List}
 use Rattle.sqlite.specs.State.{State}
-use Rattle.bson_table.specs.Rows.{TableRow}
-use Rattle.bson_table.specs.Moves.{Moves}
+use Rattle.store_table.specs.Rows.{TableRow}
+use Rattle.store_table.specs.Moves.{Moves}
 
 abbrev pub Relation : Type 1
 Relation = List TableRow → List TableRow → Type 0

@@ -8,15 +8,15 @@ use Rattle.std.specs.List.Sorted.{IsStrictlySortedBy}
 use Rattle.std.specs.Ordering.{nat_cmp}
 use Rattle.std.specs.declared.cmp.Ordering.{Ordering}
 use Rattle.std.specs.declared.cmp.Ordering.TheVariants.{Less}
-use Rattle.bson_table.specs.Moves.{Lists}
-use Rattle.bson_table.specs.Names.{has_name}
-use Rattle.bson_table.specs.Rows.{TableRow, is_in}
-use Rattle.bson_table.specs.declared.fault.Fault.{Fault}
-use Rattle.bson_table.specs.declared.fault.Fault.TheVariants as faults
-use Rattle.store_laws.specs.State.{AllAfter, AreAscending, collections, holds, refused}
-use Rattle.store_laws.specs.Table.{DocumentTable, documents_of}
-use Rattle.store_laws.specs.declared.error.ErrorKind.TheVariants.{Memory}
-use Rattle.store_laws.proofs.Rows.{list_of-state_of}
+use Rattle.store_table.specs.Moves.{Lists}
+use Rattle.store_table.specs.Names.{has_name}
+use Rattle.store_table.specs.Rows.{TableRow, is_in}
+use Rattle.store_table.specs.declared.fault.Fault.{Fault}
+use Rattle.store_table.specs.declared.fault.Fault.TheVariants as faults
+use Rattle.store_model.specs.State.{AllAfter, AreAscending, collections, holds, refused}
+use Rattle.store_model.specs.Table.{DocumentTable, documents_of}
+use Rattle.store_model.specs.declared.error.ErrorKind.TheVariants.{Memory}
+use Rattle.store_model.proofs.Rows.{list_of-state_of}
 use Rattle.bson_store.specs.Calls.{Does}
 use Rattle.bson_store.specs.Export.{bytes_of_each}
 use Rattle.bson_store.specs.Questions.{as_names}
@@ -113,7 +113,7 @@ texts_in n (r ∷ rs) (d ∷ docs) each h = by (bytes_eq d.coll n) refl h (texts
 
 -- ---- exits
 
-listed_in : (docs : List TableRow) (ns : List (List ℕ)) → AreAscending ns → ((n : List ℕ) → list_any (bytes_eq n) ns ≡ list_any (is_in n) docs) → Does collections (Rattle.store_laws.specs.State.names ns) docs docs
+listed_in : (docs : List TableRow) (ns : List (List ℕ)) → AreAscending ns → ((n : List ℕ) → list_any (bytes_eq n) ns ≡ list_any (is_in n) docs) → Does collections (Rattle.store_model.specs.State.names ns) docs docs
 listed_in docs ns asc each a s = (
   a,
   s,

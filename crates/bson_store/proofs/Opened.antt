@@ -2,11 +2,11 @@
 use Rattle.std.proofs.Common.{◌≡◌, ℕ, ℤ, pos, negsuc, ◌<ℤ◌, ◌<◌, List, [], ◌∷◌, ◌++◌, Bool, true, false, ◌||◌, refl, ap, ◌∙◌, sym, subst, arith, append_assoc}
 use Rattle.std.proofs.lemmas.Int.{ints}
 use Rattle.std.specs.List.{list_any}
-use Rattle.bson_table.specs.Rows.{TableRow, is_row_named}
-use Rattle.bson_table.specs.Rows as table
-use Rattle.bson_table.specs.Check.{AreGoodAfter, AreGood}
+use Rattle.store_table.specs.Rows.{TableRow, is_row_named}
+use Rattle.store_table.specs.Rows as table
+use Rattle.store_table.specs.Check.{AreGoodAfter, AreGood}
 use Rattle.store_documents.specs.Bodies.{IsRow}
-use Rattle.store_laws.specs.Table.{DocumentRow, DocumentTable, IsAlone}
+use Rattle.store_model.specs.Table.{DocumentRow, DocumentTable, IsAlone}
 use Rattle.bson_store.specs.Shown.{IsRowOf, AreRowsOf, Rises}
 use Rattle.bson_store.specs.Opening.{RepresentsSome}
 use Rattle.bson_store.proofs.Tables.{is_named_so}
@@ -40,7 +40,7 @@ alone r d [] docs is each h = tt
 alone r d (q ∷ rs) [] is each h = absurd each
 alone r d (q ∷ rs) (e ∷ docs) is each h = (here, alone r d rs docs is each.1 h.1)
   where
-    here : q.name ≡ r.name → Rattle.bson_meaning.specs.Meaning.key (Rattle.store_laws.specs.Table.own_id q.document) ≡ Rattle.bson_meaning.specs.Meaning.key (Rattle.store_laws.specs.Table.own_id r.document) → ⊥
+    here : q.name ≡ r.name → Rattle.bson_meaning.specs.Meaning.key (Rattle.store_model.specs.Table.own_id q.document) ≡ Rattle.bson_meaning.specs.Meaning.key (Rattle.store_model.specs.Table.own_id r.document) → ⊥
     here name keys =
         let yes = is_named_so e.coll e.idkey d (is.name ∙ sym name ∙ sym each.0.name) (is.key ∙ sym keys ∙ sym each.0.key) in
         let no : true ≡ false = sym yes ∙ h.0 in
@@ -58,7 +58,7 @@ last_of (x ∷ (y ∷ seen)) d = last_of (y ∷ seen) d
 record ShowAfter (n : ℕ) (docs : List TableRow) : Type 0 where
   pub t : DocumentTable
   pub each : AreRowsOf t docs
-  pub good : Rattle.store_laws.specs.Table.AreRows t
+  pub good : Rattle.store_model.specs.Table.AreRows t
   pub rising : Rises n t
 
 show_after : (n : ℕ) (seen docs : List TableRow) → table.last_place seen ≡ pos n → AreGoodAfter IsRow seen docs → ShowAfter n docs

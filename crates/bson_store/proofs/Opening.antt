@@ -1,6 +1,6 @@
 -- Exits of an open.
 use Rattle.sqlite.specs.State.{State}
-use Rattle.bson_table.specs.Renewal.{Opened}
+use Rattle.store_table.specs.Renewal.{Opened}
 use Rattle.bson_store.specs.Opening.{IsRowUnder, Opens}
 use Rattle.bson_store.proofs.Renewed.{stand_for, shown_good}
 

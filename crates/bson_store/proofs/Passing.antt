@@ -3,13 +3,13 @@ use Rattle.std.proofs.Common.{◌≡◌, ◌⊎◌, inl, inr, ℕ, List, [], Boo
 use Rattle.std.specs.Prelude.{MatchOption, length}
 use Rattle.serde_json.specs.Data.{Data}
 use Rattle.sqlite.specs.State.{State}
-use Rattle.bson_table.specs.Rows.{TableRow}
-use Rattle.bson_table.specs.Moves.{Moves, Visits}
-use Rattle.bson_table.specs.declared.fault.Fault.{Fault}
-use Rattle.store_laws.specs.Reading.{Documents}
-use Rattle.store_laws.specs.State.{AreKept, IsName, refused, trees_of, trees_reply}
-use Rattle.store_laws.specs.Table.{documents_of}
-use Rattle.store_laws.specs.declared.error.ErrorKind.TheVariants as kind
+use Rattle.store_table.specs.Rows.{TableRow}
+use Rattle.store_table.specs.Moves.{Moves, Visits}
+use Rattle.store_table.specs.declared.fault.Fault.{Fault}
+use Rattle.store_model.specs.Reading.{Documents}
+use Rattle.store_model.specs.State.{AreKept, IsName, refused, trees_of, trees_reply}
+use Rattle.store_model.specs.Table.{documents_of}
+use Rattle.store_model.specs.declared.error.ErrorKind.TheVariants as kind
 use Rattle.bson_store.specs.Dump.{ChecksTrees, HandedOn, Stops, TakesAll}
 use Rattle.bson_store.specs.Refusals.{IsDenied, kind_of_fault, refusal}
 use Rattle.bson_store.specs.declared.checking.Checker.{Checker}

@@ -2,17 +2,17 @@
 use Rattle.std.proofs.Common.{inl, inr, ℕ, List, None, Err, refl}
 use Rattle.serde_json.specs.Data.{Data}
 use Rattle.bson_base.specs.Value.{Members}
-use Rattle.bson_table.specs.Rows.{TableRow}
-use Rattle.bson_table.specs.declared.fault.Fault.TheVariants as faults
+use Rattle.store_table.specs.Rows.{TableRow}
+use Rattle.store_table.specs.declared.fault.Fault.TheVariants as faults
 use Rattle.store_documents.specs.Answers.{AnswersBytes, AnswersTree}
-use Rattle.store_laws.specs.Reading.{Reading, readable, unreadable, ReadsBytes, ReadsTree}
-use Rattle.store_laws.specs.State.{Form, in_bytes, in_json, Call, insert, replace, on, Reply, refused, Answers, IsName}
-use Rattle.store_laws.specs.Reading.{Documents}
-use Rattle.store_laws.specs.Run.{IsUnread, IsDecidedCall}
-use Rattle.store_laws.proofs.Plain.{any_tree}
+use Rattle.store_model.specs.Reading.{Reading, readable, unreadable, ReadsBytes, ReadsTree}
+use Rattle.store_model.specs.State.{Form, in_bytes, in_json, Call, insert, replace, on, Reply, refused, Answers, IsName}
+use Rattle.store_model.specs.Reading.{Documents}
+use Rattle.store_model.specs.Run.{IsUnread, IsDecidedCall}
+use Rattle.store_model.proofs.Plain.{any_tree}
 use Rattle.store_streams.proofs.Streams.{any_bytes}
-use Rattle.store_laws.specs.declared.error.ErrorKind.{ErrorKind}
-use Rattle.store_laws.specs.declared.error.ErrorKind.TheVariants.{BadName, Memory}
+use Rattle.store_model.specs.declared.error.ErrorKind.{ErrorKind}
+use Rattle.store_model.specs.declared.error.ErrorKind.TheVariants.{BadName, Memory}
 use Rattle.bson_store.specs.Calls.{Does, DoesBytes, DoesTree, DoesRead}
 use Rattle.bson_store.proofs.Serving.{bad_name, answers_stay, denied, undecided, memory_other}
 

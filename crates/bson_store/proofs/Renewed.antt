@@ -6,16 +6,16 @@ use Rattle.bson_base.specs.Value.{Members}
 use Rattle.bson_bytes.specs.Encode.{encode}
 use Rattle.bson_meaning.specs.Before.{key as key_before}
 use Rattle.bson_meaning.specs.Meaning.{key}
-use Rattle.bson_table.specs.Rows.{TableRow, is_row_named}
-use Rattle.bson_table.specs.Rows as table
-use Rattle.bson_table.specs.Check.{AreGoodAfter, AreGood}
-use Rattle.bson_table.specs.Renewal.{IsOwn, IsRenewed, AreRenewed}
+use Rattle.store_table.specs.Rows.{TableRow, is_row_named}
+use Rattle.store_table.specs.Rows as table
+use Rattle.store_table.specs.Check.{AreGoodAfter, AreGood}
+use Rattle.store_table.specs.Renewal.{IsOwn, IsRenewed, AreRenewed}
 use Rattle.store_documents.specs.Bodies.{IsRow, IsRowOnce, TellsKey}
 use Rattle.store_documents.specs.declared.row.RowKey.TheVariants.{Neither}
-use Rattle.store_laws.proofs.Restore.{written_reads}
-use Rattle.store_laws.specs.Reading.{Reading, ReadsBytes, readable}
-use Rattle.store_laws.specs.State.{IsKept, IsName}
-use Rattle.store_laws.specs.Table.{DocumentRow, DocumentTable, AreRows, IsAlone, own_id}
+use Rattle.store_model.proofs.Restore.{written_reads}
+use Rattle.store_model.specs.Reading.{Reading, ReadsBytes, readable}
+use Rattle.store_model.specs.State.{IsKept, IsName}
+use Rattle.store_model.specs.Table.{DocumentRow, DocumentTable, AreRows, IsAlone, own_id}
 use Rattle.bson_store.specs.Shown.{IsRowOf, AreRowsOf, Rises, Represents, IsRowOnceOf, AreRowsOnceOf, RepresentsOnce}
 use Rattle.bson_store.specs.Opening.{IsRowUnder, RepresentsSome, StandFor}
 use Rattle.bson_store.proofs.Opened.{good_rows, last_of}

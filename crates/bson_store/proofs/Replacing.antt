@@ -5,18 +5,18 @@ use Rattle.bson_base.specs.Value.{Value, Members, look_up}
 use Rattle.bson_bytes.specs.Encode.{size}
 use Rattle.bson_frame.specs.Frame.{size_limit}
 use Rattle.bson_meaning.specs.Meaning.{key}
-use Rattle.bson_table.specs.Rows.{TableRow, with_body_at}
-use Rattle.bson_table.specs.Moves.{FindsRow, Changes}
-use Rattle.bson_table.specs.declared.fault.Fault.{Fault}
-use Rattle.bson_table.specs.declared.fault.Fault.TheVariants as faults
-use Rattle.bson_table.specs.declared.row.Found.{Found}
+use Rattle.store_table.specs.Rows.{TableRow, with_body_at}
+use Rattle.store_table.specs.Moves.{FindsRow, Changes}
+use Rattle.store_table.specs.declared.fault.Fault.{Fault}
+use Rattle.store_table.specs.declared.fault.Fault.TheVariants as faults
+use Rattle.store_table.specs.declared.row.Found.{Found}
 use Rattle.store_documents.specs.Bodies.{AnswersWritten}
-use Rattle.store_laws.specs.Reading.{Documents, readable}
-use Rattle.store_laws.specs.State.{id_key, Form, replace, on, done, refused, refusal_of, Answers, IsName, AtId, NoneHasId, Refuses}
-use Rattle.store_laws.specs.Table.{documents_of}
-use Rattle.store_laws.specs.declared.error.ErrorKind.{ErrorKind}
-use Rattle.store_laws.specs.declared.error.ErrorKind.TheVariants.{NotFound}
-use Rattle.store_laws.proofs.Ids.{own_is, has_written}
+use Rattle.store_model.specs.Reading.{Documents, readable}
+use Rattle.store_model.specs.State.{id_key, Form, replace, on, done, refused, refusal_of, Answers, IsName, AtId, NoneHasId, Refuses}
+use Rattle.store_model.specs.Table.{documents_of}
+use Rattle.store_model.specs.declared.error.ErrorKind.{ErrorKind}
+use Rattle.store_model.specs.declared.error.ErrorKind.TheVariants.{NotFound}
+use Rattle.store_model.proofs.Ids.{own_is, has_written}
 use Rattle.bson_store.specs.Calls.{DoesRead}
 use Rattle.bson_store.specs.Refusals.{kind_of_fault}
 use Rattle.bson_store.proofs.Serving.{Fits, answers_stay, denied, undecided, read_open, memory_other}

@@ -7,16 +7,16 @@ use Rattle.serde_json.specs.Data.{Data}
 use Rattle.bson_base.specs.Device.{Feed, Tally}
 use Rattle.bson_bytes.specs.Encode.{encode}
 use Rattle.bson_meaning.specs.Meaning.{norm_members_in_order}
-use Rattle.bson_table.specs.Rows.{TableRow}
-use Rattle.store_laws.specs.Reading.{Documents, ReadsStream, ReadsTrees}
-use Rattle.store_laws.specs.Run.{Denials, Run}
-use Rattle.store_laws.specs.Same.{SameReplies, SameStates}
-use Rattle.store_laws.specs.State.{State, Call, list_of, export, dump, import, on, number, bytes, json_list, IsName, Step}
-use Rattle.store_laws.specs.Table.{DocumentTable, state_of, documents_of}
-use Rattle.store_laws.proofs.Keys.{rows_are_a_state}
-use Rattle.store_laws.proofs.Restore.{export_restored, dump_restored}
-use Rattle.store_laws.proofs.Rows.{list_of-state_of}
-use Rattle.store_laws.proofs.Runs.{run_same}
+use Rattle.store_table.specs.Rows.{TableRow}
+use Rattle.store_model.specs.Reading.{Documents, ReadsStream, ReadsTrees}
+use Rattle.store_model.specs.Run.{Denials, Run}
+use Rattle.store_model.specs.Same.{SameReplies, SameStates}
+use Rattle.store_model.specs.State.{State, Call, list_of, export, dump, import, on, number, bytes, json_list, IsName, Step}
+use Rattle.store_model.specs.Table.{DocumentTable, state_of, documents_of}
+use Rattle.store_model.proofs.Keys.{rows_are_a_state}
+use Rattle.store_model.proofs.Restore.{export_restored, dump_restored}
+use Rattle.store_model.proofs.Rows.{list_of-state_of}
+use Rattle.store_model.proofs.Runs.{run_same}
 use Rattle.bson_store.specs.Shown.{Represents}
 use Rattle.bson_store.specs.Calls.{Does}
 use Rattle.bson_store.specs.Export.{SendsCollection}

@@ -4,13 +4,13 @@ use Rattle.bson_base.specs.Kinds.{IsSound}
 use Rattle.bson_base.specs.Value.{Value, Members}
 use Rattle.bson_bytes.specs.Encode.{encode}
 use Rattle.bson_meaning.specs.Meaning.{key}
-use Rattle.bson_table.specs.Rows.{TableRow, with_body_at}
-use Rattle.bson_table.specs.Moves.{Changes}
-use Rattle.bson_table.specs.declared.row.Found.{Found}
-use Rattle.store_laws.specs.Reading.{Documents}
-use Rattle.store_laws.specs.State.{store, StandsAt, Call, on, Reply, Answers, IsName, IsKept, IsCall, Step}
-use Rattle.store_laws.specs.Table.{DocumentRow, DocumentTable, state_of, documents_of, own_id, with_document}
-use Rattle.store_laws.proofs.Rows.{list_of-state_of, row_changed}
+use Rattle.store_table.specs.Rows.{TableRow, with_body_at}
+use Rattle.store_table.specs.Moves.{Changes}
+use Rattle.store_table.specs.declared.row.Found.{Found}
+use Rattle.store_model.specs.Reading.{Documents}
+use Rattle.store_model.specs.State.{store, StandsAt, Call, on, Reply, Answers, IsName, IsKept, IsCall, Step}
+use Rattle.store_model.specs.Table.{DocumentRow, DocumentTable, state_of, documents_of, own_id, with_document}
+use Rattle.store_model.proofs.Rows.{list_of-state_of, row_changed}
 use Rattle.bson_store.specs.Shown.{IsRowOf, AreRowsOf, Rises}
 use Rattle.bson_store.specs.Calls.{Does, FindsIn, Looks}
 use Rattle.bson_store.proofs.Tables.{found, stands_at, each_more, rows_after}

@@ -4,15 +4,15 @@ use Rattle.std.specs.Prelude.{MatchOption}
 use Rattle.sqlite.specs.State.{State}
 use Rattle.bson_base.specs.Value.{Members, document}
 use Rattle.bson_bytes.specs.Encode.{encode}
-use Rattle.bson_filter.specs.Filters.{filter_of, path_of}
-use Rattle.bson_table.specs.Rows.{TableRow}
-use Rattle.bson_table.specs.Moves.{Moves, Visits}
-use Rattle.bson_table.specs.declared.fault.Fault.{Fault}
-use Rattle.store_laws.specs.Filter.{Filter, Selects}
-use Rattle.store_laws.specs.Reading.{Documents}
-use Rattle.store_laws.specs.Run.{IsDecidedCall}
-use Rattle.store_laws.specs.State.{Answers, AreKept, Call, IsKept, IsName, Picks, Reply, on, only, refused}
-use Rattle.store_laws.specs.Table.{DocumentTable, documents_of}
+use Rattle.store_filter.specs.Filters.{filter_of, path_of}
+use Rattle.store_table.specs.Rows.{TableRow}
+use Rattle.store_table.specs.Moves.{Moves, Visits}
+use Rattle.store_table.specs.declared.fault.Fault.{Fault}
+use Rattle.store_model.specs.Filter.{Filter, Selects}
+use Rattle.store_model.specs.Reading.{Documents}
+use Rattle.store_model.specs.Run.{IsDecidedCall}
+use Rattle.store_model.specs.State.{Answers, AreKept, Call, IsKept, IsName, Picks, Reply, on, only, refused}
+use Rattle.store_model.specs.Table.{DocumentTable, documents_of}
 use Rattle.bson_store.specs.Calls.{Does}
 use Rattle.bson_store.specs.Export.{bytes_of_each}
 use Rattle.bson_store.specs.Questions.{GivesPicked, Picked, Turns}
@@ -27,7 +27,7 @@ use Rattle.bson_store.proofs.Exporting.{bodies_are}
 use Rattle.bson_store.proofs.Moving.{moved}
 use Rattle.bson_store.proofs.Serving.{answers_stay, denied, undecided}
 use Rattle.bson_store.proofs.Dumping.{front_kept}
-use Rattle.store_laws.proofs.Keys.{rows_kept}
+use Rattle.store_model.proofs.Keys.{rows_kept}
 
 -- ---- one document more
 

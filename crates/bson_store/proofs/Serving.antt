@@ -13,22 +13,22 @@ use Rattle.bson_bytes.specs.Encode.{encode, size}
 use Rattle.bson_frame.specs.Frame.{size_limit}
 use Rattle.bson_meaning.specs.Meaning.{key}
 use Rattle.bson_meaning.proofs.Now.{same_itself}
-use Rattle.bson_table.specs.Rows.{TableRow, is_row_named}
-use Rattle.bson_table.specs.Rows as table
-use Rattle.bson_table.specs.Moves.{FindsPlace, AddsRows, IsRoomFor, with_row}
-use Rattle.bson_table.specs.declared.fault.Fault.{Fault}
-use Rattle.bson_table.specs.declared.fault.Fault.TheVariants as faults
+use Rattle.store_table.specs.Rows.{TableRow, is_row_named}
+use Rattle.store_table.specs.Rows as table
+use Rattle.store_table.specs.Moves.{FindsPlace, AddsRows, IsRoomFor, with_row}
+use Rattle.store_table.specs.declared.fault.Fault.{Fault}
+use Rattle.store_table.specs.declared.fault.Fault.TheVariants as faults
 use Rattle.store_documents.specs.Bodies.{IsKeyOf, AnswersWritten}
 use Rattle.store_documents.specs.declared.write.KeptRow.{KeptRow}
-use Rattle.store_laws.specs.Reading.{Documents, readable, IsRead}
-use Rattle.store_laws.specs.State.{id_key, list_of, store, HasId, SomeHasId, NoneHasId, Form, in_bytes, in_json, Call, insert, Command, on, Reply, done, refused, refusal_of, Answers, IsName, IsKept, Step}
-use Rattle.store_laws.specs.Run.{memory, database, places, IsDecided, IsDecidedCall, IsUnread}
-use Rattle.store_laws.specs.Table.{DocumentRow, DocumentTable, state_of, documents_of, greatest, greatest_place, Follows, Serves}
-use Rattle.store_laws.specs.declared.error.ErrorKind.{ErrorKind}
-use Rattle.store_laws.specs.declared.error.ErrorKind.TheVariants.{BadName, NoId, TooLong, DuplicateId, Places}
-use Rattle.store_laws.proofs.Rows.{rows_not_empty, list_of-state_of, rows_last}
-use Rattle.store_laws.proofs.States.{stored_again}
-use Rattle.store_laws.proofs.Ids.{own_is, own_of, has_written}
+use Rattle.store_model.specs.Reading.{Documents, readable, IsRead}
+use Rattle.store_model.specs.State.{id_key, list_of, store, HasId, SomeHasId, NoneHasId, Form, in_bytes, in_json, Call, insert, Command, on, Reply, done, refused, refusal_of, Answers, IsName, IsKept, Step}
+use Rattle.store_model.specs.Run.{memory, database, places, IsDecided, IsDecidedCall, IsUnread}
+use Rattle.store_model.specs.Table.{DocumentRow, DocumentTable, state_of, documents_of, greatest, greatest_place, Follows, Serves}
+use Rattle.store_model.specs.declared.error.ErrorKind.{ErrorKind}
+use Rattle.store_model.specs.declared.error.ErrorKind.TheVariants.{BadName, NoId, TooLong, DuplicateId, Places}
+use Rattle.store_model.proofs.Rows.{rows_not_empty, list_of-state_of, rows_last}
+use Rattle.store_model.proofs.States.{stored_again}
+use Rattle.store_model.proofs.Ids.{own_is, own_of, has_written}
 use Rattle.bson_store.specs.Shown.{IsRowOf, Represents}
 use Rattle.bson_store.specs.Calls.{Does, DoesRead}
 use Rattle.bson_store.specs.Refusals.{kind_of_fault}

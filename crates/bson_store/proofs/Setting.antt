@@ -5,17 +5,17 @@ use Rattle.std.specs.Option.{option_map}
 use Rattle.bson_base.specs.Value.{Value, Members, no_members, look_up, has_key, put, without}
 use Rattle.bson_bytes.specs.Encode.{encode}
 use Rattle.bson_meaning.specs.Meaning.{norm_in_order, key}
-use Rattle.bson_table.specs.declared.row.Found.{Found}
+use Rattle.store_table.specs.declared.row.Found.{Found}
 use Rattle.store_documents.specs.Bodies.{AnswersChanged, AnswersUnset}
 use Rattle.store_documents.specs.declared.change.Unset.{Unset}
-use Rattle.store_laws.specs.State.{id_key, set, unset, done, flag, on, refused, Answers, IsName, IsFreeKey, IsKept}
-use Rattle.store_laws.specs.Table.{own_id, only_id}
-use Rattle.store_laws.specs.declared.error.ErrorKind.{ErrorKind}
-use Rattle.store_laws.specs.declared.error.ErrorKind.TheVariants as kind
+use Rattle.store_model.specs.State.{id_key, set, unset, done, flag, on, refused, Answers, IsName, IsFreeKey, IsKept}
+use Rattle.store_model.specs.Table.{own_id, only_id}
+use Rattle.store_model.specs.declared.error.ErrorKind.{ErrorKind}
+use Rattle.store_model.specs.declared.error.ErrorKind.TheVariants as kind
 use Rattle.serde_json.specs.Data.{Data}
 use Rattle.sqlite.specs.State.{State}
-use Rattle.bson_table.specs.Moves.{Moves}
-use Rattle.store_laws.specs.Reading.{read_value}
+use Rattle.store_table.specs.Moves.{Moves}
+use Rattle.store_model.specs.Reading.{read_value}
 use Rattle.bson_store.specs.Calls.{Does}
 use Rattle.bson_store.proofs.Exits.{stays_moves, memory_moves}
 use Rattle.bson_store.proofs.Finding.{Answered}

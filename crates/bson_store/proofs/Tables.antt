@@ -3,15 +3,15 @@ use Rattle.std.proofs.Common.{◌≡◌, ℕ, pos, suc, ◌<◌, max, List, [], 
 use Rattle.std.specs.Prelude.{bytes_eq}
 use Rattle.std.specs.List.{find}
 use Rattle.bson_base.specs.Value.{Value}
-use Rattle.store_laws.specs.Reading.{Documents}
-use Rattle.store_laws.specs.State.{IsKept, HasId, NoneHasId, StandsAt, Command, IsCommand, Reply, Step}
-use Rattle.store_laws.specs.Table.{DocumentRow, DocumentTable, state_of, documents_of, greatest, AreRows}
-use Rattle.store_laws.proofs.Ids.{has_written, written_has}
-use Rattle.store_laws.proofs.Rows.{documents_of-append}
-use Rattle.store_laws.proofs.Keys.{rows_are_a_state, a_state_has_rows}
-use Rattle.store_laws.proofs.Kept.{step_good}
-use Rattle.bson_table.specs.Rows.{TableRow, is_row_named}
-use Rattle.bson_table.specs.Rows as table
+use Rattle.store_model.specs.Reading.{Documents}
+use Rattle.store_model.specs.State.{IsKept, HasId, NoneHasId, StandsAt, Command, IsCommand, Reply, Step}
+use Rattle.store_model.specs.Table.{DocumentRow, DocumentTable, state_of, documents_of, greatest, AreRows}
+use Rattle.store_model.proofs.Ids.{has_written, written_has}
+use Rattle.store_model.proofs.Rows.{documents_of-append}
+use Rattle.store_model.proofs.Keys.{rows_are_a_state, a_state_has_rows}
+use Rattle.store_model.proofs.Kept.{step_good}
+use Rattle.store_table.specs.Rows.{TableRow, is_row_named}
+use Rattle.store_table.specs.Rows as table
 use Rattle.store_documents.specs.Bodies.{IsKeyOf}
 use Rattle.bson_store.specs.Shown.{IsRowOf, AreRowsOf, Rises, Represents}
 use Rattle.bson_base.proofs.Members.{equal_keys, same_key}

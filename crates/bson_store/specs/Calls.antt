@@ -3,12 +3,12 @@ use Rattle.std.specs.Prelude.{◌≡◌, ℕ, List, Option, Some, None, Result, 
 use Rattle.std.specs.List.{find}
 use Rattle.serde_json.specs.Data.{Data}
 use Rattle.bson_base.specs.Value.{Value, Members}
-use Rattle.bson_table.specs.Rows.{TableRow, is_row_named}
-use Rattle.bson_table.specs.Moves.{parts_of_found, parts_of_row, Moves}
-use Rattle.bson_table.specs.declared.row.Found.{Found}
-use Rattle.store_laws.specs.Reading.{Reading, ReadsBytes, ReadsTree, readable}
-use Rattle.store_laws.specs.State as model
-use Rattle.store_laws.specs.Table.{DocumentTable, Serves, documents_of}
+use Rattle.store_table.specs.Rows.{TableRow, is_row_named}
+use Rattle.store_table.specs.Moves.{parts_of_found, parts_of_row, Moves}
+use Rattle.store_table.specs.declared.row.Found.{Found}
+use Rattle.store_model.specs.Reading.{Reading, ReadsBytes, ReadsTree, readable}
+use Rattle.store_model.specs.State as model
+use Rattle.store_model.specs.Table.{DocumentTable, Serves, documents_of}
 use Rattle.store_documents.specs.Bodies.{IsKeyOf}
 use Rattle.bson_store.specs.Shown.{Represents}
 use Rattle.bson_store.specs.Refusals.{IsDenied}
@@ -16,7 +16,7 @@ use Rattle.bson_store.specs.declared.error.StoreError.{StoreError}
 use Rattle.sqlite_trees.specs.declared.store.Store.{Ghosts}
 use Rattle.sqlite.specs.State.{State}
 use Rattle.sqlite.specs.Held.{Held}
-use Rattle.bson_table.specs.Table.{connection_of as table_connection, table_state}
+use Rattle.store_table.specs.Table.{connection_of as table_connection, table_state}
 use Rattle.bson_store.specs.declared.store.Store.{Store}
 
 -- a store's connection, and its state

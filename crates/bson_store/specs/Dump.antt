@@ -4,12 +4,12 @@ use Rattle.serde_json.specs.Data.{Data}
 use Rattle.serde_json.specs.View.{view as data_of}
 use Rattle.serde_json.specs.declared.value.Value.{Value as Json}
 use Rattle.bson_bytes.specs.Encode.{encode}
-use Rattle.bson_table.specs.Rows.{TableRow}
-use Rattle.store_laws.specs.Reading.{Documents}
-use Rattle.store_laws.specs.State.{AreKept, IsName, refused, trees_of, trees_reply}
-use Rattle.store_laws.specs.Table.{DocumentTable, documents_of}
-use Rattle.store_laws.specs.declared.error.ErrorKind.{ErrorKind}
-use Rattle.store_laws.specs.declared.error.ErrorKind.TheVariants.{BadName, Memory}
+use Rattle.store_table.specs.Rows.{TableRow}
+use Rattle.store_model.specs.Reading.{Documents}
+use Rattle.store_model.specs.State.{AreKept, IsName, refused, trees_of, trees_reply}
+use Rattle.store_model.specs.Table.{DocumentTable, documents_of}
+use Rattle.store_model.specs.declared.error.ErrorKind.{ErrorKind}
+use Rattle.store_model.specs.declared.error.ErrorKind.TheVariants.{BadName, Memory}
 use Rattle.bson_store.specs.Refusals.{IsDenied, refusal, refusal_at}
 use Rattle.bson_store.specs.Shown.{Represents}
 use Rattle.bson_store.specs.declared.error.StoreError.{StoreError}

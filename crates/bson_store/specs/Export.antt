@@ -5,11 +5,11 @@ use Rattle.std.specs.Io.KnownBytes.{Appends}
 use Rattle.std.specs.declared.alloc.Global.{Global}
 use Rattle.bson_base.specs.Device.{TakesBeginning, Tally}
 use Rattle.bson_bytes.specs.Encode.{encode}
-use Rattle.bson_table.specs.Rows.{TableRow}
-use Rattle.store_laws.specs.State.{State, list_of, IsName}
-use Rattle.store_laws.specs.Table.{DocumentTable, state_of}
-use Rattle.store_laws.specs.declared.error.ErrorKind.{ErrorKind}
-use Rattle.store_laws.specs.declared.error.ErrorKind.TheVariants.{BadName, Memory, Database, Writer}
+use Rattle.store_table.specs.Rows.{TableRow}
+use Rattle.store_model.specs.State.{State, list_of, IsName}
+use Rattle.store_model.specs.Table.{DocumentTable, state_of}
+use Rattle.store_model.specs.declared.error.ErrorKind.{ErrorKind}
+use Rattle.store_model.specs.declared.error.ErrorKind.TheVariants.{BadName, Memory, Database, Writer}
 use Rattle.bson_store.specs.Shown.{Represents}
 use Rattle.bson_store.specs.declared.error.StoreError.{StoreError}
 

@@ -3,15 +3,15 @@ use Rattle.std.specs.Prelude.{◌≡◌, ◌⊎◌, ◌||◌, ℕ, Bool, List, l
 use Rattle.std.specs.Cow.{cow_slice_items}
 use Rattle.std.specs.List.{list_any}
 use Rattle.std.specs.Str.{bytes_eq}
-use Rattle.bson_table.specs.Rows.{TableRow, is_in}
-use Rattle.bson_table.specs.declared.fault.Fault.{Fault}
-use Rattle.bson_table.specs.declared.row.NewRow.{NewRow}
+use Rattle.store_table.specs.Rows.{TableRow, is_in}
+use Rattle.store_table.specs.declared.fault.Fault.{Fault}
+use Rattle.store_table.specs.declared.row.NewRow.{NewRow}
 use Rattle.store_documents.specs.declared.write.KeptRow.{KeptRow}
-use Rattle.store_laws.specs.Reading.{Documents, AreRead, ReadsStream}
-use Rattle.store_laws.specs.State as model
-use Rattle.store_laws.specs.Table.{DocumentTable, documents_of}
-use Rattle.store_laws.specs.declared.error.ErrorKind.{ErrorKind}
-use Rattle.store_laws.specs.declared.error.ErrorKind.TheVariants.{BadName, DuplicateId, Memory, Reader}
+use Rattle.store_model.specs.Reading.{Documents, AreRead, ReadsStream}
+use Rattle.store_model.specs.State as model
+use Rattle.store_model.specs.Table.{DocumentTable, documents_of}
+use Rattle.store_model.specs.declared.error.ErrorKind.{ErrorKind}
+use Rattle.store_model.specs.declared.error.ErrorKind.TheVariants.{BadName, DuplicateId, Memory, Reader}
 use Rattle.bson_base.specs.declared.whole.ReadAllError.TheVariants as reads
 use Rattle.store_streams.specs.declared.keys.Keys.{Keys}
 use Rattle.bson_base.specs.Device.{Feed, TookAll, StopsReading}

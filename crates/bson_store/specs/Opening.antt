@@ -2,14 +2,14 @@
 use Rattle.std.specs.Prelude.{◌≡◌, ◌⊎◌, ℕ, List, []}
 use Rattle.sqlite.specs.State.{State, IsUnchanged}
 use Rattle.bson_meaning.specs.Before.{key as key_before}
-use Rattle.bson_table.specs.Rows.{TableRow, HoldsRows, IsBlank}
-use Rattle.bson_table.specs.Open.{HasNoTable}
-use Rattle.bson_table.specs.Beside.{StandsBeside}
-use Rattle.bson_table.specs.Renewal.{Unopened, PassesOnce}
-use Rattle.bson_table.specs.Schema.{documents_schema}
-use Rattle.bson_table.specs.declared.opening.OpenError.{OpenError}
+use Rattle.store_table.specs.Rows.{TableRow, HoldsRows, IsBlank}
+use Rattle.store_table.specs.Open.{HasNoTable}
+use Rattle.store_table.specs.Beside.{StandsBeside}
+use Rattle.store_table.specs.Renewal.{Unopened, PassesOnce}
+use Rattle.store_table.specs.Schema.{documents_schema}
+use Rattle.store_table.specs.declared.opening.OpenError.{OpenError}
 use Rattle.store_documents.specs.Bodies.{IsRow}
-use Rattle.store_laws.specs.Table.{DocumentTable, own_id}
+use Rattle.store_model.specs.Table.{DocumentTable, own_id}
 use Rattle.bson_store.specs.Shown.{Represents, RepresentsOnce}
 use Rattle.bson_store.specs.Refusals.{kind_of_opening, refusal}
 use Rattle.bson_store.specs.declared.error.StoreError.{StoreError}

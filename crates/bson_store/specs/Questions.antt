@@ -5,11 +5,11 @@ use Rattle.bson_base.specs.Value.{document, Members}
 use Rattle.bson_bytes.specs.Encode.{encode}
 use Rattle.bson_raw.specs.View.{bytes_of as view_bytes}
 use Rattle.bson_raw.specs.declared.document.RawDocument.{RawDocument}
-use Rattle.bson_table.specs.Rows.{TableRow}
-use Rattle.store_laws.specs.Filter.{Filter, Selects}
-use Rattle.store_laws.specs.Reading.{Documents}
-use Rattle.store_laws.specs.State.{AreKept, Picks, When, Reply, bytes_list, names}
-use Rattle.store_laws.specs.Table.{DocumentTable, documents_of}
+use Rattle.store_table.specs.Rows.{TableRow}
+use Rattle.store_model.specs.Filter.{Filter, Selects}
+use Rattle.store_model.specs.Reading.{Documents}
+use Rattle.store_model.specs.State.{AreKept, Picks, When, Reply, bytes_list, names}
+use Rattle.store_model.specs.Table.{DocumentTable, documents_of}
 use Rattle.bson_store.specs.Export.{bytes_of_each}
 use Rattle.bson_store.specs.Refusals.{IsDenied}
 use Rattle.bson_store.specs.Shown.{Represents}

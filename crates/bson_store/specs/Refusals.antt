@@ -3,13 +3,13 @@ use Rattle.std.specs.Prelude.{◌≡◌, ◌≢◌, Bool, ℕ, Some, None, Resul
 use Rattle.std.specs.declared.alloc.Global.{Global}
 use Rattle.serde_json.specs.View.{view as data_of}
 use Rattle.serde_json.specs.declared.value.Value.{Value as Json}
-use Rattle.bson_table.specs.declared.fault.Fault.{Fault}
-use Rattle.bson_table.specs.declared.fault.Fault.TheVariants as faults
-use Rattle.bson_table.specs.declared.opening.OpenError.{OpenError}
-use Rattle.bson_table.specs.declared.opening.OpenError.TheVariants as opens
-use Rattle.store_laws.specs.State as model
-use Rattle.store_laws.specs.declared.error.ErrorKind.{ErrorKind}
-use Rattle.store_laws.specs.declared.error.ErrorKind.TheVariants.{NotAStore, BadRow, IdsCollide, Memory, Database, Places, Reader}
+use Rattle.store_table.specs.declared.fault.Fault.{Fault}
+use Rattle.store_table.specs.declared.fault.Fault.TheVariants as faults
+use Rattle.store_table.specs.declared.opening.OpenError.{OpenError}
+use Rattle.store_table.specs.declared.opening.OpenError.TheVariants as opens
+use Rattle.store_model.specs.State as model
+use Rattle.store_model.specs.declared.error.ErrorKind.{ErrorKind}
+use Rattle.store_model.specs.declared.error.ErrorKind.TheVariants.{NotAStore, BadRow, IdsCollide, Memory, Database, Places, Reader}
 use Rattle.store_streams.specs.declared.error.StreamError.{StreamError}
 use Rattle.store_streams.specs.declared.error.StreamError.TheVariants as streams
 use Rattle.bson_base.specs.declared.whole.ReadAllError.{ReadAllError}

@@ -1,17 +1,17 @@
 -- What a list of commands and its replies say of tables and of plain lists.
 use Rattle.std.specs.Prelude.{◌≡◌, ℕ, List, [], ◌∷◌, Option, IsTrue, map, string_bytes}
 use Rattle.sqlite.specs.State.{State, HasCleanDisk}
-use Rattle.bson_table.specs.Moves.{Stands}
+use Rattle.store_table.specs.Moves.{Stands}
 use Rattle.serde_json.specs.View.{view as data_of}
-use Rattle.bson_filter.specs.Filters.{filter_of, path_of}
+use Rattle.store_filter.specs.Filters.{filter_of, path_of}
 use Rattle.bson_model.specs.View.{view}
-use Rattle.bson_table.specs.Rows.{TableRow}
-use Rattle.store_laws.specs.Reading.{Documents, Reading, ReadsBytes, ReadsStream, ReadsTree, ReadsTrees, read_value}
-use Rattle.store_laws.specs.Same.{SameCommands}
-use Rattle.store_laws.specs.State as model
-use Rattle.store_laws.specs.declared.error.ErrorKind.{ErrorKind}
-use Rattle.store_laws.specs.Run.{Denials, Run, SparesDecided}
-use Rattle.store_laws.specs.Table.{DocumentTable, IsRefusal, RunThrough, state_of}
+use Rattle.store_table.specs.Rows.{TableRow}
+use Rattle.store_model.specs.Reading.{Documents, Reading, ReadsBytes, ReadsStream, ReadsTree, ReadsTrees, read_value}
+use Rattle.store_model.specs.Same.{SameCommands}
+use Rattle.store_model.specs.State as model
+use Rattle.store_model.specs.declared.error.ErrorKind.{ErrorKind}
+use Rattle.store_model.specs.Run.{Denials, Run, SparesDecided}
+use Rattle.store_model.specs.Table.{DocumentTable, IsRefusal, RunThrough, state_of}
 use Rattle.bson_store.specs.Shown.{Represents}
 use Rattle.bson_store.specs.Calls.{Does}
 use Rattle.bson_store.specs.Export.{bytes_of_each}

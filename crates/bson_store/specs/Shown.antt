@@ -3,8 +3,8 @@ use Rattle.std.specs.Prelude.{◌≡◌, ◌⊎◌, ℕ, ◌<◌, pos, List, [],
 use Rattle.bson_bytes.specs.Encode.{encode}
 use Rattle.bson_meaning.specs.Before.{key as key_before}
 use Rattle.bson_meaning.specs.Meaning.{key}
-use Rattle.bson_table.specs.Rows.{TableRow}
-use Rattle.store_laws.specs.Table.{DocumentRow, DocumentTable, AreRows, own_id}
+use Rattle.store_table.specs.Rows.{TableRow}
+use Rattle.store_model.specs.Table.{DocumentRow, DocumentTable, AreRows, own_id}
 
 -- a row of bytes is that of a document: its name is a text, its key that of the document's `_id`, its body the document's written form
 pub record IsRowOf (r : DocumentRow) (d : TableRow) : Type 0 where

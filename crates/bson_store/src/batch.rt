@@ -1,12 +1,12 @@
 //! Lists of commands.
 
 ghost use Rattle.std.specs.Prelude.{◌≡◌, IfOk, OnErr};
-ghost use Rattle.bson_table.specs.Moves.{Moves};
+ghost use Rattle.store_table.specs.Moves.{Moves};
 ghost use Rattle.bson_store.specs.Calls.{store_state, Relates};
 ghost use Rattle.bson_store.specs.Questions.{as_list, as_names};
 ghost use Rattle.bson_store.specs.Refusals.{reply_by, as_done, as_flag, as_bytes, as_json, as_json_list, as_number};
-ghost use Rattle.store_laws.specs.Reading.{ReadsStream};
-ghost use Rattle.store_laws.specs.State.{export, on};
+ghost use Rattle.store_model.specs.Reading.{ReadsStream};
+ghost use Rattle.store_model.specs.State.{export, on};
 ghost use Rattle.bson_store.specs.Left.{Leaves, LeavesTheEnd, LeavesAsLists, LeavesCommand, LeavesMany};
 ghost use Rattle.bson_store.specs.Runs.{Exported, Imported, IsLent, Obeys, AnswersAsLists, AnswersThroughTables, EndsOpen, WasOpenFor, reply_of};
 
@@ -17,7 +17,7 @@ use bson_model::{SliceSource, VecSink};
 use serde_json::Value;
 use sqlite::Alter;
 use std::alloc::AllocError;
-use store_laws::ErrorKind;
+use store_model::ErrorKind;
 
 fn done(outcome: Result<(), StoreError>) -> Reply
     ensures { reply_of result ≡ reply_by as_done outcome }

@@ -5,8 +5,8 @@ ghost use Rattle.serde_json.specs.Data.{Data};
 ghost use Rattle.bson_base.specs.Value.{Members};
 ghost use Rattle.bson_bytes.specs.Encode.{encode};
 ghost use Rattle.bson_model.specs.declared.extjson.ser.Mode.TheVariants.{Canonical};
-ghost use Rattle.bson_table.specs.Moves.{WasOpen};
-ghost use Rattle.store_laws.specs.State.{IsKept, json_of};
+ghost use Rattle.store_table.specs.Moves.{WasOpen};
+ghost use Rattle.store_model.specs.State.{IsKept, json_of};
 ghost use Rattle.sqlite.specs.State.{Survives};
 ghost use Rattle.bson_store.specs.Calls.{store_state, Relates};
 ghost use Rattle.bson_store.specs.Dump.{ChecksTrees, HandsOn};
@@ -15,11 +15,11 @@ use crate::dump::refused_at;
 use crate::error::StoreError;
 use crate::store::{Store, good_name};
 use bson_model::extjson::Mode;
-use bson_table::Visit;
+use store_table::Visit;
 use sqlite::Alter;
 use std::alloc::Global;
 use store_documents::check_json;
-use store_laws::ErrorKind;
+use store_model::ErrorKind;
 
 /// Answers the place behind that of a body of the collection, if its document has a tree.
 fn pass(alloc: Global, body: &[u8], place: u64) -> Result<u64, StoreError>

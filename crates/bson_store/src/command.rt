@@ -1,7 +1,7 @@
 //! Commands and replies.
 
 use crate::error::StoreError;
-use bson_filter::Filter;
+use store_filter::Filter;
 use bson_model::Bson;
 use bson_model::extjson::Mode;
 use serde_json::Value;

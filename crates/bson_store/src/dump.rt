@@ -6,8 +6,8 @@ ghost use Rattle.serde_json.specs.View.{view as data_of};
 ghost use Rattle.bson_base.specs.Value.{Members};
 ghost use Rattle.bson_bytes.specs.Encode.{encode};
 ghost use Rattle.bson_model.specs.declared.extjson.ser.Mode.TheVariants.{Canonical};
-ghost use Rattle.bson_table.specs.Moves.{WasOpen};
-ghost use Rattle.store_laws.specs.State.{IsKept, dump, on, json_of};
+ghost use Rattle.store_table.specs.Moves.{WasOpen};
+ghost use Rattle.store_model.specs.State.{IsKept, dump, on, json_of};
 ghost use Rattle.sqlite.specs.State.{Survives};
 ghost use Rattle.bson_store.specs.Calls.{store_state, Does, Relates};
 ghost use Rattle.bson_store.specs.Dump.{HandsOn, HandsTrees, TellsTree, told_at};
@@ -16,12 +16,12 @@ ghost use Rattle.bson_store.specs.Refusals.{as_json_list, reply_by};
 use crate::error::StoreError;
 use crate::store::{Store, good_name};
 use bson_model::extjson::Mode;
-use bson_table::Visit;
+use store_table::Visit;
 use serde_json::Value;
 use sqlite::Alter;
 use std::alloc::Global;
 use store_documents::json_of_body;
-use store_laws::ErrorKind;
+use store_model::ErrorKind;
 
 /// What is done with the trees of a collection's documents, which come one at a time.
 pub trait TakeJson {

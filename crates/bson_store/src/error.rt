@@ -2,14 +2,14 @@
 
 ghost use Rattle.std.specs.Prelude.{◌≡◌};
 ghost use Rattle.bson_store.specs.Refusals.{kind_of_fault, kind_of_opening, kind_of_reading, refusal, refusal_of_stream};
-ghost use Rattle.store_laws.specs.declared.error.ErrorKind.TheVariants.{Memory, Writer};
+ghost use Rattle.store_model.specs.declared.error.ErrorKind.TheVariants.{Memory, Writer};
 
 use bson_base::ReadAllError;
 use bson_model::DeviceFault;
-use bson_table::{Fault, OpenError};
 use std::alloc::{AllocError, AllocFailed};
-use store_laws::ErrorKind;
+use store_model::ErrorKind;
 use store_streams::StreamError;
+use store_table::{Fault, OpenError};
 use thiserror::Error;
 
 /// A refused call: why, and in a call of many documents which one was refused, counted from 0.

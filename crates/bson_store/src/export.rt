@@ -6,8 +6,8 @@ ghost use Rattle.bson_store.specs.Export.{bytes_of_each};
 
 use bson_base::write_all;
 use bson_model::Sink;
-use bson_table::Visit;
 use std::alloc::{AllocError, Global};
+use store_table::Visit;
 
 /// Puts a copy of a body last.
 pub(crate) fn push_copy(bodies: &mut Vec<Vec<u8>>, alloc: Global, body: &[u8]) -> Result<(), AllocError>

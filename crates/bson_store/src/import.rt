@@ -7,30 +7,30 @@ ghost use Rattle.std.specs.Str.{bytes_eq};
 ghost use Rattle.serde_json.specs.Data.{Data};
 ghost use Rattle.serde_json.specs.View.{view as data_of};
 ghost use Rattle.sqlite.specs.State.{HasCleanDisk, Survives};
-ghost use Rattle.bson_table.specs.Moves.{AddsRows, MayLeave, Stands, WasOpen, with_rows};
-ghost use Rattle.bson_table.specs.Rows.{TableRow};
+ghost use Rattle.store_table.specs.Moves.{AddsRows, MayLeave, Stands, WasOpen, with_rows};
+ghost use Rattle.store_table.specs.Rows.{TableRow};
 ghost use Rattle.bson_store.specs.Left.{LeavesMany, LeavesRows, ReadsFed};
 ghost use Rattle.store_documents.specs.Names.{name_bytes};
 ghost use Rattle.bson_base.specs.Kinds.{AreBytes};
-ghost use Rattle.store_laws.specs.Reading.{ReadsStream, ReadsTrees};
+ghost use Rattle.store_model.specs.Reading.{ReadsStream, ReadsTrees};
 ghost use Rattle.store_streams.specs.Judging.{Judges};
 ghost use Rattle.store_streams.specs.Keys.{has_met};
 ghost use Rattle.store_streams.specs.Loading.{HasTaken};
 ghost use Rattle.bson_store.specs.Calls.{store_state, Relates};
 ghost use Rattle.bson_store.specs.Many.{AddsAll, DoesMany, FindsTaken, Imports, Lends, Meets};
 ghost use Rattle.bson_store.specs.Refusals.{as_number, refusal_at, reply_by};
-ghost use Rattle.store_laws.specs.declared.error.ErrorKind.TheVariants.{DuplicateId};
+ghost use Rattle.store_model.specs.declared.error.ErrorKind.TheVariants.{DuplicateId};
 
 use crate::error::StoreError;
 use crate::store::{Store, good_name};
 use bson_base::read_all;
 use bson_model::Source;
-use bson_table::{Fault, NewRow};
+use store_table::{Fault, NewRow};
 use serde_json::Value;
 use sqlite::Alter;
 use std::alloc::{AllocError, Global};
 use store_documents::{Name, KeptRow};
-use store_laws::ErrorKind;
+use store_model::ErrorKind;
 use store_streams::{Keys, Loader, StreamError, first_repeated, judge_stream, judge_trees};
 
 /// The rows of the documents of a stream.

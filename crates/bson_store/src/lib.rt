@@ -16,7 +16,6 @@ mod row_test;
 mod store;
 
 pub use batch::run;
-pub use bson_filter::{Filter, look_up, selects};
 pub use bson_model::{
     Array, Binary, BinarySubtype, Bson, Counted, DateTime, DbPointer, Decimal128, DeviceFault,
     Document, DoubleBits, ElementType, JavaScriptCodeWithScope, ObjectId, Regex, Sink, SliceSource,
@@ -32,5 +31,6 @@ pub use command::{Command, Reply};
 pub use dump::TakeJson;
 pub use error::StoreError;
 pub use store::Store;
-pub use store_laws::{ErrorKind, laws};
+pub use store_filter::{Filter, look_up, selects};
+pub use store_model::{ErrorKind, laws};
 pub use store_streams::Loader;

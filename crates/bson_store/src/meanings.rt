@@ -4,11 +4,11 @@ ghost use Rattle.std.specs.Prelude.{◌≡◌, ◌++◌, ℕ, List, [], map, Ok,
 ghost use Rattle.serde_json.specs.Data.{Data};
 ghost use Rattle.bson_base.specs.Device.{Feed, Tally};
 ghost use Rattle.bson_meaning.specs.Meaning.{norm_members_in_order};
-ghost use Rattle.bson_table.specs.Rows.{TableRow};
-ghost use Rattle.store_laws.specs.Reading.{ReadsStream, ReadsTrees};
-ghost use Rattle.store_laws.specs.Same.{SameReplies, SameStates};
-ghost use Rattle.store_laws.specs.State.{bytes, dump, export, json_list, number, on};
-ghost use Rattle.store_laws.specs.Table.{DocumentTable, documents_of, state_of};
+ghost use Rattle.store_table.specs.Rows.{TableRow};
+ghost use Rattle.store_model.specs.Reading.{ReadsStream, ReadsTrees};
+ghost use Rattle.store_model.specs.Same.{SameReplies, SameStates};
+ghost use Rattle.store_model.specs.State.{bytes, dump, export, json_list, number, on};
+ghost use Rattle.store_model.specs.Table.{DocumentTable, documents_of, state_of};
 ghost use Rattle.bson_store.specs.Calls.{Does};
 ghost use Rattle.bson_store.specs.Export.{SendsCollection};
 ghost use Rattle.bson_store.specs.Many.{DoesMany, Imports, Restored};

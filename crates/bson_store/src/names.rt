@@ -1,16 +1,16 @@
 //! The names of collections, as texts.
 
 ghost use Rattle.std.specs.Prelude.{◌≡◌, ◌++◌, ◌∷◌, [], ℕ, List, IsTrue, IsUtf8, map, string_bytes, IfOk, IfErr, OnOk};
-ghost use Rattle.bson_table.specs.Names.{has_name};
-ghost use Rattle.store_laws.specs.State.{AreAscending};
-ghost use Rattle.store_laws.specs.declared.error.ErrorKind.TheVariants.{Memory};
+ghost use Rattle.store_table.specs.Names.{has_name};
+ghost use Rattle.store_model.specs.State.{AreAscending};
+ghost use Rattle.store_model.specs.declared.error.ErrorKind.TheVariants.{Memory};
 ghost use Rattle.bson_store.specs.Export.{bytes_of_each};
 ghost use Rattle.bson_store.specs.Refusals.{refusal};
 
 use crate::error::StoreError;
 use std::alloc::Global;
 use std::collections::BTreeSet;
-use store_laws::ErrorKind;
+use store_model::ErrorKind;
 
 /// Puts a name last.
 fn add_name(names: &mut Vec<String>, name: Vec<u8>) -> Result<(), StoreError>

@@ -3,22 +3,22 @@
 ghost use Rattle.std.specs.Prelude.{◌≡◌, ◌++◌, ◌∷◌, [], IfErr, OnOk};
 ghost use Rattle.bson_base.specs.Value.{Members};
 ghost use Rattle.bson_bytes.specs.Encode.{encode};
-ghost use Rattle.bson_filter.specs.Filters.{filter_of, path_of};
-ghost use Rattle.bson_filter.specs.Views.{OfWritten};
+ghost use Rattle.store_filter.specs.Filters.{filter_of, path_of};
+ghost use Rattle.store_filter.specs.Views.{OfWritten};
 ghost use Rattle.bson_raw.specs.View.{bytes_of as view_bytes};
-ghost use Rattle.store_laws.specs.Reading.{Documents};
-ghost use Rattle.store_laws.specs.State.{IsKept, only};
+ghost use Rattle.store_model.specs.Reading.{Documents};
+ghost use Rattle.store_model.specs.State.{IsKept, only};
 ghost use Rattle.bson_store.specs.Export.{bytes_of_each};
 ghost use Rattle.bson_store.specs.Questions.{IsPick, Turns};
 ghost use Rattle.bson_store.specs.Refusals.{IsDenied};
 
 use crate::error::StoreError;
 use crate::export::push_copy;
-use bson_filter::{Filter, project, selects};
+use store_filter::{Filter, project, selects};
 use bson_raw::RawDocument;
-use bson_table::Visit;
+use store_table::Visit;
 use std::alloc::{AllocError, Global};
-use store_laws::ErrorKind;
+use store_model::ErrorKind;
 
 /// What is kept of the documents that a filter selects.
 pub trait Take {
@@ -86,8 +86,8 @@ pub struct Projections<'a> {
 impl<'a> Take for Projections<'a> {
     ghost use Rattle.std.specs.Prelude.{◌≡◌, map};
     ghost use Rattle.bson_bytes.specs.Encode.{encode};
-    ghost use Rattle.bson_filter.specs.Filters.{path_of};
-    ghost use Rattle.store_laws.specs.State.{only};
+    ghost use Rattle.store_filter.specs.Filters.{path_of};
+    ghost use Rattle.store_model.specs.State.{only};
     ghost use Rattle.bson_store.specs.Export.{bytes_of_each};
 
     ghost took = { λ first t out. (t.keys.now ≡ first.keys.now)
@@ -150,7 +150,7 @@ pub struct FilterVisitor<'a, T> {
 
 impl<'a, T: Take> Visit for FilterVisitor<'a, T> {
     ghost use Rattle.std.specs.Prelude.{◌≡◌, ◌≢◌, None};
-    ghost use Rattle.bson_filter.specs.Filters.{filter_of};
+    ghost use Rattle.store_filter.specs.Filters.{filter_of};
     ghost use Rattle.bson_store.specs.Questions.{GivesPicked};
 
     ghost took = { λ first v bodies. (v.filter.now ≡ first.filter.now)

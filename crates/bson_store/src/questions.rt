@@ -1,10 +1,10 @@
 //! Questions to collections: which there are, and what a filter selects of one.
 
 ghost use Rattle.std.specs.Prelude.{◌≡◌, []};
-ghost use Rattle.bson_filter.specs.Filters.{filter_of, path_of};
-ghost use Rattle.bson_table.specs.Moves.{WasOpen};
+ghost use Rattle.store_filter.specs.Filters.{filter_of, path_of};
+ghost use Rattle.store_table.specs.Moves.{WasOpen};
 ghost use Rattle.store_documents.specs.Names.{name_bytes};
-ghost use Rattle.store_laws.specs.State.{collections, count, find, on, project};
+ghost use Rattle.store_model.specs.State.{collections, count, find, on, project};
 ghost use Rattle.sqlite.specs.State.{Survives};
 ghost use Rattle.bson_store.specs.Calls.{Does, store_state, Relates};
 ghost use Rattle.bson_store.specs.Questions.{Picked, as_list, as_names};
@@ -14,7 +14,7 @@ use crate::error::StoreError;
 use crate::names::names_of;
 use crate::picking::{Copies, Count, FilterVisitor, Projections, Take};
 use crate::store::{Store, good_name};
-use bson_filter::Filter;
+use store_filter::Filter;
 use sqlite::Alter;
 use store_documents::Name;
 

@@ -1,8 +1,8 @@
 //! Which rows a store can have written.
 
-use bson_table::RowCheck;
 use std::alloc::{AllocError, Global};
 use store_documents::{RowKey, is_store_row, key_of_row};
+use store_table::RowCheck;
 
 /// The test that `Store::open` makes of each row, beside what the table itself asks.
 #[derive(Drop)]

@@ -4,23 +4,23 @@ ghost use Rattle.std.specs.Prelude.{◌≡◌, ◌↔◌, false, IsTrue, IfOk, I
 ghost use Rattle.bson_base.specs.Device.{CanRefuse};
 ghost use Rattle.sqlite.specs.Held.{state};
 ghost use Rattle.sqlite.specs.State.{HasCleanDisk, Survives};
-ghost use Rattle.bson_table.specs.Open.{HasNoTable, IsNameTaken, KeepsAll};
+ghost use Rattle.store_table.specs.Open.{HasNoTable, IsNameTaken, KeepsAll};
 ghost use Rattle.bson_store.specs.Opening.{Opens, RefusesToOpen};
 ghost use Rattle.serde_json.specs.View.{view as data_of};
 ghost use Rattle.bson_base.specs.Value.{Members};
 ghost use Rattle.bson_model.specs.View.{view};
-ghost use Rattle.bson_table.specs.Moves.{AddsRows, Changes, MayLeave, Stands, WasOpen, with_row};
-ghost use Rattle.store_laws.specs.State.{State as Lists};
+ghost use Rattle.store_table.specs.Moves.{AddsRows, Changes, MayLeave, Stands, WasOpen, with_row};
+ghost use Rattle.store_model.specs.State.{State as Lists};
 ghost use Rattle.bson_store.specs.Left.{FindsState, Holds, HoldsOnce, Keeps, Leaves, LeavesBytes, LeavesOnly, LeavesRead, LeavesTree};
-ghost use Rattle.bson_table.specs.Rows.{TableRow, with_body_at};
+ghost use Rattle.store_table.specs.Rows.{TableRow, with_body_at};
 ghost use Rattle.bson_store.specs.Calls.{store_connection, store_state, Does, DoesBytes, DoesTree, DoesRead, Looks, Relates};
 ghost use Rattle.bson_store.specs.Export.{SendsCollection};
 ghost use Rattle.bson_store.specs.Refusals.{refusal, reply_by, as_done, as_flag, as_bytes, as_json};
 ghost use Rattle.store_documents.specs.Bodies.{AnswersWritten};
 ghost use Rattle.store_documents.specs.Names.{name_bytes};
-ghost use Rattle.store_laws.specs.Reading.{IsRead, read_value};
-ghost use Rattle.store_laws.specs.State.{IsName, IsFreeKey, in_bytes, in_json, insert, replace, set, unset, remove, get_raw, get_json, on};
-ghost use Rattle.store_laws.specs.declared.error.ErrorKind.TheVariants.{BadName, Database, NotAStore};
+ghost use Rattle.store_model.specs.Reading.{IsRead, read_value};
+ghost use Rattle.store_model.specs.State.{IsName, IsFreeKey, in_bytes, in_json, insert, replace, set, unset, remove, get_raw, get_json, on};
+ghost use Rattle.store_model.specs.declared.error.ErrorKind.TheVariants.{BadName, Database, NotAStore};
 
 use crate::error::StoreError;
 use crate::export::ExportVisitor;
@@ -29,7 +29,7 @@ use bson_bytes::put::has_no_zero;
 use bson_meaning::KeyError;
 use bson_model::extjson::Mode;
 use bson_model::{Bson, Sink};
-use bson_table::{Fault, Found, Table};
+use store_table::{Fault, Found, Table};
 use serde_json::Value;
 use sqlite::{Alter, Connection};
 use std::alloc::Global;
@@ -37,7 +37,7 @@ use store_documents::{
     Name, KeptRow, json_of_body, key_of_id, value_of_json, row_of_bytes, row_of_json, body_with,
     body_without,
 };
-use store_laws::ErrorKind;
+use store_model::ErrorKind;
 
 /// The name of a collection. BadName where it can't be one.
 pub(crate) fn good_name(name: &str) -> Result<Name<'_>, StoreError>

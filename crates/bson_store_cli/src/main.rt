@@ -8,7 +8,7 @@ use bson_store::Counted;
 use database::serve;
 use std::process::ExitCode;
 use std::{env, io};
-use store_pipe::pipe;
+use cli_pipe::pipe;
 
 /// The words behind the program's name.
 fn words_of(rt: &HostRuntime) -> io::Result<Vec<String>> {

@@ -5,7 +5,7 @@ use bson_store::extjson::Mode;
 use bson_store::{Bson, Command};
 use serde_json::Value;
 use std::alloc::Global;
-use store_words::{read_filter, read_id};
+use cli_words::{read_filter, read_id};
 
 /// What stands before the first bar, and what behind it.
 fn cut(text: &str) -> (&str, &str) {

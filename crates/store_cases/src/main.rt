@@ -1,8 +1,8 @@
-//! Cases of bson_table, bson_store, store_pipe and store_program. The files `stdin` and `stdout` hold the cases and their answers: each line of standard
+//! Cases of store_table, bson_store, cli_pipe and cli_commands. The files `stdin` and `stdout` hold the cases and their answers: each line of standard
 //! input is answered by one line of standard output, except in a block whose store isn't opened: it ends there, or goes on at `close`.
 //!
 //! Before the first title each line stands alone: `export_memory TIMES` tells how far an export gets where memory is refused, as the
-//! page of `exporting` says, `usage` is the example of docs/USING.md on stores, and the others are cases of bson_table, of which the
+//! page of `exporting` says, `usage` is the example of docs/USING.md on stores, and the others are cases of store_table, of which the
 //! page of `table` tells. `stopped log` and `stopped database` stop a file under the store at each of its calls, one after the other;
 //! they are answered by a row for each that went otherwise than the one before it, as the page of `stopping` says; so are `stopped_opening log`
 //! and `stopped_opening database`, with an opening that replaces keys from before.

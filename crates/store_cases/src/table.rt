@@ -1,4 +1,4 @@
-//! Cases of bson_table, a line each: what to do, and with what. Each is over databases of its own.
+//! Cases of store_table, a line each: what to do, and with what. Each is over databases of its own.
 //!
 //! `session`, with steps on one database in memory, from left to right with ` | ` between them:
 //!

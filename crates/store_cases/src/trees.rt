@@ -1,8 +1,8 @@
 //! Trees of JSON as a line tells them.
 
+use cli_words::parse_json;
 use serde_json::{Map, Value};
 use std::alloc::{AllocError, Global};
-use store_words::parse_json;
 
 /// The tree that a text tells: of JSON, or so many objects inside each other. None where it tells none, or where memory is wanted.
 pub fn told_by(alloc: Global, text: &str) -> Option<Value> {

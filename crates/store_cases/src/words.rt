@@ -5,9 +5,9 @@ use bson_base::faulty::{FaultySink, FaultySource};
 use bson_store::{SliceSource, Store, VecSink};
 use sqlite::Alter;
 use std::alloc::{AllocError, Global};
-use store_pipe::pipe;
-use store_program::execute;
-use store_words::{Call, Words, read_words};
+use cli_pipe::pipe;
+use cli_commands::execute;
+use cli_words::{Call, Words, read_words};
 
 /// A line of words, and the devices that it is given.
 #[derive(Clone, Copy)]

@@ -9,13 +9,13 @@ use Rattle.bson_frame.specs.Frame.{size_limit}
 use Rattle.bson_meaning.specs.Meaning.{key}
 use Rattle.bson_meaning.specs.declared.key.KeyError.{KeyError}
 use Rattle.bson_meaning.specs.declared.key.KeyError.TheVariants as key_errors
-use Rattle.store_laws.specs.Reading.{IsRead}
-use Rattle.store_laws.specs.State.{id_key, IsKept, refusal_of}
-use Rattle.store_laws.specs.Table.{only_id, own_id}
-use Rattle.store_laws.specs.declared.error.ErrorKind.{ErrorKind}
-use Rattle.store_laws.specs.declared.error.ErrorKind.TheVariants.{NoId, TooLong, Memory}
-use Rattle.store_laws.proofs.Ids.{own_of, plain_of, key_long, own_is}
-use Rattle.store_laws.proofs.Levels.{clean_plain}
+use Rattle.store_model.specs.Reading.{IsRead}
+use Rattle.store_model.specs.State.{id_key, IsKept, refusal_of}
+use Rattle.store_model.specs.Table.{only_id, own_id}
+use Rattle.store_model.specs.declared.error.ErrorKind.{ErrorKind}
+use Rattle.store_model.specs.declared.error.ErrorKind.TheVariants.{NoId, TooLong, Memory}
+use Rattle.store_model.proofs.Ids.{own_of, plain_of, key_long, own_is}
+use Rattle.store_model.proofs.Levels.{clean_plain}
 use Rattle.store_documents.specs.Bodies.{IsKeyOf, IsUnwritten, refusal_of_key}
 
 -- why a document isn't kept

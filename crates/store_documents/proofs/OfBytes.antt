@@ -8,12 +8,12 @@ use Rattle.bson_bytes.specs.Spells.{settle, Means}
 use Rattle.bson_meaning.specs.Gate.{Passes}
 use Rattle.bson_model.specs.View.{members_of, pairs_of}
 use Rattle.bson_model.specs.declared.document.Document.{Document}
-use Rattle.store_laws.specs.Reading.{readable, unreadable, IsRead, ReadsBytes}
-use Rattle.store_laws.specs.State.{IsKept}
-use Rattle.store_laws.specs.declared.error.ErrorKind.{ErrorKind}
-use Rattle.store_laws.specs.declared.error.ErrorKind.TheVariants.{Memory}
-use Rattle.store_laws.proofs.Readings.{bytes_read}
-use Rattle.store_laws.proofs.Restore.{written_reads}
+use Rattle.store_model.specs.Reading.{readable, unreadable, IsRead, ReadsBytes}
+use Rattle.store_model.specs.State.{IsKept}
+use Rattle.store_model.specs.declared.error.ErrorKind.{ErrorKind}
+use Rattle.store_model.specs.declared.error.ErrorKind.TheVariants.{Memory}
+use Rattle.store_model.proofs.Readings.{bytes_read}
+use Rattle.store_model.proofs.Restore.{written_reads}
 use Rattle.store_documents.specs.Answers.{AnswersBytes}
 
 -- why there is no document, or that memory was wanted

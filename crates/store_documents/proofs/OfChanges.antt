@@ -10,12 +10,12 @@ use Rattle.bson_model.specs.View.{members_of}
 use Rattle.bson_model.specs.Keyed.{has_key as has_pair, put as put_pair, without as without_pair}
 use Rattle.bson_model.proofs.EqualLemmas.{look_up-members_of}
 use Rattle.bson_raw.proofs.Settling.{members_of_put}
-use Rattle.store_laws.specs.State.{IsKept}
-use Rattle.store_laws.specs.declared.error.ErrorKind.{ErrorKind}
-use Rattle.store_laws.specs.declared.error.ErrorKind.TheVariants.{TooDeep, Nul, TooLong, Memory}
-use Rattle.store_laws.proofs.Levels.{clean_plain, read_without}
+use Rattle.store_model.specs.State.{IsKept}
+use Rattle.store_model.specs.declared.error.ErrorKind.{ErrorKind}
+use Rattle.store_model.specs.declared.error.ErrorKind.TheVariants.{TooDeep, Nul, TooLong, Memory}
+use Rattle.store_model.proofs.Levels.{clean_plain, read_without}
 use Rattle.store_documents.specs.Bodies.{IsUnwritten}
-use Rattle.store_laws.proofs.Kept.{without_size}
+use Rattle.store_model.proofs.Kept.{without_size}
 use Rattle.bson_base.proofs.Members.{equal_keys, without_absent}
 
 -- why a changed document can't be kept

@@ -9,13 +9,13 @@ use Rattle.bson_model.specs.declared.document.Document.{Document}
 use Rattle.bson_model.specs.JsonRead.{read_members, Fails}
 use Rattle.bson_model.specs.declared.extjson.de.Error.TheVariants as json_faults
 use Rattle.bson_model.specs.declared.extjson.de.Error.{Error}
-use Rattle.store_laws.specs.Reading.{Reading, readable, unreadable, IsRead, Keeps, ReadsTree, IsUnfit}
-use Rattle.store_laws.specs.Run.{IsUnread}
-use Rattle.store_laws.specs.State.{in_json}
-use Rattle.store_laws.specs.declared.error.ErrorKind.{ErrorKind}
-use Rattle.store_laws.specs.declared.error.ErrorKind.TheVariants.{JsonRefused, Memory}
-use Rattle.store_laws.proofs.Plain.{object_tree}
-use Rattle.store_laws.proofs.Restore.{in_order_read}
+use Rattle.store_model.specs.Reading.{Reading, readable, unreadable, IsRead, Keeps, ReadsTree, IsUnfit}
+use Rattle.store_model.specs.Run.{IsUnread}
+use Rattle.store_model.specs.State.{in_json}
+use Rattle.store_model.specs.declared.error.ErrorKind.{ErrorKind}
+use Rattle.store_model.specs.declared.error.ErrorKind.TheVariants.{JsonRefused, Memory}
+use Rattle.store_model.proofs.Plain.{object_tree}
+use Rattle.store_model.proofs.Restore.{in_order_read}
 use Rattle.store_documents.specs.Answers.{AnswersTree}
 
 -- why there is no document, or that memory was wanted

@@ -18,13 +18,13 @@ use Rattle.bson_meaning.proofs.Now.{in_order_same, look_up-in_order}
 use Rattle.bson_model.specs.JsonRead.{read_members, Fails}
 use Rattle.bson_model.specs.declared.extjson.de.Error.{Error}
 use Rattle.bson_model.specs.declared.extjson.de.Error.TheVariants as json_faults
-use Rattle.store_laws.specs.Reading.{readable, IsRead, Keeps, ReadsTree}
-use Rattle.store_laws.specs.State.{id_key}
-use Rattle.store_laws.specs.Table.{only_id, own_id}
-use Rattle.store_laws.specs.declared.error.ErrorKind.{ErrorKind}
-use Rattle.store_laws.specs.declared.error.ErrorKind.TheVariants.{NoId, Nul}
-use Rattle.store_laws.proofs.Ids.{key_long, own_is, own_of}
-use Rattle.store_laws.proofs.Restore.{in_order_read, in_order_same_form}
+use Rattle.store_model.specs.Reading.{readable, IsRead, Keeps, ReadsTree}
+use Rattle.store_model.specs.State.{id_key}
+use Rattle.store_model.specs.Table.{only_id, own_id}
+use Rattle.store_model.specs.declared.error.ErrorKind.{ErrorKind}
+use Rattle.store_model.specs.declared.error.ErrorKind.TheVariants.{NoId, Nul}
+use Rattle.store_model.proofs.Ids.{key_long, own_is, own_of}
+use Rattle.store_model.proofs.Restore.{in_order_read, in_order_same_form}
 use Rattle.store_documents.specs.Bodies.{AnswersInput, IsKeyOf, IsOrderedBody, IsUnordered, refusal_of_key}
 use Rattle.store_documents.specs.declared.write.KeptRow.{KeptRow}
 use Rattle.store_documents.proofs.OfBodies.{kept_read, no_refusal}

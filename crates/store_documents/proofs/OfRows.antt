@@ -11,19 +11,19 @@ use Rattle.bson_frame.specs.Frame.{size_limit}
 use Rattle.bson_meaning.specs.Before as before
 use Rattle.bson_meaning.proofs.Before.{size_before}
 use Rattle.bson_meaning.specs.Meaning.{key}
-use Rattle.store_laws.specs.Reading.{IsRead, readable, ReadsBytes}
-use Rattle.store_laws.specs.State.{id_key, IsKept, IsName, refusal_of}
-use Rattle.store_laws.specs.Table.{only_id, own_id}
-use Rattle.store_laws.proofs.Ids.{own_is, own_of, plain_of}
+use Rattle.store_model.specs.Reading.{IsRead, readable, ReadsBytes}
+use Rattle.store_model.specs.State.{id_key, IsKept, IsName, refusal_of}
+use Rattle.store_model.specs.Table.{only_id, own_id}
+use Rattle.store_model.proofs.Ids.{own_is, own_of, plain_of}
 use Rattle.store_documents.specs.declared.row.RowKey.{RowKey}
 use Rattle.store_documents.specs.declared.row.RowKey.TheVariants.{Own, Before, Neither}
 use Rattle.std.specs.declared.alloc.Global.{Global}
-use Rattle.store_laws.specs.declared.error.ErrorKind.{ErrorKind}
-use Rattle.store_laws.specs.declared.error.ErrorKind.TheVariants.{Memory}
+use Rattle.store_model.specs.declared.error.ErrorKind.{ErrorKind}
+use Rattle.store_model.specs.declared.error.ErrorKind.TheVariants.{Memory}
 use Rattle.store_documents.specs.Bodies.{AnswersKept, IsRow, TellsKey}
 use Rattle.store_documents.proofs.OfBytes.{Fails, read_same, wants_memory}
-use Rattle.store_laws.proofs.Kept.{accepted}
-use Rattle.store_laws.proofs.Restore.{not_refused, written_reads}
+use Rattle.store_model.proofs.Kept.{accepted}
+use Rattle.store_model.proofs.Restore.{not_refused, written_reads}
 
 pub unread : (n k b : List ℕ) (x : ErrorKind) → Fails b x → (x ≡ Memory → ⊥) → IsRow n k b → ⊥
 unread n k b x fails other row = other (wants_memory b row.document x row.kept row.body fails)

@@ -16,14 +16,14 @@ use Rattle.bson_meaning.specs.Gate.{Passes}
 use Rattle.bson_meaning.specs.Meaning.{key}
 use Rattle.bson_meaning.specs.declared.key.KeyError.{KeyError}
 use Rattle.bson_meaning.specs.declared.key.KeyError.TheVariants as key_errors
-use Rattle.bson_written.specs.Written.{IsWrittenUnder}
-use Rattle.store_laws.specs.Reading.{IsRead, readable, ReadsBytes}
-use Rattle.store_laws.specs.State.{id_key, IsKept}
-use Rattle.store_laws.specs.Table.{only_id, own_id}
-use Rattle.store_laws.specs.declared.error.ErrorKind.{ErrorKind}
-use Rattle.store_laws.specs.declared.error.ErrorKind.TheVariants.{Memory}
-use Rattle.store_laws.proofs.Ids.{key_long, Own, own_is, own_of, plain_of}
-use Rattle.store_laws.proofs.Readings.{bytes_read}
+use Rattle.bson_canonical.specs.Written.{IsWrittenUnder}
+use Rattle.store_model.specs.Reading.{IsRead, readable, ReadsBytes}
+use Rattle.store_model.specs.State.{id_key, IsKept}
+use Rattle.store_model.specs.Table.{only_id, own_id}
+use Rattle.store_model.specs.declared.error.ErrorKind.{ErrorKind}
+use Rattle.store_model.specs.declared.error.ErrorKind.TheVariants.{Memory}
+use Rattle.store_model.proofs.Ids.{key_long, Own, own_is, own_of, plain_of}
+use Rattle.store_model.proofs.Readings.{bytes_read}
 use Rattle.store_documents.specs.Bodies.{AnswersKept, AnswersWritten, MeansItself, refusal_of_key}
 use Rattle.store_documents.specs.declared.write.KeptRow.{KeptRow}
 use Rattle.store_documents.proofs.OfBodies.{no_refusal}

@@ -19,8 +19,8 @@ use Rattle.bson_model.specs.JsonKeys.{is_reserved, reserved_of}
 use Rattle.bson_model.specs.JsonWrite.{holds_finite, items_hold_finite, members_hold_finite, scalar_is_finite, write}
 use Rattle.bson_model.specs.declared.extjson.ser.Mode.{Mode}
 use Rattle.bson_model.proofs.FiniteLemmas.{is_written}
-use Rattle.store_laws.specs.State.{IsKept, or_finite, json_of}
-use Rattle.store_laws.specs.declared.error.ErrorKind.TheVariants.{ReservedKey}
+use Rattle.store_model.specs.State.{IsKept, or_finite, json_of}
+use Rattle.store_model.specs.declared.error.ErrorKind.TheVariants.{ReservedKey}
 use Rattle.store_documents.specs.Answers.{HasTree}
 use Rattle.store_documents.specs.Trees.{AreItemsTold, AreMembersTold, AreTold, HasNoDouble, IsTold}
 use Rattle.store_documents.specs.declared.trees.Keys.{Keys}

@@ -7,11 +7,11 @@ use Rattle.bson_base.specs.Value.{Members}
 use Rattle.bson_model.specs.View.{view, content}
 use Rattle.bson_model.specs.declared.bson.Bson.{Bson}
 use Rattle.bson_model.specs.declared.document.Document.{Document}
-use Rattle.store_laws.specs.Reading.{Reading, readable, unreadable, read_value, ReadsBytes, ReadsTree}
-use Rattle.store_laws.specs.Run.{IsUnread}
-use Rattle.store_laws.specs.State.{in_json}
-use Rattle.store_laws.specs.declared.error.ErrorKind.{ErrorKind}
-use Rattle.store_laws.specs.declared.error.ErrorKind.TheVariants.{JsonRefused, Memory}
+use Rattle.store_model.specs.Reading.{Reading, readable, unreadable, read_value, ReadsBytes, ReadsTree}
+use Rattle.store_model.specs.Run.{IsUnread}
+use Rattle.store_model.specs.State.{in_json}
+use Rattle.store_model.specs.declared.error.ErrorKind.{ErrorKind}
+use Rattle.store_model.specs.declared.error.ErrorKind.TheVariants.{JsonRefused, Memory}
 
 -- what the bytes read as; or memory was wanted, and they read as some document
 abbrev pub AnswersBytes : List ℕ → Result Document ErrorKind → Type 0

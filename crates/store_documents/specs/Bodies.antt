@@ -13,11 +13,11 @@ use Rattle.bson_meaning.specs.Before.{key as key_before}
 use Rattle.bson_meaning.specs.Meaning.{key}
 use Rattle.bson_meaning.specs.declared.key.KeyError.{KeyError}
 use Rattle.bson_meaning.specs.declared.key.KeyError.TheVariants as key_errors
-use Rattle.store_laws.specs.Reading.{Reading, IsRead, ReadsBytes, readable, unreadable}
-use Rattle.store_laws.specs.State.{IsKept, IsName, refusal_of}
-use Rattle.store_laws.specs.Table.{only_id, own_id}
-use Rattle.store_laws.specs.declared.error.ErrorKind.{ErrorKind}
-use Rattle.store_laws.specs.declared.error.ErrorKind.TheVariants.{TooDeep, Nul, TooLong, Memory}
+use Rattle.store_model.specs.Reading.{Reading, IsRead, ReadsBytes, readable, unreadable}
+use Rattle.store_model.specs.State.{IsKept, IsName, refusal_of}
+use Rattle.store_model.specs.Table.{only_id, own_id}
+use Rattle.store_model.specs.declared.error.ErrorKind.{ErrorKind}
+use Rattle.store_model.specs.declared.error.ErrorKind.TheVariants.{TooDeep, Nul, TooLong, Memory}
 use Rattle.store_documents.specs.declared.change.Unset.{Unset}
 use Rattle.store_documents.specs.declared.row.RowKey.{RowKey}
 use Rattle.store_documents.specs.declared.row.RowKey.TheVariants.{Own, Before, Neither}

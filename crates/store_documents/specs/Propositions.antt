@@ -2,7 +2,7 @@
 use Rattle.std.specs.Prelude.{ℕ, List, [], ◌∷◌}
 use Rattle.std.specs.Coded.{×_prop, Unit-prop, le_prop}
 use Rattle.bson_base.specs.Kinds.{HasNo00}
-use Rattle.store_laws.specs.State.{IsName}
+use Rattle.store_model.specs.State.{IsName}
 
 no_00_is_one : (bs : List ℕ) → IsProp (HasNo00 bs)
 no_00_is_one [] = Unit-prop

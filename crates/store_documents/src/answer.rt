@@ -5,7 +5,7 @@ ghost use Rattle.bson_base.specs.Value.{Members, document as tree};
 ghost use Rattle.bson_bytes.specs.Encode.{encode};
 ghost use Rattle.bson_model.specs.JsonWrite.{write};
 ghost use Rattle.bson_model.specs.View.{content};
-ghost use Rattle.store_laws.specs.State.{IsKept, or_finite, json_of};
+ghost use Rattle.store_model.specs.State.{IsKept, or_finite, json_of};
 ghost use Rattle.store_documents.specs.Answers.{AnswersJson};
 
 use crate::read::document_of_bytes;
@@ -14,7 +14,7 @@ use bson_model::extjson::Mode;
 use bson_model::{Bson, Document, extjson};
 use serde_json::Value;
 use std::alloc::Global;
-use store_laws::ErrorKind;
+use store_model::ErrorKind;
 
 /// The JSON tree of a document. `FiniteDouble` where a finite double other than the zeros stands in it, or `Memory`.
 fn json_written(alloc: Global, document: Document, mode: Mode) -> Result<Value, ErrorKind>

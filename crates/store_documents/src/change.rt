@@ -7,7 +7,7 @@ ghost use Rattle.bson_bytes.specs.Encode.{encode};
 ghost use Rattle.bson_meaning.specs.Meaning.{norm_in_order};
 ghost use Rattle.bson_model.specs.Keyed.{has_key as has_pair, put as put_pair, without as without_pair};
 ghost use Rattle.bson_model.specs.View.{view, pairs_of, content};
-ghost use Rattle.store_laws.specs.State.{IsKept};
+ghost use Rattle.store_model.specs.State.{IsKept};
 ghost use Rattle.store_documents.specs.Bodies.{AnswersChanged, AnswersUnset};
 
 use crate::read::document_of_bytes;
@@ -16,7 +16,7 @@ use bson_frame::LEVEL_LIMIT;
 use bson_meaning::{depth_of_document, normalize, sort_keys};
 use bson_model::{Bson, Document};
 use std::alloc::{AllocError, Global};
-use store_laws::ErrorKind;
+use store_model::ErrorKind;
 
 /// The normal form of a value, with its keys in order.
 fn kept_value(alloc: Global, value: Bson) -> Result<Bson, AllocError>

@@ -6,7 +6,7 @@ ghost use Rattle.bson_frame.specs.Frame.{length_limit};
 ghost use Rattle.bson_meaning.specs.Meaning.{key};
 ghost use Rattle.bson_meaning.specs.declared.key.KeyError.TheVariants as key_errors;
 ghost use Rattle.bson_model.specs.View.{view};
-ghost use Rattle.store_laws.specs.Table.{only_id};
+ghost use Rattle.store_model.specs.Table.{only_id};
 ghost use Rattle.store_documents.specs.Bodies.{IsKeyOf};
 
 use bson_meaning::{KeyError, meaning_key_of_element};

@@ -6,8 +6,8 @@ ghost use Rattle.serde_json.specs.View.{view as data_of};
 ghost use Rattle.bson_base.specs.Kinds.{IsPlain};
 ghost use Rattle.bson_base.specs.Value.{document as tree};
 ghost use Rattle.bson_model.specs.View.{content};
-ghost use Rattle.store_laws.specs.Reading.{Keeps, ReadsTree};
-ghost use Rattle.store_laws.specs.declared.error.ErrorKind.TheVariants.{Memory, NoId, Nul};
+ghost use Rattle.store_model.specs.Reading.{Keeps, ReadsTree};
+ghost use Rattle.store_model.specs.declared.error.ErrorKind.TheVariants.{Memory, NoId, Nul};
 ghost use Rattle.store_documents.specs.Bodies.{AnswersInput, IsOrderedBody, IsUnordered};
 
 use crate::ids::{ID_KEY, key_of_id};
@@ -19,7 +19,7 @@ use bson_model::Document;
 use serde_json::Value;
 use std::alloc::Global;
 use std::borrow::CowSlice;
-use store_laws::ErrorKind;
+use store_model::ErrorKind;
 
 /// The bytes of the normal form of a document, with its keys in order. `Nul` where a 00 stands in a key, a pattern or options,
 /// else `TooLong` where they are over 16777216; `Memory` where a growth was refused. Of a document with such bytes it is known

@@ -1,7 +1,7 @@
 //! Names of collections.
 
 ghost use Rattle.std.specs.Prelude.{◌≡◌, ◌↔◌, IsSome, IsTrue, IfSome};
-ghost use Rattle.store_laws.specs.State.{IsName};
+ghost use Rattle.store_model.specs.State.{IsName};
 ghost use Rattle.store_documents.specs.Propositions.{name_is_one};
 
 use bson_bytes::put::has_no_zero;

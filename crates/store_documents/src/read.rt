@@ -9,8 +9,8 @@ ghost use Rattle.bson_bytes.specs.Spells.{Means};
 ghost use Rattle.bson_meaning.specs.Meaning.{norm_members_in_order};
 ghost use Rattle.bson_model.specs.View.{content};
 ghost use Rattle.bson_model.specs.declared.extjson.de.Error.TheVariants as json_faults;
-ghost use Rattle.store_laws.specs.Reading.{IsRead, IsUnfit, Keeps, ReadsTree, kind_of_gate_error, readable, unreadable};
-ghost use Rattle.store_laws.specs.declared.error.ErrorKind.TheVariants.{JsonRefused, Memory, NotAnObject};
+ghost use Rattle.store_model.specs.Reading.{IsRead, IsUnfit, Keeps, ReadsTree, kind_of_gate_error, readable, unreadable};
+ghost use Rattle.store_model.specs.declared.error.ErrorKind.TheVariants.{JsonRefused, Memory, NotAnObject};
 ghost use Rattle.store_documents.specs.Answers.{AnswersBytes, AnswersTree, AnswersValue};
 
 use bson_frame as frames;
@@ -22,7 +22,7 @@ use bson_model::{Bson, Document, extjson};
 use bson_raw::RawDocument;
 use serde_json::{Map, Value};
 use std::alloc::{AllocError, Global};
-use store_laws::ErrorKind;
+use store_model::ErrorKind;
 
 /// The refusal for a test of the gate.
 pub(crate) fn gate_refusal(error: GateError) -> ErrorKind

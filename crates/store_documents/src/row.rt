@@ -5,10 +5,10 @@ ghost use Rattle.std.specs.Cow.{cow_slice_items};
 ghost use Rattle.bson_base.specs.Value.{Members};
 ghost use Rattle.bson_bytes.specs.Encode.{encode};
 ghost use Rattle.bson_meaning.specs.Before.{key as key_before};
-ghost use Rattle.store_laws.specs.Reading.{ReadsBytes, readable};
-ghost use Rattle.store_laws.specs.State.{IsKept, IsName};
-ghost use Rattle.store_laws.specs.Table.{own_id};
-ghost use Rattle.store_laws.specs.declared.error.ErrorKind.TheVariants.{Memory};
+ghost use Rattle.store_model.specs.Reading.{ReadsBytes, readable};
+ghost use Rattle.store_model.specs.State.{IsKept, IsName};
+ghost use Rattle.store_model.specs.Table.{own_id};
+ghost use Rattle.store_model.specs.declared.error.ErrorKind.TheVariants.{Memory};
 ghost use Rattle.store_documents.specs.Bodies.{AnswersKept, IsRow, TellsKey};
 
 use crate::ids::ID_KEY;
@@ -18,7 +18,7 @@ use crate::stored::{key_as_it_stands, row_by_tree, row_of_bytes};
 use crate::write::KeptRow;
 use bson_meaning::{KeyError, gate, meaning_key_before_of_element};
 use std::alloc::{AllocError, Global};
-use store_laws::ErrorKind;
+use store_model::ErrorKind;
 
 /// Whether the bytes are those of a name.
 fn is_text_of_name(collection: &[u8]) -> bool

@@ -7,10 +7,10 @@ ghost use Rattle.bson_bytes.specs.Encode.{cstring_of, frame_of};
 ghost use Rattle.bson_frame.specs.View.{element_of};
 ghost use Rattle.bson_meaning.specs.Gate.{Passes};
 ghost use Rattle.bson_meaning.specs.Meaning.{key};
-ghost use Rattle.bson_written.specs.Written.{IsWrittenUnder};
-ghost use Rattle.store_laws.specs.State.{id_key, IsKept};
-ghost use Rattle.store_laws.specs.Table.{own_id};
-ghost use Rattle.store_laws.specs.declared.error.ErrorKind.TheVariants.{Memory};
+ghost use Rattle.bson_canonical.specs.Written.{IsWrittenUnder};
+ghost use Rattle.store_model.specs.State.{id_key, IsKept};
+ghost use Rattle.store_model.specs.Table.{own_id};
+ghost use Rattle.store_model.specs.declared.error.ErrorKind.TheVariants.{Memory};
 ghost use Rattle.store_documents.specs.Bodies.{AnswersKept, MeansItself, StandUnder};
 
 use crate::ids::ID_KEY;
@@ -19,10 +19,10 @@ use crate::write::{KeptRow, key_refusal, row_of_document};
 use bson_base::ElementType;
 use bson_frame::Frame;
 use bson_meaning::{gate, meaning_key};
-use bson_written::{is_written_form, written_element};
+use bson_canonical::{is_written_form, written_element};
 use std::alloc::{AllocError, Global};
 use std::borrow::CowSlice;
-use store_laws::ErrorKind;
+use store_model::ErrorKind;
 
 /// The bytes of a document around its one element, beside the payload: a length, a tag, `_id` with its 00, a 00.
 const AROUND: usize = 10;

@@ -5,7 +5,7 @@ ghost use Rattle.bson_base.specs.Value.{Members};
 ghost use Rattle.bson_bytes.specs.Encode.{encode};
 ghost use Rattle.bson_model.specs.JsonKeys.{is_reserved};
 ghost use Rattle.bson_model.specs.declared.extjson.ser.Mode.{Mode as Form};
-ghost use Rattle.store_laws.specs.State.{IsKept, json_of};
+ghost use Rattle.store_model.specs.State.{IsKept, json_of};
 ghost use Rattle.store_documents.specs.Answers.{AnswersChecked, HasTree};
 ghost use Rattle.store_documents.specs.Trees.{AreTold, HasNoDouble, IsTold};
 ghost use Rattle.store_documents.specs.declared.trees.Keys.TheVariants.{Unreserved};
@@ -15,7 +15,7 @@ use bson_base::ElementType;
 use bson_frame::{LEVEL_LIMIT, is_end, sized_frame};
 use bson_model::extjson::Mode;
 use std::alloc::Global;
-use store_laws::ErrorKind;
+use store_model::ErrorKind;
 
 /// What the keys of the elements of a document may be.
 #[derive(Clone, Copy)]

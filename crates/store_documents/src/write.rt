@@ -5,7 +5,7 @@ ghost use Rattle.bson_base.specs.Kinds.{IsPlain};
 ghost use Rattle.bson_base.specs.Value.{document as tree};
 ghost use Rattle.bson_bytes.specs.Encode.{encode};
 ghost use Rattle.bson_model.specs.View.{content};
-ghost use Rattle.store_laws.specs.Reading.{IsRead};
+ghost use Rattle.store_model.specs.Reading.{IsRead};
 ghost use Rattle.store_documents.specs.Bodies.{AnswersWritten, IsBody, IsLong, IsUnwritten, refusal_of_key};
 
 use crate::ids::{ID_KEY, key_of_id};
@@ -15,7 +15,7 @@ use bson_meaning::{KeyError, is_plain_document};
 use bson_model::Document;
 use std::alloc::Global;
 use std::borrow::CowSlice;
-use store_laws::ErrorKind;
+use store_model::ErrorKind;
 
 /// A document as it is kept.
 #[derive(Debug, Drop)]

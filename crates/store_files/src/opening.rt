@@ -1,13 +1,13 @@
 //! Database files, opened with room in memory for their pages.
 
 ghost use Rattle.std.specs.Prelude.{◌≡◌, ◌⊎◌, IfErr};
-ghost use Rattle.store_laws.specs.declared.error.ErrorKind.TheVariants.{Memory, Database};
+ghost use Rattle.store_model.specs.declared.error.ErrorKind.TheVariants.{Memory, Database};
 
 use sqlite::{Connection, Error, ErrorCode, File, FileStore, Options, Unknown};
 use sqlite_std_file::OpenError;
 use std::hash::{BuildHasher, RandomState};
 use std::{fs, io};
-use store_laws::ErrorKind;
+use store_model::ErrorKind;
 
 /// How many bytes a page of a new file has, and one of most others.
 const PAGE: u64 = 4096;

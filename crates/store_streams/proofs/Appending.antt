@@ -7,14 +7,14 @@ use Rattle.std.proofs.lemmas.List.{append-nil, map-append}
 use Rattle.std.proofs.lemmas.Slice.Eq.{bytes_eq-Decides}
 use Rattle.bson_base.specs.Value.{Value, Members, look_up}
 use Rattle.bson_meaning.specs.Meaning.{key, Same}
-use Rattle.store_laws.specs.Reading.{Documents, AreRead}
-use Rattle.store_laws.specs.State.{id_key, SomeHasId, IsTaken, number, refused, refusal_of, or_later, first_refusal, Appends, IsKept, AreKept}
-use Rattle.store_laws.specs.Table.{own_id}
-use Rattle.store_laws.specs.declared.error.ErrorKind.{ErrorKind}
-use Rattle.store_laws.specs.declared.error.ErrorKind.TheVariants.{DuplicateId}
-use Rattle.store_laws.proofs.Ids.{own_of, own_is, key_long, plain_of, has_written, written_has}
+use Rattle.store_model.specs.Reading.{Documents, AreRead}
+use Rattle.store_model.specs.State.{id_key, SomeHasId, IsTaken, number, refused, refusal_of, or_later, first_refusal, Appends, IsKept, AreKept}
+use Rattle.store_model.specs.Table.{own_id}
+use Rattle.store_model.specs.declared.error.ErrorKind.{ErrorKind}
+use Rattle.store_model.specs.declared.error.ErrorKind.TheVariants.{DuplicateId}
+use Rattle.store_model.proofs.Ids.{own_of, own_is, key_long, plain_of, has_written, written_has}
 use Rattle.store_streams.specs.Keys.{first_taken, keys_of}
-use Rattle.store_laws.proofs.Kept.{accepted}
+use Rattle.store_model.proofs.Kept.{accepted}
 
 -- ---- what isn't refused is kept
 

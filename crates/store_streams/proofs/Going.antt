@@ -3,9 +3,9 @@ use Rattle.std.proofs.Common.{◌≡◌, ◌⊎◌, inl, inr, ℕ, List, ◌∷�
 use Rattle.serde_json.specs.Data.{Data}
 use Rattle.bson_base.specs.Value.{Members}
 use Rattle.bson_meaning.specs.Gate.{IsCounted}
-use Rattle.store_laws.specs.Reading.{Documents, Reading, readable, unreadable, IsRead, ReadsBytes, ReadsTree, ReadsTrees}
-use Rattle.store_laws.specs.declared.error.ErrorKind.{ErrorKind}
-use Rattle.store_laws.specs.declared.error.ErrorKind.TheVariants.{Memory}
+use Rattle.store_model.specs.Reading.{Documents, Reading, readable, unreadable, IsRead, ReadsBytes, ReadsTree, ReadsTrees}
+use Rattle.store_model.specs.declared.error.ErrorKind.{ErrorKind}
+use Rattle.store_model.specs.declared.error.ErrorKind.TheVariants.{Memory}
 use Rattle.store_documents.specs.Bodies.{AnswersInput, AnswersKept, AnswersWritten}
 use Rattle.store_documents.specs.declared.write.KeptRow.{KeptRow}
 use Rattle.store_streams.specs.declared.error.StreamError.TheVariants as streams

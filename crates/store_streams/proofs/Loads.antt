@@ -3,9 +3,9 @@ use Rattle.std.proofs.Common.{◌≡◌, inl, inr, ℕ, suc, ◌+◌, zero-add, 
 use Rattle.std.specs.Prelude.{MatchOption}
 use Rattle.std.proofs.lemmas.List.{append-nil}
 use Rattle.serde_json.specs.Data.{Data}
-use Rattle.store_laws.specs.Reading.{Documents, ReadsTree, ReadsTrees}
-use Rattle.store_laws.specs.State.{refusal_of, or_later, first_refusal}
-use Rattle.store_laws.specs.declared.error.ErrorKind.{ErrorKind}
+use Rattle.store_model.specs.Reading.{Documents, ReadsTree, ReadsTrees}
+use Rattle.store_model.specs.State.{refusal_of, or_later, first_refusal}
+use Rattle.store_model.specs.declared.error.ErrorKind.{ErrorKind}
 use Rattle.store_documents.specs.declared.write.KeptRow.{KeptRow}
 use Rattle.store_streams.specs.Judging.{AnswersRow, AreWrittenRows, Judges, stream_refusal}
 use Rattle.store_streams.specs.declared.error.StreamError.{StreamError}

@@ -5,12 +5,12 @@ use Rattle.std.specs.Cow.{cow_slice_items}
 use Rattle.bson_base.specs.Value.{Members}
 use Rattle.bson_bytes.specs.Encode.{encode}
 use Rattle.bson_meaning.specs.Meaning.{key}
-use Rattle.store_laws.specs.Reading.{Documents, AreRead, IsRead}
-use Rattle.store_laws.specs.State.{refusal_of, first_refusal}
-use Rattle.store_laws.specs.Table.{own_id}
-use Rattle.store_laws.specs.declared.error.ErrorKind.{ErrorKind}
+use Rattle.store_model.specs.Reading.{Documents, AreRead, IsRead}
+use Rattle.store_model.specs.State.{refusal_of, first_refusal}
+use Rattle.store_model.specs.Table.{own_id}
+use Rattle.store_model.specs.declared.error.ErrorKind.{ErrorKind}
 use Rattle.store_documents.specs.declared.write.KeptRow.{KeptRow}
-use Rattle.store_laws.proofs.Documents.{read_join}
+use Rattle.store_model.proofs.Documents.{read_join}
 use Rattle.store_streams.specs.declared.error.StreamError.TheVariants.{Refused}
 use Rattle.store_streams.specs.Judging.{AreWrittenRows, Judges}
 

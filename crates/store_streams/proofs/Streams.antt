@@ -8,10 +8,10 @@ use Rattle.bson_bytes.specs.Spells.{settle}
 use Rattle.bson_frame.specs.Frame.{number, size_limit}
 use Rattle.bson_frame.proofs.Payloads.{number_front}
 use Rattle.bson_meaning.specs.Gate.{IsCounted}
-use Rattle.store_laws.specs.Reading.{Documents, Reading, readable, unreadable, kind_of_gate_error, ReadsBytes, ReadsTree, ReadsEach, IsUncut, Cuts, ReadsStream, ReadsTrees}
-use Rattle.store_laws.specs.declared.error.ErrorKind.{ErrorKind}
-use Rattle.store_laws.specs.declared.error.ErrorKind.TheVariants.{EndInside, BadLength}
-use Rattle.store_laws.proofs.Plain.{any_tree}
+use Rattle.store_model.specs.Reading.{Documents, Reading, readable, unreadable, kind_of_gate_error, ReadsBytes, ReadsTree, ReadsEach, IsUncut, Cuts, ReadsStream, ReadsTrees}
+use Rattle.store_model.specs.declared.error.ErrorKind.{ErrorKind}
+use Rattle.store_model.specs.declared.error.ErrorKind.TheVariants.{EndInside, BadLength}
+use Rattle.store_model.proofs.Plain.{any_tree}
 use Rattle.store_streams.proofs.Gates.{GateTells, gate_tells}
 
 -- ---- one input

@@ -3,8 +3,8 @@ use Rattle.std.specs.Prelude.{ℕ, suc, Bool, List, map, [], ◌∷◌, ◌++◌
 use Rattle.std.specs.List.{list_any}
 use Rattle.std.specs.Str.{bytes_eq}
 use Rattle.bson_meaning.specs.Meaning.{key}
-use Rattle.store_laws.specs.Reading.{Documents}
-use Rattle.store_laws.specs.Table.{own_id}
+use Rattle.store_model.specs.Reading.{Documents}
+use Rattle.store_model.specs.Table.{own_id}
 use Rattle.store_documents.specs.declared.write.KeptRow.{KeptRow}
 use Rattle.store_streams.specs.declared.keys.Keys.{Keys}
 

@@ -1,7 +1,7 @@
 -- Trees that come one after the other.
 use Rattle.std.specs.Prelude.{List, ◌++◌, Ok, Err, MatchOption}
 use Rattle.serde_json.specs.Data.{Data}
-use Rattle.store_laws.specs.Reading.{ReadsTrees}
+use Rattle.store_model.specs.Reading.{ReadsTrees}
 use Rattle.store_streams.specs.Judging.{Judges}
 use Rattle.store_streams.specs.declared.loading.Loader.{Loader}
 

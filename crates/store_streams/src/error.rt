@@ -1,7 +1,7 @@
 //! Why many documents are refused.
 
 use std::alloc::{AllocError, AllocFailed};
-use store_laws::ErrorKind;
+use store_model::ErrorKind;
 use thiserror::Error;
 
 /// Why no document of a call is taken.

@@ -2,10 +2,10 @@
 
 ghost use Rattle.std.specs.Prelude.{◌≡◌, ◌++◌, ℕ, List, length, Some, None, MatchOption, Option};
 ghost use Rattle.serde_json.specs.Data.{Data};
-ghost use Rattle.store_laws.specs.Reading.{Documents, Reading, AreRead, ReadsBytes, ReadsStream, ReadsTrees};
-ghost use Rattle.store_laws.specs.State.{Appends, AreKept, first_refusal, number, refused};
-ghost use Rattle.store_laws.specs.declared.error.ErrorKind.{ErrorKind as Kind};
-ghost use Rattle.store_laws.specs.declared.error.ErrorKind.TheVariants.{DuplicateId};
+ghost use Rattle.store_model.specs.Reading.{Documents, Reading, AreRead, ReadsBytes, ReadsStream, ReadsTrees};
+ghost use Rattle.store_model.specs.State.{Appends, AreKept, first_refusal, number, refused};
+ghost use Rattle.store_model.specs.declared.error.ErrorKind.{ErrorKind as Kind};
+ghost use Rattle.store_model.specs.declared.error.ErrorKind.TheVariants.{DuplicateId};
 ghost use Rattle.store_streams.specs.Keys.{first_taken, keys_of};
 
 /// Bytes read as a document or can't be read: there is no third case. So every stream of bytes reads as some documents down to

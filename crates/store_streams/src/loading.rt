@@ -3,14 +3,14 @@
 ghost use Rattle.std.specs.Prelude.{◌≡◌, ◌++◌, ◌∷◌, [], List, Ok, Err, MatchResult};
 ghost use Rattle.serde_json.specs.Data.{Data};
 ghost use Rattle.serde_json.specs.View.{view as data_of};
-ghost use Rattle.store_laws.specs.Reading.{ReadsTree, ReadsTrees};
+ghost use Rattle.store_model.specs.Reading.{ReadsTree, ReadsTrees};
 ghost use Rattle.store_streams.specs.Judging.{AnswersRow, Judges};
 
 use crate::error::StreamError;
 use serde_json::Value;
 use std::alloc::Global;
 use store_documents::{KeptRow, row_of_json};
-use store_laws::ErrorKind;
+use store_model::ErrorKind;
 
 /// The row of the document that a tree stands for.
 #[tactic(auto, using(crate::proofs::Going::input_row))]

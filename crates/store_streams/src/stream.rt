@@ -2,14 +2,14 @@
 
 ghost use Rattle.std.specs.Prelude.{◌≡◌, ◌<◌, ◌++◌, length, IfOk, MatchResult};
 ghost use Rattle.bson_meaning.specs.Gate.{IsCounted};
-ghost use Rattle.store_laws.specs.Reading.{IsUncut, ReadsBytes, ReadsStream};
+ghost use Rattle.store_model.specs.Reading.{IsUncut, ReadsBytes, ReadsStream};
 ghost use Rattle.store_streams.specs.Judging.{AnswersFront, AnswersRow, Judges};
 
 use crate::error::StreamError;
 use bson_frame::SIZE_LIMIT;
 use std::alloc::Global;
 use store_documents::{KeptRow, row_of_bytes};
-use store_laws::ErrorKind;
+use store_model::ErrorKind;
 
 /// The least length that a document declares: that of one without elements.
 const SHORTEST: usize = 5;

@@ -2,7 +2,7 @@
 
 ghost use Rattle.std.specs.Prelude.{map};
 ghost use Rattle.serde_json.specs.View.{view as data_of};
-ghost use Rattle.store_laws.specs.Reading.{ReadsTrees};
+ghost use Rattle.store_model.specs.Reading.{ReadsTrees};
 ghost use Rattle.store_streams.specs.Judging.{Judges};
 
 use crate::error::StreamError;

@@ -5,7 +5,7 @@
 
 use super::calls::{self, HasBody};
 use super::sessions::rows;
-use bson_table::{OpenError, Table};
+use store_table::{OpenError, Table};
 use sqlite::{Alter, Connection};
 use std::alloc::{AllocError, Global};
 

@@ -1,7 +1,7 @@
 //! Calls of the table as words tell them. None of them owns a table: each would be proved anew to drop it.
 
 use super::answers::Answers;
-use bson_table::{Fault, Found, NewRow, RowCheck, Table, Visit};
+use store_table::{Fault, Found, NewRow, RowCheck, Table, Visit};
 use sqlite::Alter;
 use std::alloc::{AllocError, Global};
 use std::collections::BTreeSet;

@@ -6,7 +6,7 @@
 
 use super::calls::{self, HasBody};
 use super::sessions::rows;
-use bson_table::Table;
+use store_table::Table;
 use sqlite::{Alter, Connection, FileStore, Files, Options};
 use sqlite_disk::{Crash, Disk, Fuse, Memory};
 use std::alloc::{AllocError, Global};

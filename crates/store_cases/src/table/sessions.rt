@@ -2,7 +2,7 @@
 
 use super::answers::Answers;
 use super::calls::{self, HasBody};
-use bson_table::{OpenError, Table};
+use store_table::{OpenError, Table};
 use sqlite::{Alter, Connection};
 use std::alloc::{AllocError, Global};
 

@@ -1,8 +1,8 @@
 use Rattle.std.proofs.Common.{map, refl, string_bytes}
 use Rattle.serde_json.specs.View.{view as data_of}
 use Rattle.bson_model.specs.View.{view}
-use Rattle.store_laws.specs.Reading.{ReadsTrees, read_value}
-use Rattle.store_laws.specs.State as model
+use Rattle.store_model.specs.Reading.{ReadsTrees, read_value}
+use Rattle.store_model.specs.State as model
 use Rattle.bson_store.specs.Calls.{store_state}
 use Rattle.bson_store.specs.declared.command.Command.TheVariants as commands
 use Rattle.bson_store.specs.Refusals.{reply_by, as_done, as_number}

@@ -1,8 +1,8 @@
 use Rattle.std.proofs.Common.{refl, string_bytes}
-use Rattle.bson_filter.specs.Filters.{filter_of, path_of}
+use Rattle.store_filter.specs.Filters.{filter_of, path_of}
 use Rattle.bson_model.specs.View.{view}
-use Rattle.store_laws.specs.Reading.{ReadsStream}
-use Rattle.store_laws.specs.State as model
+use Rattle.store_model.specs.Reading.{ReadsStream}
+use Rattle.store_model.specs.State as model
 use Rattle.bson_store.specs.Calls.{store_state, store_connection}
 use Rattle.bson_store.specs.declared.command.Command.TheVariants as commands
 use Rattle.bson_store.specs.Questions.{as_list, as_names}

@@ -1,7 +1,7 @@
 use Rattle.std.proofs.Common.{ap, refl, Some, None, Ok, Err}
 use Rattle.bson_base.specs.Device.{Tally}
-use Rattle.store_laws.specs.State as model
-use Rattle.store_laws.specs.declared.error.ErrorKind.TheVariants as kind
+use Rattle.store_model.specs.State as model
+use Rattle.store_model.specs.declared.error.ErrorKind.TheVariants as kind
 use Rattle.bson_store.specs.Calls.{store_state, store_connection, Does}
 use Rattle.bson_store.proofs.Leaving.{accepted_leaves}
 use Rattle.bson_store.specs.Export.{SendsCollection}

@@ -1,7 +1,7 @@
 use Rattle.std.proofs.Common.{Some, drop, take, ap, refl, subst, sym, ◌∙◌}
-use Rattle.store_laws.specs.Reading.{ReadsStream}
+use Rattle.store_model.specs.Reading.{ReadsStream}
 use Rattle.bson_base.specs.Device.{Feed}
-use Rattle.store_laws.specs.State.{import, on}
+use Rattle.store_model.specs.State.{import, on}
 use Rattle.bson_store.specs.Left.{Leaves}
 use Rattle.bson_store.specs.Calls.{store_state}
 use Rattle.bson_store.specs.Many.{DoesMany, Imports}

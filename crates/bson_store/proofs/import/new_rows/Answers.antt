@@ -1,7 +1,7 @@
 use Rattle.std.proofs.Common.{◌≡◌, ◌+◌, ◌<◌, ◌++◌, ◌∷◌, [], List, ℕ, add-one, get_or, length, subst, sym, take, arith}
 use Rattle.std.specs.List.{AllZip}
 use Rattle.std.proofs.Math.Seq.{take-suc}
-use Rattle.bson_table.specs.declared.row.NewRow.{NewRow}
+use Rattle.store_table.specs.declared.row.NewRow.{NewRow}
 use Rattle.store_documents.specs.declared.write.KeptRow.{KeptRow}
 use Rattle.bson_store.specs.Many.{Lends}
 use Rattle.bson_store.proofs.import.new_rows.Goals as goal

@@ -1,7 +1,7 @@
 use Rattle.std.proofs.Common.{inr, subst}
 use Rattle.std.proofs.lemmas.Result.{err_from_is_err_and}
 use Rattle.bson_model.specs.View.{pairs_of, members_of}
-use Rattle.store_laws.specs.State.{json_of}
+use Rattle.store_model.specs.State.{json_of}
 use Rattle.store_documents.specs.Answers.{AnswersJson}
 use Rattle.store_documents.proofs.OfBytes.{read_same, wants_memory}
 use Rattle.store_documents.proofs.answer.json_of_body.Goals as goal

@@ -1,7 +1,7 @@
 use Rattle.std.proofs.Common.{◌≡◌, [], Err, length, sym, ◌∙◌, subst, rules}
 use Rattle.std.proofs.lemmas.List.{nil_from_length}
 use Rattle.std.proofs.lemmas.Result.{err_from_is_err_and}
-use Rattle.store_laws.specs.Reading.{ReadsStream}
+use Rattle.store_model.specs.Reading.{ReadsStream}
 use Rattle.store_streams.specs.Judging.{Judges, stream_refusal}
 use Rattle.store_streams.proofs.Going.{judged_memory, judged_refused}
 use Rattle.store_streams.proofs.SoFar.{so_far_pushed, so_far_done}

@@ -1,5 +1,5 @@
 use Rattle.std.proofs.Common.{length}
-use Rattle.store_laws.specs.Reading.{ReadsStream}
+use Rattle.store_model.specs.Reading.{ReadsStream}
 use Rattle.store_streams.proofs.SoFar.{SoFar}
 use Rattle.store_streams.proofs.stream.judge_stream.Given as goal
 

@@ -2,7 +2,7 @@ use Rattle.std.proofs.Common.{◌≡◌, [], ◌∷◌, ◌++◌, map, ap, sym, 
 use Rattle.std.specs.Vec.Iter.{into_iter_items}
 use Rattle.std.proofs.lemmas.List.{append-nil, nil_from_length}
 use Rattle.serde_json.specs.View.{view as data_of}
-use Rattle.store_laws.specs.Reading.{ReadsTrees}
+use Rattle.store_model.specs.Reading.{ReadsTrees}
 use Rattle.store_streams.specs.Judging.{Judges}
 use Rattle.store_streams.proofs.trees.judge_trees.Goals as goal
 

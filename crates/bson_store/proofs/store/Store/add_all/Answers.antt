@@ -1,9 +1,9 @@
 use Rattle.std.proofs.Common.{length, None, Ok, Err, ap, refl, sym, ◌∙◌, arith}
 use Rattle.std.proofs.lemmas.Result.{err_from_is_err_and}
-use Rattle.bson_table.specs.Moves.{AddsRows, with_rows}
-use Rattle.bson_table.specs.declared.fault.Fault.TheVariants as faults
+use Rattle.store_table.specs.Moves.{AddsRows, with_rows}
+use Rattle.store_table.specs.declared.fault.Fault.TheVariants as faults
 use Rattle.store_documents.specs.Names.{name_bytes}
-use Rattle.store_laws.specs.State.{import, number, on}
+use Rattle.store_model.specs.State.{import, number, on}
 use Rattle.bson_store.specs.Calls.{store_state, store_connection, Does}
 use Rattle.bson_store.specs.Many.{AddsAll, FindsTaken}
 use Rattle.bson_store.specs.Refusals.{refusal, kind_of_fault}

@@ -1,9 +1,9 @@
 use Rattle.std.proofs.Common.{Ok, Err, None, refl, subst, sym}
 use Rattle.std.proofs.lemmas.Result.{err_from_is_err_and}
-use Rattle.bson_table.specs.Moves.{Visits}
-use Rattle.bson_table.specs.Table.{table_state}
+use Rattle.store_table.specs.Moves.{Visits}
+use Rattle.store_table.specs.Table.{table_state}
 use Rattle.store_documents.specs.Names.{name_bytes}
-use Rattle.store_laws.specs.State.{IsName}
+use Rattle.store_model.specs.State.{IsName}
 use Rattle.bson_store.specs.Calls.{store_state}
 use Rattle.bson_store.specs.Dump.{ChecksTrees}
 use Rattle.bson_store.specs.Refusals.{kind_of_fault, refusal}

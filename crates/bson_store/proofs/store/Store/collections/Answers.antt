@@ -1,8 +1,8 @@
 use Rattle.std.proofs.Common.{None, Ok, Err}
 use Rattle.std.proofs.lemmas.Result.{err_from_is_err_and}
-use Rattle.bson_table.specs.Moves.{Lists}
-use Rattle.bson_table.specs.Table.{table_state}
-use Rattle.store_laws.specs.State as model
+use Rattle.store_table.specs.Moves.{Lists}
+use Rattle.store_table.specs.Table.{table_state}
+use Rattle.store_model.specs.State as model
 use Rattle.bson_store.specs.Calls.{Does, store_state}
 use Rattle.bson_store.specs.Questions.{as_names}
 use Rattle.bson_store.specs.Refusals.{kind_of_fault, reply_by}

@@ -1,12 +1,12 @@
 use Rattle.std.proofs.Common.{rules, Err, refl, ap}
 use Rattle.std.proofs.lemmas.Result.{err_from_is_err_and}
 use Rattle.bson_base.specs.Device.{Tally}
-use Rattle.store_laws.specs.declared.error.ErrorKind.TheVariants as kind
+use Rattle.store_model.specs.declared.error.ErrorKind.TheVariants as kind
 use Rattle.bson_store.specs.Calls.{store_state}
 use Rattle.bson_store.specs.Export.{SendsCollection}
 use Rattle.bson_store.specs.Refusals.{refusal}
 use Rattle.bson_store.specs.declared.export.ExportVisitor.{ExportVisitor}
-use Rattle.bson_table.specs.Table.{table_state}
+use Rattle.store_table.specs.Table.{table_state}
 use Rattle.bson_store.proofs.Moving.{rests, moved}
 use Rattle.bson_store.proofs.Exporting.{sends_none, all_sent, table_failed, writer_failed}
 use Rattle.bson_store.proofs.store.Store.export.Goals as goal

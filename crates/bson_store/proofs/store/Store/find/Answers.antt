@@ -1,8 +1,8 @@
 use Rattle.std.proofs.Common.{ap, refl}
 use Rattle.std.proofs.lemmas.Result.{err_from_is_err_and}
-use Rattle.bson_filter.specs.Filters.{filter_of}
+use Rattle.store_filter.specs.Filters.{filter_of}
 use Rattle.store_documents.specs.Names.{name_bytes}
-use Rattle.store_laws.specs.State as model
+use Rattle.store_model.specs.State as model
 use Rattle.bson_store.specs.Calls.{store_state}
 use Rattle.bson_store.specs.Questions.{as_list}
 use Rattle.bson_store.proofs.Exits.{bad_moves}

@@ -1,7 +1,7 @@
 use Rattle.std.proofs.Common.{List, IsTrue}
 use Rattle.sqlite.specs.State.{HasCleanDisk, Survives}
-use Rattle.bson_table.specs.Moves.{Moves, Stands}
-use Rattle.bson_table.specs.Rows.{TableRow}
+use Rattle.store_table.specs.Moves.{Moves, Stands}
+use Rattle.store_table.specs.Rows.{TableRow}
 use Rattle.bson_store.specs.Calls.{store_state}
 use Rattle.bson_store.proofs.Keyed.{ComesTo}
 use Rattle.bson_store.proofs.store.Store.first_looked_up.Given as goal

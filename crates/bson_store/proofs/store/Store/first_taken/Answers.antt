@@ -1,9 +1,9 @@
 use Rattle.std.proofs.Common.{Ok, Err, arith}
 use Rattle.std.proofs.lemmas.Result.{err_from_is_err_and, IfOk-weaker}
 use Rattle.sqlite.specs.State.{HasCleanDisk}
-use Rattle.bson_table.specs.Moves.{FindsNone}
-use Rattle.bson_table.specs.Table.{table_state}
-use Rattle.store_laws.specs.declared.error.ErrorKind.TheVariants as kind
+use Rattle.store_table.specs.Moves.{FindsNone}
+use Rattle.store_table.specs.Table.{table_state}
+use Rattle.store_model.specs.declared.error.ErrorKind.TheVariants as kind
 use Rattle.bson_store.specs.Calls.{store_state}
 use Rattle.bson_store.specs.Many.{FindsTaken}
 use Rattle.bson_store.specs.Refusals.{refusal, kind_of_fault}

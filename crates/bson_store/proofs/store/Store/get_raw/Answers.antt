@@ -3,7 +3,7 @@ use Rattle.std.proofs.lemmas.Result.{err_from_is_err_and}
 use Rattle.bson_store.specs.Calls.{store_state}
 use Rattle.store_documents.specs.Names.{name_bytes}
 use Rattle.bson_model.specs.View.{view}
-use Rattle.store_laws.specs.State as model
+use Rattle.store_model.specs.State as model
 use Rattle.bson_store.proofs.Exits.{bad_moves, unlooked_moves, none_moves, there_moves}
 use Rattle.bson_store.proofs.Finding.{got}
 use Rattle.bson_store.proofs.store.Store.get_raw.Goals as goal

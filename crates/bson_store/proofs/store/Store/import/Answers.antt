@@ -1,8 +1,8 @@
 use Rattle.std.proofs.Common.{Err, subst}
 use Rattle.std.proofs.lemmas.Result.{err_from_is_err_and}
 use Rattle.store_documents.specs.Names.{name_bytes}
-use Rattle.store_laws.specs.declared.error.ErrorKind.TheVariants as kind
-use Rattle.store_laws.specs.Reading.{ReadsStream}
+use Rattle.store_model.specs.declared.error.ErrorKind.TheVariants as kind
+use Rattle.store_model.specs.Reading.{ReadsStream}
 use Rattle.bson_base.specs.Device.{Feed}
 use Rattle.store_streams.specs.Judging.{Judges}
 use Rattle.bson_store.specs.Calls.{store_state}

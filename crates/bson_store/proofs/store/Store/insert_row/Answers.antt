@@ -1,14 +1,14 @@
 use Rattle.std.proofs.lemmas.Result.{err_from_is_err_and}
 use Rattle.std.specs.Cow.{cow_slice_items}
 use Rattle.std.proofs.Common.{Ok, Err, ap, subst, arith}
-use Rattle.bson_table.specs.Moves.{FindsPlace, with_row}
-use Rattle.store_laws.specs.Reading.{readable}
-use Rattle.store_laws.specs.State.{insert, on, done}
+use Rattle.store_table.specs.Moves.{FindsPlace, with_row}
+use Rattle.store_model.specs.Reading.{readable}
+use Rattle.store_model.specs.State.{insert, on, done}
 use Rattle.bson_store.specs.Calls.{store_state, store_connection, Does, DoesRead}
 use Rattle.bson_store.proofs.Moving.{moved}
 use Rattle.bson_store.proofs.Serving.{row_makes, written_fits}
 use Rattle.bson_store.proofs.Leaving.{denied_leaves, accepted_leaves}
-use Rattle.bson_table.specs.Table.{table_state}
+use Rattle.store_table.specs.Table.{table_state}
 use Rattle.store_documents.specs.Names.{name_bytes}
 use Rattle.bson_store.proofs.Exits.{unfound_insert, duplicate_insert, put_moves, not_put_moves}
 use Rattle.bson_store.proofs.store.Store.insert_row.Goals as goal

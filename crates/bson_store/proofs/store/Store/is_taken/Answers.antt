@@ -1,8 +1,8 @@
 use Rattle.std.proofs.Common.{true, not, Ok, Err}
 use Rattle.std.proofs.lemmas.Result.{err_from_is_err_and}
-use Rattle.bson_table.specs.Moves.{FindsPlace}
-use Rattle.bson_table.specs.Table.{table_state}
-use Rattle.store_laws.specs.declared.error.ErrorKind.TheVariants as kind
+use Rattle.store_table.specs.Moves.{FindsPlace}
+use Rattle.store_table.specs.Table.{table_state}
+use Rattle.store_model.specs.declared.error.ErrorKind.TheVariants as kind
 use Rattle.bson_store.specs.Calls.{store_state}
 use Rattle.bson_store.specs.Many.{Meets}
 use Rattle.bson_store.specs.Refusals.{refusal, kind_of_fault}

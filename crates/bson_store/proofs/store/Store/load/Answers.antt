@@ -1,10 +1,10 @@
 use Rattle.std.proofs.Common.{None, Err, subst}
 use Rattle.std.proofs.lemmas.Result.{err_from_is_err_and}
 use Rattle.store_documents.specs.Names.{name_bytes}
-use Rattle.store_laws.specs.Reading.{ReadsTrees}
-use Rattle.store_laws.specs.State.{refused}
-use Rattle.store_laws.specs.declared.error.ErrorKind.TheVariants as kind
-use Rattle.store_laws.proofs.OneMany.{trees_alike}
+use Rattle.store_model.specs.Reading.{ReadsTrees}
+use Rattle.store_model.specs.State.{refused}
+use Rattle.store_model.specs.declared.error.ErrorKind.TheVariants as kind
+use Rattle.store_model.proofs.OneMany.{trees_alike}
 use Rattle.store_streams.proofs.Streams.{any_trees}
 use Rattle.bson_store.specs.Calls.{store_state}
 use Rattle.bson_store.specs.Many.{AddsAll, DoesMany}

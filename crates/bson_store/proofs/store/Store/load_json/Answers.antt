@@ -2,15 +2,15 @@ use Rattle.std.proofs.Common.{map, None, Err, subst}
 use Rattle.std.proofs.lemmas.Result.{err_from_is_err_and}
 use Rattle.serde_json.specs.View.{view as data_of}
 use Rattle.store_documents.specs.Names.{name_bytes}
-use Rattle.store_laws.specs.Reading.{ReadsTrees}
-use Rattle.store_laws.specs.State.{refused}
-use Rattle.store_laws.specs.declared.error.ErrorKind.TheVariants as kind
+use Rattle.store_model.specs.Reading.{ReadsTrees}
+use Rattle.store_model.specs.State.{refused}
+use Rattle.store_model.specs.declared.error.ErrorKind.TheVariants as kind
 use Rattle.bson_store.specs.Calls.{store_state}
 use Rattle.bson_store.specs.Many.{AddsAll, DoesMany}
 use Rattle.bson_store.specs.Refusals.{as_number, refusal_of_stream, reply_by}
 use Rattle.bson_store.proofs.Importing.{many_added, many_bad_name, many_refused}
 use Rattle.bson_store.proofs.Leaving.{many_leave}
-use Rattle.store_laws.proofs.OneMany.{trees_alike}
+use Rattle.store_model.proofs.OneMany.{trees_alike}
 use Rattle.store_streams.proofs.Streams.{any_trees}
 use Rattle.bson_store.proofs.Moving.{rests, moved}
 use Rattle.bson_store.proofs.store.Store.load_json.Goals as goal

@@ -1,7 +1,7 @@
 use Rattle.std.proofs.Common.{ap, ◌∙◌}
 use Rattle.sqlite.specs.Held.{state}
-use Rattle.bson_table.specs.Table.{connection_of as table_connection, table_state}
-use Rattle.bson_table.specs.declared.opening.OpenError.{OpenError}
+use Rattle.store_table.specs.Table.{connection_of as table_connection, table_state}
+use Rattle.store_table.specs.declared.opening.OpenError.{OpenError}
 use Rattle.bson_store.specs.Refusals.{kind_of_opening, refusal}
 use Rattle.bson_store.proofs.Again.{keeps_found, keeps_refused, keeps_refused_old}
 use Rattle.bson_store.proofs.Opening.{opened}

@@ -1,8 +1,8 @@
 use Rattle.std.proofs.Common.{Ok, Err, None, refl}
 use Rattle.std.proofs.lemmas.Result.{err_from_is_err_and}
-use Rattle.bson_filter.specs.Filters.{filter_of}
-use Rattle.bson_table.specs.Moves.{Visits}
-use Rattle.bson_table.specs.Table.{table_state}
+use Rattle.store_filter.specs.Filters.{filter_of}
+use Rattle.store_table.specs.Moves.{Visits}
+use Rattle.store_table.specs.Table.{table_state}
 use Rattle.store_documents.specs.Names.{name_bytes}
 use Rattle.bson_store.specs.Calls.{store_state}
 use Rattle.bson_store.specs.Questions.{Picked}

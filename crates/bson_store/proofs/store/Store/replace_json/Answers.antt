@@ -2,7 +2,7 @@ use Rattle.std.proofs.Common.{Err, ap, ◌∙◌}
 use Rattle.std.proofs.lemmas.Result.{err_from_is_err_and}
 use Rattle.bson_store.specs.Calls.{store_state}
 use Rattle.store_documents.specs.Names.{name_bytes}
-use Rattle.store_laws.specs.State as model
+use Rattle.store_model.specs.State as model
 use Rattle.bson_store.proofs.Exits.{bad_tree, read_tree, unkept_tree, unwritten_replace}
 use Rattle.serde_json.specs.View.{view as data_of}
 use Rattle.bson_store.specs.Refusals.{reply_by, as_done}

@@ -1,7 +1,7 @@
 use Rattle.std.proofs.lemmas.Result.{err_from_is_err_and}
 use Rattle.bson_store.specs.Calls.{store_state}
 use Rattle.store_documents.specs.Names.{name_bytes}
-use Rattle.store_laws.specs.State as model
+use Rattle.store_model.specs.State as model
 use Rattle.bson_store.proofs.Exits.{bad_bytes, read_bytes, unkept_bytes, unwritten_replace}
 use Rattle.bson_store.specs.Refusals.{reply_by, as_done}
 use Rattle.bson_store.proofs.Reading.{replaces}

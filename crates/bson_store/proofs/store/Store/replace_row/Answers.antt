@@ -1,15 +1,15 @@
 use Rattle.std.proofs.lemmas.Result.{err_from_is_err_and}
 use Rattle.std.specs.Cow.{cow_slice_items}
 use Rattle.std.proofs.Common.{Ok, arith}
-use Rattle.bson_table.specs.Rows.{with_body_at}
-use Rattle.bson_table.specs.Moves.{FindsRow}
-use Rattle.store_laws.specs.Reading.{readable}
-use Rattle.store_laws.specs.State.{replace, on, done}
+use Rattle.store_table.specs.Rows.{with_body_at}
+use Rattle.store_table.specs.Moves.{FindsRow}
+use Rattle.store_model.specs.Reading.{readable}
+use Rattle.store_model.specs.State.{replace, on, done}
 use Rattle.bson_store.specs.Calls.{store_state, store_connection, Does, DoesRead}
 use Rattle.bson_store.proofs.Moving.{moved}
 use Rattle.bson_store.proofs.Serving.{written_fits}
 use Rattle.bson_store.proofs.Leaving.{accepted_leaves, changed_leaves, row_replaces}
-use Rattle.bson_table.specs.Table.{table_state}
+use Rattle.store_table.specs.Table.{table_state}
 use Rattle.store_documents.specs.Names.{name_bytes}
 use Rattle.bson_store.proofs.Exits.{unfound_replace, none_replace, place_moves, not_place_moves}
 use Rattle.bson_store.proofs.store.Store.replace_row.Goals as goal

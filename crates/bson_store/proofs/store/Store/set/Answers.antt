@@ -6,11 +6,11 @@ use Rattle.bson_store.specs.Refusals.{kind_of_fault}
 use Rattle.bson_store.proofs.Leaving.{accepted_leaves, changed_leaves, id_rewrites}
 use Rattle.store_documents.specs.Names.{name_bytes}
 use Rattle.bson_model.specs.View.{view}
-use Rattle.store_laws.specs.State as model
+use Rattle.store_model.specs.State as model
 use Rattle.bson_store.proofs.Exits.{bad_moves, stays_moves, unlooked_moves, none_moves, there_moves, rewritten_moves, unchanged_moves}
-use Rattle.bson_table.specs.Rows.{with_body_at}
+use Rattle.store_table.specs.Rows.{with_body_at}
 use Rattle.serde_json.specs.View.{view as data_of}
-use Rattle.store_laws.specs.Reading.{read_value}
+use Rattle.store_model.specs.Reading.{read_value}
 use Rattle.bson_store.proofs.Setting.{set_bad_key, set_unread, set_refused, set_remakes}
 use Rattle.bson_store.proofs.store.Store.set.Goals as goal
 use Rattle.bson_raw.proofs.Progress.{untrue}
@@ -23,7 +23,7 @@ returns-in_err-name-clause-moves g c =
 
 pub returns-then-not-is_free-clause-moves : goal.returns-then-not-is_free-clause-moves
 returns-then-not-is_free-clause-moves g c =
-    rw c.from.ensures (stays_moves (store_state g.S.Store c.args.self.now) c.args.name.now (model.set (view c.args.id.now) c.args.key.now (read_value (data_of c.args.value))) (model.refused Rattle.store_laws.specs.declared.error.ErrorKind.TheVariants.BadKey None) c.in_ok-name.ensures.1 (λ a. set_bad_key (view c.args.id.now) c.args.key.now (read_value (data_of c.args.value)) _ (λ free. untrue c.is_free.result c.if-not-is_free.true (c.is_free.ensures.1 free))))
+    rw c.from.ensures (stays_moves (store_state g.S.Store c.args.self.now) c.args.name.now (model.set (view c.args.id.now) c.args.key.now (read_value (data_of c.args.value))) (model.refused Rattle.store_model.specs.declared.error.ErrorKind.TheVariants.BadKey None) c.in_ok-name.ensures.1 (λ a. set_bad_key (view c.args.id.now) c.args.key.now (read_value (data_of c.args.value)) _ (λ free. untrue c.is_free.result c.if-not-is_free.true (c.is_free.ensures.1 free))))
 
 pub returns-in_err-value-clause-moves : goal.returns-in_err-value-clause-moves
 returns-in_err-value-clause-moves g c =

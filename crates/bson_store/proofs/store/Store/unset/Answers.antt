@@ -4,9 +4,9 @@ use Rattle.bson_store.specs.Calls.{store_state, store_connection, Looks}
 use Rattle.bson_store.proofs.Leaving.{accepted_leaves, changed_leaves, id_rewrites}
 use Rattle.store_documents.specs.Names.{name_bytes}
 use Rattle.bson_model.specs.View.{view}
-use Rattle.store_laws.specs.State as model
+use Rattle.store_model.specs.State as model
 use Rattle.bson_store.proofs.Exits.{bad_moves, stays_moves, unlooked_moves, none_moves, there_moves, rewritten_moves, unchanged_moves}
-use Rattle.bson_table.specs.Rows.{with_body_at}
+use Rattle.store_table.specs.Rows.{with_body_at}
 use Rattle.bson_store.proofs.Setting.{unset_bad_key, unset_refused, unset_stays, unset_remakes}
 use Rattle.bson_store.proofs.store.Store.unset.Goals as goal
 use Rattle.bson_raw.proofs.Progress.{untrue}
@@ -19,7 +19,7 @@ returns-in_err-name-clause-moves g c =
 
 pub returns-then-not-is_free-clause-moves : goal.returns-then-not-is_free-clause-moves
 returns-then-not-is_free-clause-moves g c =
-    rw c.from.ensures (stays_moves (store_state g.S.Store c.args.self.now) c.args.name.now (model.unset (view c.args.id.now) c.args.key.now) (model.refused Rattle.store_laws.specs.declared.error.ErrorKind.TheVariants.BadKey None) c.in_ok-name.ensures.1 (λ a. unset_bad_key (view c.args.id.now) c.args.key.now _ (λ free. untrue c.is_free.result c.if-not-is_free.true (c.is_free.ensures.1 free))))
+    rw c.from.ensures (stays_moves (store_state g.S.Store c.args.self.now) c.args.name.now (model.unset (view c.args.id.now) c.args.key.now) (model.refused Rattle.store_model.specs.declared.error.ErrorKind.TheVariants.BadKey None) c.in_ok-name.ensures.1 (λ a. unset_bad_key (view c.args.id.now) c.args.key.now _ (λ free. untrue c.is_free.result c.if-not-is_free.true (c.is_free.ensures.1 free))))
 
 pub returns-in_default-clause-moves : goal.returns-in_default-clause-moves
 returns-in_default-clause-moves g c =

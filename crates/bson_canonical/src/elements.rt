@@ -1,0 +1,153 @@
+//! Elements, one after the other, down to the final 00.
+
+ghost use Rattle.std.specs.Prelude.{◌≡◌, decimal, IsTrue, IfSome};
+ghost use Rattle.bson_base.specs.Options.{sorted_text};
+ghost use Rattle.bson_frame.specs.Payload.{IsPayload};
+ghost use Rattle.bson_frame.specs.View.{element_of};
+ghost use Rattle.bson_canonical.specs.Written.{AreItemsWritten, AreWritten, HasOneForm, HasOrderedOptions, IsFirstUnder, IsNewBinary, IsWritten};
+
+use crate::keys::MetKeys;
+use bson_base::ElementType;
+use bson_frame::{Frame, is_end, name_at, sized_frame};
+use itoa::Buffer;
+
+/// The subtype of old binaries, whose length stands twice (bsonspec.org 1.1, "subtype").
+const OLD: u8 = 2;
+
+/// The first element of a key.
+pub(crate) fn first_under<'a>(key: &str, elements: &'a [u8]) -> Option<Frame<'a>>
+    ensures { IfSome result (λ f. IsFirstUnder key.now elements.now (element_of f) × IsPayload f.tag f.payload.now) }
+{
+    let mut rest = elements;
+    for _ in 0..elements.len() {
+        let frame = sized_frame(rest)?;
+        if frame.key == key {
+            return Some(frame);
+        }
+        rest = frame.rest;
+    }
+    None
+}
+
+/// Whether a key is a place in decimal.
+fn is_place(key: &str, place: usize) -> bool
+    ensures { IsTrue result → key.now ≡ decimal place }
+{
+    let mut buffer = Buffer::new();
+    buffer.format(place) == key
+}
+
+/// Whether a scalar of the kind has one payload.
+fn has_one_form(tag: ElementType) -> bool
+    ensures { IsTrue result → HasOneForm tag }
+{
+    !matches!(
+        tag,
+        ElementType::EmbeddedDocument
+            | ElementType::Array
+            | ElementType::Binary
+            | ElementType::RegularExpression
+            | ElementType::DbPointer
+            | ElementType::JavaScriptCodeWithScope
+    )
+}
+
+/// Whether the length of a binary stands in front of it alone.
+fn is_new_binary(payload: &[u8]) -> bool
+    ensures { IsTrue result → IsNewBinary payload.now }
+{
+    payload.len() > 4 && payload[4] != OLD
+}
+
+/// Whether options are ASCII, and their characters in order.
+fn are_in_order(options: &str) -> bool
+    ensures { IsTrue result → sorted_text options.now ≡ options.now }
+{
+    options.is_ascii() && options.as_bytes().is_sorted()
+}
+
+/// Whether the options of a regular expression are in order.
+fn has_ordered_options(payload: &[u8]) -> bool
+    ensures { IsTrue result → HasOrderedOptions payload.now }
+{
+    let Ok((_, rest)) = name_at(payload) else {
+        return false;
+    };
+    let Ok((options, _)) = name_at(rest) else {
+        return false;
+    };
+    are_in_order(options)
+}
+
+/// True: the elements of a document are as they are written. So many levels may lie among them.
+#[cycle(written)]
+pub(crate) fn are_written(elements: &[u8], inner: usize) -> bool
+    ensures { IsTrue result → AreWritten elements.now }
+{
+    let mut keys = MetKeys::new();
+    let mut rest = elements;
+    while !is_end(rest) {
+        let Some(frame) = sized_frame(rest) else {
+            return false;
+        };
+        if !is_written(frame.tag, frame.payload, inner) || !keys.meet(frame.key) {
+            return false;
+        }
+        rest = frame.rest;
+    }
+    true
+}
+
+/// True: the elements of an array are as they are written.
+#[cycle(written)]
+fn are_items_written(elements: &[u8], inner: usize) -> bool
+    ensures { IsTrue result → AreItemsWritten 0 elements.now }
+{
+    let mut rest = elements;
+    for place in 0..elements.len() {
+        if is_end(rest) {
+            return true;
+        }
+        let Some(frame) = sized_frame(rest) else {
+            return false;
+        };
+        if !is_written(frame.tag, frame.payload, inner) || !is_place(frame.key, place) {
+            return false;
+        }
+        rest = frame.rest;
+    }
+    false
+}
+
+/// True: a payload is as it is written.
+#[cycle(written)]
+pub(crate) fn is_written(tag: ElementType, payload: &[u8], inner: usize) -> bool
+    requires { IsPayload tag payload.now }
+    ensures { IsTrue result → IsWritten tag payload.now }
+{
+    match tag {
+        ElementType::EmbeddedDocument | ElementType::Array => holds_written(tag, payload, inner),
+        ElementType::Binary => is_new_binary(payload),
+        ElementType::RegularExpression => has_ordered_options(payload),
+        _ => has_one_form(tag),
+    }
+}
+
+/// True: the document or array of a payload is as it is written.
+#[cycle(written)]
+fn holds_written(tag: ElementType, payload: &[u8], inner: usize) -> bool
+    requires { IsPayload tag payload.now }
+    ensures { IsTrue result → IsWritten tag payload.now }
+{
+    let [_, _, _, _, elements @ ..] = payload else {
+        return false;
+    };
+    if inner == 0 {
+        return false;
+    }
+    match tag {
+        ElementType::EmbeddedDocument => are_written(elements, inner - 1),
+        ElementType::Array => are_items_written(elements, inner - 1),
+        _ => false,
+    }
+}

@@ -1,9 +1,0 @@
--- What a statement that writes does to the rows.
-use Rattle.std.specs.Prelude.{List, Result, IsTrue, OnOk, OnErr}
-use Rattle.sqlite.specs.State.{State}
-use Rattle.bson_table.specs.Rows.{TableRow, HoldsRows}
-
--- the rows are changed so; a refused one leaves the rows, or the connection is shut
-pub record WritesRows {A E : Type 0} (old new : State) (change : List TableRow → List TableRow) (result : Result A E) : Type 0 where
-  pub done : OnOk result (IsTrue old.is_open × ((docs : List TableRow) → HoldsRows old docs → HoldsRows new (change docs)))
-  pub refused : OnErr result (IsTrue new.is_open → IsTrue old.is_open × ((docs : List TableRow) → HoldsRows old docs → HoldsRows new docs))

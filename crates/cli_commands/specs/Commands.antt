@@ -1,0 +1,115 @@
+-- Which commands the words of the program ask for.
+use Rattle.std.specs.Prelude.{◌≡◌, ◌≢◌, ℕ, List, [], ◌∷◌, ◌++◌, Option, Some, Ok, Err}
+use Rattle.serde_json.specs.Data.{Data}
+use Rattle.serde_json.specs.Read.{read as data_of_text}
+use Rattle.bson_base.specs.Device.{Feed, TookAll}
+use Rattle.bson_base.specs.Value.{Value}
+use Rattle.bson_model.specs.JsonRead.{read as value_of}
+use Rattle.bson_model.specs.declared.extjson.ser.Mode.{Mode}
+use Rattle.bson_model.specs.declared.extjson.ser.Mode.TheVariants.{Canonical, Relaxed}
+use Rattle.store_model.specs.Filter.{Filter}
+use Rattle.store_model.specs.Reading.{Documents, Reading, ReadsStream, ReadsTree, ReadsTrees, read_value}
+use Rattle.store_model.specs.State as model
+use Rattle.store_model.specs.declared.error.ErrorKind.{ErrorKind}
+use Rattle.cli_words.specs.declared.call.Call.{Call}
+use Rattle.cli_words.specs.declared.call.Call.TheVariants.{Insert, Replace, Get, Set, Unset, Remove, Find, Count, Import, Export, Dump, Load, Collections}
+use Rattle.cli_words.specs.Texts.{AnswersId, AnswersText}
+use Rattle.cli_words.specs.Words.{Takes, relaxed_word}
+use Rattle.cli_words.specs.declared.lines.UsageError.{UsageError}
+use Rattle.cli_words.specs.declared.lines.UsageError.TheVariants.{Usage, Json, Id, Line}
+use Rattle.cli_words.specs.declared.lines.UsageError.TheVariants as words
+use Rattle.cli_words.specs.declared.texts.TextError.TheVariants.{Unreadable}
+
+-- the value of an Extended JSON text
+abbrev pub IsIdText : List ℕ → Value → Type 0
+IsIdText text id = (j : Data) × (data_of_text text ≡ Some j) × (value_of j ≡ Ok id)
+
+-- the form that the words behind an id ask for: canonical, if there are none
+abbrev pub mode_of : List (List ℕ) → Mode
+mode_of [] = Canonical
+mode_of (form ∷ forms) = Relaxed
+
+-- the key that the words behind an id begin with
+abbrev pub first_key : List (List ℕ) → List ℕ
+first_key [] = []
+first_key (key ∷ more) = key
+
+-- the call of a document, which the only text stands for
+abbrev pub IsOfTree : (Reading → model.Call) → List ℕ → List (List ℕ) → model.Command → Type 0
+IsOfTree call n texts c = (text : List ℕ) × (j : Data) × (a : Reading) × (texts ≡ text ∷ []) × (data_of_text text ≡ Some j) × ReadsTree j a × (c ≡ model.on n (call a))
+
+-- the call of an id, which the first text stands for
+abbrev pub IsOfId : (Value → List (List ℕ) → model.Call) → List ℕ → List (List ℕ) → model.Command → Type 0
+IsOfId call n texts c = (text : List ℕ) × (more : List (List ℕ)) × (id : Value) × (texts ≡ text ∷ more) × IsIdText text id × (c ≡ model.on n (call id more))
+
+-- the call of an id, a key and a value, which the texts stand for
+abbrev pub IsOfSet : List ℕ → List (List ℕ) → model.Command → Type 0
+IsOfSet n texts c = (text : List ℕ) × (key : List ℕ) × (value : List ℕ) × (id : Value) × (j : Data) × (texts ≡ text ∷ key ∷ value ∷ []) × IsIdText text id × (data_of_text value ≡ Some j)
+    × (c ≡ model.on n (model.set id key (read_value j)))
+
+-- what the bytes of the input read as, taken to its end; under a bad name nothing is read
+abbrev pub IsOfStream : List ℕ → Feed → Feed → model.Command → Type 0
+IsOfStream n old new c = (bytes : List ℕ) × (ds : Documents) × (stop : Option ErrorKind) × model.When (model.IsName n) (TookAll old new bytes) (new ≡ old) × ReadsStream bytes ds stop × (c ≡ model.on n (model.import ds stop))
+
+-- what trees read as that the input, taken to its end, has in its lines
+abbrev pub IsOfLines : List ℕ → Feed → Feed → model.Command → Type 0
+IsOfLines n old new c = (bytes : List ℕ) × (js : List Data) × (ds : Documents) × (stop : Option ErrorKind) × TookAll old new bytes × ReadsTrees js ds stop × (c ≡ model.on n (model.import ds stop))
+
+-- the command is one of the call on the collection n, with what the texts stand for
+abbrev pub IsCommandOf : Call → List ℕ → List (List ℕ) → model.Command → Type 0
+IsCommandOf Insert n texts c = IsOfTree (model.insert model.in_json) n texts c
+IsCommandOf Replace n texts c = IsOfTree (model.replace model.in_json) n texts c
+IsCommandOf Get n texts c = IsOfId (λ id more. model.get_json (mode_of more) id) n texts c
+IsCommandOf Set n texts c = IsOfSet n texts c
+IsCommandOf Unset n texts c = IsOfId (λ id more. model.unset id (first_key more)) n texts c
+IsCommandOf Remove n texts c = IsOfId (λ id more. model.remove id) n texts c
+IsCommandOf Find n texts c = (f : Filter) × (c ≡ model.on n (model.find f))
+IsCommandOf Count n texts c = (f : Filter) × (c ≡ model.on n (model.count f))
+IsCommandOf Export n texts c = c ≡ model.on n model.export
+IsCommandOf Dump n texts c = c ≡ model.on n model.dump
+IsCommandOf Collections n texts c = c ≡ model.collections
+IsCommandOf _ n texts c = ⊥
+
+-- or, of a call that reads the input, with what that gave
+abbrev pub AsksFor : Call → List ℕ → List (List ℕ) → Feed → Feed → model.Command → Type 0
+AsksFor Import n texts old new = IsOfStream n old new
+AsksFor Load n texts old new = IsOfLines n old new
+AsksFor call n texts old new = IsCommandOf call n texts
+
+-- ---- what can't be read
+
+-- the first text is that of no id
+abbrev pub IsNoId : List (List ℕ) → Type 0
+IsNoId texts = (text : List ℕ) × (more : List (List ℕ)) × (texts ≡ text ∷ more) × AnswersId text (Err Unreadable)
+
+-- the last one is no JSON text
+abbrev pub IsNoJson : List (List ℕ) → Type 0
+IsNoJson texts = (front : List (List ℕ)) × (text : List ℕ) × (texts ≡ front ++ text ∷ []) × AnswersText text (Err Unreadable)
+
+-- the words behind an id ask for no form
+abbrev pub IsNoForm : List (List ℕ) → Type 0
+IsNoForm forms = (forms ≢ []) × (forms ≢ relaxed_word ∷ [])
+
+-- the input was taken to its end
+abbrev pub TookSome : Feed → Feed → Type 0
+TookSome old new = (bytes : List ℕ) × TookAll old new bytes
+
+-- What is reported of the texts of a call is so: they are no line of the table, or the text can't be read. Of the text of a filter this
+-- is its reader's own answer.
+abbrev pub IsUnread : Call → List (List ℕ) → UsageError → Type 0
+IsUnread call texts Usage = Takes call texts → ⊥
+IsUnread Insert texts Json = IsNoJson texts
+IsUnread Replace texts Json = IsNoJson texts
+IsUnread Set texts Json = IsNoJson texts
+IsUnread Get texts Id = IsNoId texts
+IsUnread Set texts Id = IsNoId texts
+IsUnread Unset texts Id = IsNoId texts
+IsUnread Remove texts Id = IsNoId texts
+IsUnread Find texts words.Filter = Unit {0}
+IsUnread Count texts words.Filter = Unit {0}
+IsUnread _ texts _ = ⊥
+
+-- then nothing of the input is read; or, of `load`, it was taken to its end, and its reader's own answer is that this line can't be read
+abbrev pub Complains : Call → List (List ℕ) → Feed → Feed → UsageError → Type 0
+Complains Load texts old new (Line i) = TookSome old new
+Complains call texts old new w = IsUnread call texts w × (new ≡ old)

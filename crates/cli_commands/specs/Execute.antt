@@ -1,0 +1,119 @@
+-- What a command of the program does to the rows and the devices, and what is reported of it.
+use Rattle.std.specs.Prelude.{◌≡◌, ◌⊎◌, ℕ, ◌+◌, List, Result, Ok, Err, map, string_bytes}
+use Rattle.bson_base.specs.Device.{Feed, Tally, TakesText}
+use Rattle.store_table.specs.Rows.{TableRow}
+use Rattle.store_model.specs.State.{Command, Reply, refused, When}
+use Rattle.store_model.specs.Table.{DocumentTable, Serves, IsRefusal, state_of}
+use Rattle.store_model.specs.declared.error.ErrorKind.{ErrorKind}
+use Rattle.store_model.specs.declared.error.ErrorKind.TheVariants.{Memory, Reader, Writer}
+use Rattle.cli_words.specs.Lines.{complaint_line, refusal_line}
+use Rattle.cli_words.specs.declared.call.Call.{Call}
+use Rattle.cli_words.specs.declared.call.Call.TheVariants.{Export}
+use Rattle.cli_words.specs.declared.lines.UsageError.{UsageError}
+use Rattle.cli_words.specs.declared.lines.UsageError.TheVariants.{Line}
+use Rattle.cli_words.specs.declared.words.Words.{Words as Wording}
+use Rattle.bson_store.specs.Export.{Exports}
+use Rattle.bson_store.specs.Refusals.{refusal}
+use Rattle.bson_store.specs.Shown.{Represents}
+use Rattle.bson_store.specs.declared.error.StoreError.{StoreError}
+use Rattle.cli_commands.specs.Commands.{AsksFor, Complains, TookSome}
+use Rattle.cli_commands.specs.declared.answer.Answer.{Answer}
+use Rattle.cli_commands.specs.declared.stop.Failure.{Failure}
+use Rattle.cli_commands.specs.declared.stop.Failure.TheVariants.{Words, Refused}
+
+-- ---- the table
+
+-- an accepted command of those that are meant takes the table a to b
+abbrev pub Accepts : (Command → Type 0) → DocumentTable → DocumentTable → Type 0
+Accepts Meant a b = (c : Command) × Meant c × (r : Reply) × (IsRefusal r → ⊥) × Serves a c r b
+
+-- such a command is refused so, by its own step, or as memory, places or the database may be denied
+abbrev pub IsRefusedBy : (Command → Type 0) → StoreError → DocumentTable → Type 0
+IsRefusedBy Meant e a = (c : Command) × Meant c × Serves a c (refused e.kind e.document) a
+
+-- whatever table the rows showed, they show one now that it came to
+abbrev pub Comes : (DocumentTable → DocumentTable → Type 0) → List TableRow → List TableRow → Type 0
+Comes To old new = (a : DocumentTable) → Represents old a → (b : DocumentTable) × Represents new b × To a b
+
+-- ---- the devices
+
+-- a call of a device failed, which has this kind, or it is out of memory and none did
+abbrev pub IsFault : ErrorKind → ℕ → ℕ → StoreError → Type 0
+IsFault kind old new e = ((e ≡ refusal kind) × (new ≡ old + 1)) ⊎ ((e ≡ refusal Memory) × (new ≡ old))
+
+-- a call of a device failed exactly if its kind is reported
+abbrev pub Fails : ErrorKind → Result (Unit {0}) Failure → ℕ → ℕ → Type 0
+Fails kind (Err (Refused e)) old new = When (e.kind ≡ kind) (new ≡ old + 1) (new ≡ old)
+Fails kind _ old new = new ≡ old
+
+-- ---- one command of the store
+
+-- the text isn't such, and this is reported; or out of memory
+abbrev pub StopsFor : UsageError → Type 0 → Failure → Type 0
+StopsFor w Unread (Words c) = (c ≡ w) × Unread
+StopsFor w Unread (Refused e) = e ≡ refusal Memory
+
+-- of the lines of the input one can't be read, and this is reported; or a read failed, or out of memory
+abbrev pub StopsLines : Feed → Feed → Failure → Type 0
+StopsLines fed left (Words (Line i)) = TookSome fed left
+StopsLines fed left (Words _) = ⊥
+StopsLines fed left (Refused e) = IsFault Reader fed.failures left.failures e
+
+-- A command was accepted. Or it was refused, and the table is the same; or it wasn't asked of the store for this fault; or it is
+-- reported, rightly, that a text can't be read.
+abbrev pub Performed : (Command → Type 0) → (StoreError → Type 0) → (UsageError → Type 0) → Result Answer Failure → DocumentTable → DocumentTable → Type 0
+Performed Meant Fault Unread (Ok x) a b = Accepts Meant a b
+Performed Meant Fault Unread (Err (Refused e)) a b = (b ≡ a) × (IsRefusedBy Meant e a ⊎ Fault e)
+Performed Meant Fault Unread (Err (Words w)) a b = (b ≡ a) × Unread w
+
+abbrev pub Performs : (Command → Type 0) → (UsageError → Type 0) → Result Answer Failure → List TableRow → List TableRow → Type 0
+Performs Meant Unread result = Comes (Performed Meant (λ e. e ≡ refusal Memory) Unread result)
+
+-- so of a command that reads the input
+abbrev pub PerformsFed : (Command → Type 0) → (UsageError → Type 0) → Feed → Feed → Result Answer Failure → List TableRow → List TableRow → Type 0
+PerformsFed Meant Unread fed left result = Comes (Performed Meant (IsFault Reader fed.failures left.failures) Unread result)
+
+-- what is done is printed, or a write failed, or out of memory; of what isn't done nothing is printed
+abbrev pub Tells : Result Answer Failure → Result (Unit {0}) Failure → ℕ → ℕ → Type 0
+Tells (Ok x) result old new = ((result ≡ Ok tt) × (new ≡ old)) ⊎ ((e : StoreError) × (result ≡ Err (Refused e)) × IsFault Writer old new e)
+Tells (Err e) result old new = (result ≡ Err e) × (new ≡ old)
+
+-- ---- a command and its printing
+
+-- A command was accepted, and what it answers printed. Or the table is the same, and the refusal is the command's own, or that of
+-- the input; or a command was accepted, and the refusal is that of the output. Or a text can't be read, and the table is the same.
+abbrev pub Ended : (Command → Type 0) → (StoreError → Type 0) → (StoreError → Type 0) → (UsageError → Type 0) → Result (Unit {0}) Failure → DocumentTable → DocumentTable → Type 0
+Ended Meant Unfed Unprinted Unread (Ok x) a b = Accepts Meant a b
+Ended Meant Unfed Unprinted Unread (Err (Refused e)) a b = ((b ≡ a) × (IsRefusedBy Meant e a ⊎ Unfed e)) ⊎ (Unprinted e × Accepts Meant a b)
+Ended Meant Unfed Unprinted Unread (Err (Words w)) a b = (b ≡ a) × Unread w
+
+-- all documents of an export went out, or a beginning of them
+abbrev pub Sends : Call → List ℕ → Tally → Tally → Result (Unit {0}) Failure → DocumentTable → Type 0
+Sends Export n old new (Ok x) a = Exports (state_of a) n old new (Ok x)
+Sends Export n old new (Err (Refused e)) a = Exports (state_of a) n old new (Err e)
+Sends _ n old new _ a = Unit {0}
+
+-- so of the call on the collection n, with these texts
+pub record Executed (call : Call) (n : List ℕ) (texts : List (List ℕ)) (fed left : Feed) (old new : Tally) (outcome : Result (Unit {0}) Failure) (a b : DocumentTable) : Type 0 where
+  pub ended : Ended (AsksFor call n texts fed left) (IsFault Reader fed.failures left.failures) (IsFault Writer old.failures new.failures) (Complains call texts fed left) outcome a b
+  pub reader : Fails Reader outcome fed.failures left.failures
+  pub writer : Fails Writer outcome old.failures new.failures
+  pub sent : Sends call n old new outcome a
+
+-- whatever table the rows showed
+abbrev pub Executes : Wording → Feed → Feed → Tally → Tally → Result (Unit {0}) Failure → List TableRow → List TableRow → Type 0
+Executes w fed left old new outcome = Comes (Executed w.call w.coll.now (map string_bytes w.rest.now) fed left old new outcome)
+
+-- ---- what is reported
+
+-- where a text couldn't be read the output is as it was
+abbrev pub SilentUnread : {A : Type 0} → Result (Unit {0}) Failure → A → A → Type 0
+SilentUnread (Ok x) old new = Unit {0}
+SilentUnread (Err (Refused e)) old new = Unit {0}
+SilentUnread (Err (Words w)) old new = new ≡ old
+
+-- the status, and the line that went out, or a beginning of it where a write failed
+abbrev pub Reports : Result (Unit {0}) Failure → ℕ → Tally → Tally → Type 0
+Reports (Ok x) status old new = status ≡ 0
+Reports (Err (Refused e)) status old new = (status ≡ 1) × TakesText old new (refusal_line e.kind e.document)
+Reports (Err (Words w)) status old new = (status ≡ 2) × TakesText old new (complaint_line w)

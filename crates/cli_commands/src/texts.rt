@@ -1,0 +1,114 @@
+//! What the texts among the words of a command stand for.
+
+ghost use Rattle.std.specs.Prelude.{◌≡◌, ℕ, List, Some, Err, IfErr, OnOk, MatchResult, map, string_bytes};
+ghost use Rattle.bson_base.specs.Device.{CanFail};
+ghost use Rattle.serde_json.specs.Data.{Data};
+ghost use Rattle.serde_json.specs.Read.{read as data_of_text};
+ghost use Rattle.serde_json.specs.View.{view as data_of};
+ghost use Rattle.bson_model.specs.View.{view};
+ghost use Rattle.store_streams.specs.Loading.{HasTaken};
+ghost use Rattle.cli_words.specs.Texts.{AnswersId, AnswersText};
+ghost use Rattle.cli_words.specs.declared.texts.TextError.TheVariants.{Unreadable};
+ghost use Rattle.cli_commands.specs.Commands.{IsIdText, IsNoForm, TookSome, mode_of};
+ghost use Rattle.cli_commands.specs.Execute.{StopsFor, StopsLines};
+
+use crate::stop::{Failure, USAGE, refuse};
+use bson_base::{ReadAllError, read_all};
+use store_filter::Filter;
+use bson_store::extjson::Mode;
+use bson_store::{Bson, ErrorKind, Loader, Source};
+use serde_json::Value;
+use std::alloc::Global;
+use cli_words::{UsageError, RELAXED, TextError, read_filter, read_id, parse_json, read_line};
+
+/// The tree of a JSON text.
+pub fn json_of_text(alloc: Global, text: &str) -> Result<Value, Failure>
+    ensures { MatchResult result (λ j. data_of_text text.now ≡ Some (data_of j)) (StopsFor UsageError.Json (AnswersText text.now (Err Unreadable))) }
+{
+    match parse_json(alloc, text) {
+        Ok(json) => Ok(json),
+        Err(TextError::Unreadable) => Err(Failure::Words(UsageError::Json)),
+        Err(TextError::Memory) => Err(refuse(ErrorKind::Memory)),
+    }
+}
+
+/// The value of an id's text, which is Extended JSON.
+pub fn id_of(alloc: Global, text: &str) -> Result<Bson, Failure>
+    ensures { MatchResult result (λ id. IsIdText text.now (view id)) (StopsFor UsageError.Id (AnswersId text.now (Err Unreadable))) }
+{
+    match read_id(alloc, text) {
+        Ok(id) => Ok(id),
+        Err(TextError::Unreadable) => Err(Failure::Words(UsageError::Id)),
+        Err(TextError::Memory) => Err(refuse(ErrorKind::Memory)),
+    }
+}
+
+/// The form of Extended JSON that the words behind an id ask for.
+pub fn mode_of(words: &[String]) -> Result<Mode, Failure>
+    ensures { MatchResult result (λ mode. mode ≡ mode_of (map string_bytes words.now)) (λ stop. (stop ≡ Failure.Words UsageError.Usage) × IsNoForm (map string_bytes words.now)) }
+{
+    match words {
+        [] => Ok(Mode::Canonical),
+        [form] => {
+            if form.as_str() == RELAXED {
+                Ok(Mode::Relaxed)
+            } else {
+                Err(USAGE)
+            }
+        }
+        _ => Err(USAGE),
+    }
+}
+
+/// The filter of a text.
+pub fn filter_of_text(alloc: Global, text: &str) -> Result<Filter, Failure>
+    ensures { IfErr result (StopsFor UsageError.Filter (Unit {0})) }
+{
+    match read_filter(alloc, text) {
+        Ok(filter) => Ok(filter),
+        Err(TextError::Unreadable) => Err(Failure::Words(UsageError::Filter)),
+        Err(TextError::Memory) => Err(refuse(ErrorKind::Memory)),
+    }
+}
+
+/// Takes the tree of a line, if it has one.
+fn take_line(alloc: Global, loader: &mut Loader, line: &[u8], number: u64) -> Result<(), Failure>
+    ensures ok { OnOk result ((js : List Data) → HasTaken loader.old js → (all : List Data) × HasTaken loader.new all) }
+    ensures err { IfErr result (StopsFor (UsageError.Line number) (Unit {0})) }
+{
+    match read_line(alloc, line) {
+        Ok(Some(tree)) => {
+            loader.take(tree);
+            Ok(())
+        }
+        Ok(None) => Ok(()),
+        Err(TextError::Unreadable) => Err(Failure::Words(UsageError::Line(number))),
+        Err(TextError::Memory) => Err(refuse(ErrorKind::Memory)),
+    }
+}
+
+/// Judges the trees of lines, one after the other: one tree is held at a time.
+fn judged_lines(alloc: Global, bytes: &[u8]) -> Result<Loader, Failure>
+    ensures { MatchResult result (λ l. (js : List Data) × HasTaken l js) (λ stop. (i : ℕ) × StopsFor (UsageError.Line i) (Unit {0}) stop) }
+{
+    let mut loader = Loader::new(alloc);
+    let mut number = 0u64;
+    for line in bytes.split(|byte| *byte == b'\n') {
+        number = number.saturating_add(1);
+        take_line(alloc, &mut loader, line, number)?;
+    }
+    Ok(loader)
+}
+
+/// The trees of the input's lines, judged. The input is read to its end.
+pub fn judged_input<I: Source>(alloc: Global, input: &mut I) -> Result<Loader, Failure>
+    requires { CanFail (I.feed input.old) }
+    ensures { MatchResult result (λ l. TookSome (I.feed input.old) (I.feed input.new) × ((js : List Data) × HasTaken l js)) (StopsLines (I.feed input.old) (I.feed input.new)) }
+{
+    let bytes = match read_all(alloc, input) {
+        Ok(bytes) => bytes,
+        Err(ReadAllError::Reader) => return Err(refuse(ErrorKind::Reader)),
+        Err(ReadAllError::Memory) => return Err(refuse(ErrorKind::Memory)),
+    };
+    judged_lines(alloc, bytes.as_slice())
+}

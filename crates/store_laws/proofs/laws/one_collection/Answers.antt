@@ -1,5 +1,0 @@
-use Rattle.store_laws.proofs.Functions.{one_collection}
-use Rattle.store_laws.proofs.laws.one_collection.Goals as goal
-
-pub returns : goal.returns
-returns c = one_collection

@@ -1,5 +1,0 @@
-use Rattle.store_laws.proofs.Refused.{refused_stays}
-use Rattle.store_laws.proofs.laws.refusals_stay.Goals as goal
-
-pub returns : goal.returns
-returns c s t d k i good step = refused_stays k i s d t good.nonempty step

@@ -1,5 +1,0 @@
-use Rattle.store_laws.proofs.Runs.{run_good}
-use Rattle.store_laws.proofs.laws.runs_keep_states.Goals as goal
-
-pub returns : goal.returns
-returns c w cs rs s t k h p = run_good w 0 cs rs s t k h p

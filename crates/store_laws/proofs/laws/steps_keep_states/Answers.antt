@@ -1,6 +1,0 @@
-use Rattle.store_laws.proofs.Kept.{step_good}
-use Rattle.store_laws.proofs.States.{stored_again}
-use Rattle.store_laws.proofs.laws.steps_keep_states.Goals as goal
-
-pub returns : goal.returns
-returns c = record { whole = step_good; refused = λ s n h. stored_again s n h.nonempty }

@@ -1,5 +1,0 @@
-use Rattle.store_laws.proofs.Plain.{any_tree, object_tree}
-use Rattle.store_laws.proofs.laws.trees_have_readings.Goals as goal
-
-pub returns : goal.returns
-returns c = record { any = any_tree; object = object_tree }

@@ -1,5 +1,0 @@
-use Rattle.store_laws.proofs.Restore.{written_reads}
-use Rattle.store_laws.proofs.laws.written_documents_read.Goals as goal
-
-pub returns : goal.returns
-returns c d a k = written_reads d k a

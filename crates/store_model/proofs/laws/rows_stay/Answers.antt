@@ -1,0 +1,5 @@
+use Rattle.store_model.proofs.Unmoved.{unmoved}
+use Rattle.store_model.proofs.laws.rows_stay.Goals as goal
+
+pub returns : goal.returns
+returns c = unmoved

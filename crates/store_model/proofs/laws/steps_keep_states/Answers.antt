@@ -1,0 +1,6 @@
+use Rattle.store_model.proofs.Kept.{step_good}
+use Rattle.store_model.proofs.States.{stored_again}
+use Rattle.store_model.proofs.laws.steps_keep_states.Goals as goal
+
+pub returns : goal.returns
+returns c = record { whole = step_good; refused = λ s n h. stored_again s n h.nonempty }

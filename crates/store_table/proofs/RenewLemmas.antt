@@ -1,0 +1,163 @@
+-- What the replacing of keys says of the rows, from what the second survey found.
+use Rattle.std.proofs.Common.{◌≡◌, inl, inr, ◌⊎◌, ◌++◌, ◌∷◌, [], ℕ, ℤ, List, IfErr, None, Some, Result, Ok, Err, refl, sym, ap, subst, ◌∙◌}
+use Rattle.sqlite.specs.Clock.{timed}
+use Rattle.sqlite.specs.Order.{Row}
+use Rattle.sqlite.specs.State.{State, IsLive, IsUnchanged, Shown, ShowsRows}
+use Rattle.sqlite.specs.Effect.{Database as Held, IsDatabase}
+use Rattle.sqlite.specs.Listing.{understood}
+use Rattle.sqlite.proofs.Callers.{unchanged_then}
+use Rattle.store_table.proofs.PlainLemmas.{all_asks}
+use Rattle.store_table.proofs.AnyLemmas.{bare}
+use Rattle.store_table.proofs.VisitLemmas.{shown_before}
+use Rattle.sqlite_trees.specs.Tree.{Trees}
+use Rattle.store_table.specs.declared.opening.OpenError.{OpenError}
+use Rattle.store_table.specs.declared.opening.OpenError.TheVariants.{NotAStore, BadRow, IdsCollide, Memory, Database}
+use Rattle.store_table.specs.declared.renewal.Renewals.{Renewals}
+use Rattle.store_table.specs.Check.{AreGood, AreGoodAfter}
+use Rattle.store_table.specs.Open.{all_text, Reads, ReadsNot, RefusesOpening, PassesOpening, IsSettled, KeepsAll}
+use Rattle.store_table.specs.Rows.{TableRow, HasRows, HoldsRows, with_keys_at}
+use Rattle.store_table.specs.Renewal.{IsOwn, AreRenewed, AcceptsOnce, AreRenewals, Renewed, Unrenewed, MayRenew, RenewsOld, AreGoodOnce, PassesOnce}
+use Rattle.store_table.proofs.ListedLemmas.{listed_shows}
+use Rattle.store_table.proofs.StatementLemmas.{unchanged_shows, unchanged_keeps, keeps_then, settled_still}
+use Rattle.store_table.proofs.UniqueLemmas.{one_list}
+use Rattle.store_table.proofs.RenewalLemmas.{apart_yet, twin_of}
+
+-- ---- what is read, as the state before it has it
+
+unchanged_here : (old mid : State) → IsUnchanged old mid → IsUnchanged old old
+unchanged_here old mid u = (record { was_open = u.0.was_open; is_open = u.0.was_open; now_is = refl; committed_is = refl; mode = refl }, record { changes = refl; last_rowid = refl }, refl)
+
+shown_here : (old mid : State) (rows : List Row) → Shown all_text [] old mid rows → Shown all_text [] old old rows
+unfolding Shown
+shown_here old mid rows h =
+    let none = (bare all_text all_asks old.now.schema h.0 h.1.is).0 in
+    let it = subst (λ k. ShowsRows old mid all_text h.0 (timed [] h.0.formats h.1.now) rows k) none h.2 in
+    (h.0, h.1, subst (λ k. ShowsRows old old all_text h.0 (timed [] h.0.formats h.1.now) rows k) (sym none) (it.0, it.1, it.2, unchanged_here old mid it.3))
+
+pub read_here : (old mid : State) (docs : List TableRow) → Reads old mid docs → Reads old old docs
+read_here old mid docs h = record { rows = h.rows; answered = shown_here old mid h.rows h.answered; typed = h.typed; same = h.same; unchanged = unchanged_here old mid h.unchanged }
+
+pub read_before : (old mid : State) (docs : List TableRow) → IsUnchanged old mid → Reads mid mid docs → Reads old old docs
+read_before old mid docs u h =
+    read_here old mid docs (record { rows = h.rows; answered = shown_before all_text [] old mid mid h.rows all_asks u h.answered; typed = h.typed; same = h.same; unchanged = unchanged_then old mid mid u h.unchanged })
+
+-- ---- from the second survey
+
+module _ (accepts : List ℕ → List ℕ → List ℕ → Type 0) (renews : List ℕ → List ℕ → List ℕ → List ℕ → Type 0) (old mid : State) where
+  pub as_refused : (e : OpenError) → RefusesOpening (AcceptsOnce renews) old mid e → Unrenewed accepts renews old mid e
+  as_refused NotAStore h = h
+  as_refused (BadRow place) h = h
+  as_refused (IdsCollide first second) h = absurd h
+  as_refused Memory h = tt
+  as_refused Database h = tt
+
+  pub told_nothing : (e : OpenError) → (e ≡ Memory) ⊎ (e ≡ Database) → (new : State) → Unrenewed accepts renews old new e
+  told_nothing e (inl is) new = subst (Unrenewed accepts renews old new) (sym is) tt
+  told_nothing e (inr is) new = subst (Unrenewed accepts renews old new) (sym is) tt
+
+  -- what the survey found
+  pub record Found (r : Renewals) : Type 0 where
+    pub docs : List TableRow
+    pub reads : Reads old mid docs
+    pub good : AreGood (AcceptsOnce renews) docs
+    pub renewals : AreRenewals accepts renews docs r
+
+  pub found : (r : Renewals) → (docs : List TableRow) × Reads old mid docs × AreGood (AcceptsOnce renews) docs × AreRenewals accepts renews docs r → Found r
+  found r h = record { docs = h.0; reads = h.1; good = h.2; renewals = h.3 }
+
+  module _ (r : Renewals) (f : Found r) where
+    pub collides : (first second : ℤ) → r.twin ≡ Some (first, second) → Unrenewed accepts renews old mid (IdsCollide first second)
+    collides first second is = (f.docs, f.renewals.after, f.reads, f.renewals.renewed, twin_of accepts renews f.docs r f.renewals first second is)
+
+    pub good_once : AreGoodOnce renews old
+    good_once = (f.docs, read_here old mid f.docs f.reads, f.good)
+
+    pub nothing_written : KeepsAll old mid
+    nothing_written = unchanged_keeps old mid f.reads.unchanged
+
+    same : IsLive old → (ds : List TableRow) → HoldsRows old ds → ds ≡ f.docs
+    same live ds shows = one_list mid.now.trees ds f.docs (unchanged_shows old mid ds shows f.reads.unchanged).table
+        (listed_shows (AcceptsOnce renews) old mid f.docs shows.schema (live shows.is_open).0 shows.autocommit shows.settled f.reads f.good).table
+
+    there : IsLive old → (ds : List TableRow) → HoldsRows old ds → HoldsRows mid f.docs
+    there live ds shows = subst (HoldsRows mid) (same live ds shows) (unchanged_shows old mid ds shows f.reads.unchanged)
+
+    module _ (none : r.twin ≡ None) (new : State) where
+      pub renewed_so : IsLive old → ((ds : List TableRow) → HoldsRows mid ds → HoldsRows new (with_keys_at r.keys.items ds)) → Renewed accepts renews old new
+      renewed_so live done ds shows =
+          let yet = apart_yet accepts renews f.docs r f.renewals none in
+          (f.renewals.after, subst (HoldsRows new) yet.keys (done f.docs (there live ds shows)), subst (λ xs. AreRenewed renews xs f.renewals.after) (sym (same live ds shows)) f.renewals.renewed, yet.good)
+
+      pub may_renew : (db : Trees) → ((ds : List TableRow) → HoldsRows mid ds → HasRows db (with_keys_at r.keys.items ds)) → MayRenew accepts renews old db
+      may_renew db made live ds shows =
+          let yet = apart_yet accepts renews f.docs r f.renewals none in
+          (f.renewals.after, subst (λ xs. AreRenewed renews xs f.renewals.after) (sym (same live ds shows)) f.renewals.renewed, subst (HasRows db) yet.keys (made f.docs (there live ds shows)))
+
+      pub settled_there : IsSettled old → IsSettled mid
+      settled_there = settled_still old mid f.reads.unchanged
+
+      pub kept_so : KeepsAll mid new → KeepsAll old new
+      kept_so = keeps_then old mid new nothing_written
+
+-- ---- from the first survey
+
+pub if_err_on : (r : Result (Unit {0}) OpenError) (P Q : OpenError → Type 0) → ((e : OpenError) → P e → Q e) → IfErr r P → IfErr r Q
+if_err_on (Ok u) P Q f h = tt
+if_err_on (Err e) P Q f h = f e h
+
+own_renewed : (renews : List ℕ → List ℕ → List ℕ → List ℕ → Type 0) (seen docs : List TableRow) → AreGoodAfter (IsOwn renews) seen docs → AreRenewed renews docs docs
+own_renewed renews seen [] h = tt
+own_renewed renews seen (d ∷ docs) h = (record { place = refl; coll = refl; body = refl; key = h.0.accepted }, own_renewed renews (seen ++ d ∷ []) docs h.1)
+
+module _ (renews : List ℕ → List ℕ → List ℕ → List ℕ → Type 0) (old mid new : State) where
+  pub passed_renewed : IsLive old → PassesOpening (IsOwn renews) old new → Renewed (IsOwn renews) renews old new
+  passed_renewed live p ds shows =
+      let still = unchanged_shows old new ds shows p.1.unchanged in
+      let same : ds ≡ p.0 = one_list new.now.trees ds p.0 still.table (listed_shows (IsOwn renews) old new p.0 shows.schema (live shows.is_open).0 shows.autocommit shows.settled p.1 p.2).table in
+      (p.0, subst (HoldsRows new) same still, subst (λ xs. AreRenewed renews xs p.0) (sym same) (own_renewed renews [] p.0 p.2), p.2)
+
+  pub unrenewed_by : (r : Result (Unit {0}) OpenError) → ((place : ℤ) → r ≡ Err (BadRow place) → ⊥) → IfErr r (RefusesOpening (IsOwn renews) old new) → IfErr r (Unrenewed (IsOwn renews) renews old new)
+  unrenewed_by (Ok u) other h = tt
+  unrenewed_by (Err NotAStore) other h = h
+  unrenewed_by (Err (BadRow place)) other h = absurd (other place refl)
+  unrenewed_by (Err (IdsCollide first second)) other h = absurd h
+  unrenewed_by (Err Memory) other h = tt
+  unrenewed_by (Err Database) other h = tt
+
+  module _ (u : IsUnchanged old mid) where
+    pub live_still : IsLive old → IsLive mid
+    live_still live open_mid = let l = live u.0.was_open in (subst IsDatabase (sym u.0.now_is) l.0, subst IsDatabase (sym u.0.committed_is) l.1)
+
+    reads_back : (docs : List TableRow) → Reads mid new docs → Reads old new docs
+    reads_back docs h = record { rows = h.rows; answered = shown_before all_text [] old mid new h.rows all_asks u h.answered; typed = h.typed; same = h.same; unchanged = unchanged_then old mid new u h.unchanged }
+
+    pub back_renewed : Renewed (IsOwn renews) renews mid new → Renewed (IsOwn renews) renews old new
+    back_renewed h ds shows = h ds (unchanged_shows old mid ds shows u)
+
+    pub back_may : (db : Trees) → MayRenew (IsOwn renews) renews mid db → MayRenew (IsOwn renews) renews old db
+    back_may db h live ds shows = h (live_still live) ds (unchanged_shows old mid ds shows u)
+
+    not_read_back : ReadsNot mid new → ReadsNot old new
+    not_read_back (inl fault, same) = (inl (fault.0, ap (λ (x : Held). understood x.schema all_text) (sym u.0.now_is) ∙ fault.1), unchanged_then old mid new u same)
+    not_read_back (inr shown, same) = (inr (shown.0, shown_before all_text [] old mid new shown.0 all_asks u shown.1, shown.2), unchanged_then old mid new u same)
+
+    pub back_unrenewed : (e : OpenError) → Unrenewed (IsOwn renews) renews mid new e → Unrenewed (IsOwn renews) renews old new e
+    back_unrenewed NotAStore h = not_read_back h
+    back_unrenewed (BadRow place) h = (h.0, reads_back h.0 h.1, h.2)
+    back_unrenewed (IdsCollide first second) h = (h.0, h.1, reads_back h.0 h.2, h.3, h.4)
+    back_unrenewed Memory h = tt
+    back_unrenewed Database h = tt
+
+    pub back_settled : IsSettled old → IsSettled mid
+    back_settled = settled_still old mid u
+
+    pub back_kept : KeepsAll mid new → KeepsAll old new
+    back_kept = keeps_then old mid new (unchanged_keeps old mid u)
+
+    -- a row that isn't good under its own key was read
+    pub renews_old : (place : ℤ) → RefusesOpening (IsOwn renews) old mid (BadRow place) → (db : Trees) → MayRenew (IsOwn renews) renews mid db → RenewsOld renews old db
+    renews_old place bad db may = ((bad.0, place, read_here old mid bad.0 bad.1, bad.2), back_may db may)
+
+    -- and then rows that are good under some key
+    pub passed_once : (place : ℤ) → RefusesOpening (IsOwn renews) old mid (BadRow place) → AreGoodOnce renews mid → PassesOnce renews old new
+    passed_once place bad good = inr ((bad.0, place, read_here old mid bad.0 bad.1, bad.2), (good.0, read_before old mid good.0 u good.1, good.2))

@@ -1,0 +1,106 @@
+-- What the calls of the table say of its rows.
+use Rattle.std.proofs.Common.{◌≡◌, ◌≢◌, inl, inr, Bool, ◌+ℤ◌, ◌++◌, ◌∷◌, [], ℕ, ℤ, pos, List, map, Option, Some, None, option_map, Result, Ok, Err, IsErrAnd, refl, sym, ap, ap₂, subst, ◌∙◌, arith}
+use Rattle.sqlite.specs.declared.types.Value.TheVariants.{Text}
+use Rattle.sqlite.specs.declared.error.Error.{Error}
+use Rattle.sqlite.specs.declared.error.Error.TheVariants.{SqliteFailure}
+use Rattle.sqlite.specs.declared.error.ErrorCode.TheVariants.{OutOfMemory}
+use Rattle.sqlite.specs.Order.{Row, column}
+use Rattle.sqlite.specs.Effect.{Database}
+use Rattle.sqlite.specs.Tree.{Trees}
+use Rattle.sqlite.specs.State.{State, HasCleanDisk, Survives, IsUnchanged}
+use Rattle.sqlite.proofs.StateLemmas.{survives_then}
+use Rattle.store_table.specs.declared.fault.Fault.TheVariants.{Places}
+use Rattle.store_table.specs.declared.row.Found.{Found}
+use Rattle.store_table.specs.Fault.{fault_of}
+use Rattle.store_table.specs.Rows.{TableRow, HasRows, HoldsRows, AreBelow, last_place}
+use Rattle.store_table.specs.Cells.{int_in, bytes_in}
+use Rattle.store_table.specs.Moves.{Stands, Visits, AddsRows, with_row, bodies_of, parts_of_found, parts_of_row}
+use Rattle.store_table.specs.Visit.{TookSome, first_value, scan_text}
+use Rattle.store_table.specs.declared.fault.Fault.{Fault}
+use Rattle.store_table.proofs.ScanLemmas.{some_scan}
+use Rattle.store_table.proofs.StatementLemmas.{unchanged_shows}
+use Rattle.store_table.proofs.LastPlaceLemmas.{below_next}
+use Rattle.store_table.proofs.ReadLemmas.{found_row, found_place}
+
+pub not_places : (e : Error) → fault_of e ≢ Places
+not_places (SqliteFailure OutOfMemory) h = cc
+not_places _ h = cc
+
+shows_back : (old new : State) (docs : List TableRow) → IsUnchanged old new → HoldsRows new docs → HoldsRows old docs
+shows_back old new docs u h = record {
+  is_open = u.0.was_open;
+  autocommit = sym u.0.mode ∙ h.autocommit;
+  settled = sym u.0.now_is ∙ h.settled ∙ u.0.committed_is;
+  schema = ap (λ (d : Database). d.schema) (sym u.0.now_is) ∙ h.schema;
+  table = subst (λ (d : Database). HasRows d.trees docs) u.0.now_is h.table;
+}
+
+-- where the last commit is what a crash leaves, it leaves the rows that are shown
+pub left_rows : (s : State) (docs : List TableRow) (db : Trees) → HoldsRows s docs → db ≡ s.committed.trees → HasRows db docs
+left_rows s docs db h is = subst (λ (t : Trees). HasRows t docs) (sym (is ∙ sym (ap (λ (d : Database). d.trees) h.settled))) h.table
+
+module _ (old new : State) where
+  pub stands_still : (docs : List TableRow) → IsUnchanged old new → Stands old docs → Stands new docs
+  stands_still docs u stands still = unchanged_shows old new docs (stands u.0.was_open) u
+
+  -- the place after the greatest one that was read is above all
+  pub below_greatest : (last : ℤ) → IsUnchanged old new → ((docs : List TableRow) → HoldsRows old docs → last ≡ last_place docs) → (docs : List TableRow) → HoldsRows new docs → AreBelow (last +ℤ pos 1) docs
+  below_greatest last u is docs h = subst (λ (p : ℤ). AreBelow (p +ℤ pos 1) docs) (sym (is docs (shows_back old new docs u h))) (below_next docs h.table.rising)
+
+pub found_is : (o : Option TableRow) (row : Row) (f : Found) → option_map found_row o ≡ Some row → f.place ≡ int_in (column row 0) → f.body.items ≡ bytes_in (column row 1) → option_map parts_of_found (Some f) ≡ option_map parts_of_row o
+found_is None row f e p b = absurd (cc)
+found_is (Some d) row f e p b =
+    let same : found_row d ≡ row = cc in
+    ap₂ (λ (x : ℤ) (y : List ℕ). Some (x, y)) (p ∙ ap (λ (r : Row). int_in (column r 0)) (sym same)) (b ∙ ap (λ (r : Row). bytes_in (column r 1)) (sym same))
+
+pub place_is : (o : Option TableRow) (row : Row) → option_map found_place o ≡ Some row → Some (int_in (column row 0)) ≡ option_map (λ (d : TableRow). d.place) o
+place_is None row e = absurd (cc)
+place_is (Some d) row e =
+    let same : found_place d ≡ row = cc in
+    ap (λ (r : Row). Some (int_in (column r 0))) (sym same)
+
+pub place_none : (o : Option TableRow) → option_map found_place o ≡ None → None ≡ option_map (λ (d : TableRow). d.place) o
+place_none None e = refl
+place_none (Some d) e = absurd (cc)
+
+pub found_none : (o : Option TableRow) → option_map found_row o ≡ None → option_map parts_of_found None ≡ option_map parts_of_row o
+found_none None e = refl
+found_none (Some d) e = absurd (cc)
+
+-- a read and then a write of the rows: what a crash may leave
+pub crash_written : (old mid new : State) (change made : List TableRow → List TableRow) → (HasCleanDisk mid → IsUnchanged old mid) → Survives old mid (λ _. ⊥)
+    → Survives mid new (λ trees. (docs : List TableRow) → HoldsRows mid docs → HasRows trees (made docs)) → (HasCleanDisk mid → (docs : List TableRow) → HoldsRows old docs → made docs ≡ change docs)
+    → Survives old new (λ trees. (docs : List TableRow) → Stands old docs → HasRows trees (change docs))
+crash_written old mid new change made same first later is =
+    survives_then old mid new (λ _. ⊥) (λ trees. (docs : List TableRow) → HoldsRows mid docs → HasRows trees (made docs)) (λ trees. (docs : List TableRow) → Stands old docs → HasRows trees (change docs)) (λ _ db none. absurd none)
+    (λ clean db commits docs stands.
+    let early : HasCleanDisk mid = omega (arith, clean, later.clean) in
+    let u = same early in
+    let h = stands u.0.was_open in
+    subst (λ (ds : List TableRow). HasRows db ds) (is early docs h) (commits docs (unchanged_shows old mid docs h u))) first later
+
+-- a visit that is refused: whatever was taken is a beginning
+pub visits_refused : {V : Type 0} (took : V → List (List ℕ) → Type 0) (first last : V) (coll : List ℕ) (old : State) (docs : List TableRow) → Stands old docs → (r : Result Bool Fault) (why : Error) → IsErrAnd r (λ e. e ≡ fault_of why)
+    → (took first [] → TookSome took last scan_text (Text coll ∷ []) old) → Visits took first last coll r docs docs
+visits_refused took first last coll old docs stands (Ok all) why is some = absurd is
+visits_refused took first last coll old docs stands (Err e) why is some = record {
+  same = refl;
+  whole = λ none. tt;
+  some = λ none. begun (some none);
+  faults = λ places. not_places why (sym is ∙ places);
+}
+  where
+    begun : TookSome took last scan_text (Text coll ∷ []) old → (taken : List (List ℕ)) × (rest : List (List ℕ)) × (taken ++ rest ≡ bodies_of coll docs) × took last taken
+    begun (rows, inl none, t) = ([], bodies_of coll docs, refl, subst (λ (rs : List Row). took last (map first_value rs)) none t)
+    begun (rows, inr given, t) = some_scan took last coll old docs (stands given.0) (rows, inr given, t)
+
+pub appends_err : (n : ℕ) (change : List TableRow → List TableRow) (docs : List TableRow) (r : Result (Unit {0}) Fault) (why : Error) → IsErrAnd r (λ e. e ≡ fault_of why) → AddsRows n change r docs docs
+appends_err n change docs (Ok u) why is = absurd is
+appends_err n change docs (Err e) why is = record { done = tt; room = tt; refused = refl; full = λ places. absurd (not_places why (sym is ∙ places)) }
+
+-- a row at the place after the greatest one that was read
+pub added_shows : (old mid new : State) (last place : ℤ) (coll idkey body : List ℕ) (docs : List TableRow) → IsUnchanged old mid → HoldsRows old docs → last ≡ last_place docs → place ≡ (last +ℤ pos 1)
+    → (HoldsRows mid docs → HoldsRows new (docs ++ record { place = place; coll = coll; idkey = idkey; body = body } ∷ [])) → HoldsRows new (with_row coll idkey body docs)
+added_shows old mid new last place coll idkey body docs u h greatest next added =
+    let is : place ≡ (last_place docs +ℤ pos 1) = next ∙ ap (λ (p : ℤ). p +ℤ pos 1) greatest in
+    subst (λ (p : ℤ). HoldsRows new (docs ++ record { place = p; coll = coll; idkey = idkey; body = body } ∷ [])) is (added (unchanged_shows old mid docs h u))

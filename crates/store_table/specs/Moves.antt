@@ -1,0 +1,98 @@
+-- What a call of the table does to its rows.
+use Rattle.std.specs.Prelude.{◌≡◌, ◌≢◌, ◌↔◌, ◌+ℤ◌, ◌<ℤ◌, ◌^◌, ◌++◌, ◌∷◌, [], ℕ, ℤ, pos, List, map, filter, find, Option, option_map, Result, Bool, IsTrue, IfOk, IfErr, OnOk, OnErr, Vec}
+use Rattle.std.specs.List.{list_any}
+use Rattle.std.specs.declared.alloc.Global.{Global}
+use Rattle.std.specs.BTreeSet.{BTreeSet}
+use Rattle.sqlite.specs.State.{State, HasCleanDisk}
+use Rattle.sqlite.specs.Tree.{Trees}
+use Rattle.store_table.specs.declared.fault.Fault.{Fault}
+use Rattle.store_table.specs.declared.fault.Fault.TheVariants.{Places}
+use Rattle.store_table.specs.declared.row.Found.{Found}
+use Rattle.store_table.specs.declared.row.NewRow.{NewRow}
+use Rattle.store_table.specs.Rows.{TableRow, HoldsRows, HasRows, is_row_named, is_in, last_place, docs_from}
+use Rattle.store_table.specs.Names.{has_name}
+
+-- what a connection shows while it is open
+abbrev pub Stands : State → List TableRow → Type 0
+Stands s docs = IsTrue s.is_open → HoldsRows s docs
+
+-- on a disk that returns what was written, rows that stood before are followed by rows that stand now, and the two are related so
+abbrev pub Moves : State → State → (List TableRow → List TableRow → Type 0) → Type 0
+Moves old new P = HasCleanDisk new → HasCleanDisk old × ((docs : List TableRow) → Stands old docs → (after : List TableRow) × Stands new after × P docs after)
+
+-- a call is accepted only on an open connection, which stays open
+abbrev pub WasOpen : {A E : Type 0} → State → State → Result A E → Type 0
+WasOpen old new result = HasCleanDisk new → (docs : List TableRow) → Stands old docs → OnOk result (IsTrue old.is_open × IsTrue new.is_open)
+
+-- a crash may leave the rows changed so
+abbrev pub MayLeave : (List TableRow → List TableRow) → State → Trees → Type 0
+MayLeave change old trees = (docs : List TableRow) → Stands old docs → HasRows trees (change docs)
+
+-- after a call that was accepted a crash leaves the rows changed so, and no others
+abbrev pub Settles : {A : Type 0} → (List TableRow → List TableRow) → State → State → Result A Fault → Type 0
+Settles change old new result = HasCleanDisk new → (docs : List TableRow) → Stands old docs → OnOk result ((db : Trees) → new.may_leave db → HasRows db (change docs))
+
+-- there are so many places after the greatest one
+abbrev pub IsRoomFor : ℕ → List TableRow → Type 0
+IsRoomFor n docs = (last_place docs +ℤ pos n) <ℤ pos (2 ^ 63)
+
+-- one more row, after the greatest place
+abbrev pub with_row : List ℕ → List ℕ → List ℕ → List TableRow → List TableRow
+with_row coll idkey body docs = docs ++ record { place = last_place docs +ℤ pos 1; coll = coll; idkey = idkey; body = body } ∷ []
+
+abbrev pub with_rows : List ℕ → List NewRow → List TableRow → List TableRow
+with_rows coll rows docs = docs ++ docs_from (last_place docs +ℤ pos 1) coll rows
+
+abbrev pub parts_of_found : Found → ℤ × List ℕ
+parts_of_found f = (f.place, f.body.items)
+
+abbrev pub parts_of_row : TableRow → ℤ × List ℕ
+parts_of_row d = (d.place, d.body)
+
+-- the first row with this collection and key is found, or that there is none
+pub record FindsRow (coll idkey : List ℕ) (result : Result (Option Found) Fault) (docs after : List TableRow) : Type 0 where
+  pub same : after ≡ docs
+  pub found : IfOk result (λ f. option_map parts_of_found f ≡ option_map parts_of_row (find (is_row_named coll idkey) docs))
+  pub faults : IfErr result (λ e. e ≢ Places)
+
+-- it is told whether there is no row
+pub record FindsNone (result : Result Bool Fault) (docs after : List TableRow) : Type 0 where
+  pub same : after ≡ docs
+  pub none : IfOk result (λ none. IsTrue none ↔ (docs ≡ []))
+  pub faults : IfErr result (λ e. e ≢ Places)
+
+-- the place of the first row with this collection and key is found, or that there is none
+pub record FindsPlace (coll idkey : List ℕ) (result : Result (Option ℤ) Fault) (docs after : List TableRow) : Type 0 where
+  pub same : after ≡ docs
+  pub found : IfOk result (λ p. p ≡ option_map (λ (d : TableRow). d.place) (find (is_row_named coll idkey) docs))
+  pub faults : IfErr result (λ e. e ≢ Places)
+
+-- the rows are changed so, or the call is refused
+pub record Changes (change : List TableRow → List TableRow) (result : Result (Unit {0}) Fault) (docs after : List TableRow) : Type 0 where
+  pub done : OnOk result (after ≡ change docs)
+  pub refused : OnErr result (after ≡ docs)
+  pub faults : IfErr result (λ e. e ≢ Places)
+
+-- so many rows come after the others, or the call is refused
+pub record AddsRows (n : ℕ) (change : List TableRow → List TableRow) (result : Result (Unit {0}) Fault) (docs after : List TableRow) : Type 0 where
+  pub done : OnOk result (after ≡ change docs)
+  pub room : OnOk result (IsRoomFor n docs)
+  pub refused : OnErr result (after ≡ docs)
+  pub full : IfErr result (λ e. e ≡ Places → ¬ IsRoomFor n docs)
+
+-- the collections that have a row
+pub record Lists (result : Result (BTreeSet (Vec ℕ Global)) Fault) (docs after : List TableRow) : Type 0 where
+  pub same : after ≡ docs
+  pub names : IfOk result (λ names. (c : List ℕ) → has_name names.keys c ≡ list_any (is_in c) docs)
+  pub faults : IfErr result (λ e. e ≢ Places)
+
+-- the bodies of a collection, in order of place
+abbrev pub bodies_of : List ℕ → List TableRow → List (List ℕ)
+bodies_of coll docs = map (λ (d : TableRow). d.body) (filter (is_in coll) docs)
+
+-- a visitor has taken the bodies of a collection in order, all of them or a beginning
+pub record Visits {V : Type 0} (took : V → List (List ℕ) → Type 0) (first last : V) (coll : List ℕ) (result : Result Bool Fault) (docs after : List TableRow) : Type 0 where
+  pub same : after ≡ docs
+  pub whole : took first [] → IfOk result (λ all. IsTrue all → took last (bodies_of coll docs))
+  pub some : took first [] → (taken : List (List ℕ)) × (rest : List (List ℕ)) × (taken ++ rest ≡ bodies_of coll docs) × took last taken
+  pub faults : IfErr result (λ e. e ≢ Places)

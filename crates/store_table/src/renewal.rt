@@ -1,0 +1,231 @@
+//! Rows under old keys, which get their keys of now.
+
+ghost use Rattle.std.specs.Prelude.{◌≡◌, ◌++◌, ◌∷◌, [], ℕ, List, Option, None, option_map, find, IfOk, IfErr, IsOk, IsTrue, MatchResult, Ok, Err, OnOk, OnErr};
+ghost use Rattle.store_table.specs.Cells.{doc_of};
+ghost use Rattle.sqlite.specs.Held.{state};
+ghost use Rattle.sqlite.specs.State.{HasCleanDisk, Survives, IsLive};
+ghost use Rattle.store_table.specs.Check.{AreGood, IsGoodAfter};
+ghost use Rattle.store_table.specs.Open.{IsSettled, KeepsAll, Reads, RefusesOpening};
+ghost use Rattle.store_table.specs.Rows.{TableRow, HasRows, HoldsRows, with_keys_at, is_row_named};
+ghost use Rattle.store_table.specs.Renewal.{HasPlaces, AcceptsOnce, IsOwn, AreRenewals, Renewed, Unrenewed, MayRenew, RenewsOld, AreGoodOnce, PassesOnce};
+
+use crate::check::{Own, RowCheck, TestsRows, judge, survey};
+use crate::opening::{OpenError, bytes_at, place_in, refusal};
+use crate::row::NewKey;
+use crate::sql;
+use crate::statements::rekey_all;
+use sqlite::{Alter, Connection, Error, Row};
+use std::alloc::{AllocError, Global};
+use std::collections::{BTreeMap, BTreeSet};
+
+/// Puts the place of a row under its key and its collection, and tells the place that stood there.
+pub(crate) fn meet_place(
+    places: &mut BTreeMap<(Vec<u8>, Vec<u8>), i64>,
+    alloc: Global,
+    coll: &[u8],
+    idkey: &[u8],
+    place: i64,
+) -> Result<Option<i64>, AllocError>
+    ensures met { (docs : List TableRow) → HasPlaces places.old docs → IfOk result (λ p. p ≡ option_map (λ (d : TableRow). d.place) (find (is_row_named coll.now idkey.now) docs)) }
+    ensures added { (docs : List TableRow) (d : TableRow) → HasPlaces places.old docs → d.coll ≡ coll.now → d.idkey ≡ idkey.now → d.place ≡ place
+        → IfOk result (λ p. p ≡ None → HasPlaces places.new (docs ++ d ∷ [])) }
+{
+    let key = Vec::from_slice(alloc, idkey)?;
+    let name = Vec::from_slice(alloc, coll)?;
+    let met = places.insert((key, name), place)?;
+    Ok(met)
+}
+
+/// What is known of the keys of now, of the rows so far.
+#[derive(Drop)]
+pub(crate) struct Renewals {
+    /// The place of each row under its key of now and its collection.
+    pub(crate) places: BTreeMap<(Vec<u8>, Vec<u8>), i64>,
+    /// The keys that take the place of others.
+    pub(crate) keys: Vec<NewKey>,
+    /// The first two places that have one collection and key of now.
+    pub(crate) twin: Option<(i64, i64)>,
+}
+
+impl Renewals {
+    /// Of no rows.
+    pub(crate) fn new(alloc: Global) -> Renewals
+        ensures twin { result.twin ≡ None }
+        ensures keys { result.keys.items ≡ [] }
+        ensures places { HasPlaces result.places [] }
+    {
+        Renewals {
+            places: BTreeMap::new(alloc),
+            keys: Vec::new(alloc),
+            twin: None,
+        }
+    }
+
+    /// Goes on by a row that has its own key, or the one from before in its place.
+    pub(crate) fn take<C: RowCheck>(
+        &mut self,
+        alloc: Global,
+        row: &Row,
+        check: &C,
+    ) -> Result<(), AllocError>
+        ensures { (docs : List TableRow) → IsGoodAfter (AcceptsOnce (C.renews check.now)) docs (doc_of row.now) → AreRenewals (IsOwn (C.renews check.now)) (C.renews check.now) docs self.old
+            → OnOk result (AreRenewals (IsOwn (C.renews check.now)) (C.renews check.now) (docs ++ doc_of row.now ∷ []) self.new) }
+    {
+        if self.twin.is_some() {
+            return Ok(());
+        }
+        let coll = bytes_at(row, 1);
+        let idkey = bytes_at(row, 2);
+        let Some(now) = check.renewed(coll, idkey, bytes_at(row, 3))? else {
+            return Ok(());
+        };
+        let place = place_in(row);
+        if let Some(first) = meet_place(&mut self.places, alloc, coll, now.as_slice(), place)? {
+            self.twin = Some((first, place));
+            return Ok(());
+        }
+        if now.as_slice() != idkey {
+            self.keys.push(NewKey { place, idkey: now })?;
+        }
+        Ok(())
+    }
+}
+
+impl Renewals {
+    /// Goes on by a row, unless something is wrong with it or one before it.
+    fn go_on<C: RowCheck>(
+        &mut self,
+        alloc: Global,
+        verdict: &Result<(), OpenError>,
+        row: &Row,
+        check: &C,
+    ) -> Result<(), AllocError>
+        ensures { (docs : List TableRow) → (IsOk verdict.now → IsGoodAfter (AcceptsOnce (C.renews check.now)) docs (doc_of row.now)) → (IsOk verdict.now → AreRenewals (IsOwn (C.renews check.now)) (C.renews check.now) docs self.old)
+            → OnOk result (IsOk verdict.now → AreRenewals (IsOwn (C.renews check.now)) (C.renews check.now) (docs ++ doc_of row.now ∷ []) self.new) }
+    {
+        if verdict.is_err() {
+            return Ok(());
+        }
+        self.take(alloc, row, check)
+    }
+}
+
+/// What is told where all rows were read.
+fn ended(verdict: Result<(), OpenError>, renewals: Renewals) -> Result<Renewals, OpenError>
+    ensures { MatchResult verdict (λ _. result ≡ Ok renewals) (λ e. result ≡ Err e) }
+{
+    match verdict {
+        Ok(()) => Ok(renewals),
+        Err(error) => Err(error),
+    }
+}
+
+/// The test of a row under its own key or the one from before.
+#[derive(Drop)]
+struct Once<'a, C: RowCheck> {
+    check: &'a C,
+}
+
+impl<C: RowCheck> TestsRows for Once<'_, C> {
+    ghost use Rattle.store_table.specs.Renewal.{AcceptsOnce};
+
+    ghost accepts = { λ once coll idkey body. AcceptsOnce (C.renews once.check.now) coll idkey body };
+
+    fn accepts_row(&self, coll: &[u8], idkey: &[u8], body: &[u8]) -> Result<bool, AllocError> {
+        Ok(self.check.renewed(coll, idkey, body)?.is_some())
+    }
+}
+
+/// Reads the whole table, tests each row under either key, and gathers the keys of now. Held are the names and keys of
+/// the rows before, and the keys that take the place of others.
+pub(crate) fn survey_old<S: Alter, C: RowCheck>(
+    alloc: Global,
+    conn: &mut Connection<S>,
+    check: &C,
+) -> Result<Renewals, OpenError>
+    ensures read { HasCleanDisk (state S.Store conn.new) → IfOk result (λ r. (docs : List TableRow) × Reads (state S.Store conn.old) (state S.Store conn.new) docs × AreGood (AcceptsOnce (C.renews check.now)) docs × AreRenewals (IsOwn (C.renews check.now)) (C.renews check.now) docs r) }
+    ensures refused { HasCleanDisk (state S.Store conn.new) → IfErr result (λ e. RefusesOpening (AcceptsOnce (C.renews check.now)) (state S.Store conn.old) (state S.Store conn.new) e) }
+    ensures kept { HasCleanDisk (state S.Store conn.new) → IsSettled (state S.Store conn.old)
+        → OnErr result (KeepsAll (state S.Store conn.old) (state S.Store conn.new)) }
+    ensures crash { Survives (state S.Store conn.old) (state S.Store conn.new) (λ _. ⊥) }
+{
+    let mut rows = match conn.query(sql::ALL_ROWS, &[]) {
+        Ok(rows) => rows,
+        Err(Error::SqlInputError(_)) => return Err(OpenError::NotAStore),
+        Err(error) => return Err(refusal(error)),
+    };
+    let mut seen = BTreeSet::new(alloc);
+    let mut renewals = Renewals::new(alloc);
+    let mut last = 0;
+    let mut verdict = Ok(());
+    'rows: for _ in 0..u64::MAX {
+        let row = match rows.next() {
+            Ok(Some(row)) => row,
+            Ok(None) => return ended(verdict, renewals),
+            Err(error) => return Err(refusal(error)),
+        };
+        verdict = match judge(alloc, &mut seen, last, verdict, row, &Once { check }) {
+            Ok(now) => now,
+            Err(_) => return Err(OpenError::Memory),
+        };
+        if renewals.go_on(alloc, &verdict, row, check).is_err() {
+            return Err(OpenError::Memory);
+        }
+        last = place_in(row);
+    }
+    Err(OpenError::Database)
+}
+
+/// Puts the keys at their places, in one transaction.
+fn write_keys<S: Alter>(conn: &mut Connection<S>, keys: &[NewKey]) -> Result<(), Error>
+    ensures done { HasCleanDisk (state S.Store conn.new) → (docs : List TableRow) → HoldsRows (state S.Store conn.old) docs
+        → OnOk result (HoldsRows (state S.Store conn.new) (with_keys_at keys.now docs)) }
+    ensures kept { HasCleanDisk (state S.Store conn.new) → IsSettled (state S.Store conn.old)
+        → OnErr result (KeepsAll (state S.Store conn.old) (state S.Store conn.new)) }
+    ensures crash { Survives (state S.Store conn.old) (state S.Store conn.new)
+        (λ trees. (docs : List TableRow) → HoldsRows (state S.Store conn.old) docs → HasRows trees (with_keys_at keys.now docs)) }
+{
+    rekey_all(conn, keys)
+}
+
+/// Replaces the keys from before by those of now: all of them, or none.
+pub(crate) fn renew<S: Alter, C: RowCheck>(
+    alloc: Global,
+    conn: &mut Connection<S>,
+    check: &C,
+) -> Result<(), OpenError>
+    ensures renewed { HasCleanDisk (state S.Store conn.new) → IsLive (state S.Store conn.old) → OnOk result (Renewed (IsOwn (C.renews check.now)) (C.renews check.now) (state S.Store conn.old) (state S.Store conn.new)) }
+    ensures read { HasCleanDisk (state S.Store conn.new) → OnOk result (AreGoodOnce (C.renews check.now) (state S.Store conn.old)) }
+    ensures refused { HasCleanDisk (state S.Store conn.new) → IfErr result (λ e. Unrenewed (IsOwn (C.renews check.now)) (C.renews check.now) (state S.Store conn.old) (state S.Store conn.new) e) }
+    ensures kept { HasCleanDisk (state S.Store conn.new) → IsSettled (state S.Store conn.old)
+        → OnErr result (KeepsAll (state S.Store conn.old) (state S.Store conn.new)) }
+    ensures crash { Survives (state S.Store conn.old) (state S.Store conn.new) (MayRenew (IsOwn (C.renews check.now)) (C.renews check.now) (state S.Store conn.old)) }
+{
+    let renewals = survey_old(alloc, conn, check)?;
+    if let Some((first, second)) = renewals.twin {
+        return Err(OpenError::IdsCollide(first, second));
+    }
+    match write_keys(conn, renewals.keys.as_slice()) {
+        Ok(()) => Ok(()),
+        Err(error) => Err(refusal(error)),
+    }
+}
+
+/// Tests the table, and replaces keys from before by those of now, where there are any.
+pub(crate) fn settle_keys<S: Alter, C: RowCheck>(
+    alloc: Global,
+    conn: &mut Connection<S>,
+    check: &C,
+) -> Result<(), OpenError>
+    ensures settled { HasCleanDisk (state S.Store conn.new) → IsLive (state S.Store conn.old) → OnOk result (Renewed (IsOwn (C.renews check.now)) (C.renews check.now) (state S.Store conn.old) (state S.Store conn.new)) }
+    ensures read { HasCleanDisk (state S.Store conn.new) → OnOk result (PassesOnce (C.renews check.now) (state S.Store conn.old) (state S.Store conn.new)) }
+    ensures refused { HasCleanDisk (state S.Store conn.new) → IfErr result (λ e. Unrenewed (IsOwn (C.renews check.now)) (C.renews check.now) (state S.Store conn.old) (state S.Store conn.new) e) }
+    ensures kept { HasCleanDisk (state S.Store conn.new) → IsSettled (state S.Store conn.old)
+        → OnErr result (KeepsAll (state S.Store conn.old) (state S.Store conn.new)) }
+    ensures crash { Survives (state S.Store conn.old) (state S.Store conn.new) (RenewsOld (C.renews check.now) (state S.Store conn.old)) }
+{
+    match survey(alloc, conn, &Own { check }) {
+        Err(OpenError::BadRow(_)) => renew(alloc, conn, check),
+        verdict => verdict,
+    }
+}

@@ -1,0 +1,12 @@
+//! Tests of the crates between raw documents and the table (bson_meaning, store_filter, store_documents, store_streams), where a
+//! line of `store_parts_cases` can't tell the case: inputs of millions of bytes or a thousand levels, and readers that go slowly or fail.
+#![tactic(auto)]
+
+#[cfg(test)]
+mod deep;
+#[cfg(test)]
+mod long;
+#[cfg(test)]
+mod orders;
+#[cfg(test)]
+mod readers;
