@@ -9,8 +9,8 @@ ghost use Rattle.bson_meaning.specs.Meaning.{norm, norm_items, norm_members};
 ghost use Rattle.bson_meaning.specs.Pairs.{normal_pair};
 ghost use Rattle.bson_meaning.specs.Sames.{IsScalar};
 
-use crate::scalars::{Zeros, normal_decimal, normal_double, normal_subtype};
 use crate::facts;
+use crate::scalars::{Zeros, normal_decimal, normal_double, normal_subtype};
 use bson_model::{Binary, Bson, Document, JavaScriptCodeWithScope, Regex};
 use std::alloc::{AllocError, Global};
 

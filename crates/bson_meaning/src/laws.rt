@@ -17,13 +17,13 @@ ghost use Rattle.bson_meaning.specs.Meaning.{norm_members_in_order, norm_in_orde
 ghost use Rattle.bson_meaning.specs.declared.key.KeyError.{KeyError as AnyKeyError};
 ghost use Rattle.bson_meaning.specs.declared.gating.GateError.{GateError as AnyGateError};
 
+pub use crate::facts::{soundness, soundness_of_document};
 use crate::gating::GateError;
 pub use crate::json_laws::{
     canonical_trees_read_back, normal_forms_are_written_alike, readings_are_sound,
     trees_go_by_meaning,
 };
 use crate::key::KeyError;
-pub use crate::facts::{soundness, soundness_of_document};
 use bson_model::Document;
 use bson_raw::RawDocumentBuf;
 use std::alloc::Global;

@@ -8,8 +8,8 @@ ghost use Rattle.bson_model.specs.View.{view, items_of, content};
 ghost use Rattle.bson_meaning.specs.Meaning.{norm, norm_items, norm_members, normal_scalar};
 ghost use Rattle.bson_meaning.specs.Sames.{IsScalar};
 
-use crate::scalars::normal_subtype;
 use crate::facts;
+use crate::scalars::normal_subtype;
 use bson_model::{Binary, BinarySubtype, Bson, Document, Regex};
 use itoa::Buffer;
 

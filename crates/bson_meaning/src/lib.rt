@@ -2,6 +2,7 @@
 #![tactic(auto)]
 
 mod compare;
+mod facts;
 mod forms;
 mod gating;
 pub mod json_laws;
@@ -13,7 +14,6 @@ mod options;
 mod plain;
 mod scalars;
 mod sorting;
-mod facts;
 mod views;
 mod writing;
 

@@ -3,13 +3,13 @@
 use crate::{getters, told};
 use bson_base::{BinarySubtype, SliceSource};
 use bson_bytes::put::{has_no_zero, put_length, write_binary, write_bytes};
+use bson_canonical::{is_written_form, written_element};
 use bson_meaning::{gate, same_as_raw};
 use bson_model::Bson;
 use bson_raw::{
     RawArray, RawArrayBuf, RawBson, RawBsonRef, RawDocument, RawDocumentBuf, RawElement,
     from_reader,
 };
-use bson_canonical::{is_written_form, written_element};
 use std::alloc::{AllocError, Global};
 use std::fmt;
 

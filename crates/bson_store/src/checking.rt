@@ -15,11 +15,11 @@ use crate::dump::refused_at;
 use crate::error::StoreError;
 use crate::store::{Store, good_name};
 use bson_model::extjson::Mode;
-use store_table::Visit;
 use sqlite::Alter;
 use std::alloc::Global;
 use store_documents::check_json;
 use store_model::ErrorKind;
+use store_table::Visit;
 
 /// Answers the place behind that of a body of the collection, if its document has a tree.
 fn pass(alloc: Global, body: &[u8], place: u64) -> Result<u64, StoreError>

@@ -16,12 +16,12 @@ ghost use Rattle.bson_store.specs.Refusals.{as_json_list, reply_by};
 use crate::error::StoreError;
 use crate::store::{Store, good_name};
 use bson_model::extjson::Mode;
-use store_table::Visit;
 use serde_json::Value;
 use sqlite::Alter;
 use std::alloc::Global;
 use store_documents::json_of_body;
 use store_model::ErrorKind;
+use store_table::Visit;
 
 /// What is done with the trees of a collection's documents, which come one at a time.
 pub trait TakeJson {

@@ -10,7 +10,11 @@ use std::alloc::{AllocError, Global};
 use store_table::Visit;
 
 /// Puts a copy of a body last.
-pub(crate) fn push_copy(bodies: &mut Vec<Vec<u8>>, alloc: Global, body: &[u8]) -> Result<(), AllocError>
+pub(crate) fn push_copy(
+    bodies: &mut Vec<Vec<u8>>,
+    alloc: Global,
+    body: &[u8],
+) -> Result<(), AllocError>
     ensures { OnOk result (bytes_of_each bodies.new.items ≡ bytes_of_each bodies.old.items ++ body.now ∷ []) }
 {
     let copy = Vec::from_slice(alloc, body)?;

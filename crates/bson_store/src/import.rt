@@ -25,13 +25,13 @@ use crate::error::StoreError;
 use crate::store::{Store, good_name};
 use bson_base::read_all;
 use bson_model::Source;
-use store_table::{Fault, NewRow};
 use serde_json::Value;
 use sqlite::Alter;
 use std::alloc::{AllocError, Global};
-use store_documents::{Name, KeptRow};
+use store_documents::{KeptRow, Name};
 use store_model::ErrorKind;
 use store_streams::{Keys, Loader, StreamError, first_repeated, judge_stream, judge_trees};
+use store_table::{Fault, NewRow};
 
 /// The rows of the documents of a stream.
 fn judged(alloc: Global, stream: &[u8]) -> Result<Vec<KeptRow<'_>>, StreamError>
@@ -109,7 +109,11 @@ impl<S: Alter + Drop> Store<S> {
 
     /// The place of the first row whose key is in the collection or that of a row before. In a table without rows no key
     /// is looked up.
-    fn first_taken(&mut self, collection: &str, rows: &[KeptRow<'_>]) -> Result<Option<u64>, StoreError>
+    fn first_taken(
+        &mut self,
+        collection: &str,
+        rows: &[KeptRow<'_>],
+    ) -> Result<Option<u64>, StoreError>
         ensures moves { Relates S.Store self.old self.new (FindsTaken collection.now rows.now result) }
         ensures open { HasCleanDisk (store_state S.Store self.new) → (docs : List TableRow) → Stands (store_state S.Store self.old) docs → IfOk result (λ _. IsTrue (store_state S.Store self.new).is_open → IsTrue (store_state S.Store self.old).is_open) }
         ensures crash { Survives (store_state S.Store self.old) (store_state S.Store self.new) (λ _. ⊥) }

@@ -14,11 +14,11 @@ ghost use Rattle.bson_store.specs.Refusals.{IsDenied};
 
 use crate::error::StoreError;
 use crate::export::push_copy;
-use store_filter::{Filter, project, selects};
 use bson_raw::RawDocument;
-use store_table::Visit;
 use std::alloc::{AllocError, Global};
+use store_filter::{Filter, project, selects};
 use store_model::ErrorKind;
+use store_table::Visit;
 
 /// What is kept of the documents that a filter selects.
 pub trait Take {

@@ -14,9 +14,9 @@ use crate::error::StoreError;
 use crate::names::names_of;
 use crate::picking::{Copies, Count, FilterVisitor, Projections, Take};
 use crate::store::{Store, good_name};
-use store_filter::Filter;
 use sqlite::Alter;
 use store_documents::Name;
+use store_filter::Filter;
 
 impl<S: Alter + Drop> Store<S> {
     /// The names that hold a document, ascending by their bytes.

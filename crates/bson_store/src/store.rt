@@ -29,15 +29,15 @@ use bson_bytes::put::has_no_zero;
 use bson_meaning::KeyError;
 use bson_model::extjson::Mode;
 use bson_model::{Bson, Sink};
-use store_table::{Fault, Found, Table};
 use serde_json::Value;
 use sqlite::{Alter, Connection};
 use std::alloc::Global;
 use store_documents::{
-    Name, KeptRow, json_of_body, key_of_id, value_of_json, row_of_bytes, row_of_json, body_with,
-    body_without,
+    KeptRow, Name, body_with, body_without, json_of_body, key_of_id, row_of_bytes, row_of_json,
+    value_of_json,
 };
 use store_model::ErrorKind;
+use store_table::{Fault, Found, Table};
 
 /// The name of a collection. BadName where it can't be one.
 pub(crate) fn good_name(name: &str) -> Result<Name<'_>, StoreError>

@@ -5,10 +5,10 @@
 mod database;
 
 use bson_store::Counted;
+use cli_pipe::pipe;
 use database::serve;
 use std::process::ExitCode;
 use std::{env, io};
-use cli_pipe::pipe;
 
 /// The words behind the program's name.
 fn words_of(rt: &HostRuntime) -> io::Result<Vec<String>> {

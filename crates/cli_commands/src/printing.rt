@@ -8,9 +8,9 @@ ghost use Rattle.cli_commands.specs.Execute.{IsFault};
 use crate::answer::Answer;
 use bson_base::write_all;
 use bson_store::{Sink, StoreError};
+use cli_words::{write_flag, write_line, write_number};
 use serde_json::Value;
 use std::alloc::Global;
-use cli_words::{write_flag, write_line, write_number};
 
 /// Writes a tree on one line.
 pub fn print_tree<O: Sink>(alloc: Global, tree: &Value, output: &mut O) -> Result<(), StoreError>

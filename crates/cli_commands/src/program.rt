@@ -13,12 +13,16 @@ use crate::printing::print;
 use crate::reads::{collections, count, dump, export, find, get};
 use crate::stop::Failure;
 use bson_store::{Sink, Source, Store};
+use cli_words::{Call, Words, write_complaint, write_refusal};
 use sqlite::Alter;
 use std::alloc::Global;
-use cli_words::{Call, Words, write_complaint, write_refusal};
 
 /// Prints what a command answers. Of one that isn't done nothing is printed.
-fn print_outcome<O: Sink>(alloc: Global, outcome: Result<Answer, Failure>, output: &mut O) -> Result<(), Failure>
+fn print_outcome<O: Sink>(
+    alloc: Global,
+    outcome: Result<Answer, Failure>,
+    output: &mut O,
+) -> Result<(), Failure>
     requires { CanRefuse (O.tally output.old) }
     ensures told { Tells outcome result (O.tally output.old).failures (O.tally output.new).failures }
     ensures unread { SilentUnread result output.old output.new }

@@ -14,12 +14,12 @@ ghost use Rattle.cli_commands.specs.Execute.{StopsFor, StopsLines};
 
 use crate::stop::{Failure, USAGE, refuse};
 use bson_base::{ReadAllError, read_all};
-use store_filter::Filter;
 use bson_store::extjson::Mode;
 use bson_store::{Bson, ErrorKind, Loader, Source};
+use cli_words::{RELAXED, TextError, UsageError, parse_json, read_filter, read_id, read_line};
 use serde_json::Value;
 use std::alloc::Global;
-use cli_words::{UsageError, RELAXED, TextError, read_filter, read_id, parse_json, read_line};
+use store_filter::Filter;
 
 /// The tree of a JSON text.
 pub fn json_of_text(alloc: Global, text: &str) -> Result<Value, Failure>

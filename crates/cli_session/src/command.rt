@@ -8,11 +8,11 @@ ghost use Rattle.cli_session.specs.Answering.{ComesOf, Grants, Obeys, ReadsLine}
 use crate::outcome::{Form, Outcome, form_of};
 use bson_base::{SliceSource, VecSink};
 use bson_store::Store;
+use cli_commands::execute;
 use cli_session_lines::{Kept, Line, Request, RequestError, read_request};
+use cli_words::{UsageError, read_words};
 use sqlite::Alter;
 use std::alloc::Global;
-use cli_commands::execute;
-use cli_words::{UsageError, read_words};
 
 /// The request of a line.
 fn request_of(alloc: Global, line: &Line) -> Result<Request, RequestError>

@@ -1,10 +1,10 @@
 //! Filters as JSON texts.
 
 use crate::texts::{TextError, parse_json};
-use store_filter::Filter;
 use bson_model::{Bson, ElementType};
 use serde_json::Value;
 use std::alloc::Global;
+use store_filter::Filter;
 
 /// The filter of a JSON text, an object with one key: `{"eq":[path,value]}`, `{"exists":path}`, `{"kind":[path,tag]}`,
 /// `{"not":filter}`, `{"and":[filter,..]}` or `{"or":[filter,..]}`. A path is an array of texts, a value Extended JSON, and a

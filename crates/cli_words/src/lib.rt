@@ -12,5 +12,5 @@ pub use call::{Call, RELAXED};
 pub use filter::read_filter;
 pub use input::{LinesError, read_line, read_lines};
 pub use lines::{UsageError, write_complaint, write_flag, write_line, write_number, write_refusal};
-pub use texts::{TextError, read_id, parse_json};
+pub use texts::{TextError, parse_json, read_id};
 pub use words::{Words, read_words};

@@ -3,9 +3,9 @@
 use crate::{bytes, trees};
 use bson_store::extjson::Mode;
 use bson_store::{Bson, Command};
+use cli_words::{read_filter, read_id};
 use serde_json::Value;
 use std::alloc::Global;
-use cli_words::{read_filter, read_id};
 
 /// What stands before the first bar, and what behind it.
 fn cut(text: &str) -> (&str, &str) {

@@ -3,11 +3,11 @@
 use crate::bytes;
 use bson_base::faulty::{FaultySink, FaultySource};
 use bson_store::{SliceSource, Store, VecSink};
+use cli_commands::execute;
+use cli_pipe::pipe;
+use cli_words::{Call, Words, read_words};
 use sqlite::Alter;
 use std::alloc::{AllocError, Global};
-use cli_pipe::pipe;
-use cli_commands::execute;
-use cli_words::{Call, Words, read_words};
 
 /// A line of words, and the devices that it is given.
 #[derive(Clone, Copy)]

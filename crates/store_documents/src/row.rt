@@ -50,7 +50,12 @@ fn outcome_of_refusal(kind: ErrorKind) -> Result<bool, AllocError>
 /// Whether a store can have written a row: `collection` is the name of a collection, `body` the written form of a document that is
 /// kept, and `key` the key of its `_id`. The error is a refused growth. A body that is seen to be a written form is gone over
 /// without a tree, and not written again.
-pub fn is_store_row(alloc: Global, collection: &[u8], key: &[u8], body: &[u8]) -> Result<bool, AllocError>
+pub fn is_store_row(
+    alloc: Global,
+    collection: &[u8],
+    key: &[u8],
+    body: &[u8],
+) -> Result<bool, AllocError>
     ensures { IfOk result (λ b. IsTrue b ↔ IsRow collection.now key.now body.now) }
 {
     if !is_text_of_name(collection) {
@@ -149,7 +154,12 @@ fn keyless(kind: ErrorKind) -> Result<RowKey, AllocError>
 
 /// The key of a row, held against the document in its body: the key of that document's `_id`, or the one that the `_id` had before
 /// the two zeros of a double meant the same. The error is a refused growth.
-pub fn key_of_row(alloc: Global, collection: &[u8], key: &[u8], body: &[u8]) -> Result<RowKey, AllocError>
+pub fn key_of_row(
+    alloc: Global,
+    collection: &[u8],
+    key: &[u8],
+    body: &[u8],
+) -> Result<RowKey, AllocError>
     ensures { IfOk result (TellsKey collection.now key.now body.now) }
 {
     if !is_text_of_name(collection) {

@@ -3,14 +3,14 @@
 use crate::{tell, told};
 use bson_model::Document;
 use bson_model::extjson::Mode;
+use cli_words::TextError;
 use serde_json::Value;
 use std::alloc::Global;
 use store_documents::{
-    Name, Unset, check_json, is_store_row, json_of_body, document_of_bytes, document_of_json, value_of_json, body_with,
-    body_without, row_of_document,
+    Name, Unset, body_with, body_without, check_json, document_of_bytes, document_of_json,
+    is_store_row, json_of_body, row_of_document, value_of_json,
 };
 use store_model::ErrorKind;
-use cli_words::TextError;
 
 /// The name of a collection.
 pub fn name(alloc: Global, rest: &str) -> Result<String, TextError> {

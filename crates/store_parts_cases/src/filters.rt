@@ -1,11 +1,11 @@
 //! Filters, paths and projections.
 
 use crate::{tell, told};
-use store_filter::{Filter, look_up, project, selects};
 use bson_model::Bson;
 use bson_raw::RawDocument;
-use std::alloc::Global;
 use cli_words::{TextError, read_filter};
+use std::alloc::Global;
+use store_filter::{Filter, look_up, project, selects};
 
 /// What a text reads as.
 pub fn filter(alloc: Global, text: &str) -> Result<String, TextError> {

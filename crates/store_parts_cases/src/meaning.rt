@@ -6,9 +6,9 @@ use bson_meaning::{
 };
 use bson_model::Bson;
 use bson_raw::{RawBsonRef, RawDocument};
+use cli_words::TextError;
 use std::alloc::Global;
 use store_documents::key_of_id;
-use cli_words::TextError;
 
 /// A case about a value.
 pub fn of_value(alloc: Global, word: &str, rest: &str) -> Result<String, TextError> {

@@ -1,7 +1,7 @@
 //! Streams of documents and lists of trees.
 
-use cli_words::{TextError, read_lines};
 use crate::{tell, told};
+use cli_words::{TextError, read_lines};
 use std::alloc::{AllocError, Global};
 use store_documents::KeptRow;
 use store_streams::{Keys, StreamError, judge_stream, judge_trees};

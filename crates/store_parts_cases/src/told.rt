@@ -2,7 +2,7 @@
 
 use bson_bytes::encode_document;
 use bson_model::{Binary, BinarySubtype, Bson, Decimal128, Document, DoubleBits, Regex};
-use cli_words::{TextError, read_id, parse_json};
+use cli_words::{TextError, parse_json, read_id};
 use hex::FromHex;
 use std::alloc::{AllocError, Global};
 use store_documents::document_of_bytes;

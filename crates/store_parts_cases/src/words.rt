@@ -2,12 +2,12 @@
 
 use crate::{tell, told};
 use bson_base::{DeviceFault, VecSink};
-use std::alloc::Global;
-use store_model::ErrorKind;
 use cli_words::{
-    UsageError, TextError, read_id, read_lines, read_words, write_complaint, write_flag,
+    TextError, UsageError, read_id, read_lines, read_words, write_complaint, write_flag,
     write_number, write_refusal,
 };
+use std::alloc::Global;
+use store_model::ErrorKind;
 
 /// The line of the table that words are.
 pub fn line(alloc: Global, rest: &str) -> Result<String, TextError> {

@@ -5,9 +5,9 @@
 
 use super::calls::{self, HasBody};
 use super::sessions::rows;
-use store_table::{OpenError, Table};
 use sqlite::{Alter, Connection};
 use std::alloc::{AllocError, Global};
+use store_table::{OpenError, Table};
 
 /// Behind the greatest bound that is tried.
 const MOST: u64 = 200;

@@ -1,10 +1,10 @@
 //! Calls of the table as words tell them. None of them owns a table: each would be proved anew to drop it.
 
 use super::answers::Answers;
-use store_table::{Fault, Found, NewRow, RowCheck, Table, Visit};
 use sqlite::Alter;
 use std::alloc::{AllocError, Global};
 use std::collections::BTreeSet;
+use store_table::{Fault, Found, NewRow, RowCheck, Table, Visit};
 
 /// A row is good where its body isn't empty, under any key, and keeps the key that it has.
 #[derive(Clone, Copy, Drop)]

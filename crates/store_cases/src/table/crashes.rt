@@ -6,10 +6,10 @@
 
 use super::calls::{self, HasBody};
 use super::sessions::rows;
-use store_table::Table;
 use sqlite::{Alter, Connection, FileStore, Files, Options};
 use sqlite_disk::{Crash, Disk, Fuse, Memory};
 use std::alloc::{AllocError, Global};
+use store_table::Table;
 
 /// The changes: two rows, another body, two rows at once, another body, a row less. A session of `stdin` tells their rows too.
 const CHANGES: [&str; 6] = [

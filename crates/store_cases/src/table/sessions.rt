@@ -2,9 +2,9 @@
 
 use super::answers::Answers;
 use super::calls::{self, HasBody};
-use store_table::{OpenError, Table};
 use sqlite::{Alter, Connection};
 use std::alloc::{AllocError, Global};
+use store_table::{OpenError, Table};
 
 /// The number that tells rows apart: how many there are, their places and the lengths of their bodies.
 const ROWS: &str =
