@@ -1,4 +1,4 @@
-use Rattle.std.proofs.Common.{◌≡◌, ◌∙◌, List, Option, Some, ℕ, ap, subst, sym, option_map}
+use Rattle.std.proofs.Common.{◌≡◌, Some, subst, option_map}
 use Rattle.bson_model.specs.JsonKeys.{of_double}
 use Rattle.bson_model.specs.JsonWrite.{double_text, text_wrapper}
 use Rattle.bson_text.specs.Prints.{AddsForm, tokens_of}
