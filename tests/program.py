@@ -36,6 +36,13 @@ def run_limited(program, limited, words, given):
     return done.returncode, done.stdout, done.stderr.decode()
 
 
+def run_full(*words, given=b""):
+    """The status and the error of the same with an output that takes nothing."""
+    with open("/dev/full", "wb") as output:
+        done = subprocess.run([PROGRAM, str(FILE), *words], input=given, stdout=output, stderr=subprocess.PIPE)
+    return done.returncode, done.stderr.decode()
+
+
 def run_within(limit, most, *words, given=b""):
     """The same of a process that may have so much of something. Where that is the size of a file, a write past it fails, as it does
     for the script bson_store, which ignores the signal."""
@@ -126,6 +133,17 @@ holds("unset", run("unset", "-c", "-2", "-k"), (0, b"true\n", ""))
 holds("unset again", run("unset", "-c", "-2", "-k"), (0, b"false\n", ""))
 holds("remove", run("remove", "-c", "-2"), (0, b"", ""))
 holds("replace", run("replace", "c", '{"_id":1}'), (0, b"", ""))
+
+# An output that takes nothing. A command that prints little meets that only as what was gathered goes out.
+before = rows()
+for words in [["get", "c", "1"], ["count", "c", '{"and":[]}'], ["export", "d"], ["dump", "d"], ["collections"]]:
+    holds(f"no output: {words[0]}", run_full(*words), (1, "refused: Writer\n"))
+holds("no output: another refusal", run_full("get", "c", "7"), (1, "refused: NotFound\n"))
+holds("no output: nothing to print", run_full("insert", "f", '{"_id":1}'), (0, ""))
+holds("no output: an import that is done", run_full("import", "f", given=bson.encode({"_id": 2})), (1, "refused: Writer\n"))
+holds("rows and two more", len(rows()), len(before) + 2)
+for place in "1", "2":
+    holds(f"remove {place}", run("remove", "f", place), (0, b"", ""))
 
 # A file that may not grow as far as an import would have it, and an input for which there is no memory.
 before = rows()

@@ -11,7 +11,7 @@ use std::io;
 use store_files::open;
 
 /// Tells a refusal, and answers the status of one.
-fn refuse<F: Sink>(faults: &mut F, kind: ErrorKind) -> u8
+pub fn refuse<F: Sink>(faults: &mut F, kind: ErrorKind) -> u8
     requires { CanRefuse (F.tally faults.old) }
 {
     let _ = write_refusal(faults, kind, None);

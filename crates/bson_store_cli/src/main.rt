@@ -2,13 +2,19 @@
 //! input, keeps it in a new store, and writes what the store exports to standard output.
 #![tactic(auto)]
 
+ghost use Rattle.std.specs.Prelude.{◌≡◌};
+
 mod database;
 
-use bson_store::Counted;
+use bson_store::{Counted, ErrorKind};
 use cli_pipe::pipe;
-use database::serve;
+use database::{refuse, serve};
+use std::io::{BufWriter, Write};
 use std::process::ExitCode;
 use std::{env, io};
+
+/// How many bytes of output are gathered before they go out.
+const OUTPUT_ROOM: usize = 65536;
 
 /// The words behind the program's name.
 fn words_of(rt: &HostRuntime) -> io::Result<Vec<String>> {
@@ -19,19 +25,39 @@ fn words_of(rt: &HostRuntime) -> io::Result<Vec<String>> {
     Ok(words)
 }
 
-fn main(rt: HostRuntime) -> ExitCode {
+/// Does what the words ask for, and returns the program's status.
+fn run<O: Write>(rt: &HostRuntime, output: &mut Counted<O>) -> u8
+    requires { output.old.failed ≡ 0 }
+{
     let mut input = Counted::new(rt.stdin());
-    let mut output = Counted::new(rt.stdout());
     let mut faults = Counted::new(rt.stderr());
-    let status = match words_of(&rt) {
+    match words_of(rt) {
         Ok(words) => {
             if words.is_empty() {
-                pipe(rt.alloc(), &mut input, &mut output, &mut faults)
+                pipe(rt.alloc(), &mut input, output, &mut faults)
             } else {
-                serve(&rt, words.as_slice(), &mut input, &mut output, &mut faults)
+                serve(rt, words.as_slice(), &mut input, output, &mut faults)
             }
         }
         Err(error) => database::misuse_or_memory(error, &mut faults),
+    }
+}
+
+/// Reports a refusal if nothing was reported yet, and returns the program's status.
+fn report(rt: &HostRuntime, kind: ErrorKind) -> u8 {
+    let mut faults = Counted::new(rt.stderr());
+    refuse(&mut faults, kind)
+}
+
+fn main(rt: HostRuntime) -> ExitCode {
+    let Ok(writer) = BufWriter::with_capacity(rt.alloc(), OUTPUT_ROOM, rt.stdout()) else {
+        return ExitCode::from(report(&rt, ErrorKind::Memory));
     };
-    ExitCode::from(status)
+    let mut output = Counted::new(writer);
+    let status = run(&rt, &mut output);
+    // What was gathered goes out only now. A failure here is one of the output, like any write's before it.
+    match output.device.flush() {
+        Err(_) if status == 0 => ExitCode::from(report(&rt, ErrorKind::Writer)),
+        _ => ExitCode::from(status),
+    }
 }
