@@ -4,16 +4,14 @@ ghost use Rattle.std.specs.Prelude.{IfOk, Option, Result};
 ghost use Rattle.bson_frame.specs.Frame.{Element};
 ghost use Rattle.bson_frame.specs.declared.error.ErrorKind.{ErrorKind as Kind};
 ghost use Rattle.bson_raw.specs.Walk.{IsFound};
+ghost use Rattle.bson_raw.specs.declared.bson_ref.RawBsonRef.{RawBsonRef as AnyValue};
 ghost use Rattle.bson_raw.specs.Read.{GetAnswer};
 ghost use Rattle.bson_raw.specs.Access.{AccessAnswer, any_value, HasNoWant, IsAccessRefusal, asked_text};
-ghost use Rattle.bson_raw.specs.ReadValue.{as_f64, as_str, as_document, as_array, as_binary, as_object_id, as_bool, as_datetime, as_regex, as_timestamp, as_i32, as_i64};
 ghost use Rattle.std.specs.Prelude.{◌≡◌, string_bytes};
 
-use crate::array::RawArray;
-use crate::bson_ref::{RawBinaryRef, RawBsonRef, RawRegexRef};
-use crate::document::RawDocument;
+use crate::bson_ref::RawBsonRef;
 use crate::element::RawElement;
-use bson_base::{DateTime, DoubleBits, ObjectId, Timestamp};
+use crate::kinds::OfKind;
 use bson_frame::{Error, ErrorKind, ValueAccessError, ValueAccessErrorKind, ValueAccessResult};
 use std::alloc::{AllocError, Global};
 
@@ -82,194 +80,23 @@ fn present<'a>(
     }
 }
 
-/// The value that was read, if it is a double.
-pub(crate) fn take_f64<'a>(
+/// What is taken of the value that was read, if it is of its kind.
+pub(crate) fn of_kind<'a, T: OfKind, F: FnOnce(RawBsonRef<'a>) -> Option<T>>(
     alloc: Global,
     asked: Asked<'_>,
     read: Result<Option<RawBsonRef<'a>>, Error>,
-) -> ValueAccessResult<DoubleBits>
+    take: F,
+) -> ValueAccessResult<T>
+    requires callable { F.IsAlwaysCallable take }
+    requires of_kind { (v : AnyValue) (taken : Option T) → F.post take v taken → taken ≡ T.as_kind v }
     ensures { (f : Option (Result Element Kind)) → GetAnswer f read.entry
-        → AccessAnswer as_f64 (asked_text asked.entry) f result }
+        → AccessAnswer T.as_kind (asked_text asked.entry) f result }
 {
     match present(alloc, asked, read) {
-        Ok(RawBsonRef::Double(value)) => Ok(value),
-        Ok(_) => Err(asked.refusal(alloc, ValueAccessErrorKind::UnexpectedType)),
-        Err(e) => Err(e),
-    }
-}
-
-/// The value that was read, if it is a text.
-pub(crate) fn take_str<'a>(
-    alloc: Global,
-    asked: Asked<'_>,
-    read: Result<Option<RawBsonRef<'a>>, Error>,
-) -> ValueAccessResult<&'a str>
-    ensures { (f : Option (Result Element Kind)) → GetAnswer f read.entry
-        → AccessAnswer as_str (asked_text asked.entry) f result }
-{
-    match present(alloc, asked, read) {
-        Ok(RawBsonRef::String(value)) => Ok(value),
-        Ok(_) => Err(asked.refusal(alloc, ValueAccessErrorKind::UnexpectedType)),
-        Err(e) => Err(e),
-    }
-}
-
-/// The value that was read, if it is a document.
-pub(crate) fn take_document<'a>(
-    alloc: Global,
-    asked: Asked<'_>,
-    read: Result<Option<RawBsonRef<'a>>, Error>,
-) -> ValueAccessResult<RawDocument<'a>>
-    ensures { (f : Option (Result Element Kind)) → GetAnswer f read.entry
-        → AccessAnswer as_document (asked_text asked.entry) f result }
-{
-    match present(alloc, asked, read) {
-        Ok(RawBsonRef::Document(value)) => Ok(value),
-        Ok(_) => Err(asked.refusal(alloc, ValueAccessErrorKind::UnexpectedType)),
-        Err(e) => Err(e),
-    }
-}
-
-/// The value that was read, if it is an array.
-pub(crate) fn take_array<'a>(
-    alloc: Global,
-    asked: Asked<'_>,
-    read: Result<Option<RawBsonRef<'a>>, Error>,
-) -> ValueAccessResult<RawArray<'a>>
-    ensures { (f : Option (Result Element Kind)) → GetAnswer f read.entry
-        → AccessAnswer as_array (asked_text asked.entry) f result }
-{
-    match present(alloc, asked, read) {
-        Ok(RawBsonRef::Array(value)) => Ok(value),
-        Ok(_) => Err(asked.refusal(alloc, ValueAccessErrorKind::UnexpectedType)),
-        Err(e) => Err(e),
-    }
-}
-
-/// The value that was read, if it is a binary value.
-pub(crate) fn take_binary<'a>(
-    alloc: Global,
-    asked: Asked<'_>,
-    read: Result<Option<RawBsonRef<'a>>, Error>,
-) -> ValueAccessResult<RawBinaryRef<'a>>
-    ensures { (f : Option (Result Element Kind)) → GetAnswer f read.entry
-        → AccessAnswer as_binary (asked_text asked.entry) f result }
-{
-    match present(alloc, asked, read) {
-        Ok(RawBsonRef::Binary(value)) => Ok(value),
-        Ok(_) => Err(asked.refusal(alloc, ValueAccessErrorKind::UnexpectedType)),
-        Err(e) => Err(e),
-    }
-}
-
-/// The value that was read, if it is an object id.
-pub(crate) fn take_object_id<'a>(
-    alloc: Global,
-    asked: Asked<'_>,
-    read: Result<Option<RawBsonRef<'a>>, Error>,
-) -> ValueAccessResult<ObjectId>
-    ensures { (f : Option (Result Element Kind)) → GetAnswer f read.entry
-        → AccessAnswer as_object_id (asked_text asked.entry) f result }
-{
-    match present(alloc, asked, read) {
-        Ok(RawBsonRef::ObjectId(value)) => Ok(value),
-        Ok(_) => Err(asked.refusal(alloc, ValueAccessErrorKind::UnexpectedType)),
-        Err(e) => Err(e),
-    }
-}
-
-/// The value that was read, if it is a boolean.
-pub(crate) fn take_bool<'a>(
-    alloc: Global,
-    asked: Asked<'_>,
-    read: Result<Option<RawBsonRef<'a>>, Error>,
-) -> ValueAccessResult<bool>
-    ensures { (f : Option (Result Element Kind)) → GetAnswer f read.entry
-        → AccessAnswer as_bool (asked_text asked.entry) f result }
-{
-    match present(alloc, asked, read) {
-        Ok(RawBsonRef::Boolean(value)) => Ok(value),
-        Ok(_) => Err(asked.refusal(alloc, ValueAccessErrorKind::UnexpectedType)),
-        Err(e) => Err(e),
-    }
-}
-
-/// The value that was read, if it is a moment.
-pub(crate) fn take_datetime<'a>(
-    alloc: Global,
-    asked: Asked<'_>,
-    read: Result<Option<RawBsonRef<'a>>, Error>,
-) -> ValueAccessResult<DateTime>
-    ensures { (f : Option (Result Element Kind)) → GetAnswer f read.entry
-        → AccessAnswer as_datetime (asked_text asked.entry) f result }
-{
-    match present(alloc, asked, read) {
-        Ok(RawBsonRef::DateTime(value)) => Ok(value),
-        Ok(_) => Err(asked.refusal(alloc, ValueAccessErrorKind::UnexpectedType)),
-        Err(e) => Err(e),
-    }
-}
-
-/// The value that was read, if it is a regular expression.
-pub(crate) fn take_regex<'a>(
-    alloc: Global,
-    asked: Asked<'_>,
-    read: Result<Option<RawBsonRef<'a>>, Error>,
-) -> ValueAccessResult<RawRegexRef<'a>>
-    ensures { (f : Option (Result Element Kind)) → GetAnswer f read.entry
-        → AccessAnswer as_regex (asked_text asked.entry) f result }
-{
-    match present(alloc, asked, read) {
-        Ok(RawBsonRef::RegularExpression(value)) => Ok(value),
-        Ok(_) => Err(asked.refusal(alloc, ValueAccessErrorKind::UnexpectedType)),
-        Err(e) => Err(e),
-    }
-}
-
-/// The value that was read, if it is a timestamp.
-pub(crate) fn take_timestamp<'a>(
-    alloc: Global,
-    asked: Asked<'_>,
-    read: Result<Option<RawBsonRef<'a>>, Error>,
-) -> ValueAccessResult<Timestamp>
-    ensures { (f : Option (Result Element Kind)) → GetAnswer f read.entry
-        → AccessAnswer as_timestamp (asked_text asked.entry) f result }
-{
-    match present(alloc, asked, read) {
-        Ok(RawBsonRef::Timestamp(value)) => Ok(value),
-        Ok(_) => Err(asked.refusal(alloc, ValueAccessErrorKind::UnexpectedType)),
-        Err(e) => Err(e),
-    }
-}
-
-/// The value that was read, if it is an integer of 32 bits.
-pub(crate) fn take_i32<'a>(
-    alloc: Global,
-    asked: Asked<'_>,
-    read: Result<Option<RawBsonRef<'a>>, Error>,
-) -> ValueAccessResult<i32>
-    ensures { (f : Option (Result Element Kind)) → GetAnswer f read.entry
-        → AccessAnswer as_i32 (asked_text asked.entry) f result }
-{
-    match present(alloc, asked, read) {
-        Ok(RawBsonRef::Int32(value)) => Ok(value),
-        Ok(_) => Err(asked.refusal(alloc, ValueAccessErrorKind::UnexpectedType)),
-        Err(e) => Err(e),
-    }
-}
-
-/// The value that was read, if it is an integer of 64 bits.
-pub(crate) fn take_i64<'a>(
-    alloc: Global,
-    asked: Asked<'_>,
-    read: Result<Option<RawBsonRef<'a>>, Error>,
-) -> ValueAccessResult<i64>
-    ensures { (f : Option (Result Element Kind)) → GetAnswer f read.entry
-        → AccessAnswer as_i64 (asked_text asked.entry) f result }
-{
-    match present(alloc, asked, read) {
-        Ok(RawBsonRef::Int64(value)) => Ok(value),
-        Ok(_) => Err(asked.refusal(alloc, ValueAccessErrorKind::UnexpectedType)),
+        Ok(value) => match take(value) {
+            Some(taken) => Ok(taken),
+            None => Err(asked.refusal(alloc, ValueAccessErrorKind::UnexpectedType)),
+        },
         Err(e) => Err(e),
     }
 }

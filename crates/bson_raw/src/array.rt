@@ -1,6 +1,6 @@
 //! Arrays as views over their bytes.
 
-ghost use Rattle.std.specs.Prelude.{◌≡◌, ◌↔◌, [], IsTrue, List, Result, drop, Some, None};
+ghost use Rattle.std.specs.Prelude.{◌≡◌, ◌↔◌, [], IsTrue, List, Option, Result, drop, Some, None};
 ghost use Rattle.std.specs.Iterator.{Drains};
 ghost use Rattle.std.specs.Fmt.{decimal};
 ghost use Rattle.bson_frame.specs.declared.error.Error.{Error as Fault};
@@ -12,6 +12,7 @@ use crate::bson_ref::{RawBinaryRef, RawBsonRef, RawRegexRef};
 use crate::convert::{array_of, elements};
 use crate::document::RawDocument;
 use crate::element::RawElement;
+use crate::kinds::OfKind;
 use bson_base::{DateTime, DoubleBits, ObjectId, Timestamp};
 use bson_frame::{Error, ValueAccessResult};
 use bson_model::{Array, STACK_LEVELS};
@@ -76,6 +77,20 @@ impl<'a> RawArray<'a> {
         access::read(alloc, self.item_at(index))
     }
 
+    /// What is taken of the value at the place, if it is of its kind.
+    fn of_kind<T: OfKind, F: FnOnce(RawBsonRef<'a>) -> Option<T>>(
+        self,
+        alloc: Global,
+        index: usize,
+        take: F,
+    ) -> ValueAccessResult<T>
+        requires callable { F.IsAlwaysCallable take }
+        requires of_kind { (v : AnyValue) (taken : Option T) → F.post take v taken → taken ≡ T.as_kind v }
+        ensures { OnWalk (array_bytes self.entry) (λ elements fault. AccessAnswer T.as_kind (decimal index) (found_at index elements fault) result) }
+    {
+        access::of_kind(alloc, Asked::Place(index), self.get(alloc, index), take)
+    }
+
     /// The double at the place, counted from 0. The key of an error is the place in decimal.
     ///
     /// `NotPresent` past the end, `UnexpectedType` where a value of another kind stands, `InvalidBson` where `get` answers a
@@ -83,7 +98,7 @@ impl<'a> RawArray<'a> {
     pub fn get_f64(self, alloc: Global, index: usize) -> ValueAccessResult<DoubleBits>
         ensures { OnWalk (array_bytes self.entry) (λ elements fault. AccessAnswer as_f64 (decimal index) (found_at index elements fault) result) }
     {
-        access::take_f64(alloc, Asked::Place(index), self.get(alloc, index))
+        self.of_kind(alloc, index, RawBsonRef::as_f64)
     }
 
     /// The text at the place, counted from 0. The key of an error is the place in decimal.
@@ -93,7 +108,7 @@ impl<'a> RawArray<'a> {
     pub fn get_str(self, alloc: Global, index: usize) -> ValueAccessResult<&'a str>
         ensures { OnWalk (array_bytes self.entry) (λ elements fault. AccessAnswer as_str (decimal index) (found_at index elements fault) result) }
     {
-        access::take_str(alloc, Asked::Place(index), self.get(alloc, index))
+        self.of_kind(alloc, index, RawBsonRef::as_str)
     }
 
     /// The document at the place, counted from 0. The key of an error is the place in decimal.
@@ -103,7 +118,7 @@ impl<'a> RawArray<'a> {
     pub fn get_document(self, alloc: Global, index: usize) -> ValueAccessResult<RawDocument<'a>>
         ensures { OnWalk (array_bytes self.entry) (λ elements fault. AccessAnswer as_document (decimal index) (found_at index elements fault) result) }
     {
-        access::take_document(alloc, Asked::Place(index), self.get(alloc, index))
+        self.of_kind(alloc, index, RawBsonRef::as_document)
     }
 
     /// The array at the place, counted from 0. The key of an error is the place in decimal.
@@ -113,7 +128,7 @@ impl<'a> RawArray<'a> {
     pub fn get_array(self, alloc: Global, index: usize) -> ValueAccessResult<RawArray<'a>>
         ensures { OnWalk (array_bytes self.entry) (λ elements fault. AccessAnswer as_array (decimal index) (found_at index elements fault) result) }
     {
-        access::take_array(alloc, Asked::Place(index), self.get(alloc, index))
+        self.of_kind(alloc, index, RawBsonRef::as_array)
     }
 
     /// The binary value at the place, counted from 0. The key of an error is the place in decimal.
@@ -123,7 +138,7 @@ impl<'a> RawArray<'a> {
     pub fn get_binary(self, alloc: Global, index: usize) -> ValueAccessResult<RawBinaryRef<'a>>
         ensures { OnWalk (array_bytes self.entry) (λ elements fault. AccessAnswer as_binary (decimal index) (found_at index elements fault) result) }
     {
-        access::take_binary(alloc, Asked::Place(index), self.get(alloc, index))
+        self.of_kind(alloc, index, RawBsonRef::as_binary)
     }
 
     /// The object id at the place, counted from 0. The key of an error is the place in decimal.
@@ -133,7 +148,7 @@ impl<'a> RawArray<'a> {
     pub fn get_object_id(self, alloc: Global, index: usize) -> ValueAccessResult<ObjectId>
         ensures { OnWalk (array_bytes self.entry) (λ elements fault. AccessAnswer as_object_id (decimal index) (found_at index elements fault) result) }
     {
-        access::take_object_id(alloc, Asked::Place(index), self.get(alloc, index))
+        self.of_kind(alloc, index, RawBsonRef::as_object_id)
     }
 
     /// The boolean at the place, counted from 0. The key of an error is the place in decimal.
@@ -143,7 +158,7 @@ impl<'a> RawArray<'a> {
     pub fn get_bool(self, alloc: Global, index: usize) -> ValueAccessResult<bool>
         ensures { OnWalk (array_bytes self.entry) (λ elements fault. AccessAnswer as_bool (decimal index) (found_at index elements fault) result) }
     {
-        access::take_bool(alloc, Asked::Place(index), self.get(alloc, index))
+        self.of_kind(alloc, index, RawBsonRef::as_bool)
     }
 
     /// The moment at the place, counted from 0. The key of an error is the place in decimal.
@@ -153,7 +168,7 @@ impl<'a> RawArray<'a> {
     pub fn get_datetime(self, alloc: Global, index: usize) -> ValueAccessResult<DateTime>
         ensures { OnWalk (array_bytes self.entry) (λ elements fault. AccessAnswer as_datetime (decimal index) (found_at index elements fault) result) }
     {
-        access::take_datetime(alloc, Asked::Place(index), self.get(alloc, index))
+        self.of_kind(alloc, index, RawBsonRef::as_datetime)
     }
 
     /// The regular expression at the place, counted from 0. The key of an error is the place in decimal.
@@ -163,7 +178,7 @@ impl<'a> RawArray<'a> {
     pub fn get_regex(self, alloc: Global, index: usize) -> ValueAccessResult<RawRegexRef<'a>>
         ensures { OnWalk (array_bytes self.entry) (λ elements fault. AccessAnswer as_regex (decimal index) (found_at index elements fault) result) }
     {
-        access::take_regex(alloc, Asked::Place(index), self.get(alloc, index))
+        self.of_kind(alloc, index, RawBsonRef::as_regex)
     }
 
     /// The timestamp at the place, counted from 0. The key of an error is the place in decimal.
@@ -173,7 +188,7 @@ impl<'a> RawArray<'a> {
     pub fn get_timestamp(self, alloc: Global, index: usize) -> ValueAccessResult<Timestamp>
         ensures { OnWalk (array_bytes self.entry) (λ elements fault. AccessAnswer as_timestamp (decimal index) (found_at index elements fault) result) }
     {
-        access::take_timestamp(alloc, Asked::Place(index), self.get(alloc, index))
+        self.of_kind(alloc, index, RawBsonRef::as_timestamp)
     }
 
     /// The integer of 32 bits at the place, counted from 0. The key of an error is the place in decimal.
@@ -183,7 +198,7 @@ impl<'a> RawArray<'a> {
     pub fn get_i32(self, alloc: Global, index: usize) -> ValueAccessResult<i32>
         ensures { OnWalk (array_bytes self.entry) (λ elements fault. AccessAnswer as_i32 (decimal index) (found_at index elements fault) result) }
     {
-        access::take_i32(alloc, Asked::Place(index), self.get(alloc, index))
+        self.of_kind(alloc, index, RawBsonRef::as_i32)
     }
 
     /// The integer of 64 bits at the place, counted from 0. The key of an error is the place in decimal.
@@ -193,7 +208,7 @@ impl<'a> RawArray<'a> {
     pub fn get_i64(self, alloc: Global, index: usize) -> ValueAccessResult<i64>
         ensures { OnWalk (array_bytes self.entry) (λ elements fault. AccessAnswer as_i64 (decimal index) (found_at index elements fault) result) }
     {
-        access::take_i64(alloc, Asked::Place(index), self.get(alloc, index))
+        self.of_kind(alloc, index, RawBsonRef::as_i64)
     }
 }
 

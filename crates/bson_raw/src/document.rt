@@ -13,6 +13,7 @@ use crate::bson_ref::{RawBinaryRef, RawBsonRef, RawRegexRef};
 use crate::convert::{document_of, elements};
 use crate::element::RawElement;
 use crate::iter::Iter;
+use crate::kinds::OfKind;
 use crate::raw_iter::RawIter;
 use bson_base::{DateTime, DoubleBits, ObjectId, Timestamp};
 use bson_frame::{Error, ErrorKind, ValueAccessResult, is_envelope};
@@ -37,7 +38,7 @@ impl<'a> RawDocument<'a> {
     ghost use Rattle.bson_raw.specs.declared.bson_ref.RawBsonRef.{RawBsonRef as AnyValue};
     ghost use Rattle.bson_raw.specs.declared.element.RawElement.{RawElement as Item};
     ghost use Rattle.std.specs.Borrow.{Bor};
-    ghost use Rattle.std.specs.Prelude.{ℕ};
+    ghost use Rattle.std.specs.Prelude.{ℕ, Option};
 
     /// The view of these bytes. `MalformedValue`, under no key, where they aren't at least 5, don't declare their own number
     /// or don't end in 00.
@@ -116,6 +117,20 @@ impl<'a> RawDocument<'a> {
         access::read(alloc, self.find(key))
     }
 
+    /// What is taken of the value under the key, if it is of its kind.
+    fn of_kind<T: OfKind, F: FnOnce(RawBsonRef<'a>) -> Option<T>>(
+        self,
+        alloc: Global,
+        key: &str,
+        take: F,
+    ) -> ValueAccessResult<T>
+        requires callable { F.IsAlwaysCallable take }
+        requires of_kind { (v : AnyValue) (taken : Option T) → F.post take v taken → taken ≡ T.as_kind v }
+        ensures { OnWalk (bytes_of self.entry) (λ elements fault. AccessAnswer T.as_kind key.now (found_under key.now elements fault) result) }
+    {
+        access::of_kind(alloc, Asked::Key(key), self.get(alloc, key), take)
+    }
+
     /// The double under the key.
     ///
     /// `NotPresent` where no element has the key, `UnexpectedType` where the first one has a value of another kind, `InvalidBson`
@@ -123,7 +138,7 @@ impl<'a> RawDocument<'a> {
     pub fn get_f64(self, alloc: Global, key: &str) -> ValueAccessResult<DoubleBits>
         ensures { OnWalk (bytes_of self.entry) (λ elements fault. AccessAnswer as_f64 key.now (found_under key.now elements fault) result) }
     {
-        access::take_f64(alloc, Asked::Key(key), self.get(alloc, key))
+        self.of_kind(alloc, key, RawBsonRef::as_f64)
     }
 
     /// The text under the key.
@@ -133,7 +148,7 @@ impl<'a> RawDocument<'a> {
     pub fn get_str(self, alloc: Global, key: &str) -> ValueAccessResult<&'a str>
         ensures { OnWalk (bytes_of self.entry) (λ elements fault. AccessAnswer as_str key.now (found_under key.now elements fault) result) }
     {
-        access::take_str(alloc, Asked::Key(key), self.get(alloc, key))
+        self.of_kind(alloc, key, RawBsonRef::as_str)
     }
 
     /// The document under the key.
@@ -143,7 +158,7 @@ impl<'a> RawDocument<'a> {
     pub fn get_document(self, alloc: Global, key: &str) -> ValueAccessResult<RawDocument<'a>>
         ensures { OnWalk (bytes_of self.entry) (λ elements fault. AccessAnswer as_document key.now (found_under key.now elements fault) result) }
     {
-        access::take_document(alloc, Asked::Key(key), self.get(alloc, key))
+        self.of_kind(alloc, key, RawBsonRef::as_document)
     }
 
     /// The array under the key.
@@ -153,7 +168,7 @@ impl<'a> RawDocument<'a> {
     pub fn get_array(self, alloc: Global, key: &str) -> ValueAccessResult<RawArray<'a>>
         ensures { OnWalk (bytes_of self.entry) (λ elements fault. AccessAnswer as_array key.now (found_under key.now elements fault) result) }
     {
-        access::take_array(alloc, Asked::Key(key), self.get(alloc, key))
+        self.of_kind(alloc, key, RawBsonRef::as_array)
     }
 
     /// The binary value under the key.
@@ -163,7 +178,7 @@ impl<'a> RawDocument<'a> {
     pub fn get_binary(self, alloc: Global, key: &str) -> ValueAccessResult<RawBinaryRef<'a>>
         ensures { OnWalk (bytes_of self.entry) (λ elements fault. AccessAnswer as_binary key.now (found_under key.now elements fault) result) }
     {
-        access::take_binary(alloc, Asked::Key(key), self.get(alloc, key))
+        self.of_kind(alloc, key, RawBsonRef::as_binary)
     }
 
     /// The object id under the key.
@@ -173,7 +188,7 @@ impl<'a> RawDocument<'a> {
     pub fn get_object_id(self, alloc: Global, key: &str) -> ValueAccessResult<ObjectId>
         ensures { OnWalk (bytes_of self.entry) (λ elements fault. AccessAnswer as_object_id key.now (found_under key.now elements fault) result) }
     {
-        access::take_object_id(alloc, Asked::Key(key), self.get(alloc, key))
+        self.of_kind(alloc, key, RawBsonRef::as_object_id)
     }
 
     /// The boolean under the key.
@@ -183,7 +198,7 @@ impl<'a> RawDocument<'a> {
     pub fn get_bool(self, alloc: Global, key: &str) -> ValueAccessResult<bool>
         ensures { OnWalk (bytes_of self.entry) (λ elements fault. AccessAnswer as_bool key.now (found_under key.now elements fault) result) }
     {
-        access::take_bool(alloc, Asked::Key(key), self.get(alloc, key))
+        self.of_kind(alloc, key, RawBsonRef::as_bool)
     }
 
     /// The moment under the key.
@@ -193,7 +208,7 @@ impl<'a> RawDocument<'a> {
     pub fn get_datetime(self, alloc: Global, key: &str) -> ValueAccessResult<DateTime>
         ensures { OnWalk (bytes_of self.entry) (λ elements fault. AccessAnswer as_datetime key.now (found_under key.now elements fault) result) }
     {
-        access::take_datetime(alloc, Asked::Key(key), self.get(alloc, key))
+        self.of_kind(alloc, key, RawBsonRef::as_datetime)
     }
 
     /// The regular expression under the key.
@@ -203,7 +218,7 @@ impl<'a> RawDocument<'a> {
     pub fn get_regex(self, alloc: Global, key: &str) -> ValueAccessResult<RawRegexRef<'a>>
         ensures { OnWalk (bytes_of self.entry) (λ elements fault. AccessAnswer as_regex key.now (found_under key.now elements fault) result) }
     {
-        access::take_regex(alloc, Asked::Key(key), self.get(alloc, key))
+        self.of_kind(alloc, key, RawBsonRef::as_regex)
     }
 
     /// The timestamp under the key.
@@ -213,7 +228,7 @@ impl<'a> RawDocument<'a> {
     pub fn get_timestamp(self, alloc: Global, key: &str) -> ValueAccessResult<Timestamp>
         ensures { OnWalk (bytes_of self.entry) (λ elements fault. AccessAnswer as_timestamp key.now (found_under key.now elements fault) result) }
     {
-        access::take_timestamp(alloc, Asked::Key(key), self.get(alloc, key))
+        self.of_kind(alloc, key, RawBsonRef::as_timestamp)
     }
 
     /// The integer of 32 bits under the key.
@@ -223,7 +238,7 @@ impl<'a> RawDocument<'a> {
     pub fn get_i32(self, alloc: Global, key: &str) -> ValueAccessResult<i32>
         ensures { OnWalk (bytes_of self.entry) (λ elements fault. AccessAnswer as_i32 key.now (found_under key.now elements fault) result) }
     {
-        access::take_i32(alloc, Asked::Key(key), self.get(alloc, key))
+        self.of_kind(alloc, key, RawBsonRef::as_i32)
     }
 
     /// The integer of 64 bits under the key.
@@ -233,7 +248,7 @@ impl<'a> RawDocument<'a> {
     pub fn get_i64(self, alloc: Global, key: &str) -> ValueAccessResult<i64>
         ensures { OnWalk (bytes_of self.entry) (λ elements fault. AccessAnswer as_i64 key.now (found_under key.now elements fault) result) }
     {
-        access::take_i64(alloc, Asked::Key(key), self.get(alloc, key))
+        self.of_kind(alloc, key, RawBsonRef::as_i64)
     }
 }
 

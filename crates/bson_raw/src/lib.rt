@@ -20,6 +20,7 @@ mod from;
 mod from_owned;
 mod from_trees;
 mod iter;
+mod kinds;
 pub mod laws;
 mod owned;
 mod raw_iter;
