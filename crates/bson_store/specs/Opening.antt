@@ -6,7 +6,7 @@ use Rattle.store_table.specs.Rows.{TableRow, HoldsRows, IsBlank}
 use Rattle.store_table.specs.Open.{HasNoTable}
 use Rattle.store_table.specs.Beside.{StandsBeside}
 use Rattle.store_table.specs.Renewal.{Unopened, PassesOnce}
-use Rattle.store_table.specs.Schema.{documents_schema}
+use Rattle.store_table.specs.Schema.{HasStoreTable}
 use Rattle.store_table.specs.declared.opening.OpenError.{OpenError}
 use Rattle.store_documents.specs.Bodies.{IsRow}
 use Rattle.store_model.specs.Table.{DocumentTable, own_id}
@@ -33,7 +33,7 @@ pub record Opens (old new : State) : Type 0 where
   pub made : IsBlank old → HoldsRows new []
   pub beside : HasNoTable old → StandsBeside old new
   pub found : (docs : List TableRow) → HoldsRows old docs → (after : List TableRow) × HoldsRows new after × StandFor docs after
-  pub listed : old.now.schema ≡ documents_schema → (docs : List TableRow) × (after : List TableRow) × HoldsRows old docs × HoldsRows new after × StandFor docs after
+  pub listed : HasStoreTable old.now.schema → (docs : List TableRow) × (after : List TableRow) × HoldsRows old docs × HoldsRows new after × StandFor docs after
   pub other : HasNoTable old ⊎ PassesOnce IsRowUnder old new
   pub unwritten : (docs : List TableRow) → HoldsRows old docs → RepresentsSome docs → IsUnchanged old new
 

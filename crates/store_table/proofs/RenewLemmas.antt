@@ -18,7 +18,7 @@ use Rattle.store_table.specs.Open.{all_text, Reads, ReadsNot, RefusesOpening, Pa
 use Rattle.store_table.specs.Rows.{TableRow, HasRows, HoldsRows, with_keys_at}
 use Rattle.store_table.specs.Renewal.{IsOwn, AreRenewed, AcceptsOnce, AreRenewals, Renewed, Unrenewed, MayRenew, RenewsOld, AreGoodOnce, PassesOnce}
 use Rattle.store_table.proofs.ListedLemmas.{listed_shows}
-use Rattle.store_table.proofs.StatementLemmas.{unchanged_shows, unchanged_keeps, keeps_then, settled_still}
+use Rattle.store_table.proofs.StatementLemmas.{unchanged_shows, unchanged_keeps, keeps_then, settled_still, seen}
 use Rattle.store_table.proofs.UniqueLemmas.{one_list}
 use Rattle.store_table.proofs.RenewalLemmas.{apart_yet, twin_of}
 
@@ -76,8 +76,8 @@ module _ (accepts : List ℕ → List ℕ → List ℕ → Type 0) (renews : Lis
     nothing_written = unchanged_keeps old mid f.reads.unchanged
 
     same : IsLive old → (ds : List TableRow) → HoldsRows old ds → ds ≡ f.docs
-    same live ds shows = one_list mid.now.trees ds f.docs (unchanged_shows old mid ds shows f.reads.unchanged).table
-        (listed_shows (AcceptsOnce renews) old mid f.docs shows.schema (live shows.is_open).0 shows.autocommit shows.settled f.reads f.good).table
+    same live ds shows = one_list mid.now ds f.docs (unchanged_shows old mid ds shows f.reads.unchanged).table
+        (listed_shows (AcceptsOnce renews) old mid f.docs ((seen shows.table).place, (seen shows.table).tree, (seen shows.table).stands) (live shows.is_open).0 shows.autocommit shows.settled f.reads f.good).table
 
     there : IsLive old → (ds : List TableRow) → HoldsRows old ds → HoldsRows mid f.docs
     there live ds shows = subst (HoldsRows mid) (same live ds shows) (unchanged_shows old mid ds shows f.reads.unchanged)
@@ -113,7 +113,7 @@ module _ (renews : List ℕ → List ℕ → List ℕ → List ℕ → Type 0) (
   pub passed_renewed : IsLive old → PassesOpening (IsOwn renews) old new → Renewed (IsOwn renews) renews old new
   passed_renewed live p ds shows =
       let still = unchanged_shows old new ds shows p.1.unchanged in
-      let same : ds ≡ p.0 = one_list new.now.trees ds p.0 still.table (listed_shows (IsOwn renews) old new p.0 shows.schema (live shows.is_open).0 shows.autocommit shows.settled p.1 p.2).table in
+      let same : ds ≡ p.0 = one_list new.now ds p.0 still.table (listed_shows (IsOwn renews) old new p.0 ((seen shows.table).place, (seen shows.table).tree, (seen shows.table).stands) (live shows.is_open).0 shows.autocommit shows.settled p.1 p.2).table in
       (p.0, subst (HoldsRows new) same still, subst (λ xs. AreRenewed renews xs p.0) (sym same) (own_renewed renews [] p.0 p.2), p.2)
 
   pub unrenewed_by : (r : Result (Unit {0}) OpenError) → ((place : ℤ) → r ≡ Err (BadRow place) → ⊥) → IfErr r (RefusesOpening (IsOwn renews) old new) → IfErr r (Unrenewed (IsOwn renews) renews old new)

@@ -7,6 +7,7 @@ use Rattle.sqlite.specs.Tree.{Trees}
 use Rattle.store_table.specs.declared.row.NewRow.{NewRow}
 use Rattle.store_table.specs.Rows.{TableRow, AreBelow, HasRows, Inside, HoldsRows, docs_from}
 use Rattle.std.proofs.Common.{OnOk}
+use Rattle.store_table.proofs.StatementLemmas.{trees_have}
 use Rattle.store_table.proofs.ManyLemmas.{next_rows, below_rows, doc_at, committed_shows}
 use Rattle.store_table.proofs.statements.add_all.Goals as goal
 
@@ -50,7 +51,7 @@ returns-clause-crash g c =
     let P = λ (trees : Trees). (docs : List TableRow) → HoldsRows old docs → HasRows trees (docs ++ docs_from (c.args.last +ℤ pos 1) c.args.coll.now rows) in
     let whole = survives_then old last (state g.S.Store end) _ _ P (λ _ db none. absurd none)
     (λ clean db is docs shows. subst (λ (trees : Trees). HasRows trees (docs ++ docs_from (c.args.last +ℤ pos 1) c.args.coll.now rows)) (sym is) (subst₂ (λ (q : ℤ) (rs : List NewRow). HasRows last.now.trees (docs ++ docs_from q c.args.coll.now rs)) same all
-    (h.inside (omega (arith, clean, c.commit.ensures.survives.clean)) docs shows).table)) h.survives c.commit.ensures.survives in
+    (trees_have last.now _ (h.inside (omega (arith, clean, c.commit.ensures.survives.clean)) docs shows).table))) h.survives c.commit.ensures.survives in
     let it : end ≡ c.conn-2-1.given.0 = search rules in
     subst (λ k. Survives old (state g.S.Store k) P) it whole
 

@@ -6,6 +6,7 @@ use Rattle.sqlite.specs.Tree.{Trees}
 use Rattle.store_table.specs.declared.row.NewKey.{NewKey}
 use Rattle.store_table.specs.Rows.{TableRow, HasRows, Inside, HoldsRows, with_keys_at}
 use Rattle.store_table.proofs.KeyLemmas.{all_but_one, same_rekey, committed_then}
+use Rattle.store_table.proofs.StatementLemmas.{trees_have}
 use Rattle.store_table.proofs.ManyLemmas.{committed_shows}
 use Rattle.store_table.proofs.statements.rekey_all.Goals as goal
 
@@ -41,7 +42,7 @@ returns-clause-crash g c =
     let P = λ (trees : Trees). (docs : List TableRow) → HoldsRows old docs → HasRows trees (with_keys_at keys docs) in
     let whole = survives_then old last (state g.S.Store end) _ _ P (λ _ db none. absurd none)
     (λ clean db is docs shows. subst (λ (trees : Trees). HasRows trees (with_keys_at keys docs)) (sym is) (subst (λ (ks : List NewKey). HasRows last.now.trees (with_keys_at ks docs)) all
-    (h.inside (omega (arith, clean, c.commit.ensures.survives.clean)) docs shows).table)) h.survives c.commit.ensures.survives in
+    (trees_have last.now _ (h.inside (omega (arith, clean, c.commit.ensures.survives.clean)) docs shows).table))) h.survives c.commit.ensures.survives in
     let it : end ≡ c.conn-2-1.given.0 = search rules in
     subst (λ k. Survives old (state g.S.Store k) P) it whole
 
