@@ -63,7 +63,7 @@ fn perform_and_print<S: Alter + Drop, I: Source, O: Sink>(
         Call::Count => print_outcome(alloc, count(alloc, store, name, rest), output),
         Call::Import => print_outcome(alloc, import(store, name, rest, input), output),
         Call::Export => export(store, name, rest, output),
-        Call::Dump => dump(alloc, store, name, rest, output),
+        Call::Dump => dump(store, name, rest, output),
         Call::Load => print_outcome(alloc, load(alloc, store, name, rest, input), output),
         Call::Collections => print_outcome(alloc, collections(store, name, rest), output),
     }

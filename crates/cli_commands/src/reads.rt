@@ -87,7 +87,6 @@ pub fn count<S: Alter + Drop>(
 /// `dump COLL`: the documents as canonical Extended JSON, which go out one a line. A document that has no such form is told before
 /// anything is printed: the collection is gone through twice, with one document held at a time.
 pub fn dump<S: Alter + Drop, O: Sink>(
-    alloc: Global,
     store: &mut Store<S>,
     name: &str,
     words: &[String],
@@ -105,10 +104,9 @@ pub fn dump<S: Alter + Drop, O: Sink>(
     }
     let printer = Printer {
         output,
-        alloc,
         failed: false,
     };
-    match store.each_json(name, printer) {
+    match store.each_text(name, printer) {
         // What is taken out of the printer is known to be the output that went in.
         Ok(printer) => {
             let _output = printer.output;

@@ -20,16 +20,16 @@ returns-in_err-taken-clause-moves g c =
     let e = c.in_err-taken.field-0.0 in
     let p = err_from_is_err_and c.from_residual.result c.from_residual.ensures.1 in
     rw (p.1, p.2)
-    (moved (store_state g.S.Store c.args.self.now) (store_state g.S.Store c.first_taken.new.self) (FindsTaken n rows (Err e)) (AddsAll n rows (Err e)) (rw c.as_str-coll.ensures.text at c.in_err-taken.ensures.moves)
-    (λ docs after h. unadded docs after n rows e (rw c.as_str-coll.ensures.text at c.as_str-coll.ensures.named) h))
+    (moved (store_state g.S.Store c.args.self.now) (store_state g.S.Store c.first_taken.new.self) (FindsTaken n rows (Err e)) (AddsAll n rows (Err e)) (rw c.as_str-collection.ensures.text at c.in_err-taken.ensures.moves)
+    (λ docs after h. unadded docs after n rows e (rw c.as_str-collection.ensures.text at c.as_str-collection.ensures.named) h))
 
 pub returns-in-Some-clause-moves : goal.returns-in-Some-clause-moves
 returns-in-Some-clause-moves g c =
     let n = name_bytes c.args.name in
     let rows = c.args.rows.now in
     let o = c.in_ok-taken.taken in
-    moved (store_state g.S.Store c.args.self.now) (store_state g.S.Store c.first_taken.new.self) (FindsTaken n rows (Ok o)) (AddsAll n rows (Err c.duplicate.result)) (rw c.as_str-coll.ensures.text at c.in_ok-taken.ensures.moves)
-    (λ docs after h. add_refused docs after n rows o c.in-Some.document c.duplicate.result (rw c.as_str-coll.ensures.text at c.as_str-coll.ensures.named) c.in-Some.is c.duplicate.ensures h)
+    moved (store_state g.S.Store c.args.self.now) (store_state g.S.Store c.first_taken.new.self) (FindsTaken n rows (Ok o)) (AddsAll n rows (Err c.duplicate.result)) (rw c.as_str-collection.ensures.text at c.in_ok-taken.ensures.moves)
+    (λ docs after h. add_refused docs after n rows o c.in-Some.document c.duplicate.result (rw c.as_str-collection.ensures.text at c.as_str-collection.ensures.named) c.in-Some.is c.duplicate.ensures h)
 
 pub returns-in_err-new-clause-moves : goal.returns-in_err-new-clause-moves
 returns-in_err-new-clause-moves g c =
@@ -39,8 +39,8 @@ returns-in_err-new-clause-moves g c =
     let e = refusal (kind_of_fault faults.Memory) in
     let p = err_from_is_err_and c.from_residual-in_err-new.result c.from_residual-in_err-new.ensures.1 in
     rw (p.1, p.2)
-    (moved (store_state g.S.Store c.args.self.now) (store_state g.S.Store c.first_taken.new.self) (FindsTaken n rows (Ok o)) (AddsAll n rows (Err e)) (rw c.as_str-coll.ensures.text at c.in_ok-taken.ensures.moves)
-    (λ docs after h. add_wants docs after n rows o e (rw c.as_str-coll.ensures.text at c.as_str-coll.ensures.named) refl h))
+    (moved (store_state g.S.Store c.args.self.now) (store_state g.S.Store c.first_taken.new.self) (FindsTaken n rows (Ok o)) (AddsAll n rows (Err e)) (rw c.as_str-collection.ensures.text at c.in_ok-taken.ensures.moves)
+    (λ docs after h. add_wants docs after n rows o e (rw c.as_str-collection.ensures.text at c.as_str-collection.ensures.named) refl h))
 
 pub returns-in_err-write_all-clause-moves : goal.returns-in_err-write_all-clause-moves
 returns-in_err-write_all-clause-moves g c =
@@ -52,8 +52,8 @@ returns-in_err-write_all-clause-moves g c =
     let p = err_from_is_err_and c.from_residual-in_err-write_all.result c.from_residual-in_err-write_all.ensures.1 in
     rw (p.1, p.2)
     (moved_twice (store_state g.S.Store c.args.self.now) (store_state g.S.Store c.first_taken.new.self) (store_state g.S.Store c.write_all.new.self) (FindsTaken n rows (Ok o)) (AddsRows (length c.in_ok-new.new.items) (with_rows n c.in_ok-new.new.items) (Err x)) (AddsAll n rows (Err e))
-    (rw c.as_str-coll.ensures.text at c.in_ok-taken.ensures.moves) (rw (c.as_str-coll.ensures.text, c.as_slice.ensures.value) at c.in_err-write_all.ensures.moves)
-    (λ docs mid after h l. not_added docs mid after n c.in_ok-new.new.items rows o x e c.in_ok-new.ensures (rw c.as_str-coll.ensures.text at c.as_str-coll.ensures.named) c.in_default.is refl h l))
+    (rw c.as_str-collection.ensures.text at c.in_ok-taken.ensures.moves) (rw (c.as_str-collection.ensures.text, c.as_slice.ensures.value) at c.in_err-write_all.ensures.moves)
+    (λ docs mid after h l. not_added docs mid after n c.in_ok-new.new.items rows o x e c.in_ok-new.ensures (rw c.as_str-collection.ensures.text at c.as_str-collection.ensures.named) c.in_default.is refl h l))
 
 pub returns-clause-moves : goal.returns-clause-moves
 returns-clause-moves g c =
@@ -61,8 +61,8 @@ returns-clause-moves g c =
     let rows = c.args.rows.now in
     let o = c.in_ok-taken.taken in
     moved_twice (store_state g.S.Store c.args.self.now) (store_state g.S.Store c.first_taken.new.self) (store_state g.S.Store c.write_all.new.self) (FindsTaken n rows (Ok o)) (AddsRows (length c.in_ok-new.new.items) (with_rows n c.in_ok-new.new.items) (Ok tt)) (AddsAll n rows (Ok c.len.result))
-    (rw c.as_str-coll.ensures.text at c.in_ok-taken.ensures.moves) (rw (c.as_str-coll.ensures.text, c.as_slice.ensures.value) at c.in_ok-write_all.ensures.moves)
-    (λ docs mid after h l. added docs mid after n c.in_ok-new.new.items rows o c.len.result c.in_ok-new.ensures (rw c.as_str-coll.ensures.text at c.as_str-coll.ensures.named) (rw c.as_str-coll.ensures.text at c.as_str-coll.utf8) c.in_default.is
+    (rw c.as_str-collection.ensures.text at c.in_ok-taken.ensures.moves) (rw (c.as_str-collection.ensures.text, c.as_slice.ensures.value) at c.in_ok-write_all.ensures.moves)
+    (λ docs mid after h l. added docs mid after n c.in_ok-new.new.items rows o c.len.result c.in_ok-new.ensures (rw c.as_str-collection.ensures.text at c.as_str-collection.ensures.named) (rw c.as_str-collection.ensures.text at c.as_str-collection.utf8) c.in_default.is
     (c.len.ensures ∙ c.in_ok-new.new.ok.0) h l)
 
 pub returns-in_err-write_all-clause-crash : goal.returns-in_err-write_all-clause-crash
@@ -75,10 +75,10 @@ returns-in_err-write_all-clause-crash g c ds read fit written =
     let o = c.in_ok-taken.taken in
     let p = err_from_is_err_and c.from_residual-in_err-write_all.result c.from_residual-in_err-write_all.ensures.1 in
     rw (p.1, p.2)
-    (denied_leaves s m t (on n (import ds None)) (with_rows n c.in_ok-new.new.items) (FindsTaken n rows (Ok o)) (rw c.as_str-coll.ensures.text at c.in_ok-taken.ensures.moves)
+    (denied_leaves s m t (on n (import ds None)) (with_rows n c.in_ok-new.new.items) (FindsTaken n rows (Ok o)) (rw c.as_str-collection.ensures.text at c.in_ok-taken.ensures.moves)
     (λ docs after h. h.same) c.in_ok-taken.ensures.crash
-    (λ docs after h. rows_make docs n ds c.in_ok-new.new.items rows c.in_ok-new.ensures (rw c.as_str-coll.ensures.text at c.as_str-coll.ensures.named) (rw c.as_str-coll.ensures.text at c.as_str-coll.utf8) (record { read = read; fit = fit; rows = written }) (sym c.in_default.is ∙ h.place))
-    c.in_err-write_all.field-0.0 (rw (c.as_str-coll.ensures.text, c.as_slice.ensures.value) at c.in_err-write_all.ensures.crash) (λ e. c.in_err-write_all.ensures.full (ap Err e)))
+    (λ docs after h. rows_make docs n ds c.in_ok-new.new.items rows c.in_ok-new.ensures (rw c.as_str-collection.ensures.text at c.as_str-collection.ensures.named) (rw c.as_str-collection.ensures.text at c.as_str-collection.utf8) (record { read = read; fit = fit; rows = written }) (sym c.in_default.is ∙ h.place))
+    c.in_err-write_all.field-0.0 (rw (c.as_str-collection.ensures.text, c.as_slice.ensures.value) at c.in_err-write_all.ensures.crash) (λ e. c.in_err-write_all.ensures.full (ap Err e)))
 
 pub returns-clause-crash : goal.returns-clause-crash
 returns-clause-crash g c ds read fit written =

@@ -18,20 +18,20 @@ use Rattle.sqlite.specs.State.{HasCleanDisk}
 pub returns-in_err-found-clause-moves : goal.returns-in_err-found-clause-moves
 returns-in_err-found-clause-moves g c d read told =
     let p = err_from_is_err_and c.from_residual.result c.from_residual.ensures.1 in
-    rw (p.1, p.2) (unfound_replace (store_state g.S.Store c.args.self.now) (table_state g.S.Store c.named.new.self) (name_bytes c.args.name) d c.args.row.now c.in_err-found.field-0.0 (rw c.as_str-coll.ensures.text at c.as_str-coll.ensures.named) read told (rw (c.as_str-coll.ensures.text, c.as_slice-key.ensures.value) at c.in_err-found.ensures.moves))
+    rw (p.1, p.2) (unfound_replace (store_state g.S.Store c.args.self.now) (table_state g.S.Store c.named.new.self) (name_bytes c.args.name) d c.args.row.now c.in_err-found.field-0.0 (rw c.as_str-collection.ensures.text at c.as_str-collection.ensures.named) read told (rw (c.as_str-collection.ensures.text, c.as_slice-key.ensures.value) at c.in_err-found.ensures.moves))
 
 pub returns-in_default-clause-moves : goal.returns-in_default-clause-moves
 returns-in_default-clause-moves g c d read told =
-    rw c.from.ensures (none_replace (store_state g.S.Store c.args.self.now) (table_state g.S.Store c.named.new.self) (name_bytes c.args.name) d c.args.row.now c.in_ok-found.field-0 (rw c.as_str-coll.ensures.text at c.as_str-coll.ensures.named) read told c.in_default.is (rw (c.as_str-coll.ensures.text, c.as_slice-key.ensures.value) at c.in_ok-found.ensures.moves))
+    rw c.from.ensures (none_replace (store_state g.S.Store c.args.self.now) (table_state g.S.Store c.named.new.self) (name_bytes c.args.name) d c.args.row.now c.in_ok-found.field-0 (rw c.as_str-collection.ensures.text at c.as_str-collection.ensures.named) read told c.in_default.is (rw (c.as_str-collection.ensures.text, c.as_slice-key.ensures.value) at c.in_ok-found.ensures.moves))
 
 pub returns-in_err-put_back-clause-moves : goal.returns-in_err-put_back-clause-moves
 returns-in_err-put_back-clause-moves g c d read told =
     let p = err_from_is_err_and c.from_residual-in_err-put_back.result c.from_residual-in_err-put_back.ensures.1 in
-    rw (p.1, p.2) (not_place_moves (store_state g.S.Store c.args.self.now) (table_state g.S.Store c.named.new.self) (store_state g.S.Store c.put_back.new.self) (name_bytes c.args.name) d c.args.row.now c.in_ok-found.field-0 c.in-Some.found c.in_err-put_back.field-0.0 (rw c.as_str-coll.ensures.text at c.as_str-coll.ensures.named) read told c.in-Some.is (rw (c.as_str-coll.ensures.text, c.as_slice-key.ensures.value) at c.in_ok-found.ensures.moves) (rw c.as_slice-body.ensures.value at c.in_err-put_back.ensures.moves))
+    rw (p.1, p.2) (not_place_moves (store_state g.S.Store c.args.self.now) (table_state g.S.Store c.named.new.self) (store_state g.S.Store c.put_back.new.self) (name_bytes c.args.name) d c.args.row.now c.in_ok-found.field-0 c.in-Some.found c.in_err-put_back.field-0.0 (rw c.as_str-collection.ensures.text at c.as_str-collection.ensures.named) read told c.in-Some.is (rw (c.as_str-collection.ensures.text, c.as_slice-key.ensures.value) at c.in_ok-found.ensures.moves) (rw c.as_slice-body.ensures.value at c.in_err-put_back.ensures.moves))
 
 pub returns-clause-moves : goal.returns-clause-moves
 returns-clause-moves g c d read told =
-    place_moves (store_state g.S.Store c.args.self.now) (table_state g.S.Store c.named.new.self) (store_state g.S.Store c.put_back.new.self) (name_bytes c.args.name) d c.args.row.now c.in_ok-found.field-0 c.in-Some.found (rw c.as_str-coll.ensures.text at c.as_str-coll.ensures.named) read told c.in-Some.is (rw (c.as_str-coll.ensures.text, c.as_slice-key.ensures.value) at c.in_ok-found.ensures.moves) (rw c.as_slice-body.ensures.value at c.in_ok-put_back.ensures.moves)
+    place_moves (store_state g.S.Store c.args.self.now) (table_state g.S.Store c.named.new.self) (store_state g.S.Store c.put_back.new.self) (name_bytes c.args.name) d c.args.row.now c.in_ok-found.field-0 c.in-Some.found (rw c.as_str-collection.ensures.text at c.as_str-collection.ensures.named) read told c.in-Some.is (rw (c.as_str-collection.ensures.text, c.as_slice-key.ensures.value) at c.in_ok-found.ensures.moves) (rw c.as_slice-body.ensures.value at c.in_ok-put_back.ensures.moves)
 
 pub returns-in_err-put_back-clause-crash : goal.returns-in_err-put_back-clause-crash
 returns-in_err-put_back-clause-crash g c d read told f =
@@ -43,9 +43,9 @@ returns-in_err-put_back-clause-crash g c d read told f =
     let x = c.in-Some.found in
     let p = err_from_is_err_and c.from_residual-in_err-put_back.result c.from_residual-in_err-put_back.ensures.1 in
     rw (p.1, p.2)
-    (changed_leaves s m t (on n (replace f (readable d))) (with_body_at x.place (cow_slice_items w.body)) (FindsRow n w.key.items (Ok c.in_ok-found.field-0)) (rw (c.as_str-coll.ensures.text, c.as_slice-key.ensures.value) at c.in_ok-found.ensures.moves)
+    (changed_leaves s m t (on n (replace f (readable d))) (with_body_at x.place (cow_slice_items w.body)) (FindsRow n w.key.items (Ok c.in_ok-found.field-0)) (rw (c.as_str-collection.ensures.text, c.as_slice-key.ensures.value) at c.in_ok-found.ensures.moves)
     (λ docs after h. h.same) c.in_ok-found.ensures.crash
-    (λ docs after h. row_replaces f docs after n w.key.items (cow_slice_items w.body) d c.in_ok-found.field-0 x (rw c.as_str-coll.ensures.text at c.as_str-coll.ensures.named) (written_fits d w read told) c.in-Some.is h)
+    (λ docs after h. row_replaces f docs after n w.key.items (cow_slice_items w.body) d c.in_ok-found.field-0 x (rw c.as_str-collection.ensures.text at c.as_str-collection.ensures.named) (written_fits d w read told) c.in-Some.is h)
     c.in_err-put_back.field-0.0 (rw c.as_slice-body.ensures.value at c.in_err-put_back.ensures.crash) (rw c.as_slice-body.ensures.value at c.in_err-put_back.ensures.moves))
 
 pub returns-clause-crash : goal.returns-clause-crash

@@ -18,4 +18,4 @@ returns-in-Err-TooLong-clause-moves g c =
 
 pub returns-clause-moves : goal.returns-clause-moves
 returns-clause-moves g c =
-    moved (store_state g.S.Store c.args.self.now) (table_state g.S.Store c.named.new.self) _ (Looks (name_bytes c.args.name) (view c.args.id.now) (Ok c.in_ok-found.found)) (rw (c.as_str-coll.ensures.text, c.as_slice-key.ensures.value) at c.in_ok-found.ensures.moves) (λ docs after h. found_looks docs after (name_bytes c.args.name) c.in-Ok.key.items (view c.args.id.now) c.in_ok-found.found c.in-Ok.ensures.ok h)
+    moved (store_state g.S.Store c.args.self.now) (table_state g.S.Store c.named.new.self) _ (Looks (name_bytes c.args.name) (view c.args.id.now) (Ok c.in_ok-found.found)) (rw (c.as_str-collection.ensures.text, c.as_slice-key.ensures.value) at c.in_ok-found.ensures.moves) (λ docs after h. found_looks docs after (name_bytes c.args.name) c.in-Ok.key.items (view c.args.id.now) c.in_ok-found.found c.in-Ok.ensures.ok h)
