@@ -30,6 +30,8 @@ use Rattle.store_table.proofs.RowLemmas.{cast_null, cast_int}
 use Rattle.store_table.proofs.PlaceLemmas.{at_place, rising_without, rising_replaced}
 use Rattle.store_table.proofs.AnswerLemmas.{and_true, outputs_of, equal_is}
 use Rattle.store_table.proofs.StatementLemmas.{commits_as, lists_own, trees_have, at_table, unacted, seen, unseen}
+use Rattle.store_table.specs.Beside.{SparesOthers}
+use Rattle.store_table.proofs.OthersLemmas.{spared_by}
 use Rattle.store_table.proofs.PermLemmas.{gone_perm, back_perm}
 use Rattle.store_table.proofs.InsertLemmas.{went, same_value}
 use Rattle.store_table.proofs.Texts.{plain_query, equals, delete_text, update_text}
@@ -71,7 +73,7 @@ none_without p (d ∷ docs) h = go (is_at p d) refl (none_without p docs)
     go false e k = rw e (ap (λ ds. d ∷ ds) (k (rw e at h)))
 
 pub deletes : (limit : Option ℕ) (mode : Mode) (text : List ℕ) (p : ℤ) (docs : List TableRow) (db : Database) (tally : Tally) (after : Database) → (rows : TableRows db docs)
-    → Does limit mode (Int p ∷ []) db text None (delete_command rows.place rows.tree) (Ok (tally, after)) → IsDatabase after → TableRows after (without_place p docs)
+    → Does limit mode (Int p ∷ []) db text None (delete_command rows.place rows.tree) (Ok (tally, after)) → IsDatabase after → TableRows after (without_place p docs) × SparesOthers db after
 deletes limit mode text p docs db tally after rows h sound =
     let table = documents_at rows.tree in
     let done = went (at_table limit mode (Int p ∷ []) db (delete_command rows.place rows.tree) rows.place table (Ok (tally, after)) rows.stands.at h) in
@@ -80,13 +82,13 @@ deletes limit mode text p docs db tally after rows h sound =
     let written = went from.2 in
     let trees : done.0.trees ≡ written.0 = ap (λ (it : Written). it.trees) (same_value written.2) in
     let edit : Edit = edit_of db.trees table (ids_of from.0) Given 0 [] in
-    let made = (one_step db.schema mode.keys db.trees written.0 edit (unacted db.schema mode.keys rows.tree (taken_by db.trees edit) edit.news rows.place rows.stands) written.1).rows in
+    let step = one_step db.schema mode.keys db.trees written.0 edit (unacted db.schema mode.keys rows.tree (taken_by db.trees edit) edit.news rows.place rows.stands) written.1 in
     let found = by_place p [] (col 1 0 ∷ []) docs db from.0 rows from.1 in
     let left : IsPermutation (map columns_of (without_place p docs)) (edited db.trees edit) = elim found [
       | inl none ↦ rw (none.1, none_without p docs none.0) rows.rows
       | inr one ↦ rw (one.3, one.2) (gone_perm p docs (db.trees rows.tree) rows.rows)
     ] in
-    let is = ap (λ (x : Database). x.trees rows.tree) now ∙ ap (λ (t : Trees). t rows.tree) trees ∙ made in
+    let is = ap (λ (x : Database). x.trees rows.tree) now ∙ ap (λ (t : Trees). t rows.tree) trees ∙ step.rows in (
     record {
       place = rows.place;
       tree = rows.tree;
@@ -94,7 +96,9 @@ deletes limit mode text p docs db tally after rows h sound =
       stands = subst (λ (x : Database). HasDocuments x.schema.tables rows.place rows.tree) (sym now) rows.stands;
       rows = subst (λ rs. IsPermutation (map columns_of (without_place p docs)) rs) (sym is) left;
       rising = rising_without p docs rows.rising;
-    }
+    },
+    spared_by db after rows.place rows.tree written.0 rows.stands (ap (λ (x : Database). x.schema) now) (ap (λ (x : Database). x.trees) now ∙ trees) step.tables,
+    )
 
 abbrev pub update_command : ℕ → ℕ → Rattle.sqlite.specs.Command.Command
 update_command place tree = Update place (program_at tree body_project)
@@ -108,7 +112,7 @@ none_replaced p body (d ∷ docs) h = go (is_at p d) refl (none_replaced p body 
     go false e k = rw e (ap (λ ds. d ∷ ds) (k (rw e at h)))
 
 pub updates : (limit : Option ℕ) (mode : Mode) (text : List ℕ) (p : ℤ) (body : List ℕ) (docs : List TableRow) (db : Database) (tally : Tally) (after : Database) → (rows : TableRows db docs)
-    → Does limit mode (Int p ∷ Blob body ∷ []) db text None (update_command rows.place rows.tree) (Ok (tally, after)) → IsDatabase after → TableRows after (with_body_at p body docs)
+    → Does limit mode (Int p ∷ Blob body ∷ []) db text None (update_command rows.place rows.tree) (Ok (tally, after)) → IsDatabase after → TableRows after (with_body_at p body docs) × SparesOthers db after
 updates limit mode text p body docs db tally after rows h sound =
     let table = documents_at rows.tree in
     let done = went (at_table limit mode (Int p ∷ Blob body ∷ []) db (update_command rows.place rows.tree) rows.place table (Ok (tally, after)) rows.stands.at h) in
@@ -117,14 +121,14 @@ updates limit mode text p body docs db tally after rows h sound =
     let written = went from.2 in
     let trees : done.0.trees ≡ written.0 = ap (λ (it : Written). it.trees) (same_value written.2) in
     let edit : Edit = edit_of db.trees table (ids_of from.0) Given 1 from.0 in
-    let made = (one_step db.schema mode.keys db.trees written.0 edit (unacted db.schema mode.keys rows.tree (taken_by db.trees edit) edit.news rows.place rows.stands) written.1).rows in
+    let step = one_step db.schema mode.keys db.trees written.0 edit (unacted db.schema mode.keys rows.tree (taken_by db.trees edit) edit.news rows.place rows.stands) written.1 in
     let found = by_place p (Blob body ∷ []) body_project docs db from.0 rows from.1 in
     let left : IsPermutation (map columns_of (with_body_at p body docs)) (edited db.trees edit) = elim found [
       | inl none ↦ rw (none.1, none_replaced p body docs none.0) rows.rows
       | inr one ↦ rw (one.3, cast_null, cast_int one.0.place)
           (subst (λ q. IsPermutation (map columns_of (with_body_at p body docs)) (put_row (columns_of (record one.0 { body = body })) (without_rowid q (db.trees rows.tree)))) (sym one.2) (back_perm p body one.0 docs (db.trees rows.tree) rows.rising one.1 one.2 rows.rows))
     ] in
-    let is = ap (λ (x : Database). x.trees rows.tree) now ∙ ap (λ (t : Trees). t rows.tree) trees ∙ made in
+    let is = ap (λ (x : Database). x.trees rows.tree) now ∙ ap (λ (t : Trees). t rows.tree) trees ∙ step.rows in (
     record {
       place = rows.place;
       tree = rows.tree;
@@ -132,7 +136,9 @@ updates limit mode text p body docs db tally after rows h sound =
       stands = subst (λ (x : Database). HasDocuments x.schema.tables rows.place rows.tree) (sym now) rows.stands;
       rows = subst (λ rs. IsPermutation (map columns_of (with_body_at p body docs)) rs) (sym is) left;
       rising = rising_replaced p body docs rows.rising;
-    }
+    },
+    spared_by db after rows.place rows.tree written.0 rows.stands (ap (λ (x : Database). x.schema) now) (ap (λ (x : Database). x.trees) now ∙ trees) step.tables,
+    )
 
 module _ (p : ℤ) (old new : State) (docs : List TableRow) (h : HoldsRows old docs) where
   abbrev here : ℕ
@@ -141,34 +147,34 @@ module _ (p : ℤ) (old new : State) (docs : List TableRow) (h : HoldsRows old d
   abbrev there : ℕ
   there = (seen h.table).tree
 
-  pub removes : (r : Result ℕ Error) → Executes delete_text (Int p ∷ []) old new r → OnOk r (HoldsRows new (without_place p docs))
+  pub removes : (r : Result ℕ Error) → Executes delete_text (Int p ∷ []) old new r → OnOk r (HoldsRows new (without_place p docs) × SparesOthers old.now new.now)
   removes (Err e) ran = tt
   removes (Ok count) ran =
       let m = delete_is old.now.schema here there (seen h.table).stands in
       let w = runs_as delete_text (Int p ∷ []) old new old.now.schema refl (delete_command here there) m.is m.plain count ran in
       let made = deletes old.step_limit (mode_of old) (statement_of delete_text (understood old.now.schema delete_text)) p docs old.now w.tally new.now (seen h.table) w.changed w.sound in
       let auto = h.autocommit in
-      record { is_open = w.shown.is_open; autocommit = w.shown.mode ∙ auto; settled = sym (w.shown.committed_is ∙ rw auto); table = unseen made }
+      (record { is_open = w.shown.is_open; autocommit = w.shown.mode ∙ auto; settled = sym (w.shown.committed_is ∙ rw auto); table = unseen made.0 }, made.1)
 
   pub remove_commits : (db : Trees) → CommitsBy delete_text (Int p ∷ []) old db → HasRows db (without_place p docs)
   remove_commits db commits =
       let m = delete_is old.now.schema here there (seen h.table).stands in
       let c = commits_as delete_text (Int p ∷ []) old db old.now.schema (delete_command here there) refl m.is m.plain (λ e. cc) (λ name e. cc) commits in
       let made = deletes old.step_limit (mode_of old) (statement_of delete_text (understood old.now.schema delete_text)) p docs old.now c.0 c.1 (seen h.table) c.2 c.3 in
-      subst (λ t. HasRows t (without_place p docs)) (sym c.4) (trees_have c.1 (without_place p docs) (unseen made))
+      subst (λ t. HasRows t (without_place p docs)) (sym c.4) (trees_have c.1 (without_place p docs) (unseen made.0))
 
-  pub rewrites : (body : List ℕ) (r : Result ℕ Error) → Executes update_text (Int p ∷ Blob body ∷ []) old new r → OnOk r (HoldsRows new (with_body_at p body docs))
+  pub rewrites : (body : List ℕ) (r : Result ℕ Error) → Executes update_text (Int p ∷ Blob body ∷ []) old new r → OnOk r (HoldsRows new (with_body_at p body docs) × SparesOthers old.now new.now)
   rewrites body (Err e) ran = tt
   rewrites body (Ok count) ran =
       let m = update_is old.now.schema here there (seen h.table).stands in
       let w = runs_as update_text (Int p ∷ Blob body ∷ []) old new old.now.schema refl (update_command here there) m.is m.plain count ran in
       let made = updates old.step_limit (mode_of old) (statement_of update_text (understood old.now.schema update_text)) p body docs old.now w.tally new.now (seen h.table) w.changed w.sound in
       let auto = h.autocommit in
-      record { is_open = w.shown.is_open; autocommit = w.shown.mode ∙ auto; settled = sym (w.shown.committed_is ∙ rw auto); table = unseen made }
+      (record { is_open = w.shown.is_open; autocommit = w.shown.mode ∙ auto; settled = sym (w.shown.committed_is ∙ rw auto); table = unseen made.0 }, made.1)
 
   pub rewrite_commits : (body : List ℕ) (db : Trees) → CommitsBy update_text (Int p ∷ Blob body ∷ []) old db → HasRows db (with_body_at p body docs)
   rewrite_commits body db commits =
       let m = update_is old.now.schema here there (seen h.table).stands in
       let c = commits_as update_text (Int p ∷ Blob body ∷ []) old db old.now.schema (update_command here there) refl m.is m.plain (λ e. cc) (λ name e. cc) commits in
       let made = updates old.step_limit (mode_of old) (statement_of update_text (understood old.now.schema update_text)) p body docs old.now c.0 c.1 (seen h.table) c.2 c.3 in
-      subst (λ t. HasRows t (with_body_at p body docs)) (sym c.4) (trees_have c.1 (with_body_at p body docs) (unseen made))
+      subst (λ t. HasRows t (with_body_at p body docs)) (sym c.4) (trees_have c.1 (with_body_at p body docs) (unseen made.0))

@@ -50,5 +50,6 @@ returns-in_err-last-clause-moves g c clean = (
     docs,
     (λ still. let it = (c.in_err-last.ensures.read clean).refused still in it.1 docs (stands it.0)),
     appends_err (length c.args.rows.now) (with_rows c.args.coll.now c.args.rows.now) docs c.from_residual.result c.in_err-last.field-0.0 c.from_residual.ensures.1,
+    (c.in_err-last.ensures.read clean).others docs stands,
   ),
 )

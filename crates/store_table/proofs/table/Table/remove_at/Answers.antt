@@ -37,5 +37,6 @@ returns-in_err-remove_at-clause-moves g c clean = (
     docs,
     (λ still. let it = (c.in_err-remove_at.ensures.written clean).refused still in it.1 docs (stands it.0)),
     changes_err (without_place c.args.found.now.place) docs c.from_residual.result c.in_err-remove_at.field-0.0 c.from_residual.ensures.1,
+    (c.in_err-remove_at.ensures.written clean).others docs stands,
   ),
 )
