@@ -60,6 +60,10 @@ others_then a b c h k = record {
   spared = λ still. spared_then a.now b.now c.now (h.spared (k.was_open still)) (k.spared still);
 }
 
+-- nothing was done
+pub rest_others : (s : State) → KeepsOthers s s
+rest_others s = record { was_open = λ still. still; spared = λ still. spared_all s.now s.now refl }
+
 -- behind a read
 pub others_after : (old mid new : State) → IsUnchanged old mid → KeepsOthers mid new → KeepsOthers old new
 others_after old mid new u = others_then old mid new (still_others old mid u)
