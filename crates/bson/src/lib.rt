@@ -1,5 +1,5 @@
-//! BSON (bsonspec.org 1.1), with the names and modules of the Rust crate `bson` 2.15.0: values, documents, Extended JSON and raw
-//! documents. Nothing is written here: each name is one of the crates below, in whose pages its contract is told.
+//! BSON (bsonspec.org 1.1), with the names and modules of the Rust crate `bson` 2.15.0: values, documents, Extended
+//! JSON and raw documents. Nothing is written here: each name is one of the crates below, whose page has its contract.
 #![tactic(auto)]
 
 pub use bson_meaning as meaning;

@@ -38,7 +38,7 @@ impl From<AllocError> for Error {
     }
 }
 
-/// What a call of this module answers.
+/// What a call of this module returns.
 pub type Result<T> = std::result::Result<T, Error>;
 
 /// Bytes, and what they are (bsonspec.org 1.1, element type 05).
@@ -79,15 +79,15 @@ impl Binary {
         })
     }
 
-    /// The UUID of a value of subtype 04. `RepresentationMismatch` tells another subtype, `InvalidLength` another number
-    /// of bytes than 16.
+    /// The UUID of a value of subtype 04. `RepresentationMismatch` reports another subtype, `InvalidLength` another
+    /// number of bytes than 16.
     pub fn to_uuid(&self) -> uuid::Result<Uuid>
         ensures { ReadsUuid UuidRepresentation.Standard self.now result }
     {
         self.to_uuid_with_representation(UuidRepresentation::Standard)
     }
 
-    /// The UUID of a value in a representation. `RepresentationMismatch` tells another subtype than that of the
+    /// The UUID of a value in a representation. `RepresentationMismatch` reports another subtype than that of the
     /// representation, `InvalidLength` another number of bytes than 16.
     pub fn to_uuid_with_representation(
         &self,

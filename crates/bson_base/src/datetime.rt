@@ -27,7 +27,7 @@ pub enum Error {
     Memory,
 }
 
-/// What a call of this module answers.
+/// What a call of this module returns.
 pub type Result<T> = std::result::Result<T, Error>;
 
 /// Milliseconds since 1970-01-01T00:00:00Z, a signed number of 64 bits (bsonspec.org 1.1, element type 09).
@@ -64,7 +64,7 @@ impl DateTime {
         DateTime(self.0.saturating_add(millis))
     }
 
-    /// The moment so much later, of which whole milliseconds count, or `MAX` where that passes it. A duration of more
+    /// The moment so much later, of which whole milliseconds count, or `MAX` if that passes it. A duration of more
     /// than 9223372036854775807 milliseconds gives `MAX` from any moment.
     pub fn saturating_add_duration(self, duration: Duration) -> DateTime
         ensures within { let millis = as_nanos duration / 1_000_000 in

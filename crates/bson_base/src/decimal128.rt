@@ -39,16 +39,16 @@ pub enum ParseError {
     /// A digit other than 0 would be dropped.
     #[error("the decimal has no exact form")]
     InexactRounding,
-    /// Never answered here.
+    /// Never returned here.
     #[error("unparseable")]
     Unparseable,
-    /// No memory. Reading takes none, so it is never answered here.
+    /// No memory. Reading takes none, so it is never returned here.
     #[error("out of memory")]
     Memory,
 }
 
-/// A decimal number of IEEE 754-2008, as its 16 bytes, the lowest first (bsonspec.org 1.1, element type 13). Two are equal
-/// where their bytes are.
+/// A decimal number of IEEE 754-2008, as its 16 bytes, the lowest first (bsonspec.org 1.1, element type 13). Two are
+/// equal where their bytes are.
 #[derive(Clone, Copy, Debug, PartialEq, Eq, Hash)]
 pub struct Decimal128 {
     pub(crate) bytes: [u8; 16],

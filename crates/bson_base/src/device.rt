@@ -75,7 +75,7 @@ impl Source for SliceSource<'_> {
     }
 }
 
-/// A vector that takes bytes at its end. Want of memory is its only failure.
+/// A vector that takes bytes at its end. Out of memory is its only failure.
 #[derive(Drop)]
 pub struct VecSink {
     /// The bytes taken.
@@ -165,7 +165,7 @@ impl<T: Write> Sink for Counted<T> {
     }
 }
 
-/// Writes all of `bytes`, or tells the first failure, after which a beginning of them was taken.
+/// Writes all of `bytes`, or reports the first failure, after which a beginning of them was taken.
 pub fn write_all<S: Sink>(sink: &mut S, bytes: &[u8]) -> Result<(), DeviceFault>
     requires { CanRefuse (S.tally sink.old) }
     ensures counts { Counts (S.tally sink.old).failures (S.tally sink.new).failures result }

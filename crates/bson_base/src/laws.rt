@@ -70,7 +70,7 @@ pub fn equal_scalars()
     ensures representations { (x y : AnyRepresentation) → IsTrue (⟦<UuidRepresentation as PartialEq>⟧.eq x y) ↔ (x ≡ y) }
 {}
 
-/// Two errors are equal where they are one, with all that they tell.
+/// Two errors are equal where they are one, with all that they report.
 pub fn equal_errors()
     ensures binaries { (x y : AnyBinaryError) → IsTrue (⟦<BinaryError as PartialEq>⟧.eq x y) ↔ (x ≡ y) }
     ensures moments { (x y : AnyDateTimeError) → IsTrue (⟦<DateTimeError as PartialEq>⟧.eq x y) ↔ (x ≡ y) }
@@ -98,7 +98,8 @@ pub fn equal_vectors()
 {}
 
 /// Which value comes first: of timestamps the one with fewer seconds, and at the same second the one with the lower
-/// increment; of moments the earlier one; of object ids and of UUIDs the one with the lower byte at the first that differs.
+/// increment; of moments the earlier one; of object ids and of UUIDs the one with the lower byte at the first that
+/// differs.
 pub fn order_of_scalars()
     ensures timestamps { (x y : AnyTimestamp) → ⟦<Timestamp as Ord>⟧.cmp x y ≡ ordering_then (nat_cmp x.time y.time) (nat_cmp x.increment y.increment) }
     ensures moments { (x y : AnyDateTime) → ⟦<DateTime as Ord>⟧.cmp x y ≡ int_cmp (millis_of x) (millis_of y) }
@@ -117,8 +118,8 @@ pub fn tag_bytes()
     ensures { (x y : AnyKind) → tag_byte x ≡ tag_byte y → x ≡ y }
 {}
 
-/// A byte comes back from its subtype; a subtype comes back from its byte exactly where it is one that a byte stands for,
-/// which a `Reserved` or `UserDefined` with another's byte is not (bsonspec.org 1.1, "subtype").
+/// A byte comes back from its subtype; a subtype comes back from its byte exactly where it is one that a byte stands
+/// for, which a `Reserved` or `UserDefined` with another's byte is not (bsonspec.org 1.1, "subtype").
 pub fn subtype_bytes()
     ensures bytes { (byte : ℕ) → subtype_byte (subtype_of byte) ≡ byte }
     ensures subtypes { (subtype : AnySubtype) → IsReadable subtype ↔ (subtype_of (subtype_byte subtype) ≡ subtype) }
@@ -130,13 +131,14 @@ pub fn sorted_options()
     ensures kept { (text : List ℕ) → IsUtf8 text → NeverDescends (chars text) → sorted_text text ≡ text }
 {}
 
-/// The bytes of a UUID put into a form twice are the bytes again, so what is written in a representation is read from it.
+/// The bytes of a UUID put into a form twice are the bytes again, so what is written in a representation is read from
+/// it.
 pub fn uuid_forms()
     ensures { (representation : AnyRepresentation) (bytes : List ℕ) → length bytes ≡ 16 → uuid_form representation (uuid_form representation bytes) ≡ bytes }
 {}
 
-/// The bytes that a vector is written as are those of a vector, and of no other, so `Vector::from_binary` gives back what
-/// `Binary::from_vector` wrote.
+/// The bytes that a vector is written as are those of a vector, and of no other, so `Vector::from_binary` gives back
+/// what `Binary::from_vector` wrote.
 pub fn written_vectors()
     ensures apart { (x y : VectorValue) → IsRangedVector x → IsRangedVector y → vector_bytes x ≡ vector_bytes y → x ≡ y }
     ensures read { (vector : AnyVector) → is_vector (vector_bytes (vector_value vector)) ≡ true }

@@ -37,7 +37,7 @@ pub enum Error {
     Memory,
 }
 
-/// What reading an object id answers.
+/// What reading an object id returns.
 pub type Result<T> = std::result::Result<T, Error>;
 
 impl From<AllocError> for Error {
@@ -50,8 +50,8 @@ impl From<AllocError> for Error {
     }
 }
 
-/// Twelve bytes that name a document (bsonspec.org 1.1, element type 07): 4 bytes of seconds, the highest first, 5 of the
-/// process and 3 of a counter.
+/// Twelve bytes that name a document (bsonspec.org 1.1, element type 07): 4 bytes of seconds, the highest first, 5 of
+/// the process and 3 of a counter.
 #[derive(Clone, Copy, PartialEq, Eq, PartialOrd, Ord, Hash)]
 pub struct ObjectId {
     pub(crate) id: [u8; 12],
@@ -95,8 +95,8 @@ impl ObjectId {
         DateTime::from_millis(seconds as i64 * 1000)
     }
 
-    /// The object id of 24 hexadecimal digits in either case. Refused: first an odd length in bytes, then the first byte
-    /// that is no digit, then any length but 24.
+    /// The object id of 24 hexadecimal digits in either case. Refused: first an odd length in bytes, then the first
+    /// byte that is no digit, then any length but 24.
     pub fn parse_str(text: &str) -> Result<ObjectId>
         ensures { result_map id_bytes result ≡ object_id_of text.now }
     {

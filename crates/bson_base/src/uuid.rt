@@ -34,7 +34,7 @@ pub enum Error {
     Memory,
 }
 
-/// What a call of this module answers.
+/// What a call of this module returns.
 pub type Result<T> = std::result::Result<T, Error>;
 
 /// A UUID (RFC 4122): 16 bytes, the highest first.

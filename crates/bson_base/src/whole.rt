@@ -39,7 +39,7 @@ fn room(alloc: Global) -> Result<Vec<u8>, AllocError>
     vec![in alloc; 0u8; CHUNK]
 }
 
-/// Reads a source to its end, and answers all that it had left. An interrupted call is a failure like any other. After
+/// Reads a source to its end, and returns all that it had left. An interrupted call is a failure like any other. After
 /// `Reader` nothing is said of how far the source was read; with `Memory` no read failed.
 pub fn read_all<S: Source>(alloc: Global, source: &mut S) -> Result<Vec<u8>, ReadAllError>
     requires { CanFail (S.feed source.old) }

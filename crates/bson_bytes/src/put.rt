@@ -32,7 +32,7 @@ pub fn write_bytes(bytes: &[u8], out: &mut Vec<u8>) -> Result<()>
     Ok(())
 }
 
-/// Appends a length, the text and 00 (bsonspec.org 1.1, "string"). `MalformedValue` where these are over 2147483647 bytes.
+/// Appends a length, the text and 00 (bsonspec.org 1.1, "string"). `MalformedValue` if these are over 2147483647 bytes.
 #[tactic(auto, unfolding(crate::specs::Encode::text_bytes, crate::specs::Encode::le32))]
 pub fn write_text(text: &str, out: &mut Vec<u8>) -> Result<()>
     ensures ok { OnOk result (out.new.items ≡ out.old.items ++ text_bytes text.now) }
@@ -56,7 +56,7 @@ pub fn has_no_zero(bytes: &[u8]) -> bool
     !bytes.contains(&0)
 }
 
-/// Appends a key, a pattern or options, and 00 (bsonspec.org 1.1, "cstring"). `MalformedValue` where a 00 stands in it.
+/// Appends a key, a pattern or options, and 00 (bsonspec.org 1.1, "cstring"). `MalformedValue` if a 00 stands in it.
 #[tactic(auto, unfolding(crate::specs::Encode::cstring_of))]
 pub fn write_name(name: &str, out: &mut Vec<u8>) -> Result<()>
     ensures ok { OnOk result (out.new.items ≡ out.old.items ++ cstring_of name.now) }
@@ -72,7 +72,7 @@ pub fn write_name(name: &str, out: &mut Vec<u8>) -> Result<()>
 }
 
 /// Appends what stands in front of an element's payload: its tag, its key and 00 (bsonspec.org 1.1, "element").
-/// `MalformedValue` where a 00 stands in the key.
+/// `MalformedValue` if a 00 stands in the key.
 #[tactic(auto, unfolding(crate::specs::Encode::cstring_of))]
 pub fn write_front(kind: ElementType, key: &str, out: &mut Vec<u8>) -> Result<()>
     ensures ok { OnOk result (out.new.items ≡ out.old.items ++ tag_byte kind ∷ cstring_of key.now) }
@@ -84,8 +84,8 @@ pub fn write_front(kind: ElementType, key: &str, out: &mut Vec<u8>) -> Result<()
     write_name(key, out)
 }
 
-/// Appends what stands in front of an item's payload: its tag, its place in the array in decimal, and 00 (bsonspec.org 1.1,
-/// element type 04). The error is a refused growth.
+/// Appends what stands in front of an item's payload: its tag, its place in the array in decimal, and 00 (bsonspec.org
+/// 1.1, element type 04). The error is a refused growth.
 #[tactic(auto, unfolding(crate::specs::Encode::cstring_of))]
 pub fn write_place(kind: ElementType, place: usize, out: &mut Vec<u8>) -> Result<()>
     ensures ok { OnOk result (out.new.items ≡ out.old.items ++ tag_byte kind ∷ cstring_of (decimal place)) }
@@ -98,8 +98,8 @@ pub fn write_place(kind: ElementType, place: usize, out: &mut Vec<u8>) -> Result
     write_bytes(&[0], out)
 }
 
-/// Appends a length, a subtype and the bytes; an old binary has a second length in front of its bytes (bsonspec.org 1.1,
-/// "binary"). `MalformedValue` where these are over 2147483647 bytes.
+/// Appends a length, a subtype and the bytes; an old binary has a second length in front of its bytes (bsonspec.org
+/// 1.1, "binary"). `MalformedValue` if these are over 2147483647 bytes.
 #[tactic(auto, unfolding(crate::specs::Encode::le32, crate::specs::Encode::inner))]
 pub fn write_binary(subtype: BinarySubtype, bytes: &[u8], out: &mut Vec<u8>) -> Result<()>
     ensures ok { OnOk result (out.new.items ≡ out.old.items ++ scalar_bytes (binary subtype bytes.now)) }
@@ -125,8 +125,8 @@ pub fn write_binary(subtype: BinarySubtype, bytes: &[u8], out: &mut Vec<u8>) -> 
     write_bytes(bytes, out)
 }
 
-/// Appends a pattern and options, each with its 00 (bsonspec.org 1.1, element type 0B). `MalformedValue` where a 00 stands in
-/// one of them.
+/// Appends a pattern and options, each with its 00 (bsonspec.org 1.1, element type 0B). `MalformedValue` if a 00 stands
+/// in one of them.
 pub fn write_regex(pattern: &str, options: &str, out: &mut Vec<u8>) -> Result<()>
     ensures ok { OnOk result (out.new.items ≡ out.old.items ++ scalar_bytes (regex pattern.now options.now)) }
     ensures plain { OnOk result (IsPlainScalar (regex pattern.now options.now)) }
@@ -148,8 +148,8 @@ pub fn write_timestamp(value: Timestamp, out: &mut Vec<u8>) -> Result<()>
     write_bytes(&value.time.to_le_bytes(), out)
 }
 
-/// Appends a text and the twelve bytes of an object id (bsonspec.org 1.1, element type 0C). `MalformedValue` where the text
-/// takes over 2147483647 bytes.
+/// Appends a text and the twelve bytes of an object id (bsonspec.org 1.1, element type 0C). `MalformedValue` if the
+/// text takes over 2147483647 bytes.
 pub fn write_pointer(namespace: &str, id: ObjectId, out: &mut Vec<u8>) -> Result<()>
     ensures ok { OnOk result (out.new.items ≡ out.old.items ++ scalar_bytes (db_pointer namespace.now (id_bytes id))) }
     ensures short { OnOk result (length namespace.now + 5 < 2 ^ 31) }
@@ -175,7 +175,7 @@ fn put_number(out: &mut Vec<u8>, at: usize, number: u32)
 }
 
 /// Puts the number of the bytes from `start` on in the place of the first four of them, which were left as room for it.
-/// `MalformedValue` where they are over 2147483647; nothing is changed then. Takes no memory.
+/// `MalformedValue` if they are over 2147483647; nothing is changed then. Takes no memory.
 pub fn put_length(out: &mut Vec<u8>, start: usize) -> Result<()>
     requires { start + 4 ≤ length out.old.items }
     ensures ok { (before middle after : List ℕ) → out.old.items ≡ before ++ (middle ++ after) → length before ≡ start → length middle ≡ 4

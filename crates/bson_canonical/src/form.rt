@@ -10,10 +10,11 @@ ghost use Rattle.bson_canonical.specs.Written.{IsWrittenUnder};
 use crate::elements::{are_written, first_under, is_written};
 use bson_frame::{Frame, LEVEL_LIMIT};
 
-/// True: the bytes are the written form of the document that they mean (bsonspec.org 1.1, "document"). No key stands twice, the
-/// keys of an array are its places in decimal, the options of a regular expression ascend, and nothing else has two written forms.
-/// False says nothing: that is told, too, of documents over 100 levels, where a key behind the first 65 of its document isn't
-/// greater by its bytes than all before it, and of options that aren't ASCII, pointers, code with scope and old binaries.
+/// True: the bytes are the written form of the document that they mean (bsonspec.org 1.1, "document"). No key stands
+/// twice, the keys of an array are its places in decimal, the options of a regular expression ascend, and nothing else
+/// has two written forms. False says nothing: that is returned, too, for documents over 100 levels, where a key behind
+/// the first 65 of its document isn't greater by its bytes than all before it, and of options that aren't ASCII,
+/// pointers, code with scope and old binaries.
 ///
 /// It goes over the bytes once. A key that is greater than all before it takes one comparison, another one up to 64.
 pub fn is_written_form(bytes: &[u8]) -> bool
@@ -26,8 +27,8 @@ pub fn is_written_form(bytes: &[u8]) -> bool
     are_written(elements, LEVEL_LIMIT - 1)
 }
 
-/// The first element of a key, of a document whose bytes these are. Its payload is the written form of the value under the key.
-/// None says nothing: that is told, too, of a value of which `is_written_form` would tell nothing.
+/// The first element of a key, of a document whose bytes these are. Its payload is the written form of the value under
+/// the key. None says nothing: that is returned, too, for a value for which `is_written_form` would say nothing.
 pub fn written_element<'a>(key: &str, bytes: &'a [u8]) -> Option<Frame<'a>>
     ensures { IfSome result (λ f. (ms : Members) → SpellsMembers (drop 4 bytes.now) ms → IsWrittenUnder key.now ms (element_of f)) }
 {

@@ -14,8 +14,8 @@ use std::cmp::Ordering;
 /// How many keys of a document are kept to be compared with later ones.
 const MOST_KEYS: usize = 64;
 
-/// The keys that were met. Each key that is greater than all before it by its bytes is known to be new, however many there are; of
-/// another key that is known while there are few.
+/// The keys that were met. Each key that is greater than all before it by its bytes is known to be new, however many
+/// there are; of another key that is known while there are few.
 #[derive(Drop)]
 pub(crate) struct MetKeys<'a> {
     /// The greatest of them; the empty text before the first.

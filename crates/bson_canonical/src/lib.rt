@@ -1,4 +1,5 @@
-//! Whether bytes are the written form of the document that they mean, told from the bytes alone: no tree is made, and nothing here takes memory.
+//! Whether bytes are the written form of the document that they mean, decided from the bytes alone: no tree is made,
+//! and nothing here takes memory.
 #![tactic(auto)]
 
 mod elements;

@@ -1,10 +1,10 @@
-//! What is told of bytes.
+//! What is reported of bytes.
 
 use crate::{is_written_form, written_element};
 use std::process::Abort;
 use std::test::Fail;
 
-/// Asserts what is told of a document.
+/// Asserts what is reported of a document.
 fn tells(rt: &impl Abort, bytes: &[u8], want: bool) {
     assert_eq!(rt; is_written_form(bytes), want, "{bytes:?}");
 }

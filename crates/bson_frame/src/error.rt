@@ -21,7 +21,8 @@ pub enum ErrorKind {
     OutOfMemory,
 }
 
-/// A fault, and the key that it stands under: that of the element where a payload is faulty, none where there is no frame.
+/// A fault, and the key that it stands under: that of the element where a payload is faulty, none where there is no
+/// frame.
 #[derive(Debug, PartialEq, Drop)]
 pub struct Error {
     key: Option<String>,
@@ -29,7 +30,7 @@ pub struct Error {
     pub kind: ErrorKind,
 }
 
-/// What a read of raw bytes answers.
+/// What a read of raw bytes returns.
 pub type Result<T> = std::result::Result<T, Error>;
 
 impl Error {
@@ -106,7 +107,7 @@ pub struct ValueAccessError {
     pub kind: ValueAccessErrorKind,
 }
 
-/// What a read of a value of one kind answers.
+/// What a read of a value of one kind returns.
 pub type ValueAccessResult<T> = std::result::Result<T, ValueAccessError>;
 
 impl ValueAccessError {

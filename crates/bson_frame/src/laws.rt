@@ -40,7 +40,7 @@ pub fn one_name()
     ensures { (a b x y : List ℕ) → IsCstring a → IsCstring b → a ++ 0 ∷ x ≡ b ++ 0 ∷ y → (a ≡ b) × (x ≡ y) }
 {}
 
-/// Errors are equal where they tell the same: the kind, the key and what was found there.
+/// Errors are equal if they report the same: the kind, the key and what was found there.
 pub fn equal_errors()
     ensures kinds { (x y : Kind) → IsTrue (⟦<ErrorKind as PartialEq>⟧.eq x y) ↔ (x ≡ y) }
     ensures faults { (x y : AnyError) → IsTrue (⟦<Error as PartialEq>⟧.eq x y) ↔ ((fault_key x ≡ fault_key y) × (x.kind ≡ y.kind)) }

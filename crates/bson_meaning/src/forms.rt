@@ -14,9 +14,9 @@ use crate::scalars::{Zeros, normal_decimal, normal_double, normal_subtype};
 use bson_model::{Binary, Bson, Document, JavaScriptCodeWithScope, Regex};
 use std::alloc::{AllocError, Global};
 
-/// The normal form of a value: a NaN is the quiet one of its sign, a decimal the first form of what it means, the options of a
-/// regular expression are in order, and a subtype is what its byte stands for. The error is a refused growth; the value is
-/// dropped then. As it goes through the whole value, it tells that the value is sound.
+/// The normal form of a value: a NaN is the quiet one of its sign, a decimal the first form of what it means, the
+/// options of a regular expression are in order, and a subtype is what its byte stands for. The error is a refused
+/// growth; the value is dropped then. As it goes through the whole value, it shows that the value is sound.
 #[cycle(normal)]
 pub fn normalize(alloc: Global, value: Bson) -> Result<Bson, AllocError>
     ensures normal { IfOk result (λ v. view v ≡ norm (view value)) }
@@ -51,8 +51,8 @@ fn normal_items(alloc: Global, items: Vec<Bson>) -> Result<Vec<Bson>, AllocError
     Ok(normal)
 }
 
-/// The normal form of a document, which is one too. The error is a refused growth; the document is dropped then. As it goes
-/// through the whole document, it tells that the document is sound.
+/// The normal form of a document, which is one too. The error is a refused growth; the document is dropped then. As it
+/// goes through the whole document, it shows that the document is sound.
 #[cycle(normal)]
 pub fn normalize_document(alloc: Global, document: Document) -> Result<Document, AllocError>
     ensures normal { IfOk result (λ d. content d ≡ norm_members (content document)) }

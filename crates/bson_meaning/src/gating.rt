@@ -29,9 +29,9 @@ pub enum GateError {
     TooDeep,
 }
 
-/// Tests whether bytes are a document (bsonspec.org 1.1, "document") of at most 16777216 bytes and 100 levels, without a fault
-/// at any level. The error is that of the first test that fails, in the order of `GateError`; where there is a fault and too
-/// many levels, either is told. Takes no memory, and goes no deeper than 100 levels.
+/// Tests whether bytes are a document (bsonspec.org 1.1, "document") of at most 16777216 bytes and 100 levels, without
+/// a fault at any level. The error is that of the first test that fails, in the order of `GateError`; where there is a
+/// fault and too many levels, either is reported. Takes no memory, and goes no deeper than 100 levels.
 pub fn gate(bytes: &[u8]) -> Result<(), GateError>
     ensures { MatchResult result (λ _. Passes bytes.now) (IsRefused bytes.now) }
 {

@@ -18,8 +18,8 @@ pub fn normal_forms_are_written_alike()
     ensures ordered { (m : Mode) (v : Value) → IsSound v → write m (asc v) ≡ write m v }
 {}
 
-/// Documents of the same meaning have the same tree or none, in both modes, and both or neither of them has a reserved key
-/// below its top. Of two documents without one, equal canonical trees tell the same meaning.
+/// Documents of the same meaning have the same tree or none, in both modes, and both or neither of them has a reserved
+/// key below its top. Of two documents without one, equal canonical trees have the same meaning.
 pub fn trees_go_by_meaning()
     ensures tree { (m : Mode) (d e : Members) → IsSound (document d) → IsSound (document e) → Same (document d) (document e)
         → write m (document d) ≡ write m (document e) }
@@ -30,8 +30,8 @@ pub fn trees_go_by_meaning()
         → (i ≡ j) ↔ Same (document d) (document e) }
 {}
 
-/// The canonical tree of a document without a reserved key below its top reads as a document of the same normal form, which is
-/// plain where the first is, and no deeper.
+/// The canonical tree of a document without a reserved key below its top reads as a document of the same normal form,
+/// which is plain where the first is, and no deeper.
 pub fn canonical_trees_read_back()
     ensures members { (d : Members) (js : json.Members) → IsSound (document d) → has_reserved d ≡ false
         → write_members Canonical d json.no_members ≡ Some js
@@ -43,7 +43,8 @@ pub fn canonical_trees_read_back()
         × (IsPlain (document d) → IsPlain (document e)) × (levels (document e) ≤ levels (document d)) }
 {}
 
-/// What a JSON tree reads as is sound. The normal form of a document that is read so is clean where the document is plain.
+/// What a JSON tree reads as is sound. The normal form of a document that is read so is clean where the document is
+/// plain.
 pub fn readings_are_sound()
     ensures value { (j : Data) (v : Value) → IsJson j → read j ≡ Ok v → IsSound v }
     ensures top { (js : json.Members) (d : Members) → IsJsonObject js → read_members js ≡ Ok d → IsSound (document d) }

@@ -46,16 +46,17 @@ impl From<AllocError> for KeyError {
     }
 }
 
-/// The bytes of the document's normal form with its keys in order. Two documents have the same key exactly where they mean the
-/// same, as long as neither is refused. A document that has a key was counted first, which tells that it is sound.
+/// The bytes of the document's normal form with its keys in order. Two documents have the same key exactly where they
+/// mean the same, as long as neither is refused. A document that has a key was counted first, which shows that it is
+/// sound.
 pub fn meaning_key(alloc: Global, document: &Document) -> Result<Vec<u8>, KeyError>
     ensures { AnswersKey Joined (content document.now) result }
 {
     key_where(Zeros::Joined, alloc, document)
 }
 
-/// The key that the document had before the two zeros of a double meant the same. Two documents have the same such key exactly
-/// where they meant the same, as long as neither is refused. Refused as `meaning_key` is.
+/// The key that the document had before the two zeros of a double meant the same. Two documents have the same such key
+/// exactly where they meant the same, as long as neither is refused. Refused as `meaning_key` is.
 pub fn meaning_key_before(alloc: Global, document: &Document) -> Result<Vec<u8>, KeyError>
     ensures { AnswersKey Apart (content document.now) result }
 {
@@ -75,8 +76,9 @@ fn key_where(zeros: Zeros, alloc: Global, document: &Document) -> Result<Vec<u8>
     written(zeros, alloc, document)
 }
 
-/// The key of the document that has this element alone: the bytes that `meaning_key` answers for it, without that document.
-/// Refused as `meaning_key` is. Whatever is answered, the value was counted first, which tells that it is sound.
+/// The key of the document that has this element alone: the bytes that `meaning_key` returns for it, without that
+/// document. Refused as `meaning_key` is. Whatever is returned, the value was counted first, which shows that it is
+/// sound.
 pub fn meaning_key_of_element(alloc: Global, name: &str, value: &Bson) -> Result<Vec<u8>, KeyError>
     ensures key { AnswersKey Joined (alone name.now (view value.now)) result }
     ensures sound { IsSound (view value.now) }
@@ -84,8 +86,9 @@ pub fn meaning_key_of_element(alloc: Global, name: &str, value: &Bson) -> Result
     element_key_where(Zeros::Joined, alloc, name, value)
 }
 
-/// The key that the document that has this element alone had before the two zeros of a double meant the same: the bytes that
-/// `meaning_key_before` answers for it. Whatever is answered, the value was counted first, which tells that it is sound.
+/// The key that the document that has this element alone had before the two zeros of a double meant the same: the bytes
+/// that `meaning_key_before` returns for it. Whatever is returned, the value was counted first, which shows that it is
+/// sound.
 pub fn meaning_key_before_of_element(
     alloc: Global,
     name: &str,
@@ -117,7 +120,7 @@ fn element_key_where(
     written_alone(zeros, alloc, name, value)
 }
 
-/// Whether the key would be over 2147483647 bytes. What counts them tells that the document is sound.
+/// Whether the key would be over 2147483647 bytes. What counts them shows that the document is sound.
 fn is_too_long(document: &Document) -> bool
     ensures long { (zeros : AnyZeros) → IsTrue result ↔ (length_limit < size (norm_members zeros (content document.now))) }
     ensures sound { IsSound (tree (content document.now)) }

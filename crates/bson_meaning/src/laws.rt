@@ -1,5 +1,6 @@
-//! Laws of meaning. Each function below does nothing, and its contract is the law. It is said of sound values: their numbers
-//! and texts are those of their kinds, and no key stands twice. Every value at hand is sound, which `soundness` tells.
+//! Laws of meaning. Each function below does nothing, and its contract is the law. It is said of sound values: their
+//! numbers and texts are those of their kinds, and no key stands twice. Every value at hand is sound, as `soundness`
+//! says.
 
 ghost use Rattle.std.specs.Prelude.{MatchResult, ◌≡◌, ◌↔◌, ◌≤◌, ◌⊎◌, IsTrue, List, ℕ, length};
 ghost use Rattle.bson_base.specs.Kinds.{IsClean, IsPlain, IsSound};
@@ -58,8 +59,8 @@ pub fn keys_keep_sizes()
     ensures trees { (d : Members) → IsClean (document d) → IsSound (document d) → size (norm_members_in_order d) ≡ size d }
 {}
 
-/// Bytes that pass the gate are refused by no test: where a fault or too many levels are told, they stand. Bytes that don't
-/// pass are refused in one way, but that of `Faulty` and `TooDeep` either is told where both stand.
+/// Bytes that pass the gate are refused by no test: where a fault or too many levels are reported, they are there.
+/// Bytes that don't pass are refused in one way, but that of `Faulty` and `TooDeep` either is reported if both hold.
 pub fn one_answer_of_the_gate()
     ensures passes { (bytes : List ℕ) (error : AnyGateError) → Passes bytes → IsRefused bytes error → ⊥ }
     ensures refused { (bytes : List ℕ) (e f : AnyGateError) → IsRefused bytes e → IsRefused bytes f
@@ -72,8 +73,8 @@ pub fn passing_means()
     ensures low { (bytes : List ℕ) (d : Members) → Passes bytes → Means bytes d → levels (document d) ≤ level_limit }
 {}
 
-/// What means the same as a plain value is plain. Two documents of one member each, under one key, mean the same exactly where
-/// their values do.
+/// What means the same as a plain value is plain. Two documents of one member each, under one key, mean the same
+/// exactly where their values do.
 pub fn same_values()
     ensures plain { (v w : Value) → IsSound v → IsSound w → Same v w → IsPlain w → IsPlain v }
     ensures under { (k : List ℕ) (v w : Value) → Same (document (member k v no_members)) (document (member k w no_members)) ↔ Same v w }
@@ -84,9 +85,9 @@ pub fn normal_forms_are_clean()
     ensures { (v : Value) → IsPlain v → IsSound v → IsClean (norm_in_order v) }
 {}
 
-/// What meant the same while the two zeros of a double were apart means the same now. A key from before that is a key now is of a
-/// document that means the same, so no row under an old key stands in the way of a row under its new one, but where both mean the
-/// same.
+/// What meant the same while the two zeros of a double were apart means the same now. A key from before that is a key
+/// now is of a document that means the same, so no row under an old key stands in the way of a row under its new one,
+/// but where both mean the same.
 pub fn meanings_from_before()
     ensures same { (v w : Value) → IsSound v → IsSound w → SameBefore v w → Same v w }
     ensures keys { (d e : Members) → IsPlain (document d) → IsSound (document d) → IsPlain (document e) → IsSound (document e)
@@ -99,8 +100,8 @@ pub fn equal_errors()
     ensures gate { (x y : AnyGateError) → IsTrue (⟦<GateError as PartialEq>⟧.eq x y) ↔ (x ≡ y) }
 {}
 
-/// A clean document that is written into a buffer comes back from it. It is refused where it has no written form, or a growth
-/// is refused, and for no other reason.
+/// A clean document that is written into a buffer comes back from it. It is refused where it has no written form, or a
+/// growth is refused, and for no other reason.
 pub fn documents_come_back(alloc: Global, document: &Document) -> bson_frame::Result<Document>
     ensures { IsClean (document_tree document.now) → MatchResult result (λ back. content back ≡ content document.now)
         (IsWriteRefusal (CanBeWritten (document_tree document.now) → ⊥)) }

@@ -14,9 +14,9 @@ use crate::scalars::normal_subtype;
 use bson_model::{Binary, BinarySubtype, Bson, Document, Regex};
 use itoa::Buffer;
 
-/// How many bytes the normal form of a document is written as (bsonspec.org 1.1, "document"). No tree that fits into a machine
-/// takes more than `usize::MAX`; it would be answered for such. Takes no memory. As it goes through the whole document, it
-/// tells that the document is sound.
+/// How many bytes the normal form of a document is written as (bsonspec.org 1.1, "document"). No tree that fits into a
+/// machine takes more than `usize::MAX`; it would be returned for such. Takes no memory. As it goes through the whole
+/// document, it shows that the document is sound.
 pub(crate) fn normal_length(document: &Document) -> usize
     ensures length { result ≡ min (size (norm_members (content document.now))) (2 ^ 64 - 1) }
     ensures sound { IsSound (tree (content document.now)) }

@@ -6,8 +6,8 @@ ghost use Rattle.bson_model.specs.View.{view, items_of, content};
 
 use bson_model::{Bson, Document};
 
-/// How many documents, arrays and scopes lie inside each other: 0 for a scalar, 1 for a document or array of scalars. No tree
-/// that fits into a machine has more than `usize::MAX`; it would be answered for such.
+/// How many documents, arrays and scopes lie inside each other: 0 for a scalar, 1 for a document or array of scalars.
+/// No tree that fits into a machine has more than `usize::MAX`; it would be returned for such.
 #[cycle(depth)]
 pub fn depth(value: &Bson) -> usize
     ensures { result ≡ min (levels (view value.now)) (2 ^ 64 - 1) }

@@ -4,7 +4,8 @@ ghost use Rattle.std.specs.Prelude.{◌≡◌, ◌↔◌, chars, IsTrue};
 ghost use Rattle.bson_base.specs.Options.{sorted_text};
 ghost use Rattle.bson_meaning.specs.Counts.{count, StandAlike};
 
-/// Whether two texts have the same characters equally often. Texts that are equal, or differ in length, are told at once.
+/// Whether two texts have the same characters equally often. Texts that are equal, or differ in length, are decided at
+/// once.
 pub(crate) fn same_options(options: &str, others: &str) -> bool
     ensures { IsTrue result ↔ (sorted_text options.now ≡ sorted_text others.now) }
 {

@@ -34,7 +34,8 @@ fn quiet(double: DoubleBits) -> DoubleBits
     }
 }
 
-/// The double, or the quiet NaN of its sign where it is a NaN, or the positive zero where it is a zero and the zeros are one.
+/// The double, or the quiet NaN of its sign where it is a NaN, or the positive zero where it is a zero and the zeros
+/// are one.
 #[tactic(auto, unfolding(crate::specs::Forms::normal_double))]
 pub(crate) fn normal_double(zeros: Zeros, double: DoubleBits) -> DoubleBits
     ensures { result.0 ≡ double_normal zeros double.0 }

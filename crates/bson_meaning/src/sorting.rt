@@ -12,8 +12,8 @@ ghost use Rattle.bson_meaning.specs.Pairs.{sorted_pair};
 use bson_model::{Bson, Document, JavaScriptCodeWithScope};
 use std::alloc::{AllocError, Global};
 
-/// The document with its keys ascending by their bytes, and so each document and scope inside; arrays keep their order. The
-/// error is a refused growth; the document is dropped then.
+/// The document with its keys ascending by their bytes, and so each document and scope inside; arrays keep their order.
+/// The error is a refused growth; the document is dropped then.
 #[cycle(sorted)]
 pub fn sorted(alloc: Global, document: Document) -> Result<Document, AllocError>
     ensures { IfOk result (λ d. content d ≡ asc_members (content document)) }
@@ -36,8 +36,8 @@ fn sorted_pairs(alloc: Global, document: Document) -> Result<Vec<(String, Bson)>
     Ok(pairs)
 }
 
-/// The value with the keys of each document and scope in it ascending by their bytes; arrays keep their order. The error is a
-/// refused growth; the value is dropped then.
+/// The value with the keys of each document and scope in it ascending by their bytes; arrays keep their order. The
+/// error is a refused growth; the value is dropped then.
 #[cycle(sorted)]
 pub fn sort_keys(alloc: Global, value: Bson) -> Result<Bson, AllocError>
     ensures { IfOk result (λ v. view v ≡ asc (view value)) }

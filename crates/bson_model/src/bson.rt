@@ -25,8 +25,8 @@ pub type Array = Vec<Bson>;
 
 /// A value of one of the 21 kinds of BSON (bsonspec.org 1.1). Contracts see it as its tree, by `view`.
 ///
-/// Two values are equal where their trees are, with documents compared as maps at every depth: the order of the keys does
-/// not count. Doubles are equal where their patterns are.
+/// Two values are equal where their trees are, with documents compared as maps at every depth: the order of the keys
+/// does not count. Doubles are equal where their patterns are.
 #[cycle(bson)]
 #[derive(Debug, PartialEq, Eq, Hash, Drop)]
 pub enum Bson {
@@ -253,7 +253,7 @@ impl Bson {
         }
     }
 
-    /// `Some` where it is Null.
+    /// `Some` if it is Null.
     pub fn as_null(&self) -> Option<()>
         ensures { is_some result ≡ kinds.is_null (view self.now) }
     {

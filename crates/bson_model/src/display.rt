@@ -14,8 +14,8 @@ use bson_base::plain::write_plainly;
 use bson_base::{DateTime, DbPointer, DoubleBits};
 use std::{fmt, str};
 
-/// The value as text: `"text"`, `[a, b]`, `{ "k": v, "l": w }`, integers in decimal, a double as `0x` and the 16 digits of its
-/// pattern, the other kinds by their names.
+/// The value as text: `"text"`, `[a, b]`, `{ "k": v, "l": w }`, integers in decimal, a double as `0x` and the 16 digits
+/// of its pattern, the other kinds by their names.
 impl fmt::Display for Bson {
     ghost output = { λ v. Some (display_text (view v)) };
 

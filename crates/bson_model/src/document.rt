@@ -33,11 +33,11 @@ pub enum ValueAccessError {
     UnexpectedType,
 }
 
-/// What a typed getter answers.
+/// What a typed getter returns.
 pub type ValueAccessResult<T> = Result<T, ValueAccessError>;
 
-/// Pairs of a key and a value, in the order in which the keys came, where no key stands twice (bsonspec.org 1.1, "document").
-/// Contracts see the list of the pairs, by `pairs_of`.
+/// Pairs of a key and a value, in the order in which the keys came, where no key stands twice (bsonspec.org 1.1,
+/// "document"). Contracts see the list of the pairs, by `pairs_of`.
 ///
 /// Two documents are equal where each has the other's keys and equal values under them: the order does not count.
 #[cycle(bson)]
@@ -85,8 +85,8 @@ impl Document {
         self.pairs.get(key)
     }
 
-    /// The place of a key, and the number of keys that it was compared with: at most as many as the number of pairs has binary
-    /// digits, and 0 where there are no pairs. It takes no memory.
+    /// The place of a key, and the number of keys that it was compared with: at most as many as the number of pairs has
+    /// binary digits, and 0 where there are no pairs. It takes no memory.
     pub fn find_index(&self, key: &str) -> (Option<usize>, u64)
         ensures index { result.0 ≡ place_of key.now (pairs_of self.now) }
         ensures compared { AtMostDigits result.1 (length (pairs_of self.now)) }
@@ -118,8 +118,9 @@ impl Document {
         self.pairs.get_index_mut(index)
     }
 
-    /// Puts a value under a key, and gives back the value that was there. A key that is there keeps its place, and a new one
-    /// goes last. It fails only where the key is new and there is no memory for the pair, and changes nothing then.
+    /// Puts a value under a key, and gives back the value that was there. A key that is there keeps its place, and a
+    /// new one goes last. It fails only where the key is new and there is no memory for the pair, and changes nothing
+    /// then.
     pub fn insert(&mut self, key: String, value: Bson) -> Result<Option<Bson>, AllocError>
         ensures before { IfOk result (λ before. option_map view before ≡ get (string_bytes key) (pairs_of self.old)) }
         ensures ok { OnOk result (pairs_of self.new ≡ put (string_bytes key) (view value) (pairs_of self.old)) }
@@ -183,9 +184,9 @@ impl Document {
         self.pairs.remove(key)
     }
 
-    /// Puts each value under its key, one after the other, as `insert` does. Where there is no memory for one, its key is new,
-    /// and the pairs before it stay. Many pairs, in whatever order of keys, take a time that grows little faster than their
-    /// number; `insert`, called as often, may move the index of all keys each time.
+    /// Puts each value under its key, one after the other, as `insert` does. Where there is no memory for one, its key
+    /// is new, and the pairs before it stay. Many pairs, in whatever order of keys, take a time that grows little
+    /// faster than their number; `insert`, called as often, may move the index of all keys each time.
     pub fn extend(&mut self, pairs: Vec<(String, Bson)>) -> Result<(), AllocError>
         ensures ok { OnOk result (pairs_of self.new ≡ put_all pairs.items (pairs_of self.old)) }
         ensures err { OnErr result (PutsSome pairs.items (pairs_of self.old) (pairs_of self.new)) }
@@ -194,8 +195,8 @@ impl Document {
         self.pairs.extend(pairs)
     }
 
-    /// The document of these pairs, put one after the other as `insert` does: where a key stands twice, it has the place of the
-    /// first pair and the value of the last.
+    /// The document of these pairs, put one after the other as `insert` does: where a key stands twice, it has the
+    /// place of the first pair and the value of the last.
     pub fn from_pairs(alloc: Global, pairs: Vec<(String, Bson)>) -> Result<Document, AllocError>
         ensures { IfOk result (λ d. pairs_of d ≡ put_all pairs.items []) }
     {
@@ -212,7 +213,7 @@ impl Document {
     }
 }
 
-/// The typed getters. Each answers `NotPresent` where the key is absent, and `UnexpectedType` where a value of another kind
+/// The typed getters. Each returns `NotPresent` if the key is absent, and `UnexpectedType` if a value of another kind
 /// stands under it.
 impl Document {
     ghost use Rattle.std.specs.Borrow.{bool as truth_row, i32 as i32_row, i64 as i64_row};

@@ -1,5 +1,5 @@
-//! What no single call promises: the laws of equality and hashing, and that no key stands twice. Each function is called for
-//! its fact alone.
+//! What no single call promises: the laws of equality and hashing, and that no key stands twice. Each function is
+//! called for its fact alone.
 ghost use Rattle.std.specs.Prelude.{◌≡◌, ◌↔◌, IsTrue, bytes_eq, map};
 ghost use Rattle.bson_model.specs.Equal.{Equal};
 ghost use Rattle.std.specs.Cmp.{IsEquivalence};
@@ -60,8 +60,8 @@ pub fn hashing_of_documents()
     hashing::<Document>();
 }
 
-/// Two values are equal exactly where their trees are, with documents compared as maps at every depth. It goes through both
-/// values for the fact that no key stands twice.
+/// Two values are equal exactly where their trees are, with documents compared as maps at every depth. It goes through
+/// both values for the fact that no key stands twice.
 pub fn equality_of_trees(a: &Bson, b: &Bson) -> bool
     ensures { IsTrue result ↔ Equal (view a.now) (view b.now) }
 {

@@ -4,8 +4,9 @@ ghost use Rattle.std.specs.Prelude.{◌≡◌, ◌+◌, MatchResult};
 
 use std::alloc::AllocError;
 
-/// So many documents, arrays and scopes inside each other are made into a tree of bytes, or of JSON. As the calls that make it call
-/// themselves for each level, and the stack is memory too, they return out of memory where there are more, before they go deeper.
+/// So many documents, arrays and scopes inside each other are made into a tree of bytes, or of JSON. As the calls that
+/// make it call themselves for each level, and the stack is memory too, they return out of memory where there are more,
+/// before they go deeper.
 pub const STACK_LEVELS: u32 = 1000;
 
 /// How many levels may lie inside one of so many; out of memory where it would be one too many. Takes no memory.

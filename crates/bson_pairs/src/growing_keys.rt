@@ -9,8 +9,8 @@ use std::alloc::{AllocError, Global};
 use std::collections::BTreeMap;
 use std::marker::Model;
 
-/// Distinct texts in their order, with a tree of their places in which a new one moves few others. Contracts see the list of
-/// the texts.
+/// Distinct texts in their order, with a tree of their places in which a new one moves few others. Contracts see the
+/// list of the texts.
 #[derive(Drop)]
 pub(crate) struct GrowingKeys {
     texts: Vec<String>,

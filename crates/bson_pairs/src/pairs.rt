@@ -234,9 +234,9 @@ impl<V: Drop> Pairs<V> {
         put
     }
 
-    /// Puts each value under its key, one after the other, as `insert` does. Where there is no memory for one, its key is new,
-    /// and the pairs before it stay. A long list goes by a tree, so that many new keys, in whatever order, don't move the
-    /// index each time; without memory for that it goes as `insert` does.
+    /// Puts each value under its key, one after the other, as `insert` does. Where there is no memory for one, its key
+    /// is new, and the pairs before it stay. A long list goes by a tree, so that many new keys, in whatever order,
+    /// don't move the index each time; without memory for that it goes as `insert` does.
     pub fn extend(&mut self, pairs: Vec<(String, V)>) -> Result<(), AllocError>
         ensures ok { OnOk result (self.new ≡ put_each pairs.items self.old) }
         ensures err { OnErr result (PutsBeforeNew pairs.items self.old self.new) }

@@ -18,8 +18,8 @@ use bson_frame::{Error, ValueAccessResult};
 use bson_model::{Array, STACK_LEVELS};
 use std::alloc::Global;
 
-/// A view of the bytes of an array: a document whose keys don't count (bsonspec.org 1.1, element type 04). Two views are equal
-/// where their bytes are.
+/// A view of the bytes of an array: a document whose keys don't count (bsonspec.org 1.1, element type 04). Two views
+/// are equal where their bytes are.
 #[derive(Clone, Copy, Debug, PartialEq)]
 pub struct RawArray<'a> {
     pub(crate) document: RawDocument<'a>,
@@ -47,8 +47,8 @@ impl<'a> RawArray<'a> {
         self.document.is_empty()
     }
 
-    /// The values in order, payload faults in their places, and a structural fault last. Memory is taken for the key of a
-    /// payload fault alone; where it finds none, want of memory stands in its place and the walk goes on.
+    /// The values in order, payload faults in their places, and a structural fault last. Memory is taken for the key of
+    /// a payload fault alone; if there is none, out of memory is returned in its place and the walk goes on.
     pub fn iter(self, alloc: Global) -> RawArrayIter<'a>
         ensures start { values_left result ≡ Some (drop 4 (array_bytes self.entry)) }
         ensures walk { (items : List (Result AnyValue Fault)) → Drains value_steps result items
@@ -69,8 +69,8 @@ impl<'a> RawArray<'a> {
         self.document.iter_elements().nth(index)
     }
 
-    /// The value at the place, counted from 0, whatever its key, or the fault there; none past the end. Memory is taken for
-    /// the key of a payload fault alone.
+    /// The value at the place, counted from 0, whatever its key, or the fault there; none past the end. Memory is taken
+    /// for the key of a payload fault alone.
     pub fn get(self, alloc: Global, index: usize) -> Result<Option<RawBsonRef<'a>>, Error>
         ensures { OnWalk (array_bytes self.entry) (λ elements fault. GetAnswer (found_at index elements fault) result) }
     {
@@ -93,7 +93,7 @@ impl<'a> RawArray<'a> {
 
     /// The double at the place, counted from 0. The key of an error is the place in decimal.
     ///
-    /// `NotPresent` past the end, `UnexpectedType` where a value of another kind stands, `InvalidBson` where `get` answers a
+    /// `NotPresent` past the end, `UnexpectedType` if the value is of another kind, `InvalidBson` if `get` returns a
     /// fault. Memory is taken for an error alone.
     pub fn get_f64(self, alloc: Global, index: usize) -> ValueAccessResult<DoubleBits>
         ensures { OnWalk (array_bytes self.entry) (λ elements fault. AccessAnswer as_f64 (decimal index) (found_at index elements fault) result) }
@@ -103,7 +103,7 @@ impl<'a> RawArray<'a> {
 
     /// The text at the place, counted from 0. The key of an error is the place in decimal.
     ///
-    /// `NotPresent` past the end, `UnexpectedType` where a value of another kind stands, `InvalidBson` where `get` answers a
+    /// `NotPresent` past the end, `UnexpectedType` if the value is of another kind, `InvalidBson` if `get` returns a
     /// fault. Memory is taken for an error alone.
     pub fn get_str(self, alloc: Global, index: usize) -> ValueAccessResult<&'a str>
         ensures { OnWalk (array_bytes self.entry) (λ elements fault. AccessAnswer as_str (decimal index) (found_at index elements fault) result) }
@@ -113,7 +113,7 @@ impl<'a> RawArray<'a> {
 
     /// The document at the place, counted from 0. The key of an error is the place in decimal.
     ///
-    /// `NotPresent` past the end, `UnexpectedType` where a value of another kind stands, `InvalidBson` where `get` answers a
+    /// `NotPresent` past the end, `UnexpectedType` if the value is of another kind, `InvalidBson` if `get` returns a
     /// fault. Memory is taken for an error alone.
     pub fn get_document(self, alloc: Global, index: usize) -> ValueAccessResult<RawDocument<'a>>
         ensures { OnWalk (array_bytes self.entry) (λ elements fault. AccessAnswer as_document (decimal index) (found_at index elements fault) result) }
@@ -123,7 +123,7 @@ impl<'a> RawArray<'a> {
 
     /// The array at the place, counted from 0. The key of an error is the place in decimal.
     ///
-    /// `NotPresent` past the end, `UnexpectedType` where a value of another kind stands, `InvalidBson` where `get` answers a
+    /// `NotPresent` past the end, `UnexpectedType` if the value is of another kind, `InvalidBson` if `get` returns a
     /// fault. Memory is taken for an error alone.
     pub fn get_array(self, alloc: Global, index: usize) -> ValueAccessResult<RawArray<'a>>
         ensures { OnWalk (array_bytes self.entry) (λ elements fault. AccessAnswer as_array (decimal index) (found_at index elements fault) result) }
@@ -133,7 +133,7 @@ impl<'a> RawArray<'a> {
 
     /// The binary value at the place, counted from 0. The key of an error is the place in decimal.
     ///
-    /// `NotPresent` past the end, `UnexpectedType` where a value of another kind stands, `InvalidBson` where `get` answers a
+    /// `NotPresent` past the end, `UnexpectedType` if the value is of another kind, `InvalidBson` if `get` returns a
     /// fault. Memory is taken for an error alone.
     pub fn get_binary(self, alloc: Global, index: usize) -> ValueAccessResult<RawBinaryRef<'a>>
         ensures { OnWalk (array_bytes self.entry) (λ elements fault. AccessAnswer as_binary (decimal index) (found_at index elements fault) result) }
@@ -143,7 +143,7 @@ impl<'a> RawArray<'a> {
 
     /// The object id at the place, counted from 0. The key of an error is the place in decimal.
     ///
-    /// `NotPresent` past the end, `UnexpectedType` where a value of another kind stands, `InvalidBson` where `get` answers a
+    /// `NotPresent` past the end, `UnexpectedType` if the value is of another kind, `InvalidBson` if `get` returns a
     /// fault. Memory is taken for an error alone.
     pub fn get_object_id(self, alloc: Global, index: usize) -> ValueAccessResult<ObjectId>
         ensures { OnWalk (array_bytes self.entry) (λ elements fault. AccessAnswer as_object_id (decimal index) (found_at index elements fault) result) }
@@ -153,7 +153,7 @@ impl<'a> RawArray<'a> {
 
     /// The boolean at the place, counted from 0. The key of an error is the place in decimal.
     ///
-    /// `NotPresent` past the end, `UnexpectedType` where a value of another kind stands, `InvalidBson` where `get` answers a
+    /// `NotPresent` past the end, `UnexpectedType` if the value is of another kind, `InvalidBson` if `get` returns a
     /// fault. Memory is taken for an error alone.
     pub fn get_bool(self, alloc: Global, index: usize) -> ValueAccessResult<bool>
         ensures { OnWalk (array_bytes self.entry) (λ elements fault. AccessAnswer as_bool (decimal index) (found_at index elements fault) result) }
@@ -163,7 +163,7 @@ impl<'a> RawArray<'a> {
 
     /// The moment at the place, counted from 0. The key of an error is the place in decimal.
     ///
-    /// `NotPresent` past the end, `UnexpectedType` where a value of another kind stands, `InvalidBson` where `get` answers a
+    /// `NotPresent` past the end, `UnexpectedType` if the value is of another kind, `InvalidBson` if `get` returns a
     /// fault. Memory is taken for an error alone.
     pub fn get_datetime(self, alloc: Global, index: usize) -> ValueAccessResult<DateTime>
         ensures { OnWalk (array_bytes self.entry) (λ elements fault. AccessAnswer as_datetime (decimal index) (found_at index elements fault) result) }
@@ -173,7 +173,7 @@ impl<'a> RawArray<'a> {
 
     /// The regular expression at the place, counted from 0. The key of an error is the place in decimal.
     ///
-    /// `NotPresent` past the end, `UnexpectedType` where a value of another kind stands, `InvalidBson` where `get` answers a
+    /// `NotPresent` past the end, `UnexpectedType` if the value is of another kind, `InvalidBson` if `get` returns a
     /// fault. Memory is taken for an error alone.
     pub fn get_regex(self, alloc: Global, index: usize) -> ValueAccessResult<RawRegexRef<'a>>
         ensures { OnWalk (array_bytes self.entry) (λ elements fault. AccessAnswer as_regex (decimal index) (found_at index elements fault) result) }
@@ -183,7 +183,7 @@ impl<'a> RawArray<'a> {
 
     /// The timestamp at the place, counted from 0. The key of an error is the place in decimal.
     ///
-    /// `NotPresent` past the end, `UnexpectedType` where a value of another kind stands, `InvalidBson` where `get` answers a
+    /// `NotPresent` past the end, `UnexpectedType` if the value is of another kind, `InvalidBson` if `get` returns a
     /// fault. Memory is taken for an error alone.
     pub fn get_timestamp(self, alloc: Global, index: usize) -> ValueAccessResult<Timestamp>
         ensures { OnWalk (array_bytes self.entry) (λ elements fault. AccessAnswer as_timestamp (decimal index) (found_at index elements fault) result) }
@@ -193,7 +193,7 @@ impl<'a> RawArray<'a> {
 
     /// The integer of 32 bits at the place, counted from 0. The key of an error is the place in decimal.
     ///
-    /// `NotPresent` past the end, `UnexpectedType` where a value of another kind stands, `InvalidBson` where `get` answers a
+    /// `NotPresent` past the end, `UnexpectedType` if the value is of another kind, `InvalidBson` if `get` returns a
     /// fault. Memory is taken for an error alone.
     pub fn get_i32(self, alloc: Global, index: usize) -> ValueAccessResult<i32>
         ensures { OnWalk (array_bytes self.entry) (λ elements fault. AccessAnswer as_i32 (decimal index) (found_at index elements fault) result) }
@@ -203,7 +203,7 @@ impl<'a> RawArray<'a> {
 
     /// The integer of 64 bits at the place, counted from 0. The key of an error is the place in decimal.
     ///
-    /// `NotPresent` past the end, `UnexpectedType` where a value of another kind stands, `InvalidBson` where `get` answers a
+    /// `NotPresent` past the end, `UnexpectedType` if the value is of another kind, `InvalidBson` if `get` returns a
     /// fault. Memory is taken for an error alone.
     pub fn get_i64(self, alloc: Global, index: usize) -> ValueAccessResult<i64>
         ensures { OnWalk (array_bytes self.entry) (λ elements fault. AccessAnswer as_i64 (decimal index) (found_at index elements fault) result) }
@@ -222,7 +222,8 @@ impl RawArray<'_> {
 
     /// The items that the bytes mean, in their order, whatever their keys.
     ///
-    /// Errors are those of `RawDocument::to_document`: the first fault at any depth, or `OutOfMemory`. The array counts as a level.
+    /// Errors are those of `RawDocument::to_document`: the first fault at any depth, or `OutOfMemory`. The array counts
+    /// as a level.
     pub fn to_array(self, alloc: Global) -> Result<Array, Error>
         ensures tree { MatchResult result (λ a. MeansItems (array_bytes self.entry) (items_of (map view a.items)))
             (TellsFault (HasFault (drop 4 (array_bytes self.entry)))) }

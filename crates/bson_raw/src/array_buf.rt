@@ -13,8 +13,8 @@ use crate::laws;
 use bson_frame::Error;
 use std::alloc::{AllocError, Global};
 
-/// The bytes of one array: a document whose keys are the places in decimal (bsonspec.org 1.1, element type 04). Two are equal
-/// where their bytes are.
+/// The bytes of one array: a document whose keys are the places in decimal (bsonspec.org 1.1, element type 04). Two are
+/// equal where their bytes are.
 #[derive(Drop)]
 #[derive_where(Debug, PartialEq)]
 pub struct RawArrayBuf {
@@ -61,8 +61,8 @@ impl RawArrayBuf {
 
     /// The array of these values, one after the other.
     ///
-    /// The first refusal ends it and is answered: `MalformedValue`, under no key, where a 00 stands in a pattern or options,
-    /// and where the array would be over 2147483647 bytes; `OutOfMemory` where a growth is refused.
+    /// The first refusal ends it and is returned: `MalformedValue`, under no key, if a 00 stands in a pattern or
+    /// options, and if the array would be over 2147483647 bytes; `OutOfMemory` if a growth is refused.
     pub fn from_iter(alloc: Global, values: Vec<RawBson>) -> Result<RawArrayBuf, Error>
         ensures bytes { Builds array_buffer_bytes (items_from 0 values.items) result }
         ensures place { IfOk result (λ a. next_place a ≡ length values.items) }
@@ -76,8 +76,8 @@ impl RawArrayBuf {
 
     /// Puts a value last. Its key is the number of the values in front of it, in decimal.
     ///
-    /// `MalformedValue`, under no key, where a 00 stands in a pattern or options, and where the array would be over 2147483647
-    /// bytes. A refusal changes nothing.
+    /// `MalformedValue`, under no key, if a 00 stands in a pattern or options, and if the array would be over
+    /// 2147483647 bytes. A refusal changes nothing.
     pub fn push(&mut self, value: RawBson) -> Result<(), Error>
         ensures value { AppendsElement (array_buffer_bytes self.old) (array_buffer_bytes self.new) (decimal (next_place self.old)) (own_value value) result }
         ensures walk { OnOk result (Gains (array_buffer_bytes self.old) (array_buffer_bytes self.new) (element_for (decimal (next_place self.old)) (own_value value))) }
@@ -103,8 +103,8 @@ impl RawArrayBuf {
         }
     }
 
-    /// The values in order, payload faults in their places, and a structural fault last. Memory is taken for the key of a
-    /// payload fault alone; where it finds none, want of memory stands in its place and the walk goes on.
+    /// The values in order, payload faults in their places, and a structural fault last. Memory is taken for the key of
+    /// a payload fault alone; if there is none, out of memory is returned in its place and the walk goes on.
     pub fn iter(&self) -> RawArrayIter<'_>
         ensures start { values_left result ≡ Some (drop 4 (array_buffer_bytes self.now)) }
         ensures walk { (items : List (Result AnyValue Fault)) → Drains value_steps result items
@@ -134,8 +134,8 @@ impl<'a> RawArray<'a> {
     ghost use Rattle.bson_raw.specs.Places.{GoesOn};
     ghost use Rattle.bson_raw.specs.View.{array_bytes};
 
-    /// A copy of the bytes, in which the next value has the number of the items here as its place; a fault counts as an item.
-    /// The error is a refused growth.
+    /// A copy of the bytes, in which the next value has the number of the items here as its place; a fault counts as an
+    /// item. The error is a refused growth.
     pub fn to_raw_array_buf(self, alloc: Global) -> Result<RawArrayBuf, AllocError>
         ensures bytes { IfOk result (λ a. array_buffer_bytes a ≡ array_bytes self.entry) }
         ensures place { IfOk result GoesOn }

@@ -61,8 +61,8 @@ pub struct RawDbPointerRef<'a> {
     pub id: ObjectId,
 }
 
-/// A value that borrows its bytes (bsonspec.org 1.1, "element"). Two are equal where they are of one kind and their bytes and
-/// numbers are equal.
+/// A value that borrows its bytes (bsonspec.org 1.1, "element"). Two are equal where they are of one kind and their
+/// bytes and numbers are equal.
 #[derive(Clone, Copy, Debug, PartialEq)]
 pub enum RawBsonRef<'a> {
     /// A double, as its pattern (element type 01).
@@ -320,11 +320,11 @@ impl RawBsonRef<'_> {
     ghost use Rattle.bson_raw.specs.Convert.{ConvertsValue, SpellsRawValue, TellsFault};
     ghost use Rattle.bson_raw.specs.Raw.{ref_value};
 
-    /// The tree of the value: documents, arrays and scopes inside are converted, and the options of a regular expression put
-    /// into the order of their characters.
+    /// The tree of the value: documents, arrays and scopes inside are converted, and the options of a regular
+    /// expression put into the order of their characters.
     ///
-    /// Errors are those of `RawDocument::to_document`: the first fault at any depth, or `OutOfMemory`. A value that is a document,
-    /// an array or a code with scope counts as a level.
+    /// Errors are those of `RawDocument::to_document`: the first fault at any depth, or `OutOfMemory`. A value that is
+    /// a document, an array or a code with scope counts as a level.
     pub fn to_bson(self, alloc: Global) -> Result<Bson, Error>
         ensures tree { ConvertsValue (ref_value self.entry) result }
         ensures none { IfErr result (TellsFault (λ _ _. (v : Value) → SpellsRawValue (ref_value self.entry) v → ⊥)) }

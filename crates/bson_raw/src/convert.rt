@@ -1,6 +1,6 @@
-//! From bytes to trees. Elements are read from the front, once each, and the reader goes into an array, a document or a scope
-//! where it meets it; so the fault that is told is the first in the order of the bytes. The stack is memory too: where more than
-//! `STACK_LEVELS` lie inside each other, a call returns out of memory before it goes deeper.
+//! From bytes to trees. Elements are read from the front, once each, and the reader goes into an array, a document or a
+//! scope where it meets it; so the fault that is reported is the first in the order of the bytes. The stack is memory
+//! too: where more than `STACK_LEVELS` lie inside each other, a call returns out of memory before it goes deeper.
 
 ghost use Rattle.std.specs.Prelude.{◌≡◌, ◌≢◌, ℕ, List, ◌<◌, ◌↔◌, ◌∷◌, ◌+◌, [], drop, length, string_bytes, IfOk, IsTrue, MatchResult, OnOk};
 ghost use Rattle.bson_base.specs.Options.{sorted_text};
@@ -89,8 +89,8 @@ fn take_pair(
     }
 }
 
-/// The document of these elements, among which so many levels may lie. Many pairs are put together at the end, so that they
-/// take no more than their sorting, in whatever order of keys.
+/// The document of these elements, among which so many levels may lie. Many pairs are put together at the end, so that
+/// they take no more than their sorting, in whatever order of keys.
 #[cycle(convert)]
 pub(crate) fn document_of(alloc: Global, elements: &[u8], levels: u32) -> Result<Document, Error>
     ensures { ConvertsMembers elements.now result }

@@ -20,8 +20,9 @@ use bson_frame::{Error, ErrorKind, ValueAccessResult, is_envelope};
 use bson_model::{Document, STACK_LEVELS};
 use std::alloc::Global;
 
-/// A view of the bytes of one document (bsonspec.org 1.1, "document"): at least 5 bytes, their number in the first four, and
-/// 00 as the last. What stands between isn't looked at until it is read. Two views are equal where their bytes are.
+/// A view of the bytes of one document (bsonspec.org 1.1, "document"): at least 5 bytes, their number in the first
+/// four, and 00 as the last. What stands between isn't looked at until it is read. Two views are equal where their
+/// bytes are.
 #[derive(Clone, Copy, Debug, PartialEq)]
 pub struct RawDocument<'a> {
     pub(crate) bytes: &'a [u8],
@@ -40,8 +41,8 @@ impl<'a> RawDocument<'a> {
     ghost use Rattle.std.specs.Borrow.{Bor};
     ghost use Rattle.std.specs.Prelude.{ℕ, Option};
 
-    /// The view of these bytes. `MalformedValue`, under no key, where they aren't at least 5, don't declare their own number
-    /// or don't end in 00.
+    /// The view of these bytes. `MalformedValue`, under no key, if they aren't at least 5, don't declare their own
+    /// number or don't end in 00.
     pub fn from_bytes(bytes: &'a [u8]) -> Result<RawDocument<'a>, Error>
         ensures { MatchResult result (λ d. bytes_of d ≡ bytes.now)
             (λ e. (IsEnvelope bytes.now → ⊥) × IsBare MalformedValue e) }
@@ -77,8 +78,8 @@ impl<'a> RawDocument<'a> {
         RawIter { rest: Some(rest) }
     }
 
-    /// The keys and values in order, payload faults in their places, and a structural fault last. Memory is taken for the key
-    /// of a payload fault alone; where it finds none, want of memory stands in its place and the walk goes on.
+    /// The keys and values in order, payload faults in their places, and a structural fault last. Memory is taken for
+    /// the key of a payload fault alone; if there is none, out of memory is returned in its place and the walk goes on.
     pub fn iter(self, alloc: Global) -> Iter<'a>
         ensures start { pairs_left result ≡ Some (drop 4 (bytes_of self.entry)) }
         ensures walk { (items : List (Result (Bor (List ℕ) × AnyValue) Fault)) → Drains pair_steps result items
@@ -109,8 +110,8 @@ impl<'a> RawDocument<'a> {
         None
     }
 
-    /// The value of the first element with the key, or its payload fault, or the structural fault before it. Memory is taken
-    /// for the key of a payload fault alone.
+    /// The value of the first element with the key, or its payload fault, or the structural fault before it. Memory is
+    /// taken for the key of a payload fault alone.
     pub fn get(self, alloc: Global, key: &str) -> Result<Option<RawBsonRef<'a>>, Error>
         ensures { OnWalk (bytes_of self.entry) (λ elements fault. GetAnswer (found_under key.now elements fault) result) }
     {
@@ -133,8 +134,8 @@ impl<'a> RawDocument<'a> {
 
     /// The double under the key.
     ///
-    /// `NotPresent` where no element has the key, `UnexpectedType` where the first one has a value of another kind, `InvalidBson`
-    /// where `get` answers a fault. Memory is taken for an error alone.
+    /// `NotPresent` if no element has the key, `UnexpectedType` if the first one has a value of another kind,
+    /// `InvalidBson` if `get` returns a fault. Memory is taken for an error alone.
     pub fn get_f64(self, alloc: Global, key: &str) -> ValueAccessResult<DoubleBits>
         ensures { OnWalk (bytes_of self.entry) (λ elements fault. AccessAnswer as_f64 key.now (found_under key.now elements fault) result) }
     {
@@ -143,8 +144,8 @@ impl<'a> RawDocument<'a> {
 
     /// The text under the key.
     ///
-    /// `NotPresent` where no element has the key, `UnexpectedType` where the first one has a value of another kind, `InvalidBson`
-    /// where `get` answers a fault. Memory is taken for an error alone.
+    /// `NotPresent` if no element has the key, `UnexpectedType` if the first one has a value of another kind,
+    /// `InvalidBson` if `get` returns a fault. Memory is taken for an error alone.
     pub fn get_str(self, alloc: Global, key: &str) -> ValueAccessResult<&'a str>
         ensures { OnWalk (bytes_of self.entry) (λ elements fault. AccessAnswer as_str key.now (found_under key.now elements fault) result) }
     {
@@ -153,8 +154,8 @@ impl<'a> RawDocument<'a> {
 
     /// The document under the key.
     ///
-    /// `NotPresent` where no element has the key, `UnexpectedType` where the first one has a value of another kind, `InvalidBson`
-    /// where `get` answers a fault. Memory is taken for an error alone.
+    /// `NotPresent` if no element has the key, `UnexpectedType` if the first one has a value of another kind,
+    /// `InvalidBson` if `get` returns a fault. Memory is taken for an error alone.
     pub fn get_document(self, alloc: Global, key: &str) -> ValueAccessResult<RawDocument<'a>>
         ensures { OnWalk (bytes_of self.entry) (λ elements fault. AccessAnswer as_document key.now (found_under key.now elements fault) result) }
     {
@@ -163,8 +164,8 @@ impl<'a> RawDocument<'a> {
 
     /// The array under the key.
     ///
-    /// `NotPresent` where no element has the key, `UnexpectedType` where the first one has a value of another kind, `InvalidBson`
-    /// where `get` answers a fault. Memory is taken for an error alone.
+    /// `NotPresent` if no element has the key, `UnexpectedType` if the first one has a value of another kind,
+    /// `InvalidBson` if `get` returns a fault. Memory is taken for an error alone.
     pub fn get_array(self, alloc: Global, key: &str) -> ValueAccessResult<RawArray<'a>>
         ensures { OnWalk (bytes_of self.entry) (λ elements fault. AccessAnswer as_array key.now (found_under key.now elements fault) result) }
     {
@@ -173,8 +174,8 @@ impl<'a> RawDocument<'a> {
 
     /// The binary value under the key.
     ///
-    /// `NotPresent` where no element has the key, `UnexpectedType` where the first one has a value of another kind, `InvalidBson`
-    /// where `get` answers a fault. Memory is taken for an error alone.
+    /// `NotPresent` if no element has the key, `UnexpectedType` if the first one has a value of another kind,
+    /// `InvalidBson` if `get` returns a fault. Memory is taken for an error alone.
     pub fn get_binary(self, alloc: Global, key: &str) -> ValueAccessResult<RawBinaryRef<'a>>
         ensures { OnWalk (bytes_of self.entry) (λ elements fault. AccessAnswer as_binary key.now (found_under key.now elements fault) result) }
     {
@@ -183,8 +184,8 @@ impl<'a> RawDocument<'a> {
 
     /// The object id under the key.
     ///
-    /// `NotPresent` where no element has the key, `UnexpectedType` where the first one has a value of another kind, `InvalidBson`
-    /// where `get` answers a fault. Memory is taken for an error alone.
+    /// `NotPresent` if no element has the key, `UnexpectedType` if the first one has a value of another kind,
+    /// `InvalidBson` if `get` returns a fault. Memory is taken for an error alone.
     pub fn get_object_id(self, alloc: Global, key: &str) -> ValueAccessResult<ObjectId>
         ensures { OnWalk (bytes_of self.entry) (λ elements fault. AccessAnswer as_object_id key.now (found_under key.now elements fault) result) }
     {
@@ -193,8 +194,8 @@ impl<'a> RawDocument<'a> {
 
     /// The boolean under the key.
     ///
-    /// `NotPresent` where no element has the key, `UnexpectedType` where the first one has a value of another kind, `InvalidBson`
-    /// where `get` answers a fault. Memory is taken for an error alone.
+    /// `NotPresent` if no element has the key, `UnexpectedType` if the first one has a value of another kind,
+    /// `InvalidBson` if `get` returns a fault. Memory is taken for an error alone.
     pub fn get_bool(self, alloc: Global, key: &str) -> ValueAccessResult<bool>
         ensures { OnWalk (bytes_of self.entry) (λ elements fault. AccessAnswer as_bool key.now (found_under key.now elements fault) result) }
     {
@@ -203,8 +204,8 @@ impl<'a> RawDocument<'a> {
 
     /// The moment under the key.
     ///
-    /// `NotPresent` where no element has the key, `UnexpectedType` where the first one has a value of another kind, `InvalidBson`
-    /// where `get` answers a fault. Memory is taken for an error alone.
+    /// `NotPresent` if no element has the key, `UnexpectedType` if the first one has a value of another kind,
+    /// `InvalidBson` if `get` returns a fault. Memory is taken for an error alone.
     pub fn get_datetime(self, alloc: Global, key: &str) -> ValueAccessResult<DateTime>
         ensures { OnWalk (bytes_of self.entry) (λ elements fault. AccessAnswer as_datetime key.now (found_under key.now elements fault) result) }
     {
@@ -213,8 +214,8 @@ impl<'a> RawDocument<'a> {
 
     /// The regular expression under the key.
     ///
-    /// `NotPresent` where no element has the key, `UnexpectedType` where the first one has a value of another kind, `InvalidBson`
-    /// where `get` answers a fault. Memory is taken for an error alone.
+    /// `NotPresent` if no element has the key, `UnexpectedType` if the first one has a value of another kind,
+    /// `InvalidBson` if `get` returns a fault. Memory is taken for an error alone.
     pub fn get_regex(self, alloc: Global, key: &str) -> ValueAccessResult<RawRegexRef<'a>>
         ensures { OnWalk (bytes_of self.entry) (λ elements fault. AccessAnswer as_regex key.now (found_under key.now elements fault) result) }
     {
@@ -223,8 +224,8 @@ impl<'a> RawDocument<'a> {
 
     /// The timestamp under the key.
     ///
-    /// `NotPresent` where no element has the key, `UnexpectedType` where the first one has a value of another kind, `InvalidBson`
-    /// where `get` answers a fault. Memory is taken for an error alone.
+    /// `NotPresent` if no element has the key, `UnexpectedType` if the first one has a value of another kind,
+    /// `InvalidBson` if `get` returns a fault. Memory is taken for an error alone.
     pub fn get_timestamp(self, alloc: Global, key: &str) -> ValueAccessResult<Timestamp>
         ensures { OnWalk (bytes_of self.entry) (λ elements fault. AccessAnswer as_timestamp key.now (found_under key.now elements fault) result) }
     {
@@ -233,8 +234,8 @@ impl<'a> RawDocument<'a> {
 
     /// The integer of 32 bits under the key.
     ///
-    /// `NotPresent` where no element has the key, `UnexpectedType` where the first one has a value of another kind, `InvalidBson`
-    /// where `get` answers a fault. Memory is taken for an error alone.
+    /// `NotPresent` if no element has the key, `UnexpectedType` if the first one has a value of another kind,
+    /// `InvalidBson` if `get` returns a fault. Memory is taken for an error alone.
     pub fn get_i32(self, alloc: Global, key: &str) -> ValueAccessResult<i32>
         ensures { OnWalk (bytes_of self.entry) (λ elements fault. AccessAnswer as_i32 key.now (found_under key.now elements fault) result) }
     {
@@ -243,8 +244,8 @@ impl<'a> RawDocument<'a> {
 
     /// The integer of 64 bits under the key.
     ///
-    /// `NotPresent` where no element has the key, `UnexpectedType` where the first one has a value of another kind, `InvalidBson`
-    /// where `get` answers a fault. Memory is taken for an error alone.
+    /// `NotPresent` if no element has the key, `UnexpectedType` if the first one has a value of another kind,
+    /// `InvalidBson` if `get` returns a fault. Memory is taken for an error alone.
     pub fn get_i64(self, alloc: Global, key: &str) -> ValueAccessResult<i64>
         ensures { OnWalk (bytes_of self.entry) (λ elements fault. AccessAnswer as_i64 key.now (found_under key.now elements fault) result) }
     {
@@ -260,13 +261,14 @@ impl RawDocument<'_> {
     ghost use Rattle.bson_raw.specs.Convert.{HasFault, TellsFault};
     ghost use Rattle.bson_raw.specs.View.{bytes_of};
 
-    /// The document that the bytes mean: a repeated key has its last value in the place of its first, and the options of a
-    /// regular expression are in the order of their characters.
+    /// The document that the bytes mean: a repeated key has its last value in the place of its first, and the options
+    /// of a regular expression are in the order of their characters.
     ///
     /// Where an element at any depth is faulty, the first fault in the order of the bytes: `MalformedValue`, or
-    /// `Utf8EncodingError` where a text isn't UTF-8, under the key of the element whose payload is faulty, or under none where
-    /// bytes begin with no element. `OutOfMemory`, under no key, where a growth was refused, and where over 1000 documents, arrays
-    /// and scopes lie inside each other, this one among them: the stack is memory too, and the call goes no deeper.
+    /// `Utf8EncodingError` where a text isn't UTF-8, under the key of the element whose payload is faulty, or under
+    /// none where bytes begin with no element. `OutOfMemory`, under no key, if a growth was refused, and if over 1000
+    /// documents, arrays and scopes lie inside each other, this one among them: the stack is memory too, and the call
+    /// goes no deeper.
     pub fn to_document(self, alloc: Global) -> Result<Document, Error>
         ensures tree { MatchResult result (λ d. Means (bytes_of self.entry) (content d))
             (TellsFault (HasFault (drop 4 (bytes_of self.entry)))) }

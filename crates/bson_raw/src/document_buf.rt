@@ -15,8 +15,8 @@ use crate::raw_iter::RawIter;
 use bson_frame::Error;
 use std::alloc::{AllocError, Global};
 
-/// The bytes of one document (bsonspec.org 1.1, "document"): at least 5 bytes, their number in the first four, and 00 as the
-/// last. What stands between isn't looked at until it is read. Two are equal where their bytes are.
+/// The bytes of one document (bsonspec.org 1.1, "document"): at least 5 bytes, their number in the first four, and 00
+/// as the last. What stands between isn't looked at until it is read. Two are equal where their bytes are.
 #[derive(Debug, PartialEq, Drop)]
 pub struct RawDocumentBuf {
     pub(crate) bytes: Vec<u8>,
@@ -45,7 +45,7 @@ impl RawDocumentBuf {
         Ok(RawDocumentBuf { bytes })
     }
 
-    /// The document of these bytes. `MalformedValue`, under no key, where they aren't at least 5, don't declare their own
+    /// The document of these bytes. `MalformedValue`, under no key, if they aren't at least 5, don't declare their own
     /// number or don't end in 00.
     pub fn from_bytes(bytes: Vec<u8>) -> Result<RawDocumentBuf, Error>
         ensures { MatchResult result (λ d. buffer_bytes d ≡ bytes.items)
@@ -73,8 +73,8 @@ impl RawDocumentBuf {
 
     /// The document of these values under their keys, one after the other.
     ///
-    /// The first refusal ends it and is answered: `MalformedValue`, under no key, where a 00 stands in a key, a pattern or
-    /// options, and where the document would be over 2147483647 bytes; `OutOfMemory` where a growth is refused.
+    /// The first refusal ends it and is returned: `MalformedValue`, under no key, if a 00 stands in a key, a pattern or
+    /// options, and if the document would be over 2147483647 bytes; `OutOfMemory` if a growth is refused.
     pub fn from_iter(alloc: Global, pairs: Vec<(String, RawBson)>) -> Result<RawDocumentBuf, Error>
         ensures { Builds buffer_bytes (map raw_pair pairs.items) result }
     {
@@ -85,10 +85,10 @@ impl RawDocumentBuf {
         Ok(document)
     }
 
-    /// Puts a value last, under a key. It takes time in proportion to the element, but for growths of the buffer.
+    /// Puts a value last, under a key. It takes time in proportion to the element, except for growths of the buffer.
     ///
-    /// `MalformedValue`, under no key, where a 00 stands in the key, a pattern or options, and where the document would be over
-    /// 2147483647 bytes. A refusal changes nothing.
+    /// `MalformedValue`, under no key, if a 00 stands in the key, a pattern or options, and if the document would be
+    /// over 2147483647 bytes. A refusal changes nothing.
     pub fn append_ref(&mut self, key: &str, value: RawBsonRef<'_>) -> Result<(), Error>
         ensures bytes { AppendsElement (buffer_bytes self.old) (buffer_bytes self.new) key.now (ref_value value.entry) result }
         ensures walk { OnOk result (Gains (buffer_bytes self.old) (buffer_bytes self.new) (element_for key.now (ref_value value.entry))) }
@@ -120,8 +120,8 @@ impl RawDocumentBuf {
         self.as_ref().iter_elements()
     }
 
-    /// The keys and values in order, payload faults in their places, and a structural fault last. Memory is taken for the key
-    /// of a payload fault alone; where it finds none, want of memory stands in its place and the walk goes on.
+    /// The keys and values in order, payload faults in their places, and a structural fault last. Memory is taken for
+    /// the key of a payload fault alone; if there is none, out of memory is returned in its place and the walk goes on.
     pub fn iter(&self) -> Iter<'_>
         ensures start { pairs_left result ≡ Some (drop 4 (buffer_bytes self.now)) }
         ensures walk { (items : List (Result (Bor (List ℕ) × AnyValue) Fault)) → Drains pair_steps result items

@@ -13,8 +13,8 @@ use bson_frame::{Error, ErrorKind, Frame};
 use bson_model::{Bson, STACK_LEVELS};
 use std::alloc::Global;
 
-/// An element whose value isn't read yet (bsonspec.org 1.1, "element"). Its payload has the size of its kind, as the walk
-/// gives no other.
+/// An element whose value isn't read yet (bsonspec.org 1.1, "element"). Its payload has the size of its kind, as the
+/// walk gives no other.
 #[derive(Clone, Copy, Debug)]
 pub struct RawElement<'a> {
     pub(crate) frame: Frame<'a>,
@@ -46,8 +46,8 @@ impl<'a> RawElement<'a> {
         self.frame.tag
     }
 
-    /// The value, or the kind of the payload fault: `Utf8EncodingError` where a text isn't UTF-8, else `MalformedValue`. Takes
-    /// no memory.
+    /// The value, or the kind of the payload fault: `Utf8EncodingError` where a text isn't UTF-8, else
+    /// `MalformedValue`. Takes no memory.
     pub fn value_or_kind(&self) -> Result<RawBsonRef<'a>, ErrorKind>
         ensures { IsDecoded (parts_of self.now).tag (parts_of self.now).payload result }
     {
@@ -55,8 +55,8 @@ impl<'a> RawElement<'a> {
         value_of(self.frame.tag, self.frame.payload)
     }
 
-    /// The value, or the payload fault under its key. Memory is taken for that key alone; where it finds none, the fault is
-    /// want of memory, under no key.
+    /// The value, or the payload fault under its key. Memory is taken for that key alone; where it finds none, the
+    /// fault is out of memory, under no key.
     pub fn value(&self, alloc: Global) -> Result<RawBsonRef<'a>, Error>
         ensures { ReadsElement (parts_of self.now) result }
     {
@@ -79,8 +79,8 @@ impl RawElement<'_> {
     ///
     /// Where the payload or an element at any depth inside is faulty, the first fault in the order of the bytes:
     /// `MalformedValue`, or `Utf8EncodingError` where a text isn't UTF-8, under the key of the element whose payload is
-    /// faulty, or under none where bytes begin with no element. `OutOfMemory`, under no key, where a growth was refused, and where
-    /// over 1000 documents, arrays and scopes lie inside each other, the value among them.
+    /// faulty, or under none where bytes begin with no element. `OutOfMemory`, under no key, if a growth was refused,
+    /// and where over 1000 documents, arrays and scopes lie inside each other, the value among them.
     pub fn to_bson(&self, alloc: Global) -> Result<Bson, Error>
         ensures tree { MatchResult result (IsValueOf (parts_of self.now)) (TellsFault (HasFaultIn (parts_of self.now))) }
         ensures none { IfErr result (TellsFault (λ _ _. (v : Value) → value_kind v ≡ (parts_of self.now).tag → SpellsValue (parts_of self.now).payload v → ⊥)) }
@@ -91,7 +91,7 @@ impl RawElement<'_> {
     }
 }
 
-/// A fault under a key; want of memory in its place where the key finds none.
+/// A fault under a key; out of memory in its place if there is none for the key.
 pub(crate) fn fault_under(alloc: Global, key: &str, kind: ErrorKind) -> Error
     ensures { IsFaultUnder key.now kind result }
 {

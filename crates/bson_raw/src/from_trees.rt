@@ -23,8 +23,8 @@ use std::alloc::Global;
 impl RawDocumentBuf {
     /// The written form of a document (bsonspec.org 1.1, "document").
     ///
-    /// `MalformedValue`, under no key, where a 00 stands in a key, a pattern or options, and where the bytes would be over
-    /// 2147483647; `OutOfMemory` where a growth is refused.
+    /// `MalformedValue`, under no key, if a 00 stands in a key, a pattern or options, and if the bytes would be over
+    /// 2147483647; `OutOfMemory` if a growth is refused.
     pub fn from_document(alloc: Global, document: &Document) -> Result<RawDocumentBuf, Error>
         ensures ok { IfOk result (λ d. buffer_bytes d ≡ encode (content document.now)) }
         ensures fits { OnOk result (CanBeWritten (document_tree document.now)) }
@@ -47,8 +47,8 @@ impl RawDocumentBuf {
 impl RawBson {
     /// The value, with what stands inside written.
     ///
-    /// `MalformedValue`, under no key, where a 00 stands in a key, a pattern or options inside, and where an array, a document
-    /// or a scope would be over 2147483647 bytes; `OutOfMemory` where a growth is refused.
+    /// `MalformedValue`, under no key, if a 00 stands in a key, a pattern or options inside, and if an array, a
+    /// document or a scope would be over 2147483647 bytes; `OutOfMemory` if a growth is refused.
     pub fn from_bson(alloc: Global, value: Bson) -> Result<RawBson, Error>
         ensures ok { IfOk result (λ v. own_value v ≡ raw_of (view value)) }
         ensures place { IfOk result ArrayGoesOn }

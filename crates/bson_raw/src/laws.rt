@@ -90,7 +90,7 @@ pub fn bytes_come_back(bytes: Vec<u8>) -> bson_frame::Result<Vec<u8>>
     Ok(RawDocumentBuf::from_bytes(bytes)?.into_bytes())
 }
 
-/// Elements have one first fault at most: the bytes alone tell its key and its kind.
+/// Elements have one first fault at most: the bytes alone decide its key and its kind.
 pub fn one_first_fault()
     ensures { (bytes : List ℕ) (j k : Option (List ℕ)) (m n : Kind) → HasFault bytes j m → HasFault bytes k n
         → (j ≡ k) × (m ≡ n) }
@@ -99,8 +99,8 @@ pub fn one_first_fault()
     bson_frame::laws::one_structural_fault();
 }
 
-/// Bytes that mean a document have no fault: not in their walk, not in a payload of it, and not at any depth. So it is with
-/// what a clean document is written as.
+/// Bytes that mean a document have no fault: not in their walk, not in a payload of it, and not at any depth. So it is
+/// with what a clean document is written as.
 pub fn documents_have_no_fault()
     ensures walk { (bytes : List ℕ) (d : Members) (elements : List Element) (fault : Option Kind) → Means bytes d → IsDocumentWalk bytes elements fault
         → (fault ≡ None) × All (λ e. IsFaultless e.tag e.payload) elements }

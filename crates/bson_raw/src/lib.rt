@@ -1,7 +1,7 @@
 //! Raw documents: views over the bytes of BSON documents, which read them without building trees (bsonspec.org 1.1).
 //!
-//! Bytes have one walk: their elements in order, down to the final 00, or as far as the first bytes that begin with no element.
-//! Every read is told by that walk, faults included.
+//! Bytes have one walk: their elements in order, down to the final 00, or as far as the first bytes that begin with no
+//! element. Every read is defined by that walk, faults included.
 #![tactic(auto)]
 
 mod access;

@@ -86,7 +86,8 @@ impl<'a> RawBsonRef<'a> {
 }
 
 impl<'a> RawElement<'a> {
-    /// A copy of the value that owns its bytes, or the payload fault under its key. Want of memory stands under no key.
+    /// A copy of the value that owns its bytes, or the payload fault under its key. Out of memory is reported under no
+    /// key.
     pub fn to_raw_bson(&self, alloc: Global) -> Result<RawBson, Error>
         ensures value { CopyAnswers (parts_of self.now) result }
         ensures place { IfOk result ArrayGoesOn }

@@ -18,7 +18,7 @@ pub enum ReadError {
     /// The declared length is under 5 or over 16777216; four bytes were read.
     #[error("the declared length is under 5 or over 16777216")]
     BadLength,
-    /// The bytes mean no document; as many as are declared were read. The kind isn't want of memory.
+    /// The bytes mean no document; as many as are declared were read. The kind isn't out of memory.
     #[error("{0}")]
     Raw(Error),
     /// A growth was refused. Nothing is said of how far the reader was read.

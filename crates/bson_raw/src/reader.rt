@@ -83,7 +83,7 @@ fn read_bytes<R: Source>(alloc: Global, reader: &mut R) -> Result<Vec<u8>, ReadE
     read_rest(alloc, reader, head, declared)
 }
 
-/// A refused conversion, as the reader's caller is told it.
+/// A refused conversion, as the reader's caller gets it.
 fn refusal(e: Error) -> ReadError
     ensures { IsConversionRefusal e result }
 {
@@ -106,15 +106,15 @@ fn document_in(alloc: Global, bytes: &[u8]) -> Result<Document, ReadError>
     }
 }
 
-/// The document that the reader's next bytes mean, as `RawDocument::to_document` reads them. Of the reader the bytes that the
-/// document declares are taken, and no more. Whoever calls it sees to it that fewer than 2⁶⁴ - 1 calls of the reader have
-/// failed.
+/// The document that the reader's next bytes mean, as `RawDocument::to_document` reads them. Of the reader the bytes
+/// that the document declares are taken, and no more. Whoever calls it sees to it that fewer than 2⁶⁴ - 1 calls of the
+/// reader have failed.
 ///
-/// `Reader` where a read failed; `EndInside` where the reader ended inside the document, which took all that was left;
-/// `BadLength` where the declared length is under 5 or over 16777216, which took four bytes; `Raw` where the bytes mean no
-/// document, which took as many as are declared: `MalformedValue` under no key where the last isn't 00, else the fault that
-/// `to_document` tells; `Memory` where a growth was refused, and where over 1000 levels lie inside each other, which took as many as
-/// are declared.
+/// `Reader` if a read failed; `EndInside` if the reader ended inside the document, which took all that was left;
+/// `BadLength` if the declared length is under 5 or over 16777216, which took four bytes; `Raw` if the bytes mean no
+/// document, which took as many as are declared: `MalformedValue` under no key where the last isn't 00, else the fault
+/// that `to_document` reports; `Memory` if a growth was refused, and if over 1000 levels lie inside each other, which
+/// took as many as are declared.
 pub fn from_reader<R: Source>(alloc: Global, reader: &mut R) -> Result<Document, ReadError>
     requires { CanFail (R.feed reader.old) }
     ensures { ReadsDocument (R.feed reader.old)

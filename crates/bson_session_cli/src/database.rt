@@ -36,14 +36,14 @@ pub fn unread<F: Sink>(error: io::Error, faults: &mut F) -> u8
     }
 }
 
-/// Closes the files. If that fails nothing is lost: what was committed is in the log beside the file, and the next open finds it
-/// there.
+/// Closes the files. If that fails nothing is lost: what was committed is in the log beside the file, and the next open
+/// finds it there.
 fn close(connection: Connection<FileStore<File>>) {
     let _ = connection.close();
 }
 
-/// The session over a connection, which it returns beside the reason for an early end. It is over any database, so that the proof
-/// doesn't go through what closing one of files does at each of its ends.
+/// The session over a connection, which it returns beside the reason for an early end. It is over any database, so that
+/// the proof doesn't go through what closing one of files does at each of its ends.
 fn over<S: Alter + Drop, I: Source, O: Sink>(
     alloc: Global,
     connection: Connection<S>,
@@ -62,7 +62,8 @@ fn over<S: Alter + Drop, I: Source, O: Sink>(
     }
 }
 
-/// Opens the file, runs the session, closes the file, and returns the program's status. A file that isn't there is made.
+/// Opens the file, runs the session, closes the file, and returns the program's status. A file that isn't there is
+/// made.
 pub fn hold<I: Source, O: Sink, F: Sink>(
     rt: &HostRuntime,
     file: &str,

@@ -1,5 +1,5 @@
-//! The program `bson_session`, which keeps a database file open, does the commands of the lines of standard input, and answers
-//! each by a line of standard output.
+//! The program `bson_session`, which keeps a database file open, does the commands of the lines of standard input, and
+//! returns each by a line of standard output.
 #![tactic(auto)]
 
 mod database;

@@ -176,7 +176,7 @@ fn execute_lent<S: Alter + Drop>(store: &mut Store<S>, command: &Command) -> Rep
 
 /// Does the commands one after the other, and gives a reply for each.
 ///
-/// The only error is want of memory for the replies, before the first command.
+/// The only error is out of memory for the replies, before the first command.
 pub fn run<S: Alter + Drop>(
     store: &mut Store<S>,
     commands: Vec<Command>,

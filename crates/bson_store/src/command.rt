@@ -81,7 +81,7 @@ pub enum Command {
     },
 }
 
-/// What a command answers.
+/// What a command returns.
 #[derive(Drop)]
 pub enum Reply {
     /// It is done.

@@ -39,7 +39,7 @@ pub trait TakeJson {
         ensures refused { (first : Self) (out : List Data) → took first self.old out → IfErr result (refused first self.new out) };
 }
 
-/// The refusal of the document at a place; want of memory has none.
+/// The refusal of the document at a place; out of memory has none.
 pub(crate) fn refused_at(kind: ErrorKind, document: u64) -> StoreError
     ensures { result ≡ told_at kind document }
 {
@@ -62,7 +62,7 @@ fn tree_at(alloc: Global, body: &[u8], place: u64) -> Result<Value, StoreError>
     }
 }
 
-/// Hands the tree of the body at a place on, and answers the place behind it.
+/// Hands the tree of the body at a place on, and returns the place behind it.
 fn hand_on<T: TakeJson>(
     alloc: Global,
     taker: &mut T,
@@ -81,8 +81,8 @@ fn hand_on<T: TakeJson>(
     Ok(next)
 }
 
-/// Hands the trees of the bodies on that the table hands out, one body at a time. After the first that has no tree, or that is
-/// refused, none are asked for.
+/// Hands the trees of the bodies on that the table hands out, one body at a time. After the first that has no tree, or
+/// that is refused, none are asked for.
 #[derive(Drop)]
 pub struct JsonVisitor<T> {
     pub taker: T,
@@ -138,12 +138,12 @@ impl TakeJson for Trees {
 }
 
 impl<S: Alter + Drop> Store<S> {
-    /// Hands the documents of the collection `name` to `taker`, one after the other, as Extended JSON in canonical mode (MongoDB
-    /// Extended JSON v2), and gives the taker back. One document is held at a time.
+    /// Hands the documents of the collection `name` to `taker`, one after the other, as Extended JSON in canonical mode
+    /// (MongoDB Extended JSON v2), and gives the taker back. One document is held at a time.
     ///
     /// Refused by BadName; by ReservedKey and FiniteDouble of the first document that has no such tree, of the two by
-    /// ReservedKey, and `document` tells which it is; by what the taker refuses a tree by; and by Memory and Database. The
-    /// taker, which is given back beside the refusal, was then handed a beginning of the trees.
+    /// ReservedKey, and `document` says which it is; by what the taker refuses a tree by; and by Memory and Database.
+    /// The taker, which is given back beside the refusal, was then handed a beginning of the trees.
     pub fn each_json<T: TakeJson + Drop>(
         &mut self,
         name: &str,
@@ -182,7 +182,7 @@ impl<S: Alter + Drop> Store<S> {
     /// The documents of the collection `name` as Extended JSON in canonical mode (MongoDB Extended JSON v2), in order.
     ///
     /// Refused by BadName; by ReservedKey and FiniteDouble of the first document that has no such tree, of the two by
-    /// ReservedKey, and `document` tells which it is; and by Memory and Database.
+    /// ReservedKey, and `document` says which it is; and by Memory and Database.
     pub fn dump_json(&mut self, name: &str) -> Result<Vec<Value>, StoreError>
         ensures moves { Relates S.Store self.old self.new (Does (on name.now dump) (reply_by as_json_list result)) }
         ensures open { WasOpen (store_state S.Store self.old) (store_state S.Store self.new) result }

@@ -107,8 +107,8 @@ impl<S: Alter + Drop> Store<S> {
         Ok(None)
     }
 
-    /// The place of the first row whose key is in the collection or that of a row before. In a table without rows no key
-    /// is looked up.
+    /// The place of the first row whose key is in the collection or that of a row before. In a table without rows no
+    /// key is looked up.
     fn first_taken(
         &mut self,
         collection: &str,
@@ -152,14 +152,14 @@ impl<S: Alter + Drop> Store<S> {
         Ok(new.len() as u64)
     }
 
-    /// Puts the documents of a stream last in the collection `name`, in their order, and answers how many they are: the bytes
-    /// that `reader` has up to its end, one document after the other. Either all are put in or none.
+    /// Puts the documents of a stream last in the collection `name`, in their order, and returns how many they are: the
+    /// bytes that `reader` has up to its end, one document after the other. Either all are put in or none.
     ///
-    /// Refused by BadName, before anything is read; by Reader, where a read failed; by EndInside, BadLength, NotTerminated,
-    /// Faulty, TooDeep, NoId and TooLong of the first document that is refused for one of these; else by DuplicateId of the
-    /// first whose `_id` is in the collection or in an earlier document of the stream; by Places; and by Memory and Database,
-    /// but never in the place of BadName. `document` tells which document was refused. Of the reader nothing is said after
-    /// Reader; with any other refusal none of its reads failed.
+    /// Refused by BadName, before anything is read; by Reader, where a read failed; by EndInside, BadLength,
+    /// NotTerminated, Faulty, TooDeep, NoId and TooLong of the first document that is refused for one of these; else by
+    /// DuplicateId of the first whose `_id` is in the collection or in an earlier document of the stream; by Places;
+    /// and by Memory and Database, but never in the place of BadName. `document` says which document was refused. Of
+    /// the reader nothing is said after Reader; with any other refusal none of its reads failed.
     pub fn import<R: Source>(&mut self, name: &str, reader: &mut R) -> Result<u64, StoreError>
         requires { CanFail (R.feed reader.old) }
         ensures moves { Relates S.Store self.old self.new (Imports name.now (R.feed reader.old)
@@ -175,12 +175,14 @@ impl<S: Alter + Drop> Store<S> {
         self.add_all(name, rows.as_slice())
     }
 
-    /// Puts the documents that JSON trees stand for (MongoDB Extended JSON v2) last in the collection `name`, in their order and
-    /// each in normal form with its keys in order, and answers how many they are. Either all are put in or none.
+    /// Puts the documents that JSON trees stand for (MongoDB Extended JSON v2) last in the collection `name`, in their
+    /// order and each in normal form with its keys in order, and returns how many they are. Either all are put in or
+    /// none.
     ///
-    /// Refused by BadName; by NotAnObject, JsonRefused, TooDeep, Nul, NoId and TooLong of the first document that is refused for
-    /// one of these; else by DuplicateId of the first whose `_id` is in the collection or in an earlier tree; by Places; and by
-    /// Memory and Database, but never in the place of BadName. `document` tells which document was refused.
+    /// Refused by BadName; by NotAnObject, JsonRefused, TooDeep, Nul, NoId and TooLong of the first document that is
+    /// refused for one of these; else by DuplicateId of the first whose `_id` is in the collection or in an earlier
+    /// tree; by Places; and by Memory and Database, but never in the place of BadName. `document` says which document
+    /// was refused.
     pub fn load_json(&mut self, name: &str, trees: Vec<Value>) -> Result<u64, StoreError>
         ensures moves { Relates S.Store self.old self.new (DoesMany name.now (ReadsTrees (map data_of trees.items)) (reply_by as_number result)) }
         ensures open { WasOpen (store_state S.Store self.old) (store_state S.Store self.new) result }
@@ -191,8 +193,8 @@ impl<S: Alter + Drop> Store<S> {
         self.add_all(name, rows.as_slice())
     }
 
-    /// Puts the documents whose trees a loader took last in the collection `name`, as `load_json` does with the trees, and answers
-    /// how many they are. So trees that come one after the other needn't be there at once.
+    /// Puts the documents whose trees a loader took last in the collection `name`, as `load_json` does with the trees,
+    /// and returns how many they are. So trees that come one after the other needn't be there at once.
     ///
     /// Refused as `load_json`.
     pub fn load(&mut self, name: &str, loader: Loader) -> Result<u64, StoreError>

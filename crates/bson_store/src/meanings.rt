@@ -17,8 +17,8 @@ ghost use Rattle.bson_store.specs.Shown.{Represents};
 ghost use Rattle.bson_store.specs.declared.command.Command.{Command};
 ghost use Rattle.bson_store.specs.declared.command.Reply.{Reply};
 
-/// Two lists of commands that mean the same, run from tables that mean the same with the same denied to both, are answered with
-/// the same meaning and leave tables that mean the same.
+/// Two lists of commands that mean the same, run from tables that mean the same with the same denied to both, are
+/// answered with the same meaning and leave tables that mean the same.
 pub fn runs_go_by_meaning()
     ensures { (xs ys : List Command) (rs qs : List Reply) (old older new newer : List TableRow) (a b : DocumentTable)
         → MeanTheSame xs ys → Represents old a → Represents older b → SameStates (state_of a) (state_of b)
@@ -26,8 +26,8 @@ pub fn runs_go_by_meaning()
         → SameReplies h.asked (map reply_of rs) (map reply_of qs) × SameStates (state_of h.b) (state_of k.b) }
 {}
 
-/// What an accepted export wrote, an accepted import into an empty collection brings back, pattern for pattern: by commands, and by
-/// calls over a writer and a reader that has just these bytes left.
+/// What an accepted export wrote, an accepted import into an empty collection brings back, pattern for pattern: by
+/// commands, and by calls over a writer and a reader that has just these bytes left.
 pub fn exports_are_restored()
     ensures commands { (n m bs : List ℕ) (count : ℕ) (docs after more last : List TableRow) (a b : DocumentTable)
         → Does (on n export) (bytes bs) docs after → Represents docs a → DoesMany m (ReadsStream bs) (number count) more last → Represents more b
@@ -38,7 +38,8 @@ pub fn exports_are_restored()
         → documents_of b m ≡ [] → Restored m (documents_of a n) count last }
 {}
 
-/// What an accepted dump gave, an accepted load into an empty collection brings back, in normal form with the keys in order.
+/// What an accepted dump gave, an accepted load into an empty collection brings back, in normal form with the keys in
+/// order.
 pub fn dumps_are_restored()
     ensures { (n m : List ℕ) (js : List Data) (count : ℕ) (docs after more last : List TableRow) (a b : DocumentTable)
         → Does (on n dump) (json_list js) docs after → Represents docs a → DoesMany m (ReadsTrees js) (number count) more last → Represents more b

@@ -39,7 +39,7 @@ use store_documents::{
 use store_model::ErrorKind;
 use store_table::{Fault, Found, Table};
 
-/// The name of a collection. BadName where it can't be one.
+/// The name of a collection. BadName if it can't be one.
 pub(crate) fn good_name(name: &str) -> Result<Name<'_>, StoreError>
     ensures { MatchResult result (λ n. (name_bytes n ≡ name.now) × IsName name.now) (λ e. (e ≡ refusal BadName) × (IsName name.now → ⊥)) }
 {
@@ -64,14 +64,14 @@ pub struct Store<S: Alter + Drop> {
 }
 
 impl<S: Alter + Drop> Store<S> {
-    /// Opens the store of a database: its table of documents, which is made where there is none. Keys from before the two
-    /// zeros of a double meant the same are replaced by those of now, all in one transaction; a table that has none is not
-    /// written to. A refusal gives the connection back, with every row as it was.
+    /// Opens the store of a database: its table of documents, which is made where there is none. Keys from before the
+    /// two zeros of a double meant the same are replaced by those of now, all in one transaction; a table that has none
+    /// is not written to. A refusal gives the connection back, with every row as it was.
     ///
-    /// Refused by NotAStore, where `documents` can't be read by the four columns; by BadRow, with the place of the first row
-    /// that no store can have written, under either key; by IdsCollide, where two documents of one collection have `_id`s
-    /// that mean the same now, with the place of the first and the least place that has such a document before it; and by
-    /// Memory and Database.
+    /// Refused by NotAStore, where `documents` can't be read by the four columns; by BadRow, with the place of the
+    /// first row that no store can have written, under either key; by IdsCollide, where two documents of one collection
+    /// have `_id`s that mean the same now, with the place of the first and the least place that has such a document
+    /// before it; and by Memory and Database.
     pub fn open(
         alloc: Global,
         connection: Connection<S>,
@@ -177,12 +177,12 @@ impl<S: Alter + Drop> Store<S> {
         Ok(found)
     }
 
-    /// Puts the document that `bytes` mean last in the collection `name`, and makes the collection where it isn't there.
-    /// The document is kept as it means: of a repeated key the last value, in the place of the first.
+    /// Puts the document that `bytes` mean last in the collection `name`, and makes the collection where it isn't
+    /// there. The document is kept as it means: of a repeated key the last value, in the place of the first.
     ///
     /// Refused, in this order, by BadName; by EndInside, BadLength, NotTerminated, Faulty and TooDeep of the bytes; by
-    /// NoId, TooLong, DuplicateId, Places; and by Memory and Database, but never in the place of a refusal by the name or
-    /// the bytes.
+    /// NoId, TooLong, DuplicateId, Places; and by Memory and Database, but never in the place of a refusal by the name
+    /// or the bytes.
     pub fn insert_raw(&mut self, name: &str, bytes: &[u8]) -> Result<(), StoreError>
         ensures moves { Relates S.Store self.old self.new (DoesBytes name.now (insert in_bytes) bytes.now (reply_by as_done result)) }
         ensures open { WasOpen (store_state S.Store self.old) (store_state S.Store self.new) result }
@@ -195,8 +195,8 @@ impl<S: Alter + Drop> Store<S> {
 
     /// Puts the document that `json` stands for last in the collection `name`, in normal form with its keys in order.
     ///
-    /// Refused, in this order, by BadName; NotAnObject; JsonRefused, TooDeep and Nul; NoId, TooLong, DuplicateId, Places; and
-    /// by Memory and Database, but never in the place of BadName or NotAnObject.
+    /// Refused, in this order, by BadName; NotAnObject; JsonRefused, TooDeep and Nul; NoId, TooLong, DuplicateId,
+    /// Places; and by Memory and Database, but never in the place of BadName or NotAnObject.
     pub fn insert_json(&mut self, name: &str, json: Value) -> Result<(), StoreError>
         ensures moves { Relates S.Store self.old self.new (DoesTree name.now (insert in_json) (data_of json) (reply_by as_done result)) }
         ensures open { WasOpen (store_state S.Store self.old) (store_state S.Store self.new) result }
@@ -234,12 +234,12 @@ impl<S: Alter + Drop> Store<S> {
         self.replace_row(name, &row)
     }
 
-    /// Puts a value, in normal form with its keys in order, under a top key of the document of the collection `name` whose
-    /// `_id` means the same as `id`: in the key's place, or last where the key isn't there.
+    /// Puts a value, in normal form with its keys in order, under a top key of the document of the collection `name`
+    /// whose `_id` means the same as `id`: in the key's place, or last where the key isn't there.
     ///
-    /// Refused, in this order, by BadName; BadKey, where the key is `_id` or holds a 00; JsonRefused of the value; NotFound;
-    /// TooDeep, Nul and TooLong of the changed document; and by Memory and Database, but never in the place of BadName or
-    /// BadKey.
+    /// Refused, in this order, by BadName; BadKey, where the key is `_id` or holds a 00; JsonRefused of the value;
+    /// NotFound; TooDeep, Nul and TooLong of the changed document; and by Memory and Database, but never in the place
+    /// of BadName or BadKey.
     pub fn set(&mut self, name: &str, id: &Bson, key: &str, value: Value) -> Result<(), StoreError>
         ensures moves { Relates S.Store self.old self.new (Does (on name.now (set (view id.now) key.now (read_value (data_of value)))) (reply_by as_done result)) }
         ensures open { WasOpen (store_state S.Store self.old) (store_state S.Store self.new) result }
@@ -260,8 +260,8 @@ impl<S: Alter + Drop> Store<S> {
         Ok(())
     }
 
-    /// Takes a top key out of the document of the collection `name` whose `_id` means the same as `id`, and says whether it
-    /// was there. The rest keeps its order.
+    /// Takes a top key out of the document of the collection `name` whose `_id` means the same as `id`, and says
+    /// whether it was there. The rest keeps its order.
     ///
     /// Refused, in this order, by BadName; BadKey, where the key is `_id` or holds a 00; NotFound; and by Memory and
     /// Database, but never in the place of BadName or BadKey.
@@ -320,8 +320,8 @@ impl<S: Alter + Drop> Store<S> {
 
     /// The document of the collection `name` whose `_id` means the same as `id`, as Extended JSON.
     ///
-    /// Refused, in this order, by BadName; NotFound; ReservedKey, where a document below the top has a key that Extended
-    /// JSON reserves; FiniteDouble, where a double is finite and no zero; and by Memory and Database.
+    /// Refused, in this order, by BadName; NotFound; ReservedKey, where a document below the top has a key that
+    /// Extended JSON reserves; FiniteDouble, where a double is finite and no zero; and by Memory and Database.
     pub fn get_json(&mut self, name: &str, id: &Bson, mode: Mode) -> Result<Value, StoreError>
         ensures moves { Relates S.Store self.old self.new (Does (on name.now (get_json mode (view id.now))) (reply_by as_json result)) }
         ensures open { WasOpen (store_state S.Store self.old) (store_state S.Store self.new) result }
@@ -338,8 +338,8 @@ impl<S: Alter + Drop> Store<S> {
 
     /// Writes the written documents of the collection `name` to `writer`, one after the other.
     ///
-    /// Refused by BadName, and then nothing is written; by Writer, where a write failed or took nothing; and by Memory and
-    /// Database. A beginning may have been written.
+    /// Refused by BadName, and then nothing is written; by Writer, where a write failed or took nothing; and by Memory
+    /// and Database. A beginning may have been written.
     pub fn export<W: Sink>(&mut self, name: &str, writer: &mut W) -> Result<(), StoreError>
         requires { CanRefuse (W.tally writer.old) }
         ensures moves { Relates S.Store self.old self.new (SendsCollection name.now (W.tally writer.old)

@@ -48,7 +48,7 @@ fn text_at(alloc: Global, body: &[u8], place: u64, text: &mut String) -> Result<
     }
 }
 
-/// Hands the text of the tree of the body at a place on, and answers the place behind it.
+/// Hands the text of the tree of the body at a place on, and returns the place behind it.
 fn hand_text<T: TakeText>(
     alloc: Global,
     taker: &mut T,
@@ -68,8 +68,8 @@ fn hand_text<T: TakeText>(
     Ok(next)
 }
 
-/// Hands the texts of the bodies on that the table hands out, one body at a time. After the first that has none, or that is
-/// refused, none are asked for.
+/// Hands the texts of the bodies on that the table hands out, one body at a time. After the first that has none, or
+/// that is refused, none are asked for.
 #[derive(Drop)]
 pub struct TextVisitor<T> {
     pub taker: T,
@@ -112,12 +112,12 @@ impl<T: TakeText> Visit for TextVisitor<T> {
 }
 
 impl<S: Alter + Drop> Store<S> {
-    /// Hands the documents of the collection `name` to `taker`, one after the other, as the text of their Extended JSON in
-    /// canonical mode (MongoDB Extended JSON v2), and gives the taker back: `each_json` without the trees. One document is held
-    /// at a time.
+    /// Hands the documents of the collection `name` to `taker`, one after the other, as the text of their Extended JSON
+    /// in canonical mode (MongoDB Extended JSON v2), and gives the taker back: `each_json` without the trees. One
+    /// document is held at a time.
     ///
-    /// Refused as `each_json` is, and by what the taker refuses a text by. The taker, which is given back beside the refusal, was
-    /// then handed a beginning of the texts.
+    /// Refused as `each_json` is, and by what the taker refuses a text by. The taker, which is given back beside the
+    /// refusal, was then handed a beginning of the texts.
     pub fn each_text<T: TakeText + Drop>(
         &mut self,
         name: &str,

@@ -10,7 +10,7 @@ use std::alloc::Global;
 use std::io;
 use store_files::open;
 
-/// Tells a refusal, and answers the status of one.
+/// Reports a refusal, and returns the status of one.
 pub fn refuse<F: Sink>(faults: &mut F, kind: ErrorKind) -> u8
     requires { CanRefuse (F.tally faults.old) }
 {
@@ -18,7 +18,7 @@ pub fn refuse<F: Sink>(faults: &mut F, kind: ErrorKind) -> u8
     1
 }
 
-/// Tells that the words are no line of the table of commands, and answers the status of that.
+/// Reports that the words are no line of the table of commands, and returns the status of that.
 fn misuse<F: Sink>(faults: &mut F) -> u8
     requires { CanRefuse (F.tally faults.old) }
 {
@@ -26,7 +26,7 @@ fn misuse<F: Sink>(faults: &mut F) -> u8
     2
 }
 
-/// What is told where the words can't be had: want of memory, or that some word is no text.
+/// What is reported if the words can't be had: out of memory, or that some word is no text.
 pub fn misuse_or_memory<F: Sink>(error: io::Error, faults: &mut F) -> u8
     requires { CanRefuse (F.tally faults.old) }
 {
@@ -36,14 +36,14 @@ pub fn misuse_or_memory<F: Sink>(error: io::Error, faults: &mut F) -> u8
     }
 }
 
-/// Closes the files. Where that fails nothing is lost: what was committed stands in the log beside the file, and the next open
-/// finds it there.
+/// Closes the files. Where that fails nothing is lost: what was committed stands in the log beside the file, and the
+/// next open finds it there.
 fn close_file(connection: Connection<FileStore<File>>) {
     let _ = connection.close();
 }
 
-/// Does the command of the words over a connection, and gives it back beside the program's status. It is over any store, as what
-/// closing one of files does would else be gone through at each of its ends.
+/// Does the command of the words over a connection, and gives it back beside the program's status. It is over any
+/// store, as what closing one of files does would else be gone through at each of its ends.
 fn over<S: Alter + Drop, I: Source, O: Sink, F: Sink>(
     alloc: Global,
     connection: Connection<S>,
@@ -65,8 +65,8 @@ fn over<S: Alter + Drop, I: Source, O: Sink, F: Sink>(
     }
 }
 
-/// Reads the words, opens the file that they name, does their command, closes the file, and answers the program's status. A file
-/// that isn't there is made. Words that are no line of the table are told before any file is opened.
+/// Reads the words, opens the file that they name, does their command, closes the file, and returns the program's
+/// status. A file that isn't there is made. Words that are no line of the table are reported before any file is opened.
 pub fn serve<I: Source, O: Sink, F: Sink>(
     rt: &HostRuntime,
     words: &[String],

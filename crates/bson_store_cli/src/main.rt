@@ -1,5 +1,5 @@
-//! The program `bson_store`. With words it does a command over a database file; without, it reads one document from standard
-//! input, keeps it in a new store, and writes what the store exports to standard output.
+//! The program `bson_store`. With words it does a command over a database file; without, it reads one document from
+//! standard input, keeps it in a new store, and writes what the store exports to standard output.
 #![tactic(auto)]
 
 ghost use Rattle.std.specs.Prelude.{◌≡◌};

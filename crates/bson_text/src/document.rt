@@ -91,10 +91,10 @@ fn print_scoped(
     Ok(())
 }
 
-/// Puts the text of a document's tree in canonical Extended JSON in the place of what `text` held, whose room is used again. The
-/// keys of each object ascend by their bytes.
+/// Puts the text of a document's tree in canonical Extended JSON in the place of what `text` held, whose room is used
+/// again. The keys of each object ascend by their bytes.
 ///
-/// `FiniteDouble` where a finite double other than the zeros stands in the document, `Memory` where a growth was refused.
+/// `FiniteDouble` if a finite double other than the zeros is in the document, `Memory` if a growth was refused.
 pub fn write_canonical(alloc: Global, document: &Document, text: &mut String) -> Result<(), Error>
     ensures { WritesText (write Canonical (tree (content document.now))) (string_bytes text.new) result }
 {

@@ -38,7 +38,7 @@ fn double_text(double: DoubleBits) -> Option<&'static str>
     }
 }
 
-/// Refused by `FiniteDouble` where it is finite and no zero.
+/// Refused by `FiniteDouble` if it is finite and no zero.
 pub(crate) fn print_double(out: &mut Writer, double: DoubleBits) -> Result<(), Error>
     ensures { Prints tokens_of (write_double double.0) result out.old out.new }
 {

@@ -1,4 +1,5 @@
-//! The program `bson_store` where it is given no words: one document in, kept in a new store, and out as the store exports it.
+//! The program `bson_store` where it is given no words: one document in, kept in a new store, and out as the store
+//! exports it.
 #![tactic(auto)]
 
 mod program;

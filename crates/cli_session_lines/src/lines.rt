@@ -97,8 +97,8 @@ impl Lines {
         }
     }
 
-    /// Reads the next line. The error is a read that failed, or a line of 2⁶⁴ - 1 bytes or more. A source is read no further than
-    /// until it has given a line feed.
+    /// Reads the next line. The error is a read that failed, or a line of 2⁶⁴ - 1 bytes or more. A source is read no
+    /// further than until it has given a line feed.
     pub fn read<S: Source>(&mut self, source: &mut S, line: &mut Line) -> Result<Next, DeviceFault>
         requires { CanFail (S.feed source.old) }
         ensures { ReadsNext result self.old self.new (S.feed source.old)

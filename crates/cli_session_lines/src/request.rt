@@ -132,8 +132,8 @@ fn bytes_of(alloc: Global, tree: Option<Value>) -> Result<Vec<u8>, RequestError>
     }
 }
 
-/// The command that a line asks for: the text of a JSON object with the array of its words under `words` and, if it reads some,
-/// the bytes of its input in base64 under `input`.
+/// The command that a line asks for: the text of a JSON object with the array of its words under `words` and, if it
+/// reads some, the bytes of its input in base64 under `input`.
 pub fn read_request(alloc: Global, line: &[u8]) -> Result<Request, RequestError>
     ensures { AnswersLine line.now result }
 {

@@ -1,6 +1,6 @@
 //! The commands of the program.
 
-/// What the program is told to do.
+/// What the program is to do.
 #[derive(Clone, Copy, Debug, PartialEq, Eq)]
 pub enum Call {
     /// `insert COLL JSON`: puts a document into a collection.

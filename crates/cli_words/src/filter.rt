@@ -7,8 +7,8 @@ use std::alloc::Global;
 use store_filter::Filter;
 
 /// The filter of a JSON text, an object with one key: `{"eq":[path,value]}`, `{"exists":path}`, `{"kind":[path,tag]}`,
-/// `{"not":filter}`, `{"and":[filter,..]}` or `{"or":[filter,..]}`. A path is an array of texts, a value Extended JSON, and a
-/// tag the number of an element type (bsonspec.org 1.1, "element").
+/// `{"not":filter}`, `{"and":[filter,..]}` or `{"or":[filter,..]}`. A path is an array of texts, a value Extended JSON,
+/// and a tag the number of an element type (bsonspec.org 1.1, "element").
 pub fn read_filter(alloc: Global, text: &str) -> Result<Filter, TextError> {
     filter_of_json(alloc, parse_json(alloc, text)?)
 }

@@ -51,8 +51,8 @@ pub fn read_line(alloc: Global, line: &[u8]) -> Result<Option<Value>, TextError>
     Ok(Some(tree))
 }
 
-/// Reads lines of JSON text, each of which ends in a line feed, but for the last one also at the end. A line of no bytes has no
-/// tree, and counts like any other.
+/// Reads lines of JSON text, each of which ends in a line feed, except for the last one also at the end. A line of no
+/// bytes has no tree, and counts like any other.
 pub fn read_lines(alloc: Global, bytes: &[u8]) -> Result<Vec<Value>, LinesError> {
     let mut trees = Vec::new(alloc);
     let mut number = 0u64;

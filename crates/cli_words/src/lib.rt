@@ -1,4 +1,5 @@
-//! The words of the program `bson_store`: which command they name, what their texts stand for, and the lines that are printed.
+//! The words of the program `bson_store`: which command they name, what their texts stand for, and the lines that are
+//! printed.
 #![tactic(auto)]
 
 mod call;

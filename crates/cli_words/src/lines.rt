@@ -68,7 +68,7 @@ pub fn write_flag<S: Sink>(sink: &mut S, flag: bool) -> Result<(), DeviceFault>
     write_line(sink, if flag { "true" } else { "false" })
 }
 
-/// Writes the line that tells a refusal with two places. After a failure a beginning of the line was written.
+/// Writes the line that reports a refusal with two places. After a failure a beginning of the line was written.
 fn write_collision<S: Sink>(
     sink: &mut S,
     name: &str,
@@ -83,9 +83,9 @@ fn write_collision<S: Sink>(
     write_parts(sink, &["refused: ", name, " ", first, " ", second, "\n"])
 }
 
-/// Writes the line that tells a refusal: `refused: KIND`, followed by ` document N` where the refusal is one of several
-/// documents, or by the place of a bad row, or by those of two documents that collide. After a failure a beginning of the
-/// line was written.
+/// Writes the line that reports a refusal: `refused: KIND`, followed by ` document N` where the refusal is one of
+/// several documents, or by the place of a bad row, or by those of two documents that collide. After a failure a
+/// beginning of the line was written.
 pub fn write_refusal<S: Sink>(
     sink: &mut S,
     kind: ErrorKind,
@@ -115,8 +115,8 @@ pub fn write_refusal<S: Sink>(
     write_parts(sink, &["refused: ", name, "\n"])
 }
 
-/// Writes the line that tells what is wrong with the words, as `words: usage`. After a failure a beginning of the line was
-/// written.
+/// Writes the line that reports what is wrong with the words, as `words: usage`. After a failure a beginning of the
+/// line was written.
 pub fn write_complaint<S: Sink>(sink: &mut S, complaint: UsageError) -> Result<(), DeviceFault>
     requires { CanRefuse (S.tally sink.old) }
     ensures counts { Counts (S.tally sink.old).failures (S.tally sink.new).failures result }

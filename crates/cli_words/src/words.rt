@@ -33,8 +33,8 @@ fn collection(call: Call, words: &[String]) -> Option<(&str, &[String])>
     Some((name.as_str(), rest))
 }
 
-/// Reads the words behind the program's name: the file, the command, the collection and what follows. None where they are no
-/// line of the program's table. What the texts say isn't looked at.
+/// Reads the words behind the program's name: the file, the command, the collection and what follows. None where they
+/// are no line of the program's table. What the texts say isn't looked at.
 pub fn read_words(words: &[String]) -> Option<Words<'_>>
     ensures { MatchOption result
         ((file coll : List ℕ) (call : Call) (rest : List (List ℕ)) → IsLine (map string_bytes words.now) file call coll rest → ⊥)

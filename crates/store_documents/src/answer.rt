@@ -16,7 +16,7 @@ use serde_json::Value;
 use std::alloc::Global;
 use store_model::ErrorKind;
 
-/// The JSON tree of a document. `FiniteDouble` where a finite double other than the zeros stands in it, or `Memory`.
+/// The JSON tree of a document. `FiniteDouble` if a finite double other than the zeros is in it, or `Memory`.
 fn json_written(alloc: Global, document: Document, mode: Mode) -> Result<Value, ErrorKind>
     ensures { AnswersJson (or_finite (write mode (tree (content document)))) result }
 {
@@ -33,7 +33,7 @@ fn json_written(alloc: Global, document: Document, mode: Mode) -> Result<Value, 
     }
 }
 
-/// The JSON tree of a document. `ReservedKey` where it has a reserved key below its top, else `FiniteDouble`, or `Memory`.
+/// The JSON tree of a document. `ReservedKey` if it has a reserved key below its top, else `FiniteDouble`, or `Memory`.
 fn json_of_document(alloc: Global, document: Document, mode: Mode) -> Result<Value, ErrorKind>
     ensures { AnswersJson (json_of mode (content document)) result }
 {
@@ -45,10 +45,10 @@ fn json_of_document(alloc: Global, document: Document, mode: Mode) -> Result<Val
 
 /// The JSON tree of a kept document (MongoDB Extended JSON v2), of which `body` is the written form.
 ///
-/// `ReservedKey` where a document below the top has a reserved key (`$oid` or another that marks a typed value), which would be
-/// read as another value; the keys of a code's scope are free. Else `FiniteDouble` where a finite double other than the zeros
-/// stands in the document. `Memory` where a growth was refused. Bytes that aren't the written form of a kept document may be
-/// refused as `document_of_bytes` refuses them.
+/// `ReservedKey` if a document below the top has a reserved key (`$oid` or another that marks a typed value), which
+/// would be read as another value; the keys of a code's scope are free. Else `FiniteDouble` if a finite double other
+/// than the zeros stands in the document. `Memory` if a growth was refused. Bytes that aren't the written form of a
+/// kept document may be refused as `document_of_bytes` refuses them.
 pub fn json_of_body(alloc: Global, body: &[u8], mode: Mode) -> Result<Value, ErrorKind>
     ensures { (d : Members) → IsKept d → body.now ≡ encode d → AnswersJson (json_of mode d) result }
 {

@@ -49,7 +49,7 @@ fn put_normal(
     put_value(document, key, value)
 }
 
-/// The bytes of a changed document. `TooDeep`, `Nul` and `TooLong` where it can't be kept, in this order.
+/// The bytes of a changed document. `TooDeep`, `Nul` and `TooLong` if it can't be kept, in this order.
 fn changed_body(alloc: Global, document: &Document) -> Result<Vec<u8>, ErrorKind>
     ensures { AnswersChanged (content document.now) result }
 {
@@ -59,12 +59,13 @@ fn changed_body(alloc: Global, document: &Document) -> Result<Vec<u8>, ErrorKind
     body_of(alloc, document)
 }
 
-/// What a kept document is written as once a value stands under a key: in the key's place where it is there, else last. The
-/// value is kept in normal form with its keys in order. `body` is the written form of the document.
+/// What a kept document is written as once a value stands under a key: in the key's place where it is there, else last.
+/// The value is kept in normal form with its keys in order. `body` is the written form of the document.
 ///
-/// `TooDeep` where the document then has over 100 levels, else `Nul` where a 00 stands in a key, a pattern or options, else
-/// `TooLong` where its bytes are over 16777216; `Memory` where a growth was refused. Bytes that aren't the written form of a
-/// kept document may be refused as `document_of_bytes` refuses them. Where it isn't refused, the value is known to be sound.
+/// `TooDeep` if the document then has over 100 levels, else `Nul` if a 00 stands in a key, a pattern or options, else
+/// `TooLong` if its bytes are over 16777216; `Memory` if a growth was refused. Bytes that aren't the written form of a
+/// kept document may be refused as `document_of_bytes` refuses them. Where it isn't refused, the value is known to be
+/// sound.
 pub fn body_with(alloc: Global, body: &[u8], key: &str, value: Bson) -> Result<Vec<u8>, ErrorKind>
     ensures changed { (d : Members) → IsKept d → body.now ≡ encode d → AnswersChanged (put key.now (norm_in_order (view value)) d) result }
     ensures sound { IfOk result (λ _. IsSound (view value)) }
@@ -85,7 +86,7 @@ pub struct Unset {
     pub body: Vec<u8>,
 }
 
-/// Takes the member under a key out of a document, and answers whether there was one.
+/// Takes the member under a key out of a document, and returns whether there was one.
 fn take_out(document: &mut Document, key: &str) -> bool
     ensures was_there { result ≡ has_pair key.now (pairs_of document.old) }
     ensures rest { pairs_of document.new ≡ without_pair key.now (pairs_of document.old) }
@@ -93,11 +94,11 @@ fn take_out(document: &mut Document, key: &str) -> bool
     document.remove(key).is_some()
 }
 
-/// What a kept document is written as without the member under a key, and whether there was one. `body` is the written form of
-/// the document.
+/// What a kept document is written as without the member under a key, and whether there was one. `body` is the written
+/// form of the document.
 ///
-/// `Memory` where a growth was refused. Bytes that aren't the written form of a kept document may be refused as `document_of_bytes` and
-/// `write_document` refuse them.
+/// `Memory` if a growth was refused. Bytes that aren't the written form of a kept document may be refused as
+/// `document_of_bytes` and `write_document` refuse them.
 pub fn body_without(alloc: Global, body: &[u8], key: &str) -> Result<Unset, ErrorKind>
     ensures { (d : Members) → IsKept d → body.now ≡ encode d → AnswersUnset key.now d result }
 {

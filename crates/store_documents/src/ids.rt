@@ -16,11 +16,11 @@ use std::alloc::Global;
 /// The key that the identity of a document stands under.
 pub(crate) const ID_KEY: &str = "_id";
 
-/// The key of an id: the bytes of the normal form of a document that has this `_id` alone, with its keys in order. A kept
-/// document has the id exactly where the key of its own is the same.
+/// The key of an id: the bytes of the normal form of a document that has this `_id` alone, with its keys in order. A
+/// kept document has the id exactly where the key of its own is the same.
 ///
-/// `NotPlain` where a 00 stands in a key, a pattern or options of the id, `TooLong` where the key would be over 2147483647
-/// bytes; no kept document has such an id. `Memory` where a growth was refused.
+/// `NotPlain` if a 00 stands in a key, a pattern or options of the id, `TooLong` if the key would be over 2147483647
+/// bytes; no kept document has such an id. `Memory` if a growth was refused.
 pub fn key_of_id(alloc: Global, id: &Bson) -> Result<Vec<u8>, KeyError>
     ensures ok { IfOk result (λ k. IsKeyOf k.items (view id.now)) }
     ensures sound { IsSound (view id.now) }

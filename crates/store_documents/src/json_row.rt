@@ -21,9 +21,9 @@ use std::alloc::Global;
 use std::borrow::CowSlice;
 use store_model::ErrorKind;
 
-/// The bytes of the normal form of a document, with its keys in order. `Nul` where a 00 stands in a key, a pattern or options,
-/// else `TooLong` where they are over 16777216; `Memory` where a growth was refused. Of a document with such bytes it is known
-/// that it is sound.
+/// The bytes of the normal form of a document, with its keys in order. `Nul` if a 00 stands in a key, a pattern or
+/// options, else `TooLong` if they are over 16777216; `Memory` if a growth was refused. Of a document with such bytes
+/// it is known that it is sound.
 fn ordered_body(alloc: Global, document: &Document) -> Result<Vec<u8>, ErrorKind>
     ensures { MatchResult result (λ b. IsOrderedBody b.items (content document.now)) (IsUnordered (content document.now)) }
 {
@@ -70,13 +70,13 @@ fn row_in_order(alloc: Global, document: &Document) -> Result<KeptRow<'static>, 
     }
 }
 
-/// The row of the document that a JSON tree stands for (MongoDB Extended JSON v2), which is kept in normal form with its keys in
-/// order.
+/// The row of the document that a JSON tree stands for (MongoDB Extended JSON v2), which is kept in normal form with
+/// its keys in order.
 ///
-/// `NotAnObject` where the tree is no object; `JsonRefused` where it is no Extended JSON, or holds a finite double other than
-/// the zeros; `TooDeep` where the document has over 100 levels; `Nul` where a 00 stands in a key, a pattern or options of it;
-/// `NoId` where it has no `_id`; `TooLong` where its bytes are over 16777216; each where none before it is told. `Memory` where a
-/// growth was refused, and never in the place of `NotAnObject`.
+/// `NotAnObject` if the tree is no object; `JsonRefused` if it is no Extended JSON, or holds a finite double other than
+/// the zeros; `TooDeep` if the document has over 100 levels; `Nul` if a 00 stands in a key, a pattern or options of it;
+/// `NoId` if it has no `_id`; `TooLong` if its bytes are over 16777216; each if none before it is reported. `Memory` if
+/// a growth was refused, and never in the place of `NotAnObject`.
 pub fn row_of_json(alloc: Global, json: Value) -> Result<KeptRow<'static>, ErrorKind>
     ensures row { AnswersInput (ReadsTree (data_of json)) result }
     ensures object { result ≡ Err Memory → (js : JsonMembers) × (data_of json ≡ object js) }

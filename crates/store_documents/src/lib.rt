@@ -1,6 +1,6 @@
-//! Documents as they come into a store and go out of it, apart from any table: what bytes and JSON are read as, how a document
-//! is written under the key of its `_id`, what a change of one member makes of it, what it is as JSON, and whether a row can be
-//! one that a store wrote.
+//! Documents as they come into a store and go out of it, apart from any table: what bytes and JSON are read as, how a
+//! document is written under the key of its `_id`, what a change of one member makes of it, what it is as JSON, and
+//! whether a row can be one that a store wrote.
 #![tactic(auto)]
 
 mod answer;

@@ -49,7 +49,7 @@ pub(crate) fn json_refusal(error: extjson::de::Error) -> ErrorKind
     }
 }
 
-/// The document that bytes mean. `Memory` where a growth was refused.
+/// The document that bytes mean. `Memory` if a growth was refused.
 pub(crate) fn document_of(alloc: Global, bytes: &[u8]) -> Result<Document, ErrorKind>
     requires { (d : Members) × Means bytes.now d }
     ensures { MatchResult result (λ d. Means bytes.now (content d)) (λ k. k ≡ Memory) }
@@ -66,10 +66,11 @@ pub(crate) fn document_of(alloc: Global, bytes: &[u8]) -> Result<Document, Error
     }
 }
 
-/// The document that bytes mean (bsonspec.org 1.1, "document"): of a repeated key the last value, in the place of the first.
+/// The document that bytes mean (bsonspec.org 1.1, "document"): of a repeated key the last value, in the place of the
+/// first.
 ///
-/// `EndInside`, `BadLength`, `NotTerminated`, `Faulty` and `TooDeep` are those of the gate, the first whose test fails. `Memory`
-/// comes only where the gate refuses nothing, and where a growth was refused.
+/// `EndInside`, `BadLength`, `NotTerminated`, `Faulty` and `TooDeep` are those of the gate, the first whose test fails.
+/// `Memory` comes only where the gate refuses nothing, and where a growth was refused.
 pub fn document_of_bytes(alloc: Global, bytes: &[u8]) -> Result<Document, ErrorKind>
     ensures answer { AnswersBytes bytes.now result }
     ensures read { IfOk result (λ d. IsRead (content d)) }
@@ -89,7 +90,8 @@ fn in_order(alloc: Global, document: Document) -> Result<Document, AllocError>
     sorted(alloc, normal)
 }
 
-/// The normal form with its keys in order, of a document that can be kept. `TooDeep` or `Nul` where it can't be, in this order.
+/// The normal form with its keys in order, of a document that can be kept. `TooDeep` or `Nul` if it can't be, in this
+/// order.
 fn kept(alloc: Global, document: Document) -> Result<Document, ErrorKind>
     ensures kept { MatchResult result (λ e. Keeps (content document) (readable (content e)))
         (λ k. (k ≡ Memory) ⊎ IsUnfit (content document) k) }
@@ -116,9 +118,9 @@ pub(crate) fn object_of(json: Value) -> Option<Map<String, Value>>
 
 /// The document that a JSON tree stands for (MongoDB Extended JSON v2), in normal form with its keys in order.
 ///
-/// `NotAnObject` where the tree is no object; `JsonRefused` where it is no Extended JSON, or holds a finite double other than
-/// the zeros; `TooDeep` where the document has over 100 levels; `Nul` where a 00 stands in a key, a pattern or options of it;
-/// each where none before it is told. `Memory` where a growth was refused, and never in the place of `NotAnObject`.
+/// `NotAnObject` if the tree is no object; `JsonRefused` if it is no Extended JSON, or holds a finite double other than
+/// the zeros; `TooDeep` if the document has over 100 levels; `Nul` if a 00 stands in a key, a pattern or options of it;
+/// each if none before it is reported. `Memory` if a growth was refused, and never in the place of `NotAnObject`.
 pub fn document_of_json(alloc: Global, json: Value) -> Result<Document, ErrorKind>
     ensures answer { AnswersTree (data_of json) result }
     ensures read { IfOk result (λ d. IsRead (content d)) }
@@ -132,8 +134,8 @@ pub fn document_of_json(alloc: Global, json: Value) -> Result<Document, ErrorKin
     }
 }
 
-/// The value that a JSON tree stands for, as it is set under a key. `JsonRefused` where it is no Extended JSON, or holds a
-/// finite double other than the zeros; `Memory` where a growth was refused.
+/// The value that a JSON tree stands for, as it is set under a key. `JsonRefused` if it is no Extended JSON, or holds a
+/// finite double other than the zeros; `Memory` if a growth was refused.
 pub fn value_of_json(alloc: Global, json: Value) -> Result<Bson, ErrorKind>
     ensures { AnswersValue (data_of json) result }
 {

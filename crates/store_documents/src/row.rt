@@ -37,7 +37,7 @@ fn is_written_so(written: &KeptRow<'_>, key: &[u8], body: &[u8]) -> bool
     written.key.as_slice() == key && written.body.as_slice() == body
 }
 
-/// What a refusal tells of a row: that no store can have written it, but for want of memory.
+/// What a refusal says of a row: that no store can have written it, except for out of memory.
 fn outcome_of_refusal(kind: ErrorKind) -> Result<bool, AllocError>
     ensures { IfOk result (λ b. (b ≡ false) × (kind ≢ Memory)) }
 {
@@ -47,9 +47,9 @@ fn outcome_of_refusal(kind: ErrorKind) -> Result<bool, AllocError>
     }
 }
 
-/// Whether a store can have written a row: `collection` is the name of a collection, `body` the written form of a document that is
-/// kept, and `key` the key of its `_id`. The error is a refused growth. A body that is seen to be a written form is gone over
-/// without a tree, and not written again.
+/// Whether a store can have written a row: `collection` is the name of a collection, `body` the written form of a
+/// document that is kept, and `key` the key of its `_id`. The error is a refused growth. A body that is seen to be a
+/// written form is gone over without a tree, and not written again.
 pub fn is_store_row(
     alloc: Global,
     collection: &[u8],
@@ -79,15 +79,15 @@ pub fn is_store_row(
 pub enum RowKey {
     /// It is the key of the document's `_id`.
     Own,
-    /// It is the key that the `_id` had before the two zeros of a double meant the same, and not the one that it has now, which
-    /// this is.
+    /// It is the key that the `_id` had before the two zeros of a double meant the same, and not the one that it has
+    /// now, which this is.
     Before(Vec<u8>),
     /// It is neither, or the row has no name or no body that a store can have written.
     Neither,
 }
 
-/// The key that the `_id` of a document had before the two zeros of a double meant the same, from the document's written form.
-/// The error is a refused growth.
+/// The key that the `_id` of a document had before the two zeros of a double meant the same, from the document's
+/// written form. The error is a refused growth.
 fn key_before(alloc: Global, body: &[u8]) -> Result<Vec<u8>, AllocError>
     requires { (d : Members) × IsKept d × (body.now ≡ encode d) }
     ensures { (d : Members) → IsKept d → body.now ≡ encode d → IfOk result (λ k. k.items ≡ key_before (own_id d)) }
@@ -112,7 +112,7 @@ fn is_same(bytes: &[u8], others: &[u8]) -> bool
     bytes == others
 }
 
-/// What is told of the key of a row under a good name, whose body a document reads from that is written so.
+/// What is reported of the key of a row under a good name, whose body a document reads from that is written so.
 fn key_against(
     alloc: Global,
     written: KeptRow<'_>,
@@ -142,7 +142,7 @@ fn key_against(
     }
 }
 
-/// What a refusal tells of a row's key: that no store can have written the row, but for want of memory.
+/// What a refusal says of a row's key: that no store can have written the row, except for out of memory.
 fn keyless(kind: ErrorKind) -> Result<RowKey, AllocError>
     ensures { IfOk result (λ k. (k ≡ RowKey.Neither) × (kind ≢ Memory)) }
 {
@@ -152,8 +152,8 @@ fn keyless(kind: ErrorKind) -> Result<RowKey, AllocError>
     }
 }
 
-/// The key of a row, held against the document in its body: the key of that document's `_id`, or the one that the `_id` had before
-/// the two zeros of a double meant the same. The error is a refused growth.
+/// The key of a row, held against the document in its body: the key of that document's `_id`, or the one that the `_id`
+/// had before the two zeros of a double meant the same. The error is a refused growth.
 pub fn key_of_row(
     alloc: Global,
     collection: &[u8],

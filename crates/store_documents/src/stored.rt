@@ -59,7 +59,7 @@ fn means_itself(tag: ElementType) -> bool
     )
 }
 
-/// The key of an `_id` from its element, as it is written. `Memory` where a growth was refused.
+/// The key of an `_id` from its element, as it is written. `Memory` if a growth was refused.
 fn key_of_element(alloc: Global, id: &Frame<'_>) -> Result<Vec<u8>, ErrorKind>
     requires { (d : Members) × IsKept d × IsWrittenUnder id_key d (element_of id.now) }
     ensures { (d : Members) → IsKept d → IsWrittenUnder id_key d (element_of id.now) → MatchResult result (λ k. k.items ≡ key (own_id d)) (λ e. e ≡ Memory) }
@@ -77,8 +77,8 @@ fn key_of_element(alloc: Global, id: &Frame<'_>) -> Result<Vec<u8>, ErrorKind>
     }
 }
 
-/// The key of the document that bytes mean, where they are its written form and that is seen without its tree. `Memory` where a
-/// growth was refused.
+/// The key of the document that bytes mean, where they are its written form and that is seen without its tree. `Memory`
+/// if a growth was refused.
 pub(crate) fn key_as_it_stands(alloc: Global, bytes: &[u8]) -> Result<Option<Vec<u8>>, ErrorKind>
     requires { Passes bytes.now }
     ensures { MatchResult result (λ k. IfSome k (λ k. StandUnder k.items bytes.now)) (λ e. e ≡ Memory) }
@@ -102,12 +102,12 @@ pub(crate) fn row_by_tree(alloc: Global, bytes: &[u8]) -> Result<KeptRow<'static
     row_of_document(alloc, &document)
 }
 
-/// The row of the document that bytes mean, which is kept as it means: of a repeated key the last value, in the place of the
-/// first. Bytes that are the written form already are lent, and no tree is made of them.
+/// The row of the document that bytes mean, which is kept as it means: of a repeated key the last value, in the place
+/// of the first. Bytes that are the written form already are lent, and no tree is made of them.
 ///
-/// `EndInside`, `BadLength`, `NotTerminated`, `Faulty` and `TooDeep` are those of the gate, the first whose test fails; then
-/// `NoId` where it has no `_id`, and `TooLong` where its bytes are over 16777216. `Memory` comes only where the gate refuses
-/// nothing, and where a growth was refused.
+/// `EndInside`, `BadLength`, `NotTerminated`, `Faulty` and `TooDeep` are those of the gate, the first whose test fails;
+/// then `NoId` if it has no `_id`, and `TooLong` if its bytes are over 16777216. `Memory` comes only where the gate
+/// refuses nothing, and where a growth was refused.
 pub fn row_of_bytes(alloc: Global, bytes: &[u8]) -> Result<KeptRow<'_>, ErrorKind>
     ensures { AnswersKept bytes.now result }
 {

@@ -16,7 +16,7 @@ use bson_text::write_canonical;
 use std::alloc::Global;
 use store_model::ErrorKind;
 
-/// The text of a document's tree. `FiniteDouble` where a finite double other than the zeros stands in it, or `Memory`.
+/// The text of a document's tree. `FiniteDouble` if a finite double other than the zeros is in it, or `Memory`.
 fn text_written(alloc: Global, document: &Document, text: &mut String) -> Result<(), ErrorKind>
     ensures { AnswersText (or_finite (write Canonical (tree (content document.now)))) (string_bytes text.new) result }
 {
@@ -28,7 +28,8 @@ fn text_written(alloc: Global, document: &Document, text: &mut String) -> Result
     }
 }
 
-/// The text of a document's tree. `ReservedKey` where it has a reserved key below its top, else `FiniteDouble`, or `Memory`.
+/// The text of a document's tree. `ReservedKey` if it has a reserved key below its top, else `FiniteDouble`, or
+/// `Memory`.
 fn text_of_document(alloc: Global, document: &Document, text: &mut String) -> Result<(), ErrorKind>
     ensures { AnswersText (json_of Canonical (content document.now)) (string_bytes text.new) result }
 {
@@ -38,8 +39,8 @@ fn text_of_document(alloc: Global, document: &Document, text: &mut String) -> Re
     text_written(alloc, document, text)
 }
 
-/// Puts the text of a kept document's tree, as `json_of_body` makes it in canonical mode, in the place of what `text` held, whose
-/// room is used again. No tree is made.
+/// Puts the text of a kept document's tree, as `json_of_body` makes it in canonical mode, in the place of what `text`
+/// held, whose room is used again. No tree is made.
 ///
 /// Refuses what `json_of_body` refuses, by the same kinds; what `text` holds then isn't said.
 pub fn text_of_body(alloc: Global, body: &[u8], text: &mut String) -> Result<(), ErrorKind>

@@ -59,8 +59,8 @@ fn has_no_double(tag: ElementType) -> bool
     )
 }
 
-/// True: the elements of a document or an array have no double in them, no reserved key below them, and only such keys as they
-/// may. So many levels may lie among them.
+/// True: the elements of a document or an array have no double in them, no reserved key below them, and only such keys
+/// as they may. So many levels may lie among them.
 #[cycle(told)]
 fn are_told(elements: &[u8], keys: Keys, inner: usize) -> bool
     ensures { IsTrue result → AreTold keys elements.now }
@@ -90,8 +90,8 @@ fn is_told(tag: ElementType, payload: &[u8], inner: usize) -> bool
     }
 }
 
-/// True: the elements in the bytes of a document or an array have no double in them, no reserved key below them, and only such
-/// keys as they may.
+/// True: the elements in the bytes of a document or an array have no double in them, no reserved key below them, and
+/// only such keys as they may.
 #[cycle(told)]
 fn holds_told(bytes: &[u8], keys: Keys, inner: usize) -> bool
     ensures { IsTrue result → AreTold keys (drop 4 bytes.now) }
@@ -102,16 +102,16 @@ fn holds_told(bytes: &[u8], keys: Keys, inner: usize) -> bool
     inner > 0 && are_told(elements, keys, inner - 1)
 }
 
-/// True: the kept document whose written form these bytes are has a tree. False says nothing: that is told, too, of documents with
-/// any double, with code with scope, or with another key that begins with `$` below the top.
+/// True: the kept document whose written form these bytes are has a tree. False says nothing: that is returned, too,
+/// for documents with any double, with code with scope, or with another key that begins with `$` below the top.
 fn has_tree(body: &[u8]) -> bool
     ensures { IsTrue result → (d : Members) → IsKept d → body.now ≡ encode d → (m : Form) → HasTree (json_of m d) }
 {
     holds_told(body, Keys::Free, LEVEL_LIMIT)
 }
 
-/// Whether a kept document, of which `body` is the written form, has a JSON tree: `json_of_body` without the tree. Most documents are
-/// seen to have one from their bytes alone, without memory; of others the tree is made.
+/// Whether a kept document, of which `body` is the written form, has a JSON tree: `json_of_body` without the tree. Most
+/// documents are seen to have one from their bytes alone, without memory; of others the tree is made.
 ///
 /// Refuses what `json_of_body` refuses, by the same kinds.
 pub fn check_json(alloc: Global, body: &[u8], mode: Mode) -> Result<(), ErrorKind>

@@ -37,7 +37,8 @@ pub(crate) fn key_refusal(error: KeyError) -> ErrorKind
     }
 }
 
-/// The bytes of a document without a 00 in a key, a pattern or options. `TooLong` where they are over 2147483647, or `Memory`.
+/// The bytes of a document without a 00 in a key, a pattern or options. `TooLong` if they are over 2147483647, or
+/// `Memory`.
 fn encoded(alloc: Global, document: &Document) -> Result<Vec<u8>, ErrorKind>
     requires { IsPlain (tree (content document.now)) }
     ensures { MatchResult result (λ b. b.items ≡ encode (content document.now)) (IsLong (content document.now)) }
@@ -52,8 +53,8 @@ fn encoded(alloc: Global, document: &Document) -> Result<Vec<u8>, ErrorKind>
     }
 }
 
-/// The bytes of a document. `Nul` where a 00 stands in a key, a pattern or options, else `TooLong` where they are over
-/// 16777216; `Memory` where a growth was refused.
+/// The bytes of a document. `Nul` if a 00 stands in a key, a pattern or options, else `TooLong` if they are over
+/// 16777216; `Memory` if a growth was refused.
 pub(crate) fn body_of(alloc: Global, document: &Document) -> Result<Vec<u8>, ErrorKind>
     ensures { MatchResult result (λ b. IsBody b.items (content document.now)) (IsUnwritten (content document.now)) }
 {
@@ -67,11 +68,11 @@ pub(crate) fn body_of(alloc: Global, document: &Document) -> Result<Vec<u8>, Err
     Ok(bytes)
 }
 
-/// A document as it is kept: its bytes, and the key of its `_id`. The document is one as it is read: clean, of at most 100
-/// levels.
+/// A document as it is kept: its bytes, and the key of its `_id`. The document is one as it is read: clean, of at most
+/// 100 levels.
 ///
-/// `NoId` where it has no `_id`, else `TooLong` where its bytes are over 16777216; `Memory` where a growth was refused. A document
-/// that isn't as it is read may be refused by `Nul`, where a 00 stands in a key, a pattern or options.
+/// `NoId` if it has no `_id`, else `TooLong` if its bytes are over 16777216; `Memory` if a growth was refused. A
+/// document that isn't as it is read may be refused by `Nul`, if a 00 is in a key, a pattern or options.
 pub fn row_of_document(alloc: Global, document: &Document) -> Result<KeptRow<'static>, ErrorKind>
     ensures { IsRead (content document.now) → AnswersWritten (content document.now) result }
 {

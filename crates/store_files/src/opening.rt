@@ -12,7 +12,8 @@ use store_model::ErrorKind;
 /// How many bytes a page of a new file has, and one of most others.
 const PAGE: u64 = 4096;
 
-/// How many pages are kept in memory at the least. The room is taken and zeroed as a file is opened, so a small one has little.
+/// How many pages are kept in memory at the least. The room is taken and zeroed as a file is opened, so a small one has
+/// little.
 const LEAST_PAGES: usize = 256;
 
 /// How many pages are kept in memory at the most: 64 MiB.
@@ -56,8 +57,8 @@ fn options_for(rt: &HostRuntime, path: &str) -> io::Result<Options> {
     Ok(options)
 }
 
-/// Opens the database file at a path, which is made if it isn't there. `Memory` if memory ran out, and `Database` for every other
-/// fault; also for the paths `:memory:` and those that begin with `file:`, which name no file to SQLite.
+/// Opens the database file at a path, which is made if it isn't there. `Memory` if memory ran out, and `Database` for
+/// every other fault; also for the paths `:memory:` and those that begin with `file:`, which name no file to SQLite.
 pub fn open(rt: &HostRuntime, path: &str) -> Result<Connection<FileStore<File>>, ErrorKind>
     ensures { IfErr result (λ kind. (kind ≡ Memory) ⊎ (kind ≡ Database)) }
 {

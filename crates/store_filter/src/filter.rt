@@ -3,8 +3,8 @@
 use bson_base::ElementType;
 use bson_model::Bson;
 
-/// A test on documents. A path is a list of keys: a step looks up a key in a document, or the key of a position in an array
-/// ("0", "1" and so on), and nowhere else. The empty path is the document itself.
+/// A test on documents. A path is a list of keys: a step looks up a key in a document, or the key of a position in an
+/// array ("0", "1" and so on), and nowhere else. The empty path is the document itself.
 ///
 /// Where nothing stands at the path, `Eq`, `Exists` and `Kind` are false.
 #[derive(Debug, PartialEq, Drop)]

@@ -15,7 +15,7 @@ use bson_meaning::same_as_raw;
 use bson_model::Bson;
 use bson_raw::RawDocument;
 
-/// Whether a filter selects the document of these bytes. Takes no memory, and answers for any bytes.
+/// Whether a filter selects the document of these bytes. Takes no memory, and has a result for any bytes.
 #[cycle(filters)]
 pub fn selects(document: RawDocument<'_>, filter: &Filter) -> bool
     ensures { OfWritten (bytes_of document.entry) (λ d. IsTrue result ↔ Selects (filter_of filter.now) (tree d)) }

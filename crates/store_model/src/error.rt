@@ -6,7 +6,7 @@ ghost use Rattle.store_model.specs.Refusal.{kind_name};
 use std::error::Error;
 use std::fmt;
 
-/// Why a call was refused. The numbers are the places of the tests: a call tells the first that fails.
+/// Why a call was refused. The numbers are the places of the tests: a call reports the first that fails.
 #[derive(Clone, Copy, Debug, PartialEq, Eq)]
 pub enum ErrorKind {
     /// 1: the name of the collection is empty or holds a 00.
@@ -47,7 +47,7 @@ pub enum ErrorKind {
     BadRow(i64),
     /// 20: memory was wanted.
     Memory,
-    /// 21: the database answered another refusal.
+    /// 21: the database returned another refusal.
     Database,
     /// 22: the places of the table don't suffice.
     Places,

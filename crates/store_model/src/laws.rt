@@ -21,8 +21,8 @@ ghost use Rattle.store_model.specs.Run.{Denial, Denials, Run, SparesDecided, IsU
 ghost use Rattle.store_model.specs.Left.{Is, IsEndOrOneMore, LeftAlong, LeftBy};
 ghost use Rattle.store_model.specs.Table.{Follows, IsRefusal, DocumentRow, DocumentTable, state_of, documents_of, AreOf, with_document, Serves, RunThrough, only_id, own_id, AreRows};
 
-/// A filter selects both or neither of two values of the same meaning, and so do two filters of one shape with values of the
-/// same meaning.
+/// A filter selects both or neither of two values of the same meaning, and so do two filters of one shape with values
+/// of the same meaning.
 pub fn filters_go_by_meaning()
     ensures one { (f : Filter) (v w : Value) → IsSoundFilter f → IsSound v → IsSound w → Same v w
         → Selects f v ↔ Selects f w }
@@ -40,15 +40,16 @@ pub fn one_answer()
     ensures { (s : State) (c : Command) (r q : Reply) (t u : State) → Step s c r t → Step s c q u → (r ≡ q) × (t ≡ u) }
 {}
 
-/// A step of a command as it is read leaves a state as states are: nonempty lists of kept documents under good names, no two
-/// of one list with the same `_id`. There the list of a name stored again changes nothing, so a refused call leaves the state.
+/// A step of a command as it is read leaves a state as states are: nonempty lists of kept documents under good names,
+/// no two of one list with the same `_id`. There the list of a name stored again changes nothing, so a refused call
+/// leaves the state.
 pub fn steps_keep_states()
     ensures whole { (s : State) (c : Command) (r : Reply) (t : State) → IsStore s → IsCommand c → Step s c r t → IsStore t }
     ensures refused { (s : State) (n : List ℕ) → IsStore s → store s n (list_of s n) ≡ s }
 {}
 
-/// From states of the same meaning, two commands of the same meaning are answered with the same meaning, and leave states of
-/// the same meaning.
+/// From states of the same meaning, two commands of the same meaning are answered with the same meaning, and leave
+/// states of the same meaning.
 pub fn step_congruence()
     ensures { (c d : Command) (s t : State) (r q : Reply) (s2 t2 : State)
         → SameCommand c d → IsCommand c → IsCommand d → SameStates s t → IsStore s → IsStore t
@@ -68,7 +69,8 @@ pub fn runs_keep_states()
         → Run w 0 s cs rs t → IsStore t }
 {}
 
-/// Replies about one collection, and its list at the end, depend alone on its list, the calls to it, and what is denied of these.
+/// Replies about one collection, and its list at the end, depend alone on its list, the calls to it, and what is denied
+/// of these.
 pub fn one_collection()
     ensures { (n : List ℕ) (w v : Denials) (cs ds : List Command) (rs qs : List Reply) (s t s2 t2 : State)
         → list_of s n ≡ list_of t n → calls_of n w 0 cs ≡ calls_of n v 0 ds
@@ -76,7 +78,8 @@ pub fn one_collection()
         → (replies_of n cs rs ≡ replies_of n ds qs) × (list_of s2 n ≡ list_of t2 n) }
 {}
 
-/// A run through tables is a run of the states that they stand for, and denies nothing of what is decided before anything grows.
+/// A run through tables is a run of the states that they stand for, and denies nothing of what is decided before
+/// anything grows.
 pub fn tables_run_as_states()
     ensures run { (w : Denials) (a b : DocumentTable) (cs : List Command) (rs : List Reply) → RunThrough w 0 a cs rs b
         → Run w 0 (state_of a) cs rs (state_of b) }
@@ -84,8 +87,8 @@ pub fn tables_run_as_states()
         → SparesDecided w 0 cs }
 {}
 
-/// What inputs read as is clean, has numbers and texts of its kinds and no key twice, and at most 100 levels. Else a kind of 3 to
-/// 11 is told.
+/// What inputs read as is clean, has numbers and texts of its kinds and no key twice, and at most 100 levels. Else a
+/// kind of 3 to 11 is reported.
 pub fn readings_are_sound()
     ensures bytes { (bs : List ℕ) (a : Reading) → AreBytes bs → ReadsBytes bs a → IsReading a }
     ensures tree { (j : Data) (a : Reading) → IsJson j → ReadsTree j a → IsReading a }
@@ -94,8 +97,8 @@ pub fn readings_are_sound()
     ensures trees { (js : List Data) (ds : Documents) (stop : Option Kind) → AreAllJson js → ReadsTrees js ds stop → AreRead ds × IsStop stop }
 {}
 
-/// Bytes read as one document or are refused with one kind, but that of Faulty and TooDeep either is told where both stand. A
-/// JSON tree has one reading.
+/// Bytes read as one document or are refused with one kind, but that of Faulty and TooDeep either is reported if both
+/// hold. A JSON tree has one reading.
 pub fn one_reading()
     ensures document { (bs : List ℕ) (d e : Members) → ReadsBytes bs (readable d) → ReadsBytes bs (readable e) → d ≡ e }
     ensures either { (bs : List ℕ) (d : Members) (k : Kind) → ReadsBytes bs (readable d) → ReadsBytes bs (unreadable k) → ⊥ }
@@ -129,7 +132,7 @@ pub fn documents_go_in()
 {}
 
 /// What an accepted export wrote reads as the documents of the list and nothing else, and an import of it into an empty
-/// collection answers their number and leaves that list.
+/// collection returns their number and leaves that list.
 pub fn exports_come_back()
     ensures read { (ds more : Documents) (stop : Option Kind) → AreKept ds
         → ReadsStream (flat_map encode ds) more stop ↔ ((more ≡ ds) × (stop ≡ None)) }
@@ -154,8 +157,8 @@ pub fn runs_go_on()
         → (v : Denials) × RunThrough v 0 a (cs ++ c ∷ []) (rs ++ r ∷ []) b }
 {}
 
-/// What a crash leaves behind a run that began with one state alone is the state at its end, or what one of the commands, refused
-/// for want of memory or by the database behind the last accepted one, makes of that.
+/// What a crash leaves behind a run that began with one state alone is the state at its end, or what one of the
+/// commands, refused if out of memory or by the database behind the last accepted one, makes of that.
 pub fn crashes_leave_the_end()
     ensures { (w : Denials) (s t : State) (cs : List Command) (rs : List Reply) (run : Run w 0 s cs rs t)
         → IsStore s → (x : State) → LeftAlong Is (λ y. y ≡ s) w 0 s cs rs t run x → IsEndOrOneMore cs t x }
@@ -173,8 +176,8 @@ pub fn refusals_stay()
     ensures { (s t : State) (c : Command) (k : Kind) (i : Option ℕ) → IsStore s → Step s c (refused k i) t → t ≡ s }
 {}
 
-/// A table stands for the documents of its rows, in their order. Rows that come last put their documents last in the list of
-/// their name; a row that changes or goes does so in its place there.
+/// A table stands for the documents of its rows, in their order. Rows that come last put their documents last in the
+/// list of their name; a row that changes or goes does so in its place there.
 pub fn tables_stand_for_lists()
     ensures lists { (a : DocumentTable) (n : List ℕ) → list_of (state_of a) n ≡ documents_of a n }
     ensures last { (a new : DocumentTable) (n : List ℕ) → AreOf n new
@@ -188,7 +191,7 @@ pub fn tables_stand_for_lists()
         → state_of (front ++ back) ≡ store (state_of (front ++ r ∷ back)) r.name (documents_of front r.name ++ documents_of back r.name) }
 {}
 
-/// Worked rows: what stands at paths and how far they go, what is selected, what calls answer on small lists.
+/// Worked rows: what stands at paths and how far they go, what is selected, what calls return on small lists.
 pub fn worked_rows()
     ensures found { at (document with_array) (codes "v" ∷ codes "0" ∷ []) ≡ Some a_text }
     ensures absent { at (document with_array) (codes "v" ∷ codes "7" ∷ []) ≡ None }
@@ -214,8 +217,8 @@ pub fn worked_rows()
     ensures again { Answers (import (with_two ∷ with_id ∷ []) None) (with_id ∷ []) (refused DuplicateId (Some 1)) (with_id ∷ []) }
 {}
 
-/// Ids go by their written keys: an id that a kept document has can be written, with the key of that document's own; and a key
-/// that is equal to it is that of an id which the document has.
+/// Ids go by their written keys: an id that a kept document has can be written, with the key of that document's own;
+/// and a key that is equal to it is that of an id which the document has.
 pub fn ids_go_by_keys()
     ensures plain { (d : Members) (id : Value) → IsKept d → IsSound id → HasId id d → IsPlain id }
     ensures short { (d : Members) (id : Value) → IsKept d → IsSound id → HasId id d → length (key (only_id id)) ≤ size_limit }
@@ -224,7 +227,8 @@ pub fn ids_go_by_keys()
         → key (only_id id) ≡ key (own_id d) → HasId id d }
 {}
 
-/// Rows of kept documents under good names, no two of one name with the same written key, stand for a state, and no others do.
+/// Rows of kept documents under good names, no two of one name with the same written key, stand for a state, and no
+/// others do.
 pub fn rows_are_a_state()
     ensures { (rows : DocumentTable) → AreRows rows ↔ IsStore (state_of rows) }
 {}

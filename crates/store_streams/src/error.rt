@@ -47,7 +47,7 @@ impl StreamError {
     ghost use Rattle.std.specs.Prelude.{◌≡◌};
     ghost use Rattle.store_streams.specs.Judging.{stream_refusal};
 
-    /// The refusal of a document at its place; want of memory has none.
+    /// The refusal of a document at its place; out of memory has none.
     pub(crate) fn at(kind: ErrorKind, document: u64) -> StreamError
         ensures { result ≡ stream_refusal kind document }
     {

@@ -35,8 +35,8 @@ fn judge(alloc: Global, rows: &mut Vec<KeptRow<'static>>, json: Value) -> Result
     }
 }
 
-/// Judges the documents that JSON trees stand for (MongoDB Extended JSON v2), which come one after the other, and keeps the rows
-/// that they are kept as. No tree is kept.
+/// Judges the documents that JSON trees stand for (MongoDB Extended JSON v2), which come one after the other, and keeps
+/// the rows that they are kept as. No tree is kept.
 #[derive(Drop)]
 pub struct Loader {
     rows: Vec<KeptRow<'static>>,
@@ -73,8 +73,8 @@ impl Loader {
 
     /// The rows of the trees that were taken.
     ///
-    /// The first document that is refused decides: `NotAnObject`, `JsonRefused`, `TooDeep` and `Nul` of its tree, then `NoId` and
-    /// `TooLong`. `Memory` where a growth was refused.
+    /// The first document that is refused decides: `NotAnObject`, `JsonRefused`, `TooDeep` and `Nul` of its tree, then
+    /// `NoId` and `TooLong`. `Memory` if a growth was refused.
     pub fn finish(self) -> Result<Vec<KeptRow<'static>>, StreamError>
         ensures { (js : List Data) → HasTaken self js → Judges (ReadsTrees js) result }
     {

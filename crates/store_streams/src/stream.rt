@@ -14,8 +14,9 @@ use store_model::ErrorKind;
 /// The least length that a document declares: that of one without elements.
 const SHORTEST: usize = 5;
 
-/// Cuts the first document off by its declared length (bsonspec.org 1.1, "document"), which counts itself. `EndInside` where
-/// there are fewer than four bytes, or fewer than declared; `BadLength` where the length is under 5 or over 16777216.
+/// Cuts the first document off by its declared length (bsonspec.org 1.1, "document"), which counts itself. `EndInside`
+/// where there are fewer than four bytes, or fewer than declared; `BadLength` if the length is under 5 or over
+/// 16777216.
 fn cut(bytes: &[u8]) -> Result<(&[u8], &[u8]), ErrorKind>
     ensures { MatchResult result (λ r. (bytes.now ≡ r.0.now ++ r.1.now) × IsCounted r.0.now) (IsUncut bytes.now) }
 {
@@ -52,10 +53,10 @@ fn first_row(alloc: Global, bytes: &[u8]) -> Result<(KeptRow<'_>, &[u8]), ErrorK
 }
 
 /// Judges the documents of a stream, which stand one after the other and each declare their length (bsonspec.org 1.1,
-/// "document"), and answers the rows that they are kept as.
+/// "document"), and returns the rows that they are kept as.
 ///
-/// The first document that is refused decides: `EndInside`, `BadLength`, `NotTerminated`, `Faulty` and `TooDeep` of its bytes,
-/// then `NoId` and `TooLong`. `Memory` where a growth was refused. Takes time in proportion to the bytes.
+/// The first document that is refused decides: `EndInside`, `BadLength`, `NotTerminated`, `Faulty` and `TooDeep` of its
+/// bytes, then `NoId` and `TooLong`. `Memory` if a growth was refused. Takes time in proportion to the bytes.
 pub fn judge_stream(alloc: Global, bytes: &[u8]) -> Result<Vec<KeptRow<'_>>, StreamError>
     ensures { Judges (ReadsStream bytes.now) result }
 {

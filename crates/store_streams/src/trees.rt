@@ -11,10 +11,11 @@ use serde_json::Value;
 use std::alloc::Global;
 use store_documents::KeptRow;
 
-/// Judges the documents that JSON trees stand for (MongoDB Extended JSON v2), and answers the rows that they are kept as.
+/// Judges the documents that JSON trees stand for (MongoDB Extended JSON v2), and returns the rows that they are kept
+/// as.
 ///
-/// The first document that is refused decides: `NotAnObject`, `JsonRefused`, `TooDeep` and `Nul` of its tree, then `NoId` and
-/// `TooLong`. `Memory` where a growth was refused.
+/// The first document that is refused decides: `NotAnObject`, `JsonRefused`, `TooDeep` and `Nul` of its tree, then
+/// `NoId` and `TooLong`. `Memory` if a growth was refused.
 pub fn judge_trees(alloc: Global, trees: Vec<Value>) -> Result<Vec<KeptRow<'static>>, StreamError>
     ensures { Judges (ReadsTrees (map data_of trees.items)) result }
 {

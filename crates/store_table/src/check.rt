@@ -23,11 +23,11 @@ pub trait RowCheck {
     /// now.
     ghost renews: { Self → List ℕ → List ℕ → List ℕ → List ℕ → Type 0 };
 
-    /// Whether a row is one of the store's own under the key that it has. An error is want of memory.
+    /// Whether a row is one of the store's own under the key that it has. An error is out of memory.
     fn passes(&self, coll: &[u8], idkey: &[u8], body: &[u8]) -> Result<bool, AllocError>
         ensures { IfOk result (λ good. MatchBool good (renews self.now coll.now idkey.now body.now idkey.now) (¬ renews self.now coll.now idkey.now body.now idkey.now)) };
 
-    /// The key that a row has now, which is then its own. An error is want of memory.
+    /// The key that a row has now, which is then its own. An error is out of memory.
     fn renewed(&self, coll: &[u8], idkey: &[u8], body: &[u8]) -> Result<Option<Vec<u8>>, AllocError>
         ensures { IfOk result (λ k. MatchOption k ((now : List ℕ) → renews self.now coll.now idkey.now body.now now → ⊥)
             (λ now. renews self.now coll.now idkey.now body.now now.items × renews self.now coll.now now.items body.now now.items)) };
@@ -38,7 +38,7 @@ pub(crate) trait TestsRows {
     /// A row of this collection, this written key and this body is accepted.
     ghost accepts: { Self → List ℕ → List ℕ → List ℕ → Type 0 };
 
-    /// Whether such a row is accepted. An error is want of memory.
+    /// Whether such a row is accepted. An error is out of memory.
     fn accepts_row(&self, coll: &[u8], idkey: &[u8], body: &[u8]) -> Result<bool, AllocError>
         ensures { IfOk result (λ good. MatchBool good (accepts self.now coll.now idkey.now body.now) (¬ accepts self.now coll.now idkey.now body.now)) };
 }
@@ -59,7 +59,8 @@ impl<C: RowCheck> TestsRows for Own<'_, C> {
     }
 }
 
-/// Adds a key and its collection, and says whether the set had them not. The key goes first, since it tells most rows apart.
+/// Adds a key and its collection, and says whether the set had them not. The key goes first, since it keeps most rows
+/// apart.
 fn meet(
     seen: &mut BTreeSet<(Vec<u8>, Vec<u8>)>,
     alloc: Global,
@@ -134,8 +135,8 @@ pub(crate) fn judge<J: TestsRows>(
     }
 }
 
-/// Reads the whole table, and tests each row. One row is held at a time, beside the names and keys of those before it; each
-/// takes a logarithm of their number.
+/// Reads the whole table, and tests each row. One row is held at a time, beside the names and keys of those before it;
+/// each takes a logarithm of their number.
 pub(crate) fn survey<S: Alter, J: TestsRows>(
     alloc: Global,
     conn: &mut Connection<S>,

@@ -19,7 +19,7 @@ use sqlite::{Alter, Connection, Error, Row};
 use std::alloc::{AllocError, Global};
 use std::collections::{BTreeMap, BTreeSet};
 
-/// Puts the place of a row under its key and its collection, and tells the place that stood there.
+/// Puts the place of a row under its key and its collection, and returns the place that was there.
 pub(crate) fn meet_place(
     places: &mut BTreeMap<(Vec<u8>, Vec<u8>), i64>,
     alloc: Global,
@@ -111,7 +111,7 @@ impl Renewals {
     }
 }
 
-/// What is told where all rows were read.
+/// What is reported once all rows were read.
 fn ended(verdict: Result<(), OpenError>, renewals: Renewals) -> Result<Renewals, OpenError>
     ensures { MatchResult verdict (λ _. result ≡ Ok renewals) (λ e. result ≡ Err e) }
 {

@@ -34,12 +34,14 @@ pub struct Table<S: Alter> {
 impl<S: Alter + Drop> Table<S> {
     ghost use Rattle.store_table.specs.Table.{connection_of, table_state};
 
-    /// Opens the table, which is made where the database has none. Keys that `check` replaces by others are replaced in one
-    /// transaction; a table that has none is not written to. A refusal gives the connection back, with its rows as they were.
+    /// Opens the table, which is made where the database has none. Keys that `check` replaces by others are replaced in
+    /// one transaction; a table that has none is not written to. A refusal gives the connection back, with its rows as
+    /// they were.
     ///
-    /// Refused by NotAStore, where `documents` can't be read by the four columns with their types or is no table; by BadRow,
-    /// with the place of the first row that isn't good under any key; by IdsCollide, where two rows of one collection would
-    /// have one key, with the place of the first and the least place that has such a row before it; and by Memory and Database.
+    /// Refused by NotAStore, where `documents` can't be read by the four columns with their types or is no table; by
+    /// BadRow, with the place of the first row that isn't good under any key; by IdsCollide, where two rows of one
+    /// collection would have one key, with the place of the first and the least place that has such a row before it;
+    /// and by Memory and Database.
     pub fn open<C: RowCheck>(
         alloc: Global,
         mut connection: Connection<S>,
@@ -122,7 +124,8 @@ impl<S: Alter + Drop> Table<S> {
         Ok(())
     }
 
-    /// Adds rows to the collection, at the places after the greatest one: all of them or, where the call is refused, none.
+    /// Adds rows to the collection, at the places after the greatest one: all of them or, where the call is refused,
+    /// none.
     pub fn append_all(&mut self, coll: &str, rows: &[NewRow<'_>]) -> Result<(), Fault>
         ensures moves { Moves (table_state S.Store self.old) (table_state S.Store self.new) (AddsRows (length rows.now) (with_rows coll.now rows.now) result) }
         ensures open { WasOpen (table_state S.Store self.old) (table_state S.Store self.new) result }

@@ -17,7 +17,7 @@ use std::fmt;
 
 impl Binary {
     /// The bytes of a Base64 text with padding (RFC 4648, section 4), as a subtype, or as Generic where none is given.
-    /// `DecodingError` where the text isn't Base64, `Memory` where a growth was refused.
+    /// `DecodingError` if the text isn't Base64, `Memory` if a growth was refused.
     pub fn from_base64(
         alloc: Global,
         base64: &str,

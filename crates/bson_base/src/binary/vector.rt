@@ -27,8 +27,8 @@ pub struct PackedBitVector {
 impl PackedBitVector {
     ghost use Rattle.bson_base.specs.Vectors.{packed_value};
 
-    /// The bits of `vector` without the lowest `padding` bits of its last byte; no padding is 0. A padding over 7, or over
-    /// 0 where there is no byte, is `Error::Vector`.
+    /// The bits of `vector` without the lowest `padding` bits of its last byte; no padding is 0. A padding over 7, or
+    /// over 0 where there is no byte, is `Error::Vector`.
     pub fn new(vector: Vec<u8>, padding: Option<u8>) -> Result<PackedBitVector>
         ensures value { IfOk result (λ p. packed_value p ≡ packed_bit (unwrap_or padding 0) vector.items) }
         ensures refused { IsErr result ↔ (is_padding (unwrap_or padding 0) vector.items ≡ false) }
@@ -67,9 +67,9 @@ pub enum Vector {
 impl Vector {
     ghost use Rattle.bson_base.specs.Vectors.{vector_value, ReadsVector};
 
-    /// The vector that `bytes` hold. `Error::Vector` tells bytes that are not those of a vector: fewer than 2, another
-    /// type than 03, 27 and 10 (hexadecimal), padding with another type than 10 or that `PackedBitVector::new` refuses,
-    /// or patterns that are not whole. `Error::Memory` is a refused growth.
+    /// The vector that `bytes` hold. `Error::Vector` reports bytes that are not those of a vector: fewer than 2,
+    /// another type than 03, 27 and 10 (hexadecimal), padding with another type than 10 or that `PackedBitVector::new`
+    /// refuses, or patterns that are not whole. `Error::Memory` is a refused growth.
     pub fn from_bytes(alloc: Global, bytes: &[u8]) -> Result<Vector>
         ensures { ReadsVector bytes.now result }
     {
@@ -91,7 +91,7 @@ impl Vector {
         }
     }
 
-    /// The vector that a binary value of subtype 09 holds; `Error::Vector` also tells another subtype.
+    /// The vector that a binary value of subtype 09 holds; `Error::Vector` also reports another subtype.
     pub fn from_binary(alloc: Global, binary: &Binary) -> Result<Vector>
         ensures vector { binary.now.subtype ≡ BinarySubtype.Vector → ReadsVector binary.now.bytes.items result }
         ensures other { binary.now.subtype ≢ BinarySubtype.Vector → result ≡ Err Error.Vector }

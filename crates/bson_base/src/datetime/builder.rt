@@ -8,8 +8,8 @@ ghost use Rattle.bson_base.specs.Scalars.{millis_of};
 use super::calendar::day_number;
 use super::{DateTime, Error, Result};
 
-/// Makes a [`DateTime`] of its parts. The year, the month and the day have to be told, once each, in any order; of the
-/// other parts the last that is told counts, and one that isn't told is 0.
+/// Makes a [`DateTime`] of its parts. The year, the month and the day have to be given, once each, in any order; of the
+/// other parts the last that is given counts, and one that isn't given is 0.
 #[derive(Clone, Copy, Debug)]
 pub struct DateTimeBuilder<Y = NoYear, M = NoMonth, D = NoDay> {
     year: Y,
@@ -21,27 +21,27 @@ pub struct DateTimeBuilder<Y = NoYear, M = NoMonth, D = NoDay> {
     millisecond: Option<u16>,
 }
 
-/// The year was told.
+/// The year was given.
 #[derive(Clone, Copy, Debug)]
 pub struct Year(i32);
 
-/// The year wasn't told yet.
+/// The year wasn't given yet.
 #[derive(Clone, Copy, Debug)]
 pub struct NoYear;
 
-/// The month was told.
+/// The month was given.
 #[derive(Clone, Copy, Debug)]
 pub struct Month(u8);
 
-/// The month wasn't told yet.
+/// The month wasn't given yet.
 #[derive(Clone, Copy, Debug)]
 pub struct NoMonth;
 
-/// The day was told.
+/// The day was given.
 #[derive(Clone, Copy, Debug)]
 pub struct Day(u8);
 
-/// The day wasn't told yet.
+/// The day wasn't given yet.
 #[derive(Clone, Copy, Debug)]
 pub struct NoDay;
 
@@ -62,7 +62,7 @@ impl Default for DateTimeBuilder<NoYear, NoMonth, NoDay> {
 }
 
 impl<M, D> DateTimeBuilder<NoYear, M, D> {
-    /// Tells the year, from -9999 to 9999.
+    /// Gives the year, from -9999 to 9999.
     pub fn year(self, year: i32) -> DateTimeBuilder<Year, M, D>
         ensures { result ≡ with_year self year }
     {
@@ -79,7 +79,7 @@ impl<M, D> DateTimeBuilder<NoYear, M, D> {
 }
 
 impl<Y, D> DateTimeBuilder<Y, NoMonth, D> {
-    /// Tells the month, from 1 for January to 12.
+    /// Gives the month, from 1 for January to 12.
     pub fn month(self, month: u8) -> DateTimeBuilder<Y, Month, D>
         ensures { result ≡ with_month self month }
     {
@@ -96,7 +96,7 @@ impl<Y, D> DateTimeBuilder<Y, NoMonth, D> {
 }
 
 impl<Y, M> DateTimeBuilder<Y, M, NoDay> {
-    /// Tells the day of the month, from 1.
+    /// Gives the day of the month, from 1.
     pub fn day(self, day: u8) -> DateTimeBuilder<Y, M, Day>
         ensures { result ≡ with_day self day }
     {
@@ -113,7 +113,7 @@ impl<Y, M> DateTimeBuilder<Y, M, NoDay> {
 }
 
 impl<Y, M, D> DateTimeBuilder<Y, M, D> {
-    /// Tells the hour, from 0 to 23.
+    /// Gives the hour, from 0 to 23.
     pub fn hour(mut self, hour: u8) -> DateTimeBuilder<Y, M, D>
         ensures { result ≡ with_hour self hour }
     {
@@ -121,7 +121,7 @@ impl<Y, M, D> DateTimeBuilder<Y, M, D> {
         self
     }
 
-    /// Tells the minute, from 0 to 59.
+    /// Gives the minute, from 0 to 59.
     pub fn minute(mut self, minute: u8) -> DateTimeBuilder<Y, M, D>
         ensures { result ≡ with_minute self minute }
     {
@@ -129,7 +129,7 @@ impl<Y, M, D> DateTimeBuilder<Y, M, D> {
         self
     }
 
-    /// Tells the second, from 0 to 59.
+    /// Gives the second, from 0 to 59.
     pub fn second(mut self, second: u8) -> DateTimeBuilder<Y, M, D>
         ensures { result ≡ with_second self second }
     {
@@ -137,7 +137,7 @@ impl<Y, M, D> DateTimeBuilder<Y, M, D> {
         self
     }
 
-    /// Tells the millisecond, from 0 to 999.
+    /// Gives the millisecond, from 0 to 999.
     pub fn millisecond(mut self, millisecond: u16) -> DateTimeBuilder<Y, M, D>
         ensures { result ≡ with_millisecond self millisecond }
     {
@@ -147,7 +147,7 @@ impl<Y, M, D> DateTimeBuilder<Y, M, D> {
 }
 
 impl DateTimeBuilder<Year, Month, Day> {
-    /// The moment, or `InvalidTimestamp` where the calendar has no such day or a part is out of its range.
+    /// The moment, or `InvalidTimestamp` if the calendar has no such day or a part is out of its range.
     pub fn build(self) -> Result<DateTime>
         ensures { result_map millis_of result ≡ built self }
     {
@@ -179,7 +179,7 @@ fn clock(hour: u8, minute: u8, second: u8, millisecond: u16) -> Option<u32>
 }
 
 impl DateTime {
-    /// A builder that was told nothing.
+    /// A builder that was given nothing.
     pub fn builder() -> DateTimeBuilder<NoYear, NoMonth, NoDay>
         ensures { IsEmptyBuilder result }
     {

@@ -142,8 +142,8 @@ fn day_and_clock(millis: i64) -> (i64, u32)
 }
 
 impl DateTime {
-    /// The date text of RFC 3339 in UTC, with milliseconds where they aren't 0. `CannotFormat` outside the years 0000 to
-    /// 9999, `Memory` where a growth was refused.
+    /// The date text of RFC 3339 in UTC, with milliseconds where they aren't 0. `CannotFormat` outside the years 0000
+    /// to 9999, `Memory` if a growth was refused.
     pub fn try_to_rfc3339_string(self, alloc: Global) -> Result<String>
         ensures text { IfOk result (λ text. IsDateText (millis_of self) (string_bytes text)) }
         ensures refused { IsTrue (has_date_text (millis_of self)) → result ≢ Err Error.CannotFormat }

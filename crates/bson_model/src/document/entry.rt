@@ -78,8 +78,8 @@ impl<'a> Entry<'a> {
         }
     }
 
-    /// The value under the key, to be written to. Where the key is absent, `default` is put last first; that fails where there
-    /// is no memory, and changes nothing then.
+    /// The value under the key, to be written to. Where the key is absent, `default` is put last first; that fails
+    /// where there is no memory, and changes nothing then.
     pub fn or_insert(self, default: Bson) -> Result<&'a mut Bson, AllocError>
         ensures* writes_back { sem 𝓛 (EntryLends self.entry result) }
         ensures value { IfOk result (λ v. view v.now ≡ unwrap_or (get (entry_key self.entry) (pairs_of (entry_document self.entry).now)) (view default)) }

@@ -28,7 +28,8 @@ impl<'a> Iterator for Iter<'a> {
     }
 }
 
-/// The pairs of a document by `&`, ascending by the bytes of their keys. `ascending_rest` is the list of those that are left.
+/// The pairs of a document by `&`, ascending by the bytes of their keys. `ascending_rest` is the list of those that are
+/// left.
 #[derive(Drop)]
 pub struct Ascending<'a> {
     pairs: bson_pairs::Ascending<'a, Bson>,

@@ -39,7 +39,7 @@ pub enum Error {
     Memory,
 }
 
-/// What a call of this module answers.
+/// What a call of this module returns.
 pub type Result<T> = std::result::Result<T, Error>;
 
 impl From<AllocError> for Error {
@@ -205,19 +205,20 @@ impl Bson {
     ghost use Rattle.bson_model.specs.View.{view};
     ghost use Rattle.bson_model.specs.JsonRead.{GivesReading, read};
 
-    /// The value that a JSON tree stands for (MongoDB Extended JSON v2, "Parsing"). `InvalidObjectId` tells a text under
-    /// `$oid` that is no object id, `FiniteDouble` a number that is no signed integer of 64 bits or a numeral under
-    /// `$numberDouble` that is not zero, `DeserializationError` any other fault of a typed value, `Memory` a refused growth, and
-    /// more than 1000 documents, arrays and scopes inside each other, which it doesn't enter; a scope counts twice, as an object
-    /// in an object. Of several faults the first one in the order of keys is told, a further key before the fault of a body.
+    /// The value that a JSON tree stands for (MongoDB Extended JSON v2, "Parsing"). `InvalidObjectId` reports a text
+    /// under `$oid` that is no object id, `FiniteDouble` a number that is no signed integer of 64 bits or a numeral
+    /// under `$numberDouble` that is not zero, `DeserializationError` any other fault of a typed value, `Memory` a
+    /// refused growth, and more than 1000 documents, arrays and scopes inside each other, which it doesn't enter; a
+    /// scope counts twice, as an object in an object. Of several faults the first one in the order of keys is reported,
+    /// a further key before the fault of a body.
     pub fn try_from_value(alloc: Global, json: Value) -> Result<Bson>
         ensures { GivesReading view result (read (data_of json)) }
     {
         read(alloc, json, STACK_LEVELS)
     }
 
-    /// The value that a JSON object stands for: a typed value where it has a reserved key, else a document. The errors are
-    /// those of `try_from_value`.
+    /// The value that a JSON object stands for: a typed value where it has a reserved key, else a document. The errors
+    /// are those of `try_from_value`.
     pub fn try_from_map(alloc: Global, map: Map<String, Value>) -> Result<Bson>
         ensures { GivesReading view result (read (object (members_view map.entries))) }
     {
@@ -230,8 +231,8 @@ impl Document {
     ghost use Rattle.serde_json.specs.View.{members_view};
     ghost use Rattle.bson_model.specs.JsonRead.{GivesReading, read_members};
 
-    /// The document of a JSON object, whose own keys are never taken for reserved ones; those of the objects below are. The
-    /// errors are those of `Bson::try_from_value`.
+    /// The document of a JSON object, whose own keys are never taken for reserved ones; those of the objects below are.
+    /// The errors are those of `Bson::try_from_value`.
     pub fn try_from_map(alloc: Global, map: Map<String, Value>) -> Result<Document>
         ensures { GivesReading (λ d. content d) result (read_members (members_view map.entries)) }
     {

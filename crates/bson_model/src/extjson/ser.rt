@@ -1,5 +1,5 @@
-//! Extended JSON as it is written (MongoDB Extended JSON v2). One writer serves both forms: they differ in integers and dates
-//! alone.
+//! Extended JSON as it is written (MongoDB Extended JSON v2). One writer serves both forms: they differ in integers and
+//! dates alone.
 
 ghost use Rattle.std.specs.Prelude.{◌≡◌, true, string_bytes, map, option_map, IfOk, OnOk};
 ghost use Rattle.serde_json.specs.Data as json;
@@ -31,16 +31,16 @@ pub enum Mode {
 }
 
 impl Bson {
-    /// The tree in canonical Extended JSON. `FiniteDouble` where a finite double other than the zeros stands in the value, `Memory`
-    /// where a growth was refused.
+    /// The tree in canonical Extended JSON. `FiniteDouble` if a finite double other than the zeros is in the value,
+    /// `Memory` where a growth was refused.
     pub fn into_canonical_extjson(self, alloc: Global) -> Result<Value, Error>
         ensures { WritesForm data_of result (write Mode.Canonical (view self)) }
     {
         write_value(alloc, self, Mode::Canonical)
     }
 
-    /// The tree in relaxed Extended JSON. `FiniteDouble` where a finite double other than the zeros stands in the value, `Memory`
-    /// where a growth was refused.
+    /// The tree in relaxed Extended JSON. `FiniteDouble` if a finite double other than the zeros is in the value,
+    /// `Memory` where a growth was refused.
     pub fn into_relaxed_extjson(self, alloc: Global) -> Result<Value, Error>
         ensures { WritesForm data_of result (write Mode.Relaxed (view self)) }
     {

@@ -9,7 +9,7 @@ use crate::extjson::Mode;
 use crate::extjson::de::Error;
 use bson_base::laws;
 
-/// Two errors are equal where they are one, with all that they tell.
+/// Two errors are equal where they are one, with all that they report.
 pub fn equal_errors()
     ensures trees { (x y : AnyError) → IsTrue (⟦<Error as PartialEq>⟧.eq x y) ↔ (x ≡ y) }
     ensures getters { (x y : AnyAccessError) → IsTrue (⟦<ValueAccessError as PartialEq>⟧.eq x y) ↔ (x ≡ y) }

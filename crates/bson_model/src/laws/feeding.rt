@@ -22,7 +22,8 @@ ghost use Rattle.bson_model.specs.declared.document.Document.{Document as Pairs}
 use bson_base::{Binary, DbPointer, Decimal128, ObjectId};
 use std::hash::Hash;
 
-/// What a document feeds to a hasher: its pairs ascending by their keys, of each the key's text and then what the value feeds.
+/// What a document feeds to a hasher: its pairs ascending by their keys, of each the key's text and then what the value
+/// feeds.
 pub fn what_documents_feed()
     ensures { (x : Pairs) → document_writes x ≡ pairs_writes bson_writes x.pairs }
 {}

@@ -60,7 +60,7 @@ pub fn equal_values()
     bson_base::laws::equal_scalars();
 }
 
-/// Errors are equal where they tell the same.
+/// Errors are equal if they report the same.
 pub fn equal_errors()
     ensures reading { (x y : AnyReadError) → IsTrue (⟦<ReadError as PartialEq>⟧.eq x y) ↔ (reading_refusal x ≡ reading_refusal y) }
     ensures writing { (x y : AnyWriteError) → IsTrue (⟦<WriteError as PartialEq>⟧.eq x y) ↔ (writing_refusal x ≡ writing_refusal y) }

@@ -1,4 +1,4 @@
-//! The bodies under reserved keys, but for the scope of a code.
+//! The bodies under reserved keys, except for the scope of a code.
 ghost use Rattle.std.specs.Prelude.{◌≡◌, if◌then◌else◌, string_bytes, Ok, Err};
 ghost use Rattle.serde_json.specs.Find.{as_i64};
 ghost use Rattle.serde_json.specs.View.{view as data_of, number_view, members_view};
