@@ -1,16 +1,24 @@
 #!/usr/bin/python3
-"""Runs sessions of the program over a database file: lines in, lines out, and tools/bson_session.py beside Python's bson.
+"""Runs sessions of the program over a database file: lines in, lines out, streams that fail, and tools/bson_session.py beside
+Python's bson.
 
     tests/session.py PROGRAM [NUMBER]
 
-prints one line a step, and ends with status 1 at the first that isn't as it should be.
+prints one line a step, and ends with status 1 at the first that isn't as it should be. At the end a session does NUMBER inserts
+with a get behind each, a thousand if none is given.
 """
+import atexit
 import json
+import os
 import pathlib
+import pty
+import resource
+import shutil
 import subprocess
 import sys
 import tempfile
 import time
+import tty
 
 try:
     import bson
@@ -22,6 +30,7 @@ from bson_session import Refused, Session
 
 PROGRAM = sys.argv[1]
 FOLDER = pathlib.Path(tempfile.mkdtemp())
+atexit.register(shutil.rmtree, FOLDER, ignore_errors=True)
 
 
 def run(lines, file="test.db", **more):
@@ -75,12 +84,57 @@ holds("another process meanwhile", run(asks("collections")), (1, [], "refused: D
 process.stdin.close()
 holds("the end", (process.stdout.read(), process.wait()), (b"", 0))
 
-# An output that fails: no further command is done.
+# An output that fails: no further command is done. First a device that is always full, and then a file that ends with each byte of
+# the answers in turn.
 with open("/dev/full", "wb") as full:
     done = subprocess.run([PROGRAM, str(FOLDER / "test.db")], input=asks("remove", "c", "1") + asks("remove", "c", "2"), stdout=full, stderr=subprocess.PIPE)
 holds("an output that fails", (done.returncode, done.stderr), (1, b"refused: Writer\n"))
 holds("what was done", run(asks("get", "c", "1") + asks("count", "c", '{"and":[]}')),
       (0, ['{"status":1,"output":"","told":"refused: NotFound"}', '{"status":0,"output":"3\\n"}'], ""))
+INSERTS = b"".join(asks("insert", "c", '{"_id":%d}' % number) for number in range(3))
+ANSWER = DONE.encode() + b"\n"
+MOST = 1 << 24
+
+
+def with_room(room, file):
+    """A session with the three inserts, whose output has room for so many bytes."""
+    path = FOLDER / (file + ".out")
+    with open(path, "wb") as output:
+        output.truncate(MOST - room)
+    with open(path, "ab") as output:
+        done = subprocess.run([PROGRAM, str(FOLDER / file)], input=INSERTS, stdout=output, stderr=subprocess.PIPE, restore_signals=False,
+                              preexec_fn=lambda: resource.setrlimit(resource.RLIMIT_FSIZE, (MOST, MOST)))
+    with open(path, "rb") as output:
+        output.seek(MOST - room)
+        return done.returncode, output.read(), done.stderr
+
+
+def count_of(file):
+    return int(json.loads(run(asks("count", "c", '{"and":[]}'), file)[1][0])["output"])
+
+
+for room in range(3 * len(ANSWER)):
+    file = f"room{room}.db"
+    found = with_room(room, file), count_of(file)
+    if found != ((1, (3 * ANSWER)[:room], b"refused: Writer\n"), room // len(ANSWER) + 1):
+        holds(f"an output of {room} bytes", found, "a beginning of the answers, and no command behind it")
+holds("an output with room for all", (with_room(3 * len(ANSWER), "all.db"), count_of("all.db")), ((0, 3 * ANSWER, b""), 3))
+
+# An input that fails behind each line, and inside of the next one: all lines before it are answered.
+for number in range(4):
+    for begun in [b"", INSERTS[:20]]:
+        file = f"read{number}{len(begun)}.db"
+        ours, theirs = pty.openpty()
+        tty.setraw(theirs)
+        process = subprocess.Popen([PROGRAM, str(FOLDER / file)], stdin=ours, stdout=subprocess.PIPE, stderr=subprocess.PIPE)
+        os.close(ours)
+        for line in INSERTS.splitlines(keepends=True)[:number]:
+            os.write(theirs, line)
+            holds("an answer", process.stdout.readline(), ANSWER)
+        os.write(theirs, begun)
+        os.close(theirs)
+        found = process.communicate(), process.returncode, count_of(file)
+        holds(f"an input that fails behind {number} lines and {len(begun)} bytes", found, ((b"", b"refused: Reader\n"), 1, number))
 
 # Words and files that can't be had.
 holds("no word", subprocess.run([PROGRAM], stdin=subprocess.DEVNULL, capture_output=True).stderr, b"words: usage\n")

@@ -7,7 +7,7 @@
         print(shop("count", "orders", {"and": []}))
 
 A word that is a text goes as it is, and another one as JSON. `input` is what `import` and `load` read. The answer is what the
-program bson_store would print: a text, or bytes for `find` and `export`. `Refused` tells why a command isn't done.
+program bson_store would print: a text, or bytes for `find` and `export`. `Refused` says why a command isn't done.
 """
 import base64
 import json

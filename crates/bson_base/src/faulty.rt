@@ -1,9 +1,10 @@
 //! Devices that go slowly and fail on purpose, for tests of what reads and writes.
 
-ghost use Rattle.std.specs.Prelude.{◌≡◌, ◌≤◌, [], Some, length, take, drop};
+ghost use Rattle.std.specs.Prelude.{◌≡◌, ◌↔◌, ◌≤◌, [], Some, length, take, drop, IsTrue};
 
 use super::device::{DeviceFault, Sink, Source};
 use std::alloc::Global;
+use std::io;
 
 /// Bytes in memory that are given one a call, until the calls are used up; from then on each call fails.
 #[derive(Drop)]
@@ -93,5 +94,62 @@ impl Sink for FaultySink {
         }
         self.room -= 1;
         Ok(1)
+    }
+}
+
+/// A reader of std that gives one byte a call, and of which one call is interrupted.
+#[derive(Drop)]
+pub struct Interrupted<'a> {
+    /// The bytes that it has left.
+    pub bytes: &'a [u8],
+    /// How many calls go well before the one that is interrupted. None behind that.
+    pub calls: Option<u64>,
+}
+
+impl Interrupted<'_> {
+    /// Counts a call, and says whether it is the one that is interrupted.
+    fn interrupts(&mut self) -> bool
+        ensures bytes { self.new.bytes.now ≡ self.old.bytes.now }
+        ensures interrupted { IsTrue result ↔ (self.old.calls ≡ Some 0) }
+    {
+        match self.calls {
+            Some(calls) => {
+                self.calls = calls.checked_sub(1);
+                calls == 0
+            }
+            None => false,
+        }
+    }
+}
+
+impl io::Read for Interrupted<'_> {
+    ghost remaining = { λ s. Some s.bytes.now };
+
+    fn read(&mut self, buf: &mut [u8]) -> io::Result<usize> {
+        if self.interrupts() {
+            return Err(io::Error::from(io::ErrorKind::Interrupted));
+        }
+        if buf.is_empty() || self.bytes.is_empty() {
+            return Ok(0);
+        }
+        buf[0] = self.bytes[0];
+        self.bytes = &self.bytes[1..];
+        Ok(1)
+    }
+}
+
+/// A writer of std that takes no bytes.
+#[derive(Drop)]
+pub struct Full;
+
+impl io::Write for Full {
+    ghost contents = { λ _. Some [] };
+
+    fn write(&mut self, _buf: &[u8]) -> io::Result<usize> {
+        Ok(0)
+    }
+
+    fn flush(&mut self) -> io::Result<()> {
+        Ok(())
     }
 }

@@ -1,5 +1,5 @@
 -- Runs of ASCII up to a 00 that was found byte by byte, or in a vector.
-use Rattle.std.proofs.Common.{◌≡◌, ℕ, zero, suc, ◌+◌, ◌-◌, ◌%◌, ◌^◌, ◌<◌, ◌≤◌, Bool, false, not, cond, leb, List, [], ◌∷◌, ◌++◌, map, replicate, length, take, drop, get_or, slice_index, ap, ◌∙◌, arith, w8}
+use Rattle.std.proofs.Common.{◌≡◌, ℕ, zero, suc, ◌+◌, ◌-◌, ◌%◌, ◌^◌, ◌<◌, ◌≤◌, Bool, false, not, cond, leb, List, [], ◌∷◌, ◌++◌, map, replicate, length, take, drop, slice_index, ap, ◌∙◌, arith, w8}
 use Rattle.std.specs.List.{prefix_len}
 use Rattle.std.specs.Simd.Lanes.{zip2, mask_l, top, chunk}
 use Rattle.std.proofs.lemmas.Bool.{leb-false}

@@ -47,7 +47,7 @@ run_or_none (suc b ∷ bytes) = run_behind b bytes (run_or_none bytes)
 
 name_of_run : (bytes : List ℕ) (r : RunAt bytes) → IsUtf8 r.run ⊎ (IsUtf8 r.run → ⊥) → NameAt bytes ⊎ ((kind : ErrorKind) × NameFault bytes kind)
 name_of_run bytes r (inl text) = inl (record { name = r.run; rest = r.rest; parts = r.parts; is_name = record { no_zero = r.no_zero; text = text } })
-name_of_run bytes r (inr no_text) = inr (Utf8EncodingError, record { run = r.run; rest = r.rest; parts = r.parts; no_zero = r.no_zero; no_text = no_text })
+name_of_run bytes r (inr no_text) = inr (Utf8EncodingError, (r.run, r.rest, r.parts, r.no_zero, no_text))
 
 name_by_run : (bytes : List ℕ) → RunAt bytes ⊎ HasNo00 bytes → NameAt bytes ⊎ ((kind : ErrorKind) × NameFault bytes kind)
 name_by_run bytes (inl r) = name_of_run bytes r (utf8_by_test r.run (is_utf8 r.run) refl)

@@ -1,5 +1,5 @@
 -- Why bytes begin with no frame, and why a first frame is the only one.
-use Rattle.std.proofs.Common.{◌≡◌, ◌≢◌, ℕ, ◌-◌, ◌≤◌, List, [], ◌∷◌, ◌++◌, length, take, drop, get_or, refl, sym, ap, ◌∙◌, subst, inl, inr, arith}
+use Rattle.std.proofs.Common.{◌≡◌, ◌≢◌, ◌⊎◌, ℕ, ◌-◌, ◌≤◌, List, [], ◌∷◌, ◌++◌, length, take, drop, get_or, refl, sym, ap, ◌∙◌, subst, inl, inr, arith}
 use Rattle.std.proofs.lemmas.List.{length-append, take_all}
 use Rattle.bson_base.specs.declared.spec.ElementType.{ElementType}
 use Rattle.bson_base.specs.declared.spec.ElementType.TheVariants as kinds
@@ -7,7 +7,7 @@ use Rattle.bson_base.specs.Tags.{tag_byte}
 use Rattle.bson_frame.specs.declared.error.ErrorKind.{ErrorKind}
 use Rattle.bson_frame.specs.declared.error.ErrorKind.TheVariants.{MalformedValue, Utf8EncodingError, OutOfMemory}
 use Rattle.bson_base.specs.Kinds.{HasNo00}
-use Rattle.bson_frame.specs.Frame.{IsCstring, IsRegexSize, HasSize, Element, IsFirstFrame, HasNoFrame, HasNoTextInRegex, HasNoTextInPlace, IsStructuralFault}
+use Rattle.bson_frame.specs.Frame.{IsCstring, IsRegexSize, HasSize, Element, IsFirstFrame, HasNoFrame, NoTextAfter, HasBadText, IsStructuralFault}
 use Rattle.bson_frame.specs.Reader.{NameFault, IsNeverWhole, SizeFault}
 use Rattle.bson_frame.proofs.Tags.{tag_from_byte}
 use Rattle.bson_frame.proofs.Names.{no_run, no_name, rest_is_one, name_is_one}
@@ -29,9 +29,10 @@ after_tag b after f r h = let e = h.parts in cc
 tag_is : (b : ℕ) (after : List ℕ) (f : Element) (r : List ℕ) → IsFirstFrame (b ∷ after) f r → b ≡ tag_byte f.tag
 tag_is b after f r h = let e = h.parts in cc
 
-no_text_in_place : (b : ℕ) (after : List ℕ) → HasNo00 after → HasNoTextInPlace (b ∷ after) → ⊥
-no_text_in_place b after h (inl t) = no_run after t.run t.rest h t.parts
-no_text_in_place b after h (inr t) = no_run after t.key t.rest h t.parts
+no_text_in_place : (b : ℕ) (after : List ℕ) → HasNo00 after → HasBadText (b ∷ after) → ⊥
+no_text_in_place b after h (inl (run, rest, parts, no_zero, t)) = no_run after run rest h parts
+no_text_in_place b after h (inr (is, inl (name, rest, parts, is_name, t))) = no_run after name rest h parts
+no_text_in_place b after h (inr (is, inr (name, rest, parts, is_name, t))) = no_run after name rest h parts
 
 pub no_key : (b : ℕ) (after : List ℕ) (kind : ErrorKind) → NameFault after kind → IsStructuralFault (b ∷ after) kind
 no_key b after MalformedValue h = record {
@@ -44,14 +45,14 @@ no_key b after Utf8EncodingError t = record {
 }
 no_key b after OutOfMemory h = absurd h
 
-unknown_text : (b : ℕ) (key value : List ℕ) → IsCstring key → ((tag : ElementType) → tag_byte tag ≢ b) → HasNoTextInPlace (b ∷ (key ++ 0 ∷ value)) → ⊥
+unknown_text : (b : ℕ) (key value : List ℕ) → IsCstring key → ((tag : ElementType) → tag_byte tag ≢ b) → HasBadText (b ∷ (key ++ 0 ∷ value)) → ⊥
 unknown_text b key value n h (inl t) = no_name (key ++ 0 ∷ value) key value t n refl
-unknown_text b key value n h (inr t) = h kinds.RegularExpression (sym t.is_regex)
+unknown_text b key value n h (inr t) = h kinds.RegularExpression (sym t.0)
 
 pub unknown_tag : (b : ℕ) (after key value : List ℕ) → IsCstring key → after ≡ key ++ 0 ∷ value → ((tag : ElementType) → tag_byte tag ≢ b) → IsStructuralFault (b ∷ after) MalformedValue
 unknown_tag b after key value n e h = record {
   no_frame = λ f r first. h f.tag (sym (tag_is b after f r first));
-  reason = λ t. unknown_text b key value n h (subst (λ (x : List ℕ). HasNoTextInPlace (b ∷ x)) e t);
+  reason = λ t. unknown_text b key value n h (subst (λ (x : List ℕ). HasBadText (b ∷ x)) e t);
 }
 
 -- what a first frame says of a value behind a key
@@ -68,15 +69,20 @@ module _ (b : ℕ) (after key value : List ℕ) (tag : ElementType) (n : IsCstri
       let sized : HasSize tag value (length f.payload) = subst (λ (x : List ℕ). HasSize tag x (length f.payload)) (sym v) (subst (λ (k : ElementType). HasSize k (f.payload ++ r) (length f.payload)) (same_tag f r first) first.size) in
       h (length f.payload) sized (omega (arith, ap length v, length-append f.payload r))
 
-  text_in_place : HasNoTextInPlace (b ∷ after) → (tag ≡ kinds.RegularExpression) × HasNoTextInRegex value
+  text_in_place : HasBadText (b ∷ after) → (tag ≡ kinds.RegularExpression) × (NoTextAfter 0 value ⊎ NoTextAfter 1 value)
   text_in_place (inl s) = absurd (no_name after key value s n e)
-  text_in_place (inr s) = (tag_from_byte tag kinds.RegularExpression (t ∙ s.is_regex), subst HasNoTextInRegex (rest_is_one after s.key key s.rest value s.is_name n s.parts e) s.then)
+  text_in_place (inr (is, inl (name, rest, parts, is_name, f))) = (tag_from_byte tag kinds.RegularExpression (t ∙ is), inl (subst (NoTextAfter 0) (rest_is_one after name key rest value is_name n parts e) f))
+  text_in_place (inr (is, inr (name, rest, parts, is_name, f))) = (tag_from_byte tag kinds.RegularExpression (t ∙ is), inr (subst (NoTextAfter 1) (rest_is_one after name key rest value is_name n parts e) f))
+
+  behind_key : NoTextAfter 0 value ⊎ NoTextAfter 1 value → NoTextAfter 1 after ⊎ NoTextAfter 2 after
+  behind_key (inl f) = inl (key, value, e, n, f)
+  behind_key (inr f) = inr (key, value, e, n, f)
 
   pub no_size : (kind : ErrorKind) → IsNeverWhole (HasSize tag) value → SizeFault tag value kind → IsStructuralFault (b ∷ after) kind
   no_size MalformedValue h s = record { no_frame = no_whole h; reason = λ x. let p = text_in_place x in s p.0 p.1 }
   no_size Utf8EncodingError h s = record {
     no_frame = no_whole h;
-    reason = inr (record { key = key; rest = value; parts = e; is_name = n; is_regex = sym t ∙ ap tag_byte s.0; then = s.1 });
+    reason = inr (sym t ∙ ap tag_byte s.0, behind_key s.1);
   }
   no_size OutOfMemory h s = absurd s
 

@@ -1,5 +1,5 @@
 -- The first frame of a byte list: a tag, a key and a payload, whose extent goes by the kind (bsonspec.org 1.1, "element").
-use Rattle.std.specs.Prelude.{◌≡◌, ℕ, ◌+◌, ◌-◌, ◌<◌, ◌≤◌, ◌^◌, List, [], ◌∷◌, ◌++◌, length, slice_index, IsUtf8, ◌⊎◌}
+use Rattle.std.specs.Prelude.{◌≡◌, ℕ, zero, suc, ◌+◌, ◌-◌, ◌<◌, ◌≤◌, ◌^◌, List, [], ◌∷◌, ◌++◌, length, slice_index, IsUtf8, ◌⊎◌}
 use Rattle.std.specs.Int.{w32, from_le_bytes}
 use Rattle.bson_base.specs.declared.spec.ElementType.{ElementType}
 use Rattle.bson_base.specs.declared.spec.ElementType.TheVariants as kinds
@@ -108,43 +108,19 @@ HasNoFrame bytes = (e : Element) (rest : List ℕ) → IsFirstFrame bytes e rest
 
 -- The kind of the structural fault where there is no frame.
 
--- what stands in front of the first 00 isn't UTF-8
-pub record StartsWithNoText (bytes : List ℕ) : Type 0 where
-  pub run : List ℕ
-  pub rest : List ℕ
-  pub parts : bytes ≡ run ++ 0 ∷ rest
-  pub no_zero : HasNo00 run
-  pub no_text : IsUtf8 run → ⊥
+-- behind n names, each with its 00, comes a run with its 00 that isn't UTF-8
+abbrev pub NoTextAfter : ℕ → List ℕ → Type 0
+NoTextAfter zero bytes = (run : List ℕ) × (rest : List ℕ) × (bytes ≡ run ++ 0 ∷ rest) × HasNo00 run × (IsUtf8 run → ⊥)
+NoTextAfter (suc n) bytes = (name : List ℕ) × (rest : List ℕ) × (bytes ≡ name ++ 0 ∷ rest) × IsCstring name × NoTextAfter n rest
 
--- a name stands in front of such bytes
-pub record NameThenNoText (bytes : List ℕ) : Type 0 where
-  pub name : List ℕ
-  pub rest : List ℕ
-  pub parts : bytes ≡ name ++ 0 ∷ rest
-  pub is_name : IsCstring name
-  pub then : StartsWithNoText rest
-
--- the pattern, or the options behind it, aren't UTF-8
-abbrev pub HasNoTextInRegex : List ℕ → Type 0
-HasNoTextInRegex bytes = StartsWithNoText bytes ⊎ NameThenNoText bytes
-
--- behind the key of a regular expression stands a pattern or options that aren't UTF-8
-pub record HasNoTextBehindKey (tag : ℕ) (bytes : List ℕ) : Type 0 where
-  pub key : List ℕ
-  pub rest : List ℕ
-  pub parts : bytes ≡ key ++ 0 ∷ rest
-  pub is_name : IsCstring key
-  pub is_regex : tag ≡ tag_byte kinds.RegularExpression
-  pub then : HasNoTextInRegex rest
-
--- a key, a pattern or options are there and aren't UTF-8
-abbrev pub HasNoTextInPlace : List ℕ → Type 0
-HasNoTextInPlace [] = ⊥
-HasNoTextInPlace (tag ∷ bytes) = StartsWithNoText bytes ⊎ HasNoTextBehindKey tag bytes
+-- the key isn't UTF-8; or it is that of a regular expression, and the pattern or the options aren't
+abbrev pub HasBadText : List ℕ → Type 0
+HasBadText [] = ⊥
+HasBadText (tag ∷ bytes) = NoTextAfter 0 bytes ⊎ ((tag ≡ tag_byte kinds.RegularExpression) × (NoTextAfter 1 bytes ⊎ NoTextAfter 2 bytes))
 
 abbrev pub IsFaultKind : List ℕ → ErrorKind → Type 0
-IsFaultKind bytes Utf8EncodingError = HasNoTextInPlace bytes
-IsFaultKind bytes MalformedValue = HasNoTextInPlace bytes → ⊥
+IsFaultKind bytes Utf8EncodingError = HasBadText bytes
+IsFaultKind bytes MalformedValue = HasBadText bytes → ⊥
 IsFaultKind bytes OutOfMemory = ⊥
 
 -- bytes begin with no frame, for this reason

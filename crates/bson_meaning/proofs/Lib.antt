@@ -14,6 +14,7 @@ pub mod JsonReads
 pub mod Putting
 pub mod InOrder
 pub mod KeyLaw
+pub mod AnsweringKeys
 pub mod Now
 pub mod Before
 pub mod JsonRanges

@@ -3,6 +3,7 @@ pub mod Meaning
 pub mod Before
 pub mod Counts
 pub mod Sames
+pub mod Keys
 pub mod JsonReserved
 pub mod Pairs
 pub mod JsonTrees

@@ -1,17 +1,17 @@
 //! Keys of meaning.
 
-ghost use Rattle.std.specs.Prelude.{◌≡◌, ◌≢◌, ◌↔◌, ◌<◌, ◌≤◌, Err, length, IfOk, IsTrue, OnOk};
-ghost use Rattle.bson_base.specs.Kinds.{IsPlain, IsSound};
-ghost use Rattle.bson_base.specs.Value.{document as tree, member, no_members, Members};
+ghost use Rattle.std.specs.Prelude.{◌≡◌, ◌≢◌, ◌↔◌, ◌<◌, Err, IfOk, IsTrue, OnOk};
+ghost use Rattle.bson_base.specs.Kinds.{IsSound};
+ghost use Rattle.bson_base.specs.Value.{document as tree};
 ghost use Rattle.bson_bytes.specs.Encode.{size};
 ghost use Rattle.bson_bytes.specs.Writing.{CanBeWritten};
 ghost use Rattle.bson_frame.specs.Frame.{length_limit};
 ghost use Rattle.bson_frame.specs.declared.error.ErrorKind.TheVariants.{OutOfMemory};
 ghost use Rattle.bson_model.specs.View.{view, content};
-ghost use Rattle.bson_meaning.specs.Forms.{norm_members_in_order, norm_in_order, norm_members, key as key_by, Same as SameBy};
-ghost use Rattle.bson_meaning.specs.Meaning.{key as key_of, Same};
-ghost use Rattle.bson_meaning.specs.Before.{key as key_before, Same as SameBefore};
+ghost use Rattle.bson_meaning.specs.Forms.{norm_members_in_order, norm_in_order, norm_members, key as key_by};
+ghost use Rattle.bson_meaning.specs.Keys.{alone, AnswersKey};
 ghost use Rattle.bson_meaning.specs.declared.scalars.Zeros.{Zeros as AnyZeros};
+ghost use Rattle.bson_meaning.specs.declared.scalars.Zeros.TheVariants.{Apart, Joined};
 
 use crate::lengths::{normal_length, normal_length_of_element};
 use crate::plain::{has_plain_members, is_plain_element};
@@ -49,19 +49,7 @@ impl From<AllocError> for KeyError {
 /// The bytes of the document's normal form with its keys in order. Two documents have the same key exactly where they mean the
 /// same, as long as neither is refused. A document that has a key was counted first, which tells that it is sound.
 pub fn meaning_key(alloc: Global, document: &Document) -> Result<Vec<u8>, KeyError>
-    ensures bytes { IfOk result (λ k. k.items ≡ key_of (content document.now)) }
-    ensures fits { OnOk result (length (key_of (content document.now)) ≤ length_limit) }
-    ensures plain { OnOk result (IsPlain (tree (content document.now))) }
-    ensures sound { OnOk result (IsSound (tree (content document.now))) }
-
-    // Each refusal comes exactly where it is due, and a 00 before the length; want of memory comes after both.
-    ensures not_plain { (result ≡ Err KeyError.NotPlain) ↔ (IsPlain (tree (content document.now)) → ⊥) }
-    ensures too_long { (result ≡ Err KeyError.TooLong)
-        ↔ IsPlain (tree (content document.now)) × (length_limit < length (key_of (content document.now))) }
-
-    // What keys are for, for every other document.
-    ensures tells { (e : Members) → IsPlain (tree e) → IsSound (tree e) → length (key_of e) ≤ length_limit
-        → OnOk result ((key_of (content document.now) ≡ key_of e) ↔ Same (tree (content document.now)) (tree e)) }
+    ensures { AnswersKey Joined (content document.now) result }
 {
     key_where(Zeros::Joined, alloc, document)
 }
@@ -69,37 +57,14 @@ pub fn meaning_key(alloc: Global, document: &Document) -> Result<Vec<u8>, KeyErr
 /// The key that the document had before the two zeros of a double meant the same. Two documents have the same such key exactly
 /// where they meant the same, as long as neither is refused. Refused as `meaning_key` is.
 pub fn meaning_key_before(alloc: Global, document: &Document) -> Result<Vec<u8>, KeyError>
-    ensures bytes { IfOk result (λ k. k.items ≡ key_before (content document.now)) }
-    ensures fits { OnOk result (length (key_before (content document.now)) ≤ length_limit) }
-    ensures plain { OnOk result (IsPlain (tree (content document.now))) }
-
-    // Each refusal comes exactly where it is due, and a 00 before the length; want of memory comes after both.
-    ensures not_plain { (result ≡ Err KeyError.NotPlain) ↔ (IsPlain (tree (content document.now)) → ⊥) }
-    ensures too_long { (result ≡ Err KeyError.TooLong)
-        ↔ IsPlain (tree (content document.now)) × (length_limit < length (key_before (content document.now))) }
-
-    // What keys are for, for every other document.
-    ensures tells { (e : Members) → IsPlain (tree e) → IsSound (tree e) → length (key_before e) ≤ length_limit
-        → OnOk result ((key_before (content document.now) ≡ key_before e) ↔ SameBefore (tree (content document.now)) (tree e)) }
+    ensures { AnswersKey Apart (content document.now) result }
 {
     key_where(Zeros::Apart, alloc, document)
 }
 
 /// The key of a document, with its zeros taken so.
 fn key_where(zeros: Zeros, alloc: Global, document: &Document) -> Result<Vec<u8>, KeyError>
-    ensures bytes { IfOk result (λ k. k.items ≡ key_by zeros (content document.now)) }
-    ensures fits { OnOk result (length (key_by zeros (content document.now)) ≤ length_limit) }
-    ensures plain { OnOk result (IsPlain (tree (content document.now))) }
-    ensures sound { OnOk result (IsSound (tree (content document.now))) }
-
-    // Each refusal comes exactly where it is due, and a 00 before the length; want of memory comes after both.
-    ensures not_plain { (result ≡ Err KeyError.NotPlain) ↔ (IsPlain (tree (content document.now)) → ⊥) }
-    ensures too_long { (result ≡ Err KeyError.TooLong)
-        ↔ IsPlain (tree (content document.now)) × (length_limit < length (key_by zeros (content document.now))) }
-
-    // What keys are for, for every other document.
-    ensures tells { (e : Members) → IsPlain (tree e) → IsSound (tree e) → length (key_by zeros e) ≤ length_limit
-        → OnOk result ((key_by zeros (content document.now) ≡ key_by zeros e) ↔ SameBy zeros (tree (content document.now)) (tree e)) }
+    ensures { AnswersKey zeros (content document.now) result }
 {
     if !has_plain_members(document) {
         return Err(KeyError::NotPlain);
@@ -113,19 +78,8 @@ fn key_where(zeros: Zeros, alloc: Global, document: &Document) -> Result<Vec<u8>
 /// The key of the document that has this element alone: the bytes that `meaning_key` answers for it, without that document.
 /// Refused as `meaning_key` is. Whatever is answered, the value was counted first, which tells that it is sound.
 pub fn meaning_key_of_element(alloc: Global, name: &str, value: &Bson) -> Result<Vec<u8>, KeyError>
-    ensures bytes { IfOk result (λ k. k.items ≡ key_of (member name.now (view value.now) no_members)) }
-    ensures fits { OnOk result (length (key_of (member name.now (view value.now) no_members)) ≤ length_limit) }
-    ensures plain { OnOk result (IsPlain (tree (member name.now (view value.now) no_members))) }
+    ensures key { AnswersKey Joined (alone name.now (view value.now)) result }
     ensures sound { IsSound (view value.now) }
-
-    // Each refusal comes exactly where it is due, and a 00 before the length; want of memory comes after both.
-    ensures not_plain { (result ≡ Err KeyError.NotPlain) ↔ (IsPlain (tree (member name.now (view value.now) no_members)) → ⊥) }
-    ensures too_long { (result ≡ Err KeyError.TooLong)
-        ↔ IsPlain (tree (member name.now (view value.now) no_members)) × (length_limit < length (key_of (member name.now (view value.now) no_members))) }
-
-    // What keys are for, for every other document.
-    ensures tells { (e : Members) → IsPlain (tree e) → IsSound (tree e) → length (key_of e) ≤ length_limit
-        → OnOk result ((key_of (member name.now (view value.now) no_members) ≡ key_of e) ↔ Same (tree (member name.now (view value.now) no_members)) (tree e)) }
 {
     element_key_where(Zeros::Joined, alloc, name, value)
 }
@@ -137,19 +91,8 @@ pub fn meaning_key_before_of_element(
     name: &str,
     value: &Bson,
 ) -> Result<Vec<u8>, KeyError>
-    ensures bytes { IfOk result (λ k. k.items ≡ key_before (member name.now (view value.now) no_members)) }
-    ensures fits { OnOk result (length (key_before (member name.now (view value.now) no_members)) ≤ length_limit) }
-    ensures plain { OnOk result (IsPlain (tree (member name.now (view value.now) no_members))) }
+    ensures key { AnswersKey Apart (alone name.now (view value.now)) result }
     ensures sound { IsSound (view value.now) }
-
-    // Each refusal comes exactly where it is due, and a 00 before the length; want of memory comes after both.
-    ensures not_plain { (result ≡ Err KeyError.NotPlain) ↔ (IsPlain (tree (member name.now (view value.now) no_members)) → ⊥) }
-    ensures too_long { (result ≡ Err KeyError.TooLong)
-        ↔ IsPlain (tree (member name.now (view value.now) no_members)) × (length_limit < length (key_before (member name.now (view value.now) no_members))) }
-
-    // What keys are for, for every other document.
-    ensures tells { (e : Members) → IsPlain (tree e) → IsSound (tree e) → length (key_before e) ≤ length_limit
-        → OnOk result ((key_before (member name.now (view value.now) no_members) ≡ key_before e) ↔ SameBefore (tree (member name.now (view value.now) no_members)) (tree e)) }
 {
     element_key_where(Zeros::Apart, alloc, name, value)
 }
@@ -161,19 +104,8 @@ fn element_key_where(
     name: &str,
     value: &Bson,
 ) -> Result<Vec<u8>, KeyError>
-    ensures bytes { IfOk result (λ k. k.items ≡ key_by zeros (member name.now (view value.now) no_members)) }
-    ensures fits { OnOk result (length (key_by zeros (member name.now (view value.now) no_members)) ≤ length_limit) }
-    ensures plain { OnOk result (IsPlain (tree (member name.now (view value.now) no_members))) }
+    ensures key { AnswersKey zeros (alone name.now (view value.now)) result }
     ensures sound { IsSound (view value.now) }
-
-    // Each refusal comes exactly where it is due, and a 00 before the length; want of memory comes after both.
-    ensures not_plain { (result ≡ Err KeyError.NotPlain) ↔ (IsPlain (tree (member name.now (view value.now) no_members)) → ⊥) }
-    ensures too_long { (result ≡ Err KeyError.TooLong)
-        ↔ IsPlain (tree (member name.now (view value.now) no_members)) × (length_limit < length (key_by zeros (member name.now (view value.now) no_members))) }
-
-    // What keys are for, for every other document.
-    ensures tells { (e : Members) → IsPlain (tree e) → IsSound (tree e) → length (key_by zeros e) ≤ length_limit
-        → OnOk result ((key_by zeros (member name.now (view value.now) no_members) ≡ key_by zeros e) ↔ SameBy zeros (tree (member name.now (view value.now) no_members)) (tree e)) }
 {
     let too_long = is_element_too_long(name, value);
     if !is_plain_element(name, value) {
@@ -195,8 +127,8 @@ fn is_too_long(document: &Document) -> bool
 
 /// The same of a document that has this element alone.
 fn is_element_too_long(name: &str, value: &Bson) -> bool
-    ensures long { (zeros : AnyZeros) → IsTrue result ↔ (length_limit < size (norm_members zeros (member name.now (view value.now) no_members))) }
-    ensures sound { IsSound (tree (member name.now (view value.now) no_members)) }
+    ensures long { (zeros : AnyZeros) → IsTrue result ↔ (length_limit < size (norm_members zeros (alone name.now (view value.now)))) }
+    ensures sound { IsSound (tree (alone name.now (view value.now))) }
 {
     normal_length_of_element(name, value) > LENGTH_LIMIT
 }
@@ -213,10 +145,10 @@ fn written(zeros: Zeros, alloc: Global, document: &Document) -> Result<Vec<u8>, 
 
 /// The same of a document that has this element alone.
 fn written_alone(zeros: Zeros, alloc: Global, name: &str, value: &Bson) -> Result<Vec<u8>, KeyError>
-    ensures bytes { IfOk result (λ k. k.items ≡ key_by zeros (member name.now (view value.now) no_members)) }
-    ensures fits { OnOk result (CanBeWritten (tree (member name.now (norm_in_order zeros (view value.now)) no_members))) }
+    ensures bytes { IfOk result (λ k. k.items ≡ key_by zeros (alone name.now (view value.now))) }
+    ensures fits { OnOk result (CanBeWritten (tree (alone name.now (norm_in_order zeros (view value.now))))) }
     ensures never_not_plain { result ≢ Err KeyError.NotPlain }
-    ensures too_long { result ≡ Err KeyError.TooLong → CanBeWritten (tree (member name.now (norm_in_order zeros (view value.now)) no_members)) → ⊥ }
+    ensures too_long { result ≡ Err KeyError.TooLong → CanBeWritten (tree (alone name.now (norm_in_order zeros (view value.now)))) → ⊥ }
 {
     encode_element_in_order(zeros, alloc, name, value).map_err(unwritten)
 }

@@ -2,9 +2,10 @@
 
 ghost use Rattle.std.specs.Prelude.{◌≡◌, ◌^◌, ◌-◌, decimal, length, map, min, string_bytes, IsUtf8};
 ghost use Rattle.bson_base.specs.Kinds.{IsRangedScalar, IsSound};
-ghost use Rattle.bson_base.specs.Value.{binary as with_subtype, document as tree, member, no_members, regex as expression, EachItem, EachMember, EachPart, HasDistinctKeys, ItemsHaveDistinctKeys, MembersHaveDistinctKeys};
+ghost use Rattle.bson_base.specs.Value.{binary as with_subtype, document as tree, regex as expression, EachItem, EachMember, EachPart, HasDistinctKeys, ItemsHaveDistinctKeys, MembersHaveDistinctKeys};
 ghost use Rattle.bson_bytes.specs.Encode.{items_size, members_size, scalar_size, size, value_size};
 ghost use Rattle.bson_model.specs.View.{view, items_of, content};
+ghost use Rattle.bson_meaning.specs.Keys.{alone};
 ghost use Rattle.bson_meaning.specs.Meaning.{norm, norm_items, norm_members, normal_scalar};
 ghost use Rattle.bson_meaning.specs.Sames.{IsScalar};
 
@@ -26,8 +27,8 @@ pub(crate) fn normal_length(document: &Document) -> usize
 /// How many bytes the normal form of the document that has this element alone is written as. Says of the value what
 /// `normal_length` says of a document.
 pub(crate) fn normal_length_of_element(name: &str, value: &Bson) -> usize
-    ensures length { result ≡ min (size (norm_members (member name.now (view value.now) no_members))) (2 ^ 64 - 1) }
-    ensures sound { IsSound (tree (member name.now (view value.now) no_members)) }
+    ensures length { result ≡ min (size (norm_members (alone name.now (view value.now)))) (2 ^ 64 - 1) }
+    ensures sound { IsSound (tree (alone name.now (view value.now))) }
 {
     facts::is_utf8(name);
     length_of_value(value)

@@ -2,8 +2,9 @@
 
 ghost use Rattle.std.specs.Prelude.{◌↔◌, map, IsTrue};
 ghost use Rattle.bson_base.specs.Kinds.{HasNo00, IsPlain, IsPlainScalar};
-ghost use Rattle.bson_base.specs.Value.{document as tree, member, no_members, EachItem, EachMember};
+ghost use Rattle.bson_base.specs.Value.{document as tree, EachItem, EachMember};
 ghost use Rattle.bson_model.specs.View.{view, items_of, content};
+ghost use Rattle.bson_meaning.specs.Keys.{alone};
 
 use bson_bytes::put::has_no_zero;
 use bson_model::{Bson, Document};
@@ -34,7 +35,7 @@ pub fn is_plain_document(document: &Document) -> bool
 
 /// Whether no key, no pattern and no options in the document that has this element alone hold a byte 00.
 pub(crate) fn is_plain_element(name: &str, value: &Bson) -> bool
-    ensures { IsTrue result ↔ IsPlain (tree (member name.now (view value.now) no_members)) }
+    ensures { IsTrue result ↔ IsPlain (tree (alone name.now (view value.now))) }
 {
     has_no_zero(name.as_bytes()) && is_plain(value)
 }

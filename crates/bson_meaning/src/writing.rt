@@ -4,11 +4,12 @@
 
 ghost use Rattle.std.specs.Prelude.{◌≡◌, ◌++◌, map, IfErr, IfOk, OnOk};
 ghost use Rattle.bson_base.specs.Kinds.{IsPlain};
-ghost use Rattle.bson_base.specs.Value.{array, document as tree, member, no_members, value_kind};
+ghost use Rattle.bson_base.specs.Value.{array, document as tree, value_kind};
 ghost use Rattle.bson_bytes.specs.Encode.{encode, frame_of, items_bytes, members_bytes, value_bytes};
 ghost use Rattle.bson_bytes.specs.Writing.{CanBeWritten, IsWriteRefusal};
 ghost use Rattle.bson_model.specs.Trees.{regex_tree, scoped_code_tree};
 ghost use Rattle.bson_model.specs.View.{view, items_of, content};
+ghost use Rattle.bson_meaning.specs.Keys.{alone};
 ghost use Rattle.bson_meaning.specs.Forms.{norm_members_in_order, norm_items_in_order, norm_in_order};
 ghost use Rattle.bson_meaning.specs.declared.scalars.Zeros.{Zeros as AnyZeros};
 ghost use Rattle.bson_meaning.specs.Sames.{IsScalar};
@@ -41,9 +42,9 @@ pub(crate) fn encode_element_in_order(
     name: &str,
     value: &Bson,
 ) -> Result<Vec<u8>>
-    ensures ok { IfOk result (λ b. b.items ≡ encode (member name.now (norm_in_order zeros (view value.now)) no_members)) }
-    ensures fits { OnOk result (CanBeWritten (tree (member name.now (norm_in_order zeros (view value.now)) no_members))) }
-    ensures refused { IfErr result (IsWriteRefusal (CanBeWritten (tree (member name.now (norm_in_order zeros (view value.now)) no_members)) → ⊥)) }
+    ensures ok { IfOk result (λ b. b.items ≡ encode (alone name.now (norm_in_order zeros (view value.now)))) }
+    ensures fits { OnOk result (CanBeWritten (tree (alone name.now (norm_in_order zeros (view value.now))))) }
+    ensures refused { IfErr result (IsWriteRefusal (CanBeWritten (tree (alone name.now (norm_in_order zeros (view value.now)))) → ⊥)) }
 {
     let mut out = Vec::new(alloc);
     write_element(zeros, name, value, &mut out)?;
@@ -66,9 +67,9 @@ fn write_in_order(zeros: Zeros, document: &Document, out: &mut Vec<u8>) -> Resul
 
 /// Appends the document that has this element alone.
 fn write_element(zeros: Zeros, name: &str, value: &Bson, out: &mut Vec<u8>) -> Result<()>
-    ensures ok { OnOk result (out.new.items ≡ out.old.items ++ encode (member name.now (norm_in_order zeros (view value.now)) no_members)) }
-    ensures fits { OnOk result (CanBeWritten (tree (member name.now (norm_in_order zeros (view value.now)) no_members))) }
-    ensures refused { IfErr result (IsWriteRefusal (CanBeWritten (tree (member name.now (norm_in_order zeros (view value.now)) no_members)) → ⊥)) }
+    ensures ok { OnOk result (out.new.items ≡ out.old.items ++ encode (alone name.now (norm_in_order zeros (view value.now)))) }
+    ensures fits { OnOk result (CanBeWritten (tree (alone name.now (norm_in_order zeros (view value.now))))) }
+    ensures refused { IfErr result (IsWriteRefusal (CanBeWritten (tree (alone name.now (norm_in_order zeros (view value.now)))) → ⊥)) }
 {
     let start = out.len();
     write_bytes(&[0, 0, 0, 0], out)?;

@@ -162,29 +162,8 @@ impl RawBson {
         ensures place { IfOk result (SamePlace self.now) }
     {
         match self {
-            RawBson::Double(x) => Ok(RawBson::Double(*x)),
-            RawBson::String(s) => Ok(RawBson::String(s.clone()?)),
-            RawBson::Array(a) => Ok(RawBson::Array(a.try_clone()?)),
-            RawBson::Document(d) => Ok(RawBson::Document(d.try_clone()?)),
-            RawBson::Boolean(x) => Ok(RawBson::Boolean(*x)),
-            RawBson::Null => Ok(RawBson::Null),
-            RawBson::RegularExpression(r) => Ok(RawBson::RegularExpression(r.try_clone(alloc)?)),
-            RawBson::JavaScriptCode(s) => Ok(RawBson::JavaScriptCode(s.clone()?)),
-            RawBson::JavaScriptCodeWithScope(c) => Ok(RawBson::JavaScriptCodeWithScope(c.try_clone(
-                alloc,
-            )?)),
-            RawBson::Int32(x) => Ok(RawBson::Int32(*x)),
-            RawBson::Int64(x) => Ok(RawBson::Int64(*x)),
-            RawBson::Timestamp(x) => Ok(RawBson::Timestamp(*x)),
-            RawBson::Binary(b) => Ok(RawBson::Binary(b.try_clone(alloc)?)),
-            RawBson::ObjectId(x) => Ok(RawBson::ObjectId(*x)),
-            RawBson::DateTime(x) => Ok(RawBson::DateTime(*x)),
-            RawBson::Symbol(s) => Ok(RawBson::Symbol(s.clone()?)),
-            RawBson::Decimal128(x) => Ok(RawBson::Decimal128(*x)),
-            RawBson::Undefined => Ok(RawBson::Undefined),
-            RawBson::MaxKey => Ok(RawBson::MaxKey),
-            RawBson::MinKey => Ok(RawBson::MinKey),
-            RawBson::DbPointer(p) => Ok(RawBson::DbPointer(p.try_clone(alloc)?)),
+            RawBson::Array(array) => Ok(RawBson::Array(array.try_clone()?)),
+            other => other.as_raw_bson_ref().to_raw_bson(alloc),
         }
     }
 

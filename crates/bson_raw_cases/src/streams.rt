@@ -1,52 +1,11 @@
 //! Documents from readers and to writers.
 
 use crate::{bytes_of, told};
-use bson_base::faulty::{FaultySink, FaultySource};
+use bson_base::faulty::{FaultySink, FaultySource, Full, Interrupted};
 use bson_base::{Counted, SliceSource, VecSink};
 use bson_model::Document;
 use bson_raw::{from_reader, to_writer};
 use std::alloc::{AllocError, Global};
-use std::io;
-
-/// A reader of std that gives one byte a call, and of which one call is interrupted.
-#[derive(Drop)]
-struct Interrupted<'a> {
-    /// The bytes that it has left.
-    bytes: &'a [u8],
-    /// How many calls go well before the one that is interrupted. None behind that.
-    calls: Option<u64>,
-}
-
-impl io::Read for Interrupted<'_> {
-    fn read(&mut self, buf: &mut [u8]) -> io::Result<usize> {
-        if let Some(calls) = self.calls {
-            self.calls = calls.checked_sub(1);
-            if calls == 0 {
-                return Err(io::Error::from(io::ErrorKind::Interrupted));
-            }
-        }
-        if buf.is_empty() || self.bytes.is_empty() {
-            return Ok(0);
-        }
-        buf[0] = self.bytes[0];
-        self.bytes = &self.bytes[1..];
-        Ok(1)
-    }
-}
-
-/// A writer of std that takes no bytes.
-#[derive(Drop)]
-struct Full;
-
-impl io::Write for Full {
-    fn write(&mut self, _buf: &[u8]) -> io::Result<usize> {
-        Ok(0)
-    }
-
-    fn flush(&mut self) -> io::Result<()> {
-        Ok(())
-    }
-}
 
 /// The answer to a case of bytes that are read.
 pub fn answer(alloc: Global, word: &str, rest: &str) -> Result<String, AllocError> {

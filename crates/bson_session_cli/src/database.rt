@@ -10,7 +10,7 @@ use std::alloc::Global;
 use std::io;
 use store_files::open;
 
-/// Tells a refusal, and answers the status of one.
+/// Reports a refusal, and returns the status of one.
 fn refuse<F: Sink>(faults: &mut F, kind: ErrorKind) -> u8
     requires { CanRefuse (F.tally faults.old) }
 {
@@ -18,7 +18,7 @@ fn refuse<F: Sink>(faults: &mut F, kind: ErrorKind) -> u8
     1
 }
 
-/// Tells that there isn't just one word, and answers the status of that.
+/// Reports that there isn't just one word, and returns the status of that.
 pub fn misuse<F: Sink>(faults: &mut F) -> u8
     requires { CanRefuse (F.tally faults.old) }
 {
@@ -26,7 +26,7 @@ pub fn misuse<F: Sink>(faults: &mut F) -> u8
     2
 }
 
-/// What is told where the words can't be had: want of memory, or that some word is no text.
+/// What is reported if the words can't be had: out of memory, or that some word is no text.
 pub fn unread<F: Sink>(error: io::Error, faults: &mut F) -> u8
     requires { CanRefuse (F.tally faults.old) }
 {
@@ -36,14 +36,14 @@ pub fn unread<F: Sink>(error: io::Error, faults: &mut F) -> u8
     }
 }
 
-/// Closes the files. Where that fails nothing is lost: what was committed stands in the log beside the file, and the next open
-/// finds it there.
+/// Closes the files. If that fails nothing is lost: what was committed is in the log beside the file, and the next open finds it
+/// there.
 fn close(connection: Connection<FileStore<File>>) {
     let _ = connection.close();
 }
 
-/// The session over a connection, which it gives back beside the reason for an early end. It is over any store, as what closing
-/// one of files does would else be gone through at each of its ends.
+/// The session over a connection, which it returns beside the reason for an early end. It is over any database, so that the proof
+/// doesn't go through what closing one of files does at each of its ends.
 fn over<S: Alter + Drop, I: Source, O: Sink>(
     alloc: Global,
     connection: Connection<S>,
@@ -62,7 +62,7 @@ fn over<S: Alter + Drop, I: Source, O: Sink>(
     }
 }
 
-/// Opens the file, holds the session, closes the file, and answers the program's status. A file that isn't there is made.
+/// Opens the file, runs the session, closes the file, and returns the program's status. A file that isn't there is made.
 pub fn hold<I: Source, O: Sink, F: Sink>(
     rt: &HostRuntime,
     file: &str,

@@ -9,7 +9,7 @@ use database::hold;
 use std::process::ExitCode;
 use std::{env, io};
 
-/// The word behind the program's name; none, where there is another number of words.
+/// The word behind the program's name; none if there is another number of words.
 fn file_of(rt: &HostRuntime) -> io::Result<Option<String>> {
     let mut words = env::args(rt)?.skip(1);
     let file = words.next();

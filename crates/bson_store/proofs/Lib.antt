@@ -16,6 +16,7 @@ pub mod Keyed
 pub mod Adding
 pub mod Importing
 pub mod Dumping
+pub mod Printing
 pub mod Passing
 pub mod Opened
 pub mod Renewed

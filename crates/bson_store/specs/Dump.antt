@@ -2,6 +2,7 @@
 use Rattle.std.specs.Prelude.{◌≡◌, ◌⊎◌, ℕ, ◌+◌, List, [], ◌∷◌, ◌++◌, length, Option, Result, Ok, Err, map, MatchOption, MatchResult}
 use Rattle.serde_json.specs.Data.{Data}
 use Rattle.serde_json.specs.View.{view as data_of}
+use Rattle.serde_json.specs.Written.{compact_text}
 use Rattle.serde_json.specs.declared.value.Value.{Value as Json}
 use Rattle.bson_bytes.specs.Encode.{encode}
 use Rattle.store_table.specs.Rows.{TableRow}
@@ -23,6 +24,11 @@ told_at k i = refusal_at k i
 abbrev pub TellsTree : Result Data ErrorKind → ℕ → Result Json StoreError → Type 0
 TellsTree r i (Ok j) = r ≡ Ok (data_of j)
 TellsTree r i (Err e) = (e ≡ refusal Memory) ⊎ ((k : ErrorKind) × (r ≡ Err k) × (e ≡ refusal_at k i))
+
+-- the text of the tree that is wanted, or the refusal that stands in its place, or want of memory
+abbrev pub TellsText : Result Data ErrorKind → ℕ → List ℕ → Result (Unit {0}) StoreError → Type 0
+TellsText r i t (Ok x) = (j : Data) × (r ≡ Ok j) × (t ≡ compact_text j)
+TellsText r i t (Err e) = (e ≡ refusal Memory) ⊎ ((k : ErrorKind) × (r ≡ Err k) × (e ≡ refusal_at k i))
 
 -- The tree that is wanted was taken behind these; or the taker refused it; or these were taken, and what stands in its place is
 -- told, or memory or the database was wanting.

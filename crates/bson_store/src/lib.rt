@@ -14,6 +14,7 @@ mod picking;
 mod questions;
 mod row_test;
 mod store;
+mod texts;
 
 pub use batch::run;
 pub use bson_model::{
@@ -34,3 +35,4 @@ pub use store::Store;
 pub use store_filter::{Filter, look_up, selects};
 pub use store_model::{ErrorKind, laws};
 pub use store_streams::Loader;
+pub use texts::TakeText;

@@ -3,21 +3,18 @@
 ghost use Rattle.std.specs.Prelude.{◌≡◌, false};
 ghost use Rattle.bson_base.specs.Device.{CanRefuse};
 
-use crate::printing::print_tree;
-use bson_store::{ErrorKind, Sink, StoreError, TakeJson};
-use serde_json::Value;
-use std::alloc::Global;
+use bson_store::{ErrorKind, Sink, StoreError, TakeText};
+use cli_words::write_line;
 
-/// Prints the trees, one a line, until that fails.
+/// Prints the texts, one a line, until that fails.
 #[derive(Drop)]
 pub struct Printer<'w, O: Sink> {
     pub output: &'w mut O,
-    pub alloc: Global,
     pub failed: bool,
     ghost ready: { failed ≡ false → CanRefuse (O.tally output.now) },
 }
 
-impl<'w, O: Sink> TakeJson for Printer<'w, O> {
+impl<'w, O: Sink> TakeText for Printer<'w, O> {
     ghost use Rattle.store_model.specs.declared.error.ErrorKind.TheVariants.{Writer};
     ghost use Rattle.cli_commands.specs.Execute.{IsFault};
 
@@ -27,12 +24,12 @@ impl<'w, O: Sink> TakeJson for Printer<'w, O> {
     ghost refused = { λ first p _ e. (first.output.ghost_name ≡ p.output.ghost_name)
         × IsFault Writer (O.tally first.output.now).failures (O.tally p.output.now).failures e };
 
-    fn take(&mut self, tree: Value) -> Result<(), StoreError> {
+    fn take_text(&mut self, text: &str) -> Result<(), StoreError> {
         if self.failed {
             return Err(StoreError::from(ErrorKind::Writer));
         }
         self.failed = true;
-        print_tree(self.alloc, &tree, self.output)?;
+        write_line(self.output, text)?;
         self.failed = false;
         Ok(())
     }

@@ -76,7 +76,7 @@ fn perform<S: Alter + Drop, I: Source, O: Sink>(
         Request::Count(filter) => print_outcome(alloc, number(store.count(name, filter)), output),
         Request::Import => print_outcome(alloc, number(store.import(name, input)), output),
         Request::Export => export(store, name, output),
-        Request::Dump => dump(alloc, store, name, output),
+        Request::Dump => dump(store, name, output),
         Request::Load => print_outcome(alloc, load(alloc, store, name, input), output),
         Request::Collections => print_outcome(alloc, names(store.collections()), output),
     }

@@ -10,7 +10,6 @@ use crate::dumping::Printer;
 use crate::stop::Failure;
 use bson_store::{Sink, Store};
 use sqlite::Alter;
-use std::alloc::Global;
 
 /// `export COLL`: the written documents go out one after the other.
 pub fn export<S: Alter + Drop, O: Sink>(
@@ -31,7 +30,6 @@ pub fn export<S: Alter + Drop, O: Sink>(
 /// `dump COLL`: the documents as canonical Extended JSON, which go out one a line. A document that has no such form is told before
 /// anything is printed: the collection is gone through twice, with one document held at a time.
 pub fn dump<S: Alter + Drop, O: Sink>(
-    alloc: Global,
     store: &mut Store<S>,
     name: &str,
     output: &mut O,
@@ -45,10 +43,9 @@ pub fn dump<S: Alter + Drop, O: Sink>(
     }
     let printer = Printer {
         output,
-        alloc,
         failed: false,
     };
-    match store.each_json(name, printer) {
+    match store.each_text(name, printer) {
         // What is taken out of the printer is known to be the output that went in.
         Ok(printer) => {
             let _output = printer.output;

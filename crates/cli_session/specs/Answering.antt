@@ -25,14 +25,14 @@ use Rattle.cli_session.specs.declared.outcome.Outcome.{Outcome}
 
 -- ---- what was done
 
--- what a sink in memory tells, and one that has taken nothing
+-- what a sink in memory has taken, and that of one that has taken nothing
 abbrev pub tally_of : VecSink → Tally
 tally_of s = record { failures = s.failed; taken = Some s.bytes.items }
 
 abbrev pub fresh : Tally
 fresh = record { failures = 0; taken = Some [] }
 
--- nothing was printed, and this line is told, or a beginning of it where memory is wanted
+-- nothing was printed, and this line is reported, or a beginning of it if out of memory
 abbrev pub Tells : Outcome → ℕ → Form → List ℕ → Type 0
 Tells o status form line = (o.status ≡ status) × (o.form ≡ form) × (o.output.bytes.items ≡ []) × TakesText fresh (tally_of o.faults) line
 
@@ -40,7 +40,7 @@ Tells o status form line = (o.status ≡ status) × (o.form ≡ form) × (o.outp
 abbrev pub source_of : List ℕ → Feed
 source_of bytes = record { failures = 0; supply = record { given = Some []; left = Some bytes } }
 
--- the command was done so, as `execute` says, and it is told how it ended
+-- the command was done so, as `execute` says, and how it ended is reported
 pub record Does (call : Call) (coll : List ℕ) (rest : List (List ℕ)) (input : List ℕ) (o : Outcome) (docs after : List TableRow) : Type 0 where
   pub silent : o.status ≡ 0 → o.faults.bytes.items ≡ []
   pub unread : o.status ≡ 2 → o.output.bytes.items ≡ []
@@ -58,29 +58,29 @@ form_of _ = Text
 abbrev pub IsNoLine : List (List ℕ) → Type 0
 IsNoLine words = (file coll : List ℕ) (call : Call) (rest : List (List ℕ)) → IsLine words file call coll rest → ⊥
 
--- that is told; or the command of the words was done
+-- that is reported; or the command of the words was done
 abbrev pub Obeys : List (List ℕ) → List ℕ → Outcome → List TableRow → List TableRow → Type 0
 Obeys words input o docs after =
     (IsNoLine words × Tells o 2 Text (complaint_line complaints.Usage) × (after ≡ docs))
     ⊎ ((file coll : List ℕ) × (call : Call) × (rest : List (List ℕ)) × IsLine words file call coll rest × (o.form ≡ form_of call) × Does call coll rest input o docs after)
 
--- memory was wanted, and nothing was done
-abbrev pub WantsMemory : Outcome → List TableRow → List TableRow → Type 0
-WantsMemory o docs after = Tells o 1 Nothing (refusal_line kind.Memory None) × (after ≡ docs)
+-- out of memory, and nothing was done
+abbrev pub IsOutOfMemory : Outcome → List TableRow → List TableRow → Type 0
+IsOutOfMemory o docs after = Tells o 1 Nothing (refusal_line kind.Memory None) × (after ≡ docs)
 
 -- that, or the command of the words, behind one for the file, was obeyed
 abbrev pub Grants : List (List ℕ) → List ℕ → Outcome → List TableRow → List TableRow → Type 0
-Grants words input o docs after = WantsMemory o docs after ⊎ Obeys ([] ∷ words) input o docs after
+Grants words input o docs after = IsOutOfMemory o docs after ⊎ Obeys ([] ∷ words) input o docs after
 
 -- the text asks for no command, or is too long
 abbrev pub AsksNothing : List ℕ → Type 0
 AsksNothing text = ((words : List (List ℕ)) (input : List ℕ) → AsksFor text words input → ⊥) ⊎ (MOST < length text)
 
--- what came of the line at this place: it is told that it is no command, or that memory was wanted, or what it asks for is obeyed
+-- what came of the line at this place: that it is no command is reported, or out of memory, or what it asks for is obeyed
 abbrev pub ComesOf : ℕ → List ℕ → Outcome → List TableRow → List TableRow → Type 0
 ComesOf number text o docs after =
     (AsksNothing text × Tells o 2 Nothing (complaint_line (complaints.Line number)) × (after ≡ docs))
-    ⊎ (WantsMemory o docs after ⊎ ((words : List (List ℕ)) × (input : List ℕ) × AsksFor text words input × Grants words input o docs after))
+    ⊎ (IsOutOfMemory o docs after ⊎ ((words : List (List ℕ)) × (input : List ℕ) × AsksFor text words input × Grants words input o docs after))
 
 -- ---- how it is answered
 
@@ -97,7 +97,7 @@ trimmed bytes = take (length bytes - 1) bytes
 abbrev pub IsTold : List ℕ → List ℕ → Type 0
 IsTold bytes told = (IsUtf8 (trimmed bytes) × (told ≡ trimmed bytes)) ⊎ ((IsUtf8 (trimmed bytes) → ⊥) × (told ≡ []))
 
--- the line of the status, the output and what is told; or that memory is wanted for it
+-- the line of the status, the output and what is reported; or the one for out of memory
 abbrev pub IsAnswerTo : Outcome → List ℕ → Type 0
 IsAnswerTo o answer =
     (output : List ℕ) × (told : List ℕ) × IsOutput o.form o.output.bytes.items output × IsTold o.faults.bytes.items told × ((answer ≡ answer_text o.status output told) ⊎ (answer ≡ memory_line))

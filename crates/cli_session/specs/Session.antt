@@ -55,7 +55,7 @@ WritesSome turns old new = (done : List Turn) × (last : Turn) × (turns ≡ don
 abbrev pub BreaksOff : List Turn → Feed → Feed → Type 0
 BreaksOff turns old new = (mid : Feed) × ReadsSome turns old mid × ((new.failures ≡ mid.failures + 1) ⊎ ((given : List ℕ) × Gives old.supply new.supply given × (2 ^ 64 - 2 ≤ length given)))
 
--- how a session ends: with its input, or because a read failed, a write failed, or memory was wanted for it
+-- how a session ends: with its input, or because a read failed, a write failed, or there was no memory for it
 abbrev pub Ends : Result (Unit {0}) ErrorKind → List Turn → Feed → Feed → Tally → Tally → Type 0
 Ends (Ok x) turns fed left old new = ReadsAll turns fed left × WritesAll turns old new
 Ends (Err Reader) turns fed left old new = BreaksOff turns fed left × WritesAll turns old new

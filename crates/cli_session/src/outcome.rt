@@ -30,7 +30,7 @@ pub struct Outcome {
     pub form: Form,
     /// What was printed.
     pub output: VecSink,
-    /// What is told: a line, or nothing.
+    /// What is reported: a line, or nothing.
     pub faults: VecSink,
 }
 
@@ -58,7 +58,7 @@ fn output_of(form: Form, bytes: &[u8]) -> Output<'_>
     }
 }
 
-/// The line that was told, without its line feed.
+/// The line that was reported, without its line feed.
 fn told_of(bytes: &[u8]) -> &str
     ensures { IsTold bytes.now result.now }
 {
@@ -77,7 +77,7 @@ impl Outcome {
     ghost use Rattle.cli_session.specs.Answering.{IsAnswerTo, Tells};
     ghost use Rattle.cli_session.specs.declared.outcome.Form.TheVariants.{Nothing};
 
-    /// A complaint is told, and nothing was done.
+    /// A complaint is reported, and nothing was done.
     pub fn complaint(alloc: Global, form: Form, complaint: UsageError) -> Outcome
         ensures { Tells result 2 form (complaint_line complaint) }
     {
@@ -91,7 +91,7 @@ impl Outcome {
         }
     }
 
-    /// It is told that memory is wanted, and nothing was done.
+    /// Out of memory is reported, and nothing was done.
     pub fn no_memory(alloc: Global) -> Outcome
         ensures { Tells result 1 Nothing (refusal_line Memory None) }
     {
@@ -105,7 +105,7 @@ impl Outcome {
         }
     }
 
-    /// The answer that tells it.
+    /// The answer with it.
     pub fn answer(&self) -> Answer<'_>
         ensures { (line : List ℕ) → IsLineOf result line → IsAnswerTo self.now line }
     {

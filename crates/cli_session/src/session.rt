@@ -14,7 +14,7 @@ use cli_session_lines::{Kept, Line, Lines, Next, write_answer};
 use sqlite::Alter;
 use std::alloc::Global;
 
-/// Does what a line asks for, and writes its answer. A line without a byte is skipped. Writer, where the write failed.
+/// Does what a line asks for, and writes its answer. A line without a byte is skipped. `Writer` if the write failed.
 fn reply<S: Alter + Drop, O: Sink>(
     alloc: Global,
     store: &mut Store<S>,
@@ -39,8 +39,8 @@ fn reply<S: Alter + Drop, O: Sink>(
 /// Does the commands of the lines of `input` on `store`, one after the other, and answers each on a line of `output`, until the
 /// input ends. A line without a byte is skipped, and counts like any other.
 ///
-/// Reader, where a read failed, or a line or the input has 2⁶⁴ - 2 bytes or more; Writer, where a write failed, after which no
-/// further command is done; Memory, where there is none for the session itself, and then no line is read.
+/// `Reader` if a read failed, or a line or the input has 2⁶⁴ - 2 bytes or more; `Writer` if a write failed, after which no
+/// further command is done; `Memory` if there is none for the session itself, and then no line is read.
 pub fn serve<S: Alter + Drop, I: Source, O: Sink>(
     alloc: Global,
     store: &mut Store<S>,

@@ -21,19 +21,19 @@ output_text Nothing = []
 output_text (Text t) = printed_text t.now
 output_text (Bytes b) = bytes_text b.now
 
--- what is told, if something is
+-- what is reported, if something is
 abbrev pub told_text : List ℕ → List ℕ
 told_text [] = []
 told_text (c ∷ cs) = codes ",\"told\":" ++ compact_text (string (c ∷ cs))
 
--- the object of a status, of the text of an output and of what is told, and a line feed
+-- the object of a status, of the text of an output and of what is reported, and a line feed
 abbrev pub answer_text : ℕ → List ℕ → List ℕ → List ℕ
 answer_text status output told = codes "{\"status\":" ++ (decimal status ++ (output ++ (told_text told ++ codes "}\n")))
 
 abbrev pub answer_line : Answer → List ℕ
 answer_line a = answer_text a.status (output_text a.output) a.told.now
 
--- where memory is wanted
+-- if there is no memory
 abbrev pub memory_line : List ℕ
 memory_line = codes "{\"status\":1,\"told\":\"refused: Memory\"}\n"
 

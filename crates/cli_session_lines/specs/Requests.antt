@@ -23,7 +23,7 @@ parts (Some input) words = member (codes "input") input (member (codes "words") 
 abbrev pub command_json : List (List ℕ) → Option (List ℕ) → Data
 command_json words input = object (parts (option_map string input) (array (texts words)))
 
--- the bytes that a text in base64 stands for; none, where there is no text
+-- the bytes that a text in base64 stands for; none if there is no text
 abbrev pub StandsFor : Option (List ℕ) → List ℕ → Type 0
 StandsFor None bytes = bytes ≡ []
 StandsFor (Some text) bytes = decode_of standard text ≡ Ok bytes
@@ -32,19 +32,19 @@ StandsFor (Some text) bytes = decode_of standard text ≡ Ok bytes
 abbrev pub AsksFor : List ℕ → List (List ℕ) → List ℕ → Type 0
 AsksFor line words input = IsUtf8 line × ((text : Option (List ℕ)) × (read line ≡ Some (command_json words text)) × StandsFor text input)
 
--- the tree is an array of these texts; or it is none; or memory was wanted
+-- the tree is an array of these texts; or it is none; or out of memory
 abbrev pub AnswersTexts : Data → Result (Vec (String Global) Global) RequestError → Type 0
 AnswersTexts tree (Ok words) = tree ≡ array (texts (map string_bytes words.items))
 AnswersTexts tree (Err Unreadable) = (words : List (List ℕ)) → tree ≡ array (texts words) → ⊥
 AnswersTexts tree (Err Memory) = Unit {0}
 
--- a tree, where there is one, is a text that stands for these bytes; or it is none; or memory was wanted
+-- a tree, if there is one, is a text that stands for these bytes; or it is none; or out of memory
 abbrev pub AnswersBytes : Option Data → Result (Vec ℕ Global) RequestError → Type 0
 AnswersBytes tree (Ok bytes) = (text : Option (List ℕ)) × (tree ≡ option_map string text) × StandsFor text bytes.items
 AnswersBytes tree (Err Unreadable) = (text : Option (List ℕ)) (bytes : List ℕ) → tree ≡ option_map string text → StandsFor text bytes → ⊥
 AnswersBytes tree (Err Memory) = Unit {0}
 
--- it is one; or it is none; or memory was wanted
+-- it is one; or it is none; or out of memory
 abbrev pub AnswersLine : List ℕ → Result Request RequestError → Type 0
 AnswersLine line (Ok r) = AsksFor line (map string_bytes r.words.items) r.input.items
 AnswersLine line (Err Unreadable) = (words : List (List ℕ)) (input : List ℕ) → AsksFor line words input → ⊥

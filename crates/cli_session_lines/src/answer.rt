@@ -1,4 +1,4 @@
-//! What is answered to a line.
+//! The answer to a line.
 
 ghost use Rattle.std.specs.Prelude.{◌≡◌, ◌++◌, ℕ, List, IfOk, OnOk, OnErr, string_bytes};
 ghost use Rattle.serde_json.specs.Data.{string};
@@ -23,19 +23,19 @@ pub enum Output<'a> {
     Bytes(&'a [u8]),
 }
 
-/// What is answered to a line.
+/// The answer to a line.
 #[derive(Clone, Copy, Debug)]
 pub struct Answer<'a> {
     /// The status of the command.
     pub status: u8,
     /// What it wrote.
     pub output: Output<'a>,
-    /// What is told of it; empty, where nothing is.
+    /// What is reported of it; empty if nothing is.
     pub told: &'a str,
 }
 
-/// The answer where memory is wanted for another one.
-const WANTS_MEMORY: &str = "{\"status\":1,\"told\":\"refused: Memory\"}\n";
+/// The answer if there is no memory for another one.
+const OUT_OF_MEMORY: &str = "{\"status\":1,\"told\":\"refused: Memory\"}\n";
 
 /// Puts a text in quotes, escaped as JSON has it, behind the line.
 fn push_quoted(alloc: Global, line: &mut String, text: &str) -> Result<(), AllocError>
@@ -85,8 +85,7 @@ impl Answer<'_> {
     }
 }
 
-/// Writes the line of an answer, or of one that memory is wanted, where that is so. After a failure a beginning of it was
-/// written.
+/// Writes the line of an answer, or the one that reports out of memory. After a failure a beginning of it was written.
 pub fn write_answer<O: Sink>(
     alloc: Global,
     output: &mut O,
@@ -99,6 +98,6 @@ pub fn write_answer<O: Sink>(
 {
     match answer.to_line(alloc) {
         Ok(line) => write_all(output, line.as_bytes()),
-        Err(_) => write_all(output, WANTS_MEMORY.as_bytes()),
+        Err(_) => write_all(output, OUT_OF_MEMORY.as_bytes()),
     }
 }

@@ -1,4 +1,4 @@
-//! The lines of a session: commands that are read, one a line, and what is answered, one line each.
+//! The lines of a session: commands that are read, one a line, and their answers, one line each.
 #![tactic(auto)]
 
 mod answer;

@@ -12,14 +12,14 @@ pub enum Kept {
     Whole,
     /// Not all of it, as it has more than `MOST` bytes.
     TooLong,
-    /// Not all of it, as memory was wanted.
+    /// Not all of it, as there was no memory.
     Memory,
 }
 
 /// A line without its line feed.
 #[derive(Drop)]
 pub struct Line {
-    /// Its bytes, or some of them, where not all of it is kept.
+    /// Its bytes, or some of them if not all of it is kept.
     pub bytes: Vec<u8>,
     /// What is kept of it.
     pub kept: Kept,

@@ -33,9 +33,9 @@ fn room(alloc: Global) -> Result<Vec<u8>, AllocError>
 pub struct Lines {
     /// The bytes that were read last, and room for more.
     chunk: Vec<u8>,
-    /// Where those that weren't handed out begin.
+    /// The place at which those that weren't handed out begin.
     at: usize,
-    /// Where they end.
+    /// The place at which they end.
     until: usize,
     ghost order: { at ≤ until },
     ghost within: { until ≤ vec_len chunk },
@@ -60,7 +60,7 @@ impl Lines {
         })
     }
 
-    /// Whether there is a byte that wasn't handed out. Reads some where all were.
+    /// Whether there is a byte that wasn't handed out. Reads some if all were.
     fn fill<S: Source>(&mut self, source: &mut S) -> Result<bool, DeviceFault>
         requires { CanFail (S.feed source.old) }
         ensures counts { Counts (S.feed source.old).failures (S.feed source.new).failures result }
@@ -76,7 +76,7 @@ impl Lines {
         Ok(self.at < self.until)
     }
 
-    /// Puts bytes behind the line, up to the next line feed, and answers whether that was met.
+    /// Puts bytes behind the line, up to the next line feed, and returns whether that was met.
     fn hand_out(&mut self, line: &mut Line) -> bool
         ensures whole { IsTrue result ⊎ (waiting self.new ≡ []) }
         ensures piece { (piece : List ℕ) × IsUnbroken piece × (waiting self.old ≡ piece ++ (broken result ++ waiting self.new))

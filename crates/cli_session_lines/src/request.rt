@@ -67,7 +67,7 @@ impl From<serde_json::Error> for RequestError {
     }
 }
 
-/// The trees under `input`, if it is there, and under `words`, where an object has no other key.
+/// The trees under `input`, if it is there, and under `words`, if an object has no other key.
 fn parts_of(members: Map<String, Value>) -> Option<(Option<Value>, Value)>
     ensures { MatchOption result
         ((input : Option Data) (words : Data) → members_view members.entries ≡ parts input words → ⊥)
@@ -115,7 +115,7 @@ fn texts_of(alloc: Global, tree: Value) -> Result<Vec<String>, RequestError>
     Ok(texts)
 }
 
-/// The bytes of a text in base64; none, where there is no text.
+/// The bytes of a text in base64; none if there is no text.
 fn bytes_of(alloc: Global, tree: Option<Value>) -> Result<Vec<u8>, RequestError>
     ensures { AnswersBytes (option_map data_of tree) result }
 {
@@ -132,8 +132,8 @@ fn bytes_of(alloc: Global, tree: Option<Value>) -> Result<Vec<u8>, RequestError>
     }
 }
 
-/// The command that a line asks for: the text of a JSON object with the array of its words under `words` and, where it reads
-/// some, the bytes of its input in base64 under `input`.
+/// The command that a line asks for: the text of a JSON object with the array of its words under `words` and, if it reads some,
+/// the bytes of its input in base64 under `input`.
 pub fn read_request(alloc: Global, line: &[u8]) -> Result<Request, RequestError>
     ensures { AnswersLine line.now result }
 {

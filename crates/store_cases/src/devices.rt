@@ -3,50 +3,10 @@
 use crate::bytes;
 use crate::replies::tell;
 use bson_base::Counted;
+use bson_base::faulty::{Full, Interrupted};
 use bson_store::{Reply, Store};
 use sqlite::Alter;
 use std::alloc::{AllocError, Global};
-use std::io;
-
-/// A reader that gives one byte a call, and of which one call is interrupted.
-#[derive(Drop)]
-struct Interrupted<'a> {
-    /// The bytes that it has left.
-    bytes: &'a [u8],
-    /// How many calls go well before the one that is interrupted. None behind that.
-    calls: Option<u64>,
-}
-
-impl io::Read for Interrupted<'_> {
-    fn read(&mut self, buf: &mut [u8]) -> io::Result<usize> {
-        if let Some(calls) = self.calls {
-            self.calls = calls.checked_sub(1);
-            if calls == 0 {
-                return Err(io::Error::from(io::ErrorKind::Interrupted));
-            }
-        }
-        if buf.is_empty() || self.bytes.is_empty() {
-            return Ok(0);
-        }
-        buf[0] = self.bytes[0];
-        self.bytes = &self.bytes[1..];
-        Ok(1)
-    }
-}
-
-/// A writer that takes no bytes.
-#[derive(Drop)]
-struct Full;
-
-impl io::Write for Full {
-    fn write(&mut self, _buf: &[u8]) -> io::Result<usize> {
-        Ok(0)
-    }
-
-    fn flush(&mut self) -> io::Result<()> {
-        Ok(())
-    }
-}
 
 /// Tells a reply, and how often the device failed.
 fn told(alloc: Global, reply: Reply, failed: u64) -> Result<String, AllocError> {

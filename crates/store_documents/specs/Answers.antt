@@ -2,6 +2,7 @@
 use Rattle.std.specs.Prelude.{◌≡◌, ◌⊎◌, ℕ, List, Some, None, Result, Ok, Err}
 use Rattle.serde_json.specs.Data.{Data}
 use Rattle.serde_json.specs.View.{view as data_of}
+use Rattle.serde_json.specs.Written.{compact_text}
 use Rattle.serde_json.specs.declared.value.Value.{Value as Json}
 use Rattle.bson_base.specs.Value.{Members}
 use Rattle.bson_model.specs.View.{view, content}
@@ -32,6 +33,11 @@ AnswersValue j (Err k) = ((k ≡ JsonRefused) × (read_value j ≡ None)) ⊎ (k
 abbrev pub AnswersJson : Result Data ErrorKind → Result Json ErrorKind → Type 0
 AnswersJson r (Ok j) = r ≡ Ok (data_of j)
 AnswersJson r (Err k) = (r ≡ Err k) ⊎ (k ≡ Memory)
+
+-- the text of the tree that is wanted, the refusal that stands in its place, or want of memory
+abbrev pub AnswersText : Result Data ErrorKind → List ℕ → Result (Unit {0}) ErrorKind → Type 0
+AnswersText r t (Ok x) = (j : Data) × (r ≡ Ok j) × (t ≡ compact_text j)
+AnswersText r t (Err k) = (r ≡ Err k) ⊎ (k ≡ Memory)
 
 -- there is a tree
 abbrev pub HasTree : Result Data ErrorKind → Type 0

@@ -12,6 +12,7 @@ mod read;
 mod reserved;
 mod row;
 mod stored;
+mod text;
 mod trees;
 mod write;
 
@@ -23,5 +24,6 @@ pub use name::Name;
 pub use read::{document_of_bytes, document_of_json, value_of_json};
 pub use row::{RowKey, is_store_row, key_of_row};
 pub use stored::row_of_bytes;
+pub use text::text_of_body;
 pub use trees::check_json;
 pub use write::{KeptRow, row_of_document};

@@ -1,4 +1,3 @@
-use Rattle.std.proofs.Common.{arith}
 use Rattle.std.proofs.lemmas.Str.{IsUtf8-from_ascii}
 use Rattle.std.proofs.lemmas.List.{take_rest}
 use Rattle.bson_frame.proofs.Ascii.{ascii_run, whole_run, splits_at_zero}

@@ -1,32 +1,24 @@
-use Rattle.std.proofs.Common.{refl}
-use Rattle.std.proofs.lemmas.Result.{on_ok_weaker}
-use Rattle.bson_base.specs.Value.{member, no_members}
 use Rattle.bson_model.specs.View.{view}
-use Rattle.bson_meaning.proofs.KeyLaw.{key_law, key_exceeds, key_fits, key_long, key_within}
+use Rattle.bson_meaning.specs.Keys.{alone}
+use Rattle.bson_meaning.proofs.AnsweringKeys.{with_zero, too_long, written}
 use Rattle.bson_raw.proofs.Progress.{untrue}
 use Rattle.bson_meaning.proofs.key.element_key_where.Goals as goal
 
-pub returns-clause-fits : goal.returns-clause-fits
-returns-clause-fits c = on_ok_weaker c.written_alone.result (key_fits c.args.zeros (member c.args.name.now (view c.args.value.now) no_members) _ refl) c.written_alone.ensures.fits
+pub returns-then-not-is_plain_element-clause-key : goal.returns-then-not-is_plain_element-clause-key
+returns-then-not-is_plain_element-clause-key c =
+    with_zero c.args.zeros (alone c.args.name.now (view c.args.value.now)) (λ p. untrue c.is_plain_element.result c.if-not-is_plain_element.true (c.is_plain_element.ensures.1 p))
 
-pub returns-then-too_long-clause-too_long : goal.returns-then-too_long-clause-too_long
-returns-then-too_long-clause-too_long c =
+pub returns-then-too_long-clause-key : goal.returns-then-too_long-clause-key
+returns-then-too_long-clause-key c =
+    let d = alone c.args.name.now (view c.args.value.now) in
     let plain = c.is_plain_element.ensures.0 c.if-not-is_plain_element.false in
-    let long = key_exceeds c.args.zeros (member c.args.name.now (view c.args.value.now) no_members) c.is_element_too_long-too_long.ensures.sound ((c.is_element_too_long-too_long.ensures.long c.args.zeros).0 c.if-too_long.true) in
-    (λ _. (plain, long), λ _. refl)
+    let counted = c.is_element_too_long-too_long.ensures in
+    too_long c.args.zeros d plain counted.sound ((counted.long c.args.zeros).0 c.if-too_long.true)
 
-pub returns-clause-too_long : goal.returns-clause-too_long
-returns-clause-too_long c =
-    let d = member c.args.name.now (view c.args.value.now) no_members in
-    let sound = c.is_element_too_long-too_long.ensures.sound in
-    let plain = c.is_plain_element.ensures.0 c.if-not-is_plain_element.false in (
-      λ e. (plain, key_long c.args.zeros d _ refl plain sound (c.written_alone.ensures.too_long e)),
-      λ h. absurd (untrue c.is_element_too_long-too_long.result c.if-too_long.false ((c.is_element_too_long-too_long.ensures.long c.args.zeros).1 (key_within c.args.zeros d sound h.1))),
-    )
-
-pub returns-clause-tells : goal.returns-clause-tells
-returns-clause-tells c = λ e p t n.
-    let sound = c.is_element_too_long-too_long.ensures.sound in
-    let d = member c.args.name.now (view c.args.value.now) no_members in
+pub returns-clause-key : goal.returns-clause-key
+returns-clause-key c =
+    let d = alone c.args.name.now (view c.args.value.now) in
     let plain = c.is_plain_element.ensures.0 c.if-not-is_plain_element.false in
-    on_ok_weaker c.written_alone.result (λ fits. key_law c.args.zeros d e plain sound p t (key_fits c.args.zeros d _ refl fits) n) c.written_alone.ensures.fits
+    let counted = c.is_element_too_long-too_long.ensures in
+    let w = c.written_alone.ensures in
+    written c.args.zeros d c.written_alone.result plain counted.sound (λ h. untrue c.is_element_too_long-too_long.result c.if-too_long.false ((counted.long c.args.zeros).1 h)) w.bytes w.fits w.never_not_plain w.too_long

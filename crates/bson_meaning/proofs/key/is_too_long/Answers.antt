@@ -1,5 +1,4 @@
-use Rattle.bson_base.specs.Value.{member, no_members}
-use Rattle.bson_model.specs.View.{view, pairs_of, members_of}
+use Rattle.bson_model.specs.View.{pairs_of, members_of}
 use Rattle.bson_meaning.specs.declared.scalars.Zeros.TheVariants.{Joined}
 use Rattle.bson_meaning.proofs.Normal.{long_alike}
 use Rattle.bson_meaning.proofs.key.is_too_long.Goals as goal

@@ -14,12 +14,12 @@ pub returns-in-Ok-clause-step : goal.returns-in-Ok-clause-step
 returns-in-Ok-clause-step g c texts f =
     let of_output : g.row.O.Denot → Tally = λ o. g.O.Sink.tally o in
     let count : Printer g.row.O.Denot g.O.Sink → ℕ = λ p. (of_output p.output.now).failures in
-    dumped c.args.name.now texts f (of_output c.args.output.now) _ (store_state g.S.Store c.args.store.now) (store_state g.S.Store c.check_json.new.self) (store_state g.S.Store c.each_json.new.self) (λ p. p.output.ghost_name) (λ p. p.failed) count _ c.in-Ok.printer
+    dumped c.args.name.now texts f (of_output c.args.output.now) _ (store_state g.S.Store c.args.store.now) (store_state g.S.Store c.check_json.new.self) (store_state g.S.Store c.each_text.new.self) (λ p. p.output.ghost_name) (λ p. p.failed) count _ c.in-Ok.printer
     c.in_default.ensures.moves (c.in-Ok.ensures.moves (refl, refl, refl)) (λ e. ap (λ o. (of_output o).failures) (search rules))
 
-pub returns-in-Err-each_json-clause-step : goal.returns-in-Err-each_json-clause-step
-returns-in-Err-each_json-clause-step g c texts f =
+pub returns-in-Err-each_text-clause-step : goal.returns-in-Err-each_text-clause-step
+returns-in-Err-each_text-clause-step g c texts f =
     let of_output : g.row.O.Denot → Tally = λ o. g.O.Sink.tally o in
     let count : Printer g.row.O.Denot g.O.Sink → ℕ = λ p. (of_output p.output.now).failures in
-    not_dumped c.args.name.now texts f (of_output c.args.output.now) _ (store_state g.S.Store c.args.store.now) (store_state g.S.Store c.check_json.new.self) (store_state g.S.Store c.each_json.new.self) (λ p. p.output.ghost_name) (λ p. p.failed) count _ c.in-Err-each_json.printer c.in-Err-each_json.error
-    c.in_default.ensures.moves (c.in-Err-each_json.ensures.moves (refl, refl, refl)) (λ e. ap (λ o. (of_output o).failures) (search rules))
+    not_dumped c.args.name.now texts f (of_output c.args.output.now) _ (store_state g.S.Store c.args.store.now) (store_state g.S.Store c.check_json.new.self) (store_state g.S.Store c.each_text.new.self) (λ p. p.output.ghost_name) (λ p. p.failed) count _ c.in-Err-each_text.printer c.in-Err-each_text.error
+    c.in_default.ensures.moves (c.in-Err-each_text.ensures.moves (refl, refl, refl)) (λ e. ap (λ o. (of_output o).failures) (search rules))

@@ -8,5 +8,5 @@ returns-in-Ok g c =
     let request = c.args.request in
     let words = request.words.items in
     let shown = c.as_slice.result.now in
-    granted (store_state g.S.Store c.args.store.now) (store_state g.S.Store c.perform.new.store) (map string_bytes words) (map string_bytes shown) request.input.items c.as_slice-2.result.now c.perform.result
-    (in_front words c.insert.new.self.items shown c.new.result c.new.ensures.bytes c.in-Ok.ensures.items c.as_slice.ensures.value) c.as_slice-2.ensures.value c.perform.ensures
+    granted (store_state g.S.Store c.args.store.now) (store_state g.S.Store c.perform.new.store) (map string_bytes words) (map string_bytes shown) request.input.items c.as_slice-in-Ok.result.now c.perform.result
+    (in_front words c.insert.new.self.items shown c.new.result c.new.ensures.bytes c.in-Ok.ensures.items c.as_slice.ensures.value) c.as_slice-in-Ok.ensures.value c.perform.ensures

@@ -1,0 +1,158 @@
+//! All documents of a collection as the text of their Extended JSON, one at a time.
+
+ghost use Rattle.std.specs.Prelude.{◌≡◌, ◌++◌, ◌∷◌, [], List, IfErr, OnOk, string_bytes};
+ghost use Rattle.serde_json.specs.Data.{Data};
+ghost use Rattle.serde_json.specs.Written.{compact_text};
+ghost use Rattle.bson_base.specs.Value.{Members};
+ghost use Rattle.bson_bytes.specs.Encode.{encode};
+ghost use Rattle.bson_model.specs.declared.extjson.ser.Mode.TheVariants.{Canonical};
+ghost use Rattle.store_table.specs.Moves.{WasOpen};
+ghost use Rattle.store_model.specs.State.{IsKept, json_of};
+ghost use Rattle.sqlite.specs.State.{Survives};
+ghost use Rattle.bson_store.specs.Calls.{store_state, Relates};
+ghost use Rattle.bson_store.specs.Dump.{HandsOn, HandsTrees, TellsText};
+
+use crate::dump::refused_at;
+use crate::error::StoreError;
+use crate::store::{Store, good_name};
+use sqlite::Alter;
+use std::alloc::Global;
+use store_documents::text_of_body;
+use store_model::ErrorKind;
+use store_table::Visit;
+
+/// What is done with the texts of the trees of a collection's documents, which come one at a time.
+pub trait TakeText {
+    ghost use Rattle.bson_store.specs.declared.error.StoreError.{StoreError};
+
+    /// Since it was the first, the second has taken the texts of these trees, in this order.
+    ghost took: { Self → Self → List Data → Type 0 };
+
+    /// Since it was the first, the second has taken the texts of these trees, and refused that of the next one by this.
+    ghost refused: { Self → Self → List Data → StoreError → Type 0 };
+
+    /// Takes the text of a tree. The keys of each object ascend by their bytes, and no space stands between its parts.
+    fn take_text(&mut self, text: &str) -> Result<(), StoreError>
+        ensures took { (first : Self) (out : List Data) (tree : Data) → text.now ≡ compact_text tree → took first self.old out
+            → OnOk result (took first self.new (out ++ tree ∷ [])) }
+        ensures refused { (first : Self) (out : List Data) → took first self.old out → IfErr result (refused first self.new out) };
+}
+
+/// The text of the tree of the body at a place of the collection.
+fn text_at(alloc: Global, body: &[u8], place: u64, text: &mut String) -> Result<(), StoreError>
+    ensures { (d : Members) → IsKept d → body.now ≡ encode d → TellsText (json_of Canonical d) place (string_bytes text.new) result }
+{
+    match text_of_body(alloc, body, text) {
+        Ok(()) => Ok(()),
+        Err(kind) => Err(refused_at(kind, place)),
+    }
+}
+
+/// Hands the text of the tree of the body at a place on, and answers the place behind it.
+fn hand_text<T: TakeText>(
+    alloc: Global,
+    taker: &mut T,
+    body: &[u8],
+    place: u64,
+    text: &mut String,
+) -> Result<u64, StoreError>
+    ensures { (first : T) (out : List Data) (d : Members) → IsKept d → body.now ≡ encode d → T.took first taker.old out
+        → HandsOn (T.took first taker.new) (T.refused first taker.new) out place (json_of Canonical d) result }
+{
+    text_at(alloc, body, place, text)?;
+    let Some(next) = place.checked_add(1) else {
+        // There are fewer places for rows than numbers.
+        return Err(StoreError::from(ErrorKind::Database));
+    };
+    taker.take_text(text.as_str())?;
+    Ok(next)
+}
+
+/// Hands the texts of the bodies on that the table hands out, one body at a time. After the first that has none, or that is
+/// refused, none are asked for.
+#[derive(Drop)]
+pub struct TextVisitor<T> {
+    pub taker: T,
+    pub alloc: Global,
+    pub place: u64,
+    pub refusal: Option<StoreError>,
+    /// Where each text is made, in the room of the one before it.
+    pub text: String,
+}
+
+impl<T: TakeText> Visit for TextVisitor<T> {
+    ghost use Rattle.std.specs.Prelude.{IsSome};
+    ghost use Rattle.bson_store.specs.Dump.{HandedOn};
+
+    ghost took = { λ first v bodies. HandedOn (T.took first.taker v.taker) (T.refused first.taker v.taker) v.place bodies v.refusal };
+
+    ghost is_done = { λ v. IsSome v.refusal };
+
+    fn visit(&mut self, body: &[u8]) -> bool {
+        if self.refusal.is_some() {
+            return false;
+        }
+        match hand_text(
+            self.alloc,
+            &mut self.taker,
+            body,
+            self.place,
+            &mut self.text,
+        ) {
+            Ok(next) => {
+                self.place = next;
+                true
+            }
+            Err(error) => {
+                self.refusal = Some(error);
+                false
+            }
+        }
+    }
+}
+
+impl<S: Alter + Drop> Store<S> {
+    /// Hands the documents of the collection `name` to `taker`, one after the other, as the text of their Extended JSON in
+    /// canonical mode (MongoDB Extended JSON v2), and gives the taker back: `each_json` without the trees. One document is held
+    /// at a time.
+    ///
+    /// Refused as `each_json` is, and by what the taker refuses a text by. The taker, which is given back beside the refusal, was
+    /// then handed a beginning of the texts.
+    pub fn each_text<T: TakeText + Drop>(
+        &mut self,
+        name: &str,
+        taker: T,
+    ) -> Result<T, (StoreError, T)>
+        ensures moves { T.took taker taker [] → Relates S.Store self.old self.new (HandsTrees (T.took taker) (T.refused taker) name.now result) }
+        ensures open { WasOpen (store_state S.Store self.old) (store_state S.Store self.new) result }
+        ensures crash { Survives (store_state S.Store self.old) (store_state S.Store self.new) (λ _. ⊥) }
+    {
+        let name = match good_name(name) {
+            Ok(name) => name,
+            Err(error) => return Err((error, taker)),
+        };
+        let text = String::new(self.alloc);
+        let mut teller = TextVisitor {
+            taker,
+            alloc: self.alloc,
+            place: 0,
+            refusal: None,
+            text,
+        };
+        let visited = self.table.visit_bodies(name.as_str(), &mut teller);
+        let TextVisitor {
+            taker,
+            alloc: _,
+            place: _,
+            refusal,
+            text: _,
+        } = teller;
+        if let Some(error) = refusal {
+            return Err((error, taker));
+        }
+        match visited {
+            Ok(_) => Ok(taker),
+            Err(fault) => Err((StoreError::from(fault), taker)),
+        }
+    }
+}

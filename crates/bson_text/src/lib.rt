@@ -1,0 +1,8 @@
+//! Documents as the text of their canonical Extended JSON (MongoDB Extended JSON v2), without a tree of JSON between.
+#![tactic(auto)]
+
+mod document;
+mod parts;
+mod scalars;
+
+pub use document::write_canonical;

@@ -1,0 +1,78 @@
+//! Pieces of JSON that wrappers are made of.
+
+ghost use Rattle.std.specs.Prelude.{◌≡◌, [], ◌∷◌, OnOk, decimal};
+ghost use Rattle.std.specs.Fmt.{signed_decimal};
+ghost use Rattle.json.specs.Token.{begin_object, end_object, key as key_token, number as number_token, string as string_token};
+ghost use Rattle.bson_text.specs.Prints.{Adds};
+
+use json::Writer;
+use std::alloc::AllocError;
+
+/// Begins an object with a key.
+pub(crate) fn begin(out: &mut Writer, key: &str) -> Result<(), AllocError>
+    ensures { OnOk result (Adds (begin_object ∷ key_token key.now ∷ []) out.old out.new) }
+{
+    out.begin_object()?;
+    out.key(key)
+}
+
+/// Ends two objects, one in the other.
+pub(crate) fn end_both(out: &mut Writer) -> Result<(), AllocError>
+    ensures { OnOk result (Adds (end_object ∷ end_object ∷ []) out.old out.new) }
+{
+    out.end_object()?;
+    out.end_object()
+}
+
+/// Writes a member with a text.
+pub(crate) fn put_text(out: &mut Writer, key: &str, text: &str) -> Result<(), AllocError>
+    ensures { OnOk result (Adds (key_token key.now ∷ string_token text.now ∷ []) out.old out.new) }
+{
+    out.key(key)?;
+    out.string(text)
+}
+
+/// Writes a member with a number.
+pub(crate) fn put_number(out: &mut Writer, key: &str, number: u32) -> Result<(), AllocError>
+    ensures { OnOk result (Adds (key_token key.now ∷ number_token (decimal number) ∷ []) out.old out.new) }
+{
+    out.key(key)?;
+    out.u64(u64::from(number))
+}
+
+/// Writes an object of one member, a text.
+pub(crate) fn wrap_text(out: &mut Writer, key: &str, text: &str) -> Result<(), AllocError>
+    ensures { OnOk result (Adds (begin_object ∷ key_token key.now ∷ string_token text.now ∷ end_object ∷ []) out.old out.new) }
+{
+    begin(out, key)?;
+    out.string(text)?;
+    out.end_object()
+}
+
+/// Writes an object of one member, the digits of a number as a text.
+pub(crate) fn wrap_digits(out: &mut Writer, key: &str, number: i64) -> Result<(), AllocError>
+    ensures { OnOk result (Adds (begin_object ∷ key_token key.now ∷ string_token (signed_decimal number) ∷ end_object ∷ []) out.old out.new) }
+{
+    begin(out, key)?;
+    out.quoted_i64(number)?;
+    out.end_object()
+}
+
+/// Writes an object of one member, an object of two texts.
+pub(crate) fn wrap_texts(
+    out: &mut Writer,
+    outer: &str,
+    key: &str,
+    text: &str,
+    next_key: &str,
+    next_text: &str,
+) -> Result<(), AllocError>
+    ensures { OnOk result (Adds (begin_object ∷ key_token outer.now ∷ begin_object ∷ key_token key.now ∷ string_token text.now
+        ∷ key_token next_key.now ∷ string_token next_text.now ∷ end_object ∷ end_object ∷ []) out.old out.new) }
+{
+    begin(out, outer)?;
+    out.begin_object()?;
+    put_text(out, key, text)?;
+    put_text(out, next_key, next_text)?;
+    end_both(out)
+}

@@ -1,0 +1,50 @@
+//! Written documents as the text of their JSON.
+
+ghost use Rattle.std.specs.Prelude.{◌≡◌, string_bytes};
+ghost use Rattle.bson_base.specs.Value.{Members, document as tree};
+ghost use Rattle.bson_bytes.specs.Encode.{encode};
+ghost use Rattle.bson_model.specs.JsonWrite.{write};
+ghost use Rattle.bson_model.specs.View.{content};
+ghost use Rattle.bson_model.specs.declared.extjson.ser.Mode.TheVariants.{Canonical};
+ghost use Rattle.store_model.specs.State.{IsKept, or_finite, json_of};
+ghost use Rattle.store_documents.specs.Answers.{AnswersText};
+
+use crate::read::document_of_bytes;
+use crate::reserved::has_reserved_below;
+use bson_model::{Document, extjson};
+use bson_text::write_canonical;
+use std::alloc::Global;
+use store_model::ErrorKind;
+
+/// The text of a document's tree. `FiniteDouble` where a finite double other than the zeros stands in it, or `Memory`.
+fn text_written(alloc: Global, document: &Document, text: &mut String) -> Result<(), ErrorKind>
+    ensures { AnswersText (or_finite (write Canonical (tree (content document.now)))) (string_bytes text.new) result }
+{
+    match write_canonical(alloc, document, text) {
+        Ok(()) => Ok(()),
+        Err(extjson::de::Error::FiniteDouble) => Err(ErrorKind::FiniteDouble),
+        Err(extjson::de::Error::Memory) => Err(ErrorKind::Memory),
+        Err(_) => unreachable!(),
+    }
+}
+
+/// The text of a document's tree. `ReservedKey` where it has a reserved key below its top, else `FiniteDouble`, or `Memory`.
+fn text_of_document(alloc: Global, document: &Document, text: &mut String) -> Result<(), ErrorKind>
+    ensures { AnswersText (json_of Canonical (content document.now)) (string_bytes text.new) result }
+{
+    if has_reserved_below(document) {
+        return Err(ErrorKind::ReservedKey);
+    }
+    text_written(alloc, document, text)
+}
+
+/// Puts the text of a kept document's tree, as `json_of_body` makes it in canonical mode, in the place of what `text` held, whose
+/// room is used again. No tree is made.
+///
+/// Refuses what `json_of_body` refuses, by the same kinds; what `text` holds then isn't said.
+pub fn text_of_body(alloc: Global, body: &[u8], text: &mut String) -> Result<(), ErrorKind>
+    ensures { (d : Members) → IsKept d → body.now ≡ encode d → AnswersText (json_of Canonical d) (string_bytes text.new) result }
+{
+    let document = document_of_bytes(alloc, body)?;
+    text_of_document(alloc, &document, text)
+}
