@@ -1,5 +1,5 @@
 -- What a refused call leaves, and calls of the store as commands of the program.
-use Rattle.std.proofs.Common.{◌≡◌, inl, inr, ℕ, List, [], ◌∷◌, ◌++◌, Option, Some, None, Result, Ok, Err, MatchOption, IsSomeAnd, refl, sym, ap, ◌∙◌, subst}
+use Rattle.std.proofs.Common.{◌≡◌, inl, inr, ℕ, List, [], ◌∷◌, ◌++◌, Option, Some, None, Result, Ok, Err, MatchOption, IsSomeAnd, sym, ap, ◌∙◌, subst}
 use Rattle.sqlite.specs.State.{State as Connected}
 use Rattle.serde_json.specs.Data.{Data}
 use Rattle.bson_base.specs.Value.{Value, Members, look_up, put}
@@ -12,12 +12,12 @@ use Rattle.store_model.specs.State.{State, id_key, store, Call, insert, replace,
 use Rattle.store_model.specs.Run.{Denial, Turn}
 use Rattle.store_model.specs.Table.{DocumentTable, state_of, IsRefusal, Serves}
 use Rattle.store_model.specs.declared.error.ErrorKind.{ErrorKind}
-use Rattle.store_model.specs.declared.error.ErrorKind.TheVariants.{DuplicateId, Memory, NotFound}
+use Rattle.store_model.specs.declared.error.ErrorKind.TheVariants.{DuplicateId, NotFound}
 use Rattle.store_model.proofs.Rows.{rows_not_empty}
 use Rattle.store_model.proofs.States.{stored_again}
 use Rattle.store_model.proofs.Unmoved.{unmoved}
 use Rattle.bson_store.specs.Calls.{Does, DoesTree}
-use Rattle.bson_store.specs.Refusals.{refusal, reply_by}
+use Rattle.bson_store.specs.Refusals.{reply_by}
 use Rattle.bson_store.specs.declared.error.StoreError.{StoreError}
 use Rattle.bson_store.proofs.Moving.{moved}
 use Rattle.cli_commands.specs.Answers.{answer_by}

@@ -1,5 +1,4 @@
 use Rattle.std.proofs.Common.{refl}
-use Rattle.serde_json.specs.View.{view as data_of}
 use Rattle.bson_base.specs.Device.{Feed}
 use Rattle.bson_store.specs.Calls.{store_state}
 use Rattle.store_model.specs.Reading.{ReadsTrees}

@@ -1,4 +1,4 @@
-use Rattle.std.proofs.Common.{map, string_bytes, refl, subst}
+use Rattle.std.proofs.Common.{◌≡◌, map, string_bytes, refl, sym, subst}
 use Rattle.serde_json.specs.View.{view as data_of}
 use Rattle.bson_base.specs.Device.{Feed, Tally}
 use Rattle.bson_model.specs.View.{view}
@@ -11,8 +11,8 @@ use Rattle.store_model.specs.State as model
 use Rattle.cli_words.specs.Words.{Takes}
 use Rattle.cli_words.specs.declared.call.Call.TheVariants as words
 use Rattle.cli_commands.specs.Answers as answers
-use Rattle.cli_commands.specs.Commands.{Complains, IsOfStream}
-use Rattle.cli_commands.specs.Requests.{IsRequestOf}
+use Rattle.cli_commands.specs.Commands.{Complains, IsIdText}
+use Rattle.cli_commands.specs.Requests.{IsRequestOf, IsTreeText, text_at}
 use Rattle.cli_commands.proofs.Ending.{as_asked, fed_asked, plain, planted}
 use Rattle.cli_commands.proofs.Readable.{stream_read, stream_quiet, lines_read, lines_quiet, import_hush, load_hush}
 use Rattle.cli_commands.proofs.Taking.{import_performs}
@@ -29,8 +29,8 @@ returns-in-Insert-clause-step g c =
     let new : Tally = g.O.Sink.tally c.print_outcome.new.output in
     let asked = subst (IsRequestOf w) c.in-Insert.is c.requires.request in
     let takes = subst (λ x. Takes x texts) asked.0 asked.1 in
-    planted (store_state g.S.Store c.args.store.now) (store_state g.S.Store c.insert_json.new.self) words.Insert w.call n texts fed old new (model.insert model.in_json) (data_of c.in-Insert.json) store.as_done answers.as_nothing c.insert_json.result c.nothing.result c.print_outcome.result
-    asked.0 (λ x h. h) (λ x h. (h, refl)) (λ a. tt) (of_tree (model.insert model.in_json) n texts c.in-Insert.json takes asked.2) (λ x no. no) c.nothing.ensures c.print_outcome.ensures.told c.insert_json.ensures.moves
+    planted (store_state g.S.Store c.args.store.now) (store_state g.S.Store c.insert_json.new.self) words.Insert w.call n texts fed old new (model.insert model.in_json) (data_of c.take.result) store.as_done answers.as_nothing c.insert_json.result c.nothing-outcome.result c.print_outcome.result
+    asked.0 (λ x h. h) (λ x h. (h, refl)) (λ a. tt) (of_tree (model.insert model.in_json) n texts c.take.result takes (subst (IsTreeText (text_at texts 0)) (sym c.take.ensures.taken) asked.2)) (λ x no. no) c.nothing-outcome.ensures c.print_outcome.ensures.told c.insert_json.ensures.moves
 
 pub returns-in-Replace-clause-step : goal.returns-in-Replace-clause-step
 returns-in-Replace-clause-step g c =
@@ -42,8 +42,8 @@ returns-in-Replace-clause-step g c =
     let new : Tally = g.O.Sink.tally c.print_outcome-in-Replace.new.output in
     let asked = subst (IsRequestOf w) c.in-Replace.is c.requires.request in
     let takes = subst (λ x. Takes x texts) asked.0 asked.1 in
-    planted (store_state g.S.Store c.args.store.now) (store_state g.S.Store c.replace_json.new.self) words.Replace w.call n texts fed old new (model.replace model.in_json) (data_of c.in-Replace.json) store.as_done answers.as_nothing c.replace_json.result c.nothing-in-Replace.result c.print_outcome-in-Replace.result
-    asked.0 (λ x h. h) (λ x h. (h, refl)) (λ a. tt) (of_tree (model.replace model.in_json) n texts c.in-Replace.json takes asked.2) (λ x no. no) c.nothing-in-Replace.ensures c.print_outcome-in-Replace.ensures.told c.replace_json.ensures.moves
+    planted (store_state g.S.Store c.args.store.now) (store_state g.S.Store c.replace_json.new.self) words.Replace w.call n texts fed old new (model.replace model.in_json) (data_of c.take-in-Replace.result) store.as_done answers.as_nothing c.replace_json.result c.nothing-outcome-in-Replace.result c.print_outcome-in-Replace.result
+    asked.0 (λ x h. h) (λ x h. (h, refl)) (λ a. tt) (of_tree (model.replace model.in_json) n texts c.take-in-Replace.result takes (subst (IsTreeText (text_at texts 0)) (sym c.take-in-Replace.ensures.taken) asked.2)) (λ x no. no) c.nothing-outcome-in-Replace.ensures c.print_outcome-in-Replace.ensures.told c.replace_json.ensures.moves
 
 pub returns-in-Get-clause-step : goal.returns-in-Get-clause-step
 returns-in-Get-clause-step g c =
@@ -68,8 +68,9 @@ returns-in-Set-clause-step g c =
     let new : Tally = g.O.Sink.tally c.print_outcome-in-Set.new.output in
     let asked = subst (IsRequestOf w) c.in-Set.is c.requires.request in
     let takes = subst (λ x. Takes x texts) asked.0 asked.1 in
-    plain (store_state g.S.Store c.args.store.now) (store_state g.S.Store c.set.new.self) words.Set w.call n texts fed old new (model.on n (model.set (view c.in-Set.id) c.in-Set.key.now (model_reading.read_value (data_of c.in-Set.json)))) store.as_done answers.as_nothing c.set.result c.nothing-in-Set.result c.print_outcome-in-Set.result
-    asked.0 (λ x h. h) (λ x h. (h, refl)) (λ a. tt) (of_set n texts (view c.in-Set.id) c.in-Set.key.now c.in-Set.json takes asked.2) (λ x no. no) c.nothing-in-Set.ensures c.print_outcome-in-Set.ensures.told c.set.ensures.moves
+    let read = subst (λ j. IsIdText (text_at texts 0) (view c.in-Set.id) × (c.in-Set.key.now ≡ text_at texts 1) × IsTreeText (text_at texts 2) j) (sym c.take-in-Set.ensures.taken) asked.2 in
+    plain (store_state g.S.Store c.args.store.now) (store_state g.S.Store c.set.new.self) words.Set w.call n texts fed old new (model.on n (model.set (view c.in-Set.id) c.in-Set.key.now (model_reading.read_value (data_of c.take-in-Set.result)))) store.as_done answers.as_nothing c.set.result c.nothing-outcome-in-Set.result c.print_outcome-in-Set.result
+    asked.0 (λ x h. h) (λ x h. (h, refl)) (λ a. tt) (of_set n texts (view c.in-Set.id) c.in-Set.key.now c.take-in-Set.result takes read) (λ x no. no) c.nothing-outcome-in-Set.ensures c.print_outcome-in-Set.ensures.told c.set.ensures.moves
 
 pub returns-in-Unset-clause-step : goal.returns-in-Unset-clause-step
 returns-in-Unset-clause-step g c =
@@ -94,8 +95,8 @@ returns-in-Remove-clause-step g c =
     let new : Tally = g.O.Sink.tally c.print_outcome-in-Remove.new.output in
     let asked = subst (IsRequestOf w) c.in-Remove.is c.requires.request in
     let takes = subst (λ x. Takes x texts) asked.0 asked.1 in
-    plain (store_state g.S.Store c.args.store.now) (store_state g.S.Store c.remove.new.self) words.Remove w.call n texts fed old new (model.on n (model.remove (view c.in-Remove.id))) store.as_done answers.as_nothing c.remove.result c.nothing-in-Remove.result c.print_outcome-in-Remove.result
-    asked.0 (λ x h. h) (λ x h. (h, refl)) (λ a. tt) (of_id (λ id more. model.remove id) n texts (view c.in-Remove.id) (some_texts 0 texts takes) asked.2) (λ x no. no) c.nothing-in-Remove.ensures c.print_outcome-in-Remove.ensures.told c.remove.ensures.moves
+    plain (store_state g.S.Store c.args.store.now) (store_state g.S.Store c.remove.new.self) words.Remove w.call n texts fed old new (model.on n (model.remove (view c.in-Remove.id))) store.as_done answers.as_nothing c.remove.result c.nothing.result c.print_outcome-in-Remove.result
+    asked.0 (λ x h. h) (λ x h. (h, refl)) (λ a. tt) (of_id (λ id more. model.remove id) n texts (view c.in-Remove.id) (some_texts 0 texts takes) asked.2) (λ x no. no) c.nothing.ensures c.print_outcome-in-Remove.ensures.told c.remove.ensures.moves
 
 pub returns-in-Find-clause-step : goal.returns-in-Find-clause-step
 returns-in-Find-clause-step g c =
