@@ -1,5 +1,5 @@
 -- What a refused call leaves, and calls of the store as commands of the program.
-use Rattle.std.proofs.Common.{◌≡◌, inl, inr, ℕ, List, [], ◌∷◌, ◌++◌, Option, Some, None, Result, Ok, Err, MatchOption, IsSomeAnd, refl, sym, ap, ◌∙◌, subst}
+use Rattle.std.proofs.Common.{◌≡◌, inl, inr, ℕ, List, [], ◌∷◌, ◌++◌, Option, Some, None, Result, Ok, Err, MatchOption, IsSomeAnd, sym, ap, ◌∙◌, subst}
 use Rattle.sqlite.specs.State.{State as Connected}
 use Rattle.serde_json.specs.Data.{Data}
 use Rattle.bson_base.specs.Value.{Value, Members, look_up, put}
@@ -12,19 +12,19 @@ use Rattle.store_model.specs.State.{State, id_key, store, Call, insert, replace,
 use Rattle.store_model.specs.Run.{Denial, Turn}
 use Rattle.store_model.specs.Table.{DocumentTable, state_of, IsRefusal, Serves}
 use Rattle.store_model.specs.declared.error.ErrorKind.{ErrorKind}
-use Rattle.store_model.specs.declared.error.ErrorKind.TheVariants.{DuplicateId, Memory, NotFound}
+use Rattle.store_model.specs.declared.error.ErrorKind.TheVariants.{DuplicateId, NotFound}
 use Rattle.store_model.proofs.Rows.{rows_not_empty}
 use Rattle.store_model.proofs.States.{stored_again}
 use Rattle.store_model.proofs.Unmoved.{unmoved}
 use Rattle.bson_store.specs.Calls.{Does, DoesTree}
-use Rattle.bson_store.specs.Refusals.{refusal, reply_by}
+use Rattle.bson_store.specs.Refusals.{reply_by}
 use Rattle.bson_store.specs.declared.error.StoreError.{StoreError}
-use Rattle.bson_store.proofs.Moving.{moved, rests}
+use Rattle.bson_store.proofs.Moving.{moved}
 use Rattle.cli_commands.specs.Answers.{answer_by}
-use Rattle.cli_commands.specs.Execute.{IsRefusedBy, Performs, StopsFor}
+use Rattle.cli_commands.specs.Execute.{IsRefusedBy, Performs}
 use Rattle.cli_commands.specs.declared.answer.Answer.{Answer}
 use Rattle.cli_commands.specs.declared.stop.Failure.{Failure}
-use Rattle.cli_commands.specs.declared.stop.Failure.TheVariants.{Refused, Words}
+use Rattle.cli_commands.specs.declared.stop.Failure.TheVariants.{Refused}
 use Rattle.cli_words.specs.declared.lines.UsageError.{UsageError}
 
 -- ---- a refused call leaves the list
@@ -106,20 +106,6 @@ refused_same Meant e a b c meant h = let same = rows_stay a b c e.kind e.documen
 
 pub served_same : (docs : List TableRow) (a : DocumentTable) (c : Command) (k : ErrorKind) (i : Option ℕ) → (b : DocumentTable) × Represents docs b × Serves a c (refused k i) b → Serves a c (refused k i) a
 served_same docs a c k i (b, shown, h) = subst (λ t. Serves a c (refused k i) t) (rows_stay a b c k i h) h
-
--- nothing was asked of the store
-abbrev pub Stopped : (UsageError → Type 0) → Failure → Type 0
-Stopped Unread (Words w) = Unread w
-Stopped Unread (Refused e) = e ≡ refusal Memory
-
-pub unasked : (s : Connected) (Meant : Command → Type 0) (Unread : UsageError → Type 0) (stop : Failure) → Stopped Unread stop → Moves s s (Performs Meant Unread (Err stop))
-unasked s Meant Unread (Words w) h = rests s (Performs Meant Unread (Err (Words w))) (λ docs a shown. (a, shown, (refl, h)))
-unasked s Meant Unread (Refused e) h = rests s (Performs Meant Unread (Err (Refused e))) (λ docs a shown. (a, shown, (refl, inr h)))
-
--- a text isn't such
-pub unread : (s : Connected) (Meant : Command → Type 0) (Unread : UsageError → Type 0) (w : UsageError) (Text : Type 0) (stop : Failure) → (Text → Unread w) → StopsFor w Text stop → Moves s s (Performs Meant Unread (Err stop))
-unread s Meant Unread w Text (Words c) says h = unasked s Meant Unread (Words c) (subst Unread (sym h.0) (says h.1))
-unread s Meant Unread w Text (Refused e) says h = unasked s Meant Unread (Refused e) h
 
 -- a call of the store, as it was answered
 asked : {A : Type 0} (s t : Connected) (Meant : Command → Type 0) (Unread : UsageError → Type 0) (c : Command) (f : A → Reply) (g : A → Answer) (outcome : Result A StoreError) → Meant c → ((x : A) → IsRefusal (f x) → ⊥)

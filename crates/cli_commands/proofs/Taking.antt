@@ -42,10 +42,10 @@ many_refused Meant n Reads e docs after allows (ds, stop, reads, does) a shown =
 
 module _ (s t : Connected) (Meant : Command → Type 0) (n : List ℕ) (Unread : UsageError → Type 0) (fed left : Feed) where
   -- nothing was asked of the store
-  pub unfed : (e : StoreError) → IsFault kind.Reader fed.failures left.failures e → Moves s s (PerformsFed Meant Unread fed left (Err (Refused e)))
+  unfed : (e : StoreError) → IsFault kind.Reader fed.failures left.failures e → Moves s s (PerformsFed Meant Unread fed left (Err (Refused e)))
   unfed e why = rests s (PerformsFed Meant Unread fed left (Err (Refused e))) (λ docs a shown. (a, shown, (refl, inr why)))
 
-  pub unworded : (w : UsageError) → Unread w → Moves s s (PerformsFed Meant Unread fed left (Err (Words w)))
+  unworded : (w : UsageError) → Unread w → Moves s s (PerformsFed Meant Unread fed left (Err (Words w)))
   unworded w says = rests s (PerformsFed Meant Unread fed left (Err (Words w))) (λ docs a shown. (a, shown, (refl, says)))
 
   -- the lines of the input weren't read

@@ -1,5 +1,5 @@
 -- Which commands the words of the program ask for.
-use Rattle.std.specs.Prelude.{◌≡◌, ◌≢◌, ℕ, List, [], ◌∷◌, ◌++◌, Option, Some, Ok, Err}
+use Rattle.std.specs.Prelude.{◌≡◌, ℕ, List, [], ◌∷◌, ◌++◌, Option, Some, Ok, Err}
 use Rattle.serde_json.specs.Data.{Data}
 use Rattle.serde_json.specs.Read.{read as data_of_text}
 use Rattle.bson_base.specs.Device.{Feed, TookAll}
@@ -14,7 +14,7 @@ use Rattle.store_model.specs.declared.error.ErrorKind.{ErrorKind}
 use Rattle.cli_words.specs.declared.call.Call.{Call}
 use Rattle.cli_words.specs.declared.call.Call.TheVariants.{Insert, Replace, Get, Set, Unset, Remove, Find, Count, Import, Export, Dump, Load, Collections}
 use Rattle.cli_words.specs.Texts.{AnswersId, AnswersText}
-use Rattle.cli_words.specs.Words.{Takes, relaxed_word}
+use Rattle.cli_words.specs.Words.{Takes}
 use Rattle.cli_words.specs.declared.lines.UsageError.{UsageError}
 use Rattle.cli_words.specs.declared.lines.UsageError.TheVariants.{Usage, Json, Id, Line}
 use Rattle.cli_words.specs.declared.lines.UsageError.TheVariants as words
@@ -85,10 +85,6 @@ IsNoId texts = (text : List ℕ) × (more : List (List ℕ)) × (texts ≡ text 
 -- the last one is no JSON text
 abbrev pub IsNoJson : List (List ℕ) → Type 0
 IsNoJson texts = (front : List (List ℕ)) × (text : List ℕ) × (texts ≡ front ++ text ∷ []) × AnswersText text (Err Unreadable)
-
--- the words behind an id ask for no form
-abbrev pub IsNoForm : List (List ℕ) → Type 0
-IsNoForm forms = (forms ≢ []) × (forms ≢ relaxed_word ∷ [])
 
 -- the input was taken to its end
 abbrev pub TookSome : Feed → Feed → Type 0

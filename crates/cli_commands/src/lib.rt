@@ -2,12 +2,12 @@
 #![tactic(auto)]
 
 mod answer;
-mod changes;
 mod dumping;
 mod inputs;
 mod printing;
 mod program;
 mod reads;
+mod request;
 mod stop;
 mod texts;
 

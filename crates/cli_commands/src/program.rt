@@ -4,16 +4,17 @@ ghost use Rattle.std.specs.Prelude.{◌≡◌, ◌≤◌, Result};
 ghost use Rattle.bson_base.specs.Device.{CanFail, CanRefuse};
 ghost use Rattle.bson_store.specs.Calls.{Relates};
 ghost use Rattle.cli_commands.specs.Execute.{Executes, Reports, SilentUnread, Tells};
+ghost use Rattle.cli_commands.specs.Requests.{IsRequestOf};
 ghost use Rattle.cli_commands.specs.declared.stop.Failure.{Failure as Outcome};
 
-use crate::answer::Answer;
-use crate::changes::{insert, remove, replace, set, unset};
-use crate::inputs::{import, load};
+use crate::answer::{Answer, documents, flag, names, nothing, number, tree};
+use crate::inputs::load;
 use crate::printing::print;
-use crate::reads::{collections, count, dump, export, find, get};
+use crate::reads::{dump, export};
+use crate::request::{Request, request_of};
 use crate::stop::Failure;
 use bson_store::{Sink, Source, Store};
-use cli_words::{Call, Words, write_complaint, write_refusal};
+use cli_words::{Words, write_complaint, write_refusal};
 use sqlite::Alter;
 use std::alloc::Global;
 
@@ -36,8 +37,53 @@ fn print_outcome<O: Sink>(
     }
 }
 
-/// Does what the words ask for, and prints the answer.
-fn perform_and_print<S: Alter + Drop, I: Source, O: Sink>(
+/// Does what is requested of the collection of the words, and prints the answer.
+fn perform<S: Alter + Drop, I: Source, O: Sink>(
+    alloc: Global,
+    store: &mut Store<S>,
+    words: &Words<'_>,
+    request: &mut Request<'_>,
+    input: &mut I,
+    output: &mut O,
+) -> Result<(), Failure>
+    requires request { IsRequestOf words.now request.old }
+    requires input { CanFail (I.feed input.old) }
+    requires output { CanRefuse (O.tally output.old) }
+    ensures step { Relates S.Store store.old store.new (Executes words.now (I.feed input.old) (I.feed input.new)
+        (O.tally output.old) (O.tally output.new) result) }
+    ensures unread { SilentUnread result output.old output.new }
+{
+    let name = words.coll;
+    match request {
+        Request::Insert(json) => {
+            let outcome = nothing(store.insert_json(name, json.take()));
+            print_outcome(alloc, outcome, output)
+        }
+        Request::Replace(json) => {
+            let outcome = nothing(store.replace_json(name, json.take()));
+            print_outcome(alloc, outcome, output)
+        }
+        Request::Get(id, mode) => {
+            print_outcome(alloc, tree(store.get_json(name, id, *mode)), output)
+        }
+        Request::Set(id, key, json) => {
+            let outcome = nothing(store.set(name, id, key, json.take()));
+            print_outcome(alloc, outcome, output)
+        }
+        Request::Unset(id, key) => print_outcome(alloc, flag(store.unset(name, id, key)), output),
+        Request::Remove(id) => print_outcome(alloc, nothing(store.remove(name, id)), output),
+        Request::Find(filter) => print_outcome(alloc, documents(store.find(name, filter)), output),
+        Request::Count(filter) => print_outcome(alloc, number(store.count(name, filter)), output),
+        Request::Import => print_outcome(alloc, number(store.import(name, input)), output),
+        Request::Export => export(store, name, output),
+        Request::Dump => dump(store, name, output),
+        Request::Load => print_outcome(alloc, load(alloc, store, name, input), output),
+        Request::Collections => print_outcome(alloc, names(store.collections()), output),
+    }
+}
+
+/// Does what the words ask for, and prints the answer. The words are read before the store is asked anything.
+fn obey<S: Alter + Drop, I: Source, O: Sink>(
     alloc: Global,
     store: &mut Store<S>,
     words: &Words<'_>,
@@ -50,23 +96,8 @@ fn perform_and_print<S: Alter + Drop, I: Source, O: Sink>(
         (O.tally output.old) (O.tally output.new) result) }
     ensures unread { SilentUnread result output.old output.new }
 {
-    let name = words.coll;
-    let rest = words.rest;
-    match words.call {
-        Call::Insert => print_outcome(alloc, insert(alloc, store, name, rest), output),
-        Call::Replace => print_outcome(alloc, replace(alloc, store, name, rest), output),
-        Call::Get => print_outcome(alloc, get(alloc, store, name, rest), output),
-        Call::Set => print_outcome(alloc, set(alloc, store, name, rest), output),
-        Call::Unset => print_outcome(alloc, unset(alloc, store, name, rest), output),
-        Call::Remove => print_outcome(alloc, remove(alloc, store, name, rest), output),
-        Call::Find => print_outcome(alloc, find(alloc, store, name, rest), output),
-        Call::Count => print_outcome(alloc, count(alloc, store, name, rest), output),
-        Call::Import => print_outcome(alloc, import(store, name, rest, input), output),
-        Call::Export => export(store, name, rest, output),
-        Call::Dump => dump(store, name, rest, output),
-        Call::Load => print_outcome(alloc, load(alloc, store, name, rest, input), output),
-        Call::Collections => print_outcome(alloc, collections(store, name, rest), output),
-    }
+    let mut request = request_of(alloc, words)?;
+    perform(alloc, store, words, &mut request, input, output)
 }
 
 /// Does the command that the words ask for on `store`, and answers the program's status. Nothing of the words but their texts
@@ -94,7 +125,7 @@ pub fn execute<S: Alter + Drop, I: Source, O: Sink, F: Sink>(
         × Relates S.Store store.old store.new (Executes words.now (I.feed input.old) (I.feed input.new)
         (O.tally output.old) (O.tally output.new) outcome) }
 {
-    match perform_and_print(alloc, store, words, input, output) {
+    match obey(alloc, store, words, input, output) {
         Ok(()) => 0,
         Err(Failure::Refused(error)) => {
             let _ = write_refusal(faults, error.kind, error.document);

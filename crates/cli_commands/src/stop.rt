@@ -18,9 +18,6 @@ pub enum Failure {
     Refused(StoreError),
 }
 
-/// The words are no line of the program's table.
-pub const USAGE: Failure = Failure::Words(UsageError::Usage);
-
 impl From<StoreError> for Failure {
     ghost from_gives = { λ e s. s ≡ Refused e };
 

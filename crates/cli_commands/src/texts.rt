@@ -1,6 +1,6 @@
 //! What the texts among the words of a command stand for.
 
-ghost use Rattle.std.specs.Prelude.{◌≡◌, ℕ, List, Some, Err, IfErr, OnOk, MatchResult, map, string_bytes};
+ghost use Rattle.std.specs.Prelude.{◌≡◌, ℕ, List, Some, Err, IfErr, OnOk, MatchResult, drop, map, string_bytes};
 ghost use Rattle.bson_base.specs.Device.{CanFail};
 ghost use Rattle.serde_json.specs.Data.{Data};
 ghost use Rattle.serde_json.specs.Read.{read as data_of_text};
@@ -9,17 +9,28 @@ ghost use Rattle.bson_model.specs.View.{view};
 ghost use Rattle.store_streams.specs.Loading.{HasTaken};
 ghost use Rattle.cli_words.specs.Texts.{AnswersId, AnswersText};
 ghost use Rattle.cli_words.specs.declared.texts.TextError.TheVariants.{Unreadable};
-ghost use Rattle.cli_commands.specs.Commands.{IsIdText, IsNoForm, TookSome, mode_of};
+ghost use Rattle.cli_commands.specs.Commands.{IsIdText, TookSome, mode_of};
 ghost use Rattle.cli_commands.specs.Execute.{StopsFor, StopsLines};
+ghost use Rattle.cli_commands.specs.Requests.{text_at};
 
-use crate::stop::{Failure, USAGE, refuse};
+use crate::stop::{Failure, refuse};
 use bson_base::{ReadAllError, read_all};
 use bson_store::extjson::Mode;
 use bson_store::{Bson, ErrorKind, Loader, Source};
-use cli_words::{RELAXED, TextError, UsageError, parse_json, read_filter, read_id, read_line};
+use cli_words::{TextError, UsageError, parse_json, read_filter, read_id, read_line};
 use serde_json::Value;
 use std::alloc::Global;
 use store_filter::Filter;
+
+/// The text at a place among the words; empty where none is there.
+pub fn text_at(words: &[String], place: usize) -> &str
+    ensures { result.now ≡ text_at (map string_bytes words.now) place }
+{
+    match words.get(place) {
+        Some(word) => word.as_str(),
+        None => "",
+    }
+}
 
 /// The tree of a JSON text.
 pub fn json_of_text(alloc: Global, text: &str) -> Result<Value, Failure>
@@ -44,19 +55,12 @@ pub fn id_of(alloc: Global, text: &str) -> Result<Bson, Failure>
 }
 
 /// The form of Extended JSON that the words behind an id ask for.
-pub fn mode_of(words: &[String]) -> Result<Mode, Failure>
-    ensures { MatchResult result (λ mode. mode ≡ mode_of (map string_bytes words.now)) (λ stop. (stop ≡ Failure.Words UsageError.Usage) × IsNoForm (map string_bytes words.now)) }
+pub fn mode_of(words: &[String]) -> Mode
+    ensures { result ≡ mode_of (drop 1 (map string_bytes words.now)) }
 {
     match words {
-        [] => Ok(Mode::Canonical),
-        [form] => {
-            if form.as_str() == RELAXED {
-                Ok(Mode::Relaxed)
-            } else {
-                Err(USAGE)
-            }
-        }
-        _ => Err(USAGE),
+        [_, _form, ..] => Mode::Relaxed,
+        _ => Mode::Canonical,
     }
 }
 

@@ -1,35 +1,26 @@
-use Rattle.std.proofs.Common.{map, string_bytes, refl, sym, ◌∙◌}
-use Rattle.serde_json.specs.View.{view as data_of}
+use Rattle.std.proofs.Common.{refl}
 use Rattle.bson_base.specs.Device.{Feed}
 use Rattle.bson_store.specs.Calls.{store_state}
 use Rattle.store_model.specs.Reading.{ReadsTrees}
 use Rattle.cli_words.specs.declared.call.Call.TheVariants as words
 use Rattle.cli_commands.specs.Commands.{Complains, IsOfLines}
 use Rattle.std.proofs.lemmas.Result.{err_from_is_err_and}
-use Rattle.cli_words.specs.declared.lines.UsageError.TheVariants as complaints
-use Rattle.cli_commands.proofs.Wording.{not_empty}
-use Rattle.cli_commands.proofs.Taking.{load_performs, unworded, unlined}
+use Rattle.cli_commands.proofs.Taking.{load_performs, unlined}
 use Rattle.cli_commands.proofs.inputs.load.Goals as goal
 
 pub returns : goal.returns
-returns g c =
+returns g c texts =
     let n = c.args.name.now in
     let js = c.in_ok-loader.ensures.1.0 in
     let fed : Feed = g.I.Source.feed c.args.input.now in
     let left : Feed = g.I.Source.feed c.judged_input.new.input in
-    load_performs (store_state g.S.Store c.args.store.now) (store_state g.S.Store c.load.new.self) (IsOfLines n fed left) n (Complains words.Load (map string_bytes c.args.words.now) fed left) fed left (ReadsTrees js) c.load.result c.number.result
+    load_performs (store_state g.S.Store c.args.store.now) (store_state g.S.Store c.load.new.self) (IsOfLines n fed left) n (Complains words.Load texts fed left) fed left (ReadsTrees js) c.load.result c.number.result
     (λ ds stop reads. (c.in_ok-loader.ensures.0.0, js, ds, stop, c.in_ok-loader.ensures.0.1, reads, refl)) c.number.ensures (c.load.ensures.moves js c.in_ok-loader.ensures.1.1)
 
-pub returns-then-not-is_empty : goal.returns-then-not-is_empty
-returns-then-not-is_empty g c =
-    let fed : Feed = g.I.Source.feed c.args.input.now in
-    unworded (store_state g.S.Store c.args.store.now) (store_state g.S.Store c.args.store.now) (IsOfLines c.args.name.now fed fed) c.args.name.now (Complains words.Load (map string_bytes c.args.words.now) fed fed) fed fed complaints.Usage
-    (not_empty c.args.words.now (sym c.is_empty.ensures ∙ c.if-not-is_empty.true), refl)
-
 pub returns-in_err-loader : goal.returns-in_err-loader
-returns-in_err-loader g c =
+returns-in_err-loader g c texts =
     let fed : Feed = g.I.Source.feed c.args.input.now in
     let left : Feed = g.I.Source.feed c.judged_input.new.input in
     let p = err_from_is_err_and c.from_residual.result c.from_residual.ensures.1 in
-    rw (p.1, p.2) (unlined (store_state g.S.Store c.args.store.now) (store_state g.S.Store c.args.store.now) (IsOfLines c.args.name.now fed left) c.args.name.now (Complains words.Load (map string_bytes c.args.words.now) fed left) fed left c.in_err-loader.field-0.0
+    rw (p.1, p.2) (unlined (store_state g.S.Store c.args.store.now) (store_state g.S.Store c.args.store.now) (IsOfLines c.args.name.now fed left) c.args.name.now (Complains words.Load texts fed left) fed left c.in_err-loader.field-0.0
     (λ i took. took) c.in_err-loader.ensures)

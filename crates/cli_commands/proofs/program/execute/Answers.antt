@@ -18,11 +18,11 @@ returns-in-Err-Refused-clause-step g c =
     let e = c.in-Err-Refused.error in
     let line = c.write_refusal in
     let s : State = store_state g.S.Store c.args.store.now in
-    let t : State = store_state g.S.Store c.perform_and_print.new.store in
+    let t : State = store_state g.S.Store c.obey.new.store in
     let fed : Feed = g.I.Source.feed c.args.input.now in
-    let left : Feed = g.I.Source.feed c.perform_and_print.new.input in
+    let left : Feed = g.I.Source.feed c.obey.new.input in
     let old : Tally = g.O.Sink.tally c.args.output.now in
-    let new : Tally = g.O.Sink.tally c.perform_and_print.new.output in (
+    let new : Tally = g.O.Sink.tally c.obey.new.output in (
       Err (Refused e),
       (refl, writes line.result (g.F.Sink.tally c.args.faults.now) (g.F.Sink.tally line.new.sink) (refusal_line e.kind e.document) line.ensures.counts line.ensures.ok line.ensures.err),
       subst (λ (x : Failure). Moves s t (Executes c.args.words.now fed left old new (Err x))) c.in-Err-Refused.field-0-is c.in-Err-Refused.ensures.step,
@@ -33,11 +33,11 @@ returns-in-Err-Words-clause-step g c =
     let w = c.in-Err-Words.complaint in
     let line = c.write_complaint in
     let s : State = store_state g.S.Store c.args.store.now in
-    let t : State = store_state g.S.Store c.perform_and_print.new.store in
+    let t : State = store_state g.S.Store c.obey.new.store in
     let fed : Feed = g.I.Source.feed c.args.input.now in
-    let left : Feed = g.I.Source.feed c.perform_and_print.new.input in
+    let left : Feed = g.I.Source.feed c.obey.new.input in
     let old : Tally = g.O.Sink.tally c.args.output.now in
-    let new : Tally = g.O.Sink.tally c.perform_and_print.new.output in (
+    let new : Tally = g.O.Sink.tally c.obey.new.output in (
       Err (Words w),
       (refl, writes line.result (g.F.Sink.tally c.args.faults.now) (g.F.Sink.tally line.new.sink) (complaint_line w) line.ensures.counts line.ensures.ok line.ensures.err),
       subst (λ (x : Failure). Moves s t (Executes c.args.words.now fed left old new (Err x))) c.in-Err-Words.field-0-is c.in-Err-Words.ensures.step,

@@ -1,0 +1,187 @@
+use Rattle.std.proofs.Common.{◌≡◌, map, string_bytes, refl, sym, subst}
+use Rattle.serde_json.specs.View.{view as data_of}
+use Rattle.bson_base.specs.Device.{Feed, Tally}
+use Rattle.bson_model.specs.View.{view}
+use Rattle.bson_store.specs.Calls.{store_state}
+use Rattle.bson_store.specs.Questions.{as_list, as_names}
+use Rattle.bson_store.specs.Refusals as store
+use Rattle.store_filter.specs.Filters.{filter_of}
+use Rattle.store_model.specs.Reading as model_reading
+use Rattle.store_model.specs.State as model
+use Rattle.cli_words.specs.Words.{Takes}
+use Rattle.cli_words.specs.declared.call.Call.TheVariants as words
+use Rattle.cli_commands.specs.Answers as answers
+use Rattle.cli_commands.specs.Commands.{Complains, IsIdText}
+use Rattle.cli_commands.specs.Requests.{IsRequestOf, IsTreeText, text_at}
+use Rattle.cli_commands.proofs.Ending.{as_asked, fed_asked, plain, planted}
+use Rattle.cli_commands.proofs.Readable.{stream_read, stream_quiet, lines_read, lines_quiet, import_hush, load_hush}
+use Rattle.cli_commands.proofs.Taking.{import_performs}
+use Rattle.cli_commands.proofs.Wording.{of_tree, of_id, of_get, of_set, of_unset, some_texts}
+use Rattle.cli_commands.proofs.program.perform.Goals as goal
+
+pub returns-in-Insert-clause-step : goal.returns-in-Insert-clause-step
+returns-in-Insert-clause-step g c =
+    let w = c.args.words.now in
+    let n = w.coll.now in
+    let texts = map string_bytes w.rest.now in
+    let fed : Feed = g.I.Source.feed c.args.input.now in
+    let old : Tally = g.O.Sink.tally c.args.output.now in
+    let new : Tally = g.O.Sink.tally c.print_outcome.new.output in
+    let asked = subst (IsRequestOf w) c.in-Insert.is c.requires.request in
+    let takes = subst (λ x. Takes x texts) asked.0 asked.1 in
+    planted (store_state g.S.Store c.args.store.now) (store_state g.S.Store c.insert_json.new.self) words.Insert w.call n texts fed old new (model.insert model.in_json) (data_of c.take.result) store.as_done answers.as_nothing c.insert_json.result c.nothing-outcome.result c.print_outcome.result
+    asked.0 (λ x h. h) (λ x h. (h, refl)) (λ a. tt) (of_tree (model.insert model.in_json) n texts c.take.result takes (subst (IsTreeText (text_at texts 0)) (sym c.take.ensures.taken) asked.2)) (λ x no. no) c.nothing-outcome.ensures c.print_outcome.ensures.told c.insert_json.ensures.moves
+
+pub returns-in-Replace-clause-step : goal.returns-in-Replace-clause-step
+returns-in-Replace-clause-step g c =
+    let w = c.args.words.now in
+    let n = w.coll.now in
+    let texts = map string_bytes w.rest.now in
+    let fed : Feed = g.I.Source.feed c.args.input.now in
+    let old : Tally = g.O.Sink.tally c.args.output.now in
+    let new : Tally = g.O.Sink.tally c.print_outcome-in-Replace.new.output in
+    let asked = subst (IsRequestOf w) c.in-Replace.is c.requires.request in
+    let takes = subst (λ x. Takes x texts) asked.0 asked.1 in
+    planted (store_state g.S.Store c.args.store.now) (store_state g.S.Store c.replace_json.new.self) words.Replace w.call n texts fed old new (model.replace model.in_json) (data_of c.take-in-Replace.result) store.as_done answers.as_nothing c.replace_json.result c.nothing-outcome-in-Replace.result c.print_outcome-in-Replace.result
+    asked.0 (λ x h. h) (λ x h. (h, refl)) (λ a. tt) (of_tree (model.replace model.in_json) n texts c.take-in-Replace.result takes (subst (IsTreeText (text_at texts 0)) (sym c.take-in-Replace.ensures.taken) asked.2)) (λ x no. no) c.nothing-outcome-in-Replace.ensures c.print_outcome-in-Replace.ensures.told c.replace_json.ensures.moves
+
+pub returns-in-Get-clause-step : goal.returns-in-Get-clause-step
+returns-in-Get-clause-step g c =
+    let w = c.args.words.now in
+    let n = w.coll.now in
+    let texts = map string_bytes w.rest.now in
+    let fed : Feed = g.I.Source.feed c.args.input.now in
+    let old : Tally = g.O.Sink.tally c.args.output.now in
+    let new : Tally = g.O.Sink.tally c.print_outcome-in-Get.new.output in
+    let asked = subst (IsRequestOf w) c.in-Get.is c.requires.request in
+    let takes = subst (λ x. Takes x texts) asked.0 asked.1 in
+    plain (store_state g.S.Store c.args.store.now) (store_state g.S.Store c.get_json.new.self) words.Get w.call n texts fed old new (model.on n (model.get_json c.in-Get.mode (view c.in-Get.id))) store.as_json answers.as_tree c.get_json.result c.tree.result c.print_outcome-in-Get.result
+    asked.0 (λ x h. h) (λ x h. (h, refl)) (λ a. tt) (of_get n texts (view c.in-Get.id) c.in-Get.mode takes asked.2) (λ x no. no) c.tree.ensures c.print_outcome-in-Get.ensures.told c.get_json.ensures.moves
+
+pub returns-in-Set-clause-step : goal.returns-in-Set-clause-step
+returns-in-Set-clause-step g c =
+    let w = c.args.words.now in
+    let n = w.coll.now in
+    let texts = map string_bytes w.rest.now in
+    let fed : Feed = g.I.Source.feed c.args.input.now in
+    let old : Tally = g.O.Sink.tally c.args.output.now in
+    let new : Tally = g.O.Sink.tally c.print_outcome-in-Set.new.output in
+    let asked = subst (IsRequestOf w) c.in-Set.is c.requires.request in
+    let takes = subst (λ x. Takes x texts) asked.0 asked.1 in
+    let read = subst (λ j. IsIdText (text_at texts 0) (view c.in-Set.id) × (c.in-Set.key.now ≡ text_at texts 1) × IsTreeText (text_at texts 2) j) (sym c.take-in-Set.ensures.taken) asked.2 in
+    plain (store_state g.S.Store c.args.store.now) (store_state g.S.Store c.set.new.self) words.Set w.call n texts fed old new (model.on n (model.set (view c.in-Set.id) c.in-Set.key.now (model_reading.read_value (data_of c.take-in-Set.result)))) store.as_done answers.as_nothing c.set.result c.nothing-outcome-in-Set.result c.print_outcome-in-Set.result
+    asked.0 (λ x h. h) (λ x h. (h, refl)) (λ a. tt) (of_set n texts (view c.in-Set.id) c.in-Set.key.now c.take-in-Set.result takes read) (λ x no. no) c.nothing-outcome-in-Set.ensures c.print_outcome-in-Set.ensures.told c.set.ensures.moves
+
+pub returns-in-Unset-clause-step : goal.returns-in-Unset-clause-step
+returns-in-Unset-clause-step g c =
+    let w = c.args.words.now in
+    let n = w.coll.now in
+    let texts = map string_bytes w.rest.now in
+    let fed : Feed = g.I.Source.feed c.args.input.now in
+    let old : Tally = g.O.Sink.tally c.args.output.now in
+    let new : Tally = g.O.Sink.tally c.print_outcome-in-Unset.new.output in
+    let asked = subst (IsRequestOf w) c.in-Unset.is c.requires.request in
+    let takes = subst (λ x. Takes x texts) asked.0 asked.1 in
+    plain (store_state g.S.Store c.args.store.now) (store_state g.S.Store c.unset.new.self) words.Unset w.call n texts fed old new (model.on n (model.unset (view c.in-Unset.id) c.in-Unset.key.now)) store.as_flag answers.flag_answer c.unset.result c.flag.result c.print_outcome-in-Unset.result
+    asked.0 (λ x h. h) (λ x h. (h, refl)) (λ a. tt) (of_unset n texts (view c.in-Unset.id) c.in-Unset.key.now takes asked.2) (λ x no. no) c.flag.ensures c.print_outcome-in-Unset.ensures.told c.unset.ensures.moves
+
+pub returns-in-Remove-clause-step : goal.returns-in-Remove-clause-step
+returns-in-Remove-clause-step g c =
+    let w = c.args.words.now in
+    let n = w.coll.now in
+    let texts = map string_bytes w.rest.now in
+    let fed : Feed = g.I.Source.feed c.args.input.now in
+    let old : Tally = g.O.Sink.tally c.args.output.now in
+    let new : Tally = g.O.Sink.tally c.print_outcome-in-Remove.new.output in
+    let asked = subst (IsRequestOf w) c.in-Remove.is c.requires.request in
+    let takes = subst (λ x. Takes x texts) asked.0 asked.1 in
+    plain (store_state g.S.Store c.args.store.now) (store_state g.S.Store c.remove.new.self) words.Remove w.call n texts fed old new (model.on n (model.remove (view c.in-Remove.id))) store.as_done answers.as_nothing c.remove.result c.nothing.result c.print_outcome-in-Remove.result
+    asked.0 (λ x h. h) (λ x h. (h, refl)) (λ a. tt) (of_id (λ id more. model.remove id) n texts (view c.in-Remove.id) (some_texts 0 texts takes) asked.2) (λ x no. no) c.nothing.ensures c.print_outcome-in-Remove.ensures.told c.remove.ensures.moves
+
+pub returns-in-Find-clause-step : goal.returns-in-Find-clause-step
+returns-in-Find-clause-step g c =
+    let w = c.args.words.now in
+    let n = w.coll.now in
+    let texts = map string_bytes w.rest.now in
+    let fed : Feed = g.I.Source.feed c.args.input.now in
+    let old : Tally = g.O.Sink.tally c.args.output.now in
+    let new : Tally = g.O.Sink.tally c.print_outcome-in-Find.new.output in
+    let asked = subst (IsRequestOf w) c.in-Find.is c.requires.request in
+    let takes = subst (λ x. Takes x texts) asked.0 asked.1 in
+    plain (store_state g.S.Store c.args.store.now) (store_state g.S.Store c.find.new.self) words.Find w.call n texts fed old new (model.on n (model.find (filter_of c.in-Find.filter))) as_list answers.as_documents c.find.result c.documents.result c.print_outcome-in-Find.result
+    asked.0 (λ x h. h) (λ x h. (h, refl)) (λ a. tt) (filter_of c.in-Find.filter, refl) (λ x no. no) c.documents.ensures c.print_outcome-in-Find.ensures.told c.find.ensures.moves
+
+pub returns-in-Count-clause-step : goal.returns-in-Count-clause-step
+returns-in-Count-clause-step g c =
+    let w = c.args.words.now in
+    let n = w.coll.now in
+    let texts = map string_bytes w.rest.now in
+    let fed : Feed = g.I.Source.feed c.args.input.now in
+    let old : Tally = g.O.Sink.tally c.args.output.now in
+    let new : Tally = g.O.Sink.tally c.print_outcome-in-Count.new.output in
+    let asked = subst (IsRequestOf w) c.in-Count.is c.requires.request in
+    let takes = subst (λ x. Takes x texts) asked.0 asked.1 in
+    plain (store_state g.S.Store c.args.store.now) (store_state g.S.Store c.count.new.self) words.Count w.call n texts fed old new (model.on n (model.count (filter_of c.in-Count.filter))) store.as_number answers.number_answer c.count.result c.number.result c.print_outcome-in-Count.result
+    asked.0 (λ x h. h) (λ x h. (h, refl)) (λ a. tt) (filter_of c.in-Count.filter, refl) (λ x no. no) c.number.ensures c.print_outcome-in-Count.ensures.told c.count.ensures.moves
+
+pub returns-in-Collections-clause-step : goal.returns-in-Collections-clause-step
+returns-in-Collections-clause-step g c =
+    let w = c.args.words.now in
+    let n = w.coll.now in
+    let texts = map string_bytes w.rest.now in
+    let fed : Feed = g.I.Source.feed c.args.input.now in
+    let old : Tally = g.O.Sink.tally c.args.output.now in
+    let new : Tally = g.O.Sink.tally c.print_outcome-in-Collections.new.output in
+    let asked = subst (IsRequestOf w) c.in-Collections.is c.requires.request in
+    let takes = subst (λ x. Takes x texts) asked.0 asked.1 in
+    plain (store_state g.S.Store c.args.store.now) (store_state g.S.Store c.collections.new.self) words.Collections w.call n texts fed old new model.collections as_names answers.names_answer c.collections.result c.names.result c.print_outcome-in-Collections.result
+    asked.0 (λ x h. h) (λ x h. (h, refl)) (λ a. tt) (refl) (λ x no. no) c.names.ensures c.print_outcome-in-Collections.ensures.told c.collections.ensures.moves
+
+pub returns-in-Export-clause-step : goal.returns-in-Export-clause-step
+returns-in-Export-clause-step g c =
+    let w = c.args.words.now in
+    let texts = map string_bytes w.rest.now in
+    let fed : Feed = g.I.Source.feed c.args.input.now in
+    let old : Tally = g.O.Sink.tally c.args.output.now in
+    let new : Tally = g.O.Sink.tally c.export.new.output in
+    let asked = subst (IsRequestOf w) c.in-Export.is c.requires.request in
+    as_asked (store_state g.S.Store c.args.store.now) (store_state g.S.Store c.export.new.store) words.Export w.call w.coll.now texts fed old new c.export.result asked.0 (c.export.ensures.step texts fed)
+
+pub returns-in-Dump-clause-step : goal.returns-in-Dump-clause-step
+returns-in-Dump-clause-step g c =
+    let w = c.args.words.now in
+    let texts = map string_bytes w.rest.now in
+    let fed : Feed = g.I.Source.feed c.args.input.now in
+    let old : Tally = g.O.Sink.tally c.args.output.now in
+    let new : Tally = g.O.Sink.tally c.dump.new.output in
+    let asked = subst (IsRequestOf w) c.in-Dump.is c.requires.request in
+    as_asked (store_state g.S.Store c.args.store.now) (store_state g.S.Store c.dump.new.store) words.Dump w.call w.coll.now texts fed old new c.dump.result asked.0 (c.dump.ensures.step texts fed)
+
+pub returns-in-Import-clause-step : goal.returns-in-Import-clause-step
+returns-in-Import-clause-step g c =
+    let w = c.args.words.now in
+    let n = w.coll.now in
+    let texts = map string_bytes w.rest.now in
+    let fed : Feed = g.I.Source.feed c.args.input.now in
+    let old : Tally = g.O.Sink.tally c.args.output.now in
+    let left : Feed = g.I.Source.feed c.import.new.reader in
+    let new : Tally = g.O.Sink.tally c.print_outcome-in-Import.new.output in
+    let asked = subst (IsRequestOf w) c.in-Import.is c.requires.request in
+    let s = store_state g.S.Store c.args.store.now in
+    let t = store_state g.S.Store c.import.new.self in
+    fed_asked s t words.Import w.call n texts fed left old new c.number-in-Import.result c.print_outcome-in-Import.result asked.0
+    (stream_read n fed left) (stream_quiet n fed left) (import_hush texts fed left) (λ a. tt) c.print_outcome-in-Import.ensures.told
+    (import_performs s t n (Complains words.Import texts fed left) fed left c.import.result c.number-in-Import.result c.number-in-Import.ensures c.import.ensures.moves)
+
+pub returns-in-Load-clause-step : goal.returns-in-Load-clause-step
+returns-in-Load-clause-step g c =
+    let w = c.args.words.now in
+    let n = w.coll.now in
+    let texts = map string_bytes w.rest.now in
+    let fed : Feed = g.I.Source.feed c.args.input.now in
+    let old : Tally = g.O.Sink.tally c.args.output.now in
+    let left : Feed = g.I.Source.feed c.load.new.input in
+    let new : Tally = g.O.Sink.tally c.print_outcome-in-Load.new.output in
+    let asked = subst (IsRequestOf w) c.in-Load.is c.requires.request in
+    fed_asked (store_state g.S.Store c.args.store.now) (store_state g.S.Store c.load.new.store) words.Load w.call n texts fed left old new c.load.result c.print_outcome-in-Load.result asked.0
+    (lines_read n fed left) (lines_quiet n fed left) (load_hush texts fed left) (λ a. tt) c.print_outcome-in-Load.ensures.told (c.load.ensures texts)
