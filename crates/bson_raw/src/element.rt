@@ -80,7 +80,7 @@ impl RawElement<'_> {
     /// Where the payload or an element at any depth inside is faulty, the first fault in the order of the bytes:
     /// `MalformedValue`, or `Utf8EncodingError` where a text isn't UTF-8, under the key of the element whose payload is
     /// faulty, or under none where bytes begin with no element. `OutOfMemory`, under no key, if a growth was refused,
-    /// and where over 1000 documents, arrays and scopes lie inside each other, the value among them.
+    /// and if over 1000 documents, arrays and scopes lie inside each other, the value among them.
     pub fn to_bson(&self, alloc: Global) -> Result<Bson, Error>
         ensures tree { MatchResult result (IsValueOf (parts_of self.now)) (TellsFault (HasFaultIn (parts_of self.now))) }
         ensures none { IfErr result (TellsFault (λ _ _. (v : Value) → value_kind v ≡ (parts_of self.now).tag → SpellsValue (parts_of self.now).payload v → ⊥)) }

@@ -1,4 +1,4 @@
-//! What a command answers.
+//! What a command returns.
 
 ghost use Rattle.std.specs.Prelude.{◌≡◌};
 ghost use Rattle.cli_commands.specs.Answers.{answer_by, as_nothing, flag_answer, number_answer, as_tree, as_documents, names_answer};

@@ -14,8 +14,8 @@ use bson_store::{Source, Store};
 use sqlite::Alter;
 use std::alloc::Global;
 
-/// `load COLL`: the number of documents that the input had, one a line. The lines are the only texts that aren't among the words:
-/// one that can't be read is found here, before the store is asked.
+/// `load COLL`: the number of documents that the input had, one a line. The lines are the only texts that aren't among
+/// the words: one that can't be read is found here, before the store is asked.
 pub fn load<S: Alter + Drop, I: Source>(
     alloc: Global,
     store: &mut Store<S>,

@@ -18,7 +18,7 @@ use cli_words::{Words, write_complaint, write_refusal};
 use sqlite::Alter;
 use std::alloc::Global;
 
-/// Prints what a command answers. Of one that isn't done nothing is printed.
+/// Prints what a command returns. Of one that isn't done nothing is printed.
 fn print_outcome<O: Sink>(
     alloc: Global,
     outcome: Result<Answer, Failure>,
@@ -100,12 +100,13 @@ fn obey<S: Alter + Drop, I: Source, O: Sink>(
     perform(alloc, store, words, &mut request, input, output)
 }
 
-/// Does the command that the words ask for on `store`, and answers the program's status. Nothing of the words but their texts
-/// is left to read: the file is open.
+/// Does the command that the words ask for on `store`, and returns the program's status. Nothing of the words but their
+/// texts is left to read: the file is open.
 ///
 /// With 0 the command was accepted and its answer printed to `output`. With 1 it was refused, or its answer couldn't be
-/// printed, and the line `refused: KIND` went to `faults`. With 2 a text of the words or a line of the input can't be read, and
-/// the line that says so went to `faults`; the store and `output` are as they were. Where a write to `faults` fails nothing more is done.
+/// printed, and the line `refused: KIND` went to `faults`. With 2 a text of the words or a line of the input can't be
+/// read, and the line that says so went to `faults`; the store and `output` are as they were. Where a write to `faults`
+/// fails nothing more is done.
 pub fn execute<S: Alter + Drop, I: Source, O: Sink, F: Sink>(
     alloc: Global,
     store: &mut Store<S>,

@@ -27,8 +27,8 @@ pub fn export<S: Alter + Drop, O: Sink>(
     }
 }
 
-/// `dump COLL`: the documents as canonical Extended JSON, which go out one a line. A document that has no such form is told before
-/// anything is printed: the collection is gone through twice, with one document held at a time.
+/// `dump COLL`: the documents as canonical Extended JSON, which go out one a line. A document that has no such form is
+/// reported before anything is printed: the collection is gone through twice, with one document held at a time.
 pub fn dump<S: Alter + Drop, O: Sink>(
     store: &mut Store<S>,
     name: &str,

@@ -36,11 +36,11 @@ fn reply<S: Alter + Drop, O: Sink>(
     }
 }
 
-/// Does the commands of the lines of `input` on `store`, one after the other, and answers each on a line of `output`, until the
-/// input ends. A line without a byte is skipped, and counts like any other.
+/// Does the commands of the lines of `input` on `store`, one after the other, and answers each on a line of `output`,
+/// until the input ends. A line without a byte is skipped, and counts like any other.
 ///
-/// `Reader` if a read failed, or a line or the input has 2⁶⁴ - 2 bytes or more; `Writer` if a write failed, after which no
-/// further command is done; `Memory` if there is none for the session itself, and then no line is read.
+/// `Reader` if a read failed, or a line or the input has 2⁶⁴ - 2 bytes or more; `Writer` if a write failed, after which
+/// no further command is done; `Memory` if there is none for the session itself, and then no line is read.
 pub fn serve<S: Alter + Drop, I: Source, O: Sink>(
     alloc: Global,
     store: &mut Store<S>,

@@ -32,7 +32,7 @@ pub enum Mode {
 
 impl Bson {
     /// The tree in canonical Extended JSON. `FiniteDouble` if a finite double other than the zeros is in the value,
-    /// `Memory` where a growth was refused.
+    /// `Memory` if a growth was refused.
     pub fn into_canonical_extjson(self, alloc: Global) -> Result<Value, Error>
         ensures { WritesForm data_of result (write Mode.Canonical (view self)) }
     {
@@ -40,7 +40,7 @@ impl Bson {
     }
 
     /// The tree in relaxed Extended JSON. `FiniteDouble` if a finite double other than the zeros is in the value,
-    /// `Memory` where a growth was refused.
+    /// `Memory` if a growth was refused.
     pub fn into_relaxed_extjson(self, alloc: Global) -> Result<Value, Error>
         ensures { WritesForm data_of result (write Mode.Relaxed (view self)) }
     {
