@@ -30,7 +30,7 @@ pub enum Request<'w> {
     Collections,
 }
 
-/// Reads what the words ask for. All that can be wrong with the words is told from here, and the store isn't asked yet.
+/// Reads what the words ask for. All that can be wrong with the words is reported here, before the store is asked.
 pub fn request_of<'w>(alloc: Global, words: &Words<'w>) -> Result<Request<'w>, Failure>
     ensures { MatchResult result (IsRequestOf words.now) (StopsRequest words.now) }
 {
