@@ -14,7 +14,7 @@ use std::alloc::AllocError;
 pub enum Failure {
     /// A text among the words, or a line of the input, can't be read. The store was asked nothing.
     Words(UsageError),
-    /// A refusal: of the store, of the reader or the writer, or for out of memory.
+    /// A refusal: of the store, of the reader or the writer, or out of memory.
     Refused(StoreError),
 }
 
