@@ -37,7 +37,7 @@ fn is_written_so(written: &KeptRow<'_>, key: &[u8], body: &[u8]) -> bool
     written.key.as_slice() == key && written.body.as_slice() == body
 }
 
-/// What a refusal says of a row: that no store can have written it, except for out of memory.
+/// What a refusal says of a row: that no store can have written it, unless it is out of memory.
 fn outcome_of_refusal(kind: ErrorKind) -> Result<bool, AllocError>
     ensures { IfOk result (λ b. (b ≡ false) × (kind ≢ Memory)) }
 {
@@ -142,7 +142,7 @@ fn key_against(
     }
 }
 
-/// What a refusal says of a row's key: that no store can have written the row, except for out of memory.
+/// What a refusal says of a row's key: that no store can have written the row, unless it is out of memory.
 fn keyless(kind: ErrorKind) -> Result<RowKey, AllocError>
     ensures { IfOk result (λ k. (k ≡ RowKey.Neither) × (kind ≢ Memory)) }
 {
