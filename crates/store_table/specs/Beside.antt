@@ -37,7 +37,7 @@ pub record SparesOthers (old new : Database) : Type 0 where
   pub schema : new.schema ≡ old.schema
   pub rows : (place tree : ℕ) → HasDocuments old.schema.tables place tree → AllByRecursion (λ t. t.tree ≢ tree → new.trees t.tree ≡ old.trees t.tree) old.schema.tables
 
--- a connection that is open afterwards was open before, and shows all else as it was
+-- a connection that is open afterwards was open before, and shows the schema and the other tables as they were
 pub record KeepsOthers (old new : State) : Type 0 where
   pub was_open : IsTrue new.is_open → IsTrue old.is_open
   pub spared : IsTrue new.is_open → SparesOthers old.now new.now

@@ -18,7 +18,7 @@ abbrev pub Stands : State → List TableRow → Type 0
 Stands s docs = IsTrue s.is_open → HoldsRows s docs
 
 -- on a disk that returns what was written, rows that stood before are followed by rows that stand now, the two are related so, and
--- all else in the database is as it was
+-- the schema and the other tables are as they were
 abbrev pub Moves : State → State → (List TableRow → List TableRow → Type 0) → Type 0
 Moves old new P = HasCleanDisk new → HasCleanDisk old × ((docs : List TableRow) → Stands old docs → (after : List TableRow) × Stands new after × P docs after × KeepsOthers old new)
 

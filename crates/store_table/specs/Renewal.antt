@@ -66,7 +66,7 @@ module _ (accepts : List ℕ → List ℕ → List ℕ → Type 0) (renews : Lis
     pub renewed : AreRenewed renews docs after
     pub told : MatchOption r.twin (StandApart docs after r) (λ p. IsTwin accepts after p.0 p.1)
 
-  -- the rows have their keys of now, no two of a collection have the same, and all else is as it was
+  -- the rows have their keys of now, no two of a collection have the same, and the other tables are as they were
   abbrev pub Renewed : State → State → Type 0
   Renewed old new = (docs : List TableRow) → HoldsRows old docs → (after : List TableRow) × HoldsRows new after × AreRenewed renews docs after × AreGood accepts after × SparesOthers old.now new.now
 

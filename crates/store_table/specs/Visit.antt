@@ -35,7 +35,7 @@ TookRows took v sql params old new = (rows : List Row) × Shown sql params old n
 abbrev pub TookSome : {V : Type 0} → (V → List (List ℕ) → Type 0) → V → List ℕ → Row → State → Type 0
 TookSome took v sql params old = (rows : List Row) × ((rows ≡ []) ⊎ (IsTrue old.is_open × Begins sql params old rows)) × took v (map first_value rows)
 
--- a read that is answered leaves everything; one that is refused leaves the rows and all else, or the connection is shut
+-- a read that is answered leaves everything; one that is refused leaves the rows and the other tables, or the connection is shut
 pub record ReadsRows {A E : Type 0} (old new : State) (result : Result A E) : Type 0 where
   pub unchanged : OnOk result (IsUnchanged old new)
   pub refused : OnErr result (IsTrue new.is_open → IsTrue old.is_open × ((docs : List TableRow) → HoldsRows old docs → HoldsRows new docs))
