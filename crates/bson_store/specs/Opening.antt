@@ -27,8 +27,8 @@ RepresentsSome docs = (a : DocumentTable) × Represents docs a
 abbrev pub StandFor : List TableRow → List TableRow → Type 0
 StandFor docs after = ((a : DocumentTable) × RepresentsOnce docs a × Represents after a) × ((a : DocumentTable) → RepresentsOnce docs a → Represents after a)
 
--- The table was made, beside what there was, or is found with the rows that it had, each under its key of now, and all else as it
--- was; nothing is written where all had that.
+-- The table was made, beside what there was, or is found with the rows that it had, each under its key of now, and the other tables
+-- as they were; nothing is written where all had that.
 pub record Opens (old new : State) : Type 0 where
   pub made : IsBlank old → HoldsRows new []
   pub beside : HasNoTable old → StandsBeside old new
