@@ -11,9 +11,7 @@ returns-in-Ok g c = λ text keeps.
     came (store_state g.S.Store c.args.store.now) (store_state g.S.Store c.grant.new.store) c.args.number text (map string_bytes r.words.items) r.input.items c.grant.result (c.in-Ok.ensures text keeps) c.grant.ensures
 
 pub returns-in-Err-Unreadable : goal.returns-in-Err-Unreadable
-returns-in-Err-Unreadable g c = λ text keeps.
-    let none = c.in-Err-Unreadable.ensures text keeps in
-    rests (store_state g.S.Store c.args.store.now) (ComesOf c.args.number text c.complaint.result) (λ docs. search rules)
+returns-in-Err-Unreadable g c = λ text keeps. rests (store_state g.S.Store c.args.store.now) (ComesOf c.args.number text c.complaint.result) (λ docs. search rules)
 
 pub returns-in-Err-Memory : goal.returns-in-Err-Memory
 returns-in-Err-Memory g c = λ text keeps. rests (store_state g.S.Store c.args.store.now) (ComesOf c.args.number text c.no_memory.result) (λ docs. search rules)
