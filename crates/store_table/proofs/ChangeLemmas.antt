@@ -89,15 +89,15 @@ deletes limit mode text p docs db tally after rows h sound =
       | inr one ↦ rw (one.3, one.2) (gone_perm p docs (db.trees rows.tree) rows.rows)
     ] in
     let is = ap (λ (x : Database). x.trees rows.tree) now ∙ ap (λ (t : Trees). t rows.tree) trees ∙ step.rows in (
-    record {
-      place = rows.place;
-      tree = rows.tree;
-      listed = lists_own after sound;
-      stands = subst (λ (x : Database). HasDocuments x.schema.tables rows.place rows.tree) (sym now) rows.stands;
-      rows = subst (λ rs. IsPermutation (map columns_of (without_place p docs)) rs) (sym is) left;
-      rising = rising_without p docs rows.rising;
-    },
-    spared_by db after rows.place rows.tree written.0 rows.stands (ap (λ (x : Database). x.schema) now) (ap (λ (x : Database). x.trees) now ∙ trees) step.tables,
+      record {
+        place = rows.place;
+        tree = rows.tree;
+        listed = lists_own after sound;
+        stands = subst (λ (x : Database). HasDocuments x.schema.tables rows.place rows.tree) (sym now) rows.stands;
+        rows = subst (λ rs. IsPermutation (map columns_of (without_place p docs)) rs) (sym is) left;
+        rising = rising_without p docs rows.rising;
+      },
+      spared_by db after rows.place rows.tree written.0 rows.stands (ap (λ (x : Database). x.schema) now) (ap (λ (x : Database). x.trees) now ∙ trees) step.tables,
     )
 
 abbrev pub update_command : ℕ → ℕ → Rattle.sqlite.specs.Command.Command
@@ -129,15 +129,15 @@ updates limit mode text p body docs db tally after rows h sound =
           (subst (λ q. IsPermutation (map columns_of (with_body_at p body docs)) (put_row (columns_of (record one.0 { body = body })) (without_rowid q (db.trees rows.tree)))) (sym one.2) (back_perm p body one.0 docs (db.trees rows.tree) rows.rising one.1 one.2 rows.rows))
     ] in
     let is = ap (λ (x : Database). x.trees rows.tree) now ∙ ap (λ (t : Trees). t rows.tree) trees ∙ step.rows in (
-    record {
-      place = rows.place;
-      tree = rows.tree;
-      listed = lists_own after sound;
-      stands = subst (λ (x : Database). HasDocuments x.schema.tables rows.place rows.tree) (sym now) rows.stands;
-      rows = subst (λ rs. IsPermutation (map columns_of (with_body_at p body docs)) rs) (sym is) left;
-      rising = rising_replaced p body docs rows.rising;
-    },
-    spared_by db after rows.place rows.tree written.0 rows.stands (ap (λ (x : Database). x.schema) now) (ap (λ (x : Database). x.trees) now ∙ trees) step.tables,
+      record {
+        place = rows.place;
+        tree = rows.tree;
+        listed = lists_own after sound;
+        stands = subst (λ (x : Database). HasDocuments x.schema.tables rows.place rows.tree) (sym now) rows.stands;
+        rows = subst (λ rs. IsPermutation (map columns_of (with_body_at p body docs)) rs) (sym is) left;
+        rising = rising_replaced p body docs rows.rising;
+      },
+      spared_by db after rows.place rows.tree written.0 rows.stands (ap (λ (x : Database). x.schema) now) (ap (λ (x : Database). x.trees) now ∙ trees) step.tables,
     )
 
 module _ (p : ℤ) (old new : State) (docs : List TableRow) (h : HoldsRows old docs) where

@@ -56,15 +56,15 @@ inserts limit mode text d docs db tally after rows below h sound =
     let edit : edited db.trees (edit_of db.trees table [] Chosen 0 from.0) ≡ put_row (columns_of d) (db.trees rows.tree) =
     ap (λ all. edited db.trees (edit_of db.trees table [] Chosen 0 all)) from.1.1 ∙ rw (cast_null, cast_int) refl in
     let is = ap (λ (x : Database). x.trees rows.tree) now ∙ ap (λ (t : Trees). t rows.tree) trees ∙ step.rows ∙ edit in (
-    record {
-      place = rows.place;
-      tree = rows.tree;
-      listed = lists_own after sound;
-      stands = subst (λ (x : Database). HasDocuments x.schema.tables rows.place rows.tree) (sym now) rows.stands;
-      rows = subst (λ rs. IsPermutation (map columns_of (docs ++ d ∷ [])) rs) (sym is) (add_perm d docs (db.trees rows.tree) below rows.rows);
-      rising = rising_last d docs rows.rising below;
-    },
-    spared_by db after rows.place rows.tree written.0 rows.stands (ap (λ (x : Database). x.schema) now) (ap (λ (x : Database). x.trees) now ∙ trees) step.tables,
+      record {
+        place = rows.place;
+        tree = rows.tree;
+        listed = lists_own after sound;
+        stands = subst (λ (x : Database). HasDocuments x.schema.tables rows.place rows.tree) (sym now) rows.stands;
+        rows = subst (λ rs. IsPermutation (map columns_of (docs ++ d ∷ [])) rs) (sym is) (add_perm d docs (db.trees rows.tree) below rows.rows);
+        rising = rising_last d docs rows.rising below;
+      },
+      spared_by db after rows.place rows.tree written.0 rows.stands (ap (λ (x : Database). x.schema) now) (ap (λ (x : Database). x.trees) now ∙ trees) step.tables,
     )
 
 pub adds : (d : TableRow) (old new : State) (docs : List TableRow) (count : ℕ) → HoldsRows old docs → AreBelow d.place docs → Executes insert_text (given d) old new (Ok count) → HoldsRows new (docs ++ d ∷ []) × SparesOthers old.now new.now

@@ -63,15 +63,15 @@ rekeys limit mode text p idkey docs db tally after rows h sound =
           (subst (λ q. IsPermutation (map columns_of (with_key_at p idkey docs)) (put_row (columns_of (record one.0 { idkey = idkey })) (without_rowid q (db.trees rows.tree)))) (sym one.2) (key_perm p idkey one.0 docs (db.trees rows.tree) rows.rising one.1 one.2 rows.rows))
     ] in
     let is = ap (λ (x : Database). x.trees rows.tree) now ∙ ap (λ (t : Trees). t rows.tree) trees ∙ step.rows in (
-    record {
-      place = rows.place;
-      tree = rows.tree;
-      listed = lists_own after sound;
-      stands = subst (λ (x : Database). HasDocuments x.schema.tables rows.place rows.tree) (sym now) rows.stands;
-      rows = subst (λ rs. IsPermutation (map columns_of (with_key_at p idkey docs)) rs) (sym is) left;
-      rising = rising_rekeyed p idkey docs rows.rising;
-    },
-    spared_by db after rows.place rows.tree written.0 rows.stands (ap (λ (x : Database). x.schema) now) (ap (λ (x : Database). x.trees) now ∙ trees) step.tables,
+      record {
+        place = rows.place;
+        tree = rows.tree;
+        listed = lists_own after sound;
+        stands = subst (λ (x : Database). HasDocuments x.schema.tables rows.place rows.tree) (sym now) rows.stands;
+        rows = subst (λ rs. IsPermutation (map columns_of (with_key_at p idkey docs)) rs) (sym is) left;
+        rising = rising_rekeyed p idkey docs rows.rising;
+      },
+      spared_by db after rows.place rows.tree written.0 rows.stands (ap (λ (x : Database). x.schema) now) (ap (λ (x : Database). x.trees) now ∙ trees) step.tables,
     )
 
 module _ (p : ℤ) (idkey : List ℕ) (old new : State) (first docs : List TableRow) (h : Inside old first docs) where

@@ -87,9 +87,13 @@ module _ (accepts : List ℕ → List ℕ → List ℕ → Type 0) (renews : Lis
     module _ (none : r.twin ≡ None) (new : State) where
       pub renewed_so : IsLive old → ((ds : List TableRow) → HoldsRows mid ds → HoldsRows new (with_keys_at r.keys.items ds)) → ((ds : List TableRow) → HoldsRows mid ds → SparesOthers mid.now new.now) → Renewed accepts renews old new
       renewed_so live done spared ds shows =
-          let yet = apart_yet accepts renews f.docs r f.renewals none in
-          (f.renewals.after, subst (HoldsRows new) yet.keys (done f.docs (there live ds shows)), subst (λ xs. AreRenewed renews xs f.renewals.after) (sym (same live ds shows)) f.renewals.renewed, yet.good,
-            subst (λ (d : Held). SparesOthers d new.now) f.reads.unchanged.0.now_is (spared f.docs (there live ds shows)))
+          let yet = apart_yet accepts renews f.docs r f.renewals none in (
+            f.renewals.after,
+            subst (HoldsRows new) yet.keys (done f.docs (there live ds shows)),
+            subst (λ xs. AreRenewed renews xs f.renewals.after) (sym (same live ds shows)) f.renewals.renewed,
+            yet.good,
+            subst (λ (d : Held). SparesOthers d new.now) f.reads.unchanged.0.now_is (spared f.docs (there live ds shows)),
+          )
 
       pub may_renew : (db : Trees) → ((ds : List TableRow) → HoldsRows mid ds → HasRows db (with_keys_at r.keys.items ds)) → MayRenew accepts renews old db
       may_renew db made live ds shows =
