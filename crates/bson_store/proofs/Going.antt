@@ -4,7 +4,6 @@ use Rattle.std.specs.FinMap.{empty}
 use Rattle.sqlite.specs.State.{State}
 use Rattle.store_table.specs.Rows.{TableRow}
 use Rattle.store_table.specs.Moves.{Moves, WasOpen}
-use Rattle.store_table.proofs.OthersLemmas.{others_then}
 use Rattle.bson_store.specs.Refusals.{reply_by}
 use Rattle.bson_store.specs.declared.error.StoreError.{StoreError}
 use Rattle.serde_json.specs.Data.{Data}
@@ -91,15 +90,14 @@ one_left old mid new xs rs x r so_far one crash clean =
           let z = n.1 y.0 y.1 in (
             z.0,
             z.1,
-            (λ a shown.
+            λ a shown.
                 let h = y.2 a shown in
                 let c = z.2.0 in
                 let d = z.2.2 h.b h.shown in
                 let g = left_goes_on Holds old.may_leave h.denials (state_of a) h.asked (map reply_of rs) (state_of h.b) (state_of d.0) c (reply_of r) h.run d.2.0 d.2.1.0 in
                 let both : LeftRun old.may_leave new.may_leave g.0 a (h.asked ++ c ∷ []) d.0 (map reply_of rs ++ reply_of r ∷ []) = (g.1.0, λ db may. g.1.1 db (left_more Holds mid.may_leave _ h.left (state_of h.b) c (reply_of r) db (crash c z.2.1 clean y.0 y.1 h.b h.shown db may))) in
                 let told = subst (LeftRun old.may_leave new.may_leave g.0 a (h.asked ++ c ∷ []) d.0) (sym (map_parts reply_of rs (r ∷ []))) both in
-                record { b = d.0; shown = d.1; asked = h.asked ++ c ∷ []; asks = asks_last xs h.asked x c h.asks z.2.1; denials = g.0; run = told.0; left = told.1 }),
-            others_then old mid new y.3 z.3,
+                record { b = d.0; shown = d.1; asked = h.asked ++ c ∷ []; asks = asks_last xs h.asked x c h.asks z.2.1; denials = g.0; run = told.0; left = told.1 },
           ),
     )
 

@@ -4,9 +4,9 @@ use Rattle.sqlite.specs.State.{State, IsUnchanged}
 use Rattle.bson_meaning.specs.Before.{key as key_before}
 use Rattle.store_table.specs.Rows.{TableRow, HoldsRows, IsBlank}
 use Rattle.store_table.specs.Open.{HasNoTable}
-use Rattle.store_table.specs.Beside.{StandsBeside, SparesOthers}
+use Rattle.store_table.specs.Beside.{StandsBeside}
 use Rattle.store_table.specs.Renewal.{Unopened, PassesOnce}
-use Rattle.store_table.specs.Schema.{HasStoreTable}
+use Rattle.store_table.specs.Schema.{documents_schema}
 use Rattle.store_table.specs.declared.opening.OpenError.{OpenError}
 use Rattle.store_documents.specs.Bodies.{IsRow}
 use Rattle.store_model.specs.Table.{DocumentTable, own_id}
@@ -27,13 +27,13 @@ RepresentsSome docs = (a : DocumentTable) × Represents docs a
 abbrev pub StandFor : List TableRow → List TableRow → Type 0
 StandFor docs after = ((a : DocumentTable) × RepresentsOnce docs a × Represents after a) × ((a : DocumentTable) → RepresentsOnce docs a → Represents after a)
 
--- The table was made, beside what there was, or is found with the rows that it had, each under its key of now, and the other tables
--- as they were; nothing is written where all had that.
+-- The table was made, beside what there was, or is found with the rows that it had, each under its key of now; nothing is written
+-- where all had that.
 pub record Opens (old new : State) : Type 0 where
   pub made : IsBlank old → HoldsRows new []
   pub beside : HasNoTable old → StandsBeside old new
-  pub found : (docs : List TableRow) → HoldsRows old docs → (after : List TableRow) × HoldsRows new after × StandFor docs after × SparesOthers old.now new.now
-  pub listed : HasStoreTable old.now.schema → (docs : List TableRow) × (after : List TableRow) × HoldsRows old docs × HoldsRows new after × StandFor docs after
+  pub found : (docs : List TableRow) → HoldsRows old docs → (after : List TableRow) × HoldsRows new after × StandFor docs after
+  pub listed : old.now.schema ≡ documents_schema → (docs : List TableRow) × (after : List TableRow) × HoldsRows old docs × HoldsRows new after × StandFor docs after
   pub other : HasNoTable old ⊎ PassesOnce IsRowUnder old new
   pub unwritten : (docs : List TableRow) → HoldsRows old docs → RepresentsSome docs → IsUnchanged old new
 

@@ -1,18 +1,17 @@
 -- What an open says of what it read.
-use Rattle.std.proofs.Common.{ℤ, ◌++◌, ◌∷◌, append-nil, append_assoc, ◌≡◌, ◌≢◌, ◌⊎◌, inl, inr, ℕ, List, [], true, false, Option, Some, None, is_some, Result, Ok, Err, OnOk, IfErr, IsTrue, sym, ap, subst, refl}
+use Rattle.std.proofs.Common.{ℤ, ◌++◌, ◌∷◌, append-nil, append_assoc, ◌≡◌, ◌≢◌, ◌⊎◌, inl, inr, ℕ, List, [], true, false, Option, Some, None, is_some, Result, Ok, Err, OnOk, IfErr, IsTrue, sym, ap, subst, ◌∙◌, refl}
+use Rattle.sqlite_tied.specs.Compute.{everything}
 use Rattle.sqlite.specs.State.{State, Survives, IsLive, IsUnchanged}
 use Rattle.sqlite.proofs.StateLemmas.{survives_weaker}
-use Rattle.sqlite.specs.Schema.{Schema}
 use Rattle.sqlite_schema.specs.Names.{table_named}
 use Rattle.store_table.specs.declared.opening.OpenError.{OpenError}
 use Rattle.store_table.specs.declared.opening.OpenError.TheVariants.{NotAStore, BadRow, IdsCollide, Memory, Database}
-use Rattle.store_table.specs.Schema.{HasDocuments, HasStoreTable}
+use Rattle.store_table.specs.Schema.{documents_schema, no_schema}
 use Rattle.store_table.specs.Rows.{TableRow, HasRows, HoldsRows, IsBlank}
 use Rattle.store_table.specs.Beside.{StandsBeside, AreBeside}
 use Rattle.store_table.specs.Check.{IsGoodAfter, AreGoodAfter, AreGood, IsFirstBad}
 use Rattle.store_table.specs.Open.{RefusesOpening, HasTable, HasNoTable, table_name}
 use Rattle.store_table.specs.Renewal.{IsOwn, AcceptsOnce, AreRenewed, Renewed, Unrenewed, RenewsOld, PassesOnce, Opened, Unopened, Makes}
-use Rattle.store_table.proofs.StatementLemmas.{seen}
 use Rattle.store_table.proofs.ListedLemmas.{read_shown, shows_read}
 
 is_there : (o : Option ℕ) → is_some o ≡ true → o ≢ None
@@ -23,8 +22,12 @@ is_missing : (o : Option ℕ) → is_some o ≡ false → o ≡ None
 is_missing (Some n) h = absurd (cc)
 is_missing None h = refl
 
-pub a_table : (schema : Schema) (place tree : ℕ) → HasDocuments schema.tables place tree → is_some (table_named schema table_name) ≡ true
-a_table schema place tree h = ap is_some h.named
+no_table : is_some (table_named no_schema table_name) ≡ false
+no_table = refl
+
+pub a_table : is_some (table_named documents_schema table_name) ≡ true
+unfolding everything
+a_table = refl
 
 pub none_there : (s : State) → is_some (table_named s.now.schema table_name) ≡ false → HasNoTable s
 none_there s h = is_missing (table_named s.now.schema table_name) h
@@ -50,7 +53,7 @@ module _ (renews : List ℕ → List ℕ → List ℕ → List ℕ → Type 0) (
     one_list_of : (docs : List TableRow) → HoldsRows old docs → (docs : List TableRow) × (after : List TableRow) × HoldsRows old docs × HoldsRows new after × AreRenewed renews docs after × AreGood (IsOwn renews) after
     one_list_of docs shows = let f = found docs shows in (docs, f.0, shows, f.1, f.2, f.3)
 
-    listed_by_read : IsLive old → old.in_transaction ≡ false → (IsTrue old.is_open → old.now ≡ old.committed) → HasStoreTable old.now.schema
+    listed_by_read : IsLive old → old.in_transaction ≡ false → (IsTrue old.is_open → old.now ≡ old.committed) → old.now.schema ≡ documents_schema
         → (docs : List TableRow) × (after : List TableRow) × HoldsRows old docs × HoldsRows new after × AreRenewed renews docs after × AreGood (IsOwn renews) after
     listed_by_read live auto settled has = elim passed [
       | inl p ↦ one_list_of p.0 (shows_read (IsOwn renews) old new p.0 has live auto settled p.1 p.2)
@@ -65,7 +68,7 @@ module _ (renews : List ℕ → List ℕ → List ℕ → List ℕ → Type 0) (
 
     opened_by : IsLive old → old.in_transaction ≡ false → (IsTrue old.is_open → old.now ≡ old.committed) → is_some (table_named old.now.schema table_name) ≡ true → Opened renews old new
     opened_by live auto settled there = record {
-      made = λ blank. absurd (let e : is_some (table_named old.now.schema table_name) ≡ false = ap is_some blank.free.unnamed in cc);
+      made = λ blank. absurd (let e : is_some (table_named old.now.schema table_name) ≡ false = ap (λ s. is_some (table_named s table_name)) blank.schema ∙ no_table in cc);
       beside = λ none. absurd (one_there old there none);
       found = found;
       listed = listed_by_read live auto settled;
@@ -94,14 +97,14 @@ module _ (renews : List ℕ → List ℕ → List ℕ → List ℕ → Type 0) (
 
   made_by : is_some (table_named old.now.schema table_name) ≡ false → (IsBlank old → HoldsRows new []) → StandsBeside old new → Opened renews old new
   made_by missing made beside =
-      let no_such : (place tree : ℕ) → HasDocuments old.now.schema.tables place tree → ⊥ = λ place tree has. let e = a_table old.now.schema place tree has in cc in
+      let no_such : old.now.schema ≡ documents_schema → ⊥ = λ has. let e : is_some (table_named old.now.schema table_name) ≡ true = ap (λ s. is_some (table_named s table_name)) has ∙ a_table in cc in
       record {
         made = made;
         beside = λ none. beside;
-        found = λ docs shows. absurd (no_such (seen shows.table).place (seen shows.table).tree (seen shows.table).stands);
-        listed = λ has. absurd (no_such has.0 has.1 has.2);
+        found = λ docs shows. absurd (no_such shows.schema);
+        listed = λ has. absurd (no_such has);
         other = inl (none_there old missing);
-        unwritten = λ docs shows good. absurd (no_such (seen shows.table).place (seen shows.table).tree (seen shows.table).stands);
+        unwritten = λ docs shows good. absurd (no_such shows.schema);
       }
 
   pub made_if : is_some (table_named old.now.schema table_name) ≡ false → (r : Result (Unit {0}) OpenError) → (IsBlank old → OnOk r (HoldsRows new [])) → OnOk r (StandsBeside old new) → OnOk r (Opened renews old new)

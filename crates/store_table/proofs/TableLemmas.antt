@@ -12,13 +12,13 @@ use Rattle.sqlite.proofs.StateLemmas.{survives_then}
 use Rattle.store_table.specs.declared.fault.Fault.TheVariants.{Places}
 use Rattle.store_table.specs.declared.row.Found.{Found}
 use Rattle.store_table.specs.Fault.{fault_of}
-use Rattle.store_table.specs.Rows.{TableRow, RowsIn, HasRows, HoldsRows, AreBelow, last_place}
+use Rattle.store_table.specs.Rows.{TableRow, HasRows, HoldsRows, AreBelow, last_place}
 use Rattle.store_table.specs.Cells.{int_in, bytes_in}
-use Rattle.store_table.specs.Moves.{Stands, Visits, Changes, AddsRows, with_row, bodies_of, parts_of_found, parts_of_row}
+use Rattle.store_table.specs.Moves.{Stands, Visits, AddsRows, with_row, bodies_of, parts_of_found, parts_of_row}
 use Rattle.store_table.specs.Visit.{TookSome, first_value, scan_text}
 use Rattle.store_table.specs.declared.fault.Fault.{Fault}
 use Rattle.store_table.proofs.ScanLemmas.{some_scan}
-use Rattle.store_table.proofs.StatementLemmas.{unchanged_shows, trees_have, seen}
+use Rattle.store_table.proofs.StatementLemmas.{unchanged_shows}
 use Rattle.store_table.proofs.LastPlaceLemmas.{below_next}
 use Rattle.store_table.proofs.ReadLemmas.{found_row, found_place}
 
@@ -31,12 +31,13 @@ shows_back old new docs u h = record {
   is_open = u.0.was_open;
   autocommit = sym u.0.mode ∙ h.autocommit;
   settled = sym u.0.now_is ∙ h.settled ∙ u.0.committed_is;
-  table = subst (λ (d : Database). RowsIn d docs) u.0.now_is h.table;
+  schema = ap (λ (d : Database). d.schema) (sym u.0.now_is) ∙ h.schema;
+  table = subst (λ (d : Database). HasRows d.trees docs) u.0.now_is h.table;
 }
 
 -- where the last commit is what a crash leaves, it leaves the rows that are shown
 pub left_rows : (s : State) (docs : List TableRow) (db : Trees) → HoldsRows s docs → db ≡ s.committed.trees → HasRows db docs
-left_rows s docs db h is = subst (λ (t : Trees). HasRows t docs) (sym (is ∙ sym (ap (λ (d : Database). d.trees) h.settled))) (trees_have s.now docs h.table)
+left_rows s docs db h is = subst (λ (t : Trees). HasRows t docs) (sym (is ∙ sym (ap (λ (d : Database). d.trees) h.settled))) h.table
 
 module _ (old new : State) where
   pub stands_still : (docs : List TableRow) → IsUnchanged old new → Stands old docs → Stands new docs
@@ -44,7 +45,7 @@ module _ (old new : State) where
 
   -- the place after the greatest one that was read is above all
   pub below_greatest : (last : ℤ) → IsUnchanged old new → ((docs : List TableRow) → HoldsRows old docs → last ≡ last_place docs) → (docs : List TableRow) → HoldsRows new docs → AreBelow (last +ℤ pos 1) docs
-  below_greatest last u is docs h = subst (λ (p : ℤ). AreBelow (p +ℤ pos 1) docs) (sym (is docs (shows_back old new docs u h))) (below_next docs (seen h.table).rising)
+  below_greatest last u is docs h = subst (λ (p : ℤ). AreBelow (p +ℤ pos 1) docs) (sym (is docs (shows_back old new docs u h))) (below_next docs h.table.rising)
 
 pub found_is : (o : Option TableRow) (row : Row) (f : Found) → option_map found_row o ≡ Some row → f.place ≡ int_in (column row 0) → f.body.items ≡ bytes_in (column row 1) → option_map parts_of_found (Some f) ≡ option_map parts_of_row o
 found_is None row f e p b = absurd (cc)
@@ -96,10 +97,6 @@ visits_refused took first last coll old docs stands (Err e) why is some = record
 pub appends_err : (n : ℕ) (change : List TableRow → List TableRow) (docs : List TableRow) (r : Result (Unit {0}) Fault) (why : Error) → IsErrAnd r (λ e. e ≡ fault_of why) → AddsRows n change r docs docs
 appends_err n change docs (Ok u) why is = absurd is
 appends_err n change docs (Err e) why is = record { done = tt; room = tt; refused = refl; full = λ places. absurd (not_places why (sym is ∙ places)) }
-
-pub changes_err : (change : List TableRow → List TableRow) (docs : List TableRow) (r : Result (Unit {0}) Fault) (why : Error) → IsErrAnd r (λ e. e ≡ fault_of why) → Changes change r docs docs
-changes_err change docs (Ok u) why is = absurd is
-changes_err change docs (Err e) why is = record { done = tt; refused = refl; faults = λ places. not_places why (sym is ∙ places) }
 
 -- a row at the place after the greatest one that was read
 pub added_shows : (old mid new : State) (last place : ℤ) (coll idkey body : List ℕ) (docs : List TableRow) → IsUnchanged old mid → HoldsRows old docs → last ≡ last_place docs → place ≡ (last +ℤ pos 1)

@@ -11,16 +11,14 @@ use Rattle.store_table.specs.declared.row.Found.{Found}
 use Rattle.store_table.specs.declared.row.NewRow.{NewRow}
 use Rattle.store_table.specs.Rows.{TableRow, HoldsRows, HasRows, is_row_named, is_in, last_place, docs_from}
 use Rattle.store_table.specs.Names.{has_name}
-use Rattle.store_table.specs.Beside.{KeepsOthers}
 
 -- what a connection shows while it is open
 abbrev pub Stands : State → List TableRow → Type 0
 Stands s docs = IsTrue s.is_open → HoldsRows s docs
 
--- on a disk that returns what was written, rows that stood before are followed by rows that stand now, the two are related so, and
--- the schema and the other tables are as they were
+-- on a disk that returns what was written, rows that stood before are followed by rows that stand now, and the two are related so
 abbrev pub Moves : State → State → (List TableRow → List TableRow → Type 0) → Type 0
-Moves old new P = HasCleanDisk new → HasCleanDisk old × ((docs : List TableRow) → Stands old docs → (after : List TableRow) × Stands new after × P docs after × KeepsOthers old new)
+Moves old new P = HasCleanDisk new → HasCleanDisk old × ((docs : List TableRow) → Stands old docs → (after : List TableRow) × Stands new after × P docs after)
 
 -- a call is accepted only on an open connection, which stays open
 abbrev pub WasOpen : {A E : Type 0} → State → State → Result A E → Type 0

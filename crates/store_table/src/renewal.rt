@@ -7,7 +7,6 @@ ghost use Rattle.sqlite.specs.State.{HasCleanDisk, Survives, IsLive};
 ghost use Rattle.store_table.specs.Check.{AreGood, IsGoodAfter};
 ghost use Rattle.store_table.specs.Open.{IsSettled, KeepsAll, Reads, RefusesOpening};
 ghost use Rattle.store_table.specs.Rows.{TableRow, HasRows, HoldsRows, with_keys_at, is_row_named};
-ghost use Rattle.store_table.specs.Beside.{SparesOthers};
 ghost use Rattle.store_table.specs.Renewal.{HasPlaces, AcceptsOnce, IsOwn, AreRenewals, Renewed, Unrenewed, MayRenew, RenewsOld, AreGoodOnce, PassesOnce};
 
 use crate::check::{Own, RowCheck, TestsRows, judge, survey};
@@ -181,8 +180,6 @@ pub(crate) fn survey_old<S: Alter, C: RowCheck>(
 fn write_keys<S: Alter>(conn: &mut Connection<S>, keys: &[NewKey]) -> Result<(), Error>
     ensures done { HasCleanDisk (state S.Store conn.new) → (docs : List TableRow) → HoldsRows (state S.Store conn.old) docs
         → OnOk result (HoldsRows (state S.Store conn.new) (with_keys_at keys.now docs)) }
-    ensures spared { HasCleanDisk (state S.Store conn.new) → (docs : List TableRow) → HoldsRows (state S.Store conn.old) docs
-        → OnOk result (SparesOthers (state S.Store conn.old).now (state S.Store conn.new).now) }
     ensures kept { HasCleanDisk (state S.Store conn.new) → IsSettled (state S.Store conn.old)
         → OnErr result (KeepsAll (state S.Store conn.old) (state S.Store conn.new)) }
     ensures crash { Survives (state S.Store conn.old) (state S.Store conn.new)

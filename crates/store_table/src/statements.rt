@@ -7,7 +7,7 @@ ghost use Rattle.sqlite.specs.State.{HasCleanDisk, Survives};
 ghost use Rattle.store_table.specs.Rows.{TableRow, IsBlank, AreBelow, HasRows, HoldsRows, Inside, KeepsCommitted, docs_from, without_place, with_body_at, with_key_at, with_keys_at, is_row_named, last_place};
 ghost use Rattle.store_table.specs.Moves.{Stands};
 ghost use Rattle.store_table.specs.Open.{IsSettled, KeepsAll, HasCommitted};
-ghost use Rattle.store_table.specs.Beside.{StandsBeside, AreBeside, SparesOthers};
+ghost use Rattle.store_table.specs.Beside.{StandsBeside, AreBeside};
 ghost use Rattle.store_table.specs.Visit.{ReadsRows};
 ghost use Rattle.store_table.specs.Written.{WritesRows};
 
@@ -163,10 +163,6 @@ fn put<'a, 't, S: Alter>(
         → OnOk result (Inside (state S.Store tx.new.conn.now) first (docs ++ record { place = place; coll = coll.now; idkey = idkey.now; body = body.now } ∷ [])) }
     ensures refused { HasCleanDisk (state S.Store tx.new.conn.now) → (first docs : List TableRow) → Inside (state S.Store tx.old.conn.now) first docs
         → IsTrue (state S.Store tx.new.conn.now).is_open → OnErr result (KeepsCommitted (state S.Store tx.new.conn.now) first) }
-    ensures spared { HasCleanDisk (state S.Store tx.new.conn.now) → (first docs : List TableRow) → Inside (state S.Store tx.old.conn.now) first docs → AreBelow place docs
-        → OnOk result (SparesOthers (state S.Store tx.old.conn.now).now (state S.Store tx.new.conn.now).now) }
-    ensures inside { HasCleanDisk (state S.Store tx.new.conn.now) → IsTrue (state S.Store tx.old.conn.now).in_transaction → OnOk result (IsTrue (state S.Store tx.new.conn.now).in_transaction) }
-    ensures committed { HasCleanDisk (state S.Store tx.new.conn.now) → IsTrue (state S.Store tx.old.conn.now).in_transaction → HasCommitted (state S.Store tx.old.conn.now) (state S.Store tx.new.conn.now) }
     ensures crash { Survives (state S.Store tx.old.conn.now) (state S.Store tx.new.conn.now) (λ _. ⊥) }
 {
     tx.execute(
@@ -193,10 +189,6 @@ pub(crate) fn add_all<S: Alter>(
         → OnOk result (HoldsRows (state S.Store conn.new) (docs ++ docs_from (last +ℤ pos 1) coll.now rows.now)) }
     ensures refused { HasCleanDisk (state S.Store conn.new) → (docs : List TableRow) → HoldsRows (state S.Store conn.old) docs
         → IsTrue (state S.Store conn.new).is_open → OnErr result (HoldsRows (state S.Store conn.new) docs) }
-    ensures spared { HasCleanDisk (state S.Store conn.new) → (docs : List TableRow) → HoldsRows (state S.Store conn.old) docs
-        → OnOk result (SparesOthers (state S.Store conn.old).now (state S.Store conn.new).now) }
-    ensures kept { HasCleanDisk (state S.Store conn.new) → IsSettled (state S.Store conn.old)
-        → OnErr result (KeepsAll (state S.Store conn.old) (state S.Store conn.new)) }
     ensures crash { Survives (state S.Store conn.old) (state S.Store conn.new)
         (λ trees. (docs : List TableRow) → HoldsRows (state S.Store conn.old) docs → HasRows trees (docs ++ docs_from (last +ℤ pos 1) coll.now rows.now)) }
 {
@@ -223,8 +215,6 @@ fn rekey<'a, 't, S: Alter>(
         → OnOk result (Inside (state S.Store tx.new.conn.now) first (with_key_at place idkey.now docs)) }
     ensures refused { HasCleanDisk (state S.Store tx.new.conn.now) → (first docs : List TableRow) → Inside (state S.Store tx.old.conn.now) first docs
         → IsTrue (state S.Store tx.new.conn.now).is_open → OnErr result (KeepsCommitted (state S.Store tx.new.conn.now) first) }
-    ensures spared { HasCleanDisk (state S.Store tx.new.conn.now) → (first docs : List TableRow) → Inside (state S.Store tx.old.conn.now) first docs
-        → OnOk result (SparesOthers (state S.Store tx.old.conn.now).now (state S.Store tx.new.conn.now).now) }
     ensures inside { HasCleanDisk (state S.Store tx.new.conn.now) → IsTrue (state S.Store tx.old.conn.now).in_transaction → OnOk result (IsTrue (state S.Store tx.new.conn.now).in_transaction) }
     ensures committed { HasCleanDisk (state S.Store tx.new.conn.now) → IsTrue (state S.Store tx.old.conn.now).in_transaction → HasCommitted (state S.Store tx.old.conn.now) (state S.Store tx.new.conn.now) }
     ensures crash { Survives (state S.Store tx.old.conn.now) (state S.Store tx.new.conn.now) (λ _. ⊥) }
@@ -238,8 +228,6 @@ pub(crate) fn rekey_all<S: Alter>(conn: &mut Connection<S>, keys: &[NewKey]) -> 
         → OnOk result (HoldsRows (state S.Store conn.new) (with_keys_at keys.now docs)) }
     ensures refused { HasCleanDisk (state S.Store conn.new) → (docs : List TableRow) → HoldsRows (state S.Store conn.old) docs
         → IsTrue (state S.Store conn.new).is_open → OnErr result (HoldsRows (state S.Store conn.new) docs) }
-    ensures spared { HasCleanDisk (state S.Store conn.new) → (docs : List TableRow) → HoldsRows (state S.Store conn.old) docs
-        → OnOk result (SparesOthers (state S.Store conn.old).now (state S.Store conn.new).now) }
     ensures kept { HasCleanDisk (state S.Store conn.new) → IsSettled (state S.Store conn.old)
         → OnErr result (KeepsAll (state S.Store conn.old) (state S.Store conn.new)) }
     ensures crash { Survives (state S.Store conn.old) (state S.Store conn.new)

@@ -21,7 +21,6 @@ returns-in-Ok-clause-renewed g c clean live =
     let f = found accepts renews old mid r (c.in_ok-renewals.ensures.read early) in
     renewed_so accepts renews old mid r f (none_of r.twin c.in_default.not-Some) new live
     (λ ds shows. subst (λ (ks : List NewKey). HoldsRows new (with_keys_at ks ds)) c.as_slice.ensures.value (c.in-Ok.ensures.done clean ds shows))
-    (λ ds shows. c.in-Ok.ensures.spared clean ds shows)
 
 pub returns-in-Ok-clause-read : goal.returns-in-Ok-clause-read
 returns-in-Ok-clause-read g c clean =

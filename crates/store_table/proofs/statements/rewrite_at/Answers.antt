@@ -5,7 +5,7 @@ use Rattle.sqlite.specs.Held.{state}
 use Rattle.sqlite.specs.State.{HasCleanDisk, Executes, CommitsBy}
 use Rattle.store_table.specs.Rows.{HasRows, with_body_at}
 use Rattle.store_table.proofs.ChangeLemmas.{rewrites, rewrite_commits}
-use Rattle.store_table.proofs.WrittenLemmas.{not_prepared, not_prepared_others, written_by, written_err, crash_before, crash_after}
+use Rattle.store_table.proofs.WrittenLemmas.{not_prepared, written_by, written_err, crash_before, crash_after}
 use Rattle.store_table.proofs.Texts.{update_text}
 use Rattle.store_table.proofs.statements.rewrite_at.Goals as goal
 
@@ -36,7 +36,7 @@ pub returns-in_err-statement-clause-written : goal.returns-in_err-statement-clau
 returns-in_err-statement-clause-written g c clean =
     let old = state g.S.Store c.args.conn.now in
     let new = state g.S.Store c.prepare.new.self in
-    written_err old new (with_body_at c.args.place c.args.body.now) c.from_residual.result c.from_residual.ensures.0 (not_prepared _ [] old new _ (c.in_err-statement.ensures.err clean [])) (not_prepared_others _ [] old new _ (c.in_err-statement.ensures.err clean []))
+    written_err old new (with_body_at c.args.place c.args.body.now) c.from_residual.result c.from_residual.ensures.0 (not_prepared _ [] old new _ (c.in_err-statement.ensures.err clean []))
 
 pub returns-in_err-statement-clause-crash : goal.returns-in_err-statement-clause-crash
 returns-in_err-statement-clause-crash g c =

@@ -1,11 +1,11 @@
-use Rattle.std.proofs.Common.{◌≡◌, ◌+ℤ◌, ◌++◌, List, length, ℤ, pos, w64, to_z, of_z, ap, subst, ◌∙◌, arith}
+use Rattle.std.proofs.Common.{◌≡◌, ◌+ℤ◌, ◌++◌, List, ℤ, pos, w64, to_z, of_z, ap, subst, ◌∙◌, arith}
 use Rattle.std.proofs.lemmas.Int.{ints}
 use Rattle.sqlite.specs.Held.{state}
 use Rattle.sqlite.specs.State.{HasCleanDisk}
 use Rattle.store_table.specs.Rows.{TableRow, HasRows, docs_from}
 use Rattle.store_table.specs.Moves.{with_rows}
 use Rattle.store_table.proofs.StatementLemmas.{unchanged_shows}
-use Rattle.store_table.proofs.TableLemmas.{below_greatest, crash_written, left_rows, appends_err}
+use Rattle.store_table.proofs.TableLemmas.{below_greatest, crash_written, left_rows}
 use Rattle.store_table.proofs.table.Table.append_all.Goals as goal
 
 pub add_all-requires-clause-last : goal.add_all-requires-clause-last
@@ -42,14 +42,3 @@ returns-clause-settled g c clean docs stands db may =
     let shows = c.in_ok-add_all.ensures.added clean docs (unchanged_shows old mid docs h u) in
     subst (λ (ds : List TableRow). HasRows db ds) (ap (λ (p : ℤ). docs ++ docs_from (p +ℤ pos 1) c.args.coll.now rows) (same ∙ c.in_ok-last.ensures.place early docs h))
     (left_rows new _ db shows (g.met.S.Store.settled c.add_all.new.conn.store db shows.is_open may))
-
-pub returns-in_err-last-clause-moves : goal.returns-in_err-last-clause-moves
-returns-in_err-last-clause-moves g c clean = (
-  omega (arith, clean, c.greatest.ensures.crash.clean),
-  λ docs stands. (
-    docs,
-    (λ still. let it = (c.in_err-last.ensures.read clean).refused still in it.1 docs (stands it.0)),
-    appends_err (length c.args.rows.now) (with_rows c.args.coll.now c.args.rows.now) docs c.from_residual.result c.in_err-last.field-0.0 c.from_residual.ensures.1,
-    (c.in_err-last.ensures.read clean).others docs stands,
-  ),
-)

@@ -5,7 +5,7 @@ use Rattle.sqlite.specs.Tree.{Trees}
 use Rattle.sqlite.specs.State.{Survives}
 use Rattle.store_table.specs.Rows.{TableRow, HasRows, with_body_at}
 use Rattle.store_table.specs.Moves.{Stands}
-use Rattle.store_table.proofs.TableLemmas.{left_rows, changes_err}
+use Rattle.store_table.proofs.TableLemmas.{left_rows}
 use Rattle.store_table.proofs.table.Table.rewrite_at.Goals as goal
 
 pub returns-in_err-rewrite_at-clause-crash : goal.returns-in_err-rewrite_at-clause-crash
@@ -29,14 +29,3 @@ returns-clause-settled g c clean docs stands db may =
     let done = (c.in_ok-rewrite_at.ensures.written clean).done in
     let shows = done.1 docs (stands done.0) in
     subst (λ (p : ℤ). HasRows db (with_body_at p c.args.body.now docs)) same (left_rows new _ db shows (g.met.S.Store.settled c.rewrite_at.new.conn.store db shows.is_open may))
-
-pub returns-in_err-rewrite_at-clause-moves : goal.returns-in_err-rewrite_at-clause-moves
-returns-in_err-rewrite_at-clause-moves g c clean = (
-  omega (arith, clean, c.rewrite_at.ensures.crash.clean),
-  λ docs stands. (
-    docs,
-    (λ still. let it = (c.in_err-rewrite_at.ensures.written clean).refused still in it.1 docs (stands it.0)),
-    changes_err (with_body_at c.args.found.now.place c.args.body.now) docs c.from_residual.result c.in_err-rewrite_at.field-0.0 c.from_residual.ensures.1,
-    (c.in_err-rewrite_at.ensures.written clean).others docs stands,
-  ),
-)
