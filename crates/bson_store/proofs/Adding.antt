@@ -18,14 +18,15 @@ use Rattle.store_model.specs.declared.error.ErrorKind.{ErrorKind}
 use Rattle.store_model.specs.declared.error.ErrorKind.TheVariants.{DuplicateId, Places}
 use Rattle.store_model.proofs.Keys.{rows_are_a_state}
 use Rattle.store_model.proofs.Rows.{list_of-state_of, rows_last}
-use Rattle.store_streams.specs.Judging.{AreWrittenRows}
-use Rattle.store_streams.specs.Keys.{first_taken, keys_of, keys_of_rows}
-use Rattle.store_streams.proofs.Appending.{all_accepted, appending_all}
+use Rattle.store_documents.specs.Judging.{AreWrittenRows}
+use Rattle.store_documents.specs.Keys.{first_taken, keys_of, keys_of_rows}
+use Rattle.store_documents.proofs.Appending.{all_accepted, appending_all}
 use Rattle.bson_store.specs.Shown.{AreRowsOf, Rises, Represents}
 use Rattle.bson_store.specs.Calls.{Does}
 use Rattle.bson_store.specs.Many.{AddsAll, FindsTaken, IsAddFault, Lends, keys_in}
-use Rattle.bson_store.specs.Refusals.{kind_of_fault, refusal, refusal_at}
-use Rattle.bson_store.specs.declared.error.StoreError.{StoreError}
+use Rattle.bson_store.specs.Refusals.{kind_of_fault}
+use Rattle.store_model.specs.Refusal.{refusal, refusal_at}
+use Rattle.store_model.specs.declared.error.StoreError.{StoreError}
 use Rattle.bson_store.proofs.Keyed.{keys_are, row_keys_are}
 use Rattle.bson_store.proofs.Tables.{greater, last_greatest, each_more, rows_after}
 use Rattle.bson_store.proofs.Serving.{answers_stay, denied, undecided, memory_other, next_place, stays, room_is, full_is}

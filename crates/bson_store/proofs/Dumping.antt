@@ -20,14 +20,15 @@ use Rattle.store_model.specs.declared.error.ErrorKind.TheVariants as kind
 use Rattle.bson_store.specs.Shown.{Represents}
 use Rattle.bson_store.specs.Calls.{Does}
 use Rattle.bson_store.specs.Dump.{AreFirstTrees, HandedOn, HandsOn, HandsTrees, Stops, TellsTree, TakesAll}
-use Rattle.bson_store.specs.Refusals.{IsDenied, kind_of_fault, refusal}
+use Rattle.bson_store.specs.Refusals.{IsDenied, kind_of_fault}
+use Rattle.store_model.specs.Refusal.{refusal}
 use Rattle.bson_store.specs.declared.dump.JsonVisitor.{JsonVisitor}
 use Rattle.bson_store.specs.declared.dump.Trees.{Trees}
-use Rattle.bson_store.specs.declared.error.StoreError.{StoreError}
+use Rattle.store_model.specs.declared.error.StoreError.{StoreError}
 use Rattle.bson_store.proofs.Adding.{kept_there}
 use Rattle.bson_store.proofs.Exporting.{bodies_are}
 use Rattle.bson_store.proofs.Moving.{rests, moved}
-use Rattle.bson_store.proofs.Serving.{bad_name, denied, memory_other, stay, undecided}
+use Rattle.bson_store.proofs.Serving.{at_place, bad_name, denied, memory_other, stay, undecided}
 
 abbrev Told : Type 0
 Told = Result (List Data) (ErrorKind × ℕ)
@@ -175,10 +176,9 @@ handed_none old new was refused_by i next bodies body None e none hands h ds kep
     first : AreFirstTrees t.0 ds
     first = (p.front, p.d ∷ [], p.split, t.1)
 
-    by : HandsOn new refused_by t.0 i (json_of Canonical p.d) (Err e) → Stops new refused_by ds e
-    by (inl x) = (t.0, first, inl x)
-    by (inr (took, inl x)) = (t.0, first, inr (took, inl x))
-    by (inr (took, inr (x, tells, at))) = (
+    placed : new t.0 → (x : ErrorKind) → json_of Canonical p.d ≡ Err x → (e ≡ refusal kind.Memory) ⊎ (e ≡ record { kind = x; document = Some i }) → Stops new refused_by ds e
+    placed took x tells (inl at) = (t.0, first, inr (took, inl (faults.Memory, memory_other, at)))
+    placed took x tells (inr at) = (
       t.0,
       first,
       inr (
@@ -187,6 +187,11 @@ handed_none old new was refused_by i next bodies body None e none hands h ds kep
             (ap (λ l. trees_reply (trees_of 0 l)) p.split ∙ ap trees_reply (trees_stop 0 p.front p.d t.0 x t.1 tells) ∙ ap (λ n. refused x (Some n)) (zero-add (length t.0) ∙ sym t.2.1) ∙ sym (ap (λ (y : StoreError). refused y.kind y.document) at)),
       ),
     )
+
+    by : HandsOn new refused_by t.0 i (json_of Canonical p.d) (Err e) → Stops new refused_by ds e
+    by (inl x) = (t.0, first, inl x)
+    by (inr (took, inl x)) = (t.0, first, inr (took, inl x))
+    by (inr (took, inr (x, tells, at))) = placed took x tells (at_place x i e at)
 
 -- ---- one tree
 

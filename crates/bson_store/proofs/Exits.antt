@@ -22,7 +22,7 @@ use Rattle.store_model.specs.declared.error.ErrorKind.{ErrorKind}
 use Rattle.store_model.specs.declared.error.ErrorKind.TheVariants as kind
 use Rattle.bson_store.specs.Calls.{Does, DoesBytes, DoesTree, DoesRead, Looks}
 use Rattle.bson_store.specs.Refusals.{kind_of_fault}
-use Rattle.bson_store.specs.declared.error.StoreError.{StoreError}
+use Rattle.store_model.specs.declared.error.StoreError.{StoreError}
 use Rattle.bson_store.proofs.Moving.{rests, moved, moved_twice}
 use Rattle.bson_store.proofs.Serving.{answers_stay, bad_name, denied, undecided, memory_other, written_fits, insert_unwritten, insert_unfound, duplicate, put_in, not_put_in}
 use Rattle.bson_store.proofs.Replacing.{replace_unwritten, replace_unfound, replace_none, put_in_place, not_put_in_place}

@@ -21,9 +21,10 @@ use Rattle.store_model.specs.declared.error.ErrorKind.TheVariants as kind
 use Rattle.store_model.proofs.Rows.{list_of-state_of}
 use Rattle.bson_store.specs.Shown.{AreRowsOf, Represents}
 use Rattle.bson_store.specs.Calls.{Does}
-use Rattle.bson_store.specs.Refusals.{refusal, kind_of_fault}
+use Rattle.bson_store.specs.Refusals.{kind_of_fault}
+use Rattle.store_model.specs.Refusal.{refusal}
 use Rattle.bson_store.specs.Export.{ExportRefused, Exports, SendsCollection, Sent}
-use Rattle.bson_store.specs.declared.error.StoreError.{StoreError}
+use Rattle.store_model.specs.declared.error.StoreError.{StoreError}
 use Rattle.bson_store.proofs.Serving.{bad_name, answers_stay, denied, undecided, memory_other}
 use Rattle.bson_base.proofs.Members.{equal_keys, same_key}
 use Rattle.bson_base.proofs.Beginnings.{begun_first}

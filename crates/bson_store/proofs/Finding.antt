@@ -28,8 +28,9 @@ use Rattle.store_model.proofs.Ids.{has_written}
 use Rattle.store_model.proofs.Rows.{list_of-state_of, row_gone}
 use Rattle.bson_store.specs.Shown.{IsRowOf, AreRowsOf, Rises, Represents}
 use Rattle.bson_store.specs.Calls.{Does, FindsIn, Looks}
-use Rattle.bson_store.specs.Refusals.{IsDenied, kind_of_fault, refusal}
-use Rattle.bson_store.specs.declared.error.StoreError.{StoreError}
+use Rattle.bson_store.specs.Refusals.{IsDenied, kind_of_fault}
+use Rattle.store_model.specs.Refusal.{refusal}
+use Rattle.store_model.specs.declared.error.StoreError.{StoreError}
 use Rattle.bson_store.proofs.Tables.{absent, found, stands_at, each_more, rows_after}
 use Rattle.bson_store.proofs.Serving.{answers_stay, stay, denied, undecided, memory_other}
 

@@ -4,8 +4,9 @@ use Rattle.std.specs.FinMap.{empty}
 use Rattle.sqlite.specs.State.{State}
 use Rattle.store_table.specs.Rows.{TableRow}
 use Rattle.store_table.specs.Moves.{Moves, WasOpen}
+use Rattle.store_table.proofs.OthersLemmas.{others_then, shows_then}
 use Rattle.bson_store.specs.Refusals.{reply_by}
-use Rattle.bson_store.specs.declared.error.StoreError.{StoreError}
+use Rattle.store_model.specs.declared.error.StoreError.{StoreError}
 use Rattle.serde_json.specs.Data.{Data}
 use Rattle.store_model.specs.Reading.{Documents, Reading, ReadsBytes, ReadsTree}
 use Rattle.bson_store.specs.Calls.{Does, DoesBytes, DoesTree}
@@ -20,6 +21,7 @@ use Rattle.bson_store.specs.declared.command.Command.{Command}
 use Rattle.bson_store.specs.declared.command.Reply.{Reply}
 use Rattle.bson_store.proofs.Moving.{rests, moved, moved_twice}
 use Rattle.sqlite_trees.specs.Tree.{Trees}
+use Rattle.sqlite.specs.Effect.{Database}
 use Rattle.store_model.specs.Run.{Denials, Run}
 use Rattle.store_model.specs.Table.{DocumentTable, state_of}
 use Rattle.store_model.specs.Left.{LeftAlong}
@@ -72,15 +74,15 @@ lists_moved s t xs rs m = moved s t (AnswersThroughTables xs rs) (AnswersAsLists
 
 -- ---- what a crash leaves
 
-none_left : (s : State) → Moves s s (LeavesAsLists [] [] s.may_leave s.may_leave)
-none_left s = rests s (LeavesAsLists [] [] s.may_leave s.may_leave) (λ docs a shown. record { b = a; shown = shown; asked = []; asks = tt; denials = empty; run = refl; left = λ db may. may })
+none_left : (s : State) → Moves s s (LeavesAsLists [] [] s s)
+none_left s = rests s (LeavesAsLists [] [] s s) (λ docs first beside a shown. record { b = a; shown = shown; asked = []; asks = tt; denials = empty; run = refl; left = λ db may. may })
 
 -- a run, and that what a crash leaves is left along it
-abbrev LeftRun : (Trees → Type 0) → (Trees → Type 0) → Denials → DocumentTable → List model.Command → DocumentTable → List model.Reply → Type 0
-LeftRun Before After w a cs b qs = (run : Run w 0 (state_of a) cs qs (state_of b)) × ((db : Trees) → After db → LeftAlong Holds Before w 0 (state_of a) cs qs (state_of b) run db)
+abbrev LeftRun : Database → (Trees → Type 0) → (Trees → Type 0) → Denials → DocumentTable → List model.Command → DocumentTable → List model.Reply → Type 0
+LeftRun first Before After w a cs b qs = (run : Run w 0 (state_of a) cs qs (state_of b)) × ((db : Trees) → After db → LeftAlong (Holds first) Before w 0 (state_of a) cs qs (state_of b) run db)
 
-one_left : (old mid new : State) (xs : List Command) (rs : List Reply) (x : Command) (r : Reply) → Moves old mid (LeavesAsLists xs rs old.may_leave mid.may_leave) → Moves mid new (Obeys x r) → LeavesCommand x r mid new
-    → Moves old new (LeavesAsLists (xs ++ x ∷ []) (rs ++ r ∷ []) old.may_leave new.may_leave)
+one_left : (old mid new : State) (xs : List Command) (rs : List Reply) (x : Command) (r : Reply) → Moves old mid (LeavesAsLists xs rs old mid) → Moves mid new (Obeys x r) → LeavesCommand x r mid new
+    → Moves old new (LeavesAsLists (xs ++ x ∷ []) (rs ++ r ∷ []) old new)
 one_left old mid new xs rs x r so_far one crash clean =
     let n = one clean in
     let m = so_far n.0 in (
@@ -90,20 +92,21 @@ one_left old mid new xs rs x r so_far one crash clean =
           let z = n.1 y.0 y.1 in (
             z.0,
             z.1,
-            λ a shown.
-                let h = y.2 a shown in
+            (λ first beside a shown.
+                let h = y.2 first beside a shown in
                 let c = z.2.0 in
                 let d = z.2.2 h.b h.shown in
-                let g = left_goes_on Holds old.may_leave h.denials (state_of a) h.asked (map reply_of rs) (state_of h.b) (state_of d.0) c (reply_of r) h.run d.2.0 d.2.1.0 in
-                let both : LeftRun old.may_leave new.may_leave g.0 a (h.asked ++ c ∷ []) d.0 (map reply_of rs ++ reply_of r ∷ []) = (g.1.0, λ db may. g.1.1 db (left_more Holds mid.may_leave _ h.left (state_of h.b) c (reply_of r) db (crash c z.2.1 clean y.0 y.1 h.b h.shown db may))) in
-                let told = subst (LeftRun old.may_leave new.may_leave g.0 a (h.asked ++ c ∷ []) d.0) (sym (map_parts reply_of rs (r ∷ []))) both in
-                record { b = d.0; shown = d.1; asked = h.asked ++ c ∷ []; asks = asks_last xs h.asked x c h.asks z.2.1; denials = g.0; run = told.0; left = told.1 },
+                let g = left_goes_on (Holds first) old.may_leave h.denials (state_of a) h.asked (map reply_of rs) (state_of h.b) (state_of d.0) c (reply_of r) h.run d.2.0 d.2.1.0 in
+                let both : LeftRun first old.may_leave new.may_leave g.0 a (h.asked ++ c ∷ []) d.0 (map reply_of rs ++ reply_of r ∷ []) = (g.1.0, λ db may. g.1.1 db (left_more (Holds first) mid.may_leave _ h.left (state_of h.b) c (reply_of r) db (crash c z.2.1 clean first y.0 (shows_then first old mid beside y.3) y.1 h.b h.shown db may))) in
+                let told = subst (LeftRun first old.may_leave new.may_leave g.0 a (h.asked ++ c ∷ []) d.0) (sym (map_parts reply_of rs (r ∷ []))) both in
+                record { b = d.0; shown = d.1; asked = h.asked ++ c ∷ []; asks = asks_last xs h.asked x c h.asks z.2.1; denials = g.0; run = told.0; left = told.1 }),
+            others_then old mid new y.3 z.3,
           ),
     )
 
-the_end : (xs : List Command) (rs : List Reply) (Before After : Trees → Type 0) (old new : List TableRow) → LeavesAsLists xs rs Before After old new → LeavesTheEnd xs rs Before After old new
-the_end xs rs Before After old new h a s alone =
-    let k = h a s in
+the_end : (xs : List Command) (rs : List Reply) (old new : State) (docs after : List TableRow) → LeavesAsLists xs rs old new docs after → LeavesTheEnd xs rs old new docs after
+the_end xs rs old new docs after h first beside a s alone =
+    let k = h first beside a s in
     record {
       b = k.b;
       shown = k.shown;
@@ -111,11 +114,11 @@ the_end xs rs Before After old new h a s alone =
       asks = k.asks;
       denials = k.denials;
       run = k.run;
-      left = λ db may. left_in_the_end Holds Before k.denials (state_of a) (state_of k.b) k.asked (map reply_of rs) k.run (rows_not_empty a) alone db (k.left db may);
+      left = λ db may. left_in_the_end (Holds first) old.may_leave k.denials (state_of a) (state_of k.b) k.asked (map reply_of rs) k.run (rows_not_empty a) alone db (k.left db may);
     }
 
-pub ends_moved : (s t : State) (xs : List Command) (rs : List Reply) → Moves s t (LeavesAsLists xs rs s.may_leave t.may_leave) → Moves s t (LeavesTheEnd xs rs s.may_leave t.may_leave)
-ends_moved s t xs rs m = moved s t (LeavesAsLists xs rs s.may_leave t.may_leave) (LeavesTheEnd xs rs s.may_leave t.may_leave) m (the_end xs rs s.may_leave t.may_leave)
+pub ends_moved : (s t : State) (xs : List Command) (rs : List Reply) → Moves s t (LeavesAsLists xs rs s t) → Moves s t (LeavesTheEnd xs rs s t)
+ends_moved s t xs rs m = moved s t (LeavesAsLists xs rs s t) (LeavesTheEnd xs rs s t) m (the_end xs rs s t)
 
 ends_last : (rs : List Reply) (r : Reply) → EndsAccepted (rs ++ r ∷ []) → IsAccepted r
 ends_last [] r h = h
@@ -128,7 +131,7 @@ pub record SoFar (old : State) (commands rest : List Command) (replies : List Re
   pub split : done ++ rest ≡ commands
   pub counted : length replies ≡ length done
   pub run : Moves old new (AnswersThroughTables done replies)
-  pub left : Moves old new (LeavesAsLists done replies old.may_leave new.may_leave)
+  pub left : Moves old new (LeavesAsLists done replies old new)
   pub still : EndsOpen replies old new
 
 pub so_far_more : (old mid new : State) (commands rest left : List Command) (x : Command) (rs more : List Reply) (r : Reply) → rest ≡ x ∷ left → more ≡ rs ++ r ∷ [] → SoFar old commands rest rs mid → Moves mid new (Obeys x r) → WasOpenFor r mid new → LeavesCommand x r mid new → SoFar old commands left more new
@@ -138,15 +141,15 @@ so_far_more old mid new commands rest left x rs more r is put h one opened crash
   counted = omega (arith, ap length put, h.counted, length-append {A = Reply} rs (r ∷ []), length-append {A = Command} h.done (x ∷ []));
   run = subst (λ qs. Moves old new (AnswersThroughTables (h.done ++ x ∷ []) qs)) (sym put)
       (moved_twice old mid new (AnswersThroughTables h.done rs) (Obeys x r) (AnswersThroughTables (h.done ++ x ∷ []) (rs ++ r ∷ [])) h.run one (λ a b c f g. one_command a b c h.done rs x r f g));
-  left = subst (λ qs. Moves old new (LeavesAsLists (h.done ++ x ∷ []) qs old.may_leave new.may_leave)) (sym put) (one_left old mid new h.done rs x r h.left one crash);
+  left = subst (λ qs. Moves old new (LeavesAsLists (h.done ++ x ∷ []) qs old new)) (sym put) (one_left old mid new h.done rs x r h.left one crash);
   still = λ ends clean docs stands. let y = (h.run (one clean).0).1 docs stands in (opened (ends_last rs r (subst EndsAccepted put ends)) clean y.0 y.1).1;
 }
 
 pub so_far_all : (old new : State) (commands rest : List Command) (rs : List Reply) → rest ≡ [] → SoFar old commands rest rs new → Moves old new (AnswersThroughTables commands rs)
 so_far_all old new commands rest rs none h = subst (λ xs. Moves old new (AnswersThroughTables xs rs)) (sym (append-nil h.done) ∙ ap (λ y. h.done ++ y) (sym none) ∙ h.split) h.run
 
-pub so_far_left : (old new : State) (commands rest : List Command) (rs : List Reply) → rest ≡ [] → SoFar old commands rest rs new → Moves old new (LeavesAsLists commands rs old.may_leave new.may_leave)
-so_far_left old new commands rest rs none h = subst (λ xs. Moves old new (LeavesAsLists xs rs old.may_leave new.may_leave)) (sym (append-nil h.done) ∙ ap (λ y. h.done ++ y) (sym none) ∙ h.split) h.left
+pub so_far_left : (old new : State) (commands rest : List Command) (rs : List Reply) → rest ≡ [] → SoFar old commands rest rs new → Moves old new (LeavesAsLists commands rs old new)
+so_far_left old new commands rest rs none h = subst (λ xs. Moves old new (LeavesAsLists xs rs old new)) (sym (append-nil h.done) ∙ ap (λ y. h.done ++ y) (sym none) ∙ h.split) h.left
 
 pub so_far_open : (old new : State) (commands rest : List Command) (rs : List Reply) → SoFar old commands rest rs new → EndsOpen rs old new
 so_far_open old new commands rest rs h = h.still
@@ -157,7 +160,7 @@ so_far_start s commands rest rs is none = record {
   split = is;
   counted = ap length none;
   run = subst (λ qs. Moves s s (AnswersThroughTables [] qs)) (sym none) (rests s (AnswersThroughTables [] []) none_yet);
-  left = subst (λ qs. Moves s s (LeavesAsLists [] qs s.may_leave s.may_leave)) (sym none) (none_left s);
+  left = subst (λ qs. Moves s s (LeavesAsLists [] qs s s)) (sym none) (none_left s);
   still = λ ends. absurd (subst EndsAccepted none ends);
 }
 

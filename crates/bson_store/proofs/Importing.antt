@@ -1,5 +1,6 @@
 -- Exits of imports and loads.
-use Rattle.std.proofs.Common.{◌≡◌, inl, inr, ℕ, suc, ◌+◌, List, [], ◌∷◌, ◌++◌, Bool, true, false, cond, nat_lt, Option, Some, None, Result, Ok, Err, Vec, Global, refl, ap, ◌∙◌, sym, subst}
+use Rattle.std.proofs.Common.{◌≡◌, ◌⊎◌, inl, inr, ℕ, suc, ◌+◌, List, [], ◌∷◌, ◌++◌, Bool, true, false, cond, nat_lt, Option, Some, None, Result, Ok, Err, Vec, Global, refl, ap, ◌∙◌, sym, subst}
+use Rattle.std.specs.Prelude.{IsSomeAnd}
 use Rattle.std.proofs.lemmas.List.{append-nil}
 use Rattle.std.specs.Io.KnownBytes.{Consumes, IsAtEnd}
 use Rattle.bson_base.specs.Device.{Feed, TookAll, StopsReading}
@@ -13,20 +14,20 @@ use Rattle.store_table.specs.declared.fault.Fault.TheVariants as faults
 use Rattle.store_documents.specs.declared.write.KeptRow.{KeptRow}
 use Rattle.store_model.specs.Reading.{Documents, IsReadingKind, IsStop, ReadsStream}
 use Rattle.store_model.specs.State.{id_key, import, on, Reply, number, refused, refusal_of, or_later, first_refusal, Answers, IsName}
+use Rattle.store_model.specs.Table.{documents_of}
 use Rattle.store_model.specs.declared.error.ErrorKind.{ErrorKind}
 use Rattle.store_model.specs.declared.error.ErrorKind.TheVariants as kind
 use Rattle.store_model.proofs.Readings.{stream_read}
-use Rattle.store_streams.specs.declared.error.StreamError.{StreamError}
-use Rattle.store_streams.specs.declared.error.StreamError.TheVariants as streams
 use Rattle.bson_base.specs.declared.whole.ReadAllError.{ReadAllError}
 use Rattle.bson_base.specs.declared.whole.ReadAllError.TheVariants as reads
-use Rattle.store_streams.specs.Judging.{Judges}
-use Rattle.store_streams.proofs.Streams.{any_stream}
+use Rattle.store_documents.specs.Judging.{Judges}
+use Rattle.store_documents.proofs.Streams.{any_stream}
 use Rattle.bson_store.specs.Many.{AddsAll, DoesMany, IsAddFault, ImportRefused, Imports, TakesStream}
-use Rattle.bson_store.specs.Refusals.{as_number, kind_of_fault, kind_of_reading, refusal, refusal_of_stream, reply_by}
-use Rattle.bson_store.specs.declared.error.StoreError.{StoreError}
+use Rattle.bson_store.specs.Refusals.{as_number, kind_of_fault, reply_by}
+use Rattle.store_model.specs.Refusal.{kind_of_reading, refusal, refusal_at}
+use Rattle.store_model.specs.declared.error.StoreError.{StoreError}
 use Rattle.bson_store.proofs.Adding.{import_open}
-use Rattle.bson_store.proofs.Serving.{answers_stay, bad_name, denied, memory_other}
+use Rattle.bson_store.proofs.Serving.{answers_stay, at_place, bad_name, denied, memory_other}
 
 -- ---- what documents are refused for
 
@@ -78,11 +79,24 @@ refused_by ds l stop k i is = rw is (refl, refl)
 wanted : (docs : List TableRow) (n : List ℕ) (Reads : Documents → Option ErrorKind → Type 0) (ds : Documents) (stop : Option ErrorKind) → IsName n → Reads ds stop → DoesMany n Reads (refused kind.Memory None) docs docs
 wanted docs n Reads ds stop good reads = (ds, stop, reads, denied docs (on n (import ds stop)) faults.Memory memory_other (import_open n ds stop good))
 
+-- the first of the refusals, and its place
+first_told : (o : Option (ErrorKind × ℕ)) (e : StoreError) → IsSomeAnd o (λ x. e ≡ refusal_at x.0 x.1) → (k : ErrorKind) × (i : ℕ) × (o ≡ Some (k, i)) × (e ≡ refusal_at k i)
+first_told None e h = absurd h
+first_told (Some (k, i)) e h = (k, i, refl, h)
+
+refused_at : (docs : List TableRow) (n : List ℕ) (Reads : Documents → Option ErrorKind → Type 0) (ds : Documents) (stop : Option ErrorKind) (k : ErrorKind) (i : ℕ) (e : StoreError) → IsName n → Reads ds stop → first_refusal 0 ds stop ≡ Some (k, i)
+    → (e ≡ refusal kind.Memory) ⊎ (e ≡ record { kind = k; document = Some i }) → DoesMany n Reads (refused e.kind e.document) docs docs
+refused_at docs n Reads ds stop k i e good reads first (inl is) = subst (λ (x : StoreError). DoesMany n Reads (refused x.kind x.document) docs docs) (sym is) (wanted docs n Reads ds stop good reads)
+refused_at docs n Reads ds stop k i e good reads first (inr is) = subst (λ (x : StoreError). DoesMany n Reads (refused x.kind x.document) docs docs) (sym is)
+    (ds, stop, reads, answers_stay docs n (import ds stop) (refused k (Some i)) good (λ a s. refused_by ds (documents_of a n) stop k i first))
+
 -- they aren't judged to be kept
-pub many_refused : (docs : List TableRow) (n : List ℕ) (Reads : Documents → Option ErrorKind → Type 0) (x : StreamError) → IsName n → Judges Reads (Err x)
-    → DoesMany n Reads (reply_by as_number (Err (refusal_of_stream x))) docs docs
-many_refused docs n Reads (streams.Refused k i) good h = (h.0, h.1, h.2, answers_stay docs n (import h.0 h.1) (refused k (Some i)) good (λ a s. refused_by h.0 _ h.1 k i h.3))
-many_refused docs n Reads streams.Memory good h = wanted docs n Reads h.0 h.1 good h.2
+pub many_refused : (docs : List TableRow) (n : List ℕ) (Reads : Documents → Option ErrorKind → Type 0) (e : StoreError) → IsName n → Judges Reads (Err e)
+    → DoesMany n Reads (refused e.kind e.document) docs docs
+many_refused docs n Reads e good (ds, stop, reads, inl is) = subst (λ (x : StoreError). DoesMany n Reads (refused x.kind x.document) docs docs) (sym is) (wanted docs n Reads ds stop good reads)
+many_refused docs n Reads e good (ds, stop, reads, inr h) =
+    let t = first_told (first_refusal 0 ds stop) e h in
+    refused_at docs n Reads ds stop t.0 t.1 e good reads t.2 (at_place t.0 t.1 e t.3)
 
 -- they are
 pub many_added : (docs after : List TableRow) (n : List ℕ) (Reads : Documents → Option ErrorKind → Type 0) (rows : Vec KeptRow Global) (r : Result ℕ StoreError) → Judges Reads (Ok rows) → AddsAll n rows.items r docs after → DoesMany n Reads (reply_by as_number r) docs after
@@ -107,10 +121,24 @@ of_documents docs after n old new kind.Reader i told h = absurd told
 of_documents docs after n old new kind.Memory i told h = absurd told
 of_documents docs after n old new _ i told h = h
 
-pub import_refused : (docs : List TableRow) (n bytes : List ℕ) (old new : Feed) (x : StreamError) → IsName n → AreBytes bytes → TookAll old new bytes → Judges (ReadsStream bytes) (Err x) → Imports n old new (Err (refusal_of_stream x)) docs docs
-import_refused docs n bytes old new (streams.Refused k i) good range all h =
-    of_documents docs docs n old new k (Some i) (first_is 0 h.0 h.1 k i (stream_read bytes h.0 h.1 range h.2).1 h.3) (good, (bytes, all, many_refused docs n (ReadsStream bytes) (streams.Refused k i) good h))
-import_refused docs n bytes old new streams.Memory good range all h = memory_left docs docs n bytes old new good all refl
+pub import_refused : (docs : List TableRow) (n bytes : List ℕ) (old new : Feed) (e : StoreError) → IsName n → AreBytes bytes → TookAll old new bytes → Judges (ReadsStream bytes) (Err e) → Imports n old new (Err e) docs docs
+import_refused docs n bytes old new e good range all h = by h.3
+  where
+    at : ErrorKind → Option ℕ → Type 0
+    at k i = ImportRefused n old new k i docs docs
+
+    is_wanted : e ≡ refusal kind.Memory → at e.kind e.document
+    is_wanted is = subst (λ (x : StoreError). at x.kind x.document) (sym is) (memory_left docs docs n bytes old new good all refl)
+
+    is_told : (k : ErrorKind) (i : ℕ) → first_refusal 0 h.0 h.1 ≡ Some (k, i) → (e ≡ refusal kind.Memory) ⊎ (e ≡ record { kind = k; document = Some i }) → at e.kind e.document
+    is_told k i first (inl is) = is_wanted is
+    is_told k i first (inr is) = subst (λ (x : StoreError). at x.kind x.document) (sym is)
+        (of_documents docs docs n old new k (Some i) (first_is 0 h.0 h.1 k i (stream_read bytes h.0 h.1 range h.2).1 first)
+        (good, (bytes, all, subst (λ (x : StoreError). DoesMany n (ReadsStream bytes) (refused x.kind x.document) docs docs) is (many_refused docs n (ReadsStream bytes) e good h))))
+
+    by : (e ≡ refusal kind.Memory) ⊎ IsSomeAnd (first_refusal 0 h.0 h.1) (λ x. e ≡ refusal_at x.0 x.1) → at e.kind e.document
+    by (inl is) = is_wanted is
+    by (inr f) = let t = first_told (first_refusal 0 h.0 h.1) e f in is_told t.0 t.1 t.2 (at_place t.0 t.1 e t.3)
 
 pub import_added : (docs after : List TableRow) (n bytes : List ℕ) (old new : Feed) (rows : Vec KeptRow Global) (r : Result ℕ StoreError) → IsName n → TookAll old new bytes → Judges (ReadsStream bytes) (Ok rows)
     → AddsAll n rows.items r docs after → Imports n old new r docs after

@@ -13,14 +13,15 @@ use Rattle.store_documents.specs.declared.write.KeptRow.{KeptRow}
 use Rattle.store_model.specs.Reading.{Documents}
 use Rattle.store_model.specs.Table.{DocumentTable, documents_of, own_id}
 use Rattle.store_model.specs.declared.error.ErrorKind.TheVariants.{Memory}
-use Rattle.store_streams.specs.declared.keys.Keys.{Keys}
-use Rattle.store_streams.specs.Judging.{AreWrittenRows}
-use Rattle.store_streams.specs.Keys.{first_taken, has_met, keys_of, keys_of_rows}
-use Rattle.store_streams.proofs.Taken.{key_at, rows_below, ComeTo, come_start, come_more, come_there, come_again, come_end}
+use Rattle.store_documents.specs.declared.keys.Keys.{Keys}
+use Rattle.store_documents.specs.Judging.{AreWrittenRows}
+use Rattle.store_documents.specs.Keys.{first_taken, has_met, keys_of, keys_of_rows}
+use Rattle.store_documents.proofs.Taken.{key_at, rows_below, ComeTo, come_start, come_more, come_there, come_again, come_end}
 use Rattle.bson_store.specs.Shown.{AreRowsOf}
 use Rattle.bson_store.specs.Many.{Meets, FindsTaken, keys_in}
-use Rattle.bson_store.specs.Refusals.{refusal, kind_of_fault}
-use Rattle.bson_store.specs.declared.error.StoreError.{StoreError}
+use Rattle.bson_store.specs.Refusals.{kind_of_fault}
+use Rattle.store_model.specs.Refusal.{refusal}
+use Rattle.store_model.specs.declared.error.StoreError.{StoreError}
 use Rattle.bson_store.proofs.Serving.{memory_other, none_is, some_is}
 use Rattle.bson_base.proofs.Members.{key_turned}
 

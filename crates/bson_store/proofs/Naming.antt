@@ -20,9 +20,10 @@ use Rattle.store_model.proofs.Rows.{list_of-state_of}
 use Rattle.bson_store.specs.Calls.{Does}
 use Rattle.bson_store.specs.Export.{bytes_of_each}
 use Rattle.bson_store.specs.Questions.{as_names}
-use Rattle.bson_store.specs.Refusals.{kind_of_fault, refusal, reply_by}
+use Rattle.bson_store.specs.Refusals.{kind_of_fault, reply_by}
+use Rattle.store_model.specs.Refusal.{refusal}
 use Rattle.bson_store.specs.Shown.{AreRowsOf}
-use Rattle.bson_store.specs.declared.error.StoreError.{StoreError}
+use Rattle.store_model.specs.declared.error.StoreError.{StoreError}
 use Rattle.bson_store.proofs.Serving.{denied, memory_other, stays}
 use Rattle.bson_base.proofs.Members.{equal_keys, same_key}
 

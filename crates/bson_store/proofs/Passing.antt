@@ -11,9 +11,10 @@ use Rattle.store_model.specs.State.{AreKept, IsName, refused, trees_of, trees_re
 use Rattle.store_model.specs.Table.{documents_of}
 use Rattle.store_model.specs.declared.error.ErrorKind.TheVariants as kind
 use Rattle.bson_store.specs.Dump.{ChecksTrees, HandedOn, Stops, TakesAll}
-use Rattle.bson_store.specs.Refusals.{IsDenied, kind_of_fault, refusal}
+use Rattle.bson_store.specs.Refusals.{IsDenied, kind_of_fault}
+use Rattle.store_model.specs.Refusal.{refusal}
 use Rattle.bson_store.specs.declared.checking.Checker.{Checker}
-use Rattle.bson_store.specs.declared.error.StoreError.{StoreError}
+use Rattle.store_model.specs.declared.error.StoreError.{StoreError}
 use Rattle.bson_store.proofs.Adding.{kept_there}
 use Rattle.bson_store.proofs.Dumping.{front_kept, handed_nothing, parted, stops_longer}
 use Rattle.bson_store.proofs.Exporting.{bodies_are}

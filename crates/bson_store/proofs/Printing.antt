@@ -6,7 +6,7 @@ use Rattle.store_table.specs.Moves.{Visits}
 use Rattle.store_table.specs.declared.fault.Fault.{Fault}
 use Rattle.bson_store.specs.Dump.{HandedOn}
 use Rattle.bson_store.specs.declared.dump.JsonVisitor.{JsonVisitor}
-use Rattle.bson_store.specs.declared.error.StoreError.{StoreError}
+use Rattle.store_model.specs.declared.error.StoreError.{StoreError}
 use Rattle.bson_store.specs.declared.texts.TextVisitor.{TextVisitor}
 use Rattle.bson_store.proofs.Dumping.{Took}
 

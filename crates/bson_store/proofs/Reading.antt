@@ -10,7 +10,7 @@ use Rattle.store_model.specs.State.{Form, in_bytes, in_json, Call, insert, repla
 use Rattle.store_model.specs.Reading.{Documents}
 use Rattle.store_model.specs.Run.{IsUnread, IsDecidedCall}
 use Rattle.store_model.proofs.Plain.{any_tree}
-use Rattle.store_streams.proofs.Streams.{any_bytes}
+use Rattle.store_documents.proofs.Streams.{any_bytes}
 use Rattle.store_model.specs.declared.error.ErrorKind.{ErrorKind}
 use Rattle.store_model.specs.declared.error.ErrorKind.TheVariants.{BadName, Memory}
 use Rattle.bson_store.specs.Calls.{Does, DoesBytes, DoesTree, DoesRead}

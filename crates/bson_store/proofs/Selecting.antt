@@ -16,9 +16,10 @@ use Rattle.store_model.specs.Table.{DocumentTable, documents_of}
 use Rattle.bson_store.specs.Calls.{Does}
 use Rattle.bson_store.specs.Export.{bytes_of_each}
 use Rattle.bson_store.specs.Questions.{GivesPicked, Picked, Turns}
-use Rattle.bson_store.specs.Refusals.{IsDenied, kind_of_fault, refusal}
+use Rattle.bson_store.specs.Refusals.{IsDenied, kind_of_fault}
+use Rattle.store_model.specs.Refusal.{refusal}
 use Rattle.bson_store.specs.Shown.{Represents}
-use Rattle.bson_store.specs.declared.error.StoreError.{StoreError}
+use Rattle.store_model.specs.declared.error.StoreError.{StoreError}
 use Rattle.bson_store.specs.declared.picking.Copies.{Copies}
 use Rattle.bson_store.specs.declared.picking.Count.{Count}
 use Rattle.bson_store.specs.declared.picking.FilterVisitor.{FilterVisitor}

@@ -25,7 +25,9 @@ use Rattle.store_model.specs.State.{id_key, list_of, store, HasId, SomeHasId, No
 use Rattle.store_model.specs.Run.{memory, database, places, IsDecided, IsDecidedCall, IsUnread}
 use Rattle.store_model.specs.Table.{DocumentRow, DocumentTable, state_of, documents_of, greatest, greatest_place, Follows, Serves}
 use Rattle.store_model.specs.declared.error.ErrorKind.{ErrorKind}
-use Rattle.store_model.specs.declared.error.ErrorKind.TheVariants.{BadName, NoId, TooLong, DuplicateId, Places}
+use Rattle.store_model.specs.declared.error.ErrorKind.TheVariants.{BadName, NoId, TooLong, DuplicateId, Memory, Places}
+use Rattle.store_model.specs.declared.error.StoreError.{StoreError}
+use Rattle.store_model.specs.Refusal.{refusal, refusal_at}
 use Rattle.store_model.proofs.Rows.{rows_not_empty, list_of-state_of, rows_last}
 use Rattle.store_model.proofs.States.{stored_again}
 use Rattle.store_model.proofs.Ids.{own_is, own_of, has_written}
@@ -49,6 +51,11 @@ answers_stay docs n c r good answers a s = (a, s, stay a n c r good (answers a s
 
 pub memory_other : faults.Memory ≢ faults.Places
 memory_other e = cc
+
+-- the refusal of the document at a place tells the place, or that memory was wanted
+pub at_place : (k : ErrorKind) (i : ℕ) (e : StoreError) → e ≡ refusal_at k i → (e ≡ refusal Memory) ⊎ (e ≡ record { kind = k; document = Some i })
+at_place Memory i e is = inl is
+at_place _ i e is = inr is
 
 -- memory was wanted, or the database refused
 pub denied : (docs : List TableRow) (c : Command) (x : Fault) → x ≢ faults.Places → (IsDecided c → ⊥) → Does c (refused (kind_of_fault x) None) docs docs

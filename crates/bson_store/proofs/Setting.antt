@@ -1,5 +1,5 @@
 -- What set and unset make of the document whose written form was found.
-use Rattle.std.proofs.Common.{◌≡◌, ◌≢◌, ◌⊎◌, inl, inr, ℕ, List, ◌∷◌, ◌++◌, Bool, true, false, cond, Option, Some, None, Ok, Err, refl, ap, ◌∙◌, sym, arith, Vec, Global, Result}
+use Rattle.std.proofs.Common.{◌≡◌, ◌≢◌, ◌⊎◌, inl, inr, ℕ, List, ◌∷◌, ◌++◌, Bool, true, false, cond, Option, Some, None, Ok, Err, refl, ap, ◌∙◌, sym, Vec, Global, Result}
 use Rattle.std.specs.Prelude.{bytes_eq, unwrap_or}
 use Rattle.std.specs.Option.{option_map}
 use Rattle.bson_base.specs.Value.{Value, Members, no_members, look_up, has_key, put, without}
@@ -45,17 +45,8 @@ pub set_remakes : (id v : Value) (k : List ℕ) (f : Found) (b : Vec ℕ Global)
 set_remakes id v k f b free sets l front old back was kept at =
     let h = sets old kept was in (
       put k (norm_in_order v) old,
-      h.3,
-      inl (
-        free,
-        inl (
-          front,
-          old,
-          back,
-          at,
-          inr (λ deep. absurd (omega (arith, deep, h.0)), inl (h.1, inr (λ long. absurd (omega (arith, long, h.2)), (refl, refl)))),
-        ),
-      ),
+      h.1,
+      inl (free, inl (front, old, back, at, inl (h.0, refl, refl))),
       ap key (own_if (put k (norm_in_order v) old) old (set_own k (norm_in_order v) old free.0)),
     )
 
@@ -64,10 +55,8 @@ pub set_refused : (id v : Value) (k : List ℕ) (f : Found) (e : ErrorKind) → 
 set_refused id v k f e free sets l front old back was kept at = by (sets old kept was)
   where
     by : AnswersChanged (put k (norm_in_order v) old) (Err e) → Answers (set id k (Some v)) l (refused e None) l ⊎ (refused e None ≡ refused kind.Memory None)
-    by (inl h) = inl (inl (free, inl (front, old, back, at, inl (h.1, (ap (λ x. refused x None) h.0, refl)))))
-    by (inr (inl h)) = inl (inl (free, inl (front, old, back, at, inr (λ deep. absurd (omega (arith, deep, h.1)), inr (h.2, (ap (λ x. refused x None) h.0, refl))))))
-    by (inr (inr (inl h))) = inl (inl (free, inl (front, old, back, at, inr (λ deep. absurd (omega (arith, deep, h.1)), inl (h.2, inl (h.3, (ap (λ x. refused x None) h.0, refl)))))))
-    by (inr (inr (inr h))) = inr (ap (λ x. refused x None) h)
+    by (inl h) = inl (inl (free, inl (front, old, back, at, inr (e, h, (refl, refl)))))
+    by (inr h) = inr (ap (λ x. refused x None) h)
 
 -- ---- unset
 

@@ -12,7 +12,7 @@ use Rattle.store_model.specs.Table.{DocumentTable, Serves, documents_of}
 use Rattle.store_documents.specs.Bodies.{IsKeyOf}
 use Rattle.bson_store.specs.Shown.{Represents}
 use Rattle.bson_store.specs.Refusals.{IsDenied}
-use Rattle.bson_store.specs.declared.error.StoreError.{StoreError}
+use Rattle.store_model.specs.declared.error.StoreError.{StoreError}
 use Rattle.sqlite_trees.specs.declared.store.Store.{Ghosts}
 use Rattle.sqlite.specs.State.{State}
 use Rattle.sqlite.specs.Held.{Held}

@@ -11,14 +11,10 @@ use Rattle.store_model.specs.State.{AreKept, IsName, refused, trees_of, trees_re
 use Rattle.store_model.specs.Table.{DocumentTable, documents_of}
 use Rattle.store_model.specs.declared.error.ErrorKind.{ErrorKind}
 use Rattle.store_model.specs.declared.error.ErrorKind.TheVariants.{BadName, Memory}
-use Rattle.bson_store.specs.Refusals.{IsDenied, refusal, refusal_at}
+use Rattle.bson_store.specs.Refusals.{IsDenied}
+use Rattle.store_model.specs.Refusal.{refusal, refusal_at}
 use Rattle.bson_store.specs.Shown.{Represents}
-use Rattle.bson_store.specs.declared.error.StoreError.{StoreError}
-
--- the refusal of the document at a place; want of memory has none
-abbrev pub told_at : ErrorKind → ℕ → StoreError
-told_at Memory i = refusal Memory
-told_at k i = refusal_at k i
+use Rattle.store_model.specs.declared.error.StoreError.{StoreError}
 
 -- the tree that is wanted, or the refusal that stands in its place, or want of memory
 abbrev pub TellsTree : Result Data ErrorKind → ℕ → Result Json StoreError → Type 0

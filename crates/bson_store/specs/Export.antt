@@ -11,7 +11,7 @@ use Rattle.store_model.specs.Table.{DocumentTable, state_of}
 use Rattle.store_model.specs.declared.error.ErrorKind.{ErrorKind}
 use Rattle.store_model.specs.declared.error.ErrorKind.TheVariants.{BadName, Memory, Database, Writer}
 use Rattle.bson_store.specs.Shown.{Represents}
-use Rattle.bson_store.specs.declared.error.StoreError.{StoreError}
+use Rattle.store_model.specs.declared.error.StoreError.{StoreError}
 
 -- All of bs went out; or a beginning of it did, and a call of the sink failed where `Writer` is told, and none where `Memory` or
 -- `Database` is.

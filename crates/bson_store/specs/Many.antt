@@ -13,14 +13,15 @@ use Rattle.store_model.specs.Table.{DocumentTable, documents_of}
 use Rattle.store_model.specs.declared.error.ErrorKind.{ErrorKind}
 use Rattle.store_model.specs.declared.error.ErrorKind.TheVariants.{BadName, DuplicateId, Memory, Reader}
 use Rattle.bson_base.specs.declared.whole.ReadAllError.TheVariants as reads
-use Rattle.store_streams.specs.declared.keys.Keys.{Keys}
+use Rattle.store_documents.specs.declared.keys.Keys.{Keys}
 use Rattle.bson_base.specs.Device.{Feed, TookAll, StopsReading}
-use Rattle.store_streams.specs.Judging.{AreWrittenRows}
-use Rattle.store_streams.specs.Keys.{first_taken, has_met, keys_of_rows}
+use Rattle.store_documents.specs.Judging.{AreWrittenRows}
+use Rattle.store_documents.specs.Keys.{first_taken, has_met, keys_of_rows}
 use Rattle.bson_store.specs.Shown.{Represents}
 use Rattle.bson_store.specs.Calls.{Does}
-use Rattle.bson_store.specs.Refusals.{IsDenied, as_number, kind_of_fault, refusal, refusal_at, reply_by}
-use Rattle.bson_store.specs.declared.error.StoreError.{StoreError}
+use Rattle.bson_store.specs.Refusals.{IsDenied, as_number, kind_of_fault, reply_by}
+use Rattle.store_model.specs.Refusal.{refusal, refusal_at}
+use Rattle.store_model.specs.declared.error.StoreError.{StoreError}
 
 -- ---- what comes in
 

@@ -4,15 +4,16 @@ use Rattle.sqlite.specs.State.{State, IsUnchanged}
 use Rattle.bson_meaning.specs.Before.{key as key_before}
 use Rattle.store_table.specs.Rows.{TableRow, HoldsRows, IsBlank}
 use Rattle.store_table.specs.Open.{HasNoTable}
-use Rattle.store_table.specs.Beside.{StandsBeside}
+use Rattle.store_table.specs.Beside.{StandsBeside, SparesOthers}
 use Rattle.store_table.specs.Renewal.{Unopened, PassesOnce}
-use Rattle.store_table.specs.Schema.{documents_schema}
+use Rattle.store_table.specs.Schema.{HasStoreTable}
 use Rattle.store_table.specs.declared.opening.OpenError.{OpenError}
 use Rattle.store_documents.specs.Bodies.{IsRow}
 use Rattle.store_model.specs.Table.{DocumentTable, own_id}
 use Rattle.bson_store.specs.Shown.{Represents, RepresentsOnce}
-use Rattle.bson_store.specs.Refusals.{kind_of_opening, refusal}
-use Rattle.bson_store.specs.declared.error.StoreError.{StoreError}
+use Rattle.bson_store.specs.Refusals.{kind_of_opening}
+use Rattle.store_model.specs.Refusal.{refusal}
+use Rattle.store_model.specs.declared.error.StoreError.{StoreError}
 
 -- A row that a store can have written, under its key of now or under the one that its `_id` had before the two zeros of a double
 -- meant the same; the key of now is given beside the one that it has.
@@ -27,13 +28,13 @@ RepresentsSome docs = (a : DocumentTable) × Represents docs a
 abbrev pub StandFor : List TableRow → List TableRow → Type 0
 StandFor docs after = ((a : DocumentTable) × RepresentsOnce docs a × Represents after a) × ((a : DocumentTable) → RepresentsOnce docs a → Represents after a)
 
--- The table was made, beside what there was, or is found with the rows that it had, each under its key of now; nothing is written
--- where all had that.
+-- The table was made, beside what there was, or is found with the rows that it had, each under its key of now, and the other tables
+-- as they were; nothing is written where all had that.
 pub record Opens (old new : State) : Type 0 where
   pub made : IsBlank old → HoldsRows new []
   pub beside : HasNoTable old → StandsBeside old new
-  pub found : (docs : List TableRow) → HoldsRows old docs → (after : List TableRow) × HoldsRows new after × StandFor docs after
-  pub listed : old.now.schema ≡ documents_schema → (docs : List TableRow) × (after : List TableRow) × HoldsRows old docs × HoldsRows new after × StandFor docs after
+  pub found : (docs : List TableRow) → HoldsRows old docs → (after : List TableRow) × HoldsRows new after × StandFor docs after × SparesOthers old.now new.now
+  pub listed : HasStoreTable old.now.schema → (docs : List TableRow) × (after : List TableRow) × HoldsRows old docs × HoldsRows new after × StandFor docs after
   pub other : HasNoTable old ⊎ PassesOnce IsRowUnder old new
   pub unwritten : (docs : List TableRow) → HoldsRows old docs → RepresentsSome docs → IsUnchanged old new
 

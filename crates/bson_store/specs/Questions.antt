@@ -13,7 +13,7 @@ use Rattle.store_model.specs.Table.{DocumentTable, documents_of}
 use Rattle.bson_store.specs.Export.{bytes_of_each}
 use Rattle.bson_store.specs.Refusals.{IsDenied}
 use Rattle.bson_store.specs.Shown.{Represents}
-use Rattle.bson_store.specs.declared.error.StoreError.{StoreError}
+use Rattle.store_model.specs.declared.error.StoreError.{StoreError}
 
 abbrev pub as_list : Vec (Vec ℕ Global) Global → Reply
 as_list v = bytes_list (bytes_of_each v.items)

@@ -1,5 +1,5 @@
 -- What the refusals of the table are told as, and what a call's result is as a reply.
-use Rattle.std.specs.Prelude.{◌≡◌, ◌≢◌, Bool, ℕ, Some, None, Result, Ok, Err, Vec, map}
+use Rattle.std.specs.Prelude.{◌≡◌, ◌≢◌, Bool, ℕ, Result, Ok, Err, Vec, map}
 use Rattle.std.specs.declared.alloc.Global.{Global}
 use Rattle.serde_json.specs.View.{view as data_of}
 use Rattle.serde_json.specs.declared.value.Value.{Value as Json}
@@ -9,12 +9,9 @@ use Rattle.store_table.specs.declared.opening.OpenError.{OpenError}
 use Rattle.store_table.specs.declared.opening.OpenError.TheVariants as opens
 use Rattle.store_model.specs.State as model
 use Rattle.store_model.specs.declared.error.ErrorKind.{ErrorKind}
-use Rattle.store_model.specs.declared.error.ErrorKind.TheVariants.{NotAStore, BadRow, IdsCollide, Memory, Database, Places, Reader}
-use Rattle.store_streams.specs.declared.error.StreamError.{StreamError}
-use Rattle.store_streams.specs.declared.error.StreamError.TheVariants as streams
-use Rattle.bson_base.specs.declared.whole.ReadAllError.{ReadAllError}
-use Rattle.bson_base.specs.declared.whole.ReadAllError.TheVariants as reads
-use Rattle.bson_store.specs.declared.error.StoreError.{StoreError}
+use Rattle.store_model.specs.declared.error.ErrorKind.TheVariants.{NotAStore, BadRow, IdsCollide, Memory, Database, Places}
+use Rattle.store_model.specs.Refusal.{refusal}
+use Rattle.store_model.specs.declared.error.StoreError.{StoreError}
 
 abbrev pub kind_of_fault : Fault → ErrorKind
 kind_of_fault faults.Memory = Memory
@@ -27,22 +24,6 @@ kind_of_opening (opens.BadRow place) = BadRow place
 kind_of_opening (opens.IdsCollide first second) = IdsCollide first second
 kind_of_opening opens.Memory = Memory
 kind_of_opening opens.Database = Database
-
-abbrev pub kind_of_reading : ReadAllError → ErrorKind
-kind_of_reading reads.Reader = Reader
-kind_of_reading reads.Memory = Memory
-
--- a refusal of a call of one document
-abbrev pub refusal : ErrorKind → StoreError
-refusal k = record { kind = k; document = None }
-
--- the refusal of the document at a place
-abbrev pub refusal_at : ErrorKind → ℕ → StoreError
-refusal_at k i = record { kind = k; document = Some i }
-
-abbrev pub refusal_of_stream : StreamError → StoreError
-refusal_of_stream (streams.Refused k i) = refusal_at k i
-refusal_of_stream streams.Memory = refusal Memory
 
 -- memory was wanted, or the database refused
 abbrev pub IsDenied : StoreError → Type 0

@@ -11,13 +11,12 @@ ghost use Rattle.bson_store.specs.Left.{Leaves, LeavesTheEnd, LeavesAsLists, Lea
 ghost use Rattle.bson_store.specs.Runs.{Exported, Imported, IsLent, Obeys, AnswersAsLists, AnswersThroughTables, EndsOpen, WasOpenFor, reply_of};
 
 use crate::command::{Command, Reply};
-use crate::error::StoreError;
 use crate::store::Store;
 use bson_model::{SliceSource, VecSink};
 use serde_json::Value;
 use sqlite::Alter;
 use std::alloc::AllocError;
-use store_model::ErrorKind;
+use store_model::{ErrorKind, StoreError};
 
 fn done(outcome: Result<(), StoreError>) -> Reply
     ensures { reply_of result ≡ reply_by as_done outcome }
@@ -187,12 +186,12 @@ pub fn run<S: Alter + Drop>(
     ensures lists { IfOk result (λ replies. Relates S.Store store.old store.new (AnswersAsLists commands.items replies.items)) }
     // Where the last command was accepted the connection is open, so these rows are in its table.
     ensures open { IfOk result (λ replies. EndsOpen replies.items (store_state S.Store store.old) (store_state S.Store store.new)) }
-    // What a crash leaves now is left along this run, from what it might leave before.
+    // What a crash leaves now is left along this run, from what it might leave before, with the other tables as they were.
     ensures crash { IfOk result (λ replies. Moves (store_state S.Store store.old) (store_state S.Store store.new)
-        (LeavesAsLists commands.items replies.items (store_state S.Store store.old).may_leave (store_state S.Store store.new).may_leave)) }
+        (LeavesAsLists commands.items replies.items (store_state S.Store store.old) (store_state S.Store store.new))) }
     // So where a crash could leave one state alone before, it leaves the state at the end, or what one of the commands makes of that.
     ensures ends { IfOk result (λ replies. Moves (store_state S.Store store.old) (store_state S.Store store.new)
-        (LeavesTheEnd commands.items replies.items (store_state S.Store store.old).may_leave (store_state S.Store store.new).may_leave)) }
+        (LeavesTheEnd commands.items replies.items (store_state S.Store store.old) (store_state S.Store store.new))) }
     // Where memory was wanted for the replies, no command was done.
     ensures err { OnErr result (store.new ≡ store.old) }
 {

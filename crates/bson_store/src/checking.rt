@@ -11,14 +11,13 @@ ghost use Rattle.sqlite.specs.State.{Survives};
 ghost use Rattle.bson_store.specs.Calls.{store_state, Relates};
 ghost use Rattle.bson_store.specs.Dump.{ChecksTrees, HandsOn};
 
-use crate::dump::refused_at;
-use crate::error::StoreError;
+use crate::error::fault_refusal;
 use crate::store::{Store, good_name};
 use bson_model::extjson::Mode;
 use sqlite::Alter;
 use std::alloc::Global;
 use store_documents::check_json;
-use store_model::ErrorKind;
+use store_model::{ErrorKind, StoreError};
 use store_table::Visit;
 
 /// Returns the place behind that of a body of the collection, if its document has a tree.
@@ -26,7 +25,7 @@ fn pass(alloc: Global, body: &[u8], place: u64) -> Result<u64, StoreError>
     ensures { (out : List Data) (d : Members) → IsKept d → body.now ≡ encode d → HandsOn (λ _. Unit {0}) (λ _ _. ⊥) out place (json_of Canonical d) result }
 {
     if let Err(kind) = check_json(alloc, body, Mode::Canonical) {
-        return Err(refused_at(kind, place));
+        return Err(StoreError::at(kind, place));
     }
     match place.checked_add(1) {
         Some(next) => Ok(next),
@@ -91,7 +90,7 @@ impl<S: Alter + Drop> Store<S> {
         }
         match visited {
             Ok(_) => Ok(()),
-            Err(fault) => Err(StoreError::from(fault)),
+            Err(fault) => Err(fault_refusal(fault)),
         }
     }
 }

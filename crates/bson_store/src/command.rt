@@ -1,10 +1,10 @@
 //! Commands and replies.
 
-use crate::error::StoreError;
 use bson_model::Bson;
 use bson_model::extjson::Mode;
 use serde_json::Value;
 use store_filter::Filter;
+use store_model::StoreError;
 
 /// A call of the store: the one of its name.
 #[derive(Drop)]

@@ -10,22 +10,22 @@ ghost use Rattle.store_table.specs.Moves.{WasOpen};
 ghost use Rattle.store_model.specs.State.{IsKept, dump, on, json_of};
 ghost use Rattle.sqlite.specs.State.{Survives};
 ghost use Rattle.bson_store.specs.Calls.{store_state, Does, Relates};
-ghost use Rattle.bson_store.specs.Dump.{HandsOn, HandsTrees, TellsTree, told_at};
+ghost use Rattle.bson_store.specs.Dump.{HandsOn, HandsTrees, TellsTree};
 ghost use Rattle.bson_store.specs.Refusals.{as_json_list, reply_by};
 
-use crate::error::StoreError;
+use crate::error::fault_refusal;
 use crate::store::{Store, good_name};
 use bson_model::extjson::Mode;
 use serde_json::Value;
 use sqlite::Alter;
 use std::alloc::Global;
 use store_documents::json_of_body;
-use store_model::ErrorKind;
+use store_model::{ErrorKind, StoreError};
 use store_table::Visit;
 
 /// What is done with the trees of a collection's documents, which come one at a time.
 pub trait TakeJson {
-    ghost use Rattle.bson_store.specs.declared.error.StoreError.{StoreError};
+    ghost use Rattle.store_model.specs.declared.error.StoreError.{StoreError};
 
     /// Since it was the first, the second has taken these trees, in this order.
     ghost took: { Self → Self → List Data → Type 0 };
@@ -39,26 +39,13 @@ pub trait TakeJson {
         ensures refused { (first : Self) (out : List Data) → took first self.old out → IfErr result (refused first self.new out) };
 }
 
-/// The refusal of the document at a place; out of memory has none.
-pub(crate) fn refused_at(kind: ErrorKind, document: u64) -> StoreError
-    ensures { result ≡ told_at kind document }
-{
-    match kind {
-        ErrorKind::Memory => StoreError::from(kind),
-        kind => StoreError {
-            kind,
-            document: Some(document),
-        },
-    }
-}
-
 /// The tree of the body at a place of the collection.
 fn tree_at(alloc: Global, body: &[u8], place: u64) -> Result<Value, StoreError>
     ensures { (d : Members) → IsKept d → body.now ≡ encode d → TellsTree (json_of Canonical d) place result }
 {
     match json_of_body(alloc, body, Mode::Canonical) {
         Ok(json) => Ok(json),
-        Err(kind) => Err(refused_at(kind, place)),
+        Err(kind) => Err(StoreError::at(kind, place)),
     }
 }
 
@@ -175,7 +162,7 @@ impl<S: Alter + Drop> Store<S> {
         }
         match visited {
             Ok(_) => Ok(taker),
-            Err(fault) => Err((StoreError::from(fault), taker)),
+            Err(fault) => Err((fault_refusal(fault), taker)),
         }
     }
 

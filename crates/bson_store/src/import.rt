@@ -13,28 +13,26 @@ ghost use Rattle.bson_store.specs.Left.{LeavesMany, LeavesRows, ReadsFed};
 ghost use Rattle.store_documents.specs.Names.{name_bytes};
 ghost use Rattle.bson_base.specs.Kinds.{AreBytes};
 ghost use Rattle.store_model.specs.Reading.{ReadsStream, ReadsTrees};
-ghost use Rattle.store_streams.specs.Judging.{Judges};
-ghost use Rattle.store_streams.specs.Keys.{has_met};
-ghost use Rattle.store_streams.specs.Loading.{HasTaken};
+ghost use Rattle.store_documents.specs.Judging.{Judges};
+ghost use Rattle.store_documents.specs.Keys.{has_met};
+ghost use Rattle.store_documents.specs.Loading.{HasTaken};
 ghost use Rattle.bson_store.specs.Calls.{store_state, Relates};
 ghost use Rattle.bson_store.specs.Many.{AddsAll, DoesMany, FindsTaken, Imports, Lends, Meets};
-ghost use Rattle.bson_store.specs.Refusals.{as_number, refusal_at, reply_by};
-ghost use Rattle.store_model.specs.declared.error.ErrorKind.TheVariants.{DuplicateId};
+ghost use Rattle.bson_store.specs.Refusals.{as_number, reply_by};
 
-use crate::error::StoreError;
+use crate::error::fault_refusal;
 use crate::store::{Store, good_name};
 use bson_base::read_all;
 use bson_model::Source;
 use serde_json::Value;
 use sqlite::Alter;
 use std::alloc::{AllocError, Global};
-use store_documents::{KeptRow, Name};
-use store_model::ErrorKind;
-use store_streams::{Keys, Loader, StreamError, first_repeated, judge_stream, judge_trees};
+use store_documents::{KeptRow, Keys, Loader, Name, first_repeated, judge_stream, judge_trees};
+use store_model::{ErrorKind, StoreError};
 use store_table::{Fault, NewRow};
 
 /// The rows of the documents of a stream.
-fn judged(alloc: Global, stream: &[u8]) -> Result<Vec<KeptRow<'_>>, StreamError>
+fn judged(alloc: Global, stream: &[u8]) -> Result<Vec<KeptRow<'_>>, StoreError>
     ensures rows { Judges (ReadsStream stream.now) result }
     ensures range { AreBytes stream.now }
 {
@@ -55,16 +53,6 @@ fn new_rows<'a>(alloc: Global, rows: &'a [KeptRow<'_>]) -> Result<Vec<NewRow<'a>
     Ok(new)
 }
 
-/// The refusal of the document at a place whose `_id` is there already.
-fn duplicate(document: u64) -> StoreError
-    ensures { result ≡ refusal_at DuplicateId document }
-{
-    StoreError {
-        kind: ErrorKind::DuplicateId,
-        document: Some(document),
-    }
-}
-
 impl<S: Alter + Drop> Store<S> {
     /// Whether a key is in the collection or was met before. Where it wasn't, it is met now.
     fn is_taken<'a>(
@@ -78,7 +66,10 @@ impl<S: Alter + Drop> Store<S> {
         ensures crash { Survives (store_state S.Store self.old) (store_state S.Store self.new) (λ _. ⊥) }
         ensures met { IfOk result (λ taken. taken ≡ false → (k : List ℕ) → has_met met.new k ≡ bytes_eq k key.now || has_met met.old k) }
     {
-        let found = self.table.place_of(collection, key)?;
+        let found = match self.table.place_of(collection, key) {
+            Ok(found) => found,
+            Err(fault) => return Err(fault_refusal(fault)),
+        };
         if let Some(_) = found {
             return Ok(true);
         }
@@ -118,7 +109,10 @@ impl<S: Alter + Drop> Store<S> {
         ensures open { HasCleanDisk (store_state S.Store self.new) → (docs : List TableRow) → Stands (store_state S.Store self.old) docs → IfOk result (λ _. IsTrue (store_state S.Store self.new).is_open → IsTrue (store_state S.Store self.old).is_open) }
         ensures crash { Survives (store_state S.Store self.old) (store_state S.Store self.new) (λ _. ⊥) }
     {
-        let is_empty = self.table.is_empty()?;
+        let is_empty = match self.table.is_empty() {
+            Ok(is_empty) => is_empty,
+            Err(fault) => return Err(fault_refusal(fault)),
+        };
         if is_empty {
             let place = first_repeated(self.alloc, rows)?;
             return Ok(place);
@@ -145,11 +139,13 @@ impl<S: Alter + Drop> Store<S> {
         let collection = name.as_str();
         let taken = self.first_taken(collection, rows)?;
         if let Some(document) = taken {
-            return Err(duplicate(document));
+            return Err(StoreError::at(ErrorKind::DuplicateId, document));
         }
         let new = new_rows(self.alloc, rows)?;
-        self.write_all(collection, new.as_slice())?;
-        Ok(new.len() as u64)
+        match self.write_all(collection, new.as_slice()) {
+            Ok(()) => Ok(new.len() as u64),
+            Err(fault) => Err(fault_refusal(fault)),
+        }
     }
 
     /// Puts the documents of a stream last in the collection `name`, in their order, and returns how many they are: the

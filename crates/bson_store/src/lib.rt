@@ -30,9 +30,8 @@ pub use bson_raw::{
 };
 pub use command::{Command, Reply};
 pub use dump::TakeJson;
-pub use error::StoreError;
 pub use store::Store;
+pub use store_documents::Loader;
 pub use store_filter::{Filter, look_up, selects};
-pub use store_model::{ErrorKind, laws};
-pub use store_streams::Loader;
+pub use store_model::{ErrorKind, StoreError, laws};
 pub use texts::TakeText;

@@ -5,12 +5,11 @@ ghost use Rattle.store_table.specs.Names.{has_name};
 ghost use Rattle.store_model.specs.State.{AreAscending};
 ghost use Rattle.store_model.specs.declared.error.ErrorKind.TheVariants.{Memory};
 ghost use Rattle.bson_store.specs.Export.{bytes_of_each};
-ghost use Rattle.bson_store.specs.Refusals.{refusal};
+ghost use Rattle.store_model.specs.Refusal.{refusal};
 
-use crate::error::StoreError;
 use std::alloc::Global;
 use std::collections::BTreeSet;
-use store_model::ErrorKind;
+use store_model::{ErrorKind, StoreError};
 
 /// Puts a name last.
 fn add_name(names: &mut Vec<String>, name: Vec<u8>) -> Result<(), StoreError>

@@ -12,12 +12,11 @@ ghost use Rattle.bson_store.specs.Export.{bytes_of_each};
 ghost use Rattle.bson_store.specs.Questions.{IsPick, Turns};
 ghost use Rattle.bson_store.specs.Refusals.{IsDenied};
 
-use crate::error::StoreError;
 use crate::export::push_copy;
 use bson_raw::RawDocument;
 use std::alloc::{AllocError, Global};
 use store_filter::{Filter, project, selects};
-use store_model::ErrorKind;
+use store_model::{ErrorKind, StoreError};
 use store_table::Visit;
 
 /// What is kept of the documents that a filter selects.

@@ -1,6 +1,6 @@
 //! Questions to collections: which there are, and what a filter selects of one.
 
-ghost use Rattle.std.specs.Prelude.{◌≡◌, []};
+ghost use Rattle.std.specs.Prelude.{[]};
 ghost use Rattle.store_filter.specs.Filters.{filter_of, path_of};
 ghost use Rattle.store_table.specs.Moves.{WasOpen};
 ghost use Rattle.store_documents.specs.Names.{name_bytes};
@@ -10,13 +10,14 @@ ghost use Rattle.bson_store.specs.Calls.{Does, store_state, Relates};
 ghost use Rattle.bson_store.specs.Questions.{Picked, as_list, as_names};
 ghost use Rattle.bson_store.specs.Refusals.{as_number, reply_by};
 
-use crate::error::StoreError;
+use crate::error::fault_refusal;
 use crate::names::names_of;
 use crate::picking::{Copies, Count, FilterVisitor, Projections, Take};
 use crate::store::{Store, good_name};
 use sqlite::Alter;
 use store_documents::Name;
 use store_filter::Filter;
+use store_model::StoreError;
 
 impl<S: Alter + Drop> Store<S> {
     /// The names that hold a document, ascending by their bytes.
@@ -27,8 +28,10 @@ impl<S: Alter + Drop> Store<S> {
         ensures open { WasOpen (store_state S.Store self.old) (store_state S.Store self.new) result }
         ensures crash { Survives (store_state S.Store self.old) (store_state S.Store self.new) (λ _. ⊥) }
     {
-        let names = self.table.collections()?;
-        names_of(self.alloc, names)
+        match self.table.collections() {
+            Ok(names) => names_of(self.alloc, names),
+            Err(fault) => Err(fault_refusal(fault)),
+        }
     }
 
     /// What is kept of the documents of a collection that a filter selects.
@@ -48,7 +51,10 @@ impl<S: Alter + Drop> Store<S> {
             taker,
             fault: None,
         };
-        self.table.visit_bodies(name.as_str(), &mut picker)?;
+        match self.table.visit_bodies(name.as_str(), &mut picker) {
+            Ok(_) => {}
+            Err(fault) => return Err(fault_refusal(fault)),
+        }
         let FilterVisitor {
             filter: _,
             taker,

@@ -15,14 +15,15 @@ ghost use Rattle.bson_store.specs.Left.{FindsState, Holds, HoldsOnce, Keeps, Lea
 ghost use Rattle.store_table.specs.Rows.{TableRow, with_body_at};
 ghost use Rattle.bson_store.specs.Calls.{store_connection, store_state, Does, DoesBytes, DoesTree, DoesRead, Looks, Relates};
 ghost use Rattle.bson_store.specs.Export.{SendsCollection};
-ghost use Rattle.bson_store.specs.Refusals.{refusal, reply_by, as_done, as_flag, as_bytes, as_json};
+ghost use Rattle.bson_store.specs.Refusals.{reply_by, as_done, as_flag, as_bytes, as_json};
+ghost use Rattle.store_model.specs.Refusal.{refusal};
 ghost use Rattle.store_documents.specs.Bodies.{AnswersWritten};
 ghost use Rattle.store_documents.specs.Names.{name_bytes};
 ghost use Rattle.store_model.specs.Reading.{IsRead, read_value};
 ghost use Rattle.store_model.specs.State.{IsName, IsFreeKey, in_bytes, in_json, insert, replace, set, unset, remove, get_raw, get_json, on};
 ghost use Rattle.store_model.specs.declared.error.ErrorKind.TheVariants.{BadName, Database, NotAStore};
 
-use crate::error::StoreError;
+use crate::error::{fault_refusal, opening_refusal};
 use crate::export::ExportVisitor;
 use crate::row_test::RowTest;
 use bson_bytes::put::has_no_zero;
@@ -33,10 +34,10 @@ use serde_json::Value;
 use sqlite::{Alter, Connection};
 use std::alloc::Global;
 use store_documents::{
-    KeptRow, Name, body_with, body_without, json_of_body, key_of_id, row_of_bytes, row_of_json,
-    value_of_json,
+    ID_KEY, KeptRow, Name, body_with, body_without, json_of_body, key_of_id, row_of_bytes,
+    row_of_json, value_of_json,
 };
-use store_model::ErrorKind;
+use store_model::{ErrorKind, StoreError};
 use store_table::{Fault, Found, Table};
 
 /// The name of a collection. BadName if it can't be one.
@@ -53,7 +54,7 @@ pub(crate) fn good_name(name: &str) -> Result<Name<'_>, StoreError>
 fn is_free(key: &str) -> bool
     ensures { IsTrue result ↔ IsFreeKey key.now }
 {
-    key != "_id" && has_no_zero(key.as_bytes())
+    key != ID_KEY && has_no_zero(key.as_bytes())
 }
 
 /// Named collections of documents, one document for each `_id` in a collection.
@@ -83,14 +84,14 @@ impl<S: Alter + Drop> Store<S> {
         ensures busy { IsTrue (state S.Store connection).in_transaction → IsErrAnd result (λ e. (e.0 ≡ refusal Database) × (e.1 ≡ connection)) }
         // Where `sqlite` opened the connection over a database that holds a state, under keys of now or from before, whatever a
         // crash did to it, the store has that state, and a crash leaves it alone. A crash in the open leaves the old keys or the
-        // new ones, and both stand for the state; keys of now are left where the database had no others.
+        // new ones, and both stand for the state; keys of now are left where the database had no others. The other tables stay.
         ensures finds { (x : Lists) → FindsState HoldsOnce (state S.Store connection) x → IfOk result (λ s. HasCleanDisk (store_state S.Store s) → Keeps (store_state S.Store s) x) }
-        ensures leaves { (x : Lists) → FindsState Holds (state S.Store connection) x → IfErr result (λ e. HasCleanDisk (state S.Store e.1) → LeavesOnly Holds (state S.Store e.1) x) }
-        ensures leaves_old { (x : Lists) → FindsState HoldsOnce (state S.Store connection) x → IfErr result (λ e. HasCleanDisk (state S.Store e.1) → LeavesOnly HoldsOnce (state S.Store e.1) x) }
+        ensures leaves { (x : Lists) → FindsState Holds (state S.Store connection) x → IfErr result (λ e. HasCleanDisk (state S.Store e.1) → LeavesOnly (Holds (state S.Store connection).now) (state S.Store e.1) x) }
+        ensures leaves_old { (x : Lists) → FindsState HoldsOnce (state S.Store connection) x → IfErr result (λ e. HasCleanDisk (state S.Store e.1) → LeavesOnly (HoldsOnce (state S.Store connection).now) (state S.Store e.1) x) }
     {
         match Table::open(alloc, connection, &RowTest { alloc }) {
             Ok(table) => Ok(Store { table, alloc }),
-            Err((error, connection)) => Err((StoreError::from(error), connection)),
+            Err((error, connection)) => Err((opening_refusal(error), connection)),
         }
     }
 
@@ -131,13 +132,18 @@ impl<S: Alter + Drop> Store<S> {
     {
         let collection = name.as_str();
         let key = row.key.as_slice();
-        let found = self.table.place_of(collection, key)?;
+        let found = match self.table.place_of(collection, key) {
+            Ok(found) => found,
+            Err(fault) => return Err(fault_refusal(fault)),
+        };
         if let Some(_) = found {
             return Err(StoreError::from(ErrorKind::DuplicateId));
         }
         let body = row.body.as_slice();
-        self.put_last(collection, key, body)?;
-        Ok(())
+        match self.put_last(collection, key, body) {
+            Ok(()) => Ok(()),
+            Err(fault) => Err(fault_refusal(fault)),
+        }
     }
 
     /// Puts a document, whose row this is, in the place of that of a collection with its `_id`.
@@ -150,12 +156,18 @@ impl<S: Alter + Drop> Store<S> {
     {
         let collection = name.as_str();
         let key = row.key.as_slice();
-        let Some(found) = self.table.named(collection, key)? else {
+        let found = match self.table.named(collection, key) {
+            Ok(found) => found,
+            Err(fault) => return Err(fault_refusal(fault)),
+        };
+        let Some(found) = found else {
             return Err(StoreError::from(ErrorKind::NotFound));
         };
         let body = row.body.as_slice();
-        self.put_back(&found, body)?;
-        Ok(())
+        match self.put_back(&found, body) {
+            Ok(()) => Ok(()),
+            Err(fault) => Err(fault_refusal(fault)),
+        }
     }
 
     /// The row of the document of a collection whose `_id` means the same as `id`.
@@ -173,8 +185,10 @@ impl<S: Alter + Drop> Store<S> {
         };
         let collection = name.as_str();
         let key = key.as_slice();
-        let found = self.table.named(collection, key)?;
-        Ok(found)
+        match self.table.named(collection, key) {
+            Ok(found) => Ok(found),
+            Err(fault) => Err(fault_refusal(fault)),
+        }
     }
 
     /// Puts the document that `bytes` mean last in the collection `name`, and makes the collection where it isn't
@@ -256,8 +270,10 @@ impl<S: Alter + Drop> Store<S> {
         let old = found.body.as_slice();
         let body = body_with(self.alloc, old, key, value)?;
         let body = body.as_slice();
-        self.put_back(&found, body)?;
-        Ok(())
+        match self.put_back(&found, body) {
+            Ok(()) => Ok(()),
+            Err(fault) => Err(fault_refusal(fault)),
+        }
     }
 
     /// Takes a top key out of the document of the collection `name` whose `_id` means the same as `id`, and says
@@ -283,8 +299,10 @@ impl<S: Alter + Drop> Store<S> {
             return Ok(false);
         }
         let body = unset.body.as_slice();
-        self.put_back(&found, body)?;
-        Ok(true)
+        match self.put_back(&found, body) {
+            Ok(()) => Ok(true),
+            Err(fault) => Err(fault_refusal(fault)),
+        }
     }
 
     /// Takes the document of the collection `name` whose `_id` means the same as `id` away.
@@ -299,8 +317,10 @@ impl<S: Alter + Drop> Store<S> {
         let Some(found) = self.row_of(name, id)? else {
             return Err(StoreError::from(ErrorKind::NotFound));
         };
-        self.table.remove_at(&found)?;
-        Ok(())
+        match self.table.remove_at(&found) {
+            Ok(()) => Ok(()),
+            Err(fault) => Err(fault_refusal(fault)),
+        }
     }
 
     /// The written form of the document of the collection `name` whose `_id` means the same as `id`.
@@ -356,8 +376,10 @@ impl<S: Alter + Drop> Store<S> {
         if sender.failed {
             return Err(StoreError::from(ErrorKind::Writer));
         }
-        sent?;
-        Ok(())
+        match sent {
+            Ok(_) => Ok(()),
+            Err(fault) => Err(fault_refusal(fault)),
+        }
     }
 
     /// The allocator that the store takes its memory from.

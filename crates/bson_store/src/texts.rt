@@ -12,18 +12,17 @@ ghost use Rattle.sqlite.specs.State.{Survives};
 ghost use Rattle.bson_store.specs.Calls.{store_state, Relates};
 ghost use Rattle.bson_store.specs.Dump.{HandsOn, HandsTrees, TellsText};
 
-use crate::dump::refused_at;
-use crate::error::StoreError;
+use crate::error::fault_refusal;
 use crate::store::{Store, good_name};
 use sqlite::Alter;
 use std::alloc::Global;
 use store_documents::text_of_body;
-use store_model::ErrorKind;
+use store_model::{ErrorKind, StoreError};
 use store_table::Visit;
 
 /// What is done with the texts of the trees of a collection's documents, which come one at a time.
 pub trait TakeText {
-    ghost use Rattle.bson_store.specs.declared.error.StoreError.{StoreError};
+    ghost use Rattle.store_model.specs.declared.error.StoreError.{StoreError};
 
     /// Since it was the first, the second has taken the texts of these trees, in this order.
     ghost took: { Self → Self → List Data → Type 0 };
@@ -44,7 +43,7 @@ fn text_at(alloc: Global, body: &[u8], place: u64, text: &mut String) -> Result<
 {
     match text_of_body(alloc, body, text) {
         Ok(()) => Ok(()),
-        Err(kind) => Err(refused_at(kind, place)),
+        Err(kind) => Err(StoreError::at(kind, place)),
     }
 }
 
@@ -152,7 +151,7 @@ impl<S: Alter + Drop> Store<S> {
         }
         match visited {
             Ok(_) => Ok(taker),
-            Err(fault) => Err((StoreError::from(fault), taker)),
+            Err(fault) => Err((fault_refusal(fault), taker)),
         }
     }
 }

@@ -18,7 +18,7 @@ use Rattle.store_model.proofs.States.{stored_again}
 use Rattle.store_model.proofs.Unmoved.{unmoved}
 use Rattle.bson_store.specs.Calls.{Does, DoesTree}
 use Rattle.bson_store.specs.Refusals.{reply_by}
-use Rattle.bson_store.specs.declared.error.StoreError.{StoreError}
+use Rattle.store_model.specs.declared.error.StoreError.{StoreError}
 use Rattle.bson_store.proofs.Moving.{moved}
 use Rattle.cli_commands.specs.Answers.{answer_by}
 use Rattle.cli_commands.specs.Execute.{IsRefusedBy, Performs}
@@ -53,10 +53,8 @@ replace_stays d None (Some id) ds es k i h = at_id_stays id ds es k i _ (λ fron
 replace_stays d (Some x) own ds es k i h = h.1
 
 puts_back_stays : (ds front : Documents) (d : Members) (back es : Documents) (k : ErrorKind) (i : Option ℕ) → PutsBack ds front d back (refused k i) es → es ≡ ds
-puts_back_stays ds front d back es k i (inl h) = h.1.1
-puts_back_stays ds front d back es k i (inr (shallow, inl (plain, inl h))) = h.1.1
-puts_back_stays ds front d back es k i (inr (shallow, inl (plain, inr h))) = let e = h.1.0 in cc
-puts_back_stays ds front d back es k i (inr (shallow, inr h)) = h.1.1
+puts_back_stays ds front d back es k i (inl h) = let e = h.1 in cc
+puts_back_stays ds front d back es k i (inr h) = h.2.1
 
 import_stays : (o : Option (ErrorKind × ℕ)) (ds more es : Documents) (k : ErrorKind) (i : Option ℕ)
     → MatchOption o (Appends 0 ds ds more (refused k i) es) (λ x. (refused k i ≡ refused x.0 (Some x.1)) × (es ≡ ds)) → es ≡ ds

@@ -9,9 +9,10 @@ use Rattle.store_model.specs.State.{Command, Reply, on}
 use Rattle.store_model.specs.State as model
 use Rattle.store_model.specs.Table.{DocumentTable, IsRefusal}
 use Rattle.store_model.specs.declared.error.ErrorKind.TheVariants.{Memory, Reader, Writer}
+use Rattle.store_model.specs.Refusal.{refusal}
+use Rattle.store_model.specs.declared.error.StoreError.{StoreError}
 use Rattle.bson_store.specs.Calls.{Does, DoesTree}
-use Rattle.bson_store.specs.Refusals.{refusal, reply_by}
-use Rattle.bson_store.specs.declared.error.StoreError.{StoreError}
+use Rattle.bson_store.specs.Refusals.{reply_by}
 use Rattle.bson_store.proofs.Moving.{moved, rests}
 use Rattle.cli_words.specs.Words.{Takes}
 use Rattle.cli_words.specs.declared.call.Call.{Call}

@@ -2,7 +2,7 @@
 use Rattle.std.proofs.Common.{◌≡◌, inl, inr, ℕ, Err, sym, ap, ◌∙◌, subst}
 use Rattle.store_model.specs.declared.error.ErrorKind.{ErrorKind}
 use Rattle.store_model.specs.declared.error.ErrorKind.TheVariants.{Memory}
-use Rattle.bson_store.specs.declared.error.StoreError.{StoreError}
+use Rattle.store_model.specs.declared.error.StoreError.{StoreError}
 use Rattle.cli_commands.specs.Execute.{Fails, IsFault}
 use Rattle.cli_commands.specs.declared.stop.Failure.TheVariants.{Refused}
 use Rattle.cli_commands.proofs.Told.{IsDevice}

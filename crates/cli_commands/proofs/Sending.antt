@@ -14,9 +14,10 @@ use Rattle.store_model.specs.declared.error.ErrorKind.{ErrorKind}
 use Rattle.store_model.specs.declared.error.ErrorKind.TheVariants as kind
 use Rattle.bson_store.specs.Dump.{ChecksTrees, HandsTrees, Stops}
 use Rattle.bson_store.specs.Export.{ExportRefused, SendsCollection}
-use Rattle.bson_store.specs.Refusals.{IsDenied, refusal}
+use Rattle.bson_store.specs.Refusals.{IsDenied}
+use Rattle.store_model.specs.Refusal.{refusal}
 use Rattle.bson_store.specs.Shown.{Represents}
-use Rattle.bson_store.specs.declared.error.StoreError.{StoreError}
+use Rattle.store_model.specs.declared.error.StoreError.{StoreError}
 use Rattle.bson_store.proofs.Moving.{moved, moved_twice}
 use Rattle.bson_store.proofs.Serving.{bad_name, denied, memory_other, stay, undecided}
 use Rattle.cli_words.specs.declared.call.Call.TheVariants as words

@@ -11,8 +11,9 @@ use Rattle.store_model.specs.declared.error.ErrorKind.{ErrorKind}
 use Rattle.store_model.specs.declared.error.ErrorKind.TheVariants as kind
 use Rattle.bson_store.specs.Shown.{Represents}
 use Rattle.bson_store.specs.Many.{DoesMany, ImportRefused, Imports, TakesStream}
-use Rattle.bson_store.specs.Refusals.{reply_by, refusal, as_number}
-use Rattle.bson_store.specs.declared.error.StoreError.{StoreError}
+use Rattle.bson_store.specs.Refusals.{reply_by, as_number}
+use Rattle.store_model.specs.Refusal.{refusal}
+use Rattle.store_model.specs.declared.error.StoreError.{StoreError}
 use Rattle.bson_store.proofs.Moving.{moved, rests}
 use Rattle.bson_store.proofs.Serving.{bad_name}
 use Rattle.cli_words.specs.declared.lines.UsageError.{UsageError}
@@ -69,7 +70,7 @@ module _ (s t : Connected) (Meant : Command → Type 0) (n : List ℕ) (Unread :
 
 -- no bytes read as no document
 nothing_read : ReadsStream [] [] None
-nothing_read = ([], None, refl, (refl, refl))
+nothing_read = ([], None, refl, refl)
 
 module _ (s t : Connected) (n : List ℕ) (Unread : UsageError → Type 0) (fed left : Feed) where
   allowed : (bytes : List ℕ) → IsName n → TookAll fed left bytes → Allows (IsOfStream n fed left) n (ReadsStream bytes)

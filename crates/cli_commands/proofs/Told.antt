@@ -12,7 +12,7 @@ use Rattle.bson_model.specs.declared.extjson.de.Error.{Error}
 use Rattle.bson_meaning.specs.Meaning.{norm_in_order}
 use Rattle.bson_meaning.specs.declared.gating.GateError.{GateError}
 use Rattle.bson_meaning.specs.declared.gating.GateError.TheVariants as gate
-use Rattle.store_model.specs.Reading.{Documents, Reading, readable, unreadable, kind_of_gate_error, IsReadingKind, IsStop, IsUncut, IsUnfit, KeepsRead, Cuts, ReadsBytes, ReadsEach, ReadsStream, ReadsTree, ReadsTrees}
+use Rattle.store_model.specs.Reading.{Documents, Reading, readable, unreadable, kind_of_gate_error, IsReadingKind, IsStop, IsUncut, IsUnfit, IsUnkeepable, KeepsRead, Cuts, ReadsBytes, ReadsEach, ReadsStream, ReadsTree, ReadsTrees}
 use Rattle.store_model.specs.Run.{Denial, Turn, kind_of_denial, memory, database, places}
 use Rattle.store_model.specs.State.{State, id_key, Call, insert, replace, set, unset, remove, get_raw, get_json, find, count, project, import, export, dump, Command, on, collections, done, refused, or_finite, json_of, tree_reply, tree_first, trees_of, trees_reply, When, Refuses, refusal_of, or_later, first_refusal, Appends, AtId, IsTaken, PutsBack, Answers, Step}
 use Rattle.store_model.specs.Table.{DocumentTable, state_of, Serves}
@@ -69,9 +69,11 @@ tree_kind (object js) k h = read_kind (read_members js) k h
 
 each_stop : {A : Type 0} (Reads : A → Reading → Type 0) → ((a : A) (k : ErrorKind) → Reads a (unreadable k) → IsReadingKind k) → (xs : List A) (behind : Option ErrorKind) (ds : Documents) (stop : Option ErrorKind) → IsStop behind
     → ReadsEach Reads xs behind ds stop → IsStop stop
-each_stop Reads kinds [] behind ds stop b h = subst IsStop (sym h.1) b
-each_stop Reads kinds (a ∷ more) behind ds stop b (inl (k, reads, none, is)) = subst IsStop (sym is) (kinds a k reads)
-each_stop Reads kinds (a ∷ more) behind ds stop b (inr (d, rest, reads, is, h)) = each_stop Reads kinds more behind rest stop b h
+each_stop Reads kinds [] behind [] stop b h = subst IsStop (sym h) b
+each_stop Reads kinds [] behind (d ∷ ds) stop b h = absurd h
+each_stop Reads kinds (a ∷ more) behind [] None b h = absurd h
+each_stop Reads kinds (a ∷ more) behind [] (Some k) b h = kinds a k h
+each_stop Reads kinds (a ∷ more) behind (d ∷ ds) stop b h = each_stop Reads kinds more behind ds stop b h.1
 
 pub trees_stop : (js : List Data) (ds : Documents) (stop : Option ErrorKind) → ReadsTrees js ds stop → IsStop stop
 trees_stop js ds stop h = each_stop ReadsTree tree_kind js None ds stop tt h
@@ -145,11 +147,15 @@ replace_device m None None ds es k i r h d = absurd h
 replace_device m None (Some id) ds es k i r h d = at_id_device id ds es k i _ (λ front old back x z. let e = x.0 in cc) h d
 replace_device m (Some x) own ds es k i r h d = told_as k x i None h.0 (refusal_kind m x r) d
 
+unkeepable_device : (m : Members) (k : ErrorKind) → IsUnkeepable m k → IsDevice k → ⊥
+unkeepable_device m kind.TooDeep h d = d
+unkeepable_device m kind.Nul h d = d
+unkeepable_device m kind.TooLong h d = d
+unkeepable_device m _ h d = absurd h
+
 puts_back_device : (ds front : Documents) (m : Members) (back es : Documents) (k : ErrorKind) (i : Option ℕ) → PutsBack ds front m back (refused k i) es → IsDevice k → ⊥
-puts_back_device ds front m back es k i (inl h) d = told_as k kind.TooDeep i None h.1.0 (λ z. z) d
-puts_back_device ds front m back es k i (inr (shallow, inl (plain, inl h))) d = told_as k kind.TooLong i None h.1.0 (λ z. z) d
-puts_back_device ds front m back es k i (inr (shallow, inl (plain, inr h))) d = let e = h.1.0 in cc
-puts_back_device ds front m back es k i (inr (shallow, inr h)) d = told_as k kind.Nul i None h.1.0 (λ z. z) d
+puts_back_device ds front m back es k i (inl h) d = let e = h.1 in cc
+puts_back_device ds front m back es k i (inr h) d = told_as k h.0 i None h.2.0 (unkeepable_device m h.0 h.1) d
 
 import_device : (o : Option (ErrorKind × ℕ)) (ds more es : Documents) (stop : Option ErrorKind) (k : ErrorKind) (i : Option ℕ) → IsStop stop → first_refusal 0 more stop ≡ o
     → MatchOption o (Appends 0 ds ds more (refused k i) es) (λ x. (refused k i ≡ refused x.0 (Some x.1)) × (es ≡ ds)) → IsDevice k → ⊥

@@ -2,7 +2,7 @@
 use Rattle.std.specs.Prelude.{Bool, ℕ, Result, Ok, Err, Vec, String}
 use Rattle.std.specs.declared.alloc.Global.{Global}
 use Rattle.serde_json.specs.declared.value.Value.{Value as Json}
-use Rattle.bson_store.specs.declared.error.StoreError.{StoreError}
+use Rattle.store_model.specs.declared.error.StoreError.{StoreError}
 use Rattle.cli_commands.specs.declared.answer.Answer.{Answer}
 use Rattle.cli_commands.specs.declared.answer.Answer.TheVariants.{Nothing, Flag, Number, Tree, Documents, Names}
 use Rattle.cli_commands.specs.declared.stop.Failure.{Failure}

@@ -13,9 +13,9 @@ use Rattle.cli_words.specs.declared.lines.UsageError.{UsageError}
 use Rattle.cli_words.specs.declared.lines.UsageError.TheVariants.{Line}
 use Rattle.cli_words.specs.declared.words.Words.{Words as Wording}
 use Rattle.bson_store.specs.Export.{Exports}
-use Rattle.bson_store.specs.Refusals.{refusal}
+use Rattle.store_model.specs.Refusal.{refusal}
 use Rattle.bson_store.specs.Shown.{Represents}
-use Rattle.bson_store.specs.declared.error.StoreError.{StoreError}
+use Rattle.store_model.specs.declared.error.StoreError.{StoreError}
 use Rattle.cli_commands.specs.Commands.{AsksFor, Complains, TookSome}
 use Rattle.cli_commands.specs.declared.answer.Answer.{Answer}
 use Rattle.cli_commands.specs.declared.stop.Failure.{Failure}

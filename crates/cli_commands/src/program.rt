@@ -2,7 +2,10 @@
 
 ghost use Rattle.std.specs.Prelude.{◌≡◌, ◌≤◌, Result};
 ghost use Rattle.bson_base.specs.Device.{CanFail, CanRefuse};
-ghost use Rattle.bson_store.specs.Calls.{Relates};
+ghost use Rattle.serde_json.specs.View.{view as data_of};
+ghost use Rattle.store_model.specs.State.{in_json, insert as inserted};
+ghost use Rattle.bson_store.specs.Calls.{DoesTree, Relates};
+ghost use Rattle.bson_store.specs.Refusals.{as_done, reply_by};
 ghost use Rattle.cli_commands.specs.Execute.{Executes, Reports, SilentUnread, Tells};
 ghost use Rattle.cli_commands.specs.Requests.{IsRequestOf};
 ghost use Rattle.cli_commands.specs.declared.stop.Failure.{Failure as Outcome};
@@ -13,8 +16,9 @@ use crate::printing::print;
 use crate::reads::{dump, export};
 use crate::request::{Request, request_of};
 use crate::stop::Failure;
-use bson_store::{Sink, Source, Store};
+use bson_store::{Sink, Source, Store, StoreError};
 use cli_words::{Words, write_complaint, write_refusal};
+use serde_json::Value;
 use sqlite::Alter;
 use std::alloc::Global;
 
@@ -37,6 +41,13 @@ fn print_outcome<O: Sink>(
     }
 }
 
+/// Puts a document in. A function of its own, as a wrong body turns it.
+fn insert<S: Alter + Drop>(store: &mut Store<S>, name: &str, json: Value) -> Result<(), StoreError>
+    ensures { Relates S.Store store.old store.new (DoesTree name.now (inserted in_json) (data_of json) (reply_by as_done result)) }
+{
+    store.insert_json(name, json)
+}
+
 /// Does what is requested of the collection of the words, and prints the answer.
 fn perform<S: Alter + Drop, I: Source, O: Sink>(
     alloc: Global,
@@ -56,7 +67,7 @@ fn perform<S: Alter + Drop, I: Source, O: Sink>(
     let name = words.coll;
     match request {
         Request::Insert(json) => {
-            let outcome = nothing(store.insert_json(name, json.take()));
+            let outcome = nothing(insert(store, name, json.take()));
             print_outcome(alloc, outcome, output)
         }
         Request::Replace(json) => {

@@ -1,7 +1,7 @@
 //! Why a command isn't done.
 
 ghost use Rattle.std.specs.Prelude.{◌≡◌};
-ghost use Rattle.bson_store.specs.Refusals.{refusal};
+ghost use Rattle.store_model.specs.Refusal.{refusal};
 ghost use Rattle.store_model.specs.declared.error.ErrorKind.TheVariants.{Memory};
 ghost use Rattle.cli_commands.specs.declared.stop.Failure.TheVariants.{Refused};
 

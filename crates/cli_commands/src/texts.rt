@@ -6,7 +6,7 @@ ghost use Rattle.serde_json.specs.Data.{Data};
 ghost use Rattle.serde_json.specs.Read.{read as data_of_text};
 ghost use Rattle.serde_json.specs.View.{view as data_of};
 ghost use Rattle.bson_model.specs.View.{view};
-ghost use Rattle.store_streams.specs.Loading.{HasTaken};
+ghost use Rattle.store_documents.specs.Loading.{HasTaken};
 ghost use Rattle.cli_words.specs.Texts.{AnswersId, AnswersText};
 ghost use Rattle.cli_words.specs.declared.texts.TextError.TheVariants.{Unreadable};
 ghost use Rattle.cli_commands.specs.Commands.{IsIdText, TookSome, mode_of};

@@ -11,7 +11,7 @@ use Rattle.store_model.specs.declared.error.ErrorKind.{ErrorKind}
 use Rattle.store_model.specs.declared.error.ErrorKind.TheVariants.{BadName, Memory, Database, Reader, Writer}
 use Rattle.bson_base.specs.Device.{Feed, Tally}
 use Rattle.bson_store.specs.Export.{Delivers, ExportRefused, SendsCollection}
-use Rattle.bson_store.specs.declared.error.StoreError.{StoreError}
+use Rattle.store_model.specs.declared.error.StoreError.{StoreError}
 use Rattle.cli_pipe.specs.Pipe.{ReadsInput, KeepsInput, RefusesInput, Exchanges}
 use Rattle.cli_pipe.proofs.Refusing.{of_input}
 use Rattle.cli_pipe.proofs.Keeping.{name, is_name}

@@ -6,7 +6,7 @@ ghost use Rattle.sqlite.specs.Steps.{over_memory};
 ghost use Rattle.store_model.specs.declared.error.ErrorKind.TheVariants.{Memory, Database};
 ghost use Rattle.store_table.specs.Moves.{Stands};
 ghost use Rattle.bson_store.specs.Calls.{store_state};
-ghost use Rattle.bson_store.specs.Refusals.{kind_of_reading};
+ghost use Rattle.store_model.specs.Refusal.{kind_of_reading};
 ghost use Rattle.cli_pipe.specs.Pipe.{KeepsInput, RefusesInput, Exchanges, Pipes};
 
 use bson_base::{ReadAllError, read_all};

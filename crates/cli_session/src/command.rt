@@ -1,6 +1,6 @@
 //! A line of a session, from its bytes to what comes of it.
 
-ghost use Rattle.std.specs.Prelude.{[], ◌∷◌, ℕ, List, map, string_bytes};
+ghost use Rattle.std.specs.Prelude.{ℕ, List, map, string_bytes};
 ghost use Rattle.bson_store.specs.Calls.{Relates};
 ghost use Rattle.cli_session_lines.specs.Line.{Keeps};
 ghost use Rattle.cli_session.specs.Answering.{ComesOf, Grants, Obeys, ReadsLine};

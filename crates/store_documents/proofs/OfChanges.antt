@@ -1,10 +1,7 @@
 -- Written documents with one member changed.
-use Rattle.std.proofs.Common.{◌≡◌, ◌⊎◌, inl, inr, ℕ, ◌<◌, ◌≤◌, List, [], ◌∷◌, Bool, true, false, cond, refl, ap, ◌∙◌, sym, arith}
-use Rattle.std.specs.Prelude.{bytes_eq, is_some, IfOk, Result, Ok, Err}
-use Rattle.bson_base.specs.Kinds.{IsPlain}
+use Rattle.std.proofs.Common.{◌≡◌, inl, inr, ℕ, ◌≤◌, List, [], ◌∷◌, Bool, true, false, cond, Vec, Global, refl, ap, ◌∙◌, sym, subst, arith}
+use Rattle.std.specs.Prelude.{bytes_eq, is_some, IfOk, MatchResult, Result, Ok, Err}
 use Rattle.bson_base.specs.Value.{Value, document, Members, member, has_key, levels, look_up, put, without, MembersHaveDistinctKeys}
-use Rattle.bson_bytes.specs.Encode.{size}
-use Rattle.bson_frame.specs.Frame.{size_limit}
 use Rattle.bson_meaning.specs.Gate.{level_limit}
 use Rattle.bson_model.specs.View.{members_of}
 use Rattle.bson_model.specs.Keyed.{has_key as has_pair, put as put_pair, without as without_pair}
@@ -12,21 +9,19 @@ use Rattle.bson_model.proofs.EqualLemmas.{look_up-members_of}
 use Rattle.bson_raw.proofs.Settling.{members_of_put}
 use Rattle.store_model.specs.State.{IsKept}
 use Rattle.store_model.specs.declared.error.ErrorKind.{ErrorKind}
-use Rattle.store_model.specs.declared.error.ErrorKind.TheVariants.{TooDeep, Nul, TooLong, Memory}
+use Rattle.store_model.specs.declared.error.ErrorKind.TheVariants.{Memory}
 use Rattle.store_model.proofs.Levels.{clean_plain, read_without}
-use Rattle.store_documents.specs.Bodies.{IsUnwritten}
+use Rattle.store_model.specs.Reading.{IsUnkeepable}
+use Rattle.store_documents.specs.Bodies.{AnswersChanged, IsBody, IsUnwritten}
 use Rattle.store_model.proofs.Kept.{without_size}
 use Rattle.bson_base.proofs.Members.{equal_keys, without_absent}
 
--- why a changed document can't be kept
-abbrev pub Refused : Members → ErrorKind → Type 0
-Refused e k = ((k ≡ TooDeep) × (level_limit < levels (document e)))
-    ⊎ ((k ≡ Nul) × (levels (document e) ≤ level_limit) × (IsPlain (document e) → ⊥))
-    ⊎ ((k ≡ TooLong) × (levels (document e) ≤ level_limit) × IsPlain (document e) × (size_limit < size e))
-    ⊎ (k ≡ Memory)
-
-pub memory : (e : Members) (k : ErrorKind) → k ≡ Memory → Refused e k
-memory e k is = inr (inr (inr is))
+-- the bytes of a changed document, or why there are none
+pub changed : (d : Members) (r : Result (Vec ℕ Global) ErrorKind) → levels (document d) ≤ level_limit → MatchResult r (λ (b : Vec ℕ Global). IsBody b.items d) (IsUnwritten d) → AnswersChanged d r
+changed d (Ok b) low h = (record { shallow = low; plain = h.1; small = h.2 }, h.0)
+changed d (Err k) low (inl (is, unplain)) = inl (subst (IsUnkeepable d) (sym is) (low, unplain))
+changed d (Err k) low (inr (inl (is, plain, long))) = inl (subst (IsUnkeepable d) (sym is) (low, plain, long))
+changed d (Err k) low (inr (inr is)) = inr is
 
 -- what is known whatever was answered
 pub known : {A B P : Type 0} (r : Result A B) → P → IfOk r (λ _. P)

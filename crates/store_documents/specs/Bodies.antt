@@ -5,19 +5,18 @@ use Rattle.std.specs.declared.alloc.Global.{Global}
 use Rattle.bson_base.specs.Kinds.{IsPlain, IsSound}
 use Rattle.bson_base.specs.declared.spec.ElementType.{ElementType}
 use Rattle.bson_base.specs.declared.spec.ElementType.TheVariants as kinds
-use Rattle.bson_base.specs.Value.{Value, document, Members, has_key, levels, without}
+use Rattle.bson_base.specs.Value.{Value, document, Members, has_key, without}
 use Rattle.bson_bytes.specs.Encode.{encode, size}
 use Rattle.bson_frame.specs.Frame.{length_limit, size_limit}
-use Rattle.bson_meaning.specs.Gate.{level_limit}
 use Rattle.bson_meaning.specs.Before.{key as key_before}
 use Rattle.bson_meaning.specs.Meaning.{key}
 use Rattle.bson_meaning.specs.declared.key.KeyError.{KeyError}
 use Rattle.bson_meaning.specs.declared.key.KeyError.TheVariants as key_errors
-use Rattle.store_model.specs.Reading.{Reading, IsRead, ReadsBytes, readable, unreadable}
+use Rattle.store_model.specs.Reading.{Reading, IsRead, IsKeepable, IsUnkeepable, ReadsBytes, readable, unreadable}
 use Rattle.store_model.specs.State.{IsKept, IsName, refusal_of}
 use Rattle.store_model.specs.Table.{only_id, own_id}
 use Rattle.store_model.specs.declared.error.ErrorKind.{ErrorKind}
-use Rattle.store_model.specs.declared.error.ErrorKind.TheVariants.{TooDeep, Nul, TooLong, Memory}
+use Rattle.store_model.specs.declared.error.ErrorKind.TheVariants.{Nul, TooLong, Memory}
 use Rattle.store_documents.specs.declared.change.Unset.{Unset}
 use Rattle.store_documents.specs.declared.row.RowKey.{RowKey}
 use Rattle.store_documents.specs.declared.row.RowKey.TheVariants.{Own, Before, Neither}
@@ -72,11 +71,8 @@ AnswersWritten d (Err k) = (refusal_of d ≡ Some k) ⊎ (k ≡ Memory)
 
 -- a changed document is written, or can't be kept
 abbrev pub AnswersChanged : Members → Result (Vec ℕ Global) ErrorKind → Type 0
-AnswersChanged e (Ok b) = (levels (document e) ≤ level_limit) × IsPlain (document e) × (size e ≤ size_limit) × (b.items ≡ encode e)
-AnswersChanged e (Err k) = ((k ≡ TooDeep) × (level_limit < levels (document e)))
-    ⊎ ((k ≡ Nul) × (levels (document e) ≤ level_limit) × (IsPlain (document e) → ⊥))
-    ⊎ ((k ≡ TooLong) × (levels (document e) ≤ level_limit) × IsPlain (document e) × (size_limit < size e))
-    ⊎ (k ≡ Memory)
+AnswersChanged d (Ok body) = IsKeepable d × (body.items ≡ encode d)
+AnswersChanged d (Err k) = IsUnkeepable d k ⊎ (k ≡ Memory)
 
 -- the member is taken out
 abbrev pub AnswersUnset : List ℕ → Members → Result Unset ErrorKind → Type 0

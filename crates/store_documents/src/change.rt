@@ -50,6 +50,7 @@ fn put_normal(
 }
 
 /// The bytes of a changed document. `TooDeep`, `Nul` and `TooLong` if it can't be kept, in this order.
+#[tactic(auto, using(crate::proofs::OfChanges::changed))]
 fn changed_body(alloc: Global, document: &Document) -> Result<Vec<u8>, ErrorKind>
     ensures { AnswersChanged (content document.now) result }
 {

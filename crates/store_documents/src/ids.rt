@@ -14,7 +14,7 @@ use bson_model::Bson;
 use std::alloc::Global;
 
 /// The key that the identity of a document stands under.
-pub(crate) const ID_KEY: &str = "_id";
+pub const ID_KEY: &str = "_id";
 
 /// The key of an id: the bytes of the normal form of a document that has this `_id` alone, with its keys in order. A
 /// kept document has the id exactly where the key of its own is the same.

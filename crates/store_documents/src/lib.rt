@@ -1,29 +1,38 @@
-//! Documents as they come into a store and go out of it, apart from any table: what bytes and JSON are read as, how a
-//! document is written under the key of its `_id`, what a change of one member makes of it, what it is as JSON, and
-//! whether a row can be one that a store wrote.
+//! Documents as they come into a store and go out of it, apart from any table: what bytes and JSON are read as, one
+//! document or a stream or list of them, how a document is written under the key of its `_id`, what a change of one
+//! member makes of it, what it is as JSON, and whether a row can be one that a store wrote.
 #![tactic(auto)]
 
 mod answer;
 mod change;
 mod ids;
 mod json_row;
+mod keys;
+pub mod laws;
+mod loading;
 mod name;
 mod read;
+mod repeats;
 mod reserved;
 mod row;
 mod stored;
+mod stream;
 mod text;
 mod trees;
 mod write;
 
 pub use answer::json_of_body;
 pub use change::{Unset, body_with, body_without};
-pub use ids::key_of_id;
+pub use ids::{ID_KEY, key_of_id};
 pub use json_row::row_of_json;
+pub use keys::Keys;
+pub use loading::{Loader, judge_trees};
 pub use name::Name;
 pub use read::{document_of_bytes, document_of_json, value_of_json};
+pub use repeats::first_repeated;
 pub use row::{RowKey, is_store_row, key_of_row};
 pub use stored::row_of_bytes;
+pub use stream::judge_stream;
 pub use text::text_of_body;
 pub use trees::check_json;
 pub use write::{KeptRow, row_of_document};

@@ -5,7 +5,6 @@ ghost use Rattle.std.specs.Cow.{cow_slice_items};
 ghost use Rattle.bson_base.specs.Value.{Members};
 ghost use Rattle.bson_bytes.specs.Encode.{encode};
 ghost use Rattle.bson_meaning.specs.Before.{key as key_before};
-ghost use Rattle.store_model.specs.Reading.{ReadsBytes, readable};
 ghost use Rattle.store_model.specs.State.{IsKept, IsName};
 ghost use Rattle.store_model.specs.Table.{own_id};
 ghost use Rattle.store_model.specs.declared.error.ErrorKind.TheVariants.{Memory};

@@ -17,6 +17,7 @@ use Rattle.store_model.proofs.Runs.{same_names}
 use Rattle.store_model.proofs.States.{list_of-store}
 use Rattle.store_model.proofs.Steps.{either_way}
 use Rattle.bson_base.proofs.Members.{equal_keys, same_key}
+use Rattle.store_model.proofs.Tests.{in_turn}
 
 -- what two answers are
 pub record Alone (r s : Reply) (ds es : Documents) : Type 0 where
@@ -89,7 +90,7 @@ one_answer (set id k (Some v)) ds p q =
     (λ _ p q. one_at id ds _ _ _ _
     (λ front d back p q. one_when _ _ _ _ _ (λ _ a b. no TooDeep ds a b)
     (λ p q. one_when _ _ _ _ _ (λ _ p q. one_when _ _ _ _ _ (λ _ a b. no TooLong ds a b) (λ a b. alone done (front ++ put k (norm_in_order v) d ∷ back) a b) p q)
-    (λ a b. no Nul ds a b) p q) p q)
+    (λ a b. no Nul ds a b) p q) (in_turn ds front (put k (norm_in_order v) d) back _ _ p) (in_turn ds front (put k (norm_in_order v) d) back _ _ q))
     (λ a b. no NotFound ds a b) p q)
     (λ a b. no BadKey ds a b) p q
 one_answer (set id k None) ds p q = one_when _ _ _ _ _ (λ _ a b. no JsonRefused ds a b) (λ a b. no BadKey ds a b) p q

@@ -19,6 +19,7 @@ use Rattle.store_model.proofs.Selecting.{Distinct?, look_up_distinct, carried, e
 use Rattle.store_model.proofs.States.{list_of-store, never_empty}
 use Rattle.bson_meaning.proofs.PlainSame.{some_found}
 use Rattle.bson_base.proofs.Members.{equal_keys, look_up-put, look_up-without}
+use Rattle.store_model.proofs.Tests.{in_turn}
 
 -- ---- ids
 
@@ -233,7 +234,7 @@ answers_good r (set id k (Some v)) ds es c g h =
     (λ small y. subst AreGood (sym y.1) (changed front d back d' good
     (record { read = set_read k v d is_free.1 c.1 c.2 old.read plain (at_most (levels (document d')) level_limit low); identified = ap is_some id_is ∙ old.identified; small = at_most (size d') size_limit small })
     (subst (SameOption (look_up id_key d)) (sym id_is) (own_option (look_up id_key d) (id_distinct d old.read))))) x)
-    (λ _ x. stays ds g x.1) u) w)
+    (λ _ x. stays ds g x.1) u) (in_turn ds front d' back r es w))
     (λ w. stays ds g w.1) t)
     (λ _ t. stays ds g t.1) h
   where

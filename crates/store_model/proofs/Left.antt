@@ -1,11 +1,11 @@
 -- What a crash may leave behind commands, command by command.
-use Rattle.std.proofs.Common.{◌≡◌, ◌⊎◌, inl, inr, ℕ, suc, ◌+◌, ◌<◌, List, [], ◌∷◌, ◌++◌, length, Option, Some, None, cond, refl, ap, ◌∙◌, sym, subst, subst₂, arith, append-nil, append_assoc}
+use Rattle.std.proofs.Common.{◌≡◌, inl, inr, ℕ, suc, ◌+◌, ◌<◌, List, [], ◌∷◌, ◌++◌, length, Option, Some, None, cond, refl, ap, ◌∙◌, sym, subst, subst₂, arith, append-nil, append_assoc}
 use Rattle.std.specs.FinMap.{get, get-insert, get-remove, insert as with_entry, remove as without_key}
 use Rattle.std.proofs.lemmas.Cmp.{nat_cmp_total}
 use Rattle.store_model.specs.State.{State, Command, Reply, refused, Step}
 use Rattle.store_model.specs.Run.{Denial, Denials, Turn, Run}
 use Rattle.store_model.specs.Table.{IsRefusal}
-use Rattle.store_model.specs.Left.{HoldsAfter, LeftBy, LeftAlong, IsOneOf, IsEndOrOneMore, HoldsEndOrOneMore}
+use Rattle.store_model.specs.Left.{HoldsAfter, LeftBy, LeftAlong, IsOneOf, HoldsEndOrOneMore}
 use Rattle.store_model.specs.declared.error.ErrorKind.{ErrorKind}
 use Rattle.store_model.specs.declared.error.ErrorKind.TheVariants.{Memory, Database}
 use Rattle.store_model.proofs.Going.{alike, unlike}

@@ -18,5 +18,6 @@ pub mod Keys
 pub mod Unmoved
 pub mod Plain
 pub mod Left
+pub mod Tests
 pub mod Refused
 pub mod OneMany

@@ -2,7 +2,7 @@
 use Rattle.std.proofs.Common.{◌≡◌, inl, inr, ℕ, ◌+◌, List, [], ◌∷◌, ◌++◌, length, Option, Some, None, refl, ap, ◌∙◌, sym, subst, arith, length-append}
 use Rattle.serde_json.specs.Data.{Data}
 use Rattle.bson_base.specs.Value.{Members}
-use Rattle.bson_frame.specs.Frame.{number as declared, size_limit}
+use Rattle.bson_frame.specs.Frame.{number as declared}
 use Rattle.bson_meaning.specs.Gate.{IsCounted}
 use Rattle.store_model.specs.Reading.{Documents, Reading, readable, unreadable, ReadsBytes, ReadsTree, ReadsEach, IsUncut, Cuts, ReadsStream, ReadsTrees}
 use Rattle.store_model.specs.declared.error.ErrorKind.{ErrorKind}
@@ -40,23 +40,27 @@ cuts_alike bytes (p ∷ ps) (q ∷ qs) c (rest, e, n, s) (more, f, m, t) =
 
 each_alike : {A : Type 0} (M : A → Reading → Type 0) → ((a : A) (d : Members) (b : Reading) → M a (readable d) → M a b → b ≡ readable d) → (bs : List A) (ds more : Documents) (stop : Option ErrorKind) → ReadsEach M bs None ds None
     → ReadsEach M bs None more stop → (more ≡ ds) × (stop ≡ None)
-each_alike M one [] ds more stop h r = (r.0 ∙ sym h.0, r.1)
-each_alike M one (a ∷ bs) ds more stop (inl (k, m, p, e)) r = cc
-each_alike M one (a ∷ bs) ds more stop (inr (d, rest, m, p, h)) (inl (k, n, q, r)) = let e : unreadable k ≡ readable d = one a d (unreadable k) m n in cc
-each_alike M one (a ∷ bs) ds more stop (inr (d, rest, m, p, h)) (inr (e, left, n, q, r)) =
-    let i : readable e ≡ readable d = one a d (readable e) m n in
+each_alike M one [] [] [] stop h r = (refl, r)
+each_alike M one [] [] (e ∷ more) stop h r = absurd r
+each_alike M one [] (d ∷ ds) more stop h r = absurd h
+each_alike M one (a ∷ bs) [] more stop h r = absurd h
+each_alike M one (a ∷ bs) (d ∷ ds) [] None h r = absurd r
+each_alike M one (a ∷ bs) (d ∷ ds) [] (Some k) h r = let e : unreadable k ≡ readable d = one a d (unreadable k) h.0 r in cc
+each_alike M one (a ∷ bs) (d ∷ ds) (e ∷ more) stop h r =
+    let i : readable e ≡ readable d = one a d (readable e) h.0 r.0 in
     let j : e ≡ d = cc in
-    let t = each_alike M one bs rest left stop h r in
-    (q ∙ ap (λ z. z ∷ left) j ∙ ap (λ z. d ∷ z) t.0 ∙ sym p, t.1)
+    let t = each_alike M one bs ds more stop h.1 r.1 in
+    (ap (λ z. z ∷ more) j ∙ ap (λ z. d ∷ z) t.0, t.1)
 
 pub bytes_alike : (bytes : List ℕ) (d : Members) (a : Reading) → ReadsBytes bytes (readable d) → ReadsBytes bytes a → a ≡ readable d
 bytes_alike bytes d (readable e) h k = ap readable (one_document bytes e d k h)
 bytes_alike bytes d (unreadable k) h r = absurd (not_both bytes d k h r)
 
 stops : (ps : List (List ℕ)) (ds : Documents) (k : ErrorKind) → ReadsEach ReadsBytes ps (Some k) ds None → ⊥
-stops [] ds k h = let e = h.1 in cc
-stops (p ∷ ps) ds k (inl (l, m, e, i)) = cc
-stops (p ∷ ps) ds k (inr (d, rest, m, e, h)) = stops ps rest k h
+stops [] [] k h = let e : ◌≡◌ {A = Option ErrorKind} None (Some k) = h in cc
+stops [] (d ∷ ds) k h = h
+stops (p ∷ ps) [] k h = h
+stops (p ∷ ps) (d ∷ ds) k h = stops ps ds k h.1
 
 pub streams_alike : (bytes : List ℕ) (ds more : Documents) (stop : Option ErrorKind) → ReadsStream bytes ds None → ReadsStream bytes more stop → (more ≡ ds) × (stop ≡ None)
 streams_alike bytes ds more stop (ps, b, s, h) (qs, c, t, r) = by b s h

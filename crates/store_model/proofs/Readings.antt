@@ -73,11 +73,13 @@ Each P (a ∷ as') = P a × Each P as'
 
 each_read : {A : Type 0} (Reads : A → Reading → Type 0) (P : A → Type 0) → ((a : A) (x : Reading) → P a → Reads a x → IsReading x)
     → (xs : List A) (behind : Option ErrorKind) (ds : Documents) (stop : Option ErrorKind) → Each P xs → IsStop behind → ReadsEach Reads xs behind ds stop → AreRead ds × IsStop stop
-each_read Reads P f [] behind ds stop p b h = (subst AreRead (sym h.0) tt, subst IsStop (sym h.1) b)
-each_read Reads P f (a ∷ more) behind ds stop p b (inl (k, m, e, s)) = (subst AreRead (sym e) tt, subst IsStop (sym s) (f a (unreadable k) p.0 m))
-each_read Reads P f (a ∷ more) behind ds stop p b (inr (d, rest, m, e, h)) =
-    let t = each_read Reads P f more behind rest stop p.1 b h in
-    (subst AreRead (sym e) (f a (readable d) p.0 m, t.0), t.1)
+each_read Reads P f [] behind [] stop p b h = (tt, subst IsStop (sym h) b)
+each_read Reads P f [] behind (d ∷ ds) stop p b h = absurd h
+each_read Reads P f (a ∷ more) behind [] None p b h = absurd h
+each_read Reads P f (a ∷ more) behind [] (Some k) p b h = (tt, f a (unreadable k) p.0 h)
+each_read Reads P f (a ∷ more) behind (d ∷ ds) stop p b h =
+    let t = each_read Reads P f more behind ds stop p.1 b h.1 in
+    ((f a (readable d) p.0 h.0, t.0), t.1)
 
 front_bytes : (p rest : List ℕ) → AreBytes (p ++ rest) → AreBytes p × AreBytes rest
 front_bytes [] rest h = (tt, h)

@@ -1,11 +1,10 @@
 -- A refused call leaves its list, and a refused command the state.
-use Rattle.std.proofs.Common.{◌≡◌, ◌⊎◌, inl, inr, ℕ, suc, List, [], ◌∷◌, ◌++◌, Option, Some, None, map, length, Ok, Err, Result, ap, ◌∙◌, sym, subst}
+use Rattle.std.proofs.Common.{◌≡◌, inl, inr, ℕ, suc, [], ◌∷◌, ◌++◌, Option, Some, None, ap, ◌∙◌, sym, subst}
 use Rattle.std.specs.Prelude.{MatchOption, IsSomeAnd}
-use Rattle.bson_base.specs.Value.{Value, Members, look_up, put, has_key, without}
-use Rattle.bson_bytes.specs.Encode.{encode}
+use Rattle.bson_base.specs.Value.{Value, Members, look_up, put}
 use Rattle.bson_meaning.specs.Meaning.{norm_in_order}
 use Rattle.store_model.specs.Reading.{Documents, readable, unreadable}
-use Rattle.store_model.specs.State.{id_key, State, list_of, store, Form, Call, insert, replace, set, unset, remove, get_raw, get_json, find, count, project, import, export, dump, Command, on, collections, Reply, done, flag, number, bytes, bytes_list, names, refused, AtId, When, Refuses, refusal_of, first_refusal, Appends, PutsBack, Answers, Step}
+use Rattle.store_model.specs.State.{id_key, State, list_of, store, Call, insert, replace, set, unset, remove, get_raw, get_json, find, count, project, import, export, dump, Command, on, collections, Reply, refused, AtId, When, refusal_of, first_refusal, Appends, PutsBack, Answers, Step}
 use Rattle.store_model.specs.Run.{Denial, Turn}
 use Rattle.store_model.specs.declared.error.ErrorKind.{ErrorKind}
 use Rattle.store_model.proofs.States.{HasNoEmpty, never_empty, stored_again}
@@ -32,7 +31,8 @@ module _ (k : ErrorKind) (i : Option ℕ) where
   append_stays j start ds (d ∷ more) es h = by_when (λ a. a.1) (λ b. append_stays (suc j) start (ds ++ d ∷ []) more es b) h
 
   back_stays : (ds front : Documents) (d : Members) (back es : Documents) → PutsBack ds front d back (refused k i) es → es ≡ ds
-  back_stays ds front d back es h = by_when (λ a. a.1) (λ b. by_when (λ b. by_when (λ a. a.1) (λ a. absurd (let e = a.0 in cc)) b) (λ a. a.1) b) h
+  back_stays ds front d back es (inl h) = absurd (let e = h.1 in cc)
+  back_stays ds front d back es (inr h) = h.2.1
 
   pub refused_answers : (x : Call) (ds es : Documents) → Answers x ds (refused k i) es → es ≡ ds
   refused_answers (insert form (readable d)) ds es h = by_option (refusal_of d) (λ w. by_when (λ a. a.1) (λ a. absurd (let e = a.0 in cc)) w) (λ l a. a.1) h

@@ -143,19 +143,21 @@ Each M (a ∷ bs) (d ∷ ds) = ((b : Reading) → M a b ↔ (b ≡ readable d)) 
 Each M _ _ = ⊥
 
 each_reads : {A : Type 0} (M : A → Reading → Type 0) (bs : List A) (ds : Documents) → Each M bs ds → ReadsEach M bs None ds None
-each_reads M [] [] h = (refl, refl)
-each_reads M (a ∷ bs) (d ∷ ds) h = inr (d, ds, (h.0 (readable d)).1 refl, refl, each_reads M bs ds h.1)
+each_reads M [] [] h = refl
+each_reads M (a ∷ bs) (d ∷ ds) h = ((h.0 (readable d)).1 refl, each_reads M bs ds h.1)
 each_reads M [] (d ∷ ds) h = absurd h
 each_reads M (a ∷ bs) [] h = absurd h
 
 each_one : {A : Type 0} (M : A → Reading → Type 0) (bs : List A) (ds more : Documents) (stop : Option ErrorKind) → Each M bs ds → ReadsEach M bs None more stop → (more ≡ ds) × (stop ≡ None)
-each_one M [] [] more stop h r = r
-each_one M (a ∷ bs) (d ∷ ds) more stop h (inl (k, m, p, r)) = let e : unreadable k ≡ readable d = (h.0 (unreadable k)).0 m in cc
-each_one M (a ∷ bs) (d ∷ ds) more stop h (inr (e, rest, m, p, r)) =
-    let i : readable e ≡ readable d = (h.0 (readable e)).0 m in
+each_one M [] [] [] stop h r = (refl, r)
+each_one M [] [] (e ∷ more) stop h r = absurd r
+each_one M (a ∷ bs) (d ∷ ds) [] None h r = absurd r
+each_one M (a ∷ bs) (d ∷ ds) [] (Some k) h r = let e : unreadable k ≡ readable d = (h.0 (unreadable k)).0 r in cc
+each_one M (a ∷ bs) (d ∷ ds) (e ∷ more) stop h r =
+    let i : readable e ≡ readable d = (h.0 (readable e)).0 r.0 in
     let j : e ≡ d = cc in
-    let t = each_one M bs ds rest stop h.1 r in
-    (p ∙ ap (λ z. z ∷ rest) j ∙ ap (λ z. d ∷ z) t.0, t.1)
+    let t = each_one M bs ds more stop h.1 r.1 in
+    (ap (λ z. z ∷ more) j ∙ ap (λ z. d ∷ z) t.0, t.1)
 each_one M [] (d ∷ ds) more stop h r = absurd h
 each_one M (a ∷ bs) [] more stop h r = absurd h
 

@@ -24,6 +24,7 @@ use Rattle.store_model.proofs.Documents.{same_join, same_length, read_join, read
 use Rattle.store_model.proofs.Edits.{same_without, same_only, same_put}
 use Rattle.store_model.proofs.Levels.{same_levels, set_distinct, set_read, set_plain, read_only}
 use Rattle.bson_base.proofs.Members.{put_distinct}
+use Rattle.store_model.proofs.Tests.{in_turn}
 
 -- what two answers have in common
 pub record Alike (c : Command) (r s : Reply) (ds es : Documents) : Type 0 where
@@ -118,7 +119,7 @@ not_above m n h = omega arith
 puts_same : {c : Command} {r s : Reply} {fs gs : Documents} (k : List ℕ) (v w : Value) (ds es front : Documents) (d : Members) (back gront : Documents) (e : Members) (cack : Documents) → HasNo00 k → IsUtf8 k → IsSound v → IsSound w → Same v w
     → SameDocuments ds es → SameDocuments front gront → SameDocuments back cack → Same (document d) (document e) → IsRead d → IsRead e
     → PutsBack ds front (put k (norm_in_order v) d) back r fs → PutsBack es gront (put k (norm_in_order w) e) cack s gs → Alike c r s fs gs
-puts_same k v w ds es front d back gront e cack n u sv sw i h f b same a c p q =
+puts_same {r = r} {s = s} {fs = fs} {gs = gs} k v w ds es front d back gront e cack n u sv sw i h f b same a c p q =
     let d' = put k (norm_in_order v) d in
     let e' = put k (norm_in_order w) e in
     let is : norm_in_order v ≡ norm_in_order w = in_order_same v w i in
@@ -133,7 +134,7 @@ puts_same k v w ds es front d back gront e cack n u sv sw i h f b same a c p q =
     when_same _ _ _ _ _ _ (subst (λ m. size_limit < m) size_is, subst (λ m. size_limit < m) (sym size_is))
     (λ _ _ t x. both_refuse TooLong ds es h t x)
     (λ _ _ t x. alike done done (front ++ d' ∷ back) (gront ++ e' ∷ cack) t.0 t.1 x.0 x.1 tt (same_edit front gront back cack d' e' f b whole)) t x)
-    (λ _ _ t x. both_refuse Nul ds es h t x) t x) p q
+    (λ _ _ t x. both_refuse Nul ds es h t x) t x) (in_turn ds front d' back r fs p) (in_turn es gront e' cack s gs q)
 
 pub either_way : {P : Type 0} → P ↔ P
 either_way = (λ x. x, λ x. x)

@@ -1,8 +1,7 @@
 -- What a crash may leave behind commands. What it leaves, a disk or a database, is of any type X; Holds says which states it holds.
 use Rattle.std.specs.Prelude.{◌≡◌, ◌⊎◌, ℕ, suc, List, [], ◌∷◌}
-use Rattle.std.specs.FinMap.{get}
 use Rattle.store_model.specs.State.{State, Command, Reply, refused, Step}
-use Rattle.store_model.specs.Run.{Denials, Turn, Run}
+use Rattle.store_model.specs.Run.{Denials, Run}
 use Rattle.store_model.specs.declared.error.ErrorKind.TheVariants.{Memory, Database}
 
 module _ {X : Type 0} (Holds : X → State → Type 0) where

@@ -3,6 +3,7 @@ use Rattle.std.specs.Prelude.{◌≡◌, ◌⊎◌, ℕ, ◌<◌, ◌≤◌, Lis
 use Rattle.serde_json.specs.Data.{Data, object}
 use Rattle.bson_base.specs.Kinds.{IsPlain, IsClean, IsSound}
 use Rattle.bson_base.specs.Value.{Value, document, Members, levels}
+use Rattle.bson_bytes.specs.Encode.{size}
 use Rattle.bson_bytes.specs.Spells.{Means}
 use Rattle.bson_frame.specs.Frame.{number, size_limit}
 use Rattle.bson_model.specs.JsonRead.{read, read_members}
@@ -13,7 +14,7 @@ use Rattle.bson_meaning.specs.Meaning.{norm_members_in_order}
 use Rattle.bson_meaning.specs.declared.gating.GateError.{GateError}
 use Rattle.bson_meaning.specs.declared.gating.GateError.TheVariants as gate
 use Rattle.store_model.specs.declared.error.ErrorKind.{ErrorKind}
-use Rattle.store_model.specs.declared.error.ErrorKind.TheVariants.{NotAnObject, JsonRefused, EndInside, BadLength, NotTerminated, Faulty, TooDeep, Nul}
+use Rattle.store_model.specs.declared.error.ErrorKind.TheVariants.{NotAnObject, JsonRefused, EndInside, BadLength, NotTerminated, Faulty, TooDeep, Nul, TooLong}
 
 abbrev pub Documents : Type 0
 Documents = List Members
@@ -37,11 +38,23 @@ abbrev pub ReadsBytes : List ℕ → Reading → Type 0
 ReadsBytes bytes (readable d) = Passes bytes × Means bytes d
 ReadsBytes bytes (unreadable k) = (e : GateError) × IsRefused bytes e × (k ≡ kind_of_gate_error e)
 
--- over 100 levels; or no more, and a 00 in a key, a pattern or options
+-- why a changed document can't be kept: it fails this test, and none before it
+abbrev pub IsUnkeepable : Members → ErrorKind → Type 0
+IsUnkeepable d TooDeep = level_limit < levels (document d)
+IsUnkeepable d Nul = (levels (document d) ≤ level_limit) × (IsPlain (document d) → ⊥)
+IsUnkeepable d TooLong = (levels (document d) ≤ level_limit) × IsPlain (document d) × (size_limit < size d)
+IsUnkeepable d _ = ⊥
+
+-- it passes all three
+pub record IsKeepable (d : Members) : Type 0 where
+  pub shallow : levels (document d) ≤ level_limit
+  pub plain : IsPlain (document d)
+  pub small : size d ≤ size_limit
+
+-- why a document that JSON stands for can't be normalized: the same tests but for that of its size
 abbrev pub IsUnfit : Members → ErrorKind → Type 0
-IsUnfit e TooDeep = level_limit < levels (document e)
-IsUnfit e Nul = (levels (document e) ≤ level_limit) × (IsPlain (document e) → ⊥)
-IsUnfit e _ = ⊥
+IsUnfit e TooLong = ⊥
+IsUnfit e k = IsUnkeepable e k
 
 -- the normal form of the document that JSON stands for, with its keys in order
 abbrev pub Keeps : Members → Reading → Type 0
@@ -67,11 +80,13 @@ read_value j = value_of (read j)
 
 -- ---- many
 
--- the documents before the first input that can't be read, and why that can't; or all of them, and what stops behind the last
+-- The inputs read as these documents, one for each, down to where it stops: at the end, for what is behind, or at the first input
+-- that can't be read, and why it can't.
 abbrev pub ReadsEach : {A : Type 0} → (A → Reading → Type 0) → List A → Option ErrorKind → Documents → Option ErrorKind → Type 0
-ReadsEach Reads [] behind ds stop = (ds ≡ []) × (stop ≡ behind)
-ReadsEach Reads (a ∷ more) behind ds stop = ((k : ErrorKind) × Reads a (unreadable k) × (ds ≡ []) × (stop ≡ Some k))
-    ⊎ ((d : Members) × (rest : Documents) × Reads a (readable d) × (ds ≡ d ∷ rest) × ReadsEach Reads more behind rest stop)
+ReadsEach Reads [] behind [] stop = stop ≡ behind
+ReadsEach Reads (a ∷ more) behind [] (Some k) = Reads a (unreadable k)
+ReadsEach Reads (a ∷ more) behind (d ∷ ds) stop = Reads a (readable d) × ReadsEach Reads more behind ds stop
+ReadsEach Reads _ behind _ _ = ⊥
 
 -- no document can be cut off in front
 abbrev pub IsUncut : List ℕ → ErrorKind → Type 0

@@ -1,7 +1,10 @@
--- The names of the kinds of refusals.
-use Rattle.std.specs.Prelude.{ℕ, List, codes}
+-- The names of the kinds of refusals, and the refusals that calls report.
+use Rattle.std.specs.Prelude.{ℕ, List, Some, None, codes}
+use Rattle.bson_base.specs.declared.whole.ReadAllError.{ReadAllError}
+use Rattle.bson_base.specs.declared.whole.ReadAllError.TheVariants as reads
 use Rattle.store_model.specs.declared.error.ErrorKind.{ErrorKind}
 use Rattle.store_model.specs.declared.error.ErrorKind.TheVariants as kind
+use Rattle.store_model.specs.declared.error.StoreError.{StoreError}
 
 abbrev pub kind_name : ErrorKind → List ℕ
 kind_name kind.BadName = codes "BadName"
@@ -28,3 +31,17 @@ kind_name kind.Places = codes "Places"
 kind_name kind.Reader = codes "Reader"
 kind_name kind.Writer = codes "Writer"
 kind_name (kind.IdsCollide first second) = codes "IdsCollide"
+
+-- a refusal of a call of one document
+abbrev pub refusal : ErrorKind → StoreError
+refusal k = record { kind = k; document = None }
+
+-- the refusal of the document at a place; out of memory has none
+abbrev pub refusal_at : ErrorKind → ℕ → StoreError
+refusal_at kind.Memory i = refusal kind.Memory
+refusal_at k i = record { kind = k; document = Some i }
+
+-- why a source wasn't read to its end
+abbrev pub kind_of_reading : ReadAllError → ErrorKind
+kind_of_reading reads.Reader = kind.Reader
+kind_of_reading reads.Memory = kind.Memory

@@ -8,20 +8,19 @@ use Rattle.std.specs.Ordering.{nat_cmp}
 use Rattle.std.specs.Cmp.Lexicographic.{slice_cmp}
 use Rattle.std.specs.FinMap.{FinMap, get, insert as with_entry, remove as without_key}
 use Rattle.serde_json.specs.Data.{Data}
-use Rattle.bson_base.specs.Kinds.{HasNo00, IsPlain, IsSound}
-use Rattle.bson_base.specs.Value.{Value, document, Members, no_members, member, look_up, has_key, without, put, levels}
+use Rattle.bson_base.specs.Kinds.{HasNo00, IsSound}
+use Rattle.bson_base.specs.Value.{Value, document, Members, no_members, member, look_up, has_key, without, put}
 use Rattle.bson_bytes.specs.Encode.{encode, size}
 use Rattle.bson_model.specs.JsonWrite.{write}
 use Rattle.bson_model.specs.declared.extjson.ser.Mode.{Mode}
 use Rattle.bson_model.specs.declared.extjson.ser.Mode.TheVariants.{Canonical}
 use Rattle.bson_frame.specs.Frame.{size_limit}
-use Rattle.bson_meaning.specs.Gate.{level_limit}
 use Rattle.bson_meaning.specs.JsonReserved.{has_reserved}
 use Rattle.bson_meaning.specs.Meaning.{norm_in_order, Same}
 use Rattle.store_model.specs.Filter.{Filter, Selects, IsSoundFilter}
-use Rattle.store_model.specs.Reading.{Documents, Reading, readable, unreadable, IsRead, AreRead, IsReading, IsStop}
+use Rattle.store_model.specs.Reading.{Documents, Reading, readable, unreadable, IsRead, AreRead, IsReading, IsStop, IsKeepable, IsUnkeepable}
 use Rattle.store_model.specs.declared.error.ErrorKind.{ErrorKind}
-use Rattle.store_model.specs.declared.error.ErrorKind.TheVariants.{BadName, BadKey, JsonRefused, TooDeep, Nul, NoId, TooLong, NotFound, DuplicateId, ReservedKey, FiniteDouble}
+use Rattle.store_model.specs.declared.error.ErrorKind.TheVariants.{BadName, BadKey, JsonRefused, NoId, TooLong, NotFound, DuplicateId, ReservedKey, FiniteDouble}
 
 -- `_id`
 abbrev pub id_key : List ℕ
@@ -188,13 +187,10 @@ only ks (member l v ms) = if list_any (bytes_eq l) ks then member l v (only ks m
 abbrev pub IsFreeKey : List ℕ → Type 0
 IsFreeKey k = (k ≢ id_key) × HasNo00 k
 
--- the changed document d stands between front and back, or is refused
+-- the changed document d is between front and back; or it can't be kept, and the list stays
 abbrev pub PutsBack : Documents → Documents → Members → Documents → Reply → Documents → Type 0
-PutsBack ds front d back r es = When (level_limit < levels (document d))
-    (Refuses TooDeep ds r es)
-    (When (IsPlain (document d))
-    (When (size_limit < size d) (Refuses TooLong ds r es) ((r ≡ done) × (es ≡ front ++ d ∷ back)))
-    (Refuses Nul ds r es))
+PutsBack ds front d back r es = (IsKeepable d × (r ≡ done) × (es ≡ front ++ d ∷ back))
+    ⊎ ((k : ErrorKind) × IsUnkeepable d k × Refuses k ds r es)
 
 -- on the list ds the call may answer r and leave es
 abbrev pub Answers : Call → Documents → Reply → Documents → Type 0

@@ -1,8 +1,11 @@
 //! Why a call of the store is refused.
 
 ghost use Rattle.std.specs.Prelude.{◌≡◌, Some};
-ghost use Rattle.store_model.specs.Refusal.{kind_name};
+ghost use Rattle.store_model.specs.Refusal.{kind_name, kind_of_reading, refusal, refusal_at};
+ghost use Rattle.store_model.specs.declared.error.ErrorKind.TheVariants.{Memory, Writer};
 
+use bson_base::{DeviceFault, ReadAllError};
+use std::alloc::{AllocError, AllocFailed};
 use std::error::Error;
 use std::fmt;
 
@@ -104,3 +107,73 @@ impl fmt::Display for ErrorKind {
 }
 
 impl Error for ErrorKind {}
+
+/// A refused call: why, and in a call of many documents which one was refused, counted from 0.
+#[derive(Clone, Copy, Debug, PartialEq, Eq, thiserror::Error)]
+#[error("refused: {kind}")]
+pub struct StoreError {
+    pub kind: ErrorKind,
+    pub document: Option<u64>,
+}
+
+impl StoreError {
+    /// The refusal of the document at a place; out of memory has none.
+    pub fn at(kind: ErrorKind, document: u64) -> StoreError
+        ensures { result ≡ refusal_at kind document }
+    {
+        match kind {
+            ErrorKind::Memory => StoreError::from(kind),
+            kind => StoreError {
+                kind,
+                document: Some(document),
+            },
+        }
+    }
+}
+
+impl From<ErrorKind> for StoreError {
+    ghost from_gives = { λ k e. e ≡ refusal k };
+
+    fn from(kind: ErrorKind) -> StoreError {
+        StoreError {
+            kind,
+            document: None,
+        }
+    }
+}
+
+impl From<AllocError> for StoreError {
+    ghost from_gives = { λ _ e. e ≡ refusal Memory };
+
+    fn from(_error: AllocError) -> StoreError {
+        StoreError::from(ErrorKind::Memory)
+    }
+}
+
+impl<T: Drop> From<AllocFailed<T>> for StoreError {
+    ghost from_gives = { λ _ e. e ≡ refusal Memory };
+
+    fn from(failed: AllocFailed<T>) -> StoreError {
+        drop(failed);
+        StoreError::from(ErrorKind::Memory)
+    }
+}
+
+impl From<DeviceFault> for StoreError {
+    ghost from_gives = { λ _ e. e ≡ refusal Writer };
+
+    fn from(_fault: DeviceFault) -> StoreError {
+        StoreError::from(ErrorKind::Writer)
+    }
+}
+
+impl From<ReadAllError> for StoreError {
+    ghost from_gives = { λ x e. e ≡ refusal (kind_of_reading x) };
+
+    fn from(error: ReadAllError) -> StoreError {
+        StoreError::from(match error {
+            ReadAllError::Reader => ErrorKind::Reader,
+            ReadAllError::Memory => ErrorKind::Memory,
+        })
+    }
+}

@@ -1,6 +1,6 @@
 //! Laws on the definitions alone: each is the contract of a function that does nothing.
 
-ghost use Rattle.std.specs.Prelude.{◌≡◌, ◌≤◌, ◌↔◌, ◌⊎◌, ℕ, ◌+◌, ◌*◌, List, [], ◌∷◌, ◌++◌, length, map, codes, true, false, Option, Some, None, Ok};
+ghost use Rattle.std.specs.Prelude.{◌≡◌, ◌≤◌, ◌↔◌, ◌⊎◌, ℕ, ◌+◌, ◌*◌, List, [], ◌∷◌, ◌++◌, length, map, codes, true, false, Option, Some, None};
 ghost use Rattle.bson_base.specs.declared.spec.ElementType.TheVariants.{Array};
 ghost use Rattle.std.specs.List.{flat_map};
 ghost use Rattle.serde_json.specs.Data.{Data, object, Members as JsonMembers};
@@ -14,12 +14,12 @@ ghost use Rattle.store_model.specs.Filter.{at, equals, is_of, no, any_of, no_fil
 ghost use Rattle.store_model.specs.Rows.{int_one, a_text, with_array, with_a, with_id, with_two, to_v, broken_stream};
 ghost use Rattle.store_model.specs.declared.error.ErrorKind.TheVariants.{BadKey, JsonRefused, EndInside, BadLength, NoId, DuplicateId};
 ghost use Rattle.store_model.specs.Reading.{Documents, Reading, readable, unreadable, read_value, ReadsBytes, ReadsTree, Cuts, ReadsStream, ReadsTrees, AreAllJson, AreRead, IsReading, IsStop, MayBoth};
-ghost use Rattle.store_model.specs.State.{State, HasId, id_key, Call, in_bytes, in_json, replace, set, unset, import, export, first_refusal, done, flag, refused, dump, Command, on, Reply, number, bytes, json_list, Answers, IsName, Step, IsCommand, AreCommands, IsKept, AreKept, HaveOwnIds, IsStore, IsSoundIfAny, list_of, store};
+ghost use Rattle.store_model.specs.State.{State, HasId, id_key, in_bytes, in_json, replace, set, unset, import, export, first_refusal, done, flag, refused, dump, Command, on, Reply, number, bytes, json_list, Answers, IsName, Step, IsCommand, AreCommands, IsKept, AreKept, HaveOwnIds, IsStore, IsSoundIfAny, list_of, store};
 ghost use Rattle.store_model.specs.declared.error.ErrorKind.{ErrorKind as Kind};
 ghost use Rattle.store_model.specs.Same.{SameStates, SameCommand, SameCommands, SameReply, SameReplies};
 ghost use Rattle.store_model.specs.Run.{Denial, Denials, Run, SparesDecided, IsUnread, Turn, calls_of, replies_of};
 ghost use Rattle.store_model.specs.Left.{Is, IsEndOrOneMore, LeftAlong, LeftBy};
-ghost use Rattle.store_model.specs.Table.{Follows, IsRefusal, DocumentRow, DocumentTable, state_of, documents_of, AreOf, with_document, Serves, RunThrough, only_id, own_id, AreRows};
+ghost use Rattle.store_model.specs.Table.{Follows, DocumentRow, DocumentTable, state_of, documents_of, AreOf, with_document, Serves, RunThrough, only_id, own_id, AreRows};
 
 /// A filter selects both or neither of two values of the same meaning, and so do two filters of one shape with values
 /// of the same meaning.

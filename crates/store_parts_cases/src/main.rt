@@ -1,5 +1,5 @@
-//! Cases of the crates between raw documents and the table (bson_meaning, store_filter, store_documents, store_streams,
-//! cli_words) whose answers are texts. Each line of standard input is a case: what to do, and with what. One line of standard
+//! Cases of the crates between raw documents and the table (bson_meaning, store_filter, store_documents, cli_words) whose
+//! answers are texts. Each line of standard input is a case: what to do, and with what. One line of standard
 //! output answers it. The files `stdin` and `stdout` hold the cases and their answers, worked out by hand from bsonspec.org 1.1,
 //! IEEE 754-2008 and MongoDB Extended JSON v2.
 //!

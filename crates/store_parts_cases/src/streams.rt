@@ -3,8 +3,8 @@
 use crate::{tell, told};
 use cli_words::{TextError, read_lines};
 use std::alloc::{AllocError, Global};
-use store_documents::KeptRow;
-use store_streams::{Keys, StreamError, judge_stream, judge_trees};
+use store_documents::{KeptRow, Keys, judge_stream, judge_trees};
+use store_model::StoreError;
 
 /// The bytes of the rows.
 fn bodies(alloc: Global, rows: &[KeptRow<'_>]) -> Result<String, AllocError> {
@@ -19,7 +19,7 @@ fn bodies(alloc: Global, rows: &[KeptRow<'_>]) -> Result<String, AllocError> {
 }
 
 /// How many rows there are, and their bytes; or the refusal.
-fn judged(alloc: Global, rows: Result<Vec<KeptRow<'_>>, StreamError>) -> Result<String, TextError> {
+fn judged(alloc: Global, rows: Result<Vec<KeptRow<'_>>, StoreError>) -> Result<String, TextError> {
     match rows {
         Ok(rows) if rows.is_empty() => Ok(String::from_str(alloc, "no documents")?),
         Ok(rows) => Ok(bodies(alloc, &rows)?),

@@ -1,5 +1,5 @@
 -- What a query over the table answers.
-use Rattle.std.proofs.Common.{◌≡◌, List, [], ◌∷◌, ◌++◌, map, filter, flat_map, Bool, true, false, ◌&&◌, cond, if◌then◌else◌, refl, ap, subst, ◌∙◌, Some, is_eq}
+use Rattle.std.proofs.Common.{◌≡◌, ◌^◌, ℕ, nat_le, List, [], ◌∷◌, ◌++◌, map, filter, flat_map, Bool, true, false, ◌&&◌, cond, if◌then◌else◌, refl, ap, subst, ◌∙◌, Some, is_eq}
 use Rattle.std.specs.List.{list_all}
 use Rattle.std.specs.List.Sorted.{IsPermutation, IsSorted}
 use Rattle.std.proofs.lemmas.List.Sorted.{IsPermutation-map, IsPermutation-trans}
@@ -13,12 +13,12 @@ use Rattle.sqlite_sql.specs.declared.ops.BinaryOp.TheVariants.{Compare}
 use Rattle.sqlite_sql.specs.declared.ops.CompareOp.TheVariants.{Eq}
 use Rattle.sqlite_sql.specs.Ops.{binary, is_true, from_truth}
 use Rattle.sqlite_sql.specs.Term.{Term, holds}
-use Rattle.sqlite_sql.specs.Query.{end, matches_as, IsAnswerAs, Output, output, output_cmp}
+use Rattle.sqlite_sql.specs.Query.{inner, end, matches_as, IsAnswerAs, Output, output, output_cmp}
 use Rattle.sqlite_sql.specs.Program.{overlay}
 use Rattle.sqlite.specs.Tree.{Trees}
 use Rattle.sqlite.specs.Effect.{Answers, Database}
-use Rattle.store_table.specs.Rows.{TableRow, columns_of, HasRows}
-use Rattle.store_table.proofs.Texts.{plain_query, program}
+use Rattle.store_table.specs.Rows.{TableRow, columns_of, TableRows}
+use Rattle.store_table.proofs.Texts.{plain_query, query_at, program}
 
 -- = on two values that are not NULL, as a test
 pub and_true : (b : Bool) → b && true ≡ b
@@ -42,6 +42,13 @@ matches_are lost db terms params (d ∷ rows) = go (passes terms params d) (matc
         → (if b then (params ∷ d ∷ []) ∷ [] else []) ++ flat_map (λ r. matches_as lost db terms end ((params ∷ []) ++ r ∷ [])) rows ≡ map (λ r. params ∷ r ∷ []) (cond b (d ∷ filter (passes terms params) rows) (filter (passes terms params) rows))
     go true k = ap (λ rs. (params ∷ d ∷ []) ∷ rs) k
     go false k = k
+
+-- the rows of a stored tree that pass
+pub stored_matches : (terms : List Term) (trees : Trees) (params : Row) (tree : ℕ) → nat_le (2 ^ 31) tree ≡ false
+    → matches_as Null (overlay trees []) terms (inner tree end) (params ∷ []) ≡ map (λ r. params ∷ r ∷ []) (filter (passes terms params) (trees tree))
+stored_matches terms trees params tree stored =
+    let own : overlay trees [] tree ≡ trees tree = rw stored refl in
+    ap (λ rows. flat_map (λ r. matches_as Null (overlay trees []) terms end ((params ∷ []) ++ r ∷ [])) rows) own ∙ matches_are Null (overlay trees []) terms params (trees tree)
 
 -- for a test on documents
 stored_pass : (terms : List Term) (params : Row) (t : TableRow → Bool) (docs : List TableRow) → ((d : TableRow) → passes terms params (columns_of d) ≡ t d) → filter (passes terms params) (map columns_of docs) ≡ map columns_of (filter t docs)
@@ -70,14 +77,14 @@ map_map f g [] = refl
 map_map f g (x ∷ xs) = ap (λ ys. f (g x) ∷ ys) (map_map f g xs)
 
 pub outputs_of : (terms project : List Term) (order : List (Term × Key)) (params : Row) (t : TableRow → Bool) (docs : List TableRow) (db : Database) (rows : List Row)
-    → HasRows db.trees docs → ((d : TableRow) → list_all (holds (params ∷ columns_of d ∷ [])) terms ≡ t d) → Answers db (program (plain_query terms project order)) params rows → Outputs terms project order params t docs rows
+    → (has : TableRows db docs) → ((d : TableRow) → list_all (holds (params ∷ columns_of d ∷ [])) terms ≡ t d) → Answers db (program (query_at has.tree terms project order)) params rows → Outputs terms project order params t docs rows
 outputs_of terms project order params t docs db rows has test answers =
-    let q = plain_query terms project order in
+    let q = query_at has.tree terms project order in
     let a : IsAnswerAs Null q (overlay db.trees []) params rows = answers.answer Null in
     let env = λ (r : Row). params ∷ r ∷ [] in
-    let found = filter (passes terms params) (db.trees 0) in
-    let kept : a.kept ≡ map (λ r. output q (env r)) found = a.distinct ∙ ap (map (output q)) (a.grouped ∙ matches_are Null (overlay db.trees []) terms params (db.trees 0)) ∙ map_map (output q) env found in
-    let moved : IsPermutation (map columns_of (filter t docs)) found = subst (λ xs. IsPermutation xs found) (stored_pass terms params t docs test) (IsPermutation-filter (passes terms params) (map columns_of docs) (db.trees 0) has.rows) in
+    let found = filter (passes terms params) (db.trees has.tree) in
+    let kept : a.kept ≡ map (λ r. output q (env r)) found = a.distinct ∙ ap (map (output q)) (a.grouped ∙ stored_matches terms db.trees params has.tree has.stands.stored) ∙ map_map (output q) env found in
+    let moved : IsPermutation (map columns_of (filter t docs)) found = subst (λ xs. IsPermutation xs found) (stored_pass terms params t docs test) (IsPermutation-filter (passes terms params) (map columns_of docs) (db.trees has.tree) has.rows) in
     let outs = subst (λ xs. IsPermutation xs (map (λ r. output q (env r)) found)) (map_map (λ r. output q (env r)) columns_of (filter t docs)) (IsPermutation-map (λ r. output q (env r)) (map columns_of (filter t docs)) found moved) in
     record { all = a.ordered; same = IsPermutation-trans _ _ a.ordered outs (subst (λ k. IsPermutation k a.ordered) kept a.same); sorted = a.sorted; shown = a.shown }
 

@@ -31,7 +31,7 @@ use Rattle.store_table.specs.Schema.{documents}
 use Rattle.store_table.specs.Beside.{AddsCounts, AddsTable, StandsBeside, AreBeside}
 use Rattle.store_table.proofs.InsertLemmas.{went, same_value}
 use Rattle.store_table.proofs.PlainLemmas.{if_select_is, same_compiled}
-use Rattle.store_table.proofs.Texts.{create_text, create_is}
+use Rattle.store_table.proofs.Texts.{create_text, create_defines}
 
 -- ---- what the text means
 
@@ -142,7 +142,7 @@ adds_table limit mode db tally after h sound rest =
     let all = went h in
     let first = went all.1 in
     let made = first.1 in
-    let both : Ok made.table ≡ Ok documents = sym made.defined ∙ create_is.2 in
+    let both : Ok made.table ≡ Ok documents = sym made.defined ∙ create_defines in
     let same : made.table ≡ documents = cc in
     let schema : first.0.schema ≡ created db.schema documents = made.is ∙ ap (created db.schema) same in
     let now : after ≡ all.0 = ap (λ (p : Tally × Database). p.1) (same_value all.2) in

@@ -1,18 +1,19 @@
 -- What the DELETE and the UPDATE by place do.
-use Rattle.std.proofs.Common.{◌≡◌, ◌⊎◌, inl, inr, ℕ, ℤ, List, [], ◌∷◌, ◌++◌, map, filter, Bool, true, false, ◌&&◌, None, Some, Ok, Err, Result, refl, sym, ap, subst, ◌∙◌, Option, is_eq, OnOk, arith, ◌≤◌}
+use Rattle.std.proofs.Common.{◌≡◌, ◌⊎◌, inl, inr, ℕ, ℤ, List, [], ◌∷◌, map, filter, Bool, true, false, None, Ok, Err, Result, refl, sym, ap, subst, ◌∙◌, Option, is_eq, OnOk, arith}
 use Rattle.std.specs.List.{list_all}
 use Rattle.std.specs.List.Sorted.{IsPermutation}
 use Rattle.std.proofs.lemmas.List.Sorted.{length_permutation}
-use Rattle.sqlite.specs.declared.types.Value.TheVariants.{Null, Int, Blob}
+use Rattle.sqlite.specs.declared.types.Value.TheVariants.{Int, Blob}
 use Rattle.sqlite.specs.Order.{Row}
 use Rattle.sqlite_value.proofs.OrderLemmas.{value_cmp-Int}
 use Rattle.sqlite.specs.Tree.{Trees}
 use Rattle.sqlite_trees.specs.Tree.{put_row, without_rowid}
-use Rattle.sqlite.specs.Term.{Term, lit, col}
+use Rattle.sqlite.specs.Term.{Term, col}
 use Rattle.sqlite_sql.specs.Term.{holds}
 use Rattle.sqlite.specs.Query.{Output, output}
 use Rattle.sqlite.specs.Command.TheVariants.{Delete, Update}
 use Rattle.sqlite.specs.Edit.{Edit, edit_of, edited}
+use Rattle.sqlite_rules.specs.Edit.{taken_by}
 use Rattle.sqlite.specs.Rowids.TheVariants.{Given}
 use Rattle.sqlite_rules.specs.Calls.{ids_of}
 use Rattle.sqlite.specs.Does.{Tally, Does}
@@ -23,15 +24,19 @@ use Rattle.sqlite.specs.declared.error.Error.{Error}
 use Rattle.sqlite.specs.State.{State, mode_of, Executes, CommitsBy}
 use Rattle.sqlite.specs.Listing.{understood}
 use Rattle.sqlite.proofs.Callers.{runs_as, one_step, one_permutation, statement_of}
-use Rattle.store_table.specs.Schema.{documents, documents_schema}
-use Rattle.store_table.specs.Rows.{TableRow, columns_of, HasRows, HoldsRows, is_at, without_place, with_body_at}
+use Rattle.store_table.specs.Schema.{documents_at}
+use Rattle.store_table.specs.Rows.{TableRow, columns_of, TableRows, HasRows, HoldsRows, is_at, without_place, with_body_at}
 use Rattle.store_table.proofs.RowLemmas.{cast_null, cast_int}
 use Rattle.store_table.proofs.PlaceLemmas.{at_place, rising_without, rising_replaced}
 use Rattle.store_table.proofs.AnswerLemmas.{and_true, outputs_of, equal_is}
-use Rattle.store_table.proofs.StatementLemmas.{commits_as, listed_by}
+use Rattle.store_table.proofs.StatementLemmas.{commits_as, at_table, unacted, seen, unseen}
+use Rattle.store_table.specs.Beside.{SparesOthers}
+use Rattle.store_table.proofs.OthersLemmas.{trees_have}
 use Rattle.store_table.proofs.PermLemmas.{gone_perm, back_perm}
-use Rattle.store_table.proofs.InsertLemmas.{went, same_value}
-use Rattle.store_table.proofs.Texts.{plain_query, program, equals, delete_text, delete_is, delete_plain, update_text, update_is, update_plain}
+use Rattle.store_table.proofs.InsertLemmas.{went, same_value, table_with}
+use Rattle.store_table.proofs.Texts.{plain_query, equals, delete_text, update_text}
+use Rattle.store_table.proofs.CommandLemmas.{program_at, body_project}
+use Rattle.store_table.proofs.MeansLemmas.{delete_is, update_is}
 
 empty_list : {X : Type 0} (xs ys : List X) → xs ≡ [] → IsPermutation xs ys → ys ≡ []
 empty_list xs [] e h = refl
@@ -45,7 +50,7 @@ module _ (p : ℤ) (more : Row) where
   at_test d = and_true _ ∙ equal_is (Int d.place) (Int p) (is_at p d) refl refl (ap is_eq (value_cmp-Int d.place p))
 
   -- the rows that a query by place gives
-  pub by_place : (project : List Term) (docs : List TableRow) (db : Database) (rows : List Row) → HasRows db.trees docs → Answers db (program (plain_query (equals 0 0 ∷ []) project [])) params rows
+  pub by_place : (project : List Term) (docs : List TableRow) (db : Database) (rows : List Row) → (has : TableRows db docs) → Answers db (program_at has.tree project) params rows
       → ((filter (is_at p) docs ≡ []) × (rows ≡ [])) ⊎ ((d : TableRow) × (filter (is_at p) docs ≡ d ∷ []) × (d.place ≡ p) × (rows ≡ (output (plain_query (equals 0 0 ∷ []) project []) (params ∷ columns_of d ∷ [])).1 ∷ []))
   by_place project docs db rows has answers =
       let q = plain_query (equals 0 0 ∷ []) project [] in
@@ -56,8 +61,8 @@ module _ (p : ℤ) (more : Row) where
         | inr one ↦ inr (one.0, one.1, one.2, o.shown ∙ ap (map (λ (x : Output). x.1)) (one_permutation (out one.0) o.all (subst (λ k. IsPermutation k o.all) (ap (map out) one.1) o.same)))
       ]
 
-abbrev pub delete_command : Rattle.sqlite.specs.Command.Command
-delete_command = Delete 0 (program (plain_query (equals 0 0 ∷ []) (col 1 0 ∷ []) []))
+abbrev pub delete_command : ℕ → ℕ → Rattle.sqlite.specs.Command.Command
+delete_command place tree = Delete place (program_at tree (col 1 0 ∷ []))
 
 none_without : (p : ℤ) (docs : List TableRow) → filter (is_at p) docs ≡ [] → without_place p docs ≡ docs
 none_without p [] h = refl
@@ -67,35 +72,26 @@ none_without p (d ∷ docs) h = go (is_at p d) refl (none_without p docs)
     go true e k = absurd (let x = rw e at h in cc)
     go false e k = rw e (ap (λ ds. d ∷ ds) (k (rw e at h)))
 
-pub deletes : (limit : Option ℕ) (mode : Mode) (text : List ℕ) (p : ℤ) (docs : List TableRow) (db : Database) (tally : Tally) (after : Database) → db.schema ≡ documents_schema → HasRows db.trees docs
-    → Does limit mode (Int p ∷ []) db text None delete_command (Ok (tally, after)) → IsDatabase after → (after.schema ≡ documents_schema) × HasRows after.trees (without_place p docs)
-deletes limit mode text p docs db tally after has rows h sound =
-    let done = went (subst (λ s. Does limit mode (Int p ∷ []) (record db { schema = s }) text None delete_command (Ok (tally, after))) has h) in
+pub deletes : (limit : Option ℕ) (mode : Mode) (text : List ℕ) (p : ℤ) (docs : List TableRow) (db : Database) (tally : Tally) (after : Database) → (rows : TableRows db docs)
+    → Does limit mode (Int p ∷ []) db text None (delete_command rows.place rows.tree) (Ok (tally, after)) → IsDatabase after → TableRows after (without_place p docs) × SparesOthers db after
+deletes limit mode text p docs db tally after rows h sound =
+    let table = documents_at rows.tree in
+    let done = went (at_table limit mode (Int p ∷ []) db (delete_command rows.place rows.tree) rows.place table (Ok (tally, after)) rows.stands.at h) in
     let now = ap (λ (x : Tally × Database). x.1) (same_value (went (went done.2).2).2) in
     let from = went done.1 in
     let written = went from.2 in
     let trees : done.0.trees ≡ written.0 = ap (λ (it : Written). it.trees) (same_value written.2) in
-    let edit : Edit = edit_of db.trees documents (ids_of from.0) Given 0 [] in
-    let made = (one_step documents_schema _ db.trees written.0 edit refl written.1).rows in
-    let found = by_place p [] (col 1 0 ∷ []) docs (record db { schema = documents_schema }) from.0 rows from.1 in
+    let edit : Edit = edit_of db.trees table (ids_of from.0) Given 0 [] in
+    let step = one_step db.schema mode.keys db.trees written.0 edit (unacted db.schema mode.keys rows.tree (taken_by db.trees edit) edit.news rows.place rows.stands) written.1 in
+    let found = by_place p [] (col 1 0 ∷ []) docs db from.0 rows from.1 in
     let left : IsPermutation (map columns_of (without_place p docs)) (edited db.trees edit) = elim found [
       | inl none ↦ rw (none.1, none_without p docs none.0) rows.rows
-      | inr one ↦ rw (one.3, one.2) (gone_perm p docs (db.trees 0) rows.rows)
+      | inr one ↦ rw (one.3, one.2) (gone_perm p docs (db.trees rows.tree) rows.rows)
     ] in
-    let is = ap (λ (x : Database). x.trees 0) now ∙ ap (λ (t : Trees). t 0) trees ∙ made in (
-      ap (λ (x : Database). x.schema) now,
-      record {
-        listed = listed_by after (ap (λ (x : Database). x.schema) now) sound;
-        rows = subst (λ rs. IsPermutation (map columns_of (without_place p docs)) rs) (sym is) left;
-        rising = rising_without p docs rows.rising;
-      },
-    )
+    table_with db after docs (without_place p docs) rows written.0 (edited db.trees edit) (ap (λ (x : Database). x.schema) now) (ap (λ (x : Database). x.trees) now ∙ trees) step.rows left (rising_without p docs rows.rising) step.tables sound
 
-abbrev pub update_project : List Term
-update_project = col 1 0 ∷ col 1 0 ∷ lit Null ∷ col 1 2 ∷ col 1 3 ∷ col 0 1 ∷ []
-
-abbrev pub update_command : Rattle.sqlite.specs.Command.Command
-update_command = Update 0 (program (plain_query (equals 0 0 ∷ []) update_project []))
+abbrev pub update_command : ℕ → ℕ → Rattle.sqlite.specs.Command.Command
+update_command place tree = Update place (program_at tree body_project)
 
 none_replaced : (p : ℤ) (body : List ℕ) (docs : List TableRow) → filter (is_at p) docs ≡ [] → with_body_at p body docs ≡ docs
 none_replaced p body [] h = refl
@@ -105,56 +101,60 @@ none_replaced p body (d ∷ docs) h = go (is_at p d) refl (none_replaced p body 
     go true e k = absurd (let x = rw e at h in cc)
     go false e k = rw e (ap (λ ds. d ∷ ds) (k (rw e at h)))
 
-pub updates : (limit : Option ℕ) (mode : Mode) (text : List ℕ) (p : ℤ) (body : List ℕ) (docs : List TableRow) (db : Database) (tally : Tally) (after : Database) → db.schema ≡ documents_schema → HasRows db.trees docs
-    → Does limit mode (Int p ∷ Blob body ∷ []) db text None update_command (Ok (tally, after)) → IsDatabase after → (after.schema ≡ documents_schema) × HasRows after.trees (with_body_at p body docs)
-updates limit mode text p body docs db tally after has rows h sound =
-    let done = went (subst (λ s. Does limit mode (Int p ∷ Blob body ∷ []) (record db { schema = s }) text None update_command (Ok (tally, after))) has h) in
+pub updates : (limit : Option ℕ) (mode : Mode) (text : List ℕ) (p : ℤ) (body : List ℕ) (docs : List TableRow) (db : Database) (tally : Tally) (after : Database) → (rows : TableRows db docs)
+    → Does limit mode (Int p ∷ Blob body ∷ []) db text None (update_command rows.place rows.tree) (Ok (tally, after)) → IsDatabase after → TableRows after (with_body_at p body docs) × SparesOthers db after
+updates limit mode text p body docs db tally after rows h sound =
+    let table = documents_at rows.tree in
+    let done = went (at_table limit mode (Int p ∷ Blob body ∷ []) db (update_command rows.place rows.tree) rows.place table (Ok (tally, after)) rows.stands.at h) in
     let now = ap (λ (x : Tally × Database). x.1) (same_value (went (went done.2).2).2) in
     let from = went done.1 in
     let written = went from.2 in
     let trees : done.0.trees ≡ written.0 = ap (λ (it : Written). it.trees) (same_value written.2) in
-    let edit : Edit = edit_of db.trees documents (ids_of from.0) Given 1 from.0 in
-    let made = (one_step documents_schema _ db.trees written.0 edit refl written.1).rows in
-    let found = by_place p (Blob body ∷ []) update_project docs (record db { schema = documents_schema }) from.0 rows from.1 in
+    let edit : Edit = edit_of db.trees table (ids_of from.0) Given 1 from.0 in
+    let step = one_step db.schema mode.keys db.trees written.0 edit (unacted db.schema mode.keys rows.tree (taken_by db.trees edit) edit.news rows.place rows.stands) written.1 in
+    let found = by_place p (Blob body ∷ []) body_project docs db from.0 rows from.1 in
     let left : IsPermutation (map columns_of (with_body_at p body docs)) (edited db.trees edit) = elim found [
       | inl none ↦ rw (none.1, none_replaced p body docs none.0) rows.rows
       | inr one ↦ rw (one.3, cast_null, cast_int one.0.place)
-          (subst (λ q. IsPermutation (map columns_of (with_body_at p body docs)) (put_row (columns_of (record one.0 { body = body })) (without_rowid q (db.trees 0)))) (sym one.2) (back_perm p body one.0 docs (db.trees 0) rows.rising one.1 one.2 rows.rows))
+          (subst (λ q. IsPermutation (map columns_of (with_body_at p body docs)) (put_row (columns_of (record one.0 { body = body })) (without_rowid q (db.trees rows.tree)))) (sym one.2) (back_perm p body one.0 docs (db.trees rows.tree) rows.rising one.1 one.2 rows.rows))
     ] in
-    let is = ap (λ (x : Database). x.trees 0) now ∙ ap (λ (t : Trees). t 0) trees ∙ made in (
-      ap (λ (x : Database). x.schema) now,
-      record {
-        listed = listed_by after (ap (λ (x : Database). x.schema) now) sound;
-        rows = subst (λ rs. IsPermutation (map columns_of (with_body_at p body docs)) rs) (sym is) left;
-        rising = rising_replaced p body docs rows.rising;
-      },
-    )
+    table_with db after docs (with_body_at p body docs) rows written.0 (edited db.trees edit) (ap (λ (x : Database). x.schema) now) (ap (λ (x : Database). x.trees) now ∙ trees) step.rows left (rising_replaced p body docs rows.rising) step.tables sound
 
 module _ (p : ℤ) (old new : State) (docs : List TableRow) (h : HoldsRows old docs) where
-  pub removes : (r : Result ℕ Error) → Executes delete_text (Int p ∷ []) old new r → OnOk r (HoldsRows new (without_place p docs))
+  abbrev here : ℕ
+  here = (seen h.table).place
+
+  abbrev there : ℕ
+  there = (seen h.table).tree
+
+  pub removes : (r : Result ℕ Error) → Executes delete_text (Int p ∷ []) old new r → OnOk r (HoldsRows new (without_place p docs) × SparesOthers old.now new.now)
   removes (Err e) ran = tt
   removes (Ok count) ran =
-      let w = runs_as delete_text (Int p ∷ []) old new documents_schema h.schema delete_command delete_is delete_plain count ran in
-      let made = deletes old.step_limit (mode_of old) (statement_of delete_text (understood documents_schema delete_text)) p docs old.now w.tally new.now h.schema h.table w.changed w.sound in
+      let m = delete_is old.now.schema here there (seen h.table).stands in
+      let w = runs_as delete_text (Int p ∷ []) old new old.now.schema refl (delete_command here there) m.is m.plain count ran in
+      let made = deletes old.step_limit (mode_of old) (statement_of delete_text (understood old.now.schema delete_text)) p docs old.now w.tally new.now (seen h.table) w.changed w.sound in
       let auto = h.autocommit in
-      record { is_open = w.shown.is_open; autocommit = w.shown.mode ∙ auto; settled = sym (w.shown.committed_is ∙ rw auto); schema = made.0; table = made.1 }
+      (record { is_open = w.shown.is_open; autocommit = w.shown.mode ∙ auto; settled = sym (w.shown.committed_is ∙ rw auto); table = unseen made.0 }, made.1)
 
-  pub remove_commits : (db : Trees) → CommitsBy delete_text (Int p ∷ []) old db → HasRows db (without_place p docs)
+  pub remove_commits : (db : Trees) → CommitsBy delete_text (Int p ∷ []) old db → HasRows old.now db (without_place p docs)
   remove_commits db commits =
-      let c = commits_as delete_text (Int p ∷ []) old db documents_schema delete_command h.schema delete_is delete_plain (λ e. cc) (λ name e. cc) commits in
-      let made = deletes old.step_limit (mode_of old) (statement_of delete_text (understood documents_schema delete_text)) p docs old.now c.0 c.1 h.schema h.table c.2 c.3 in
-      subst (λ t. HasRows t (without_place p docs)) (sym c.4) made.1
+      let m = delete_is old.now.schema here there (seen h.table).stands in
+      let c = commits_as delete_text (Int p ∷ []) old db old.now.schema (delete_command here there) refl m.is m.plain (λ e. cc) (λ name e. cc) commits in
+      let made = deletes old.step_limit (mode_of old) (statement_of delete_text (understood old.now.schema delete_text)) p docs old.now c.0 c.1 (seen h.table) c.2 c.3 in
+      subst (λ t. HasRows old.now t (without_place p docs)) (sym c.4) (trees_have old.now c.1 (without_place p docs) (unseen made.0) made.1)
 
-  pub rewrites : (body : List ℕ) (r : Result ℕ Error) → Executes update_text (Int p ∷ Blob body ∷ []) old new r → OnOk r (HoldsRows new (with_body_at p body docs))
+  pub rewrites : (body : List ℕ) (r : Result ℕ Error) → Executes update_text (Int p ∷ Blob body ∷ []) old new r → OnOk r (HoldsRows new (with_body_at p body docs) × SparesOthers old.now new.now)
   rewrites body (Err e) ran = tt
   rewrites body (Ok count) ran =
-      let w = runs_as update_text (Int p ∷ Blob body ∷ []) old new documents_schema h.schema update_command update_is update_plain count ran in
-      let made = updates old.step_limit (mode_of old) (statement_of update_text (understood documents_schema update_text)) p body docs old.now w.tally new.now h.schema h.table w.changed w.sound in
+      let m = update_is old.now.schema here there (seen h.table).stands in
+      let w = runs_as update_text (Int p ∷ Blob body ∷ []) old new old.now.schema refl (update_command here there) m.is m.plain count ran in
+      let made = updates old.step_limit (mode_of old) (statement_of update_text (understood old.now.schema update_text)) p body docs old.now w.tally new.now (seen h.table) w.changed w.sound in
       let auto = h.autocommit in
-      record { is_open = w.shown.is_open; autocommit = w.shown.mode ∙ auto; settled = sym (w.shown.committed_is ∙ rw auto); schema = made.0; table = made.1 }
+      (record { is_open = w.shown.is_open; autocommit = w.shown.mode ∙ auto; settled = sym (w.shown.committed_is ∙ rw auto); table = unseen made.0 }, made.1)
 
-  pub rewrite_commits : (body : List ℕ) (db : Trees) → CommitsBy update_text (Int p ∷ Blob body ∷ []) old db → HasRows db (with_body_at p body docs)
+  pub rewrite_commits : (body : List ℕ) (db : Trees) → CommitsBy update_text (Int p ∷ Blob body ∷ []) old db → HasRows old.now db (with_body_at p body docs)
   rewrite_commits body db commits =
-      let c = commits_as update_text (Int p ∷ Blob body ∷ []) old db documents_schema update_command h.schema update_is update_plain (λ e. cc) (λ name e. cc) commits in
-      let made = updates old.step_limit (mode_of old) (statement_of update_text (understood documents_schema update_text)) p body docs old.now c.0 c.1 h.schema h.table c.2 c.3 in
-      subst (λ t. HasRows t (with_body_at p body docs)) (sym c.4) made.1
+      let m = update_is old.now.schema here there (seen h.table).stands in
+      let c = commits_as update_text (Int p ∷ Blob body ∷ []) old db old.now.schema (update_command here there) refl m.is m.plain (λ e. cc) (λ name e. cc) commits in
+      let made = updates old.step_limit (mode_of old) (statement_of update_text (understood old.now.schema update_text)) p body docs old.now c.0 c.1 (seen h.table) c.2 c.3 in
+      subst (λ t. HasRows old.now t (with_body_at p body docs)) (sym c.4) (trees_have old.now c.1 (with_body_at p body docs) (unseen made.0) made.1)

@@ -1,13 +1,12 @@
 -- What the UPDATE of a key does, in a transaction.
 use Rattle.std.proofs.Common.{◌≡◌, inl, inr, ℕ, ℤ, List, [], ◌∷◌, map, filter, Bool, true, false, None, Ok, Err, Result, refl, sym, ap, subst, ◌∙◌, Option, OnOk, IsTrue, take, length, suc, zero, get_or, ◌+◌, ◌<◌, arith}
 use Rattle.std.specs.List.Sorted.{IsPermutation}
-use Rattle.sqlite.specs.declared.types.Value.TheVariants.{Null, Int, Blob}
+use Rattle.sqlite.specs.declared.types.Value.TheVariants.{Int, Blob}
 use Rattle.sqlite.specs.Order.{Row}
-use Rattle.sqlite.specs.Tree.{Trees}
 use Rattle.sqlite_trees.specs.Tree.{put_row, without_rowid}
-use Rattle.sqlite.specs.Term.{Term, lit, col}
 use Rattle.sqlite.specs.Command.TheVariants.{Update}
 use Rattle.sqlite.specs.Edit.{Edit, edit_of, edited}
+use Rattle.sqlite_rules.specs.Edit.{taken_by}
 use Rattle.sqlite.specs.Rowids.TheVariants.{Given}
 use Rattle.sqlite_rules.specs.Calls.{ids_of}
 use Rattle.sqlite.specs.Does.{Tally, Does}
@@ -20,21 +19,21 @@ use Rattle.sqlite.specs.Listing.{understood}
 use Rattle.sqlite.proofs.Callers.{runs_as, one_step, statement_of}
 use Rattle.store_table.specs.declared.row.NewKey.{NewKey}
 use Rattle.store_table.specs.Open.{IsSettled, KeepsAll, HasCommitted}
-use Rattle.store_table.specs.Schema.{documents, documents_schema}
-use Rattle.store_table.specs.Rows.{TableRow, columns_of, HasRows, Inside, is_at, with_key_at, with_keys_at}
-use Rattle.store_table.proofs.StatementLemmas.{listed_by}
+use Rattle.store_table.specs.Schema.{documents_at}
+use Rattle.store_table.specs.Rows.{TableRow, columns_of, TableRows, RowsIn, Inside, is_at, with_key_at, with_keys_at}
+use Rattle.store_table.proofs.StatementLemmas.{at_table, unacted, seen, unseen}
 use Rattle.store_table.proofs.RowLemmas.{cast_null, cast_int}
 use Rattle.store_table.proofs.PlaceLemmas.{rising_rekeyed}
+use Rattle.store_table.specs.Beside.{SparesOthers}
 use Rattle.store_table.proofs.PermLemmas.{key_perm}
-use Rattle.store_table.proofs.InsertLemmas.{went, same_value}
+use Rattle.store_table.proofs.InsertLemmas.{went, same_value, table_with}
 use Rattle.store_table.proofs.ChangeLemmas.{by_place}
-use Rattle.store_table.proofs.Texts.{plain_query, program, equals, rekey_text, rekey_is, rekey_plain}
+use Rattle.store_table.proofs.Texts.{rekey_text}
+use Rattle.store_table.proofs.CommandLemmas.{program_at, idkey_project}
+use Rattle.store_table.proofs.MeansLemmas.{rekey_is}
 
-abbrev rekey_project : List Term
-rekey_project = col 1 0 ∷ col 1 0 ∷ lit Null ∷ col 1 2 ∷ col 0 1 ∷ col 1 4 ∷ []
-
-abbrev rekey_command : Rattle.sqlite.specs.Command.Command
-rekey_command = Update 0 (program (plain_query (equals 0 0 ∷ []) rekey_project []))
+abbrev rekey_command : ℕ → ℕ → Rattle.sqlite.specs.Command.Command
+rekey_command place tree = Update place (program_at tree idkey_project)
 
 none_rekeyed : (p : ℤ) (idkey : List ℕ) (docs : List TableRow) → filter (is_at p) docs ≡ [] → with_key_at p idkey docs ≡ docs
 none_rekeyed p idkey [] h = refl
@@ -44,49 +43,41 @@ none_rekeyed p idkey (d ∷ docs) h = go (is_at p d) refl (none_rekeyed p idkey 
     go true e k = absurd (let x = rw e at h in cc)
     go false e k = rw e (ap (λ ds. d ∷ ds) (k (rw e at h)))
 
-rekeys : (limit : Option ℕ) (mode : Mode) (text : List ℕ) (p : ℤ) (idkey : List ℕ) (docs : List TableRow) (db : Database) (tally : Tally) (after : Database) → db.schema ≡ documents_schema → HasRows db.trees docs
-    → Does limit mode (Int p ∷ Blob idkey ∷ []) db text None rekey_command (Ok (tally, after)) → IsDatabase after → (after.schema ≡ documents_schema) × HasRows after.trees (with_key_at p idkey docs)
-rekeys limit mode text p idkey docs db tally after has rows h sound =
-    let done = went (subst (λ s. Does limit mode (Int p ∷ Blob idkey ∷ []) (record db { schema = s }) text None rekey_command (Ok (tally, after))) has h) in
+rekeys : (limit : Option ℕ) (mode : Mode) (text : List ℕ) (p : ℤ) (idkey : List ℕ) (docs : List TableRow) (db : Database) (tally : Tally) (after : Database) → (rows : TableRows db docs)
+    → Does limit mode (Int p ∷ Blob idkey ∷ []) db text None (rekey_command rows.place rows.tree) (Ok (tally, after)) → IsDatabase after → TableRows after (with_key_at p idkey docs) × SparesOthers db after
+rekeys limit mode text p idkey docs db tally after rows h sound =
+    let table = documents_at rows.tree in
+    let done = went (at_table limit mode (Int p ∷ Blob idkey ∷ []) db (rekey_command rows.place rows.tree) rows.place table (Ok (tally, after)) rows.stands.at h) in
     let now = ap (λ (x : Tally × Database). x.1) (same_value (went (went done.2).2).2) in
     let from = went done.1 in
     let written = went from.2 in
     let trees : done.0.trees ≡ written.0 = ap (λ (it : Written). it.trees) (same_value written.2) in
-    let edit : Edit = edit_of db.trees documents (ids_of from.0) Given 1 from.0 in
-    let made = (one_step documents_schema _ db.trees written.0 edit refl written.1).rows in
-    let found = by_place p (Blob idkey ∷ []) rekey_project docs (record db { schema = documents_schema }) from.0 rows from.1 in
+    let edit : Edit = edit_of db.trees table (ids_of from.0) Given 1 from.0 in
+    let step = one_step db.schema mode.keys db.trees written.0 edit (unacted db.schema mode.keys rows.tree (taken_by db.trees edit) edit.news rows.place rows.stands) written.1 in
+    let found = by_place p (Blob idkey ∷ []) idkey_project docs db from.0 rows from.1 in
     let left : IsPermutation (map columns_of (with_key_at p idkey docs)) (edited db.trees edit) = elim found [
       | inl none ↦ rw (none.1, none_rekeyed p idkey docs none.0) rows.rows
       | inr one ↦ rw (one.3, cast_null, cast_int one.0.place)
-          (subst (λ q. IsPermutation (map columns_of (with_key_at p idkey docs)) (put_row (columns_of (record one.0 { idkey = idkey })) (without_rowid q (db.trees 0)))) (sym one.2) (key_perm p idkey one.0 docs (db.trees 0) rows.rising one.1 one.2 rows.rows))
+          (subst (λ q. IsPermutation (map columns_of (with_key_at p idkey docs)) (put_row (columns_of (record one.0 { idkey = idkey })) (without_rowid q (db.trees rows.tree)))) (sym one.2) (key_perm p idkey one.0 docs (db.trees rows.tree) rows.rising one.1 one.2 rows.rows))
     ] in
-    let is = ap (λ (x : Database). x.trees 0) now ∙ ap (λ (t : Trees). t 0) trees ∙ made in (
-      ap (λ (x : Database). x.schema) now,
-      record {
-        listed = listed_by after (ap (λ (x : Database). x.schema) now) sound;
-        rows = subst (λ rs. IsPermutation (map columns_of (with_key_at p idkey docs)) rs) (sym is) left;
-        rising = rising_rekeyed p idkey docs rows.rising;
-      },
-    )
+    table_with db after docs (with_key_at p idkey docs) rows written.0 (edited db.trees edit) (ap (λ (x : Database). x.schema) now) (ap (λ (x : Database). x.trees) now ∙ trees) step.rows left (rising_rekeyed p idkey docs rows.rising) step.tables sound
 
 module _ (p : ℤ) (idkey : List ℕ) (old new : State) (first docs : List TableRow) (h : Inside old first docs) where
-  rekey_ok : (count : ℕ) → ExecutesInside 0 rekey_text (Int p ∷ Blob idkey ∷ []) old new (Ok count) → Inside new first (with_key_at p idkey docs)
+  rekey_ok : (count : ℕ) → ExecutesInside 0 rekey_text (Int p ∷ Blob idkey ∷ []) old new (Ok count) → Inside new first (with_key_at p idkey docs) × SparesOthers old.now new.now
   rekey_ok count ran =
-      let w = runs_as rekey_text (Int p ∷ Blob idkey ∷ []) old new documents_schema h.schema rekey_command rekey_is rekey_plain count ran.0 in
-      let made = rekeys old.step_limit (mode_of old) (statement_of rekey_text (understood documents_schema rekey_text)) p idkey docs old.now w.tally new.now h.schema h.table w.changed w.sound in
+      let m = rekey_is old.now.schema (seen h.table).place (seen h.table).tree (seen h.table).stands in
+      let w = runs_as rekey_text (Int p ∷ Blob idkey ∷ []) old new old.now.schema refl (rekey_command (seen h.table).place (seen h.table).tree) m.is m.plain count ran.0 in
+      let made = rekeys old.step_limit (mode_of old) (statement_of rekey_text (understood old.now.schema rekey_text)) p idkey docs old.now w.tally new.now (seen h.table) w.changed w.sound in
       let shown = ran.1 in
-      record {
-        is_open = shown.is_open;
-        mode = shown.mode;
-        schema = made.0;
-        table = made.1;
-        first_schema = ap (λ (x : Database). x.schema) shown.committed_is ∙ h.first_schema;
-        first_table = subst (λ (x : Database). HasRows x.trees first) (sym shown.committed_is) h.first_table;
-      }
+      (record { is_open = shown.is_open; mode = shown.mode; table = unseen made.0; first_table = subst (λ (x : Database). RowsIn x first) (sym shown.committed_is) h.first_table }, made.1)
 
   pub rekey_done : (r : Result ℕ Error) → ExecutesInside 0 rekey_text (Int p ∷ Blob idkey ∷ []) old new r → OnOk r (Inside new first (with_key_at p idkey docs))
-  rekey_done (Ok count) ran = rekey_ok count ran
+  rekey_done (Ok count) ran = (rekey_ok count ran).0
   rekey_done (Err e) ran = tt
+
+  pub rekey_spared : (r : Result ℕ Error) → ExecutesInside 0 rekey_text (Int p ∷ Blob idkey ∷ []) old new r → OnOk r (SparesOthers old.now new.now)
+  rekey_spared (Ok count) ran = (rekey_ok count ran).1
+  rekey_spared (Err e) ran = tt
 
 -- one more key
 pub all_but_one : (keys : List NewKey) (i : ℕ) (k : NewKey) (docs : List TableRow) → i < length keys → k ≡ get_or keys i k

@@ -1,5 +1,5 @@
 -- The greatest place.
-use Rattle.std.proofs.Common.{codes, suc, add-one, ◌≡◌, ◌≢◌, ◌<ℤ◌, ◌≤ℤ◌, ◌+ℤ◌, ℕ, ℤ, pos, List, [], ◌∷◌, map, filter, true, false, Option, None, Some, Ok, refl, sym, ap, subst, ◌∙◌, arith, slice_get, take}
+use Rattle.std.proofs.Common.{suc, add-one, ◌≡◌, ◌≢◌, ◌<ℤ◌, ◌≤ℤ◌, ◌+ℤ◌, ℕ, ℤ, pos, List, [], ◌∷◌, map, filter, true, Option, None, Some, Ok, refl, sym, ap, subst, ◌∙◌, arith, slice_get, take}
 use Rattle.std.specs.List.{AllByRecursion}
 use Rattle.std.specs.List.Sorted.{IsPermutation, IsSorted}
 use Rattle.std.proofs.lemmas.Int.{ints}
@@ -15,20 +15,18 @@ use Rattle.sqlite_sql.specs.Query.{IsAnswerAs}
 use Rattle.sqlite_sql.specs.Program.{overlay}
 use Rattle.sqlite.specs.Command.TheVariants.{Select}
 use Rattle.sqlite.specs.Effect.{Answers}
-use Rattle.sqlite.specs.Listing.{understood, reads_listing}
 use Rattle.sqlite.specs.State.{State, Shown, QueriesRow}
 use Rattle.sqlite_tied.specs.Compute.{everything}
-use Rattle.sqlite.proofs.Callers.{IsPlain, reads_as, first_as, command_of}
-use Rattle.store_table.specs.Schema.{documents_schema}
+use Rattle.sqlite.proofs.Callers.{reads_as, first_as}
 use Rattle.store_table.specs.Visit.{IsSelect}
 use Rattle.store_table.specs.Rows.{TableRow, columns_of, IsRising, HoldsRows, last_place}
-use Rattle.store_table.proofs.AnswerLemmas.{passes, matches_are, map_map, keeps_all}
+use Rattle.store_table.proofs.StatementLemmas.{seen}
+use Rattle.store_table.proofs.AnswerLemmas.{passes, stored_matches, map_map, keeps_all}
 use Rattle.store_table.proofs.LastPlaceLemmas.{below_next}
-use Rattle.store_table.proofs.Texts.{plain_query, program}
+pub use Rattle.store_table.proofs.Texts.{greatest_text}
+use Rattle.store_table.proofs.Texts.{plain_query, query_at, program}
+use Rattle.store_table.proofs.MeansLemmas.{greatest_is}
 use Rattle.store_table.proofs.ReadLemmas.{key_of, not_below}
-
-abbrev pub greatest_text : List ℕ
-greatest_text = codes "SELECT place FROM documents ORDER BY place DESC LIMIT 1"
 
 abbrev by_desc : List (Term × Key)
 by_desc = (col 1 0, record { collation = Binary; descending = true }) ∷ []
@@ -36,17 +34,12 @@ by_desc = (col 1 0, record { collation = Binary; descending = true }) ∷ []
 abbrev desc_query : Query
 desc_query = record (plain_query [] (col 1 0 ∷ []) by_desc) { limit = lit (Int (pos 1)) }
 
-desc_is : (command_of (understood documents_schema greatest_text) ≡ Select (program desc_query) (codes "place" ∷ [])) × (reads_listing documents_schema greatest_text ≡ false)
-unfolding understood everything
-desc_is = (refl, refl)
+abbrev desc_at : ℕ → Query
+desc_at tree = record (query_at tree [] (col 1 0 ∷ []) by_desc) { limit = lit (Int (pos 1)) }
 
 pub greatest_asks : IsSelect greatest_text
 unfolding everything
 greatest_asks = (refl, refl)
-
-pub desc_plain : IsPlain (understood documents_schema greatest_text)
-unfolding understood everything
-desc_plain = (refl, refl)
 
 -- an output of the query has its place as its key and as its one column
 abbrev IsPlaced : Output → Type 0
@@ -104,20 +97,23 @@ first_of_page [] = refl
 first_of_page (x ∷ xs) = refl
 
 module _ (old new : State) (docs : List TableRow) (h : HoldsRows old docs) where
-  of_answer : (rows : List Row) → Answers old.now (program desc_query) [] rows → Finds docs (slice_get rows 0)
+  of_answer : (rows : List Row) → Answers old.now (program (desc_at (seen h.table).tree)) [] rows → Finds docs (slice_get rows 0)
   of_answer rows answers =
-      let a : IsAnswerAs Null desc_query (overlay old.now.trees []) [] rows = answers.answer Null in
+      let a : IsAnswerAs Null (desc_at (seen h.table).tree) (overlay old.now.trees []) [] rows = answers.answer Null in
       let shown = λ (r : Row). output desc_query ([] ∷ r ∷ []) in
-      let all = old.now.trees 0 in
-      let kept : a.kept ≡ map shown all = a.distinct ∙ ap (map (output desc_query)) (a.grouped ∙ matches_are Null (overlay old.now.trees []) [] [] all) ∙ map_map (output desc_query) (λ (r : Row). [] ∷ r ∷ []) (filter (passes [] []) all) ∙ ap (map shown) (keeps_all all) in
-      let outs : IsPermutation (map out docs) (map shown all) = subst (λ xs. IsPermutation xs (map shown all)) (map_map shown columns_of docs) (IsPermutation-map shown (map columns_of docs) all h.table.rows) in
+      let all = old.now.trees (seen h.table).tree in
+      let kept : a.kept ≡ map shown all = a.distinct ∙ ap (map (output desc_query)) (a.grouped ∙ stored_matches [] old.now.trees [] (seen h.table).tree (seen h.table).stands.stored) ∙ map_map (output desc_query) (λ (r : Row). [] ∷ r ∷ []) (filter (passes [] []) all) ∙ ap (map shown) (keeps_all all) in
+      let outs : IsPermutation (map out docs) (map shown all) = subst (λ xs. IsPermutation xs (map shown all)) (map_map shown columns_of docs) (IsPermutation-map shown (map columns_of docs) all (seen h.table).rows) in
       let same : IsPermutation (map out docs) a.ordered = IsPermutation-trans (map out docs) (map shown all) a.ordered outs (subst (λ k. IsPermutation k a.ordered) kept a.same) in
-      subst (λ (found : Option Row). Finds docs found) (sym (ap (λ (rs : List Row). slice_get rs 0) a.shown ∙ first_of_page (map (λ (o : Output). o.1) a.ordered))) (first_is docs a.ordered h.table.rising same a.sorted)
+      subst (λ (found : Option Row). Finds docs found) (sym (ap (λ (rs : List Row). slice_get rs 0) a.shown ∙ first_of_page (map (λ (o : Output). o.1) a.ordered))) (first_is docs a.ordered (seen h.table).rising same a.sorted)
 
   pub greatest_row : (row : Row) → QueriesRow greatest_text [] old new (Ok row) → (docs ≢ []) × (column row 0 ≡ Int (last_place docs))
   greatest_row row q =
-      let got = first_as greatest_text [] old new documents_schema h.schema (Select (program desc_query) _) desc_is.0 desc_plain desc_is.1 row q in
+      let m = greatest_is old.now.schema (seen h.table).place (seen h.table).tree (seen h.table).stands in
+      let got = first_as greatest_text [] old new old.now.schema refl (Select (program (desc_at (seen h.table).tree)) _) m.is m.plain m.unlisted row q in
       of_answer (row ∷ got.1.0) (record { typed = got.0; answer = got.1.1 })
 
   pub greatest_none : Shown greatest_text [] old new [] → docs ≡ []
-  greatest_none s = of_answer [] (reads_as greatest_text [] old new documents_schema h.schema (Select (program desc_query) _) desc_is.0 desc_plain desc_is.1 [] s)
+  greatest_none s =
+      let m = greatest_is old.now.schema (seen h.table).place (seen h.table).tree (seen h.table).stands in
+      of_answer [] (reads_as greatest_text [] old new old.now.schema refl (Select (program (desc_at (seen h.table).tree)) _) m.is m.plain m.unlisted [] s)

@@ -1,12 +1,12 @@
 -- Several rows, one place after the other.
-use Rattle.std.proofs.Common.{◌≡◌, ◌<◌, ◌≤ℤ◌, ℕ, ℤ, pos, ◌+ℤ◌, ◌+◌, zero, suc, List, [], ◌∷◌, ◌++◌, take, length, get_or, refl, sym, ap, subst, ◌∙◌, arith}
+use Rattle.std.proofs.Common.{◌≡◌, ◌<◌, ◌≤ℤ◌, ℕ, ℤ, pos, ◌+ℤ◌, ◌+◌, zero, suc, List, [], ◌∷◌, ◌++◌, take, length, get_or, sym, ap, subst, ◌∙◌, arith}
 use Rattle.std.proofs.lemmas.Int.{ints}
 use Rattle.store_table.specs.declared.row.NewRow.{NewRow}
 use Rattle.std.proofs.Common.{Result, Ok, Err, OnOk, IsTrue, false}
 use Rattle.sqlite.specs.declared.error.Error.{Error}
 use Rattle.sqlite.specs.Effect.{Database}
 use Rattle.sqlite.specs.State.{State, KeepsCounts, Shows as Shown}
-use Rattle.store_table.specs.Rows.{TableRow, AreBelow, docs_from, HasRows, HoldsRows, Inside}
+use Rattle.store_table.specs.Rows.{TableRow, AreBelow, docs_from, RowsIn, HoldsRows, Inside}
 
 abbrev pub doc_at : ℤ → List ℕ → NewRow → TableRow
 doc_at place coll r = record { place = place; coll = coll; idkey = r.idkey.now; body = r.body.now }
@@ -46,6 +46,5 @@ committed_shows last new first docs (Ok u) h auto k = record {
   is_open = k.1.is_open;
   autocommit = auto;
   settled = k.1.now_is ∙ sym k.1.committed_is;
-  schema = ap (λ (x : Database). x.schema) k.1.now_is ∙ h.schema;
-  table = subst (λ (x : Database). HasRows x.trees docs) (sym k.1.now_is) h.table;
+  table = subst (λ (x : Database). RowsIn x docs) (sym k.1.now_is) h.table;
 }

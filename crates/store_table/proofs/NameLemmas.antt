@@ -8,18 +8,16 @@ use Rattle.std.specs.BTreeSet.{insert_key}
 use Rattle.sqlite.specs.declared.types.Value.TheVariants.{Text}
 use Rattle.sqlite.specs.Order.{Row}
 use Rattle.sqlite.specs.Term.{col}
-use Rattle.sqlite.specs.Command.TheVariants.{Select}
-use Rattle.sqlite.specs.Listing.{understood, reads_listing}
 use Rattle.sqlite.specs.State.{State, Shown}
-use Rattle.sqlite.proofs.Callers.{IsPlain, command_of, reads_as}
 use Rattle.sqlite_tied.specs.Compute.{everything}
-use Rattle.store_table.specs.Schema.{documents_schema}
 use Rattle.store_table.specs.Rows.{TableRow, HoldsRows, is_in}
 use Rattle.store_table.specs.Visit.{IsSelect, first_value}
 use Rattle.store_table.specs.Names.{has_name, is_same_name, names_text}
-use Rattle.store_table.proofs.Texts.{plain_query, program, by_place}
+use Rattle.store_table.proofs.StatementLemmas.{seen}
+use Rattle.store_table.proofs.Texts.{by_place}
+use Rattle.store_table.proofs.MeansLemmas.{names_is}
 use Rattle.store_table.proofs.AnswerLemmas.{outputs_of}
-use Rattle.store_table.proofs.ReadLemmas.{in_order}
+use Rattle.store_table.proofs.ReadLemmas.{in_order, answers_of}
 use Rattle.store_table.proofs.SeenLemmas.{or_swap}
 use Rattle.std.proofs.lemmas.Slice.Eq.{bytes_eq-Decides}
 use Rattle.std.proofs.lemmas.Cmp.{nat_list_eq_equiv}
@@ -48,14 +46,6 @@ pub names_asks : IsSelect names_text
 unfolding everything
 names_asks = (refl, refl)
 
-names_is : (command_of (understood documents_schema names_text) ≡ Select (program (plain_query [] (col 1 2 ∷ []) by_place)) (codes "coll" ∷ [])) × (reads_listing documents_schema names_text ≡ false)
-unfolding understood everything
-names_is = (refl, refl)
-
-names_plain : IsPlain (understood documents_schema names_text)
-unfolding understood everything
-names_plain = (refl, refl)
-
 every : (docs : List TableRow) → filter (λ _. true) docs ≡ docs
 every [] = refl
 every (d ∷ docs) = ap (λ ds. d ∷ ds) (every docs)
@@ -67,6 +57,6 @@ in_docs c (d ∷ docs) = ap₂ (λ p q. p || q) (nat_list_eq_equiv.symm c d.coll
 pub names_of : (old new : State) (docs : List TableRow) (rows : List Row) (c : List ℕ) → HoldsRows old docs → Shown names_text [] old new rows → list_any (is_same_name c) (map first_value rows) ≡ list_any (is_in c) docs
 names_of old new docs rows c h s =
     let project = col 1 2 ∷ [] in
-    let answer = reads_as names_text [] old new documents_schema h.schema (Select (program (plain_query [] project by_place)) (codes "coll" ∷ [])) names_is.0 names_plain names_is.1 rows s in
-    let is = in_order [] project [] (λ _. true) docs rows h.table.rising (outputs_of [] project by_place [] (λ _. true) docs old.now rows h.table (λ d. refl) answer) ∙ ap (map (λ (d : TableRow). Text d.coll ∷ [])) (every docs) in
+    let answer = answers_of names_text [] old new docs (codes "coll" ∷ []) [] project by_place rows h (names_is old.now.schema (seen h.table).place (seen h.table).tree (seen h.table).stands) s in
+    let is = in_order [] project [] (λ _. true) docs rows (seen h.table).rising (outputs_of [] project by_place [] (λ _. true) docs old.now rows (seen h.table) (λ d. refl) answer) ∙ ap (map (λ (d : TableRow). Text d.coll ∷ [])) (every docs) in
     ap (λ (rs : List Row). list_any (is_same_name c) (map first_value rs)) is ∙ in_docs c docs

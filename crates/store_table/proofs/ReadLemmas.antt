@@ -17,16 +17,15 @@ use Rattle.sqlite_sql.specs.Term.{holds}
 use Rattle.sqlite.specs.Query.{Output, output, output_cmp}
 use Rattle.sqlite.specs.Command.TheVariants.{Select}
 use Rattle.sqlite.specs.Effect.{Answers}
-use Rattle.sqlite.specs.Listing.{understood, reads_listing}
 use Rattle.sqlite_value.specs.declared.keys.Key.{Key}
-use Rattle.sqlite.specs.Given.{IsPlain}
 use Rattle.sqlite.specs.State.{State, Shown}
-use Rattle.sqlite.proofs.Callers.{reads_as, command_of}
-use Rattle.store_table.specs.Schema.{documents_schema}
+use Rattle.sqlite.proofs.Callers.{reads_as}
 use Rattle.store_table.specs.Rows.{TableRow, columns_of, HoldsRows, IsRising, is_row_named}
+use Rattle.store_table.proofs.StatementLemmas.{seen}
 use Rattle.store_table.proofs.AnswerLemmas.{and_true, Outputs, outputs_of, equal_is, map_map}
 use Rattle.store_table.proofs.SortLemmas.{same_order, Strict, Rises}
-use Rattle.store_table.proofs.Texts.{plain_query, program, equals, by_place, find_text, find_is, find_plain, places_text, places_is, places_plain}
+use Rattle.store_table.proofs.Texts.{plain_query, query_at, program, equals, by_place, find_text, places_text}
+use Rattle.store_table.proofs.MeansLemmas.{Means, find_is, places_is}
 use Rattle.std.proofs.lemmas.Map.Text.{is_eq-slice_cmp}
 
 pub text_test : (a b : List ℕ) → is_eq (value_cmp (Text a) (Text b)) ≡ bytes_eq a b
@@ -104,32 +103,30 @@ module _ (terms project : List Term) (params : Row) (t : TableRow → Bool) wher
 
 -- ---- a row by its collection and key
 
-answers_of : (sql : List ℕ) (params : Row) (old new : State) (docs : List TableRow) (names : List (List ℕ)) (terms project : List Term) (order : List (Term × Key)) (rows : List Row) → HoldsRows old docs
-    → (command_of (understood documents_schema sql) ≡ Select (program (plain_query terms project order)) names) × (reads_listing documents_schema sql ≡ false) → IsPlain (understood documents_schema sql)
-    → Shown sql params old new rows → Answers old.now (program (plain_query terms project order)) params rows
-answers_of sql params old new docs names terms project order rows h is plain s =
-    reads_as sql params old new documents_schema h.schema (Select (program (plain_query terms project order)) names) is.0 plain is.1 rows s
+pub answers_of : (sql : List ℕ) (params : Row) (old new : State) (docs : List TableRow) (names : List (List ℕ)) (terms project : List Term) (order : List (Term × Key)) (rows : List Row) → (h : HoldsRows old docs)
+    → Means old.now.schema sql (Select (program (query_at (seen h.table).tree terms project order)) names) → Shown sql params old new rows → Answers old.now (program (query_at (seen h.table).tree terms project order)) params rows
+answers_of sql params old new docs names terms project order rows h m s =
+    reads_as sql params old new old.now.schema refl (Select (program (query_at (seen h.table).tree terms project order)) names) m.is m.plain m.unlisted rows s
 
 abbrev named_terms : List Term
 named_terms = equals 2 0 ∷ equals 3 1 ∷ []
 
 module _ (coll idkey : List ℕ) (old new : State) (docs : List TableRow) (rows : List Row) (h : HoldsRows old docs) where
   rows_of : (text : List ℕ) (names : List (List ℕ)) (project : List Term)
-      → (command_of (understood documents_schema text) ≡ Select (program (plain_query named_terms project by_place)) names) × (reads_listing documents_schema text ≡ false) → IsPlain (understood documents_schema text)
-      → Shown text (Text coll ∷ Blob idkey ∷ []) old new rows → Outputs named_terms project by_place (Text coll ∷ Blob idkey ∷ []) (is_row_named coll idkey) docs rows
-  rows_of text names project is plain s =
+      → Means old.now.schema text (Select (program (query_at (seen h.table).tree named_terms project by_place)) names) → Shown text (Text coll ∷ Blob idkey ∷ []) old new rows → Outputs named_terms project by_place (Text coll ∷ Blob idkey ∷ []) (is_row_named coll idkey) docs rows
+  rows_of text names project m s =
       let params = Text coll ∷ Blob idkey ∷ [] in
-      outputs_of named_terms project by_place params (is_row_named coll idkey) docs old.now rows h.table (named_test coll idkey) (answers_of text params old new docs names named_terms project by_place rows h is plain s)
+      outputs_of named_terms project by_place params (is_row_named coll idkey) docs old.now rows (seen h.table) (named_test coll idkey) (answers_of text params old new docs names named_terms project by_place rows h m s)
 
   pub named_rows : Shown find_text (Text coll ∷ Blob idkey ∷ []) old new rows → rows ≡ map (λ d. Int d.place ∷ Blob d.body ∷ []) (filter (is_row_named coll idkey) docs)
   named_rows s =
       let project = col 1 0 ∷ col 1 4 ∷ [] in
-      in_order named_terms project (Text coll ∷ Blob idkey ∷ []) (is_row_named coll idkey) docs rows h.table.rising (rows_of find_text _ project find_is find_plain s)
+      in_order named_terms project (Text coll ∷ Blob idkey ∷ []) (is_row_named coll idkey) docs rows (seen h.table).rising (rows_of find_text _ project (find_is old.now.schema (seen h.table).place (seen h.table).tree (seen h.table).stands) s)
 
   pub named_places : Shown places_text (Text coll ∷ Blob idkey ∷ []) old new rows → rows ≡ map (λ d. Int d.place ∷ []) (filter (is_row_named coll idkey) docs)
   named_places s =
       let project = col 1 0 ∷ [] in
-      in_order named_terms project (Text coll ∷ Blob idkey ∷ []) (is_row_named coll idkey) docs rows h.table.rising (rows_of places_text _ project places_is places_plain s)
+      in_order named_terms project (Text coll ∷ Blob idkey ∷ []) (is_row_named coll idkey) docs rows (seen h.table).rising (rows_of places_text _ project (places_is old.now.schema (seen h.table).place (seen h.table).tree (seen h.table).stands) s)
 
 abbrev pub found_row : TableRow → Row
 found_row d = Int d.place ∷ Blob d.body ∷ []

@@ -1,5 +1,5 @@
 -- What the replacing of keys says of the rows, from what the second survey found.
-use Rattle.std.proofs.Common.{◌≡◌, inl, inr, ◌⊎◌, ◌++◌, ◌∷◌, [], ℕ, ℤ, List, IfErr, None, Some, Result, Ok, Err, refl, sym, ap, subst, ◌∙◌}
+use Rattle.std.proofs.Common.{◌≡◌, inl, inr, ◌⊎◌, ◌++◌, ◌∷◌, [], ℕ, ℤ, List, IfErr, None, Some, Result, Ok, Err, refl, sym, ap, subst, subst₂, ◌∙◌}
 use Rattle.sqlite.specs.Clock.{timed}
 use Rattle.sqlite.specs.Order.{Row}
 use Rattle.sqlite.specs.State.{State, IsLive, IsUnchanged, Shown, ShowsRows}
@@ -18,9 +18,11 @@ use Rattle.store_table.specs.Open.{all_text, Reads, ReadsNot, RefusesOpening, Pa
 use Rattle.store_table.specs.Rows.{TableRow, HasRows, HoldsRows, with_keys_at}
 use Rattle.store_table.specs.Renewal.{IsOwn, AreRenewed, AcceptsOnce, AreRenewals, Renewed, Unrenewed, MayRenew, RenewsOld, AreGoodOnce, PassesOnce}
 use Rattle.store_table.proofs.ListedLemmas.{listed_shows}
-use Rattle.store_table.proofs.StatementLemmas.{unchanged_shows, unchanged_keeps, keeps_then, settled_still}
+use Rattle.store_table.proofs.StatementLemmas.{unchanged_shows, unchanged_keeps, keeps_then, settled_still, seen}
 use Rattle.store_table.proofs.UniqueLemmas.{one_list}
 use Rattle.store_table.proofs.RenewalLemmas.{apart_yet, twin_of}
+use Rattle.store_table.specs.Beside.{SparesOthers}
+use Rattle.store_table.proofs.OthersLemmas.{spared_all}
 
 -- ---- what is read, as the state before it has it
 
@@ -76,22 +78,27 @@ module _ (accepts : List ℕ → List ℕ → List ℕ → Type 0) (renews : Lis
     nothing_written = unchanged_keeps old mid f.reads.unchanged
 
     same : IsLive old → (ds : List TableRow) → HoldsRows old ds → ds ≡ f.docs
-    same live ds shows = one_list mid.now.trees ds f.docs (unchanged_shows old mid ds shows f.reads.unchanged).table
-        (listed_shows (AcceptsOnce renews) old mid f.docs shows.schema (live shows.is_open).0 shows.autocommit shows.settled f.reads f.good).table
+    same live ds shows = one_list mid.now ds f.docs (unchanged_shows old mid ds shows f.reads.unchanged).table
+        (listed_shows (AcceptsOnce renews) old mid f.docs ((seen shows.table).place, (seen shows.table).tree, (seen shows.table).stands) (live shows.is_open).0 shows.autocommit shows.settled f.reads f.good).table
 
     there : IsLive old → (ds : List TableRow) → HoldsRows old ds → HoldsRows mid f.docs
     there live ds shows = subst (HoldsRows mid) (same live ds shows) (unchanged_shows old mid ds shows f.reads.unchanged)
 
     module _ (none : r.twin ≡ None) (new : State) where
-      pub renewed_so : IsLive old → ((ds : List TableRow) → HoldsRows mid ds → HoldsRows new (with_keys_at r.keys.items ds)) → Renewed accepts renews old new
-      renewed_so live done ds shows =
-          let yet = apart_yet accepts renews f.docs r f.renewals none in
-          (f.renewals.after, subst (HoldsRows new) yet.keys (done f.docs (there live ds shows)), subst (λ xs. AreRenewed renews xs f.renewals.after) (sym (same live ds shows)) f.renewals.renewed, yet.good)
+      pub renewed_so : IsLive old → ((ds : List TableRow) → HoldsRows mid ds → HoldsRows new (with_keys_at r.keys.items ds)) → ((ds : List TableRow) → HoldsRows mid ds → SparesOthers mid.now new.now) → Renewed accepts renews old new
+      renewed_so live done spared ds shows =
+          let yet = apart_yet accepts renews f.docs r f.renewals none in (
+            f.renewals.after,
+            subst (HoldsRows new) yet.keys (done f.docs (there live ds shows)),
+            subst (λ xs. AreRenewed renews xs f.renewals.after) (sym (same live ds shows)) f.renewals.renewed,
+            yet.good,
+            subst (λ (d : Held). SparesOthers d new.now) f.reads.unchanged.0.now_is (spared f.docs (there live ds shows)),
+          )
 
-      pub may_renew : (db : Trees) → ((ds : List TableRow) → HoldsRows mid ds → HasRows db (with_keys_at r.keys.items ds)) → MayRenew accepts renews old db
+      pub may_renew : (db : Trees) → ((ds : List TableRow) → HoldsRows mid ds → HasRows mid.now db (with_keys_at r.keys.items ds)) → MayRenew accepts renews old db
       may_renew db made live ds shows =
           let yet = apart_yet accepts renews f.docs r f.renewals none in
-          (f.renewals.after, subst (λ xs. AreRenewed renews xs f.renewals.after) (sym (same live ds shows)) f.renewals.renewed, subst (HasRows db) yet.keys (made f.docs (there live ds shows)))
+          (f.renewals.after, subst (λ xs. AreRenewed renews xs f.renewals.after) (sym (same live ds shows)) f.renewals.renewed, subst₂ (λ (d : Held) (rows : List TableRow). HasRows d db rows) f.reads.unchanged.0.now_is yet.keys (made f.docs (there live ds shows)))
 
       pub settled_there : IsSettled old → IsSettled mid
       settled_there = settled_still old mid f.reads.unchanged
@@ -113,8 +120,8 @@ module _ (renews : List ℕ → List ℕ → List ℕ → List ℕ → Type 0) (
   pub passed_renewed : IsLive old → PassesOpening (IsOwn renews) old new → Renewed (IsOwn renews) renews old new
   passed_renewed live p ds shows =
       let still = unchanged_shows old new ds shows p.1.unchanged in
-      let same : ds ≡ p.0 = one_list new.now.trees ds p.0 still.table (listed_shows (IsOwn renews) old new p.0 shows.schema (live shows.is_open).0 shows.autocommit shows.settled p.1 p.2).table in
-      (p.0, subst (HoldsRows new) same still, subst (λ xs. AreRenewed renews xs p.0) (sym same) (own_renewed renews [] p.0 p.2), p.2)
+      let same : ds ≡ p.0 = one_list new.now ds p.0 still.table (listed_shows (IsOwn renews) old new p.0 ((seen shows.table).place, (seen shows.table).tree, (seen shows.table).stands) (live shows.is_open).0 shows.autocommit shows.settled p.1 p.2).table in
+      (p.0, subst (HoldsRows new) same still, subst (λ xs. AreRenewed renews xs p.0) (sym same) (own_renewed renews [] p.0 p.2), p.2, spared_all old.now new.now p.1.unchanged.0.now_is)
 
   pub unrenewed_by : (r : Result (Unit {0}) OpenError) → ((place : ℤ) → r ≡ Err (BadRow place) → ⊥) → IfErr r (RefusesOpening (IsOwn renews) old new) → IfErr r (Unrenewed (IsOwn renews) renews old new)
   unrenewed_by (Ok u) other h = tt
@@ -132,10 +139,14 @@ module _ (renews : List ℕ → List ℕ → List ℕ → List ℕ → Type 0) (
     reads_back docs h = record { rows = h.rows; answered = shown_before all_text [] old mid new h.rows all_asks u h.answered; typed = h.typed; same = h.same; unchanged = unchanged_then old mid new u h.unchanged }
 
     pub back_renewed : Renewed (IsOwn renews) renews mid new → Renewed (IsOwn renews) renews old new
-    back_renewed h ds shows = h ds (unchanged_shows old mid ds shows u)
+    back_renewed h ds shows =
+        let x = h ds (unchanged_shows old mid ds shows u) in
+        (x.0, x.1, x.2, x.3, subst (λ (d : Held). SparesOthers d new.now) u.0.now_is x.4)
 
     pub back_may : (db : Trees) → MayRenew (IsOwn renews) renews mid db → MayRenew (IsOwn renews) renews old db
-    back_may db h live ds shows = h (live_still live) ds (unchanged_shows old mid ds shows u)
+    back_may db h live ds shows =
+        let x = h (live_still live) ds (unchanged_shows old mid ds shows u) in
+        (x.0, x.1, subst (λ (d : Held). HasRows d db x.0) u.0.now_is x.2)
 
     not_read_back : ReadsNot mid new → ReadsNot old new
     not_read_back (inl fault, same) = (inl (fault.0, ap (λ (x : Held). understood x.schema all_text) (sym u.0.now_is) ∙ fault.1), unchanged_then old mid new u same)

@@ -1,9 +1,8 @@
 -- The text that reads a collection in order of place, without its index.
-use Rattle.std.proofs.Common.{◌≡◌, ℕ, List, [], ◌∷◌, ◌++◌, map, filter, codes, false, bytes_eq, ap, ◌∙◌, refl, inl, inr, sym, subst}
+use Rattle.std.proofs.Common.{◌≡◌, ℕ, List, [], ◌∷◌, ◌++◌, map, filter, codes, bytes_eq, ap, ◌∙◌, refl, inl, inr, sym, subst}
 use Rattle.sqlite.specs.declared.types.Value.TheVariants.{Null, Text, Blob}
 use Rattle.sqlite.specs.Order.{Row}
-use Rattle.sqlite.specs.Term.{Term, col, lit, op2}
-use Rattle.sqlite.specs.Query.{Query}
+use Rattle.sqlite.specs.Term.{col}
 use Rattle.sqlite_sql.specs.Term.{holds}
 use Rattle.sqlite_sql.specs.Ops.{binary, is_true}
 use Rattle.sqlite_sql.specs.declared.ops.BinaryOp.TheVariants.{Compare, Coalesce}
@@ -11,24 +10,18 @@ use Rattle.sqlite_sql.specs.declared.ops.CompareOp.TheVariants.{Eq}
 use Rattle.sqlite.specs.Collation.TheVariants.{Binary}
 use Rattle.std.specs.List.{list_all}
 use Rattle.sqlite.specs.Command.TheVariants.{Select}
-use Rattle.sqlite.specs.Listing.{understood, reads_listing}
 use Rattle.sqlite.specs.State.{State}
-use Rattle.sqlite.proofs.Callers.{IsPlain, command_of, reads_as, begins_as}
+use Rattle.sqlite.proofs.Callers.{begins_as}
 use Rattle.sqlite_tied.specs.Compute.{everything}
-use Rattle.store_table.specs.Schema.{documents_schema}
 use Rattle.store_table.specs.Rows.{TableRow, columns_of, HoldsRows, is_in}
 use Rattle.store_table.specs.Visit.{IsSelect, TookRows, TookSome, first_value, scan_text}
 use Rattle.store_table.specs.Moves.{bodies_of}
-use Rattle.store_table.proofs.Texts.{plain_query, program, by_place}
+use Rattle.store_table.proofs.StatementLemmas.{seen}
+use Rattle.store_table.proofs.Texts.{query_at, program, by_place}
+use Rattle.store_table.proofs.FilterLemmas.{scan_terms}
+use Rattle.store_table.proofs.MeansLemmas.{scan_is}
 use Rattle.store_table.proofs.AnswerLemmas.{and_true, outputs_of, equal_is}
-use Rattle.store_table.proofs.ReadLemmas.{in_order, text_test}
-
--- the + is written as coalesce(coll, NULL)
-abbrev scan_terms : List Term
-scan_terms = op2 (Compare Eq Binary) (op2 Coalesce (col 1 2) (lit Null)) (col 0 0) ∷ []
-
-abbrev scan_query : Query
-scan_query = plain_query scan_terms (col 1 4 ∷ []) by_place
+use Rattle.store_table.proofs.ReadLemmas.{in_order, answers_of, text_test}
 
 coalesced : (a : List ℕ) → binary Coalesce (Text a) Null ≡ Text a
 unfolding binary
@@ -41,14 +34,6 @@ scan_test coll d =
 pub scan_asks : IsSelect scan_text
 unfolding everything
 scan_asks = (refl, refl)
-
-scan_is : (command_of (understood documents_schema scan_text) ≡ Select (program scan_query) (codes "body" ∷ [])) × (reads_listing documents_schema scan_text ≡ false)
-unfolding understood everything
-scan_is = (refl, refl)
-
-scan_plain : IsPlain (understood documents_schema scan_text)
-unfolding understood everything
-scan_plain = (refl, refl)
 
 values_are : (docs : List TableRow) → map first_value (map (λ (d : TableRow). Blob d.body ∷ []) docs) ≡ map (λ (d : TableRow). d.body) docs
 values_are [] = refl
@@ -63,8 +48,9 @@ module _ {V : Type 0} (took : V → List (List ℕ) → Type 0) (v : V) (coll : 
   whole_scan new t =
       let params = Text coll ∷ [] in
       let project = col 1 4 ∷ [] in
-      let answer = reads_as scan_text params old new documents_schema h.schema (Select (program scan_query) (codes "body" ∷ [])) scan_is.0 scan_plain scan_is.1 t.0 t.1 in
-      let all = in_order scan_terms project params (is_in coll) docs t.0 h.table.rising (outputs_of scan_terms project by_place params (is_in coll) docs old.now t.0 h.table (scan_test coll) answer) in
+      let m = scan_is old.now.schema (seen h.table).place (seen h.table).tree (seen h.table).stands in
+      let answer = answers_of scan_text params old new docs (codes "body" ∷ []) scan_terms project by_place t.0 h m t.1 in
+      let all = in_order scan_terms project params (is_in coll) docs t.0 (seen h.table).rising (outputs_of scan_terms project by_place params (is_in coll) docs old.now t.0 (seen h.table) (scan_test coll) answer) in
       subst (λ vs. took v vs) (ap (map first_value) all ∙ values_are (filter (is_in coll) docs)) t.2
 
   pub some_scan : TookSome took v scan_text (Text coll ∷ []) old → (taken : List (List ℕ)) × (rest : List (List ℕ)) × (taken ++ rest ≡ bodies_of coll docs) × took v taken
@@ -72,7 +58,8 @@ module _ {V : Type 0} (took : V → List (List ℕ) → Type 0) (v : V) (coll : 
   some_scan (rows, inr begun, t) =
       let params = Text coll ∷ [] in
       let project = col 1 4 ∷ [] in
-      let got = begins_as scan_text params old old documents_schema h.schema (Select (program scan_query) (codes "body" ∷ [])) scan_is.0 scan_plain scan_is.1 rows begun.1 in
-      let all = in_order scan_terms project params (is_in coll) docs (rows ++ got.1.0) h.table.rising
-      (outputs_of scan_terms project by_place params (is_in coll) docs old.now (rows ++ got.1.0) h.table (scan_test coll) (record { typed = got.0; answer = got.1.1 })) in
+      let m = scan_is old.now.schema (seen h.table).place (seen h.table).tree (seen h.table).stands in
+      let got = begins_as scan_text params old old old.now.schema refl (Select (program (query_at (seen h.table).tree scan_terms project by_place)) (codes "body" ∷ [])) m.is m.plain m.unlisted rows begun.1 in
+      let all = in_order scan_terms project params (is_in coll) docs (rows ++ got.1.0) (seen h.table).rising
+      (outputs_of scan_terms project by_place params (is_in coll) docs old.now (rows ++ got.1.0) (seen h.table) (scan_test coll) (record { typed = got.0; answer = got.1.1 })) in
       (map first_value rows, map first_value got.1.0, sym (some_values rows got.1.0) ∙ ap (map first_value) all ∙ values_are (filter (is_in coll) docs), t)

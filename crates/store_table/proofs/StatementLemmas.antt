@@ -1,5 +1,6 @@
 -- What holds of any statement: a refused one leaves the table, and what a crash may leave comes from its change.
-use Rattle.std.proofs.Common.{OnErr, ◌≡◌, inl, inr, ℕ, List, append-nil, false, None, Ok, Err, Result, sym, ap, subst, subst₂, ◌∙◌, IsTrue}
+use Rattle.std.proofs.Common.{OnErr, ◌≡◌, ◌==◌, inl, inr, ℕ, List, [], ◌∷◌, length, slice_get, append-nil, flat_map, false, Option, None, Some, Ok, Err, Result, refl, sym, ap, subst, subst₂, ◌∙◌, IsTrue}
+use Rattle.std.specs.List.{AllByRecursion, filter_map}
 use Rattle.std.proofs.lemmas.Bool.{cases_Bool}
 use Rattle.sqlite.specs.Order.{Row}
 use Rattle.sqlite.specs.Tree.{Trees}
@@ -9,28 +10,69 @@ use Rattle.sqlite_schema.specs.declared.schema.Schema.{Schema}
 use Rattle.sqlite.specs.declared.error.Error.{Error}
 use Rattle.sqlite.specs.Listing.{understood}
 use Rattle.sqlite.specs.Effect.{Database, IsDatabase}
-use Rattle.sqlite.specs.Does.{Tally, Does}
+use Rattle.sqlite.specs.Does.{Tally, Does, AtPlace, OnTable, OnRows}
+use Rattle.sqlite.specs.Rows.{Outcome}
+use Rattle.sqlite.specs.declared.run.Mode.{Mode}
+use Rattle.sqlite_schema.specs.declared.schema.Keys.{Keys}
+use Rattle.sqlite_schema.specs.declared.schema.Reference.{Reference}
+use Rattle.sqlite_schema.specs.declared.schema.Table.{Table}
+use Rattle.sqlite_schema.specs.Rules.{ParentKey, parent_key}
+use Rattle.sqlite_rules.specs.declared.action.Deed.{Deed}
+use Rattle.sqlite_rules.specs.Action.{pairs, deed_for, work_by, work_for, works}
 use Rattle.sqlite.specs.State.{State, mode_of, Executes, ExecutesIn, IsUnchanged, IsRolledBack, IsNotRun, shows_rows, CommitsBy, MayCommit, text_of}
 use Rattle.sqlite.specs.Given.{IsPlain}
 use Rattle.sqlite.proofs.Callers.{command_of, statement_of}
-use Rattle.sqlite_trees.specs.Objects.{catalog_tree}
-use Rattle.sqlite_catalog.specs.Listing.{Lists}
-use Rattle.store_table.specs.Schema.{documents_schema}
+use Rattle.store_table.specs.Schema.{HasDocuments, is_key_in}
 use Rattle.store_table.specs.Open.{IsSettled, KeepsAll}
-use Rattle.store_table.specs.Rows.{TableRow, HasRows, ListsTable, HoldsRows}
+use Rattle.store_table.specs.Rows.{TableRow, TableRows, RowsIn, ListsSchema, HoldsRows}
 
--- a database with the schema lists it
-pub listed_by : (db : Database) → db.schema ≡ documents_schema → IsDatabase db → ListsTable db.trees
-unfolding ListsTable
-listed_by db has sound = subst (λ (s : Schema). Lists (db.trees catalog_tree) s) has sound.lists
+-- a database lists its schema
+pub lists_own : (db : Database) → IsDatabase db → ListsSchema db
+unfolding ListsSchema
+lists_own db sound = sound.lists
+
+-- where the rows of a database stand
+pub seen : {db : Database} {docs : List TableRow} → RowsIn db docs → TableRows db docs
+unfolding RowsIn
+seen h = h
+
+pub unseen : {db : Database} {docs : List TableRow} → TableRows db docs → RowsIn db docs
+unfolding RowsIn
+unseen h = h
+
+-- a statement at the place of a table is about that table
+pub at_table : (limit : Option ℕ) (mode : Mode) (params : Row) (db : Database) (command : Command) (at : ℕ) (table : Table) (out : Outcome (Tally × Database)) → slice_get db.schema.tables at ≡ Some table
+    → OnTable limit mode params db at (λ task. OnRows task mode None command db.trees) out
+    → OnRows (record { limit = limit; keys = mode.keys; schema = db.schema; table = table; params = params }) mode None command db.trees out
+at_table limit mode params db command at table out is h =
+    subst (λ (x : Option Table). AtPlace (λ t. OnRows (record { limit = limit; keys = mode.keys; schema = db.schema; table = t; params = params }) mode None command db.trees) x out) is h
+
+no_work : (depth tree : ℕ) (moves : List (Row × Row)) (child : Table) (ref : Reference) (deed : Option Deed) (key : Option ParentKey) → is_key_in tree key ≡ false → work_by depth tree moves child ref deed key ≡ None
+no_work depth tree moves child ref None key h = refl
+no_work depth tree moves child ref (Some deed) None h = refl
+no_work depth tree moves child ref (Some deed) (Some key) h = rw h refl
+
+-- no foreign key acts on a table to which none refers
+module _ (schema : Schema) (keys : Keys) (tree : ℕ) (olds news : List Row) where
+  none_of : (child : Table) (refs : List Reference) → AllByRecursion (λ ref. is_key_in tree (parent_key schema.tables ref) ≡ false) refs → filter_map (work_for schema keys 0 tree olds news child) refs ≡ []
+  none_of child [] h = refl
+  none_of child (ref ∷ refs) h =
+      rw (no_work 0 tree (pairs olds news) child ref (deed_for keys (length news == 0) ref) (parent_key schema.tables ref) h.0, none_of child refs h.1) refl
+
+  none_of_all : (ts : List Table) → AllByRecursion (λ t. AllByRecursion (λ ref. is_key_in tree (parent_key schema.tables ref) ≡ false) t.references) ts
+      → flat_map (λ child. filter_map (work_for schema keys 0 tree olds news child) child.references) ts ≡ []
+  none_of_all [] h = refl
+  none_of_all (t ∷ ts) h = rw (none_of t t.references h.0, none_of_all ts h.1) refl
+
+  pub unacted : (place : ℕ) → HasDocuments schema.tables place tree → works schema keys 0 tree olds news ≡ []
+  unacted place stands = none_of_all schema.tables stands.unreferred
 
 pub unchanged_shows : (old new : State) (docs : List TableRow) → HoldsRows old docs → IsUnchanged old new → HoldsRows new docs
 unchanged_shows old new docs h u = record {
   is_open = u.0.is_open;
   autocommit = u.0.mode ∙ h.autocommit;
   settled = u.0.now_is ∙ h.settled ∙ sym u.0.committed_is;
-  schema = ap (λ (d : Database). d.schema) u.0.now_is ∙ h.schema;
-  table = subst (λ (d : Database). HasRows d.trees docs) (sym u.0.now_is) h.table;
+  table = subst (λ (d : Database). RowsIn d docs) (sym u.0.now_is) h.table;
 }
 
 pub undone_shows : (old new : State) (docs : List TableRow) → HoldsRows old docs → IsRolledBack old new → IsTrue new.is_open → HoldsRows new docs
@@ -41,8 +83,7 @@ undone_shows old new docs h u still =
       is_open = still;
       autocommit = u.autocommit;
       settled = back.0 ∙ sym back.1;
-      schema = ap (λ (d : Database). d.schema) now ∙ h.schema;
-      table = subst (λ (d : Database). HasRows d.trees docs) (sym now) h.table;
+      table = subst (λ (d : Database). RowsIn d docs) (sym now) h.table;
     }
 
 -- a statement that is refused leaves the table, or the connection is shut

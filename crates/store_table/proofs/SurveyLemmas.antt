@@ -1,17 +1,18 @@
 -- What an open says of what it read.
-use Rattle.std.proofs.Common.{ℤ, ◌++◌, ◌∷◌, append-nil, append_assoc, ◌≡◌, ◌≢◌, ◌⊎◌, inl, inr, ℕ, List, [], true, false, Option, Some, None, is_some, Result, Ok, Err, OnOk, IfErr, IsTrue, sym, ap, subst, ◌∙◌, refl}
-use Rattle.sqlite_tied.specs.Compute.{everything}
+use Rattle.std.proofs.Common.{ℤ, ◌++◌, ◌∷◌, append-nil, append_assoc, ◌≡◌, ◌≢◌, ◌⊎◌, inl, inr, ℕ, List, [], true, false, Option, Some, None, is_some, Result, Ok, Err, OnOk, IfErr, IsTrue, sym, ap, subst, refl}
 use Rattle.sqlite.specs.State.{State, Survives, IsLive, IsUnchanged}
 use Rattle.sqlite.proofs.StateLemmas.{survives_weaker}
+use Rattle.sqlite.specs.Schema.{Schema}
 use Rattle.sqlite_schema.specs.Names.{table_named}
 use Rattle.store_table.specs.declared.opening.OpenError.{OpenError}
 use Rattle.store_table.specs.declared.opening.OpenError.TheVariants.{NotAStore, BadRow, IdsCollide, Memory, Database}
-use Rattle.store_table.specs.Schema.{documents_schema, no_schema}
-use Rattle.store_table.specs.Rows.{TableRow, HasRows, HoldsRows, IsBlank}
+use Rattle.store_table.specs.Schema.{HasDocuments, HasStoreTable}
+use Rattle.store_table.specs.Rows.{TableRow, HoldsRows, IsBlank}
 use Rattle.store_table.specs.Beside.{StandsBeside, AreBeside}
 use Rattle.store_table.specs.Check.{IsGoodAfter, AreGoodAfter, AreGood, IsFirstBad}
 use Rattle.store_table.specs.Open.{RefusesOpening, HasTable, HasNoTable, table_name}
 use Rattle.store_table.specs.Renewal.{IsOwn, AcceptsOnce, AreRenewed, Renewed, Unrenewed, RenewsOld, PassesOnce, Opened, Unopened, Makes}
+use Rattle.store_table.proofs.StatementLemmas.{seen}
 use Rattle.store_table.proofs.ListedLemmas.{read_shown, shows_read}
 
 is_there : (o : Option ℕ) → is_some o ≡ true → o ≢ None
@@ -22,12 +23,8 @@ is_missing : (o : Option ℕ) → is_some o ≡ false → o ≡ None
 is_missing (Some n) h = absurd (cc)
 is_missing None h = refl
 
-no_table : is_some (table_named no_schema table_name) ≡ false
-no_table = refl
-
-pub a_table : is_some (table_named documents_schema table_name) ≡ true
-unfolding everything
-a_table = refl
+pub a_table : (schema : Schema) (place tree : ℕ) → HasDocuments schema.tables place tree → is_some (table_named schema table_name) ≡ true
+a_table schema place tree h = ap is_some h.named
 
 pub none_there : (s : State) → is_some (table_named s.now.schema table_name) ≡ false → HasNoTable s
 none_there s h = is_missing (table_named s.now.schema table_name) h
@@ -53,7 +50,7 @@ module _ (renews : List ℕ → List ℕ → List ℕ → List ℕ → Type 0) (
     one_list_of : (docs : List TableRow) → HoldsRows old docs → (docs : List TableRow) × (after : List TableRow) × HoldsRows old docs × HoldsRows new after × AreRenewed renews docs after × AreGood (IsOwn renews) after
     one_list_of docs shows = let f = found docs shows in (docs, f.0, shows, f.1, f.2, f.3)
 
-    listed_by_read : IsLive old → old.in_transaction ≡ false → (IsTrue old.is_open → old.now ≡ old.committed) → old.now.schema ≡ documents_schema
+    listed_by_read : IsLive old → old.in_transaction ≡ false → (IsTrue old.is_open → old.now ≡ old.committed) → HasStoreTable old.now.schema
         → (docs : List TableRow) × (after : List TableRow) × HoldsRows old docs × HoldsRows new after × AreRenewed renews docs after × AreGood (IsOwn renews) after
     listed_by_read live auto settled has = elim passed [
       | inl p ↦ one_list_of p.0 (shows_read (IsOwn renews) old new p.0 has live auto settled p.1 p.2)
@@ -68,7 +65,7 @@ module _ (renews : List ℕ → List ℕ → List ℕ → List ℕ → Type 0) (
 
     opened_by : IsLive old → old.in_transaction ≡ false → (IsTrue old.is_open → old.now ≡ old.committed) → is_some (table_named old.now.schema table_name) ≡ true → Opened renews old new
     opened_by live auto settled there = record {
-      made = λ blank. absurd (let e : is_some (table_named old.now.schema table_name) ≡ false = ap (λ s. is_some (table_named s table_name)) blank.schema ∙ no_table in cc);
+      made = λ blank. absurd (let e : is_some (table_named old.now.schema table_name) ≡ false = ap is_some blank.free.unnamed in cc);
       beside = λ none. absurd (one_there old there none);
       found = found;
       listed = listed_by_read live auto settled;
@@ -97,14 +94,14 @@ module _ (renews : List ℕ → List ℕ → List ℕ → List ℕ → Type 0) (
 
   made_by : is_some (table_named old.now.schema table_name) ≡ false → (IsBlank old → HoldsRows new []) → StandsBeside old new → Opened renews old new
   made_by missing made beside =
-      let no_such : old.now.schema ≡ documents_schema → ⊥ = λ has. let e : is_some (table_named old.now.schema table_name) ≡ true = ap (λ s. is_some (table_named s table_name)) has ∙ a_table in cc in
+      let no_such : (place tree : ℕ) → HasDocuments old.now.schema.tables place tree → ⊥ = λ place tree has. let e = a_table old.now.schema place tree has in cc in
       record {
         made = made;
         beside = λ none. beside;
-        found = λ docs shows. absurd (no_such shows.schema);
-        listed = λ has. absurd (no_such has);
+        found = λ docs shows. absurd (no_such (seen shows.table).place (seen shows.table).tree (seen shows.table).stands);
+        listed = λ has. absurd (no_such has.0 has.1 has.2);
         other = inl (none_there old missing);
-        unwritten = λ docs shows good. absurd (no_such shows.schema);
+        unwritten = λ docs shows good. absurd (no_such (seen shows.table).place (seen shows.table).tree (seen shows.table).stands);
       }
 
   pub made_if : is_some (table_named old.now.schema table_name) ≡ false → (r : Result (Unit {0}) OpenError) → (IsBlank old → OnOk r (HoldsRows new [])) → OnOk r (StandsBeside old new) → OnOk r (Opened renews old new)
@@ -119,5 +116,5 @@ module _ (renews : List ℕ → List ℕ → List ℕ → List ℕ → Type 0) (
   told_if (Ok u) h = tt
   told_if (Err e) h = told e h
 
-  pub makes_if : is_some (table_named old.now.schema table_name) ≡ false → Survives old new (λ trees. (IsBlank old → HasRows trees []) × AreBeside old.now trees) → Survives old new (Makes renews old)
-  makes_if missing made = survives_weaker old new _ _ (λ _ db made. inl (none_there old missing, made.0, made.1)) made
+  pub makes_if : is_some (table_named old.now.schema table_name) ≡ false → Survives old new (AreBeside old.now) → Survives old new (Makes renews old)
+  makes_if missing made = survives_weaker old new _ _ (λ _ db made. inl (none_there old missing, made)) made

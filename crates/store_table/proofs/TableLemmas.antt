@@ -1,5 +1,5 @@
 -- What the calls of the table say of its rows.
-use Rattle.std.proofs.Common.{◌≡◌, ◌≢◌, inl, inr, Bool, ◌+ℤ◌, ◌++◌, ◌∷◌, [], ℕ, ℤ, pos, List, map, Option, Some, None, option_map, Result, Ok, Err, IsErrAnd, refl, sym, ap, ap₂, subst, ◌∙◌, arith}
+use Rattle.std.proofs.Common.{◌≡◌, ◌≢◌, inl, inr, Bool, ◌+ℤ◌, ◌++◌, ◌∷◌, [], ℕ, ℤ, pos, List, map, Option, Some, None, option_map, Result, Ok, Err, OnOk, IsTrue, IsErrAnd, refl, sym, ap, ap₂, subst, ◌∙◌, arith}
 use Rattle.sqlite.specs.declared.types.Value.TheVariants.{Text}
 use Rattle.sqlite.specs.declared.error.Error.{Error}
 use Rattle.sqlite.specs.declared.error.Error.TheVariants.{SqliteFailure}
@@ -12,13 +12,16 @@ use Rattle.sqlite.proofs.StateLemmas.{survives_then}
 use Rattle.store_table.specs.declared.fault.Fault.TheVariants.{Places}
 use Rattle.store_table.specs.declared.row.Found.{Found}
 use Rattle.store_table.specs.Fault.{fault_of}
-use Rattle.store_table.specs.Rows.{TableRow, HasRows, HoldsRows, AreBelow, last_place}
+use Rattle.store_table.specs.Rows.{TableRow, RowsIn, HasRows, HoldsRows, AreBelow, last_place}
 use Rattle.store_table.specs.Cells.{int_in, bytes_in}
-use Rattle.store_table.specs.Moves.{Stands, Visits, AddsRows, with_row, bodies_of, parts_of_found, parts_of_row}
+use Rattle.store_table.specs.Moves.{Stands, MayLeave, Visits, Changes, AddsRows, with_row, bodies_of, parts_of_found, parts_of_row}
 use Rattle.store_table.specs.Visit.{TookSome, first_value, scan_text}
 use Rattle.store_table.specs.declared.fault.Fault.{Fault}
 use Rattle.store_table.proofs.ScanLemmas.{some_scan}
-use Rattle.store_table.proofs.StatementLemmas.{unchanged_shows}
+use Rattle.store_table.proofs.StatementLemmas.{unchanged_shows, seen}
+use Rattle.store_table.proofs.OthersLemmas.{trees_have, left_beside, shows_then, still_others}
+use Rattle.store_table.specs.Beside.{SparesOthers, ShowsOthers}
+use Rattle.store_table.specs.Written.{WritesRows}
 use Rattle.store_table.proofs.LastPlaceLemmas.{below_next}
 use Rattle.store_table.proofs.ReadLemmas.{found_row, found_place}
 
@@ -31,13 +34,20 @@ shows_back old new docs u h = record {
   is_open = u.0.was_open;
   autocommit = sym u.0.mode ∙ h.autocommit;
   settled = sym u.0.now_is ∙ h.settled ∙ u.0.committed_is;
-  schema = ap (λ (d : Database). d.schema) (sym u.0.now_is) ∙ h.schema;
-  table = subst (λ (d : Database). HasRows d.trees docs) u.0.now_is h.table;
+  table = subst (λ (d : Database). RowsIn d docs) u.0.now_is h.table;
 }
 
--- where the last commit is what a crash leaves, it leaves the rows that are shown
-pub left_rows : (s : State) (docs : List TableRow) (db : Trees) → HoldsRows s docs → db ≡ s.committed.trees → HasRows db docs
-left_rows s docs db h is = subst (λ (t : Trees). HasRows t docs) (sym (is ∙ sym (ap (λ (d : Database). d.trees) h.settled))) h.table
+-- where the last commit is what a crash leaves, it leaves the rows that are shown, and all else that is
+pub left_rows : (first : Database) (s : State) (docs : List TableRow) (db : Trees) → HoldsRows s docs → SparesOthers first s.now → db ≡ s.committed.trees → HasRows first db docs
+left_rows first s docs db h spared is = subst (λ (t : Trees). HasRows first t docs) (sym (is ∙ sym (ap (λ (d : Database). d.trees) h.settled))) (trees_have first s.now docs h.table spared)
+
+-- behind a write
+pub left_written : {A E : Type 0} (first : Database) (old new : State) (change : List TableRow → List TableRow) (result : Result A E) (docs : List TableRow) → ShowsOthers first old → Stands old docs → WritesRows old new change result
+    → OnOk result ((db : Trees) → (IsTrue new.is_open → db ≡ new.committed.trees) → HasRows first db (change docs))
+left_written first old new change (Err e) docs beside stands w = tt
+left_written first old new change (Ok x) docs beside stands w = λ db settled.
+    let shows = w.done.1 docs (stands w.done.0) in
+    left_rows first new (change docs) db shows (shows_then first old new beside (w.others docs stands) shows.is_open) (settled shows.is_open)
 
 module _ (old new : State) where
   pub stands_still : (docs : List TableRow) → IsUnchanged old new → Stands old docs → Stands new docs
@@ -45,7 +55,7 @@ module _ (old new : State) where
 
   -- the place after the greatest one that was read is above all
   pub below_greatest : (last : ℤ) → IsUnchanged old new → ((docs : List TableRow) → HoldsRows old docs → last ≡ last_place docs) → (docs : List TableRow) → HoldsRows new docs → AreBelow (last +ℤ pos 1) docs
-  below_greatest last u is docs h = subst (λ (p : ℤ). AreBelow (p +ℤ pos 1) docs) (sym (is docs (shows_back old new docs u h))) (below_next docs h.table.rising)
+  below_greatest last u is docs h = subst (λ (p : ℤ). AreBelow (p +ℤ pos 1) docs) (sym (is docs (shows_back old new docs u h))) (below_next docs (seen h.table).rising)
 
 pub found_is : (o : Option TableRow) (row : Row) (f : Found) → option_map found_row o ≡ Some row → f.place ≡ int_in (column row 0) → f.body.items ≡ bytes_in (column row 1) → option_map parts_of_found (Some f) ≡ option_map parts_of_row o
 found_is None row f e p b = absurd (cc)
@@ -69,15 +79,16 @@ found_none (Some d) e = absurd (cc)
 
 -- a read and then a write of the rows: what a crash may leave
 pub crash_written : (old mid new : State) (change made : List TableRow → List TableRow) → (HasCleanDisk mid → IsUnchanged old mid) → Survives old mid (λ _. ⊥)
-    → Survives mid new (λ trees. (docs : List TableRow) → HoldsRows mid docs → HasRows trees (made docs)) → (HasCleanDisk mid → (docs : List TableRow) → HoldsRows old docs → made docs ≡ change docs)
-    → Survives old new (λ trees. (docs : List TableRow) → Stands old docs → HasRows trees (change docs))
-crash_written old mid new change made same first later is =
-    survives_then old mid new (λ _. ⊥) (λ trees. (docs : List TableRow) → HoldsRows mid docs → HasRows trees (made docs)) (λ trees. (docs : List TableRow) → Stands old docs → HasRows trees (change docs)) (λ _ db none. absurd none)
-    (λ clean db commits docs stands.
+    → Survives mid new (λ trees. (docs : List TableRow) → HoldsRows mid docs → HasRows mid.now trees (made docs)) → (HasCleanDisk mid → (docs : List TableRow) → HoldsRows old docs → made docs ≡ change docs)
+    → Survives old new (MayLeave change old)
+crash_written old mid new change made same before later is =
+    survives_then old mid new (λ _. ⊥) (λ trees. (docs : List TableRow) → HoldsRows mid docs → HasRows mid.now trees (made docs)) (MayLeave change old) (λ _ db none. absurd none)
+    (λ clean db commits first docs beside stands.
     let early : HasCleanDisk mid = omega (arith, clean, later.clean) in
     let u = same early in
     let h = stands u.0.was_open in
-    subst (λ (ds : List TableRow). HasRows db ds) (is early docs h) (commits docs (unchanged_shows old mid docs h u))) first later
+    let made_so = subst (λ (ds : List TableRow). HasRows mid.now db ds) (is early docs h) (commits docs (unchanged_shows old mid docs h u)) in
+    left_beside first mid.now db (change docs) (shows_then first old mid beside (still_others old mid u) u.0.is_open) made_so) before later
 
 -- a visit that is refused: whatever was taken is a beginning
 pub visits_refused : {V : Type 0} (took : V → List (List ℕ) → Type 0) (first last : V) (coll : List ℕ) (old : State) (docs : List TableRow) → Stands old docs → (r : Result Bool Fault) (why : Error) → IsErrAnd r (λ e. e ≡ fault_of why)
@@ -97,6 +108,10 @@ visits_refused took first last coll old docs stands (Err e) why is some = record
 pub appends_err : (n : ℕ) (change : List TableRow → List TableRow) (docs : List TableRow) (r : Result (Unit {0}) Fault) (why : Error) → IsErrAnd r (λ e. e ≡ fault_of why) → AddsRows n change r docs docs
 appends_err n change docs (Ok u) why is = absurd is
 appends_err n change docs (Err e) why is = record { done = tt; room = tt; refused = refl; full = λ places. absurd (not_places why (sym is ∙ places)) }
+
+pub changes_err : (change : List TableRow → List TableRow) (docs : List TableRow) (r : Result (Unit {0}) Fault) (why : Error) → IsErrAnd r (λ e. e ≡ fault_of why) → Changes change r docs docs
+changes_err change docs (Ok u) why is = absurd is
+changes_err change docs (Err e) why is = record { done = tt; refused = refl; faults = λ places. not_places why (sym is ∙ places) }
 
 -- a row at the place after the greatest one that was read
 pub added_shows : (old mid new : State) (last place : ℤ) (coll idkey body : List ℕ) (docs : List TableRow) → IsUnchanged old mid → HoldsRows old docs → last ≡ last_place docs → place ≡ (last +ℤ pos 1)

@@ -1,5 +1,5 @@
 -- The rows of a database, sorted by place, are one list.
-use Rattle.std.proofs.Common.{◌≡◌, ◌<ℤ◌, ◌≤ℤ◌, ℕ, ℤ, List, [], ◌∷◌, map, refl, ap, ap₂, arith}
+use Rattle.std.proofs.Common.{◌≡◌, ◌<ℤ◌, ◌≤ℤ◌, ℕ, ℤ, List, [], ◌∷◌, map, Some, slice_get, refl, sym, subst, ◌∙◌, ap, ap₂, arith}
 use Rattle.std.specs.List.{AllByRecursion}
 use Rattle.std.specs.List.Sorted.{IsPermutation}
 use Rattle.std.proofs.lemmas.Int.{ints}
@@ -8,9 +8,12 @@ use Rattle.std.proofs.lemmas.List.Elements.{All-from_recursion, recursion_from_A
 use Rattle.sqlite.specs.declared.types.Value.{Value}
 use Rattle.sqlite.specs.declared.types.Value.TheVariants.{Int, Text, Blob}
 use Rattle.sqlite_value.specs.Order.{Row, column}
-use Rattle.sqlite_trees.specs.Tree.{Trees}
+use Rattle.sqlite.specs.Table.{Table}
+use Rattle.sqlite.specs.Effect.{Database}
+use Rattle.store_table.specs.Schema.{HasDocuments}
 use Rattle.sqlite_rules.specs.Edit.{id_in}
-use Rattle.store_table.specs.Rows.{TableRow, columns_of, IsRising, HasRows}
+use Rattle.store_table.specs.Rows.{TableRow, columns_of, IsRising, RowsIn}
+use Rattle.store_table.proofs.StatementLemmas.{seen}
 use Rattle.store_table.proofs.SortLemmas.{same_order, Strict, Rises}
 
 abbrev key_of : Row → ℤ
@@ -62,10 +65,23 @@ same_all [] (y ∷ b) e = absurd (cc)
 same_all (x ∷ a) [] e = absurd (cc)
 same_all (x ∷ a) (y ∷ b) e = ap₂ (λ z zs. z ∷ zs) (same_stored x y (first_is e)) (same_all a b (rest_is e))
 
-pub one_list : (trees : Trees) (a b : List TableRow) → HasRows trees a → HasRows trees b → a ≡ b
-one_list trees a b h k =
+-- a schema has one table of the name, over one tree
+some_is : {X : Type 0} {a b : X} → Some a ≡ Some b → a ≡ b
+some_is e = cc
+
+pub one_stand : (tables : List Table) (p q m n : ℕ) → HasDocuments tables p m → HasDocuments tables q n → (q ≡ p) × (n ≡ m)
+one_stand tables p q m n h k =
+    let place : q ≡ p = some_is (sym k.named ∙ h.named) in
+    (place, ap (λ (t : Table). t.tree) (some_is (sym k.at ∙ ap (slice_get tables) place ∙ h.at)))
+
+pub one_list : (db : Database) (a b : List TableRow) → RowsIn db a → RowsIn db b → a ≡ b
+one_list db a b shown again =
+    let h = seen shown in
+    let k = seen again in
+    let same = (one_stand db.schema.tables h.place k.place h.tree k.tree h.stands k.stands).1 in
+    let there : IsPermutation (map columns_of b) (db.trees h.tree) = subst (λ n. IsPermutation (map columns_of b) (db.trees n)) same k.rows in
     let xs = map columns_of a in
     let ys = map columns_of b in
-    let perm : IsPermutation xs ys = IsPermutation-trans xs (trees 0) ys h.rows (IsPermutation-sym ys (trees 0) k.rows) in
+    let perm : IsPermutation xs ys = IsPermutation-trans xs (db.trees h.tree) ys h.rows (IsPermutation-sym ys (db.trees h.tree) there) in
     same_all a b
     (same_order key_of xs ys (λ P all. recursion_from_All P ys (All-permutation P xs ys perm (All-from_recursion P xs all))) (λ f. sum_by-IsPermutation f xs ys perm) (strict a h.rising) (rises b k.rising))

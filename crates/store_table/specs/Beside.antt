@@ -1,5 +1,6 @@
 -- The table of documents beside what a database had before.
-use Rattle.std.specs.Prelude.{◌≡◌, false, [], MatchBool, Ok}
+use Rattle.std.specs.Prelude.{◌≡◌, ◌≢◌, ℕ, false, [], IsTrue, MatchBool, Ok}
+use Rattle.std.specs.List.{AllByRecursion}
 use Rattle.sqlite_trees.specs.Tree.{Trees}
 use Rattle.sqlite.specs.Table.{Table}
 use Rattle.sqlite.specs.Schema.{Schema}
@@ -8,7 +9,7 @@ use Rattle.sqlite_catalog.specs.Change.{created, next_tree, KeepsRows}
 use Rattle.sqlite.specs.Does.{lacks_sequence, sequence_text}
 use Rattle.sqlite.specs.Effect.{Database, IsDatabase, SparesFrozen}
 use Rattle.sqlite.specs.State.{State, Shows as Sees}
-use Rattle.store_table.specs.Schema.{documents}
+use Rattle.store_table.specs.Schema.{documents, HasDocuments}
 
 -- where a table of the schema counts its rows and the one for the counts isn't there, that one is made too
 abbrev pub AddsCounts : Schema → Schema → Type 0
@@ -30,3 +31,17 @@ StandsBeside old new = Sees old new new.now new.now false × AddsTable old.now n
 -- the trees of such a database
 abbrev pub AreBeside : Database → Trees → Type 0
 AreBeside old trees = (new : Database) × AddsTable old new × (trees ≡ new.trees)
+
+-- the schema is the one that was, and every table but this one has the rows that it had
+pub record SparesOthers (old new : Database) : Type 0 where
+  pub schema : new.schema ≡ old.schema
+  pub rows : (place tree : ℕ) → HasDocuments old.schema.tables place tree → AllByRecursion (λ t. t.tree ≢ tree → new.trees t.tree ≡ old.trees t.tree) old.schema.tables
+
+-- a connection that is open afterwards was open before, and shows the schema and the other tables as they were
+pub record KeepsOthers (old new : State) : Type 0 where
+  pub was_open : IsTrue new.is_open → IsTrue old.is_open
+  pub spared : IsTrue new.is_open → SparesOthers old.now new.now
+
+-- while the connection is open, it shows the schema and the other tables as this database has them
+abbrev pub ShowsOthers : Database → State → Type 0
+ShowsOthers first s = IsTrue s.is_open → SparesOthers first s.now

@@ -5,32 +5,36 @@ use Rattle.std.specs.declared.alloc.Global.{Global}
 use Rattle.std.specs.BTreeSet.{BTreeSet}
 use Rattle.sqlite.specs.State.{State, HasCleanDisk}
 use Rattle.sqlite.specs.Tree.{Trees}
+use Rattle.sqlite.specs.Effect.{Database}
 use Rattle.store_table.specs.declared.fault.Fault.{Fault}
 use Rattle.store_table.specs.declared.fault.Fault.TheVariants.{Places}
 use Rattle.store_table.specs.declared.row.Found.{Found}
 use Rattle.store_table.specs.declared.row.NewRow.{NewRow}
 use Rattle.store_table.specs.Rows.{TableRow, HoldsRows, HasRows, is_row_named, is_in, last_place, docs_from}
 use Rattle.store_table.specs.Names.{has_name}
+use Rattle.store_table.specs.Beside.{KeepsOthers, ShowsOthers}
 
 -- what a connection shows while it is open
 abbrev pub Stands : State → List TableRow → Type 0
 Stands s docs = IsTrue s.is_open → HoldsRows s docs
 
--- on a disk that returns what was written, rows that stood before are followed by rows that stand now, and the two are related so
+-- on a disk that returns what was written, rows that stood before are followed by rows that stand now, the two are related so, and
+-- the schema and the other tables are as they were
 abbrev pub Moves : State → State → (List TableRow → List TableRow → Type 0) → Type 0
-Moves old new P = HasCleanDisk new → HasCleanDisk old × ((docs : List TableRow) → Stands old docs → (after : List TableRow) × Stands new after × P docs after)
+Moves old new P = HasCleanDisk new → HasCleanDisk old × ((docs : List TableRow) → Stands old docs → (after : List TableRow) × Stands new after × P docs after × KeepsOthers old new)
 
 -- a call is accepted only on an open connection, which stays open
 abbrev pub WasOpen : {A E : Type 0} → State → State → Result A E → Type 0
 WasOpen old new result = HasCleanDisk new → (docs : List TableRow) → Stands old docs → OnOk result (IsTrue old.is_open × IsTrue new.is_open)
 
--- a crash may leave the rows changed so
+-- a crash may leave the rows changed so, and all else as it was
 abbrev pub MayLeave : (List TableRow → List TableRow) → State → Trees → Type 0
-MayLeave change old trees = (docs : List TableRow) → Stands old docs → HasRows trees (change docs)
+MayLeave change old trees = (first : Database) (docs : List TableRow) → ShowsOthers first old → Stands old docs → HasRows first trees (change docs)
 
--- after a call that was accepted a crash leaves the rows changed so, and no others
+-- after a call that was accepted a crash leaves the rows changed so, and no others, and all else as it was
 abbrev pub Settles : {A : Type 0} → (List TableRow → List TableRow) → State → State → Result A Fault → Type 0
-Settles change old new result = HasCleanDisk new → (docs : List TableRow) → Stands old docs → OnOk result ((db : Trees) → new.may_leave db → HasRows db (change docs))
+Settles change old new result =
+    HasCleanDisk new → (first : Database) (docs : List TableRow) → ShowsOthers first old → Stands old docs → OnOk result ((db : Trees) → new.may_leave db → HasRows first db (change docs))
 
 -- there are so many places after the greatest one
 abbrev pub IsRoomFor : ℕ → List TableRow → Type 0

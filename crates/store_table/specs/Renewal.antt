@@ -9,8 +9,8 @@ use Rattle.sqlite_trees.specs.Tree.{Trees}
 use Rattle.store_table.specs.declared.opening.OpenError.{OpenError}
 use Rattle.store_table.specs.declared.opening.OpenError.TheVariants.{NotAStore, BadRow, IdsCollide, Memory, Database}
 use Rattle.store_table.specs.Open.{HasTable, HasNoTable, IsNameTaken, Reads, ReadsNot, PassesOpening}
-use Rattle.store_table.specs.Beside.{StandsBeside, AreBeside}
-use Rattle.store_table.specs.Schema.{documents_schema}
+use Rattle.store_table.specs.Beside.{StandsBeside, AreBeside, SparesOthers}
+use Rattle.store_table.specs.Schema.{HasStoreTable}
 use Rattle.store_table.specs.Rows.{TableRow, IsBlank, HoldsRows, HasRows, is_row_named, with_keys_at, last_place}
 use Rattle.store_table.specs.Check.{AreGood, IsFirstBad}
 use Rattle.store_table.specs.Seen.{Pair, pair_cmp}
@@ -66,9 +66,9 @@ module _ (accepts : List ℕ → List ℕ → List ℕ → Type 0) (renews : Lis
     pub renewed : AreRenewed renews docs after
     pub told : MatchOption r.twin (StandApart docs after r) (λ p. IsTwin accepts after p.0 p.1)
 
-  -- the rows have their keys of now, and no two of a collection have the same
+  -- the rows have their keys of now, no two of a collection have the same, and the other tables are as they were
   abbrev pub Renewed : State → State → Type 0
-  Renewed old new = (docs : List TableRow) → HoldsRows old docs → (after : List TableRow) × HoldsRows new after × AreRenewed renews docs after × AreGood accepts after
+  Renewed old new = (docs : List TableRow) → HoldsRows old docs → (after : List TableRow) × HoldsRows new after × AreRenewed renews docs after × AreGood accepts after × SparesOthers old.now new.now
 
   -- why they haven't
   abbrev pub Unrenewed : State → State → OpenError → Type 0
@@ -80,7 +80,7 @@ module _ (accepts : List ℕ → List ℕ → List ℕ → Type 0) (renews : Lis
 
   -- what may be committed on the way
   abbrev pub MayRenew : State → Trees → Type 0
-  MayRenew old trees = IsLive old → (docs : List TableRow) → HoldsRows old docs → (after : List TableRow) × AreRenewed renews docs after × HasRows trees after
+  MayRenew old trees = IsLive old → (docs : List TableRow) → HoldsRows old docs → (after : List TableRow) × AreRenewed renews docs after × HasRows old.now trees after
 
 module _ (renews : List ℕ → List ℕ → List ℕ → List ℕ → Type 0) where
   -- a row that is read isn't good under its own key
@@ -105,7 +105,7 @@ module _ (renews : List ℕ → List ℕ → List ℕ → List ℕ → Type 0) w
     pub made : IsBlank old → HoldsRows new []
     pub beside : HasNoTable old → StandsBeside old new
     pub found : Renewed (IsOwn renews) renews old new
-    pub listed : old.now.schema ≡ documents_schema → (docs : List TableRow) × (after : List TableRow) × HoldsRows old docs × HoldsRows new after × AreRenewed renews docs after × AreGood (IsOwn renews) after
+    pub listed : HasStoreTable old.now.schema → (docs : List TableRow) × (after : List TableRow) × HoldsRows old docs × HoldsRows new after × AreRenewed renews docs after × AreGood (IsOwn renews) after
     pub other : HasNoTable old ⊎ PassesOnce old new
     pub unwritten : (docs : List TableRow) → HoldsRows old docs → AreGood (IsOwn renews) docs → IsUnchanged old new
 
@@ -119,4 +119,4 @@ module _ (renews : List ℕ → List ℕ → List ℕ → List ℕ → Type 0) w
 
   -- what an open may commit: the table, or the keys of now where a row hasn't its own
   abbrev pub Makes : State → Trees → Type 0
-  Makes old trees = (HasNoTable old × (IsBlank old → HasRows trees []) × AreBeside old.now trees) ⊎ (HasTable old × RenewsOld old trees)
+  Makes old trees = (HasNoTable old × AreBeside old.now trees) ⊎ (HasTable old × RenewsOld old trees)

@@ -2,7 +2,7 @@
 use Rattle.std.specs.Ordering.{int_eq}
 use Rattle.store_table.specs.declared.row.NewKey.{NewKey}
 use Rattle.store_table.specs.declared.row.NewRow.{NewRow}
-use Rattle.std.specs.Prelude.{◌+ℤ◌, pos, not, ◌&&◌, filter, bytes_eq, if◌then◌else◌, ◌≡◌, ◌<ℤ◌, ℕ, ℤ, Bool, false, List, [], ◌∷◌, map, IsTrue}
+use Rattle.std.specs.Prelude.{◌+ℤ◌, pos, not, ◌&&◌, filter, bytes_eq, if◌then◌else◌, ◌≡◌, ◌⊎◌, ◌<ℤ◌, ℕ, ℤ, Bool, false, List, [], ◌∷◌, map, IsTrue}
 use Rattle.std.specs.List.{AllByRecursion}
 use Rattle.std.specs.List.Sorted.{IsPermutation}
 use Rattle.sqlite.specs.declared.types.Value.TheVariants.{Null, Int, Text, Blob}
@@ -10,8 +10,10 @@ use Rattle.sqlite_value.specs.Order.{Row}
 use Rattle.sqlite_trees.specs.Tree.{Trees, IsAscending}
 use Rattle.sqlite_trees.specs.Objects.{catalog_tree}
 use Rattle.sqlite_catalog.specs.Listing.{Lists}
+use Rattle.sqlite.specs.Effect.{Database}
 use Rattle.sqlite.specs.State.{State}
-use Rattle.store_table.specs.Schema.{documents_schema, no_schema}
+use Rattle.store_table.specs.Schema.{HasDocuments, IsFree}
+use Rattle.store_table.specs.Beside.{SparesOthers, AreBeside}
 
 pub record TableRow : Type 0 where
   pub place : ℤ
@@ -31,19 +33,32 @@ IsRising = IsAscending (λ a b. a.place <ℤ b.place)
 abbrev pub AreBelow : ℤ → List TableRow → Type 0
 AreBelow place = AllByRecursion (λ d. d.place <ℤ place)
 
--- the trees of a database list the table of documents and nothing else
-unfoldable pub ListsTable : Trees → Type 0
-ListsTable trees = Lists (trees catalog_tree) documents_schema
+-- the trees of a database list its schema
+unfoldable pub ListsSchema : Database → Type 0
+ListsSchema db = Lists (db.trees catalog_tree) db.schema
 
--- the trees of a database list no object at all
-unfoldable pub ListsNothing : Trees → Type 0
-ListsNothing trees = Lists (trees catalog_tree) no_schema
-
--- the trees list the table, and have these rows in it
-pub record HasRows (trees : Trees) (docs : List TableRow) : Type 0 where
-  pub listed : ListsTable trees
-  pub rows : IsPermutation (map columns_of docs) (trees 0)
+-- where the table stands in the database, whatever else it has, with these rows
+pub record TableRows (db : Database) (docs : List TableRow) : Type 0 where
+  pub place : ℕ
+  pub tree : ℕ
+  pub listed : ListsSchema db
+  pub stands : HasDocuments db.schema.tables place tree
+  pub rows : IsPermutation (map columns_of docs) (db.trees tree)
   pub rising : IsRising docs
+
+-- the database has the table, with these rows
+unfoldable pub RowsIn : Database → List TableRow → Type 0
+RowsIn = TableRows
+
+-- the trees are those of the database with these rows in the table: they list its schema, and have the rows of its other tables
+pub record HasRows (first : Database) (trees : Trees) (docs : List TableRow) : Type 0 where
+  pub table : RowsIn (record { schema = first.schema; trees = trees }) docs
+  pub others : SparesOthers first (record { schema = first.schema; trees = trees })
+
+-- the trees are those of the database, in which no table has the name, as they are or with the empty table beside
+pub record HasNone (first : Database) (trees : Trees) : Type 0 where
+  pub free : IsFree first.schema.tables
+  pub left : (ListsSchema first × (trees ≡ first.trees)) ⊎ AreBeside first trees
 
 -- the greatest place, or 0
 abbrev pub last_place : List TableRow → ℤ
@@ -56,8 +71,7 @@ pub record HoldsRows (s : State) (docs : List TableRow) : Type 0 where
   pub is_open : IsTrue s.is_open
   pub autocommit : s.in_transaction ≡ false
   pub settled : s.now ≡ s.committed
-  pub schema : s.now.schema ≡ documents_schema
-  pub table : HasRows s.now.trees docs
+  pub table : RowsIn s.now docs
 
 abbrev pub is_at : ℤ → TableRow → Bool
 is_at place d = int_eq d.place place
@@ -95,24 +109,21 @@ is_in coll d = bytes_eq d.coll coll
 pub record Inside (s : State) (first docs : List TableRow) : Type 0 where
   pub is_open : IsTrue s.is_open
   pub mode : IsTrue s.in_transaction
-  pub schema : s.now.schema ≡ documents_schema
-  pub table : HasRows s.now.trees docs
-  pub first_schema : s.committed.schema ≡ documents_schema
-  pub first_table : HasRows s.committed.trees first
+  pub table : RowsIn s.now docs
+  pub first_table : RowsIn s.committed first
 
 -- what a rollback goes back to, whatever the transaction has come to
 pub record KeepsCommitted (s : State) (first : List TableRow) : Type 0 where
-  pub schema : s.committed.schema ≡ documents_schema
-  pub table : HasRows s.committed.trees first
+  pub table : RowsIn s.committed first
 
 -- rows of a collection at one place after the other
 abbrev pub docs_from : ℤ → List ℕ → List NewRow → List TableRow
 docs_from place coll [] = []
 docs_from place coll (r ∷ rows) = record { place = place; coll = coll; idkey = r.idkey.now; body = r.body.now } ∷ docs_from (place +ℤ pos 1) coll rows
 
--- an open connection with no transaction and no object in its database
+-- an open connection with no transaction, whose database has no table of the name
 pub record IsBlank (s : State) : Type 0 where
   pub is_open : IsTrue s.is_open
   pub autocommit : s.in_transaction ≡ false
   pub settled : s.now ≡ s.committed
-  pub schema : s.now.schema ≡ no_schema
+  pub free : IsFree s.now.schema.tables

@@ -9,6 +9,8 @@ use Rattle.sqlite_resolve.specs.Compile.{first}
 use Rattle.sqlite.specs.State.{State, Shown, Begins, IsUnchanged}
 use Rattle.store_table.specs.Rows.{TableRow, HoldsRows}
 use Rattle.store_table.specs.Cells.{bytes_in}
+use Rattle.store_table.specs.Moves.{Stands}
+use Rattle.store_table.specs.Beside.{KeepsOthers}
 
 abbrev pub asks : Statement → Bool
 asks (written.Select s) = true
@@ -33,10 +35,11 @@ TookRows took v sql params old new = (rows : List Row) × Shown sql params old n
 abbrev pub TookSome : {V : Type 0} → (V → List (List ℕ) → Type 0) → V → List ℕ → Row → State → Type 0
 TookSome took v sql params old = (rows : List Row) × ((rows ≡ []) ⊎ (IsTrue old.is_open × Begins sql params old rows)) × took v (map first_value rows)
 
--- a read that is answered leaves everything; one that is refused leaves the rows, or the connection is shut
+-- a read that is answered leaves everything; one that is refused leaves the rows and the other tables, or the connection is shut
 pub record ReadsRows {A E : Type 0} (old new : State) (result : Result A E) : Type 0 where
   pub unchanged : OnOk result (IsUnchanged old new)
   pub refused : OnErr result (IsTrue new.is_open → IsTrue old.is_open × ((docs : List TableRow) → HoldsRows old docs → HoldsRows new docs))
+  pub others : OnErr result ((docs : List TableRow) → Stands old docs → KeepsOthers old new)
 
 -- The + keeps the engine from the index on (coll, idkey), by which it would have to sort the whole answer before the first row.
 abbrev pub scan_text : List ℕ

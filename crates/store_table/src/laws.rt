@@ -1,13 +1,14 @@
 //! Laws on the definitions alone: each is the contract of a function that does nothing.
 
-ghost use Rattle.std.specs.Prelude.{◌≡◌, List};
+ghost use Rattle.std.specs.Prelude.{◌≡◌, ℕ, List};
 ghost use Rattle.sqlite_value.specs.Order.{Row};
 ghost use Rattle.sqlite.specs.Schema.{Schema};
+ghost use Rattle.sqlite.specs.Table.{Table};
 ghost use Rattle.sqlite_catalog.specs.Listing.{Lists};
-ghost use Rattle.store_table.specs.Schema.{documents_schema, no_schema};
+ghost use Rattle.store_table.specs.Schema.{HasDocuments};
 
-/// A list of objects that is that of the table of documents alone, or of nothing, is that of no other schema.
-pub fn one_schema()
-    ensures table { (objects : List Row) (s : Schema) → Lists objects documents_schema → Lists objects s → s ≡ documents_schema }
-    ensures nothing { (objects : List Row) (s : Schema) → Lists objects no_schema → Lists objects s → s ≡ no_schema }
+/// A list of objects names one list of tables, and in these the table of documents stands at one place, over one tree.
+pub fn one_table()
+    ensures listed { (objects : List Row) (a b : Schema) → Lists objects a → Lists objects b → b.tables ≡ a.tables }
+    ensures stands { (tables : List Table) (p q m n : ℕ) → HasDocuments tables p m → HasDocuments tables q n → (q ≡ p) × (n ≡ m) }
 {}

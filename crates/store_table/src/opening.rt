@@ -1,13 +1,13 @@
 //! Opening a database, whose table is tested row by row.
 
-ghost use Rattle.std.specs.Prelude.{◌≡◌, ◌⊎◌, List, [], false, Err, IsTrue, IfErr, OnOk, OnErr, is_some};
+ghost use Rattle.std.specs.Prelude.{◌≡◌, ◌⊎◌, [], false, Err, IsTrue, IfErr, OnOk, OnErr, is_some};
 ghost use Rattle.sqlite_value.specs.Order.{column};
 ghost use Rattle.sqlite.specs.Held.{state};
 ghost use Rattle.sqlite.specs.State.{HasCleanDisk, Survives, IsLive};
 ghost use Rattle.sqlite_schema.specs.Names.{table_named, index_named, view_named};
 ghost use Rattle.store_table.specs.Cells.{is_listed, int_in, bytes_in};
 ghost use Rattle.store_table.specs.Renewal.{Opened, Unopened, Makes};
-ghost use Rattle.store_table.specs.Rows.{HasRows, IsBlank, HoldsRows};
+ghost use Rattle.store_table.specs.Rows.{IsBlank, HoldsRows};
 ghost use Rattle.store_table.specs.Beside.{StandsBeside, AreBeside};
 ghost use Rattle.store_table.specs.Open.{IsSettled, KeepsAll, table_name, HasNoTable, IsNameTaken};
 
@@ -105,7 +105,7 @@ fn make_table<S: Alter>(conn: &mut Connection<S>) -> Result<(), OpenError>
     ensures beside { HasCleanDisk (state S.Store conn.new) → (state S.Store conn.old).in_transaction ≡ false → OnOk result (StandsBeside (state S.Store conn.old) (state S.Store conn.new)) }
     ensures told { IfErr result (λ e. (e ≡ OpenError.Memory) ⊎ (e ≡ OpenError.Database)) }
     ensures kept { HasCleanDisk (state S.Store conn.new) → IsSettled (state S.Store conn.old) → OnErr result (KeepsAll (state S.Store conn.old) (state S.Store conn.new)) }
-    ensures crash { Survives (state S.Store conn.old) (state S.Store conn.new) (λ trees. (IsBlank (state S.Store conn.old) → HasRows trees []) × AreBeside (state S.Store conn.old).now trees) }
+    ensures crash { Survives (state S.Store conn.old) (state S.Store conn.new) (AreBeside (state S.Store conn.old).now) }
 {
     match create(conn) {
         Ok(_) => Ok(()),

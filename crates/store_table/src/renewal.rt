@@ -1,12 +1,13 @@
 //! Rows under old keys, which get their keys of now.
 
-ghost use Rattle.std.specs.Prelude.{◌≡◌, ◌++◌, ◌∷◌, [], ℕ, List, Option, None, option_map, find, IfOk, IfErr, IsOk, IsTrue, MatchResult, Ok, Err, OnOk, OnErr};
+ghost use Rattle.std.specs.Prelude.{◌≡◌, ◌++◌, ◌∷◌, [], List, Option, None, option_map, find, IfOk, IfErr, IsOk, MatchResult, Ok, Err, OnOk, OnErr};
 ghost use Rattle.store_table.specs.Cells.{doc_of};
 ghost use Rattle.sqlite.specs.Held.{state};
 ghost use Rattle.sqlite.specs.State.{HasCleanDisk, Survives, IsLive};
 ghost use Rattle.store_table.specs.Check.{AreGood, IsGoodAfter};
 ghost use Rattle.store_table.specs.Open.{IsSettled, KeepsAll, Reads, RefusesOpening};
 ghost use Rattle.store_table.specs.Rows.{TableRow, HasRows, HoldsRows, with_keys_at, is_row_named};
+ghost use Rattle.store_table.specs.Beside.{SparesOthers};
 ghost use Rattle.store_table.specs.Renewal.{HasPlaces, AcceptsOnce, IsOwn, AreRenewals, Renewed, Unrenewed, MayRenew, RenewsOld, AreGoodOnce, PassesOnce};
 
 use crate::check::{Own, RowCheck, TestsRows, judge, survey};
@@ -180,10 +181,12 @@ pub(crate) fn survey_old<S: Alter, C: RowCheck>(
 fn write_keys<S: Alter>(conn: &mut Connection<S>, keys: &[NewKey]) -> Result<(), Error>
     ensures done { HasCleanDisk (state S.Store conn.new) → (docs : List TableRow) → HoldsRows (state S.Store conn.old) docs
         → OnOk result (HoldsRows (state S.Store conn.new) (with_keys_at keys.now docs)) }
+    ensures spared { HasCleanDisk (state S.Store conn.new) → (docs : List TableRow) → HoldsRows (state S.Store conn.old) docs
+        → OnOk result (SparesOthers (state S.Store conn.old).now (state S.Store conn.new).now) }
     ensures kept { HasCleanDisk (state S.Store conn.new) → IsSettled (state S.Store conn.old)
         → OnErr result (KeepsAll (state S.Store conn.old) (state S.Store conn.new)) }
     ensures crash { Survives (state S.Store conn.old) (state S.Store conn.new)
-        (λ trees. (docs : List TableRow) → HoldsRows (state S.Store conn.old) docs → HasRows trees (with_keys_at keys.now docs)) }
+        (λ trees. (docs : List TableRow) → HoldsRows (state S.Store conn.old) docs → HasRows (state S.Store conn.old).now trees (with_keys_at keys.now docs)) }
 {
     rekey_all(conn, keys)
 }

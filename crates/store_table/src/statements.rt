@@ -5,9 +5,9 @@ ghost use Rattle.sqlite.specs.declared.types.Value.TheVariants.{Int, Blob};
 ghost use Rattle.sqlite.specs.Held.{state};
 ghost use Rattle.sqlite.specs.State.{HasCleanDisk, Survives};
 ghost use Rattle.store_table.specs.Rows.{TableRow, IsBlank, AreBelow, HasRows, HoldsRows, Inside, KeepsCommitted, docs_from, without_place, with_body_at, with_key_at, with_keys_at, is_row_named, last_place};
-ghost use Rattle.store_table.specs.Moves.{Stands};
+ghost use Rattle.store_table.specs.Moves.{MayLeave};
 ghost use Rattle.store_table.specs.Open.{IsSettled, KeepsAll, HasCommitted};
-ghost use Rattle.store_table.specs.Beside.{StandsBeside, AreBeside};
+ghost use Rattle.store_table.specs.Beside.{StandsBeside, AreBeside, SparesOthers};
 ghost use Rattle.store_table.specs.Visit.{ReadsRows};
 ghost use Rattle.store_table.specs.Written.{WritesRows};
 
@@ -22,7 +22,7 @@ pub(crate) fn create<S: Alter>(conn: &mut Connection<S>) -> Result<usize, Error>
     ensures made { HasCleanDisk (state S.Store conn.new) → IsBlank (state S.Store conn.old) → OnOk result (HoldsRows (state S.Store conn.new) []) }
     ensures beside { HasCleanDisk (state S.Store conn.new) → (state S.Store conn.old).in_transaction ≡ false → OnOk result (StandsBeside (state S.Store conn.old) (state S.Store conn.new)) }
     ensures kept { HasCleanDisk (state S.Store conn.new) → IsSettled (state S.Store conn.old) → OnErr result (KeepsAll (state S.Store conn.old) (state S.Store conn.new)) }
-    ensures crash { Survives (state S.Store conn.old) (state S.Store conn.new) (λ trees. (IsBlank (state S.Store conn.old) → HasRows trees []) × AreBeside (state S.Store conn.old).now trees) }
+    ensures crash { Survives (state S.Store conn.old) (state S.Store conn.new) (AreBeside (state S.Store conn.old).now) }
 {
     conn.execute(sql::MAKE_TABLE, &[])
 }
@@ -39,7 +39,7 @@ fn insert_row<'a, S: Alter>(
     ensures written { HasCleanDisk (state S.Store conn.new) → IsTrue (state S.Store conn.old).is_open
         → WritesRows (state S.Store conn.old) (state S.Store conn.new) (λ docs. docs ++ record { place = place; coll = coll.now; idkey = idkey.now; body = body.now } ∷ []) result }
     ensures crash { Survives (state S.Store conn.old) (state S.Store conn.new)
-        (λ trees. (docs : List TableRow) → HoldsRows (state S.Store conn.old) docs → HasRows trees (docs ++ record { place = place; coll = coll.now; idkey = idkey.now; body = body.now } ∷ [])) }
+        (λ trees. (docs : List TableRow) → HoldsRows (state S.Store conn.old) docs → HasRows (state S.Store conn.old).now trees (docs ++ record { place = place; coll = coll.now; idkey = idkey.now; body = body.now } ∷ [])) }
 {
     conn.execute(
         sql::ADD_ROW,
@@ -65,7 +65,7 @@ pub(crate) fn add_committed<'a, S: Alter>(
     ensures written { HasCleanDisk (state S.Store conn.new) → IsTrue (state S.Store conn.old).is_open
         → WritesRows (state S.Store conn.old) (state S.Store conn.new) (λ docs. docs ++ record { place = place; coll = coll.now; idkey = idkey.now; body = body.now } ∷ []) result }
     ensures crash { Survives (state S.Store conn.old) (state S.Store conn.new)
-        (λ trees. (docs : List TableRow) → HoldsRows (state S.Store conn.old) docs → HasRows trees (docs ++ record { place = place; coll = coll.now; idkey = idkey.now; body = body.now } ∷ [])) }
+        (λ trees. (docs : List TableRow) → HoldsRows (state S.Store conn.old) docs → HasRows (state S.Store conn.old).now trees (docs ++ record { place = place; coll = coll.now; idkey = idkey.now; body = body.now } ∷ [])) }
 {
     insert_row(conn, place, coll, idkey, body)
 }
@@ -73,7 +73,7 @@ pub(crate) fn add_committed<'a, S: Alter>(
 /// Removes the row at a place.
 pub(crate) fn remove_at<S: Alter>(conn: &mut Connection<S>, place: i64) -> Result<usize, Error>
     ensures written { HasCleanDisk (state S.Store conn.new) → WritesRows (state S.Store conn.old) (state S.Store conn.new) (without_place place) result }
-    ensures crash { Survives (state S.Store conn.old) (state S.Store conn.new) (λ trees. (docs : List TableRow) → Stands (state S.Store conn.old) docs → HasRows trees (without_place place docs)) }
+    ensures crash { Survives (state S.Store conn.old) (state S.Store conn.new) (MayLeave (without_place place) (state S.Store conn.old)) }
 {
     let statement = conn.prepare(sql::REMOVE_ROW)?;
     statement.execute(conn, &[ValueRef::Int(place)])
@@ -86,7 +86,7 @@ pub(crate) fn rewrite_at<S: Alter>(
     body: &[u8],
 ) -> Result<usize, Error>
     ensures written { HasCleanDisk (state S.Store conn.new) → WritesRows (state S.Store conn.old) (state S.Store conn.new) (with_body_at place body.now) result }
-    ensures crash { Survives (state S.Store conn.old) (state S.Store conn.new) (λ trees. (docs : List TableRow) → Stands (state S.Store conn.old) docs → HasRows trees (with_body_at place body.now docs)) }
+    ensures crash { Survives (state S.Store conn.old) (state S.Store conn.new) (MayLeave (with_body_at place body.now) (state S.Store conn.old)) }
 {
     let statement = conn.prepare(sql::PUT_BODY)?;
     statement.execute(conn, &[ValueRef::Int(place), ValueRef::Blob(body)])
@@ -163,6 +163,10 @@ fn put<'a, 't, S: Alter>(
         → OnOk result (Inside (state S.Store tx.new.conn.now) first (docs ++ record { place = place; coll = coll.now; idkey = idkey.now; body = body.now } ∷ [])) }
     ensures refused { HasCleanDisk (state S.Store tx.new.conn.now) → (first docs : List TableRow) → Inside (state S.Store tx.old.conn.now) first docs
         → IsTrue (state S.Store tx.new.conn.now).is_open → OnErr result (KeepsCommitted (state S.Store tx.new.conn.now) first) }
+    ensures spared { HasCleanDisk (state S.Store tx.new.conn.now) → (first docs : List TableRow) → Inside (state S.Store tx.old.conn.now) first docs → AreBelow place docs
+        → OnOk result (SparesOthers (state S.Store tx.old.conn.now).now (state S.Store tx.new.conn.now).now) }
+    ensures inside { HasCleanDisk (state S.Store tx.new.conn.now) → IsTrue (state S.Store tx.old.conn.now).in_transaction → OnOk result (IsTrue (state S.Store tx.new.conn.now).in_transaction) }
+    ensures committed { HasCleanDisk (state S.Store tx.new.conn.now) → IsTrue (state S.Store tx.old.conn.now).in_transaction → HasCommitted (state S.Store tx.old.conn.now) (state S.Store tx.new.conn.now) }
     ensures crash { Survives (state S.Store tx.old.conn.now) (state S.Store tx.new.conn.now) (λ _. ⊥) }
 {
     tx.execute(
@@ -189,8 +193,12 @@ pub(crate) fn add_all<S: Alter>(
         → OnOk result (HoldsRows (state S.Store conn.new) (docs ++ docs_from (last +ℤ pos 1) coll.now rows.now)) }
     ensures refused { HasCleanDisk (state S.Store conn.new) → (docs : List TableRow) → HoldsRows (state S.Store conn.old) docs
         → IsTrue (state S.Store conn.new).is_open → OnErr result (HoldsRows (state S.Store conn.new) docs) }
+    ensures spared { HasCleanDisk (state S.Store conn.new) → (docs : List TableRow) → HoldsRows (state S.Store conn.old) docs
+        → OnOk result (SparesOthers (state S.Store conn.old).now (state S.Store conn.new).now) }
+    ensures kept { HasCleanDisk (state S.Store conn.new) → IsSettled (state S.Store conn.old)
+        → OnErr result (KeepsAll (state S.Store conn.old) (state S.Store conn.new)) }
     ensures crash { Survives (state S.Store conn.old) (state S.Store conn.new)
-        (λ trees. (docs : List TableRow) → HoldsRows (state S.Store conn.old) docs → HasRows trees (docs ++ docs_from (last +ℤ pos 1) coll.now rows.now)) }
+        (λ trees. (docs : List TableRow) → HoldsRows (state S.Store conn.old) docs → HasRows (state S.Store conn.old).now trees (docs ++ docs_from (last +ℤ pos 1) coll.now rows.now)) }
 {
     if !conn.is_autocommit() {
         return Err(Error::SqliteFailure(ErrorCode::TransactionState));
@@ -215,6 +223,8 @@ fn rekey<'a, 't, S: Alter>(
         → OnOk result (Inside (state S.Store tx.new.conn.now) first (with_key_at place idkey.now docs)) }
     ensures refused { HasCleanDisk (state S.Store tx.new.conn.now) → (first docs : List TableRow) → Inside (state S.Store tx.old.conn.now) first docs
         → IsTrue (state S.Store tx.new.conn.now).is_open → OnErr result (KeepsCommitted (state S.Store tx.new.conn.now) first) }
+    ensures spared { HasCleanDisk (state S.Store tx.new.conn.now) → (first docs : List TableRow) → Inside (state S.Store tx.old.conn.now) first docs
+        → OnOk result (SparesOthers (state S.Store tx.old.conn.now).now (state S.Store tx.new.conn.now).now) }
     ensures inside { HasCleanDisk (state S.Store tx.new.conn.now) → IsTrue (state S.Store tx.old.conn.now).in_transaction → OnOk result (IsTrue (state S.Store tx.new.conn.now).in_transaction) }
     ensures committed { HasCleanDisk (state S.Store tx.new.conn.now) → IsTrue (state S.Store tx.old.conn.now).in_transaction → HasCommitted (state S.Store tx.old.conn.now) (state S.Store tx.new.conn.now) }
     ensures crash { Survives (state S.Store tx.old.conn.now) (state S.Store tx.new.conn.now) (λ _. ⊥) }
@@ -228,10 +238,12 @@ pub(crate) fn rekey_all<S: Alter>(conn: &mut Connection<S>, keys: &[NewKey]) -> 
         → OnOk result (HoldsRows (state S.Store conn.new) (with_keys_at keys.now docs)) }
     ensures refused { HasCleanDisk (state S.Store conn.new) → (docs : List TableRow) → HoldsRows (state S.Store conn.old) docs
         → IsTrue (state S.Store conn.new).is_open → OnErr result (HoldsRows (state S.Store conn.new) docs) }
+    ensures spared { HasCleanDisk (state S.Store conn.new) → (docs : List TableRow) → HoldsRows (state S.Store conn.old) docs
+        → OnOk result (SparesOthers (state S.Store conn.old).now (state S.Store conn.new).now) }
     ensures kept { HasCleanDisk (state S.Store conn.new) → IsSettled (state S.Store conn.old)
         → OnErr result (KeepsAll (state S.Store conn.old) (state S.Store conn.new)) }
     ensures crash { Survives (state S.Store conn.old) (state S.Store conn.new)
-        (λ trees. (docs : List TableRow) → HoldsRows (state S.Store conn.old) docs → HasRows trees (with_keys_at keys.now docs)) }
+        (λ trees. (docs : List TableRow) → HoldsRows (state S.Store conn.old) docs → HasRows (state S.Store conn.old).now trees (with_keys_at keys.now docs)) }
 {
     if !conn.is_autocommit() {
         return Err(Error::SqliteFailure(ErrorCode::TransactionState));

@@ -3,9 +3,8 @@
 use bson_model::{Binary, BinarySubtype, Bson, Document};
 use std::alloc::{AllocError, Global};
 use std::test::Fail;
-use store_documents::{KeptRow, body_with, row_of_document};
-use store_model::ErrorKind;
-use store_streams::{Keys, StreamError, judge_stream};
+use store_documents::{KeptRow, Keys, body_with, judge_stream, row_of_document};
+use store_model::{ErrorKind, StoreError};
 
 /// {_id: 1}.
 const ONE: [u8; 14] = [14, 0, 0, 0, 16, 95, 105, 100, 0, 1, 0, 0, 0, 0];
@@ -66,10 +65,7 @@ pub(crate) fn nulls(alloc: Global, number: u32) -> Result<Vec<u8>, AllocError> {
 fn written_keys_make_a_document_too_long(rt: HostRuntime) -> Result<(), Fail> {
     let bytes = nulls(rt.alloc(), 3000000)?;
     let found = judge_stream(rt.alloc(), &bytes).err();
-    let want = StreamError::Refused {
-        kind: ErrorKind::TooLong,
-        document: 0,
-    };
+    let want = StoreError::at(ErrorKind::TooLong, 0);
     assert_eq!(rt; (bytes.len(), found), (6000022, Some(want)));
     Ok(())
 }

@@ -29,8 +29,8 @@ returns-in-Insert-clause-step g c =
     let new : Tally = g.O.Sink.tally c.print_outcome.new.output in
     let asked = subst (IsRequestOf w) c.in-Insert.is c.requires.request in
     let takes = subst (λ x. Takes x texts) asked.0 asked.1 in
-    planted (store_state g.S.Store c.args.store.now) (store_state g.S.Store c.insert_json.new.self) words.Insert w.call n texts fed old new (model.insert model.in_json) (data_of c.take.result) store.as_done answers.as_nothing c.insert_json.result c.nothing-outcome.result c.print_outcome.result
-    asked.0 (λ x h. h) (λ x h. (h, refl)) (λ a. tt) (of_tree (model.insert model.in_json) n texts c.take.result takes (subst (IsTreeText (text_at texts 0)) (sym c.take.ensures.taken) asked.2)) (λ x no. no) c.nothing-outcome.ensures c.print_outcome.ensures.told c.insert_json.ensures.moves
+    planted (store_state g.S.Store c.args.store.now) (store_state g.S.Store c.insert.new.store) words.Insert w.call n texts fed old new (model.insert model.in_json) (data_of c.take.result) store.as_done answers.as_nothing c.insert.result c.nothing-outcome.result c.print_outcome.result
+    asked.0 (λ x h. h) (λ x h. (h, refl)) (λ a. tt) (of_tree (model.insert model.in_json) n texts c.take.result takes (subst (IsTreeText (text_at texts 0)) (sym c.take.ensures.taken) asked.2)) (λ x no. no) c.nothing-outcome.ensures c.print_outcome.ensures.told c.insert.ensures
 
 pub returns-in-Replace-clause-step : goal.returns-in-Replace-clause-step
 returns-in-Replace-clause-step g c =

@@ -26,8 +26,8 @@ returns c = record {
   first_without = refl;
   then_unread = refl;
   cut = (4 ∷ 0 ∷ 0 ∷ 0 ∷ [], refl, (omega arith, omega arith, refl), (omega arith, (omega arith, inl (omega arith))));
-  empty = ([], None, refl, (refl, refl));
-  few = ([], Some EndInside, (omega arith, inl (omega arith)), (refl, refl));
+  empty = ([], None, refl, refl);
+  few = ([], Some EndInside, (omega arith, inl (omega arith)), refl);
   set_a = inl (
     free,
     inl (
@@ -35,7 +35,7 @@ returns c = record {
       with_a int_one,
       with_two ∷ [],
       record { split = refl; before = tt; has = refl },
-      inr (λ h. omega (arith, h), inl (((omega arith, (omega arith, (omega arith, tt))), tt, ((omega arith, tt), tt, tt)), inr (λ h. omega (arith, h), (refl, refl)))),
+      inl (record { shallow = omega arith; plain = ((omega arith, (omega arith, (omega arith, tt))), tt, ((omega arith, tt), tt, tt)); small = omega arith }, refl, refl),
     ),
   );
   set_id = inr (λ f. f.0 refl, (refl, refl));

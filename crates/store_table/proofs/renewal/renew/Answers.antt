@@ -21,6 +21,7 @@ returns-in-Ok-clause-renewed g c clean live =
     let f = found accepts renews old mid r (c.in_ok-renewals.ensures.read early) in
     renewed_so accepts renews old mid r f (none_of r.twin c.in_default.not-Some) new live
     (λ ds shows. subst (λ (ks : List NewKey). HoldsRows new (with_keys_at ks ds)) c.as_slice.ensures.value (c.in-Ok.ensures.done clean ds shows))
+    (λ ds shows. c.in-Ok.ensures.spared clean ds shows)
 
 pub returns-in-Ok-clause-read : goal.returns-in-Ok-clause-read
 returns-in-Ok-clause-read g c clean =
@@ -44,7 +45,7 @@ returns-in-Ok-clause-crash g c =
     (λ clean db made.
     let early : HasCleanDisk mid = omega (arith, clean, c.write_keys.ensures.crash.clean) in
     let f = found accepts renews old mid r (c.in_ok-renewals.ensures.read early) in
-    may_renew accepts renews old mid r f (none_of r.twin c.in_default.not-Some) new db (λ ds shows. subst (λ (ks : List NewKey). HasRows db (with_keys_at ks ds)) c.as_slice.ensures.value (made ds shows)))
+    may_renew accepts renews old mid r f (none_of r.twin c.in_default.not-Some) new db (λ ds shows. subst (λ (ks : List NewKey). HasRows mid.now db (with_keys_at ks ds)) c.as_slice.ensures.value (made ds shows)))
     c.survey_old.ensures.crash c.write_keys.ensures.crash
 
 pub returns-clause-crash : goal.returns-clause-crash
@@ -59,5 +60,5 @@ returns-clause-crash g c =
     (λ clean db made.
     let early : HasCleanDisk mid = omega (arith, clean, c.write_keys.ensures.crash.clean) in
     let f = found accepts renews old mid r (c.in_ok-renewals.ensures.read early) in
-    may_renew accepts renews old mid r f (none_of r.twin c.in_default.not-Some) new db (λ ds shows. subst (λ (ks : List NewKey). HasRows db (with_keys_at ks ds)) c.as_slice.ensures.value (made ds shows)))
+    may_renew accepts renews old mid r f (none_of r.twin c.in_default.not-Some) new db (λ ds shows. subst (λ (ks : List NewKey). HasRows mid.now db (with_keys_at ks ds)) c.as_slice.ensures.value (made ds shows)))
     c.survey_old.ensures.crash c.write_keys.ensures.crash

@@ -2,7 +2,7 @@ use Rattle.std.proofs.Common.{◌≡◌, w64, to_z, of_z}
 use Rattle.std.proofs.lemmas.Int.{to_z-of_z}
 use Rattle.sqlite.specs.Held.{state}
 use Rattle.store_table.proofs.InsertLemmas.{put_refused}
-use Rattle.store_table.proofs.KeyLemmas.{rekey_done, still_committed, still_inside}
+use Rattle.store_table.proofs.KeyLemmas.{rekey_done, rekey_spared, still_committed, still_inside}
 use Rattle.store_table.proofs.Texts.{rekey_text}
 use Rattle.store_table.specs.Rows.{TableRow}
 use Rattle.store_table.proofs.statements.rekey.Goals as goal
@@ -11,6 +11,11 @@ pub returns-clause-done : goal.returns-clause-done
 returns-clause-done g c clean first docs inside =
     let same : to_z w64 (of_z w64 c.args.place) ≡ c.args.place = to_z-of_z w64 c.args.place c.ranges.place in
     rekey_done c.args.place c.args.idkey.now (state g.S.Store c.args.tx.now.conn.now) (state g.S.Store c.execute.new.self.conn.now) first docs inside c.execute.result (rw same at (c.execute.ensures.runs clean inside.mode))
+
+pub returns-clause-spared : goal.returns-clause-spared
+returns-clause-spared g c clean first docs inside =
+    let same : to_z w64 (of_z w64 c.args.place) ≡ c.args.place = to_z-of_z w64 c.args.place c.ranges.place in
+    rekey_spared c.args.place c.args.idkey.now (state g.S.Store c.args.tx.now.conn.now) (state g.S.Store c.execute.new.self.conn.now) first docs inside c.execute.result (rw same at (c.execute.ensures.runs clean inside.mode))
 
 pub returns-clause-refused : goal.returns-clause-refused
 returns-clause-refused g c clean first docs inside =

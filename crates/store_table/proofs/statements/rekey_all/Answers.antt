@@ -6,6 +6,8 @@ use Rattle.sqlite.specs.Tree.{Trees}
 use Rattle.store_table.specs.declared.row.NewKey.{NewKey}
 use Rattle.store_table.specs.Rows.{TableRow, HasRows, Inside, HoldsRows, with_keys_at}
 use Rattle.store_table.proofs.KeyLemmas.{all_but_one, same_rekey, committed_then}
+use Rattle.store_table.specs.Beside.{SparesOthers}
+use Rattle.store_table.proofs.OthersLemmas.{trees_have, spared_then, spared_commit}
 use Rattle.store_table.proofs.ManyLemmas.{committed_shows}
 use Rattle.store_table.proofs.statements.rekey_all.Goals as goal
 
@@ -24,6 +26,9 @@ loop-key-preserved g c =
       survives = survives_then old mid new _ _ (λ _. ⊥) (λ _ db none. none) (λ _ db none. none) h.survives c.rekey.ensures.crash;
       mode = λ clean. c.in_ok-rekey.ensures.inside clean (h.mode (omega (arith, clean, c.rekey.ensures.crash.clean)));
       committed = λ clean. committed_then old mid new (h.committed (omega (arith, clean, c.rekey.ensures.crash.clean))) (c.rekey.ensures.committed clean (h.mode (omega (arith, clean, c.rekey.ensures.crash.clean))));
+      spared = λ clean docs shows.
+          let was = h.inside (omega (arith, c.rekey.ensures.crash.clean)) docs shows in
+          spared_then old.now mid.now new.now (h.spared (omega (arith, clean, c.rekey.ensures.crash.clean)) docs shows) (c.in_ok-rekey.ensures.spared clean docs (with_keys_at (take i keys) docs) was);
       inside = λ clean docs shows.
           let was = h.inside (omega (arith, c.rekey.ensures.crash.clean)) docs shows in
           let got = c.in_ok-rekey.ensures.done clean docs (with_keys_at (take i keys) docs) was in
@@ -38,10 +43,10 @@ returns-clause-crash g c =
     let h = c.loop-key.invariant in
     let keys = c.args.keys.now in
     let all : take c.loop-key.key-index keys ≡ keys = take_all c.loop-key.key-index keys (omega (arith, c.loop-key-test.false, c.loop-key.auto.key-index-end)) in
-    let P = λ (trees : Trees). (docs : List TableRow) → HoldsRows old docs → HasRows trees (with_keys_at keys docs) in
+    let P = λ (trees : Trees). (docs : List TableRow) → HoldsRows old docs → HasRows old.now trees (with_keys_at keys docs) in
     let whole = survives_then old last (state g.S.Store end) _ _ P (λ _ db none. absurd none)
-    (λ clean db is docs shows. subst (λ (trees : Trees). HasRows trees (with_keys_at keys docs)) (sym is) (subst (λ (ks : List NewKey). HasRows last.now.trees (with_keys_at ks docs)) all
-    (h.inside (omega (arith, clean, c.commit.ensures.survives.clean)) docs shows).table)) h.survives c.commit.ensures.survives in
+    (λ clean db is docs shows. subst (λ (trees : Trees). HasRows old.now trees (with_keys_at keys docs)) (sym is) (subst (λ (ks : List NewKey). HasRows old.now last.now.trees (with_keys_at ks docs)) all
+    (trees_have old.now last.now _ (h.inside (omega (arith, clean, c.commit.ensures.survives.clean)) docs shows).table (h.spared (omega (arith, clean, c.commit.ensures.survives.clean)) docs shows)))) h.survives c.commit.ensures.survives in
     let it : end ≡ c.conn-2-1.given.0 = search rules in
     subst (λ k. Survives old (state g.S.Store k) P) it whole
 
@@ -57,6 +62,16 @@ returns-clause-done g c clean docs shows =
     let inside = subst (λ (ks : List NewKey). Inside last docs (with_keys_at ks docs)) all (h.inside (omega (arith, now, c.commit.ensures.survives.clean)) docs shows) in
     let done = committed_shows last (state g.S.Store end) docs (with_keys_at keys docs) c.commit.result inside c.commit.ensures.ended (c.commit.ensures.ok now) in
     subst (λ k. OnOk c.commit.result (HoldsRows (state g.S.Store k) (with_keys_at keys docs))) it done
+
+pub returns-clause-spared : goal.returns-clause-spared
+returns-clause-spared g c clean docs shows =
+    let old = state g.S.Store c.args.conn.now in
+    let last = state g.S.Store c.loop-key.tx.conn.now in
+    let end = c.commit.new.self.0 in
+    let it : end ≡ c.conn-2-1.given.0 = search rules in
+    let now : HasCleanDisk (state g.S.Store end) = subst (λ k. HasCleanDisk (state g.S.Store k)) (sym it) clean in
+    let done = spared_commit old last (state g.S.Store end) c.commit.result (c.loop-key.invariant.spared (omega (arith, now, c.commit.ensures.survives.clean)) docs shows) (c.commit.ensures.ok now) in
+    subst (λ k. OnOk c.commit.result (SparesOthers old.now (state g.S.Store k).now)) it done
 
 pub returns-in_err-rekey-clause-crash : goal.returns-in_err-rekey-clause-crash
 returns-in_err-rekey-clause-crash g c =

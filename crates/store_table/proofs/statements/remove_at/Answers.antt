@@ -3,9 +3,9 @@ use Rattle.std.proofs.lemmas.Int.{to_z-of_z}
 use Rattle.sqlite.specs.declared.types.Value.TheVariants.{Int}
 use Rattle.sqlite.specs.Held.{state}
 use Rattle.sqlite.specs.State.{HasCleanDisk, Executes, CommitsBy}
-use Rattle.store_table.specs.Rows.{HasRows, without_place}
+use Rattle.store_table.specs.Rows.{without_place}
 use Rattle.store_table.proofs.ChangeLemmas.{removes, remove_commits}
-use Rattle.store_table.proofs.WrittenLemmas.{not_prepared, written_by, written_err, crash_before, crash_after}
+use Rattle.store_table.proofs.WrittenLemmas.{not_prepared, not_prepared_others, written_by, written_err, crash_before, crash_after}
 use Rattle.store_table.proofs.Texts.{delete_text}
 use Rattle.store_table.proofs.statements.remove_at.Goals as goal
 
@@ -26,7 +26,7 @@ returns-clause-crash g c =
     let mid = state g.S.Store c.prepare.new.self in
     let new = state g.S.Store c.execute.new.conn in
     let same : to_z w64 (of_z w64 c.args.place) ≡ c.args.place = to_z-of_z w64 c.args.place c.ranges.place in
-    crash_after old mid new _ (λ docs trees. HasRows trees (without_place c.args.place docs)) (λ clean. (c.in_ok-statement.ensures.ok clean).1) c.prepare.ensures.survives c.execute.ensures.survives
+    crash_after old mid new _ (without_place c.args.place) (λ clean. (c.in_ok-statement.ensures.ok clean).1) c.prepare.ensures.survives c.execute.ensures.survives
     (λ early docs shows db commits.
     let made = c.in_ok-statement.ensures.ok early in
     let it : CommitsBy delete_text (Int c.args.place ∷ []) mid db = rw (made.0, same) at commits in
@@ -36,10 +36,10 @@ pub returns-in_err-statement-clause-written : goal.returns-in_err-statement-clau
 returns-in_err-statement-clause-written g c clean =
     let old = state g.S.Store c.args.conn.now in
     let new = state g.S.Store c.prepare.new.self in
-    written_err old new (without_place c.args.place) c.from_residual.result c.from_residual.ensures.0 (not_prepared _ [] old new _ (c.in_err-statement.ensures.err clean []))
+    written_err old new (without_place c.args.place) c.from_residual.result c.from_residual.ensures.0 (not_prepared _ [] old new _ (c.in_err-statement.ensures.err clean [])) (not_prepared_others _ [] old new _ (c.in_err-statement.ensures.err clean []))
 
 pub returns-in_err-statement-clause-crash : goal.returns-in_err-statement-clause-crash
 returns-in_err-statement-clause-crash g c =
     let old = state g.S.Store c.args.conn.now in
     let new = state g.S.Store c.prepare.new.self in
-    crash_before old new (λ docs trees. HasRows trees (without_place c.args.place docs)) c.prepare.ensures.survives
+    crash_before old new (without_place c.args.place) c.prepare.ensures.survives

@@ -1,12 +1,14 @@
-use Rattle.std.proofs.Common.{ℕ, List, [], ◌∷◌, ◌++◌, map, IfErr, refl, sym, ap, subst, ◌∙◌, rules, arith}
+use Rattle.std.proofs.Common.{◌≡◌, ℕ, List, [], ◌∷◌, ◌++◌, map, Bool, Err, IfErr, refl, sym, ap, subst, ◌∙◌, rules, arith}
 use Rattle.sqlite.proofs.StateLemmas.{survives_then}
 use Rattle.sqlite.proofs.Callers.{unchanged_then}
 use Rattle.sqlite.specs.Values.{bound}
 use Rattle.sqlite.specs.State.{HasCleanDisk, IsUnchanged, Survives, CommitsShowing, FailsToQuery}
 use Rattle.sqlite.specs.Held.{state}
 use Rattle.sqlite.specs.Given.{HasGiven}
-use Rattle.store_table.specs.Visit.{TookRows, first_value}
-use Rattle.store_table.proofs.AnyLemmas.{leaves_nothing, begun_any, read_err}
+use Rattle.sqlite.specs.declared.error.Error.TheVariants.{SqliteFailure}
+use Rattle.sqlite.specs.declared.error.ErrorCode.TheVariants.{TooBig}
+use Rattle.store_table.specs.Visit.{ReadsRows, TookRows, first_value}
+use Rattle.store_table.proofs.AnyLemmas.{leaves_nothing, begun_any, read_err, read_stopped, read_left}
 use Rattle.store_table.proofs.VisitLemmas.{took_some, shown_before, values_on}
 use Rattle.store_table.proofs.visiting.visit_values.Goals as goal
 
@@ -45,6 +47,19 @@ returns-in_err-row-clause-some g c clean none =
     let was = c.rows.invariant.given (omega (arith, late, moved.survives.clean)) in
     took_some g.S.Store (g.V.Visit.took c.args.visitor.now) c.rows.visitor c.args.sql.now (bound c.args.params.now) (state g.S.Store c.args.conn.now) c.rows.rows.conn.now was.0 was.1 was.2 (was.3 none)
 
+pub returns-in_err-row-clause-read : goal.returns-in_err-row-clause-read
+returns-in_err-row-clause-read g c clean =
+    let old = state g.S.Store c.args.conn.now in
+    let mid = state g.S.Store c.rows.rows.conn.now in
+    let moved = c.next.follows.holds-at-none in
+    let now = c.next.follows.lender-at-none.conn.now in
+    let late : HasCleanDisk (state g.S.Store now) = search rules in
+    let was = c.rows.invariant.given (omega (arith, late, moved.survives.clean)) in
+    let it : ReadsRows old (state g.S.Store now) c.from_residual-in_err-row.result =
+    read_stopped old mid (state g.S.Store now) c.in_err-row.field-0.0 c.from_residual-in_err-row.result c.from_residual-in_err-row.ensures.0 was.2 (rw c.in_err-row.was at (moved.kept late)) in
+    let end : now ≡ c.conn-in_err-row-1.given.0 = search rules in
+    subst (λ k. ReadsRows old (state g.S.Store k) c.from_residual-in_err-row.result) end it
+
 pub returns-in_default-clause-whole : goal.returns-in_default-clause-whole
 returns-in_default-clause-whole g c clean none =
     let moved = c.next.follows.holds-at-none in
@@ -75,6 +90,15 @@ returns-clause-some g c clean none =
     let late : HasCleanDisk (state g.S.Store c.rows.rows.conn.now) = search rules in
     let was = c.rows.invariant.given late in
     took_some g.S.Store (g.V.Visit.took c.args.visitor.now) c.rows.visitor c.args.sql.now (bound c.args.params.now) (state g.S.Store c.args.conn.now) c.rows.rows.conn.now was.0 was.1 was.2 (was.3 none)
+
+pub returns-clause-read : goal.returns-clause-read
+returns-clause-read g c clean =
+    let old = state g.S.Store c.args.conn.now in
+    let late : HasCleanDisk (state g.S.Store c.rows.rows.conn.now) = search rules in
+    let was = c.rows.invariant.given late in
+    let it = read_left {A = Bool} old (state g.S.Store c.rows.rows.conn.now) (Err (SqliteFailure TooBig)) refl was.2 in
+    let end : c.rows.rows.conn.now ≡ c.conn-2-1.given.0 = search rules in
+    subst (λ k. ReadsRows {A = Bool} old (state g.S.Store k) (Err (SqliteFailure TooBig))) end it
 
 pub rows-preserved : goal.rows-preserved
 rows-preserved g c =

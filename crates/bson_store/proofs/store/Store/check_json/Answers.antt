@@ -6,7 +6,8 @@ use Rattle.store_documents.specs.Names.{name_bytes}
 use Rattle.store_model.specs.State.{IsName}
 use Rattle.bson_store.specs.Calls.{store_state}
 use Rattle.bson_store.specs.Dump.{ChecksTrees}
-use Rattle.bson_store.specs.Refusals.{kind_of_fault, refusal}
+use Rattle.bson_store.specs.Refusals.{kind_of_fault}
+use Rattle.store_model.specs.Refusal.{refusal}
 use Rattle.bson_store.specs.declared.checking.Checker.{Checker}
 use Rattle.bson_store.proofs.Moving.{moved}
 use Rattle.bson_store.proofs.Passing.{Passed, checked, stopped_at, unchecked, unnamed}
@@ -42,7 +43,7 @@ returns-in-Err-clause-moves g c =
     let first : Checker = record { alloc = c.args.self.now.alloc; place = 0; refusal = None } in
     let last = c.visit_bodies-visited.new.visitor in
     let n = name_bytes c.in_ok-name.name in
-    rw c.from.ensures
+    rw c.fault_refusal.ensures
     (moved (store_state g.S.Store c.args.self.now) (table_state g.S.Store c.visit_bodies-visited.new.self) (Visits Passed first last n (Err c.in-Err.fault)) (ChecksTrees c.args.name.now (Err (refusal (kind_of_fault c.in-Err.fault))))
     (rw c.as_str.ensures.text at c.in-Err.ensures.moves)
     (λ docs after h. subst (λ m. ChecksTrees m (Err (refusal (kind_of_fault c.in-Err.fault))) docs after) c.in_ok-name.ensures.0

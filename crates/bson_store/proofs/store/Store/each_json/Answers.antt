@@ -5,7 +5,8 @@ use Rattle.store_documents.specs.Names.{name_bytes}
 use Rattle.store_model.specs.State.{IsName}
 use Rattle.bson_store.specs.Calls.{store_state}
 use Rattle.bson_store.specs.Dump.{HandsTrees}
-use Rattle.bson_store.specs.Refusals.{kind_of_fault, refusal}
+use Rattle.bson_store.specs.Refusals.{kind_of_fault}
+use Rattle.store_model.specs.Refusal.{refusal}
 use Rattle.bson_store.specs.declared.dump.JsonVisitor.{JsonVisitor}
 use Rattle.bson_store.proofs.Moving.{moved}
 use Rattle.bson_store.proofs.Dumping.{Took, handed, stopped_at, unhanded}
@@ -42,7 +43,7 @@ returns-in-Err-visited-clause-moves g c start =
     let first : JsonVisitor g.row.T.Denot = record { taker = c.args.taker; alloc = c.args.self.now.alloc; place = 0; refusal = None } in
     let last = c.visit_bodies-visited.new.visitor in
     let n = name_bytes c.in-Ok.name in
-    rw c.from.ensures
+    rw c.fault_refusal.ensures
     (moved (store_state g.S.Store c.args.self.now) (table_state g.S.Store c.visit_bodies-visited.new.self) (Visits (Took took refused_by first) first last n (Err c.in-Err-visited.fault)) (HandsTrees (took c.args.taker) (refused_by c.args.taker) c.args.name.now (Err (refusal (kind_of_fault c.in-Err-visited.fault), last.taker)))
     (rw c.as_str.ensures.text at c.in-Err-visited.ensures.moves)
     (λ docs after h. subst (λ m. HandsTrees (took c.args.taker) (refused_by c.args.taker) m (Err (refusal (kind_of_fault c.in-Err-visited.fault), last.taker)) docs after) c.in-Ok.ensures.0

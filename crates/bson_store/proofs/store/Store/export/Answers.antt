@@ -4,7 +4,7 @@ use Rattle.bson_base.specs.Device.{Tally}
 use Rattle.store_model.specs.declared.error.ErrorKind.TheVariants as kind
 use Rattle.bson_store.specs.Calls.{store_state}
 use Rattle.bson_store.specs.Export.{SendsCollection}
-use Rattle.bson_store.specs.Refusals.{refusal}
+use Rattle.store_model.specs.Refusal.{refusal}
 use Rattle.bson_store.specs.declared.export.ExportVisitor.{ExportVisitor}
 use Rattle.store_table.specs.Table.{table_state}
 use Rattle.bson_store.proofs.Moving.{rests, moved}
@@ -25,18 +25,17 @@ returns-then-sender-clause-moves g c =
     (moved (store_state g.S.Store c.args.self.now) (table_state g.S.Store c.visit_bodies-sent.new.self) _ _ (rw c.as_str.ensures.text at c.visit_bodies-sent.ensures.moves)
     (λ docs after h. writer_failed tally (λ v. v.failed) (λ v. v.writer.ghost_name) _ _ _ (λ e. ap of_writer (search rules)) docs after c.args.name.now _ c.in_ok-name.ensures.1 refl c.if-sender.true (rw c.in_ok-name.ensures.0 at h)))
 
-pub returns-in_err-sent-clause-moves : goal.returns-in_err-sent-clause-moves
-returns-in_err-sent-clause-moves g c =
-    let p = err_from_is_err_and c.from_residual-in_err-sent.result c.from_residual-in_err-sent.ensures.1 in
+pub returns-in-Err-clause-moves : goal.returns-in-Err-clause-moves
+returns-in-Err-clause-moves g c =
     let of_writer : g.row.W.Denot → Tally = λ w. g.W.Sink.tally w in
     let tally : ExportVisitor g.row.W.Denot g.W.Sink → Tally = λ v. of_writer v.writer.now in
-    rw (p.1, p.2)
-    (moved (store_state g.S.Store c.args.self.now) (table_state g.S.Store c.visit_bodies-sent.new.self) _ _ (rw c.as_str.ensures.text at c.in_err-sent.ensures.moves)
-    (λ docs after h. table_failed tally (λ v. v.failed) (λ v. v.writer.ghost_name) _ _ _ (λ e. ap of_writer (search rules)) docs after c.args.name.now c.in_err-sent.field-0.0 c.in_ok-name.ensures.1 refl c.if-sender.false (rw c.in_ok-name.ensures.0 at h)))
+    rw c.fault_refusal.ensures
+    (moved (store_state g.S.Store c.args.self.now) (table_state g.S.Store c.visit_bodies-sent.new.self) _ _ (rw c.as_str.ensures.text at c.in-Err.ensures.moves)
+    (λ docs after h. table_failed tally (λ v. v.failed) (λ v. v.writer.ghost_name) _ _ _ (λ e. ap of_writer (search rules)) docs after c.args.name.now c.in-Err.fault c.in_ok-name.ensures.1 refl c.if-sender.false (rw c.in_ok-name.ensures.0 at h)))
 
-pub returns-clause-moves : goal.returns-clause-moves
-returns-clause-moves g c =
+pub returns-in-Ok-clause-moves : goal.returns-in-Ok-clause-moves
+returns-in-Ok-clause-moves g c =
     let of_writer : g.row.W.Denot → Tally = λ w. g.W.Sink.tally w in
     let tally : ExportVisitor g.row.W.Denot g.W.Sink → Tally = λ v. of_writer v.writer.now in
-    moved (store_state g.S.Store c.args.self.now) (table_state g.S.Store c.visit_bodies-sent.new.self) _ _ (rw c.as_str.ensures.text at c.in_ok-sent.ensures.moves)
-    (λ docs after h. all_sent tally (λ v. v.failed) (λ v. v.writer.ghost_name) _ _ _ (λ e. ap of_writer (search rules)) docs after c.args.name.now c.in_ok-sent.field-0 c.in_ok-name.ensures.1 refl c.if-sender.false c.in_ok-sent.ensures.stopped (rw c.in_ok-name.ensures.0 at h))
+    moved (store_state g.S.Store c.args.self.now) (table_state g.S.Store c.visit_bodies-sent.new.self) _ _ (rw c.as_str.ensures.text at c.in-Ok.ensures.moves)
+    (λ docs after h. all_sent tally (λ v. v.failed) (λ v. v.writer.ghost_name) _ _ _ (λ e. ap of_writer (search rules)) docs after c.args.name.now c.in-Ok.field-0 c.in_ok-name.ensures.1 refl c.if-sender.false c.in-Ok.ensures.stopped (rw c.in_ok-name.ensures.0 at h))

@@ -4,10 +4,10 @@ use Rattle.store_documents.specs.Names.{name_bytes}
 use Rattle.store_model.specs.declared.error.ErrorKind.TheVariants as kind
 use Rattle.store_model.specs.Reading.{ReadsStream}
 use Rattle.bson_base.specs.Device.{Feed}
-use Rattle.store_streams.specs.Judging.{Judges}
+use Rattle.store_documents.specs.Judging.{Judges}
 use Rattle.bson_store.specs.Calls.{store_state}
 use Rattle.bson_store.specs.Many.{AddsAll, Imports}
-use Rattle.bson_store.specs.Refusals.{kind_of_reading, refusal, refusal_of_stream}
+use Rattle.store_model.specs.Refusal.{kind_of_reading, refusal}
 use Rattle.bson_store.proofs.Importing.{import_unnamed, import_unread, import_refused, import_added}
 use Rattle.bson_store.proofs.Leaving.{fed_leave}
 use Rattle.bson_store.proofs.Moving.{rests, moved}
@@ -38,7 +38,7 @@ returns-in_err-rows-clause-moves g c =
     let new : Feed = g.R.Source.feed c.read_all.new.source in
     let p = err_from_is_err_and c.from_residual-in_err-rows.result c.from_residual-in_err-rows.ensures.1 in
     rw (p.1, p.2)
-    (rests (store_state g.S.Store c.args.self.now) (Imports n old new (Err (refusal_of_stream x)))
+    (rests (store_state g.S.Store c.args.self.now) (Imports n old new (Err x))
     (λ docs. import_refused docs n bytes old new x c.in_ok-name.ensures.1 (rw c.as_slice-stream.ensures.value at c.judged.ensures.range) c.in_ok-bytes.ensures.ok (subst (λ b. Judges (ReadsStream b) (Err x)) c.as_slice-stream.ensures.value c.in_err-rows.ensures.rows)))
 
 pub returns-clause-moves : goal.returns-clause-moves

@@ -5,31 +5,31 @@ use Rattle.store_table.specs.Table.{table_state}
 use Rattle.store_model.specs.declared.error.ErrorKind.TheVariants as kind
 use Rattle.bson_store.specs.Calls.{store_state}
 use Rattle.bson_store.specs.Many.{Meets}
-use Rattle.bson_store.specs.Refusals.{refusal, kind_of_fault}
+use Rattle.bson_store.specs.Refusals.{kind_of_fault}
+use Rattle.store_model.specs.Refusal.{refusal}
 use Rattle.bson_store.proofs.Keyed.{meets_unfound, meets_found, meets_memory, meets_new}
 use Rattle.bson_store.proofs.Moving.{moved}
 use Rattle.bson_store.proofs.store.Store.is_taken.Goals as goal
 
-pub returns-in_err-found-clause-moves : goal.returns-in_err-found-clause-moves
-returns-in_err-found-clause-moves g c =
-    let p = err_from_is_err_and c.from_residual.result c.from_residual.ensures.1 in
-    rw (p.1, p.2)
-    (moved (store_state g.S.Store c.args.self.now) (table_state g.S.Store c.place_of.new.self) (FindsPlace c.args.collection.now c.args.key.now (Err c.in_err-found.field-0.0)) (Meets c.args.collection.now c.args.key.now c.args.met.now (Err (refusal (kind_of_fault c.in_err-found.field-0.0)))) c.in_err-found.ensures.moves
-    (λ docs after h. meets_unfound c.args.collection.now c.args.key.now c.args.met.now c.in_err-found.field-0.0 docs after h))
+pub returns-in-Err-clause-moves : goal.returns-in-Err-clause-moves
+returns-in-Err-clause-moves g c =
+    rw c.fault_refusal.ensures
+    (moved (store_state g.S.Store c.args.self.now) (table_state g.S.Store c.place_of.new.self) (FindsPlace c.args.collection.now c.args.key.now (Err c.in-Err.fault)) (Meets c.args.collection.now c.args.key.now c.args.met.now (Err (refusal (kind_of_fault c.in-Err.fault)))) c.in-Err.ensures.moves
+    (λ docs after h. meets_unfound c.args.collection.now c.args.key.now c.args.met.now c.in-Err.fault docs after h))
 
 pub returns-in-Some-clause-moves : goal.returns-in-Some-clause-moves
 returns-in-Some-clause-moves g c =
-    moved (store_state g.S.Store c.args.self.now) (table_state g.S.Store c.place_of.new.self) (FindsPlace c.args.collection.now c.args.key.now (Ok c.in_ok-found.found)) (Meets c.args.collection.now c.args.key.now c.args.met.now (Ok true)) c.in_ok-found.ensures.moves
-    (λ docs after h. meets_found c.args.collection.now c.args.key.now c.args.met.now c.in_ok-found.found c.in-Some.field-0 docs after c.in-Some.is h)
+    moved (store_state g.S.Store c.args.self.now) (table_state g.S.Store c.place_of.new.self) (FindsPlace c.args.collection.now c.args.key.now (Ok c.in-Ok.found)) (Meets c.args.collection.now c.args.key.now c.args.met.now (Ok true)) c.in-Ok.ensures.moves
+    (λ docs after h. meets_found c.args.collection.now c.args.key.now c.args.met.now c.in-Ok.found c.in-Some.field-0 docs after c.in-Some.is h)
 
 pub returns-in_err-is_new-clause-moves : goal.returns-in_err-is_new-clause-moves
 returns-in_err-is_new-clause-moves g c =
-    let p = err_from_is_err_and c.from_residual-in_err-is_new.result c.from_residual-in_err-is_new.ensures.1 in
+    let p = err_from_is_err_and c.from_residual.result c.from_residual.ensures.1 in
     rw (p.1, p.2)
-    (moved (store_state g.S.Store c.args.self.now) (table_state g.S.Store c.place_of.new.self) (FindsPlace c.args.collection.now c.args.key.now (Ok c.in_ok-found.found)) (Meets c.args.collection.now c.args.key.now c.args.met.now (Err (refusal kind.Memory))) c.in_ok-found.ensures.moves
-    (λ docs after h. meets_memory c.args.collection.now c.args.key.now c.args.met.now c.in_ok-found.found docs after h))
+    (moved (store_state g.S.Store c.args.self.now) (table_state g.S.Store c.place_of.new.self) (FindsPlace c.args.collection.now c.args.key.now (Ok c.in-Ok.found)) (Meets c.args.collection.now c.args.key.now c.args.met.now (Err (refusal kind.Memory))) c.in-Ok.ensures.moves
+    (λ docs after h. meets_memory c.args.collection.now c.args.key.now c.args.met.now c.in-Ok.found docs after h))
 
 pub returns-clause-moves : goal.returns-clause-moves
 returns-clause-moves g c =
-    moved (store_state g.S.Store c.args.self.now) (table_state g.S.Store c.place_of.new.self) (FindsPlace c.args.collection.now c.args.key.now (Ok c.in_ok-found.found)) (Meets c.args.collection.now c.args.key.now c.args.met.now (Ok (not c.in_ok-is_new.is_new))) c.in_ok-found.ensures.moves
-    (λ docs after h. meets_new c.args.collection.now c.args.key.now c.args.met.now c.in_ok-found.found c.in_ok-is_new.is_new docs after c.in_default.is c.in_ok-is_new.ensures.new h)
+    moved (store_state g.S.Store c.args.self.now) (table_state g.S.Store c.place_of.new.self) (FindsPlace c.args.collection.now c.args.key.now (Ok c.in-Ok.found)) (Meets c.args.collection.now c.args.key.now c.args.met.now (Ok (not c.in_ok-is_new.is_new))) c.in-Ok.ensures.moves
+    (λ docs after h. meets_new c.args.collection.now c.args.key.now c.args.met.now c.in-Ok.found c.in_ok-is_new.is_new docs after c.in_default.is c.in_ok-is_new.ensures.new h)

@@ -7,11 +7,11 @@ use Rattle.store_model.specs.State.{refused}
 use Rattle.store_model.specs.declared.error.ErrorKind.TheVariants as kind
 use Rattle.bson_store.specs.Calls.{store_state}
 use Rattle.bson_store.specs.Many.{AddsAll, DoesMany}
-use Rattle.bson_store.specs.Refusals.{as_number, refusal_of_stream, reply_by}
+use Rattle.bson_store.specs.Refusals.{as_number, reply_by}
 use Rattle.bson_store.proofs.Importing.{many_added, many_bad_name, many_refused}
 use Rattle.bson_store.proofs.Leaving.{many_leave}
 use Rattle.store_model.proofs.OneMany.{trees_alike}
-use Rattle.store_streams.proofs.Streams.{any_trees}
+use Rattle.store_documents.proofs.Streams.{any_trees}
 use Rattle.bson_store.proofs.Moving.{rests, moved}
 use Rattle.bson_store.proofs.store.Store.load_json.Goals as goal
 
@@ -28,7 +28,7 @@ returns-in_err-rows-clause-moves g c =
     let x = c.in_err-rows.field-0.0 in
     let Reads = ReadsTrees (map data_of c.args.trees.items) in
     let p = err_from_is_err_and c.from_residual-in_err-rows.result c.from_residual-in_err-rows.ensures.1 in
-    rw (p.1, p.2) (rests (store_state g.S.Store c.args.self.now) (DoesMany n Reads (reply_by as_number (Err (refusal_of_stream x)))) (λ docs. many_refused docs n Reads x c.in_ok-name.ensures.1 c.in_err-rows.ensures))
+    rw (p.1, p.2) (rests (store_state g.S.Store c.args.self.now) (DoesMany n Reads (reply_by as_number (Err x))) (λ docs. many_refused docs n Reads x c.in_ok-name.ensures.1 c.in_err-rows.ensures))
 
 pub returns-clause-moves : goal.returns-clause-moves
 returns-clause-moves g c =

@@ -2,7 +2,8 @@ use Rattle.std.proofs.Common.{ap, ◌∙◌}
 use Rattle.sqlite.specs.Held.{state}
 use Rattle.store_table.specs.Table.{connection_of as table_connection, table_state}
 use Rattle.store_table.specs.declared.opening.OpenError.{OpenError}
-use Rattle.bson_store.specs.Refusals.{kind_of_opening, refusal}
+use Rattle.bson_store.specs.Refusals.{kind_of_opening}
+use Rattle.store_model.specs.Refusal.{refusal}
 use Rattle.bson_store.proofs.Again.{keeps_found, keeps_refused, keeps_refused_old}
 use Rattle.bson_store.proofs.Opening.{opened}
 use Rattle.bson_store.proofs.store.Store.open.Goals as goal
@@ -18,7 +19,7 @@ returns-in-Ok-clause-finds g c x finds clean =
 pub returns-in-Err-clause-taken : goal.returns-in-Err-clause-taken
 returns-in-Err-clause-taken g c auto none taken =
     let it = c.in-Err.ensures.taken auto none taken in
-    (c.from.ensures ∙ ap (λ (x : OpenError). refusal (kind_of_opening x)) it.0, it.1)
+    (c.opening_refusal.ensures ∙ ap (λ (x : OpenError). refusal (kind_of_opening x)) it.0, it.1)
 
 pub returns-in-Err-clause-leaves : goal.returns-in-Err-clause-leaves
 returns-in-Err-clause-leaves g c x finds clean =

@@ -1,28 +1,27 @@
 use Rattle.std.proofs.Common.{Ok, Err, None, refl}
-use Rattle.std.proofs.lemmas.Result.{err_from_is_err_and}
 use Rattle.store_filter.specs.Filters.{filter_of}
 use Rattle.store_table.specs.Moves.{Visits}
 use Rattle.store_table.specs.Table.{table_state}
 use Rattle.store_documents.specs.Names.{name_bytes}
 use Rattle.bson_store.specs.Calls.{store_state}
 use Rattle.bson_store.specs.Questions.{Picked}
-use Rattle.bson_store.specs.Refusals.{kind_of_fault, refusal}
+use Rattle.bson_store.specs.Refusals.{kind_of_fault}
+use Rattle.store_model.specs.Refusal.{refusal}
 use Rattle.bson_store.specs.declared.picking.FilterVisitor.{FilterVisitor}
 use Rattle.bson_store.proofs.Moving.{moved}
 use Rattle.bson_store.proofs.Selecting.{Took, taken, refused_one, untaken}
 use Rattle.bson_store.proofs.store.Store.pick.Goals as goal
 
-pub returns-in_err-visit_bodies-clause-moves : goal.returns-in_err-visit_bodies-clause-moves
-returns-in_err-visit_bodies-clause-moves g c =
-    let p = err_from_is_err_and c.from_residual.result c.from_residual.ensures.1 in
+pub returns-in-Err-clause-moves : goal.returns-in-Err-clause-moves
+returns-in-Err-clause-moves g c =
     let took = g.T.Take.took in
     let first : FilterVisitor g.row.T.Denot = record { filter = c.args.filter; taker = c.args.taker; fault = None } in
     let last = c.visit_bodies.new.visitor in
     let n = name_bytes c.args.name in
-    let x = c.in_err-visit_bodies.field-0.0 in
-    rw (p.1, p.2)
+    let x = c.in-Err.fault in
+    rw c.fault_refusal.ensures
     (moved (store_state g.S.Store c.args.self.now) (table_state g.S.Store c.visit_bodies.new.self) (Visits (Took took first) first last n (Err x)) (Picked (took c.args.taker) n (filter_of c.args.filter.now) (Err (refusal (kind_of_fault x))))
-    (rw c.as_str.ensures.text at c.in_err-visit_bodies.ensures.moves)
+    (rw c.as_str.ensures.text at c.in-Err.ensures.moves)
     (λ docs after h. untaken took first last n docs after c.requires refl x h))
 
 pub returns-in-None-clause-moves : goal.returns-in-None-clause-moves
@@ -31,10 +30,10 @@ returns-in-None-clause-moves g c =
     let first : FilterVisitor g.row.T.Denot = record { filter = c.args.filter; taker = c.args.taker; fault = None } in
     let last = c.visit_bodies.new.visitor in
     let n = name_bytes c.args.name in
-    let all = c.in_ok-visit_bodies.field-0 in
+    let all = c.in-Ok.field-0 in
     moved (store_state g.S.Store c.args.self.now) (table_state g.S.Store c.visit_bodies.new.self) (Visits (Took took first) first last n (Ok all)) (Picked (took c.args.taker) n (filter_of c.args.filter.now) (Ok last.taker))
-    (rw c.as_str.ensures.text at c.in_ok-visit_bodies.ensures.moves)
-    (λ docs after h. taken took first last n docs after c.requires refl all c.in-None.is c.in_ok-visit_bodies.ensures.stopped h)
+    (rw c.as_str.ensures.text at c.in-Ok.ensures.moves)
+    (λ docs after h. taken took first last n docs after c.requires refl all c.in-None.is c.in-Ok.ensures.stopped h)
 
 pub returns-in-Some-clause-moves : goal.returns-in-Some-clause-moves
 returns-in-Some-clause-moves g c =
@@ -42,7 +41,7 @@ returns-in-Some-clause-moves g c =
     let first : FilterVisitor g.row.T.Denot = record { filter = c.args.filter; taker = c.args.taker; fault = None } in
     let last = c.visit_bodies.new.visitor in
     let n = name_bytes c.args.name in
-    let all = c.in_ok-visit_bodies.field-0 in
+    let all = c.in-Ok.field-0 in
     moved (store_state g.S.Store c.args.self.now) (table_state g.S.Store c.visit_bodies.new.self) (Visits (Took took first) first last n (Ok all)) (Picked (took c.args.taker) n (filter_of c.args.filter.now) (Err c.in-Some.error))
-    (rw c.as_str.ensures.text at c.in_ok-visit_bodies.ensures.moves)
+    (rw c.as_str.ensures.text at c.in-Ok.ensures.moves)
     (λ docs after h. refused_one took first last n docs after c.requires refl all c.in-Some.error c.in-Some.is h)

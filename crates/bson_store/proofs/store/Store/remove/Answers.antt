@@ -20,22 +20,21 @@ pub returns-in_default-clause-moves : goal.returns-in_default-clause-moves
 returns-in_default-clause-moves g c =
     rw c.from.ensures (none_moves (store_state g.S.Store c.args.self.now) (store_state g.S.Store c.row_of.new.self) c.args.name.now (name_bytes c.in_ok-name.name) (view c.args.id.now) c.in_ok-found.field-0 (model.remove (view c.args.id.now)) c.in_ok-name.ensures.0 c.in_default.is c.in_ok-name.ensures.1 (λ a none. inr (none, (refl, refl))) c.in_ok-found.ensures.moves)
 
-pub returns-in_err-remove_at-clause-moves : goal.returns-in_err-remove_at-clause-moves
-returns-in_err-remove_at-clause-moves g c =
-    let p = err_from_is_err_and c.from_residual-in_err-remove_at.result c.from_residual-in_err-remove_at.ensures.1 in
-    rw (p.1, p.2) (unchanged_moves (store_state g.S.Store c.args.self.now) (store_state g.S.Store c.row_of.new.self) (table_state g.S.Store c.remove_at.new.self) c.args.name.now (name_bytes c.in_ok-name.name) (view c.args.id.now) c.in_ok-found.field-0 c.in-Some.found (model.remove (view c.args.id.now)) (without_place c.in-Some.found.place) c.in_err-remove_at.field-0.0 c.in_ok-name.ensures.0 c.in-Some.is c.in_ok-name.ensures.1 (λ x. x) c.in_ok-found.ensures.moves c.in_err-remove_at.ensures.moves)
-
 pub returns-clause-moves : goal.returns-clause-moves
 returns-clause-moves g c =
-    removed_moves (store_state g.S.Store c.args.self.now) (store_state g.S.Store c.row_of.new.self) (table_state g.S.Store c.remove_at.new.self) c.args.name.now (name_bytes c.in_ok-name.name) (view c.args.id.now) c.in_ok-found.field-0 c.in-Some.found c.in_ok-name.ensures.0 c.in-Some.is c.in_ok-name.ensures.1 c.in_ok-found.ensures.moves c.in_ok-remove_at.ensures.moves
+    rw c.fault_refusal.ensures (unchanged_moves (store_state g.S.Store c.args.self.now) (store_state g.S.Store c.row_of.new.self) (table_state g.S.Store c.remove_at.new.self) c.args.name.now (name_bytes c.in_ok-name.name) (view c.args.id.now) c.in_ok-found.field-0 c.in-Some.found (model.remove (view c.args.id.now)) (without_place c.in-Some.found.place) c.in-Err.fault c.in_ok-name.ensures.0 c.in-Some.is c.in_ok-name.ensures.1 (λ x. x) c.in_ok-found.ensures.moves c.in-Err.ensures.moves)
+
+pub returns-in-Ok-clause-moves : goal.returns-in-Ok-clause-moves
+returns-in-Ok-clause-moves g c =
+    removed_moves (store_state g.S.Store c.args.self.now) (store_state g.S.Store c.row_of.new.self) (table_state g.S.Store c.remove_at.new.self) c.args.name.now (name_bytes c.in_ok-name.name) (view c.args.id.now) c.in_ok-found.field-0 c.in-Some.found c.in_ok-name.ensures.0 c.in-Some.is c.in_ok-name.ensures.1 c.in_ok-found.ensures.moves c.in-Ok.ensures.moves
 
 pub returns-in_err-found-clause-moves : goal.returns-in_err-found-clause-moves
 returns-in_err-found-clause-moves g c =
     let p = err_from_is_err_and c.from_residual-in_err-found.result c.from_residual-in_err-found.ensures.1 in
     rw (p.1, p.2) (unlooked_moves (store_state g.S.Store c.args.self.now) (store_state g.S.Store c.row_of.new.self) c.args.name.now (name_bytes c.in_ok-name.name) (view c.args.id.now) (model.remove (view c.args.id.now)) c.in_err-found.field-0.0 c.in_ok-name.ensures.0 c.in_ok-name.ensures.1 (λ x. x) c.in_err-found.ensures.moves)
 
-pub returns-in_err-remove_at-clause-crash : goal.returns-in_err-remove_at-clause-crash
-returns-in_err-remove_at-clause-crash g c =
+pub returns-clause-crash : goal.returns-clause-crash
+returns-clause-crash g c =
     let s = store_state g.S.Store c.args.self.now in
     let m = store_state g.S.Store c.row_of.new.self in
     let t = table_state g.S.Store c.remove_at.new.self in
@@ -43,21 +42,20 @@ returns-in_err-remove_at-clause-crash g c =
     let nb = name_bytes c.in_ok-name.name in
     let id = view c.args.id.now in
     let x = c.in-Some.found in
-    let p = err_from_is_err_and c.from_residual-in_err-remove_at.result c.from_residual-in_err-remove_at.ensures.1 in
-    rw (p.1, p.2)
+    rw c.fault_refusal.ensures
     (changed_leaves s m t (model.on n (model.remove id)) (without_place x.place) (Looks nb id (Ok c.in_ok-found.field-0)) c.in_ok-found.ensures.moves (λ docs after h. h.same) c.in_ok-found.ensures.crash
-    (λ docs after h. id_removes docs after n nb id c.in_ok-found.field-0 x c.in_ok-name.ensures.1 c.in_ok-name.ensures.0 c.in-Some.is h) c.in_err-remove_at.field-0.0 c.in_err-remove_at.ensures.crash c.in_err-remove_at.ensures.moves)
+    (λ docs after h. id_removes docs after n nb id c.in_ok-found.field-0 x c.in_ok-name.ensures.1 c.in_ok-name.ensures.0 c.in-Some.is h) c.in-Err.fault c.in-Err.ensures.crash c.in-Err.ensures.moves)
 
-pub returns-clause-crash : goal.returns-clause-crash
-returns-clause-crash g c =
+pub returns-in-Ok-clause-crash : goal.returns-in-Ok-clause-crash
+returns-in-Ok-clause-crash g c =
     let s = store_state g.S.Store c.args.self.now in
     let t = table_state g.S.Store c.remove_at.new.self in
     accepted_leaves s t (model.on c.args.name.now (model.remove (view c.args.id.now))) model.done (λ e. e)
-    (λ clean docs stands. let y = (c.in_ok-found.ensures.moves (omega (arith, clean, c.remove_at.ensures.crash.clean))).1 docs stands in (c.in_ok-remove_at.ensures.open clean y.0 y.1).1)
-    (λ db up may. g.met.S.Store.settled (table_connection c.remove_at.new.self).store db up may) (returns-clause-moves g c)
+    (λ clean docs stands. let y = (c.in_ok-found.ensures.moves (omega (arith, clean, c.remove_at.ensures.crash.clean))).1 docs stands in (c.in-Ok.ensures.open clean y.0 y.1).1)
+    (λ db up may. g.met.S.Store.settled (table_connection c.remove_at.new.self).store db up may) (returns-in-Ok-clause-moves g c)
 
-pub returns-clause-open : goal.returns-clause-open
-returns-clause-open g c clean docs stands =
+pub returns-in-Ok-clause-open : goal.returns-in-Ok-clause-open
+returns-in-Ok-clause-open g c clean docs stands =
     let early : HasCleanDisk (store_state g.S.Store c.row_of.new.self) = omega (arith, clean, c.remove_at.ensures.crash.clean) in
     let y = (c.in_ok-found.ensures.moves early).1 docs stands in
-    ((c.in_ok-found.ensures.open early docs stands (rw c.in-Some.is refl)).0, (c.in_ok-remove_at.ensures.open clean y.0 y.1).1)
+    ((c.in_ok-found.ensures.open early docs stands (rw c.in-Some.is refl)).0, (c.in-Ok.ensures.open clean y.0 y.1).1)

@@ -1,4 +1,3 @@
-use Rattle.std.proofs.lemmas.Result.{err_from_is_err_and}
 use Rattle.std.specs.Cow.{cow_slice_items}
 use Rattle.std.proofs.Common.{Ok, arith}
 use Rattle.store_table.specs.Rows.{with_body_at}
@@ -15,51 +14,48 @@ use Rattle.bson_store.proofs.Exits.{unfound_replace, none_replace, place_moves, 
 use Rattle.bson_store.proofs.store.Store.replace_row.Goals as goal
 use Rattle.sqlite.specs.State.{HasCleanDisk}
 
-pub returns-in_err-found-clause-moves : goal.returns-in_err-found-clause-moves
-returns-in_err-found-clause-moves g c d read told =
-    let p = err_from_is_err_and c.from_residual.result c.from_residual.ensures.1 in
-    rw (p.1, p.2) (unfound_replace (store_state g.S.Store c.args.self.now) (table_state g.S.Store c.named.new.self) (name_bytes c.args.name) d c.args.row.now c.in_err-found.field-0.0 (rw c.as_str-collection.ensures.text at c.as_str-collection.ensures.named) read told (rw (c.as_str-collection.ensures.text, c.as_slice-key.ensures.value) at c.in_err-found.ensures.moves))
+pub returns-in-Err-clause-moves : goal.returns-in-Err-clause-moves
+returns-in-Err-clause-moves g c d read told =
+    rw c.fault_refusal.ensures (unfound_replace (store_state g.S.Store c.args.self.now) (table_state g.S.Store c.named.new.self) (name_bytes c.args.name) d c.args.row.now c.in-Err.fault (rw c.as_str-collection.ensures.text at c.as_str-collection.ensures.named) read told (rw (c.as_str-collection.ensures.text, c.as_slice-key.ensures.value) at c.in-Err.ensures.moves))
 
 pub returns-in_default-clause-moves : goal.returns-in_default-clause-moves
 returns-in_default-clause-moves g c d read told =
-    rw c.from.ensures (none_replace (store_state g.S.Store c.args.self.now) (table_state g.S.Store c.named.new.self) (name_bytes c.args.name) d c.args.row.now c.in_ok-found.field-0 (rw c.as_str-collection.ensures.text at c.as_str-collection.ensures.named) read told c.in_default.is (rw (c.as_str-collection.ensures.text, c.as_slice-key.ensures.value) at c.in_ok-found.ensures.moves))
-
-pub returns-in_err-put_back-clause-moves : goal.returns-in_err-put_back-clause-moves
-returns-in_err-put_back-clause-moves g c d read told =
-    let p = err_from_is_err_and c.from_residual-in_err-put_back.result c.from_residual-in_err-put_back.ensures.1 in
-    rw (p.1, p.2) (not_place_moves (store_state g.S.Store c.args.self.now) (table_state g.S.Store c.named.new.self) (store_state g.S.Store c.put_back.new.self) (name_bytes c.args.name) d c.args.row.now c.in_ok-found.field-0 c.in-Some.found c.in_err-put_back.field-0.0 (rw c.as_str-collection.ensures.text at c.as_str-collection.ensures.named) read told c.in-Some.is (rw (c.as_str-collection.ensures.text, c.as_slice-key.ensures.value) at c.in_ok-found.ensures.moves) (rw c.as_slice-body.ensures.value at c.in_err-put_back.ensures.moves))
+    rw c.from.ensures (none_replace (store_state g.S.Store c.args.self.now) (table_state g.S.Store c.named.new.self) (name_bytes c.args.name) d c.args.row.now c.in-Ok.found (rw c.as_str-collection.ensures.text at c.as_str-collection.ensures.named) read told c.in_default.is (rw (c.as_str-collection.ensures.text, c.as_slice-key.ensures.value) at c.in-Ok.ensures.moves))
 
 pub returns-clause-moves : goal.returns-clause-moves
 returns-clause-moves g c d read told =
-    place_moves (store_state g.S.Store c.args.self.now) (table_state g.S.Store c.named.new.self) (store_state g.S.Store c.put_back.new.self) (name_bytes c.args.name) d c.args.row.now c.in_ok-found.field-0 c.in-Some.found (rw c.as_str-collection.ensures.text at c.as_str-collection.ensures.named) read told c.in-Some.is (rw (c.as_str-collection.ensures.text, c.as_slice-key.ensures.value) at c.in_ok-found.ensures.moves) (rw c.as_slice-body.ensures.value at c.in_ok-put_back.ensures.moves)
+    rw c.fault_refusal-in-Err-put_back.ensures (not_place_moves (store_state g.S.Store c.args.self.now) (table_state g.S.Store c.named.new.self) (store_state g.S.Store c.put_back.new.self) (name_bytes c.args.name) d c.args.row.now c.in-Ok.found c.in-Some.found c.in-Err-put_back.fault (rw c.as_str-collection.ensures.text at c.as_str-collection.ensures.named) read told c.in-Some.is (rw (c.as_str-collection.ensures.text, c.as_slice-key.ensures.value) at c.in-Ok.ensures.moves) (rw c.as_slice-body.ensures.value at c.in-Err-put_back.ensures.moves))
 
-pub returns-in_err-put_back-clause-crash : goal.returns-in_err-put_back-clause-crash
-returns-in_err-put_back-clause-crash g c d read told f =
+pub returns-in-Ok-put_back-clause-moves : goal.returns-in-Ok-put_back-clause-moves
+returns-in-Ok-put_back-clause-moves g c d read told =
+    place_moves (store_state g.S.Store c.args.self.now) (table_state g.S.Store c.named.new.self) (store_state g.S.Store c.put_back.new.self) (name_bytes c.args.name) d c.args.row.now c.in-Ok.found c.in-Some.found (rw c.as_str-collection.ensures.text at c.as_str-collection.ensures.named) read told c.in-Some.is (rw (c.as_str-collection.ensures.text, c.as_slice-key.ensures.value) at c.in-Ok.ensures.moves) (rw c.as_slice-body.ensures.value at c.in-Ok-put_back.ensures.moves)
+
+pub returns-clause-crash : goal.returns-clause-crash
+returns-clause-crash g c d read told f =
     let s = store_state g.S.Store c.args.self.now in
     let m = table_state g.S.Store c.named.new.self in
     let t = store_state g.S.Store c.put_back.new.self in
     let n = name_bytes c.args.name in
     let w = c.args.row.now in
     let x = c.in-Some.found in
-    let p = err_from_is_err_and c.from_residual-in_err-put_back.result c.from_residual-in_err-put_back.ensures.1 in
-    rw (p.1, p.2)
-    (changed_leaves s m t (on n (replace f (readable d))) (with_body_at x.place (cow_slice_items w.body)) (FindsRow n w.key.items (Ok c.in_ok-found.field-0)) (rw (c.as_str-collection.ensures.text, c.as_slice-key.ensures.value) at c.in_ok-found.ensures.moves)
-    (λ docs after h. h.same) c.in_ok-found.ensures.crash
-    (λ docs after h. row_replaces f docs after n w.key.items (cow_slice_items w.body) d c.in_ok-found.field-0 x (rw c.as_str-collection.ensures.text at c.as_str-collection.ensures.named) (written_fits d w read told) c.in-Some.is h)
-    c.in_err-put_back.field-0.0 (rw c.as_slice-body.ensures.value at c.in_err-put_back.ensures.crash) (rw c.as_slice-body.ensures.value at c.in_err-put_back.ensures.moves))
+    rw c.fault_refusal-in-Err-put_back.ensures
+    (changed_leaves s m t (on n (replace f (readable d))) (with_body_at x.place (cow_slice_items w.body)) (FindsRow n w.key.items (Ok c.in-Ok.found)) (rw (c.as_str-collection.ensures.text, c.as_slice-key.ensures.value) at c.in-Ok.ensures.moves)
+    (λ docs after h. h.same) c.in-Ok.ensures.crash
+    (λ docs after h. row_replaces f docs after n w.key.items (cow_slice_items w.body) d c.in-Ok.found x (rw c.as_str-collection.ensures.text at c.as_str-collection.ensures.named) (written_fits d w read told) c.in-Some.is h)
+    c.in-Err-put_back.fault (rw c.as_slice-body.ensures.value at c.in-Err-put_back.ensures.crash) (rw c.as_slice-body.ensures.value at c.in-Err-put_back.ensures.moves))
 
-pub returns-clause-crash : goal.returns-clause-crash
-returns-clause-crash g c d read told f =
+pub returns-in-Ok-put_back-clause-crash : goal.returns-in-Ok-put_back-clause-crash
+returns-in-Ok-put_back-clause-crash g c d read told f =
     let s = store_state g.S.Store c.args.self.now in
     let t = store_state g.S.Store c.put_back.new.self in
     let n = name_bytes c.args.name in
     accepted_leaves s t (on n (replace f (readable d))) done (λ e. e)
-    (λ clean docs stands. let y = (c.in_ok-found.ensures.moves (omega (arith, clean, c.put_back.ensures.crash.clean))).1 docs stands in (c.in_ok-put_back.ensures.open clean y.0 y.1).1)
+    (λ clean docs stands. let y = (c.in-Ok.ensures.moves (omega (arith, clean, c.put_back.ensures.crash.clean))).1 docs stands in (c.in-Ok-put_back.ensures.open clean y.0 y.1).1)
     (λ db up may. g.met.S.Store.settled (store_connection c.put_back.new.self).store db up may)
-    (moved s t (DoesRead n replace d done) (Does (on n (replace f (readable d))) done) (returns-clause-moves g c d read told) (λ docs after h. h f))
+    (moved s t (DoesRead n replace d done) (Does (on n (replace f (readable d))) done) (returns-in-Ok-put_back-clause-moves g c d read told) (λ docs after h. h f))
 
-pub returns-clause-open : goal.returns-clause-open
-returns-clause-open g c clean docs stands =
+pub returns-in-Ok-put_back-clause-open : goal.returns-in-Ok-put_back-clause-open
+returns-in-Ok-put_back-clause-open g c clean docs stands =
     let early : HasCleanDisk (table_state g.S.Store c.named.new.self) = omega (arith, clean, c.put_back.ensures.crash.clean) in
-    let y = (c.in_ok-found.ensures.moves early).1 docs stands in
-    ((c.in_ok-found.ensures.open early docs stands).0, (c.in_ok-put_back.ensures.open clean y.0 y.1).1)
+    let y = (c.in-Ok.ensures.moves early).1 docs stands in
+    ((c.in-Ok.ensures.open early docs stands).0, (c.in-Ok-put_back.ensures.open clean y.0 y.1).1)

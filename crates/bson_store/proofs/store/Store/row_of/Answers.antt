@@ -16,6 +16,6 @@ pub returns-in-Err-TooLong-clause-moves : goal.returns-in-Err-TooLong-clause-mov
 returns-in-Err-TooLong-clause-moves g c =
     rests (store_state g.S.Store c.args.self.now) (Looks (name_bytes c.args.name) (view c.args.id.now) (Ok None)) (λ docs. long_looks docs (name_bytes c.args.name) (view c.args.id.now) c.key_of_id.ensures.sound (c.in-Err-TooLong.ensures.too_long (ap Err c.in-Err-TooLong.field-0-is)))
 
-pub returns-clause-moves : goal.returns-clause-moves
-returns-clause-moves g c =
-    moved (store_state g.S.Store c.args.self.now) (table_state g.S.Store c.named.new.self) _ (Looks (name_bytes c.args.name) (view c.args.id.now) (Ok c.in_ok-found.found)) (rw (c.as_str-collection.ensures.text, c.as_slice-key.ensures.value) at c.in_ok-found.ensures.moves) (λ docs after h. found_looks docs after (name_bytes c.args.name) c.in-Ok.key.items (view c.args.id.now) c.in_ok-found.found c.in-Ok.ensures.ok h)
+pub returns-in-Ok-named-clause-moves : goal.returns-in-Ok-named-clause-moves
+returns-in-Ok-named-clause-moves g c =
+    moved (store_state g.S.Store c.args.self.now) (table_state g.S.Store c.named.new.self) _ (Looks (name_bytes c.args.name) (view c.args.id.now) (Ok c.in-Ok-named.found)) (rw (c.as_str-collection.ensures.text, c.as_slice-key.ensures.value) at c.in-Ok-named.ensures.moves) (λ docs after h. found_looks docs after (name_bytes c.args.name) c.in-Ok.key.items (view c.args.id.now) c.in-Ok-named.found c.in-Ok.ensures.ok h)

@@ -39,22 +39,21 @@ returns-in_err-body-clause-moves g c =
     let p = err_from_is_err_and c.from_residual-in_err-body.result c.from_residual-in_err-body.ensures.1 in
     rw (p.1, p.2, c.in_ok-value.ensures) (there_moves (store_state g.S.Store c.args.self.now) (store_state g.S.Store c.row_of.new.self) c.args.name.now (name_bytes c.in_ok-name.name) (view c.args.id.now) c.in_ok-found.field-0 c.in-Some.found (model.set (view c.args.id.now) c.args.key.now (Some (view c.in_ok-value.value))) (model.refused c.in_err-body.field-0.0 None) c.in_ok-name.ensures.0 c.in-Some.is c.in_ok-name.ensures.1 (λ bad. bad (c.is_free.ensures.0 c.if-not-is_free.false)) (set_refused (view c.args.id.now) (view c.in_ok-value.value) c.args.key.now c.in-Some.found c.in_err-body.field-0.0 (c.is_free.ensures.0 c.if-not-is_free.false) (λ d kept was. c.in_err-body.ensures.changed d kept (c.as_slice-old.ensures.value ∙ was))) c.in_ok-found.ensures.moves)
 
-pub returns-in_err-put_back-clause-moves : goal.returns-in_err-put_back-clause-moves
-returns-in_err-put_back-clause-moves g c =
-    let p = err_from_is_err_and c.from_residual-in_err-put_back.result c.from_residual-in_err-put_back.ensures.1 in
-    rw (p.1, p.2, c.in_ok-value.ensures) (unchanged_moves (store_state g.S.Store c.args.self.now) (store_state g.S.Store c.row_of.new.self) (store_state g.S.Store c.put_back.new.self) c.args.name.now (name_bytes c.in_ok-name.name) (view c.args.id.now) c.in_ok-found.field-0 c.in-Some.found (model.set (view c.args.id.now) c.args.key.now (Some (view c.in_ok-value.value))) (with_body_at c.in-Some.found.place c.as_slice-body.result.now) c.in_err-put_back.field-0.0 c.in_ok-name.ensures.0 c.in-Some.is c.in_ok-name.ensures.1 (λ bad. bad (c.is_free.ensures.0 c.if-not-is_free.false)) c.in_ok-found.ensures.moves c.in_err-put_back.ensures.moves)
-
 pub returns-clause-moves : goal.returns-clause-moves
 returns-clause-moves g c =
-    rw c.in_ok-value.ensures (rewritten_moves (store_state g.S.Store c.args.self.now) (store_state g.S.Store c.row_of.new.self) (store_state g.S.Store c.put_back.new.self) c.args.name.now (name_bytes c.in_ok-name.name) (view c.args.id.now) c.in_ok-found.field-0 c.in-Some.found (model.set (view c.args.id.now) c.args.key.now (Some (view c.in_ok-value.value))) model.done c.in_ok-body.body.items c.in_ok-name.ensures.0 c.in-Some.is c.in_ok-name.ensures.1 (λ sound. (sound, c.utf8.key, c.in_ok-body.ensures.sound)) (set_remakes (view c.args.id.now) (view c.in_ok-value.value) c.args.key.now c.in-Some.found c.in_ok-body.body (c.is_free.ensures.0 c.if-not-is_free.false) (λ d kept was. c.in_ok-body.ensures.changed d kept (c.as_slice-old.ensures.value ∙ was))) c.in_ok-found.ensures.moves (rw c.as_slice-body.ensures.value at c.in_ok-put_back.ensures.moves))
+    rw (c.fault_refusal.ensures, c.in_ok-value.ensures) (unchanged_moves (store_state g.S.Store c.args.self.now) (store_state g.S.Store c.row_of.new.self) (store_state g.S.Store c.put_back.new.self) c.args.name.now (name_bytes c.in_ok-name.name) (view c.args.id.now) c.in_ok-found.field-0 c.in-Some.found (model.set (view c.args.id.now) c.args.key.now (Some (view c.in_ok-value.value))) (with_body_at c.in-Some.found.place c.as_slice-body.result.now) c.in-Err.fault c.in_ok-name.ensures.0 c.in-Some.is c.in_ok-name.ensures.1 (λ bad. bad (c.is_free.ensures.0 c.if-not-is_free.false)) c.in_ok-found.ensures.moves c.in-Err.ensures.moves)
+
+pub returns-in-Ok-clause-moves : goal.returns-in-Ok-clause-moves
+returns-in-Ok-clause-moves g c =
+    rw c.in_ok-value.ensures (rewritten_moves (store_state g.S.Store c.args.self.now) (store_state g.S.Store c.row_of.new.self) (store_state g.S.Store c.put_back.new.self) c.args.name.now (name_bytes c.in_ok-name.name) (view c.args.id.now) c.in_ok-found.field-0 c.in-Some.found (model.set (view c.args.id.now) c.args.key.now (Some (view c.in_ok-value.value))) model.done c.in_ok-body.body.items c.in_ok-name.ensures.0 c.in-Some.is c.in_ok-name.ensures.1 (λ sound. (sound, c.utf8.key, c.in_ok-body.ensures.sound)) (set_remakes (view c.args.id.now) (view c.in_ok-value.value) c.args.key.now c.in-Some.found c.in_ok-body.body (c.is_free.ensures.0 c.if-not-is_free.false) (λ d kept was. c.in_ok-body.ensures.changed d kept (c.as_slice-old.ensures.value ∙ was))) c.in_ok-found.ensures.moves (rw c.as_slice-body.ensures.value at c.in-Ok.ensures.moves))
 
 pub returns-in_err-found-clause-moves : goal.returns-in_err-found-clause-moves
 returns-in_err-found-clause-moves g c =
     let p = err_from_is_err_and c.from_residual-in_err-found.result c.from_residual-in_err-found.ensures.1 in
     rw (p.1, p.2, c.in_ok-value.ensures) (unlooked_moves (store_state g.S.Store c.args.self.now) (store_state g.S.Store c.row_of.new.self) c.args.name.now (name_bytes c.in_ok-name.name) (view c.args.id.now) (model.set (view c.args.id.now) c.args.key.now (Some (view c.in_ok-value.value))) c.in_err-found.field-0.0 c.in_ok-name.ensures.0 c.in_ok-name.ensures.1 (λ bad. bad (c.is_free.ensures.0 c.if-not-is_free.false)) c.in_err-found.ensures.moves)
 
-pub returns-in_err-put_back-clause-crash : goal.returns-in_err-put_back-clause-crash
-returns-in_err-put_back-clause-crash g c =
+pub returns-clause-crash : goal.returns-clause-crash
+returns-clause-crash g c =
     let s = store_state g.S.Store c.args.self.now in
     let m = store_state g.S.Store c.row_of.new.self in
     let t = store_state g.S.Store c.put_back.new.self in
@@ -63,24 +62,23 @@ returns-in_err-put_back-clause-crash g c =
     let id = view c.args.id.now in
     let x = c.in-Some.found in
     let call = model.set (view c.args.id.now) c.args.key.now (Some (view c.in_ok-value.value)) in
-    let p = err_from_is_err_and c.from_residual-in_err-put_back.result c.from_residual-in_err-put_back.ensures.1 in
-    rw (p.1, p.2)
-    (subst (λ v. Leaves s t (model.on n (model.set (view c.args.id.now) c.args.key.now v)) (model.refused (kind_of_fault c.in_err-put_back.field-0.0) None)) (sym c.in_ok-value.ensures)
+    rw c.fault_refusal.ensures
+    (subst (λ v. Leaves s t (model.on n (model.set (view c.args.id.now) c.args.key.now v)) (model.refused (kind_of_fault c.in-Err.fault) None)) (sym c.in_ok-value.ensures)
     (changed_leaves s m t (model.on n call) (with_body_at x.place c.in_ok-body.body.items) (Looks nb id (Ok c.in_ok-found.field-0)) c.in_ok-found.ensures.moves
     (λ docs after h. h.same) c.in_ok-found.ensures.crash
     (λ docs after h. id_rewrites docs after n nb id c.in_ok-found.field-0 x call model.done c.in_ok-body.body.items c.in_ok-name.ensures.1 (λ e. e) (λ sound. (sound, c.utf8.key, c.in_ok-body.ensures.sound)) c.in_ok-name.ensures.0 c.in-Some.is h (set_remakes (view c.args.id.now) (view c.in_ok-value.value) c.args.key.now c.in-Some.found c.in_ok-body.body (c.is_free.ensures.0 c.if-not-is_free.false) (λ d kept was. c.in_ok-body.ensures.changed d kept (c.as_slice-old.ensures.value ∙ was))))
-    c.in_err-put_back.field-0.0 (rw c.as_slice-body.ensures.value at c.in_err-put_back.ensures.crash) (rw c.as_slice-body.ensures.value at c.in_err-put_back.ensures.moves)))
+    c.in-Err.fault (rw c.as_slice-body.ensures.value at c.in-Err.ensures.crash) (rw c.as_slice-body.ensures.value at c.in-Err.ensures.moves)))
 
-pub returns-clause-crash : goal.returns-clause-crash
-returns-clause-crash g c =
+pub returns-in-Ok-clause-crash : goal.returns-in-Ok-clause-crash
+returns-in-Ok-clause-crash g c =
     let s = store_state g.S.Store c.args.self.now in
     let t = store_state g.S.Store c.put_back.new.self in
     accepted_leaves s t (model.on c.args.name.now (model.set (view c.args.id.now) c.args.key.now (read_value (data_of c.args.value)))) (model.done) (λ e. e)
-    (λ clean docs stands. let y = (c.in_ok-found.ensures.moves (omega (arith, clean, c.put_back.ensures.crash.clean))).1 docs stands in (c.in_ok-put_back.ensures.open clean y.0 y.1).1)
-    (λ db up may. g.met.S.Store.settled (store_connection c.put_back.new.self).store db up may) (returns-clause-moves g c)
+    (λ clean docs stands. let y = (c.in_ok-found.ensures.moves (omega (arith, clean, c.put_back.ensures.crash.clean))).1 docs stands in (c.in-Ok.ensures.open clean y.0 y.1).1)
+    (λ db up may. g.met.S.Store.settled (store_connection c.put_back.new.self).store db up may) (returns-in-Ok-clause-moves g c)
 
-pub returns-clause-open : goal.returns-clause-open
-returns-clause-open g c clean docs stands =
+pub returns-in-Ok-clause-open : goal.returns-in-Ok-clause-open
+returns-in-Ok-clause-open g c clean docs stands =
     let early : HasCleanDisk (store_state g.S.Store c.row_of.new.self) = omega (arith, clean, c.put_back.ensures.crash.clean) in
     let y = (c.in_ok-found.ensures.moves early).1 docs stands in
-    ((c.in_ok-found.ensures.open early docs stands (rw c.in-Some.is refl)).0, (c.in_ok-put_back.ensures.open clean y.0 y.1).1)
+    ((c.in_ok-found.ensures.open early docs stands (rw c.in-Some.is refl)).0, (c.in-Ok.ensures.open clean y.0 y.1).1)

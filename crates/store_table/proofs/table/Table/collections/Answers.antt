@@ -1,6 +1,7 @@
 use Rattle.std.proofs.Common.{IsTrue, refl, ◌∙◌, arith, rules}
 use Rattle.sqlite.specs.Held.{state}
 use Rattle.store_table.proofs.NameLemmas.{names_asks, names_of}
+use Rattle.store_table.proofs.OthersLemmas.{still_others}
 use Rattle.store_table.proofs.TableLemmas.{stands_still}
 use Rattle.store_table.proofs.table.Table.collections.Goals as goal
 
@@ -16,5 +17,5 @@ returns-clause-moves g c clean =
     let t = c.in_ok-ended.ensures.whole clean (search rules) all in (
       omega (arith, clean, c.visit_values.ensures.crash.clean),
       λ docs stands.
-          (docs, stands_still old new docs u stands, record { same = refl; names = λ name. t.2 c.if-failed.false name ∙ names_of old new docs t.0 name (stands u.0.was_open) t.1; faults = tt }),
+          (docs, stands_still old new docs u stands, record { same = refl; names = λ name. t.2 c.if-failed.false name ∙ names_of old new docs t.0 name (stands u.0.was_open) t.1; faults = tt }, still_others old new u),
     )

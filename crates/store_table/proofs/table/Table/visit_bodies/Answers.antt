@@ -1,6 +1,7 @@
 use Rattle.std.proofs.Common.{refl, arith}
 use Rattle.sqlite.specs.Held.{state}
 use Rattle.store_table.proofs.ScanLemmas.{scan_asks, whole_scan, some_scan}
+use Rattle.store_table.proofs.OthersLemmas.{still_others}
 use Rattle.store_table.proofs.TableLemmas.{stands_still, visits_refused}
 use Rattle.store_table.proofs.table.Table.visit_bodies.Goals as goal
 
@@ -24,6 +25,7 @@ returns-clause-moves g c clean =
               some = λ none. some_scan (g.V.Visit.took c.args.visitor.now) v c.args.coll.now old docs h (rw c.as_bytes.ensures.value at (c.visit_values.ensures.some clean none));
               faults = tt;
             },
+            still_others old new u,
           ),
     )
 
@@ -37,5 +39,6 @@ returns-in_err-all-clause-moves g c clean =
         (λ still. let it = (c.in_err-all.ensures.read clean).refused still in it.1 docs (stands it.0)),
         visits_refused (g.V.Visit.took c.args.visitor.now) c.args.visitor.now c.visit_values.new.visitor c.args.coll.now old docs stands c.from_residual.result c.in_err-all.field-0.0 c.from_residual.ensures.1
             (λ none. rw c.as_bytes.ensures.value at (c.visit_values.ensures.some clean none)),
+        (c.in_err-all.ensures.read clean).others docs stands,
       ),
     )

@@ -1,0 +1,5 @@
+use Rattle.store_documents.proofs.Appending.{all_accepted}
+use Rattle.store_documents.proofs.laws.judged_documents_are_kept.Goals as goal
+
+pub returns : goal.returns
+returns c = all_accepted 0

@@ -1,0 +1,106 @@
+//! JSON trees as they come in, judged one at a time or all at once.
+
+ghost use Rattle.std.specs.Prelude.{◌++◌, ◌∷◌, [], List, map, Ok, Err, MatchResult};
+ghost use Rattle.serde_json.specs.Data.{Data};
+ghost use Rattle.serde_json.specs.View.{view as data_of};
+ghost use Rattle.store_model.specs.Reading.{ReadsTree, ReadsTrees};
+ghost use Rattle.store_documents.specs.Judging.{AnswersRow, Judges};
+
+use crate::json_row::row_of_json;
+use crate::write::KeptRow;
+use serde_json::Value;
+use std::alloc::Global;
+use store_model::{ErrorKind, StoreError};
+
+/// The row of the document that a tree stands for.
+#[tactic(auto, using(crate::proofs::Going::input_row))]
+fn row_of(alloc: Global, json: Value) -> Result<KeptRow<'static>, ErrorKind>
+    ensures { AnswersRow (ReadsTree (data_of json)) result }
+{
+    row_of_json(alloc, json)
+}
+
+/// Judges the next tree behind those of the rows, and puts its row last.
+fn judge(alloc: Global, rows: &mut Vec<KeptRow<'static>>, json: Value) -> Result<(), StoreError>
+    ensures { (js : List Data) → Judges (ReadsTrees js) (Ok rows.old)
+        → MatchResult result (λ _. Judges (ReadsTrees (js ++ data_of json ∷ [])) (Ok rows.new))
+        (λ e. (more : List Data) → Judges (ReadsTrees ((js ++ data_of json ∷ []) ++ more)) (Err e)) }
+{
+    match row_of(alloc, json) {
+        Ok(row) => {
+            rows.push(row)?;
+            Ok(())
+        }
+        Err(kind) => Err(StoreError::at(kind, rows.len() as u64)),
+    }
+}
+
+/// Judges the documents that JSON trees stand for (MongoDB Extended JSON v2), which come one after the other, and keeps
+/// the rows that they are kept as. No tree is kept.
+#[derive(Drop)]
+pub struct Loader {
+    rows: Vec<KeptRow<'static>>,
+    /// The first refusal, behind which nothing is judged.
+    refusal: Option<StoreError>,
+    alloc: Global,
+}
+
+impl Loader {
+    ghost use Rattle.store_documents.specs.Loading.{HasTaken};
+
+    /// No tree was taken.
+    pub fn new(alloc: Global) -> Loader
+        ensures { HasTaken result [] }
+    {
+        Loader {
+            rows: Vec::new(alloc),
+            refusal: None,
+            alloc,
+        }
+    }
+
+    /// Takes the next tree. Behind the first that is refused, trees are let go.
+    pub fn take(&mut self, json: Value)
+        ensures { (js : List Data) → HasTaken self.old js → HasTaken self.new (js ++ data_of json ∷ []) }
+    {
+        if self.refusal.is_some() {
+            return;
+        }
+        if let Err(error) = judge(self.alloc, &mut self.rows, json) {
+            self.refusal = Some(error);
+        }
+    }
+
+    /// The rows of the trees that were taken.
+    ///
+    /// The first document that is refused decides: `NotAnObject`, `JsonRefused`, `TooDeep` and `Nul` of its tree, then
+    /// `NoId` and `TooLong`. `Memory` if a growth was refused.
+    pub fn finish(self) -> Result<Vec<KeptRow<'static>>, StoreError>
+        ensures { (js : List Data) → HasTaken self js → Judges (ReadsTrees js) result }
+    {
+        let Loader {
+            rows,
+            refusal,
+            alloc: _,
+        } = self;
+        match refusal {
+            None => Ok(rows),
+            Some(error) => Err(error),
+        }
+    }
+}
+
+/// Judges the documents that JSON trees stand for (MongoDB Extended JSON v2), and returns the rows that they are kept
+/// as.
+///
+/// The first document that is refused decides: `NotAnObject`, `JsonRefused`, `TooDeep` and `Nul` of its tree, then
+/// `NoId` and `TooLong`. `Memory` if a growth was refused.
+pub fn judge_trees(alloc: Global, trees: Vec<Value>) -> Result<Vec<KeptRow<'static>>, StoreError>
+    ensures { Judges (ReadsTrees (map data_of trees.items)) result }
+{
+    let mut loader = Loader::new(alloc);
+    for json in trees {
+        loader.take(json);
+    }
+    loader.finish()
+}

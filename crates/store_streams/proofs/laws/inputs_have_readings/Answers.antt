@@ -1,5 +1,0 @@
-use Rattle.store_streams.proofs.Streams.{any_bytes, any_stream, any_trees}
-use Rattle.store_streams.proofs.laws.inputs_have_readings.Goals as goal
-
-pub returns : goal.returns
-returns c = record { bytes = any_bytes; stream = any_stream; trees = any_trees }

@@ -1,5 +1,0 @@
-use Rattle.store_streams.proofs.Appending.{all_accepted}
-use Rattle.store_streams.proofs.laws.judged_documents_are_kept.Goals as goal
-
-pub returns : goal.returns
-returns c = all_accepted 0

@@ -1,5 +1,0 @@
-use Rattle.store_streams.proofs.Appending.{appending_all}
-use Rattle.store_streams.proofs.laws.rows_go_in.Goals as goal
-
-pub returns : goal.returns
-returns c = appending_all
