@@ -85,7 +85,7 @@ impl<S: Alter + Drop> Store<S> {
         // Where `sqlite` opened the connection over a database that holds a state, under keys of now or from before, whatever a
         // crash did to it, the store has that state, and a crash leaves it alone. A crash in the open leaves the old keys or the
         // new ones, and both stand for the state; keys of now are left where the database had no others. The other tables stay.
-        ensures finds { (x : Lists) → FindsState HoldsOnce (state S.Store connection) x → IfOk result (λ s. HasCleanDisk (store_state S.Store s) → Keeps (store_state S.Store s) x) }
+        ensures finds { (x : Lists) → FindsState HoldsOnce (state S.Store connection) x → IfOk result (λ s. HasCleanDisk (store_state S.Store s) → Keeps (store_state S.Store s) x × LeavesOnly (Holds (state S.Store connection).now) (store_state S.Store s) x) }
         ensures leaves { (x : Lists) → FindsState Holds (state S.Store connection) x → IfErr result (λ e. HasCleanDisk (state S.Store e.1) → LeavesOnly (Holds (state S.Store connection).now) (state S.Store e.1) x) }
         ensures leaves_old { (x : Lists) → FindsState HoldsOnce (state S.Store connection) x → IfErr result (λ e. HasCleanDisk (state S.Store e.1) → LeavesOnly (HoldsOnce (state S.Store connection).now) (state S.Store e.1) x) }
     {

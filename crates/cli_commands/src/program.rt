@@ -41,7 +41,7 @@ fn print_outcome<O: Sink>(
     }
 }
 
-/// Puts a document in. A function of its own, as a wrong body turns it.
+/// Puts a document in. It stands apart from `perform`, so that a wrong body is refused in seconds.
 fn insert<S: Alter + Drop>(store: &mut Store<S>, name: &str, json: Value) -> Result<(), StoreError>
     ensures { Relates S.Store store.old store.new (DoesTree name.now (inserted in_json) (data_of json) (reply_by as_done result)) }
 {

@@ -36,7 +36,7 @@ kind_name (kind.IdsCollide first second) = codes "IdsCollide"
 abbrev pub refusal : ErrorKind → StoreError
 refusal k = record { kind = k; document = None }
 
--- the refusal of the document at a place; out of memory has none
+-- the refusal of the document at a place; Memory has none
 abbrev pub refusal_at : ErrorKind → ℕ → StoreError
 refusal_at kind.Memory i = refusal kind.Memory
 refusal_at k i = record { kind = k; document = Some i }

@@ -117,7 +117,7 @@ pub struct StoreError {
 }
 
 impl StoreError {
-    /// The refusal of the document at a place; out of memory has none.
+    /// The refusal of the document at a place. Memory has no place.
     pub fn at(kind: ErrorKind, document: u64) -> StoreError
         ensures { result ≡ refusal_at kind document }
     {

@@ -27,11 +27,11 @@ Moves old new P = HasCleanDisk new → HasCleanDisk old × ((docs : List TableRo
 abbrev pub WasOpen : {A E : Type 0} → State → State → Result A E → Type 0
 WasOpen old new result = HasCleanDisk new → (docs : List TableRow) → Stands old docs → OnOk result (IsTrue old.is_open × IsTrue new.is_open)
 
--- a crash may leave the rows changed so, and all else as it was
+-- a crash may leave the rows changed so, and the schema and the other tables as they were
 abbrev pub MayLeave : (List TableRow → List TableRow) → State → Trees → Type 0
 MayLeave change old trees = (first : Database) (docs : List TableRow) → ShowsOthers first old → Stands old docs → HasRows first trees (change docs)
 
--- after a call that was accepted a crash leaves the rows changed so, and no others, and all else as it was
+-- after a call that was accepted a crash leaves the rows changed so and no others, and the schema and the other tables as they were
 abbrev pub Settles : {A : Type 0} → (List TableRow → List TableRow) → State → State → Result A Fault → Type 0
 Settles change old new result =
     HasCleanDisk new → (first : Database) (docs : List TableRow) → ShowsOthers first old → Stands old docs → OnOk result ((db : Trees) → new.may_leave db → HasRows first db (change docs))

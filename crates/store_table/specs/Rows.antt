@@ -50,12 +50,13 @@ pub record TableRows (db : Database) (docs : List TableRow) : Type 0 where
 unfoldable pub RowsIn : Database → List TableRow → Type 0
 RowsIn = TableRows
 
--- the trees are those of the database with these rows in the table: they list its schema, and have the rows of its other tables
+-- the trees list the schema of the database, and have these rows in the table and those of the database in the other tables
 pub record HasRows (first : Database) (trees : Trees) (docs : List TableRow) : Type 0 where
   pub table : RowsIn (record { schema = first.schema; trees = trees }) docs
   pub others : SparesOthers first (record { schema = first.schema; trees = trees })
 
--- the trees are those of the database, in which no table has the name, as they are or with the empty table beside
+-- No table of the database has the name, and no foreign key refers to one; the trees are those of the database, as they are or with
+-- the empty table beside.
 pub record HasNone (first : Database) (trees : Trees) : Type 0 where
   pub free : IsFree first.schema.tables
   pub left : (ListsSchema first × (trees ≡ first.trees)) ⊎ AreBeside first trees
@@ -121,7 +122,7 @@ abbrev pub docs_from : ℤ → List ℕ → List NewRow → List TableRow
 docs_from place coll [] = []
 docs_from place coll (r ∷ rows) = record { place = place; coll = coll; idkey = r.idkey.now; body = r.body.now } ∷ docs_from (place +ℤ pos 1) coll rows
 
--- an open connection with no transaction, whose database has no table of the name
+-- an open connection with no transaction, whose database has no table of the name and no foreign key to one
 pub record IsBlank (s : State) : Type 0 where
   pub is_open : IsTrue s.is_open
   pub autocommit : s.in_transaction ≡ false

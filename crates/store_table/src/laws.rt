@@ -7,8 +7,8 @@ ghost use Rattle.sqlite.specs.Table.{Table};
 ghost use Rattle.sqlite_catalog.specs.Listing.{Lists};
 ghost use Rattle.store_table.specs.Schema.{HasDocuments};
 
-/// A list of objects names one list of tables, and in these the table of documents stands at one place, over one tree.
-pub fn one_table()
-    ensures listed { (objects : List Row) (a b : Schema) → Lists objects a → Lists objects b → b.tables ≡ a.tables }
+/// A list of objects is that of one schema, in which the table of documents stands at one place, over one tree.
+pub fn one_schema()
+    ensures listed { (objects : List Row) (a b : Schema) → Lists objects a → Lists objects b → b ≡ a }
     ensures stands { (tables : List Table) (p q m n : ℕ) → HasDocuments tables p m → HasDocuments tables q n → (q ≡ p) × (n ≡ m) }
 {}

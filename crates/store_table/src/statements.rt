@@ -52,8 +52,8 @@ fn insert_row<'a, S: Alter>(
     )
 }
 
-/// Adds a row after all others, and commits it. A function of its own, with the words of `insert_row`, as a wrong body
-/// turns it.
+/// Adds a row after all others, and commits it. It stands apart from `insert_row`, so that a wrong body is refused in
+/// seconds.
 pub(crate) fn add_committed<'a, S: Alter>(
     conn: &mut Connection<S>,
     place: i64,

@@ -13,8 +13,9 @@ returns-in-Ok-clause-opened g c clean = opened (state g.S.Store c.args.connectio
 
 pub returns-in-Ok-clause-finds : goal.returns-in-Ok-clause-finds
 returns-in-Ok-clause-finds g c x finds clean =
-    keeps_found (state g.S.Store c.args.connection) (table_state g.S.Store c.in-Ok.table) x finds (opened (state g.S.Store c.args.connection) (table_state g.S.Store c.in-Ok.table) (c.in-Ok.ensures.opened clean))
-    (λ db up may. g.met.S.Store.settled (table_connection c.in-Ok.table).store db up may)
+    let old = state g.S.Store c.args.connection in
+    let new = table_state g.S.Store c.in-Ok.table in
+    keeps_found old new x (λ db up may. g.met.S.Store.settled (table_connection c.in-Ok.table).store db up may) finds (opened old new (c.in-Ok.ensures.opened clean))
 
 pub returns-in-Err-clause-taken : goal.returns-in-Err-clause-taken
 returns-in-Err-clause-taken g c auto none taken =
