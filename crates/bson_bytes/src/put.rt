@@ -14,6 +14,7 @@ ghost use Rattle.bson_frame.specs.declared.error.ErrorKind.TheVariants.{Malforme
 
 use bson_base::{BinarySubtype, ElementType, ObjectId, Timestamp};
 use bson_frame::{Error, ErrorKind, LENGTH_LIMIT, Result};
+use itoa::Buffer;
 
 /// The refusal of a 00 where none may stand, or of too many bytes.
 pub(crate) fn refusal() -> Error
@@ -92,7 +93,8 @@ pub fn write_place(kind: ElementType, place: usize, out: &mut Vec<u8>) -> Result
     ensures refused { IfErr result (IsBare OutOfMemory) }
     ensures kept { OnErr result (StartsWith out.new.items out.old.items) }
 {
-    let key = place.to_string(*out.allocator())?;
+    let mut digits = Buffer::new();
+    let key = digits.format(place);
     write_bytes(&[kind.tag()], out)?;
     write_bytes(key.as_bytes(), out)?;
     write_bytes(&[0], out)

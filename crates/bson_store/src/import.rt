@@ -9,7 +9,7 @@ ghost use Rattle.serde_json.specs.View.{view as data_of};
 ghost use Rattle.sqlite.specs.State.{HasCleanDisk, Survives};
 ghost use Rattle.store_table.specs.Moves.{AddsRows, MayLeave, Stands, WasOpen, with_rows};
 ghost use Rattle.store_table.specs.Rows.{TableRow};
-ghost use Rattle.bson_store.specs.Left.{LeavesMany, LeavesRows, ReadsFed};
+ghost use Rattle.bson_store.specs.Left.{LeavesImport, LeavesMany, LeavesRows};
 ghost use Rattle.store_documents.specs.Names.{name_bytes};
 ghost use Rattle.bson_base.specs.Kinds.{AreBytes};
 ghost use Rattle.store_model.specs.Reading.{ReadsStream, ReadsTrees};
@@ -161,7 +161,7 @@ impl<S: Alter + Drop> Store<S> {
         ensures moves { Relates S.Store self.old self.new (Imports name.now (R.feed reader.old)
             (R.feed reader.new) result) }
         ensures open { WasOpen (store_state S.Store self.old) (store_state S.Store self.new) result }
-        ensures crash { LeavesMany name.now (ReadsFed (R.feed reader.old) (R.feed reader.new)) (reply_by as_number result)
+        ensures crash { LeavesImport name.now (R.feed reader.old) (R.feed reader.new) result
             (store_state S.Store self.old) (store_state S.Store self.new) }
     {
         let name = good_name(name)?;

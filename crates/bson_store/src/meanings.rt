@@ -9,6 +9,13 @@ ghost use Rattle.store_model.specs.Reading.{ReadsStream, ReadsTrees};
 ghost use Rattle.store_model.specs.Same.{SameReplies, SameStates};
 ghost use Rattle.store_model.specs.State.{bytes, dump, export, json_list, number, on};
 ghost use Rattle.store_model.specs.Table.{DocumentTable, documents_of, state_of};
+ghost use Rattle.sqlite.specs.Effect.{Database};
+ghost use Rattle.sqlite.specs.Held.{state};
+ghost use Rattle.sqlite.specs.State.{IsLive, Opens};
+ghost use Rattle.store_model.specs.Left.{HoldsEndOrOneMore, IsEndOrOneMore};
+ghost use Rattle.store_model.specs.State as model;
+ghost use Rattle.store_model.specs.State.{State as Lists};
+ghost use Rattle.bson_store.specs.Left.{FindsState, Holds, HoldsOnce};
 ghost use Rattle.bson_store.specs.Calls.{Does};
 ghost use Rattle.bson_store.specs.Export.{SendsCollection};
 ghost use Rattle.bson_store.specs.Many.{DoesMany, Imports, Restored};
@@ -16,6 +23,8 @@ ghost use Rattle.bson_store.specs.Runs.{MeanTheSame, RunsOnLists, reply_of};
 ghost use Rattle.bson_store.specs.Shown.{Represents};
 ghost use Rattle.bson_store.specs.declared.command.Command.{Command};
 ghost use Rattle.bson_store.specs.declared.command.Reply.{Reply};
+
+use sqlite::{Alter, Connection};
 
 /// Two lists of commands that mean the same, run from tables that mean the same with the same denied to both, are
 /// answered with the same meaning and leave tables that mean the same.
@@ -44,4 +53,15 @@ pub fn dumps_are_restored()
     ensures { (n m : List ℕ) (js : List Data) (count : ℕ) (docs after more last : List TableRow) (a b : DocumentTable)
         → Does (on n dump) (json_list js) docs after → Represents docs a → DoesMany m (ReadsTrees js) (number count) more last → Represents more b
         → documents_of b m ≡ [] → Restored m (map (λ d. norm_members_in_order d) (documents_of a n)) count last }
+{}
+
+/// What a crash leaves is found again: where `sqlite` opens a connection over trees that hold a state, `Store::open`
+/// finds that state by its clause `finds`. `crash` of each call says which state a crash leaves it; after `run` it is
+/// that at the end of the commands, or what one of them makes of it (`ends`).
+pub fn crashes_are_found<S: Alter>(_connection: &Connection<S>)
+    ensures calls { (first : Database) (x : Lists) → Opens (state S.Store _connection.now) → IsLive (state S.Store _connection.now)
+        → Holds first (state S.Store _connection.now).committed.trees x → FindsState HoldsOnce (state S.Store _connection.now) x }
+    ensures runs { (first : Database) (asked : List model.Command) (end : Lists) → Opens (state S.Store _connection.now) → IsLive (state S.Store _connection.now)
+        → HoldsEndOrOneMore (Holds first) asked end (state S.Store _connection.now).committed.trees
+        → (x : Lists) × FindsState HoldsOnce (state S.Store _connection.now) x × IsEndOrOneMore asked end x }
 {}

@@ -5,7 +5,8 @@ ghost use Rattle.bson_base.specs.Device.{CanRefuse};
 ghost use Rattle.sqlite.specs.Held.{state};
 ghost use Rattle.sqlite.specs.State.{HasCleanDisk, Survives};
 ghost use Rattle.store_table.specs.Open.{HasNoTable, IsNameTaken, KeepsAll};
-ghost use Rattle.bson_store.specs.Opening.{Opens, RefusesToOpen};
+ghost use Rattle.store_table.specs.Renewal.{Makes};
+ghost use Rattle.bson_store.specs.Opening.{IsRowUnder, Opens, RefusesToOpen};
 ghost use Rattle.serde_json.specs.View.{view as data_of};
 ghost use Rattle.bson_base.specs.Value.{Members};
 ghost use Rattle.bson_model.specs.View.{view};
@@ -82,6 +83,9 @@ impl<S: Alter + Drop> Store<S> {
         ensures kept { IfErr result (λ e. HasCleanDisk (state S.Store e.1) → KeepsAll (state S.Store connection) (state S.Store e.1)) }
         ensures taken { (state S.Store connection).in_transaction ≡ false → HasNoTable (state S.Store connection) → IsNameTaken (state S.Store connection) → IsErrAnd result (λ e. (e.0 ≡ refusal NotAStore) × (e.1 ≡ connection)) }
         ensures busy { IsTrue (state S.Store connection).in_transaction → IsErrAnd result (λ e. (e.0 ≡ refusal Database) × (e.1 ≡ connection)) }
+        // A crash leaves what it could leave before, or what the open makes: the empty table, or rows under their keys of now.
+        ensures crash { IfOk result (λ s. Survives (state S.Store connection) (store_state S.Store s) (Makes IsRowUnder (state S.Store connection))) }
+        ensures crash_refused { IfErr result (λ e. Survives (state S.Store connection) (state S.Store e.1) (Makes IsRowUnder (state S.Store connection))) }
         // Where `sqlite` opened the connection over a database that holds a state, under keys of now or from before, whatever a
         // crash did to it, the store has that state, and a crash leaves it alone. A crash in the open leaves the old keys or the
         // new ones, and both stand for the state; keys of now are left where the database had no others. The other tables stay.

@@ -2,7 +2,7 @@
 #![tactic(auto)]
 
 mod document;
-mod parts;
-mod scalars;
+pub mod parts;
+pub mod scalars;
 
 pub use document::write_canonical;

@@ -9,7 +9,7 @@ use json::Writer;
 use std::alloc::AllocError;
 
 /// Begins an object with a key.
-pub(crate) fn begin(out: &mut Writer, key: &str) -> Result<(), AllocError>
+pub fn begin(out: &mut Writer, key: &str) -> Result<(), AllocError>
     ensures { OnOk result (Adds (begin_object ∷ key_token key.now ∷ []) out.old out.new) }
 {
     out.begin_object()?;
@@ -17,7 +17,7 @@ pub(crate) fn begin(out: &mut Writer, key: &str) -> Result<(), AllocError>
 }
 
 /// Ends two objects, one in the other.
-pub(crate) fn end_both(out: &mut Writer) -> Result<(), AllocError>
+pub fn end_both(out: &mut Writer) -> Result<(), AllocError>
     ensures { OnOk result (Adds (end_object ∷ end_object ∷ []) out.old out.new) }
 {
     out.end_object()?;
@@ -25,7 +25,7 @@ pub(crate) fn end_both(out: &mut Writer) -> Result<(), AllocError>
 }
 
 /// Writes a member with a text.
-pub(crate) fn put_text(out: &mut Writer, key: &str, text: &str) -> Result<(), AllocError>
+pub fn put_text(out: &mut Writer, key: &str, text: &str) -> Result<(), AllocError>
     ensures { OnOk result (Adds (key_token key.now ∷ string_token text.now ∷ []) out.old out.new) }
 {
     out.key(key)?;
@@ -33,7 +33,7 @@ pub(crate) fn put_text(out: &mut Writer, key: &str, text: &str) -> Result<(), Al
 }
 
 /// Writes a member with a number.
-pub(crate) fn put_number(out: &mut Writer, key: &str, number: u32) -> Result<(), AllocError>
+pub fn put_number(out: &mut Writer, key: &str, number: u32) -> Result<(), AllocError>
     ensures { OnOk result (Adds (key_token key.now ∷ number_token (decimal number) ∷ []) out.old out.new) }
 {
     out.key(key)?;
@@ -41,7 +41,7 @@ pub(crate) fn put_number(out: &mut Writer, key: &str, number: u32) -> Result<(),
 }
 
 /// Writes an object of one member, a text.
-pub(crate) fn wrap_text(out: &mut Writer, key: &str, text: &str) -> Result<(), AllocError>
+pub fn wrap_text(out: &mut Writer, key: &str, text: &str) -> Result<(), AllocError>
     ensures { OnOk result (Adds (begin_object ∷ key_token key.now ∷ string_token text.now ∷ end_object ∷ []) out.old out.new) }
 {
     begin(out, key)?;
@@ -50,7 +50,7 @@ pub(crate) fn wrap_text(out: &mut Writer, key: &str, text: &str) -> Result<(), A
 }
 
 /// Writes an object of one member, the digits of a number as a text.
-pub(crate) fn wrap_digits(out: &mut Writer, key: &str, number: i64) -> Result<(), AllocError>
+pub fn wrap_digits(out: &mut Writer, key: &str, number: i64) -> Result<(), AllocError>
     ensures { OnOk result (Adds (begin_object ∷ key_token key.now ∷ string_token (signed_decimal number) ∷ end_object ∷ []) out.old out.new) }
 {
     begin(out, key)?;
@@ -59,7 +59,7 @@ pub(crate) fn wrap_digits(out: &mut Writer, key: &str, number: i64) -> Result<()
 }
 
 /// Writes an object of one member, an object of two texts.
-pub(crate) fn wrap_texts(
+pub fn wrap_texts(
     out: &mut Writer,
     outer: &str,
     key: &str,

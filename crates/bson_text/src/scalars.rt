@@ -39,7 +39,7 @@ fn double_text(double: DoubleBits) -> Option<&'static str>
 }
 
 /// Refused by `FiniteDouble` if it is finite and no zero.
-pub(crate) fn print_double(out: &mut Writer, double: DoubleBits) -> Result<(), Error>
+pub fn print_double(out: &mut Writer, double: DoubleBits) -> Result<(), Error>
     ensures { Prints tokens_of (write_double double.0) result out.old out.new }
 {
     match double_text(double) {
@@ -48,7 +48,7 @@ pub(crate) fn print_double(out: &mut Writer, double: DoubleBits) -> Result<(), E
     }
 }
 
-pub(crate) fn print_id(out: &mut Writer, id: &ObjectId) -> Result<(), AllocError>
+pub fn print_id(out: &mut Writer, id: &ObjectId) -> Result<(), AllocError>
     ensures { OnOk result (Adds (tokens_of (id_of (id_bytes id.now))) out.old out.new) }
 {
     let mut digits = [0u8; 24];
@@ -67,7 +67,7 @@ fn text_of_decimal(alloc: Global, decimal: &Decimal128) -> Result<String, AllocE
     decimal.to_string(alloc)
 }
 
-pub(crate) fn print_decimal(
+pub fn print_decimal(
     alloc: Global,
     out: &mut Writer,
     decimal: &Decimal128,
@@ -78,19 +78,19 @@ pub(crate) fn print_decimal(
     wrap_text(out, "$numberDecimal", text.as_str())
 }
 
-pub(crate) fn print_i32(out: &mut Writer, number: i32) -> Result<(), AllocError>
+pub fn print_i32(out: &mut Writer, number: i32) -> Result<(), AllocError>
     ensures { OnOk result (Adds (tokens_of (write_integer Canonical keys.of_int number)) out.old out.new) }
 {
     wrap_digits(out, "$numberInt", i64::from(number))
 }
 
-pub(crate) fn print_i64(out: &mut Writer, number: i64) -> Result<(), AllocError>
+pub fn print_i64(out: &mut Writer, number: i64) -> Result<(), AllocError>
     ensures { OnOk result (Adds (tokens_of (write_integer Canonical keys.of_long number)) out.old out.new) }
 {
     wrap_digits(out, "$numberLong", number)
 }
 
-pub(crate) fn print_date(out: &mut Writer, moment: DateTime) -> Result<(), AllocError>
+pub fn print_date(out: &mut Writer, moment: DateTime) -> Result<(), AllocError>
     ensures { OnOk result (Adds (tokens_of (date_of Canonical (millis_of moment))) out.old out.new) }
 {
     begin(out, "$date")?;
@@ -98,7 +98,7 @@ pub(crate) fn print_date(out: &mut Writer, moment: DateTime) -> Result<(), Alloc
     out.end_object()
 }
 
-pub(crate) fn print_timestamp(out: &mut Writer, timestamp: Timestamp) -> Result<(), AllocError>
+pub fn print_timestamp(out: &mut Writer, timestamp: Timestamp) -> Result<(), AllocError>
     ensures { OnOk result (Adds (tokens_of (timestamp_of timestamp.time timestamp.increment)) out.old out.new) }
 {
     begin(out, "$timestamp")?;
@@ -122,7 +122,7 @@ fn subtype_digits(alloc: Global, binary: &Binary) -> Result<String, AllocError>
     hex::encode(alloc, &[u8::from(binary.subtype)][..])
 }
 
-pub(crate) fn print_binary(
+pub fn print_binary(
     alloc: Global,
     out: &mut Writer,
     binary: &Binary,
@@ -145,7 +145,7 @@ fn options_in_order(alloc: Global, regex: &Regex) -> Result<String, AllocError>
     Ok(in_order.options)
 }
 
-pub(crate) fn print_regex(alloc: Global, out: &mut Writer, regex: &Regex) -> Result<(), AllocError>
+pub fn print_regex(alloc: Global, out: &mut Writer, regex: &Regex) -> Result<(), AllocError>
     ensures { OnOk result (Adds (tokens_of (regex_of (string_bytes regex.now.pattern) (string_bytes regex.now.options))) out.old out.new) }
 {
     let options = options_in_order(alloc, regex)?;
@@ -161,7 +161,7 @@ pub(crate) fn print_regex(alloc: Global, out: &mut Writer, regex: &Regex) -> Res
     )
 }
 
-pub(crate) fn print_pointer(out: &mut Writer, pointer: &DbPointer) -> Result<(), AllocError>
+pub fn print_pointer(out: &mut Writer, pointer: &DbPointer) -> Result<(), AllocError>
     ensures { OnOk result (Adds (tokens_of (pointer_of (string_bytes pointer.now.namespace) (id_bytes pointer.now.id))) out.old out.new) }
 {
     begin(out, "$dbPointer")?;
@@ -172,7 +172,7 @@ pub(crate) fn print_pointer(out: &mut Writer, pointer: &DbPointer) -> Result<(),
 }
 
 /// `{"$undefined":true}`
-pub(crate) fn print_undefined(out: &mut Writer) -> Result<(), AllocError>
+pub fn print_undefined(out: &mut Writer) -> Result<(), AllocError>
     ensures { OnOk result (Adds (tokens_of (keys.object_of_one (keys.key_of keys.of_undefined) (json_boolean true))) out.old out.new) }
 {
     begin(out, "$undefined")?;
@@ -181,7 +181,7 @@ pub(crate) fn print_undefined(out: &mut Writer) -> Result<(), AllocError>
 }
 
 /// The key of a least or a greatest key: `{"$minKey":1}`
-pub(crate) fn print_bound(out: &mut Writer, key: &str) -> Result<(), AllocError>
+pub fn print_bound(out: &mut Writer, key: &str) -> Result<(), AllocError>
     ensures { OnOk result (Adds (tokens_of (keys.object_of_one key.now (json_number (unsigned 1)))) out.old out.new) }
 {
     begin(out, key)?;

@@ -7,3 +7,4 @@ pub mod Taking
 pub mod Telling
 pub mod Told
 pub mod Wording
+pub mod Leaving

@@ -2,3 +2,4 @@ pub mod Answers
 pub mod Commands
 pub mod Execute
 pub mod Requests
+pub mod Leaving

@@ -4,9 +4,11 @@ ghost use Rattle.std.specs.Prelude.{◌≡◌, ◌≤◌, Result};
 ghost use Rattle.bson_base.specs.Device.{CanFail, CanRefuse};
 ghost use Rattle.serde_json.specs.View.{view as data_of};
 ghost use Rattle.store_model.specs.State.{in_json, insert as inserted};
-ghost use Rattle.bson_store.specs.Calls.{DoesTree, Relates};
+ghost use Rattle.bson_store.specs.Calls.{DoesTree, Relates, store_state};
+ghost use Rattle.bson_store.specs.Left.{LeavesTree};
 ghost use Rattle.bson_store.specs.Refusals.{as_done, reply_by};
 ghost use Rattle.cli_commands.specs.Execute.{Executes, Reports, SilentUnread, Tells};
+ghost use Rattle.cli_commands.specs.Leaving.{LeavesAsked};
 ghost use Rattle.cli_commands.specs.Requests.{IsRequestOf};
 ghost use Rattle.cli_commands.specs.declared.stop.Failure.{Failure as Outcome};
 
@@ -43,7 +45,8 @@ fn print_outcome<O: Sink>(
 
 /// Puts a document in. It stands apart from `perform`, so that a wrong body is refused in seconds.
 fn insert<S: Alter + Drop>(store: &mut Store<S>, name: &str, json: Value) -> Result<(), StoreError>
-    ensures { Relates S.Store store.old store.new (DoesTree name.now (inserted in_json) (data_of json) (reply_by as_done result)) }
+    ensures moves { Relates S.Store store.old store.new (DoesTree name.now (inserted in_json) (data_of json) (reply_by as_done result)) }
+    ensures crash { LeavesTree name.now (inserted in_json) (data_of json) (reply_by as_done result) (store_state S.Store store.old) (store_state S.Store store.new) }
 {
     store.insert_json(name, json)
 }
@@ -62,6 +65,8 @@ fn perform<S: Alter + Drop, I: Source, O: Sink>(
     requires output { CanRefuse (O.tally output.old) }
     ensures step { Relates S.Store store.old store.new (Executes words.now (I.feed input.old) (I.feed input.new)
         (O.tally output.old) (O.tally output.new) result) }
+    ensures crash { LeavesAsked words.now (I.feed input.old) (I.feed input.new) (O.tally output.old) (O.tally output.new) result
+        (store_state S.Store store.old) (store_state S.Store store.new) }
     ensures unread { SilentUnread result output.old output.new }
 {
     let name = words.coll;
@@ -105,6 +110,8 @@ fn obey<S: Alter + Drop, I: Source, O: Sink>(
     requires output { CanRefuse (O.tally output.old) }
     ensures step { Relates S.Store store.old store.new (Executes words.now (I.feed input.old) (I.feed input.new)
         (O.tally output.old) (O.tally output.new) result) }
+    ensures crash { LeavesAsked words.now (I.feed input.old) (I.feed input.new) (O.tally output.old) (O.tally output.new) result
+        (store_state S.Store store.old) (store_state S.Store store.new) }
     ensures unread { SilentUnread result output.old output.new }
 {
     let mut request = request_of(alloc, words)?;
@@ -136,6 +143,10 @@ pub fn execute<S: Alter + Drop, I: Source, O: Sink, F: Sink>(
     ensures step { (outcome : Result (Unit {0}) Outcome) × Reports outcome result (F.tally faults.old) (F.tally faults.new)
         × Relates S.Store store.old store.new (Executes words.now (I.feed input.old) (I.feed input.new)
         (O.tally output.old) (O.tally output.new) outcome) }
+    // What a crash leaves of it: after an accepted command what it leaves of that, else what it could leave before, or of a refused one.
+    ensures crash { (outcome : Result (Unit {0}) Outcome) × Reports outcome result (F.tally faults.old) (F.tally faults.new)
+        × LeavesAsked words.now (I.feed input.old) (I.feed input.new) (O.tally output.old) (O.tally output.new) outcome
+        (store_state S.Store store.old) (store_state S.Store store.new) }
 {
     match obey(alloc, store, words, input, output) {
         Ok(()) => 0,

@@ -9,8 +9,9 @@ ghost use Rattle.cli_session_lines.specs.Answers.{IsLineOf, answer_line, output_
 use base64::engine::general_purpose::STANDARD;
 use bson_base::{DeviceFault, Sink, write_all};
 use itoa::Buffer;
-use serde_json::Value;
+use json::Writer;
 use std::alloc::{AllocError, Global};
+use std::mem::replace;
 
 /// What a command wrote.
 #[derive(Clone, Copy, Debug)]
@@ -41,9 +42,12 @@ const OUT_OF_MEMORY: &str = "{\"status\":1,\"told\":\"refused: Memory\"}\n";
 fn push_quoted(alloc: Global, line: &mut String, text: &str) -> Result<(), AllocError>
     ensures { OnOk result (string_bytes line.new ≡ string_bytes line.old ++ compact_text (string text.now)) }
 {
-    let text = Value::String(String::from_str(alloc, text)?);
-    let quoted = text.to_string(alloc)?;
-    line.push_str(quoted.as_str())
+    let before = replace(line, String::new(alloc));
+    let mut out = Writer::new(before.into_bytes());
+    out.string(text)?;
+    // The line was UTF-8, and the clauses of the writer say that what it wrote is.
+    *line = unsafe { String::from_utf8_unchecked(out.into_inner()) };
+    Ok(())
 }
 
 impl Output<'_> {

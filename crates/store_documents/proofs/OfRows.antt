@@ -1,6 +1,6 @@
 -- Rows that a store can have written.
 use Rattle.std.proofs.Common.{◌≡◌, ◌↔◌, ◌⊎◌, inl, inr, ℕ, ◌<◌, ◌≤◌, List, length, Bool, true, false, IsTrue, Some, None, refl, subst, ap, ◌∙◌, sym, arith}
-use Rattle.std.specs.Prelude.{IsUtf8, Err, Vec, is_some}
+use Rattle.std.specs.Prelude.{IsUtf8, Result, Ok, Err, MatchResult, Vec, is_some}
 use Rattle.bson_base.specs.Kinds.{IsClean, IsPlain, IsSound}
 use Rattle.bson_base.specs.Value.{Value, document, look_up, Members}
 use Rattle.bson_bytes.specs.Encode.{encode}
@@ -11,6 +11,8 @@ use Rattle.bson_frame.specs.Frame.{size_limit}
 use Rattle.bson_meaning.specs.Before as before
 use Rattle.bson_meaning.proofs.Before.{size_before}
 use Rattle.bson_meaning.specs.Meaning.{key}
+use Rattle.bson_model.specs.View.{members_of, pairs_of}
+use Rattle.bson_model.specs.declared.document.Document.{Document}
 use Rattle.store_model.specs.Reading.{IsRead, readable, ReadsBytes}
 use Rattle.store_model.specs.State.{id_key, IsKept, IsName, refusal_of}
 use Rattle.store_model.specs.Table.{only_id, own_id}
@@ -88,6 +90,12 @@ kept_means d b kept is = subst (λ x. Means x d) (sym is) ((written_reads d kept
 -- the document that was read from what was written
 pub same_meant : (d m : Members) (b : List ℕ) → IsKept d → b ≡ encode d → Means b m → m ≡ d
 same_meant d m b kept is means = one_meaning b m d means (kept_means d b kept is)
+
+-- the same of what reading it came to
+pub same_result : (d : Members) (b : List ℕ) (r : Result Document ErrorKind) → IsKept d → b ≡ encode d
+    → MatchResult r (λ e. Means b (members_of (pairs_of e))) (λ k. k ≡ Memory) → MatchResult r (λ e. members_of (pairs_of e) ≡ d) (λ k. k ≡ Memory)
+same_result d b (Ok e) kept is means = same_meant d (members_of (pairs_of e)) b kept is means
+same_result d b (Err k) kept is memory = memory
 
 pub no_id_there : (d m : Members) (b : List ℕ) → IsKept d → b ≡ encode d → Means b m → look_up id_key m ≡ None → ⊥
 no_id_there d m b kept is means none =

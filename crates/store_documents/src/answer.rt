@@ -8,7 +8,7 @@ ghost use Rattle.bson_model.specs.View.{content};
 ghost use Rattle.store_model.specs.State.{IsKept, or_finite, json_of};
 ghost use Rattle.store_documents.specs.Answers.{AnswersJson};
 
-use crate::read::document_of_bytes;
+use crate::read::document_of_body;
 use crate::reserved::has_reserved_below;
 use bson_model::extjson::Mode;
 use bson_model::{Bson, Document, extjson};
@@ -48,10 +48,10 @@ fn json_of_document(alloc: Global, document: Document, mode: Mode) -> Result<Val
 /// `ReservedKey` if a document below the top has a reserved key (`$oid` or another that marks a typed value), which
 /// would be read as another value; the keys of a code's scope are free. Else `FiniteDouble` if a finite double other
 /// than the zeros stands in the document. `Memory` if a growth was refused. Bytes that aren't the written form of a
-/// kept document may be refused as `document_of_bytes` refuses them.
+/// kept document may be refused as `Faulty`.
 pub fn json_of_body(alloc: Global, body: &[u8], mode: Mode) -> Result<Value, ErrorKind>
     ensures { (d : Members) → IsKept d → body.now ≡ encode d → AnswersJson (json_of mode d) result }
 {
-    let document = document_of_bytes(alloc, body)?;
+    let document = document_of_body(alloc, body)?;
     json_of_document(alloc, document, mode)
 }

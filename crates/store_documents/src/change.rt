@@ -10,7 +10,7 @@ ghost use Rattle.bson_model.specs.View.{view, pairs_of, content};
 ghost use Rattle.store_model.specs.State.{IsKept};
 ghost use Rattle.store_documents.specs.Bodies.{AnswersChanged, AnswersUnset};
 
-use crate::read::document_of_bytes;
+use crate::read::document_of_body;
 use crate::write::body_of;
 use bson_frame::LEVEL_LIMIT;
 use bson_meaning::{depth_of_document, normalize, sort_keys};
@@ -65,13 +65,13 @@ fn changed_body(alloc: Global, document: &Document) -> Result<Vec<u8>, ErrorKind
 ///
 /// `TooDeep` if the document then has over 100 levels, else `Nul` if a 00 stands in a key, a pattern or options, else
 /// `TooLong` if its bytes are over 16777216; `Memory` if a growth was refused. Bytes that aren't the written form of a
-/// kept document may be refused as `document_of_bytes` refuses them. Where it isn't refused, the value is known to be
+/// kept document may be refused as `Faulty`. Where it isn't refused, the value is known to be
 /// sound.
 pub fn body_with(alloc: Global, body: &[u8], key: &str, value: Bson) -> Result<Vec<u8>, ErrorKind>
     ensures changed { (d : Members) → IsKept d → body.now ≡ encode d → AnswersChanged (put key.now (norm_in_order (view value)) d) result }
     ensures sound { IfOk result (λ _. IsSound (view value)) }
 {
-    let mut document = document_of_bytes(alloc, body)?;
+    let mut document = document_of_body(alloc, body)?;
     match put_normal(alloc, &mut document, key, value) {
         Ok(()) => changed_body(alloc, &document),
         Err(_) => Err(ErrorKind::Memory),
@@ -99,11 +99,11 @@ fn take_out(document: &mut Document, key: &str) -> bool
 /// form of the document.
 ///
 /// `Memory` if a growth was refused. Bytes that aren't the written form of a kept document may be refused as
-/// `document_of_bytes` and `write_document` refuse them.
+/// `Faulty` or as `write_document` refuses them.
 pub fn body_without(alloc: Global, body: &[u8], key: &str) -> Result<Unset, ErrorKind>
     ensures { (d : Members) → IsKept d → body.now ≡ encode d → AnswersUnset key.now d result }
 {
-    let mut document = document_of_bytes(alloc, body)?;
+    let mut document = document_of_body(alloc, body)?;
     let was_there = take_out(&mut document, key);
     let body = body_of(alloc, &document)?;
     Ok(Unset { was_there, body })

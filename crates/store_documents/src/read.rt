@@ -5,11 +5,13 @@ ghost use Rattle.serde_json.specs.Data.{object};
 ghost use Rattle.serde_json.specs.View.{view as data_of, members_view};
 ghost use Rattle.bson_base.specs.Kinds.{IsSound};
 ghost use Rattle.bson_base.specs.Value.{document as tree, Members};
+ghost use Rattle.bson_bytes.specs.Encode.{encode};
 ghost use Rattle.bson_bytes.specs.Spells.{Means};
 ghost use Rattle.bson_meaning.specs.Meaning.{norm_members_in_order};
 ghost use Rattle.bson_model.specs.View.{content};
 ghost use Rattle.bson_model.specs.declared.extjson.de.Error.TheVariants as json_faults;
 ghost use Rattle.store_model.specs.Reading.{IsRead, IsUnfit, Keeps, ReadsTree, kind_of_gate_error, readable, unreadable};
+ghost use Rattle.store_model.specs.State.{IsKept};
 ghost use Rattle.store_model.specs.declared.error.ErrorKind.TheVariants.{JsonRefused, Memory, NotAnObject};
 ghost use Rattle.store_documents.specs.Answers.{AnswersBytes, AnswersTree, AnswersValue};
 
@@ -49,21 +51,36 @@ pub(crate) fn json_refusal(error: extjson::de::Error) -> ErrorKind
     }
 }
 
-/// The document that bytes mean. `Memory` if a growth was refused.
-pub(crate) fn document_of(alloc: Global, bytes: &[u8]) -> Result<Document, ErrorKind>
-    requires { (d : Members) × Means bytes.now d }
-    ensures { MatchResult result (λ d. Means bytes.now (content d)) (λ k. k ≡ Memory) }
+/// The document that bytes mean, if they mean one; others may be refused, or not. `Memory` if a growth was refused.
+fn document_if_any(alloc: Global, bytes: &[u8]) -> Result<Document, ErrorKind>
+    ensures { (d : Members) → Means bytes.now d → MatchResult result (λ d. Means bytes.now (content d)) (λ k. k ≡ Memory) }
 {
     let Ok(raw) = RawDocument::from_bytes(bytes) else {
-        unreachable!()
+        return Err(ErrorKind::Faulty);
     };
     match raw.to_document(alloc) {
         Ok(document) => Ok(document),
         Err(error) => match error.kind {
             frames::ErrorKind::OutOfMemory => Err(ErrorKind::Memory),
-            _ => unreachable!(),
+            _ => Err(ErrorKind::Faulty),
         },
     }
+}
+
+/// The document that bytes mean. `Memory` if a growth was refused.
+pub(crate) fn document_of(alloc: Global, bytes: &[u8]) -> Result<Document, ErrorKind>
+    requires { (d : Members) × Means bytes.now d }
+    ensures { MatchResult result (λ d. Means bytes.now (content d)) (λ k. k ≡ Memory) }
+{
+    document_if_any(alloc, bytes)
+}
+
+/// The kept document of which `body` is the written form. Other bytes are refused, or are some document. `Memory` if a
+/// growth was refused.
+pub(crate) fn document_of_body(alloc: Global, body: &[u8]) -> Result<Document, ErrorKind>
+    ensures { (d : Members) → IsKept d → body.now ≡ encode d → MatchResult result (λ e. content e ≡ d) (λ k. k ≡ Memory) }
+{
+    document_if_any(alloc, body)
 }
 
 /// The document that bytes mean (bsonspec.org 1.1, "document"): of a repeated key the last value, in the place of the

@@ -9,7 +9,7 @@ ghost use Rattle.bson_model.specs.declared.extjson.ser.Mode.TheVariants.{Canonic
 ghost use Rattle.store_model.specs.State.{IsKept, or_finite, json_of};
 ghost use Rattle.store_documents.specs.Answers.{AnswersText};
 
-use crate::read::document_of_bytes;
+use crate::read::document_of_body;
 use crate::reserved::has_reserved_below;
 use bson_model::{Document, extjson};
 use bson_text::write_canonical;
@@ -46,6 +46,6 @@ fn text_of_document(alloc: Global, document: &Document, text: &mut String) -> Re
 pub fn text_of_body(alloc: Global, body: &[u8], text: &mut String) -> Result<(), ErrorKind>
     ensures { (d : Members) → IsKept d → body.now ≡ encode d → AnswersText (json_of Canonical d) (string_bytes text.new) result }
 {
-    let document = document_of_bytes(alloc, body)?;
+    let document = document_of_body(alloc, body)?;
     text_of_document(alloc, &document, text)
 }

@@ -66,7 +66,7 @@ update_parses : ParsesAs (update_statement (codes "body")) (first update_text)
 unfolding everything
 update_parses = (refl, refl)
 
-rekey_parses : ParsesAs (update_statement (codes "idkey")) (first rekey_text)
+pub rekey_parses : ParsesAs (update_statement (codes "idkey")) (first rekey_text)
 unfolding everything
 rekey_parses = (refl, refl)
 

@@ -1,8 +1,8 @@
 -- What the replacing of keys says of the rows, from what the second survey found.
-use Rattle.std.proofs.Common.{◌≡◌, inl, inr, ◌⊎◌, ◌++◌, ◌∷◌, [], ℕ, ℤ, List, IfErr, None, Some, Result, Ok, Err, refl, sym, ap, subst, subst₂, ◌∙◌}
+use Rattle.std.proofs.Common.{◌≡◌, inl, inr, ◌⊎◌, ◌++◌, ◌∷◌, [], ℕ, ℤ, List, IfErr, Option, None, Some, false, Result, Ok, Err, refl, sym, ap, subst, subst₂, ◌∙◌}
 use Rattle.sqlite.specs.Clock.{timed}
 use Rattle.sqlite.specs.Order.{Row}
-use Rattle.sqlite.specs.State.{State, IsLive, IsUnchanged, Shown, ShowsRows}
+use Rattle.sqlite.specs.State.{State, IsLive, IsUnchanged, Shown, ShowsRows, Shows as Sees}
 use Rattle.sqlite.specs.Effect.{Database as Held, IsDatabase}
 use Rattle.sqlite.specs.Listing.{understood}
 use Rattle.sqlite.proofs.Callers.{unchanged_then}
@@ -16,7 +16,8 @@ use Rattle.store_table.specs.declared.renewal.Renewals.{Renewals}
 use Rattle.store_table.specs.Check.{AreGood, AreGoodAfter}
 use Rattle.store_table.specs.Open.{all_text, Reads, ReadsNot, RefusesOpening, PassesOpening, IsSettled, KeepsAll}
 use Rattle.store_table.specs.Rows.{TableRow, HasRows, HoldsRows, with_keys_at}
-use Rattle.store_table.specs.Renewal.{IsOwn, AreRenewed, AcceptsOnce, AreRenewals, Renewed, Unrenewed, MayRenew, RenewsOld, AreGoodOnce, PassesOnce}
+use Rattle.store_table.specs.Renewal.{IsOwn, AreRenewed, AcceptsOnce, AreRenewals, Renewed, Unrenewed, MayPut, MayRenew, KeysOfNow, Rekeys, HasRekeyed, HasOldKey, RenewsOld, PassesOnce}
+use Rattle.store_table.specs.Keys.{PutsKeys}
 use Rattle.store_table.proofs.ListedLemmas.{listed_shows}
 use Rattle.store_table.proofs.StatementLemmas.{unchanged_shows, unchanged_keeps, keeps_then, settled_still, seen}
 use Rattle.store_table.proofs.UniqueLemmas.{one_list}
@@ -69,10 +70,7 @@ module _ (accepts : List ℕ → List ℕ → List ℕ → Type 0) (renews : Lis
 
   module _ (r : Renewals) (f : Found r) where
     pub collides : (first second : ℤ) → r.twin ≡ Some (first, second) → Unrenewed accepts renews old mid (IdsCollide first second)
-    collides first second is = (f.docs, f.renewals.after, f.reads, f.renewals.renewed, twin_of accepts renews f.docs r f.renewals first second is)
-
-    pub good_once : AreGoodOnce renews old
-    good_once = (f.docs, read_here old mid f.docs f.reads, f.good)
+    collides first second is = (f.docs, f.renewals.after, f.reads, f.good, f.renewals.renewed, twin_of accepts renews f.docs r f.renewals first second is)
 
     pub nothing_written : KeepsAll old mid
     nothing_written = unchanged_keeps old mid f.reads.unchanged
@@ -95,10 +93,24 @@ module _ (accepts : List ℕ → List ℕ → List ℕ → Type 0) (renews : Lis
             subst (λ (d : Held). SparesOthers d new.now) f.reads.unchanged.0.now_is (spared f.docs (there live ds shows)),
           )
 
-      pub may_renew : (db : Trees) → ((ds : List TableRow) → HoldsRows mid ds → HasRows mid.now db (with_keys_at r.keys.items ds)) → MayRenew accepts renews old db
-      may_renew db made live ds shows =
+      abbrev keys_now : KeysOfNow accepts renews old
+      keys_now =
           let yet = apart_yet accepts renews f.docs r f.renewals none in
-          (f.renewals.after, subst (λ xs. AreRenewed renews xs f.renewals.after) (sym (same live ds shows)) f.renewals.renewed, subst₂ (λ (d : Held) (rows : List TableRow). HasRows d db rows) f.reads.unchanged.0.now_is yet.keys (made f.docs (there live ds shows)))
+          record { docs = f.docs; after = f.renewals.after; keys = r.keys.items; reads = read_here old mid f.docs f.reads; good = f.good; renewed = f.renewals.renewed; apart = yet.good; makes = yet.keys }
+
+      rekeys : mid.step_limit ≡ old.step_limit → (db : Held) → PutsKeys mid.step_limit r.keys.items mid.now db → Rekeys accepts renews old db
+      rekeys limit db put = (keys_now, subst₂ (λ (l : Option ℕ) (d : Held). PutsKeys l r.keys.items d db) limit f.reads.unchanged.0.now_is put)
+
+      pub rekeyed_so : mid.step_limit ≡ old.step_limit → Sees mid new new.now new.now false × PutsKeys mid.step_limit r.keys.items mid.now new.now → HasRekeyed accepts renews old new
+      rekeyed_so limit put = (record { was_open = f.reads.unchanged.0.was_open; is_open = put.0.is_open; now_is = refl; committed_is = put.0.committed_is; mode = put.0.mode }, rekeys limit new.now put.1)
+
+      pub may_renew : mid.step_limit ≡ old.step_limit → (db : Trees) → MayPut r.keys.items mid db → MayRenew accepts renews old db
+      may_renew limit db made = record {
+        shown = λ live ds shows.
+            let yet = apart_yet accepts renews f.docs r f.renewals none in
+            (f.renewals.after, subst (λ xs. AreRenewed renews xs f.renewals.after) (sym (same live ds shows)) f.renewals.renewed, subst₂ (λ (d : Held) (rows : List TableRow). HasRows d db rows) f.reads.unchanged.0.now_is yet.keys (made.shown f.docs (there live ds shows)));
+        rekeyed = (made.put.0, rekeys limit made.put.0 made.put.1, made.put.2);
+      }
 
       pub settled_there : IsSettled old → IsSettled mid
       settled_there = settled_still old mid f.reads.unchanged
@@ -143,10 +155,20 @@ module _ (renews : List ℕ → List ℕ → List ℕ → List ℕ → Type 0) (
         let x = h ds (unchanged_shows old mid ds shows u) in
         (x.0, x.1, x.2, x.3, subst (λ (d : Held). SparesOthers d new.now) u.0.now_is x.4)
 
-    pub back_may : (db : Trees) → MayRenew (IsOwn renews) renews mid db → MayRenew (IsOwn renews) renews old db
-    back_may db h live ds shows =
-        let x = h (live_still live) ds (unchanged_shows old mid ds shows u) in
-        (x.0, x.1, subst (λ (d : Held). HasRows d db x.0) u.0.now_is x.2)
+    back_rekeys : mid.step_limit ≡ old.step_limit → (db : Held) → Rekeys (IsOwn renews) renews mid db → Rekeys (IsOwn renews) renews old db
+    back_rekeys limit db h =
+        let k = h.0 in (
+          record { docs = k.docs; after = k.after; keys = k.keys; reads = read_before old mid k.docs u k.reads; good = k.good; renewed = k.renewed; apart = k.apart; makes = k.makes },
+          subst₂ (λ (l : Option ℕ) (d : Held). PutsKeys l k.keys d db) limit u.0.now_is h.1,
+        )
+
+    back_may : mid.step_limit ≡ old.step_limit → (db : Trees) → MayRenew (IsOwn renews) renews mid db → MayRenew (IsOwn renews) renews old db
+    back_may limit db h = record {
+      shown = λ live ds shows.
+          let x = h.shown (live_still live) ds (unchanged_shows old mid ds shows u) in
+          (x.0, x.1, subst (λ (d : Held). HasRows d db x.0) u.0.now_is x.2);
+      rekeyed = (h.rekeyed.0, back_rekeys limit h.rekeyed.0 h.rekeyed.1, h.rekeyed.2);
+    }
 
     not_read_back : ReadsNot mid new → ReadsNot old new
     not_read_back (inl fault, same) = (inl (fault.0, ap (λ (x : Held). understood x.schema all_text) (sym u.0.now_is) ∙ fault.1), unchanged_then old mid new u same)
@@ -155,7 +177,7 @@ module _ (renews : List ℕ → List ℕ → List ℕ → List ℕ → Type 0) (
     pub back_unrenewed : (e : OpenError) → Unrenewed (IsOwn renews) renews mid new e → Unrenewed (IsOwn renews) renews old new e
     back_unrenewed NotAStore h = not_read_back h
     back_unrenewed (BadRow place) h = (h.0, reads_back h.0 h.1, h.2)
-    back_unrenewed (IdsCollide first second) h = (h.0, h.1, reads_back h.0 h.2, h.3, h.4)
+    back_unrenewed (IdsCollide first second) h = (h.0, h.1, reads_back h.0 h.2, h.3, h.4, h.5)
     back_unrenewed Memory h = tt
     back_unrenewed Database h = tt
 
@@ -166,9 +188,15 @@ module _ (renews : List ℕ → List ℕ → List ℕ → List ℕ → Type 0) (
     back_kept = keeps_then old mid new (unchanged_keeps old mid u)
 
     -- a row that isn't good under its own key was read
-    pub renews_old : (place : ℤ) → RefusesOpening (IsOwn renews) old mid (BadRow place) → (db : Trees) → MayRenew (IsOwn renews) renews mid db → RenewsOld renews old db
-    renews_old place bad db may = ((bad.0, place, read_here old mid bad.0 bad.1, bad.2), back_may db may)
+    old_key : (place : ℤ) → RefusesOpening (IsOwn renews) old mid (BadRow place) → HasOldKey renews old
+    old_key place bad = (bad.0, place, read_here old mid bad.0 bad.1, bad.2)
 
-    -- and then rows that are good under some key
-    pub passed_once : (place : ℤ) → RefusesOpening (IsOwn renews) old mid (BadRow place) → AreGoodOnce renews mid → PassesOnce renews old new
-    passed_once place bad good = inr ((bad.0, place, read_here old mid bad.0 bad.1, bad.2), (good.0, read_before old mid good.0 u good.1, good.2))
+    pub renews_old : mid.step_limit ≡ old.step_limit → (place : ℤ) → RefusesOpening (IsOwn renews) old mid (BadRow place) → (db : Trees) → MayRenew (IsOwn renews) renews mid db → RenewsOld renews old db
+    renews_old limit place bad db may = (old_key place bad, back_may limit db may)
+
+    -- and then the keys of now were put
+    pub passed_once : mid.step_limit ≡ old.step_limit → (place : ℤ) → RefusesOpening (IsOwn renews) old mid (BadRow place) → HasRekeyed (IsOwn renews) renews mid new → PassesOnce renews old new
+    passed_once limit place bad done = inr (
+      old_key place bad,
+      (record { was_open = u.0.was_open; is_open = done.0.is_open; now_is = refl; committed_is = done.0.committed_is; mode = done.0.mode }, back_rekeys limit new.now done.1),
+    )

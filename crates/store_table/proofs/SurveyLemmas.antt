@@ -54,7 +54,7 @@ module _ (renews : List ℕ → List ℕ → List ℕ → List ℕ → Type 0) (
         → (docs : List TableRow) × (after : List TableRow) × HoldsRows old docs × HoldsRows new after × AreRenewed renews docs after × AreGood (IsOwn renews) after
     listed_by_read live auto settled has = elim passed [
       | inl p ↦ one_list_of p.0 (shows_read (IsOwn renews) old new p.0 has live auto settled p.1 p.2)
-      | inr p ↦ one_list_of p.1.0 (shows_read (AcceptsOnce renews) old old p.1.0 has live auto settled p.1.1 p.1.2)
+      | inr p ↦ let now = p.1.1.0 in one_list_of now.docs (shows_read (AcceptsOnce renews) old old now.docs has live auto settled now.reads now.good)
     ]
 
     unwritten_by : (docs : List TableRow) → HoldsRows old docs → AreGood (IsOwn renews) docs → IsUnchanged old new

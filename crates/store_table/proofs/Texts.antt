@@ -11,6 +11,7 @@ use Rattle.sqlite.specs.Compile.{table_defined_by}
 use Rattle.sqlite.specs.declared.types.Value.TheVariants.{Null, Int}
 use Rattle.sqlite_tied.specs.Compute.{everything}
 use Rattle.store_table.specs.Schema.{documents}
+pub use Rattle.store_table.specs.Keys.{rekey_text}
 use Rattle.store_table.specs.Visit.{IsSelect}
 
 abbrev pub create_text : List ℕ
@@ -48,9 +49,6 @@ delete_text = codes "DELETE FROM documents WHERE place = ?1"
 
 abbrev pub update_text : List ℕ
 update_text = codes "UPDATE documents SET body = ?2 WHERE place = ?1"
-
-abbrev pub rekey_text : List ℕ
-rekey_text = codes "UPDATE documents SET idkey = ?2 WHERE place = ?1"
 
 abbrev pub greatest_text : List ℕ
 greatest_text = codes "SELECT place FROM documents ORDER BY place DESC LIMIT 1"

@@ -1,10 +1,11 @@
 -- Rows under old keys, and the rows that they become.
-use Rattle.std.specs.Prelude.{◌≡◌, ◌⊎◌, ◌++◌, ◌∷◌, [], ◌≤ℤ◌, ℕ, ℤ, List, Some, option_map, find, MatchOption}
+use Rattle.std.specs.Prelude.{◌≡◌, ◌⊎◌, ◌++◌, ◌∷◌, [], ◌≤ℤ◌, ℕ, ℤ, false, List, Some, option_map, find, MatchOption}
 use Rattle.std.specs.List.{AllByRecursion}
 use Rattle.std.specs.BTreeMap.{BTreeMap, get}
 use Rattle.store_table.specs.declared.row.NewKey.{NewKey}
 use Rattle.store_table.specs.declared.renewal.Renewals.{Renewals}
-use Rattle.sqlite.specs.State.{State, IsLive, IsUnchanged}
+use Rattle.sqlite.specs.State.{State, IsLive, IsUnchanged, Shows as Sees}
+use Rattle.sqlite.specs.Effect.{Database as Held}
 use Rattle.sqlite_trees.specs.Tree.{Trees}
 use Rattle.store_table.specs.declared.opening.OpenError.{OpenError}
 use Rattle.store_table.specs.declared.opening.OpenError.TheVariants.{NotAStore, BadRow, IdsCollide, Memory, Database}
@@ -14,6 +15,12 @@ use Rattle.store_table.specs.Schema.{HasStoreTable}
 use Rattle.store_table.specs.Rows.{TableRow, IsBlank, HoldsRows, HasRows, is_row_named, with_keys_at, last_place}
 use Rattle.store_table.specs.Check.{AreGood, IsFirstBad}
 use Rattle.store_table.specs.Seen.{Pair, pair_cmp}
+use Rattle.store_table.specs.Keys.{PutsKeys}
+
+-- what may be committed where these keys are put
+pub record MayPut (keys : List NewKey) (old : State) (trees : Trees) : Type 0 where
+  pub shown : (docs : List TableRow) → HoldsRows old docs → HasRows old.now trees (with_keys_at keys docs)
+  pub put : (db : Held) × PutsKeys old.step_limit keys old.now db × (trees ≡ db.trees)
 
 -- the map has the place of each row under its key and its collection
 abbrev pub HasPlaces : BTreeMap Pair ℤ → List TableRow → Type 0
@@ -74,13 +81,35 @@ module _ (accepts : List ℕ → List ℕ → List ℕ → Type 0) (renews : Lis
   abbrev pub Unrenewed : State → State → OpenError → Type 0
   Unrenewed old new NotAStore = ReadsNot old new
   Unrenewed old new (BadRow place) = (docs : List TableRow) × Reads old new docs × IsFirstBad (AcceptsOnce renews) docs place
-  Unrenewed old new (IdsCollide first second) = (docs : List TableRow) × (after : List TableRow) × Reads old new docs × AreRenewed renews docs after × IsTwin accepts after first second
+  Unrenewed old new (IdsCollide first second) =
+      (docs : List TableRow) × (after : List TableRow) × Reads old new docs × AreGood (AcceptsOnce renews) docs × AreRenewed renews docs after × IsTwin accepts after first second
   Unrenewed old new Memory = Unit {0}
   Unrenewed old new Database = Unit {0}
 
+  -- The rows that are read are good under some key, and these keys, each at its place, make them rows under keys of now, no two of
+  -- which have one collection and key.
+  pub record KeysOfNow (old : State) : Type 0 where
+    pub docs : List TableRow
+    pub after : List TableRow
+    pub keys : List NewKey
+    pub reads : Reads old old docs
+    pub good : AreGood (AcceptsOnce renews) docs
+    pub renewed : AreRenewed renews docs after
+    pub apart : AreGood accepts after
+    pub makes : with_keys_at keys docs ≡ after
+
+  -- Such keys were put into the table, whatever its rules, and nothing else was written.
+  abbrev pub Rekeys : State → Held → Type 0
+  Rekeys old db = (now : KeysOfNow old) × PutsKeys old.step_limit now.keys old.now db
+
+  -- this was committed
+  abbrev pub HasRekeyed : State → State → Type 0
+  HasRekeyed old new = Sees old new new.now new.now false × Rekeys old new.now
+
   -- what may be committed on the way
-  abbrev pub MayRenew : State → Trees → Type 0
-  MayRenew old trees = IsLive old → (docs : List TableRow) → HoldsRows old docs → (after : List TableRow) × AreRenewed renews docs after × HasRows old.now trees after
+  pub record MayRenew (old : State) (trees : Trees) : Type 0 where
+    pub shown : IsLive old → (docs : List TableRow) → HoldsRows old docs → (after : List TableRow) × AreRenewed renews docs after × HasRows old.now trees after
+    pub rekeyed : (db : Held) × Rekeys old db × (trees ≡ db.trees)
 
 module _ (renews : List ℕ → List ℕ → List ℕ → List ℕ → Type 0) where
   -- a row that is read isn't good under its own key
@@ -91,13 +120,9 @@ module _ (renews : List ℕ → List ℕ → List ℕ → List ℕ → Type 0) w
   abbrev pub RenewsOld : State → Trees → Type 0
   RenewsOld old trees = HasOldKey old × MayRenew (IsOwn renews) renews old trees
 
-  -- each row that is read is good under some key
-  abbrev pub AreGoodOnce : State → Type 0
-  AreGoodOnce old = (docs : List TableRow) × Reads old old docs × AreGood (AcceptsOnce renews) docs
-
-  -- the rows are good under their own keys, and nothing changes; or one of them isn't, and all are good under some key
+  -- the rows are good under their own keys, and nothing changes; or one of them isn't, and the keys of now were put
   abbrev pub PassesOnce : State → State → Type 0
-  PassesOnce old new = PassesOpening (IsOwn renews) old new ⊎ (HasOldKey old × AreGoodOnce old)
+  PassesOnce old new = PassesOpening (IsOwn renews) old new ⊎ (HasOldKey old × HasRekeyed (IsOwn renews) renews old new)
 
   -- what an open leaves: the table made, beside what there was, or found with rows that a store can have written, which have their
   -- keys of now

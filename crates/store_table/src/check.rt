@@ -3,7 +3,8 @@
 ghost use Rattle.std.specs.Prelude.{◌≡◌, ◌++◌, ◌∷◌, [], ◌&&◌, ◌||◌, ℕ, not, List, false, Err, IsTrue, IfOk, IfErr, IsOk, OnOk, OnErr, MatchBool, MatchOption, bytes_eq};
 ghost use Rattle.sqlite_value.specs.Order.{column};
 ghost use Rattle.sqlite.specs.Held.{state};
-ghost use Rattle.sqlite.specs.State.{HasCleanDisk, Survives};
+ghost use Rattle.sqlite.specs.State.{HasCleanDisk};
+ghost use Rattle.store_table.specs.Crash.{AddsNothing};
 ghost use Rattle.store_table.specs.Rows.{TableRow, last_place};
 ghost use Rattle.store_table.specs.Cells.{is_listed, int_in, doc_of};
 ghost use Rattle.store_table.specs.Check.{IsGoodAfter};
@@ -146,7 +147,7 @@ pub(crate) fn survey<S: Alter, J: TestsRows>(
     ensures refused { HasCleanDisk (state S.Store conn.new) → IfErr result (λ e. RefusesOpening (J.accepts check.now) (state S.Store conn.old) (state S.Store conn.new) e) }
     ensures kept { HasCleanDisk (state S.Store conn.new) → IsSettled (state S.Store conn.old)
         → OnErr result (KeepsAll (state S.Store conn.old) (state S.Store conn.new)) }
-    ensures crash { Survives (state S.Store conn.old) (state S.Store conn.new) (λ _. ⊥) }
+    ensures crash { AddsNothing (state S.Store conn.old) (state S.Store conn.new) }
 {
     let mut rows = match conn.query(sql::ALL_ROWS, &[]) {
         Ok(rows) => rows,

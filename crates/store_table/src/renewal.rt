@@ -1,14 +1,16 @@
 //! Rows under old keys, which get their keys of now.
 
-ghost use Rattle.std.specs.Prelude.{◌≡◌, ◌++◌, ◌∷◌, [], List, Option, None, option_map, find, IfOk, IfErr, IsOk, MatchResult, Ok, Err, OnOk, OnErr};
+ghost use Rattle.std.specs.Prelude.{◌≡◌, ◌++◌, ◌∷◌, [], false, List, Option, None, option_map, find, IfOk, IfErr, IsOk, MatchResult, Ok, Err, OnOk, OnErr};
 ghost use Rattle.store_table.specs.Cells.{doc_of};
 ghost use Rattle.sqlite.specs.Held.{state};
-ghost use Rattle.sqlite.specs.State.{HasCleanDisk, Survives, IsLive};
+ghost use Rattle.sqlite.specs.State.{HasCleanDisk, Survives, IsLive, Shows as Sees};
+ghost use Rattle.store_table.specs.Crash.{AddsNothing};
 ghost use Rattle.store_table.specs.Check.{AreGood, IsGoodAfter};
 ghost use Rattle.store_table.specs.Open.{IsSettled, KeepsAll, Reads, RefusesOpening};
-ghost use Rattle.store_table.specs.Rows.{TableRow, HasRows, HoldsRows, with_keys_at, is_row_named};
+ghost use Rattle.store_table.specs.Rows.{TableRow, HoldsRows, with_keys_at, is_row_named};
 ghost use Rattle.store_table.specs.Beside.{SparesOthers};
-ghost use Rattle.store_table.specs.Renewal.{HasPlaces, AcceptsOnce, IsOwn, AreRenewals, Renewed, Unrenewed, MayRenew, RenewsOld, AreGoodOnce, PassesOnce};
+ghost use Rattle.store_table.specs.Renewal.{HasPlaces, AcceptsOnce, IsOwn, AreRenewals, Renewed, Unrenewed, HasRekeyed, MayPut, MayRenew, RenewsOld, PassesOnce};
+ghost use Rattle.store_table.specs.Keys.{PutsKeys};
 
 use crate::check::{Own, RowCheck, TestsRows, judge, survey};
 use crate::opening::{OpenError, bytes_at, place_in, refusal};
@@ -148,7 +150,7 @@ pub(crate) fn survey_old<S: Alter, C: RowCheck>(
     ensures refused { HasCleanDisk (state S.Store conn.new) → IfErr result (λ e. RefusesOpening (AcceptsOnce (C.renews check.now)) (state S.Store conn.old) (state S.Store conn.new) e) }
     ensures kept { HasCleanDisk (state S.Store conn.new) → IsSettled (state S.Store conn.old)
         → OnErr result (KeepsAll (state S.Store conn.old) (state S.Store conn.new)) }
-    ensures crash { Survives (state S.Store conn.old) (state S.Store conn.new) (λ _. ⊥) }
+    ensures crash { AddsNothing (state S.Store conn.old) (state S.Store conn.new) }
 {
     let mut rows = match conn.query(sql::ALL_ROWS, &[]) {
         Ok(rows) => rows,
@@ -183,10 +185,11 @@ fn write_keys<S: Alter>(conn: &mut Connection<S>, keys: &[NewKey]) -> Result<(),
         → OnOk result (HoldsRows (state S.Store conn.new) (with_keys_at keys.now docs)) }
     ensures spared { HasCleanDisk (state S.Store conn.new) → (docs : List TableRow) → HoldsRows (state S.Store conn.old) docs
         → OnOk result (SparesOthers (state S.Store conn.old).now (state S.Store conn.new).now) }
+    ensures puts { HasCleanDisk (state S.Store conn.new) → OnOk result (Sees (state S.Store conn.old) (state S.Store conn.new) (state S.Store conn.new).now (state S.Store conn.new).now false
+        × PutsKeys (state S.Store conn.old).step_limit keys.now (state S.Store conn.old).now (state S.Store conn.new).now) }
     ensures kept { HasCleanDisk (state S.Store conn.new) → IsSettled (state S.Store conn.old)
         → OnErr result (KeepsAll (state S.Store conn.old) (state S.Store conn.new)) }
-    ensures crash { Survives (state S.Store conn.old) (state S.Store conn.new)
-        (λ trees. (docs : List TableRow) → HoldsRows (state S.Store conn.old) docs → HasRows (state S.Store conn.old).now trees (with_keys_at keys.now docs)) }
+    ensures crash { Survives (state S.Store conn.old) (state S.Store conn.new) (MayPut keys.now (state S.Store conn.old)) }
 {
     rekey_all(conn, keys)
 }
@@ -198,7 +201,7 @@ pub(crate) fn renew<S: Alter, C: RowCheck>(
     check: &C,
 ) -> Result<(), OpenError>
     ensures renewed { HasCleanDisk (state S.Store conn.new) → IsLive (state S.Store conn.old) → OnOk result (Renewed (IsOwn (C.renews check.now)) (C.renews check.now) (state S.Store conn.old) (state S.Store conn.new)) }
-    ensures read { HasCleanDisk (state S.Store conn.new) → OnOk result (AreGoodOnce (C.renews check.now) (state S.Store conn.old)) }
+    ensures read { HasCleanDisk (state S.Store conn.new) → OnOk result (HasRekeyed (IsOwn (C.renews check.now)) (C.renews check.now) (state S.Store conn.old) (state S.Store conn.new)) }
     ensures refused { HasCleanDisk (state S.Store conn.new) → IfErr result (λ e. Unrenewed (IsOwn (C.renews check.now)) (C.renews check.now) (state S.Store conn.old) (state S.Store conn.new) e) }
     ensures kept { HasCleanDisk (state S.Store conn.new) → IsSettled (state S.Store conn.old)
         → OnErr result (KeepsAll (state S.Store conn.old) (state S.Store conn.new)) }

@@ -4,10 +4,14 @@ ghost use Rattle.std.specs.Prelude.{◌≡◌, ◌≢◌, ◌+ℤ◌, ◌<ℤ◌
 ghost use Rattle.sqlite.specs.declared.types.Value.TheVariants.{Int, Blob};
 ghost use Rattle.sqlite.specs.Held.{state};
 ghost use Rattle.sqlite.specs.State.{HasCleanDisk, Survives};
-ghost use Rattle.store_table.specs.Rows.{TableRow, IsBlank, AreBelow, HasRows, HoldsRows, Inside, KeepsCommitted, docs_from, without_place, with_body_at, with_key_at, with_keys_at, is_row_named, last_place};
+ghost use Rattle.store_table.specs.Crash.{AddsNothing, MayChange};
+ghost use Rattle.store_table.specs.Rows.{TableRow, IsBlank, AreBelow, HoldsRows, Inside, KeepsCommitted, docs_from, without_place, with_body_at, with_key_at, with_keys_at, is_row_named, last_place};
 ghost use Rattle.store_table.specs.Moves.{MayLeave};
 ghost use Rattle.store_table.specs.Open.{IsSettled, KeepsAll, HasCommitted};
 ghost use Rattle.store_table.specs.Beside.{StandsBeside, AreBeside, SparesOthers};
+ghost use Rattle.store_table.specs.Keys.{PutsKey, PutsKeys};
+ghost use Rattle.store_table.specs.Renewal.{MayPut};
+ghost use Rattle.sqlite.specs.State.{Shows as Sees};
 ghost use Rattle.store_table.specs.Visit.{ReadsRows};
 ghost use Rattle.store_table.specs.Written.{WritesRows};
 
@@ -39,7 +43,7 @@ fn insert_row<'a, S: Alter>(
     ensures written { HasCleanDisk (state S.Store conn.new) → IsTrue (state S.Store conn.old).is_open
         → WritesRows (state S.Store conn.old) (state S.Store conn.new) (λ docs. docs ++ record { place = place; coll = coll.now; idkey = idkey.now; body = body.now } ∷ []) result }
     ensures crash { Survives (state S.Store conn.old) (state S.Store conn.new)
-        (λ trees. (docs : List TableRow) → HoldsRows (state S.Store conn.old) docs → HasRows (state S.Store conn.old).now trees (docs ++ record { place = place; coll = coll.now; idkey = idkey.now; body = body.now } ∷ [])) }
+        (MayChange (λ docs. docs ++ record { place = place; coll = coll.now; idkey = idkey.now; body = body.now } ∷ []) (state S.Store conn.old)) }
 {
     conn.execute(
         sql::ADD_ROW,
@@ -65,7 +69,7 @@ pub(crate) fn add_committed<'a, S: Alter>(
     ensures written { HasCleanDisk (state S.Store conn.new) → IsTrue (state S.Store conn.old).is_open
         → WritesRows (state S.Store conn.old) (state S.Store conn.new) (λ docs. docs ++ record { place = place; coll = coll.now; idkey = idkey.now; body = body.now } ∷ []) result }
     ensures crash { Survives (state S.Store conn.old) (state S.Store conn.new)
-        (λ trees. (docs : List TableRow) → HoldsRows (state S.Store conn.old) docs → HasRows (state S.Store conn.old).now trees (docs ++ record { place = place; coll = coll.now; idkey = idkey.now; body = body.now } ∷ [])) }
+        (MayChange (λ docs. docs ++ record { place = place; coll = coll.now; idkey = idkey.now; body = body.now } ∷ []) (state S.Store conn.old)) }
 {
     insert_row(conn, place, coll, idkey, body)
 }
@@ -101,7 +105,7 @@ pub(crate) fn named<'a, S: Alter>(
     ensures rows { HasCleanDisk (state S.Store conn.new) → (docs : List TableRow) → HoldsRows (state S.Store conn.old) docs
         → IfOk result (λ rows. rows.items ≡ map (λ d. Int d.place ∷ Blob d.body ∷ []) (filter (is_row_named coll.now idkey.now) docs)) }
     ensures read { HasCleanDisk (state S.Store conn.new) → ReadsRows (state S.Store conn.old) (state S.Store conn.new) result }
-    ensures crash { Survives (state S.Store conn.old) (state S.Store conn.new) (λ _. ⊥) }
+    ensures crash { AddsNothing (state S.Store conn.old) (state S.Store conn.new) }
 {
     conn.query_all(
         sql::NAMED,
@@ -118,7 +122,7 @@ pub(crate) fn places<'a, S: Alter>(
     ensures rows { HasCleanDisk (state S.Store conn.new) → (docs : List TableRow) → HoldsRows (state S.Store conn.old) docs
         → IfOk result (λ rows. rows.items ≡ map (λ d. Int d.place ∷ []) (filter (is_row_named coll.now idkey.now) docs)) }
     ensures read { HasCleanDisk (state S.Store conn.new) → ReadsRows (state S.Store conn.old) (state S.Store conn.new) result }
-    ensures crash { Survives (state S.Store conn.old) (state S.Store conn.new) (λ _. ⊥) }
+    ensures crash { AddsNothing (state S.Store conn.old) (state S.Store conn.new) }
 {
     conn.query_all(
         sql::PLACES,
@@ -131,7 +135,7 @@ pub(crate) fn greatest_if_any<S: Alter>(conn: &mut Connection<S>) -> Result<Opti
     ensures place { HasCleanDisk (state S.Store conn.new) → (docs : List TableRow) → HoldsRows (state S.Store conn.old) docs
         → IfOk result (λ place. MatchOption place (docs ≡ []) (λ p. (docs ≢ []) × (p ≡ last_place docs))) }
     ensures read { HasCleanDisk (state S.Store conn.new) → ReadsRows (state S.Store conn.old) (state S.Store conn.new) result }
-    ensures crash { Survives (state S.Store conn.old) (state S.Store conn.new) (λ _. ⊥) }
+    ensures crash { AddsNothing (state S.Store conn.old) (state S.Store conn.new) }
 {
     match conn.query_row(sql::GREATEST_PLACE, &[]) {
         Ok(row) => Ok(Some(place_in(&row))),
@@ -144,7 +148,7 @@ pub(crate) fn greatest_if_any<S: Alter>(conn: &mut Connection<S>) -> Result<Opti
 pub(crate) fn greatest<S: Alter>(conn: &mut Connection<S>) -> Result<i64, Error>
     ensures place { HasCleanDisk (state S.Store conn.new) → (docs : List TableRow) → HoldsRows (state S.Store conn.old) docs → IfOk result (λ place. place ≡ last_place docs) }
     ensures read { HasCleanDisk (state S.Store conn.new) → ReadsRows (state S.Store conn.old) (state S.Store conn.new) result }
-    ensures crash { Survives (state S.Store conn.old) (state S.Store conn.new) (λ _. ⊥) }
+    ensures crash { AddsNothing (state S.Store conn.old) (state S.Store conn.new) }
 {
     let place = greatest_if_any(conn)?;
     Ok(place.unwrap_or(0))
@@ -167,7 +171,7 @@ fn put<'a, 't, S: Alter>(
         → OnOk result (SparesOthers (state S.Store tx.old.conn.now).now (state S.Store tx.new.conn.now).now) }
     ensures inside { HasCleanDisk (state S.Store tx.new.conn.now) → IsTrue (state S.Store tx.old.conn.now).in_transaction → OnOk result (IsTrue (state S.Store tx.new.conn.now).in_transaction) }
     ensures committed { HasCleanDisk (state S.Store tx.new.conn.now) → IsTrue (state S.Store tx.old.conn.now).in_transaction → HasCommitted (state S.Store tx.old.conn.now) (state S.Store tx.new.conn.now) }
-    ensures crash { Survives (state S.Store tx.old.conn.now) (state S.Store tx.new.conn.now) (λ _. ⊥) }
+    ensures crash { AddsNothing (state S.Store tx.old.conn.now) (state S.Store tx.new.conn.now) }
 {
     tx.execute(
         sql::ADD_ROW,
@@ -198,7 +202,7 @@ pub(crate) fn add_all<S: Alter>(
     ensures kept { HasCleanDisk (state S.Store conn.new) → IsSettled (state S.Store conn.old)
         → OnErr result (KeepsAll (state S.Store conn.old) (state S.Store conn.new)) }
     ensures crash { Survives (state S.Store conn.old) (state S.Store conn.new)
-        (λ trees. (docs : List TableRow) → HoldsRows (state S.Store conn.old) docs → HasRows (state S.Store conn.old).now trees (docs ++ docs_from (last +ℤ pos 1) coll.now rows.now)) }
+        (MayChange (λ docs. docs ++ docs_from (last +ℤ pos 1) coll.now rows.now) (state S.Store conn.old)) }
 {
     if !conn.is_autocommit() {
         return Err(Error::SqliteFailure(ErrorCode::TransactionState));
@@ -225,9 +229,11 @@ fn rekey<'a, 't, S: Alter>(
         → IsTrue (state S.Store tx.new.conn.now).is_open → OnErr result (KeepsCommitted (state S.Store tx.new.conn.now) first) }
     ensures spared { HasCleanDisk (state S.Store tx.new.conn.now) → (first docs : List TableRow) → Inside (state S.Store tx.old.conn.now) first docs
         → OnOk result (SparesOthers (state S.Store tx.old.conn.now).now (state S.Store tx.new.conn.now).now) }
+    ensures puts { HasCleanDisk (state S.Store tx.new.conn.now) → IsTrue (state S.Store tx.old.conn.now).in_transaction
+        → OnOk result (PutsKey (state S.Store tx.old.conn.now).step_limit place idkey.now (state S.Store tx.old.conn.now).now (state S.Store tx.new.conn.now).now) }
     ensures inside { HasCleanDisk (state S.Store tx.new.conn.now) → IsTrue (state S.Store tx.old.conn.now).in_transaction → OnOk result (IsTrue (state S.Store tx.new.conn.now).in_transaction) }
     ensures committed { HasCleanDisk (state S.Store tx.new.conn.now) → IsTrue (state S.Store tx.old.conn.now).in_transaction → HasCommitted (state S.Store tx.old.conn.now) (state S.Store tx.new.conn.now) }
-    ensures crash { Survives (state S.Store tx.old.conn.now) (state S.Store tx.new.conn.now) (λ _. ⊥) }
+    ensures crash { AddsNothing (state S.Store tx.old.conn.now) (state S.Store tx.new.conn.now) }
 {
     tx.execute(sql::PUT_KEY, &[ValueRef::Int(place), ValueRef::Blob(idkey)])
 }
@@ -240,10 +246,12 @@ pub(crate) fn rekey_all<S: Alter>(conn: &mut Connection<S>, keys: &[NewKey]) -> 
         → IsTrue (state S.Store conn.new).is_open → OnErr result (HoldsRows (state S.Store conn.new) docs) }
     ensures spared { HasCleanDisk (state S.Store conn.new) → (docs : List TableRow) → HoldsRows (state S.Store conn.old) docs
         → OnOk result (SparesOthers (state S.Store conn.old).now (state S.Store conn.new).now) }
+    ensures puts { HasCleanDisk (state S.Store conn.new) → OnOk result (Sees (state S.Store conn.old) (state S.Store conn.new) (state S.Store conn.new).now (state S.Store conn.new).now false
+        × PutsKeys (state S.Store conn.old).step_limit keys.now (state S.Store conn.old).now (state S.Store conn.new).now) }
     ensures kept { HasCleanDisk (state S.Store conn.new) → IsSettled (state S.Store conn.old)
         → OnErr result (KeepsAll (state S.Store conn.old) (state S.Store conn.new)) }
     ensures crash { Survives (state S.Store conn.old) (state S.Store conn.new)
-        (λ trees. (docs : List TableRow) → HoldsRows (state S.Store conn.old) docs → HasRows (state S.Store conn.old).now trees (with_keys_at keys.now docs)) }
+        (MayPut keys.now (state S.Store conn.old)) }
 {
     if !conn.is_autocommit() {
         return Err(Error::SqliteFailure(ErrorCode::TransactionState));

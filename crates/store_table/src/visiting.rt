@@ -3,7 +3,8 @@
 ghost use Rattle.std.specs.Prelude.{◌≡◌, ℕ, List, [], ◌∷◌, ◌++◌, false, IsTrue, IfOk};
 ghost use Rattle.sqlite.specs.Values.{bound};
 ghost use Rattle.sqlite.specs.Held.{state};
-ghost use Rattle.sqlite.specs.State.{HasCleanDisk, Survives};
+ghost use Rattle.sqlite.specs.State.{HasCleanDisk};
+ghost use Rattle.store_table.specs.Crash.{AddsNothing};
 ghost use Rattle.store_table.specs.Visit.{IsSelect, ReadsRows, TookRows, TookSome};
 
 use crate::opening::bytes_at;
@@ -38,7 +39,7 @@ pub(crate) fn visit_values<S: Alter, V: Visit>(
     ensures some { HasCleanDisk (state S.Store conn.new) → V.took visitor.old visitor.old [] → TookSome (V.took visitor.old) visitor.new sql.now (bound params.now) (state S.Store conn.old) }
     ensures stopped { IfOk result (λ all. all ≡ false → V.is_done visitor.new) }
     ensures read { HasCleanDisk (state S.Store conn.new) → ReadsRows (state S.Store conn.old) (state S.Store conn.new) result }
-    ensures crash { Survives (state S.Store conn.old) (state S.Store conn.new) (λ _. ⊥) }
+    ensures crash { AddsNothing (state S.Store conn.old) (state S.Store conn.new) }
 {
     let mut rows = conn.query(sql, params)?;
     let mut wants = true;

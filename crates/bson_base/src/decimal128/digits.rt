@@ -83,7 +83,7 @@ impl<'a> Digits<'a> {
         if count <= self.whole.len() {
             Digits {
                 whole: &self.whole[..count],
-                part: &self.part[..0],
+                part: b"",
             }
         } else {
             Digits {

@@ -67,18 +67,9 @@ fn read_exponent(text: Option<&[u8]>) -> Result<u32, ParseError>
     match text {
         None => Ok(READING_BIAS),
         Some([]) => Err(ParseError::EmptyExponent),
-        Some([first, rest @ ..]) => {
-            if *first == b'+' {
-                upward(rest)
-            } else if *first == b'-' {
-                downward(rest)
-            } else {
-                match text {
-                    Some(whole) => upward(whole),
-                    None => Ok(READING_BIAS),
-                }
-            }
-        }
+        Some([b'+', rest @ ..]) => upward(rest),
+        Some([b'-', rest @ ..]) => downward(rest),
+        Some(whole) => upward(whole),
     }
 }
 
@@ -88,13 +79,7 @@ fn read_coefficient(text: &[u8]) -> Result<(Digits<'_>, usize), ParseError>
     ensures digits { IfOk result (λ p. are_digits (digits_of p.0) ≡ true) }
 {
     match cut_at(text, b'.', b'.') {
-        (whole, None) => check(
-            Digits {
-                whole,
-                part: &whole[..0],
-            },
-            0,
-        ),
+        (whole, None) => check(Digits { whole, part: b"" }, 0),
         (whole, Some(part)) => check(Digits { whole, part }, part.len()),
     }
 }

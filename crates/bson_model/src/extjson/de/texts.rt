@@ -73,7 +73,7 @@ fn split_dot(text: &[u8]) -> (&[u8], &[u8])
     ensures { result.0.now ++ result.1.now ≡ without_dot text.now }
 {
     match cut_at(text, b'.', b'.') {
-        (whole, None) => (whole, &whole[..0]),
+        (whole, None) => (whole, b""),
         (whole, Some(part)) => (whole, part),
     }
 }

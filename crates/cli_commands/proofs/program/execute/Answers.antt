@@ -5,6 +5,7 @@ use Rattle.store_table.specs.Moves.{Moves}
 use Rattle.bson_store.specs.Calls.{store_state}
 use Rattle.cli_words.specs.Lines.{complaint_line, refusal_line}
 use Rattle.cli_commands.specs.Execute.{Executes}
+use Rattle.cli_commands.specs.Leaving.{LeavesAsked}
 use Rattle.cli_commands.specs.declared.stop.Failure.{Failure}
 use Rattle.cli_commands.specs.declared.stop.Failure.TheVariants.{Refused, Words}
 use Rattle.cli_commands.proofs.Telling.{writes}
@@ -41,4 +42,37 @@ returns-in-Err-Words-clause-step g c =
       Err (Words w),
       (refl, writes line.result (g.F.Sink.tally c.args.faults.now) (g.F.Sink.tally line.new.sink) (complaint_line w) line.ensures.counts line.ensures.ok line.ensures.err),
       subst (λ (x : Failure). Moves s t (Executes c.args.words.now fed left old new (Err x))) c.in-Err-Words.field-0-is c.in-Err-Words.ensures.step,
+    )
+
+pub returns-in-Ok-clause-crash : goal.returns-in-Ok-clause-crash
+returns-in-Ok-clause-crash g c = (Ok tt, refl, c.in-Ok.ensures.crash)
+
+pub returns-in-Err-Refused-clause-crash : goal.returns-in-Err-Refused-clause-crash
+returns-in-Err-Refused-clause-crash g c =
+    let e = c.in-Err-Refused.error in
+    let line = c.write_refusal in
+    let s : State = store_state g.S.Store c.args.store.now in
+    let t : State = store_state g.S.Store c.obey.new.store in
+    let fed : Feed = g.I.Source.feed c.args.input.now in
+    let left : Feed = g.I.Source.feed c.obey.new.input in
+    let old : Tally = g.O.Sink.tally c.args.output.now in
+    let new : Tally = g.O.Sink.tally c.obey.new.output in (
+      Err (Refused e),
+      (refl, writes line.result (g.F.Sink.tally c.args.faults.now) (g.F.Sink.tally line.new.sink) (refusal_line e.kind e.document) line.ensures.counts line.ensures.ok line.ensures.err),
+      subst (λ (x : Failure). LeavesAsked c.args.words.now fed left old new (Err x) s t) c.in-Err-Refused.field-0-is c.in-Err-Refused.ensures.crash,
+    )
+
+pub returns-in-Err-Words-clause-crash : goal.returns-in-Err-Words-clause-crash
+returns-in-Err-Words-clause-crash g c =
+    let w = c.in-Err-Words.complaint in
+    let line = c.write_complaint in
+    let s : State = store_state g.S.Store c.args.store.now in
+    let t : State = store_state g.S.Store c.obey.new.store in
+    let fed : Feed = g.I.Source.feed c.args.input.now in
+    let left : Feed = g.I.Source.feed c.obey.new.input in
+    let old : Tally = g.O.Sink.tally c.args.output.now in
+    let new : Tally = g.O.Sink.tally c.obey.new.output in (
+      Err (Words w),
+      (refl, writes line.result (g.F.Sink.tally c.args.faults.now) (g.F.Sink.tally line.new.sink) (complaint_line w) line.ensures.counts line.ensures.ok line.ensures.err),
+      subst (λ (x : Failure). LeavesAsked c.args.words.now fed left old new (Err x) s t) c.in-Err-Words.field-0-is c.in-Err-Words.ensures.crash,
     )

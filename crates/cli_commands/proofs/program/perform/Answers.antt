@@ -11,9 +11,10 @@ use Rattle.store_model.specs.State as model
 use Rattle.cli_words.specs.Words.{Takes}
 use Rattle.cli_words.specs.declared.call.Call.TheVariants as words
 use Rattle.cli_commands.specs.Answers as answers
-use Rattle.cli_commands.specs.Commands.{Complains, IsIdText}
+use Rattle.cli_commands.specs.Commands.{Complains, IsCommandOf, IsIdText, IsOfLines, IsOfStream}
 use Rattle.cli_commands.specs.Requests.{IsRequestOf, IsTreeText, text_at}
 use Rattle.cli_commands.proofs.Ending.{as_asked, fed_asked, plain, planted}
+use Rattle.cli_commands.proofs.Leaving.{call_leaves, of_change, printed, stream_leaves, tree_leaves}
 use Rattle.cli_commands.proofs.Readable.{stream_read, stream_quiet, lines_read, lines_quiet, import_hush, load_hush}
 use Rattle.cli_commands.proofs.Taking.{import_performs}
 use Rattle.cli_commands.proofs.Wording.{of_tree, of_id, of_get, of_set, of_unset, some_texts}
@@ -30,7 +31,7 @@ returns-in-Insert-clause-step g c =
     let asked = subst (IsRequestOf w) c.in-Insert.is c.requires.request in
     let takes = subst (λ x. Takes x texts) asked.0 asked.1 in
     planted (store_state g.S.Store c.args.store.now) (store_state g.S.Store c.insert.new.store) words.Insert w.call n texts fed old new (model.insert model.in_json) (data_of c.take.result) store.as_done answers.as_nothing c.insert.result c.nothing-outcome.result c.print_outcome.result
-    asked.0 (λ x h. h) (λ x h. (h, refl)) (λ a. tt) (of_tree (model.insert model.in_json) n texts c.take.result takes (subst (IsTreeText (text_at texts 0)) (sym c.take.ensures.taken) asked.2)) (λ x no. no) c.nothing-outcome.ensures c.print_outcome.ensures.told c.insert.ensures
+    asked.0 (λ x h. h) (λ x h. (h, refl)) (λ a. tt) (of_tree (model.insert model.in_json) n texts c.take.result takes (subst (IsTreeText (text_at texts 0)) (sym c.take.ensures.taken) asked.2)) (λ x no. no) c.nothing-outcome.ensures c.print_outcome.ensures.told c.insert.ensures.moves
 
 pub returns-in-Replace-clause-step : goal.returns-in-Replace-clause-step
 returns-in-Replace-clause-step g c =
@@ -184,4 +185,192 @@ returns-in-Load-clause-step g c =
     let new : Tally = g.O.Sink.tally c.print_outcome-in-Load.new.output in
     let asked = subst (IsRequestOf w) c.in-Load.is c.requires.request in
     fed_asked (store_state g.S.Store c.args.store.now) (store_state g.S.Store c.load.new.store) words.Load w.call n texts fed left old new c.load.result c.print_outcome-in-Load.result asked.0
-    (lines_read n fed left) (lines_quiet n fed left) (load_hush texts fed left) (λ a. tt) c.print_outcome-in-Load.ensures.told (c.load.ensures texts)
+    (lines_read n fed left) (lines_quiet n fed left) (load_hush texts fed left) (λ a. tt) c.print_outcome-in-Load.ensures.told (c.load.ensures.moves texts)
+
+pub returns-in-Insert-clause-crash : goal.returns-in-Insert-clause-crash
+returns-in-Insert-clause-crash g c =
+    let w = c.args.words.now in
+    let n = w.coll.now in
+    let texts = map string_bytes w.rest.now in
+    let fed : Feed = g.I.Source.feed c.args.input.now in
+    let old : Tally = g.O.Sink.tally c.args.output.now in
+    let s = store_state g.S.Store c.args.store.now in
+    let t = store_state g.S.Store c.insert.new.store in
+    let new : Tally = g.O.Sink.tally c.print_outcome.new.output in
+    let asked = subst (IsRequestOf w) c.in-Insert.is c.requires.request in
+    let takes = subst (λ x. Takes x texts) asked.0 asked.1 in
+    of_change s t words.Insert w.call n texts fed fed old new c.print_outcome.result asked.0 (printed s t (IsCommandOf words.Insert n texts) old.failures new.failures c.nothing-outcome.result c.print_outcome.result c.print_outcome.ensures.told
+    (tree_leaves s t (IsCommandOf words.Insert n texts) n (model.insert model.in_json) (data_of c.take.result) store.as_done answers.as_nothing c.insert.result c.nothing-outcome.result c.nothing-outcome.ensures
+    (of_tree (model.insert model.in_json) n texts c.take.result takes (subst (IsTreeText (text_at texts 0)) (sym c.take.ensures.taken) asked.2)) (λ x no. no) c.insert.ensures.moves c.insert.ensures.crash))
+
+pub returns-in-Replace-clause-crash : goal.returns-in-Replace-clause-crash
+returns-in-Replace-clause-crash g c =
+    let w = c.args.words.now in
+    let n = w.coll.now in
+    let texts = map string_bytes w.rest.now in
+    let fed : Feed = g.I.Source.feed c.args.input.now in
+    let old : Tally = g.O.Sink.tally c.args.output.now in
+    let s = store_state g.S.Store c.args.store.now in
+    let t = store_state g.S.Store c.replace_json.new.self in
+    let new : Tally = g.O.Sink.tally c.print_outcome-in-Replace.new.output in
+    let asked = subst (IsRequestOf w) c.in-Replace.is c.requires.request in
+    let takes = subst (λ x. Takes x texts) asked.0 asked.1 in
+    of_change s t words.Replace w.call n texts fed fed old new c.print_outcome-in-Replace.result asked.0 (printed s t (IsCommandOf words.Replace n texts) old.failures new.failures c.nothing-outcome-in-Replace.result c.print_outcome-in-Replace.result c.print_outcome-in-Replace.ensures.told
+    (tree_leaves s t (IsCommandOf words.Replace n texts) n (model.replace model.in_json) (data_of c.take-in-Replace.result) store.as_done answers.as_nothing c.replace_json.result c.nothing-outcome-in-Replace.result c.nothing-outcome-in-Replace.ensures
+    (of_tree (model.replace model.in_json) n texts c.take-in-Replace.result takes (subst (IsTreeText (text_at texts 0)) (sym c.take-in-Replace.ensures.taken) asked.2)) (λ x no. no) c.replace_json.ensures.moves c.replace_json.ensures.crash))
+
+pub returns-in-Set-clause-crash : goal.returns-in-Set-clause-crash
+returns-in-Set-clause-crash g c =
+    let w = c.args.words.now in
+    let n = w.coll.now in
+    let texts = map string_bytes w.rest.now in
+    let fed : Feed = g.I.Source.feed c.args.input.now in
+    let old : Tally = g.O.Sink.tally c.args.output.now in
+    let s = store_state g.S.Store c.args.store.now in
+    let t = store_state g.S.Store c.set.new.self in
+    let new : Tally = g.O.Sink.tally c.print_outcome-in-Set.new.output in
+    let asked = subst (IsRequestOf w) c.in-Set.is c.requires.request in
+    let takes = subst (λ x. Takes x texts) asked.0 asked.1 in
+    let read = subst (λ j. IsIdText (text_at texts 0) (view c.in-Set.id) × (c.in-Set.key.now ≡ text_at texts 1) × IsTreeText (text_at texts 2) j) (sym c.take-in-Set.ensures.taken) asked.2 in
+    of_change s t words.Set w.call n texts fed fed old new c.print_outcome-in-Set.result asked.0 (printed s t (IsCommandOf words.Set n texts) old.failures new.failures c.nothing-outcome-in-Set.result c.print_outcome-in-Set.result c.print_outcome-in-Set.ensures.told
+    (call_leaves s t (IsCommandOf words.Set n texts) (model.on n (model.set (view c.in-Set.id) c.in-Set.key.now (model_reading.read_value (data_of c.take-in-Set.result)))) store.as_done answers.as_nothing c.set.result c.nothing-outcome-in-Set.result c.nothing-outcome-in-Set.ensures
+    (of_set n texts (view c.in-Set.id) c.in-Set.key.now c.take-in-Set.result takes read) (λ x no. no) c.set.ensures.moves c.set.ensures.crash))
+
+pub returns-in-Unset-clause-crash : goal.returns-in-Unset-clause-crash
+returns-in-Unset-clause-crash g c =
+    let w = c.args.words.now in
+    let n = w.coll.now in
+    let texts = map string_bytes w.rest.now in
+    let fed : Feed = g.I.Source.feed c.args.input.now in
+    let old : Tally = g.O.Sink.tally c.args.output.now in
+    let s = store_state g.S.Store c.args.store.now in
+    let t = store_state g.S.Store c.unset.new.self in
+    let new : Tally = g.O.Sink.tally c.print_outcome-in-Unset.new.output in
+    let asked = subst (IsRequestOf w) c.in-Unset.is c.requires.request in
+    let takes = subst (λ x. Takes x texts) asked.0 asked.1 in
+    of_change s t words.Unset w.call n texts fed fed old new c.print_outcome-in-Unset.result asked.0 (printed s t (IsCommandOf words.Unset n texts) old.failures new.failures c.flag.result c.print_outcome-in-Unset.result c.print_outcome-in-Unset.ensures.told
+    (call_leaves s t (IsCommandOf words.Unset n texts) (model.on n (model.unset (view c.in-Unset.id) c.in-Unset.key.now)) store.as_flag answers.flag_answer c.unset.result c.flag.result c.flag.ensures
+    (of_unset n texts (view c.in-Unset.id) c.in-Unset.key.now takes asked.2) (λ x no. no) c.unset.ensures.moves c.unset.ensures.crash))
+
+pub returns-in-Remove-clause-crash : goal.returns-in-Remove-clause-crash
+returns-in-Remove-clause-crash g c =
+    let w = c.args.words.now in
+    let n = w.coll.now in
+    let texts = map string_bytes w.rest.now in
+    let fed : Feed = g.I.Source.feed c.args.input.now in
+    let old : Tally = g.O.Sink.tally c.args.output.now in
+    let s = store_state g.S.Store c.args.store.now in
+    let t = store_state g.S.Store c.remove.new.self in
+    let new : Tally = g.O.Sink.tally c.print_outcome-in-Remove.new.output in
+    let asked = subst (IsRequestOf w) c.in-Remove.is c.requires.request in
+    let takes = subst (λ x. Takes x texts) asked.0 asked.1 in
+    of_change s t words.Remove w.call n texts fed fed old new c.print_outcome-in-Remove.result asked.0 (printed s t (IsCommandOf words.Remove n texts) old.failures new.failures c.nothing.result c.print_outcome-in-Remove.result c.print_outcome-in-Remove.ensures.told
+    (call_leaves s t (IsCommandOf words.Remove n texts) (model.on n (model.remove (view c.in-Remove.id))) store.as_done answers.as_nothing c.remove.result c.nothing.result c.nothing.ensures
+    (of_id (λ id more. model.remove id) n texts (view c.in-Remove.id) (some_texts 0 texts takes) asked.2) (λ x no. no) c.remove.ensures.moves c.remove.ensures.crash))
+
+pub returns-in-Get-clause-crash : goal.returns-in-Get-clause-crash
+returns-in-Get-clause-crash g c =
+    let w = c.args.words.now in
+    let n = w.coll.now in
+    let texts = map string_bytes w.rest.now in
+    let fed : Feed = g.I.Source.feed c.args.input.now in
+    let old : Tally = g.O.Sink.tally c.args.output.now in
+    let s = store_state g.S.Store c.args.store.now in
+    let t = store_state g.S.Store c.get_json.new.self in
+    let new : Tally = g.O.Sink.tally c.print_outcome-in-Get.new.output in
+    let asked = subst (IsRequestOf w) c.in-Get.is c.requires.request in
+    of_change s t words.Get w.call n texts fed fed old new c.print_outcome-in-Get.result asked.0 c.get_json.ensures.crash
+
+pub returns-in-Find-clause-crash : goal.returns-in-Find-clause-crash
+returns-in-Find-clause-crash g c =
+    let w = c.args.words.now in
+    let n = w.coll.now in
+    let texts = map string_bytes w.rest.now in
+    let fed : Feed = g.I.Source.feed c.args.input.now in
+    let old : Tally = g.O.Sink.tally c.args.output.now in
+    let s = store_state g.S.Store c.args.store.now in
+    let t = store_state g.S.Store c.find.new.self in
+    let new : Tally = g.O.Sink.tally c.print_outcome-in-Find.new.output in
+    let asked = subst (IsRequestOf w) c.in-Find.is c.requires.request in
+    of_change s t words.Find w.call n texts fed fed old new c.print_outcome-in-Find.result asked.0 c.find.ensures.crash
+
+pub returns-in-Count-clause-crash : goal.returns-in-Count-clause-crash
+returns-in-Count-clause-crash g c =
+    let w = c.args.words.now in
+    let n = w.coll.now in
+    let texts = map string_bytes w.rest.now in
+    let fed : Feed = g.I.Source.feed c.args.input.now in
+    let old : Tally = g.O.Sink.tally c.args.output.now in
+    let s = store_state g.S.Store c.args.store.now in
+    let t = store_state g.S.Store c.count.new.self in
+    let new : Tally = g.O.Sink.tally c.print_outcome-in-Count.new.output in
+    let asked = subst (IsRequestOf w) c.in-Count.is c.requires.request in
+    of_change s t words.Count w.call n texts fed fed old new c.print_outcome-in-Count.result asked.0 c.count.ensures.crash
+
+pub returns-in-Collections-clause-crash : goal.returns-in-Collections-clause-crash
+returns-in-Collections-clause-crash g c =
+    let w = c.args.words.now in
+    let n = w.coll.now in
+    let texts = map string_bytes w.rest.now in
+    let fed : Feed = g.I.Source.feed c.args.input.now in
+    let old : Tally = g.O.Sink.tally c.args.output.now in
+    let s = store_state g.S.Store c.args.store.now in
+    let t = store_state g.S.Store c.collections.new.self in
+    let new : Tally = g.O.Sink.tally c.print_outcome-in-Collections.new.output in
+    let asked = subst (IsRequestOf w) c.in-Collections.is c.requires.request in
+    of_change s t words.Collections w.call n texts fed fed old new c.print_outcome-in-Collections.result asked.0 c.collections.ensures.crash
+
+pub returns-in-Export-clause-crash : goal.returns-in-Export-clause-crash
+returns-in-Export-clause-crash g c =
+    let w = c.args.words.now in
+    let n = w.coll.now in
+    let texts = map string_bytes w.rest.now in
+    let fed : Feed = g.I.Source.feed c.args.input.now in
+    let old : Tally = g.O.Sink.tally c.args.output.now in
+    let s = store_state g.S.Store c.args.store.now in
+    let t = store_state g.S.Store c.export.new.store in
+    let new : Tally = g.O.Sink.tally c.export.new.output in
+    let asked = subst (IsRequestOf w) c.in-Export.is c.requires.request in
+    of_change s t words.Export w.call n texts fed fed old new c.export.result asked.0 c.export.ensures.crash
+
+pub returns-in-Dump-clause-crash : goal.returns-in-Dump-clause-crash
+returns-in-Dump-clause-crash g c =
+    let w = c.args.words.now in
+    let n = w.coll.now in
+    let texts = map string_bytes w.rest.now in
+    let fed : Feed = g.I.Source.feed c.args.input.now in
+    let old : Tally = g.O.Sink.tally c.args.output.now in
+    let s = store_state g.S.Store c.args.store.now in
+    let t = store_state g.S.Store c.dump.new.store in
+    let new : Tally = g.O.Sink.tally c.dump.new.output in
+    let asked = subst (IsRequestOf w) c.in-Dump.is c.requires.request in
+    of_change s t words.Dump w.call n texts fed fed old new c.dump.result asked.0 c.dump.ensures.crash
+
+pub returns-in-Import-clause-crash : goal.returns-in-Import-clause-crash
+returns-in-Import-clause-crash g c =
+    let w = c.args.words.now in
+    let n = w.coll.now in
+    let texts = map string_bytes w.rest.now in
+    let fed : Feed = g.I.Source.feed c.args.input.now in
+    let old : Tally = g.O.Sink.tally c.args.output.now in
+    let s = store_state g.S.Store c.args.store.now in
+    let t = store_state g.S.Store c.import.new.self in
+    let new : Tally = g.O.Sink.tally c.print_outcome-in-Import.new.output in
+    let asked = subst (IsRequestOf w) c.in-Import.is c.requires.request in
+    let left : Feed = g.I.Source.feed c.import.new.reader in
+    of_change s t words.Import w.call n texts fed left old new c.print_outcome-in-Import.result asked.0 (printed s t (IsOfStream n fed left) old.failures new.failures c.number-in-Import.result c.print_outcome-in-Import.result c.print_outcome-in-Import.ensures.told
+    (stream_leaves s t n fed left answers.number_answer c.import.result c.number-in-Import.result c.number-in-Import.ensures c.import.ensures.crash))
+
+pub returns-in-Load-clause-crash : goal.returns-in-Load-clause-crash
+returns-in-Load-clause-crash g c =
+    let w = c.args.words.now in
+    let n = w.coll.now in
+    let texts = map string_bytes w.rest.now in
+    let fed : Feed = g.I.Source.feed c.args.input.now in
+    let old : Tally = g.O.Sink.tally c.args.output.now in
+    let s = store_state g.S.Store c.args.store.now in
+    let t = store_state g.S.Store c.load.new.store in
+    let new : Tally = g.O.Sink.tally c.print_outcome-in-Load.new.output in
+    let asked = subst (IsRequestOf w) c.in-Load.is c.requires.request in
+    let left : Feed = g.I.Source.feed c.load.new.input in
+    of_change s t words.Load w.call n texts fed left old new c.print_outcome-in-Load.result asked.0 (printed s t (IsOfLines n fed left) old.failures new.failures c.load.result c.print_outcome-in-Load.result c.print_outcome-in-Load.ensures.told c.load.ensures.crash)

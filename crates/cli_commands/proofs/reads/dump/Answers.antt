@@ -1,5 +1,6 @@
 use Rattle.std.proofs.Common.{rules, ℕ, refl, ap}
 use Rattle.bson_base.specs.Device.{Tally}
+use Rattle.sqlite.proofs.StateLemmas.{survives_then}
 use Rattle.bson_store.specs.Calls.{store_state}
 use Rattle.cli_commands.specs.declared.dumping.Printer.{Printer}
 use Rattle.cli_commands.proofs.Sending.{dumped, not_dumped, unchecked}
@@ -23,3 +24,9 @@ returns-in-Err-each_text-clause-step g c texts f =
     let count : Printer g.row.O.Denot g.O.Sink → ℕ = λ p. (of_output p.output.now).failures in
     not_dumped c.args.name.now texts f (of_output c.args.output.now) _ (store_state g.S.Store c.args.store.now) (store_state g.S.Store c.check_json.new.self) (store_state g.S.Store c.each_text.new.self) (λ p. p.output.ghost_name) (λ p. p.failed) count _ c.in-Err-each_text.printer c.in-Err-each_text.error
     c.in_default.ensures.moves (c.in-Err-each_text.ensures.moves (refl, refl, refl)) (λ e. ap (λ o. (of_output o).failures) (search rules))
+
+pub returns-in-Ok-clause-crash : goal.returns-in-Ok-clause-crash
+returns-in-Ok-clause-crash g c = survives_then (store_state g.S.Store c.args.store.now) (store_state g.S.Store c.check_json.new.self) (store_state g.S.Store c.each_text.new.self) _ _ (λ _. ⊥) (λ _ db none. none) (λ _ db none. none) c.check_json.ensures.crash c.each_text.ensures.crash
+
+pub returns-in-Err-each_text-clause-crash : goal.returns-in-Err-each_text-clause-crash
+returns-in-Err-each_text-clause-crash g c = survives_then (store_state g.S.Store c.args.store.now) (store_state g.S.Store c.check_json.new.self) (store_state g.S.Store c.each_text.new.self) _ _ (λ _. ⊥) (λ _ db none. none) (λ _ db none. none) c.check_json.ensures.crash c.each_text.ensures.crash

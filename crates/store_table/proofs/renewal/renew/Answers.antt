@@ -1,12 +1,13 @@
-use Rattle.std.proofs.Common.{List, subst, arith}
-use Rattle.sqlite.specs.State.{HasCleanDisk}
+use Rattle.std.proofs.Common.{List, false, subst, arith}
+use Rattle.sqlite.specs.State.{HasCleanDisk, Shows as Sees}
 use Rattle.sqlite.specs.Held.{state}
 use Rattle.sqlite.proofs.StateLemmas.{survives_then}
 use Rattle.store_table.specs.declared.row.NewKey.{NewKey}
-use Rattle.store_table.specs.Rows.{HasRows, HoldsRows, with_keys_at}
-use Rattle.store_table.specs.Renewal.{IsOwn, MayRenew}
+use Rattle.store_table.specs.Rows.{HoldsRows, with_keys_at}
+use Rattle.store_table.specs.Keys.{PutsKeys}
+use Rattle.store_table.specs.Renewal.{IsOwn, MayPut, MayRenew}
 use Rattle.store_table.proofs.RenewalLemmas.{none_of}
-use Rattle.store_table.proofs.RenewLemmas.{found, good_once, renewed_so, may_renew}
+use Rattle.store_table.proofs.RenewLemmas.{found, rekeyed_so, renewed_so, may_renew}
 use Rattle.store_table.proofs.renewal.renew.Goals as goal
 
 pub returns-in-Ok-clause-renewed : goal.returns-in-Ok-clause-renewed
@@ -31,7 +32,9 @@ returns-in-Ok-clause-read g c clean =
     let mid = state g.S.Store c.survey_old.new.conn in
     let early : HasCleanDisk mid = omega (arith, clean, c.write_keys.ensures.crash.clean) in
     let r = c.in_ok-renewals.renewals in
-    good_once accepts renews old mid r (found accepts renews old mid r (c.in_ok-renewals.ensures.read early))
+    let new = state g.S.Store c.write_keys.new.conn in
+    rekeyed_so accepts renews old mid r (found accepts renews old mid r (c.in_ok-renewals.ensures.read early)) (none_of r.twin c.in_default.not-Some) new c.survey_old.ensures.crash.limit
+    (subst (λ (ks : List NewKey). Sees mid new new.now new.now false × PutsKeys mid.step_limit ks mid.now new.now) c.as_slice.ensures.value (c.in-Ok.ensures.puts clean))
 
 pub returns-in-Ok-clause-crash : goal.returns-in-Ok-clause-crash
 returns-in-Ok-clause-crash g c =
@@ -45,7 +48,7 @@ returns-in-Ok-clause-crash g c =
     (λ clean db made.
     let early : HasCleanDisk mid = omega (arith, clean, c.write_keys.ensures.crash.clean) in
     let f = found accepts renews old mid r (c.in_ok-renewals.ensures.read early) in
-    may_renew accepts renews old mid r f (none_of r.twin c.in_default.not-Some) new db (λ ds shows. subst (λ (ks : List NewKey). HasRows mid.now db (with_keys_at ks ds)) c.as_slice.ensures.value (made ds shows)))
+    may_renew accepts renews old mid r f (none_of r.twin c.in_default.not-Some) new c.survey_old.ensures.crash.limit db (subst (λ (ks : List NewKey). MayPut ks mid db) c.as_slice.ensures.value made))
     c.survey_old.ensures.crash c.write_keys.ensures.crash
 
 pub returns-clause-crash : goal.returns-clause-crash
@@ -60,5 +63,5 @@ returns-clause-crash g c =
     (λ clean db made.
     let early : HasCleanDisk mid = omega (arith, clean, c.write_keys.ensures.crash.clean) in
     let f = found accepts renews old mid r (c.in_ok-renewals.ensures.read early) in
-    may_renew accepts renews old mid r f (none_of r.twin c.in_default.not-Some) new db (λ ds shows. subst (λ (ks : List NewKey). HasRows mid.now db (with_keys_at ks ds)) c.as_slice.ensures.value (made ds shows)))
+    may_renew accepts renews old mid r f (none_of r.twin c.in_default.not-Some) new c.survey_old.ensures.crash.limit db (subst (λ (ks : List NewKey). MayPut ks mid db) c.as_slice.ensures.value made))
     c.survey_old.ensures.crash c.write_keys.ensures.crash

@@ -37,7 +37,7 @@ returns-in-Err-BadRow-clause-read g c clean =
     let early : HasCleanDisk mid = omega (arith, clean, c.renew.ensures.crash.clean) in
     let why : IfErr c.survey.result (RefusesOpening (IsOwn renews) old mid) = c.survey.ensures.refused early in
     let bad = rw (c.in-Err-BadRow.is, c.in-Err-BadRow.field-0-is) at why in
-    on_ok_weaker c.renew.result (passed_once renews old mid new bad.1.unchanged _ bad) (c.renew.ensures.read clean)
+    on_ok_weaker c.renew.result (passed_once renews old mid new bad.1.unchanged c.survey.ensures.crash.limit _ bad) (c.renew.ensures.read clean)
 
 pub returns-in-Err-BadRow-clause-crash : goal.returns-in-Err-BadRow-clause-crash
 returns-in-Err-BadRow-clause-crash g c =
@@ -50,5 +50,5 @@ returns-in-Err-BadRow-clause-crash g c =
     let early : HasCleanDisk mid = omega (arith, clean, c.renew.ensures.crash.clean) in
     let why : IfErr c.survey.result (RefusesOpening (IsOwn renews) old mid) = c.survey.ensures.refused early in
     let bad = rw (c.in-Err-BadRow.is, c.in-Err-BadRow.field-0-is) at why in
-    renews_old renews old mid new bad.1.unchanged _ bad db may)
+    renews_old renews old mid new bad.1.unchanged c.survey.ensures.crash.limit _ bad db may)
     c.survey.ensures.crash c.renew.ensures.crash

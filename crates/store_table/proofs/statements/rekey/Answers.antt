@@ -3,6 +3,7 @@ use Rattle.std.proofs.lemmas.Int.{to_z-of_z}
 use Rattle.sqlite.specs.Held.{state}
 use Rattle.store_table.proofs.InsertLemmas.{put_refused}
 use Rattle.store_table.proofs.KeyLemmas.{rekey_done, rekey_spared, still_committed, still_inside}
+use Rattle.store_table.proofs.PutLemmas.{puts_done}
 use Rattle.store_table.proofs.Texts.{rekey_text}
 use Rattle.store_table.specs.Rows.{TableRow}
 use Rattle.store_table.proofs.statements.rekey.Goals as goal
@@ -27,3 +28,8 @@ returns-clause-inside g c clean inside = still_inside rekey_text _ (state g.S.St
 
 pub returns-clause-committed : goal.returns-clause-committed
 returns-clause-committed g c clean inside = still_committed rekey_text _ (state g.S.Store c.args.tx.now.conn.now) (state g.S.Store c.execute.new.self.conn.now) c.execute.result (c.execute.ensures.runs clean inside)
+
+pub returns-clause-puts : goal.returns-clause-puts
+returns-clause-puts g c clean inside =
+    let same : to_z w64 (of_z w64 c.args.place) ≡ c.args.place = to_z-of_z w64 c.args.place c.ranges.place in
+    puts_done c.args.place c.args.idkey.now (state g.S.Store c.args.tx.now.conn.now) (state g.S.Store c.execute.new.self.conn.now) c.execute.result (rw same at (c.execute.ensures.runs clean inside))

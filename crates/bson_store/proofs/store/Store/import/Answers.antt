@@ -57,5 +57,5 @@ returns-clause-crash g c =
     let bytes = c.in_ok-bytes.bytes.items in
     let old : Feed = g.R.Source.feed c.args.reader.now in
     let new : Feed = g.R.Source.feed c.read_all.new.source in
-    fed_leave (store_state g.S.Store c.args.self.now) (store_state g.S.Store c.add_all.new.self) c.args.name.now (name_bytes c.in_ok-name.name) bytes old new c.in_ok-rows.rows c.add_all.result c.in_ok-name.ensures.0 c.in_ok-bytes.ensures.ok
-    (rw c.as_slice-stream.ensures.value at c.in_ok-rows.ensures.rows) (rw c.as_slice.ensures.value at c.add_all.ensures.crash)
+    fed_leave (store_state g.S.Store c.args.self.now) (store_state g.S.Store c.add_all.new.self) c.args.name.now (name_bytes c.in_ok-name.name) bytes old new c.in_ok-rows.rows c.add_all.result c.in_ok-name.ensures.0 c.in_ok-name.ensures.1 c.in_ok-bytes.ensures.ok
+    (rw c.as_slice-stream.ensures.value at c.in_ok-rows.ensures.rows) (rw c.as_slice.ensures.value at c.add_all.ensures.moves) (rw c.as_slice.ensures.value at c.add_all.ensures.crash)

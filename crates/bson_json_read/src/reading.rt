@@ -1,0 +1,161 @@
+//! Values and documents.
+ghost use Rattle.std.specs.Prelude.{◌≡◌, map, string_bytes};
+ghost use Rattle.std.specs.Option.{option_map};
+ghost use Rattle.json.specs.Value.{value_view as data_of, items_view, members_view};
+ghost use Rattle.bson_base.specs.Value.{no_members};
+ghost use Rattle.bson_model.specs.View.{view, items_of, content};
+ghost use Rattle.bson_model.specs.JsonRead.{GivesReading, code_and_scope as spec_scoped};
+ghost use Rattle.bson_json_read.specs.Reading.{any_reserved, is_code_and_scope as code_and_scope_keys, read as value_of, read_items as items_read, read_members as members_read, read_scope as scope_of, read_top, read_typed as typed_of, ReadsText};
+
+use crate::bodies::{own_text, read_wrapped};
+use crate::texts::read_number;
+use bson_model::extjson::de::{Error, Result, is_reserved_key};
+use bson_model::{Bson, Document, JavaScriptCodeWithScope, STACK_LEVELS, levels_inside};
+use json::{Scratch, Value};
+use std::alloc::Global;
+
+fn has_reserved(members: &[(&str, Value<'_>)]) -> bool
+    ensures { result ≡ any_reserved (members_view members.now) }
+{
+    for (key, _) in members {
+        if is_reserved_key(*key) {
+            return true;
+        }
+    }
+    false
+}
+
+fn with_scope(code: String, scope: Option<Document>) -> Bson
+    ensures { view result ≡ spec_scoped (string_bytes code) (option_map (λ d. content d) scope) }
+{
+    match scope {
+        Some(scope) => Bson::JavaScriptCodeWithScope(JavaScriptCodeWithScope { code, scope }),
+        None => Bson::JavaScriptCode(code),
+    }
+}
+
+/// The value of a JSON tree, among which so many levels may lie.
+#[cycle(read)]
+fn read(alloc: Global, value: &Value<'_>, levels: u32) -> Result<Bson>
+    ensures { GivesReading view result (value_of (data_of value.now)) }
+{
+    match value {
+        Value::Null => Ok(Bson::Null),
+        Value::Bool(truth) => Ok(Bson::Boolean(*truth)),
+        Value::Number(text) => read_number(*text),
+        Value::String(text) => Ok(Bson::String(String::from_str(alloc, *text)?)),
+        Value::Array(items) => {
+            Ok(Bson::Array(read_items(alloc, items.as_slice(), levels_inside(levels)?)?))
+        }
+        Value::Object(members) => {
+            let members = members.as_slice();
+            if has_reserved(members) {
+                read_typed(alloc, members, levels)
+            } else {
+                Ok(Bson::Document(read_members(alloc, members, levels_inside(levels)?)?))
+            }
+        }
+    }
+}
+
+#[cycle(read)]
+fn read_items(alloc: Global, items: &[Value<'_>], levels: u32) -> Result<Vec<Bson>>
+    ensures { GivesReading (λ v. items_of (map view v.items)) result (items_read (items_view items.now)) }
+{
+    let mut values = Vec::new(alloc);
+    for item in items {
+        values.push(read(alloc, item, levels)?)?;
+    }
+    Ok(values)
+}
+
+#[cycle(read)]
+fn read_members(alloc: Global, members: &[(&str, Value<'_>)], levels: u32) -> Result<Document>
+    ensures { GivesReading (λ d. content d) result (members_read (members_view members.now) no_members) }
+{
+    let mut document = Document::new(alloc);
+    for (key, value) in members {
+        let value = read(alloc, value, levels)?;
+        document.put(String::from_str(alloc, *key)?, value)?;
+    }
+    Ok(document)
+}
+
+/// Whether these are the keys of a code and of its scope.
+fn is_code_and_scope(code: &str, scope: &str) -> bool
+    ensures { result ≡ code_and_scope_keys code.now scope.now }
+{
+    code == "$code" && scope == "$scope"
+}
+
+// An object with a reserved key.
+#[cycle(read)]
+fn read_typed(alloc: Global, members: &[(&str, Value<'_>)], levels: u32) -> Result<Bson>
+    ensures { GivesReading view result (typed_of (members_view members.now)) }
+{
+    match members {
+        [] => Err(Error::DeserializationError),
+        [(key, value)] => read_wrapped(alloc, *key, value),
+        [(key, value), (other_key, other)] => {
+            if is_code_and_scope(*key, *other_key) {
+                let code = own_text(alloc, value)?;
+                let scope = read_scope(alloc, other, levels)?;
+                Ok(with_scope(code, scope))
+            } else if is_code_and_scope(*other_key, *key) {
+                let other_code = own_text(alloc, other)?;
+                let other_scope = read_scope(alloc, value, levels)?;
+                Ok(with_scope(other_code, other_scope))
+            } else {
+                Err(Error::DeserializationError)
+            }
+        }
+        [_, _, _, ..] => Err(Error::DeserializationError),
+    }
+}
+
+#[cycle(read)]
+fn read_scope(alloc: Global, scope: &Value<'_>, levels: u32) -> Result<Option<Document>>
+    ensures { GivesReading (λ o. option_map (λ d. content d) o) result (scope_of (data_of scope.now)) }
+{
+    match scope {
+        Value::Null => Ok(None),
+        Value::Object(members) => {
+            // The object around it is a level of its own.
+            let inside = levels_inside(levels_inside(levels)?)?;
+            Ok(Some(read_members(alloc, members.as_slice(), inside)?))
+        }
+        _ => Err(Error::DeserializationError),
+    }
+}
+
+/// The value of a JSON tree. `DeserializationError` if it is no Extended JSON, `InvalidObjectId` for a text under `$oid`
+/// that is no object id, `Memory` if a growth was refused, and for more than 1000 levels.
+pub fn bson_of(alloc: Global, value: &Value<'_>) -> Result<Bson>
+    ensures { GivesReading view result (value_of (data_of value.now)) }
+{
+    read(alloc, value, STACK_LEVELS)
+}
+
+/// The document of a JSON object, whose own keys are never taken for reserved ones; those of the objects below are.
+/// `DeserializationError` if it is no object, or no Extended JSON, `InvalidObjectId` for a text under `$oid` that is
+/// no object id, `Memory` if a growth was refused, and for more than 1000 levels.
+pub fn document_of(alloc: Global, value: &Value<'_>) -> Result<Document>
+    ensures { GivesReading (λ d. content d) result (read_top (data_of value.now)) }
+{
+    match value {
+        Value::Object(members) => read_members(alloc, members.as_slice(), STACK_LEVELS - 1),
+        _ => Err(Error::DeserializationError),
+    }
+}
+
+/// The document of a text of JSON (RFC 8259) in which no object has a key twice, with its keys in their order.
+/// `scratch` is room that is kept from text to text.
+pub fn document_of_text(alloc: Global, text: &str, scratch: &mut Scratch) -> Result<Document>
+    ensures { ReadsText text.now result }
+{
+    match Value::parse_strict(alloc, text, scratch) {
+        Ok(value) => document_of(alloc, &value),
+        Err(json::Error::OutOfMemory) => Err(Error::Memory),
+        Err(_) => Err(Error::DeserializationError),
+    }
+}

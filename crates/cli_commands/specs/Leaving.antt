@@ -1,0 +1,58 @@
+-- What a crash leaves of a command of the program.
+use Rattle.std.specs.Prelude.{◌≡◌, ◌⊎◌, ℕ, Bool, true, false, List, Result, Ok, Err, MatchBool, map, string_bytes}
+use Rattle.bson_base.specs.Device.{Feed, Tally}
+use Rattle.sqlite.specs.State.{State, Survives}
+use Rattle.store_table.specs.Moves.{Moves}
+use Rattle.store_model.specs.State.{Command, Reply, refused}
+use Rattle.store_model.specs.Table.{IsRefusal}
+use Rattle.store_model.specs.declared.error.ErrorKind.TheVariants.{Writer}
+use Rattle.store_model.specs.declared.error.StoreError.{StoreError}
+use Rattle.bson_store.specs.Calls.{Does}
+use Rattle.bson_store.specs.Left.{Leaves}
+use Rattle.cli_words.specs.declared.call.Call.{Call}
+use Rattle.cli_words.specs.declared.call.Call.TheVariants.{Insert, Replace, Set, Unset, Remove, Import, Load}
+use Rattle.cli_words.specs.declared.words.Words.{Words as Wording}
+use Rattle.cli_commands.specs.Commands.{AsksFor}
+use Rattle.cli_commands.specs.Execute.{IsFault}
+use Rattle.cli_commands.specs.declared.stop.Failure.{Failure}
+use Rattle.cli_commands.specs.declared.stop.Failure.TheVariants.{Words, Refused}
+
+-- the call may change the store
+abbrev pub is_change : Call → Bool
+is_change Insert = true
+is_change Replace = true
+is_change Set = true
+is_change Unset = true
+is_change Remove = true
+is_change Import = true
+is_change Load = true
+is_change _ = false
+
+-- a command of those that are meant was accepted, and what it did to the rows and what a crash leaves of it are told of one and the same
+pub record Settled (Meant : Command → Type 0) (old new : State) : Type 0 where
+  pub command : Command
+  pub meant : Meant command
+  pub reply : Reply
+  pub accepted : IsRefusal reply → ⊥
+  pub moves : Moves old new (Does command reply)
+  pub crash : Leaves old new command reply
+
+-- what a crash leaves of such a command that was refused
+abbrev pub LeavesRefused : (Command → Type 0) → StoreError → State → State → Type 0
+LeavesRefused Meant e old new = (c : Command) × Meant c × Leaves old new c (refused e.kind e.document)
+
+-- Where a command was accepted and its answer printed, a crash leaves what it leaves of that command. Where it was refused, no more
+-- than before, or what it leaves of a refused command; or the refusal is that of the output, and the command was accepted. Where a
+-- text can't be read, no more than before.
+abbrev pub LeavesBy : {A : Type 0} → (Command → Type 0) → (StoreError → Type 0) → Result A Failure → State → State → Type 0
+LeavesBy Meant Unprinted (Ok x) old new = Settled Meant old new
+LeavesBy Meant Unprinted (Err (Refused e)) old new = Survives old new (λ _. ⊥) ⊎ (LeavesRefused Meant e old new ⊎ (Unprinted e × Settled Meant old new))
+LeavesBy Meant Unprinted (Err (Words w)) old new = Survives old new (λ _. ⊥)
+
+-- a call that changes nothing leaves no more than before
+abbrev pub LeavesCall : Call → List ℕ → List (List ℕ) → Feed → Feed → Tally → Tally → Result (Unit {0}) Failure → State → State → Type 0
+LeavesCall call n texts fed left before behind outcome old new =
+    MatchBool (is_change call) (LeavesBy (AsksFor call n texts fed left) (IsFault Writer before.failures behind.failures) outcome old new) (Survives old new (λ _. ⊥))
+
+abbrev pub LeavesAsked : Wording → Feed → Feed → Tally → Tally → Result (Unit {0}) Failure → State → State → Type 0
+LeavesAsked w = LeavesCall w.call w.coll.now (map string_bytes w.rest.now)
