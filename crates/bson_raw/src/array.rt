@@ -26,8 +26,8 @@ pub struct RawArray<'a> {
 }
 
 /// The bytes, the values, look-ups, and the typed getters. A typed getter counts places from 0. It returns `NotPresent`
-/// past the end, `UnexpectedType` if the value is of another kind, and `InvalidBson` if `get` returns a fault, each under
-/// the place in decimal. It takes memory for an error alone.
+/// past the end, `UnexpectedType` if the value is of another kind, and `InvalidBson` if `get` returns a fault; the key
+/// of each is the place in decimal. It takes memory for an error alone.
 impl<'a> RawArray<'a> {
     ghost use Rattle.bson_raw.specs.Access.{AccessAnswer};
     ghost use Rattle.bson_raw.specs.Read.{GetAnswer, IsItemRead, value_steps};
