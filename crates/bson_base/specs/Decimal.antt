@@ -20,6 +20,7 @@ exponent_bias = 6176
 abbrev pub greatest_exponent : ℕ
 greatest_exponent = 12287
 
+-- a sign is true if negative: as a truth value it needs no premise, and every bit pattern unpacks to one of these
 pub data Decimal : Type 0 where
   not_a_number : Decimal
   -- whether it is negative
