@@ -8,10 +8,12 @@
 
 What is wrong: a line over 120 columns outside of blocks of code; a link to a file or a heading that isn't there, or to anything
 outside the repository; a row that stands in two tables; a crate without a page or without its line in docs/ARCHITECTURE.md; a
-refusal without its line in docs/REFUSALS.md.
+refusal without its line in docs/REFUSALS.md; a decision that is cited anywhere and has neither an entry nor a line that says where it
+went; a command that only one of README and `./bson_store --help` has.
 """
 import pathlib
 import re
+import subprocess
 import sys
 
 WIDTH = 120
@@ -163,6 +165,47 @@ def missing():
             yield refusals, 1, f"no line for {kind}"
 
 
+def numbers(text):
+    """The numbers of a list such as "3, 5 and 90 to 95"."""
+    for first, last in re.findall(r"(\d+)(?: to (\d+))?", text):
+        yield from range(int(first), int(last or first) + 1)
+
+
+CITED = re.compile(r"DECISIONS(?:\.md)?(?:\]\([^)]*\))?,\s+((?:\d+(?:,\s+|\s+and\s+|\s+to\s+)?)+)(?!\d)")
+
+
+def wrong_citations():
+    """Decisions that are cited and aren't there. A citation may be in any file, a page's anchor aside."""
+    decisions, proving = (ROOT / "docs/DECISIONS.md").read_text(), (ROOT / "docs/PROVING.md").read_text()
+    known = {int(number) for page in (decisions, proving) for number in re.findall(r"^### (\d+)\. ", page, re.M)}
+    gone = decisions[decisions.index("## Numbers that are gone"):decisions.index("## New entries")]
+    for line in re.findall(r"^- ([\d, to]+): ", gone, re.M):
+        known |= set(numbers(line))
+    listed = subprocess.run(["git", "ls-files", "-z"], cwd=ROOT, capture_output=True, check=True).stdout.decode().split("\0")
+    for name in filter(re.compile(r"\.(md|rt|antt|py|sh|txt)$|^[^.]*$").search, filter(None, listed)):
+        try:
+            text = (ROOT / name).read_text()
+        except (UnicodeDecodeError, FileNotFoundError, IsADirectoryError):
+            continue
+        for found in CITED.finditer(text):
+            for number in numbers(re.sub(r"\s+", " ", found[1])):
+                if number not in known:
+                    yield ROOT / name, text.count("\n", 0, found.start()) + 1, f"DECISIONS, {number}, which isn't there"
+
+
+def wrong_commands():
+    """Commands that README and the help of the program don't both have."""
+    readme, script = ROOT / "README.md", ROOT / "bson_store"
+    table = re.search(r"^## Commands\n(.*?)^#", readme.read_text(), re.M | re.S)[1]
+    cells = [line.split("|")[1] for line in table.split("\n") if line.startswith("| `")]
+    shown = set(re.findall(r"`([a-z]+)[ `]", " ".join(cells)))
+    helped = subprocess.run([script, "--help"], capture_output=True, text=True).stdout
+    told = set(re.findall(r"^  ([a-z]+)(?: |$)", helped, re.M))
+    for page, names, other in ((readme, shown - told, "--help"), (script, told - shown, "README")):
+        for name in sorted(names):
+            yield page, 1, f"the command {name}, which {other} hasn't"
+
+
 def main():
     all_pages = pages()
     if sys.argv[1:2] == ["--wrap"]:
@@ -170,7 +213,7 @@ def main():
             page.write_text(wrapped(page.read_text()))
     wrong = [(page, number, what) for page in all_pages for number, what in wrong_links(page)]
     wrong += [(page, number, f"{len(line)} columns") for page in all_pages for number, line in prose(page) if len(line) > WIDTH]
-    wrong += [*wrong_rows(all_pages), *missing()]
+    wrong += [*wrong_rows(all_pages), *missing(), *wrong_citations(), *wrong_commands()]
     for page, number, what in wrong:
         print(f"{page.relative_to(ROOT)}:{number}: {what}")
     print(f"docs: {len(all_pages)} pages, {len(wrong)} to mend")

@@ -1,12 +1,12 @@
--- What an answer holds, seen otherwise.
+-- What a result holds, seen otherwise.
 use Rattle.std.specs.Prelude.{Result, Ok, Err}
 
--- the answer with its value seen by `view`
+-- the result with its value seen by `view`
 abbrev pub result_map : {X Y E : Type 0} → (X → Y) → Result X E → Result Y E
 result_map view (Ok x) = Ok (view x)
 result_map view (Err e) = Err e
 
--- the next step of the value, where there is one
+-- the next step from the value, if there is one
 infixl 10 ◌>>=◌
 abbrev pub ◌>>=◌ : {X Y E : Type 0} → Result X E → (X → Result Y E) → Result Y E
 (Ok x) >>= f = f x

@@ -1,4 +1,4 @@
--- What a builder of moments was told, and what it builds.
+-- What a builder of moments was given, and what it builds.
 use Rattle.std.specs.Prelude.{◌≡◌, ℕ, ◌+◌, ◌*◌, ◌&&◌, nat_lt, if◌then◌else◌, ℤ, pos, ◌+ℤ◌, ◌*ℤ◌, Option, Some, None, unwrap_or, Result}
 use Rattle.bson_base.specs.DateText.{day_number, valid, ◌>>=◌}
 use Rattle.bson_base.specs.declared.datetime.Error.{Error}
@@ -10,7 +10,7 @@ use Rattle.bson_base.specs.declared.datetime.builder.NoMonth.{NoMonth}
 use Rattle.bson_base.specs.declared.datetime.builder.Day.{Day}
 use Rattle.bson_base.specs.declared.datetime.builder.NoDay.{NoDay}
 
--- nothing was told
+-- nothing was given
 abbrev pub IsEmptyBuilder : DateTimeBuilder NoYear NoMonth NoDay → Type 0
 IsEmptyBuilder b = (b.hour ≡ None) × (b.minute ≡ None) × (b.second ≡ None) × (b.millisecond ≡ None)
 
@@ -35,7 +35,7 @@ with_second b n = record b { second = Some n }
 abbrev pub with_millisecond : {Y M D : Type 0} → DateTimeBuilder Y M D → ℕ → DateTimeBuilder Y M D
 with_millisecond b n = record b { millisecond = Some n }
 
--- a part that wasn't told is 0
+-- a part that wasn't given is 0
 abbrev pub told_or_zero : Option ℕ → ℕ
 told_or_zero part = unwrap_or part 0
 

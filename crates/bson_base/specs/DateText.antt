@@ -34,7 +34,7 @@ day_text y m d = four y ++ 45 ∷ [] ++ two m ++ 45 ∷ [] ++ two d
 abbrev pub moment_text : ℕ → ℕ → ℕ → ℕ → List ℕ
 moment_text y m d t = day_text y m d ++ 84 ∷ [] ++ clock_text t ++ 90 ∷ []
 
--- the text of the day and the time of day that the milliseconds since 1970 stand for
+-- the text of the day and the time of day, from the milliseconds since 1970
 pub record IsDateText (millis : ℤ) (text : List ℕ) : Type 0 where
   pub year : ℕ
   pub month : ℕ
@@ -61,7 +61,7 @@ last_text = pos 253_402_300_799_999
 abbrev pub has_date_text : ℤ → Bool
 has_date_text z = int_le first_text z && int_le z last_text
 
--- what Display writes: the date text, or the milliseconds where there is none
+-- what Display writes: the date text, or the milliseconds if there is none
 pub record IsShownDate (millis : ℤ) (text : List ℕ) : Type 0 where
   pub date : IsTrue (has_date_text millis) → IsDateText millis text
   pub number : ¬ IsTrue (has_date_text millis) → text ≡ signed_decimal millis
@@ -80,7 +80,7 @@ is_day y m d = nat_le (unsigned_abs y) 9999 && nat_le 1 m && nat_le m 12 && nat_
 unfoldable pub day_number : ℤ → ℕ → ℕ → Option ℤ
 day_number y m d = if is_day y m d then Some (days_from_civil y m d) else None
 
--- ---- reading: a number and what stands behind it
+-- ---- reading: a number and what follows it
 
 infixl 10 ◌>>=◌
 abbrev pub ◌>>=◌ : {A B : Type 0} → Option A → (A → Option B) → Option B
@@ -97,7 +97,7 @@ two_digits t = digit t >>= λ a. digit a.1 >>= λ b. Some (a.0 * 10 + b.0, b.1)
 unfoldable pub four_digits : List ℕ → Option (ℕ × List ℕ)
 four_digits t = two_digits t >>= λ a. two_digits a.1 >>= λ b. Some (a.0 * 100 + b.0, b.1)
 
--- what stands behind one of two characters
+-- what follows one of two characters
 unfoldable pub behind : ℕ → ℕ → List ℕ → Option (List ℕ)
 behind a b [] = None
 behind a b (c ∷ cs) = if c == a || c == b then Some cs else None
@@ -118,7 +118,7 @@ read_minutes t = two_digits t >>= λ h. next_two 58 60 h.1 >>= λ m. if nat_lt h
 unfoldable pub read_clock : List ℕ → Option (ℕ × List ℕ)
 read_clock t = behind 84 116 t >>= λ u. read_minutes u >>= λ m. next_two 58 60 m.1 >>= λ s. Some (m.0 * 60 + s.0, s.1)
 
--- the digits in front, and what stands behind them
+-- the digits in front, and what follows them
 abbrev pub digit_run : List ℕ → List ℕ × List ℕ
 digit_run [] = ([], [])
 digit_run (c ∷ cs) = if is_ascii_digit c then (c ∷ (digit_run cs).0, (digit_run cs).1) else ([], c ∷ cs)
@@ -152,7 +152,7 @@ read_ahead t = read_minutes t >>= λ m. at_end (pos m.0) m.1
 abbrev pub read_late : List ℕ → Option ℤ
 read_late t = read_minutes t >>= λ m. at_end (neg_ℤ (pos m.0)) m.1
 
--- the minutes by which the text is ahead of UTC; nothing stands behind it
+-- the minutes by which the text is ahead of UTC; nothing follows them
 unfoldable pub read_offset : List ℕ → Option ℤ
 read_offset [] = None
 read_offset (c ∷ cs) =
@@ -176,6 +176,6 @@ abbrev pub valid : Option ℤ → Result ℤ Error
 valid (Some z) = Ok z
 valid None = Err InvalidTimestamp
 
--- the milliseconds since 1970 that a date text stands for
+-- the milliseconds since 1970 that a date text means
 abbrev pub date_of : List ℕ → Result ℤ Error
 date_of t = valid (read_moment t)

@@ -33,6 +33,6 @@ text_in_year y z = text_in_month y (month_from 11 y 1 z) z
 unfoldable pub date_text : ℤ → List ℕ
 date_text z = text_in_year (year_from 9999 0 z) z
 
--- what Display writes: the date text, or the milliseconds where there is none
+-- what Display writes: the date text, or the milliseconds if there is none
 abbrev pub shown_date : ℤ → List ℕ
 shown_date z = if has_date_text z then date_text z else signed_decimal z

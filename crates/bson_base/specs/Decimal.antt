@@ -20,6 +20,7 @@ exponent_bias = 6176
 abbrev pub greatest_exponent : ℕ
 greatest_exponent = 12287
 
+-- a sign is true if negative: as a truth value it needs no premise, and every bit pattern unpacks to one of these
 pub data Decimal : Type 0 where
   not_a_number : Decimal
   -- whether it is negative
@@ -91,7 +92,7 @@ with_dot k ds =
     else if nat_le (length ds) k then 48 ∷ 46 ∷ (replicate (k - length ds) 48 ++ ds)
     else take (length ds - k) ds ++ 46 ∷ drop (length ds - k) ds
 
--- what stands behind `E`: the exponent of the first digit, which has the bias
+-- what follows `E`: the exponent of the first digit, which has the bias
 abbrev pub exponent_text : ℕ → List ℕ
 exponent_text x = if nat_le exponent_bias x then 43 ∷ decimal (x - exponent_bias) else 45 ∷ decimal (exponent_bias - x)
 
@@ -127,7 +128,7 @@ least_in_range = 59360
 abbrev pub greatest_in_range : ℕ
 greatest_in_range = 71647
 
--- what stands before the first character that p finds, and what behind it
+-- what is before the first character that p finds, and what is behind it
 abbrev pub cut : (ℕ → Bool) → List ℕ → List ℕ × Option (List ℕ)
 cut p [] = ([], None)
 cut p (c ∷ cs) = if p c then ([], Some cs) else (c ∷ (cut p cs).0, (cut p cs).1)
@@ -176,7 +177,7 @@ read_exponent None = Ok reading_bias
 read_exponent (Some []) = Err EmptyExponent
 read_exponent (Some (c ∷ cs)) = if c == 43 then upward cs else if c == 45 then downward cs else upward (c ∷ cs)
 
--- the coefficient: its digits, and how many stand behind the dot
+-- the coefficient: its digits, and how many are behind the dot
 
 abbrev pub checked_digits : List ℕ → ℕ → Result (List ℕ × ℕ) ParseError
 checked_digits ds places = if nat_lt 0 (length ds) && all_digits ds then Ok (ds, places) else Err InvalidCoefficient

@@ -5,7 +5,7 @@ use Rattle.bson_base.specs.declared.decimal128.digits.Digits.{Digits}
 use Rattle.bson_base.specs.declared.decimal128.parts.Parts.{Parts}
 use Rattle.bson_base.specs.declared.decimal128.parts.Parts.TheVariants.{NotANumber, Infinite, Finite}
 
--- the decimal that parts stand for
+-- the decimal that has these parts
 abbrev pub decimal_of_parts : Parts → Decimal
 decimal_of_parts (NotANumber s q) = not_a_number
 decimal_of_parts (Infinite s) = infinity s

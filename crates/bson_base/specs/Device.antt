@@ -1,4 +1,4 @@
--- What a call does to a device: how often it failed, and the bytes that it gave or took, where it knows them.
+-- What a call does to a device: how often it failed, and the bytes that it gave or took, if it knows them.
 use Rattle.std.specs.Prelude.{◌≡◌, ◌⊎◌, ℕ, ◌+◌, List, [], Option, Result, Ok, Err, take, ◌<◌, ◌^◌, ◌-◌}
 use Rattle.std.specs.Io.KnownBytes.{Appends, Consumes, IsAtEnd}
 use Rattle.bson_base.specs.declared.whole.ReadAllError.{ReadAllError}
@@ -38,7 +38,7 @@ WriteTakes old new (Err e) buf = Appends old new []
 abbrev pub TakesBeginning : Option (List ℕ) → Option (List ℕ) → List ℕ → Type 0
 TakesBeginning old new bs = (n : ℕ) × Appends old new (take n bs)
 
--- what a sink tells: how many of its calls have failed, and what it took, where it knows that
+-- what is known of a sink: how many of its calls have failed, and what it took, if it knows that
 pub record Tally : Type 0 where
   pub failures : ℕ
   pub taken : Option (List ℕ)
@@ -47,7 +47,7 @@ pub record Tally : Type 0 where
 abbrev pub TakesText : Tally → Tally → List ℕ → Type 0
 TakesText old new text = ((new.failures ≡ old.failures) × Appends old.taken new.taken text) ⊎ ((new.failures ≡ old.failures + 1) × TakesBeginning old.taken new.taken text)
 
--- what a source tells: how many of its calls have failed, and what it gave and has left, where it knows that
+-- what is known of a source: how many of its calls have failed, and what it gave and has left, if it knows that
 pub record Feed : Type 0 where
   pub failures : ℕ
   pub supply : Supply
@@ -60,7 +60,7 @@ Took old new bytes = (new.failures ≡ old.failures) × Gives old.supply new.sup
 abbrev pub TookAll : Feed → Feed → List ℕ → Type 0
 TookAll old new bytes = Took old new bytes × IsExhausted new.supply
 
--- a call failed, or memory was wanted for what the source gave
+-- a call failed, or there was no memory for what the source gave
 abbrev pub StopsReading : ReadAllError → Feed → Feed → Type 0
 StopsReading Reader old new = new.failures ≡ old.failures + 1
 StopsReading Memory old new = (bytes : List ℕ) × Took old new bytes

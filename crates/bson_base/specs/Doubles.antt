@@ -1,4 +1,4 @@
--- What a pattern of 64 bits stands for (IEEE 754-2008, 3.4, binary64): the sign, 11 bits of exponent, 52 of fraction.
+-- What a pattern of 64 bits means (IEEE 754-2008, 3.4, binary64): the sign, 11 bits of exponent, 52 of fraction.
 use Rattle.std.specs.Prelude.{ℕ, ◌^◌, ◌/◌, ◌%◌, Bool, ◌==◌, ◌&&◌, not, nat_le}
 
 abbrev pub exponent : ℕ → ℕ

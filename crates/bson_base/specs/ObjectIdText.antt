@@ -14,16 +14,16 @@ digit_bytes [] = []
 digit_bytes (high ∷ []) = []
 digit_bytes (high ∷ low ∷ rest) = (digit_value high * 16 + digit_value low) ∷ digit_bytes rest
 
--- where the first byte that is no digit stands
+-- the place of the first byte that is no digit
 abbrev pub first_other : List ℕ → Option ℕ
 first_other text = position (λ c. not (is_hex_digit c)) text
 
--- a byte that is no digit is told before a wrong length
+-- a byte that is no digit is reported before a wrong length
 abbrev pub even_text : List ℕ → Option ℕ → Result (List ℕ) Error
 even_text text (Some index) = Err (InvalidHexStringCharacter (slice_index text index) index)
 even_text text None = if length text == 24 then Ok (digit_bytes text) else Err (InvalidHexStringLength (length text))
 
--- what a text reads as; an odd length is told first
+-- what a text reads as; an odd length is reported first
 abbrev pub object_id_of : List ℕ → Result (List ℕ) Error
 object_id_of text = if length text % 2 == 1 then Err (InvalidHexStringLength (length text)) else even_text text (first_other text)
 

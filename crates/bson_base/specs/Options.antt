@@ -6,7 +6,7 @@ abbrev pub put_in_order : ℕ → List ℕ → List ℕ
 put_in_order c [] = c ∷ []
 put_in_order c (d ∷ ds) = if nat_le c d then c ∷ d ∷ ds else d ∷ put_in_order c ds
 
--- the numbers ascending, each as often as it stands there
+-- the numbers ascending, each as often as it occurs there
 abbrev pub ascending_codes : List ℕ → List ℕ
 ascending_codes [] = []
 ascending_codes (c ∷ cs) = put_in_order c (ascending_codes cs)

@@ -109,7 +109,7 @@ abbrev mutual
   members_levels no_members = 0
   members_levels (member k v ms) = max (levels v) (members_levels ms)
 
--- each key stands once, in every document and scope
+-- each key occurs once, in every document and scope
 abbrev mutual
   pub HasDistinctKeys : Value → Type 0
   HasDistinctKeys (scalar s) = Unit {0}

@@ -1,4 +1,4 @@
--- What clauses see of vectors, and what reading one answers.
+-- What clauses see of vectors, and what reading one returns.
 use Rattle.std.specs.Prelude.{◌≡◌, ℕ, true, false, List, Result, Ok, Err}
 use Rattle.bson_base.specs.declared.binary.vector.Vector.{Vector}
 use Rattle.bson_base.specs.declared.binary.vector.Vector.TheVariants.{Int8, Float32, PackedBit}
@@ -15,7 +15,7 @@ vector_value (Int8 v) = int8 v.items
 vector_value (Float32 v) = float32 v.items
 vector_value (PackedBit p) = packed_value p
 
--- a vector exactly where the bytes are one, want of memory aside
+-- a vector exactly if the bytes are one, except out of memory
 abbrev pub ReadsVector : List ℕ → Result Vector Error → Type 0
 ReadsVector bs (Ok v) = (is_vector bs ≡ true) × (vector_bytes (vector_value v) ≡ bs)
 ReadsVector bs (Err errors.Vector) = is_vector bs ≡ false

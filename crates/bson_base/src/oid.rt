@@ -32,7 +32,7 @@ pub enum Error {
         /// The length in bytes.
         length: usize,
     },
-    /// No memory.
+    /// No memory. Reading a text takes none, so no call here returns it.
     #[error("out of memory")]
     Memory,
 }

@@ -25,7 +25,7 @@ abbrev pub is_old : BinarySubtype → Bool
 is_old subtypes.BinaryOld = true
 is_old _ = false
 
--- what stands behind the subtype: the old binary has its length once more (bsonspec.org 1.1, "subtype")
+-- what follows the subtype: the old binary has its length once more (bsonspec.org 1.1, "subtype")
 unfoldable pub inner : BinarySubtype → List ℕ → List ℕ
 inner s bs = if is_old s then le32 (length bs) ++ bs else bs
 

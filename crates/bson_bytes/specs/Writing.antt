@@ -1,4 +1,4 @@
--- What is told where a tree is written.
+-- What is reported if a tree is written.
 use Rattle.std.specs.Prelude.{◌≡◌, ℕ, ◌<◌, ◌^◌, List, ◌++◌, None}
 use Rattle.bson_base.specs.Kinds.{IsPlain}
 use Rattle.bson_base.specs.Value.{Value}
@@ -8,17 +8,17 @@ use Rattle.bson_frame.specs.declared.error.ErrorKind.{ErrorKind}
 use Rattle.bson_frame.specs.declared.error.ErrorKind.TheVariants.{MalformedValue, Utf8EncodingError, OutOfMemory}
 use Rattle.bson_frame.specs.View.{fault_key}
 
--- what the kind of an error says where a tree is written
+-- what the kind of an error says when a tree is written
 abbrev pub RefusesWriting : Type 0 → ErrorKind → Type 0
 RefusesWriting Reason MalformedValue = Reason
 RefusesWriting Reason Utf8EncodingError = ⊥
 RefusesWriting Reason OutOfMemory = Unit {0}
 
--- MalformedValue for this reason alone, or want of memory; no key is told
+-- MalformedValue for this reason alone, or out of memory; no key is reported
 abbrev pub IsWriteRefusal : Type 0 → Error → Type 0
 IsWriteRefusal Reason e = RefusesWriting Reason e.kind × (fault_key e ≡ None)
 
--- the bytes from before stand in front
+-- the bytes from before are in front
 abbrev pub StartsWith : List ℕ → List ℕ → Type 0
 StartsWith new old = (more : List ℕ) × (new ≡ old ++ more)
 

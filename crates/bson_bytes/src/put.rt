@@ -41,6 +41,7 @@ pub fn write_text(text: &str, out: &mut Vec<u8>) -> Result<()>
     ensures refused { IfErr result (IsWriteRefusal (2 ^ 31 ≤ length text.now + 5)) }
     ensures kept { OnErr result (StartsWith out.new.items out.old.items) }
 {
+    // By its own length too, not only by the document's around it: so each writer's contract is exact both ways.
     if text.len() + 5 > LENGTH_LIMIT {
         return Err(refusal());
     }

@@ -8,7 +8,7 @@ use Rattle.bson_base.specs.Kinds.{HasNo00}
 use Rattle.bson_frame.specs.declared.error.ErrorKind.{ErrorKind}
 use Rattle.bson_frame.specs.declared.error.ErrorKind.TheVariants.{MalformedValue, Utf8EncodingError, OutOfMemory}
 
--- the greatest number of bytes that a length tells, since it is a signed number of 32 bits (bsonspec.org 1.1, "int32")
+-- the greatest number of bytes that a length can declare, since it is a signed number of 32 bits (bsonspec.org 1.1, "int32")
 abbrev pub length_limit : ℕ
 length_limit = 2147483647
 
@@ -46,7 +46,7 @@ pub record IsBinarySize (bytes : List ℕ) (size : ℕ) : Type 0 where
   pub declared : size ≡ number bytes + 5
   pub fits : number bytes < 2 ^ 31
 
--- a length whose four bytes are there and count, also where it is under 4 (bsonspec.org 1.1, "code_w_s")
+-- a length whose four bytes are there and count, also if it is under 4 (bsonspec.org 1.1, "code_w_s")
 pub record IsCodeSize (bytes : List ℕ) (size : ℕ) : Type 0 where
   pub declared : size ≡ number bytes
   pub fits : number bytes < 2 ^ 31
@@ -106,7 +106,7 @@ pub record IsFirstFrame (bytes : List ℕ) (e : Element) (rest : List ℕ) : Typ
 abbrev pub HasNoFrame : List ℕ → Type 0
 HasNoFrame bytes = (e : Element) (rest : List ℕ) → IsFirstFrame bytes e rest → ⊥
 
--- The kind of the structural fault where there is no frame.
+-- The kind of the structural fault if there is no frame.
 
 -- behind n names, each with its 00, comes a run with its 00 that isn't UTF-8
 abbrev pub NoTextAfter : ℕ → List ℕ → Type 0

@@ -10,11 +10,11 @@ use Rattle.bson_frame.specs.declared.error.ValueAccessErrorKind.{ValueAccessErro
 use Rattle.bson_frame.specs.declared.error.ValueAccessErrorKind.TheVariants as refusals
 use Rattle.bson_frame.specs.Frame.{Element}
 
--- a frame without where it lies in memory, and without what follows it
+-- a frame without its place in memory, and without what follows it
 abbrev pub element_of : Frame → Element
 element_of f = record { tag = f.tag; key = f.key.now; payload = f.payload.now }
 
--- the key that a fault stands under, if there is one
+-- the key of a fault, if it has one
 abbrev pub fault_key : Error → Option (List ℕ)
 fault_key e = option_map string_bytes e.key
 
@@ -22,15 +22,15 @@ fault_key e = option_map string_bytes e.key
 abbrev pub asked_key : ValueAccessError → List ℕ
 asked_key e = string_bytes e.key
 
--- a fault of this kind that stands under no key
+-- a fault of this kind under no key
 abbrev pub IsBare : ErrorKind → Error → Type 0
 IsBare kind e = (e.kind ≡ kind) × (fault_key e ≡ None)
 
--- a payload fault under its key, or want of memory in its place
+-- a payload fault under its key, or out of memory in its place
 abbrev pub IsFaultUnder : List ℕ → ErrorKind → Error → Type 0
 IsFaultUnder key kind e = ((e.kind ≡ kind) × (fault_key e ≡ Some key)) ⊎ IsBare OutOfMemory e
 
--- why a value isn't there, without where its key lies in memory
+-- why a value isn't there, without the place of its key in memory
 pub data Reason : Type 0 where
   not_present : Reason
   unexpected_type : Reason

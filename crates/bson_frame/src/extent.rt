@@ -43,6 +43,7 @@ fn ascii_run(bytes: &[u8]) -> usize
 fn near_end(bytes: &[u8]) -> Option<usize>
     ensures { IfSome result (IsAsciiEnd bytes.now) }
 {
+    // Nearly every key is ASCII and shorter than 16 bytes, and each walk meets each key.
     if bytes.len() < 16 {
         return None;
     }

@@ -1,5 +1,5 @@
-//! Facts: that values are sound, as their numbers and texts are those of their kinds, and no key stands twice. These
-//! functions do nothing when they run; their contracts are the facts.
+//! Facts: that values are sound, as their numbers and texts are those of their kinds, and no key occurs twice. The
+//! contracts are the facts. `soundness` and what it calls go through the value when they run; the others do nothing.
 
 ghost use Rattle.std.specs.Prelude.{◌≡◌, ◌<◌, ◌^◌, map, length, FitsSigned, IsUtf8};
 ghost use Rattle.std.specs.Int.{w32, w64};

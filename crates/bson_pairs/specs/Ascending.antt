@@ -19,7 +19,7 @@ use Rattle.bson_pairs.specs.Same.{pairs_eq, each_from_pairs_eq}
 abbrev pub key_cmp : Key → Key → Ordering
 key_cmp = slice_cmp nat_cmp
 
--- the pairs, ascending by their keys (the first one where a key stands twice)
+-- the pairs, ascending by their keys (the first one if a key occurs twice)
 abbrev pub ascending : {V : Type 0} → List (Key × V) → List (Key × V)
 ascending [] = []
 ascending (p ∷ ps) = place key_cmp p.0 p.1 (ascending ps)
@@ -41,7 +41,7 @@ module _ {V : Type 0} where
   is_sorted-ascending [] = tt
   is_sorted-ascending (p ∷ ps) = is_sorted-put key_cmp nat_list_cmp_total p.0 p.1 (ascending ps) (is_sorted-ascending ps)
 
-  -- lists that answer every look-up alike are one list, once ascending
+  -- lists in which every look-up finds the same are one list, once ascending
   pub same_ascending : (ps qs : List (Key × V)) → ((q : Key) → get q ps ≡ get q qs) → ascending ps ≡ ascending qs
   same_ascending ps qs same =
       same_entries key_cmp nat_list_cmp_total (slice_cmp-IsAntisymmetric nat_cmp-IsAntisymmetric) (ascending ps) (ascending qs) (is_sorted-ascending ps) (is_sorted-ascending qs)

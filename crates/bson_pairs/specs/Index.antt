@@ -28,15 +28,15 @@ is_key k s = bytes_eq k (string_bytes s)
 abbrev pub place_of : {V : Type 0} → Key → List (Key × V) → Option ℕ
 place_of k ps = position (bytes_eq k) (keys_of ps)
 
--- c is at most the number of binary digits of n, which is d where n < 2 ^ d and no lesser d will do
+-- c is at most the number of binary digits of n, which is d if n < 2 ^ d and no lesser d will do
 abbrev pub AtMostDigits : ℕ → ℕ → Type 0
 AtMostDigits c n = (d : ℕ) → n < 2 ^ d → c ≤ d
 
--- k stands at j in the index of these keys
+-- k is at j in the index of these keys
 abbrev pub IsIndexedAt : Key → ℕ → List Key → Type 0
 IsIndexedAt k j ks = (i : ℕ) × (slice_get (index_of ks) j ≡ Some (k, i))
 
--- k isn't among these keys, and would stand at j in their index
+-- k isn't among these keys, and would be at j in their index
 abbrev pub GoesAt : Key → ℕ → List Key → Type 0
 GoesAt k j ks = (j ≤ length (index_of ks)) × (find key_cmp k (index_of ks) ≡ None) × ((n : ℕ) → place key_cmp k n (index_of ks) ≡ insert (index_of ks) j (k, n))
 
@@ -48,7 +48,7 @@ abbrev pub with_first : {A : Type 0} → Option A → List A → List A
 with_first None xs = xs
 with_first (Some x) xs = x ∷ xs
 
--- the elements at these places, where there are such
+-- the elements at these places, if there are such
 abbrev pub pick : {A : Type 0} → List A → List ℕ → List A
 pick xs [] = []
 pick xs (i ∷ is) = with_first (slice_get xs i) (pick xs is)

@@ -9,6 +9,6 @@ module _ {V : Type 0} where
   abbrev pub put_each : List (String Global × V) → List (Key × V) → List (Key × V)
   put_each xs ps = fold (λ qs x. put (string_bytes x.0) x.1 qs) ps xs
 
-  -- qs has those of xs put into ps that stand before one whose key is new
+  -- qs is ps with those of xs put in that are before one whose key is new
   abbrev pub PutsBeforeNew : List (String Global × V) → List (Key × V) → List (Key × V) → Type 0
   PutsBeforeNew xs ps qs = (before after : List (String Global × V)) × (x : String Global × V) × (xs ≡ before ++ x ∷ after) × (qs ≡ put_each before ps) × (get (string_bytes x.0) qs ≡ None)

@@ -1,4 +1,4 @@
--- What a getter of one kind answers.
+-- What a getter of one kind returns.
 use Rattle.std.specs.Prelude.{◌≡◌, ◌≢◌, List, [], ℕ, ◌⊎◌, Option, Some, None, Result, Ok, Err}
 use Rattle.std.specs.Fmt.{decimal}
 use Rattle.bson_frame.specs.declared.error.ErrorKind.{ErrorKind}
@@ -38,16 +38,16 @@ RefusesAccess pick found refusals.UnexpectedType = TakesValue pick found None
 RefusesAccess pick found (refusals.InvalidBson x) = GetAnswer found (Err x)
 RefusesAccess pick found refusals.OutOfMemory = ⊥
 
--- want of memory doesn't stand inside another refusal
+-- out of memory isn't inside another refusal
 abbrev pub HasNoWant : ValueAccessErrorKind → Type 0
 HasNoWant (refusals.InvalidBson x) = x.kind ≢ faults.OutOfMemory
 HasNoWant kind = Unit {0}
 
--- a refusal of this kind under the key, or want of memory in its place, under the empty key
+-- a refusal of this kind under the key, or out of memory in its place, under the empty key
 abbrev pub IsAccessRefusal : List ℕ → ValueAccessErrorKind → ValueAccessError → Type 0
 IsAccessRefusal key kind e = ((e.kind ≡ kind) × (asked_key e ≡ key) × HasNoWant kind) ⊎ ((e.kind ≡ refusals.OutOfMemory) × (asked_key e ≡ []))
 
--- what a getter answers: what it takes of the value that was found, or why it takes nothing
+-- what a getter returns: what it takes of the value that was found, or why it takes nothing
 abbrev pub AccessAnswer : {T : Type 0} → (RawBsonRef → Option T) → List ℕ → Option (Result Element ErrorKind) → Result T ValueAccessError → Type 0
 AccessAnswer pick key found (Ok x) = TakesValue pick found (Some x)
 AccessAnswer pick key found (Err e) = (kind : ValueAccessErrorKind) × RefusesAccess pick found kind × IsAccessRefusal key kind e

@@ -61,7 +61,7 @@ abbrev pub AllTaken : List ℕ → List (List ℕ × RawValue) → List ℕ → 
 AllTaken old [] new = new ≡ old
 AllTaken old (p ∷ pairs) new = CanTake old p.0 p.1 × AllTaken (with_element old (element_for p.0 p.1)) pairs new
 
--- the first that isn't taken, or want of memory
+-- the first that isn't taken, or out of memory
 abbrev pub StopsAt : List ℕ → List (List ℕ × RawValue) → Error → Type 0
 StopsAt old [] e = IsBare OutOfMemory e
 StopsAt old (p ∷ pairs) e = IsWriteRefusal (CanTake old p.0 p.1 → ⊥) e ⊎ (CanTake old p.0 p.1 × StopsAt (with_element old (element_for p.0 p.1)) pairs e)
@@ -70,7 +70,7 @@ StopsAt old (p ∷ pairs) e = IsWriteRefusal (CanTake old p.0 p.1 → ⊥) e ⊎
 abbrev pub empty_bytes : List ℕ
 empty_bytes = 5 ∷ 0 ∷ 0 ∷ 0 ∷ 0 ∷ []
 
--- what a call answers that builds a document of pairs
+-- what a call returns that builds a document of pairs
 abbrev pub Builds : {T : Type 0} → (T → List ℕ) → List (List ℕ × RawValue) → Result T Error → Type 0
 Builds bytes pairs (Ok x) = AllTaken empty_bytes pairs (bytes x)
 Builds bytes pairs (Err e) = StopsAt empty_bytes pairs e

@@ -1,4 +1,4 @@
--- What a conversion from bytes to trees gives, and which fault it tells where bytes mean no tree.
+-- What a conversion from bytes to trees gives, and which fault it reports if bytes mean no tree.
 use Rattle.std.specs.Prelude.{◌≡◌, ◌≢◌, ℕ, List, [], ◌∷◌, map, drop, Option, Some, None, Result, MatchResult, Vec, string_bytes, ◌⊎◌}
 use Rattle.std.specs.declared.alloc.Global.{Global}
 use Rattle.bson_base.specs.declared.spec.ElementType.{ElementType}
@@ -28,14 +28,14 @@ pub data Way : Type 0 where
   past : Way → Way
   into : Way → Way
 
--- the elements inside a payload, where its kind has some
+-- the elements inside a payload, if its kind has some
 abbrev pub elements_in : ElementType → List ℕ → Option (List ℕ)
 elements_in kinds.EmbeddedDocument payload = Some (drop 4 payload)
 elements_in kinds.Array payload = Some (drop 4 payload)
 elements_in kinds.JavaScriptCodeWithScope payload = Some (drop 4 (scope_in payload))
 elements_in tag payload = None
 
--- The way leads past elements that spell values to a fault: where no frame is, which stands under no key, or in the
+-- The way leads past elements that spell values to a fault: where there is no frame, under no key, or in the
 -- payload of an element, under its key.
 abbrev pub IsFirstFault : List ℕ → Way → Option (List ℕ) → ErrorKind → Type 0
 IsFirstFault bytes here None kind = (bytes ≢ 0 ∷ []) × IsStructuralFault bytes kind
@@ -52,7 +52,7 @@ abbrev pub HasFaultIn : Element → Option (List ℕ) → ErrorKind → Type 0
 HasFaultIn e key kind = ((key ≡ Some e.key) × IsPayloadFault e.tag e.payload kind)
     ⊎ ((inner : List ℕ) × IsFaultless e.tag e.payload × (elements_in e.tag e.payload ≡ Some inner) × HasFault inner key kind)
 
--- a fault is told: want of memory, under no key, or a kind and a key of which this holds
+-- a fault is reported: out of memory, under no key, or a kind and a key of which this holds
 abbrev pub Told : (Option (List ℕ) → ErrorKind → Type 0) → Option (List ℕ) → ErrorKind → Type 0
 Told Fault key MalformedValue = Fault key MalformedValue
 Told Fault key Utf8EncodingError = Fault key Utf8EncodingError
@@ -79,7 +79,7 @@ IsScopedOf x c = (string_bytes c.code ≡ x.code.now) × IsDocumentOf (drop 4 (b
 abbrev pub IsValueOf : Element → Bson → Type 0
 IsValueOf e b = (v : Value) × (value_kind v ≡ e.tag) × SpellsValue e.payload v × (view b ≡ settle_value v)
 
--- the elements inside a raw value, where its kind has some
+-- the elements inside a raw value, if its kind has some
 abbrev pub elements_of : RawValue → Option (List ℕ)
 elements_of (raws.leaf s) = None
 elements_of (raws.array bs) = Some (drop 4 bs)
@@ -101,7 +101,7 @@ IsBsonOf r b = (v : Value) × SpellsRawValue r v × (view b ≡ settle_value v)
 abbrev pub HasFaultInside : RawValue → Option (List ℕ) → ErrorKind → Type 0
 HasFaultInside r key kind = (inner : List ℕ) × (elements_of r ≡ Some inner) × HasFault inner key kind
 
--- ---- what the conversions answer
+-- ---- what the conversions return
 
 abbrev pub ConvertsMembers : List ℕ → Result Document Error → Type 0
 ConvertsMembers bytes result = MatchResult result (IsDocumentOf bytes) (TellsFault (HasFault bytes))

@@ -1,4 +1,4 @@
--- What a copy of an element's value answers.
+-- What a copy of an element's value returns.
 use Rattle.std.specs.Prelude.{◌≡◌, ◌⊎◌, Result, Ok, Err}
 use Rattle.bson_frame.specs.declared.error.Error.{Error}
 use Rattle.bson_frame.specs.declared.error.ErrorKind.{ErrorKind}
@@ -11,7 +11,7 @@ use Rattle.bson_raw.specs.declared.bson_ref.RawBsonRef.{RawBsonRef}
 use Rattle.bson_raw.specs.Raw.{ref_value, own_value}
 use Rattle.bson_raw.specs.ReadValue.{IsValue}
 
--- the payload fault under its key, or want of memory
+-- the payload fault under its key, or out of memory
 abbrev pub IsCopyRefusal : Element → Error → Type 0
 IsCopyRefusal e x = ((kind : ErrorKind) × IsPayloadFault e.tag e.payload kind × IsFaultUnder e.key kind x) ⊎ IsBare OutOfMemory x
 

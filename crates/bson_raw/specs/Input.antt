@@ -66,7 +66,7 @@ TakesDeclared old new (Err BadLength) = (bytes : List ℕ) × Took old new bytes
 TakesDeclared old new (Err (Raw e)) = ⊥
 TakesDeclared old new (Err Memory) = new.failures ≡ old.failures
 
--- a refused conversion, as a reader tells it
+-- a refused conversion, as a reader reports it
 abbrev pub IsConversionRefusal : Fault → ReadError → Type 0
 IsConversionRefusal e told = ((e.kind ≡ OutOfMemory) × (told ≡ Memory)) ⊎ ((e.kind ≢ OutOfMemory) × (told ≡ Raw e))
 

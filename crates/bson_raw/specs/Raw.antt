@@ -1,4 +1,4 @@
--- What a raw value is, whoever holds its bytes: its payload isn't taken apart where it is a document.
+-- What a raw value is, whoever holds its bytes: its payload isn't taken apart if it is a document.
 use Rattle.std.specs.Prelude.{ℕ, List, string_bytes, Option, Some, None}
 use Rattle.bson_base.specs.declared.spec.ElementType.{ElementType}
 use Rattle.bson_base.specs.declared.spec.ElementType.TheVariants as kinds
@@ -34,7 +34,7 @@ raw_payload (array bs) = bs
 raw_payload (document bs) = bs
 raw_payload (scoped_code t bs) = scope_frame_of t bs
 
--- no 00 in a pattern or in options; what stands inside was written before
+-- no 00 in a pattern or in options; what is inside was written before
 abbrev pub IsPlainRaw : RawValue → Type 0
 IsPlainRaw (leaf s) = IsPlainScalar s
 IsPlainRaw (array bs) = Unit {0}

@@ -1,4 +1,4 @@
--- The walk with its values read, and what a look-up answers.
+-- The walk with its values read, and what a look-up returns.
 use Rattle.std.specs.Prelude.{◌≡◌, ℕ, List, Option, Some, None, Result, Ok, Err}
 use Rattle.std.specs.Borrow.{Bor}
 use Rattle.bson_frame.specs.declared.error.ErrorKind.{ErrorKind}
@@ -29,7 +29,7 @@ IsPairRead (Ok e) (Err x) = IsItemRead (Ok e) (Err x)
 IsPairRead (Err kind) (Ok p) = ⊥
 IsPairRead (Err kind) (Err x) = IsItemRead (Err kind) (Err x)
 
--- what a look-up answers: nothing where nothing was found, else what was found, read
+-- what a look-up returns: nothing if nothing was found, else what was found, read
 abbrev pub GetAnswer : Option (Result Element ErrorKind) → Result (Option RawBsonRef) Error → Type 0
 GetAnswer None (Ok None) = Unit {0}
 GetAnswer None (Ok (Some v)) = ⊥
@@ -40,7 +40,7 @@ GetAnswer (Some i) (Err x) = IsItemRead i (Err x)
 
 -- ---- the iterators over values
 
--- an item of the walk without where it lies in memory
+-- an item of the walk without its place in memory
 abbrev pub item_of : Result RawElement Error → Result Element ErrorKind
 item_of (Ok e) = Ok (parts_of e)
 item_of (Err x) = Err x.kind

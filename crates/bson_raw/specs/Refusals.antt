@@ -1,4 +1,4 @@
--- What the errors of reading and writing tell, without where a key lies in memory.
+-- What the errors of reading and writing say, without the place of a key in memory.
 use Rattle.std.specs.Prelude.{ℕ, List, Option}
 use Rattle.bson_frame.specs.declared.error.ErrorKind.{ErrorKind}
 use Rattle.bson_frame.specs.View.{fault_key}

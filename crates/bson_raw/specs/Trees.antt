@@ -16,22 +16,22 @@ use Rattle.bson_raw.specs.declared.write_error.WriteError.TheVariants.{Writer, R
 use Rattle.bson_raw.specs.Convert.{ConvertsValue, SpellsRawValue, TellsFault}
 use Rattle.bson_raw.specs.Raw.{RawValue, leaf, array, document, scoped_code, own_value}
 
--- the tree with what stands inside written
+-- the tree with what is inside written
 abbrev pub raw_of : Value → RawValue
 raw_of (values.scalar s) = leaf s
 raw_of (values.array vs) = array (frame_of (items_bytes 0 vs))
 raw_of (values.document ms) = document (encode ms)
 raw_of (values.scoped_code t ms) = scoped_code t (encode ms)
 
--- what stands inside can be written
+-- what is inside can be written
 abbrev pub CanBeRaw : Value → Type 0
 CanBeRaw (values.scalar s) = Unit {0}
 CanBeRaw (values.array vs) = CanBeWritten (values.array vs)
 CanBeRaw (values.document ms) = CanBeWritten (values.document ms)
 CanBeRaw (values.scoped_code t ms) = CanBeWritten (values.document ms)
 
--- a document went out; or nothing did, as it can't be written or for want of memory; or a beginning, as a call of the device
--- failed. A device tells how many of its calls failed, and the bytes that it took, where it knows them.
+-- a document went out; or nothing did, as it can't be written or memory ran out; or a beginning, as a call of the device
+-- failed. Of a device is known how many of its calls failed, and the bytes that it took, if it knows them.
 abbrev pub SendsDocument : Members → Tally → Tally → Result (Unit {0}) WriteError → Type 0
 SendsDocument d old new (Ok x) = CanBeWritten (values.document d) × (new.failures ≡ old.failures) × Appends old.taken new.taken (encode d)
 SendsDocument d old new (Err Writer) = CanBeWritten (values.document d) × (new.failures ≡ old.failures + 1) × TakesBeginning old.taken new.taken (encode d)

@@ -18,7 +18,7 @@ bytes_of d = d.bytes.now
 abbrev pub array_bytes : RawArray → List ℕ
 array_bytes a = bytes_of a.document
 
--- an element without where it lies in memory
+-- an element without its place in memory
 abbrev pub parts_of : RawElement → Element
 parts_of e = element_of e.frame
 

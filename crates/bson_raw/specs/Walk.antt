@@ -37,7 +37,7 @@ pub record YieldsWalk {T : Type 0} (R : Result Element ErrorKind → T → Type 
   pub walk : IsDocumentWalk bytes elements fault
   pub in_order : AllZip R (walk_items elements fault) items
 
--- an item of the walk as it is yielded: a structural fault stands under no key
+-- an item of the walk as it is yielded: a structural fault is under no key
 abbrev pub IsItem : Result Element ErrorKind → Result RawElement Error → Type 0
 IsItem (Ok e) (Ok x) = parts_of x ≡ e
 IsItem (Ok e) (Err x) = ⊥
@@ -55,7 +55,7 @@ ends_at key (Err kind) = true
 abbrev pub found_under : List ℕ → List Element → Option ErrorKind → Option (Result Element ErrorKind)
 found_under key elements fault = find (ends_at key) (walk_items elements fault)
 
--- what stands at a place of a walk, from 0
+-- what is at a place of a walk, from 0
 abbrev pub found_at : ℕ → List Element → Option ErrorKind → Option (Result Element ErrorKind)
 found_at index elements fault = slice_get (walk_items elements fault) index
 
@@ -68,7 +68,7 @@ IsFound (Some i) (Some x) = IsItem i x
 
 -- ---- the iterator
 
--- what comes next, where bytes are left
+-- what comes next, if bytes are left
 abbrev pub IsNext : List ℕ → Option (Result RawElement Error) → Option (List ℕ) → Type 0
 IsNext bytes None left = (bytes ≡ 0 ∷ []) × (left ≡ None)
 IsNext bytes (Some (Ok x)) left = IsFirstFrame bytes (parts_of x) x.frame.rest.now × (left ≡ Some x.frame.rest.now)

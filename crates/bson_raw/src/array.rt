@@ -25,6 +25,9 @@ pub struct RawArray<'a> {
     pub(crate) document: RawDocument<'a>,
 }
 
+/// The bytes, the values, look-ups, and the typed getters. A typed getter counts places from 0. It returns `NotPresent`
+/// past the end, `UnexpectedType` if the value is of another kind, and `InvalidBson` if `get` returns a fault; the key
+/// of each is the place in decimal. It takes memory for an error alone.
 impl<'a> RawArray<'a> {
     ghost use Rattle.bson_raw.specs.Access.{AccessAnswer};
     ghost use Rattle.bson_raw.specs.Read.{GetAnswer, IsItemRead, value_steps};
@@ -91,120 +94,84 @@ impl<'a> RawArray<'a> {
         access::of_kind(alloc, Asked::Place(index), self.get(alloc, index), take)
     }
 
-    /// The double at the place, counted from 0. The key of an error is the place in decimal.
-    ///
-    /// `NotPresent` past the end, `UnexpectedType` if the value is of another kind, `InvalidBson` if `get` returns a
-    /// fault. Memory is taken for an error alone.
+    /// The double at the place.
     pub fn get_f64(self, alloc: Global, index: usize) -> ValueAccessResult<DoubleBits>
         ensures { OnWalk (array_bytes self.entry) (λ elements fault. AccessAnswer as_f64 (decimal index) (found_at index elements fault) result) }
     {
         self.of_kind(alloc, index, RawBsonRef::as_f64)
     }
 
-    /// The text at the place, counted from 0. The key of an error is the place in decimal.
-    ///
-    /// `NotPresent` past the end, `UnexpectedType` if the value is of another kind, `InvalidBson` if `get` returns a
-    /// fault. Memory is taken for an error alone.
+    /// The text at the place.
     pub fn get_str(self, alloc: Global, index: usize) -> ValueAccessResult<&'a str>
         ensures { OnWalk (array_bytes self.entry) (λ elements fault. AccessAnswer as_str (decimal index) (found_at index elements fault) result) }
     {
         self.of_kind(alloc, index, RawBsonRef::as_str)
     }
 
-    /// The document at the place, counted from 0. The key of an error is the place in decimal.
-    ///
-    /// `NotPresent` past the end, `UnexpectedType` if the value is of another kind, `InvalidBson` if `get` returns a
-    /// fault. Memory is taken for an error alone.
+    /// The document at the place.
     pub fn get_document(self, alloc: Global, index: usize) -> ValueAccessResult<RawDocument<'a>>
         ensures { OnWalk (array_bytes self.entry) (λ elements fault. AccessAnswer as_document (decimal index) (found_at index elements fault) result) }
     {
         self.of_kind(alloc, index, RawBsonRef::as_document)
     }
 
-    /// The array at the place, counted from 0. The key of an error is the place in decimal.
-    ///
-    /// `NotPresent` past the end, `UnexpectedType` if the value is of another kind, `InvalidBson` if `get` returns a
-    /// fault. Memory is taken for an error alone.
+    /// The array at the place.
     pub fn get_array(self, alloc: Global, index: usize) -> ValueAccessResult<RawArray<'a>>
         ensures { OnWalk (array_bytes self.entry) (λ elements fault. AccessAnswer as_array (decimal index) (found_at index elements fault) result) }
     {
         self.of_kind(alloc, index, RawBsonRef::as_array)
     }
 
-    /// The binary value at the place, counted from 0. The key of an error is the place in decimal.
-    ///
-    /// `NotPresent` past the end, `UnexpectedType` if the value is of another kind, `InvalidBson` if `get` returns a
-    /// fault. Memory is taken for an error alone.
+    /// The binary value at the place.
     pub fn get_binary(self, alloc: Global, index: usize) -> ValueAccessResult<RawBinaryRef<'a>>
         ensures { OnWalk (array_bytes self.entry) (λ elements fault. AccessAnswer as_binary (decimal index) (found_at index elements fault) result) }
     {
         self.of_kind(alloc, index, RawBsonRef::as_binary)
     }
 
-    /// The object id at the place, counted from 0. The key of an error is the place in decimal.
-    ///
-    /// `NotPresent` past the end, `UnexpectedType` if the value is of another kind, `InvalidBson` if `get` returns a
-    /// fault. Memory is taken for an error alone.
+    /// The object id at the place.
     pub fn get_object_id(self, alloc: Global, index: usize) -> ValueAccessResult<ObjectId>
         ensures { OnWalk (array_bytes self.entry) (λ elements fault. AccessAnswer as_object_id (decimal index) (found_at index elements fault) result) }
     {
         self.of_kind(alloc, index, RawBsonRef::as_object_id)
     }
 
-    /// The boolean at the place, counted from 0. The key of an error is the place in decimal.
-    ///
-    /// `NotPresent` past the end, `UnexpectedType` if the value is of another kind, `InvalidBson` if `get` returns a
-    /// fault. Memory is taken for an error alone.
+    /// The boolean at the place.
     pub fn get_bool(self, alloc: Global, index: usize) -> ValueAccessResult<bool>
         ensures { OnWalk (array_bytes self.entry) (λ elements fault. AccessAnswer as_bool (decimal index) (found_at index elements fault) result) }
     {
         self.of_kind(alloc, index, RawBsonRef::as_bool)
     }
 
-    /// The moment at the place, counted from 0. The key of an error is the place in decimal.
-    ///
-    /// `NotPresent` past the end, `UnexpectedType` if the value is of another kind, `InvalidBson` if `get` returns a
-    /// fault. Memory is taken for an error alone.
+    /// The moment at the place.
     pub fn get_datetime(self, alloc: Global, index: usize) -> ValueAccessResult<DateTime>
         ensures { OnWalk (array_bytes self.entry) (λ elements fault. AccessAnswer as_datetime (decimal index) (found_at index elements fault) result) }
     {
         self.of_kind(alloc, index, RawBsonRef::as_datetime)
     }
 
-    /// The regular expression at the place, counted from 0. The key of an error is the place in decimal.
-    ///
-    /// `NotPresent` past the end, `UnexpectedType` if the value is of another kind, `InvalidBson` if `get` returns a
-    /// fault. Memory is taken for an error alone.
+    /// The regular expression at the place.
     pub fn get_regex(self, alloc: Global, index: usize) -> ValueAccessResult<RawRegexRef<'a>>
         ensures { OnWalk (array_bytes self.entry) (λ elements fault. AccessAnswer as_regex (decimal index) (found_at index elements fault) result) }
     {
         self.of_kind(alloc, index, RawBsonRef::as_regex)
     }
 
-    /// The timestamp at the place, counted from 0. The key of an error is the place in decimal.
-    ///
-    /// `NotPresent` past the end, `UnexpectedType` if the value is of another kind, `InvalidBson` if `get` returns a
-    /// fault. Memory is taken for an error alone.
+    /// The timestamp at the place.
     pub fn get_timestamp(self, alloc: Global, index: usize) -> ValueAccessResult<Timestamp>
         ensures { OnWalk (array_bytes self.entry) (λ elements fault. AccessAnswer as_timestamp (decimal index) (found_at index elements fault) result) }
     {
         self.of_kind(alloc, index, RawBsonRef::as_timestamp)
     }
 
-    /// The integer of 32 bits at the place, counted from 0. The key of an error is the place in decimal.
-    ///
-    /// `NotPresent` past the end, `UnexpectedType` if the value is of another kind, `InvalidBson` if `get` returns a
-    /// fault. Memory is taken for an error alone.
+    /// The integer of 32 bits at the place.
     pub fn get_i32(self, alloc: Global, index: usize) -> ValueAccessResult<i32>
         ensures { OnWalk (array_bytes self.entry) (λ elements fault. AccessAnswer as_i32 (decimal index) (found_at index elements fault) result) }
     {
         self.of_kind(alloc, index, RawBsonRef::as_i32)
     }
 
-    /// The integer of 64 bits at the place, counted from 0. The key of an error is the place in decimal.
-    ///
-    /// `NotPresent` past the end, `UnexpectedType` if the value is of another kind, `InvalidBson` if `get` returns a
-    /// fault. Memory is taken for an error alone.
+    /// The integer of 64 bits at the place.
     pub fn get_i64(self, alloc: Global, index: usize) -> ValueAccessResult<i64>
         ensures { OnWalk (array_bytes self.entry) (λ elements fault. AccessAnswer as_i64 (decimal index) (found_at index elements fault) result) }
     {

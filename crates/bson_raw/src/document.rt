@@ -29,6 +29,9 @@ pub struct RawDocument<'a> {
     pub ghost envelope: { IsEnvelope bytes.now },
 }
 
+/// The bytes, the elements, look-ups, and the typed getters. A typed getter returns `NotPresent` if no element has the
+/// key, `UnexpectedType` if the first one has a value of another kind, and `InvalidBson` if `get` returns a fault. It
+/// takes memory for an error alone.
 impl<'a> RawDocument<'a> {
     ghost use Rattle.bson_frame.specs.View.{IsBare};
     ghost use Rattle.bson_raw.specs.Access.{AccessAnswer};
@@ -133,9 +136,6 @@ impl<'a> RawDocument<'a> {
     }
 
     /// The double under the key.
-    ///
-    /// `NotPresent` if no element has the key, `UnexpectedType` if the first one has a value of another kind,
-    /// `InvalidBson` if `get` returns a fault. Memory is taken for an error alone.
     pub fn get_f64(self, alloc: Global, key: &str) -> ValueAccessResult<DoubleBits>
         ensures { OnWalk (bytes_of self.entry) (λ elements fault. AccessAnswer as_f64 key.now (found_under key.now elements fault) result) }
     {
@@ -143,9 +143,6 @@ impl<'a> RawDocument<'a> {
     }
 
     /// The text under the key.
-    ///
-    /// `NotPresent` if no element has the key, `UnexpectedType` if the first one has a value of another kind,
-    /// `InvalidBson` if `get` returns a fault. Memory is taken for an error alone.
     pub fn get_str(self, alloc: Global, key: &str) -> ValueAccessResult<&'a str>
         ensures { OnWalk (bytes_of self.entry) (λ elements fault. AccessAnswer as_str key.now (found_under key.now elements fault) result) }
     {
@@ -153,9 +150,6 @@ impl<'a> RawDocument<'a> {
     }
 
     /// The document under the key.
-    ///
-    /// `NotPresent` if no element has the key, `UnexpectedType` if the first one has a value of another kind,
-    /// `InvalidBson` if `get` returns a fault. Memory is taken for an error alone.
     pub fn get_document(self, alloc: Global, key: &str) -> ValueAccessResult<RawDocument<'a>>
         ensures { OnWalk (bytes_of self.entry) (λ elements fault. AccessAnswer as_document key.now (found_under key.now elements fault) result) }
     {
@@ -163,9 +157,6 @@ impl<'a> RawDocument<'a> {
     }
 
     /// The array under the key.
-    ///
-    /// `NotPresent` if no element has the key, `UnexpectedType` if the first one has a value of another kind,
-    /// `InvalidBson` if `get` returns a fault. Memory is taken for an error alone.
     pub fn get_array(self, alloc: Global, key: &str) -> ValueAccessResult<RawArray<'a>>
         ensures { OnWalk (bytes_of self.entry) (λ elements fault. AccessAnswer as_array key.now (found_under key.now elements fault) result) }
     {
@@ -173,9 +164,6 @@ impl<'a> RawDocument<'a> {
     }
 
     /// The binary value under the key.
-    ///
-    /// `NotPresent` if no element has the key, `UnexpectedType` if the first one has a value of another kind,
-    /// `InvalidBson` if `get` returns a fault. Memory is taken for an error alone.
     pub fn get_binary(self, alloc: Global, key: &str) -> ValueAccessResult<RawBinaryRef<'a>>
         ensures { OnWalk (bytes_of self.entry) (λ elements fault. AccessAnswer as_binary key.now (found_under key.now elements fault) result) }
     {
@@ -183,9 +171,6 @@ impl<'a> RawDocument<'a> {
     }
 
     /// The object id under the key.
-    ///
-    /// `NotPresent` if no element has the key, `UnexpectedType` if the first one has a value of another kind,
-    /// `InvalidBson` if `get` returns a fault. Memory is taken for an error alone.
     pub fn get_object_id(self, alloc: Global, key: &str) -> ValueAccessResult<ObjectId>
         ensures { OnWalk (bytes_of self.entry) (λ elements fault. AccessAnswer as_object_id key.now (found_under key.now elements fault) result) }
     {
@@ -193,9 +178,6 @@ impl<'a> RawDocument<'a> {
     }
 
     /// The boolean under the key.
-    ///
-    /// `NotPresent` if no element has the key, `UnexpectedType` if the first one has a value of another kind,
-    /// `InvalidBson` if `get` returns a fault. Memory is taken for an error alone.
     pub fn get_bool(self, alloc: Global, key: &str) -> ValueAccessResult<bool>
         ensures { OnWalk (bytes_of self.entry) (λ elements fault. AccessAnswer as_bool key.now (found_under key.now elements fault) result) }
     {
@@ -203,9 +185,6 @@ impl<'a> RawDocument<'a> {
     }
 
     /// The moment under the key.
-    ///
-    /// `NotPresent` if no element has the key, `UnexpectedType` if the first one has a value of another kind,
-    /// `InvalidBson` if `get` returns a fault. Memory is taken for an error alone.
     pub fn get_datetime(self, alloc: Global, key: &str) -> ValueAccessResult<DateTime>
         ensures { OnWalk (bytes_of self.entry) (λ elements fault. AccessAnswer as_datetime key.now (found_under key.now elements fault) result) }
     {
@@ -213,9 +192,6 @@ impl<'a> RawDocument<'a> {
     }
 
     /// The regular expression under the key.
-    ///
-    /// `NotPresent` if no element has the key, `UnexpectedType` if the first one has a value of another kind,
-    /// `InvalidBson` if `get` returns a fault. Memory is taken for an error alone.
     pub fn get_regex(self, alloc: Global, key: &str) -> ValueAccessResult<RawRegexRef<'a>>
         ensures { OnWalk (bytes_of self.entry) (λ elements fault. AccessAnswer as_regex key.now (found_under key.now elements fault) result) }
     {
@@ -223,9 +199,6 @@ impl<'a> RawDocument<'a> {
     }
 
     /// The timestamp under the key.
-    ///
-    /// `NotPresent` if no element has the key, `UnexpectedType` if the first one has a value of another kind,
-    /// `InvalidBson` if `get` returns a fault. Memory is taken for an error alone.
     pub fn get_timestamp(self, alloc: Global, key: &str) -> ValueAccessResult<Timestamp>
         ensures { OnWalk (bytes_of self.entry) (λ elements fault. AccessAnswer as_timestamp key.now (found_under key.now elements fault) result) }
     {
@@ -233,9 +206,6 @@ impl<'a> RawDocument<'a> {
     }
 
     /// The integer of 32 bits under the key.
-    ///
-    /// `NotPresent` if no element has the key, `UnexpectedType` if the first one has a value of another kind,
-    /// `InvalidBson` if `get` returns a fault. Memory is taken for an error alone.
     pub fn get_i32(self, alloc: Global, key: &str) -> ValueAccessResult<i32>
         ensures { OnWalk (bytes_of self.entry) (λ elements fault. AccessAnswer as_i32 key.now (found_under key.now elements fault) result) }
     {
@@ -243,9 +213,6 @@ impl<'a> RawDocument<'a> {
     }
 
     /// The integer of 64 bits under the key.
-    ///
-    /// `NotPresent` if no element has the key, `UnexpectedType` if the first one has a value of another kind,
-    /// `InvalidBson` if `get` returns a fault. Memory is taken for an error alone.
     pub fn get_i64(self, alloc: Global, key: &str) -> ValueAccessResult<i64>
         ensures { OnWalk (bytes_of self.entry) (λ elements fault. AccessAnswer as_i64 key.now (found_under key.now elements fault) result) }
     {

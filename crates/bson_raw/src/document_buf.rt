@@ -78,6 +78,7 @@ impl RawDocumentBuf {
     pub fn from_iter(alloc: Global, pairs: Vec<(String, RawBson)>) -> Result<RawDocumentBuf, Error>
         ensures { Builds buffer_bytes (map raw_pair pairs.items) result }
     {
+        // A vector has a list in its contract; that of an iterator would need a premise on its end.
         let mut document = RawDocumentBuf::new(alloc)?;
         for (key, value) in pairs {
             document.append(&key, value)?;

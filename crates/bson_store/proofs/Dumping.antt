@@ -19,7 +19,7 @@ use Rattle.store_model.specs.declared.error.ErrorKind.{ErrorKind}
 use Rattle.store_model.specs.declared.error.ErrorKind.TheVariants as kind
 use Rattle.bson_store.specs.Shown.{Represents}
 use Rattle.bson_store.specs.Calls.{Does}
-use Rattle.bson_store.specs.Dump.{AreFirstTrees, HandedOn, HandsOn, HandsTrees, Stops, TellsTree, TakesAll}
+use Rattle.bson_store.specs.Dump.{AreFirstTrees, HandedOn, HandsOn, HandsTrees, Stops, TakesAll}
 use Rattle.bson_store.specs.Refusals.{IsDenied, kind_of_fault}
 use Rattle.store_model.specs.Refusal.{refusal}
 use Rattle.bson_store.specs.declared.dump.JsonVisitor.{JsonVisitor}
@@ -194,11 +194,6 @@ handed_none old new was refused_by i next bodies body None e none hands h ds kep
     by (inr (took, inr (x, tells, at))) = placed took x tells (at_place x i e at)
 
 -- ---- one tree
-
--- the body has none
-pub untold : (took : List Data → Type 0) (refused_by : List Data → StoreError → Type 0) (out : List Data) (i : ℕ) (r : Result Data ErrorKind) (e : StoreError) → took out → TellsTree r i (Err e) → HandsOn took refused_by out i r (Err e)
-untold took refused_by out i r e t (inl h) = inr (t, inl (faults.Memory, memory_other, h))
-untold took refused_by out i r e t (inr h) = inr (t, inr h)
 
 -- there are no more places
 pub no_more : (took : List Data → Type 0) (refused_by : List Data → StoreError → Type 0) (out : List Data) (i : ℕ) (r : Result Data ErrorKind) (e : StoreError) → took out → e ≡ refusal kind.Database → HandsOn took refused_by out i r (Err e)

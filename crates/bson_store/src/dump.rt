@@ -144,19 +144,19 @@ impl<S: Alter + Drop> Store<S> {
             Ok(name) => name,
             Err(error) => return Err((error, taker)),
         };
-        let mut teller = JsonVisitor {
+        let mut visitor = JsonVisitor {
             taker,
             alloc: self.alloc,
             place: 0,
             refusal: None,
         };
-        let visited = self.table.visit_bodies(name.as_str(), &mut teller);
+        let visited = self.table.visit_bodies(name.as_str(), &mut visitor);
         let JsonVisitor {
             taker,
             alloc: _,
             place: _,
             refusal,
-        } = teller;
+        } = visitor;
         if let Some(error) = refusal {
             return Err((error, taker));
         }

@@ -46,12 +46,12 @@ impl<S: Alter + Drop> Store<S> {
         ensures open { WasOpen (store_state S.Store self.old) (store_state S.Store self.new) result }
         ensures crash { Survives (store_state S.Store self.old) (store_state S.Store self.new) (λ _. ⊥) }
     {
-        let mut picker = FilterVisitor {
+        let mut visitor = FilterVisitor {
             filter,
             taker,
             fault: None,
         };
-        match self.table.visit_bodies(name.as_str(), &mut picker) {
+        match self.table.visit_bodies(name.as_str(), &mut visitor) {
             Ok(_) => {}
             Err(fault) => return Err(fault_refusal(fault)),
         }
@@ -59,7 +59,7 @@ impl<S: Alter + Drop> Store<S> {
             filter: _,
             taker,
             fault,
-        } = picker;
+        } = visitor;
         match fault {
             None => Ok(taker),
             Some(error) => Err(error),

@@ -372,12 +372,12 @@ impl<S: Alter + Drop> Store<S> {
         ensures crash { Survives (store_state S.Store self.old) (store_state S.Store self.new) (λ _. ⊥) }
     {
         let name = good_name(name)?;
-        let mut sender = ExportVisitor {
+        let mut visitor = ExportVisitor {
             writer,
             failed: false,
         };
-        let sent = self.table.visit_bodies(name.as_str(), &mut sender);
-        if sender.failed {
+        let sent = self.table.visit_bodies(name.as_str(), &mut visitor);
+        if visitor.failed {
             return Err(StoreError::from(ErrorKind::Writer));
         }
         match sent {

@@ -131,21 +131,21 @@ impl<S: Alter + Drop> Store<S> {
             Err(error) => return Err((error, taker)),
         };
         let text = String::new(self.alloc);
-        let mut teller = TextVisitor {
+        let mut visitor = TextVisitor {
             taker,
             alloc: self.alloc,
             place: 0,
             refusal: None,
             text,
         };
-        let visited = self.table.visit_bodies(name.as_str(), &mut teller);
+        let visited = self.table.visit_bodies(name.as_str(), &mut visitor);
         let TextVisitor {
             taker,
             alloc: _,
             place: _,
             refusal,
             text: _,
-        } = teller;
+        } = visitor;
         if let Some(error) = refusal {
             return Err((error, taker));
         }

@@ -85,10 +85,6 @@ items_done whole rest old begun now end to none b e = by whole (to (Ok tt) end (
 
 -- ---- the members of an object
 
-pub members_next : (whole : Option Members) (rest more : List (Key × Value)) (p : Key × Value) (begun now named next : Written) → MembersEnd whole rest begun now → rest ≡ p ∷ more → Adds (key p.0 ∷ []) now named → AddsForm tokens_of (write Canonical p.1) named next → MembersEnd whole more begun next
-members_next whole rest more p begun now named next to is n a r end h =
-    to r end (subst (λ ps. Prints tokens_of_members (write_pairs ps) r now end) (sym is) (member_more p.0 (write Canonical p.1) (write_pairs more) now named next n a r end h))
-
 pub members_fail : (whole : Option Members) (rest more : List (Key × Value)) (p : Key × Value) (begun now : Written) (e : Error) → MembersEnd whole rest begun now → rest ≡ p ∷ more → RefusesForm e (write Canonical p.1) → RefusesForm e (option_map json.object whole)
 members_fail whole rest more p begun now e to is h =
     mapped json.object e whole (to (Err e) now (subst (λ ps. RefusesForm e (write_pairs ps)) (sym is) (bound (λ j. option_map (member p.0 j) (write_pairs more)) e (write Canonical p.1) h)))
@@ -115,13 +111,6 @@ pub scoped_done : (t : List ℕ) (w : Option Members) (old begun now end : Writt
 scoped_done t None old begun now end b a e = a
 scoped_done t (Some js) old begun now end b a e =
     behind (begin_object ∷ key (key_of of_code) ∷ string t ∷ key scope_key ∷ []) (tokens_of (json.object js) ++ end_object ∷ []) old begun end b (behind (tokens_of (json.object js)) (end_object ∷ []) begun now end a e)
-
-pub scoped_fail : (t : List ℕ) (e : Error) (w : Option Members) → RefusesForm e (option_map json.object w) → RefusesForm e (option_map (with_scope t) w)
-scoped_fail t Memory w h = tt
-scoped_fail t FiniteDouble None h = refl
-scoped_fail t FiniteDouble (Some js) h = cc
-scoped_fail t (InvalidObjectId x) w h = absurd h
-scoped_fail t DeserializationError w h = absurd h
 
 -- ---- the whole text
 

@@ -10,7 +10,7 @@ use serde_json::Value;
 /// What is printed of a command that is done.
 #[derive(Drop)]
 pub enum Answer {
-    /// Nothing, or all is written already.
+    /// Nothing.
     Nothing,
     /// `true` or `false`.
     Flag(bool),

@@ -16,10 +16,12 @@ const PAGE: u64 = 4096;
 /// little.
 const LEAST_PAGES: usize = 256;
 
-/// How many pages are kept in memory at the most: 64 MiB.
+/// How many pages are kept in memory at the most, 64 MiB: else a file of gigabytes would take as much memory.
 const MOST_PAGES: usize = 16384;
 
 /// How many pages are kept in memory: those that the file has, and some more, as a page has one slot that it can be in.
+/// The kit's own number is too large for small files, whose slots are zeroed at each start, and too small for large ones,
+/// whose pages are then read and digested again at each walk.
 fn cache_pages(rt: &HostRuntime, path: &str) -> usize {
     let pages = match fs::metadata(rt, path) {
         Ok(found) => found.len() / PAGE,

@@ -14,11 +14,11 @@ use Rattle.sqlite.specs.Rows.{Written}
 use Rattle.sqlite.specs.Effect.{Database, IsDatabase}
 use Rattle.sqlite.specs.declared.run.Mode.{Mode}
 use Rattle.sqlite.specs.declared.error.Error.{Error}
-use Rattle.sqlite.specs.State.{State, mode_of, ExecutesInside, IsRolledBack}
+use Rattle.sqlite.specs.State.{State, mode_of, ExecutesInside}
 use Rattle.sqlite.specs.Listing.{understood}
 use Rattle.sqlite.proofs.Callers.{runs_as, one_step, statement_of}
 use Rattle.store_table.specs.declared.row.NewKey.{NewKey}
-use Rattle.store_table.specs.Open.{IsSettled, KeepsAll, HasCommitted}
+use Rattle.store_table.specs.Open.{HasCommitted}
 use Rattle.store_table.specs.Schema.{documents_at}
 use Rattle.store_table.specs.Rows.{TableRow, columns_of, TableRows, RowsIn, Inside, is_at, with_key_at, with_keys_at}
 use Rattle.store_table.proofs.StatementLemmas.{at_table, unacted, seen, unseen}
@@ -105,10 +105,3 @@ module _ (sql : List ℕ) (params : Row) (old new : State) where
 
 pub committed_then : (a b c : State) → HasCommitted a b → HasCommitted b c → HasCommitted a c
 committed_then a b c h k still = let two = k still in let one = h two.0 in (one.0, two.1 ∙ one.1)
-
--- a rollback goes back to what was committed
-pub rolled_back : (a b c : State) → HasCommitted a b → IsRolledBack b c → IsSettled a → KeepsAll a c
-rolled_back a b c h back settled still =
-    let one = h (back.was_open still) in
-    let two = back.undone still in
-    record { was_open = one.0; is_open = still; now_is = two.0 ∙ one.1 ∙ sym (settled.committed one.0); committed_is = two.1 ∙ one.1; mode = back.autocommit ∙ sym settled.autocommit }

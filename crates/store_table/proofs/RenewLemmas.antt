@@ -1,5 +1,5 @@
 -- What the replacing of keys says of the rows, from what the second survey found.
-use Rattle.std.proofs.Common.{◌≡◌, inl, inr, ◌⊎◌, ◌++◌, ◌∷◌, [], ℕ, ℤ, List, IfErr, Option, None, Some, false, Result, Ok, Err, refl, sym, ap, subst, subst₂, ◌∙◌}
+use Rattle.std.proofs.Common.{◌≡◌, inl, inr, ◌++◌, ◌∷◌, [], ℕ, ℤ, List, IfErr, Option, None, Some, false, Result, Ok, Err, refl, sym, ap, subst, subst₂, ◌∙◌}
 use Rattle.sqlite.specs.Clock.{timed}
 use Rattle.sqlite.specs.Order.{Row}
 use Rattle.sqlite.specs.State.{State, IsLive, IsUnchanged, Shown, ShowsRows, Shows as Sees}
@@ -47,17 +47,6 @@ read_before old mid docs u h =
 -- ---- from the second survey
 
 module _ (accepts : List ℕ → List ℕ → List ℕ → Type 0) (renews : List ℕ → List ℕ → List ℕ → List ℕ → Type 0) (old mid : State) where
-  pub as_refused : (e : OpenError) → RefusesOpening (AcceptsOnce renews) old mid e → Unrenewed accepts renews old mid e
-  as_refused NotAStore h = h
-  as_refused (BadRow place) h = h
-  as_refused (IdsCollide first second) h = absurd h
-  as_refused Memory h = tt
-  as_refused Database h = tt
-
-  pub told_nothing : (e : OpenError) → (e ≡ Memory) ⊎ (e ≡ Database) → (new : State) → Unrenewed accepts renews old new e
-  told_nothing e (inl is) new = subst (Unrenewed accepts renews old new) (sym is) tt
-  told_nothing e (inr is) new = subst (Unrenewed accepts renews old new) (sym is) tt
-
   -- what the survey found
   pub record Found (r : Renewals) : Type 0 where
     pub docs : List TableRow
@@ -134,14 +123,6 @@ module _ (renews : List ℕ → List ℕ → List ℕ → List ℕ → Type 0) (
       let still = unchanged_shows old new ds shows p.1.unchanged in
       let same : ds ≡ p.0 = one_list new.now ds p.0 still.table (listed_shows (IsOwn renews) old new p.0 ((seen shows.table).place, (seen shows.table).tree, (seen shows.table).stands) (live shows.is_open).0 shows.autocommit shows.settled p.1 p.2).table in
       (p.0, subst (HoldsRows new) same still, subst (λ xs. AreRenewed renews xs p.0) (sym same) (own_renewed renews [] p.0 p.2), p.2, spared_all old.now new.now p.1.unchanged.0.now_is)
-
-  pub unrenewed_by : (r : Result (Unit {0}) OpenError) → ((place : ℤ) → r ≡ Err (BadRow place) → ⊥) → IfErr r (RefusesOpening (IsOwn renews) old new) → IfErr r (Unrenewed (IsOwn renews) renews old new)
-  unrenewed_by (Ok u) other h = tt
-  unrenewed_by (Err NotAStore) other h = h
-  unrenewed_by (Err (BadRow place)) other h = absurd (other place refl)
-  unrenewed_by (Err (IdsCollide first second)) other h = absurd h
-  unrenewed_by (Err Memory) other h = tt
-  unrenewed_by (Err Database) other h = tt
 
   module _ (u : IsUnchanged old mid) where
     pub live_still : IsLive old → IsLive mid

@@ -56,9 +56,6 @@ greatest_text = codes "SELECT place FROM documents ORDER BY place DESC LIMIT 1"
 abbrev pub find_text : List ℕ
 find_text = codes "SELECT place, body FROM documents WHERE coll = ?1 COLLATE BINARY AND idkey = ?2 ORDER BY place"
 
-abbrev pub find_query : Query
-find_query = plain_query (equals 2 0 ∷ equals 3 1 ∷ []) (col 1 0 ∷ col 1 4 ∷ []) by_place
-
 abbrev pub places_text : List ℕ
 places_text = codes "SELECT place FROM documents WHERE coll = ?1 COLLATE BINARY AND idkey = ?2 ORDER BY place"
 

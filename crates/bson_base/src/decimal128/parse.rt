@@ -281,6 +281,7 @@ fn read_unsigned(negative: bool, text: &[u8]) -> Result<Parts, ParseError>
     ensures value { result_map bits_of_parts result ≡ unsigned_read negative text.now }
     ensures packable { IfOk result IsPackable }
 {
+    // The sign of a NaN and whether it signals are kept, as in the Rust crate; the normal form makes all of them one.
     if is_named(text, b"nan") {
         let signalling = false;
         return Ok(Parts::NotANumber {

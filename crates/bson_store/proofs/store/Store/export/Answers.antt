@@ -17,8 +17,8 @@ returns-in_err-name-clause-moves g c =
     let t : Tally = g.W.Sink.tally c.args.writer.now in
     rw (p.1, p.2, c.in_err-name.ensures.0) (rests (store_state g.S.Store c.args.self.now) (SendsCollection c.args.name.now t t (Err (refusal kind.BadName))) (λ docs. sends_none docs c.args.name.now t c.in_err-name.ensures.1))
 
-pub returns-then-sender-clause-moves : goal.returns-then-sender-clause-moves
-returns-then-sender-clause-moves g c =
+pub returns-then-visitor-clause-moves : goal.returns-then-visitor-clause-moves
+returns-then-visitor-clause-moves g c =
     let of_writer : g.row.W.Denot → Tally = λ w. g.W.Sink.tally w in
     let tally : ExportVisitor g.row.W.Denot g.W.Sink → Tally = λ v. of_writer v.writer.now in
     rw c.from.ensures
