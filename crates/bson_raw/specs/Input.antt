@@ -1,6 +1,5 @@
 -- What reading one document does to a source.
-use Rattle.std.specs.Prelude.{◌≡◌, ◌≢◌, ℕ, ◌+◌, ◌<◌, ◌≤◌, List, ◌++◌, drop, length, Result, Ok, Err, Vec, ◌⊎◌}
-use Rattle.std.specs.declared.alloc.Global.{Global}
+use Rattle.std.specs.Prelude.{◌≡◌, ◌≢◌, ℕ, ◌+◌, ◌<◌, ◌≤◌, Bool, true, false, List, [], ◌++◌, drop, length, Option, Some, None, Result, Ok, Err, ◌⊎◌}
 use Rattle.bson_base.specs.Device.{Feed, Took, TookAll}
 use Rattle.bson_base.specs.Value.{Members}
 use Rattle.bson_bytes.specs.Spells.{Means}
@@ -40,31 +39,43 @@ ReadsDocument old new (Err BadLength) = (bytes : List ℕ) × Took old new bytes
 ReadsDocument old new (Err (Raw e)) = (bytes : List ℕ) × Took old new bytes × AreDeclared bytes × IsRawFault bytes e
 ReadsDocument old new (Err Memory) = new.failures ≡ old.failures
 
+-- the next document of a source that gives one behind the other: None where it had nothing left
+abbrev pub ReadsNextDocument : Feed → Feed → Result (Option Document) ReadError → Type 0
+ReadsNextDocument old new (Ok None) = TookAll old new []
+ReadsNextDocument old new (Ok (Some d)) = ReadsDocument old new (Ok d)
+ReadsNextDocument old new (Err Reader) = ReadsDocument old new (Err Reader)
+ReadsNextDocument old new (Err EndInside) = (bytes : List ℕ) × TookAll old new bytes × (0 < length bytes) × EndInDocument bytes
+ReadsNextDocument old new (Err BadLength) = ReadsDocument old new (Err BadLength)
+ReadsNextDocument old new (Err (Raw e)) = ReadsDocument old new (Err (Raw e))
+ReadsNextDocument old new (Err Memory) = ReadsDocument old new (Err Memory)
+
 -- ---- its parts
 
--- the first four bytes
-abbrev pub ReadsHead : Feed → Feed → Result (List ℕ) ReadError → Type 0
-ReadsHead old new (Ok head) = Took old new head × (length head ≡ 4)
+-- the first four bytes, unless nothing was left
+abbrev pub ReadsHead : Feed → Feed → Result (Option (List ℕ)) ReadError → Type 0
+ReadsHead old new (Ok None) = TookAll old new []
+ReadsHead old new (Ok (Some head)) = Took old new head × (length head ≡ 4)
 ReadsHead old new (Err Reader) = new.failures ≡ old.failures + 1
-ReadsHead old new (Err EndInside) = (bytes : List ℕ) × TookAll old new bytes × (length bytes < 4)
+ReadsHead old new (Err EndInside) = (bytes : List ℕ) × TookAll old new bytes × (0 < length bytes) × (length bytes < 4)
 ReadsHead old new (Err _) = ⊥
 
 -- the bytes behind the first four, up to a length
-abbrev pub ReadsRest : Feed → Feed → List ℕ → ℕ → Result (Vec ℕ Global) ReadError → Type 0
-ReadsRest old new head n (Ok all) = (rest : List ℕ) × Took old new rest × (all.items ≡ head ++ rest) × (length all.items ≡ n)
-ReadsRest old new head n (Err Reader) = new.failures ≡ old.failures + 1
-ReadsRest old new head n (Err EndInside) = (rest : List ℕ) × TookAll old new rest × (length (head ++ rest) < n)
-ReadsRest old new head n (Err Memory) = new.failures ≡ old.failures
-ReadsRest old new head n (Err _) = ⊥
+abbrev pub ReadsRest : Feed → Feed → List ℕ → ℕ → List ℕ → Result (Unit {0}) ReadError → Type 0
+ReadsRest old new head n all (Ok x) = (rest : List ℕ) × Took old new rest × (all ≡ head ++ rest) × (length all ≡ n)
+ReadsRest old new head n all (Err Reader) = new.failures ≡ old.failures + 1
+ReadsRest old new head n all (Err EndInside) = (rest : List ℕ) × TookAll old new rest × (length (head ++ rest) < n)
+ReadsRest old new head n all (Err Memory) = new.failures ≡ old.failures
+ReadsRest old new head n all (Err _) = ⊥
 
--- the declared bytes of one document
-abbrev pub TakesDeclared : Feed → Feed → Result (Vec ℕ Global) ReadError → Type 0
-TakesDeclared old new (Ok all) = Took old new all.items × AreDeclared all.items
-TakesDeclared old new (Err Reader) = new.failures ≡ old.failures + 1
-TakesDeclared old new (Err EndInside) = (bytes : List ℕ) × TookAll old new bytes × EndInDocument bytes
-TakesDeclared old new (Err BadLength) = (bytes : List ℕ) × Took old new bytes × (length bytes ≡ 4) × (IsInputLength (number bytes) → ⊥)
-TakesDeclared old new (Err (Raw e)) = ⊥
-TakesDeclared old new (Err Memory) = new.failures ≡ old.failures
+-- the declared bytes of the next document, unless nothing was left
+abbrev pub TakesDeclared : Feed → Feed → List ℕ → Result Bool ReadError → Type 0
+TakesDeclared old new all (Ok true) = Took old new all × AreDeclared all
+TakesDeclared old new all (Ok false) = TookAll old new []
+TakesDeclared old new all (Err Reader) = new.failures ≡ old.failures + 1
+TakesDeclared old new all (Err EndInside) = (bytes : List ℕ) × TookAll old new bytes × (0 < length bytes) × EndInDocument bytes
+TakesDeclared old new all (Err BadLength) = (bytes : List ℕ) × Took old new bytes × (length bytes ≡ 4) × (IsInputLength (number bytes) → ⊥)
+TakesDeclared old new all (Err (Raw e)) = ⊥
+TakesDeclared old new all (Err Memory) = new.failures ≡ old.failures
 
 -- a refused conversion, as a reader reports it
 abbrev pub IsConversionRefusal : Fault → ReadError → Type 0

@@ -3,7 +3,7 @@
 ghost use Rattle.std.specs.Prelude.{◌≡◌, ◌≤◌, length, MatchResult};
 ghost use Rattle.bson_base.specs.Device.{CanFail};
 ghost use Rattle.bson_frame.specs.Frame.{number};
-ghost use Rattle.bson_raw.specs.Input.{IsInputLength, IsConversionRefusal, ReadsDocument, ReadsHead, ReadsRest, TakesDeclared, ReadsDeclared};
+ghost use Rattle.bson_raw.specs.Input.{IsInputLength, IsConversionRefusal, ReadsDocument, ReadsNextDocument, ReadsHead, ReadsRest, TakesDeclared, ReadsDeclared};
 ghost use Rattle.bson_raw.specs.declared.read_error.ReadError.TheVariants.{BadLength};
 
 use crate::document::RawDocument;
@@ -13,8 +13,8 @@ use bson_frame::{Error, ErrorKind, SIZE_LIMIT};
 use bson_model::Document;
 use std::alloc::Global;
 
-/// The first four bytes.
-fn read_head<R: Source>(reader: &mut R) -> Result<[u8; 4], ReadError>
+/// The first four bytes, unless nothing was left.
+fn read_head<R: Source>(reader: &mut R) -> Result<Option<[u8; 4]>, ReadError>
     requires { CanFail (R.feed reader.old) }
     ensures { ReadsHead (R.feed reader.old)
         (R.feed reader.new) result }
@@ -22,10 +22,13 @@ fn read_head<R: Source>(reader: &mut R) -> Result<[u8; 4], ReadError>
     let mut head = [0u8; 4];
     match read_full(reader, &mut head) {
         Ok(n) => {
+            if n == 0 {
+                return Ok(None);
+            }
             if n < 4 {
                 return Err(ReadError::EndInside);
             }
-            Ok(head)
+            Ok(Some(head))
         }
         Err(_) => Err(ReadError::Reader),
     }
@@ -46,41 +49,47 @@ fn declared(head: [u8; 4]) -> Result<usize, ReadError>
     Ok(number as usize)
 }
 
-/// The first four bytes with those behind them, up to a length.
+/// Puts the first four bytes and those behind them, up to a length, in the place of what was in `room`.
 fn read_rest<R: Source>(
-    alloc: Global,
     reader: &mut R,
     head: [u8; 4],
     declared: usize,
-) -> Result<Vec<u8>, ReadError>
+    room: &mut Vec<u8>,
+) -> Result<(), ReadError>
     requires failures { CanFail (R.feed reader.old) }
     requires declared { 4 ≤ declared }
     ensures { ReadsRest (R.feed reader.old)
-        (R.feed reader.new) head declared result }
+        (R.feed reader.new) head declared room.new.items result }
 {
-    let mut bytes = vec![in alloc; 0u8; declared]?;
-    let (front, rest) = bytes.split_at_mut(4);
+    room.clear();
+    room.resize(declared, 0)?;
+    let (front, rest) = room.split_at_mut(4);
     front.copy_from_slice(&head);
     match read_full(reader, rest) {
         Ok(n) => {
             if n < declared - 4 {
                 return Err(ReadError::EndInside);
             }
-            Ok(bytes)
+            Ok(())
         }
         Err(_) => Err(ReadError::Reader),
     }
 }
 
-/// The bytes of one document.
-fn read_bytes<R: Source>(alloc: Global, reader: &mut R) -> Result<Vec<u8>, ReadError>
+/// Puts the bytes of the next document in the place of what was in `room`; false if nothing was left.
+fn read_bytes<R: Source>(reader: &mut R, room: &mut Vec<u8>) -> Result<bool, ReadError>
     requires { CanFail (R.feed reader.old) }
     ensures { TakesDeclared (R.feed reader.old)
-        (R.feed reader.new) result }
+        (R.feed reader.new) room.new.items result }
 {
-    let head = read_head(reader)?;
-    let declared = declared(head)?;
-    read_rest(alloc, reader, head, declared)
+    match read_head(reader)? {
+        Some(head) => {
+            let declared = declared(head)?;
+            read_rest(reader, head, declared, room)?;
+            Ok(true)
+        }
+        None => Ok(false),
+    }
 }
 
 /// A refused conversion, as the reader's caller gets it.
@@ -106,6 +115,28 @@ fn document_in(alloc: Global, bytes: &[u8]) -> Result<Document, ReadError>
     }
 }
 
+/// The next document of a reader that gives one behind the other, as `RawDocument::to_document` reads it; `None` if the
+/// reader had nothing left. Of the reader the bytes that the document declares are taken, and no more. `room` is memory
+/// that is kept from document to document: what it held is lost. Whoever calls it sees to it that fewer than 2⁶⁴ - 1
+/// calls of the reader have failed.
+///
+/// `EndInside` if the reader ended behind at least one byte of the document; else each error is as `from_reader` reports
+/// it.
+pub fn next_document<R: Source>(
+    alloc: Global,
+    reader: &mut R,
+    room: &mut Vec<u8>,
+) -> Result<Option<Document>, ReadError>
+    requires { CanFail (R.feed reader.old) }
+    ensures { ReadsNextDocument (R.feed reader.old)
+        (R.feed reader.new) result }
+{
+    if !read_bytes(reader, room)? {
+        return Ok(None);
+    }
+    Ok(Some(document_in(alloc, room)?))
+}
+
 /// The document that the reader's next bytes mean, as `RawDocument::to_document` reads them. Of the reader the bytes
 /// that the document declares are taken, and no more. Whoever calls it sees to it that fewer than 2⁶⁴ - 1 calls of the
 /// reader have failed.
@@ -120,6 +151,9 @@ pub fn from_reader<R: Source>(alloc: Global, reader: &mut R) -> Result<Document,
     ensures { ReadsDocument (R.feed reader.old)
         (R.feed reader.new) result }
 {
-    let bytes = read_bytes(alloc, reader)?;
-    document_in(alloc, &bytes)
+    let mut room = Vec::new(alloc);
+    match next_document(alloc, reader, &mut room)? {
+        Some(document) => Ok(document),
+        None => Err(ReadError::EndInside),
+    }
 }
