@@ -8,9 +8,6 @@ use Rattle.hex.specs.declared.error.FromHexError.{FromHexError}
 use Rattle.hex.specs.declared.error.FromHexError.TheVariants.{OddLength, InvalidStringLength}
 use Rattle.bson_base.specs.Decimal.{all_digits, value_after}
 use Rattle.bson_model.specs.JsonTexts.{sign_and_rest, is_digits, with_sign, integer_of, fits_32, fits_64, only_where, int_of, long_of, byte_from, byte_of}
-use Rattle.bson_model.specs.JsonRead.{some_or_error}
-use Rattle.bson_model.specs.declared.extjson.de.Error.{Error}
-use Rattle.bson_model.specs.declared.extjson.de.Error.TheVariants.{DeserializationError}
 use Rattle.std.proofs.lemmas.Bool.{and_parts}
 
 -- ---- digits
@@ -99,36 +96,36 @@ module _ (F : ℤ → Type 0) (fits : ℤ → Bool) (so : (z : ℤ) → F z → 
           ap (only_where fits) (integer_some t n) ∙ out_of_range t (λ f. h (n, f))
       by false e = rw e refl
 
-pub int_some : (t : List ℕ) (z : ℤ) → (IsNumeral 10 (without_leading_sign t) × FitsSigned w32 (signed_digits_value 10 t)) × (z ≡ signed_digits_value 10 t) → Ok z ≡ some_or_error (int_of t)
+pub int_some : (t : List ℕ) (z : ℤ) → (IsNumeral 10 (without_leading_sign t) × FitsSigned w32 (signed_digits_value 10 t)) × (z ≡ signed_digits_value 10 t) → Some z ≡ int_of t
 unfolding int_of
-int_some t z h = ap some_or_error (sym (read_some (FitsSigned w32) fits_32 fits_32_so so_fits_32 t z h))
+int_some t z h = sym (read_some (FitsSigned w32) fits_32 fits_32_so so_fits_32 t z h)
 
-pub int_none : (t : List ℕ) → (IsNumeral 10 (without_leading_sign t) × FitsSigned w32 (signed_digits_value 10 t) → ⊥) → Err DeserializationError ≡ some_or_error (int_of t)
+pub int_none : (t : List ℕ) → (IsNumeral 10 (without_leading_sign t) × FitsSigned w32 (signed_digits_value 10 t) → ⊥) → None ≡ int_of t
 unfolding int_of
-int_none t h = ap some_or_error (sym (read_none (FitsSigned w32) fits_32 fits_32_so so_fits_32 t h))
+int_none t h = sym (read_none (FitsSigned w32) fits_32 fits_32_so so_fits_32 t h)
 
-pub long_some : (t : List ℕ) (z : ℤ) → (IsNumeral 10 (without_leading_sign t) × FitsSigned w64 (signed_digits_value 10 t)) × (z ≡ signed_digits_value 10 t) → Ok z ≡ some_or_error (long_of t)
+pub long_some : (t : List ℕ) (z : ℤ) → (IsNumeral 10 (without_leading_sign t) × FitsSigned w64 (signed_digits_value 10 t)) × (z ≡ signed_digits_value 10 t) → Some z ≡ long_of t
 unfolding long_of
-long_some t z h = ap some_or_error (sym (read_some (FitsSigned w64) fits_64 fits_64_so so_fits_64 t z h))
+long_some t z h = sym (read_some (FitsSigned w64) fits_64 fits_64_so so_fits_64 t z h)
 
-pub long_none : (t : List ℕ) → (IsNumeral 10 (without_leading_sign t) × FitsSigned w64 (signed_digits_value 10 t) → ⊥) → Err DeserializationError ≡ some_or_error (long_of t)
+pub long_none : (t : List ℕ) → (IsNumeral 10 (without_leading_sign t) × FitsSigned w64 (signed_digits_value 10 t) → ⊥) → None ≡ long_of t
 unfolding long_of
-long_none t h = ap some_or_error (sym (read_none (FitsSigned w64) fits_64 fits_64_so so_fits_64 t h))
+long_none t h = sym (read_none (FitsSigned w64) fits_64 fits_64_so so_fits_64 t h)
 
 -- ---- a byte
 
 -- what is made of the kit's answer
-abbrev pub byte_told : Result (List ℕ) FromHexError → Result ℕ Error
-byte_told (Ok bs) = Ok (slice_index_or bs 0 0)
-byte_told (Err e) = Err DeserializationError
+abbrev pub byte_told : Result (List ℕ) FromHexError → Option ℕ
+byte_told (Ok bs) = Some (slice_index_or bs 0 0)
+byte_told (Err e) = None
 
-two_digits : (h l : ℕ) (o p : Option ℕ) → hex_digit_value h ≡ o → hex_digit_value l ≡ p → byte_told (decode_pairs 0 (h ∷ l ∷ [])) ≡ some_or_error (byte_from (hex_digit_value h) (hex_digit_value l))
+two_digits : (h l : ℕ) (o p : Option ℕ) → hex_digit_value h ≡ o → hex_digit_value l ≡ p → byte_told (decode_pairs 0 (h ∷ l ∷ [])) ≡ byte_from (hex_digit_value h) (hex_digit_value l)
 unfolding decode_pairs
 two_digits h l (Some x) (Some y) e f = rw (e, f) refl
 two_digits h l (Some x) None e f = rw (e, f) refl
 two_digits h l None p e f = rw e refl
 
-pub byte_read : (t : List ℕ) → byte_told (decode_sized t 1) ≡ some_or_error (byte_of t)
+pub byte_read : (t : List ℕ) → byte_told (decode_sized t 1) ≡ byte_of t
 unfolding byte_of
 byte_read [] = refl
 byte_read (h ∷ []) = refl
@@ -136,7 +133,7 @@ byte_read (h ∷ l ∷ []) = two_digits h l (hex_digit_value h) (hex_digit_value
 byte_read (h ∷ l ∷ c ∷ cs) = by (length (h ∷ l ∷ c ∷ cs) % 2 == 1) refl
   where
     by : (odd : Bool) → (length (h ∷ l ∷ c ∷ cs) % 2 == 1) ≡ odd
-        → byte_told (if odd then Err OddLength else if length (h ∷ l ∷ c ∷ cs) / 2 == 1 then decode_pairs 0 (h ∷ l ∷ c ∷ cs) else Err InvalidStringLength) ≡ Err DeserializationError
+        → byte_told (if odd then Err OddLength else if length (h ∷ l ∷ c ∷ cs) / 2 == 1 then decode_pairs 0 (h ∷ l ∷ c ∷ cs) else Err InvalidStringLength) ≡ None
     by true e = refl
     by false e =
         let long : (length (h ∷ l ∷ c ∷ cs) / 2 == 1) ≡ false = grind (arith, e) in

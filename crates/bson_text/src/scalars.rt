@@ -122,11 +122,7 @@ fn subtype_digits(alloc: Global, binary: &Binary) -> Result<String, AllocError>
     hex::encode(alloc, &[u8::from(binary.subtype)][..])
 }
 
-pub fn print_binary(
-    alloc: Global,
-    out: &mut Writer,
-    binary: &Binary,
-) -> Result<(), AllocError>
+pub fn print_binary(alloc: Global, out: &mut Writer, binary: &Binary) -> Result<(), AllocError>
     ensures { OnOk result (Adds (tokens_of (binary_of (subtype_byte binary.now.subtype) binary.now.bytes.items)) out.old out.new) }
 {
     let bytes = base64_of(alloc, binary)?;
@@ -137,7 +133,7 @@ pub fn print_binary(
 }
 
 /// The options of a regular expression in the order of their characters.
-fn options_in_order(alloc: Global, regex: &Regex) -> Result<String, AllocError>
+pub fn options_in_order(alloc: Global, regex: &Regex) -> Result<String, AllocError>
     ensures { IfOk result (λ t. string_bytes t ≡ sorted_text (string_bytes regex.now.options)) }
 {
     let options = String::from_str(alloc, regex.options.as_str())?;

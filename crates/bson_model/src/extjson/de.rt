@@ -16,9 +16,10 @@ use crate::document::Document;
 use crate::levels::{STACK_LEVELS, levels_inside};
 use bodies::{read_wrapped, text_of};
 use bson_base::oid;
-pub use keys::is_reserved_key;
+pub use keys::{Wrapper, is_reserved_key, wrapper_of};
 use serde_json::{Map, Number, Value};
 use std::alloc::{AllocError, AllocFailed, Global};
+pub use texts::{read_byte, read_int, read_long};
 use thiserror::Error as ThisError;
 
 /// Why a JSON tree was refused.
@@ -87,7 +88,8 @@ fn has_reserved(members: &Map<String, Value>) -> bool
     false
 }
 
-fn integer(n: i64) -> Bson
+/// The value of a whole number that stands bare in JSON: an Int32 if it fits, else an Int64.
+pub fn integer(n: i64) -> Bson
     ensures { view result ≡ integer_of n }
 {
     if i32::MIN as i64 <= n && n <= i32::MAX as i64 {
@@ -106,7 +108,8 @@ fn read_number(n: Number) -> Result<Bson>
     }
 }
 
-fn with_scope(code: String, scope: Option<Document>) -> Bson
+/// Code, with a scope if there is one.
+pub fn with_scope(code: String, scope: Option<Document>) -> Bson
     ensures { view result ≡ spec_scoped (string_bytes code) (option_map (λ d. content d) scope) }
 {
     match scope {

@@ -233,13 +233,15 @@ fn write_millis(alloc: Global, millis: i64) -> Result<Value, AllocError>
     wrapped_text(alloc, "$numberLong", millis.to_string(alloc)?)
 }
 
-fn is_relaxed_date(millis: i64) -> bool
+/// Whether relaxed form has a moment as a text: from 1970 to 9999.
+pub fn is_relaxed_date(millis: i64) -> bool
     ensures { result ≡ is_relaxed millis }
 {
     0 <= millis && millis <= 253_402_300_799_999
 }
 
-fn date_text(alloc: Global, moment: DateTime) -> Result<String, AllocError>
+/// The date text of a moment that relaxed form has as one. It fails only if a growth of memory was refused.
+pub fn date_text(alloc: Global, moment: DateTime) -> Result<String, AllocError>
     requires { is_relaxed (millis_of moment) ≡ true }
     ensures { IfOk result (λ t. string_bytes t ≡ date_text_of (millis_of moment)) }
 {

@@ -108,14 +108,14 @@ fn int(value: Value) -> Result<i32>
     ensures { GivesReading (λ z. z) result (int_of (data_of value)) }
 {
     let text = text_of(value)?;
-    read_int(&text)
+    read_int(&text).ok_or(Error::DeserializationError)
 }
 
 fn long(value: Value) -> Result<i64>
     ensures { GivesReading (λ z. z) result (long_of (data_of value)) }
 {
     let text = text_of(value)?;
-    read_long(&text)
+    read_long(&text).ok_or(Error::DeserializationError)
 }
 
 fn double(value: Value) -> Result<u64>
@@ -138,7 +138,7 @@ fn byte(value: Value) -> Result<u8>
     ensures { GivesReading (λ b. b) result (byte_of (data_of value)) }
 {
     let text = text_of(value)?;
-    read_byte(&text)
+    read_byte(&text).ok_or(Error::DeserializationError)
 }
 
 fn bytes(alloc: Global, value: Value, subtype: BinarySubtype) -> Result<Binary>

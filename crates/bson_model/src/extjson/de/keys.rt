@@ -6,7 +6,7 @@ ghost use Rattle.bson_model.specs.JsonWrappers.{reserved_key};
 
 /// The kinds of typed values, by their keys.
 #[derive(Clone, Copy, Drop)]
-pub(super) enum Wrapper {
+pub enum Wrapper {
     Oid,
     Symbol,
     RegularExpression,
@@ -25,8 +25,9 @@ pub(super) enum Wrapper {
     Undefined,
 }
 
+/// The kind of typed value that a key marks, if it marks one.
 #[tactic(auto, unfolding(crate::specs::JsonKeys::reserved_of))]
-pub(super) fn wrapper_of(key: &str) -> Option<Wrapper>
+pub fn wrapper_of(key: &str) -> Option<Wrapper>
     ensures { option_map reserved_key result ≡ reserved_of key.now }
 {
     match key {

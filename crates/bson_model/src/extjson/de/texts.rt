@@ -2,7 +2,6 @@
 ghost use Rattle.std.specs.Prelude.{◌≡◌, ◌++◌, option_map};
 ghost use Rattle.bson_base.specs.Decimal.{all_digits as are_digits, all_zeros as are_zeros, cut, is_dot, is_e, is_named as is_named_by, marks};
 ghost use Rattle.bson_model.specs.JsonTexts.{byte_of, double_of, int_of, is_digits as digits_alone, is_exponent as exponent_of, long_of, read_numeral as numeral_read, read_unsigned_double as unsigned_of, double_sign_bit as bit_of, sign_and_rest, without_dot};
-ghost use Rattle.bson_model.specs.JsonRead.{some_or_error};
 
 use super::{Error, Result};
 use bson_base::texts::{all_digits, all_zeros, cut_at, is_named};
@@ -14,25 +13,25 @@ const NAN: u64 = 0x7FF8_0000_0000_0000;
 
 const INFINITY: u64 = 0x7FF0_0000_0000_0000;
 
-/// The number of a text under `$numberInt`.
+/// The number of a text under `$numberInt`: a sign or none, and digits, in the range of 32 bits.
 #[tactic(auto, unfolding(crate::specs::JsonTexts::int_of))]
-pub(super) fn read_int(text: &str) -> Result<i32>
-    ensures { result ≡ some_or_error (int_of text.now) }
+pub fn read_int(text: &str) -> Option<i32>
+    ensures { result ≡ int_of text.now }
 {
     match text.parse::<i32>() {
-        Ok(n) => Ok(n),
-        Err(_) => Err(Error::DeserializationError),
+        Ok(n) => Some(n),
+        Err(_) => None,
     }
 }
 
-/// The number of a text under `$numberLong`.
+/// The number of a text under `$numberLong`: a sign or none, and digits, in the range of 64 bits.
 #[tactic(auto, unfolding(crate::specs::JsonTexts::long_of))]
-pub(super) fn read_long(text: &str) -> Result<i64>
-    ensures { result ≡ some_or_error (long_of text.now) }
+pub fn read_long(text: &str) -> Option<i64>
+    ensures { result ≡ long_of text.now }
 {
     match text.parse::<i64>() {
-        Ok(n) => Ok(n),
-        Err(_) => Err(Error::DeserializationError),
+        Ok(n) => Some(n),
+        Err(_) => None,
     }
 }
 
@@ -133,12 +132,12 @@ pub(super) fn read_double(text: &str) -> Result<u64>
     read_unsigned(negative, rest)
 }
 
-/// The byte of two hexadecimal digits.
-pub(super) fn read_byte(text: &str) -> Result<u8>
-    ensures { result ≡ some_or_error (byte_of text.now) }
+/// The byte that two hexadecimal digits spell.
+pub fn read_byte(text: &str) -> Option<u8>
+    ensures { result ≡ byte_of text.now }
 {
     match <[u8; 1]>::from_hex(text) {
-        Ok(bytes) => Ok(bytes[0]),
-        Err(_) => Err(Error::DeserializationError),
+        Ok(bytes) => Some(bytes[0]),
+        Err(_) => None,
     }
 }
