@@ -1,6 +1,6 @@
 //! Cases about values and documents, by their words.
 
-use crate::{conversions, edits, getters, json, kinds, orders, values, wide};
+use crate::{conversions, edits, errors, getters, json, kinds, orders, values, wide};
 use bson_model::{Bson, Document};
 use std::alloc::{AllocError, Global};
 
@@ -8,7 +8,8 @@ use std::alloc::{AllocError, Global};
 fn tree_of(alloc: Global, word: &str, value: Bson) -> Result<String, AllocError> {
     match word {
         "canonical" => json::canonical(alloc, value),
-        _ => json::relaxed(alloc, value),
+        "relaxed" => json::relaxed(alloc, value),
+        _ => String::from_str(alloc, "no such case"),
     }
 }
 
@@ -35,7 +36,9 @@ fn about_text(alloc: Global, word: &str, value: &Bson) -> Result<String, AllocEr
         "show" => value.to_string(alloc),
         "show_alone" => show_alone(alloc, value),
         "show_wide" => wide::value(alloc, value),
-        _ => wide::content(alloc, value),
+        "show_wide_content" => wide::content(alloc, value),
+        "show_indented" => wide::indented(alloc, value),
+        _ => String::from_str(alloc, "no such case"),
     }
 }
 
@@ -67,7 +70,8 @@ fn about_document(
     match word {
         "get" => getters::get(alloc, document, key),
         "lend" => getters::lend(alloc, document, key),
-        _ => orders::extended(alloc, document, key),
+        "extended" => orders::extended(alloc, document, key),
+        _ => String::from_str(alloc, "no such case"),
     }
 }
 
@@ -103,7 +107,10 @@ fn compare(alloc: Global, rest: &str) -> Result<String, AllocError> {
 pub fn answer(alloc: Global, word: &str, rest: &str) -> Result<String, AllocError> {
     match word {
         "kind" | "overwrite" | "copy" | "copy_alone" => of_value(alloc, word, rest),
-        "show" | "show_alone" | "show_wide" | "show_wide_content" => of_value(alloc, word, rest),
+        "show" | "show_alone" | "show_wide" | "show_wide_content" | "show_indented" => {
+            of_value(alloc, word, rest)
+        }
+        "errors" => errors::answer(alloc, rest),
         "get" | "lend" | "extended" => of_key(alloc, word, rest),
         "compare" => compare(alloc, rest),
         "edit" => edits::edit(alloc, rest),

@@ -8,13 +8,15 @@
 //! - `show`, with a value: its text. `show_alone`, with a document or a code with scope: the text of that by itself.
 //! - `show_wide`, with a value: its text where a width of 60 and a fill are asked for. `show_wide_content`: the same of what the value
 //!   holds, by itself, and `uuid_wide`, with a text, of the UUID that it reads as. Width and fill are to change nothing.
+//!   `show_indented`, with a value: its text by `{:#}`, and that of a document by itself, which are to be the plain ones.
+//! - `errors`, with the name of a module: the texts of its errors.
 //!
 //! - `decimal`, `decimal_bytes`, `moment`, `object_id`, `object_id_time`, `uuid`, `base64`, with a text: what it reads as, printed
 //!   in the form that the word says (an object id also as its digits and with its type's name).
 //! - `date_text`, with milliseconds: the date text, and what is printed of the moment.
 //! - `vector`, with bytes in hexadecimal: the vector that they hold, subtype and bytes of its binary value, and what
 //!   that reads as.
-//! - `subtype`, `tag`, with a byte in hexadecimal: what it names, the byte of that, and of a subtype what `{:x}` prints.
+//! - `subtype`, `tag`, with a byte in hexadecimal: what it names, the byte of that, and of a subtype what its `LowerHex` prints.
 //! - `since`, `since_saturating`, with two moments: the milliseconds from the second to the first. `after`, with a moment and
 //!   milliseconds: the moment so much later, saturating.
 //!
@@ -52,6 +54,7 @@
 mod cases;
 mod conversions;
 mod edits;
+mod errors;
 mod getters;
 mod json;
 mod kinds;

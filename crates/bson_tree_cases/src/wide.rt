@@ -1,4 +1,4 @@
-//! Texts where a width and a fill are asked for, which are to change nothing.
+//! Texts where a width and a fill or the indented form are asked for, which are to change nothing.
 
 use bson_model::Bson;
 use std::alloc::{AllocError, Global};
@@ -6,6 +6,14 @@ use std::alloc::{AllocError, Global};
 /// The text of a value in a field of 60 characters.
 pub fn value(alloc: Global, value: &Bson) -> Result<String, AllocError> {
     format!(in alloc; "{value:*>60}")
+}
+
+/// The indented text of a value, and that of a document by itself.
+pub fn indented(alloc: Global, value: &Bson) -> Result<String, AllocError> {
+    match value {
+        Bson::Document(document) => format!(in alloc; "{value:#}  {document:#}"),
+        _ => format!(in alloc; "{value:#}"),
+    }
 }
 
 /// The text of what a value holds, by itself, in such a field.

@@ -27,7 +27,8 @@ pub fn of_json(alloc: Global, word: &str, rest: &str) -> Result<String, TextErro
     match word {
         "value" => tell::outcome(alloc, value_of_json(alloc, json)),
         "document" => document(alloc, json),
-        _ => tell::digits_of(alloc, kept(alloc, json)),
+        "kept" => tell::digits_of(alloc, kept(alloc, json)),
+        _ => Err(TextError::Unreadable),
     }
 }
 
@@ -59,7 +60,8 @@ pub fn of_bytes(alloc: Global, word: &str, rest: &str) -> Result<String, TextErr
         "row_key" => tell::digits_of(alloc, row_key(alloc, &bytes)),
         "canonical" => json(alloc, &bytes, Mode::Canonical),
         "checked" => checked(alloc, &bytes),
-        _ => json(alloc, &bytes, Mode::Relaxed),
+        "relaxed" => json(alloc, &bytes, Mode::Relaxed),
+        _ => Err(TextError::Unreadable),
     }
 }
 

@@ -32,10 +32,13 @@
 //! - `words WORD|WORD|..`: the line of the table that they are. `id TEXT`: the value. `lines BYTES`: how many trees.
 //! - `refusal KIND`, `refusal KIND | DOCUMENT`, `complaint WHAT`, `printed NUMBER NUMBER` (and both flags): what is printed.
 //!
+//! - `errors TYPE`: the texts of the errors of a type.
+//!
 //! A refusal is answered by the error's name.
 #![tactic(auto)]
 
 mod documents;
+mod errors;
 mod filters;
 mod meaning;
 mod streams;
@@ -92,6 +95,7 @@ fn answer_words(alloc: Global, word: &str, rest: &str) -> Result<String, TextErr
         "id" => words::id(alloc, rest),
         "lines" => words::lines(alloc, rest),
         "refusal" => words::refusal(alloc, rest),
+        "errors" => errors::answer(alloc, rest),
         "complaint" => words::complaint(alloc, rest),
         "printed" => words::printed(alloc, rest),
         _ => Err(TextError::Unreadable),

@@ -21,10 +21,11 @@ fn answer(alloc: Global, word: &str, value: &Bson) -> Result<String, TextError> 
         "plain" => tell::shown(alloc, &is_plain(value)),
         "depth" => tell::shown(alloc, &depth(value)),
         "id_key" => tell::digits_of(alloc, key_of_id(alloc, value)),
-        _ => match value.as_document() {
+        "key" => match value.as_document() {
             Some(document) => tell::digits_of(alloc, meaning_key(alloc, document)),
             None => Err(TextError::Unreadable),
         },
+        _ => Err(TextError::Unreadable),
     }
 }
 
