@@ -1,29 +1,30 @@
 //! Calls that make buffers, and that put something last into them, where memory is refused at one allocation.
 //!
 //! Each element of a document is put last into another one and into an array, each time into a copy that has no room
-//! left, and the buffers are made of the document in every other way that takes memory. A call that is out of memory has
+//! left, and into a tree, as the page of `growing_trees` says; and the buffers are made of the document in every other way that takes memory. A call that is out of memory has
 //! to return just that, and to leave the buffer as it was; called again it has to do what it is for. In the end each
 //! buffer has to have the bytes of the document, so its keys are the places. Before that, memory is taken as often as
 //! the line says: under `rt try --fail-alloc N` that number decides which allocation is refused, so that all can be
 //! tried with one build (`.ci/refused_memory`).
 
-use crate::bytes_of;
-use bson_base::SliceSource;
+use crate::{bytes_of, growing_trees};
+use bson_base::{SliceSource, VecSink};
 use bson_model::{Bson, Document};
 use bson_raw::{
     Error, ErrorKind, RawArrayBuf, RawBson, RawBsonRef, RawDocument, RawDocumentBuf, RawElement,
-    ReadError, from_reader,
+    ReadError, WriteError, from_reader, to_writer,
 };
 use std::alloc::{AllocError, Global};
 
 /// The ways in which the bytes of a document are made anew.
-const WAYS: [&str; 12] = [
+const WAYS: [&str; 13] = [
     "from_bytes",
     "to_raw_document_buf",
     "try_clone",
     "from_document",
     "from_iter",
     "from_reader",
+    "to_writer",
     "to_raw_bson",
     "try_clone of a value",
     "from_bson",
@@ -34,7 +35,7 @@ const WAYS: [&str; 12] = [
 
 /// What came of calls.
 #[derive(Clone, Copy)]
-enum Outcome {
+pub enum Outcome {
     /// Each did what it is for.
     Done,
     /// One was out of memory, changed nothing, and did what it is for when it was called again.
@@ -45,7 +46,7 @@ enum Outcome {
 
 impl Outcome {
     /// What came of these calls and of others.
-    fn and(self, others: Outcome) -> Outcome {
+    pub fn and(self, others: Outcome) -> Outcome {
         match self {
             Outcome::Done => others,
             Outcome::Refused => match others {
@@ -58,12 +59,12 @@ impl Outcome {
 }
 
 /// The outcome of a call that did what it is for, or else of something that must not be.
-fn outcome_of(is_right: bool, right: Outcome) -> Outcome {
+pub fn outcome_of(is_right: bool, right: Outcome) -> Outcome {
     if is_right { right } else { Outcome::Wrong }
 }
 
 /// Whether an error is want of memory and nothing more.
-fn is_want_of_memory(error: &Error) -> bool {
+pub fn is_want_of_memory(error: &Error) -> bool {
     *error == Error::new(None, ErrorKind::OutOfMemory)
 }
 
@@ -192,6 +193,20 @@ fn read(alloc: Global, document: RawDocument<'_>) -> Result<Document, Error> {
     }
 }
 
+/// What a writer gets of a tree. It has room for so many bytes, so that it takes no memory. Where the call is out of memory it gets
+/// nothing.
+fn sent(alloc: Global, tree: &Document, room: usize) -> Result<Vec<u8>, Error> {
+    let mut sink = VecSink::new(alloc);
+    sink.bytes = Vec::with_capacity(alloc, room)?;
+    match to_writer(alloc, tree, &mut sink) {
+        Ok(()) => Ok(sink.bytes),
+        Err(WriteError::Memory) if sink.bytes.is_empty() => {
+            Err(Error::new(None, ErrorKind::OutOfMemory))
+        }
+        Err(_) => Err(Error::new(None, ErrorKind::MalformedValue)),
+    }
+}
+
 /// The bytes of a value that is a document, or none.
 fn bytes_of_value(alloc: Global, value: &RawBson) -> Result<Vec<u8>, Error> {
     match value.as_document() {
@@ -223,6 +238,10 @@ fn bytes_by(alloc: Global, way: &str, document: RawDocument<'_>) -> Result<Vec<u
         "from_reader" => {
             let tree = read(alloc, document)?;
             Ok(RawDocumentBuf::from_document(alloc, &tree)?.into_bytes())
+        }
+        "to_writer" => {
+            let tree = document.to_document(alloc)?;
+            sent(alloc, &tree, document.as_bytes().len())
         }
         _ => bytes_by_value(alloc, way, document),
     }
@@ -287,6 +306,7 @@ fn of_all(alloc: Global, document: RawDocument<'_>) -> Result<Outcome, AllocErro
     let mut outcome = of_document(alloc, document, Way::Lent)?;
     outcome = outcome.and(of_document(alloc, document, Way::Owned)?);
     outcome = outcome.and(of_array(alloc, document)?);
+    outcome = outcome.and(growing_trees::of_document(alloc, document)?);
     for way in WAYS.iter() {
         outcome = outcome.and(by_way(alloc, way, document));
     }

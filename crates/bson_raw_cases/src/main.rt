@@ -27,6 +27,8 @@
 //!   of std of which one call is interrupted, once as many went well, and which gives a byte a call before and after that.
 //! - `growing TIMES`: what comes of calls that grow buffers, once memory was taken so often, as the page of `growing` says.
 //!
+//! With the name of a type: `errors`: the texts of its errors.
+//!
 //! With a kind and a number:
 //!
 //! - `deep KIND NUMBER`: what the calls return that take the bytes of so many documents inside each other, each under the empty key, or of
@@ -44,8 +46,10 @@
 #![tactic(auto)]
 
 mod deep;
+mod errors;
 mod getters;
 mod growing;
+mod growing_trees;
 mod streams;
 mod trees;
 mod views;
@@ -84,6 +88,7 @@ fn answer(alloc: Global, line: &str) -> Result<String, AllocError> {
     match word {
         "get" | "item" => getters::answer(alloc, word, rest),
         "deep" => deep::answer(alloc, rest),
+        "errors" => errors::answer(alloc, rest),
         "growing" => String::from_str(alloc, growing::answer(alloc, rest)),
         "read" | "read_slowly" | "read_interrupted" => streams::answer(alloc, word, rest),
         "raw"

@@ -17,7 +17,8 @@ pub fn answer(alloc: Global, word: &str, rest: &str) -> Result<String, AllocErro
     let bytes = bytes_of(alloc, digits);
     match word {
         "read_slowly" => read_slowly(alloc, calls, &bytes),
-        _ => read_interrupted(alloc, calls, &bytes),
+        "read_interrupted" => read_interrupted(alloc, calls, &bytes),
+        _ => String::from_str(alloc, "no such case"),
     }
 }
 

@@ -42,7 +42,8 @@ fn of_document(
             streams::send_slowly(alloc, first.parse::<u64>().unwrap_or(0), &document)
         }
         "pairs" => pairs(alloc, document),
-        _ => append(alloc, first, document),
+        "append" => append(alloc, first, document),
+        _ => String::from_str(alloc, "no such case"),
     }
 }
 
@@ -54,7 +55,8 @@ fn of_array(
 ) -> Result<String, AllocError> {
     match word {
         "values" => values(alloc, items),
-        _ => push(alloc, first, items),
+        "push" => push(alloc, first, items),
+        _ => String::from_str(alloc, "no such case"),
     }
 }
 

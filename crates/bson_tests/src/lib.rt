@@ -17,8 +17,6 @@ mod devices;
 #[cfg(test)]
 mod doubles;
 #[cfg(test)]
-mod growth;
-#[cfg(test)]
 mod interrupted;
 #[cfg(test)]
 mod moments;
