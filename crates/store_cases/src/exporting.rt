@@ -9,15 +9,16 @@ use bson_store::{ErrorKind, SliceSource, Store};
 use sqlite::{Alter, Connection};
 use std::alloc::{AllocError, Global};
 
-/// Five documents of 14 bytes, one after the other: an `_id` each.
-const STREAM: [u8; 70] = [
-    14, 0, 0, 0, 16, 95, 105, 100, 0, 1, 0, 0, 0, 0, 14, 0, 0, 0, 16, 95, 105, 100, 0, 2, 0, 0, 0,
-    0, 14, 0, 0, 0, 16, 95, 105, 100, 0, 3, 0, 0, 0, 0, 14, 0, 0, 0, 16, 95, 105, 100, 0, 4, 0, 0,
-    0, 0, 14, 0, 0, 0, 16, 95, 105, 100, 0, 5, 0, 0, 0, 0,
-];
+/// How many documents there are.
+const DOCUMENTS: u32 = 200;
 
-/// How long each of them is.
+/// How long each of them is, and what it begins with: its length, and the tag and the key of its `_id`, a number of four bytes.
 const BODY: u64 = 14;
+
+const BEGINNING: [u8; 9] = [14, 0, 0, 0, 16, 95, 105, 100, 0];
+
+/// How long all of them are.
+const ALL: u64 = BODY * DOCUMENTS as u64;
 
 /// What is told where memory was refused before the export.
 const TOO_EARLY: &str = "refused before the export";
@@ -45,16 +46,30 @@ fn told_over<S: Alter + Drop>(
 
 /// The same, of an open store, which is filled first.
 fn told_of<S: Alter + Drop>(alloc: Global, store: &mut Store<S>, times: usize) -> &'static str {
-    if is_filled(store) && is_allocated(alloc, times) {
+    if is_filled(alloc, store) && is_allocated(alloc, times) {
         exported(store)
     } else {
         TOO_EARLY
     }
 }
 
+/// The documents, one after the other.
+fn stream(alloc: Global) -> Result<Vec<u8>, AllocError> {
+    let mut bytes = Vec::new(alloc);
+    for id in 0..DOCUMENTS {
+        bytes.extend_from_slice(&BEGINNING)?;
+        bytes.extend_from_slice(&id.to_le_bytes())?;
+        bytes.push(0)?;
+    }
+    Ok(bytes)
+}
+
 /// Puts the documents into `c`. Whether memory was there for it.
-fn is_filled<S: Alter + Drop>(store: &mut Store<S>) -> bool {
-    store.import("c", &mut SliceSource::new(&STREAM)).is_ok()
+fn is_filled<S: Alter + Drop>(alloc: Global, store: &mut Store<S>) -> bool {
+    match stream(alloc) {
+        Ok(bytes) => store.import("c", &mut SliceSource::new(&bytes)).is_ok(),
+        Err(_) => false,
+    }
 }
 
 /// Takes memory so often. Whether it was there.
@@ -72,7 +87,8 @@ pub fn is_allocated(alloc: Global, times: usize) -> bool {
 fn exported<S: Alter + Drop>(store: &mut Store<S>) -> &'static str {
     let mut writer = Counting { bytes: 0 };
     match store.export("c", &mut writer) {
-        Ok(()) => "all bodies",
+        Ok(()) if writer.bytes == ALL => "all bodies",
+        Ok(()) => "not all bodies",
         Err(error) => refused(error.kind, writer.bytes),
     }
 }

@@ -6,7 +6,9 @@
 //! page of `table` tells. `stopped log` and `stopped database` stop a file under the store at each of its calls, one after the other;
 //! they are answered by a row for each that went otherwise than the one before it, as the page of `stopping` says; so are `stopped_opening log`
 //! and `stopped_opening database`, with an opening that replaces keys from before.
-//! `limited` does the like with a limit on the steps of a statement, as the page of `limiting` says. `memory TIMES` runs a list of commands, as the page of `memory` says.
+//! `limited` does the like with a limit on the steps of a statement, and `limited_opening` with an opening that replaces keys from before, as the page of `limiting`
+//! says. `memory TIMES` runs a list of commands, `opening_memory TIMES` opens a store and `words_memory TIMES` does the program's words where memory is refused, as
+//! the pages of `memory`, `opening` and `executing` say.
 //!
 //! A line that begins with `# ` is a title, and begins a block of lines over a new database in memory. A block has
 //!
@@ -40,10 +42,13 @@ mod bytes;
 mod commands;
 mod counting;
 mod devices;
+mod executing;
 mod exporting;
 mod limiting;
 mod lists;
 mod memory;
+mod old_rows;
+mod opening;
 mod replies;
 mod stopping;
 mod stored;
@@ -58,9 +63,12 @@ use std::io;
 fn answer_alone(rt: &HostRuntime, line: &str) -> io::Result<()> {
     let (word, rest) = line.split_once(' ').unwrap_or((line, ""));
     match word {
-        "limited" => rt.print(limiting::answer(rt.alloc())?),
+        "limited" => rt.print(limiting::answer(rt.alloc(), true)?),
+        "limited_opening" => rt.print(limiting::answer(rt.alloc(), false)?),
         "memory" => rt.println(memory::answer(rt.alloc(), rest)),
         "export_memory" => rt.println(exporting::answer(rt.alloc(), rest)),
+        "opening_memory" => rt.println(opening::answer(rt.alloc(), rest)),
+        "words_memory" => rt.println(executing::answer(rt.alloc(), rest)),
         "stopped" => rt.print(stopping::answer(rt.alloc(), rest, true)?),
         "stopped_opening" => rt.print(stopping::answer(rt.alloc(), rest, false)?),
         "usage" => rt.println(usage::answer(rt.alloc())),

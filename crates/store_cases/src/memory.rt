@@ -38,17 +38,25 @@ const COMMANDS: [&str; 22] = [
     "remove|c|1",
 ];
 
+/// What is told if memory was refused before the line's own calls, and if it was refused to what is around them.
+pub const TOO_EARLY: &str = "refused before the list";
+
+pub const ELSEWHERE: &str = "well: memory was refused elsewhere";
+
+/// What is told if a command was out of memory, and nothing else.
+pub const SOME: &str = "well: some command was out of memory";
+
 /// What the documents in the end are asked by.
 const STATE: [&str; 3] = ["collections", "export|c", "export|d"];
 
 /// What came of the list, once memory was taken so often. What tells no number is 0.
 pub fn answer(alloc: Global, times: &str) -> &'static str {
     if !is_allocated(alloc, times.parse::<usize>().unwrap_or(0)) {
-        return "refused before the list";
+        return TOO_EARLY;
     }
     match compared(alloc) {
         Ok(outcome) => outcome,
-        Err(_) => "well: memory was refused elsewhere",
+        Err(_) => ELSEWHERE,
     }
 }
 
@@ -66,7 +74,7 @@ fn compared(alloc: Global) -> Result<&'static str, AllocError> {
         return Ok("not well");
     }
     if kept.len() < COMMANDS.len() {
-        Ok("well: some command was out of memory")
+        Ok(SOME)
     } else {
         Ok("well")
     }

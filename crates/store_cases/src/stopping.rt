@@ -8,8 +8,8 @@
 //! The same is done with an opening of a store whose file has two rows under keys from before the two zeros of a double meant the same,
 //! which the opening replaces: a row says whether the store was opened before the stop, and what is found behind it.
 
-use crate::lists;
 use crate::replies::tell_refusal;
+use crate::{lists, old_rows};
 use bson_store::Store;
 use serde_json::Value;
 use sqlite::{Alter, Connection, FileStore, Files, Options};
@@ -24,13 +24,6 @@ pub const COMMANDS: [&str; 6] = [
     "import|c|0e000000105f6964000300000000+0e000000105f6964000400000000",
     "replace_raw|c|15000000105f696400020000001061000500000000",
     "remove|c|1",
-];
-
-/// What makes the table, with two rows whose keys keep the sign of a zero: of the ids -0 and {x: -0}.
-const OLD_ROWS: [&str; 3] = [
-    "CREATE TABLE documents (place INTEGER PRIMARY KEY, coll TEXT NOT NULL, idkey BLOB NOT NULL, body BLOB NOT NULL, UNIQUE (coll, idkey)) STRICT",
-    "INSERT INTO documents VALUES (1, 'c', x'12000000015f696400000000000000008000', x'12000000015f696400000000000000008000')",
-    "INSERT INTO documents VALUES (2, 'c', x'1a000000035f6964001000000001780000000000000000800000', x'1a000000035f6964001000000001780000000000000000800000')",
 ];
 
 /// No run over the commands makes as many calls of a file.
@@ -175,7 +168,7 @@ fn run_over<D: Disk + Drop>(alloc: Global, files: Files<D>, stop: &mut Stop) -> 
 /// `into_store` would take minutes.
 fn worked<S: Alter + Drop>(alloc: Global, mut connection: Connection<S>, stop: &mut Stop) -> S {
     if stop.phase == Phase::Fill {
-        fill(&mut connection);
+        old_rows::fill(&mut connection);
         return connection.into_store();
     }
     let connection = match Store::open(alloc, connection) {
@@ -204,15 +197,6 @@ fn reopened<D: Disk + Drop>(
     match Connection::open_files(alloc, files, Options::new(7)) {
         Ok(connection) => Ok(connection),
         Err((_, left)) => Err(left.into_files()),
-    }
-}
-
-/// Makes the table with rows of old keys.
-fn fill<S: Alter>(connection: &mut Connection<S>) {
-    for statement in OLD_ROWS {
-        if connection.execute(statement, &[]).is_err() {
-            return;
-        }
     }
 }
 

@@ -9,6 +9,9 @@ use cli_words::{Call, Words, read_words};
 use sqlite::Alter;
 use std::alloc::{AllocError, Global};
 
+/// How many bytes an output takes before it takes memory: where memory is refused, a short one takes none.
+const ROOM: usize = 1000;
+
 /// A line of words, and the devices that it is given.
 #[derive(Clone, Copy)]
 struct Case<'a> {
@@ -83,6 +86,13 @@ fn told(
     Ok(told)
 }
 
+/// What takes bytes and has room for some.
+fn sink(alloc: Global) -> Result<VecSink, AllocError> {
+    let mut sink = VecSink::new(alloc);
+    sink.bytes = Vec::with_capacity(alloc, ROOM)?;
+    Ok(sink)
+}
+
 /// Does what the words ask for, with devices that don't fail.
 fn plainly<S: Alter + Drop>(
     alloc: Global,
@@ -91,8 +101,8 @@ fn plainly<S: Alter + Drop>(
     input: &[u8],
 ) -> Result<String, AllocError> {
     let mut input = SliceSource::new(input);
-    let mut output = VecSink::new(alloc);
-    let mut faults = VecSink::new(alloc);
+    let mut output = sink(alloc)?;
+    let mut faults = sink(alloc)?;
     let status = execute(alloc, store, words, &mut input, &mut output, &mut faults);
     told(
         alloc,
@@ -185,8 +195,8 @@ fn told_of_pipe(
 /// Does `pipe` with devices that don't fail.
 fn pipe_plainly(alloc: Global, bytes: &[u8]) -> Result<String, AllocError> {
     let mut input = SliceSource::new(bytes);
-    let mut output = VecSink::new(alloc);
-    let mut faults = VecSink::new(alloc);
+    let mut output = sink(alloc)?;
+    let mut faults = sink(alloc)?;
     let status = pipe(alloc, &mut input, &mut output, &mut faults);
     let (output, faults) = (output.bytes.as_slice(), faults.bytes.as_slice());
     told_of_pipe(alloc, status, bytes, output, faults)
