@@ -4,9 +4,10 @@
 
 pub use bson_meaning as meaning;
 pub use bson_model::{
-    Array, Binary, BinarySubtype, Bson, DateTime, DbPointer, Decimal128, Document, DoubleBits,
-    ElementType, JavaScriptCodeWithScope, ObjectId, Regex, Sink, SliceSource, Source, Timestamp,
-    Uuid, VecSink, binary, datetime, decimal128, document, extjson, oid, spec, uuid,
+    Array, Binary, BinarySubtype, Bson, Counted, DateTime, DbPointer, Decimal128, DeviceFault,
+    Document, DoubleBits, ElementType, JavaScriptCodeWithScope, ObjectId, Regex, Sink, SliceSource,
+    Source, Timestamp, Uuid, VecSink, binary, datetime, decimal128, document, extjson, oid, spec,
+    uuid,
 };
 pub use bson_raw as raw;
 pub use bson_raw::{

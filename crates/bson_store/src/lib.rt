@@ -23,6 +23,7 @@ pub use bson_model::{
     Source, Timestamp, Uuid, VecSink, binary, datetime, decimal128, document, extjson, oid, spec,
     uuid,
 };
+pub use bson_raw as raw;
 pub use bson_raw::{
     RawArray, RawArrayBuf, RawBinaryRef, RawBson, RawBsonRef, RawDbPointerRef, RawDocument,
     RawDocumentBuf, RawElement, RawJavaScriptCodeWithScope, RawJavaScriptCodeWithScopeRef,
