@@ -13,6 +13,13 @@ proved_folder=$root/crates/$crate/out
 note() { echo "$name: $1" >&2; }
 say() { if [ -t 2 ]; then note "$1"; fi; }
 
+# Sets `waiting` to the number of words in front of FILE: the two of --wait SECONDS, or none.
+count_waiting() {
+    waiting=0
+    [ "${1-}" = --wait ] || return 0
+    case ${2-} in '' | *[!0-9]*) ;; *) waiting=2 ;; esac
+}
+
 # The sources that go into the program of a crate: the lines of crates.txt of the crate and of those below it, and the files in their
 # folders src, each with " newer" behind it if it is newer than the file that is given, if one is.
 sources() {
