@@ -30,7 +30,7 @@ except ImportError:
 sys.path.insert(0, str(pathlib.Path(__file__).resolve().parent.parent / "tools"))
 from bson_session import LONGEST, Ended, Refused, Session
 
-PROGRAM = os.path.abspath(sys.argv[1])
+PROGRAM = sys.argv[1]
 FOLDER = pathlib.Path(tempfile.mkdtemp())
 atexit.register(shutil.rmtree, FOLDER, ignore_errors=True)
 
@@ -259,9 +259,11 @@ store.process.kill()
 store.process.wait()
 holds("a program that was killed", [exception_of(store, "collections") for _ in range(2)], [(Ended, "the program ended with status -9")] * 2)
 holds("what it had answered", run(asks("count", "c", '{"and":[]}'), "killed.db"), (0, ['{"status":0,"output":"1\\n"}'], ""))
+here, program = os.getcwd(), os.path.abspath(PROGRAM)
 os.chdir(FOLDER)
-with Session("-x.db", PROGRAM) as store:
+with Session("-x.db", program) as store:
     holds("a name with a hyphen", store("insert", "c", {"_id": 1}), "")
+os.chdir(here)
 
 # Many inserts and gets in one session: a thousand of each, or as many as is told.
 count = int(sys.argv[2]) if len(sys.argv) > 2 else 1000
