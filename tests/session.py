@@ -222,7 +222,6 @@ def cut(seconds, handler):
     store.process.send_signal(signal.SIGSTOP)
     signal.setitimer(signal.ITIMER_REAL, seconds)
     first = exception_of(store, "insert", "c", {"_id": before})
-    store.process.send_signal(signal.SIGCONT)
     return first, exception_of(store, "count", "d", ALL), store.close(), store.close()
 
 

@@ -169,7 +169,7 @@ class Session:
         except BaseException as error:
             self._reason = f"a call was cut off by {error!r}"
             self._is_reported = True
-            self.process.kill()
+            self._stop()
             raise
         finally:
             self._is_inside = False
@@ -187,9 +187,18 @@ class Session:
             return None
         return json.loads(self.process.stdout.readline() or "null")
 
+    def _stop(self):
+        """Ends the program, so that nobody has the file any more. TERM comes first, as a script that builds the program passes it on."""
+        self.process.terminate()
+        try:
+            self.process.wait(1)
+        except subprocess.TimeoutExpired:
+            self.process.kill()
+            self.process.wait()
+
     def _wait(self):
         status = self.process.wait()
-        self._listener.join()
+        self._listener.join(5)
         return status
 
     def _end_of(self, status):

@@ -25,7 +25,7 @@ count_waiting() {
 sources() {
     # shellcheck disable=SC2046
     (cd "$root" && find crates/*/src -type f ${2:+-newer "$2" -printf '%p newer\n' -o -type f} -printf '%p\n') 2>/dev/null |
-        LC_ALL=C sort | awk -v top="$1" '
+        awk -v top="$1" '
             FILENAME != "-" { lines[++count] = $0; next }
             { split($0, parts, "/"); files[parts[2]] = files[parts[2]] $0 "\n" }
             END {
@@ -44,7 +44,7 @@ sources() {
 # what is newer is known. Where there are no sources nothing is newer.
 changed() {
     [ -e "$root/crates.txt" ] || return 0
-    record=$(dirname -- "$1")/bson_store.build
+    record=${1%/*}/bson_store.build
     [ -e "$record" ] || record=/dev/null
     sources "$crate" "$1" | awk -v record="$record" '
         BEGIN { while ((getline line < record) > 0) if (is_listed) { listed[line]; count++ } else is_listed = line == "sources" }
@@ -143,7 +143,7 @@ version() {
         return
     fi
     case $program in "$proved_folder"/*) built=proved ;; *) built=quick ;; esac
-    record=$(dirname -- "$program")/bson_store.build
+    record=${program%/*}/bson_store.build
     number=$(sed -n 's/^version //p;/^sources$/q' "$record" 2>/dev/null)
     commit=$(sed -n 's/^commit //p;/^sources$/q' "$record" 2>/dev/null)
     echo "$name ${number:-$(cat "$root/VERSION")} (commit ${commit:-unknown}, $built${change:+, sources are newer})"
