@@ -65,6 +65,7 @@ def run_script(most, *words, given=b""):
         built.mkdir(parents=True)
         shutil.copy(PROGRAM, built / "bson_store")
         script = shutil.copy(ROOT / "bson_store", folder)
+        shutil.copytree(ROOT / "tools", pathlib.Path(folder) / "tools")
         return run_limited(script, limited, words, given)
 
 

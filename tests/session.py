@@ -14,9 +14,11 @@ import pathlib
 import pty
 import resource
 import shutil
+import signal
 import subprocess
 import sys
 import tempfile
+import threading
 import time
 import tty
 
@@ -26,7 +28,7 @@ except ImportError:
     sys.exit("session.py: needs Python's bson, of Debian: apt-get install python3-bson")
 
 sys.path.insert(0, str(pathlib.Path(__file__).resolve().parent.parent / "tools"))
-from bson_session import Refused, Session
+from bson_session import LONGEST, Ended, Refused, Session
 
 PROGRAM = sys.argv[1]
 FOLDER = pathlib.Path(tempfile.mkdtemp())
@@ -157,6 +159,110 @@ with Session(str(FOLDER / "python.db"), PROGRAM) as store:
         holds("insert again", "done", "refused")
     except Refused as refused:
         holds("insert again", str(refused), "refused: DuplicateId")
+
+
+
+def exception_of(call, *words, **more):
+    """The class of what a call raises and its text, or what it returns."""
+    try:
+        return call(*words, **more)
+    except Exception as error:
+        return type(error), str(error)
+
+
+# Each word goes as its place has it: a text where the program has JSON is that text, and no number.
+ALL = {"and": []}
+with Session(FOLDER / "places.db", PROGRAM) as store:
+    for value in ["42", 42, True, None, {"a": "1"}, "true", "\u00e4\"\n"]:
+        holds(f"insert {value!r}", store("insert", "c", {"_id": value}), "")
+    holds("set", [store("set", "c", "42", "-k", "true"), store("set", "c", 42, "7", [1, "x"])], ["", ""])
+    holds("get of a text", json.loads(store("get", "c", "42", "--relaxed")), {"_id": "42", "-k": "true"})
+    holds("get of a number", json.loads(store("get", "c", 42, "--relaxed")), {"_id": 42, "7": [1, "x"]})
+    holds("unset", [store("unset", "c", "42", "-k"), store("unset", "c", 42, "-k")], ["true\n", "false\n"])
+    for value in ["42", "true", None, {"a": "1"}, "\u00e4\"\n"]:
+        holds(f"remove {value!r}", store("remove", "c", value), "")
+    holds("what is left", sorted(json.loads(line)["_id"] is True for line in store("dump", "c").splitlines()), [False, True])
+    holds("replace", [store("replace", "c", {"_id": 42, "x": "42"}), store("count", "c", {"eq": [["x"], "42"]})], ["", "1\n"])
+    for words in [(), ("frob",), (1,), ("insert", "c"), ("get", "c", 1, "--pretty"), ("collections", "c")]:
+        holds(f"words {words}", exception_of(store, *words), (Refused, "words: usage"))
+    holds("a filter that is a text", exception_of(store, "count", "c", "all"), (Refused, "words: filter"))
+    for words in [("insert", 1, {}), ("set", "c", 1, 2, 3), ("insert", "c", b"{}"), ("get", "c", {1}), ("insert", "c", {"_id": 1, "d": {2: 3}})]:
+        holds(f"types {words}", exception_of(store, *words)[0], TypeError)
+    holds("a number that JSON hasn't", exception_of(store, "insert", "c", {"_id": float("nan")})[0], ValueError)
+    holds("an input of texts", exception_of(store, "import", "c", input="text")[0], TypeError)
+    holds("an input that is too long", exception_of(store, "load", "c", input=bytes(LONGEST))[0], ValueError)
+    holds("it goes on", store("count", "c", ALL), "2\n")
+holds("closed, twice", (store.close(), store.close()), (0, 0))
+holds("a call behind that", exception_of(store, "collections"), (Ended, "it was closed"))
+
+# Threads that share a session: each gets its own answers.
+wrong = []
+with Session(FOLDER / "threads.db", PROGRAM) as store:
+    def work(thread):
+        for number in range(50):
+            one = {"_id": thread * 100 + number, "by": thread}
+            store("insert", "c", one)
+            if json.loads(store("get", "c", one["_id"], "--relaxed")) != one or exception_of(store, "insert", "c", one)[0] is not Refused:
+                wrong.append(one)
+
+    threads = [threading.Thread(target=work, args=(thread,)) for thread in range(6)]
+    for thread in threads:
+        thread.start()
+    for thread in threads:
+        thread.join()
+    holds("threads", (wrong, store("count", "c", ALL)), ([], "300\n"))
+
+
+# A call that is cut off ends the session, so that no later call gets its answer: by a time-out, and by a handler that calls.
+def cut(seconds, handler):
+    """A call to a session whose program doesn't go on, cut off by a signal; and the same session's next call and its end."""
+    store = Session(FOLDER / "cut.db", PROGRAM)
+    before = store("count", "c", ALL)
+    signal.signal(signal.SIGALRM, lambda *_: handler(store))
+    store.process.send_signal(signal.SIGSTOP)
+    signal.setitimer(signal.ITIMER_REAL, seconds)
+    first = exception_of(store, "insert", "c", {"_id": before})
+    return first, exception_of(store, "count", "d", ALL), store.close(), store.close()
+
+
+def too_late(_):
+    raise TimeoutError("too late")
+
+
+CUT_OFF = "a call was cut off by "
+holds("a time-out", cut(0.2, too_late), ((TimeoutError, "too late"), (Ended, CUT_OFF + "TimeoutError('too late')"), -9, -9))
+inside = "a call inside a call, as by a signal's handler"
+holds("a call inside a call", cut(0.2, lambda store: store("collections")),
+      ((RuntimeError, inside), (Ended, f"{CUT_OFF}{RuntimeError(inside)!r}"), -9, -9))
+with Session(FOLDER / "cut.db", PROGRAM) as store:
+    holds("the file is there", store("count", "c", ALL) in ["0\n", "1\n", "2\n"], True)
+
+# A file that can't be had, and a program that has ended: the reason is in the exception, also if nothing was asked of it.
+CANT = "the program ended with status 1; refused: Database"
+store = Session(FOLDER, PROGRAM)
+holds("a folder", [exception_of(store, "collections") for _ in range(2)], [(Ended, CANT)] * 2)
+holds("its end", (store.close(), store.close()), (1, 1))
+
+
+def ask_nothing(error=None):
+    with Session(FOLDER, PROGRAM):
+        if error:
+            raise error
+
+
+holds("a folder of which nothing is asked", exception_of(ask_nothing), (Ended, CANT))
+holds("another exception goes on", exception_of(ask_nothing, KeyError("k")), (KeyError, "'k'"))
+store = Session(FOLDER / "killed.db", PROGRAM)
+store("insert", "c", {"_id": 1})
+store.process.kill()
+store.process.wait()
+holds("a program that was killed", [exception_of(store, "collections") for _ in range(2)], [(Ended, "the program ended with status -9")] * 2)
+holds("what it had answered", run(asks("count", "c", '{"and":[]}'), "killed.db"), (0, ['{"status":0,"output":"1\\n"}'], ""))
+here, program = os.getcwd(), os.path.abspath(PROGRAM)
+os.chdir(FOLDER)
+with Session("-x.db", program) as store:
+    holds("a name with a hyphen", store("insert", "c", {"_id": 1}), "")
+os.chdir(here)
 
 # Many inserts and gets in one session: a thousand of each, or as many as is told.
 count = int(sys.argv[2]) if len(sys.argv) > 2 else 1000

@@ -1,0 +1,40 @@
+#!/bin/sh
+# Holds a built program against all tests of programs and scripts, and the commands of README and USING against it.
+#
+#     tests/all.sh PROGRAM
+#
+# The program acts by its name, so it is tried under its three names, as links in a folder that is deleted. What the tests print is
+# printed only if one fails. They call sqlite3, jq and Python's bson; without these, and without the program, it fails.
+set -u
+fail() { echo "all.sh: $1"; exit 1; }
+[ -x "${1-}" ] || fail "there is no program ${1-}: tests/all.sh PROGRAM"
+program=$(readlink -f -- "$1")
+for tool in sqlite3 jq; do command -v "$tool" >/dev/null || fail "$tool isn't here: apt-get install sqlite3 jq python3-pymongo"; done
+/usr/bin/python3 -c 'import bson.json_util' 2>/dev/null || fail "Python's bson isn't here: apt-get install python3-pymongo"
+cd -- "$(dirname -- "$(readlink -f -- "$0")")/.." || exit 1
+work=$(readlink -f -- "$(mktemp -d)") || fail "no folder can be made among the temporary files"
+trap 'rm -rf "$work"' EXIT
+trap 'exit 129' HUP
+trap 'exit 130' INT
+trap 'exit 143' TERM
+for name in bson_store bson_session bson_json; do ln -s "$program" "$work/$name"; done
+
+# Runs a test with its words, and says how long it took.
+try() {
+    began=$(date +%s)
+    "$@" >"$work/printed" 2>&1 </dev/null || {
+        tail -n 20 "$work/printed"
+        fail "$program FAILED $*"
+    }
+    echo "all.sh: $program: as $(echo "$*" | sed "s|$work/||g; s|/usr/bin/python3 ||") asks, in $(($(date +%s) - began)) s"
+}
+
+try /usr/bin/python3 tests/edits.py
+try /usr/bin/python3 tests/program.py "$work/bson_store"
+try /usr/bin/python3 tests/session.py "$work/bson_session"
+try /usr/bin/python3 tests/scripts.py "$work/bson_store"
+for test in files json; do
+    case $test in files) name=bson_store ;; *) name=bson_json ;; esac
+    [ ! -e "tests/$test.py" ] || try /usr/bin/python3 "tests/$test.py" "$work/$name"
+done
+try tests/readme.sh "$work/bson_store" "$work/bson_session" "$work/bson_json"
