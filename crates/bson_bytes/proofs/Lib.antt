@@ -5,6 +5,7 @@ pub mod Meant
 pub mod One
 pub mod Options
 pub mod Places
+pub mod ScalarReads
 pub mod Scalars
 pub mod Settled
 pub mod Spelled

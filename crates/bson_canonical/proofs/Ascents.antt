@@ -1,5 +1,7 @@
 -- Keys that were met, and one more.
-use Rattle.std.proofs.Common.{◌≡◌, ℕ, List, [], ◌∷◌, ◌++◌, Bool, true, false, Decides, refl, sym, ap, ◌∙◌, subst}
+use Rattle.std.proofs.Common.{◌≡◌, ℕ, List, [], ◌∷◌, ◌++◌, length, drop, append_assoc, Bool, true, false, Decides, refl, sym, ap, ◌∙◌, subst}
+use Rattle.std.proofs.Math.Seq.{drop-append_seam}
+use Rattle.std.proofs.lemmas.List.{append_cancel_left}
 use Rattle.std.specs.Borrow.{Bor}
 use Rattle.std.specs.Cmp.Lexicographic.{slice_cmp}
 use Rattle.std.specs.List.{list_any}
@@ -43,33 +45,40 @@ as_before : (greatest : List ℕ) (all : List (Bor (List ℕ))) (last : Bor (Lis
 as_before greatest [] last up other = (ap is_gt (nat_list_cmp_total.antisymm last.now greatest) ∙ no_more (slice_cmp nat_cmp greatest last.now) other, tt)
 as_before greatest (met ∷ keys) last up other = (up.0, as_before greatest keys last up.1 other)
 
--- the key was kept, or there are more than are kept
-abbrev pub IsKept : MetKeys → Bor (List ℕ) → MetKeys → Type 0
-IsKept old key new = new.has_more ≡ false → (old.has_more ≡ false) × (new.kept.items ≡ old.kept.items ++ key ∷ [])
+-- one more key was met, and kept if there was room
+pub record Keeps (old : MetKeys) (kept : List (Bor (List ℕ))) (key : Bor (List ℕ)) (new : MetKeys) (after : List (Bor (List ℕ))) : Type 0 where
+  pub outer : new.outer ≡ old.outer
+  pub behind : (more : List (Bor (List ℕ))) × (after ≡ kept ++ more)
+  pub all : new.has_more ≡ false → (old.has_more ≡ false) × (after ≡ kept ++ key ∷ [])
 
-one_more : (old new : MetKeys) (key : Bor (List ℕ)) (all : List (Bor (List ℕ))) → HasMet old all → IsKept old key new → new.has_more ≡ false → new.kept.items ≡ all ++ key ∷ []
-one_more old new key all met kept none = let k = kept none in k.1 ∙ ap (λ (ks : List (Bor (List ℕ))). ks ++ key ∷ []) (met.whole k.0)
+module _ (old : MetKeys) (outer kept : List (Bor (List ℕ))) (key : Bor (List ℕ)) (new : MetKeys) (after all : List (Bor (List ℕ))) (met : HasMet old outer kept all) (keeps : Keeps old kept key new after) where
+  one_more : new.has_more ≡ false → met.own ++ keeps.behind.0 ≡ all ++ key ∷ []
+  one_more none =
+      let k = keeps.all none in
+      let last : keeps.behind.0 ≡ key ∷ [] = append_cancel_left kept keeps.behind.0 (key ∷ []) (sym keeps.behind.1 ∙ k.1) in
+      ap (λ (ks : List (Bor (List ℕ))). met.own ++ ks) last ∙ ap (λ (ks : List (Bor (List ℕ))). ks ++ key ∷ []) (met.whole k.0)
 
--- a key that is greater than all before it
-pub met_greater : (old new : MetKeys) (key : Bor (List ℕ)) (all : List (Bor (List ℕ))) → HasMet old all → slice_cmp nat_cmp old.greatest.now key.now ≡ Less
-    → new.greatest ≡ key → IsKept old key new → IsNew key.now all × HasMet new (all ++ key ∷ [])
-met_greater old new key all met less is kept =
-    let up = raised old.greatest.now all key met.bound less in (
-      greater_new old.greatest.now key.now all met.bound less,
-      record {
-        bound = subst (λ (g : Bor (List ℕ)). AreUpTo g.now (all ++ key ∷ [])) (sym is) up;
-        whole = one_more old new key all met kept;
-      },
-    )
+  behind : AreUpTo new.greatest.now (all ++ key ∷ []) → HasMet new outer after (all ++ key ∷ [])
+  behind up = record {
+    bound = up;
+    start = keeps.outer ∙ met.start;
+    own = met.own ++ keeps.behind.0;
+    parts = keeps.behind.1 ∙ ap (λ (ks : List (Bor (List ℕ))). ks ++ keeps.behind.0) met.parts ∙ append_assoc outer met.own keeps.behind.0;
+    whole = one_more;
+  }
 
--- another key, of which the kept ones tell that it is new
-pub met_other : (old new : MetKeys) (key : Bor (List ℕ)) (all : List (Bor (List ℕ))) → HasMet old all → (slice_cmp nat_cmp old.greatest.now key.now ≡ Less → ⊥)
-    → old.has_more ≡ false → IsNew key.now old.kept.items → new.greatest ≡ old.greatest → IsKept old key new → IsNew key.now all × HasMet new (all ++ key ∷ [])
-met_other old new key all met other few new_key is kept =
-    let up = as_before old.greatest.now all key met.bound other in (
-      subst (IsNew key.now) (met.whole few) new_key,
-      record {
-        bound = subst (λ (g : Bor (List ℕ)). AreUpTo g.now (all ++ key ∷ [])) (sym is) up;
-        whole = one_more old new key all met kept;
-      },
-    )
+  -- a key that is greater than all before it
+  pub met_greater : slice_cmp nat_cmp old.greatest.now key.now ≡ Less → new.greatest ≡ key → IsNew key.now all × HasMet new outer after (all ++ key ∷ [])
+  met_greater less is = (
+    greater_new old.greatest.now key.now all met.bound less,
+    behind (subst (λ (g : Bor (List ℕ)). AreUpTo g.now (all ++ key ∷ [])) (sym is) (raised old.greatest.now all key met.bound less)),
+  )
+
+  -- another key, of which the kept ones tell that it is new
+  pub met_other : (slice_cmp nat_cmp old.greatest.now key.now ≡ Less → ⊥) → old.has_more ≡ false → (own : List (Bor (List ℕ))) → own ≡ drop old.outer kept → IsNew key.now own → new.greatest ≡ old.greatest
+      → IsNew key.now all × HasMet new outer after (all ++ key ∷ [])
+  met_other other few own is_own new_key is =
+      let here : own ≡ met.own = is_own ∙ ap (λ (n : ℕ). drop n kept) met.start ∙ ap (drop (length outer)) met.parts ∙ drop-append_seam outer met.own in (
+        subst (IsNew key.now) (here ∙ met.whole few) new_key,
+        behind (subst (λ (g : Bor (List ℕ)). AreUpTo g.now (all ++ key ∷ [])) (sym is) (as_before old.greatest.now all key met.bound other)),
+      )

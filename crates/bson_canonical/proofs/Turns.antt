@@ -1,5 +1,5 @@
 -- One turn over elements.
-use Rattle.std.proofs.Common.{◌≡◌, ℕ, suc, List, [], ◌∷◌, ◌++◌, Bool, true, false, Decides, Option, Some, None, unwrap_or, refl, sym, ap, ◌∙◌, ◌+◌, add-one, subst}
+use Rattle.std.proofs.Common.{arith, ◌≡◌, ℕ, suc, List, [], ◌∷◌, ◌++◌, Bool, true, false, Decides, Option, Some, None, unwrap_or, refl, sym, ap, ◌∙◌, ◌+◌, add-one, subst}
 use Rattle.std.specs.Prelude.{if◌then◌else◌, decimal as digits}
 use Rattle.std.specs.Borrow.{Bor}
 use Rattle.std.specs.List.{list_any}
@@ -13,7 +13,7 @@ use Rattle.bson_bytes.specs.Spells.{SpellsValue, SpellsItems, SpellsMembers, set
 use Rattle.bson_bytes.proofs.One.{end_no_frame}
 use Rattle.bson_frame.specs.Frame.{Element, IsFirstFrame}
 use Rattle.bson_frame.proofs.Frames.{frame_is_one}
-use Rattle.bson_canonical.specs.Written.{AreAbsent, AreItemsWritten, AreWritten, IsAbsent, IsFirstUnder, IsWritten, IsWrittenUnder}
+use Rattle.bson_canonical.specs.Written.{AreAbsent, AreItemsSpelled, AreItemsWritten, AreSpelled, AreWritten, IsAbsent, IsFirstUnder, IsSpelled, IsWritten, IsWrittenUnder}
 use Rattle.bson_bytes.proofs.Spelled.{element_parts}
 use Rattle.bson_base.proofs.Members.{without_absent}
 use Rattle.std.proofs.lemmas.Bool.{or_parts}
@@ -139,3 +139,17 @@ items_written_more i bytes next e first payload key rest (item v vs) h =
     let more = (subst (λ (j : ℕ). AreItemsWritten j next) (add-one i) rest) vs (subst (λ (r : List ℕ). SpellsItems r vs) same.1 h.5) in
     let items : settle_items (item v vs) ≡ item v vs = ap (λ (w : Value). item w (settle_items vs)) value.0 ∙ ap (item v) more.0 in
     (items, joined bytes next e first (digits i) v (items_bytes (suc i) vs) key tag value.1 more.1)
+
+-- ---- what is spelled
+
+pub end_spelled : (bytes : List ℕ) (inner : ℕ) → bytes ≡ 0 ∷ [] → AreSpelled bytes inner
+end_spelled bytes inner is = (no_members, is, omega arith)
+
+pub spelled_more : (bytes next : List ℕ) (inner : ℕ) (e : Element) → IsFirstFrame bytes e next → IsSpelled e.tag e.payload inner → AreSpelled next inner → AreSpelled bytes inner
+spelled_more bytes next inner e first p rest = (member e.key p.0 rest.0, (e, next, first, refl, p.1, p.2, rest.1), omega (arith, p.3, rest.2))
+
+pub end_items_spelled : (bytes : List ℕ) (inner : ℕ) → bytes ≡ 0 ∷ [] → AreItemsSpelled bytes inner
+end_items_spelled bytes inner is = (no_items, is, omega arith)
+
+pub items_spelled_more : (bytes next : List ℕ) (inner : ℕ) (e : Element) → IsFirstFrame bytes e next → IsSpelled e.tag e.payload inner → AreItemsSpelled next inner → AreItemsSpelled bytes inner
+items_spelled_more bytes next inner e first p rest = (item p.0 rest.0, (e, next, first, p.1, p.2, rest.1), omega (arith, p.3, rest.2))

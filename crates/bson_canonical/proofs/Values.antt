@@ -1,5 +1,5 @@
 -- Payloads of each kind.
-use Rattle.std.proofs.Common.{◌≡◌, ℕ, List, length, take, drop, ◌-◌, refl, sym, ap, ◌∙◌, subst, arith}
+use Rattle.std.proofs.Common.{◌≡◌, ◌<◌, ℕ, List, length, take, drop, ◌-◌, false, refl, sym, ap, ◌∙◌, subst, arith}
 use Rattle.std.proofs.lemmas.List.{length-drop, take_all}
 use Rattle.bson_base.specs.declared.spec.ElementType.{ElementType}
 use Rattle.bson_base.specs.declared.spec.ElementType.TheVariants as kinds
@@ -8,9 +8,10 @@ use Rattle.bson_base.specs.Tags.{tag_byte}
 use Rattle.bson_base.specs.Value.{binary, regex, scalar, array, document, scoped_code, Members}
 use Rattle.bson_bytes.specs.Encode.{encode, items_bytes, members_bytes}
 use Rattle.bson_bytes.specs.Spells.{Means}
-use Rattle.bson_frame.specs.Payload.{IsPayload}
-use Rattle.bson_canonical.specs.Written.{AreItemsWritten, AreWritten, HasOneForm, HasOrderedOptions, IsNewBinary, IsWritten}
+use Rattle.bson_frame.specs.Payload.{IsFaultless, IsPayload}
+use Rattle.bson_canonical.specs.Written.{AreItemsSpelled, AreItemsWritten, AreSpelled, AreWritten, HasOneForm, HasOrderedOptions, IsNewBinary, IsSpelled, IsWritten}
 use Rattle.bson_canonical.proofs.Payloads.{binary_back, framed_back, regex_back, scalar_back}
+use Rattle.bson_bytes.proofs.ScalarReads.{HasInner, scalar_read}
 use Rattle.bson_bytes.proofs.One.{apart, not_array, not_document}
 
 -- what stands behind the first four bytes
@@ -56,6 +57,27 @@ scalar_written p tag are size one (scalar s) kind h =
 scalar_written p tag are size one (array vs) kind h = absurd (subst HasOneForm (sym kind) one)
 scalar_written p tag are size one (document ms) kind h = absurd (subst HasOneForm (sym kind) one)
 scalar_written p tag are size one (scoped_code t ms) kind h = absurd (subst HasOneForm (sym kind) one)
+
+-- ---- what is spelled
+
+pub scalar_spelled : (p : List ℕ) (tag : ElementType) → HasInner tag ≡ false → IsPayload tag p → IsFaultless tag p → IsSpelled tag p 0
+scalar_spelled p tag none size whole = let v = scalar_read tag p size whole none in (v.0, v.1, v.2, omega (arith, v.3))
+
+-- what has no levels has no more than any number
+pub deeper : (tag : ElementType) (p : List ℕ) (inner : ℕ) → IsSpelled tag p 0 → IsSpelled tag p inner
+deeper tag p inner h = (h.0, h.1, h.2, omega (arith, h.3))
+
+pub one_form_inner : (tag : ElementType) → HasOneForm tag → HasInner tag ≡ false
+one_form_inner kinds.EmbeddedDocument one = absurd one
+one_form_inner kinds.Array one = absurd one
+one_form_inner kinds.JavaScriptCodeWithScope one = absurd one
+one_form_inner _ one = refl
+
+pub document_spelled : (p : List ℕ) (tag : ElementType) (inner : ℕ) → tag ≡ kinds.EmbeddedDocument → 0 < inner → AreSpelled (drop 4 p) (inner - 1) → IsSpelled tag p inner
+document_spelled p tag inner is some h = (document h.0, sym is, h.1, omega (arith, some, h.2))
+
+pub array_spelled : (p : List ℕ) (tag : ElementType) (inner : ℕ) → tag ≡ kinds.Array → 0 < inner → AreItemsSpelled (drop 4 p) (inner - 1) → IsSpelled tag p inner
+array_spelled p tag inner is some h = (array h.0, sym is, h.1, omega (arith, some, h.2))
 
 -- a whole document
 pub form : (bytes : List ℕ) (d : Members) → AreBytes bytes → AreWritten (drop 4 bytes) → Means bytes d → bytes ≡ encode d

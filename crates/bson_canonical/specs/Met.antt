@@ -1,5 +1,5 @@
 -- The keys of a document that were met so far.
-use Rattle.std.specs.Prelude.{◌≡◌, ℕ, Bool, false, List, [], ◌∷◌, bytes_eq}
+use Rattle.std.specs.Prelude.{◌≡◌, ℕ, false, List, [], ◌∷◌, ◌++◌, length, bytes_eq}
 use Rattle.std.specs.Borrow.{Bor}
 use Rattle.std.specs.Cmp.Lexicographic.{slice_cmp}
 use Rattle.std.specs.List.{list_any}
@@ -15,7 +15,10 @@ AreUpTo greatest (met ∷ keys) = (is_gt (slice_cmp nat_cmp met.now greatest) �
 abbrev pub IsNew : List ℕ → List (Bor (List ℕ)) → Type 0
 IsNew key keys = list_any (λ met. bytes_eq met.now key) keys ≡ false
 
--- these keys were met, in this order
-pub record HasMet (met : MetKeys) (all : List (Bor (List ℕ))) : Type 0 where
+-- these keys were met, in this order; the ones that are kept of them come behind those of the documents around
+pub record HasMet (met : MetKeys) (outer kept all : List (Bor (List ℕ))) : Type 0 where
   pub bound : AreUpTo met.greatest.now all
-  pub whole : met.has_more ≡ false → met.kept.items ≡ all
+  pub start : met.outer ≡ length outer
+  pub own : List (Bor (List ℕ))
+  pub parts : kept ≡ outer ++ own
+  pub whole : met.has_more ≡ false → own ≡ all

@@ -1,12 +1,12 @@
 -- Bytes that are the written form of what they spell: nothing of it has to be settled.
-use Rattle.std.specs.Prelude.{◌≡◌, ◌≢◌, ℕ, List, [], ◌∷◌, ◌++◌, Some, None, length, slice_index}
+use Rattle.std.specs.Prelude.{◌≡◌, ◌≢◌, ◌≤◌, ℕ, List, [], ◌∷◌, ◌++◌, Some, None, length, slice_index}
 use Rattle.std.specs.Borrow.{Bor}
 use Rattle.bson_base.specs.declared.spec.BinarySubtype.TheVariants as subtypes
 use Rattle.bson_base.specs.declared.spec.ElementType.{ElementType}
 use Rattle.bson_base.specs.declared.spec.ElementType.TheVariants as kinds
 use Rattle.bson_base.specs.Options.{sorted_text}
 use Rattle.bson_base.specs.Tags.{subtype_byte}
-use Rattle.bson_base.specs.Value.{Value, value_kind, Items, Members, look_up}
+use Rattle.bson_base.specs.Value.{Value, value_kind, levels, Items, items_levels, Members, members_levels, look_up}
 use Rattle.bson_bytes.specs.Encode.{value_bytes, items_bytes, members_bytes}
 use Rattle.bson_bytes.specs.Spells.{SpellsValue, SpellsItems, SpellsMembers, settle_value, settle_items, settle}
 use Rattle.bson_frame.specs.Frame.{Element, IsRegexSize}
@@ -22,6 +22,18 @@ AreWritten elements = (ms : Members) → SpellsMembers elements ms → (settle m
 -- an array's elements, with the 00 behind them, are written as the items that they spell, from the place i on
 abbrev pub AreItemsWritten : ℕ → List ℕ → Type 0
 AreItemsWritten i elements = (vs : Items) → SpellsItems elements vs → (settle_items vs ≡ vs) × (elements ≡ items_bytes i vs ++ 0 ∷ [])
+
+-- a payload of this kind spells a value of at most so many levels, none of which has a fault
+abbrev pub IsSpelled : ElementType → List ℕ → ℕ → Type 0
+IsSpelled tag payload inner = (v : Value) × (value_kind v ≡ tag) × SpellsValue payload v × (levels v ≤ inner)
+
+-- so do elements, with the 00 behind them
+abbrev pub AreSpelled : List ℕ → ℕ → Type 0
+AreSpelled elements inner = (ms : Members) × SpellsMembers elements ms × (members_levels ms ≤ inner)
+
+-- and an array's elements
+abbrev pub AreItemsSpelled : List ℕ → ℕ → Type 0
+AreItemsSpelled elements inner = (vs : Items) × SpellsItems elements vs × (items_levels vs ≤ inner)
 
 -- no element has the key
 abbrev pub IsAbsent : List ℕ → List ℕ → Type 0

@@ -1,14 +1,14 @@
 //! Elements, one after the other, down to the final 00.
 
-ghost use Rattle.std.specs.Prelude.{◌≡◌, decimal, IsTrue, IfSome};
+ghost use Rattle.std.specs.Prelude.{◌≡◌, decimal, false, IsTrue, IfSome};
 ghost use Rattle.bson_base.specs.Options.{sorted_text};
-ghost use Rattle.bson_frame.specs.Payload.{IsPayload};
+ghost use Rattle.bson_frame.specs.Payload.{IsFaultless, IsPayload};
 ghost use Rattle.bson_frame.specs.View.{element_of};
-ghost use Rattle.bson_canonical.specs.Written.{AreItemsWritten, AreWritten, HasOneForm, HasOrderedOptions, IsFirstUnder, IsNewBinary, IsWritten};
+ghost use Rattle.bson_canonical.specs.Written.{AreItemsSpelled, AreItemsWritten, AreSpelled, AreWritten, HasOneForm, HasOrderedOptions, IsFirstUnder, IsNewBinary, IsSpelled, IsWritten};
 
-use crate::keys::MetKeys;
+use crate::keys::{KeptKeys, MetKeys};
 use bson_base::ElementType;
-use bson_frame::{Frame, is_end, name_at, sized_frame};
+use bson_frame::{Frame, is_end, name_at, payload_fault, sized_frame};
 use itoa::Buffer;
 
 /// The subtype of old binaries, whose length stands twice (bsonspec.org 1.1, "subtype").
@@ -79,29 +79,51 @@ fn has_ordered_options(payload: &[u8]) -> bool
     are_in_order(options)
 }
 
-/// True: the elements of a document are as they are written. So many levels may lie among them.
-#[cycle(written)]
-pub(crate) fn are_written(elements: &[u8], inner: usize) -> bool
-    ensures { IsTrue result → AreWritten elements.now }
+/// Whether a payload has a fault. Documents and arrays inside aren't looked into.
+fn has_fault(frame: &Frame<'_>) -> bool
+    requires { IsPayload frame.now.tag frame.now.payload.now }
+    ensures { result ≡ false → IsFaultless frame.now.tag frame.now.payload.now }
 {
-    let mut keys = MetKeys::new();
+    payload_fault(frame).is_some()
+}
+
+/// True: the payload is as it is written, of a kind with nothing inside.
+fn is_scalar_written(tag: ElementType, payload: &[u8]) -> bool
+    requires { IsPayload tag payload.now }
+    ensures written { IsTrue result → IsWritten tag payload.now }
+    ensures spelled { IsTrue result → IsFaultless tag payload.now → IsSpelled tag payload.now 0 }
+{
+    match tag {
+        ElementType::Binary => is_new_binary(payload),
+        ElementType::RegularExpression => has_ordered_options(payload),
+        _ => has_one_form(tag),
+    }
+}
+
+/// True: the elements of a document are as they are written, and have no fault. So many levels may lie among them.
+#[cycle(written)]
+pub(crate) fn are_written<'a>(elements: &'a [u8], inner: usize, kept: &mut KeptKeys<'a>) -> bool
+    ensures { IsTrue result → AreWritten elements.now × AreSpelled elements.now inner × (kept.new.items ≡ kept.old.items) }
+{
+    let mut keys = MetKeys::new(kept);
     let mut rest = elements;
     while !is_end(rest) {
         let Some(frame) = sized_frame(rest) else {
             return false;
         };
-        if !is_written(frame.tag, frame.payload, inner) || !keys.meet(frame.key) {
+        if !is_written(&frame, inner, kept) || !keys.meet(kept, frame.key) {
             return false;
         }
         rest = frame.rest;
     }
+    keys.end(kept);
     true
 }
 
-/// True: the elements of an array are as they are written.
+/// True: the elements of an array are as they are written, and have no fault.
 #[cycle(written)]
-fn are_items_written(elements: &[u8], inner: usize) -> bool
-    ensures { IsTrue result → AreItemsWritten 0 elements.now }
+fn are_items_written<'a>(elements: &'a [u8], inner: usize, kept: &mut KeptKeys<'a>) -> bool
+    ensures { IsTrue result → AreItemsWritten 0 elements.now × AreItemsSpelled elements.now inner × (kept.new.items ≡ kept.old.items) }
 {
     let mut rest = elements;
     for place in 0..elements.len() {
@@ -111,7 +133,7 @@ fn are_items_written(elements: &[u8], inner: usize) -> bool
         let Some(frame) = sized_frame(rest) else {
             return false;
         };
-        if !is_written(frame.tag, frame.payload, inner) || !is_place(frame.key, place) {
+        if !is_written(&frame, inner, kept) || !is_place(frame.key, place) {
             return false;
         }
         rest = frame.rest;
@@ -119,25 +141,33 @@ fn are_items_written(elements: &[u8], inner: usize) -> bool
     false
 }
 
-/// True: a payload is as it is written.
+/// True: the payload of a frame is as it is written, and has no fault.
 #[cycle(written)]
-pub(crate) fn is_written(tag: ElementType, payload: &[u8], inner: usize) -> bool
-    requires { IsPayload tag payload.now }
-    ensures { IsTrue result → IsWritten tag payload.now }
+pub(crate) fn is_written<'a>(frame: &Frame<'a>, inner: usize, kept: &mut KeptKeys<'a>) -> bool
+    requires { IsPayload frame.now.tag frame.now.payload.now }
+    ensures { IsTrue result → IsWritten frame.now.tag frame.now.payload.now × IsSpelled frame.now.tag frame.now.payload.now inner × (kept.new.items ≡ kept.old.items) }
 {
-    match tag {
-        ElementType::EmbeddedDocument | ElementType::Array => holds_written(tag, payload, inner),
-        ElementType::Binary => is_new_binary(payload),
-        ElementType::RegularExpression => has_ordered_options(payload),
-        _ => has_one_form(tag),
+    if has_fault(frame) {
+        return false;
+    }
+    match frame.tag {
+        ElementType::EmbeddedDocument | ElementType::Array => {
+            holds_written(frame.tag, frame.payload, inner, kept)
+        }
+        _ => is_scalar_written(frame.tag, frame.payload),
     }
 }
 
-/// True: the document or array of a payload is as it is written.
+/// True: the document or array of a payload is as it is written, and has no fault.
 #[cycle(written)]
-fn holds_written(tag: ElementType, payload: &[u8], inner: usize) -> bool
+fn holds_written<'a>(
+    tag: ElementType,
+    payload: &'a [u8],
+    inner: usize,
+    kept: &mut KeptKeys<'a>,
+) -> bool
     requires { IsPayload tag payload.now }
-    ensures { IsTrue result → IsWritten tag payload.now }
+    ensures { IsTrue result → IsWritten tag payload.now × IsSpelled tag payload.now inner × (kept.new.items ≡ kept.old.items) }
 {
     let [_, _, _, _, elements @ ..] = payload else {
         return false;
@@ -146,8 +176,8 @@ fn holds_written(tag: ElementType, payload: &[u8], inner: usize) -> bool
         return false;
     }
     match tag {
-        ElementType::EmbeddedDocument => are_written(elements, inner - 1),
-        ElementType::Array => are_items_written(elements, inner - 1),
+        ElementType::EmbeddedDocument => are_written(elements, inner - 1, kept),
+        ElementType::Array => are_items_written(elements, inner - 1, kept),
         _ => false,
     }
 }

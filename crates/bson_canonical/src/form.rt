@@ -1,30 +1,36 @@
 //! The written form of a document.
 
-ghost use Rattle.std.specs.Prelude.{◌≡◌, drop, IsTrue, IfSome};
-ghost use Rattle.bson_base.specs.Value.{Members};
+ghost use Rattle.std.specs.Prelude.{◌≡◌, ◌≤◌, drop, IsTrue, IfSome};
+ghost use Rattle.bson_base.specs.Value.{document, levels, Members};
 ghost use Rattle.bson_bytes.specs.Encode.{encode};
 ghost use Rattle.bson_bytes.specs.Spells.{Means, SpellsMembers, settle};
 ghost use Rattle.bson_frame.specs.View.{element_of};
 ghost use Rattle.bson_canonical.specs.Written.{IsWrittenUnder};
 
 use crate::elements::{are_written, first_under, is_written};
+use crate::keys::KeptKeys;
 use bson_frame::{Frame, LEVEL_LIMIT};
 
-/// True: the bytes are the written form of the document that they mean (bsonspec.org 1.1, "document"). No key stands
-/// twice, the keys of an array are its places in decimal, the options of a regular expression ascend, and nothing else
-/// has two written forms. False says nothing: that is returned, too, for documents over 100 levels, where a key behind
-/// the first 65 of its document isn't greater by its bytes than all before it, and of options that aren't ASCII,
-/// pointers, code with scope and old binaries.
+/// True: what follows the length spells a document of at most 100 levels without a fault at any level, and the bytes are
+/// the written form of the document that they mean (bsonspec.org 1.1, "document"). No key stands twice, the keys of an
+/// array are its places in decimal, the options of a regular expression ascend, and nothing else has two written forms.
+/// The declared length is the caller's to test.
 ///
-/// It goes over the bytes once. A key that is greater than all before it takes one comparison, another one up to 64.
+/// False says nothing: that is returned, too, for options that aren't ASCII, pointers, code with scope and old binaries,
+/// and for a key that isn't greater by its bytes than all before it, where these and the keys before it in the documents
+/// around it are over 128.
+///
+/// It goes over the bytes once. A key that is greater than all before it takes one comparison, another one up to 128.
 pub fn is_written_form(bytes: &[u8]) -> bool
     ensures form { IsTrue result → (d : Members) → Means bytes.now d → bytes.now ≡ encode d }
     ensures settled { IsTrue result → (ms : Members) → SpellsMembers (drop 4 bytes.now) ms → settle ms ≡ ms }
+    ensures spelled { IsTrue result → (ms : Members) × SpellsMembers (drop 4 bytes.now) ms × (levels (document ms) ≤ 100) }
 {
     let [_, _, _, _, elements @ ..] = bytes else {
         return false;
     };
-    are_written(elements, LEVEL_LIMIT - 1)
+    let mut kept = KeptKeys::new();
+    are_written(elements, LEVEL_LIMIT - 1, &mut kept)
 }
 
 /// The first element of a key, of a document whose bytes these are. Its payload is the written form of the value under
@@ -36,7 +42,8 @@ pub fn written_element<'a>(key: &str, bytes: &'a [u8]) -> Option<Frame<'a>>
         return None;
     };
     let frame = first_under(key, elements)?;
-    if is_written(frame.tag, frame.payload, LEVEL_LIMIT - 1) {
+    let mut kept = KeptKeys::new();
+    if is_written(&frame, LEVEL_LIMIT - 1, &mut kept) {
         Some(frame)
     } else {
         None

@@ -11,18 +11,22 @@ ghost use Rattle.bson_canonical.specs.Met.{HasMet, IsNew};
 use arrayvec::ArrayVec;
 use std::cmp::Ordering;
 
-/// How many keys of a document are kept to be compared with later ones.
-const MOST_KEYS: usize = 64;
+/// How many keys are kept to be compared with later ones.
+const MOST_KEYS: usize = 128;
 
-/// The keys that were met. Each key that is greater than all before it by its bytes is known to be new, however many
-/// there are; of another key that is known while there are few.
+/// The keys that are kept, of all documents that are being gone over, the innermost last: there is one array, since
+/// each document inside would take longer to make its own than to be gone over.
+pub(crate) type KeptKeys<'a> = ArrayVec<&'a str, MOST_KEYS>;
+
+/// The keys that were met of one document. Each key that is greater than all before it by its bytes is known to be new,
+/// however many there are; of another key that is known while all before it are kept.
 #[derive(Drop)]
 pub(crate) struct MetKeys<'a> {
     /// The greatest of them; the empty text before the first.
     greatest: &'a str,
-    /// The first of them.
-    kept: ArrayVec<&'a str, MOST_KEYS>,
-    /// Whether there are more than these.
+    /// How many keys are kept of the documents around this one.
+    outer: usize,
+    /// Whether there are more than those that are kept behind these.
     has_more: bool,
 }
 
@@ -41,42 +45,54 @@ fn is_greater(key: &str, other: &str) -> bool
 }
 
 impl<'a> MetKeys<'a> {
-    /// No key was met.
-    pub(crate) fn new() -> MetKeys<'a>
-        ensures { HasMet result [] }
+    /// No key was met, of a document inside those whose keys are kept.
+    pub(crate) fn new(kept: &KeptKeys<'a>) -> MetKeys<'a>
+        ensures { HasMet result kept.now.items kept.now.items [] }
     {
         MetKeys {
             greatest: "",
-            kept: ArrayVec::new(),
+            outer: kept.len(),
             has_more: false,
         }
     }
 
     /// Takes the next key. True: it is none of those before it. After false nothing is known of the keys.
-    pub(crate) fn meet(&mut self, key: &'a str) -> bool
-        ensures { (all : List (Bor (List ℕ))) → HasMet self.old all → IsTrue result
-            → IsNew key.now all × HasMet self.new (all ++ key.entry ∷ []) }
+    pub(crate) fn meet(&mut self, kept: &mut KeptKeys<'a>, key: &'a str) -> bool
+        ensures { (front all : List (Bor (List ℕ))) → HasMet self.old front kept.old.items all → IsTrue result
+            → IsNew key.now all × HasMet self.new front kept.new.items (all ++ key.entry ∷ []) }
     {
         if is_greater(key, self.greatest) {
             self.greatest = key;
-            self.keep(key);
+            self.keep(kept, key);
             return true;
         }
-        if self.has_more || !is_new(key, self.kept.as_slice()) {
+        let Some((_, own)) = kept.as_slice().split_at_checked(self.outer) else {
+            return false;
+        };
+        if self.has_more || !is_new(key, own) {
             return false;
         }
-        self.keep(key);
+        self.keep(kept, key);
         true
     }
 
     /// Keeps a key, if there is room.
-    fn keep(&mut self, key: &'a str)
+    fn keep(&mut self, kept: &mut KeptKeys<'a>, key: &'a str)
         ensures greatest { self.new.greatest ≡ self.old.greatest }
+        ensures outer { self.new.outer ≡ self.old.outer }
+        ensures behind { (more : List (Bor (List ℕ))) × (kept.new.items ≡ kept.old.items ++ more) }
         ensures kept { self.new.has_more ≡ false → (self.old.has_more ≡ false)
-            × (self.new.kept.items ≡ self.old.kept.items ++ key.entry ∷ []) }
+            × (kept.new.items ≡ kept.old.items ++ key.entry ∷ []) }
     {
-        if self.kept.try_push(key).is_err() {
+        if kept.try_push(key).is_err() {
             self.has_more = true;
         }
+    }
+
+    /// Lets the kept keys of the document go.
+    pub(crate) fn end(&self, kept: &mut KeptKeys<'a>)
+        ensures { (front all : List (Bor (List ℕ))) → HasMet self.now front kept.old.items all → kept.new.items ≡ front }
+    {
+        kept.truncate(self.outer);
     }
 }

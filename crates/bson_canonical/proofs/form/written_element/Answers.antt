@@ -10,4 +10,4 @@ returns-then-is_written c ms h =
     let k = c.args.key.now in
     let bytes = c.args.bytes.now in
     let e = element_of c.in_ok-frame.frame in
-    under k (drop 4 bytes) e (subst (λ b. IsFirstUnder k b e) (all_behind bytes) c.in_ok-frame.ensures.0) (c.is_written.ensures c.if-is_written.true) ms h
+    under k (drop 4 bytes) e (subst (λ b. IsFirstUnder k b e) (all_behind bytes) c.in_ok-frame.ensures.0) (c.is_written.ensures c.if-is_written.true).0 ms h
