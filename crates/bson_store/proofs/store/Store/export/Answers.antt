@@ -23,7 +23,7 @@ returns-then-visitor-clause-moves g c =
     let tally : ExportVisitor g.row.W.Denot g.W.Sink → Tally = λ v. of_writer v.writer.now in
     rw c.from.ensures
     (moved (store_state g.S.Store c.args.self.now) (table_state g.S.Store c.visit_bodies-sent.new.self) _ _ (rw c.as_str.ensures.text at c.visit_bodies-sent.ensures.moves)
-    (λ docs after h. writer_failed tally (λ v. v.failed) (λ v. v.writer.ghost_name) _ _ _ (λ e. ap of_writer (search rules)) docs after c.args.name.now _ c.in_ok-name.ensures.1 refl c.if-sender.true (rw c.in_ok-name.ensures.0 at h)))
+    (λ docs after h. writer_failed tally (λ v. v.failed) (λ v. v.writer.ghost_name) _ _ _ (λ e. ap of_writer (search rules)) docs after c.args.name.now _ c.in_ok-name.ensures.1 refl c.if-visitor.true (rw c.in_ok-name.ensures.0 at h)))
 
 pub returns-in-Err-clause-moves : goal.returns-in-Err-clause-moves
 returns-in-Err-clause-moves g c =
@@ -31,11 +31,11 @@ returns-in-Err-clause-moves g c =
     let tally : ExportVisitor g.row.W.Denot g.W.Sink → Tally = λ v. of_writer v.writer.now in
     rw c.fault_refusal.ensures
     (moved (store_state g.S.Store c.args.self.now) (table_state g.S.Store c.visit_bodies-sent.new.self) _ _ (rw c.as_str.ensures.text at c.in-Err.ensures.moves)
-    (λ docs after h. table_failed tally (λ v. v.failed) (λ v. v.writer.ghost_name) _ _ _ (λ e. ap of_writer (search rules)) docs after c.args.name.now c.in-Err.fault c.in_ok-name.ensures.1 refl c.if-sender.false (rw c.in_ok-name.ensures.0 at h)))
+    (λ docs after h. table_failed tally (λ v. v.failed) (λ v. v.writer.ghost_name) _ _ _ (λ e. ap of_writer (search rules)) docs after c.args.name.now c.in-Err.fault c.in_ok-name.ensures.1 refl c.if-visitor.false (rw c.in_ok-name.ensures.0 at h)))
 
 pub returns-in-Ok-clause-moves : goal.returns-in-Ok-clause-moves
 returns-in-Ok-clause-moves g c =
     let of_writer : g.row.W.Denot → Tally = λ w. g.W.Sink.tally w in
     let tally : ExportVisitor g.row.W.Denot g.W.Sink → Tally = λ v. of_writer v.writer.now in
     moved (store_state g.S.Store c.args.self.now) (table_state g.S.Store c.visit_bodies-sent.new.self) _ _ (rw c.as_str.ensures.text at c.in-Ok.ensures.moves)
-    (λ docs after h. all_sent tally (λ v. v.failed) (λ v. v.writer.ghost_name) _ _ _ (λ e. ap of_writer (search rules)) docs after c.args.name.now c.in-Ok.field-0 c.in_ok-name.ensures.1 refl c.if-sender.false c.in-Ok.ensures.stopped (rw c.in_ok-name.ensures.0 at h))
+    (λ docs after h. all_sent tally (λ v. v.failed) (λ v. v.writer.ghost_name) _ _ _ (λ e. ap of_writer (search rules)) docs after c.args.name.now c.in-Ok.field-0 c.in_ok-name.ensures.1 refl c.if-visitor.false c.in-Ok.ensures.stopped (rw c.in_ok-name.ensures.0 at h))
