@@ -1,15 +1,15 @@
 #!/bin/bash
 # Runs the commands that README.md and docs/USING.md show, and compares what they print with what the pages say.
 #
-#     tests/readme.sh PROGRAM [SESSION [JSON]] [PAGE.md ..]
+#     tests/readme.sh PROGRAM [PAGE.md ..]
 #     tests/readme.sh --programs [PAGE.md ..]
 #
 # In a block ```console each line `$ COMMAND` is run (a line that ends in \ goes on in the next one), and the lines below it, up to
 # the next `$`, are what it prints on standard output and standard error. One shell runs all commands of a page. It starts in an
-# empty folder that has what the commands need of a checkout: `bson_store`, which is PROGRAM here, and the folders `samples` and
-# `tools`. A block ```console session is run like these if there is a SESSION, which is then `bson_session` there, as JSON is
-# `bson_json`. Blocks of other kinds aren't run: ```sh is for what takes hours, a network or a toolchain. The lines of each block
-# ```rust stand one after the other in a source of crates/, apart from their indentation and the comments behind them.
+# empty folder that has what the commands need of a checkout: `bson_store`, `bson_session` and `bson_json`, which are PROGRAM under
+# three names, and the folders `samples` and `tools`. Blocks of other kinds aren't run: ```sh is for what takes hours, a network or a
+# toolchain. The lines of each block ```rust stand one after the other in a source of crates/, apart from their indentation and the
+# comments behind them.
 #
 # A block ```rust,main is a whole program; above it is its line of crates.txt, and below it a block ```text with what it prints.
 # With --programs these are run by `rt try`, each as a crate in a clone of the last commit, in some minutes; not in the gate.
@@ -18,18 +18,10 @@
 set -u
 root=$(cd -- "$(dirname -- "$0")/.." && pwd)
 if [ "${1-}" != --programs ]; then
-    [ -x "${1-}" ] || { echo "readme.sh: no program: tests/readme.sh PROGRAM [SESSION [JSON]] [PAGE.md ..]" >&2; exit 1; }
+    [ -x "${1-}" ] || { echo "readme.sh: no program: tests/readme.sh PROGRAM [PAGE.md ..]" >&2; exit 1; }
     program=$(readlink -f -- "$1")
 fi
 shift
-session=
-json=
-for other in session json; do
-    case ${1-} in *.md | '') break ;; esac
-    [ -x "$1" ] || { echo "readme.sh: $1 is no program" >&2; exit 1; }
-    declare "$other=$(readlink -f -- "$1")"
-    shift
-done
 [ $# -gt 0 ] || set -- "$root/README.md" "$root/docs/USING.md"
 work=$(mktemp -d) || exit 1
 trap 'rm -rf "$work"' EXIT
@@ -37,9 +29,6 @@ status=0
 
 # The lines of all blocks of a kind.
 blocks() { awk -v "kind=\`\`\`$1" '$0 == kind { inside = 1; next } /^```/ { inside = 0 } inside' "$2"; }
-
-# The lines of all blocks of commands that are run.
-commands() { sed "${session:+s/^\`\`\`console session\$/\`\`\`console/}" "$1" | blocks console -; }
 
 # A script that prints each command and runs it. The status of the one before it stays.
 script() {
@@ -60,10 +49,10 @@ plain() { sed -e 's/^ *//' -e 's|  *// .*$||' -e '/^$/d' "$@"; }
 run_page() {
     local folder=$work/page
     rm -rf "$folder" && mkdir -p "$folder/tmp" "$folder/checkout"
-    cp "$program" "$folder/checkout/bson_store" && cp -r "$root/samples" "$root/tools" "$folder/checkout"
-    [ -z "$session" ] || cp "$session" "$folder/checkout/bson_session"
-    [ -z "$json" ] || cp "$json" "$folder/checkout/bson_json"
-    commands "$1" >"$folder/printed"
+    local name
+    for name in bson_store bson_session bson_json; do cp "$program" "$folder/checkout/$name"; done
+    cp -r "$root/samples" "$root/tools" "$folder/checkout"
+    blocks console "$1" >"$folder/printed"
     script <"$folder/printed" >"$folder/script"
     (cd "$folder/checkout" && HOME=$folder/tmp TMPDIR=$folder/tmp LC_ALL=C.UTF-8 bash "$folder/script" >"$folder/found" 2>&1 </dev/null)
     diff "$folder/printed" "$folder/found" >"$folder/differences" && return
@@ -125,6 +114,6 @@ fi
 for page; do
     run_page "$page"
     find_code "$page"
-    [ "$status" -ne 0 ] || echo "readme.sh: $page is as printed ($(commands "$page" | grep -c '^\$ ') commands)"
+    [ "$status" -ne 0 ] || echo "readme.sh: $page is as printed ($(blocks console "$page" | grep -c '^\$ ') commands)"
 done
 exit "$status"
