@@ -97,7 +97,7 @@ holds("import of an empty document", run("import", "c", given=bytes([5, 0, 0, 0,
 holds("rows by sqlite3", rows(), [f"1|c|{ONE}|{ONE}"])
 
 # Words that miss the table, and texts that can't be read.
-for line in [[], ["insert", "c"], ["get", "c", "1", "--pretty"], ["collections", "c"], ["nothing"]]:
+for line in [[], ["insert", "c"], ["get", "c", "1", "--pretty"], ["collections", "c"], ["nothing"], ["backup"], ["backup", "a", "b"]]:
     holds(f"words {line}", run(*line), (2, b"", "words: usage\n"))
 holds("JSON", run("insert", "c", "{"), (2, b"", "words: JSON\n"))
 holds("a numeral that no double comes near", run("insert", "c", '{"_id":1e400}'), (2, b"", "words: JSON\n"))
@@ -199,6 +199,12 @@ subprocess.run(["sqlite3", str(FILE), f"CREATE TABLE documents ({COLUMNS}, CHECK
 holds("a rule", run("insert", "c", '{"_id":1}'), (0, b"", ""))
 holds("a row that breaks it", run("insert", "ccc", '{"_id":1}'), (1, b"", DATABASE))
 holds("the first row stays", rows(), [f"1|c|{ONE}|{ONE}"])
+
+# A back-up is another file of the same; it is never written over.
+holds("a back-up", run("backup", str(FILE) + "2"), (0, b"", ""))
+holds("again", run("backup", str(FILE) + "2"), (1, b"", DATABASE))
+FILE = FILE.parent / "made.db2"
+holds("its row", rows(), [f"1|c|{ONE}|{ONE}"])
 
 # A file that can't be opened.
 FILE = FILE.parent / "none" / "test.db"

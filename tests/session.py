@@ -4,7 +4,7 @@ Python's bson.
 
     tests/session.py PROGRAM [NUMBER]
 
-prints one line a step, and ends with status 1 at the first that isn't as it should be. At the end a session does NUMBER inserts
+PROGRAM is bson_store, under whatever name: it is started as bson_session. Prints one line a step, and ends with status 1 at the first that isn't as it should be. At the end a session does NUMBER inserts
 with a get behind each, a thousand if none is given.
 """
 import atexit
@@ -30,9 +30,10 @@ except ImportError:
 sys.path.insert(0, str(pathlib.Path(__file__).resolve().parent.parent / "tools"))
 from bson_session import LONGEST, Ended, Refused, Session
 
-PROGRAM = sys.argv[1]
 FOLDER = pathlib.Path(tempfile.mkdtemp())
 atexit.register(shutil.rmtree, FOLDER, ignore_errors=True)
+PROGRAM = str(FOLDER / "bson_session")
+os.symlink(pathlib.Path(sys.argv[1]).resolve(), PROGRAM)
 
 
 def run(lines, file="test.db", **more):
@@ -54,7 +55,17 @@ def holds(step, found, wanted):
 DONE = '{"status":0,"output":""}'
 NO_LINE = '{"status":2,"told":"words: line %d"}'
 
-# The input that the crate's stdin and stdout have, and an end without a line feed.
+# Lines of each kind, and an end without a line feed.
+LINES = [
+    (asks("insert", "c", '{"_id":1}'), DONE),
+    (asks("insert", "c", '{"_id":1}'), '{"status":1,"output":"","told":"refused: DuplicateId"}'),
+    (asks("count", "c", '{"and":[]}'), '{"status":0,"output":"1\\n"}'),
+    (asks("export", "c"), '{"status":0,"bytes":"DgAAABBfaWQAAQAAAAA="}'),
+    (asks("import", "d", input="DgAAABBfaWQAAQAAAAA="), '{"status":0,"output":"1\\n"}'),
+    (asks("frob"), '{"status":2,"output":"","told":"words: usage"}'),
+    (b"[]\n", NO_LINE % 7),
+]
+holds("lines", run(b"".join(line for line, _ in LINES), "lines.db"), (0, [answer for _, answer in LINES], ""))
 holds("nothing", run(b""), (0, [], ""))
 holds("empty lines", run(b"\n\n" + asks("collections")), (0, [DONE], ""))
 holds("no line feed at the end", run(asks("insert", "c", '{"_id":1}')[:-1]), (0, [DONE], ""))
@@ -139,7 +150,9 @@ for number in range(4):
         holds(f"an input that fails behind {number} lines and {len(begun)} bytes", found, ((b"", b"refused: Reader\n"), 1, number))
 
 # Words and files that can't be had.
-holds("no word", subprocess.run([PROGRAM], stdin=subprocess.DEVNULL, capture_output=True).stderr, b"words: usage\n")
+for words in [[], ["a", "b"]]:
+    done = subprocess.run([PROGRAM, *words], stdin=subprocess.DEVNULL, capture_output=True)
+    holds(f"words {words} of the program", (done.returncode, done.stderr), (2, b"words: usage\n"))
 holds("a folder", run(b"", "."), (1, [], "refused: Database\n"))
 (FOLDER / "text").write_text("this is no database, but a text" * 100)
 holds("no database", run(b"", "text"), (1, [], "refused: Database\n"))

@@ -1,45 +1,36 @@
-//! The program `bson_store`. With words it does a command over a database file; without, it reads one document from
-//! standard input, keeps it in a new store, and writes what the store exports to standard output.
+//! The programs, one under several names. `bson_store` does a command over a database file with words; without, it
+//! reads one document from standard input, keeps it in a new store, and writes what the store exports to standard
+//! output. `bson_session` keeps a database file open, does the commands of the lines of standard input, and returns each
+//! by a line of standard output.
 #![tactic(auto)]
 
 ghost use Rattle.std.specs.Prelude.{◌≡◌};
 
-mod database;
+mod commands;
+mod session;
+mod stack;
+mod words;
 
 use bson_store::{Counted, ErrorKind};
+use cli_files::{misuse, refuse, unread};
 use cli_pipe::pipe;
-use database::{refuse, serve};
 use std::io::{BufWriter, Write};
 use std::process::ExitCode;
-use std::{env, io};
+use words::{Program, program_of, words_of};
 
 /// How many bytes of output are gathered before they go out.
 const OUTPUT_ROOM: usize = 65536;
 
-/// The words behind the program's name.
-fn words_of(rt: &HostRuntime) -> io::Result<Vec<String>> {
-    let mut words = Vec::new(rt.alloc());
-    for word in env::args(rt)?.skip(1) {
-        words.push(word)?;
-    }
-    Ok(words)
-}
-
-/// Does what the words ask for, and returns the program's status.
-fn run<O: Write>(rt: &HostRuntime, output: &mut Counted<O>) -> u8
+/// Does what the words ask of bson_store, and returns the program's status.
+fn run_words<O: Write>(rt: &HostRuntime, words: &[String], output: &mut Counted<O>) -> u8
     requires { output.old.failed ≡ 0 }
 {
     let mut input = Counted::new(rt.stdin());
     let mut faults = Counted::new(rt.stderr());
-    match words_of(rt) {
-        Ok(words) => {
-            if words.is_empty() {
-                pipe(rt.alloc(), &mut input, output, &mut faults)
-            } else {
-                serve(rt, words.as_slice(), &mut input, output, &mut faults)
-            }
-        }
-        Err(error) => database::misuse_or_memory(error, &mut faults),
+    if words.is_empty() {
+        pipe(rt.alloc(), &mut input, output, &mut faults)
+    } else {
+        commands::serve(rt, words, &mut input, output, &mut faults)
     }
 }
 
@@ -49,15 +40,47 @@ fn report(rt: &HostRuntime, kind: ErrorKind) -> u8 {
     refuse(&mut faults, kind)
 }
 
-fn main(rt: HostRuntime) -> ExitCode {
+/// The program bson_store, whose output is gathered, behind its name.
+fn run_store(rt: &HostRuntime, words: &[String]) -> u8 {
     let Ok(writer) = BufWriter::with_capacity(rt.alloc(), OUTPUT_ROOM, rt.stdout()) else {
-        return ExitCode::from(report(&rt, ErrorKind::Memory));
+        return report(rt, ErrorKind::Memory);
     };
     let mut output = Counted::new(writer);
-    let status = run(&rt, &mut output);
+    let status = run_words(rt, words, &mut output);
     // What was gathered goes out only now. A failure here is one of the output, like any write's before it.
     match output.device.flush() {
-        Err(_) if status == 0 => ExitCode::from(report(&rt, ErrorKind::Writer)),
-        _ => ExitCode::from(status),
+        Err(_) if status == 0 => report(rt, ErrorKind::Writer),
+        _ => status,
     }
+}
+
+/// The program bson_session, whose every line of output goes out at once, behind its name.
+fn run_session(rt: &HostRuntime, words: &[String]) -> u8 {
+    let mut input = Counted::new(rt.stdin());
+    let mut output = Counted::new(rt.stdout());
+    let mut faults = Counted::new(rt.stderr());
+    session::serve(rt, words, &mut input, &mut output, &mut faults)
+}
+
+/// Runs the program of the name under which this one was started, and returns its status. Without a name and words it
+/// is bson_store.
+fn start(rt: &HostRuntime, words: &[String]) -> u8 {
+    let Some((name, words)) = words.split_first() else {
+        return run_store(rt, words);
+    };
+    match program_of(name.as_str()) {
+        Program::Session => run_session(rt, words),
+        Program::Store => run_store(rt, words),
+    }
+}
+
+fn main(rt: HostRuntime) -> ExitCode {
+    if stack::reserve(&rt).is_err() {
+        return ExitCode::from(report(&rt, ErrorKind::Memory));
+    }
+    let status = match words_of(&rt) {
+        Ok(words) => start(&rt, words.as_slice()),
+        Err(error) => unread(error, &mut Counted::new(rt.stderr())),
+    };
+    ExitCode::from(status)
 }

@@ -1,46 +1,12 @@
-//! A session over a database file.
+//! The program `bson_session`: a session over a database file.
 
 ghost use Rattle.bson_base.specs.Device.{CanFail, CanRefuse};
 
+use crate::words::patience_of;
 use bson_store::{ErrorKind, Sink, Source, Store};
-use cli_session::serve;
-use cli_words::{UsageError, write_complaint, write_refusal};
-use sqlite::{Alter, Connection, File, FileStore};
+use cli_files::{close, misuse, open_within, refuse, refuse_file};
+use sqlite::{Alter, Connection};
 use std::alloc::Global;
-use std::io;
-use store_files::open;
-
-/// Reports a refusal, and returns the status of one.
-fn refuse<F: Sink>(faults: &mut F, kind: ErrorKind) -> u8
-    requires { CanRefuse (F.tally faults.old) }
-{
-    let _ = write_refusal(faults, kind, None);
-    1
-}
-
-/// Reports that there isn't just one word, and returns the status of that.
-pub fn misuse<F: Sink>(faults: &mut F) -> u8
-    requires { CanRefuse (F.tally faults.old) }
-{
-    let _ = write_complaint(faults, UsageError::Usage);
-    2
-}
-
-/// What is reported if the words can't be had: out of memory, or that some word is no text.
-pub fn unread<F: Sink>(error: io::Error, faults: &mut F) -> u8
-    requires { CanRefuse (F.tally faults.old) }
-{
-    match error.kind() {
-        io::ErrorKind::OutOfMemory => refuse(faults, ErrorKind::Memory),
-        _ => misuse(faults),
-    }
-}
-
-/// Closes the files. If that fails nothing is lost: what was committed is in the log beside the file, and the next open
-/// finds it there.
-fn close(connection: Connection<FileStore<File>>) {
-    let _ = connection.close();
-}
 
 /// The session over a connection, which it returns beside the reason for an early end. It is over any database, so that
 /// the proof doesn't go through what closing one of files does at each of its ends.
@@ -55,7 +21,7 @@ fn over<S: Alter + Drop, I: Source, O: Sink>(
 {
     match Store::open(alloc, connection) {
         Ok(mut store) => {
-            let end = serve(alloc, &mut store, input, output);
+            let end = cli_session::serve(alloc, &mut store, input, output);
             (end, store.close())
         }
         Err((error, connection)) => (Err(error.kind), connection),
@@ -64,9 +30,10 @@ fn over<S: Alter + Drop, I: Source, O: Sink>(
 
 /// Opens the file, runs the session, closes the file, and returns the program's status. A file that isn't there is
 /// made.
-pub fn hold<I: Source, O: Sink, F: Sink>(
+fn hold<I: Source, O: Sink, F: Sink>(
     rt: &HostRuntime,
     file: &str,
+    seconds: u64,
     input: &mut I,
     output: &mut O,
     faults: &mut F,
@@ -75,7 +42,7 @@ pub fn hold<I: Source, O: Sink, F: Sink>(
     requires output { CanRefuse (O.tally output.old) }
     requires faults { CanRefuse (F.tally faults.old) }
 {
-    match open(rt, file) {
+    match open_within(rt, file, seconds) {
         Ok(connection) => {
             let (end, connection) = over(rt.alloc(), connection, input, output);
             close(connection);
@@ -84,6 +51,26 @@ pub fn hold<I: Source, O: Sink, F: Sink>(
                 Err(kind) => refuse(faults, kind),
             }
         }
-        Err(kind) => refuse(faults, kind),
+        Err(error) => refuse_file(rt, faults, error),
+    }
+}
+
+/// Runs the session over the file that the words name, and returns the program's status. The words are the name of the
+/// file, and what stands in front of it if the program is to wait.
+pub fn serve<I: Source, O: Sink, F: Sink>(
+    rt: &HostRuntime,
+    words: &[String],
+    input: &mut I,
+    output: &mut O,
+    faults: &mut F,
+) -> u8
+    requires input { CanFail (I.feed input.old) }
+    requires output { CanRefuse (O.tally output.old) }
+    requires faults { CanRefuse (F.tally faults.old) }
+{
+    let (seconds, words) = patience_of(words).unwrap_or((0, words));
+    match words {
+        [file] => hold(rt, file.as_str(), seconds, input, output, faults),
+        _ => misuse(faults),
     }
 }

@@ -1,0 +1,114 @@
+//! The program `bson_store`: commands over a database file, and its back-up.
+
+ghost use Rattle.bson_base.specs.Device.{CanFail, CanRefuse};
+
+use crate::words::{copy_of, patience_of};
+use bson_store::{ErrorKind, Sink, Source, Store};
+use cli_commands::execute;
+use cli_files::{Loaded, close, copy, misuse, open_within, read, refuse, refuse_file};
+use cli_words::{Words, read_words};
+use sqlite::{Alter, Connection, FileStore};
+use std::alloc::Global;
+
+/// Does the command of the words over a connection, and gives it back beside the program's status. It is over any
+/// store, as what closing one of files does would else be gone through at each of its ends.
+fn over<S: Alter + Drop, I: Source, O: Sink, F: Sink>(
+    alloc: Global,
+    connection: Connection<S>,
+    words: &Words<'_>,
+    input: &mut I,
+    output: &mut O,
+    faults: &mut F,
+) -> (u8, Connection<S>)
+    requires input { CanFail (I.feed input.old) }
+    requires output { CanRefuse (O.tally output.old) }
+    requires faults { CanRefuse (F.tally faults.old) }
+{
+    match Store::open(alloc, connection) {
+        Ok(mut store) => {
+            let status = execute(alloc, &mut store, words, input, output, faults);
+            (status, store.close())
+        }
+        Err((error, connection)) => (refuse(faults, error.kind), connection),
+    }
+}
+
+/// Opens the store of a connection, and gives the connection back: what a back-up is made of is a sound store.
+fn judged(
+    alloc: Global,
+    connection: Connection<FileStore<Loaded>>,
+) -> Result<Connection<FileStore<Loaded>>, ErrorKind> {
+    match Store::open(alloc, connection) {
+        Ok(store) => Ok(store.close()),
+        Err((error, connection)) => {
+            drop(connection);
+            Err(error.kind)
+        }
+    }
+}
+
+/// `FILE backup PATH`: writes what the files hold at this moment into a new file, if that is a store. FILE and its log
+/// stay as they are.
+fn back_up<F: Sink>(rt: &HostRuntime, file: &str, path: &str, seconds: u64, faults: &mut F) -> u8
+    requires { CanRefuse (F.tally faults.old) }
+{
+    let connection = match read(rt, file, seconds) {
+        Ok(connection) => connection,
+        Err(error) => return refuse_file(rt, faults, error),
+    };
+    let connection = match judged(rt.alloc(), connection) {
+        Ok(connection) => connection,
+        Err(kind) => return refuse(faults, kind),
+    };
+    match copy(rt, connection, path) {
+        Ok(()) => 0,
+        Err(error) => refuse_file(rt, faults, error),
+    }
+}
+
+/// Opens the file that the words name, does their command, closes the file, and returns the program's status. A file
+/// that isn't there is made.
+fn command<I: Source, O: Sink, F: Sink>(
+    rt: &HostRuntime,
+    words: &Words<'_>,
+    seconds: u64,
+    input: &mut I,
+    output: &mut O,
+    faults: &mut F,
+) -> u8
+    requires input { CanFail (I.feed input.old) }
+    requires output { CanRefuse (O.tally output.old) }
+    requires faults { CanRefuse (F.tally faults.old) }
+{
+    match open_within(rt, words.file, seconds) {
+        Ok(connection) => {
+            let (status, connection) = over(rt.alloc(), connection, words, input, output, faults);
+            close(connection);
+            status
+        }
+        Err(error) => refuse_file(rt, faults, error),
+    }
+}
+
+/// Reads the words, does what they ask for, and returns the program's status. Words that are no line of the table are
+/// reported before any file is opened.
+pub fn serve<I: Source, O: Sink, F: Sink>(
+    rt: &HostRuntime,
+    words: &[String],
+    input: &mut I,
+    output: &mut O,
+    faults: &mut F,
+) -> u8
+    requires input { CanFail (I.feed input.old) }
+    requires output { CanRefuse (O.tally output.old) }
+    requires faults { CanRefuse (F.tally faults.old) }
+{
+    let (seconds, words) = patience_of(words).unwrap_or((0, words));
+    if let Some((file, path)) = copy_of(words) {
+        return back_up(rt, file, path, seconds, faults);
+    }
+    match read_words(words) {
+        Some(words) => command(rt, &words, seconds, input, output, faults),
+        None => misuse(faults),
+    }
+}

@@ -1,0 +1,72 @@
+//! The name under which the program was started, and the words behind that which aren't in the table of commands.
+
+ghost use Rattle.std.specs.Prelude.{◌≡◌, ◌↔◌, ℕ, List, MatchOption, Some, codes, map, string_bytes};
+ghost use Rattle.std.specs.Path.{path_file_name};
+ghost use Rattle.bson_store_cli.specs.Words.{AsksForCopy, AsksToWait};
+ghost use Rattle.bson_store_cli.specs.declared.words.Program.TheVariants.{Session};
+
+use std::path::Path;
+use std::{env, io};
+
+/// The programs that this one is.
+#[derive(Clone, Copy, Debug, PartialEq, Eq)]
+pub enum Program {
+    /// `bson_store`: a command over a database file, or a document by standard input and output.
+    Store,
+    /// `bson_session`: the commands of lines over one opened file.
+    Session,
+}
+
+/// The program that goes by the name under which it was started: the last part of that path. Every name but those of
+/// the others is bson_store's.
+pub fn program_of(name: &str) -> Program
+    ensures { (result ≡ Session) ↔ (path_file_name name.now ≡ Some (codes "bson_session")) }
+{
+    match Path::new(name).file_name() {
+        Some("bson_session") => Program::Session,
+        _ => Program::Store,
+    }
+}
+
+/// The name of the program, and the words behind it.
+pub fn words_of(rt: &HostRuntime) -> io::Result<Vec<String>> {
+    let mut words = Vec::new(rt.alloc());
+    for word in env::args(rt)? {
+        words.push(word)?;
+    }
+    Ok(words)
+}
+
+/// For how many seconds a file is waited for that another process has, and the words behind that. `--wait SECONDS` in
+/// front of the others says so; none if there is no number behind it, or another word at the front.
+pub fn patience_of(words: &[String]) -> Option<(u64, &[String])>
+    ensures { MatchOption result
+        ((seconds : ℕ) (behind : List (List ℕ)) → AsksToWait (map string_bytes words.now) seconds behind → ⊥)
+        (λ r. AsksToWait (map string_bytes words.now) r.0 (map string_bytes r.1.now)) }
+{
+    let (first, behind) = words.split_first()?;
+    if first.as_str() != "--wait" {
+        return None;
+    }
+    let (seconds, behind) = behind.split_first()?;
+    let seconds = seconds.as_str().parse::<u64>().ok()?;
+    Some((seconds, behind))
+}
+
+/// The file and the path of its back-up; none if the words don't ask for one.
+pub fn copy_of(words: &[String]) -> Option<(&str, &str)>
+    ensures { MatchOption result
+        ((file path : List ℕ) → AsksForCopy (map string_bytes words.now) file path → ⊥)
+        (λ r. AsksForCopy (map string_bytes words.now) r.0.now r.1.now) }
+{
+    let (file, behind) = words.split_first()?;
+    let (word, behind) = behind.split_first()?;
+    if word.as_str() != "backup" {
+        return None;
+    }
+    let (path, behind) = behind.split_first()?;
+    if !behind.is_empty() {
+        return None;
+    }
+    Some((file.as_str(), path.as_str()))
+}

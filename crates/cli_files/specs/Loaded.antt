@@ -1,0 +1,7 @@
+-- What a file in memory shows.
+use Rattle.std.specs.Prelude.{ℕ, List}
+use Rattle.cli_files.specs.declared.loaded.Loaded.{Loaded}
+
+-- its member `seen`
+abbrev pub loaded_bytes : Loaded → List ℕ
+loaded_bytes m = m.bytes.items

@@ -1,0 +1,108 @@
+//! Why a file can't be had.
+
+ghost use Rattle.std.specs.Prelude.{◌≡◌};
+ghost use Rattle.cli_files.specs.Fault.{kind_of};
+
+use sqlite::ErrorCode;
+use sqlite_std_file::OpenError;
+use std::alloc::AllocError;
+use std::io;
+use store_model::ErrorKind;
+use thiserror::Error;
+
+/// Why a file can't be had. The texts are for a person at a terminal.
+#[derive(Clone, Copy, Debug, PartialEq, Eq, Error)]
+pub enum FileError {
+    /// Out of memory.
+    #[error("out of memory")]
+    Memory,
+    /// It isn't there, and nothing is made.
+    #[error("it isn't there")]
+    NoFile,
+    /// The folder that it is to be in isn't there.
+    #[error("its folder isn't there")]
+    NoFolder,
+    /// Another process has it, or writes it without a pause that is long enough to read it.
+    #[error("another process has it; --wait SECONDS in front of the words waits for it")]
+    Busy,
+    /// It, its log or its folder may not be read, or not be written.
+    #[error("it, the log beside it or its folder can't be read or written by this user")]
+    Denied,
+    /// It is no database, or one that isn't sound.
+    #[error("it is no SQLite database, or one that is damaged")]
+    NoDatabase,
+    /// Another program left a rollback journal beside it, or is writing one.
+    #[error("a rollback journal is beside it: open it with sqlite3 first, which plays that back")]
+    Journal,
+    /// It or its log isn't a plain file with one name.
+    #[error("it or the log beside it is no plain file: a folder, a device, or one with a second hard link")]
+    NotPlain,
+    /// The name stands for something else to SQLite.
+    #[error("SQLite has another use for this name")]
+    NoName,
+    /// The file that is to be made is there, or a log or journal of that name.
+    #[error("there is a file of this name, or a log or journal of one, which is left as it is")]
+    Exists,
+    /// Every other fault, of the disk above all.
+    #[error("the disk is full, or the system refused to read or write it")]
+    Disk,
+}
+
+impl FileError {
+    /// What the program reports of it: `Memory`, and `Database` for all others.
+    pub fn kind(self) -> ErrorKind
+        ensures { result ≡ kind_of self }
+    {
+        match self {
+            FileError::Memory => ErrorKind::Memory,
+            _ => ErrorKind::Database,
+        }
+    }
+}
+
+impl From<AllocError> for FileError {
+    fn from(_: AllocError) -> FileError {
+        FileError::Memory
+    }
+}
+
+/// Why a call of the system failed.
+impl From<io::Error> for FileError {
+    fn from(error: io::Error) -> FileError {
+        match error.kind() {
+            io::ErrorKind::OutOfMemory => FileError::Memory,
+            io::ErrorKind::NotFound | io::ErrorKind::NotADirectory => FileError::NoFolder,
+            io::ErrorKind::PermissionDenied | io::ErrorKind::ReadOnlyFilesystem => {
+                FileError::Denied
+            }
+            io::ErrorKind::AlreadyExists => FileError::Exists,
+            io::ErrorKind::Unsupported | io::ErrorKind::IsADirectory => FileError::NotPlain,
+            _ => FileError::Disk,
+        }
+    }
+}
+
+/// Why the files at a path can't be had.
+impl From<OpenError> for FileError {
+    fn from(error: OpenError) -> FileError {
+        match error {
+            OpenError::OutOfMemory => FileError::Memory,
+            OpenError::Busy => FileError::Busy,
+            OpenError::HotJournal => FileError::Journal,
+            OpenError::Io(error) => FileError::from(error),
+        }
+    }
+}
+
+/// Why files aren't opened as a database.
+impl From<sqlite::Error> for FileError {
+    fn from(error: sqlite::Error) -> FileError {
+        match error {
+            sqlite::Error::SqliteFailure(ErrorCode::OutOfMemory) => FileError::Memory,
+            sqlite::Error::SqliteFailure(ErrorCode::NotADatabase | ErrorCode::DatabaseCorrupt) => {
+                FileError::NoDatabase
+            }
+            _ => FileError::Disk,
+        }
+    }
+}

@@ -1,0 +1,16 @@
+//! What the programs do with a database file, and what they report where they can't have it.
+#![tactic(auto)]
+
+mod copying;
+mod fault;
+mod loaded;
+mod opening;
+mod reading;
+mod reporting;
+
+pub use copying::{copy, reopened, whole, write_whole};
+pub use fault::FileError;
+pub use loaded::Loaded;
+pub use opening::{close, open, open_within};
+pub use reading::read;
+pub use reporting::{misuse, refuse, refuse_file, unread};

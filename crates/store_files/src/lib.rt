@@ -1,6 +1,0 @@
-//! Database files, opened for the programs.
-#![tactic(auto)]
-
-mod opening;
-
-pub use opening::open;
