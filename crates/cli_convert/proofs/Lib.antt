@@ -1,0 +1,3 @@
+mod Parts
+mod ToLines
+mod ToBson
