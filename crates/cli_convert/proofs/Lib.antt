@@ -1,3 +1,4 @@
 mod Parts
 mod ToLines
 mod ToBson
+mod Spoiled
