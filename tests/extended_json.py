@@ -4,8 +4,9 @@
 
     tests/extended_json.py BSON_JSON [BSON_STORE]
 
-prints one line a step, and ends with status 1 at the first that isn't as it should be. With the program `bson_store` beside it the
-pipe from one into the other is tried too. Each program is started under its own name, whatever its file is called.
+prints one line a step, and ends with status 1 at the first that isn't as it should be. With the program `bson_store`, which may also
+be the file of that name beside the first, the pipe from one into the other is tried too. Each program is started under its own name,
+whatever its file is called. (A file `json.py` in this folder would stand in the place of Python's `json` for the other tests.)
 """
 import decimal
 import json
@@ -29,7 +30,8 @@ from page_reader import (ARRAY, BINARY, DATE, DECIMAL, DOCUMENT, DOUBLE, SCOPED)
 from random_documents import Spots, whole, write_document  # noqa: E402
 
 PROGRAM = sys.argv[1]
-STORE = sys.argv[2] if len(sys.argv) > 2 else None
+BESIDE = pathlib.Path(PROGRAM).parent / "bson_store"
+STORE = sys.argv[2] if len(sys.argv) > 2 else str(BESIDE) if BESIDE.exists() else None
 OPTIONS = json_util.JSONOptions(json_mode=json_util.JSONMode.CANONICAL, tz_aware=False, tzinfo=None)
 GENERATOR = random.Random(20)
 UNSOUND = b"\xff\xff\xff\xff"
@@ -273,14 +275,14 @@ holds("a line over 64 MiB", run("--to-bson", given=LINES + long), (2, GOOD[0] + 
 same("a line of 60 MiB", run("--to-bson", given=b'{"a":"' + b"x" * 60000000 + b'"}\n'), (0, document((2, "a", text("x" * 60000000))), ""))
 
 
-def by_shell(words, given, wrong=None, output=subprocess.PIPE):
+def by_file(words, given, output=subprocess.PIPE):
     done = subprocess.run(["bson_json", *words], executable=PROGRAM, stdin=given, stdout=output, stderr=subprocess.PIPE)
     return done.returncode, done.stderr.decode()
 
 
 for words in [[], ["--canonical"], ["--to-bson"]]:
     folder = os.open("/", os.O_RDONLY)
-    holds(f"an input that fails {words}", by_shell(words, folder), (1, "refused: Reader\n"))
+    holds(f"an input that fails {words}", by_file(words, folder), (1, "refused: Reader\n"))
     os.close(folder)
 with tempfile.TemporaryFile() as given, open("/dev/full", "wb") as full:
     for words, stream in [([], GOOD[0] * 20000), (["--to-bson"], LINES * 20000), ([], GOOD[0]), (["--to-bson"], LINES)]:
@@ -289,8 +291,8 @@ with tempfile.TemporaryFile() as given, open("/dev/full", "wb") as full:
         given.write(stream)
         given.flush()
         os.lseek(given.fileno(), 0, os.SEEK_SET)
-        holds(f"/dev/full, {len(stream)} bytes {words}", by_shell(words, given, output=full), (1, "refused: Writer\n"))
-holds("/dev/full, --help", by_shell(["--help"], subprocess.DEVNULL, output=open("/dev/full", "wb")), (1, "refused: Writer\n"))
+        holds(f"/dev/full, {len(stream)} bytes {words}", by_file(words, given, output=full), (1, "refused: Writer\n"))
+holds("/dev/full, --help", by_file(["--help"], subprocess.DEVNULL, output=open("/dev/full", "wb")), (1, "refused: Writer\n"))
 
 # ---- a pipe holds little: one document at a time
 
@@ -310,9 +312,6 @@ if STORE:
         def store(*words, given=b""):
             done = subprocess.run(["bson_store", f"{folder}/shop.db", *words], executable=STORE, input=given, capture_output=True)
             return done.returncode, done.stdout, done.stderr.decode()
-
-        def kinds(documents):
-            return [d for d in documents if all(not isinstance(v, float) for v in bson.decode(d).values())]
 
         good = "".join(f'{{"_id":{i},"weight":{i}.5}}\n' for i in range(1000))
         holds("import of lines with fractions", store("import", "c", given=run("--to-bson", given=good.encode())[1]), (0, b"1000\n", ""))
