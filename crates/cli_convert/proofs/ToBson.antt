@@ -1,26 +1,38 @@
 -- Lines that become documents, one after the other.
-use Rattle.std.proofs.Common.{◌≡◌, ◌≢◌, ◌⊎◌, inl, inr, ℕ, ◌+◌, ◌<◌, ◌^◌, ◌-◌, List, [], ◌∷◌, ◌++◌, length, None, Some, Option, Result, Ok, Err, refl, sym, ap, subst, ◌∙◌, append_assoc}
+use Rattle.std.proofs.Common.{◌≡◌, ◌≢◌, ◌⊎◌, inl, inr, ℕ, ◌+◌, ◌<◌, ◌^◌, ◌-◌, List, [], ◌∷◌, ◌++◌, length, true, false, None, Some, Option, Result, Ok, Err, refl, sym, ap, subst, ◌∙◌, append_assoc, arith}
+use Rattle.std.specs.Prelude.{IsUtf8}
 use Rattle.std.proofs.lemmas.List.{length-append, append-nil}
 use Rattle.bson_base.specs.Device.{Feed, Tally, CanRefuse}
 use Rattle.bson_base.specs.declared.device.DeviceFault.{DeviceFault}
 use Rattle.bson_base.specs.Value.{Members}
+use Rattle.bson_bytes.specs.Encode.{encode}
+use Rattle.bson_json_read.specs.Reading.{ReadsText}
+use Rattle.bson_model.specs.View.{content}
+use Rattle.bson_model.specs.declared.document.Document.{Document}
+use Rattle.bson_raw.specs.Trees.{SendsDocument}
 use Rattle.cli_session_lines.specs.Line.{IsUnbroken, Keeps}
 use Rattle.cli_session_lines.specs.Lines.{waiting, ReadsNext}
 use Rattle.cli_session_lines.specs.declared.line.Line.{Line}
 use Rattle.cli_session_lines.specs.declared.lines.Lines.{Lines}
 use Rattle.cli_session_lines.specs.declared.lines.Next.TheVariants.{Whole, Last, End}
 use Rattle.cli_convert.specs.Parts.{InParts}
-use Rattle.cli_convert.specs.ToBson.{IsLine, IsReadAs, IsWritten, Sent, EndsDocuments, EndsBehind, TakesNothing, TakesSpoil, SendsText, TurnsDocument}
+use Rattle.cli_convert.specs.ToBson.{Reads, IsLine, IsReadAs, IsWritten, Sent, EndsDocuments, EndsBehind, TakesNothing, TakesSpoil, SendsText, TurnsDocument}
 use Rattle.cli_convert.specs.declared.stop.Stop.{Stop}
 use Rattle.cli_convert.specs.declared.stop.Stop.TheVariants as stop
 use Rattle.cli_convert.proofs.Parts.{one_part, more_parts, took_both, passed_both, took_none, passed_none}
 
 -- ---- one line
 
+pub text_read : (text : List ℕ) (d : Document) → 0 < length text → IsUtf8 text → ReadsText text (Ok d) → Reads text (content d)
+text_read text d some utf8 read = (some, utf8, (d, refl, read))
+
+pub document_sent : (n : ℕ) (text : List ℕ) (before after : Tally) (d : Members) → Reads text d → SendsDocument d before after (Ok tt) → SendsText n text before after (Ok tt)
+document_sent n text before after d read sent = (encode d, Some d, read, (sent.1, sent.2), (sent.0, refl))
+
 
 module _ (before after : Lines) (old new : Feed) (l : Line) (n : ℕ) (sent taken : Tally) where
   pub whole_sent : ReadsNext (Ok Whole) before after old new l → ((text : List ℕ) → Keeps l text → SendsText (n + 1) text sent taken (Ok tt)) → TurnsDocument n old new (waiting before) (waiting after) sent taken (Ok true)
-  whole_sent (fine, given, gives, text, unbroken, keeps, is) sends =
+  whole_sent (fine, (given, gives, (text, unbroken, keeps, is))) sends =
       let (bytes, o, read, passed, written) = sends text keeps in (o, record {
         given = given;
         took = (fine, gives);
@@ -33,30 +45,30 @@ module _ (before after : Lines) (old new : Feed) (l : Line) (n : ℕ) (sent take
       })
 
   pub whole_refused : (e : Stop) → ReadsNext (Ok Whole) before after old new l → ((text : List ℕ) → Keeps l text → SendsText (n + 1) text sent taken (Err e)) → TurnsDocument n old new (waiting before) (waiting after) sent taken (Err e)
-  whole_refused (stop.Document i fault) (fine, given, gives, text, unbroken, keeps, is) sends = absurd (sends text keeps)
-  whole_refused (stop.Line i fault) (fine, given, gives, text, unbroken, keeps, is) sends =
+  whole_refused (stop.Document i fault) (fine, (given, gives, (text, unbroken, keeps, is))) sends = absurd (sends text keeps)
+  whole_refused (stop.Line i fault) (fine, (given, gives, (text, unbroken, keeps, is))) sends =
       let h = sends text keeps in (h.0, (given, text, (fine, gives), (unbroken, inr (waiting after, is)), h.1), h.2)
-  whole_refused stop.Reader (fine, given, gives, text, unbroken, keeps, is) sends = absurd (sends text keeps)
-  whole_refused stop.Writer (fine, given, gives, text, unbroken, keeps, is) sends =
+  whole_refused stop.Reader (fine, (given, gives, (text, unbroken, keeps, is))) sends = absurd (sends text keeps)
+  whole_refused stop.Writer (fine, (given, gives, (text, unbroken, keeps, is))) sends =
       let (d, read, fits, failed, begun) = sends text keeps in (given, text, d, (fine, gives), (unbroken, inr (waiting after, is)), read, fits, failed, begun)
-  whole_refused stop.Memory (fine, given, gives, text, unbroken, keeps, is) sends = (fine, sends text keeps)
+  whole_refused stop.Memory (fine, (given, gives, (text, unbroken, keeps, is))) sends = (fine, sends text keeps)
 
   pub last_sent : ReadsNext (Ok Last) before after old new l → ((text : List ℕ) → Keeps l text → SendsText (n + 1) text sent taken (Ok tt)) → TurnsDocument n old new (waiting before) (waiting after) sent taken (Ok false)
-  last_sent (fine, given, gives, text, unbroken, keeps, is, some, left, end) sends =
+  last_sent (fine, (given, gives, (text, unbroken, keeps, is, some, left, end))) sends =
       let (bytes, o, read, passed, written) = sends text keeps in
       (given, bytes, o, ((fine, gives), end), subst IsUnbroken (sym is) unbroken, subst (λ t. IsReadAs t o) (sym is) read, passed, written)
 
   pub last_refused : (e : Stop) → ReadsNext (Ok Last) before after old new l → ((text : List ℕ) → Keeps l text → SendsText (n + 1) text sent taken (Err e)) → TurnsDocument n old new (waiting before) (waiting after) sent taken (Err e)
-  last_refused (stop.Document i fault) (fine, given, gives, text, unbroken, keeps, is, some, left, end) sends = absurd (sends text keeps)
-  last_refused (stop.Line i fault) (fine, given, gives, text, unbroken, keeps, is, some, left, end) sends =
+  last_refused (stop.Document i fault) (fine, (given, gives, (text, unbroken, keeps, is, some, left, end))) sends = absurd (sends text keeps)
+  last_refused (stop.Line i fault) (fine, (given, gives, (text, unbroken, keeps, is, some, left, end))) sends =
       let h = sends text keeps in (h.0, (given, text, (fine, gives), (unbroken, inl is), h.1), h.2)
-  last_refused stop.Reader (fine, given, gives, text, unbroken, keeps, is, some, left, end) sends = absurd (sends text keeps)
-  last_refused stop.Writer (fine, given, gives, text, unbroken, keeps, is, some, left, end) sends =
+  last_refused stop.Reader (fine, (given, gives, (text, unbroken, keeps, is, some, left, end))) sends = absurd (sends text keeps)
+  last_refused stop.Writer (fine, (given, gives, (text, unbroken, keeps, is, some, left, end))) sends =
       let (d, read, fits, failed, begun) = sends text keeps in (given, text, d, (fine, gives), (unbroken, inl is), read, fits, failed, begun)
-  last_refused stop.Memory (fine, given, gives, text, unbroken, keeps, is, some, left, end) sends = (fine, sends text keeps)
+  last_refused stop.Memory (fine, (given, gives, (text, unbroken, keeps, is, some, left, end))) sends = (fine, sends text keeps)
 
 pub none_left : (before after : Lines) (old new : Feed) (l : Line) (n : ℕ) (tally : Tally) → ReadsNext (Ok End) before after old new l → TurnsDocument n old new (waiting before) (waiting after) tally tally (Ok false)
-none_left before after old new l n tally (fine, given, gives, is, left, end) =
+none_left before after old new l n tally (fine, (given, gives, (is, left, end))) =
     (given, [], None, ((fine, gives), end), subst IsUnbroken (sym is) (λ k d within e. absurd (omega within)), is, passed_none tally, refl)
 
 pub not_read : (before after : Lines) (old new : Feed) (l : Line) (n : ℕ) (tally : Tally) (e : DeviceFault) → ReadsNext (Err e) before after old new l → TurnsDocument n old new (waiting before) (waiting after) tally tally (Err stop.Reader)

@@ -1,44 +1,12 @@
 -- Documents that become lines, one after the other.
-use Rattle.std.proofs.Common.{◌≡◌, ℕ, ◌+◌, List, [], ◌∷◌, ◌++◌, length, None, Some, Option, Result, Ok, Err, refl, sym, ap, subst, ◌∙◌}
+use Rattle.std.proofs.Common.{◌≡◌, ℕ, ◌+◌, List, [], ◌∷◌, ◌++◌, length, true, Result, Ok, refl, sym, ap, subst, ◌∙◌}
 use Rattle.std.proofs.lemmas.List.{length-append}
 use Rattle.bson_base.specs.Device.{Feed, Tally}
 use Rattle.bson_base.specs.Value.{Members}
-use Rattle.bson_model.specs.View.{content}
-use Rattle.bson_model.specs.declared.document.Document.{Document}
 use Rattle.bson_model.specs.declared.extjson.ser.Mode.{Mode}
-use Rattle.cli_convert.specs.Parts.{InParts}
-use Rattle.cli_convert.specs.ToLines.{IsFree, IsLineOf, Wrote, EndsLines, WritesLines, ReadsFree, SendsLine, TurnsLine}
+use Rattle.cli_convert.specs.ToLines.{IsFree, IsLineOf, Wrote, EndsLines, WritesLines, TurnsLine}
 use Rattle.cli_convert.specs.declared.stop.Stop.{Stop}
-use Rattle.cli_convert.specs.declared.stop.Stop.TheVariants as stop
-use Rattle.cli_convert.proofs.Parts.{one_part, more_parts, took_both, passed_both, took_none, passed_none}
-
--- ---- one document
-
-pub read_refused : (m : Mode) (n : ℕ) (old new : Feed) (tally : Tally) (e : Stop) → ReadsFree n old new (Err e) → EndsLines m n old new tally tally (Err e)
-read_refused m n old new tally (stop.Document i fault) h = (h.0, h.1, refl)
-read_refused m n old new tally (stop.Line i fault) h = absurd h
-read_refused m n old new tally stop.Reader h = (h, refl)
-read_refused m n old new tally stop.Writer h = absurd h
-read_refused m n old new tally stop.Memory h = (h, refl)
-
-pub line_refused : (m : Mode) (n : ℕ) (old new : Feed) (before after : Tally) (d : Document) (e : Stop) → ReadsFree n old new (Ok (Some d)) → SendsLine m (content d) before after (Err e) → EndsLines m n old new before after (Err e)
-line_refused m n old new before after d (stop.Document i fault) h k = absurd k
-line_refused m n old new before after d (stop.Line i fault) h k = absurd k
-line_refused m n old new before after d stop.Reader h k = absurd k
-line_refused m n old new before after d stop.Writer (bytes, took, free) (line, is, failed, begun) = (bytes, line, content d, took, free, is, failed, begun)
-line_refused m n old new before after d stop.Memory (bytes, took, free) k = (took.0, k)
-
-pub line_sent : (m : Mode) (n : ℕ) (old new : Feed) (before after : Tally) (d : Document) → ReadsFree n old new (Ok (Some d)) → SendsLine m (content d) before after (Ok tt) → TurnsLine m n old new before after (Ok true)
-line_sent m n old new before after d (bytes, took, free) (line, is, passed) = (content d, record {
-  bytes = bytes;
-  took = took;
-  documents = one_part IsFree bytes (content d) free;
-  sent = line;
-  passed = passed;
-  lines = one_part (IsLineOf m) line (content d) is;
-})
-
--- ---- all of them
+use Rattle.cli_convert.proofs.Parts.{more_parts, took_both, passed_both, took_none, passed_none}
 
 pub none_written : (m : Mode) (feed : Feed) (tally : Tally) → Wrote m [] feed feed tally tally
 none_written m feed tally = record { bytes = []; took = took_none feed; documents = refl; sent = []; passed = passed_none tally; lines = refl }

@@ -28,5 +28,5 @@ task_of (word ∷ other ∷ words) = None
 abbrev pub Does : Option Task → Feed → Feed → Tally → Tally → Tally → Tally → ℕ → Type 0
 Does (Some (ToLines m)) old new before after quiet told status = (r : Result (Unit {0}) Stop) × WritesLines m old new before after r × Reports r quiet told status
 Does (Some ToBson) old new before after quiet told status = (r : Result (Unit {0}) Stop) × WritesDocuments old new before after r × Reports r quiet told status
-Does (Some Help) old new before after quiet told status = (new ≡ old) × ((r : Result (Unit {0}) Stop) × SendsWhole HELP before after r × Reports r quiet told status)
+Does (Some Help) old new before after quiet told status = (new ≡ old) × ((r : Result (Unit {0}) Stop) × SendsWhole HELP.now before after r × Reports r quiet told status)
 Does None old new before after quiet told status = (new ≡ old) × (after ≡ before) × (status ≡ 2) × TakesText quiet told (codes "words: usage\n")

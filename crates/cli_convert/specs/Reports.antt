@@ -18,14 +18,6 @@ kind_name kinds.MalformedValue = codes "MalformedValue"
 kind_name kinds.Utf8EncodingError = codes "Utf8EncodingError"
 kind_name kinds.OutOfMemory = codes "Memory"
 
-abbrev pub text_name : Error → List ℕ
-text_name (NotJson n) = codes "NotJson"
-text_name RepeatedKey = codes "RepeatedKey"
-text_name (InvalidObjectId e) = codes "InvalidObjectId"
-text_name NumberOutOfRange = codes "NumberOutOfRange"
-text_name NotExtendedJson = codes "NotExtendedJson"
-text_name Memory = codes "Memory"
-
 -- the kind, the document's place from 0, and what is at fault
 abbrev pub refusal : List ℕ → ℕ → List ℕ → List ℕ
 refusal kind place more = codes "refused: " ++ kind ++ codes " document " ++ decimal place ++ more ++ codes "\n"
@@ -44,15 +36,18 @@ byte_text n = codes " byte " ++ decimal (min (n + 1) (2 ^ 64 - 1))
 abbrev pub misuse : ℕ → List ℕ → List ℕ → List ℕ
 misuse number byte kind = codes "words: line " ++ decimal number ++ byte ++ codes " " ++ kind ++ codes "\n"
 
+abbrev pub text_fault : ℕ → Error → List ℕ
+text_fault n (NotJson b) = misuse n (byte_text b) (codes "NotJson")
+text_fault n RepeatedKey = misuse n [] (codes "RepeatedKey")
+text_fault n (InvalidObjectId e) = misuse n [] (codes "InvalidObjectId")
+text_fault n NumberOutOfRange = misuse n [] (codes "NumberOutOfRange")
+text_fault n NotExtendedJson = misuse n [] (codes "NotExtendedJson")
+text_fault n Memory = misuse n [] (codes "Memory")
+
 abbrev pub line_text : ℕ → LineFault → List ℕ
 line_text n line.TooLong = misuse n [] (codes "TooLong")
 line_text n (line.NotUtf8 b) = misuse n (byte_text b) (codes "Utf8EncodingError")
-line_text n (line.Text (NotJson b)) = misuse n (byte_text b) (codes "NotJson")
-line_text n (line.Text RepeatedKey) = misuse n [] (text_name RepeatedKey)
-line_text n (line.Text (InvalidObjectId e)) = misuse n [] (text_name (InvalidObjectId e))
-line_text n (line.Text NumberOutOfRange) = misuse n [] (text_name NumberOutOfRange)
-line_text n (line.Text NotExtendedJson) = misuse n [] (text_name NotExtendedJson)
-line_text n (line.Text Memory) = misuse n [] (text_name Memory)
+line_text n (line.Text e) = text_fault n e
 line_text n (line.Raw e) = misuse n [] (kind_name e.kind)
 
 abbrev pub memory_line : List ℕ

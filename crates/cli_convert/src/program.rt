@@ -7,7 +7,7 @@ ghost use Rattle.cli_convert.specs.Reports.{SendsWhole};
 
 use crate::documents::write_lines;
 use crate::lines::write_documents;
-use crate::report::{MISUSED, report};
+use crate::report::{MISUSED, put, report};
 use crate::stop::Stop;
 use bson_base::{Sink, Source, write_all};
 use bson_model::extjson::Mode;
@@ -56,7 +56,7 @@ fn task_of(words: &[String]) -> Option<Task>
 /// Writes how the program is called.
 fn help<O: Sink>(output: &mut O) -> Result<(), Stop>
     requires { CanRefuse (O.tally output.old) }
-    ensures { SendsWhole HELP (O.tally output.old) (O.tally output.new) result }
+    ensures { SendsWhole HELP.now (O.tally output.old) (O.tally output.new) result }
 {
     match write_all(output, HELP.as_bytes()) {
         Ok(()) => Ok(()),
@@ -88,7 +88,7 @@ pub fn convert<I: Source, O: Sink, F: Sink>(
         Some(Task::ToBson) => report(alloc, write_documents(alloc, input, output), faults),
         Some(Task::Help) => report(alloc, help(output), faults),
         None => {
-            let _ = write_all(faults, b"words: usage\n");
+            put(faults, b"words: usage\n");
             MISUSED
         }
     }

@@ -1,8 +1,8 @@
 //! What is reported of a conversion that ended before its input did.
 
-ghost use Rattle.std.specs.Prelude.{◌≡◌, IfOk, string_bytes};
-ghost use Rattle.bson_base.specs.Device.{CanRefuse};
-ghost use Rattle.cli_convert.specs.Reports.{fault_text, kind_name as name_of_kind, line_text, stop_status, stop_text, text_name as name_of_text, Reports};
+ghost use Rattle.std.specs.Prelude.{◌≡◌, ◌⊎◌, ◌++◌, codes, IfOk, string_bytes};
+ghost use Rattle.bson_base.specs.Device.{CanRefuse, TakesText};
+ghost use Rattle.cli_convert.specs.Reports.{byte_text as text_of_byte, fault_text, kind_name as name_of_kind, line_text, memory_line, misuse as misuse_of, refusal as refusal_of, stop_status, stop_text, text_fault, Reports};
 
 use crate::stop::{Fault, LineFault, Stop};
 use bson_base::{Sink, write_all};
@@ -28,58 +28,79 @@ fn kind_name(kind: ErrorKind) -> &'static str
     }
 }
 
+fn refusal(alloc: Global, kind: &str, place: u64, more: &str) -> Result<String, AllocError>
+    ensures { IfOk result (λ t. string_bytes t ≡ refusal_of kind.now place more.now) }
+{
+    format!(in alloc; "refused: {kind} document {place}{more}\n")
+}
+
+/// A path behind a space.
+fn path_text(alloc: Global, path: &str) -> Result<String, AllocError>
+    ensures { IfOk result (λ t. string_bytes t ≡ codes " " ++ path.now) }
+{
+    format!(in alloc; " {path}")
+}
+
 /// The line of a document that is refused.
 fn fault_line(alloc: Global, place: u64, fault: &Fault) -> Result<String, AllocError>
     ensures { IfOk result (λ t. string_bytes t ≡ fault_text place fault.now) }
 {
     match fault {
-        Fault::EndInside => format!(in alloc; "refused: EndInside document {place}\n"),
-        Fault::BadLength => format!(in alloc; "refused: BadLength document {place}\n"),
-        Fault::Raw(error) => {
-            let name = kind_name(error.kind);
-            format!(in alloc; "refused: {name} document {place}\n")
-        }
+        Fault::EndInside => refusal(alloc, "EndInside", place, ""),
+        Fault::BadLength => refusal(alloc, "BadLength", place, ""),
+        Fault::Raw(error) => refusal(alloc, kind_name(error.kind), place, ""),
         Fault::ReservedKey(path) => {
-            format!(in alloc; "refused: ReservedKey document {place} {path}\n")
+            let path = path_text(alloc, path.as_str())?;
+            refusal(alloc, "ReservedKey", place, path.as_str())
         }
     }
 }
 
-fn text_name(error: Error) -> &'static str
-    ensures { result.now ≡ name_of_text error }
+fn misuse(alloc: Global, number: u64, byte: &str, kind: &str) -> Result<String, AllocError>
+    ensures { IfOk result (λ t. string_bytes t ≡ misuse_of number byte.now kind.now) }
+{
+    format!(in alloc; "words: line {number}{byte} {kind}\n")
+}
+
+/// The line of a text that is refused.
+fn text_line(alloc: Global, number: u64, error: Error) -> Result<String, AllocError>
+    ensures { IfOk result (λ t. string_bytes t ≡ text_fault number error) }
 {
     match error {
-        Error::NotJson(_) => "NotJson",
-        Error::RepeatedKey => "RepeatedKey",
-        Error::InvalidObjectId(_) => "InvalidObjectId",
-        Error::NumberOutOfRange => "NumberOutOfRange",
-        Error::NotExtendedJson => "NotExtendedJson",
-        Error::Memory => "Memory",
+        Error::NotJson(byte) => line_at(alloc, number, byte, "NotJson"),
+        Error::RepeatedKey => misuse(alloc, number, "", "RepeatedKey"),
+        Error::InvalidObjectId(_) => misuse(alloc, number, "", "InvalidObjectId"),
+        Error::NumberOutOfRange => misuse(alloc, number, "", "NumberOutOfRange"),
+        Error::NotExtendedJson => misuse(alloc, number, "", "NotExtendedJson"),
+        Error::Memory => misuse(alloc, number, "", "Memory"),
     }
 }
 
-/// The line of a line that is refused. Bytes are counted from 1 here, as lines are.
+/// The place of a byte. It is counted from 1 here, as lines are.
+fn byte_text(alloc: Global, byte: usize) -> Result<String, AllocError>
+    ensures { IfOk result (λ t. string_bytes t ≡ text_of_byte byte) }
+{
+    let place = byte.saturating_add(1);
+    format!(in alloc; " byte {place}")
+}
+
+/// The line of a line that is refused at a byte.
+fn line_at(alloc: Global, number: u64, byte: usize, kind: &str) -> Result<String, AllocError>
+    ensures { IfOk result (λ t. string_bytes t ≡ misuse_of number (text_of_byte byte) kind.now) }
+{
+    let place = byte_text(alloc, byte)?;
+    misuse(alloc, number, place.as_str(), kind)
+}
+
+/// The line of a line that is refused.
 fn line_line(alloc: Global, number: u64, fault: &LineFault) -> Result<String, AllocError>
     ensures { IfOk result (λ t. string_bytes t ≡ line_text number fault.now) }
 {
     match fault {
-        LineFault::TooLong => format!(in alloc; "words: line {number} TooLong\n"),
-        LineFault::NotUtf8(byte) => {
-            let byte = byte.saturating_add(1);
-            format!(in alloc; "words: line {number} byte {byte} Utf8EncodingError\n")
-        }
-        LineFault::Text(Error::NotJson(byte)) => {
-            let byte = byte.saturating_add(1);
-            format!(in alloc; "words: line {number} byte {byte} NotJson\n")
-        }
-        LineFault::Text(error) => {
-            let name = text_name(*error);
-            format!(in alloc; "words: line {number} {name}\n")
-        }
-        LineFault::Raw(error) => {
-            let name = kind_name(error.kind);
-            format!(in alloc; "words: line {number} {name}\n")
-        }
+        LineFault::TooLong => misuse(alloc, number, "", "TooLong"),
+        LineFault::NotUtf8(byte) => line_at(alloc, number, *byte, "Utf8EncodingError"),
+        LineFault::Text(error) => text_line(alloc, number, *error),
+        LineFault::Raw(error) => misuse(alloc, number, "", kind_name(error.kind)),
     }
 }
 
@@ -107,6 +128,25 @@ fn status_of(stop: &Stop) -> u8
     }
 }
 
+/// Writes bytes. A failure is of no further concern.
+pub(crate) fn put<S: Sink>(sink: &mut S, bytes: &[u8])
+    requires { CanRefuse (S.tally sink.old) }
+    ensures { TakesText (S.tally sink.old) (S.tally sink.new) bytes.now }
+{
+    let _ = write_all(sink, bytes);
+}
+
+/// Writes the line of what is refused.
+fn tell<F: Sink>(alloc: Global, stop: &Stop, faults: &mut F)
+    requires { CanRefuse (F.tally faults.old) }
+    ensures { TakesText (F.tally faults.old) (F.tally faults.new) (stop_text stop.now) ⊎ TakesText (F.tally faults.old) (F.tally faults.new) memory_line }
+{
+    match stop_line(alloc, stop) {
+        Ok(line) => put(faults, line.as_bytes()),
+        Err(_) => put(faults, OUT_OF_MEMORY.as_bytes()),
+    }
+}
+
 /// Reports why a conversion ended before its input did, and returns the program's status.
 pub(crate) fn report<F: Sink>(alloc: Global, done: Result<(), Stop>, faults: &mut F) -> u8
     requires { CanRefuse (F.tally faults.old) }
@@ -115,10 +155,7 @@ pub(crate) fn report<F: Sink>(alloc: Global, done: Result<(), Stop>, faults: &mu
     match done {
         Ok(()) => 0,
         Err(stop) => {
-            let _ = match stop_line(alloc, &stop) {
-                Ok(line) => write_all(faults, line.as_bytes()),
-                Err(_) => write_all(faults, OUT_OF_MEMORY.as_bytes()),
-            };
+            tell(alloc, &stop, faults);
             status_of(&stop)
         }
     }
