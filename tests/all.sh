@@ -33,7 +33,7 @@ try /usr/bin/python3 tests/edits.py
 try /usr/bin/python3 tests/program.py "$work/bson_store"
 try /usr/bin/python3 tests/session.py "$work/bson_session"
 try /usr/bin/python3 tests/scripts.py "$work/bson_store"
-for test in files json; do
+for test in files extended_json; do
     case $test in files) name=bson_store ;; *) name=bson_json ;; esac
     [ ! -e "tests/$test.py" ] || try /usr/bin/python3 "tests/$test.py" "$work/$name"
 done
