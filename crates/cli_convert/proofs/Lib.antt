@@ -2,3 +2,4 @@ mod Parts
 mod ToLines
 mod ToBson
 mod Spoiled
+mod Reports

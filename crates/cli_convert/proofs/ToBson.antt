@@ -2,7 +2,7 @@
 use Rattle.std.proofs.Common.{◌≡◌, ◌≢◌, ◌⊎◌, inl, inr, ℕ, ◌+◌, ◌<◌, ◌^◌, ◌-◌, List, [], ◌∷◌, ◌++◌, length, true, false, None, Some, Option, Result, Ok, Err, refl, sym, ap, subst, ◌∙◌, append_assoc, arith}
 use Rattle.std.specs.Prelude.{IsUtf8}
 use Rattle.std.proofs.lemmas.List.{length-append, append-nil}
-use Rattle.bson_base.specs.Device.{Feed, Tally, CanRefuse}
+use Rattle.bson_base.specs.Device.{Feed, Tally, CanFail, CanRefuse}
 use Rattle.bson_base.specs.declared.device.DeviceFault.{DeviceFault}
 use Rattle.bson_base.specs.Value.{Members}
 use Rattle.bson_bytes.specs.Encode.{encode}
@@ -29,20 +29,22 @@ text_read text d some utf8 read = (some, utf8, (d, refl, read))
 pub document_sent : (n : ℕ) (text : List ℕ) (before after : Tally) (d : Members) → Reads text d → SendsDocument d before after (Ok tt) → SendsText n text before after (Ok tt)
 document_sent n text before after d read sent = (encode d, Some d, read, (sent.1, sent.2), (sent.0, refl))
 
-
 module _ (before after : Lines) (old new : Feed) (l : Line) (n : ℕ) (sent taken : Tally) where
   pub whole_sent : ReadsNext (Ok Whole) before after old new l → ((text : List ℕ) → Keeps l text → SendsText (n + 1) text sent taken (Ok tt)) → TurnsDocument n old new (waiting before) (waiting after) sent taken (Ok true)
   whole_sent (fine, (given, gives, (text, unbroken, keeps, is))) sends =
-      let (bytes, o, read, passed, written) = sends text keeps in (o, record {
-        given = given;
-        took = (fine, gives);
-        bytes = text ++ 10 ∷ [];
-        whole = is ∙ sym (append_assoc text (10 ∷ []) (waiting after));
-        lines = one_part IsLine (text ++ 10 ∷ []) o (text, refl, unbroken, read);
-        sent = bytes;
-        passed = passed;
-        documents = one_part IsWritten bytes o written;
-      })
+      let (bytes, o, read, passed, written) = sends text keeps in (
+        o,
+        record {
+          given = given;
+          took = (fine, gives);
+          bytes = text ++ 10 ∷ [];
+          whole = is ∙ sym (append_assoc text (10 ∷ []) (waiting after));
+          lines = one_part IsLine (text ++ 10 ∷ []) o (text, refl, unbroken, read);
+          sent = bytes;
+          passed = passed;
+          documents = one_part IsWritten bytes o written;
+        },
+      )
 
   pub whole_refused : (e : Stop) → ReadsNext (Ok Whole) before after old new l → ((text : List ℕ) → Keeps l text → SendsText (n + 1) text sent taken (Err e)) → TurnsDocument n old new (waiting before) (waiting after) sent taken (Err e)
   whole_refused (stop.Document i fault) (fine, (given, gives, (text, unbroken, keeps, is))) sends = absurd (sends text keeps)
@@ -69,7 +71,7 @@ module _ (before after : Lines) (old new : Feed) (l : Line) (n : ℕ) (sent take
 
 pub none_left : (before after : Lines) (old new : Feed) (l : Line) (n : ℕ) (tally : Tally) → ReadsNext (Ok End) before after old new l → TurnsDocument n old new (waiting before) (waiting after) tally tally (Ok false)
 none_left before after old new l n tally (fine, (given, gives, (is, left, end))) =
-    (given, [], None, ((fine, gives), end), subst IsUnbroken (sym is) (λ k d within e. absurd (omega within)), is, passed_none tally, refl)
+    (given, [], None, ((fine, gives), end), subst IsUnbroken (sym is) (λ k d within e. absurd (omega (arith, within))), is, passed_none tally, refl)
 
 pub not_read : (before after : Lines) (old new : Feed) (l : Line) (n : ℕ) (tally : Tally) (e : DeviceFault) → ReadsNext (Err e) before after old new l → TurnsDocument n old new (waiting before) (waiting after) tally tally (Err stop.Reader)
 not_read before after old new l n tally e h = (h, refl)
@@ -110,6 +112,10 @@ went_on n old mid new waits left before sent after s (o, h) = record {
   sent = more_sent s.lines (o ∷ []) old mid new [] waits left before sent after s.sent h;
   count = length-append s.lines (o ∷ []) ∙ ap (λ k. k + 1) s.count;
 }
+
+-- one more call of each device can fail
+pub can_go_on : (n : ℕ) (old new : Feed) (held left : List ℕ) (before after : Tally) → TurnsDocument n old new held left before after (Ok true) → CanFail old → CanRefuse before → CanFail new × CanRefuse after
+can_go_on n old new held left before after (o, h) can may = (subst (λ k. k < 2 ^ 64 - 1) (sym h.took.0) can, subst (λ k. k < 2 ^ 64 - 1) (sym h.passed.0) may)
 
 pub ended : (n : ℕ) (old mid new : Feed) (waits : List ℕ) (before sent after : Tally) (r : Result (Unit {0}) Stop) → SoFar n old mid waits before sent → EndsDocuments TakesNothing n mid new waits sent after r → EndsBehind TakesNothing old new before after r
 ended n old mid new waits before sent after r s h = record {

@@ -1,7 +1,7 @@
 -- Documents that become lines, one after the other.
-use Rattle.std.proofs.Common.{◌≡◌, ℕ, ◌+◌, List, [], ◌∷◌, ◌++◌, length, true, Result, Ok, refl, sym, ap, subst, ◌∙◌}
+use Rattle.std.proofs.Common.{◌≡◌, ℕ, ◌+◌, ◌-◌, ◌<◌, ◌^◌, List, [], ◌∷◌, ◌++◌, length, true, Result, Ok, refl, sym, ap, subst, ◌∙◌}
 use Rattle.std.proofs.lemmas.List.{length-append}
-use Rattle.bson_base.specs.Device.{Feed, Tally}
+use Rattle.bson_base.specs.Device.{Feed, Tally, CanFail, CanRefuse}
 use Rattle.bson_base.specs.Value.{Members}
 use Rattle.bson_model.specs.declared.extjson.ser.Mode.{Mode}
 use Rattle.cli_convert.specs.ToLines.{IsFree, IsLineOf, Wrote, EndsLines, WritesLines, TurnsLine}
@@ -36,6 +36,10 @@ went_on m n old mid new before sent after s (d, w) = record {
   wrote = more_written m s.documents (d ∷ []) old mid new before sent after s.wrote w;
   count = length-append s.documents (d ∷ []) ∙ ap (λ k. k + 1) s.count;
 }
+
+-- one more call of each device can fail
+pub can_go_on : (m : Mode) (n : ℕ) (old new : Feed) (before after : Tally) → TurnsLine m n old new before after (Ok true) → CanFail old → CanRefuse before → CanFail new × CanRefuse after
+can_go_on m n old new before after (d, w) can may = (subst (λ k. k < 2 ^ 64 - 1) (sym w.took.0) can, subst (λ k. k < 2 ^ 64 - 1) (sym w.passed.0) may)
 
 pub ended : (m : Mode) (n : ℕ) (old mid new : Feed) (before sent after : Tally) (r : Result (Unit {0}) Stop) → SoFar m n old mid before sent → EndsLines m n mid new sent after r → WritesLines m old new before after r
 ended m n old mid new before sent after r s h = record {

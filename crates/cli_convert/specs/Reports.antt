@@ -20,7 +20,7 @@ kind_name kinds.OutOfMemory = codes "Memory"
 
 -- the kind, the document's place from 0, and what is at fault
 abbrev pub refusal : List ℕ → ℕ → List ℕ → List ℕ
-refusal kind place more = codes "refused: " ++ kind ++ codes " document " ++ decimal place ++ more ++ codes "\n"
+refusal kind place more = codes "refused: " ++ (kind ++ (codes " document " ++ (decimal place ++ (more ++ codes "\n"))))
 
 abbrev pub fault_text : ℕ → Fault → List ℕ
 fault_text n fault.EndInside = refusal (codes "EndInside") n []
@@ -34,7 +34,7 @@ byte_text n = codes " byte " ++ decimal (min (n + 1) (2 ^ 64 - 1))
 
 -- the line's place from 1, the byte's, if there is one, and the kind
 abbrev pub misuse : ℕ → List ℕ → List ℕ → List ℕ
-misuse number byte kind = codes "words: line " ++ decimal number ++ byte ++ codes " " ++ kind ++ codes "\n"
+misuse number byte kind = codes "words: line " ++ (decimal number ++ (byte ++ (codes " " ++ (kind ++ codes "\n"))))
 
 abbrev pub text_fault : ℕ → Error → List ℕ
 text_fault n (NotJson b) = misuse n (byte_text b) (codes "NotJson")

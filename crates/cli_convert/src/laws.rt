@@ -10,5 +10,4 @@ ghost use Rattle.cli_convert.specs.ToLines.{IsDocument};
 pub fn spoiled_streams_are_none()
     ensures { (os : List (Option Members)) (sent more : List ℕ) (ds : List Members) → InParts IsWritten sent os
         → InParts IsDocument (sent ++ (spoil ++ more)) ds → ⊥ }
-{
-}
+{}

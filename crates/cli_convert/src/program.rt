@@ -14,7 +14,8 @@ use bson_model::extjson::Mode;
 use std::alloc::Global;
 
 /// What `--help` writes.
-const HELP: &str = "bson_json < BSON > LINES               documents as lines of relaxed Extended JSON
+const HELP: &str =
+    "bson_json < BSON > LINES               documents as lines of relaxed Extended JSON
 bson_json --canonical < BSON > LINES   of canonical Extended JSON, which keeps every kind
 bson_json --to-bson < LINES > BSON     and back
 bson_json --help

@@ -8,6 +8,7 @@ use crate::stop::{Fault, LineFault, Stop};
 use bson_base::{Sink, write_all};
 use bson_json_read::Error;
 use bson_raw::ErrorKind;
+use itoa::Buffer;
 use std::alloc::{AllocError, Global};
 
 /// The status of a program whose input or output is at fault.
@@ -31,7 +32,14 @@ fn kind_name(kind: ErrorKind) -> &'static str
 fn refusal(alloc: Global, kind: &str, place: u64, more: &str) -> Result<String, AllocError>
     ensures { IfOk result (λ t. string_bytes t ≡ refusal_of kind.now place more.now) }
 {
-    format!(in alloc; "refused: {kind} document {place}{more}\n")
+    let mut digits = Buffer::new();
+    let mut line = String::from_str(alloc, "refused: ")?;
+    line.push_str(kind)?;
+    line.push_str(" document ")?;
+    line.push_str(digits.format(place))?;
+    line.push_str(more)?;
+    line.push_str("\n")?;
+    Ok(line)
 }
 
 /// A path behind a space.
@@ -59,7 +67,14 @@ fn fault_line(alloc: Global, place: u64, fault: &Fault) -> Result<String, AllocE
 fn misuse(alloc: Global, number: u64, byte: &str, kind: &str) -> Result<String, AllocError>
     ensures { IfOk result (λ t. string_bytes t ≡ misuse_of number byte.now kind.now) }
 {
-    format!(in alloc; "words: line {number}{byte} {kind}\n")
+    let mut digits = Buffer::new();
+    let mut line = String::from_str(alloc, "words: line ")?;
+    line.push_str(digits.format(number))?;
+    line.push_str(byte)?;
+    line.push_str(" ")?;
+    line.push_str(kind)?;
+    line.push_str("\n")?;
+    Ok(line)
 }
 
 /// The line of a text that is refused.
@@ -137,6 +152,7 @@ pub(crate) fn put<S: Sink>(sink: &mut S, bytes: &[u8])
 }
 
 /// Writes the line of what is refused.
+#[tactic(auto, using(crate::proofs::Reports::memory_told))]
 fn tell<F: Sink>(alloc: Global, stop: &Stop, faults: &mut F)
     requires { CanRefuse (F.tally faults.old) }
     ensures { TakesText (F.tally faults.old) (F.tally faults.new) (stop_text stop.now) ⊎ TakesText (F.tally faults.old) (F.tally faults.new) memory_line }
