@@ -2,4 +2,3 @@ mod Parts
 mod ToLines
 mod ToBson
 mod Spoiled
-mod Reports

@@ -26,8 +26,9 @@ no_document more part rest a e =
 
 not_empty : (sent more : List ℕ) → sent ++ (spoil ++ more) ≡ [] → ⊥
 not_empty sent more e =
-    let l : length sent + (4 + length more) ≡ 0 = sym (length-append sent (spoil ++ more)) ∙ ap length e in
-    omega (arith, l)
+    let l : length sent + length (spoil ++ more) ≡ 0 = sym (length-append sent (spoil ++ more)) ∙ ap length e in
+    let four : length spoil ≡ 4 = refl in
+    omega (arith, l, four, length-append spoil more)
 
 pub spoiled : (os : List (Option Members)) (sent more : List ℕ) (ds : List Members) → InParts IsWritten sent os → InParts IsDocument (sent ++ (spoil ++ more)) ds → ⊥
 spoiled [] sent more [] e h = not_empty sent more h

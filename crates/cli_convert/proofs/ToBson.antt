@@ -55,11 +55,6 @@ module _ (before after : Lines) (old new : Feed) (l : Line) (n : ℕ) (sent take
       let (d, read, fits, failed, begun) = sends text keeps in (given, text, d, (fine, gives), (unbroken, inr (waiting after, is)), read, fits, failed, begun)
   whole_refused stop.Memory (fine, (given, gives, (text, unbroken, keeps, is))) sends = (fine, sends text keeps)
 
-  pub last_sent : ReadsNext (Ok Last) before after old new l → ((text : List ℕ) → Keeps l text → SendsText (n + 1) text sent taken (Ok tt)) → TurnsDocument n old new (waiting before) (waiting after) sent taken (Ok false)
-  last_sent (fine, (given, gives, (text, unbroken, keeps, is, some, left, end))) sends =
-      let (bytes, o, read, passed, written) = sends text keeps in
-      (given, bytes, o, ((fine, gives), end), subst IsUnbroken (sym is) unbroken, subst (λ t. IsReadAs t o) (sym is) read, passed, written)
-
   pub last_refused : (e : Stop) → ReadsNext (Ok Last) before after old new l → ((text : List ℕ) → Keeps l text → SendsText (n + 1) text sent taken (Err e)) → TurnsDocument n old new (waiting before) (waiting after) sent taken (Err e)
   last_refused (stop.Document i fault) (fine, (given, gives, (text, unbroken, keeps, is, some, left, end))) sends = absurd (sends text keeps)
   last_refused (stop.Line i fault) (fine, (given, gives, (text, unbroken, keeps, is, some, left, end))) sends =
@@ -72,9 +67,6 @@ module _ (before after : Lines) (old new : Feed) (l : Line) (n : ℕ) (sent take
 pub none_left : (before after : Lines) (old new : Feed) (l : Line) (n : ℕ) (tally : Tally) → ReadsNext (Ok End) before after old new l → TurnsDocument n old new (waiting before) (waiting after) tally tally (Ok false)
 none_left before after old new l n tally (fine, (given, gives, (is, left, end))) =
     (given, [], None, ((fine, gives), end), subst IsUnbroken (sym is) (λ k d within e. absurd (omega (arith, within))), is, passed_none tally, refl)
-
-pub not_read : (before after : Lines) (old new : Feed) (l : Line) (n : ℕ) (tally : Tally) (e : DeviceFault) → ReadsNext (Err e) before after old new l → TurnsDocument n old new (waiting before) (waiting after) tally tally (Err stop.Reader)
-not_read before after old new l n tally e h = (h, refl)
 
 -- ---- all of them
 
@@ -129,52 +121,3 @@ ended n old mid new waits before sent after r s h = record {
 
 pub nothing_read : (feed : Feed) (tally : Tally) → EndsBehind TakesNothing feed feed tally tally (Err stop.Memory)
 nothing_read feed tally = ended 0 feed feed feed [] tally tally tally (Err stop.Memory) (begun feed tally [] refl) (refl, refl)
-
--- ---- the end of what is refused
-
--- the fault isn't the sink's
-abbrev pub IsOther : Stop → Type 0
-IsOther stop.Writer = ⊥
-IsOther _ = Unit {0}
-
-other : (e : Stop) → (e ≢ stop.Writer) → IsOther e
-other (stop.Document i fault) h = tt
-other (stop.Line i fault) h = tt
-other stop.Reader h = tt
-other stop.Writer h = absurd (h refl)
-other stop.Memory h = tt
-
-untaken : (n : ℕ) (old new : Feed) (waits : List ℕ) (sent after : Tally) (e : Stop) → IsOther e → EndsDocuments TakesNothing n old new waits sent after (Err e) → after ≡ sent
-untaken n old new waits sent after (stop.Document i fault) o h = absurd h
-untaken n old new waits sent after (stop.Line i fault) o h = h.2
-untaken n old new waits sent after stop.Reader o h = h.1
-untaken n old new waits sent after stop.Writer o h = absurd o
-untaken n old new waits sent after stop.Memory o h = h.1
-
-pub can_refuse : (old new : Feed) (before after : Tally) (e : Stop) → (e ≢ stop.Writer) → CanRefuse before → EndsBehind TakesNothing old new before after (Err e) → CanRefuse after
-can_refuse old new before after e o can h =
-    let same = untaken (length h.lines) h.read new h.waiting h.written after e (other e o) h.end in
-    subst (λ k. k < 2 ^ 64 - 1) (sym (ap (λ t. t.failures) same ∙ h.so_far.passed.0)) can
-
-spoiled_end : (n : ℕ) (old new : Feed) (waits : List ℕ) (sent after later : Tally) (e : Stop) → IsOther e → EndsDocuments TakesNothing n old new waits sent after (Err e) → TakesSpoil after later → EndsDocuments TakesSpoil n old new waits sent later (Err e)
-spoiled_end n old new waits sent after later (stop.Document i fault) o h s = absurd h
-spoiled_end n old new waits sent after later (stop.Line i fault) o h s = (h.0, h.1, subst (λ t. TakesSpoil t later) h.2 s)
-spoiled_end n old new waits sent after later stop.Reader o h s = (h.0, subst (λ t. TakesSpoil t later) h.1 s)
-spoiled_end n old new waits sent after later stop.Writer o h s = absurd o
-spoiled_end n old new waits sent after later stop.Memory o h s = (h.0, subst (λ t. TakesSpoil t later) h.1 s)
-
-pub spoiled : (old new : Feed) (before after later : Tally) (e : Stop) → (e ≢ stop.Writer) → EndsBehind TakesNothing old new before after (Err e) → TakesSpoil after later → EndsBehind TakesSpoil old new before later (Err e)
-spoiled old new before after later e o h s = record {
-  lines = h.lines;
-  read = h.read;
-  waiting = h.waiting;
-  written = h.written;
-  so_far = h.so_far;
-  end = spoiled_end (length h.lines) h.read new h.waiting h.written after later e (other e o) h.end s;
-}
-
-pub unspoiled : (old new : Feed) (before after : Tally) → EndsBehind TakesNothing old new before after (Ok tt) → EndsBehind TakesSpoil old new before after (Ok tt)
-unspoiled old new before after h = record { lines = h.lines; read = h.read; waiting = h.waiting; written = h.written; so_far = h.so_far; end = h.end }
-
-pub unspoiled_by_writer : (old new : Feed) (before after : Tally) → EndsBehind TakesNothing old new before after (Err stop.Writer) → EndsBehind TakesSpoil old new before after (Err stop.Writer)
-unspoiled_by_writer old new before after h = record { lines = h.lines; read = h.read; waiting = h.waiting; written = h.written; so_far = h.so_far; end = h.end }

@@ -40,12 +40,3 @@ went_on m n old mid new before sent after s (d, w) = record {
 -- one more call of each device can fail
 pub can_go_on : (m : Mode) (n : ℕ) (old new : Feed) (before after : Tally) → TurnsLine m n old new before after (Ok true) → CanFail old → CanRefuse before → CanFail new × CanRefuse after
 can_go_on m n old new before after (d, w) can may = (subst (λ k. k < 2 ^ 64 - 1) (sym w.took.0) can, subst (λ k. k < 2 ^ 64 - 1) (sym w.passed.0) may)
-
-pub ended : (m : Mode) (n : ℕ) (old mid new : Feed) (before sent after : Tally) (r : Result (Unit {0}) Stop) → SoFar m n old mid before sent → EndsLines m n mid new sent after r → WritesLines m old new before after r
-ended m n old mid new before sent after r s h = record {
-  documents = s.documents;
-  read = mid;
-  written = sent;
-  so_far = s.wrote;
-  end = subst (λ k. EndsLines m k mid new sent after r) (sym s.count) h;
-}

@@ -152,7 +152,6 @@ pub(crate) fn put<S: Sink>(sink: &mut S, bytes: &[u8])
 }
 
 /// Writes the line of what is refused.
-#[tactic(auto, using(crate::proofs::Reports::memory_told))]
 fn tell<F: Sink>(alloc: Global, stop: &Stop, faults: &mut F)
     requires { CanRefuse (F.tally faults.old) }
     ensures { TakesText (F.tally faults.old) (F.tally faults.new) (stop_text stop.now) ⊎ TakesText (F.tally faults.old) (F.tally faults.new) memory_line }
