@@ -1,9 +1,9 @@
 -- Parts behind parts, and what devices gave and took in two steps.
-use Rattle.std.proofs.Common.{◌≡◌, ℕ, List, [], ◌∷◌, ◌++◌, refl, sym, ap, subst, ◌∙◌, append_assoc}
+use Rattle.std.proofs.Common.{ℕ, List, [], ◌∷◌, ◌++◌, refl, sym, ap, subst, ◌∙◌, append_assoc}
 use Rattle.std.proofs.lemmas.List.{append-nil}
 use Rattle.std.proofs.KnownBytes.{Appends-trans, Appends-nil, Consumes-nil}
 use Rattle.bson_base.proofs.DeviceLemmas.{Gives-trans}
-use Rattle.bson_base.specs.Device.{Feed, Tally, Took, TookAll}
+use Rattle.bson_base.specs.Device.{Feed, Tally, Took}
 use Rattle.cli_convert.specs.Parts.{InParts, Passed}
 
 pub one_part : {T : Type 0} (P : List ℕ → T → Type 0) (part : List ℕ) (x : T) → P part x → InParts P part (x ∷ [])

@@ -1,9 +1,8 @@
 -- Lines that become documents, one after the other.
-use Rattle.std.proofs.Common.{◌≡◌, ◌≢◌, ◌⊎◌, inl, inr, ℕ, ◌+◌, ◌<◌, ◌^◌, ◌-◌, List, [], ◌∷◌, ◌++◌, length, true, false, None, Some, Option, Result, Ok, Err, refl, sym, ap, subst, ◌∙◌, append_assoc, arith}
+use Rattle.std.proofs.Common.{◌≡◌, inl, inr, ℕ, ◌+◌, ◌<◌, ◌^◌, ◌-◌, List, [], ◌∷◌, ◌++◌, length, true, false, None, Some, Option, Result, Ok, Err, refl, sym, ap, subst, ◌∙◌, append_assoc, arith}
 use Rattle.std.specs.Prelude.{IsUtf8}
 use Rattle.std.proofs.lemmas.List.{length-append, append-nil}
 use Rattle.bson_base.specs.Device.{Feed, Tally, CanFail, CanRefuse}
-use Rattle.bson_base.specs.declared.device.DeviceFault.{DeviceFault}
 use Rattle.bson_base.specs.Value.{Members}
 use Rattle.bson_bytes.specs.Encode.{encode}
 use Rattle.bson_json_read.specs.Reading.{ReadsText}
@@ -15,8 +14,7 @@ use Rattle.cli_session_lines.specs.Lines.{waiting, ReadsNext}
 use Rattle.cli_session_lines.specs.declared.line.Line.{Line}
 use Rattle.cli_session_lines.specs.declared.lines.Lines.{Lines}
 use Rattle.cli_session_lines.specs.declared.lines.Next.TheVariants.{Whole, Last, End}
-use Rattle.cli_convert.specs.Parts.{InParts}
-use Rattle.cli_convert.specs.ToBson.{Reads, IsLine, IsReadAs, IsWritten, Sent, EndsDocuments, EndsBehind, TakesNothing, TakesSpoil, SendsText, TurnsDocument}
+use Rattle.cli_convert.specs.ToBson.{Reads, IsLine, IsWritten, Sent, EndsDocuments, EndsBehind, TakesNothing, SendsText, TurnsDocument}
 use Rattle.cli_convert.specs.declared.stop.Stop.{Stop}
 use Rattle.cli_convert.specs.declared.stop.Stop.TheVariants as stop
 use Rattle.cli_convert.proofs.Parts.{one_part, more_parts, took_both, passed_both, took_none, passed_none}

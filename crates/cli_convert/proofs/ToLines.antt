@@ -1,11 +1,10 @@
 -- Documents that become lines, one after the other.
-use Rattle.std.proofs.Common.{◌≡◌, ℕ, ◌+◌, ◌-◌, ◌<◌, ◌^◌, List, [], ◌∷◌, ◌++◌, length, true, Result, Ok, refl, sym, ap, subst, ◌∙◌}
+use Rattle.std.proofs.Common.{◌≡◌, ℕ, ◌+◌, ◌-◌, ◌<◌, ◌^◌, List, [], ◌∷◌, ◌++◌, length, true, Ok, refl, sym, ap, subst, ◌∙◌}
 use Rattle.std.proofs.lemmas.List.{length-append}
 use Rattle.bson_base.specs.Device.{Feed, Tally, CanFail, CanRefuse}
 use Rattle.bson_base.specs.Value.{Members}
 use Rattle.bson_model.specs.declared.extjson.ser.Mode.{Mode}
-use Rattle.cli_convert.specs.ToLines.{IsFree, IsLineOf, Wrote, EndsLines, WritesLines, TurnsLine}
-use Rattle.cli_convert.specs.declared.stop.Stop.{Stop}
+use Rattle.cli_convert.specs.ToLines.{IsFree, IsLineOf, Wrote, TurnsLine}
 use Rattle.cli_convert.proofs.Parts.{more_parts, took_both, passed_both, took_none, passed_none}
 
 pub none_written : (m : Mode) (feed : Feed) (tally : Tally) → Wrote m [] feed feed tally tally
