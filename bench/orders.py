@@ -66,4 +66,5 @@ def main():
     sys.stdout.buffer.write(document([element(0x04, "orders", document(orders))]))
 
 
-main()
+if __name__ == "__main__":
+    main()

@@ -1,7 +1,7 @@
 //! The programs, one under several names. `bson_store` does a command over a database file with words; without, it
 //! reads one document from standard input, keeps it in a new store, and writes what the store exports to standard
 //! output. `bson_session` keeps a database file open, does the commands of the lines of standard input, and returns each
-//! by a line of standard output.
+//! by a line of standard output. `bson_json` turns BSON documents into lines of Extended JSON, and such lines into BSON.
 #![tactic(auto)]
 
 ghost use Rattle.std.specs.Prelude.{◌≡◌};
@@ -12,6 +12,7 @@ mod stack;
 mod words;
 
 use bson_store::{Counted, ErrorKind};
+use cli_convert::convert;
 use cli_files::{misuse, refuse, unread};
 use cli_pipe::pipe;
 use std::io::{BufWriter, Write};
@@ -40,13 +41,32 @@ fn report(rt: &HostRuntime, kind: ErrorKind) -> u8 {
     refuse(&mut faults, kind)
 }
 
-/// The program bson_store, whose output is gathered, behind its name.
-fn run_store(rt: &HostRuntime, words: &[String]) -> u8 {
+/// Does what the words ask of bson_json, and returns the program's status.
+fn run_conversion<O: Write>(rt: &HostRuntime, words: &[String], output: &mut Counted<O>) -> u8
+    requires { output.old.failed ≡ 0 }
+{
+    let mut input = Counted::new(rt.stdin());
+    let mut faults = Counted::new(rt.stderr());
+    convert(rt.alloc(), words, &mut input, output, &mut faults)
+}
+
+/// Which programs gather their output.
+#[derive(Clone, Copy, Debug, PartialEq, Eq)]
+enum Gathering {
+    Store,
+    Json,
+}
+
+/// The program bson_store or bson_json, whose output is gathered, behind its name.
+fn run_gathered(rt: &HostRuntime, words: &[String], program: Gathering) -> u8 {
     let Ok(writer) = BufWriter::with_capacity(rt.alloc(), OUTPUT_ROOM, rt.stdout()) else {
         return report(rt, ErrorKind::Memory);
     };
     let mut output = Counted::new(writer);
-    let status = run_words(rt, words, &mut output);
+    let status = match program {
+        Gathering::Store => run_words(rt, words, &mut output),
+        Gathering::Json => run_conversion(rt, words, &mut output),
+    };
     // What was gathered goes out only now. A failure here is one of the output, like any write's before it.
     match output.device.flush() {
         Err(_) if status == 0 => report(rt, ErrorKind::Writer),
@@ -66,11 +86,12 @@ fn run_session(rt: &HostRuntime, words: &[String]) -> u8 {
 /// is bson_store.
 fn start(rt: &HostRuntime, words: &[String]) -> u8 {
     let Some((name, words)) = words.split_first() else {
-        return run_store(rt, words);
+        return run_gathered(rt, words, Gathering::Store);
     };
     match program_of(name.as_str()) {
         Program::Session => run_session(rt, words),
-        Program::Store => run_store(rt, words),
+        Program::Json => run_gathered(rt, words, Gathering::Json),
+        Program::Store => run_gathered(rt, words, Gathering::Store),
     }
 }
 

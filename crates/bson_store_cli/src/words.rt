@@ -3,7 +3,7 @@
 ghost use Rattle.std.specs.Prelude.{◌≡◌, ◌↔◌, ℕ, List, MatchOption, Some, codes, map, string_bytes};
 ghost use Rattle.std.specs.Path.{path_file_name};
 ghost use Rattle.bson_store_cli.specs.Words.{AsksForCopy, AsksToWait};
-ghost use Rattle.bson_store_cli.specs.declared.words.Program.TheVariants.{Session};
+ghost use Rattle.bson_store_cli.specs.declared.words.Program.TheVariants.{Json, Session};
 
 use std::path::Path;
 use std::{env, io};
@@ -15,15 +15,19 @@ pub enum Program {
     Store,
     /// `bson_session`: the commands of lines over one opened file.
     Session,
+    /// `bson_json`: BSON documents as lines of Extended JSON, and back.
+    Json,
 }
 
 /// The program that goes by the name under which it was started: the last part of that path. Every name but those of
 /// the others is bson_store's.
 pub fn program_of(name: &str) -> Program
-    ensures { (result ≡ Session) ↔ (path_file_name name.now ≡ Some (codes "bson_session")) }
+    ensures session { (result ≡ Session) ↔ (path_file_name name.now ≡ Some (codes "bson_session")) }
+    ensures json { (result ≡ Json) ↔ (path_file_name name.now ≡ Some (codes "bson_json")) }
 {
     match Path::new(name).file_name() {
         Some("bson_session") => Program::Session,
+        Some("bson_json") => Program::Json,
         _ => Program::Store,
     }
 }

@@ -1,0 +1,4 @@
+mod Parts
+mod ToLines
+mod ToBson
+mod Spoiled
