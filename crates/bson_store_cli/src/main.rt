@@ -50,28 +50,33 @@ fn run_conversion<O: Write>(rt: &HostRuntime, words: &[String], output: &mut Cou
     convert(rt.alloc(), words, &mut input, output, &mut faults)
 }
 
-/// Which programs gather their output.
-#[derive(Clone, Copy, Debug, PartialEq, Eq)]
-enum Gathering {
-    Store,
-    Json,
-}
-
-/// The program bson_store or bson_json, whose output is gathered, behind its name.
-fn run_gathered(rt: &HostRuntime, words: &[String], program: Gathering) -> u8 {
-    let Ok(writer) = BufWriter::with_capacity(rt.alloc(), OUTPUT_ROOM, rt.stdout()) else {
-        return report(rt, ErrorKind::Memory);
-    };
-    let mut output = Counted::new(writer);
-    let status = match program {
-        Gathering::Store => run_words(rt, words, &mut output),
-        Gathering::Json => run_conversion(rt, words, &mut output),
-    };
-    // What was gathered goes out only now. A failure here is one of the output, like any write's before it.
+/// Lets the gathered output go out, and returns the program's status: a failure here is one of the output, like any
+/// write's before it.
+fn let_out<W: Write>(rt: &HostRuntime, mut output: Counted<BufWriter<W>>, status: u8) -> u8 {
     match output.device.flush() {
         Err(_) if status == 0 => report(rt, ErrorKind::Writer),
         _ => status,
     }
+}
+
+/// The program bson_store, whose output is gathered, behind its name.
+fn run_store(rt: &HostRuntime, words: &[String]) -> u8 {
+    let Ok(writer) = BufWriter::with_capacity(rt.alloc(), OUTPUT_ROOM, rt.stdout()) else {
+        return report(rt, ErrorKind::Memory);
+    };
+    let mut output = Counted::new(writer);
+    let status = run_words(rt, words, &mut output);
+    let_out(rt, output, status)
+}
+
+/// The program bson_json, whose output is gathered, behind its name.
+fn run_json(rt: &HostRuntime, words: &[String]) -> u8 {
+    let Ok(writer) = BufWriter::with_capacity(rt.alloc(), OUTPUT_ROOM, rt.stdout()) else {
+        return report(rt, ErrorKind::Memory);
+    };
+    let mut output = Counted::new(writer);
+    let status = run_conversion(rt, words, &mut output);
+    let_out(rt, output, status)
 }
 
 /// The program bson_session, whose every line of output goes out at once, behind its name.
@@ -86,12 +91,12 @@ fn run_session(rt: &HostRuntime, words: &[String]) -> u8 {
 /// is bson_store.
 fn start(rt: &HostRuntime, words: &[String]) -> u8 {
     let Some((name, words)) = words.split_first() else {
-        return run_gathered(rt, words, Gathering::Store);
+        return run_store(rt, words);
     };
     match program_of(name.as_str()) {
         Program::Session => run_session(rt, words),
-        Program::Json => run_gathered(rt, words, Gathering::Json),
-        Program::Store => run_gathered(rt, words, Gathering::Store),
+        Program::Json => run_json(rt, words),
+        Program::Store => run_store(rt, words),
     }
 }
 
