@@ -2,8 +2,10 @@
 #![tactic(auto)]
 
 mod bodies;
-mod keys;
+mod error;
 mod reading;
 mod texts;
 
+pub use error::{Error, Result};
+pub use json::Scratch;
 pub use reading::{bson_of, document_of, document_of_text};

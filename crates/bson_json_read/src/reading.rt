@@ -4,14 +4,15 @@ ghost use Rattle.std.specs.Option.{option_map};
 ghost use Rattle.json.specs.Value.{value_view as data_of, items_view, members_view};
 ghost use Rattle.bson_base.specs.Value.{no_members};
 ghost use Rattle.bson_model.specs.View.{view, items_of, content};
-ghost use Rattle.bson_model.specs.JsonRead.{GivesReading, code_and_scope as spec_scoped};
-ghost use Rattle.bson_json_read.specs.Reading.{any_reserved, is_code_and_scope as code_and_scope_keys, read as value_of, read_items as items_read, read_members as members_read, read_scope as scope_of, read_top, read_typed as typed_of, ReadsText};
+ghost use Rattle.bson_json_read.specs.Outcome.{GivesReading};
+ghost use Rattle.bson_json_read.specs.Reading.{any_reserved, Adds, ParsesText, is_code_and_scope as code_and_scope_keys, read as value_of, read_items as items_read, read_members as members_read, read_scope as scope_of, read_top, read_typed as typed_of, ReadsText};
 
 use crate::bodies::{own_text, read_wrapped};
+use crate::error::{Error, Result};
 use crate::texts::read_number;
-use bson_model::extjson::de::{Error, Result, is_reserved_key};
-use bson_model::{Bson, Document, JavaScriptCodeWithScope, STACK_LEVELS, levels_inside};
-use json::{Scratch, Value};
+use bson_model::extjson::de::{is_reserved_key, with_scope};
+use bson_model::{Bson, Document, STACK_LEVELS, levels_inside};
+use json::{MAX_DEPTH, Reader, Scratch, Value};
 use std::alloc::Global;
 
 fn has_reserved(members: &[(&str, Value<'_>)]) -> bool
@@ -25,12 +26,16 @@ fn has_reserved(members: &[(&str, Value<'_>)]) -> bool
     false
 }
 
-fn with_scope(code: String, scope: Option<Document>) -> Bson
-    ensures { view result ≡ spec_scoped (string_bytes code) (option_map (λ d. content d) scope) }
+/// Puts a value under a new key.
+fn add(document: &mut Document, key: String, value: Bson) -> Result<()>
+    ensures { Adds (content document.old) (string_bytes key) (view value) (content document.new) result }
 {
-    match scope {
-        Some(scope) => Bson::JavaScriptCodeWithScope(JavaScriptCodeWithScope { code, scope }),
-        None => Bson::JavaScriptCode(code),
+    match document.insert(key, value)? {
+        Some(before) => {
+            drop(before);
+            Err(Error::RepeatedKey)
+        }
+        None => Ok(()),
     }
 }
 
@@ -76,7 +81,7 @@ fn read_members(alloc: Global, members: &[(&str, Value<'_>)], levels: u32) -> Re
     let mut document = Document::new(alloc);
     for (key, value) in members {
         let value = read(alloc, value, levels)?;
-        document.put(String::from_str(alloc, *key)?, value)?;
+        add(&mut document, String::from_str(alloc, *key)?, value)?;
     }
     Ok(document)
 }
@@ -94,7 +99,7 @@ fn read_typed(alloc: Global, members: &[(&str, Value<'_>)], levels: u32) -> Resu
     ensures { GivesReading view result (typed_of (members_view members.now)) }
 {
     match members {
-        [] => Err(Error::DeserializationError),
+        [] => Err(Error::NotExtendedJson),
         [(key, value)] => read_wrapped(alloc, *key, value),
         [(key, value), (other_key, other)] => {
             if is_code_and_scope(*key, *other_key) {
@@ -106,10 +111,10 @@ fn read_typed(alloc: Global, members: &[(&str, Value<'_>)], levels: u32) -> Resu
                 let other_scope = read_scope(alloc, value, levels)?;
                 Ok(with_scope(other_code, other_scope))
             } else {
-                Err(Error::DeserializationError)
+                Err(Error::NotExtendedJson)
             }
         }
-        [_, _, _, ..] => Err(Error::DeserializationError),
+        [_, _, _, ..] => Err(Error::NotExtendedJson),
     }
 }
 
@@ -124,12 +129,11 @@ fn read_scope(alloc: Global, scope: &Value<'_>, levels: u32) -> Result<Option<Do
             let inside = levels_inside(levels_inside(levels)?)?;
             Ok(Some(read_members(alloc, members.as_slice(), inside)?))
         }
-        _ => Err(Error::DeserializationError),
+        _ => Err(Error::NotExtendedJson),
     }
 }
 
-/// The value of a JSON tree. `DeserializationError` if it is no Extended JSON, `InvalidObjectId` for a text under `$oid`
-/// that is no object id, `Memory` if a growth was refused, and for more than 1000 levels.
+/// The value of a JSON tree. The errors are those of `document_of`.
 pub fn bson_of(alloc: Global, value: &Value<'_>) -> Result<Bson>
     ensures { GivesReading view result (value_of (data_of value.now)) }
 {
@@ -137,25 +141,43 @@ pub fn bson_of(alloc: Global, value: &Value<'_>) -> Result<Bson>
 }
 
 /// The document of a JSON object, whose own keys are never taken for reserved ones; those of the objects below are.
-/// `DeserializationError` if it is no object, or no Extended JSON, `InvalidObjectId` for a text under `$oid` that is
-/// no object id, `Memory` if a growth was refused, and for more than 1000 levels.
+/// `NotExtendedJson` if it is no object, or no Extended JSON, `NumberOutOfRange` for a number that is whole and not in
+/// the range of 64 bits, or too large for a double, `InvalidObjectId` for a text under `$oid` that is no object id,
+/// `RepeatedKey` for a document with a key twice, `Memory` if a growth was refused, and for more than 1000 levels.
 pub fn document_of(alloc: Global, value: &Value<'_>) -> Result<Document>
     ensures { GivesReading (λ d. content d) result (read_top (data_of value.now)) }
 {
     match value {
         Value::Object(members) => read_members(alloc, members.as_slice(), STACK_LEVELS - 1),
-        _ => Err(Error::DeserializationError),
+        _ => Err(Error::NotExtendedJson),
     }
 }
 
-/// The document of a text of JSON (RFC 8259) in which no object has a key twice, with its keys in their order.
-/// `scratch` is room that is kept from text to text.
+/// The tree of a text.
+fn parse<'a>(alloc: Global, text: &'a str, scratch: &'a mut Scratch) -> Result<Value<'a>>
+    ensures { ParsesText text.now result }
+{
+    let mut reader = Reader::new(text, scratch)?;
+    match Value::read(alloc, &mut reader, MAX_DEPTH) {
+        Ok(value) => {
+            let end = reader.offset();
+            if reader.next().is_some() {
+                Err(Error::NotJson(end))
+            } else {
+                Ok(value)
+            }
+        }
+        Err(json::Error::OutOfMemory) => Err(Error::Memory),
+        Err(_) => Err(Error::NotJson(reader.offset())),
+    }
+}
+
+/// The document of a text of JSON (RFC 8259), with its keys in their order. `scratch` is room that is kept from text to
+/// text. `NotJson` if the text is no JSON or nests deeper than 128 levels, with the byte; else the errors are those of
+/// `document_of`.
 pub fn document_of_text(alloc: Global, text: &str, scratch: &mut Scratch) -> Result<Document>
     ensures { ReadsText text.now result }
 {
-    match Value::parse_strict(alloc, text, scratch) {
-        Ok(value) => document_of(alloc, &value),
-        Err(json::Error::OutOfMemory) => Err(Error::Memory),
-        Err(_) => Err(Error::DeserializationError),
-    }
+    let value = parse(alloc, text, scratch)?;
+    document_of(alloc, &value)
 }

@@ -25,6 +25,7 @@ pub mod JsonSound
 pub mod Progress
 pub mod Held
 pub mod Heights
+pub mod ReservedPaths
 pub mod Viewing
 pub mod PlainSame
 pub mod OneRefusal

@@ -12,6 +12,7 @@ mod lengths;
 mod levels;
 mod options;
 mod plain;
+mod reserved;
 mod scalars;
 mod sorting;
 mod views;
@@ -26,5 +27,6 @@ pub use key::{
 };
 pub use levels::{depth, depth_of_document};
 pub use plain::{is_plain, is_plain_document};
+pub use reserved::{has_reserved_below, reserved_path_below};
 pub use sorting::{sort_keys, sorted};
 pub use views::same_as_raw;

@@ -9,7 +9,7 @@ ghost use Rattle.store_model.specs.State.{IsKept, or_finite, json_of};
 ghost use Rattle.store_documents.specs.Answers.{AnswersJson};
 
 use crate::read::document_of_body;
-use crate::reserved::has_reserved_below;
+use bson_meaning::has_reserved_below;
 use bson_model::extjson::Mode;
 use bson_model::{Bson, Document, extjson};
 use serde_json::Value;

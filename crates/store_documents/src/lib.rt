@@ -13,7 +13,6 @@ mod loading;
 mod name;
 mod read;
 mod repeats;
-mod reserved;
 mod row;
 mod stored;
 mod stream;

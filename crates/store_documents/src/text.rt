@@ -10,7 +10,7 @@ ghost use Rattle.store_model.specs.State.{IsKept, or_finite, json_of};
 ghost use Rattle.store_documents.specs.Answers.{AnswersText};
 
 use crate::read::document_of_body;
-use crate::reserved::has_reserved_below;
+use bson_meaning::has_reserved_below;
 use bson_model::{Document, extjson};
 use bson_text::write_canonical;
 use std::alloc::Global;

@@ -2,7 +2,7 @@ use Rattle.std.proofs.Common.{◌≡◌}
 use Rattle.bson_meaning.specs.JsonReserved.{some_reserved}
 use Rattle.bson_model.specs.Rest.{iter_rest}
 use Rattle.bson_model.specs.View.{pairs_of, members_of}
-use Rattle.store_documents.proofs.reserved.has_reserved_key.Given as goal
+use Rattle.bson_meaning.proofs.reserved.has_reserved_key.Given as goal
 
 abbrev pub invariant-loop-key : goal.invariant-loop-key
 invariant-loop-key l =

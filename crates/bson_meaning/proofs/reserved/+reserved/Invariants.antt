@@ -3,7 +3,7 @@ use Rattle.bson_base.specs.Value.{levels, items_levels, members_levels}
 use Rattle.bson_meaning.specs.JsonReserved.{has_reserved, reserved_in_items}
 use Rattle.bson_model.specs.Rest.{iter_rest}
 use Rattle.bson_model.specs.View.{view, pairs_of, items_of, members_of}
-use Rattle.store_documents.proofs.reserved.+reserved.Given as goal
+use Rattle.bson_meaning.proofs.reserved.+reserved.Given as goal
 
 abbrev pub decreases-has_reserved_inside : goal.decreases-has_reserved_inside
 decreases-has_reserved_inside l = 2 * levels (view l.value.now)
