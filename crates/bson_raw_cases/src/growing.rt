@@ -1,11 +1,11 @@
 //! Calls that make buffers, and that put something last into them, where memory is refused at one allocation.
 //!
 //! Each element of a document is put last into another one and into an array, each time into a copy that has no room
-//! left, and into a tree, as the page of `growing_trees` says; and the buffers are made of the document in every other way that takes memory. A call that is out of memory has
-//! to return just that, and to leave the buffer as it was; called again it has to do what it is for. In the end each
-//! buffer has to have the bytes of the document, so its keys are the places. Before that, memory is taken as often as
-//! the line says: under `rt try --fail-alloc N` that number decides which allocation is refused, so that all can be
-//! tried with one build (`.ci/refused_memory`).
+//! left, and into a tree, as the page of `growing_trees` says; and the buffers are made of the document in every other
+//! way that takes memory. A call that is out of memory has to return just that, and to leave the buffer as it was;
+//! called again it has to do what it is for. In the end each buffer has to have the bytes of the document, so its keys
+//! are the places. Before that, memory is taken as often as the line says: under `rt try --fail-alloc N` that number
+//! decides which allocation is refused, so that all can be tried with one build (`.ci/refused_memory`).
 
 use crate::{bytes_of, growing_trees};
 use bson_base::{SliceSource, VecSink};
@@ -193,8 +193,8 @@ fn read(alloc: Global, document: RawDocument<'_>) -> Result<Document, Error> {
     }
 }
 
-/// What a writer gets of a tree. It has room for so many bytes, so that it takes no memory. Where the call is out of memory it gets
-/// nothing.
+/// What a writer gets of a tree. It has room for so many bytes, so that it takes no memory. Where the call is out of
+/// memory it gets nothing.
 fn sent(alloc: Global, tree: &Document, room: usize) -> Result<Vec<u8>, Error> {
     let mut sink = VecSink::new(alloc);
     sink.bytes = Vec::with_capacity(alloc, room)?;

@@ -1,8 +1,9 @@
 //! Calls that put something into a tree, where memory is refused at one allocation.
 //!
-//! Each element of a document is put under its key into a copy of a tree that has those before it, by `insert` and by an entry's
-//! `or_insert`. A call that is out of memory has to return just that and to leave the tree as it was; called again it has to do what
-//! it is for. In the end the tree has to have the bytes of the document. The page of `growing` says when memory is refused.
+//! Each element of a document is put under its key into a copy of a tree that has those before it, by `insert` and by
+//! the `or_insert` of an entry. A call that is out of memory has to return just that and to leave the tree as it was;
+//! called again it has to do what it is for. In the end the tree has to have the bytes of the document. The page of
+//! `growing` says when memory is refused.
 
 use crate::growing::{Outcome, is_want_of_memory, outcome_of};
 use bson_model::Document;

@@ -1,9 +1,10 @@
 //! The program's words and its pipe, where memory is refused at one allocation.
 //!
-//! Some lines of words, each over a store of its own with two documents, and `pipe`. One that is out of memory has to have status 1, to print no more
-//! than a beginning of what it prints else, to say `refused: Memory`, and to leave the documents as they were; once more it has to do what it is for. Before
-//! that, memory is taken as often as the line says: under `rt try --fail-alloc N` that number decides which allocation is refused,
-//! so that all can be tried with one build (`.ci/refused_memory`).
+//! Some lines of words, each over a store of its own with two documents, and `pipe`. One that is out of memory has to
+//! have status 1, to print no more than a beginning of what it prints else, to say `refused: Memory`, and to leave the
+//! documents as they were; once more it has to do what it is for. Before that, memory is taken as often as the line
+//! says: under `rt try --fail-alloc N` that number decides which allocation is refused, so that all can be tried with
+//! one build (`.ci/refused_memory`).
 
 use crate::exporting::is_allocated;
 use crate::memory::{ELSEWHERE, SOME, TOO_EARLY};
@@ -131,8 +132,8 @@ fn over<S: Alter + Drop>(
     }
 }
 
-/// The same over an empty store, which gets the documents first. A line that is said to have no bytes wasn't done: there was no memory
-/// to read it.
+/// The same over an empty store, which gets the documents first. A line that is said to have no bytes wasn't done:
+/// there was no memory to read it.
 fn of_filled<S: Alter + Drop>(
     alloc: Global,
     store: &mut Store<S>,

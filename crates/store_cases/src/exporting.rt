@@ -1,8 +1,9 @@
 //! How far an export gets where memory is refused.
 //!
-//! A store in memory is filled, memory is taken as often as the line says, and then the store is exported to a writer that takes no
-//! memory. Under `rt try --fail-alloc N` that number decides which allocation of the export is refused, so that all of them can be
-//! tried with one build; `.ci/refused_memory` does so. So no memory is taken here behind the export.
+//! A store in memory is filled, memory is taken as often as the line says, and then the store is exported to a writer
+//! that takes no memory. Under `rt try --fail-alloc N` that number decides which allocation of the export is refused,
+//! so that all of them can be tried with one build; `.ci/refused_memory` does so. So no memory is taken here behind the
+//! export.
 
 use crate::counting::Counting;
 use bson_store::{ErrorKind, SliceSource, Store};
@@ -12,7 +13,8 @@ use std::alloc::{AllocError, Global};
 /// How many documents there are.
 const DOCUMENTS: u32 = 200;
 
-/// How long each of them is, and what it begins with: its length, and the tag and the key of its `_id`, a number of four bytes.
+/// How long each of them is, and what it begins with: its length, and the tag and the key of its `_id`, a number of
+/// four bytes.
 const BODY: u64 = 14;
 
 const BEGINNING: [u8; 9] = [14, 0, 0, 0, 16, 95, 105, 100, 0];

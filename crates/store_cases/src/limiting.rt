@@ -1,12 +1,14 @@
 //! Statements under the store that may take few steps only.
 //!
-//! A connection gets a limit on the steps of a statement, a store is opened over it, the commands of `stopping` are run, each whether the ones
-//! before it were refused or not, and the store is closed. Then the limit is lifted, and the store is opened again. The limit goes
-//! from 1 upwards until nothing is refused. A row says what the open or the commands replied under it, and what is found afterwards, which are
-//! the documents of the commands that weren't refused. Which limit a command needs is the database's own matter.
+//! A connection gets a limit on the steps of a statement, a store is opened over it, the commands of `stopping` are
+//! run, each whether the ones before it were refused or not, and the store is closed. Then the limit is lifted, and the
+//! store is opened again. The limit goes from 1 upwards until nothing is refused. A row says what the open or the
+//! commands replied under it, and what is found afterwards, which are the documents of the commands that weren't
+//! refused. Which limit a command needs is the database's own matter.
 //!
-//! The same is done with an opening over two rows under keys from before, which it replaces: a row says what the opening replied under the limit,
-//! and under which keys the rows are behind it, and then the same without a limit. One that is refused leaves the old keys.
+//! The same is done with an opening over two rows under keys from before, which it replaces: a row says what the
+//! opening replied under the limit, and under which keys the rows are behind it, and then the same without a limit. One
+//! that is refused leaves the old keys.
 
 use crate::lists;
 use crate::old_rows::{Keys, fill, keys};

@@ -1,14 +1,16 @@
-//! Cases of store_table, bson_store, cli_pipe and cli_commands. The files `stdin` and `stdout` hold the cases and their answers: each line of standard
-//! input is answered by one line of standard output, except in a block whose store isn't opened: it ends there, or goes on at `close`.
+//! Cases of store_table, bson_store, cli_pipe and cli_commands. The files `stdin` and `stdout` hold the cases and their
+//! answers: each line of standard input is answered by one line of standard output, except in a block whose store isn't
+//! opened: it ends there, or goes on at `close`.
 //!
-//! Before the first title each line stands alone: `export_memory TIMES` tells how far an export gets where memory is refused, as the
-//! page of `exporting` says, `usage` is the example of docs/USING.md on stores, and the others are cases of store_table, of which the
-//! page of `table` tells. `stopped log` and `stopped database` stop a file under the store at each of its calls, one after the other;
-//! they are answered by a row for each that went otherwise than the one before it, as the page of `stopping` says; so are `stopped_opening log`
-//! and `stopped_opening database`, with an opening that replaces keys from before.
+//! Before the first title each line stands alone: `export_memory TIMES` tells how far an export gets where memory is
+//! refused, as the page of `exporting` says, `usage` is the example of docs/USING.md on stores, and the others are
+//! cases of store_table, of which the page of `table` tells. `stopped log` and `stopped database` stop a file under the
+//! store at each of its calls, one after the other; they are answered by a row for each that went otherwise than the
+//! one before it, as the page of `stopping` says; so are `stopped_opening log` and `stopped_opening database`, with an
+//! opening that replaces keys from before.
 //! `limited` does the like with a limit on the steps of a statement, and `limited_opening` with an opening that replaces keys from before, as the page of `limiting`
-//! says. `memory TIMES` runs a list of commands, `opening_memory TIMES` opens a store and `words_memory TIMES` does the program's words where memory is refused, as
-//! the pages of `memory`, `opening` and `executing` say.
+//! says. `memory TIMES` runs a list of commands, `opening_memory TIMES` opens a store and `words_memory TIMES` does the
+//! program's words where memory is refused, as the pages of `memory`, `opening` and `executing` say.
 //!
 //! A line that begins with `# ` is a title, and begins a block of lines over a new database in memory. A block has
 //!
@@ -29,10 +31,12 @@
 //!   behind so many is interrupted. `export_nowhere NAME`: what `export` replies of a writer of std that takes no bytes. Both end with
 //!   how many calls of the device failed.
 //!
-//! Before the program's words, and before `pipe`, may stand `input=BYTES`; `calls=N`, `room=N` and `faults_room=N`, by which the input fails after so many
-//! calls, and the output or the faults after so many bytes: the answer then ends with how often the input, the output and the faults failed.
+//! Before the program's words, and before `pipe`, may stand `input=BYTES`; `calls=N`, `room=N` and `faults_room=N`, by
+//! which the input fails after so many calls, and the output or the faults after so many bytes: the answer then ends
+//! with how often the input, the output and the faults failed.
 //!
-//! BYTES are hexadecimal digits, as often as a number and a star before them say, with `+` between what stands one after the other; or
+//! BYTES are hexadecimal digits, as often as a number and a star before them say, with `+` between what stands one
+//! after the other; or
 //! `lines:A|B`, the text of lines; or `levels:N`, documents of so many levels with empty keys. The longest of these cases take a second or two as they are built for the gate, and minutes under
 //! `rt try`.
 #![tactic(auto)]

@@ -1,8 +1,9 @@
 //! A store that is opened over rows under keys from before, where memory is refused at one allocation.
 //!
-//! An opening that is out of memory has to return just that and to leave both rows under their old keys, and the next one has to succeed.
-//! Both rows are under their new keys then. Before that, memory is taken as often as the line says: under `rt try --fail-alloc N` that
-//! number decides which allocation is refused, so that all can be tried with one build (`.ci/refused_memory`).
+//! An opening that is out of memory has to return just that and to leave both rows under their old keys, and the next
+//! one has to succeed. Both rows are under their new keys then. Before that, memory is taken as often as the line says:
+//! under `rt try --fail-alloc N` that number decides which allocation is refused, so that all can be tried with one
+//! build (`.ci/refused_memory`).
 
 use crate::exporting::is_allocated;
 use crate::memory::{ELSEWHERE, TOO_EARLY};
@@ -48,7 +49,8 @@ fn opened<S: Alter + Drop>(
     }
 }
 
-/// What is there behind an opening. Reading the rows may be out of memory: where they are others, they are read once more.
+/// What is there behind an opening. Reading the rows may be out of memory: where they are others, they are read once
+/// more.
 fn behind_opening<S: Alter + Drop>(alloc: Global, mut connection: Connection<S>) -> &'static str {
     match keys(alloc, &mut connection) {
         Ok(Keys::New) => "well",
