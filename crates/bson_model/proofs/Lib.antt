@@ -12,3 +12,4 @@ pub mod JsonGrammarLemmas
 pub mod ExtendLemmas
 pub mod Seen
 pub mod LendLemmas
+pub mod KeyMarks

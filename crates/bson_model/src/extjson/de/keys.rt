@@ -25,9 +25,9 @@ pub enum Wrapper {
     Undefined,
 }
 
-/// The kind of typed value that a key marks, if it marks one.
+/// The kind of typed value that a key marks, if it marks one, by all of its bytes.
 #[tactic(auto, unfolding(crate::specs::JsonKeys::reserved_of))]
-pub fn wrapper_of(key: &str) -> Option<Wrapper>
+fn marked_by(key: &str) -> Option<Wrapper>
     ensures { option_map reserved_key result ≡ reserved_of key.now }
 {
     match key {
@@ -48,6 +48,17 @@ pub fn wrapper_of(key: &str) -> Option<Wrapper>
         "$dbPointer" => Some(Wrapper::DbPointer),
         "$undefined" => Some(Wrapper::Undefined),
         _ => None,
+    }
+}
+
+/// The kind of typed value that a key marks, if it marks one. All keys that do begin with `$`, and few others: so most
+/// keys are held against no other text.
+pub fn wrapper_of(key: &str) -> Option<Wrapper>
+    ensures { option_map reserved_key result ≡ reserved_of key.now }
+{
+    match key.as_bytes() {
+        [] => None,
+        [first, ..] => { if *first == b'$' { marked_by(key) } else { None } }
     }
 }
 
