@@ -310,11 +310,12 @@ holds("a small file", run("few.db", "load", "c", given=few), (0, b"3\n", ""))
 holds("a filter of many levels", run("few.db", "count", "c", NOT), (0, b"3\n", ""))
 wanted = {(0, b"3\n", ""), (1, b"", "refused: Memory\n")}
 found = set()
-for kilobytes in range(3000, 16000, 200):
+for kilobytes in range(16000, 3000, -200):
     limit = kilobytes << 10
     ended = run("few.db", "count", "c", NOT, limited=lambda: resource.setrlimit(resource.RLIMIT_AS, (limit, limit)))
-    # With the least of these the system can't load the program.
-    if ended[0] != 127:
-        found.add(ended)
+    # With less the system can't load the program.
+    if ended[0] == 127:
+        break
+    found.add(ended)
 holds("with little memory", found, wanted)
 print("all as it should be")

@@ -2,7 +2,7 @@
 
 ghost use Rattle.bson_base.specs.Device.{CanFail, CanRefuse};
 
-use crate::words::patience_of;
+use crate::words::{only_word, patience_of};
 use bson_store::{ErrorKind, Sink, Source, Store};
 use cli_files::{close, misuse, open_within, refuse, refuse_file};
 use sqlite::{Alter, Connection};
@@ -69,8 +69,8 @@ pub fn serve<I: Source, O: Sink, F: Sink>(
     requires faults { CanRefuse (F.tally faults.old) }
 {
     let (seconds, words) = patience_of(words).unwrap_or((0, words));
-    match words {
-        [file] => hold(rt, file.as_str(), seconds, input, output, faults),
-        _ => misuse(faults),
+    match only_word(words) {
+        Some(file) => hold(rt, file, seconds, input, output, faults),
+        None => misuse(faults),
     }
 }

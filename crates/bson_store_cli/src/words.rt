@@ -1,6 +1,6 @@
 //! The name under which the program was started, and the words behind that which aren't in the table of commands.
 
-ghost use Rattle.std.specs.Prelude.{◌≡◌, ◌↔◌, ℕ, List, MatchOption, Some, codes, map, string_bytes};
+ghost use Rattle.std.specs.Prelude.{◌≡◌, ◌↔◌, ℕ, List, [], ◌∷◌, MatchOption, Some, codes, map, string_bytes};
 ghost use Rattle.std.specs.Path.{path_file_name};
 ghost use Rattle.bson_store_cli.specs.Words.{AsksForCopy, AsksToWait};
 ghost use Rattle.bson_store_cli.specs.declared.words.Program.TheVariants.{Json, Session};
@@ -57,6 +57,18 @@ pub fn patience_of(words: &[String]) -> Option<(u64, &[String])>
     Some((seconds, behind))
 }
 
+/// The one word that there is; none if there are more or none.
+pub fn only_word(words: &[String]) -> Option<&str>
+    ensures { MatchOption result
+        ((word : List ℕ) → map string_bytes words.now ≡ word ∷ [] → ⊥)
+        (λ word. map string_bytes words.now ≡ word.now ∷ []) }
+{
+    match words {
+        [word] => Some(word.as_str()),
+        _ => None,
+    }
+}
+
 /// The file and the path of its back-up; none if the words don't ask for one.
 pub fn copy_of(words: &[String]) -> Option<(&str, &str)>
     ensures { MatchOption result
@@ -68,9 +80,6 @@ pub fn copy_of(words: &[String]) -> Option<(&str, &str)>
     if word.as_str() != "backup" {
         return None;
     }
-    let (path, behind) = behind.split_first()?;
-    if !behind.is_empty() {
-        return None;
-    }
-    Some((file.as_str(), path.as_str()))
+    let path = only_word(behind)?;
+    Some((file.as_str(), path))
 }
