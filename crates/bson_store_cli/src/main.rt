@@ -52,7 +52,7 @@ fn run_conversion<O: Write>(rt: &HostRuntime, words: &[String], output: &mut Cou
 
 /// Lets the gathered output go out, and returns the program's status: a failure here is one of the output, like any
 /// write's before it.
-fn let_out<W: Write>(rt: &HostRuntime, mut output: Counted<BufWriter<W>>, status: u8) -> u8 {
+fn let_out<W: Write + Drop>(rt: &HostRuntime, mut output: Counted<BufWriter<W>>, status: u8) -> u8 {
     match output.device.flush() {
         Err(_) if status == 0 => report(rt, ErrorKind::Writer),
         _ => status,
