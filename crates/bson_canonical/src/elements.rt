@@ -88,7 +88,7 @@ fn has_fault(frame: &Frame<'_>) -> bool
 }
 
 /// True: the payload is as it is written, of a kind with nothing inside.
-fn is_scalar_written(tag: ElementType, payload: &[u8]) -> bool
+pub(crate) fn is_scalar_written(tag: ElementType, payload: &[u8]) -> bool
     requires { IsPayload tag payload.now }
     ensures written { IsTrue result → IsWritten tag payload.now }
     ensures spelled { IsTrue result → IsFaultless tag payload.now → IsSpelled tag payload.now 0 }

@@ -4,11 +4,13 @@ ghost use Rattle.std.specs.Prelude.{◌≡◌, ◌≤◌, drop, IsTrue, IfSome};
 ghost use Rattle.bson_base.specs.Value.{document, levels, Members};
 ghost use Rattle.bson_bytes.specs.Encode.{encode};
 ghost use Rattle.bson_bytes.specs.Spells.{Means, SpellsMembers, settle};
+ghost use Rattle.bson_frame.specs.Payload.{IsPayload};
 ghost use Rattle.bson_frame.specs.View.{element_of};
-ghost use Rattle.bson_canonical.specs.Written.{IsWrittenUnder};
+ghost use Rattle.bson_canonical.specs.Written.{IsWritten, IsWrittenUnder};
 
-use crate::elements::{are_written, first_under, is_written};
+use crate::elements::{are_written, first_under, is_scalar_written, is_written};
 use crate::keys::KeptKeys;
+use bson_base::ElementType;
 use bson_frame::{Frame, LEVEL_LIMIT};
 
 /// True: what follows the length spells a document of at most 100 levels without a fault at any level, and the bytes are
@@ -18,9 +20,9 @@ use bson_frame::{Frame, LEVEL_LIMIT};
 ///
 /// False says nothing: that is returned, too, for options that aren't ASCII, pointers, code with scope and old binaries,
 /// and for a key that isn't greater by its bytes than all before it, where these and the keys before it in the documents
-/// around it are over 128.
+/// around it are over 96.
 ///
-/// It goes over the bytes once. A key that is greater than all before it takes one comparison, another one up to 128.
+/// It goes over the bytes once. A key that is greater than all before it takes one comparison, another one up to 96.
 pub fn is_written_form(bytes: &[u8]) -> bool
     ensures form { IsTrue result → (d : Members) → Means bytes.now d → bytes.now ≡ encode d }
     ensures settled { IsTrue result → (ms : Members) → SpellsMembers (drop 4 bytes.now) ms → settle ms ≡ ms }
@@ -33,6 +35,20 @@ pub fn is_written_form(bytes: &[u8]) -> bool
     are_written(elements, LEVEL_LIMIT - 1, &mut kept)
 }
 
+/// True: the payload of a frame is as it is written. The array of keys is made for a document or an array alone.
+fn is_written_alone(frame: &Frame<'_>) -> bool
+    requires { IsPayload frame.now.tag frame.now.payload.now }
+    ensures { IsTrue result → IsWritten frame.now.tag frame.now.payload.now }
+{
+    match frame.tag {
+        ElementType::EmbeddedDocument | ElementType::Array => {
+            let mut kept = KeptKeys::new();
+            is_written(frame, LEVEL_LIMIT - 1, &mut kept)
+        }
+        _ => is_scalar_written(frame.tag, frame.payload),
+    }
+}
+
 /// The first element of a key, of a document whose bytes these are. Its payload is the written form of the value under
 /// the key. None says nothing: that is returned, too, for a value for which `is_written_form` would say nothing.
 pub fn written_element<'a>(key: &str, bytes: &'a [u8]) -> Option<Frame<'a>>
@@ -42,8 +58,7 @@ pub fn written_element<'a>(key: &str, bytes: &'a [u8]) -> Option<Frame<'a>>
         return None;
     };
     let frame = first_under(key, elements)?;
-    let mut kept = KeptKeys::new();
-    if is_written(&frame, LEVEL_LIMIT - 1, &mut kept) {
+    if is_written_alone(&frame) {
         Some(frame)
     } else {
         None

@@ -12,7 +12,7 @@ use arrayvec::ArrayVec;
 use std::cmp::Ordering;
 
 /// How many keys are kept to be compared with later ones.
-const MOST_KEYS: usize = 128;
+const MOST_KEYS: usize = 96;
 
 /// The keys that are kept, of all documents that are being gone over, the innermost last: there is one array, since
 /// each document inside would take longer to make its own than to be gone over.

@@ -1,6 +1,8 @@
 //! What the texts among the words stand for.
 
-ghost use Rattle.std.specs.Prelude.{◌≡◌, MatchResult};
+ghost use Rattle.std.specs.Prelude.{◌≡◌, IfOk, IfSome, MatchResult, Some};
+ghost use Rattle.serde_json.specs.Read.{read as data_of_text};
+ghost use Rattle.serde_json.specs.View.{view as data_of};
 ghost use Rattle.cli_words.specs.Texts.{AnswersId, AnswersText};
 
 use bson_model::{Bson, extjson};
@@ -80,11 +82,38 @@ pub fn parse_json(alloc: Global, text: &str) -> Result<Value, TextError>
     Ok(tree)
 }
 
+/// The tree of a text that is a whole number as it is printed, of 64 bits with a sign. The JSON reader fills a table
+/// before it begins, which takes longer than all else of a `get`.
+fn tree_of_number(alloc: Global, text: &str) -> Result<Option<Value>, AllocError>
+    ensures { IfOk result (λ j. IfSome j (λ j. data_of_text text.now ≡ Some (data_of j))) }
+{
+    let Ok(number) = text.parse::<i64>() else {
+        return Ok(None);
+    };
+    let tree = Value::from(number);
+    let printed = tree.to_string(alloc)?;
+    if printed.as_str() == text {
+        Ok(Some(tree))
+    } else {
+        Ok(None)
+    }
+}
+
+/// The tree of the text of an `_id`.
+fn tree_of_id(alloc: Global, text: &str) -> Result<Value, TextError>
+    ensures { AnswersText text.now result }
+{
+    if let Some(tree) = tree_of_number(alloc, text)? {
+        return Ok(tree);
+    }
+    parse_json(alloc, text)
+}
+
 /// The value of an Extended JSON text (MongoDB Extended JSON v2).
 pub fn read_id(alloc: Global, text: &str) -> Result<Bson, TextError>
     ensures { AnswersId text.now result }
 {
-    let tree = parse_json(alloc, text)?;
+    let tree = tree_of_id(alloc, text)?;
     let id = Bson::try_from_value(alloc, tree)?;
     Ok(id)
 }

@@ -1,5 +1,4 @@
 pub mod OfBytes
-pub mod OfJson
 pub mod OfBodies
 pub mod OfChanges
 pub mod OfRows

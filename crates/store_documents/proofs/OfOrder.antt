@@ -1,5 +1,5 @@
 -- Documents that are written in order, without the tree of their normal form.
-use Rattle.std.proofs.Common.{◌≡◌, ◌⊎◌, inl, inr, ℕ, ◌<◌, ◌≤◌, List, length, Some, None, Result, Ok, Err, refl, sym, ap, ◌∙◌, arith}
+use Rattle.std.proofs.Common.{◌≡◌, ◌≢◌, ◌⊎◌, inl, inr, ℕ, ◌<◌, ◌≤◌, List, length, Some, None, Result, Ok, Err, refl, sym, ap, ◌∙◌, arith}
 use Rattle.std.specs.Prelude.{IsUtf8, option_map}
 use Rattle.std.specs.Cow.{cow_slice_items}
 use Rattle.std.proofs.lemmas.Bool.{lt-ltb}
@@ -22,13 +22,12 @@ use Rattle.store_model.specs.Reading.{readable, IsRead, Keeps, ReadsTree}
 use Rattle.store_model.specs.State.{id_key}
 use Rattle.store_model.specs.Table.{only_id, own_id}
 use Rattle.store_model.specs.declared.error.ErrorKind.{ErrorKind}
-use Rattle.store_model.specs.declared.error.ErrorKind.TheVariants.{NoId, Nul}
+use Rattle.store_model.specs.declared.error.ErrorKind.TheVariants.{JsonRefused, Memory, NoId, Nul}
 use Rattle.store_model.proofs.Ids.{key_long, own_is, own_of}
 use Rattle.store_model.proofs.Restore.{in_order_read, in_order_same_form}
 use Rattle.store_documents.specs.Bodies.{AnswersInput, IsKeyOf, IsOrderedBody, IsUnordered, refusal_of_key}
 use Rattle.store_documents.specs.declared.write.KeptRow.{KeptRow}
 use Rattle.store_documents.proofs.OfBodies.{kept_read, no_refusal}
-use Rattle.store_documents.proofs.OfJson.{TellsJsonFault}
 
 -- ---- ids
 
@@ -102,6 +101,10 @@ from_tree j js e (Ok w) is reads (m, kept, read, row) = (m, rw (is, reads) kept,
 from_tree j js e (Err k) is reads (inl unfit) = inl (rw (is, reads) unfit)
 from_tree j js e (Err k) is reads (inr (inl (m, kept, refused))) = inr (inl (m, rw (is, reads) kept, refused))
 from_tree j js e (Err k) is reads (inr (inr memory)) = inr (inr memory)
+
+-- the refusal for a fault of the reader
+abbrev pub TellsJsonFault : Error → ErrorKind → Type 0
+TellsJsonFault x k = ((x ≡ json_faults.Memory) × (k ≡ Memory)) ⊎ ((x ≢ json_faults.Memory) × (k ≡ JsonRefused))
 
 -- the JSON reader answered a fault
 pub faulted : (j : Data) (js : JsonMembers) (x : Error) (k : ErrorKind) → j ≡ object js → Fails x (read_members js) → TellsJsonFault x k → AnswersInput (ReadsTree j) (Err k)

@@ -5,14 +5,15 @@ use Rattle.std.specs.Cow.{cow_slice_items}
 use Rattle.std.specs.Int.{w32, to_le_bytes}
 use Rattle.bson_base.specs.Kinds.{AreBytes, IsClean, IsPlain, IsSound}
 use Rattle.bson_base.specs.Tags.{tag_byte}
-use Rattle.bson_base.specs.Value.{Value, value_kind, scalar, array, document, scoped_code, double, string, binary, undefined, object_id, boolean, date_time, null, regex, db_pointer, code, symbol, int32, timestamp, int64, decimal, max_key, min_key, Members}
+use Rattle.bson_base.specs.Value.{Value, value_kind, scalar, array, document, scoped_code, double, string, binary, undefined, object_id, boolean, date_time, null, regex, db_pointer, code, symbol, int32, timestamp, int64, decimal, max_key, min_key, levels, Members}
 use Rattle.bson_bytes.specs.Encode.{encode, cstring_of, frame_of, le32, size, value_bytes}
 use Rattle.bson_bytes.specs.Spells.{Means, SpellsMembers, settle}
 use Rattle.bson_bytes.proofs.Lengths.{encode_length, framed_length}
 use Rattle.bson_bytes.proofs.One.{one_meaning}
 use Rattle.bson_bytes.proofs.Settled.{comes_back}
 use Rattle.bson_frame.specs.Frame.{Element, size_limit}
-use Rattle.bson_meaning.specs.Gate.{Passes}
+use Rattle.bson_frame.specs.Payload.{IsEnvelope}
+use Rattle.bson_meaning.specs.Gate.{IsCounted, Passes}
 use Rattle.bson_meaning.specs.Meaning.{key}
 use Rattle.bson_meaning.specs.declared.key.KeyError.{KeyError}
 use Rattle.bson_meaning.specs.declared.key.KeyError.TheVariants as key_errors
@@ -114,6 +115,10 @@ module _ (d : Members) (e : Element) (kept : IsKept d) (w : IsWrittenUnder id_ke
   alone_refused bytes m key_errors.Memory k is means told not_plain too_long = told
 
 -- ---- bytes that are their document's written form
+
+-- whole bytes that spell a document which isn't deep pass the gate
+pub passing : (bytes : List ℕ) → IsCounted bytes × IsEnvelope bytes → ((ms : Members) × SpellsMembers (drop 4 bytes) ms × (levels (document ms) ≤ 100)) → Passes bytes
+passing bytes whole spelled = (whole.0, whole.1, spelled)
 
 -- the document that passing bytes mean
 pub meant : (bytes : List ℕ) → (p : Passes bytes) → Means bytes (settle p.2.0)

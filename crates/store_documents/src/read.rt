@@ -3,27 +3,22 @@
 ghost use Rattle.std.specs.Prelude.{◌≡◌, ◌⊎◌, ◌≢◌, IfOk, MatchOption, MatchResult};
 ghost use Rattle.serde_json.specs.Data.{object};
 ghost use Rattle.serde_json.specs.View.{view as data_of, members_view};
-ghost use Rattle.bson_base.specs.Kinds.{IsSound};
-ghost use Rattle.bson_base.specs.Value.{document as tree, Members};
+ghost use Rattle.bson_base.specs.Value.{Members};
 ghost use Rattle.bson_bytes.specs.Encode.{encode};
 ghost use Rattle.bson_bytes.specs.Spells.{Means};
-ghost use Rattle.bson_meaning.specs.Meaning.{norm_members_in_order};
 ghost use Rattle.bson_model.specs.View.{content};
 ghost use Rattle.bson_model.specs.declared.extjson.de.Error.TheVariants as json_faults;
-ghost use Rattle.store_model.specs.Reading.{IsRead, IsUnfit, Keeps, ReadsTree, kind_of_gate_error, readable, unreadable};
+ghost use Rattle.store_model.specs.Reading.{IsRead, ReadsTree, kind_of_gate_error, unreadable};
 ghost use Rattle.store_model.specs.State.{IsKept};
 ghost use Rattle.store_model.specs.declared.error.ErrorKind.TheVariants.{JsonRefused, Memory, NotAnObject};
-ghost use Rattle.store_documents.specs.Answers.{AnswersBytes, AnswersTree, AnswersValue};
+ghost use Rattle.store_documents.specs.Answers.{AnswersBytes, AnswersValue};
 
 use bson_frame as frames;
-use bson_frame::LEVEL_LIMIT;
-use bson_meaning::{
-    GateError, depth_of_document, gate, is_plain_document, normalize_document, sorted,
-};
+use bson_meaning::{GateError, gate};
 use bson_model::{Bson, Document, extjson};
 use bson_raw::RawDocument;
 use serde_json::{Map, Value};
-use std::alloc::{AllocError, Global};
+use std::alloc::Global;
 use store_model::ErrorKind;
 
 /// The refusal for a test of the gate.
@@ -98,31 +93,6 @@ pub fn document_of_bytes(alloc: Global, bytes: &[u8]) -> Result<Document, ErrorK
     document_of(alloc, bytes)
 }
 
-/// The normal form of a document, with its keys in order.
-fn in_order(alloc: Global, document: Document) -> Result<Document, AllocError>
-    ensures normal { IfOk result (λ d. content d ≡ norm_members_in_order (content document)) }
-    ensures sound { IfOk result (λ _. IsSound (tree (content document))) }
-{
-    let normal = normalize_document(alloc, document)?;
-    sorted(alloc, normal)
-}
-
-/// The normal form with its keys in order, of a document that can be kept. `TooDeep` or `Nul` if it can't be, in this
-/// order.
-fn kept(alloc: Global, document: Document) -> Result<Document, ErrorKind>
-    ensures kept { MatchResult result (λ e. Keeps (content document) (readable (content e)))
-        (λ k. (k ≡ Memory) ⊎ IsUnfit (content document) k) }
-    ensures sound { IfOk result (λ _. IsSound (tree (content document))) }
-{
-    if depth_of_document(&document) > LEVEL_LIMIT {
-        return Err(ErrorKind::TooDeep);
-    }
-    if !is_plain_document(&document) {
-        return Err(ErrorKind::Nul);
-    }
-    in_order(alloc, document).map_err(|_| ErrorKind::Memory)
-}
-
 /// The members of an object.
 pub(crate) fn object_of(json: Value) -> Option<Map<String, Value>>
     ensures { MatchOption result (ReadsTree (data_of json) (unreadable NotAnObject)) (λ m. data_of json ≡ object (members_view m.entries)) }
@@ -130,24 +100,6 @@ pub(crate) fn object_of(json: Value) -> Option<Map<String, Value>>
     match json {
         Value::Object(map) => Some(map),
         _ => None,
-    }
-}
-
-/// The document that a JSON tree stands for (MongoDB Extended JSON v2), in normal form with its keys in order.
-///
-/// `NotAnObject` if the tree is no object; `JsonRefused` if it is no Extended JSON, or holds a finite double other than
-/// the zeros; `TooDeep` if the document has over 100 levels; `Nul` if a 00 stands in a key, a pattern or options of it;
-/// each if none before it is reported. `Memory` if a growth was refused, and never in the place of `NotAnObject`.
-pub fn document_of_json(alloc: Global, json: Value) -> Result<Document, ErrorKind>
-    ensures answer { AnswersTree (data_of json) result }
-    ensures read { IfOk result (λ d. IsRead (content d)) }
-{
-    let Some(map) = object_of(json) else {
-        return Err(ErrorKind::NotAnObject);
-    };
-    match Document::try_from_map(alloc, map) {
-        Ok(document) => kept(alloc, document),
-        Err(error) => Err(json_refusal(error)),
     }
 }
 

@@ -12,10 +12,10 @@ ghost use Rattle.store_documents.specs.Bodies.{AnswersKept, IsRow, TellsKey};
 
 use crate::ids::ID_KEY;
 use crate::name::Name;
-use crate::read::{document_of, gate_refusal};
+use crate::read::document_of;
 use crate::stored::{key_as_it_stands, row_by_tree, row_of_bytes};
 use crate::write::KeptRow;
-use bson_meaning::{KeyError, gate, meaning_key_before_of_element};
+use bson_meaning::{KeyError, meaning_key_before_of_element};
 use std::alloc::{AllocError, Global};
 use store_model::ErrorKind;
 
@@ -59,9 +59,6 @@ pub fn is_store_row(
 {
     if !is_text_of_name(collection) {
         return Ok(false);
-    }
-    if let Err(error) = gate(body) {
-        return outcome_of_refusal(gate_refusal(error));
     }
     match key_as_it_stands(alloc, body) {
         Ok(Some(own)) => Ok(is_same(own.as_slice(), key)),

@@ -4,8 +4,9 @@ ghost use Rattle.std.specs.Prelude.{◌≡◌, ◌+◌, ◌<◌, ◌^◌, ◌++�
 ghost use Rattle.bson_base.specs.Tags.{tag_byte};
 ghost use Rattle.bson_base.specs.Value.{Members};
 ghost use Rattle.bson_bytes.specs.Encode.{cstring_of, frame_of};
+ghost use Rattle.bson_frame.specs.Payload.{IsEnvelope};
 ghost use Rattle.bson_frame.specs.View.{element_of};
-ghost use Rattle.bson_meaning.specs.Gate.{Passes};
+ghost use Rattle.bson_meaning.specs.Gate.{IsCounted, Passes};
 ghost use Rattle.bson_meaning.specs.Meaning.{key};
 ghost use Rattle.bson_canonical.specs.Written.{IsWrittenUnder};
 ghost use Rattle.store_model.specs.State.{id_key, IsKept};
@@ -18,7 +19,7 @@ use crate::read::{document_of, gate_refusal};
 use crate::write::{KeptRow, key_refusal, row_of_document};
 use bson_base::ElementType;
 use bson_canonical::{is_written_form, written_element};
-use bson_frame::Frame;
+use bson_frame::{Frame, SIZE_LIMIT, is_envelope};
 use bson_meaning::{gate, meaning_key};
 use std::alloc::{AllocError, Global};
 use std::borrow::CowSlice;
@@ -77,13 +78,19 @@ fn key_of_element(alloc: Global, id: &Frame<'_>) -> Result<Vec<u8>, ErrorKind>
     }
 }
 
-/// The key of the document that bytes mean, where they are its written form and that is seen without its tree. `Memory`
-/// if a growth was refused.
-pub(crate) fn key_as_it_stands(alloc: Global, bytes: &[u8]) -> Result<Option<Vec<u8>>, ErrorKind>
-    requires { Passes bytes.now }
-    ensures { MatchResult result (λ k. IfSome k (λ k. StandUnder k.items bytes.now)) (λ e. e ≡ Memory) }
+/// Whether the bytes have the length that they begin with, of at most 16777216, and end in 00.
+fn is_whole(bytes: &[u8]) -> bool
+    ensures { IsTrue result → IsCounted bytes.now × IsEnvelope bytes.now }
 {
-    if !is_written_form(bytes) {
+    bytes.len() <= SIZE_LIMIT && is_envelope(bytes)
+}
+
+/// The key of the document that bytes mean, where they pass the gate and are its written form, and both are seen
+/// without its tree. `Memory` if a growth was refused; the bytes pass the gate then, too.
+pub(crate) fn key_as_it_stands(alloc: Global, bytes: &[u8]) -> Result<Option<Vec<u8>>, ErrorKind>
+    ensures { MatchResult result (λ k. IfSome k (λ k. StandUnder k.items bytes.now)) (λ e. (e ≡ Memory) × Passes bytes.now) }
+{
+    if !is_whole(bytes) || !is_written_form(bytes) {
         return Ok(None);
     }
     let Some(id) = written_element(ID_KEY, bytes) else {
@@ -93,11 +100,13 @@ pub(crate) fn key_as_it_stands(alloc: Global, bytes: &[u8]) -> Result<Option<Vec
     Ok(Some(key))
 }
 
-/// The row of the document that bytes mean, by its tree.
+/// The row of the document that bytes mean, by its tree. The gate's refusals come first.
 pub(crate) fn row_by_tree(alloc: Global, bytes: &[u8]) -> Result<KeptRow<'static>, ErrorKind>
-    requires { Passes bytes.now }
     ensures { AnswersKept bytes.now result }
 {
+    if let Err(error) = gate(bytes) {
+        return Err(gate_refusal(error));
+    }
     let document = document_of(alloc, bytes)?;
     row_of_document(alloc, &document)
 }
@@ -111,9 +120,6 @@ pub(crate) fn row_by_tree(alloc: Global, bytes: &[u8]) -> Result<KeptRow<'static
 pub fn row_of_bytes(alloc: Global, bytes: &[u8]) -> Result<KeptRow<'_>, ErrorKind>
     ensures { AnswersKept bytes.now result }
 {
-    if let Err(error) = gate(bytes) {
-        return Err(gate_refusal(error));
-    }
     if let Some(key) = key_as_it_stands(alloc, bytes)? {
         return Ok(KeptRow {
             key,

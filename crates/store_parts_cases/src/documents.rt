@@ -1,14 +1,13 @@
 //! Documents as they come into a store and go out of it.
 
 use crate::{tell, told};
-use bson_model::Document;
 use bson_model::extjson::Mode;
 use cli_words::TextError;
 use serde_json::Value;
 use std::alloc::Global;
 use store_documents::{
-    Name, Unset, body_with, body_without, check_json, document_of_bytes, document_of_json,
-    is_store_row, json_of_body, row_of_document, value_of_json,
+    KeptRow, Name, Unset, body_with, body_without, check_json, is_store_row, json_of_body,
+    row_of_bytes, row_of_json, value_of_json,
 };
 use store_model::ErrorKind;
 
@@ -26,29 +25,18 @@ pub fn of_json(alloc: Global, word: &str, rest: &str) -> Result<String, TextErro
     let json = cli_words::parse_json(alloc, rest)?;
     match word {
         "value" => tell::outcome(alloc, value_of_json(alloc, json)),
-        "document" => document(alloc, json),
         "kept" => tell::digits_of(alloc, kept(alloc, json)),
         _ => Err(TextError::Unreadable),
     }
 }
 
-/// The document that JSON stands for.
-fn document(alloc: Global, json: Value) -> Result<String, TextError> {
-    match document_of_json(alloc, json) {
-        Ok(document) => tell::digits_of(alloc, told::written(alloc, &document)),
-        Err(kind) => tell::shown(alloc, &kind),
-    }
-}
-
 /// What the document that JSON stands for is written as.
 fn kept(alloc: Global, json: Value) -> Result<Vec<u8>, ErrorKind> {
-    let document = document_of_json(alloc, json)?;
-    body(alloc, &document)
+    body(alloc, row_of_json(alloc, json)?)
 }
 
-/// What a document is written as.
-fn body(alloc: Global, document: &Document) -> Result<Vec<u8>, ErrorKind> {
-    let row = row_of_document(alloc, document)?;
+/// The body of a row.
+fn body(alloc: Global, row: KeptRow<'_>) -> Result<Vec<u8>, ErrorKind> {
     row.body.into_owned(alloc).map_err(|_| ErrorKind::Memory)
 }
 
@@ -67,14 +55,12 @@ pub fn of_bytes(alloc: Global, word: &str, rest: &str) -> Result<String, TextErr
 
 /// What bytes are written as again.
 fn rewritten(alloc: Global, bytes: &[u8]) -> Result<Vec<u8>, ErrorKind> {
-    let document = document_of_bytes(alloc, bytes)?;
-    body(alloc, &document)
+    body(alloc, row_of_bytes(alloc, bytes)?)
 }
 
 /// The key under which bytes are written.
 fn row_key(alloc: Global, bytes: &[u8]) -> Result<Vec<u8>, ErrorKind> {
-    let document = document_of_bytes(alloc, bytes)?;
-    Ok(row_of_document(alloc, &document)?.key)
+    Ok(row_of_bytes(alloc, bytes)?.key)
 }
 
 /// A document as JSON.

@@ -22,8 +22,8 @@
 //! - `filter TEXT`: what it reads as. `selects FILTER | BYTES`: whether it selects the document.
 //! - `means KEPT | ASKED`: whether `{v: KEPT}` is selected by what asks for ASKED at `v`.
 //! - `look PATH | BYTES`: the kind of what stands at the path, and how many elements were met. `project KEYS | BYTES`: what is left.
-//! - `name TEXT`: the name of a collection. `value JSON`, `document JSON`: what it is read as. `kept JSON`, `rewritten BYTES`: the
-//!   bytes that it is written as. `row_key BYTES`: the key that it is written under. `reread DOCUMENT`: whether it comes out of its
+//! - `name TEXT`: the name of a collection. `value JSON`: what it is read as. `kept JSON`, `rewritten BYTES`: the bytes that it is
+//!   written as. `row_key BYTES`: the key that it is written under. `reread DOCUMENT`: whether it comes out of its
 //!   bytes as it went in.
 //! - `set KEY | VALUE | BYTES`, `unset KEY | BYTES`: the document with the member set or taken out.
 //! - `canonical BYTES`, `relaxed BYTES`: the document as JSON. `checked BYTES`: why it has no canonical tree, as it is told without
@@ -73,7 +73,7 @@ fn answer(alloc: Global, word: &str, rest: &str) -> Result<String, TextError> {
 fn answer_store(alloc: Global, word: &str, rest: &str) -> Result<String, TextError> {
     match word {
         "name" => documents::name(alloc, rest),
-        "value" | "document" | "kept" => documents::of_json(alloc, word, rest),
+        "value" | "kept" => documents::of_json(alloc, word, rest),
         "rewritten" | "row_key" | "canonical" | "checked" | "relaxed" => {
             documents::of_bytes(alloc, word, rest)
         }

@@ -1,16 +1,9 @@
-use Rattle.std.proofs.Common.{inl, refl, sym, ◌∙◌}
+use Rattle.std.proofs.Common.{refl, sym, ◌∙◌}
 use Rattle.std.specs.Cow.{cow_slice_items}
 use Rattle.std.proofs.lemmas.Result.{IfOk-weaker}
 use Rattle.store_documents.specs.Bodies.{StandUnder}
 use Rattle.store_documents.proofs.OfRows.{is_row, no_row, not_answered, row_back, WritesAs}
 use Rattle.store_documents.proofs.row.is_store_row.Goals as goal
-
-pub returns-in-Err : goal.returns-in-Err
-returns-in-Err c =
-    let n = c.args.collection.now in
-    let k = c.args.key.now in
-    let bytes = c.args.body.now in
-    IfOk-weaker c.outcome_of_refusal.result _ _ (λ b h. no_row b n k bytes h.0 (not_answered n k bytes c.gate_refusal.result (inl (c.in-Err.error, c.in-Err.ensures, c.gate_refusal.ensures)) h.1)) c.outcome_of_refusal.ensures
 
 pub returns-in-Ok-Some : goal.returns-in-Ok-Some
 returns-in-Ok-Some c =
@@ -45,4 +38,4 @@ returns-in-Err-row_by_tree c =
     let n = c.args.collection.now in
     let k = c.args.key.now in
     let bytes = c.args.body.now in
-    IfOk-weaker c.outcome_of_refusal-in-Err-row_by_tree.result _ _ (λ b h. no_row b n k bytes h.0 (not_answered n k bytes c.in-Err-row_by_tree.kind c.in-Err-row_by_tree.ensures h.1)) c.outcome_of_refusal-in-Err-row_by_tree.ensures
+    IfOk-weaker c.outcome_of_refusal.result _ _ (λ b h. no_row b n k bytes h.0 (not_answered n k bytes c.in-Err-row_by_tree.kind c.in-Err-row_by_tree.ensures h.1)) c.outcome_of_refusal.ensures

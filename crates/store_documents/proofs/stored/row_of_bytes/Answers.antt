@@ -6,4 +6,4 @@ use Rattle.bson_bytes.proofs.Meant.{are_bytes}
 pub returns-in_err-key : goal.returns-in_err-key
 returns-in_err-key c =
     let p = err_from_is_err_and c.from_residual.result c.from_residual.ensures.1 in
-    rw (p.1, p.2) (wants c.args.bytes.now (are_bytes c.args.bytes.now c.type_inv.bytes) c.in_default.ensures c.in_err-key.field-0.0 c.in_err-key.ensures)
+    rw (p.1, p.2) (wants c.args.bytes.now (are_bytes c.args.bytes.now c.type_inv.bytes) c.in_err-key.ensures.1 c.in_err-key.field-0.0 c.in_err-key.ensures.0)
