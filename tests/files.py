@@ -157,12 +157,20 @@ holds("a back-up that is put back", run("shop.db", "export", "c") == (0, exporte
 
 # Sessions that are killed at any moment, each begun over what the one before left.
 least = 3000
+
+
+def feed(session, lines):
+    try:
+        session.process.stdin.write(lines)
+    except BrokenPipeError:
+        pass  # the session was killed
+
+
 for turn in range(12):
     shop = Session("shop.db")
     shop("collections")
     sent = b"".join(json.dumps({"words": ["insert", "c", document(10000 + 1000 * turn + i)]}).encode() + b"\n" for i in range(900))
-    feeder = threading.Thread(target=lambda: shop.process.stdin.write(sent), daemon=True)
-    feeder.start()
+    threading.Thread(target=feed, args=(shop, sent), daemon=True).start()
     answered = sum(1 for _ in (shop.process.stdout.readline() for _ in range(random.randrange(1, 700))))
     shop.kill()
     status, out, told = run("shop.db", "backup", f"turn{turn}.db")
@@ -174,7 +182,8 @@ for turn in range(12):
 
 # ---- Beside a session that never rests: what was acknowledged before is in it, and no more than one that wasn't yet.
 shop = Session("race.db")
-acknowledged = 0
+shop.insert([0])  # so the file is there
+acknowledged = 1
 ends = time.time() + SECONDS
 
 
