@@ -155,22 +155,21 @@ shop.kill()
 subprocess.run("rm -f shop.db-wal shop.db-shm && cp killed.db shop.db", shell=True, check=True)
 holds("a back-up that is put back", run("shop.db", "export", "c") == (0, exported, ""), True)
 
+def feed(pipe, lines):
+    """Writes lines until whoever reads them is gone."""
+    try:
+        pipe.write(lines)
+    except OSError:
+        pass
+
+
 # Sessions that are killed at any moment, each begun over what the one before left.
 least = 3000
-
-
-def feed(session, lines):
-    try:
-        session.process.stdin.write(lines)
-    except BrokenPipeError:
-        pass  # the session was killed
-
-
 for turn in range(12):
     shop = Session("shop.db")
     shop("collections")
     sent = b"".join(json.dumps({"words": ["insert", "c", document(10000 + 1000 * turn + i)]}).encode() + b"\n" for i in range(900))
-    threading.Thread(target=feed, args=(shop, sent), daemon=True).start()
+    threading.Thread(target=feed, args=(shop.process.stdin, sent), daemon=True).start()
     answered = sum(1 for _ in (shop.process.stdout.readline() for _ in range(random.randrange(1, 700))))
     shop.kill()
     status, out, told = run("shop.db", "backup", f"turn{turn}.db")
