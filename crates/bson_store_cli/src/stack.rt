@@ -24,22 +24,35 @@ fn take(zeros: &mut fs::File, parts: usize) -> u8 {
     take(zeros, parts - 1) | room[1]
 }
 
-/// How many bytes the stack may have, 0 if that isn't known.
-fn limit() -> u64 {
-    let mut limit = libc::types::rlimit {
-        rlim_cur: 0,
-        rlim_max: 0,
-    };
-    if libc::getrlimit(libc::RLIMIT_STACK, &mut limit) != 0 {
-        return 0;
+/// What begins the line of the stack in the system's list of a process's limits.
+const LIMIT_LINE: &str = "Max stack size";
+
+/// The first of the limits that a line has behind its name, 0 if that is no number.
+fn limit_in(limits: &str) -> u64 {
+    let first = limits.trim_start().split(' ').next().unwrap_or("");
+    if first == "unlimited" {
+        return u64::MAX;
     }
-    limit.rlim_cur
+    first.parse::<u64>().unwrap_or(0)
+}
+
+/// How many bytes the stack may have, 0 if that isn't known.
+fn limit(rt: &HostRuntime) -> u64 {
+    let Ok(limits) = fs::read_to_string(rt, "/proc/self/limits") else {
+        return 0;
+    };
+    for line in limits.lines() {
+        if let Some(limits) = line.strip_prefix(LIMIT_LINE) {
+            return limit_in(limits);
+        }
+    }
+    0
 }
 
 /// Asks for the stack that the program needs, half of what it may have at the most. From then on it doesn't grow. An
 /// error says that there is no memory for it.
 pub fn reserve(rt: &HostRuntime) -> Result<(), AllocError> {
-    let need = (limit() / 2).min(NEED as u64) as usize;
+    let need = (limit(rt) / 2).min(NEED as u64) as usize;
     let room: Vec<u8> = Vec::with_capacity(rt.alloc(), need)?;
     drop(room);
     if let Ok(mut zeros) = fs::File::open(rt, "/dev/zero") {
