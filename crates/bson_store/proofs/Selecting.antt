@@ -121,7 +121,7 @@ front_of (x ∷ xs) ys (d ∷ ds) h =
     let tail : xs ++ ys ≡ map encode ds = cc in
     front_behind d x xs ds head (front_of xs ys ds tail)
 
--- what a picker has taken since it was the first
+-- what a visitor has taken since it was the first
 abbrev pub Took : {T : Type 0} → (T → T → Documents → Type 0) → FilterVisitor T → FilterVisitor T → List (List ℕ) → Type 0
 Took took first v bodies = (v.filter.now ≡ first.filter.now) × GivesPicked (took first.taker v.taker) (filter_of v.filter.now) bodies v.fault
 
@@ -147,7 +147,7 @@ module _ {T : Type 0} (took : T → T → Documents → Type 0) (first last : Fi
         denied = λ a s. tt;
       }
 
-  -- the picker refused
+  -- the visitor refused
   pub refused_one : (all : Bool) (e : StoreError) → last.fault ≡ Some e → Visits (Took took first) first last n (Ok all) docs after → Picked (took first.taker) n (filter_of first.filter.now) (Err e) docs after
   refused_one all e is h =
       let w = h.some starts in

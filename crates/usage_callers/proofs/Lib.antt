@@ -1,0 +1,3 @@
+mod Keys
+mod Putting
+mod Copying
