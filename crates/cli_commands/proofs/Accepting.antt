@@ -4,6 +4,7 @@ use Rattle.sqlite.specs.State.{State as Connected}
 use Rattle.serde_json.specs.Data.{Data}
 use Rattle.bson_base.specs.Value.{Value, Members, look_up, put}
 use Rattle.bson_meaning.specs.Meaning.{norm_in_order}
+use Rattle.bson_model.specs.declared.extjson.ser.Mode.{Mode}
 use Rattle.store_table.specs.Rows.{TableRow}
 use Rattle.store_table.specs.Moves.{Moves}
 use Rattle.bson_store.specs.Shown.{Represents}
@@ -96,6 +97,17 @@ turn_stays (Some x) a c k i t h = h.1
 pub rows_stay : (a b : DocumentTable) (c : Command) (k : ErrorKind) (i : Option ℕ) → Serves a c (refused k i) b → b ≡ a
 rows_stay a b c k i (o, (turn, follows, may)) = unmoved a b follows (turn_stays o a c k i (state_of b) turn)
 
+-- a document that is got leaves every row, whatever is returned
+got_stays : (id : Value) (ds es : Documents) (r : Reply) (P : Documents → Members → Documents → Type 0) → ((front : Documents) (d : Members) (back : Documents) → P front d back → es ≡ ds) → AtId id ds P (Refuses NotFound ds r es) → es ≡ ds
+got_stays id ds es r P there (inl (front, d, back, stands, h)) = there front d back h
+got_stays id ds es r P there (inr h) = h.1.1
+
+pub got_same : (n : List ℕ) (m : Mode) (id : Value) (r : Reply) (a b : DocumentTable) → (IsRefusal r → ⊥) → Serves a (on n (get_json m id)) r b → b ≡ a
+got_same n m id r a b accepted (None, (inl (good, (es, answers, is)), follows, may)) =
+    unmoved a b follows (is ∙ ap (store (state_of a) n) (got_stays id _ es r _ (λ front d back x. x.1) answers) ∙ stored_again (state_of a) n (rows_not_empty a))
+got_same n m id r a b accepted (None, (inr h, follows, may)) = unmoved a b follows h.1.1
+got_same n m id r a b accepted (Some x, (turn, follows, may)) = unmoved a b follows turn.1
+
 -- ---- commands of the program
 
 -- a command that was refused leaves the table
@@ -106,25 +118,25 @@ pub served_same : (docs : List TableRow) (a : DocumentTable) (c : Command) (k : 
 served_same docs a c k i (b, shown, h) = subst (λ t. Serves a c (refused k i) t) (rows_stay a b c k i h) h
 
 -- a call of the store, as it was answered
-asked : {A : Type 0} (s t : Connected) (Meant : Command → Type 0) (Unread : UsageError → Type 0) (c : Command) (f : A → Reply) (g : A → Answer) (outcome : Result A StoreError) → Meant c → ((x : A) → IsRefusal (f x) → ⊥)
-    → Moves s t (Does c (reply_by f outcome)) → Moves s t (Performs Meant Unread (answer_by g outcome))
-asked s t Meant Unread c f g (Ok x) meant accepts m = moved s t (Does c (f x)) (Performs Meant Unread (Ok (g x))) m (λ docs after h a shown. let y = h a shown in (y.0, y.1, (c, meant, f x, accepts x, y.2)))
-asked s t Meant Unread c f g (Err e) meant accepts m =
-    moved s t (Does c (refused e.kind e.document)) (Performs Meant Unread (Err (Refused e))) m (λ docs after h a shown. let y = h a shown in let same = refused_same Meant e a y.0 c meant y.2 in (y.0, y.1, (same.0, inl same.1)))
+asked : {A : Type 0} (s t : Connected) (Meant : Command → Type 0) (Fault : StoreError → Type 0) (Unread : UsageError → Type 0) (c : Command) (f : A → Reply) (g : A → Answer) (outcome : Result A StoreError) → Meant c → ((x : A) → IsRefusal (f x) → ⊥)
+    → Moves s t (Does c (reply_by f outcome)) → Moves s t (Performs Meant Fault Unread (answer_by g outcome))
+asked s t Meant Fault Unread c f g (Ok x) meant accepts m = moved s t (Does c (f x)) (Performs Meant Fault Unread (Ok (g x))) m (λ docs after h a shown. let y = h a shown in (y.0, y.1, (c, meant, f x, accepts x, y.2)))
+asked s t Meant Fault Unread c f g (Err e) meant accepts m =
+    moved s t (Does c (refused e.kind e.document)) (Performs Meant Fault Unread (Err (Refused e))) m (λ docs after h a shown. let y = h a shown in let same = refused_same Meant e a y.0 c meant y.2 in (y.0, y.1, (same.0, inl same.1)))
 
-pub performs : {A : Type 0} (s t : Connected) (Meant : Command → Type 0) (Unread : UsageError → Type 0) (c : Command) (f : A → Reply) (g : A → Answer) (outcome : Result A StoreError) (result : Result Answer Failure) → Meant c
-    → ((x : A) → IsRefusal (f x) → ⊥) → result ≡ answer_by g outcome → Moves s t (Does c (reply_by f outcome)) → Moves s t (Performs Meant Unread result)
-performs s t Meant Unread c f g outcome result meant accepts is m = subst (λ p. Moves s t (Performs Meant Unread p)) (sym is) (asked s t Meant Unread c f g outcome meant accepts m)
+pub performs : {A : Type 0} (s t : Connected) (Meant : Command → Type 0) (Fault : StoreError → Type 0) (Unread : UsageError → Type 0) (c : Command) (f : A → Reply) (g : A → Answer) (outcome : Result A StoreError) (result : Result Answer Failure) → Meant c
+    → ((x : A) → IsRefusal (f x) → ⊥) → result ≡ answer_by g outcome → Moves s t (Does c (reply_by f outcome)) → Moves s t (Performs Meant Fault Unread result)
+performs s t Meant Fault Unread c f g outcome result meant accepts is m = subst (λ p. Moves s t (Performs Meant Fault Unread p)) (sym is) (asked s t Meant Fault Unread c f g outcome meant accepts m)
 
 -- the same of a call with a tree
-tree_asked : {A : Type 0} (s t : Connected) (Meant : Command → Type 0) (Unread : UsageError → Type 0) (n : List ℕ) (call : Reading → Call) (j : Data) (f : A → Reply) (g : A → Answer) (outcome : Result A StoreError)
-    → ((x : Reading) → ReadsTree j x → Meant (on n (call x))) → ((x : A) → IsRefusal (f x) → ⊥) → Moves s t (DoesTree n call j (reply_by f outcome)) → Moves s t (Performs Meant Unread (answer_by g outcome))
-tree_asked s t Meant Unread n call j f g (Ok x) meant accepts m =
-    moved s t (DoesTree n call j (f x)) (Performs Meant Unread (Ok (g x))) m (λ docs after h a shown. let y = h.2 a shown in (y.0, y.1, (on n (call h.0), meant h.0 h.1, f x, accepts x, y.2)))
-tree_asked s t Meant Unread n call j f g (Err e) meant accepts m =
-    moved s t (DoesTree n call j (refused e.kind e.document)) (Performs Meant Unread (Err (Refused e))) m
+tree_asked : {A : Type 0} (s t : Connected) (Meant : Command → Type 0) (Fault : StoreError → Type 0) (Unread : UsageError → Type 0) (n : List ℕ) (call : Reading → Call) (j : Data) (f : A → Reply) (g : A → Answer) (outcome : Result A StoreError)
+    → ((x : Reading) → ReadsTree j x → Meant (on n (call x))) → ((x : A) → IsRefusal (f x) → ⊥) → Moves s t (DoesTree n call j (reply_by f outcome)) → Moves s t (Performs Meant Fault Unread (answer_by g outcome))
+tree_asked s t Meant Fault Unread n call j f g (Ok x) meant accepts m =
+    moved s t (DoesTree n call j (f x)) (Performs Meant Fault Unread (Ok (g x))) m (λ docs after h a shown. let y = h.2 a shown in (y.0, y.1, (on n (call h.0), meant h.0 h.1, f x, accepts x, y.2)))
+tree_asked s t Meant Fault Unread n call j f g (Err e) meant accepts m =
+    moved s t (DoesTree n call j (refused e.kind e.document)) (Performs Meant Fault Unread (Err (Refused e))) m
     (λ docs after h a shown. let y = h.2 a shown in let same = refused_same Meant e a y.0 (on n (call h.0)) (meant h.0 h.1) y.2 in (y.0, y.1, (same.0, inl same.1)))
 
-pub tree_performs : {A : Type 0} (s t : Connected) (Meant : Command → Type 0) (Unread : UsageError → Type 0) (n : List ℕ) (call : Reading → Call) (j : Data) (f : A → Reply) (g : A → Answer) (outcome : Result A StoreError) (result : Result Answer Failure)
-    → ((x : Reading) → ReadsTree j x → Meant (on n (call x))) → ((x : A) → IsRefusal (f x) → ⊥) → result ≡ answer_by g outcome → Moves s t (DoesTree n call j (reply_by f outcome)) → Moves s t (Performs Meant Unread result)
-tree_performs s t Meant Unread n call j f g outcome result meant accepts is m = subst (λ p. Moves s t (Performs Meant Unread p)) (sym is) (tree_asked s t Meant Unread n call j f g outcome meant accepts m)
+pub tree_performs : {A : Type 0} (s t : Connected) (Meant : Command → Type 0) (Fault : StoreError → Type 0) (Unread : UsageError → Type 0) (n : List ℕ) (call : Reading → Call) (j : Data) (f : A → Reply) (g : A → Answer) (outcome : Result A StoreError) (result : Result Answer Failure)
+    → ((x : Reading) → ReadsTree j x → Meant (on n (call x))) → ((x : A) → IsRefusal (f x) → ⊥) → result ≡ answer_by g outcome → Moves s t (DoesTree n call j (reply_by f outcome)) → Moves s t (Performs Meant Fault Unread result)
+tree_performs s t Meant Fault Unread n call j f g outcome result meant accepts is m = subst (λ p. Moves s t (Performs Meant Fault Unread p)) (sym is) (tree_asked s t Meant Fault Unread n call j f g outcome meant accepts m)

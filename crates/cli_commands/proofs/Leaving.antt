@@ -25,7 +25,7 @@ use Rattle.bson_store.proofs.Moving.{moved}
 use Rattle.cli_words.specs.declared.call.Call.{Call as Asked}
 use Rattle.cli_commands.specs.Answers.{answer_by}
 use Rattle.cli_commands.specs.Commands.{AsksFor, IsOfStream}
-use Rattle.cli_commands.specs.Execute.{IsFault, Tells}
+use Rattle.cli_commands.specs.Execute.{IsFailure, IsUnprinted, Tells}
 use Rattle.cli_commands.specs.Leaving.{is_change, Settled, LeavesBy, LeavesCall}
 use Rattle.cli_commands.specs.declared.answer.Answer.{Answer}
 use Rattle.cli_commands.specs.declared.stop.Failure.{Failure}
@@ -59,13 +59,23 @@ abbrev Never : StoreError → Type 0
 Never e = ⊥
 
 module _ (s t : State) (Meant : Command → Type 0) where
-  -- what was answered is printed, or not
-  pub printed : (old new : ℕ) (outcome : Result Answer Failure) (result : Result (Unit {0}) Failure) → Tells outcome result old new → LeavesBy Meant Never outcome s t → LeavesBy Meant (IsFault Writer old new) result s t
-  printed old new (Ok x) result (inl (is, same)) h = subst (λ (r : Result (Unit {0}) Failure). LeavesBy Meant (IsFault Writer old new) r s t) (sym is) h
-  printed old new (Ok x) result (inr (e, is, why)) h = subst (λ (r : Result (Unit {0}) Failure). LeavesBy Meant (IsFault Writer old new) r s t) (sym is) (inr (inr (why, h)))
-  printed old new (Err (Refused e)) result (is, same) h = subst (λ (r : Result (Unit {0}) Failure). LeavesBy Meant (IsFault Writer old new) r s t) (sym is)
+  -- what was answered is printed, or a write failed
+  pub printed : (old new : ℕ) (outcome : Result Answer Failure) (result : Result (Unit {0}) Failure) → ((x : Answer) (e : StoreError) → outcome ≡ Ok x → IsUnprinted x old new e → IsFailure Writer old new e)
+      → Tells outcome result old new → LeavesBy Meant Never outcome s t → LeavesBy Meant (IsFailure Writer old new) result s t
+  printed old new (Ok x) result failed (inl (is, same)) h = subst (λ (r : Result (Unit {0}) Failure). LeavesBy Meant (IsFailure Writer old new) r s t) (sym is) h
+  printed old new (Ok x) result failed (inr (e, is, why)) h = subst (λ (r : Result (Unit {0}) Failure). LeavesBy Meant (IsFailure Writer old new) r s t) (sym is) (inr (inr (failed x e refl why, h)))
+  printed old new (Err (Refused e)) result failed (is, same) h = subst (λ (r : Result (Unit {0}) Failure). LeavesBy Meant (IsFailure Writer old new) r s t) (sym is)
       (elim h [ inl was ↦ inl was | inr more ↦ elim more [ inl denied ↦ inr (inl denied) | inr none ↦ absurd none.0 ] ])
-  printed old new (Err (Words w)) result (is, same) h = subst (λ (r : Result (Unit {0}) Failure). LeavesBy Meant (IsFault Writer old new) r s t) (sym is) h
+  printed old new (Err (Words w)) result failed (is, same) h = subst (λ (r : Result (Unit {0}) Failure). LeavesBy Meant (IsFailure Writer old new) r s t) (sym is) h
+
+  -- what is meant is asked for
+  pub with_line : {A : Type 0} (Asked : Command → Type 0) (Unprinted : StoreError → Type 0) (r : Result A Failure) → ((c : Command) → Meant c → Asked c) → LeavesBy Meant Unprinted r s t → LeavesBy Asked Unprinted r s t
+  with_line Asked Unprinted (Ok x) asks h = record { command = h.command; meant = asks h.command h.meant; reply = h.reply; accepted = h.accepted; moves = h.moves; crash = h.crash }
+  with_line Asked Unprinted (Err (Refused e)) asks (inl was) = inl was
+  with_line Asked Unprinted (Err (Refused e)) asks (inr (inl (c, meant, leaves))) = inr (inl (c, asks c meant, leaves))
+  with_line Asked Unprinted (Err (Refused e)) asks (inr (inr (why, h))) =
+      inr (inr (why, record { command = h.command; meant = asks h.command h.meant; reply = h.reply; accepted = h.accepted; moves = h.moves; crash = h.crash }))
+  with_line Asked Unprinted (Err (Words w)) asks h = h
 
   -- nothing was asked of the store
   pub not_done : {A : Type 0} (Unprinted : StoreError → Type 0) (r : Result A Failure) → IsErr r → Survives s t (λ _. ⊥) → LeavesBy Meant Unprinted r s t
@@ -142,6 +152,6 @@ of_change s t call asked n texts fed left before behind outcome is h = subst (λ
 pub of_none : (s : State) (call : Asked) (n : List ℕ) (texts : List (List ℕ)) (fed left : Feed) (before behind : Tally) (stop : Failure) → LeavesCall call n texts fed left before behind (Err stop) s s
 of_none s call n texts fed left before behind stop = by (is_change call)
   where
-    by : (b : Bool) → MatchBool b (LeavesBy {A = Unit {0}} (AsksFor call n texts fed left) (IsFault Writer before.failures behind.failures) (Err stop) s s) (Survives s s (λ _. ⊥))
-    by true = not_done s s (AsksFor call n texts fed left) {A = Unit {0}} (IsFault Writer before.failures behind.failures) (Err stop) refl (survives_itself s)
+    by : (b : Bool) → MatchBool b (LeavesBy {A = Unit {0}} (AsksFor call n texts fed left) (IsFailure Writer before.failures behind.failures) (Err stop) s s) (Survives s s (λ _. ⊥))
+    by true = not_done s s (AsksFor call n texts fed left) {A = Unit {0}} (IsFailure Writer before.failures behind.failures) (Err stop) refl (survives_itself s)
     by false = survives_itself s

@@ -3,8 +3,10 @@ pub mod Ending
 pub mod Failing
 pub mod Readable
 pub mod Sending
+pub mod Sparing
 pub mod Taking
 pub mod Telling
 pub mod Told
 pub mod Wording
 pub mod Leaving
+pub mod Lines

@@ -26,8 +26,8 @@ command_read Get n texts c (text, more, id, first, reads, is) = subst IsReadComm
 command_read Set n texts c (text, key, value, id, j, all, reads, tree, is) = subst IsReadCommand (sym is) tt
 command_read Unset n texts c (text, more, id, first, reads, is) = subst IsReadCommand (sym is) tt
 command_read Remove n texts c (text, more, id, first, reads, is) = subst IsReadCommand (sym is) tt
-command_read Find n texts c (f, is) = subst IsReadCommand (sym is) tt
-command_read Count n texts c (f, is) = subst IsReadCommand (sym is) tt
+command_read Find n texts c (text, f, only, stands, is) = subst IsReadCommand (sym is) tt
+command_read Count n texts c (text, f, only, stands, is) = subst IsReadCommand (sym is) tt
 command_read Import n texts c h = absurd h
 command_read Export n texts c is = subst IsReadCommand (sym is) tt
 command_read Dump n texts c is = subst IsReadCommand (sym is) tt
@@ -42,16 +42,13 @@ stream_quiet n fed left c (bytes, ds, stop, inl (good, took), reads, is) = took.
 stream_quiet n fed left c (bytes, ds, stop, inr (bad, same), reads, is) = ap (λ (f : Feed). f.failures) same
 
 pub lines_read : (n : List ℕ) (fed left : Feed) (c : Command) → IsOfLines n fed left c → IsReadCommand c
-lines_read n fed left c (bytes, js, ds, stop, took, reads, is) = subst IsReadCommand (sym is) (trees_stop js ds stop reads)
+lines_read n fed left c (bytes, js, ds, stop, took, have, reads, is) = subst IsReadCommand (sym is) (trees_stop js ds stop reads)
 
 pub lines_quiet : (n : List ℕ) (fed left : Feed) (c : Command) → IsOfLines n fed left c → left.failures ≡ fed.failures
-lines_quiet n fed left c (bytes, js, ds, stop, took, reads, is) = took.0.0
-
-pub import_hush : (texts : List (List ℕ)) (fed left : Feed) (w : UsageError) → Complains Import texts fed left w → left.failures ≡ fed.failures
-import_hush texts fed left w h = ap (λ (f : Feed). f.failures) h.1
+lines_quiet n fed left c (bytes, js, ds, stop, took, have, reads, is) = took.0.0
 
 pub load_hush : (texts : List (List ℕ)) (fed left : Feed) (w : UsageError) → Complains Load texts fed left w → left.failures ≡ fed.failures
-load_hush texts fed left (words.Line i) h = h.1.0.0
+load_hush texts fed left (words.Line i) h = h.1.1.0.0
 load_hush texts fed left words.Usage h = ap (λ (f : Feed). f.failures) h.1
 load_hush texts fed left words.Json h = ap (λ (f : Feed). f.failures) h.1
 load_hush texts fed left words.Id h = ap (λ (f : Feed). f.failures) h.1

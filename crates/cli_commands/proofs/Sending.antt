@@ -25,14 +25,14 @@ use Rattle.cli_commands.specs.Execute.{Comes, Executed, IsFault}
 use Rattle.cli_commands.specs.declared.stop.Failure.{Failure}
 use Rattle.cli_commands.specs.declared.stop.Failure.TheVariants.{Refused}
 use Rattle.cli_commands.proofs.Accepting.{served_same}
-use Rattle.cli_commands.proofs.Failing.{no_fault, fault, other_fault}
+use Rattle.cli_commands.proofs.Failing.{no_fault, fault, misprinted, other_fault}
 use Rattle.cli_commands.proofs.Told.{no_device}
 
-module _ (n : List ℕ) (texts : List (List ℕ)) (f : Feed) (old new : Tally) where
+module _ (n : List ℕ) (f : Feed) (old new : Tally) where
   -- ---- exports
 
   abbrev Sent : Result (Unit {0}) Failure → DocumentTable → DocumentTable → Type 0
-  Sent outcome = Executed words.Export n texts f f old new outcome
+  Sent outcome = Executed words.Export n [] f f old new outcome
 
   went : (docs : List TableRow) (a : DocumentTable) → IsName n → Represents docs a → Serves a (on n export) (bytes (flat_map encode (documents_of a n))) a
   went docs a good shown = stay a n export (bytes (flat_map encode (documents_of a n))) good (refl, refl)
@@ -41,19 +41,19 @@ module _ (n : List ℕ) (texts : List (List ℕ)) (f : Feed) (old new : Tally) w
   unsent docs kind.BadName i a shown none h =
       let e : StoreError = record { kind = kind.BadName; document = i } in
       let serves = subst (λ (j : Option ℕ). Serves a (on n export) (refused kind.BadName j) a) (sym none) (served_same docs a (on n export) kind.BadName None (bad_name docs n export h.0 a shown)) in
-      record { ended = inl (refl, inl (on n export, refl, serves)); reader = no_fault kind.Reader e f.failures f.failures tt (λ x. x) refl; writer = no_fault kind.Writer e old.failures new.failures tt (λ x. x) (ap (λ (t : Tally). t.failures) h.1); sent = (none, h) }
+      record { ended = inl (refl, inl (on n export, (refl, refl), serves)); reader = no_fault kind.Reader e f.failures f.failures tt (λ x. x) refl; writer = no_fault kind.Writer e old.failures new.failures tt (λ x. x) (ap (λ (t : Tally). t.failures) h.1); sent = (none, h) }
   unsent docs kind.Memory i a shown none h =
       let e : StoreError = record { kind = kind.Memory; document = i } in
       let serves = subst (λ (j : Option ℕ). Serves a (on n export) (refused kind.Memory j) a) (sym none) (served_same docs a (on n export) kind.Memory None (denied docs (on n export) faults.Memory memory_other (undecided n export h.0 (λ x. x)) a shown)) in
-      record { ended = inl (refl, inl (on n export, refl, serves)); reader = no_fault kind.Reader e f.failures f.failures tt (λ x. x) refl; writer = no_fault kind.Writer e old.failures new.failures tt (λ x. x) h.1.0; sent = (none, h) }
+      record { ended = inl (refl, inl (on n export, (refl, refl), serves)); reader = no_fault kind.Reader e f.failures f.failures tt (λ x. x) refl; writer = no_fault kind.Writer e old.failures new.failures tt (λ x. x) h.1.0; sent = (none, h) }
   unsent docs kind.Database i a shown none h =
       let e : StoreError = record { kind = kind.Database; document = i } in
       let serves = subst (λ (j : Option ℕ). Serves a (on n export) (refused kind.Database j) a) (sym none) (served_same docs a (on n export) kind.Database None (denied docs (on n export) faults.Database (λ x. cc) (undecided n export h.0 (λ x. x)) a shown)) in
-      record { ended = inl (refl, inl (on n export, refl, serves)); reader = no_fault kind.Reader e f.failures f.failures tt (λ x. x) refl; writer = no_fault kind.Writer e old.failures new.failures tt (λ x. x) h.1.0; sent = (none, h) }
+      record { ended = inl (refl, inl (on n export, (refl, refl), serves)); reader = no_fault kind.Reader e f.failures f.failures tt (λ x. x) refl; writer = no_fault kind.Writer e old.failures new.failures tt (λ x. x) h.1.0; sent = (none, h) }
   unsent docs kind.Writer i a shown none h =
       let e : StoreError = record { kind = kind.Writer; document = i } in
       let why : IsFault kind.Writer old.failures new.failures e = inl (ap (λ (j : Option ℕ). record { kind = kind.Writer; document = j }) none, h.1.0) in
-      record { ended = inr (why, (on n export, refl, bytes (flat_map encode (documents_of a n)), (λ no. no), went docs a h.0 shown)); reader = other_fault kind.Writer kind.Reader e old.failures new.failures f.failures f.failures tt (λ x. cc) why refl; writer = fault kind.Writer e old.failures new.failures tt why; sent = (none, h) }
+      record { ended = inr (misprinted old.failures new.failures e a why, (on n export, (refl, refl), bytes (flat_map encode (documents_of a n)), (λ no. no), went docs a h.0 shown)); reader = other_fault kind.Writer kind.Reader e old.failures new.failures f.failures f.failures tt (λ x. cc) why refl; writer = fault kind.Writer e old.failures new.failures tt why; sent = (none, h) }
   unsent docs _ i a shown none h = absurd h.1
 
   pub sent_all : (s t : Connected) → Moves s t (SendsCollection n old new (Ok tt)) → Moves s t (Comes (Sent (Ok tt)))
@@ -61,7 +61,7 @@ module _ (n : List ℕ) (texts : List (List ℕ)) (f : Feed) (old new : Tally) w
       let x = h.exports a shown in (
         a,
         subst (λ d. Represents d a) (sym h.same) shown,
-        record { ended = (on n export, refl, bytes (flat_map encode (documents_of a n)), (λ no. no), went docs a x.0 shown); reader = refl; writer = x.1.0; sent = x },
+        record { ended = (on n export, (refl, refl), bytes (flat_map encode (documents_of a n)), (λ no. no), went docs a x.0 shown); reader = refl; writer = x.1.0; sent = x },
       ))
 
   pub not_sent : (s t : Connected) (e : StoreError) → Moves s t (SendsCollection n old new (Err e)) → Moves s t (Comes (Sent (Err (Refused e))))
@@ -71,13 +71,13 @@ module _ (n : List ℕ) (texts : List (List ℕ)) (f : Feed) (old new : Tally) w
   -- ---- dumps
 
   abbrev Dumped : Result (Unit {0}) Failure → DocumentTable → DocumentTable → Type 0
-  Dumped outcome = Executed words.Dump n texts f f old new outcome
+  Dumped outcome = Executed words.Dump n [] f f old new outcome
 
   -- the store refuses the trees, and no write failed
   undumped : (e : StoreError) (a : DocumentTable) → new.failures ≡ old.failures → Serves a (on n dump) (refused e.kind e.document) a → Dumped (Err (Refused e)) a a
   undumped e a same serves =
       let none = no_device a a (on n dump) e.kind e.document tt serves in
-      record { ended = inl (refl, inl (on n dump, refl, serves)); reader = no_fault kind.Reader e f.failures f.failures tt none refl; writer = no_fault kind.Writer e old.failures new.failures tt none same; sent = tt }
+      record { ended = inl (refl, inl (on n dump, (refl, refl), serves)); reader = no_fault kind.Reader e f.failures f.failures tt none refl; writer = no_fault kind.Writer e old.failures new.failures tt none same; sent = tt }
 
   bad_dump : (docs : List TableRow) (e : StoreError) (a : DocumentTable) → Represents docs a → (IsName n → ⊥) → e ≡ refusal kind.BadName → Serves a (on n dump) (refused e.kind e.document) a
   bad_dump docs e a shown bad is = rw is (served_same docs a (on n dump) kind.BadName None (bad_name docs n dump bad a shown))
@@ -116,7 +116,7 @@ module _ (n : List ℕ) (texts : List (List ℕ)) (f : Feed) (old new : Tally) w
         let r = l.handed a here in (
           a,
           subst (λ d. Represents d a) (sym l.same) here,
-          record { ended = (on n dump, refl, json_list r.1.0, (λ no. no), stay a n dump (json_list r.1.0) r.0 (sym (ap trees_reply r.1.1), refl)); reader = refl; writer = back r.1.2.0 ∙ r.1.2.2; sent = tt },
+          record { ended = (on n dump, (refl, refl), json_list r.1.0, (λ no. no), stay a n dump (json_list r.1.0) r.0 (sym (ap trees_reply r.1.1), refl)); reader = refl; writer = back r.1.2.0 ∙ r.1.2.2; sent = tt },
         ))
 
     -- not all were
@@ -130,6 +130,6 @@ module _ (n : List ℕ) (texts : List (List ℕ)) (f : Feed) (old new : Tally) w
         by docs a shown good all (inl (bad, is, none)) = absurd (bad good)
         by docs a shown good all (inr (named, (js, are, inl (same, why)))) =
             let fails : IsFault kind.Writer old.failures new.failures e = subst (λ (m : ℕ). IsFault kind.Writer old.failures m e) (sym (back same)) why in
-            record { ended = inr (fails, (on n dump, refl, json_list all.0, (λ no. no), stay a n dump (json_list all.0) good (sym (ap trees_reply all.1), refl))); reader = other_fault kind.Writer kind.Reader e old.failures new.failures f.failures f.failures tt (λ z. cc) fails refl; writer = fault kind.Writer e old.failures new.failures tt fails; sent = tt }
+            record { ended = inr (misprinted old.failures new.failures e a fails, (on n dump, (refl, refl), json_list all.0, (λ no. no), stay a n dump (json_list all.0) good (sym (ap trees_reply all.1), refl))); reader = other_fault kind.Writer kind.Reader e old.failures new.failures f.failures f.failures tt (λ z. cc) fails refl; writer = fault kind.Writer e old.failures new.failures tt fails; sent = tt }
         by docs a shown good all (inr (named, (js, are, inr (took, inl d)))) = undumped e a (back took.0 ∙ took.2) (denied_dump docs e a shown good d)
         by docs a shown good all (inr (named, (js, are, inr (took, inr h)))) = undumped e a (back took.0 ∙ took.2) (without_tree docs e a good h)

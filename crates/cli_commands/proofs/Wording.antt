@@ -5,15 +5,17 @@ use Rattle.serde_json.specs.declared.value.Value.{Value as Json}
 use Rattle.bson_base.specs.Value.{Value}
 use Rattle.bson_model.specs.declared.extjson.ser.Mode.{Mode}
 use Rattle.bson_model.specs.declared.extjson.ser.Mode.TheVariants.{Canonical, Relaxed}
+use Rattle.store_model.specs.Filter.{Filter}
 use Rattle.store_model.specs.Reading.{Reading, ReadsTree, read_value}
 use Rattle.store_model.specs.State.{Call, on, set, unset, get_json}
 use Rattle.cli_words.specs.declared.call.Call.{Call as Asked}
 use Rattle.cli_words.specs.declared.call.Call.TheVariants as words
+use Rattle.cli_words.specs.Filters.{AnswersFilter, IsFilterText}
 use Rattle.cli_words.specs.Texts.{AnswersId, AnswersText}
 use Rattle.cli_words.specs.Words.{Takes, relaxed_word}
 use Rattle.cli_words.specs.declared.lines.UsageError.{UsageError}
 use Rattle.cli_words.specs.declared.texts.TextError.TheVariants.{Unreadable}
-use Rattle.cli_commands.specs.Commands.{IsIdText, IsNoId, IsNoJson, IsOfTree, IsOfId, IsCommandOf, IsUnread, first_key, mode_of}
+use Rattle.cli_commands.specs.Commands.{HasId, IsIdText, IsNoFilter, IsNoId, IsNoJson, IsOfFilter, IsOfTree, IsOfId, IsCommandOf, IsUnread, first_key, mode_of}
 use Rattle.cli_commands.specs.Execute.{StopsFor}
 use Rattle.cli_commands.specs.Requests.{IsTreeText, Stops, text_at}
 use Rattle.cli_commands.specs.declared.stop.Failure.{Failure}
@@ -81,6 +83,9 @@ pub of_set : (n : List ℕ) (texts : List (List ℕ)) (id : Value) (key : List �
 of_set n texts id key json three (is, key_is, tree) =
     (text_at texts 0, text_at texts 1, text_at texts 2, id, data_of json, three_texts texts three, is, tree, ap (λ k. on n (set id k (read_value (data_of json)))) key_is)
 
+pub of_filter : (call : Filter → Call) (n : List ℕ) (texts : List (List ℕ)) (f : Filter) → length texts ≡ 1 → IsFilterText (text_at texts 0) f → IsOfFilter call n texts (on n (call f))
+of_filter call n texts f one is = (text_at texts 0, f, only_text texts one, is, refl)
+
 -- ---- texts that can't be read
 
 pub no_json : (texts : List (List ℕ)) (text : List ℕ) → text ≡ text_at texts 0 → length texts ≡ 1 → AnswersText text (Err Unreadable) → IsNoJson texts
@@ -89,6 +94,12 @@ no_json texts text is one none = ([], text_at texts 0, only_text texts one, subs
 -- the last of three
 pub no_json_last : (texts : List (List ℕ)) (text : List ℕ) → text ≡ text_at texts 2 → length texts ≡ 3 → AnswersText text (Err Unreadable) → IsNoJson texts
 no_json_last texts text is three none = (text_at texts 0 ∷ text_at texts 1 ∷ [], text_at texts 2, three_texts texts three, subst (λ t. AnswersText t (Err Unreadable)) is none)
+
+pub has_id : (texts : List (List ℕ)) (text : List ℕ) (id : Value) → text ≡ text_at texts 0 → texts ≢ [] → IsIdText text id → HasId texts
+has_id texts text id is some read = (text_at texts 0, drop 1 texts, id, first_text texts some, subst (λ t. IsIdText t id) is read)
+
+pub no_filter : (texts : List (List ℕ)) (text : List ℕ) → text ≡ text_at texts 0 → length texts ≡ 1 → AnswersFilter text (Err Unreadable) → IsNoFilter texts
+no_filter texts text is one none = (text_at texts 0, only_text texts one, subst (λ t. AnswersFilter t (Err Unreadable)) is none)
 
 pub no_id : (texts : List (List ℕ)) (text : List ℕ) → text ≡ text_at texts 0 → texts ≢ [] → AnswersId text (Err Unreadable) → IsNoId texts
 no_id texts text is some none = (text_at texts 0, drop 1 texts, first_text texts some, subst (λ t. AnswersId t (Err Unreadable)) is none)

@@ -13,6 +13,8 @@ use Rattle.store_model.specs.State as model
 use Rattle.store_model.specs.declared.error.ErrorKind.{ErrorKind}
 use Rattle.cli_words.specs.declared.call.Call.{Call}
 use Rattle.cli_words.specs.declared.call.Call.TheVariants.{Insert, Replace, Get, Set, Unset, Remove, Find, Count, Import, Export, Dump, Load, Collections}
+use Rattle.cli_words.specs.Filters.{AnswersFilter, IsFilterText}
+use Rattle.cli_words.specs.Inputs.{HaveTrees, IsFirstBadLine, lines_in}
 use Rattle.cli_words.specs.Texts.{AnswersId, AnswersText}
 use Rattle.cli_words.specs.Words.{Takes}
 use Rattle.cli_words.specs.declared.lines.UsageError.{UsageError}
@@ -51,9 +53,15 @@ IsOfSet n texts c = (text : List ℕ) × (key : List ℕ) × (value : List ℕ) 
 abbrev pub IsOfStream : List ℕ → Feed → Feed → model.Command → Type 0
 IsOfStream n old new c = (bytes : List ℕ) × (ds : Documents) × (stop : Option ErrorKind) × model.When (model.IsName n) (TookAll old new bytes) (new ≡ old) × ReadsStream bytes ds stop × (c ≡ model.on n (model.import ds stop))
 
--- what trees read as that the input, taken to its end, has in its lines
+-- what the trees read as that the lines of the input have, taken to its end
 abbrev pub IsOfLines : List ℕ → Feed → Feed → model.Command → Type 0
-IsOfLines n old new c = (bytes : List ℕ) × (js : List Data) × (ds : Documents) × (stop : Option ErrorKind) × TookAll old new bytes × ReadsTrees js ds stop × (c ≡ model.on n (model.import ds stop))
+IsOfLines n old new c =
+    (bytes : List ℕ) × (js : List Data) × (ds : Documents) × (stop : Option ErrorKind) × TookAll old new bytes × HaveTrees (lines_in bytes) js × ReadsTrees js ds stop
+    × (c ≡ model.on n (model.import ds stop))
+
+-- the call of a filter, which the only text stands for
+abbrev pub IsOfFilter : (Filter → model.Call) → List ℕ → List (List ℕ) → model.Command → Type 0
+IsOfFilter call n texts c = (text : List ℕ) × (f : Filter) × (texts ≡ text ∷ []) × IsFilterText text f × (c ≡ model.on n (call f))
 
 -- the command is one of the call on the collection n, with what the texts stand for
 abbrev pub IsCommandOf : Call → List ℕ → List (List ℕ) → model.Command → Type 0
@@ -63,18 +71,28 @@ IsCommandOf Get n texts c = IsOfId (λ id more. model.get_json (mode_of more) id
 IsCommandOf Set n texts c = IsOfSet n texts c
 IsCommandOf Unset n texts c = IsOfId (λ id more. model.unset id (first_key more)) n texts c
 IsCommandOf Remove n texts c = IsOfId (λ id more. model.remove id) n texts c
-IsCommandOf Find n texts c = (f : Filter) × (c ≡ model.on n (model.find f))
-IsCommandOf Count n texts c = (f : Filter) × (c ≡ model.on n (model.count f))
+IsCommandOf Find n texts c = IsOfFilter model.find n texts c
+IsCommandOf Count n texts c = IsOfFilter model.count n texts c
 IsCommandOf Export n texts c = c ≡ model.on n model.export
 IsCommandOf Dump n texts c = c ≡ model.on n model.dump
 IsCommandOf Collections n texts c = c ≡ model.collections
 IsCommandOf _ n texts c = ⊥
 
 -- or, of a call that reads the input, with what that gave
+abbrev pub IsOfCall : Call → List ℕ → List (List ℕ) → Feed → Feed → model.Command → Type 0
+IsOfCall Import n texts old new = IsOfStream n old new
+IsOfCall Load n texts old new = IsOfLines n old new
+IsOfCall call n texts old new = IsCommandOf call n texts
+
+-- the words are a line of the table, which asks for the command
 abbrev pub AsksFor : Call → List ℕ → List (List ℕ) → Feed → Feed → model.Command → Type 0
-AsksFor Import n texts old new = IsOfStream n old new
-AsksFor Load n texts old new = IsOfLines n old new
-AsksFor call n texts old new = IsCommandOf call n texts
+AsksFor call n texts old new c = Takes call texts × IsOfCall call n texts old new c
+
+-- a call that doesn't read the input leaves it as it was
+abbrev pub Spares : {A : Type 0} → Call → A → A → Type 0
+Spares Import old new = Unit {0}
+Spares Load old new = Unit {0}
+Spares _ old new = new ≡ old
 
 -- ---- what can't be read
 
@@ -86,26 +104,37 @@ IsNoId texts = (text : List ℕ) × (more : List (List ℕ)) × (texts ≡ text 
 abbrev pub IsNoJson : List (List ℕ) → Type 0
 IsNoJson texts = (front : List (List ℕ)) × (text : List ℕ) × (texts ≡ front ++ text ∷ []) × AnswersText text (Err Unreadable)
 
--- the input was taken to its end
-abbrev pub TookSome : Feed → Feed → Type 0
-TookSome old new = (bytes : List ℕ) × TookAll old new bytes
+-- it is that of one
+abbrev pub HasId : List (List ℕ) → Type 0
+HasId texts = (text : List ℕ) × (more : List (List ℕ)) × (id : Value) × (texts ≡ text ∷ more) × IsIdText text id
 
--- What is reported of the texts of a call is so: they are no line of the table, or the text can't be read. Of the text of a filter this
--- is its reader's own answer.
+-- the only text stands for no filter
+abbrev pub IsNoFilter : List (List ℕ) → Type 0
+IsNoFilter texts = (text : List ℕ) × (texts ≡ text ∷ []) × AnswersFilter text (Err Unreadable)
+
+-- the first of the texts of a call that can't be read is this
+abbrev pub IsUnreadText : Call → List (List ℕ) → UsageError → Type 0
+IsUnreadText Insert texts Json = IsNoJson texts
+IsUnreadText Replace texts Json = IsNoJson texts
+IsUnreadText Set texts Json = HasId texts × IsNoJson texts
+IsUnreadText Get texts Id = IsNoId texts
+IsUnreadText Set texts Id = IsNoId texts
+IsUnreadText Unset texts Id = IsNoId texts
+IsUnreadText Remove texts Id = IsNoId texts
+IsUnreadText Find texts words.Filter = IsNoFilter texts
+IsUnreadText Count texts words.Filter = IsNoFilter texts
+IsUnreadText _ texts _ = ⊥
+
+-- what is reported of the texts of a call is so: they are no line of the table, or they are one, and this text can't be read
 abbrev pub IsUnread : Call → List (List ℕ) → UsageError → Type 0
 IsUnread call texts Usage = Takes call texts → ⊥
-IsUnread Insert texts Json = IsNoJson texts
-IsUnread Replace texts Json = IsNoJson texts
-IsUnread Set texts Json = IsNoJson texts
-IsUnread Get texts Id = IsNoId texts
-IsUnread Set texts Id = IsNoId texts
-IsUnread Unset texts Id = IsNoId texts
-IsUnread Remove texts Id = IsNoId texts
-IsUnread Find texts words.Filter = Unit {0}
-IsUnread Count texts words.Filter = Unit {0}
-IsUnread _ texts _ = ⊥
+IsUnread call texts w = Takes call texts × IsUnreadText call texts w
 
--- then nothing of the input is read; or, of `load`, it was taken to its end, and its reader's own answer is that this line can't be read
+-- the input was taken to its end, and this line of it is the first that can't be read
+abbrev pub HasBadLine : Feed → Feed → ℕ → Type 0
+HasBadLine old new i = (bytes : List ℕ) × TookAll old new bytes × IsFirstBadLine (lines_in bytes) i
+
+-- then nothing of the input is read; or, of `load`, all of it
 abbrev pub Complains : Call → List (List ℕ) → Feed → Feed → UsageError → Type 0
-Complains Load texts old new (Line i) = TookSome old new
+Complains Load texts old new (Line i) = Takes Load texts × HasBadLine old new i
 Complains call texts old new w = IsUnread call texts w × (new ≡ old)

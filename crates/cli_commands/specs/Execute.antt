@@ -1,23 +1,24 @@
 -- What a command of the program does to the rows and the devices, and what is reported of it.
-use Rattle.std.specs.Prelude.{◌≡◌, ◌⊎◌, ℕ, ◌+◌, List, Result, Ok, Err, map, string_bytes}
+use Rattle.std.specs.Prelude.{◌≡◌, ◌≢◌, ◌⊎◌, ℕ, ◌+◌, List, [], Result, Ok, Err, map, string_bytes}
 use Rattle.bson_base.specs.Device.{Feed, Tally, TakesText}
 use Rattle.store_table.specs.Rows.{TableRow}
-use Rattle.store_model.specs.State.{Command, Reply, refused, When}
+use Rattle.store_model.specs.State.{Command, Reply, refused, When, IsName}
 use Rattle.store_model.specs.Table.{DocumentTable, Serves, IsRefusal, state_of}
 use Rattle.store_model.specs.declared.error.ErrorKind.{ErrorKind}
 use Rattle.store_model.specs.declared.error.ErrorKind.TheVariants.{Memory, Reader, Writer}
 use Rattle.cli_words.specs.Lines.{complaint_line, refusal_line}
+use Rattle.cli_words.specs.Words.{Takes}
 use Rattle.cli_words.specs.declared.call.Call.{Call}
-use Rattle.cli_words.specs.declared.call.Call.TheVariants.{Export}
+use Rattle.cli_words.specs.declared.call.Call.TheVariants.{Import, Load, Export}
 use Rattle.cli_words.specs.declared.lines.UsageError.{UsageError}
-use Rattle.cli_words.specs.declared.lines.UsageError.TheVariants.{Line}
 use Rattle.cli_words.specs.declared.words.Words.{Words as Wording}
 use Rattle.bson_store.specs.Export.{Exports}
 use Rattle.store_model.specs.Refusal.{refusal}
 use Rattle.bson_store.specs.Shown.{Represents}
 use Rattle.store_model.specs.declared.error.StoreError.{StoreError}
-use Rattle.cli_commands.specs.Commands.{AsksFor, Complains, TookSome}
+use Rattle.cli_commands.specs.Commands.{AsksFor, Complains}
 use Rattle.cli_commands.specs.declared.answer.Answer.{Answer}
+use Rattle.cli_commands.specs.declared.answer.Answer.TheVariants.{Tree}
 use Rattle.cli_commands.specs.declared.stop.Failure.{Failure}
 use Rattle.cli_commands.specs.declared.stop.Failure.TheVariants.{Words, Refused}
 
@@ -37,9 +38,13 @@ Comes To old new = (a : DocumentTable) → Represents old a → (b : DocumentTab
 
 -- ---- the devices
 
--- a call of a device failed, which has this kind, or it is out of memory and none did
+-- a call of a device failed, which has this kind
+abbrev pub IsFailure : ErrorKind → ℕ → ℕ → StoreError → Type 0
+IsFailure kind old new e = (e ≡ refusal kind) × (new ≡ old + 1)
+
+-- or it is out of memory, and none did
 abbrev pub IsFault : ErrorKind → ℕ → ℕ → StoreError → Type 0
-IsFault kind old new e = ((e ≡ refusal kind) × (new ≡ old + 1)) ⊎ ((e ≡ refusal Memory) × (new ≡ old))
+IsFault kind old new e = IsFailure kind old new e ⊎ ((e ≡ refusal Memory) × (new ≡ old))
 
 -- a call of a device failed exactly if its kind is reported
 abbrev pub Fails : ErrorKind → Result (Unit {0}) Failure → ℕ → ℕ → Type 0
@@ -53,12 +58,6 @@ abbrev pub StopsFor : UsageError → Type 0 → Failure → Type 0
 StopsFor w Unread (Words c) = (c ≡ w) × Unread
 StopsFor w Unread (Refused e) = e ≡ refusal Memory
 
--- of the lines of the input one can't be read, and this is reported; or a read failed, or out of memory
-abbrev pub StopsLines : Feed → Feed → Failure → Type 0
-StopsLines fed left (Words (Line i)) = TookSome fed left
-StopsLines fed left (Words _) = ⊥
-StopsLines fed left (Refused e) = IsFault Reader fed.failures left.failures e
-
 -- A command was accepted. Or it was refused, and the table is the same; or it wasn't asked of the store for this fault; or it is
 -- reported, rightly, that a text can't be read.
 abbrev pub Performed : (Command → Type 0) → (StoreError → Type 0) → (UsageError → Type 0) → Result Answer Failure → DocumentTable → DocumentTable → Type 0
@@ -66,26 +65,42 @@ Performed Meant Fault Unread (Ok x) a b = Accepts Meant a b
 Performed Meant Fault Unread (Err (Refused e)) a b = (b ≡ a) × (IsRefusedBy Meant e a ⊎ Fault e)
 Performed Meant Fault Unread (Err (Words w)) a b = (b ≡ a) × Unread w
 
-abbrev pub Performs : (Command → Type 0) → (UsageError → Type 0) → Result Answer Failure → List TableRow → List TableRow → Type 0
-Performs Meant Unread result = Comes (Performed Meant (λ e. e ≡ refusal Memory) Unread result)
+-- so of a command for which the rows showed a table
+abbrev pub Performs : (Command → Type 0) → (StoreError → Type 0) → (UsageError → Type 0) → Result Answer Failure → List TableRow → List TableRow → Type 0
+Performs Meant Fault Unread result = Comes (Performed Meant Fault Unread result)
 
--- so of a command that reads the input
-abbrev pub PerformsFed : (Command → Type 0) → (UsageError → Type 0) → Feed → Feed → Result Answer Failure → List TableRow → List TableRow → Type 0
-PerformsFed Meant Unread fed left result = Comes (Performed Meant (IsFault Reader fed.failures left.failures) Unread result)
+-- an answer wasn't printed: a write failed, or it is out of memory, which only the text of a tree takes
+abbrev pub IsUnprinted : Answer → ℕ → ℕ → StoreError → Type 0
+IsUnprinted (Tree j) old new e = IsFault Writer old new e
+IsUnprinted x old new e = IsFailure Writer old new e
 
--- what is done is printed, or a write failed, or out of memory; of what isn't done nothing is printed
+-- what is done is printed, or it is reported why not; of what isn't done nothing is printed
 abbrev pub Tells : Result Answer Failure → Result (Unit {0}) Failure → ℕ → ℕ → Type 0
-Tells (Ok x) result old new = ((result ≡ Ok tt) × (new ≡ old)) ⊎ ((e : StoreError) × (result ≡ Err (Refused e)) × IsFault Writer old new e)
+Tells (Ok x) result old new = ((result ≡ Ok tt) × (new ≡ old)) ⊎ ((e : StoreError) × (result ≡ Err (Refused e)) × IsUnprinted x old new e)
 Tells (Err e) result old new = (result ≡ Err e) × (new ≡ old)
 
 -- ---- a command and its printing
 
+-- before the store is asked it is out of memory for a text of the words, or a read fails, or it is out of memory for what was
+-- read; of an import only under a good name
+abbrev pub Starves : Call → List ℕ → List (List ℕ) → Feed → Feed → StoreError → Type 0
+Starves Import n texts fed left e = IsName n × IsFault Reader fed.failures left.failures e
+Starves Load n texts fed left e = IsFault Reader fed.failures left.failures e
+Starves call n texts fed left e = (texts ≢ []) × (e ≡ refusal Memory) × (left ≡ fed)
+
+abbrev pub IsUnasked : Call → List ℕ → List (List ℕ) → Feed → Feed → StoreError → Type 0
+IsUnasked call n texts fed left e = Takes call texts × Starves call n texts fed left e
+
+-- what a command answers wasn't printed, as a write failed; or it is out of memory, and the table is the same
+abbrev pub Misprints : ℕ → ℕ → StoreError → DocumentTable → DocumentTable → Type 0
+Misprints old new e a b = IsFailure Writer old new e ⊎ ((e ≡ refusal Memory) × (new ≡ old) × (b ≡ a))
+
 -- A command was accepted, and what it answers printed. Or the table is the same, and the refusal is the command's own, or that of
 -- the input; or a command was accepted, and the refusal is that of the output. Or a text can't be read, and the table is the same.
-abbrev pub Ended : (Command → Type 0) → (StoreError → Type 0) → (StoreError → Type 0) → (UsageError → Type 0) → Result (Unit {0}) Failure → DocumentTable → DocumentTable → Type 0
-Ended Meant Unfed Unprinted Unread (Ok x) a b = Accepts Meant a b
-Ended Meant Unfed Unprinted Unread (Err (Refused e)) a b = ((b ≡ a) × (IsRefusedBy Meant e a ⊎ Unfed e)) ⊎ (Unprinted e × Accepts Meant a b)
-Ended Meant Unfed Unprinted Unread (Err (Words w)) a b = (b ≡ a) × Unread w
+abbrev pub Ended : (Command → Type 0) → (StoreError → Type 0) → (StoreError → DocumentTable → DocumentTable → Type 0) → (UsageError → Type 0) → Result (Unit {0}) Failure → DocumentTable → DocumentTable → Type 0
+Ended Meant Unasked Unprinted Unread (Ok x) a b = Accepts Meant a b
+Ended Meant Unasked Unprinted Unread (Err (Refused e)) a b = ((b ≡ a) × (IsRefusedBy Meant e a ⊎ Unasked e)) ⊎ (Unprinted e a b × Accepts Meant a b)
+Ended Meant Unasked Unprinted Unread (Err (Words w)) a b = (b ≡ a) × Unread w
 
 -- all documents of an export went out, or a beginning of them
 abbrev pub Sends : Call → List ℕ → Tally → Tally → Result (Unit {0}) Failure → DocumentTable → Type 0
@@ -95,7 +110,7 @@ Sends _ n old new _ a = Unit {0}
 
 -- so of the call on the collection n, with these texts
 pub record Executed (call : Call) (n : List ℕ) (texts : List (List ℕ)) (fed left : Feed) (old new : Tally) (outcome : Result (Unit {0}) Failure) (a b : DocumentTable) : Type 0 where
-  pub ended : Ended (AsksFor call n texts fed left) (IsFault Reader fed.failures left.failures) (IsFault Writer old.failures new.failures) (Complains call texts fed left) outcome a b
+  pub ended : Ended (AsksFor call n texts fed left) (IsUnasked call n texts fed left) (Misprints old.failures new.failures) (Complains call texts fed left) outcome a b
   pub reader : Fails Reader outcome fed.failures left.failures
   pub writer : Fails Writer outcome old.failures new.failures
   pub sent : Sends call n old new outcome a

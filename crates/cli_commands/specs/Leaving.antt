@@ -13,7 +13,7 @@ use Rattle.cli_words.specs.declared.call.Call.{Call}
 use Rattle.cli_words.specs.declared.call.Call.TheVariants.{Insert, Replace, Set, Unset, Remove, Import, Load}
 use Rattle.cli_words.specs.declared.words.Words.{Words as Wording}
 use Rattle.cli_commands.specs.Commands.{AsksFor}
-use Rattle.cli_commands.specs.Execute.{IsFault}
+use Rattle.cli_commands.specs.Execute.{IsFailure}
 use Rattle.cli_commands.specs.declared.stop.Failure.{Failure}
 use Rattle.cli_commands.specs.declared.stop.Failure.TheVariants.{Words, Refused}
 
@@ -52,7 +52,7 @@ LeavesBy Meant Unprinted (Err (Words w)) old new = Survives old new (λ _. ⊥)
 -- a call that changes nothing leaves no more than before
 abbrev pub LeavesCall : Call → List ℕ → List (List ℕ) → Feed → Feed → Tally → Tally → Result (Unit {0}) Failure → State → State → Type 0
 LeavesCall call n texts fed left before behind outcome old new =
-    MatchBool (is_change call) (LeavesBy (AsksFor call n texts fed left) (IsFault Writer before.failures behind.failures) outcome old new) (Survives old new (λ _. ⊥))
+    MatchBool (is_change call) (LeavesBy (AsksFor call n texts fed left) (IsFailure Writer before.failures behind.failures) outcome old new) (Survives old new (λ _. ⊥))
 
 abbrev pub LeavesAsked : Wording → Feed → Feed → Tally → Tally → Result (Unit {0}) Failure → State → State → Type 0
 LeavesAsked w = LeavesCall w.call w.coll.now (map string_bytes w.rest.now)

@@ -1,5 +1,6 @@
 pub mod Answers
 pub mod Commands
 pub mod Execute
+pub mod Loading
 pub mod Requests
 pub mod Leaving

@@ -6,6 +6,8 @@ use Rattle.serde_json.specs.declared.value.Value.{Value as Json}
 use Rattle.bson_model.specs.View.{view}
 use Rattle.store_model.specs.declared.error.ErrorKind.TheVariants.{Memory}
 use Rattle.store_model.specs.Refusal.{refusal}
+use Rattle.store_filter.specs.Filters.{filter_of}
+use Rattle.cli_words.specs.Filters.{IsFilterText}
 use Rattle.cli_words.specs.Words.{Takes}
 use Rattle.cli_words.specs.declared.call.Call.{Call}
 use Rattle.cli_words.specs.declared.call.Call.TheVariants.{Insert, Replace, Get, Set, Unset, Remove, Find, Count, Import, Export, Dump, Load, Collections}
@@ -47,6 +49,8 @@ IsRead texts (requests.Get id mode) = IsIdText (text_at texts 0) (view id) × (m
 IsRead texts (requests.Set id key json) = IsIdText (text_at texts 0) (view id) × (key.now ≡ text_at texts 1) × IsTreeText (text_at texts 2) json
 IsRead texts (requests.Unset id key) = IsIdText (text_at texts 0) (view id) × (key.now ≡ text_at texts 1)
 IsRead texts (requests.Remove id) = IsIdText (text_at texts 0) (view id)
+IsRead texts (requests.Find filter) = IsFilterText (text_at texts 0) (filter_of filter)
+IsRead texts (requests.Count filter) = IsFilterText (text_at texts 0) (filter_of filter)
 IsRead texts _ = Unit {0}
 
 -- the words are a line of the table, and this is what they ask for

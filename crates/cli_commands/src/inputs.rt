@@ -1,12 +1,13 @@
 //! The command that reads the lines of its input.
 
-ghost use Rattle.std.specs.Prelude.{ℕ, List};
+ghost use Rattle.std.specs.Prelude.{◌≡◌, ℕ, [], IfOk};
 ghost use Rattle.bson_base.specs.Device.{CanFail};
 ghost use Rattle.bson_store.specs.Calls.{Relates, store_state};
 ghost use Rattle.cli_words.specs.declared.call.Call.TheVariants.{Load};
-ghost use Rattle.cli_commands.specs.Commands.{Complains, IsOfLines};
-ghost use Rattle.cli_commands.specs.Execute.{PerformsFed};
+ghost use Rattle.cli_commands.specs.Commands.{AsksFor, Complains};
+ghost use Rattle.cli_commands.specs.Execute.{IsUnasked, Performs};
 ghost use Rattle.cli_commands.specs.Leaving.{LeavesBy};
+ghost use Rattle.cli_commands.specs.declared.answer.Answer.TheVariants.{Number};
 
 use crate::answer::{Answer, number};
 use crate::stop::Failure;
@@ -24,9 +25,10 @@ pub fn load<S: Alter + Drop, I: Source>(
     input: &mut I,
 ) -> Result<Answer, Failure>
     requires { CanFail (I.feed input.old) }
-    ensures moves { (texts : List (List ℕ)) → Relates S.Store store.old store.new (PerformsFed (IsOfLines name.now (I.feed input.old) (I.feed input.new))
-        (Complains Load texts (I.feed input.old) (I.feed input.new)) (I.feed input.old) (I.feed input.new) result) }
-    ensures crash { LeavesBy (IsOfLines name.now (I.feed input.old) (I.feed input.new)) (λ _. ⊥) result (store_state S.Store store.old) (store_state S.Store store.new) }
+    ensures moves { Relates S.Store store.old store.new (Performs (AsksFor Load name.now [] (I.feed input.old) (I.feed input.new))
+        (IsUnasked Load name.now [] (I.feed input.old) (I.feed input.new)) (Complains Load [] (I.feed input.old) (I.feed input.new)) result) }
+    ensures crash { LeavesBy (AsksFor Load name.now [] (I.feed input.old) (I.feed input.new)) (λ _. ⊥) result (store_state S.Store store.old) (store_state S.Store store.new) }
+    ensures number { IfOk result (λ answer. (count : ℕ) × (answer ≡ Number count)) }
 {
     let loader = judged_input(alloc, input)?;
     number(store.load(name, loader))

@@ -3,7 +3,7 @@
 ghost use Rattle.std.specs.Prelude.{◌≡◌, MatchResult};
 ghost use Rattle.bson_base.specs.Device.{CanRefuse};
 ghost use Rattle.store_model.specs.declared.error.ErrorKind.TheVariants.{Writer};
-ghost use Rattle.cli_commands.specs.Execute.{IsFault};
+ghost use Rattle.cli_commands.specs.Execute.{IsFailure, IsFault, IsUnprinted};
 
 use crate::answer::Answer;
 use bson_base::write_all;
@@ -25,7 +25,7 @@ pub fn print_tree<O: Sink>(alloc: Global, tree: &Value, output: &mut O) -> Resul
 /// Writes documents, one after the other.
 fn print_documents<O: Sink>(documents: &[Vec<u8>], output: &mut O) -> Result<(), StoreError>
     requires { CanRefuse (O.tally output.old) }
-    ensures { MatchResult result (λ _. (O.tally output.new).failures ≡ (O.tally output.old).failures) (IsFault Writer (O.tally output.old).failures (O.tally output.new).failures) }
+    ensures { MatchResult result (λ _. (O.tally output.new).failures ≡ (O.tally output.old).failures) (IsFailure Writer (O.tally output.old).failures (O.tally output.new).failures) }
 {
     for document in documents {
         write_all(output, document.as_slice())?;
@@ -36,7 +36,7 @@ fn print_documents<O: Sink>(documents: &[Vec<u8>], output: &mut O) -> Result<(),
 /// Writes names, one a line.
 fn print_names<O: Sink>(names: &[String], output: &mut O) -> Result<(), StoreError>
     requires { CanRefuse (O.tally output.old) }
-    ensures { MatchResult result (λ _. (O.tally output.new).failures ≡ (O.tally output.old).failures) (IsFault Writer (O.tally output.old).failures (O.tally output.new).failures) }
+    ensures { MatchResult result (λ _. (O.tally output.new).failures ≡ (O.tally output.old).failures) (IsFailure Writer (O.tally output.old).failures (O.tally output.new).failures) }
 {
     for name in names {
         write_line(output, name.as_str())?;
@@ -44,10 +44,10 @@ fn print_names<O: Sink>(names: &[String], output: &mut O) -> Result<(), StoreErr
     Ok(())
 }
 
-/// Writes an answer. Refused by Writer, where a write failed, and by Memory, where it was wanted for a text.
+/// Writes an answer. Refused by Writer if a write failed, and by Memory if there is none for the text of a tree.
 pub fn print<O: Sink>(alloc: Global, answer: &Answer, output: &mut O) -> Result<(), StoreError>
     requires { CanRefuse (O.tally output.old) }
-    ensures { MatchResult result (λ _. (O.tally output.new).failures ≡ (O.tally output.old).failures) (IsFault Writer (O.tally output.old).failures (O.tally output.new).failures) }
+    ensures { MatchResult result (λ _. (O.tally output.new).failures ≡ (O.tally output.old).failures) (IsUnprinted answer.now (O.tally output.old).failures (O.tally output.new).failures) }
 {
     match answer {
         Answer::Nothing => Ok(()),

@@ -7,6 +7,7 @@ ghost use Rattle.store_model.specs.State.{in_json, insert as inserted};
 ghost use Rattle.bson_store.specs.Calls.{DoesTree, Relates, store_state};
 ghost use Rattle.bson_store.specs.Left.{LeavesTree};
 ghost use Rattle.bson_store.specs.Refusals.{as_done, reply_by};
+ghost use Rattle.cli_commands.specs.Commands.{Spares};
 ghost use Rattle.cli_commands.specs.Execute.{Executes, Reports, SilentUnread, Tells};
 ghost use Rattle.cli_commands.specs.Leaving.{LeavesAsked};
 ghost use Rattle.cli_commands.specs.Requests.{IsRequestOf};
@@ -68,6 +69,7 @@ fn perform<S: Alter + Drop, I: Source, O: Sink>(
     ensures crash { LeavesAsked words.now (I.feed input.old) (I.feed input.new) (O.tally output.old) (O.tally output.new) result
         (store_state S.Store store.old) (store_state S.Store store.new) }
     ensures unread { SilentUnread result output.old output.new }
+    ensures spared { Spares words.now.call input.old input.new }
 {
     let name = words.coll;
     match request {
@@ -113,6 +115,7 @@ fn obey<S: Alter + Drop, I: Source, O: Sink>(
     ensures crash { LeavesAsked words.now (I.feed input.old) (I.feed input.new) (O.tally output.old) (O.tally output.new) result
         (store_state S.Store store.old) (store_state S.Store store.new) }
     ensures unread { SilentUnread result output.old output.new }
+    ensures spared { Spares words.now.call input.old input.new }
 {
     let mut request = request_of(alloc, words)?;
     perform(alloc, store, words, &mut request, input, output)
@@ -139,6 +142,8 @@ pub fn execute<S: Alter + Drop, I: Source, O: Sink, F: Sink>(
     ensures status { result ≤ 2 }
     ensures silent { result ≡ 0 → faults.new ≡ faults.old }
     ensures unread { result ≡ 2 → output.new ≡ output.old }
+    // Only `import` and `load` read the input.
+    ensures spared { Spares words.now.call input.old input.new }
     // What was done, and that just this is reported: the refusal of the command's own step, or of a device exactly if that failed.
     ensures step { (outcome : Result (Unit {0}) Outcome) × Reports outcome result (F.tally faults.old) (F.tally faults.new)
         × Relates S.Store store.old store.new (Executes words.now (I.feed input.old) (I.feed input.new)

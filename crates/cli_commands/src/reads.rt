@@ -1,6 +1,6 @@
 //! The commands that print while they read.
 
-ghost use Rattle.std.specs.Prelude.{ℕ, List};
+ghost use Rattle.std.specs.Prelude.{[]};
 ghost use Rattle.sqlite.specs.State.{Survives};
 ghost use Rattle.bson_store.specs.Calls.{Relates, store_state};
 ghost use Rattle.cli_words.specs.declared.call.Call.TheVariants.{Export, Dump};
@@ -19,7 +19,7 @@ pub fn export<S: Alter + Drop, O: Sink>(
     output: &mut O,
 ) -> Result<(), Failure>
     requires { CanRefuse (O.tally output.old) }
-    ensures step { (texts : List (List ℕ)) (f : Feed) → Relates S.Store store.old store.new (Comes (Executed Export name.now texts f f (O.tally output.old) (O.tally output.new) result)) }
+    ensures step { (f : Feed) → Relates S.Store store.old store.new (Comes (Executed Export name.now [] f f (O.tally output.old) (O.tally output.new) result)) }
     ensures crash { Survives (store_state S.Store store.old) (store_state S.Store store.new) (λ _. ⊥) }
     ensures unread { SilentUnread result output.old output.new }
 {
@@ -37,7 +37,7 @@ pub fn dump<S: Alter + Drop, O: Sink>(
     output: &mut O,
 ) -> Result<(), Failure>
     requires { CanRefuse (O.tally output.old) }
-    ensures step { (texts : List (List ℕ)) (f : Feed) → Relates S.Store store.old store.new (Comes (Executed Dump name.now texts f f (O.tally output.old) (O.tally output.new) result)) }
+    ensures step { (f : Feed) → Relates S.Store store.old store.new (Comes (Executed Dump name.now [] f f (O.tally output.old) (O.tally output.new) result)) }
     ensures crash { Survives (store_state S.Store store.old) (store_state S.Store store.new) (λ _. ⊥) }
     ensures unread { SilentUnread result output.old output.new }
 {

@@ -7,10 +7,14 @@ ghost use Rattle.serde_json.specs.Read.{read as data_of_text};
 ghost use Rattle.serde_json.specs.View.{view as data_of};
 ghost use Rattle.bson_model.specs.View.{view};
 ghost use Rattle.store_documents.specs.Loading.{HasTaken};
+ghost use Rattle.cli_words.specs.Filters.{AnswersFilter, IsFilterText};
+ghost use Rattle.cli_words.specs.Inputs.{HaveTrees, IsBadLine, lines_in};
 ghost use Rattle.cli_words.specs.Texts.{AnswersId, AnswersText};
+ghost use Rattle.store_filter.specs.Filters.{filter_of};
 ghost use Rattle.cli_words.specs.declared.texts.TextError.TheVariants.{Unreadable};
-ghost use Rattle.cli_commands.specs.Commands.{IsIdText, TookSome, mode_of};
-ghost use Rattle.cli_commands.specs.Execute.{StopsFor, StopsLines};
+ghost use Rattle.cli_commands.specs.Commands.{IsIdText, mode_of};
+ghost use Rattle.cli_commands.specs.Execute.{StopsFor};
+ghost use Rattle.cli_commands.specs.Loading.{StopsAtLine, StopsLines, TakesLine, TakesLines};
 ghost use Rattle.cli_commands.specs.Requests.{text_at};
 
 use crate::stop::{Failure, refuse};
@@ -66,7 +70,7 @@ pub fn mode_of(words: &[String]) -> Mode
 
 /// The filter of a text.
 pub fn filter_of_text(alloc: Global, text: &str) -> Result<Filter, Failure>
-    ensures { IfErr result (StopsFor UsageError.Filter (Unit {0})) }
+    ensures { MatchResult result (λ f. IsFilterText text.now (filter_of f)) (StopsFor UsageError.Filter (AnswersFilter text.now (Err Unreadable))) }
 {
     match read_filter(alloc, text) {
         Ok(filter) => Ok(filter),
@@ -77,8 +81,8 @@ pub fn filter_of_text(alloc: Global, text: &str) -> Result<Filter, Failure>
 
 /// Takes the tree of a line, if it has one.
 fn take_line(alloc: Global, loader: &mut Loader, line: &[u8], number: u64) -> Result<(), Failure>
-    ensures ok { OnOk result ((js : List Data) → HasTaken loader.old js → (all : List Data) × HasTaken loader.new all) }
-    ensures err { IfErr result (StopsFor (UsageError.Line number) (Unit {0})) }
+    ensures ok { OnOk result ((js : List Data) → HasTaken loader.old js → TakesLine line.now js (HasTaken loader.new)) }
+    ensures err { IfErr result (StopsFor (UsageError.Line number) (IsBadLine line.now)) }
 {
     match read_line(alloc, line) {
         Ok(Some(tree)) => {
@@ -93,12 +97,16 @@ fn take_line(alloc: Global, loader: &mut Loader, line: &[u8], number: u64) -> Re
 
 /// Judges the trees of lines, one after the other: one tree is held at a time.
 fn judged_lines(alloc: Global, bytes: &[u8]) -> Result<Loader, Failure>
-    ensures { MatchResult result (λ l. (js : List Data) × HasTaken l js) (λ stop. (i : ℕ) × StopsFor (UsageError.Line i) (Unit {0}) stop) }
+    ensures { MatchResult result (λ l. (js : List Data) × HaveTrees (lines_in bytes.now) js × HasTaken l js) (StopsAtLine (lines_in bytes.now)) }
 {
     let mut loader = Loader::new(alloc);
     let mut number = 0u64;
     for line in bytes.split(|byte| *byte == b'\n') {
-        number = number.saturating_add(1);
+        let Some(next) = number.checked_add(1) else {
+            // Bytes have fewer lines than there are numbers.
+            return Err(refuse(ErrorKind::Memory));
+        };
+        number = next;
         take_line(alloc, &mut loader, line, number)?;
     }
     Ok(loader)
@@ -107,7 +115,7 @@ fn judged_lines(alloc: Global, bytes: &[u8]) -> Result<Loader, Failure>
 /// The trees of the input's lines, judged. The input is read to its end.
 pub fn judged_input<I: Source>(alloc: Global, input: &mut I) -> Result<Loader, Failure>
     requires { CanFail (I.feed input.old) }
-    ensures { MatchResult result (λ l. TookSome (I.feed input.old) (I.feed input.new) × ((js : List Data) × HasTaken l js)) (StopsLines (I.feed input.old) (I.feed input.new)) }
+    ensures { MatchResult result (TakesLines (I.feed input.old) (I.feed input.new)) (StopsLines (I.feed input.old) (I.feed input.new)) }
 {
     let bytes = match read_all(alloc, input) {
         Ok(bytes) => bytes,

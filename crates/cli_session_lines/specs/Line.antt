@@ -10,11 +10,11 @@ use Rattle.cli_session_lines.specs.declared.line.Line.{Line}
 abbrev pub IsUnbroken : List ℕ → Type 0
 IsUnbroken text = All (λ b. b ≢ 10) text
 
--- what is kept of a text
+-- what is kept of a text; there is always memory for one without a byte
 abbrev pub KeepsSo : Kept → List ℕ → List ℕ → Type 0
 KeepsSo Whole bytes text = (bytes ≡ text) × (length text ≤ MOST)
 KeepsSo TooLong bytes text = MOST < length text
-KeepsSo Memory bytes text = Unit {0}
+KeepsSo Memory bytes text = 0 < length text
 
 abbrev pub Keeps : Line → List ℕ → Type 0
 Keeps l text = KeepsSo l.kept l.bytes.items text

@@ -43,7 +43,7 @@ pub struct Lines {
 }
 
 impl Lines {
-    ghost use Rattle.std.specs.Prelude.{◌≡◌, ◌⊎◌, ◌++◌, ◌↔◌, List, [], ℕ, length, IsTrue};
+    ghost use Rattle.std.specs.Prelude.{◌≡◌, ◌⊎◌, ◌++◌, ◌↔◌, List, [], ℕ, length, IsTrue, OnErr};
     ghost use Rattle.bson_base.specs.Device.{Counts, Gives, IsExhausted, CanFail};
     ghost use Rattle.cli_session_lines.specs.Line.{IsUnbroken, Keeps};
     ghost use Rattle.cli_session_lines.specs.Lines.{broken, waiting, ReadsNext};
@@ -66,6 +66,7 @@ impl Lines {
         ensures counts { Counts (S.feed source.old).failures (S.feed source.new).failures result }
         ensures bytes { (given : List ℕ) × Gives (S.feed source.old).supply (S.feed source.new).supply given × (waiting self.new ≡ waiting self.old ++ given) }
         ensures some { IfOk result (λ some. IsTrue some ↔ (0 < length (waiting self.new))) }
+        ensures err { OnErr result ((waiting self.old ≡ []) × Gives (S.feed source.old).supply (S.feed source.new).supply []) }
         ensures end { IfOk result (λ some. (IsTrue some → ⊥) → IsExhausted (S.feed source.new).supply) }
     {
         if self.at == self.until {

@@ -1,3 +1,5 @@
 pub mod Words
 pub mod Texts
+pub mod Filters
+pub mod Inputs
 pub mod Lines

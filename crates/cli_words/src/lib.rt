@@ -11,7 +11,7 @@ mod words;
 
 pub use call::{Call, RELAXED};
 pub use filter::read_filter;
-pub use input::{LinesError, read_line, read_lines};
+pub use input::read_line;
 pub use lines::{UsageError, write_complaint, write_flag, write_line, write_number, write_refusal};
 pub use texts::{TextError, parse_json, read_id};
 pub use words::{Words, read_words};

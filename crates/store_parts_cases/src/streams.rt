@@ -1,9 +1,9 @@
 //! Streams of documents and lists of trees.
 
 use crate::{tell, told};
-use cli_words::{TextError, read_lines};
+use cli_words::{TextError, UsageError, read_line};
 use std::alloc::{AllocError, Global};
-use store_documents::{KeptRow, Keys, judge_stream, judge_trees};
+use store_documents::{KeptRow, Keys, Loader, judge_stream};
 use store_model::StoreError;
 
 /// The bytes of the rows.
@@ -33,11 +33,30 @@ pub fn stream(alloc: Global, rest: &str) -> Result<String, TextError> {
     judged(alloc, judge_stream(alloc, &bytes))
 }
 
+/// Takes the trees of lines of JSON, one after the other, and returns how many they are.
+pub fn take_lines(alloc: Global, loader: &mut Loader, bytes: &[u8]) -> Result<usize, UsageError> {
+    let mut number = 0u64;
+    let mut count = 0usize;
+    for line in bytes.split(|byte| *byte == b'\n') {
+        number = number.saturating_add(1);
+        match read_line(alloc, line) {
+            Ok(Some(tree)) => {
+                loader.take(tree);
+                count = count.saturating_add(1);
+            }
+            Ok(None) => {}
+            Err(_) => return Err(UsageError::Line(number)),
+        }
+    }
+    Ok(count)
+}
+
 /// The documents of lines of JSON.
 pub fn trees(alloc: Global, rest: &str) -> Result<String, TextError> {
     let bytes = told::bytes(alloc, rest)?;
-    match read_lines(alloc, &bytes) {
-        Ok(trees) => judged(alloc, judge_trees(alloc, trees)),
+    let mut loader = Loader::new(alloc);
+    match take_lines(alloc, &mut loader, &bytes) {
+        Ok(_) => judged(alloc, loader.finish()),
         Err(_) => Err(TextError::Unreadable),
     }
 }

@@ -1,12 +1,14 @@
 //! The words of the program `bson_store`.
 
+use crate::streams::take_lines;
 use crate::{tell, told};
 use bson_base::{DeviceFault, VecSink};
 use cli_words::{
-    TextError, UsageError, read_id, read_lines, read_words, write_complaint, write_flag,
-    write_number, write_refusal,
+    TextError, UsageError, read_id, read_words, write_complaint, write_flag, write_number,
+    write_refusal,
 };
 use std::alloc::Global;
+use store_documents::Loader;
 use store_model::ErrorKind;
 
 /// The line of the table that words are.
@@ -29,7 +31,8 @@ pub fn id(alloc: Global, rest: &str) -> Result<String, TextError> {
 /// How many trees stand in lines of JSON.
 pub fn lines(alloc: Global, rest: &str) -> Result<String, TextError> {
     let bytes = told::bytes(alloc, rest)?;
-    tell::outcome(alloc, read_lines(alloc, &bytes).map(|trees| trees.len()))
+    let mut loader = Loader::new(alloc);
+    tell::outcome(alloc, take_lines(alloc, &mut loader, &bytes))
 }
 
 /// What a sink took, between quotes.

@@ -1,6 +1,6 @@
 //! The table: a list of rows, of which each call is a change.
 
-ghost use Rattle.std.specs.Prelude.{◌≡◌, length, false, IsTrue, IfOk, IfErr, IsErrAnd, IsErrOf};
+ghost use Rattle.std.specs.Prelude.{◌≡◌, ℕ, List, [], length, false, IsTrue, IfOk, IfErr, IsErrAnd, IsErrOf};
 ghost use Rattle.sqlite.specs.Held.{state};
 ghost use Rattle.sqlite.specs.State.{HasCleanDisk, Survives};
 ghost use Rattle.store_table.specs.Rows.{without_place, with_body_at};
@@ -191,6 +191,8 @@ impl<S: Alter + Drop> Table<S> {
     pub fn visit_bodies<V: Visit>(&mut self, coll: &str, visitor: &mut V) -> Result<bool, Fault>
         ensures moves { Moves (table_state S.Store self.old) (table_state S.Store self.new) (Visits (V.took visitor.old) visitor.old visitor.new coll.now result) }
         ensures stopped { IfOk result (λ all. all ≡ false → V.is_done visitor.new) }
+        // Whatever the database did, the visitor took some bodies, and nothing else was done with it.
+        ensures taken { V.took visitor.old visitor.old [] → (bodies : List (List ℕ)) × V.took visitor.old visitor.new bodies }
         ensures open { WasOpen (table_state S.Store self.old) (table_state S.Store self.new) result }
         ensures crash { Survives (table_state S.Store self.old) (table_state S.Store self.new) (λ _. ⊥) }
     {

@@ -38,6 +38,7 @@ pub(crate) fn visit_values<S: Alter, V: Visit>(
         → IfOk result (λ all. IsTrue all → TookRows (V.took visitor.old) visitor.new sql.now (bound params.now) (state S.Store conn.old) (state S.Store conn.new)) }
     ensures some { HasCleanDisk (state S.Store conn.new) → V.took visitor.old visitor.old [] → TookSome (V.took visitor.old) visitor.new sql.now (bound params.now) (state S.Store conn.old) }
     ensures stopped { IfOk result (λ all. all ≡ false → V.is_done visitor.new) }
+    ensures taken { V.took visitor.old visitor.old [] → (bodies : List (List ℕ)) × V.took visitor.old visitor.new bodies }
     ensures read { HasCleanDisk (state S.Store conn.new) → ReadsRows (state S.Store conn.old) (state S.Store conn.new) result }
     ensures crash { AddsNothing (state S.Store conn.old) (state S.Store conn.new) }
 {

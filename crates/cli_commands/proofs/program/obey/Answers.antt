@@ -4,6 +4,7 @@ use Rattle.bson_base.specs.Device.{Feed, Tally}
 use Rattle.bson_store.specs.Calls.{store_state}
 use Rattle.cli_commands.proofs.Ending.{not_asked}
 use Rattle.cli_commands.proofs.Leaving.{of_none}
+use Rattle.cli_commands.proofs.Sparing.{spares_same}
 use Rattle.cli_commands.proofs.program.obey.Goals as goal
 
 pub returns-in_err-request-clause-step : goal.returns-in_err-request-clause-step
@@ -21,3 +22,6 @@ returns-in_err-request-clause-crash g c =
     let old : Tally = g.O.Sink.tally c.args.output.now in
     let p = err_from_is_err_and c.from_residual.result c.from_residual.ensures.1 in
     rw (p.1, p.2) (of_none (store_state g.S.Store c.args.store.now) w.call w.coll.now (map string_bytes w.rest.now) fed fed old old c.in_err-request.field-0.0)
+
+pub returns-in_err-request-clause-spared : goal.returns-in_err-request-clause-spared
+returns-in_err-request-clause-spared g c = spares_same c.args.words.now.call c.args.input.now

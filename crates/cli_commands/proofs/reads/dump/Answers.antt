@@ -7,22 +7,22 @@ use Rattle.cli_commands.proofs.Sending.{dumped, not_dumped, unchecked}
 use Rattle.cli_commands.proofs.reads.dump.Goals as goal
 
 pub returns-in-Err-clause-step : goal.returns-in-Err-clause-step
-returns-in-Err-clause-step g c texts f =
+returns-in-Err-clause-step g c f =
     let old : Tally = g.O.Sink.tally c.args.output.now in
-    unchecked c.args.name.now texts f old old (store_state g.S.Store c.args.store.now) (store_state g.S.Store c.check_json.new.self) c.in-Err.error refl c.in-Err.ensures.moves
+    unchecked c.args.name.now f old old (store_state g.S.Store c.args.store.now) (store_state g.S.Store c.check_json.new.self) c.in-Err.error refl c.in-Err.ensures.moves
 
 pub returns-in-Ok-clause-step : goal.returns-in-Ok-clause-step
-returns-in-Ok-clause-step g c texts f =
+returns-in-Ok-clause-step g c f =
     let of_output : g.row.O.Denot → Tally = λ o. g.O.Sink.tally o in
     let count : Printer g.row.O.Denot g.O.Sink → ℕ = λ p. (of_output p.output.now).failures in
-    dumped c.args.name.now texts f (of_output c.args.output.now) _ (store_state g.S.Store c.args.store.now) (store_state g.S.Store c.check_json.new.self) (store_state g.S.Store c.each_text.new.self) (λ p. p.output.ghost_name) (λ p. p.failed) count _ c.in-Ok.printer
+    dumped c.args.name.now f (of_output c.args.output.now) _ (store_state g.S.Store c.args.store.now) (store_state g.S.Store c.check_json.new.self) (store_state g.S.Store c.each_text.new.self) (λ p. p.output.ghost_name) (λ p. p.failed) count _ c.in-Ok.printer
     c.in_default.ensures.moves (c.in-Ok.ensures.moves (refl, refl, refl)) (λ e. ap (λ o. (of_output o).failures) (search rules))
 
 pub returns-in-Err-each_text-clause-step : goal.returns-in-Err-each_text-clause-step
-returns-in-Err-each_text-clause-step g c texts f =
+returns-in-Err-each_text-clause-step g c f =
     let of_output : g.row.O.Denot → Tally = λ o. g.O.Sink.tally o in
     let count : Printer g.row.O.Denot g.O.Sink → ℕ = λ p. (of_output p.output.now).failures in
-    not_dumped c.args.name.now texts f (of_output c.args.output.now) _ (store_state g.S.Store c.args.store.now) (store_state g.S.Store c.check_json.new.self) (store_state g.S.Store c.each_text.new.self) (λ p. p.output.ghost_name) (λ p. p.failed) count _ c.in-Err-each_text.printer c.in-Err-each_text.error
+    not_dumped c.args.name.now f (of_output c.args.output.now) _ (store_state g.S.Store c.args.store.now) (store_state g.S.Store c.check_json.new.self) (store_state g.S.Store c.each_text.new.self) (λ p. p.output.ghost_name) (λ p. p.failed) count _ c.in-Err-each_text.printer c.in-Err-each_text.error
     c.in_default.ensures.moves (c.in-Err-each_text.ensures.moves (refl, refl, refl)) (λ e. ap (λ o. (of_output o).failures) (search rules))
 
 pub returns-in-Ok-clause-crash : goal.returns-in-Ok-clause-crash

@@ -35,6 +35,7 @@ rows-init g c =
     record {
       same = refl;
       stopped = λ e. absurd (cc);
+      taken = λ t. ([], t);
       survives = leaves_nothing c.args.sql.now c.requires (bound c.args.params.now) _ _ made.survives;
       given = λ clean. let b = begun_any c.args.sql.now c.requires g.S.Store (bound c.args.params.now) c.args.conn.now _ (made.begun clean) in ([], b.0, b.1, λ t. t);
     }
@@ -112,6 +113,7 @@ rows-preserved g c =
     record {
       same = search rules;
       stopped = search rules;
+      taken = λ none. let was = c.rows.invariant.taken none in (was.0 ++ c.bytes_at.result.now ∷ [], c.visit-wants.ensures.took c.args.visitor.now was.0 was.1);
       survives = survives_then old mid (state g.S.Store now) _ _ (λ _. ⊥) (λ _ db none. none) (λ _ db none. none) c.rows.invariant.survives moved.survives;
       given = λ late.
           let was = c.rows.invariant.given (omega (arith, late, moved.survives.clean)) in

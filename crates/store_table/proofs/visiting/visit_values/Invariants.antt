@@ -1,4 +1,4 @@
-use Rattle.std.proofs.Common.{◌≡◌, List, [], map, false}
+use Rattle.std.proofs.Common.{◌≡◌, ℕ, List, [], map, false}
 use Rattle.sqlite.specs.Order.{Row}
 use Rattle.sqlite.specs.Values.{bound}
 use Rattle.sqlite.specs.State.{HasCleanDisk, IsUnchanged, Survives}
@@ -14,6 +14,7 @@ invariant-rows g l =
     record {
       same : l.rows.conn.ghost_name ≡ l.initial.rows.conn.ghost_name;
       stopped : l.wants ≡ false → g.V.Visit.is_done l.visitor;
+      taken : g.V.Visit.took l.fn.visitor l.fn.visitor [] → (bodies : List (List ℕ)) × g.V.Visit.took l.fn.visitor l.visitor bodies;
       survives : Survives old now (λ _. ⊥);
       given : HasCleanDisk now → (given : List Row) × HasGiven g.S.Store l.sql (bound l.params) l.rows.conn.now given × IsUnchanged old now × (g.V.Visit.took l.fn.visitor l.fn.visitor [] → g.V.Visit.took l.fn.visitor l.visitor (map first_value given));
     }
