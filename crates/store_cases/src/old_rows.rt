@@ -39,7 +39,10 @@ pub fn fill<S: Alter>(connection: &mut Connection<S>) -> bool {
 }
 
 /// The keys of the rows that a database has. `Other` is also where they can't be read.
-pub fn keys<S: Alter>(alloc: Global, connection: &mut Connection<S>) -> Result<Keys, AllocError> {
+pub fn keys_of<S: Alter>(
+    alloc: Global,
+    connection: &mut Connection<S>,
+) -> Result<Keys, AllocError> {
     let mut rows = String::new(alloc);
     stored::tell(alloc, connection, &mut rows)?;
     match rows.as_str() {

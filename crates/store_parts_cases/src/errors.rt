@@ -1,7 +1,7 @@
 //! The texts of errors. A text is what its declaration promises, so the answers are those of the declarations.
 
 use bson_meaning::{GateError, KeyError};
-use cli_words::{LinesError, TextError};
+use cli_words::TextError;
 use std::alloc::Global;
 use std::fmt;
 use store_model::{ErrorKind, StoreError};
@@ -25,7 +25,6 @@ pub fn answer(alloc: Global, word: &str) -> Result<String, TextError> {
         "KeyError" => texts(alloc, &OF_KEYS),
         "ErrorKind" => texts(alloc, &KINDS),
         "StoreError" => texts(alloc, &refusals()),
-        "LinesError" => texts(alloc, &[LinesError::Line(3), LinesError::Memory]),
         "TextError" => texts(alloc, &[TextError::Unreadable, TextError::Memory]),
         _ => Err(TextError::Unreadable),
     }
