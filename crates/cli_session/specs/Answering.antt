@@ -1,5 +1,5 @@
 -- What comes of one line of a session.
-use Rattle.std.specs.Prelude.{◌≡◌, ◌⊎◌, ◌<◌, ◌-◌, ℕ, List, [], ◌∷◌, Some, None, Result, Ok, Err, length, map, string_bytes, take, IsUtf8}
+use Rattle.std.specs.Prelude.{◌≡◌, ◌⊎◌, ◌<◌, ◌≤◌, ℕ, zero, suc, List, [], ◌∷◌, ◌++◌, Some, None, Result, Ok, Err, length, map, string_bytes, IsUtf8}
 use Rattle.bson_base.specs.Device.{Feed, Tally, TakesText}
 use Rattle.bson_base.specs.declared.device.VecSink.{VecSink}
 use Rattle.store_table.specs.Rows.{TableRow}
@@ -11,6 +11,8 @@ use Rattle.cli_session_lines.specs.declared.line.TheConstants.{MOST}
 use Rattle.cli_session_lines.specs.declared.request.Request.{Request}
 use Rattle.cli_session_lines.specs.declared.request.RequestError.{RequestError}
 use Rattle.cli_session_lines.specs.declared.request.RequestError.TheVariants.{Unreadable, Memory}
+use Rattle.store_model.specs.Refusal.{refusal}
+use Rattle.store_model.specs.State.{When}
 use Rattle.store_model.specs.declared.error.ErrorKind.TheVariants as kind
 use Rattle.cli_words.specs.Lines.{complaint_line, refusal_line}
 use Rattle.cli_words.specs.Words.{IsLine}
@@ -19,6 +21,7 @@ use Rattle.cli_words.specs.declared.call.Call.TheVariants.{Find, Export}
 use Rattle.cli_words.specs.declared.lines.UsageError.TheVariants as complaints
 use Rattle.cli_commands.specs.Execute.{Comes, Executed, Reports}
 use Rattle.cli_commands.specs.declared.stop.Failure.{Failure}
+use Rattle.cli_commands.specs.declared.stop.Failure.TheVariants.{Refused}
 use Rattle.cli_session.specs.declared.outcome.Form.{Form}
 use Rattle.cli_session.specs.declared.outcome.Form.TheVariants.{Nothing, Text, Bytes}
 use Rattle.cli_session.specs.declared.outcome.Outcome.{Outcome}
@@ -40,13 +43,19 @@ Tells o status form line = (o.status ≡ status) × (o.form ≡ form) × (o.outp
 abbrev pub source_of : List ℕ → Feed
 source_of bytes = record { failures = 0; supply = record { given = Some []; left = Some bytes } }
 
--- the command was done so, as `execute` says, and how it ended is reported
+-- how it ended, as it is reported: a sink in memory fails only if it is out of that
+abbrev pub reported : ℕ → Result (Unit {0}) Failure → Result (Unit {0}) Failure
+reported zero outcome = outcome
+reported (suc n) outcome = Err (Refused (refusal kind.Memory))
+
+-- the command was done so, as `execute` says, over an input in memory, which doesn't fail, and how it ended is reported
 pub record Does (call : Call) (coll : List ℕ) (rest : List (List ℕ)) (input : List ℕ) (o : Outcome) (docs after : List TableRow) : Type 0 where
   pub silent : o.status ≡ 0 → o.faults.bytes.items ≡ []
   pub unread : o.status ≡ 2 → o.output.bytes.items ≡ []
   pub left : Feed
+  pub unfailed : left.failures ≡ 0
   pub outcome : Result (Unit {0}) Failure
-  pub told : Reports outcome o.status fresh (tally_of o.faults)
+  pub told : Reports (reported o.output.failed outcome) o.status fresh (tally_of o.faults)
   pub done : Comes (Executed call coll rest (source_of input) left fresh (tally_of o.output) outcome) docs after
 
 abbrev pub form_of : Call → Form
@@ -76,11 +85,15 @@ Grants words input o docs after = IsOutOfMemory o docs after ⊎ Obeys ([] ∷ w
 abbrev pub AsksNothing : List ℕ → Type 0
 AsksNothing text = ((words : List (List ℕ)) (input : List ℕ) → AsksFor text words input → ⊥) ⊎ (MOST < length text)
 
+-- the line isn't too long, and what it asks for was obeyed
+abbrev pub IsObeyed : List ℕ → Outcome → List TableRow → List TableRow → Type 0
+IsObeyed text o docs after = (length text ≤ MOST) × ((words : List (List ℕ)) × (input : List ℕ) × AsksFor text words input × Grants words input o docs after)
+
 -- what came of the line at this place: that it is no command is reported, or out of memory, or what it asks for is obeyed
 abbrev pub ComesOf : ℕ → List ℕ → Outcome → List TableRow → List TableRow → Type 0
 ComesOf number text o docs after =
     (AsksNothing text × Tells o 2 Nothing (complaint_line (complaints.Line number)) × (after ≡ docs))
-    ⊎ (IsOutOfMemory o docs after ⊎ ((words : List (List ℕ)) × (input : List ℕ) × AsksFor text words input × Grants words input o docs after))
+    ⊎ (IsOutOfMemory o docs after ⊎ IsObeyed text o docs after)
 
 -- ---- how it is answered
 
@@ -90,12 +103,12 @@ IsOutput Nothing bytes output = output ≡ []
 IsOutput Text bytes output = (IsUtf8 bytes × (output ≡ printed_text bytes)) ⊎ ((IsUtf8 bytes → ⊥) × (output ≡ bytes_text bytes))
 IsOutput Bytes bytes output = output ≡ bytes_text bytes
 
--- without the last byte, which is a line feed
-abbrev pub trimmed : List ℕ → List ℕ
-trimmed bytes = take (length bytes - 1) bytes
+-- without the line feed at its end, if it has one
+abbrev pub IsTrimmed : List ℕ → List ℕ → Type 0
+IsTrimmed bytes line = (bytes ≡ line ++ 10 ∷ []) ⊎ (((front : List ℕ) → bytes ≡ front ++ 10 ∷ [] → ⊥) × (line ≡ bytes))
 
 abbrev pub IsTold : List ℕ → List ℕ → Type 0
-IsTold bytes told = (IsUtf8 (trimmed bytes) × (told ≡ trimmed bytes)) ⊎ ((IsUtf8 (trimmed bytes) → ⊥) × (told ≡ []))
+IsTold bytes told = (line : List ℕ) × IsTrimmed bytes line × ((IsUtf8 line × (told ≡ line)) ⊎ ((IsUtf8 line → ⊥) × (told ≡ [])))
 
 -- the line of the status, the output and what is reported; or the one for out of memory
 abbrev pub IsAnswerTo : Outcome → List ℕ → Type 0
@@ -104,10 +117,10 @@ IsAnswerTo o answer =
 
 -- a line without a byte is skipped; of every other one something came, which is answered
 abbrev pub Answers : ℕ → List ℕ → List ℕ → List TableRow → List TableRow → Type 0
-Answers number text answer docs after = ((text ≡ []) × (answer ≡ []) × (after ≡ docs)) ⊎ ((o : Outcome) × ComesOf number text o docs after × IsAnswerTo o answer)
+Answers number text answer docs after = When (text ≡ []) ((answer ≡ []) × (after ≡ docs)) ((o : Outcome) × ComesOf number text o docs after × IsAnswerTo o answer)
 
 -- the request of a line
 abbrev pub ReadsLine : Line → Result Request RequestError → Type 0
-ReadsLine l (Ok r) = (text : List ℕ) → Keeps l text → AsksFor text (map string_bytes r.words.items) r.input.items
+ReadsLine l (Ok r) = (text : List ℕ) → Keeps l text → (length text ≤ MOST) × AsksFor text (map string_bytes r.words.items) r.input.items
 ReadsLine l (Err Unreadable) = (text : List ℕ) → Keeps l text → AsksNothing text
 ReadsLine l (Err Memory) = Unit {0}

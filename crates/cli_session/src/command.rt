@@ -41,9 +41,13 @@ fn perform<S: Alter + Drop>(
     let mut output = VecSink::new(alloc);
     let mut faults = VecSink::new(alloc);
     let status = execute(alloc, store, &words, &mut input, &mut output, &mut faults);
+    let form = form_of(words.call);
+    if output.failed > 0 {
+        return Outcome::no_room(alloc, form, output);
+    }
     Outcome {
         status,
-        form: form_of(words.call),
+        form,
         output,
         faults,
     }

@@ -2,7 +2,7 @@
 
 ghost use Rattle.std.specs.Prelude.{◌≡◌};
 ghost use Rattle.cli_session_lines.specs.Answers.{output_text};
-ghost use Rattle.cli_session.specs.Answering.{IsOutput, IsTold, form_of};
+ghost use Rattle.cli_session.specs.Answering.{IsOutput, IsTold, IsTrimmed, form_of};
 
 use bson_base::VecSink;
 use bson_store::ErrorKind;
@@ -58,23 +58,33 @@ fn output_of(form: Form, bytes: &[u8]) -> Output<'_>
     }
 }
 
+/// A line without its line feed. It has none if there was no memory for all of it.
+fn trimmed(bytes: &[u8]) -> &[u8]
+    ensures { IsTrimmed bytes.now result.now }
+{
+    match bytes.split_last() {
+        Some((b'\n', line)) => line,
+        _ => bytes,
+    }
+}
+
 /// The line that was reported, without its line feed.
 fn told_of(bytes: &[u8]) -> &str
     ensures { IsTold bytes.now result.now }
 {
-    let line = &bytes[..bytes.len().saturating_sub(1)];
-    match str::from_utf8(line) {
+    match str::from_utf8(trimmed(bytes)) {
         Ok(text) => text,
         Err(_) => "",
     }
 }
 
 impl Outcome {
-    ghost use Rattle.std.specs.Prelude.{ℕ, List, None};
+    ghost use Rattle.std.specs.Prelude.{◌≡◌, ℕ, List, None};
+    ghost use Rattle.bson_base.specs.Device.{TakesText};
     ghost use Rattle.cli_session_lines.specs.Answers.{IsLineOf};
     ghost use Rattle.store_model.specs.declared.error.ErrorKind.TheVariants.{Memory};
     ghost use Rattle.cli_words.specs.Lines.{complaint_line, refusal_line};
-    ghost use Rattle.cli_session.specs.Answering.{IsAnswerTo, Tells};
+    ghost use Rattle.cli_session.specs.Answering.{IsAnswerTo, Tells, fresh, tally_of};
     ghost use Rattle.cli_session.specs.declared.outcome.Form.TheVariants.{Nothing};
 
     /// A complaint is reported, and nothing was done.
@@ -101,6 +111,21 @@ impl Outcome {
             status: 1,
             form: Form::Nothing,
             output: VecSink::new(alloc),
+            faults,
+        }
+    }
+
+    /// Out of memory for the output is reported, behind what was printed.
+    pub fn no_room(alloc: Global, form: Form, output: VecSink) -> Outcome
+        ensures reports { (result.status ≡ 1) × TakesText fresh (tally_of result.faults) (refusal_line Memory None) }
+        ensures keeps { (result.form ≡ form) × (result.output ≡ output) }
+    {
+        let mut faults = VecSink::new(alloc);
+        let _ = write_refusal(&mut faults, ErrorKind::Memory, None);
+        Outcome {
+            status: 1,
+            form,
+            output,
             faults,
         }
     }
