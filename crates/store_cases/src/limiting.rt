@@ -11,7 +11,7 @@
 //! that is refused leaves the old keys.
 
 use crate::lists;
-use crate::old_rows::{Keys, fill, keys_of};
+use crate::old_rows::{Keys, fill, found_keys};
 use crate::replies::tell_refusal;
 use crate::stopping::{COMMANDS, shown};
 use bson_store::Store;
@@ -155,7 +155,7 @@ fn tell_keys<S: Alter>(
     connection: &mut Connection<S>,
     row: &mut String,
 ) -> Result<(), AllocError> {
-    row.push_str(match keys_of(alloc, connection)? {
+    row.push_str(match found_keys(alloc, connection)? {
         Keys::Old => ", old keys",
         Keys::New => ", new keys",
         Keys::Other => ", other rows",

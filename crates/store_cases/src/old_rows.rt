@@ -39,7 +39,7 @@ pub fn fill<S: Alter>(connection: &mut Connection<S>) -> bool {
 }
 
 /// The keys of the rows that a database has. `Other` is also where they can't be read.
-pub fn keys_of<S: Alter>(
+pub fn found_keys<S: Alter>(
     alloc: Global,
     connection: &mut Connection<S>,
 ) -> Result<Keys, AllocError> {

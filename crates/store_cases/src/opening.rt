@@ -7,7 +7,7 @@
 
 use crate::exporting::is_allocated;
 use crate::memory::{ELSEWHERE, TOO_EARLY};
-use crate::old_rows::{Keys, fill, keys_of};
+use crate::old_rows::{Keys, fill, found_keys};
 use bson_store::{ErrorKind, Store};
 use sqlite::{Alter, Connection};
 use std::alloc::Global;
@@ -52,9 +52,9 @@ fn opened<S: Alter + Drop>(
 /// What is there behind an opening. Reading the rows may be out of memory: where they are others, they are read once
 /// more.
 fn behind_opening<S: Alter + Drop>(alloc: Global, mut connection: Connection<S>) -> &'static str {
-    match keys_of(alloc, &mut connection) {
+    match found_keys(alloc, &mut connection) {
         Ok(Keys::New) => "well",
-        _ => match keys_of(alloc, &mut connection) {
+        _ => match found_keys(alloc, &mut connection) {
             Ok(Keys::New) => ELSEWHERE,
             _ => "not well",
         },
@@ -63,9 +63,9 @@ fn behind_opening<S: Alter + Drop>(alloc: Global, mut connection: Connection<S>)
 
 /// What is there behind an opening that was out of memory, and behind the next one.
 fn behind_refusal<S: Alter + Drop>(alloc: Global, mut connection: Connection<S>) -> &'static str {
-    let left = keys_of(alloc, &mut connection);
+    let left = found_keys(alloc, &mut connection);
     let (mut connection, refusal) = opened(alloc, connection);
-    match (left, refusal, keys_of(alloc, &mut connection)) {
+    match (left, refusal, found_keys(alloc, &mut connection)) {
         (Ok(Keys::Old), None, Ok(Keys::New)) => "well: the opening was out of memory",
         _ => "not well",
     }
