@@ -1,6 +1,10 @@
 //! The program `bson_store`: commands over a database file, and its back-up.
 
+ghost use Rattle.std.specs.Prelude.{IfOk};
+ghost use Rattle.sqlite.specs.Files.{file_state};
 ghost use Rattle.bson_base.specs.Device.{CanFail, CanRefuse};
+ghost use Rattle.store_model.specs.State.{State as Lists};
+ghost use Rattle.bson_store.specs.Left.{FindsState, Holds, HoldsOnce};
 
 use crate::words::{copy_of, patience_of};
 use bson_store::{ErrorKind, Sink, Source, Store};
@@ -33,11 +37,15 @@ fn over<S: Alter + Drop, I: Source, O: Sink, F: Sink>(
     }
 }
 
-/// Opens the store of a connection, and gives the connection back: what a back-up is made of is a sound store.
+/// Opens the store of a connection, and gives the connection back: what a back-up is made of is a sound store. If the
+/// database held a state, under keys of now or from before, what is committed then holds it under keys of now. So do the
+/// bytes that `write_whole` writes of it, and an open over these finds that state by the clause `finds` of `Store::open`.
 fn judged(
     alloc: Global,
     connection: Connection<FileStore<Loaded>>,
-) -> Result<Connection<FileStore<Loaded>>, ErrorKind> {
+) -> Result<Connection<FileStore<Loaded>>, ErrorKind>
+    ensures { (x : Lists) → FindsState HoldsOnce (file_state connection) x → IfOk result (λ c. Holds (file_state c).now (file_state c).committed.trees x) }
+{
     match Store::open(alloc, connection) {
         Ok(store) => Ok(store.close()),
         Err((error, connection)) => {
