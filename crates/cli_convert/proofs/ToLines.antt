@@ -11,14 +11,17 @@ use Rattle.cli_convert.proofs.Parts.{one_part, more_parts, took_both, passed_bot
 
 -- one document that became a line
 pub line_sent : (m : Mode) (n : ℕ) (old new : Feed) (before after : Tally) (d : Document) → ReadsFree n old new (Ok (Some d)) → SendsLine m (content d) before after (Ok tt) → TurnsLine m n old new before after (Ok true)
-line_sent m n old new before after d (bytes, took, free) (line, is, passed) = (content d, record {
-  bytes = bytes;
-  took = took;
-  documents = one_part IsFree bytes (content d) free;
-  sent = line;
-  passed = passed;
-  lines = one_part (IsLineOf m) line (content d) is;
-})
+line_sent m n old new before after d (bytes, took, free) (line, is, passed) = (
+  content d,
+  record {
+    bytes = bytes;
+    took = took;
+    documents = one_part IsFree bytes (content d) free;
+    sent = line;
+    passed = passed;
+    lines = one_part (IsLineOf m) line (content d) is;
+  },
+)
 
 pub none_written : (m : Mode) (feed : Feed) (tally : Tally) → Wrote m [] feed feed tally tally
 none_written m feed tally = record { bytes = []; took = took_none feed; documents = refl; sent = []; passed = passed_none tally; lines = refl }
