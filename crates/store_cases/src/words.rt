@@ -1,5 +1,7 @@
 //! Lines of words, done by the program's `execute`, and the program without words, done by `pipe`.
 
+ghost use Rattle.std.specs.Prelude.{◌≡◌, IfOk};
+
 use crate::bytes;
 use bson_base::faulty::{FaultySink, FaultySource};
 use bson_store::{SliceSource, Store, VecSink};
@@ -87,10 +89,13 @@ fn told(
 }
 
 /// What takes bytes and has room for some.
-fn sink(alloc: Global) -> Result<VecSink, AllocError> {
-    let mut sink = VecSink::new(alloc);
-    sink.bytes = Vec::with_capacity(alloc, ROOM)?;
-    Ok(sink)
+fn sink(alloc: Global) -> Result<VecSink, AllocError>
+    ensures { IfOk result (λ sink. sink.failed ≡ 0) }
+{
+    Ok(VecSink {
+        bytes: Vec::with_capacity(alloc, ROOM)?,
+        failed: 0,
+    })
 }
 
 /// Does what the words ask for, with devices that don't fail.
