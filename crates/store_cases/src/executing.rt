@@ -101,15 +101,15 @@ pub fn answer(alloc: Global, times: &str) -> &'static str {
 
 /// What came of all lines. Out of memory if the refused allocation belongs to a store before its line, or to a text.
 fn of_all(alloc: Global) -> Result<&'static str, AllocError> {
-    let mut told = "well";
+    let mut was_refused = false;
     for task in TASKS.iter() {
         match of_new(alloc, task)? {
             Outcome::Done => {}
-            Outcome::Refused => told = SOME,
+            Outcome::Refused => was_refused = true,
             Outcome::Wrong => return Ok("not well"),
         }
     }
-    Ok(told)
+    Ok(if was_refused { SOME } else { "well" })
 }
 
 /// What comes of a line over a new store in memory.
