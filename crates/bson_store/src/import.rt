@@ -171,6 +171,19 @@ impl<S: Alter + Drop> Store<S> {
         self.add_all(name, rows.as_slice())
     }
 
+    /// Puts the documents of a stream in memory last in the collection `name`, as `import` does with what a reader has.
+    ///
+    /// Refused as `import`, but never by Reader.
+    pub fn import_bytes(&mut self, name: &str, stream: &[u8]) -> Result<u64, StoreError>
+        ensures moves { Relates S.Store self.old self.new (DoesMany name.now (ReadsStream stream.now) (reply_by as_number result)) }
+        ensures open { WasOpen (store_state S.Store self.old) (store_state S.Store self.new) result }
+        ensures crash { LeavesMany name.now (ReadsStream stream.now) (reply_by as_number result) (store_state S.Store self.old) (store_state S.Store self.new) }
+    {
+        let name = good_name(name)?;
+        let rows = judged(self.alloc, stream)?;
+        self.add_all(name, rows.as_slice())
+    }
+
     /// Puts the documents that JSON trees stand for (MongoDB Extended JSON v2) last in the collection `name`, in their
     /// order and each in normal form with its keys in order, and returns how many they are. Either all are put in or
     /// none.

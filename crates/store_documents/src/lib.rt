@@ -5,6 +5,7 @@
 
 mod answer;
 mod change;
+mod given;
 mod ids;
 mod json_row;
 mod keys;
@@ -22,6 +23,7 @@ mod write;
 
 pub use answer::json_of_body;
 pub use change::{Unset, body_with, body_without};
+pub use given::row_of_given;
 pub use ids::{ID_KEY, key_of_id};
 pub use json_row::row_of_json;
 pub use keys::Keys;
