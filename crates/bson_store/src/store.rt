@@ -1,6 +1,6 @@
 //! The store.
 
-ghost use Rattle.std.specs.Prelude.{◌≡◌, ◌↔◌, false, IsTrue, IfOk, IfErr, IsErrAnd, IsErrOf, IsSome, List, MatchResult, Ok};
+ghost use Rattle.std.specs.Prelude.{◌≡◌, ◌↔◌, false, IsTrue, IfOk, IfErr, IsErrAnd, IsErrOf, IsSome, List, MatchResult, Ok, Some};
 ghost use Rattle.bson_base.specs.Device.{CanRefuse};
 ghost use Rattle.sqlite.specs.Held.{state};
 ghost use Rattle.sqlite.specs.State.{HasCleanDisk, Survives};
@@ -263,11 +263,33 @@ impl<S: Alter + Drop> Store<S> {
         ensures open { WasOpen (store_state S.Store self.old) (store_state S.Store self.new) result }
         ensures crash { Leaves (store_state S.Store self.old) (store_state S.Store self.new) (on name.now (set (view id.now) key.now (read_value (data_of value)))) (reply_by as_done result) }
     {
-        let name = good_name(name)?;
+        good_name(name)?;
         if !is_free(key) {
             return Err(StoreError::from(ErrorKind::BadKey));
         }
         let value = value_of_json(self.alloc, value)?;
+        self.set_value(name, id, key, value)
+    }
+
+    /// Puts a value, in normal form with its keys in order, under a top key of a document, as `set` does with the value
+    /// that JSON stands for.
+    ///
+    /// Refused as `set`, but never by JsonRefused.
+    pub fn set_value(
+        &mut self,
+        name: &str,
+        id: &Bson,
+        key: &str,
+        value: Bson,
+    ) -> Result<(), StoreError>
+        ensures moves { Relates S.Store self.old self.new (Does (on name.now (set (view id.now) key.now (Some (view value)))) (reply_by as_done result)) }
+        ensures open { WasOpen (store_state S.Store self.old) (store_state S.Store self.new) result }
+        ensures crash { Leaves (store_state S.Store self.old) (store_state S.Store self.new) (on name.now (set (view id.now) key.now (Some (view value)))) (reply_by as_done result) }
+    {
+        let name = good_name(name)?;
+        if !is_free(key) {
+            return Err(StoreError::from(ErrorKind::BadKey));
+        }
         let Some(found) = self.row_of(name, id)? else {
             return Err(StoreError::from(ErrorKind::NotFound));
         };

@@ -29,7 +29,7 @@ pub use json_row::row_of_json;
 pub use keys::Keys;
 pub use loading::{Loader, judge_trees};
 pub use name::Name;
-pub use read::{document_of_bytes, value_of_json};
+pub use read::{document_of_body, document_of_bytes, value_of_json};
 pub use repeats::first_repeated;
 pub use row::{RowKey, is_store_row, key_of_row};
 pub use stored::row_of_bytes;

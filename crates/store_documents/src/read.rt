@@ -72,7 +72,7 @@ pub(crate) fn document_of(alloc: Global, bytes: &[u8]) -> Result<Document, Error
 
 /// The kept document of which `body` is the written form. Other bytes are refused, or are some document. `Memory` if a
 /// growth was refused.
-pub(crate) fn document_of_body(alloc: Global, body: &[u8]) -> Result<Document, ErrorKind>
+pub fn document_of_body(alloc: Global, body: &[u8]) -> Result<Document, ErrorKind>
     ensures { (d : Members) → IsKept d → body.now ≡ encode d → MatchResult result (λ e. content e ≡ d) (λ k. k ≡ Memory) }
 {
     document_if_any(alloc, body)
