@@ -1,6 +1,12 @@
 //! What a command returns.
 
-use bson_store::Bson;
+ghost use Rattle.std.specs.Prelude.{◌≡◌, IfOk};
+ghost use Rattle.bson_store.specs.Questions.{as_list, as_names};
+ghost use Rattle.bson_store.specs.Refusals.{as_bytes, as_done, as_flag, as_number, reply_by};
+ghost use Rattle.fallowtime_commands.specs.Performing.{IsDocument, IsFlag, IsNumber, AreDocuments, AreNames, reply_of};
+ghost use Rattle.fallowtime_commands.specs.declared.answer.Answer.TheVariants.{Id, Nothing};
+
+use bson_store::{Bson, StoreError};
 
 /// What a command that is done returns.
 #[derive(Drop)]
@@ -19,4 +25,62 @@ pub enum Answer {
     Documents(Vec<Vec<u8>>),
     /// Names of collections.
     Names(Vec<String>),
+}
+
+/// A change is answered with nothing.
+pub(crate) fn nothing(outcome: Result<(), StoreError>) -> Result<Answer, StoreError>
+    ensures reply { reply_of result ≡ reply_by as_done outcome }
+    ensures shape { IfOk result (λ a. a ≡ Nothing) }
+{
+    outcome?;
+    Ok(Answer::Nothing)
+}
+
+/// An insertion is answered with the `_id`.
+pub(crate) fn inserted(id: Bson, outcome: Result<(), StoreError>) -> Result<Answer, StoreError>
+    ensures reply { reply_of result ≡ reply_by as_done outcome }
+    ensures shape { IfOk result (λ a. a ≡ Id id) }
+{
+    outcome?;
+    Ok(Answer::Id(id))
+}
+
+/// Whether something was there.
+pub(crate) fn flag(outcome: Result<bool, StoreError>) -> Result<Answer, StoreError>
+    ensures reply { reply_of result ≡ reply_by as_flag outcome }
+    ensures shape { IfOk result IsFlag }
+{
+    Ok(Answer::Flag(outcome?))
+}
+
+/// How many there are.
+pub(crate) fn number(outcome: Result<u64, StoreError>) -> Result<Answer, StoreError>
+    ensures reply { reply_of result ≡ reply_by as_number outcome }
+    ensures shape { IfOk result IsNumber }
+{
+    Ok(Answer::Number(outcome?))
+}
+
+/// A document as it is written.
+pub(crate) fn document(outcome: Result<Vec<u8>, StoreError>) -> Result<Answer, StoreError>
+    ensures reply { reply_of result ≡ reply_by as_bytes outcome }
+    ensures shape { IfOk result IsDocument }
+{
+    Ok(Answer::Document(outcome?))
+}
+
+/// Documents as they are written.
+pub(crate) fn documents(outcome: Result<Vec<Vec<u8>>, StoreError>) -> Result<Answer, StoreError>
+    ensures reply { reply_of result ≡ reply_by as_list outcome }
+    ensures shape { IfOk result AreDocuments }
+{
+    Ok(Answer::Documents(outcome?))
+}
+
+/// Names of collections.
+pub(crate) fn names(outcome: Result<Vec<String>, StoreError>) -> Result<Answer, StoreError>
+    ensures reply { reply_of result ≡ reply_by as_names outcome }
+    ensures shape { IfOk result AreNames }
+{
+    Ok(Answer::Names(outcome?))
 }

@@ -4,7 +4,6 @@
 mod answer;
 mod performing;
 mod request;
-mod setting;
 
 pub use answer::Answer;
 pub use performing::perform;

@@ -1,0 +1,88 @@
+-- What a request does to the rows of a store.
+use Rattle.std.specs.Prelude.{◌≡◌, Bool, ℕ, List, map, Some, Result, Ok, Err, String, Vec, string_bytes}
+use Rattle.std.specs.declared.alloc.Global.{Global}
+use Rattle.sqlite.specs.State.{State, Survives}
+use Rattle.bson_model.specs.View.{content, view}
+use Rattle.bson_model.specs.declared.bson.Bson.{Bson}
+use Rattle.store_table.specs.Rows.{TableRow}
+use Rattle.store_filter.specs.Filters.{filter_of}
+use Rattle.store_model.specs.Reading.{KeepsGiven, Reading, ReadsStream}
+use Rattle.store_model.specs.State as model
+use Rattle.store_model.specs.declared.error.StoreError.{StoreError}
+use Rattle.bson_store.specs.Calls.{Does, DoesGiven, PutsGiven}
+use Rattle.bson_store.specs.Export.{bytes_of_each}
+use Rattle.bson_store.specs.Left.{Leaves, LeavesGiven, LeavesMany, LeavesPut}
+use Rattle.bson_store.specs.Many.{DoesMany}
+use Rattle.fallowtime_commands.specs.declared.answer.Answer.{Answer}
+use Rattle.fallowtime_commands.specs.declared.answer.Answer.TheVariants as answer
+use Rattle.fallowtime_commands.specs.declared.request.Request.{Request}
+use Rattle.fallowtime_commands.specs.declared.request.Request.TheVariants as request
+
+-- ---- answers
+
+-- what a command returns as the store's reply
+abbrev pub reply_of : Result Answer StoreError → model.Reply
+reply_of (Ok answer.Nothing) = model.done
+reply_of (Ok (answer.Id v)) = model.done
+reply_of (Ok (answer.Flag b)) = model.flag b
+reply_of (Ok (answer.Number n)) = model.number n
+reply_of (Ok (answer.Document bytes)) = model.bytes bytes.items
+reply_of (Ok (answer.Documents bodies)) = model.bytes_list (bytes_of_each bodies.items)
+reply_of (Ok (answer.Names names)) = model.names (map string_bytes names.items)
+reply_of (Err e) = model.refused e.kind e.document
+
+abbrev pub IsFlag : Answer → Type 0
+IsFlag a = (b : Bool) × (a ≡ answer.Flag b)
+
+abbrev pub IsNumber : Answer → Type 0
+IsNumber a = (n : ℕ) × (a ≡ answer.Number n)
+
+abbrev pub IsDocument : Answer → Type 0
+IsDocument a = (bytes : Vec ℕ Global) × (a ≡ answer.Document bytes)
+
+abbrev pub AreDocuments : Answer → Type 0
+AreDocuments a = (bodies : Vec (Vec ℕ Global) Global) × (a ≡ answer.Documents bodies)
+
+abbrev pub AreNames : Answer → Type 0
+AreNames a = (names : Vec (String Global) Global) × (a ≡ answer.Names names)
+
+-- an insertion is answered with the `_id`, other changes with nothing, and a question with what it asks for
+abbrev pub IsAnswerTo : Request → Answer → Type 0
+IsAnswerTo (request.Insert id d) a = (own : Bson) × (a ≡ answer.Id own) × (view own ≡ view id)
+IsAnswerTo (request.Put d) a = a ≡ answer.Nothing
+IsAnswerTo (request.Replace d) a = a ≡ answer.Nothing
+IsAnswerTo (request.Get id) a = IsDocument a
+IsAnswerTo (request.Set id key v) a = a ≡ answer.Nothing
+IsAnswerTo (request.Unset id key) a = IsFlag a
+IsAnswerTo (request.Remove id) a = a ≡ answer.Nothing
+IsAnswerTo (request.Find f) a = AreDocuments a
+IsAnswerTo (request.Count f) a = IsNumber a
+IsAnswerTo (request.Import stream) a = IsNumber a
+IsAnswerTo request.Collections a = AreNames a
+
+-- ---- rows
+
+-- the request does what the command of the store does that it stands for, on the collection n
+abbrev pub Performs : List ℕ → Request → model.Reply → List TableRow → List TableRow → Type 0
+Performs n (request.Insert id d) r old new = DoesGiven n (model.insert model.in_json) (content d) r old new
+Performs n (request.Put d) r old new = PutsGiven n (content d) r old new
+Performs n (request.Replace d) r old new = DoesGiven n (model.replace model.in_json) (content d) r old new
+Performs n (request.Get id) r old new = Does (model.on n (model.get_raw (view id))) r old new
+Performs n (request.Set id key v) r old new = Does (model.on n (model.set (view id) key.now (Some (view v)))) r old new
+Performs n (request.Unset id key) r old new = Does (model.on n (model.unset (view id) key.now)) r old new
+Performs n (request.Remove id) r old new = Does (model.on n (model.remove (view id))) r old new
+Performs n (request.Find f) r old new = Does (model.on n (model.find (filter_of f))) r old new
+Performs n (request.Count f) r old new = Does (model.on n (model.count (filter_of f))) r old new
+Performs n (request.Import stream) r old new = DoesMany n (ReadsStream stream.items) r old new
+Performs n request.Collections r old new = Does model.collections r old new
+
+-- what a crash leaves of it: of a change what it leaves of that, and of a question no more than before
+abbrev pub LeavesRequest : List ℕ → Request → model.Reply → State → State → Type 0
+LeavesRequest n (request.Insert id d) r old new = LeavesGiven n (model.insert model.in_json) (content d) r old new
+LeavesRequest n (request.Put d) r old new = (x : Reading) → KeepsGiven (content d) x → LeavesPut n x r old new
+LeavesRequest n (request.Replace d) r old new = LeavesGiven n (model.replace model.in_json) (content d) r old new
+LeavesRequest n (request.Set id key v) r old new = Leaves old new (model.on n (model.set (view id) key.now (Some (view v)))) r
+LeavesRequest n (request.Unset id key) r old new = Leaves old new (model.on n (model.unset (view id) key.now)) r
+LeavesRequest n (request.Remove id) r old new = Leaves old new (model.on n (model.remove (view id))) r
+LeavesRequest n (request.Import stream) r old new = LeavesMany n (ReadsStream stream.items) r old new
+LeavesRequest n _ r old new = Survives old new (λ _. ⊥)
