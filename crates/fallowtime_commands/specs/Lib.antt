@@ -1,1 +1,3 @@
 pub mod Performing
+pub mod Printing
+pub mod Reports

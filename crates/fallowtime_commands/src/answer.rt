@@ -7,6 +7,7 @@ ghost use Rattle.fallowtime_commands.specs.Performing.{IsDocument, IsFlag, IsNum
 ghost use Rattle.fallowtime_commands.specs.declared.answer.Answer.TheVariants.{Id, Nothing};
 
 use bson_store::{Bson, StoreError};
+use std::mem::replace;
 
 /// What a command that is done returns.
 #[derive(Drop)]
@@ -36,13 +37,16 @@ pub(crate) fn nothing(outcome: Result<(), StoreError>) -> Result<Answer, StoreEr
     Ok(Answer::Nothing)
 }
 
-/// An insertion is answered with the `_id`.
-pub(crate) fn inserted(id: Bson, outcome: Result<(), StoreError>) -> Result<Answer, StoreError>
+/// An insertion is answered with the `_id`, which is taken; after a refusal it stays.
+pub(crate) fn inserted(
+    id: &mut Bson,
+    outcome: Result<(), StoreError>,
+) -> Result<Answer, StoreError>
     ensures reply { reply_of result ≡ reply_by as_done outcome }
-    ensures shape { IfOk result (λ a. a ≡ Id id) }
+    ensures shape { IfOk result (λ a. a ≡ Id id.old) }
 {
     outcome?;
-    Ok(Answer::Id(id))
+    Ok(Answer::Id(replace(id, Bson::Null)))
 }
 
 /// Whether something was there.

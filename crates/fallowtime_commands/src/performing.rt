@@ -31,7 +31,6 @@ pub fn perform<S: Alter + Drop>(
     match request {
         Request::Insert(id, given) => {
             let given = replace(given, Document::new(alloc));
-            let id = replace(id, Bson::Null);
             inserted(id, store.insert_document(name, given))
         }
         Request::Put(given) => {

@@ -1,0 +1,109 @@
+-- What is printed of answers.
+use Rattle.std.specs.Prelude.{◌≡◌, ◌⊎◌, ℕ, ◌+◌, List, [], ◌∷◌, ◌++◌, ◌==◌, map, Bool, true, false, Result, Ok, Err, codes, decimal, string_bytes}
+use Rattle.std.specs.List.{list_any}
+use Rattle.bson_base.specs.Device.{Tally}
+use Rattle.bson_base.specs.Value.{Value, Members, document, scalar, string}
+use Rattle.bson_bytes.specs.Encode.{encode}
+use Rattle.bson_json.specs.Prints.{IsTextOf}
+use Rattle.bson_meaning.specs.JsonReserved.{has_reserved}
+use Rattle.bson_model.specs.View.{view}
+use Rattle.bson_model.specs.declared.extjson.ser.Mode.{Mode}
+use Rattle.bson_model.specs.declared.extjson.ser.Mode.TheVariants.{Relaxed}
+use Rattle.bson_store.specs.Export.{bytes_of_each}
+use Rattle.cli_convert.specs.Parts.{InParts, Passed}
+use Rattle.cli_words.specs.Lines.{line}
+use Rattle.store_model.specs.Refusal.{refusal}
+use Rattle.store_model.specs.State.{IsKept}
+use Rattle.store_model.specs.declared.error.ErrorKind.TheVariants.{Memory, ReservedKey, Writer}
+use Rattle.store_model.specs.declared.error.StoreError.{StoreError}
+use Rattle.fallowtime_commands.specs.declared.answer.Answer.{Answer}
+use Rattle.fallowtime_commands.specs.declared.answer.Answer.TheVariants as answer
+use Rattle.fallowtime_commands.specs.declared.printing.Form.{Form}
+use Rattle.fallowtime_commands.specs.declared.printing.Form.TheVariants.{Lines, Bytes}
+use Rattle.fallowtime_commands.specs.declared.refusal.Refusal.{Refusal}
+
+-- ---- one document
+
+-- a line of a text of the document, or its bytes
+abbrev pub IsPrinted : Form → Members → List ℕ → Type 0
+IsPrinted (Lines m) d part = (text : List ℕ) × IsTextOf m (document d) text × (part ≡ line text)
+IsPrinted Bytes d part = part ≡ encode d
+
+-- a write failed
+abbrev pub IsUnwritten : Tally → Tally → StoreError → Type 0
+IsUnwritten before after e = (e ≡ refusal Writer) × (after.failures ≡ before.failures + 1)
+
+-- it is out of memory
+abbrev pub IsOutOfMemory : Tally → Tally → StoreError → Type 0
+IsOutOfMemory before after e = (e ≡ refusal Memory) × (after ≡ before)
+
+-- why the document isn't printed: it has no text, or one of these
+abbrev pub IsUnprinted : Members → Tally → Tally → StoreError → Type 0
+IsUnprinted d before after e = ((e ≡ refusal ReservedKey) × (has_reserved d ≡ true) × (after ≡ before)) ⊎ (IsOutOfMemory before after e ⊎ IsUnwritten before after e)
+
+-- so of the document whose written form is kept as the body
+abbrev pub PrintsBody : Form → List ℕ → Tally → Tally → Result (Unit {0}) Refusal → Type 0
+PrintsBody f body before after (Ok x) = (part : List ℕ) × Passed before after part × ((d : Members) → IsKept d → body ≡ encode d → IsPrinted f d part)
+PrintsBody f body before after (Err r) = (d : Members) → IsKept d → body ≡ encode d → IsUnprinted d before after r.error
+
+-- ---- many
+
+-- one part is printed for each body, in their order
+abbrev pub ArePrinted : Form → List ℕ → List (List ℕ) → Type 0
+ArePrinted f out bodies = InParts (λ part body. (d : Members) → IsKept d → body ≡ encode d → IsPrinted f d part) out bodies
+
+-- all are printed; or the first ones are, and the next one isn't
+abbrev pub PrintsBodies : Form → List (List ℕ) → Tally → Tally → Result (Unit {0}) Refusal → Type 0
+PrintsBodies f bodies before after (Ok x) = (out : List ℕ) × Passed before after out × ArePrinted f out bodies
+PrintsBodies f bodies before after (Err r) =
+    (front : List (List ℕ)) × (body : List ℕ) × (back : List (List ℕ)) × (out : List ℕ) × (mid : Tally) × (bodies ≡ front ++ body ∷ back)
+    × Passed before mid out × ArePrinted f out front × PrintsBody f body mid after (Err r)
+
+-- ---- lines
+
+abbrev pub PrintsLine : List ℕ → Tally → Tally → Result (Unit {0}) Refusal → Type 0
+PrintsLine text before after (Ok x) = Passed before after (line text)
+PrintsLine text before after (Err r) = IsUnwritten before after r.error
+
+abbrev pub PrintsId : Mode → Value → Tally → Tally → Result (Unit {0}) Refusal → Type 0
+PrintsId m id before after (Ok x) = (text : List ℕ) × IsTextOf m id text × Passed before after (line text)
+PrintsId m id before after (Err r) = IsOutOfMemory before after r.error ⊎ IsUnwritten before after r.error
+
+-- ---- names
+
+-- one of the names has a line feed
+abbrev pub has_line_feed : List (List ℕ) → Bool
+has_line_feed names = list_any (list_any (λ b. b == 10)) names
+
+abbrev pub PrintsName : Bool → List ℕ → Tally → Tally → Result (Unit {0}) Refusal → Type 0
+PrintsName false name before after result = PrintsLine name before after result
+PrintsName true name before after result = PrintsId Relaxed (scalar (string name)) before after result
+
+-- a name as it is, or as the JSON of a text
+abbrev pub IsNameLine : Bool → List ℕ → List ℕ → Type 0
+IsNameLine false part name = part ≡ line name
+IsNameLine true part name = (text : List ℕ) × IsTextOf Relaxed (scalar (string name)) text × (part ≡ line text)
+
+-- all names are printed; or it is out of memory, or a write failed
+abbrev pub PrintsNames : List (List ℕ) → Tally → Tally → Result (Unit {0}) Refusal → Type 0
+PrintsNames names before after (Ok x) = (out : List ℕ) × Passed before after out × InParts (IsNameLine (has_line_feed names)) out names
+PrintsNames names before after (Err r) = ((r.error ≡ refusal Memory) × (after.failures ≡ before.failures)) ⊎ IsUnwritten before after r.error
+
+-- ---- answers
+
+abbrev pub mode_of : Form → Mode
+mode_of (Lines m) = m
+mode_of Bytes = Relaxed
+
+abbrev pub flag_text : Bool → List ℕ
+flag_text true = codes "true"
+flag_text false = codes "false"
+
+abbrev pub Prints : Form → Answer → Tally → Tally → Result (Unit {0}) Refusal → Type 0
+Prints f answer.Nothing before after result = (result ≡ Ok tt) × (after ≡ before)
+Prints f (answer.Id v) before after result = PrintsId (mode_of f) (view v) before after result
+Prints f (answer.Flag b) before after result = PrintsLine (flag_text b) before after result
+Prints f (answer.Number n) before after result = PrintsLine (decimal n) before after result
+Prints f (answer.Document body) before after result = PrintsBody f body.items before after result
+Prints f (answer.Documents bodies) before after result = PrintsBodies f (bytes_of_each bodies.items) before after result
+Prints f (answer.Names names) before after result = PrintsNames (map string_bytes names.items) before after result

@@ -1,0 +1,207 @@
+//! What is printed of an answer.
+
+ghost use Rattle.std.specs.Prelude.{◌≡◌, map, string_bytes};
+ghost use Rattle.bson_base.specs.Device.{CanRefuse};
+ghost use Rattle.bson_model.specs.View.{view};
+ghost use Rattle.bson_store.specs.Export.{bytes_of_each};
+ghost use Rattle.fallowtime_commands.specs.Printing.{Prints, PrintsBodies, PrintsBody, PrintsId, PrintsLine, PrintsName, PrintsNames, has_line_feed, mode_of};
+
+use crate::answer::Answer;
+use crate::refusal::Refusal;
+use bson_base::{Sink, write_all};
+use bson_json::write_value;
+use bson_raw::RawDocument;
+use bson_store::extjson::Mode;
+use bson_store::{Bson, ErrorKind};
+use cli_words::write_line;
+use fallowtime_texts::{PrintFault, text_of_body};
+use itoa::Buffer;
+use std::alloc::Global;
+
+/// How documents are printed.
+#[derive(Clone, Copy, Debug, PartialEq, Eq)]
+pub enum Form {
+    /// As lines of Extended JSON in this mode.
+    Lines(Mode),
+    /// As BSON, one behind the other.
+    Bytes,
+}
+
+/// The `_id` of the document that a store keeps as `body`, as relaxed Extended JSON. None if there is no memory for it.
+fn id_text(alloc: Global, body: &[u8]) -> Option<String> {
+    let document = RawDocument::from_bytes(body).ok()?;
+    let id = document.get("_id").ok()??;
+    let id = id.to_bson(alloc).ok()?;
+    let mut text = String::new(alloc);
+    write_value(alloc, &id, Mode::Relaxed, &mut text).ok()?;
+    Some(text)
+}
+
+/// Why the document that a store keeps as `body` has no text.
+fn unprinted(alloc: Global, body: &[u8], fault: PrintFault) -> Refusal {
+    match fault {
+        PrintFault::ReservedKey(path) => Refusal {
+            id: id_text(alloc, body),
+            key: Some(path),
+            ..Refusal::from(ErrorKind::ReservedKey)
+        },
+        PrintFault::Damaged => Refusal::from(ErrorKind::Database),
+        PrintFault::Memory => Refusal::from(ErrorKind::Memory),
+    }
+}
+
+/// Writes the line of a body. `text` is room that is kept from line to line.
+fn print_text<O: Sink>(
+    alloc: Global,
+    body: &[u8],
+    mode: Mode,
+    text: &mut String,
+    output: &mut O,
+) -> Result<(), Refusal>
+    requires { CanRefuse (O.tally output.old) }
+    ensures { PrintsBody (Form.Lines mode) body.now (O.tally output.old) (O.tally output.new) result }
+{
+    if let Err(fault) = text_of_body(alloc, body, mode, text) {
+        return Err(unprinted(alloc, body, fault));
+    }
+    print_line(text.as_str(), output)
+}
+
+/// Writes a body in its form.
+fn print_body<O: Sink>(
+    alloc: Global,
+    body: &[u8],
+    form: Form,
+    text: &mut String,
+    output: &mut O,
+) -> Result<(), Refusal>
+    requires { CanRefuse (O.tally output.old) }
+    ensures { PrintsBody form body.now (O.tally output.old) (O.tally output.new) result }
+{
+    match form {
+        Form::Lines(mode) => print_text(alloc, body, mode, text, output),
+        Form::Bytes => match write_all(output, body) {
+            Ok(()) => Ok(()),
+            Err(_) => Err(Refusal::from(ErrorKind::Writer)),
+        },
+    }
+}
+
+/// Writes bodies in their form, one after the other.
+fn print_bodies<O: Sink>(
+    alloc: Global,
+    bodies: &[Vec<u8>],
+    form: Form,
+    output: &mut O,
+) -> Result<(), Refusal>
+    requires { CanRefuse (O.tally output.old) }
+    ensures { PrintsBodies form (bytes_of_each bodies.now) (O.tally output.old) (O.tally output.new) result }
+{
+    let mut text = String::new(alloc);
+    for body in bodies {
+        print_body(alloc, body.as_slice(), form, &mut text, output)?;
+    }
+    Ok(())
+}
+
+/// Writes an id as a line of Extended JSON.
+fn print_id<O: Sink>(
+    alloc: Global,
+    id: &Bson,
+    mode: Mode,
+    output: &mut O,
+) -> Result<(), Refusal>
+    requires { CanRefuse (O.tally output.old) }
+    ensures { PrintsId mode (view id.now) (O.tally output.old) (O.tally output.new) result }
+{
+    let mut text = String::new(alloc);
+    write_value(alloc, id, mode, &mut text)?;
+    print_line(text.as_str(), output)
+}
+
+/// Writes a line.
+fn print_line<O: Sink>(text: &str, output: &mut O) -> Result<(), Refusal>
+    requires { CanRefuse (O.tally output.old) }
+    ensures { PrintsLine text.now (O.tally output.old) (O.tally output.new) result }
+{
+    match write_line(output, text) {
+        Ok(()) => Ok(()),
+        Err(_) => Err(Refusal::from(ErrorKind::Writer)),
+    }
+}
+
+/// Writes a name on a line: as it is, or as the JSON of a text.
+fn print_name<O: Sink>(
+    alloc: Global,
+    name: &str,
+    as_json: bool,
+    output: &mut O,
+) -> Result<(), Refusal>
+    requires { CanRefuse (O.tally output.old) }
+    ensures { PrintsName as_json name.now (O.tally output.old) (O.tally output.new) result }
+{
+    if !as_json {
+        return print_line(name, output);
+    }
+    let name = Bson::String(String::from_str(alloc, name)?);
+    print_id(alloc, &name, Mode::Relaxed, output)
+}
+
+/// Whether one of the names has a line feed.
+fn has_line_feed(names: &[String]) -> bool
+    ensures { result ≡ has_line_feed (map string_bytes names.now) }
+{
+    names.iter().any(|name| name.as_bytes().contains(&b'\n'))
+}
+
+/// Writes names, one a line: as they are, or, if one of them has a line feed, as JSON.
+fn print_names<O: Sink>(alloc: Global, names: &[String], output: &mut O) -> Result<(), Refusal>
+    requires { CanRefuse (O.tally output.old) }
+    ensures { PrintsNames (map string_bytes names.now) (O.tally output.old) (O.tally output.new) result }
+{
+    let as_json = has_line_feed(names);
+    for name in names {
+        print_name(alloc, name.as_str(), as_json, output)?;
+    }
+    Ok(())
+}
+
+/// The form of Extended JSON for what is no document.
+fn mode_of(form: Form) -> Mode
+    ensures { result ≡ mode_of form }
+{
+    match form {
+        Form::Lines(mode) => mode,
+        Form::Bytes => Mode::Relaxed,
+    }
+}
+
+/// Writes an answer: an id, a number, `true` or `false` on a line, documents in their form, names one a line.
+///
+/// Refused by ReservedKey if a document has a key below its top that Extended JSON reserves, and then the documents
+/// before it are written; by Writer if a write failed, and by Memory. A beginning may be written then.
+pub fn print<O: Sink>(
+    alloc: Global,
+    answer: &Answer,
+    form: Form,
+    output: &mut O,
+) -> Result<(), Refusal>
+    requires { CanRefuse (O.tally output.old) }
+    ensures { Prints form answer.now (O.tally output.old) (O.tally output.new) result }
+{
+    match answer {
+        Answer::Nothing => Ok(()),
+        Answer::Id(id) => print_id(alloc, id, mode_of(form), output),
+        Answer::Flag(flag) => print_line(if *flag { "true" } else { "false" }, output),
+        Answer::Number(number) => {
+            let mut digits = Buffer::new();
+            print_line(digits.format(*number), output)
+        }
+        Answer::Document(body) => {
+            let mut text = String::new(alloc);
+            print_body(alloc, body.as_slice(), form, &mut text, output)
+        }
+        Answer::Documents(bodies) => print_bodies(alloc, bodies.as_slice(), form, output),
+        Answer::Names(names) => print_names(alloc, names.as_slice(), output),
+    }
+}

@@ -1,0 +1,116 @@
+//! Why a command isn't done, or its answer not printed.
+
+ghost use Rattle.std.specs.Prelude.{◌≡◌, ◌++◌, None, OnOk, IfOk, codes, string_bytes};
+ghost use Rattle.store_model.specs.Refusal.{refusal};
+ghost use Rattle.store_model.specs.declared.error.ErrorKind.TheVariants.{Memory};
+ghost use Rattle.fallowtime_commands.specs.Reports.{named_text, place_text, refusal_text};
+
+use bson_store::{ErrorKind, StoreError};
+use itoa::Buffer;
+use std::alloc::{AllocError, Global};
+
+/// A refusal, and what helps to find its cause.
+#[derive(Debug, Drop)]
+pub struct Refusal {
+    /// The refusal of the store, of a device, or out of memory.
+    pub error: StoreError,
+    /// The line of the input, counted from 1, whose document is refused.
+    pub line: Option<u64>,
+    /// The `_id` in question, as JSON.
+    pub id: Option<String>,
+    /// The path to the key in question.
+    pub key: Option<String>,
+}
+
+impl From<StoreError> for Refusal {
+    ghost use Rattle.fallowtime_commands.specs.Reports.{plain};
+
+    ghost from_gives = { λ e r. r ≡ plain e };
+
+    fn from(error: StoreError) -> Refusal {
+        Refusal {
+            error,
+            line: None,
+            id: None,
+            key: None,
+        }
+    }
+}
+
+impl From<ErrorKind> for Refusal {
+    ghost use Rattle.fallowtime_commands.specs.Reports.{plain};
+
+    ghost from_gives = { λ k r. r ≡ plain (refusal k) };
+
+    fn from(kind: ErrorKind) -> Refusal {
+        Refusal::from(StoreError::from(kind))
+    }
+}
+
+impl From<AllocError> for Refusal {
+    ghost use Rattle.fallowtime_commands.specs.Reports.{plain};
+
+    ghost from_gives = { λ _ r. r ≡ plain (refusal Memory) };
+
+    fn from(_error: AllocError) -> Refusal {
+        Refusal::from(ErrorKind::Memory)
+    }
+}
+
+/// Puts a word and a number behind a line.
+fn push_number(line: &mut String, word: &str, number: &str) -> Result<(), AllocError>
+    ensures { OnOk result (string_bytes line.new ≡ string_bytes line.old ++ (word.now ++ number.now)) }
+{
+    line.push_str(word)?;
+    line.push_str(number)
+}
+
+/// Puts a word and a text behind a line, if there is a text.
+fn push_named(line: &mut String, word: &str, text: &Option<String>) -> Result<(), AllocError>
+    ensures { OnOk result (string_bytes line.new ≡ string_bytes line.old ++ named_text word.now text.now) }
+{
+    match text {
+        Some(text) => push_number(line, word, text.as_str()),
+        None => Ok(()),
+    }
+}
+
+/// Puts the place of what is refused behind a line: the line of the input, the number of the document, or the places
+/// of rows.
+fn push_place(line: &mut String, refusal: &Refusal) -> Result<(), AllocError>
+    ensures { OnOk result (string_bytes line.new ≡ string_bytes line.old ++ place_text refusal.now) }
+{
+    let mut digits = Buffer::new();
+    if let Some(number) = refusal.line {
+        return push_number(line, " line ", digits.format(number));
+    }
+    if let Some(document) = refusal.error.document {
+        return push_number(line, " document ", digits.format(document));
+    }
+    match refusal.error.kind {
+        ErrorKind::BadRow(place) => push_number(line, " ", digits.format(place)),
+        ErrorKind::IdsCollide(first, second) => {
+            push_number(line, " ", digits.format(first))?;
+            push_number(line, " ", digits.format(second))
+        }
+        _ => Ok(()),
+    }
+}
+
+impl Refusal {
+    ghost use Rattle.std.specs.Prelude.{◌≡◌, IfOk, string_bytes};
+    ghost use Rattle.fallowtime_commands.specs.Reports.{refusal_text};
+
+    /// The line that reports it: `refused: KIND`, and behind that what helps.
+    pub fn line(&self, alloc: Global) -> Result<String, AllocError>
+        ensures { IfOk result (λ line. string_bytes line ≡ refusal_text self.now) }
+    {
+        let mut line = String::from_str(alloc, "refused: ")?;
+        line.push_str(self.error.kind.name())?;
+        push_place(&mut line, self)?;
+        push_named(&mut line, " _id ", &self.id)?;
+        push_named(&mut line, " key ", &self.key)?;
+        line.push_str("\n")?;
+        Ok(line)
+    }
+}
