@@ -2,15 +2,16 @@
 //! line of standard output answers it. The files `stdin` and `stdout` hold the cases and their answers.
 //!
 //! - `read`, with a text of JSON: the bytes of the document that it reads as, in hexadecimal.
+//! - `value`, with a text of JSON: the canonical text of the value that it reads as.
 //! - `canonical`, `relaxed`, with bytes in hexadecimal: the text of the document that they hold, or the path to a reserved key.
 //!
 //! A refusal is answered by the error's name, with what it holds behind it.
 #![tactic(auto)]
 
-use bson_json_read::{Error, Scratch, document_of_text};
+use bson_json_read::{Error, Scratch, bson_of_text, document_of_text};
 use bson_meaning::reserved_path_below;
-use bson_model::Document;
 use bson_model::extjson::Mode;
+use bson_model::{Bson, Document};
 use bson_raw::{RawDocument, RawDocumentBuf};
 use std::alloc::{AllocError, Global};
 use std::{fmt, io};
@@ -33,6 +34,20 @@ fn read(alloc: Global, text: &str) -> Result<String, AllocError> {
         Ok(document) => digits_of(alloc, &document),
         Err(error) => refused(alloc, error),
     }
+}
+
+fn value(alloc: Global, text: &str) -> Result<String, AllocError> {
+    let mut scratch = Scratch::new(alloc);
+    match bson_of_text(alloc, text, &mut scratch) {
+        Ok(value) => value_text(alloc, &value),
+        Err(error) => refused(alloc, error),
+    }
+}
+
+fn value_text(alloc: Global, value: &Bson) -> Result<String, AllocError> {
+    let mut text = String::new(alloc);
+    bson_json::write_value(alloc, value, Mode::Canonical, &mut text)?;
+    Ok(text)
 }
 
 fn refused(alloc: Global, error: Error) -> Result<String, AllocError> {
@@ -69,6 +84,7 @@ fn answer(alloc: Global, line: &str) -> Result<String, AllocError> {
     match word {
         "canonical" => write(alloc, rest, Mode::Canonical),
         "relaxed" => write(alloc, rest, Mode::Relaxed),
+        "value" => value(alloc, rest),
         _ => read(alloc, rest),
     }
 }

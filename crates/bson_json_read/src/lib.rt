@@ -8,4 +8,4 @@ mod texts;
 
 pub use error::{Error, Result};
 pub use json::Scratch;
-pub use reading::{bson_of, document_of, document_of_text};
+pub use reading::{bson_of, bson_of_text, document_of, document_of_text};

@@ -5,7 +5,7 @@ ghost use Rattle.json.specs.Value.{value_view as data_of, items_view, members_vi
 ghost use Rattle.bson_base.specs.Value.{no_members};
 ghost use Rattle.bson_model.specs.View.{view, items_of, content};
 ghost use Rattle.bson_json_read.specs.Outcome.{GivesReading};
-ghost use Rattle.bson_json_read.specs.Reading.{any_reserved, Adds, ParsesText, is_code_and_scope as code_and_scope_keys, read as value_of, read_items as items_read, read_members as members_read, read_scope as scope_of, read_top, read_typed as typed_of, ReadsText};
+ghost use Rattle.bson_json_read.specs.Reading.{any_reserved, Adds, ParsesText, is_code_and_scope as code_and_scope_keys, read as value_of, read_items as items_read, read_members as members_read, read_scope as scope_of, read_top, read_typed as typed_of, ReadsText, ReadsValueText};
 
 use crate::bodies::{own_text, read_wrapped};
 use crate::error::{Error, Result};
@@ -180,4 +180,14 @@ pub fn document_of_text(alloc: Global, text: &str, scratch: &mut Scratch) -> Res
 {
     let value = parse(alloc, text, scratch)?;
     document_of(alloc, &value)
+}
+
+/// The value of a text of JSON (RFC 8259), with the keys of documents in their order. `scratch` is room that is kept from
+/// text to text. `NotJson` if the text is no JSON or nests deeper than 128 levels, with the byte; else the errors are
+/// those of `bson_of`.
+pub fn bson_of_text(alloc: Global, text: &str, scratch: &mut Scratch) -> Result<Bson>
+    ensures { ReadsValueText text.now result }
+{
+    let value = parse(alloc, text, scratch)?;
+    bson_of(alloc, &value)
 }
