@@ -107,3 +107,8 @@ Prints f (answer.Number n) before after result = PrintsLine (decimal n) before a
 Prints f (answer.Document body) before after result = PrintsBody f body.items before after result
 Prints f (answer.Documents bodies) before after result = PrintsBodies f (bytes_of_each bodies.items) before after result
 Prints f (answer.Names names) before after result = PrintsNames (map string_bytes names.items) before after result
+
+-- what a request returned is printed, or why it was refused is returned, and nothing printed
+abbrev pub Tells : Form → Result Answer StoreError → Tally → Tally → Result (Unit {0}) Refusal → Type 0
+Tells f (Ok a) before after result = Prints f a before after result
+Tells f (Err e) before after result = ((r : Refusal) × (result ≡ Err r) × (r.error ≡ e)) × (after ≡ before)

@@ -2,9 +2,19 @@
 #![tactic(auto)]
 
 mod answer;
+mod executing;
 mod performing;
+mod printing;
+mod reading;
+mod refusal;
 mod request;
+mod unread;
 
 pub use answer::Answer;
+pub use executing::execute;
 pub use performing::perform;
+pub use printing::{Form, print};
+pub use reading::{Stop, request_of};
+pub use refusal::Refusal;
 pub use request::Request;
+pub use unread::Unread;
