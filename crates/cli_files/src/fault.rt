@@ -1,7 +1,7 @@
 //! Why a file can't be had.
 
 ghost use Rattle.std.specs.Prelude.{◌≡◌};
-ghost use Rattle.cli_files.specs.Fault.{kind_of};
+ghost use Rattle.cli_files.specs.Fault.{fault_line, kind_of};
 
 use sqlite::ErrorCode;
 use sqlite_std_file::OpenError;
@@ -56,6 +56,25 @@ impl FileError {
         match self {
             FileError::Memory => ErrorKind::Memory,
             _ => ErrorKind::Database,
+        }
+    }
+
+    /// What `fallowtime` reports of it, without the line feed.
+    pub fn line(self) -> &'static str
+        ensures { result.now ≡ fault_line self }
+    {
+        match self {
+            FileError::Memory => "refused: Memory",
+            FileError::NoFile => "refused: NoFile",
+            FileError::NoFolder => "refused: NoFolder",
+            FileError::Busy => "refused: Busy",
+            FileError::Denied => "refused: Denied",
+            FileError::NoDatabase => "refused: NoDatabase",
+            FileError::Journal => "refused: Journal",
+            FileError::NotPlain => "refused: NotPlain",
+            FileError::NoName => "refused: NoName",
+            FileError::Exists => "refused: Exists",
+            FileError::Disk => "refused: Disk",
         }
     }
 }

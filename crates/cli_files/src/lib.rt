@@ -13,4 +13,4 @@ pub use fault::FileError;
 pub use loaded::Loaded;
 pub use opening::{close, open, open_within};
 pub use reading::read;
-pub use reporting::{misuse, refuse, refuse_file, unread};
+pub use reporting::{misuse, refuse, refuse_file, report_file, unread};

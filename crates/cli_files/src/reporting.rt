@@ -5,13 +5,13 @@ ghost use Rattle.std.specs.IoError.{error_kind};
 ghost use Rattle.std.specs.declared.io.ErrorKind.TheVariants.{OutOfMemory};
 ghost use Rattle.bson_base.specs.Device.{CanRefuse, TakesText};
 ghost use Rattle.store_model.specs.declared.error.ErrorKind.TheVariants.{Memory};
-ghost use Rattle.cli_words.specs.Lines.{complaint_line, refusal_line};
+ghost use Rattle.cli_words.specs.Lines.{complaint_line, line, refusal_line};
 ghost use Rattle.cli_words.specs.declared.lines.UsageError.TheVariants.{Usage};
-ghost use Rattle.cli_files.specs.Fault.{kind_of};
+ghost use Rattle.cli_files.specs.Fault.{fault_line, kind_of};
 
 use crate::fault::FileError;
 use bson_base::Sink;
-use cli_words::{UsageError, write_complaint, write_refusal};
+use cli_words::{UsageError, write_complaint, write_line, write_refusal};
 use std::io::{self, IsTerminal};
 use store_model::ErrorKind;
 
@@ -43,6 +43,21 @@ pub fn refuse_file<F: Sink>(rt: &HostRuntime, faults: &mut F, error: FileError) 
         let _ = eprintln!(rt; "the file: {error}");
     }
     status
+}
+
+/// Reports why a file can't be had, as `fallowtime` does, and returns the status of that. At a terminal a second line
+/// says it in words.
+#[tactic(auto, using(crate::proofs::Telling::writes))]
+pub fn report_file<F: Sink>(rt: &HostRuntime, faults: &mut F, error: FileError) -> u8
+    requires { CanRefuse (F.tally faults.old) }
+    ensures status { result ≡ 1 }
+    ensures line { TakesText (F.tally faults.old) (F.tally faults.new) (line (fault_line error)) }
+{
+    let _ = write_line(faults, error.line());
+    if rt.stderr().is_terminal() {
+        let _ = eprintln!(rt; "the file: {error}");
+    }
+    REFUSED
 }
 
 /// Reports that the words are no line of the program's, and returns the status of that.

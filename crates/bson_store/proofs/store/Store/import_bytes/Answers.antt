@@ -1,4 +1,4 @@
-use Rattle.std.proofs.Common.{Err, subst}
+use Rattle.std.proofs.Common.{None, Err, subst}
 use Rattle.std.proofs.lemmas.Result.{err_from_is_err_and}
 use Rattle.store_documents.specs.Names.{name_bytes}
 use Rattle.store_model.specs.Reading.{ReadsStream}

@@ -1,0 +1,216 @@
+//! The program `fallowtime`: one command over a database file, or a session of requests.
+
+ghost use Rattle.bson_base.specs.Device.{CanFail, CanRefuse};
+
+use crate::asking::{Asked, asked_of};
+use crate::ending::{Ended, tell};
+use bson_store::extjson::Mode;
+use bson_store::{Sink, Source, Store};
+use cli_files::{FileError, Loaded, close, copy, open_within, read};
+use fallowtime_commands::{Form, Refusal, Unread, execute};
+use fallowtime_texts::IdMaker;
+use fallowtime_words::{Command, Options, Task, Words, read_words};
+use sqlite::{Alter, Connection, FileStore};
+use std::alloc::Global;
+use std::hash::{BuildHasher, RandomState};
+use std::time::SystemTime;
+use std::{fs, io};
+
+/// For how many seconds a file is waited for that another process has, if nothing is said.
+const PATIENCE: u64 = 5;
+
+/// How a command prints documents.
+fn form_of(options: &Options) -> Form {
+    if options.bytes {
+        Form::Bytes
+    } else if options.canonical {
+        Form::Lines(Mode::Canonical)
+    } else {
+        Form::Lines(Mode::Relaxed)
+    }
+}
+
+/// What makes the ids of this run: the seconds of the clock, and a number that no other run has but by chance.
+fn maker_of(rt: &HostRuntime) -> io::Result<IdMaker> {
+    let seconds = match SystemTime::now(rt)?.duration_since(SystemTime::UNIX_EPOCH) {
+        Ok(since) => since.as_secs() as u32,
+        Err(_) => 0,
+    };
+    Ok(IdMaker::new(seconds, RandomState::new(rt)?.hash_one(&0u8)))
+}
+
+/// Does what is asked over an open store.
+fn serve_store<S: Alter + Drop, O: Sink>(
+    alloc: Global,
+    store: &mut Store<S>,
+    words: &Words<'_>,
+    asked: &mut Asked<'_>,
+    output: &mut O,
+) -> Result<(), Ended>
+    requires { CanRefuse (O.tally output.old) }
+{
+    match asked {
+        Asked::Export => match store.export(words.coll, output) {
+            Ok(()) => Ok(()),
+            Err(error) => Err(Ended::Refused(Refusal::from(error))),
+        },
+        Asked::Request(request, lines) => {
+            let form = form_of(&words.options);
+            match execute(alloc, store, words.coll, request, form, output) {
+                Ok(()) => Ok(()),
+                Err(refusal) => Err(Ended::of_line(refusal, lines.as_slice())),
+            }
+        }
+    }
+}
+
+/// Does what is asked over a connection, and gives that back. It is over any store, as what closing one of files does
+/// would else be gone through at each of its ends.
+fn over<S: Alter + Drop, O: Sink>(
+    alloc: Global,
+    connection: Connection<S>,
+    words: &Words<'_>,
+    asked: &mut Asked<'_>,
+    output: &mut O,
+) -> (Result<(), Ended>, Connection<S>)
+    requires { CanRefuse (O.tally output.old) }
+{
+    match Store::open(alloc, connection) {
+        Ok(mut store) => {
+            let ended = serve_store(alloc, &mut store, words, asked, output);
+            (ended, store.close())
+        }
+        Err((error, connection)) => (Err(Ended::Refused(Refusal::from(error))), connection),
+    }
+}
+
+/// Does a command that only reads: over what the files hold at this moment, in memory.
+fn look<O: Sink>(
+    rt: &HostRuntime,
+    words: &Words<'_>,
+    asked: &mut Asked<'_>,
+    output: &mut O,
+) -> Result<(), Ended>
+    requires { CanRefuse (O.tally output.old) }
+{
+    let seconds = words.options.seconds.unwrap_or(PATIENCE);
+    match read(rt, words.file, seconds) {
+        Ok(connection) => {
+            let (ended, connection) = over(rt.alloc(), connection, words, asked, output);
+            drop(connection);
+            ended
+        }
+        Err(error) => Err(Ended::File(error)),
+    }
+}
+
+/// Whether a command finds no file that it needs.
+fn lacks_file(rt: &HostRuntime, words: &Words<'_>) -> bool {
+    if words.command.makes_file() {
+        return false;
+    }
+    match fs::metadata(rt, words.file) {
+        Ok(_) => false,
+        Err(error) => error.kind() == io::ErrorKind::NotFound,
+    }
+}
+
+/// Does a command that changes the file.
+fn change<O: Sink>(
+    rt: &HostRuntime,
+    words: &Words<'_>,
+    asked: &mut Asked<'_>,
+    output: &mut O,
+) -> Result<(), Ended>
+    requires { CanRefuse (O.tally output.old) }
+{
+    if lacks_file(rt, words) {
+        return Err(Ended::File(FileError::NoFile));
+    }
+    let seconds = words.options.seconds.unwrap_or(PATIENCE);
+    match open_within(rt, words.file, seconds) {
+        Ok(connection) => {
+            let (ended, connection) = over(rt.alloc(), connection, words, asked, output);
+            close(connection);
+            ended
+        }
+        Err(error) => Err(Ended::File(error)),
+    }
+}
+
+/// The connection, if its database is a store or can become one.
+fn judged(
+    alloc: Global,
+    connection: Connection<FileStore<Loaded>>,
+) -> Result<Connection<FileStore<Loaded>>, Ended> {
+    match Store::open(alloc, connection) {
+        Ok(store) => Ok(store.close()),
+        Err((error, connection)) => {
+            drop(connection);
+            Err(Ended::Refused(Refusal::from(error)))
+        }
+    }
+}
+
+/// Writes what the files hold at this moment into a new file, if that is a store.
+fn back_up(rt: &HostRuntime, words: &Words<'_>) -> Result<(), Ended> {
+    let Some(path) = words.places.first() else {
+        return Err(Ended::Words(Unread::Usage));
+    };
+    let seconds = words.options.seconds.unwrap_or(PATIENCE);
+    let connection = match read(rt, words.file, seconds) {
+        Ok(connection) => connection,
+        Err(error) => return Err(Ended::File(error)),
+    };
+    let connection = judged(rt.alloc(), connection)?;
+    match copy(rt, connection, path.as_str()) {
+        Ok(()) => Ok(()),
+        Err(error) => Err(Ended::File(error)),
+    }
+}
+
+/// Does the command of the words.
+fn command<I: Source, O: Sink>(
+    rt: &HostRuntime,
+    words: &Words<'_>,
+    input: &mut I,
+    output: &mut O,
+) -> Result<(), Ended>
+    requires input { CanFail (I.feed input.old) }
+    requires output { CanRefuse (O.tally output.old) }
+{
+    if words.command == Command::Backup {
+        return back_up(rt, words);
+    }
+    let mut maker = maker_of(rt)?;
+    let mut asked = asked_of(rt.alloc(), words, &mut maker, input)?;
+    if words.command.only_reads() {
+        look(rt, words, &mut asked, output)
+    } else {
+        change(rt, words, &mut asked, output)
+    }
+}
+
+/// Reads the words, does what they ask for, and returns the program's status. Words that can't be read are reported
+/// before any file is opened.
+pub fn serve<I: Source, O: Sink, F: Sink>(
+    rt: &HostRuntime,
+    words: &[String],
+    input: &mut I,
+    output: &mut O,
+    faults: &mut F,
+) -> u8
+    requires input { CanFail (I.feed input.old) }
+    requires output { CanRefuse (O.tally output.old) }
+    requires faults { CanRefuse (F.tally faults.old) }
+{
+    let ended = match read_words(words) {
+        Some(Task::Command(words)) => command(rt, &words, input, output),
+        Some(Task::Session { .. }) => Err(Ended::Words(Unread::Usage)),
+        None => Err(Ended::Words(Unread::Usage)),
+    };
+    match ended {
+        Ok(()) => 0,
+        Err(ended) => tell(rt, faults, ended),
+    }
+}
