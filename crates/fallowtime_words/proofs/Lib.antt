@@ -1,0 +1,4 @@
+pub mod Gathering
+pub mod Following
+pub mod Single
+pub mod Asking

@@ -1,0 +1,11 @@
+use Rattle.fallowtime_words.proofs.Following.{none_is}
+use Rattle.fallowtime_words.proofs.Asking.{no_line, no_session_either}
+use Rattle.fallowtime_words.proofs.words.read_behind.Goals as goal
+
+pub returns-in_err-read_line-in-Some : goal.returns-in_err-read_line-in-Some
+returns-in_err-read_line-in-Some c =
+    none_is _ _ _ c.from_residual.ensures (no_line c.args.file.now _ c.in-Some.command _ c.in-Some.ensures c.in_err-read_line-in-Some.ensures)
+
+pub returns-in_err-read_patience-in-None : goal.returns-in_err-read_patience-in-None
+returns-in_err-read_patience-in-None c =
+    none_is _ _ _ c.from_residual-in_err-read_patience-in-None.ensures (no_session_either c.args.file.now _ c.in-None.ensures c.in_err-read_patience-in-None.ensures)

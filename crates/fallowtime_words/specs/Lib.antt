@@ -1,0 +1,4 @@
+pub mod Commands
+pub mod Options
+pub mod Reading
+pub mod Words

@@ -1,0 +1,17 @@
+-- The words step by step, as the calls inside take them.
+use Rattle.std.specs.Prelude.{◌≡◌, ℕ, List, ◌∷◌, codes, true, if◌then◌else◌, is_some, Option, Some, None}
+use Rattle.fallowtime_words.specs.Commands.{BeginsWith}
+use Rattle.fallowtime_words.specs.declared.options.Given.{Given}
+use Rattle.fallowtime_words.specs.declared.options.Given.TheVariants.{Canonical, Bytes, Lines, Wait}
+use Rattle.fallowtime_words.specs.declared.options.Options.{Options}
+
+-- no word, or one that begins with two hyphens in front
+abbrev pub MayFollow : List (List ℕ) → Type 0
+MayFollow words = (word : List ℕ) (more : List (List ℕ)) → words ≡ word ∷ more → BeginsWith (codes "--") word
+
+-- the options and one more, if that isn't among them
+abbrev pub added : Given → Options → Option Options
+added Canonical o = if o.canonical then None else Some (record o { canonical = true })
+added Bytes o = if o.bytes then None else Some (record o { bytes = true })
+added Lines o = if o.lines then None else Some (record o { lines = true })
+added (Wait n) o = if is_some o.seconds then None else Some (record o { seconds = Some n })

@@ -1,0 +1,135 @@
+//! The words that the program is started with.
+
+ghost use Rattle.std.specs.Prelude.{◌≡◌, ◌↔◌, ◌∷◌, ℕ, List, Option, Some, IsTrue, MatchOption, map, option_map, string_bytes};
+ghost use Rattle.fallowtime_words.specs.Commands.{command_name, HasName};
+ghost use Rattle.fallowtime_words.specs.Words.{Asked, HasAll, IsFile, IsTask, Wait, asked_of};
+ghost use Rattle.fallowtime_words.specs.declared.command.Command.{Command};
+ghost use Rattle.fallowtime_words.specs.declared.options.Options.{Options};
+
+use crate::command::Command;
+use crate::options::{Options, read_options};
+use crate::places::read_rest;
+
+/// A line of the program's table.
+#[derive(Clone, Copy, Debug)]
+pub struct Words<'a> {
+    /// The file of the store.
+    pub file: &'a str,
+    /// The command.
+    pub command: Command,
+    /// The name of the collection; empty for `collections` and `backup`.
+    pub coll: &'a str,
+    /// The words behind the name that are no options: DOC, ID KEY VALUE, QUERY, PATH. Each is taken by its place, also if
+    /// it begins with a hyphen, except a QUERY.
+    pub places: &'a [String],
+    /// The options.
+    pub options: Options,
+}
+
+/// What the program is to do.
+#[derive(Clone, Copy, Debug)]
+pub enum Task<'a> {
+    /// One command.
+    Command(Words<'a>),
+    /// A session over a file: the requests of the lines of standard input.
+    Session {
+        /// The file of the store.
+        file: &'a str,
+        /// For how many seconds the file is waited for if another process has it, if that is said.
+        seconds: Option<u64>,
+    },
+}
+
+/// Whether a word can be a file: one that begins with a hyphen is written `./-x`.
+fn is_file(word: &str) -> bool
+    ensures { IsTrue result ↔ IsFile word.now }
+{
+    !matches!(word.as_bytes(), [b'-', ..])
+}
+
+/// The command that the first of the words names, and the words behind it.
+fn split_command(words: &[String]) -> Option<(Command, &[String])>
+    ensures { MatchOption result
+        ((command : Command) (behind : List (List ℕ)) → map string_bytes words.now ≡ command_name command ∷ behind → ⊥)
+        (λ r. map string_bytes words.now ≡ command_name r.0 ∷ map string_bytes r.1.now) }
+{
+    let (word, behind) = words.split_first()?;
+    let command = Command::from_word(word.as_str())?;
+    Some((command, behind))
+}
+
+/// The name of the collection, empty for a command that has none, and the words behind it.
+fn split_name(command: Command, words: &[String]) -> Option<(&str, &[String])>
+    ensures { MatchOption result
+        ((coll : List ℕ) (rest : List (List ℕ)) → HasName command (map string_bytes words.now) coll rest → ⊥)
+        (λ r. HasName command (map string_bytes words.now) r.0.now (map string_bytes r.1.now)) }
+{
+    if command == Command::Collections || command == Command::Backup {
+        return Some(("", words));
+    }
+    let (name, rest) = words.split_first()?;
+    Some((name.as_str(), rest))
+}
+
+/// The line of a command over a file, of the words behind the command.
+fn read_line<'a>(file: &'a str, command: Command, words: &'a [String]) -> Option<Words<'a>>
+    ensures { MatchOption result
+        ((coll : List ℕ) (places : List (List ℕ)) (options : Options) → HasAll command (map string_bytes words.now) coll places options → ⊥)
+        (λ w. (w.file.now ≡ file.now) × (w.command ≡ command)
+        × HasAll command (map string_bytes words.now) w.coll.now (map string_bytes w.places.now) w.options) }
+{
+    let (coll, rest) = split_name(command, words)?;
+    let (places, options) = read_rest(command, rest)?;
+    Some(Words {
+        file,
+        command,
+        coll,
+        places,
+        options,
+    })
+}
+
+/// How long a session waits for its file, by the words behind it: for these seconds, or as it is by default. None if the
+/// words are anything but `--wait SECONDS` or nothing.
+fn read_patience(words: &[String]) -> Option<Option<u64>>
+    ensures { MatchOption result
+        ((seconds : Option ℕ) → Wait (map string_bytes words.now) seconds → ⊥)
+        (λ seconds. Wait (map string_bytes words.now) seconds) }
+{
+    let options = read_options(words)?;
+    if !options.only_wait() {
+        return None;
+    }
+    Some(options.seconds)
+}
+
+/// What the words over a file ask for.
+fn read_behind<'a>(file: &'a str, words: &'a [String]) -> Option<Task<'a>>
+    requires { IsFile file.now }
+    ensures { MatchOption result
+        ((asked : Asked) → IsTask (file.now ∷ map string_bytes words.now) asked → ⊥)
+        (λ task. IsTask (file.now ∷ map string_bytes words.now) (asked_of task)) }
+{
+    match split_command(words) {
+        Some((command, behind)) => Some(Task::Command(read_line(file, command, behind)?)),
+        None => Some(Task::Session {
+            file,
+            seconds: read_patience(words)?,
+        }),
+    }
+}
+
+/// Reads the words behind the program's name: a line of the table, or a session. None if they are neither. What the
+/// texts say isn't looked at.
+pub fn read_words(words: &[String]) -> Option<Task<'_>>
+    ensures task { MatchOption result
+        ((asked : Asked) → IsTask (map string_bytes words.now) asked → ⊥)
+        (λ task. IsTask (map string_bytes words.now) (asked_of task)) }
+    ensures only { (asked : Asked) → IsTask (map string_bytes words.now) asked → option_map asked_of result ≡ Some asked }
+{
+    let (file, behind) = words.split_first()?;
+    if !is_file(file.as_str()) {
+        return None;
+    }
+    read_behind(file.as_str(), behind)
+}
