@@ -1,10 +1,12 @@
 -- A document that is put in: a replacement, or an insertion if there is nothing to replace.
-use Rattle.std.proofs.Common.{◌≡◌, ◌≢◌, ◌⊎◌, inl, inr, ℕ, ℤ, List, Option, Some, None, Result, Ok, Err, option_map, refl, sym, subst, ◌∙◌}
+use Rattle.std.proofs.Common.{◌≡◌, ◌≢◌, ◌⊎◌, inl, inr, ℕ, ℤ, Bool, true, false, List, Option, Some, None, Result, Ok, Err, option_map, refl, sym, subst, ◌∙◌}
 use Rattle.std.specs.Cow.{cow_slice_items}
 use Rattle.std.specs.List.{find}
-use Rattle.std.specs.Prelude.{IsUtf8, IfErr}
+use Rattle.std.specs.Prelude.{IsUtf8, if◌then◌else◌, nat_lt}
 use Rattle.sqlite.specs.State.{State}
-use Rattle.bson_base.specs.Value.{Members}
+use Rattle.bson_base.specs.Value.{Members, has_key}
+use Rattle.bson_bytes.specs.Encode.{size}
+use Rattle.bson_frame.specs.Frame.{size_limit}
 use Rattle.store_table.specs.Rows.{TableRow, is_row_named, with_body_at}
 use Rattle.store_table.specs.Moves.{AddsRows, Changes, FindsPlace, FindsRow, Moves, parts_of_found, parts_of_row, with_row}
 use Rattle.store_table.specs.declared.fault.Fault.{Fault}
@@ -13,7 +15,7 @@ use Rattle.store_table.specs.declared.row.Found.{Found}
 use Rattle.store_documents.specs.Bodies.{AnswersGiven, AnswersWritten}
 use Rattle.store_documents.specs.declared.write.KeptRow.{KeptRow}
 use Rattle.store_model.specs.Reading.{IsRead, KeepsGiven, Reading, readable, unreadable}
-use Rattle.store_model.specs.State.{done, IsName, in_json, insert, on, replace, refused, Reply}
+use Rattle.store_model.specs.State.{done, id_key, IsName, in_json, insert, on, replace, refused, Reply}
 use Rattle.store_model.specs.declared.error.ErrorKind.{ErrorKind}
 use Rattle.store_model.specs.declared.error.ErrorKind.TheVariants as kind
 use Rattle.store_model.proofs.Plain.{any_given}
@@ -42,7 +44,13 @@ unfit_other e kind.NotFound h is = h
 unfit_other e _ h is = cc
 
 unwritten_other : (d : Members) (k : ErrorKind) → AnswersWritten d (Err k) → k ≢ kind.NotFound
-unwritten_other d k h is = cc
+unwritten_other d k (inr memory) is = cc
+unwritten_other d k (inl h) is = by (has_key id_key d) (nat_lt size_limit (size d)) h
+  where
+    by : (a b : Bool) → (if a then (if b then Some kind.TooLong else None) else Some kind.NoId) ≡ Some k → ⊥
+    by true true e = cc
+    by true false e = cc
+    by false b e = cc
 
 pub unkept_put : (s : State) (n : List ℕ) (e : Members) (k : ErrorKind) → IsName n → AnswersGiven e (Err k) → Moves s s (PutsGiven n e (refused k None))
 unkept_put s n e k good (inl reads) =
@@ -95,6 +103,12 @@ module _ (s t u : State) (n : List ℕ) (d : Members) (w : KeptRow) (f : Option 
   behind text k =
       moved_twice s t u (FindsRow n w.key.items (Ok f)) (AddsRows 1 (with_row n w.key.items (cow_slice_items w.body)) (Ok tt)) (Puts n (readable d) done) m k
       (λ docs mid after h l. inr (unfound docs mid n d w f good read written is h, put_in docs mid after n w.key.items (cow_slice_items w.body) d good text (written_fits d w read written) (unplaced n w.key.items f docs mid is h) l in_json))
+
+  -- which is an insertion
+  pub put_in_moves : IsUtf8 n → Moves t u (AddsRows 1 (with_row n w.key.items (cow_slice_items w.body)) (Ok tt)) → Moves s u (Does (on n (insert in_json (readable d))) done)
+  put_in_moves text k =
+      moved_twice s t u (FindsRow n w.key.items (Ok f)) (AddsRows 1 (with_row n w.key.items (cow_slice_items w.body)) (Ok tt)) (Does (on n (insert in_json (readable d))) done) m k
+      (λ docs mid after h l. put_in docs mid after n w.key.items (cow_slice_items w.body) d good text (written_fits d w read written) (unplaced n w.key.items f docs mid is h) l in_json)
 
   -- or it didn't
   pub not_behind : (x : Fault) → Moves t u (AddsRows 1 (with_row n w.key.items (cow_slice_items w.body)) (Err x)) → Moves s u (Puts n (readable d) (refused (kind_of_fault x) None))
