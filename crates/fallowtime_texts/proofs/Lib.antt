@@ -1,0 +1,2 @@
+mod Identified
+mod Reading

@@ -1,0 +1,21 @@
+-- Bodies that a store keeps, read again.
+use Rattle.std.proofs.Common.{◌≡◌, ℕ, List, refl, subst, sym}
+use Rattle.bson_base.specs.Value.{Members}
+use Rattle.bson_bytes.specs.Encode.{encode}
+use Rattle.bson_bytes.specs.Spells.{Means}
+use Rattle.bson_bytes.proofs.One.{one_meaning}
+use Rattle.store_model.specs.Reading.{readable}
+use Rattle.store_model.specs.State.{IsKept}
+use Rattle.store_model.proofs.Restore.{written_reads}
+use Rattle.fallowtime_texts.specs.declared.printed.PrintFault.{PrintFault}
+use Rattle.fallowtime_texts.specs.declared.printed.PrintFault.TheVariants.{Memory}
+
+module _ (d : Members) (body : List ℕ) (kept : IsKept d) (is : body ≡ encode d) where
+  meant : Means body d
+  meant = subst (λ bytes. Means bytes d) (sym is) ((written_reads d kept (readable d)).1 refl).1
+
+  pub same_read : (read : Members) → ((m : Members) → Means body m → Means body read) → read ≡ d
+  same_read read means = one_meaning body read d (means d meant) meant
+
+  pub no_memory : (e : PrintFault) → ((m : Members) → Means body m → e ≡ Memory) → e ≡ Memory
+  no_memory e memory = memory d meant

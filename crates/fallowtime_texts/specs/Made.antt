@@ -1,0 +1,31 @@
+-- Ids that are made, and documents with one.
+use Rattle.std.specs.Prelude.{ℕ, ◌+◌, ◌%◌, ◌^◌, List, ◌++◌, if◌then◌else◌}
+use Rattle.std.specs.Int.{w32, w64, to_be_bytes}
+use Rattle.bson_base.specs.Value.{Value, Members, member, has_key, scalar, object_id}
+use Rattle.bson_model.specs.Keyed.{Key}
+use Rattle.store_model.specs.State.{id_key}
+use Rattle.fallowtime_texts.specs.declared.made.IdMaker.{IdMaker}
+
+-- seconds, and the number of the next id
+abbrev pub maker_at : ℕ → ℕ → IdMaker
+maker_at seconds n = record { seconds = seconds; next = n }
+
+-- the bytes of the next id
+abbrev pub made_bytes : IdMaker → List ℕ
+made_bytes maker = to_be_bytes w32 maker.seconds ++ to_be_bytes w64 maker.next
+
+-- the maker behind one id
+abbrev pub next_maker : IdMaker → IdMaker
+next_maker maker = maker_at maker.seconds ((maker.next + 1) % 2 ^ 64)
+
+-- the next id under `_id`
+abbrev pub id_member : IdMaker → Key × Value
+id_member maker = (id_key, scalar (object_id (made_bytes maker)))
+
+-- the document with its own `_id`, or with the next one in front
+abbrev pub identified : IdMaker → Members → Members
+identified maker d = if has_key id_key d then d else member (id_member maker).0 (id_member maker).1 d
+
+-- the maker behind a document
+abbrev pub maker_after : IdMaker → Members → IdMaker
+maker_after maker d = if has_key id_key d then maker else next_maker maker

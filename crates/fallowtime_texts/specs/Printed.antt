@@ -1,0 +1,15 @@
+-- A document as it is printed.
+use Rattle.std.specs.Prelude.{◌≡◌, ℕ, List, false, Some, Result, Ok, Err, string_bytes}
+use Rattle.bson_base.specs.Value.{Members, document}
+use Rattle.bson_json.specs.Prints.{IsTextOf}
+use Rattle.bson_meaning.specs.JsonReserved.{has_reserved, reserved_path_below}
+use Rattle.bson_model.specs.declared.extjson.ser.Mode.{Mode}
+use Rattle.fallowtime_texts.specs.declared.printed.PrintFault.{PrintFault}
+use Rattle.fallowtime_texts.specs.declared.printed.PrintFault.TheVariants.{ReservedKey, Damaged, Memory}
+
+-- the text of a document without a reserved key below its top, or the path to the first such key
+abbrev pub PrintsDocument : Mode → Members → List ℕ → Result (Unit {0}) PrintFault → Type 0
+PrintsDocument m d text (Ok x) = (has_reserved d ≡ false) × IsTextOf m (document d) text
+PrintsDocument m d text (Err (ReservedKey path)) = reserved_path_below d ≡ Some (string_bytes path)
+PrintsDocument m d text (Err Damaged) = ⊥
+PrintsDocument m d text (Err Memory) = Unit {0}

@@ -1,0 +1,11 @@
+//! Texts of the program `fallowtime`: ids among its words, ids that it makes, and what it prints.
+#![tactic(auto)]
+
+mod ids;
+pub mod laws;
+mod made;
+mod printed;
+
+pub use ids::id_of_word;
+pub use made::{IdMaker, with_id};
+pub use printed::{PrintFault, text_of_body};
