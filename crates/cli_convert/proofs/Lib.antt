@@ -1,4 +1,4 @@
-mod Parts
+pub mod Parts
 mod ToLines
 mod ToBson
 mod Spoiled

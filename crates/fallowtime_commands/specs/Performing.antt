@@ -1,6 +1,5 @@
 -- What a request does to the rows of a store.
-use Rattle.std.specs.Prelude.{◌≡◌, Bool, ℕ, List, map, Some, Result, Ok, Err, String, Vec, string_bytes}
-use Rattle.std.specs.declared.alloc.Global.{Global}
+use Rattle.std.specs.Prelude.{◌≡◌, ℕ, List, map, Some, Result, Ok, Err, string_bytes}
 use Rattle.sqlite.specs.State.{State, Survives}
 use Rattle.bson_model.specs.View.{content, view}
 use Rattle.bson_model.specs.declared.bson.Bson.{Bson}
@@ -32,19 +31,24 @@ reply_of (Ok (answer.Names names)) = model.names (map string_bytes names.items)
 reply_of (Err e) = model.refused e.kind e.document
 
 abbrev pub IsFlag : Answer → Type 0
-IsFlag a = (b : Bool) × (a ≡ answer.Flag b)
+IsFlag (answer.Flag b) = Unit {0}
+IsFlag _ = ⊥
 
 abbrev pub IsNumber : Answer → Type 0
-IsNumber a = (n : ℕ) × (a ≡ answer.Number n)
+IsNumber (answer.Number n) = Unit {0}
+IsNumber _ = ⊥
 
 abbrev pub IsDocument : Answer → Type 0
-IsDocument a = (bytes : Vec ℕ Global) × (a ≡ answer.Document bytes)
+IsDocument (answer.Document bytes) = Unit {0}
+IsDocument _ = ⊥
 
 abbrev pub AreDocuments : Answer → Type 0
-AreDocuments a = (bodies : Vec (Vec ℕ Global) Global) × (a ≡ answer.Documents bodies)
+AreDocuments (answer.Documents bodies) = Unit {0}
+AreDocuments _ = ⊥
 
 abbrev pub AreNames : Answer → Type 0
-AreNames a = (names : Vec (String Global) Global) × (a ≡ answer.Names names)
+AreNames (answer.Names names) = Unit {0}
+AreNames _ = ⊥
 
 -- an insertion is answered with the `_id`, other changes with nothing, and a question with what it asks for
 abbrev pub IsAnswerTo : Request → Answer → Type 0

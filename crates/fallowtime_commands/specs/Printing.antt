@@ -1,11 +1,11 @@
 -- What is printed of answers.
-use Rattle.std.specs.Prelude.{◌≡◌, ◌⊎◌, ℕ, ◌+◌, List, [], ◌∷◌, ◌++◌, ◌==◌, map, Bool, true, false, Result, Ok, Err, codes, decimal, string_bytes}
+use Rattle.std.specs.Prelude.{◌≡◌, ◌⊎◌, ℕ, ◌+◌, List, [], ◌∷◌, ◌++◌, ◌==◌, map, Bool, true, false, Some, Result, Ok, Err, codes, decimal, string_bytes}
 use Rattle.std.specs.List.{list_any}
 use Rattle.bson_base.specs.Device.{Tally}
 use Rattle.bson_base.specs.Value.{Value, Members, document, scalar, string}
 use Rattle.bson_bytes.specs.Encode.{encode}
 use Rattle.bson_json.specs.Prints.{IsTextOf}
-use Rattle.bson_meaning.specs.JsonReserved.{has_reserved}
+use Rattle.bson_meaning.specs.JsonReserved.{reserved_path_below}
 use Rattle.bson_model.specs.View.{view}
 use Rattle.bson_model.specs.declared.extjson.ser.Mode.{Mode}
 use Rattle.bson_model.specs.declared.extjson.ser.Mode.TheVariants.{Relaxed}
@@ -14,8 +14,11 @@ use Rattle.cli_convert.specs.Parts.{InParts, Passed}
 use Rattle.cli_words.specs.Lines.{line}
 use Rattle.store_model.specs.Refusal.{refusal}
 use Rattle.store_model.specs.State.{IsKept}
-use Rattle.store_model.specs.declared.error.ErrorKind.TheVariants.{Memory, ReservedKey, Writer}
+use Rattle.store_model.specs.declared.error.ErrorKind.{ErrorKind}
+use Rattle.store_model.specs.declared.error.ErrorKind.TheVariants.{Database, Memory, ReservedKey, Writer}
 use Rattle.store_model.specs.declared.error.StoreError.{StoreError}
+use Rattle.fallowtime_texts.specs.declared.printed.PrintFault.{PrintFault}
+use Rattle.fallowtime_texts.specs.declared.printed.PrintFault.TheVariants as faults
 use Rattle.fallowtime_commands.specs.declared.answer.Answer.{Answer}
 use Rattle.fallowtime_commands.specs.declared.answer.Answer.TheVariants as answer
 use Rattle.fallowtime_commands.specs.declared.printing.Form.{Form}
@@ -37,9 +40,15 @@ IsUnwritten before after e = (e ≡ refusal Writer) × (after.failures ≡ befor
 abbrev pub IsOutOfMemory : Tally → Tally → StoreError → Type 0
 IsOutOfMemory before after e = (e ≡ refusal Memory) × (after ≡ before)
 
--- why the document isn't printed: it has no text, or one of these
+-- what is refused for a document that has no text
+abbrev pub kind_of_fault : PrintFault → ErrorKind
+kind_of_fault (faults.ReservedKey path) = ReservedKey
+kind_of_fault faults.Damaged = Database
+kind_of_fault faults.Memory = Memory
+
+-- why the document isn't printed: it has a reserved key below its top, and so no text, or one of these
 abbrev pub IsUnprinted : Members → Tally → Tally → StoreError → Type 0
-IsUnprinted d before after e = ((e ≡ refusal ReservedKey) × (has_reserved d ≡ true) × (after ≡ before)) ⊎ (IsOutOfMemory before after e ⊎ IsUnwritten before after e)
+IsUnprinted d before after e = ((e ≡ refusal ReservedKey) × ((path : List ℕ) × (reserved_path_below d ≡ Some path)) × (after ≡ before)) ⊎ (IsOutOfMemory before after e ⊎ IsUnwritten before after e)
 
 -- so of the document whose written form is kept as the body
 abbrev pub PrintsBody : Form → List ℕ → Tally → Tally → Result (Unit {0}) Refusal → Type 0
@@ -71,23 +80,27 @@ PrintsId m id before after (Err r) = IsOutOfMemory before after r.error ⊎ IsUn
 
 -- ---- names
 
--- one of the names has a line feed
-abbrev pub has_line_feed : List (List ℕ) → Bool
-has_line_feed names = list_any (list_any (λ b. b == 10)) names
+abbrev pub has_line_feed : List ℕ → Bool
+has_line_feed name = list_any (λ b. b == 10) name
 
-abbrev pub PrintsName : Bool → List ℕ → Tally → Tally → Result (Unit {0}) Refusal → Type 0
-PrintsName false name before after result = PrintsLine name before after result
-PrintsName true name before after result = PrintsId Relaxed (scalar (string name)) before after result
+-- a name as it is, or, if it has a line feed, as the JSON of a text
+abbrev pub IsNameLine : List ℕ → List ℕ → Type 0
+IsNameLine part name =
+    ((has_line_feed name ≡ true) × (text : List ℕ) × IsTextOf Relaxed (scalar (string name)) text × (part ≡ line text))
+    ⊎ ((has_line_feed name ≡ false) × (part ≡ line name))
 
--- a name as it is, or as the JSON of a text
-abbrev pub IsNameLine : Bool → List ℕ → List ℕ → Type 0
-IsNameLine false part name = part ≡ line name
-IsNameLine true part name = (text : List ℕ) × IsTextOf Relaxed (scalar (string name)) text × (part ≡ line text)
+-- it is out of memory, or a write failed
+abbrev pub IsUnnamed : Tally → Tally → StoreError → Type 0
+IsUnnamed before after e = IsOutOfMemory before after e ⊎ IsUnwritten before after e
 
--- all names are printed; or it is out of memory, or a write failed
+abbrev pub PrintsName : List ℕ → Tally → Tally → Result (Unit {0}) Refusal → Type 0
+PrintsName name before after (Ok x) = (part : List ℕ) × Passed before after part × IsNameLine part name
+PrintsName name before after (Err r) = IsUnnamed before after r.error
+
+-- all names are printed, one a line; or the first ones are, and the next one isn't
 abbrev pub PrintsNames : List (List ℕ) → Tally → Tally → Result (Unit {0}) Refusal → Type 0
-PrintsNames names before after (Ok x) = (out : List ℕ) × Passed before after out × InParts (IsNameLine (has_line_feed names)) out names
-PrintsNames names before after (Err r) = ((r.error ≡ refusal Memory) × (after.failures ≡ before.failures)) ⊎ IsUnwritten before after r.error
+PrintsNames names before after (Ok x) = (out : List ℕ) × Passed before after out × InParts IsNameLine out names
+PrintsNames names before after (Err r) = (front : List (List ℕ)) × (out : List ℕ) × (mid : Tally) × Passed before mid out × InParts IsNameLine out front × IsUnnamed mid after r.error
 
 -- ---- answers
 

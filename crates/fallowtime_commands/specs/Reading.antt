@@ -1,5 +1,5 @@
 -- What the words of a command ask for.
-use Rattle.std.specs.Prelude.{◌≡◌, ◌≢◌, ◌⊎◌, ℕ, List, [], ◌∷◌, Some, Result, Ok, Err, map, string_bytes}
+use Rattle.std.specs.Prelude.{◌≡◌, ◌≢◌, ◌⊎◌, ℕ, List, [], ◌∷◌, Some, Result, Ok, Err, IsOk, map, string_bytes}
 use Rattle.json.specs.Json.{Json, document as tree_of}
 use Rattle.json.specs.Strict.{HasUniqueKeys}
 use Rattle.bson_base.specs.Value.{Value, Members, look_up}
@@ -118,7 +118,7 @@ IsUnread command.Replace ts s = WithOne StopsDocument ts s
 IsUnread command.Get ts s = WithOne StopsId ts s
 IsUnread command.Remove ts s = WithOne StopsId ts s
 IsUnread command.Unset ts s = WithTwo (λ t k. StopsId t) ts s
-IsUnread command.Set ts s = WithThree (λ t k v s. StopsId t s ⊎ (((id : Value) × IsIdText t id) × StopsValue v s)) ts s
+IsUnread command.Set ts s = WithThree (λ t k v s. StopsId t s ⊎ (IsOk (id_of t (tree_of t)) × StopsValue v s)) ts s
 IsUnread command.Find ts s = WithOneAtMost StopsQuery ts s
 IsUnread command.Count ts s = WithOneAtMost StopsQuery ts s
 IsUnread command.Collections ts s = WithNone ts s

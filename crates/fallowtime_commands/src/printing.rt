@@ -4,7 +4,8 @@ ghost use Rattle.std.specs.Prelude.{◌≡◌, map, string_bytes};
 ghost use Rattle.bson_base.specs.Device.{CanRefuse};
 ghost use Rattle.bson_model.specs.View.{view};
 ghost use Rattle.bson_store.specs.Export.{bytes_of_each};
-ghost use Rattle.fallowtime_commands.specs.Printing.{Prints, PrintsBodies, PrintsBody, PrintsId, PrintsLine, PrintsName, PrintsNames, has_line_feed, mode_of};
+ghost use Rattle.store_model.specs.Refusal.{refusal};
+ghost use Rattle.fallowtime_commands.specs.Printing.{Prints, PrintsBodies, PrintsBody, PrintsId, PrintsLine, PrintsName, PrintsNames, has_line_feed, kind_of_fault, mode_of};
 
 use crate::answer::Answer;
 use crate::refusal::Refusal;
@@ -30,7 +31,7 @@ pub enum Form {
 /// The `_id` of the document that a store keeps as `body`, as relaxed Extended JSON. None if there is no memory for it.
 fn id_text(alloc: Global, body: &[u8]) -> Option<String> {
     let document = RawDocument::from_bytes(body).ok()?;
-    let id = document.get("_id").ok()??;
+    let id = document.get(alloc, "_id").ok()??;
     let id = id.to_bson(alloc).ok()?;
     let mut text = String::new(alloc);
     write_value(alloc, &id, Mode::Relaxed, &mut text).ok()?;
@@ -38,7 +39,9 @@ fn id_text(alloc: Global, body: &[u8]) -> Option<String> {
 }
 
 /// Why the document that a store keeps as `body` has no text.
-fn unprinted(alloc: Global, body: &[u8], fault: PrintFault) -> Refusal {
+fn unprinted(alloc: Global, body: &[u8], fault: PrintFault) -> Refusal
+    ensures { result.error ≡ refusal (kind_of_fault fault) }
+{
     match fault {
         PrintFault::ReservedKey(path) => Refusal {
             id: id_text(alloc, body),
@@ -130,38 +133,31 @@ fn print_line<O: Sink>(text: &str, output: &mut O) -> Result<(), Refusal>
     }
 }
 
-/// Writes a name on a line: as it is, or as the JSON of a text.
-fn print_name<O: Sink>(
-    alloc: Global,
-    name: &str,
-    as_json: bool,
-    output: &mut O,
-) -> Result<(), Refusal>
-    requires { CanRefuse (O.tally output.old) }
-    ensures { PrintsName as_json name.now (O.tally output.old) (O.tally output.new) result }
+fn has_line_feed(name: &str) -> bool
+    ensures { result ≡ has_line_feed name.now }
 {
-    if !as_json {
+    name.as_bytes().contains(&b'\n')
+}
+
+/// Writes a name on a line: as it is, or, if it has a line feed, as the JSON of a text.
+fn print_name<O: Sink>(alloc: Global, name: &str, output: &mut O) -> Result<(), Refusal>
+    requires { CanRefuse (O.tally output.old) }
+    ensures { PrintsName name.now (O.tally output.old) (O.tally output.new) result }
+{
+    if !has_line_feed(name) {
         return print_line(name, output);
     }
     let name = Bson::String(String::from_str(alloc, name)?);
     print_id(alloc, &name, Mode::Relaxed, output)
 }
 
-/// Whether one of the names has a line feed.
-fn has_line_feed(names: &[String]) -> bool
-    ensures { result ≡ has_line_feed (map string_bytes names.now) }
-{
-    names.iter().any(|name| name.as_bytes().contains(&b'\n'))
-}
-
-/// Writes names, one a line: as they are, or, if one of them has a line feed, as JSON.
+/// Writes names, one a line.
 fn print_names<O: Sink>(alloc: Global, names: &[String], output: &mut O) -> Result<(), Refusal>
     requires { CanRefuse (O.tally output.old) }
     ensures { PrintsNames (map string_bytes names.now) (O.tally output.old) (O.tally output.new) result }
 {
-    let as_json = has_line_feed(names);
     for name in names {
-        print_name(alloc, name.as_str(), as_json, output)?;
+        print_name(alloc, name.as_str(), output)?;
     }
     Ok(())
 }

@@ -3,11 +3,9 @@
 ghost use Rattle.std.specs.Prelude.{◌≡◌, ◌∷◌, [], ℕ, List, MatchResult, Some, map, string_bytes};
 ghost use Rattle.bson_model.specs.View.{content, view};
 ghost use Rattle.fallowtime_texts.specs.declared.made.IdMaker.{IdMaker as Maker};
-ghost use Rattle.fallowtime_words.specs.declared.command.Command.TheVariants.{Insert, Set, Unset};
+ghost use Rattle.fallowtime_words.specs.declared.command.Command.TheVariants.{Collections, Insert, Set, Unset};
 ghost use Rattle.store_filter.specs.Filters.{filter_of};
-ghost use Rattle.fallowtime_commands.specs.Reading.{IsDocumentText, IsFilterOf, IsIdText, IsQueryText, IsRequest, IsRequestOf, IsUnread, IsValueText, StopsDocument, StopsId, StopsQuery, StopsValue, StopsWords, WithOneAtMost};
-ghost use Rattle.fallowtime_commands.specs.declared.reading.Stop.TheVariants.{Words as Unreadable};
-ghost use Rattle.fallowtime_commands.specs.declared.unread.Unread.TheVariants.{Usage};
+ghost use Rattle.fallowtime_commands.specs.Reading.{IsDocumentText, IsFilterOf, IsIdText, IsQueryText, IsRequest, IsRequestOf, IsUnread, IsValueText, StopsDocument, StopsId, StopsQuery, StopsValue, StopsWords, WithNone, WithOne, WithOneAtMost};
 
 use crate::request::Request;
 use crate::unread::Unread;
@@ -98,19 +96,7 @@ fn insertion_of(
     }
 }
 
-/// The word of a command with one place.
-fn only_place(places: &[String]) -> Result<&str, Stop>
-    ensures { MatchResult result
-        (λ t. map string_bytes places.now ≡ t.now ∷ [])
-        (λ s. (s ≡ Unreadable Usage) × ((t : List ℕ) → map string_bytes places.now ≡ t ∷ [] → ⊥)) }
-{
-    match places {
-        [text] => Ok(text.as_str()),
-        _ => Err(Stop::Words(Unread::Usage)),
-    }
-}
-
-/// The request to put a value under a key, or to take one away.
+/// The request to put a value under a key.
 fn setting_of<'w>(
     alloc: Global,
     places: &'w [String],
@@ -156,6 +142,51 @@ fn filter_of(alloc: Global, places: &[String], scratch: &mut Scratch) -> Result<
     }
 }
 
+/// The document of the only place.
+fn document_in(alloc: Global, places: &[String], scratch: &mut Scratch) -> Result<Document, Stop>
+    ensures { MatchResult result (λ d. (t : List ℕ) × (map string_bytes places.now ≡ t ∷ []) × IsDocumentText t (content d)) (WithOne StopsDocument (map string_bytes places.now)) }
+{
+    match places {
+        [text] => document_of(alloc, text.as_str(), scratch),
+        _ => Err(Stop::Words(Unread::Usage)),
+    }
+}
+
+/// The id of the only place.
+fn id_in(alloc: Global, places: &[String], scratch: &mut Scratch) -> Result<Bson, Stop>
+    ensures { MatchResult result (λ id. (t : List ℕ) × (map string_bytes places.now ≡ t ∷ []) × IsIdText t (view id)) (WithOne StopsId (map string_bytes places.now)) }
+{
+    match places {
+        [text] => id_of(alloc, text.as_str(), scratch),
+        _ => Err(Stop::Words(Unread::Usage)),
+    }
+}
+
+/// The request to insert the document of the only place.
+fn insertion_in(
+    alloc: Global,
+    places: &[String],
+    maker: &mut IdMaker,
+    scratch: &mut Scratch,
+) -> Result<Request<'static>, Stop>
+    ensures { MatchResult result (IsRequest maker.old Insert (map string_bytes places.now)) (WithOne StopsDocument (map string_bytes places.now)) }
+{
+    match places {
+        [text] => insertion_of(alloc, text.as_str(), maker, scratch),
+        _ => Err(Stop::Words(Unread::Usage)),
+    }
+}
+
+/// The request that has no place.
+fn collections_in(places: &[String]) -> Result<Request<'static>, Stop>
+    ensures { (maker : Maker) → MatchResult result (IsRequest maker Collections (map string_bytes places.now)) (WithNone (map string_bytes places.now)) }
+{
+    match places {
+        [] => Ok(Request::Collections),
+        _ => Err(Stop::Words(Unread::Usage)),
+    }
+}
+
 /// The request of the words in the places of a command. A document that is to be inserted gets an `_id` of the maker if
 /// it has none. `scratch` is room that is kept from text to text.
 ///
@@ -172,22 +203,18 @@ pub fn request_of<'w>(
 {
     let places = words.places;
     match words.command {
-        Command::Insert => insertion_of(alloc, only_place(places)?, maker, scratch),
-        Command::Put => {
-            let document = document_of(alloc, only_place(places)?, scratch)?;
-            Ok(Request::Put(document))
-        }
-        Command::Replace => {
-            let document = document_of(alloc, only_place(places)?, scratch)?;
-            Ok(Request::Replace(document))
-        }
-        Command::Get => Ok(Request::Get(id_of(alloc, only_place(places)?, scratch)?)),
+        Command::Insert => insertion_in(alloc, places, maker, scratch),
+        Command::Put => Ok(Request::Put(document_in(alloc, places, scratch)?)),
+        Command::Replace => Ok(Request::Replace(document_in(alloc, places, scratch)?)),
+        Command::Get => Ok(Request::Get(id_in(alloc, places, scratch)?)),
         Command::Set => setting_of(alloc, places, scratch),
         Command::Unset => unsetting_of(alloc, places, scratch),
-        Command::Remove => Ok(Request::Remove(id_of(alloc, only_place(places)?, scratch)?)),
+        Command::Remove => Ok(Request::Remove(id_in(alloc, places, scratch)?)),
         Command::Find => Ok(Request::Find(filter_of(alloc, places, scratch)?)),
         Command::Count => Ok(Request::Count(filter_of(alloc, places, scratch)?)),
-        Command::Collections if places.is_empty() => Ok(Request::Collections),
-        _ => Err(Stop::Words(Unread::Usage)),
+        Command::Collections => collections_in(places),
+        Command::Import | Command::Export | Command::Backup => {
+            Err(Stop::Words(Unread::Usage))
+        }
     }
 }

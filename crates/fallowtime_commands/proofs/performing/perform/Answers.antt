@@ -1,0 +1,55 @@
+use Rattle.fallowtime_commands.proofs.performing.perform.Goals as goal
+
+pub returns-in-Insert-clause-moves : goal.returns-in-Insert-clause-moves
+returns-in-Insert-clause-moves g c = rw (c.in-Insert.is, c.inserted.ensures.reply) (rw c.replace-given.ensures.value at c.insert_document.ensures.moves)
+
+pub returns-in-Insert-clause-crash : goal.returns-in-Insert-clause-crash
+returns-in-Insert-clause-crash g c = rw (c.in-Insert.is, c.inserted.ensures.reply) (rw c.replace-given.ensures.value at c.insert_document.ensures.crash)
+
+pub returns-in-Put-clause-moves : goal.returns-in-Put-clause-moves
+returns-in-Put-clause-moves g c = rw (c.in-Put.is, c.nothing.ensures.reply) (rw c.replace-given-in-Put.ensures.value at c.put_document.ensures.moves)
+
+pub returns-in-Put-clause-crash : goal.returns-in-Put-clause-crash
+returns-in-Put-clause-crash g c = rw (c.in-Put.is, c.nothing.ensures.reply) (rw c.replace-given-in-Put.ensures.value at c.put_document.ensures.crash)
+
+pub returns-in-Replace-clause-moves : goal.returns-in-Replace-clause-moves
+returns-in-Replace-clause-moves g c = rw (c.in-Replace.is, c.nothing-in-Replace.ensures.reply) (rw c.replace-given-in-Replace.ensures.value at c.replace_document.ensures.moves)
+
+pub returns-in-Replace-clause-crash : goal.returns-in-Replace-clause-crash
+returns-in-Replace-clause-crash g c = rw (c.in-Replace.is, c.nothing-in-Replace.ensures.reply) (rw c.replace-given-in-Replace.ensures.value at c.replace_document.ensures.crash)
+
+pub returns-in-Get-clause-moves : goal.returns-in-Get-clause-moves
+returns-in-Get-clause-moves g c = rw (c.in-Get.is, c.document.ensures.reply) c.get_raw.ensures.moves
+
+pub returns-in-Set-clause-moves : goal.returns-in-Set-clause-moves
+returns-in-Set-clause-moves g c = rw (c.in-Set.is, c.nothing-in-Set.ensures.reply) (rw c.replace-value.ensures.value at c.set_value.ensures.moves)
+
+pub returns-in-Set-clause-crash : goal.returns-in-Set-clause-crash
+returns-in-Set-clause-crash g c = rw (c.in-Set.is, c.nothing-in-Set.ensures.reply) (rw c.replace-value.ensures.value at c.set_value.ensures.crash)
+
+pub returns-in-Unset-clause-moves : goal.returns-in-Unset-clause-moves
+returns-in-Unset-clause-moves g c = rw (c.in-Unset.is, c.flag.ensures.reply) c.unset.ensures.moves
+
+pub returns-in-Unset-clause-crash : goal.returns-in-Unset-clause-crash
+returns-in-Unset-clause-crash g c = rw (c.in-Unset.is, c.flag.ensures.reply) c.unset.ensures.crash
+
+pub returns-in-Remove-clause-moves : goal.returns-in-Remove-clause-moves
+returns-in-Remove-clause-moves g c = rw (c.in-Remove.is, c.nothing-in-Remove.ensures.reply) c.remove.ensures.moves
+
+pub returns-in-Remove-clause-crash : goal.returns-in-Remove-clause-crash
+returns-in-Remove-clause-crash g c = rw (c.in-Remove.is, c.nothing-in-Remove.ensures.reply) c.remove.ensures.crash
+
+pub returns-in-Find-clause-moves : goal.returns-in-Find-clause-moves
+returns-in-Find-clause-moves g c = rw (c.in-Find.is, c.documents.ensures.reply) c.find.ensures.moves
+
+pub returns-in-Count-clause-moves : goal.returns-in-Count-clause-moves
+returns-in-Count-clause-moves g c = rw (c.in-Count.is, c.number.ensures.reply) c.count.ensures.moves
+
+pub returns-in-Import-clause-moves : goal.returns-in-Import-clause-moves
+returns-in-Import-clause-moves g c = rw (c.in-Import.is, c.number-in-Import.ensures.reply) (rw c.as_slice.ensures.value at c.import_bytes.ensures.moves)
+
+pub returns-in-Import-clause-crash : goal.returns-in-Import-clause-crash
+returns-in-Import-clause-crash g c = rw (c.in-Import.is, c.number-in-Import.ensures.reply) (rw c.as_slice.ensures.value at c.import_bytes.ensures.crash)
+
+pub returns-in-Collections-clause-moves : goal.returns-in-Collections-clause-moves
+returns-in-Collections-clause-moves g c = rw (c.in-Collections.is, c.names.ensures.reply) c.collections.ensures.moves
