@@ -373,6 +373,10 @@ for path in map(pathlib.Path, files(prefix)):
     wanted = 0o755 if path.name in [*NAMES, "install"] and "share" not in path.parts else 0o644
     holds(f"the mode of {path.relative_to(prefix)}", oct(stat.S_IMODE(path.stat().st_mode)), oct(wanted))
 holds("one program", len({(prefix / "lib/fallowtime/program" / name).stat().st_ino for name in NAMES}), 1)
+(there / "target/quick/bson_store.build").unlink()
+status, out, errors = run(there / "install", prefix, PATH=f"{prefix}/bin:{os.environ['PATH']}")
+holds("without a record", (status, errors, run(prefix / "bin/fallowtime", "--version")[1]),
+      (0, "install: fallowtime 1.2.3 (commit unknown, quick)\n", "fallowtime 1.2.3 (commit unknown, quick)\n"))
 build(there, "crates/bson_store_cli/out", "proved")
 put = files(prefix)
 status, out, errors = run(there / "install", os.path.relpath(prefix, HERE), PATH=f"{HERE}/../a prefix/bin:{os.environ['PATH']}")
