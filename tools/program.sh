@@ -2,12 +2,15 @@
 # What the scripts at the top have in common: where the program is, what it was built from, which one runs, and how signals reach it.
 # They read it by `.`, with `root`, the folder of the checkout, and `name`, their own name, set.
 #
-# There is one program, of the crate bson_store_cli, and it acts by the name under which it is started. So it is there under three
+# There is one program, of the crate bson_store_cli, and it acts by the name under which it is started. So it is there under four
 # names: in target/quick as ./quick builds it, without a proof, and in crates/bson_store_cli/out as ./prove does. Beside each is its
-# record, bson_store.build: the version, the commit, how it was built, and the sources.
+# record, bson_store.build: the version, the commit, how it was built, and the sources. What ./install puts elsewhere has it in the
+# folder program, and neither sources nor the scripts that build.
 crate=bson_store_cli
+names="bson_store bson_session bson_json fallowtime"
 quick_folder=$root/target/quick
 proved_folder=$root/crates/$crate/out
+installed_folder=$root/program
 
 # A line on standard error, or one that is only for the eye.
 note() { echo "$name: $1" >&2; }
@@ -67,7 +70,7 @@ describe() {
 
 # Gives the program that lies in a folder its names, beside it.
 link_names() {
-    for other in bson_store bson_session bson_json; do
+    for other in $names; do
         [ "$1/$2" -ef "$1/$other" ] || ln -f "$1/$2" "$1/$other" 2>/dev/null || cp -p "$1/$2" "$1/$other" || return
     done
 }
@@ -105,11 +108,13 @@ guard() {
     return "$status"
 }
 
-# Sets `program` to the program that runs, and `change` to a source that changed since it was built: the proved one, except where
-# its sources were edited since and the quick one is younger. There may be none.
+# Sets `program` to the program that runs, and `change` to a source that changed since it was built: the installed one; the proved
+# one, except where its sources were edited since and the quick one is younger; the quick one. There may be none.
 find_program() {
-    program=$quick_folder/$name
     change=
+    program=$installed_folder/$name
+    [ ! -x "$program" ] || return 0
+    program=$quick_folder/$name
     # shellcheck disable=SC3013
     if [ -x "$proved_folder/$name" ]; then
         change=$(changed "$proved_folder/$name")
@@ -125,6 +130,7 @@ find_program() {
 # The same, and builds one if there is none. The one warning about its age is given here, on a terminal or not.
 choose() {
     find_program || {
+        [ -x "$root/quick" ] || { note "there is no program in $installed_folder: install it anew"; exit 125; }
         keep_signals
         "$root/quick" </dev/null >/dev/null &
         child=$!
@@ -136,15 +142,46 @@ choose() {
         note "sources changed since this program was built ($change): ./quick builds it anew, in minutes, ./prove proves it too"
 }
 
+# Prints a line of the record of the program that was found: its version, its commit, or how it was built.
+recorded() { sed -n "s/^$1 //p;/^sources\$/q" "${program%/*}/bson_store.build" 2>/dev/null; }
+
 # Says which program runs. Nothing is built for it.
 version() {
     if ! find_program; then
         echo "$name $(cat "$root/VERSION") (not built yet)"
         return
     fi
-    case $program in "$proved_folder"/*) built=proved ;; *) built=quick ;; esac
-    record=${program%/*}/bson_store.build
-    number=$(sed -n 's/^version //p;/^sources$/q' "$record" 2>/dev/null)
-    commit=$(sed -n 's/^commit //p;/^sources$/q' "$record" 2>/dev/null)
-    echo "$name ${number:-$(cat "$root/VERSION")} (commit ${commit:-unknown}, $built${change:+, sources are newer})"
+    case $program in "$proved_folder"/*) built=proved ;; "$quick_folder"/*) built=quick ;; *) built=$(recorded built) ;; esac
+    number=$(recorded version)
+    commit=$(recorded commit)
+    echo "$name ${number:-$(cat "$root/VERSION")} (commit ${commit:-unknown}, ${built:-unknown}${change:+, sources are newer})"
+}
+
+# Whether there is a terminal to say on how much of a long input is done, and the input isn't typed there.
+can_watch() { [ -t 2 ] && [ ! -t 0 ] && { command : 3<&0; } 2>/dev/null && [ "${TERM:-dumb}" != dumb ] && [ -r /proc/self/io ]; }
+
+# Says each second what a process has read and written, of which the system keeps count: on the line below the one where the cursor
+# is, so that what the program prints comes to stand above. It is deleted at the end.
+watch() {
+    is_shown=
+    trap '[ -z "$is_shown" ] || printf "\033[J" >&2; exit' TERM
+    while
+        sleep 1 >/dev/null 2>&1 &
+        wait "$!"
+        read=$(sed -n 's/^rchar: //p' "/proc/$1/io" 2>/dev/null) && [ -n "$read" ]
+    do
+        written=$(sed -n 's/^wchar: //p' "/proc/$1/io" 2>/dev/null)
+        printf '\n\033[K%s\033[A\r' "$name: $((read / 1048576)) MB read, $((${written:-0} / 1048576)) MB written" >&2
+        is_shown=yes
+    done
+}
+
+# Runs the program with these words while it is watched, and returns its status.
+run_watched() {
+    keep_signals
+    { "$program" "$@" <&3 3<&- & } 3<&0
+    child=$!
+    watch "$child" </dev/null >/dev/null &
+    watcher=$!
+    guard
 }

@@ -1,0 +1,80 @@
+# shellcheck shell=bash
+# Completes the words of fallowtime for bash: files, commands, the collections of FILE, options, and kinds of refusals.
+
+# The names of the collections that a file has and that begin so, as they are written in a shell. A file isn't made for it, and not
+# waited for. $1 is the program, $2 the file as it was typed, $3 the beginning.
+_fallowtime_collections() {
+    local file=$2 name
+    # shellcheck disable=SC2088
+    case $file in "~/"*) file=$HOME/${file#"~/"} ;; esac
+    case $file in \'*\' | \"*\") file=${file:1:${#file}-2} ;; *) file=${file//\\/} ;; esac
+    [ -f "$file" ] || return 0
+    while IFS= read -r name; do
+        case $name in "${3//\\/}"*) COMPREPLY+=("$(printf %q "$name")") ;; esac
+    done < <("$1" "$file" collections --wait 0 2>/dev/null </dev/null)
+}
+
+# Those of the words behind the first that begin so. An option that was typed isn't among them.
+_fallowtime_among() {
+    local begin=$1 word
+    shift
+    for word; do
+        case $word,"${COMP_WORDS[*]:2:COMP_CWORD-2} " in -*" $word "*) continue ;; esac
+        case $word in "$begin"*) COMPREPLY+=("$word") ;; esac
+    done
+}
+
+_fallowtime_files() {
+    compopt -o filenames 2>/dev/null
+    local IFS=$'\n'
+    # shellcheck disable=SC2207
+    COMPREPLY=($(compgen -f -- "$1"))
+}
+
+_fallowtime() {
+    local word=${COMP_WORDS[COMP_CWORD]} before=${COMP_WORDS[COMP_CWORD - 1]} options=--wait front
+    local commands=(insert put replace get set unset remove find count import export collections backup)
+    COMPREPLY=()
+    if [ "$COMP_CWORD" -eq 1 ]; then
+        case $word in -*) _fallowtime_among "$word" --help --version --explain ;; *) _fallowtime_files "$word" ;; esac
+        [ ${#COMPREPLY[@]} -gt 0 ] || _fallowtime_among "$word" "${commands[@]}"
+        return
+    fi
+    case ${COMP_WORDS[1]} in
+    --explain)
+        # shellcheck disable=SC2046
+        _fallowtime_among "$word" $("$1" --explain 2>&1 </dev/null | sed -n 's/.*the kinds are: //p')
+        return
+        ;;
+    -*) return ;;
+    esac
+    if [ "$COMP_CWORD" -eq 2 ]; then
+        case $word in -*) _fallowtime_among "$word" --wait --help ;; *) _fallowtime_among "$word" "${commands[@]}" ;; esac
+        return
+    fi
+    case ${COMP_WORDS[2]} in
+    insert) front=5 options="--canonical --wait" ;;
+    put | replace | remove) front=5 ;;
+    get) front=5 options="--canonical --bson --wait" ;;
+    set) front=7 ;;
+    unset) front=6 ;;
+    find) front=4 options="--canonical --bson --wait" ;;
+    count) front=4 ;;
+    import) front=4 options="--json --wait" ;;
+    export | backup) front=4 ;;
+    collections) front=3 ;;
+    *) return ;;
+    esac
+    if [ "$before" = --wait ] && [ "$COMP_CWORD" -gt "$front" ]; then return; fi
+    if [ "$COMP_CWORD" -ge "$front" ]; then
+        # shellcheck disable=SC2086
+        _fallowtime_among "$word" $options
+    elif [ "$COMP_CWORD" -eq 3 ]; then
+        case ${COMP_WORDS[2]} in
+        backup) _fallowtime_files "$word" ;;
+        *) _fallowtime_collections "$1" "${COMP_WORDS[1]}" "$word" ;;
+        esac
+    fi
+}
+
+complete -F _fallowtime fallowtime

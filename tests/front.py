@@ -1,0 +1,424 @@
+#!/usr/bin/python3
+"""Runs the script fallowtime and what ./install makes of it, in a checkout that is made up, with a program that is made up: which
+words it refuses, what it prints of commands and refusals, what is said on a terminal, what is put and taken away, and what bash
+completes.
+
+    tests/front.py [FALLOWTIME]
+
+FALLOWTIME is the program under that name, which is then held against the same lines. Prints one line a step, and ends with status 1
+at the first that isn't as it should be.
+"""
+import atexit
+import itertools
+import os
+import pathlib
+import pty
+import random
+import re
+import shutil
+import signal
+import stat
+import subprocess
+import sys
+import tempfile
+
+ROOT = pathlib.Path(__file__).resolve().parent.parent
+PROGRAM = os.path.abspath(sys.argv[1]) if len(sys.argv) > 1 else None
+FOLDER = pathlib.Path(tempfile.mkdtemp(prefix="front-"))
+atexit.register(shutil.rmtree, FOLDER, ignore_errors=True)
+HERE = FOLDER / "here"
+HERE.mkdir()
+NAMES = ["bson_store", "bson_session", "bson_json", "fallowtime"]
+USAGE = "words: usage\n"
+# For each command its places, and its options beside --wait.
+COMMANDS = {
+    "insert": ("COLL DOC", ["--canonical"]),
+    "put": ("COLL DOC", []),
+    "replace": ("COLL DOC", []),
+    "get": ("COLL ID", ["--canonical", "--bson"]),
+    "set": ("COLL ID KEY VALUE", []),
+    "unset": ("COLL ID KEY", []),
+    "remove": ("COLL ID", []),
+    "find": ("COLL [QUERY]", ["--canonical", "--bson"]),
+    "count": ("COLL [QUERY]", []),
+    "import": ("COLL", ["--json"]),
+    "export": ("COLL", []),
+    "collections": ("", []),
+    "backup": ("PATH", []),
+}
+OPTIONS = ["--canonical", "--bson", "--json", "--wait 5"]
+# The program that is made up says how it was started, or which collections there are, or how many lines it read.
+STUB = """#!/bin/sh
+if [ "$2" = collections ]; then printf 'orders\\nold orders\\nmore\\n'; exit; fi
+if [ "$2$3" = importlines ]; then exec wc -l; fi
+printf '%s' "$(basename -- "$0")"
+printf ' <%s>' "$@"
+echo
+"""
+RECORD = "version 1.2.3\ncommit abcdef0\nbuilt {}\nsources\n"
+
+
+def holds(step, found, wanted):
+    if found != wanted:
+        print(f"{step}: {found!r} in place of {wanted!r}"[:3000])
+        sys.exit(1)
+    print(f"{step}: {found!r}"[:150])
+
+
+def write(path, text, mode=0o644):
+    path.parent.mkdir(parents=True, exist_ok=True)
+    path.write_text(text)
+    path.chmod(mode)
+
+
+def files(folder):
+    return sorted(str(path) for path in folder.rglob("*") if path.is_symlink() or not path.is_dir())
+
+
+def lines_of(text):
+    return sorted(text.split("\n")[:-1])
+
+
+def checkout():
+    """A checkout with the scripts of this one, and nothing to build from."""
+    there = pathlib.Path(tempfile.mkdtemp(dir=FOLDER))
+    for name in [*NAMES, "install"]:
+        shutil.copy(ROOT / name, there)
+    for folder in "tools", "man", "completions":
+        shutil.copytree(ROOT / folder, there / folder, ignore=shutil.ignore_patterns("__pycache__"))
+    (there / "docs").mkdir()
+    shutil.copy(ROOT / "docs/REFUSALS.md", there / "docs")
+    write(there / "VERSION", "1.2.3\n")
+    return there
+
+
+def build(there, folder, how):
+    """Puts the program that is made up into a folder of the checkout, under its names, with its record."""
+    for name in NAMES:
+        write(there / folder / name, STUB, 0o755)
+    write(there / folder / "bson_store.build", RECORD.format(how))
+
+
+def run(script, *words, **more):
+    done = subprocess.run([script, *words], stdin=subprocess.DEVNULL, capture_output=True, cwd=HERE, env={**os.environ, **more})
+    return done.returncode, done.stdout.decode(), done.stderr.decode()
+
+
+def told_at_terminal(script, *words):
+    """What is printed on standard error if that is a terminal."""
+    ours, theirs = pty.openpty()
+    done = subprocess.run([script, *words], stdin=subprocess.DEVNULL, stdout=subprocess.DEVNULL, stderr=theirs, cwd=HERE)
+    os.close(theirs)
+    told = b""
+    try:
+        while piece := os.read(ours, 4096):
+            told += piece
+    except OSError:
+        pass
+    os.close(ours)
+    return done.returncode, told.decode().replace("\r\n", "\n").split("\n")[:-1]
+
+
+def is_line(words):
+    """Whether the words are a line of the table, or a session."""
+    if not words or words[0].startswith("-"):
+        return False
+    command = words[1] if words[1:] and words[1] in COMMANDS else None
+    places, forms = COMMANDS.get(command, ("", []))
+    rest = words[2:] if command else words[1:]
+    for place in places.split():
+        if rest and not (place == "[QUERY]" and rest[0].startswith("--")):
+            rest = rest[1:]
+        elif place != "[QUERY]":
+            return False
+    given = []
+    while rest:
+        option, *rest = rest
+        if option == "--wait":
+            if not rest or not re.fullmatch("[0-9]+", rest[0]) or int(rest.pop(0)) >= 2 ** 64:
+                return False
+        elif option not in forms:
+            return False
+        given.append(option)
+    return len(given) == len(set(given)) and not {"--canonical", "--bson"} <= set(given)
+
+
+def lines_of_command(command, places):
+    """Lines of a command: with each list of options, its own or another's, and with one word more, less or else."""
+    for form in {places, places.replace("[QUERY]", "").strip(), places.replace("[QUERY]", "--q")}:
+        line = ["f", command, *form.replace("[QUERY]", "q").split()]
+        for count in range(3):
+            for some in itertools.permutations(OPTIONS, count):
+                yield [*line, *" ".join(some).split()]
+        for place in range(len(line)):
+            yield line[:place] + line[place + 1:]
+            for word in "", "-", "--wait", "--canonical", "insert":
+                yield line[:place] + [word] + line[place:]
+                yield line[:place] + [word] + line[place + 1:]
+        yield [*line, "--wait", "1", "--wait", "2"]
+
+
+def all_lines():
+    """Lines of each command, with numbers of seconds, and by chance."""
+    for command, (places, _) in COMMANDS.items():
+        yield from lines_of_command(command, places)
+    for seconds in ["0", "007", "18446744073709551615", "18446744073709551616", "018446744073709551615", "1844674407370955161", "+5", "5s",
+                    "-1", " 5", "", "99999999999999999999", "18446744073809551615", "0" * 30 + "5"]:
+        yield ["f", "--wait", seconds]
+        yield ["f", "collections", "--wait", seconds]
+    chance = random.Random(1)
+    words = [*COMMANDS, *OPTIONS[:3], "--wait", "5", "f", "c", "{}", "", "-", "--", "-x", "insert--canonical", "get c"]
+    for _ in range(600):
+        yield chance.choices(words, k=chance.randrange(6))
+
+
+# Before anything is built, help is printed: of the program, and of each command its words, options, examples and refusals.
+there = checkout()
+script = there / "fallowtime"
+section = {}
+for part in (ROOT / "tools/fallowtime_help.txt").read_text().split("\n== ")[1:]:
+    title, _, text = part.partition("\n")
+    section[title] = text if text.endswith("\n") else text + "\n"
+holds("the sections of the help", sorted(section), sorted(["fallowtime", *COMMANDS, "every command"]))
+holds("--version", run(script, "--version"), (0, "fallowtime 1.2.3 (not built yet)\n", ""))
+for words in ["--help"], ["-h"]:
+    holds(f"{words}", run(script, *words), (0, section["fallowtime"], ""))
+listed = re.findall(r"^  ([a-z]+)((?: [A-Z\[\]]+)*)(?:  |$)", section["fallowtime"], re.M)
+holds("the commands of the help", listed, [(name, f" {places}" if places else "") for name, (places, _) in COMMANDS.items()])
+kinds = run(script, "--explain")[2].split("the kinds are: ")[1].split()
+for name, (places, forms) in COMMANDS.items():
+    out = section[name] + section["every command"]
+    for words in [name, "--help"], ["--help", name], [name, "-h"]:
+        holds(f"{words}", run(script, *words), (0, out, ""))
+    usage = " ".join(["fallowtime FILE", name, *places.split(), *([f"[{' | '.join(forms)}]"] if forms else []), "[--wait SECONDS]"])
+    holds(f"{name}: its words", out.split("\n")[0], usage)
+    holds(f"{name}: its options", re.findall(r"^  (--[a-z]+)", out, re.M), [*forms, "--wait"])
+    examples = re.findall(rf"^    (?:.* )?fallowtime \S+ {name}(?: .*)?$", out, re.M)
+    holds(f"{name}: its examples", len(examples), 2)
+    for example in examples:
+        text = "set -- " + re.split(" [<>|] ", example)[0] + r"; printf '%s\n' " + '"$@"'
+        words = subprocess.run(["bash", "-c", text], capture_output=True, text=True, cwd=HERE).stdout.split("\n")[1:-1]
+        holds(f"{name}: {example.strip()} is a line", is_line(words), True)
+    named = re.findall(r"[A-Z][a-z]+[A-Za-z]+|words: [A-Za-z]+", re.search(r"^May be refused: ([^.]*)\.", out, re.M)[1])
+    holds(f"{name}: refusals that aren't explained", [kind for kind in named if kind.removeprefix("words: ") not in kinds], [])
+named = re.findall(r"[A-Z]\w+", section["every command"].split(":", 1)[1].split(" fallowtime ")[0].replace("FILE", ""))
+holds("every command: refusals that aren't explained", [kind for kind in named if kind not in kinds], [])
+holds("the columns of the help", [line for text in section.values() for line in text.split("\n") if len(line) > 84], [])
+
+# Each kind of refusal is explained, in the words of the page.
+page = re.sub(r"\[([^\][]*)\]\([^)]*\)", r"\1", (ROOT / "docs/REFUSALS.md").read_text())
+store = (ROOT / "crates/store_model/src/error.rt").read_text()
+fault = re.search(r"pub enum FileError \{(.*?)\n\}", (ROOT / "crates/cli_files/src/fault.rt").read_text(), re.S)[1]
+unread = ["JSON", "usage", "id", "query", "line", "Words", "NotJson", "RepeatedKey", "InvalidObjectId", "NumberOutOfRange", "NotExtendedJson",
+          "MalformedValue", "Utf8EncodingError"]
+for kind in [*re.findall(r'^            ErrorKind::.* => "(\w+)",$', store, re.M), *re.findall(r"^    ([A-Z]\w+),$", fault, re.M), *unread]:
+    holds(f"{kind} is a kind", kind in kinds, True)
+for kind in kinds:
+    status, out, errors = run(script, "--explain", kind)
+    items = [line[2:] for line in out.split("\n") if line.startswith("  ")]
+    holds(f"--explain {kind}", (status, bool(items), kind in out, [line for line in items if line not in page], errors), (0, True, True, [], ""))
+for words in ["refused: Busy document 7"], ["refused:", "Busy"], ["Busy"]:
+    holds(f"--explain {words}", run(script, "--explain", *words)[1].split()[:2], ["fallowtime:", "`Busy`:"])
+for words in ["frob"], [""], ["."], ["busy"], ["NoFil"], []:
+    status, out, errors = run(script, "--explain", *words)
+    holds(f"--explain {words}", (status, out, errors.split("\n")[0], errors.split(": ")[2:3]), (2, "", USAGE[:-1], ["the kinds are"]))
+
+# Words that are no line of the table are refused before anything is built, and all others reach the program.
+for words in [], ["--versoin"], ["--explain", "Busy", "x"], ["--help", "frob"], ["frob", "--help"], ["f", "get", "c"], ["f", "frob"], ["-x", "collections"]:
+    holds(f"{words}", run(script, *words)[::2], (2, USAGE))
+holds("no program, and nothing to build one", run(script, "f", "collections"),
+      (125, "", f"fallowtime: there is no program in {there}/program: install it anew\n"))
+holds("nothing was built or made", ((there / "target").exists(), os.listdir(HERE)), (False, []))
+build(there, "target/quick", "quick")
+holds("the version", run(script, "--version")[1], "fallowtime 1.2.3 (commit abcdef0, quick)\n")
+
+
+def knows_its_name():
+    """Whether the program that is given acts as fallowtime yet."""
+    if not PROGRAM:
+        return False
+    done = subprocess.run([PROGRAM, "none.db", "collections"], stdin=subprocess.DEVNULL, capture_output=True, cwd=HERE)
+    for path in HERE.iterdir():
+        path.unlink()
+    return done.stderr.startswith(b"refused: NoFile")
+
+
+def in_no_folder(words):
+    """The words with a FILE in a folder that isn't there, so that nothing is made."""
+    return [f"none/{words[0]}", *words[1:]] if words and not words[0].startswith("-") else words
+
+
+knows = knows_its_name()
+count = 0
+for words in all_lines():
+    wanted = (2, "", USAGE)
+    if is_line(words):
+        told = "fallowtime" + "".join(f" <{word}>" for word in words) + "\n"
+        wanted = (0, "orders\nold orders\nmore\n" if words[1:2] == ["collections"] else told, "")
+        count += 1
+    found = run(script, *words)
+    if found != wanted:
+        holds(f"the line {words}", found, wanted)
+    if knows and words:
+        done = subprocess.run([PROGRAM, *in_no_folder(words)], stdin=subprocess.DEVNULL, capture_output=True, cwd=HERE)
+        if (done.stderr.decode() == USAGE) == is_line(words):
+            holds(f"the program on {words}", done.stderr.decode(), "another line" if is_line(words) else USAGE)
+print(f"{count} lines of the table, {'also by the program' if knows else 'none of them tried by a program of this name'}")
+
+# On a terminal one line more names what is nearest.
+for words, hint in [
+    (["t.db", "isnert", "c", "{}"], "there is no command 'isnert', but there is insert; the commands are insert put replace get "),
+    (["t.db", "FIND", "c"], "there is no command 'FIND', but there is find; the commands are "),
+    (["t.db", "aggregate", "c"], "there is no command 'aggregate'; the commands are insert "),
+    (["t.db", "a\x1b[31mb\nc"], "there is no command 'a31mbc'; the commands are "),
+    (["t.db", "get", "c"], "the words are fallowtime FILE get COLL ID [--canonical | --bson] [--wait SECONDS]"),
+    (["t.db", "import", "c", "--canonical"], "the words are fallowtime FILE import COLL [--json] [--wait SECONDS]"),
+    (["insert", "orders", "{}"], "FILE comes first: fallowtime FILE insert COLL DOC [--canonical] [--wait SECONDS]"),
+    (["-t.db", "collections"], "a FILE that begins with - is written ./-x.db; "),
+    (["--versoin"], "a FILE that begins with - is written ./-x.db; --help, --version and "),
+    (["t.db", "--wait"], "the words are fallowtime FILE [--wait SECONDS]; fallowtime COMMAND --help says "),
+]:
+    status, told = told_at_terminal(script, *words)
+    holds(f"a hint for {words}", (status, len(told), told[0], told[1].startswith(f"fallowtime: {hint}") or told[1]), (2, 2, USAGE[:-1], True))
+status, told = told_at_terminal(script)
+holds("no words at a terminal", (status, told[:2]), (2, [USAGE[:-1], section["fallowtime"].split("\n")[0]]))
+
+# There an import is watched, and a signal reaches the program.
+for number in None, signal.SIGINT, signal.SIGTERM:
+    ours, theirs = pty.openpty()
+    process = subprocess.Popen([script, "t.db", "import", "lines", "--json"], stdin=subprocess.PIPE, stdout=subprocess.PIPE, stderr=theirs, cwd=HERE,
+                               env={**os.environ, "TERM": "vt100"}, start_new_session=True)
+    os.close(theirs)
+    told = b""
+    while b"\x1b[A\r" not in told:
+        told += os.read(ours, 4096)
+    holds("the progress of an import", told.decode().startswith("\r\n\x1b[Kfallowtime: 0 MB read, 0 MB written"), True)
+    if number:
+        process.send_signal(number)
+        holds(f"an import ended by {number.name}", (process.wait(60), process.stdout.read()), (-number, b""))
+        process.stdin.close()
+    else:
+        holds("an import", (process.communicate(b"{}\n{}\n")[0], process.returncode), (b"2\n", 0))
+    os.close(ours)
+
+# The page for man and the crate have the same commands and options.
+man = (ROOT / "man/fallowtime.1").read_text()
+shown = []
+for name, words in re.findall(r"^\.It Ic (\w+)(.*)$", man, re.M):
+    forms = re.findall(r"Fl (-[a-z]+)", words)
+    places = re.sub(r"Oo Ar (\w+) Oc|Op Ar (\w+)$", lambda found: f"Ar [{found[1] or found[2]}]", words.split(" Op Fl")[0])
+    shown.append((name, (" ".join(re.findall(r"[A-Z\[\]]{2,}", places)), [f"-{form}" for form in forms])))
+holds("the commands of the page", shown, list(COMMANDS.items()))
+holds("the options of the page", sorted(re.findall(r"^\.It Fl -([a-z]+)", man, re.M)), ["bson", "canonical", "explain", "help", "json", "version", "wait"])
+source = (ROOT / "crates/fallowtime_words/src/command.rt").read_text()
+holds("the commands of the crate", re.findall(r'^            "([a-z]+)" => Some\(Command::', source, re.M), list(COMMANDS))
+for tool, words in ("mandoc", ["-T", "lint", "-W", "warning"]), ("groff", ["-mdoc", "-Tutf8", "-z", "-ww"]):
+    if shutil.which(tool):
+        done = subprocess.run([tool, *words, ROOT / "man/fallowtime.1"], capture_output=True, text=True)
+        holds(f"the page by {tool}", done.stdout + done.stderr, "")
+
+
+def completions(program, line):
+    """What bash completes a line to, whose last word is where the cursor is."""
+    words = " ".join(f"'{word}'" for word in ["fallowtime", *line])
+    text = f'. "{ROOT}/completions/fallowtime.bash"; COMP_WORDS=({words}); COMP_CWORD={len(line)}; _fallowtime "{program}"; printf "%s\\n" "${{COMPREPLY[@]}}"'
+    done = subprocess.run(["bash", "-c", text], capture_output=True, text=True, cwd=HERE)
+    return done.stderr or done.stdout.split("\n")[:-1]
+
+
+(HERE / "shop.db").touch()
+(HERE / "my shop.db").touch()
+for line, wanted in [
+    (["sh"], ["shop.db"]),
+    (["--"], ["--help", "--version", "--explain"]),
+    (["ins"], ["insert"]),
+    (["--explain", "No"], [kind for kind in kinds if kind.startswith("No")]),
+    (["shop.db", ""], list(COMMANDS)),
+    (["shop.db", "re"], ["replace", "remove"]),
+    (["shop.db", "--"], ["--wait", "--help"]),
+    (["shop.db", "get", "o"], ["orders", "old\\ orders"]),
+    (["shop.db", "get", "old\\ "], ["old\\ orders"]),
+    (["my\\ shop.db", "find", "m"], ["more"]),
+    (["none.db", "find", "m"], [""]),
+    (["shop.db", "find", "more", "--"], ["--canonical", "--bson", "--wait"]),
+    (["shop.db", "find", "more", "--bson", "--"], ["--canonical", "--wait"]),
+    (["shop.db", "insert", "more", "{}", "--"], ["--canonical", "--wait"]),
+    (["shop.db", "insert", "more", "--"], [""]),
+    (["shop.db", "import", "more", ""], ["--json", "--wait"]),
+    (["shop.db", "set", "more", "1", "k", "v", ""], ["--wait"]),
+    (["shop.db", "collections", ""], ["--wait"]),
+    (["shop.db", "collections", "--wait", ""], [""]),
+    (["shop.db", "backup", "sh"], ["shop.db"]),
+]:
+    holds(f"completed {line}", completions(script, line), wanted)
+for path in HERE.iterdir():
+    path.unlink()
+
+# ./install prints each file that it puts, and puts none in the place of somebody else's.
+prefix = FOLDER / "a prefix"
+for words in ["-x"], ["a", "b"], ["--remove", "a", "b"], ["--remove", "--remove"]:
+    holds(f"install {words}", run(there / "install", *words), (2, "", "install: the words are [--remove] [PREFIX]\n"))
+holds("nothing to remove", run(there / "install", "--remove", prefix), (1, "", f"install: nothing is installed in {prefix}\n"))
+for name in "bin/bson_json", "share/man/man1/fallowtime.1":
+    write(prefix / name, "somebody else's")
+    status, out, errors = run(there / "install", prefix)
+    holds(f"{name} is there", (status, out, errors.split("\n")[0], files(prefix)), (1, "", f"{prefix}/{name}", [f"{prefix}/{name}"]))
+    (prefix / name).unlink()
+os.umask(0o077)
+status, out, errors = run(there / "install", prefix)
+os.umask(0o022)
+holds("installed", (status, errors), (0, f"install: fallowtime 1.2.3 (commit abcdef0, quick)\ninstall: {prefix}/bin isn't on the path\n"))
+holds("each file is printed", lines_of(out), files(prefix))
+for path in map(pathlib.Path, files(prefix)):
+    wanted = 0o755 if path.name in [*NAMES, "install"] and "share" not in path.parts else 0o644
+    holds(f"the mode of {path.relative_to(prefix)}", oct(stat.S_IMODE(path.stat().st_mode)), oct(wanted))
+holds("one program", len({(prefix / "lib/fallowtime/program" / name).stat().st_ino for name in NAMES}), 1)
+(there / "target/quick/bson_store.build").unlink()
+status, out, errors = run(there / "install", prefix, PATH=f"{prefix}/bin:{os.environ['PATH']}")
+holds("without a record", (status, errors, run(prefix / "bin/fallowtime", "--version")[1]),
+      (0, "install: fallowtime 1.2.3 (commit unknown, quick)\n", "fallowtime 1.2.3 (commit unknown, quick)\n"))
+build(there, "crates/bson_store_cli/out", "proved")
+put = files(prefix)
+status, out, errors = run(there / "install", os.path.relpath(prefix, HERE), PATH=f"{HERE}/../a prefix/bin:{os.environ['PATH']}")
+holds("installed over it, the proved one", (status, errors), (0, "install: fallowtime 1.2.3 (commit abcdef0, proved)\n"))
+holds("the same files", (sorted(map(os.path.realpath, lines_of(out))), files(prefix)), (sorted(map(os.path.realpath, put)), put))
+
+# What is put runs without the checkout.
+gone = FOLDER / "gone"
+there.rename(gone)
+holds("a command", run(prefix / "bin/fallowtime", "f", "get", "c", "a b"), (0, "fallowtime <f> <get> <c> <a b>\n", ""))
+holds("another program", run(prefix / "bin/bson_json", "--canonical"), (0, "bson_json <--canonical>\n", ""))
+for name in NAMES:
+    holds(f"{name} --version", run(prefix / "bin" / name, "--version"), (0, f"{name} 1.2.3 (commit abcdef0, proved)\n", ""))
+    status, out, errors = run(prefix / "bin" / name, "--help")
+    holds(f"{name} --help", (status, out.split()[0], "README" in out, errors), (0, name, False, ""))
+holds("help", run(prefix / "bin/fallowtime", "insert", "--help")[1], section["insert"] + section["every command"])
+holds("an explanation", run(prefix / "bin/fallowtime", "--explain", "NoFile")[1].split()[:2], ["fallowtime:", "`NoFile`:"])
+holds("its words", run(prefix / "bin/fallowtime", "f", "get", "c"), (2, "", USAGE))
+(HERE / "link").symlink_to(prefix / "bin/fallowtime")
+holds("by a link", run(HERE / "link", "f"), (0, "fallowtime <f>\n", ""))
+(HERE / "shop.db").touch()
+holds("completed", completions(prefix / "bin/fallowtime", ["shop.db", "get", "mo"]), ["more"])
+for name in NAMES:
+    (prefix / "lib/fallowtime/program" / name).rename(FOLDER / name)
+holds("without its program", run(prefix / "bin/fallowtime", "f"),
+      (125, "", f"fallowtime: there is no program in {prefix}/lib/fallowtime/program: install it anew\n"))
+for name in NAMES:
+    (FOLDER / name).rename(prefix / "lib/fallowtime/program" / name)
+
+# It is taken away, also by what was put, and what somebody else put stays.
+write(prefix / "bin/other", "somebody else's")
+put = files(prefix)
+status, out, errors = run(prefix / "lib/fallowtime/install", "--remove", prefix)
+holds("removed", (status, lines_of(out), errors), (0, [path for path in put if not path.endswith("/other")], ""))
+holds("what is left", (files(prefix), (prefix / "lib/fallowtime").exists()), ([f"{prefix}/bin/other"], False))
+home = FOLDER / "home"
+holds("by default", (run(gone / "install", HOME=str(home))[0], (home / ".local/bin/fallowtime").is_symlink()), (0, True))
+write(home / ".local/lib/fallowtime/notes", "somebody else's")
+(home / ".local/bin/bson_json").unlink()
+write(home / ".local/bin/bson_json", "somebody else's")
+status, out, errors = run(gone / "install", "--remove", HOME=str(home))
+holds("files of somebody else", (status, errors.split(" ")[1:], files(home)),
+      (1, f"{home}/.local/lib/fallowtime is there still, with what isn't of the installation or can't be deleted\n".split(" "),
+       [f"{home}/.local/bin/bson_json", f"{home}/.local/lib/fallowtime/notes"]))
+print("all as it should be")
