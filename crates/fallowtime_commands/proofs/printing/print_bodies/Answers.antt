@@ -1,4 +1,4 @@
-use Rattle.std.proofs.Common.{◌≡◌, ℕ, suc, List, map, take, drop, Vec, Global, arith}
+use Rattle.std.proofs.Common.{◌≡◌, ◌∙◌, ap, ℕ, suc, List, map, take, drop, Vec, Global, arith}
 use Rattle.std.proofs.lemmas.Result.{err_from_is_err_and}
 use Rattle.bson_base.specs.Value.{Members}
 use Rattle.bson_bytes.specs.Encode.{encode}
@@ -20,7 +20,7 @@ returns-in_err-print_body g c =
       map (λ (v : Vec ℕ Global). v.items) (drop (suc i) bodies),
       so_far.0,
       tally c.loop-body.output,
-      between (λ (v : Vec ℕ Global). v.items) (λ part body. (d : Members) → IsKept d → body ≡ encode d → IsPrinted c.args.form d part) bodies i _ c.as_slice.result.now (let h = c.loop-body-test.true in omega arith) c.as_slice.ensures.value,
+      between (λ (v : Vec ℕ Global). v.items) (λ part body. (d : Members) → IsKept d → body ≡ encode d → IsPrinted c.args.form d part) bodies i _ c.as_slice.result.now (let h = c.loop-body-test.true in omega arith) (c.as_slice.ensures.value ∙ ap (λ (v : Vec ℕ Global). v.items) c.body-item.is),
       so_far.1,
       so_far.2,
       c.in_err-print_body.ensures,
@@ -31,4 +31,4 @@ loop-body-preserved g c =
     let tally = g.O.Sink.tally in
     let printed = c.in_ok-print_body.ensures in
     more (λ (v : Vec ℕ Global). v.items) (λ part body. (d : Members) → IsKept d → body ≡ encode d → IsPrinted c.args.form d part) c.args.bodies.now c.loop-body.body-index _ c.as_slice.result.now printed.0 (tally c.args.output.now) (tally c.loop-body.output) (tally c.print_body.new.output)
-    (let h = c.loop-body-test.true in omega arith) c.as_slice.ensures.value c.loop-body.invariant printed.1 printed.2
+    (let h = c.loop-body-test.true in omega arith) (c.as_slice.ensures.value ∙ ap (λ (v : Vec ℕ Global). v.items) c.body-item.is) c.loop-body.invariant printed.1 printed.2
