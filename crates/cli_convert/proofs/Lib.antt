@@ -1,4 +1,5 @@
-mod Parts
+pub mod Parts
 mod ToLines
+pub mod Takings
 mod ToBson
 mod Spoiled
