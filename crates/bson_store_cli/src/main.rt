@@ -1,12 +1,15 @@
 //! The programs, one under several names. `bson_store` does a command over a database file with words; without, it
 //! reads one document from standard input, keeps it in a new store, and writes what the store exports to standard
-//! output. `bson_session` keeps a database file open, does the commands of the lines of standard input, and returns each
+//! output. `fallowtime` does a command over a database file, with texts of JSON in and out. `bson_session` keeps a database file open, does the commands of the lines of standard input, and returns each
 //! by a line of standard output. `bson_json` turns BSON documents into lines of Extended JSON, and such lines into BSON.
 #![tactic(auto)]
 
 ghost use Rattle.std.specs.Prelude.{◌≡◌};
 
+mod asking;
 mod commands;
+mod ending;
+mod fallowtime;
 mod session;
 mod stack;
 mod words;
@@ -79,6 +82,25 @@ fn run_json(rt: &HostRuntime, words: &[String]) -> u8 {
     let_out(rt, output, status)
 }
 
+/// Does what the words ask of fallowtime, and returns the program's status.
+fn run_fallowtime<O: Write>(rt: &HostRuntime, words: &[String], output: &mut Counted<O>) -> u8
+    requires { output.old.failed ≡ 0 }
+{
+    let mut input = Counted::new(rt.stdin());
+    let mut faults = Counted::new(rt.stderr());
+    fallowtime::serve(rt, words, &mut input, output, &mut faults)
+}
+
+/// The program fallowtime over one command, whose output is gathered, behind its name.
+fn run_gathered(rt: &HostRuntime, words: &[String]) -> u8 {
+    let Ok(writer) = BufWriter::with_capacity(rt.alloc(), OUTPUT_ROOM, rt.stdout()) else {
+        return report(rt, ErrorKind::Memory);
+    };
+    let mut output = Counted::new(writer);
+    let status = run_fallowtime(rt, words, &mut output);
+    let_out(rt, output, status)
+}
+
 /// The program bson_session, whose every line of output goes out at once, behind its name.
 fn run_session(rt: &HostRuntime, words: &[String]) -> u8 {
     let mut input = Counted::new(rt.stdin());
@@ -94,6 +116,7 @@ fn start(rt: &HostRuntime, words: &[String]) -> u8 {
         return run_store(rt, words);
     };
     match program_of(name.as_str()) {
+        Program::Fallowtime => run_gathered(rt, words),
         Program::Session => run_session(rt, words),
         Program::Json => run_json(rt, words),
         Program::Store => run_store(rt, words),

@@ -1,4 +1,5 @@
 pub mod Parts
 mod ToLines
+pub mod Takings
 mod ToBson
 mod Spoiled

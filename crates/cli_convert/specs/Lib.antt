@@ -1,5 +1,6 @@
 pub mod Parts
 pub mod ToLines
+pub mod Lines
 pub mod ToBson
 pub mod Reports
 pub mod Program

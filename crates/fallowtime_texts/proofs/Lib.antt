@@ -1,2 +1,3 @@
 mod Identified
 mod Reading
+mod Adding

@@ -1,3 +1,4 @@
 pub mod Ids
 pub mod Made
 pub mod Printed
+pub mod Lines

@@ -1,7 +1,7 @@
 use Rattle.std.proofs.Common.{List, ℕ, Ok, subst}
 use Rattle.bson_json_read.specs.Reading.{ReadsText}
-use Rattle.cli_convert.proofs.ToBson.{text_read}
-use Rattle.cli_convert.proofs.lines.document_of.Goals as goal
+use Rattle.cli_convert.proofs.Takings.{text_read}
+use Rattle.cli_convert.proofs.taking.document_of.Goals as goal
 
 pub returns-in-Ok-document_of_text : goal.returns-in-Ok-document_of_text
 returns-in-Ok-document_of_text c =
