@@ -1,4 +1,4 @@
--- What an error says of a fault, and when an answer is the one that is given.
+-- What an error says of a fault, and when a result is the one that is given.
 use Rattle.std.specs.Prelude.{◌≡◌, ℕ, List, Some, None, Result, Ok, Err, IsSomeAnd, string_bytes}
 use Rattle.json.specs.Json.{Json, document as tree_of}
 use Rattle.json.specs.Strict.{HasUniqueKeys}
@@ -25,7 +25,7 @@ Fails (Operand k) r = r ≡ Err (no_operand (string_bytes k))
 Fails (NoJson n) r = ⊥
 Fails RepeatedKey r = ⊥
 
--- the answer x, seen by `view`, is the one that is given, or its fault is
+-- the result, seen by `view`, is the one that is given, or its error names the fault that is
 abbrev pub Gives : {X Y : Type 0} → (X → Y) → Result X QueryError → Result Y Fault → Type 0
 Gives view (Ok x) r = r ≡ Ok (view x)
 Gives view (Err e) r = Fails e r

@@ -1,4 +1,4 @@
--- A number of JSON as a test: it stands for the number, whatever kind it is kept as.
+-- A number of JSON as a test: it is the number, whatever kind it is kept as.
 use Rattle.std.specs.Prelude.{ℕ, ◌+◌, ◌-◌, ◌*◌, ◌/◌, ◌%◌, ◌^◌, ◌==◌, ◌||◌, nat_lt, ℤ, pos, neg_ℤ, Bool, if◌then◌else◌, List, [], ◌∷◌, ◌++◌, Option, Some, None, option_map, option_and_then}
 use Rattle.std.specs.Ordering.{int_eq}
 use Rattle.bson_base.specs.Doubles.{exponent, fraction, is_negative, is_zero}
@@ -46,7 +46,7 @@ as_double p None = []
 abbrev pub is_one_of : Path → Option ℤ → Option ℕ → Filter
 is_one_of p w d = any_of (tests_of (as_wholes p w ++ as_double p d))
 
--- the double, where it is just that whole number
+-- the double, if it is exactly that whole number
 abbrev pub if_same : ℤ → ℕ → Option ℤ → Option ℕ
 if_same z n (Some y) = if int_eq y z then Some n else None
 if_same z n None = None

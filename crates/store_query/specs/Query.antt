@@ -27,7 +27,7 @@ pub data Fault : Type 0 where
   no_query : Fault
   -- there is no operator of this name here
   no_operator : List ℕ → Fault
-  -- what stands under this path or operator doesn't belong there
+  -- the value under this path or operator doesn't belong there
   no_operand : List ℕ → Fault
 
 -- ---- words
@@ -55,11 +55,11 @@ abbrev pub are_operators : json.Members → Bool
 are_operators json.no_members = false
 are_operators (json.member k j js) = begins_with_dollar k && not (is_reserved k)
 
--- what stands between the dots
+-- what is between the dots
 abbrev pub keys : List ℕ → Path
 keys p = slice_split (λ b. b == 46) p
 
--- ---- values under a path p, where a fault names k
+-- ---- values under a path p; a fault names k
 
 abbrev pub some_or_fault : {A : Type 0} → List ℕ → Option A → Result A Fault
 some_or_fault k (Some x) = Ok x
@@ -101,9 +101,9 @@ abbrev pub among : List ℕ → List ℕ → Json → Result Filter Fault
 among p k (json.array js) = each_value p k js >>= λ fs. Ok (any_of (tests_of fs))
 among p k _ = Err (no_operand k)
 
-abbrev pub stands : List ℕ → List ℕ → Json → Result Filter Fault
-stands p k (json.boolean b) = Ok (if b then exists (keys p) else no (exists (keys p)))
-stands p k _ = Err (no_operand k)
+abbrev pub is_there : List ℕ → List ℕ → Json → Result Filter Fault
+is_there p k (json.boolean b) = Ok (if b then exists (keys p) else no (exists (keys p)))
+is_there p k _ = Err (no_operand k)
 
 -- ---- kinds
 
@@ -137,7 +137,7 @@ test p o (Some Eq) j negation = is_value p o j
 test p o (Some Ne) j negation = is_plain_value p o j >>= λ f. Ok (no f)
 test p o (Some In) j negation = among p o j
 test p o (Some Nin) j negation = among p o j >>= λ f. Ok (no f)
-test p o (Some Exists) j negation = stands p o j
+test p o (Some Exists) j negation = is_there p o j
 test p o (Some Kind) j negation = has_kinds p o j
 test p o (Some Not) j negation = negation
 

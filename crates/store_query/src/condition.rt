@@ -5,7 +5,7 @@ ghost use Rattle.json.specs.Json.{object};
 ghost use Rattle.json.specs.Value.{items_view, members_view, value_view as data_of};
 ghost use Rattle.store_filter.specs.Filters.{filter_of};
 ghost use Rattle.store_query.specs.Faults.{Gives};
-ghost use Rattle.store_query.specs.Query.{among as among_at, condition as condition_at, each_kind as each_kind_at, each_value as each_value_at, has_kind as has_kind_at, has_kinds as has_kinds_at, is_a_number as number_kinds, is_plain_value as is_plain_value_at, is_value as is_value_at, keys, negated as negated_at, of_kind as of_kind_at, operator_of, stands as stands_at, test as test_at, tests as tests_at};
+ghost use Rattle.store_query.specs.Query.{among as among_at, condition as condition_at, each_kind as each_kind_at, each_value as each_value_at, has_kind as has_kind_at, has_kinds as has_kinds_at, is_a_number as number_kinds, is_plain_value as is_plain_value_at, is_value as is_value_at, keys, negated as negated_at, of_kind as of_kind_at, operator_of, is_there as is_there_at, test as test_at, tests as tests_at};
 
 use crate::error::{QueryError, operand, operator};
 use crate::kinds::{kind_named, kind_numbered};
@@ -74,9 +74,9 @@ fn among(alloc: Global, path: &str, key: &str, tree: &Value<'_>) -> Result<Filte
     }
 }
 
-/// The test that a value stands at the path, or none.
-fn stands(alloc: Global, path: &str, key: &str, tree: &Value<'_>) -> Result<Filter, QueryError>
-    ensures { Gives filter_of result (stands_at path.now key.now (data_of tree.now)) }
+/// The test that there is a value at the path, or that there is none.
+fn is_there(alloc: Global, path: &str, key: &str, tree: &Value<'_>) -> Result<Filter, QueryError>
+    ensures { Gives filter_of result (is_there_at path.now key.now (data_of tree.now)) }
 {
     match tree {
         Value::Bool(true) => exists(alloc, path),
@@ -85,7 +85,7 @@ fn stands(alloc: Global, path: &str, key: &str, tree: &Value<'_>) -> Result<Filt
     }
 }
 
-/// The test that a number stands at the path.
+/// The test that the value at the path is a number.
 fn is_a_number(alloc: Global, path: &str) -> Result<Filter, QueryError>
     ensures { Gives filter_of result (Ok (number_kinds (keys path.now))) }
 {
@@ -111,7 +111,7 @@ fn of_kind(
     }
 }
 
-/// The test that a value of a kind stands at the path, by the kind's name or number.
+/// The test that the value at the path is of a kind, which has a name and a number.
 fn of_type(alloc: Global, path: &str, key: &str, tree: &Value<'_>) -> Result<Filter, QueryError>
     ensures { Gives filter_of result (has_kind_at path.now key.now (data_of tree.now)) }
 {
@@ -144,7 +144,7 @@ fn each_type(
     Ok(filters)
 }
 
-/// The test that a value of a kind, or of one of several, stands at the path.
+/// The test that the value at the path is of a kind, or of one of several.
 fn of_types(alloc: Global, path: &str, key: &str, tree: &Value<'_>) -> Result<Filter, QueryError>
     ensures { Gives filter_of result (has_kinds_at path.now key.now (data_of tree.now)) }
 {
@@ -195,7 +195,7 @@ fn test(alloc: Global, path: &str, key: &str, body: &Value<'_>) -> Result<Filter
         Some(Operator::Ne) => not(alloc, is_plain_value(alloc, path, key, body)?),
         Some(Operator::In) => among(alloc, path, key, body),
         Some(Operator::Nin) => not(alloc, among(alloc, path, key, body)?),
-        Some(Operator::Exists) => stands(alloc, path, key, body),
+        Some(Operator::Exists) => is_there(alloc, path, key, body),
         Some(Operator::Kind) => of_types(alloc, path, key, body),
         Some(Operator::Not) => negated(alloc, path, key, body),
         None => Err(operator(alloc, key)),

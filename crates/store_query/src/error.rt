@@ -16,7 +16,7 @@ pub enum QueryError {
     /// An object in the text has a key twice.
     #[error("a key comes twice")]
     RepeatedKey,
-    /// Something else than an object stands where a query has to be.
+    /// What should be a query is no object.
     #[error("a query is an object")]
     Query,
     /// There is no operator of this name at this place.

@@ -1,12 +1,13 @@
 //! Laws on queries: each is the contract of a function that does nothing.
 
-ghost use Rattle.std.specs.Prelude.{◌≡◌, ◌↔◌, ◌<◌, ◌*◌, ◌^◌, ℕ, ℤ, nat_abs, List, codes, Some, Ok};
+ghost use Rattle.std.specs.Prelude.{◌≡◌, ◌↔◌, ◌<◌, ◌*◌, ◌^◌, ℕ, ℤ, nat_abs, List, codes, Some, Ok, IsTrue};
 ghost use Rattle.json.specs.Json.{Json, Items, Members, array, member, no_members, object};
 ghost use Rattle.bson_base.specs.Doubles.{exponent};
-ghost use Rattle.bson_base.specs.Value.{Value};
+ghost use Rattle.bson_base.specs.Value.{Value, regex, scalar};
+ghost use Rattle.bson_json_read.specs.Reading.{read};
 ghost use Rattle.store_model.specs.Filter.{Filter, Selects};
 ghost use Rattle.store_query.specs.Numbers.{digits, whole_of};
-ghost use Rattle.store_query.specs.Query.{condition, query};
+ghost use Rattle.store_query.specs.Query.{condition, is_expression, query};
 
 /// A query without entries selects every document.
 pub fn empty_queries_select_all()
@@ -41,4 +42,9 @@ pub fn first_entries_may_change_places()
 pub fn wholes_are_exact()
     ensures { (n : ℕ) (z : ℤ) → whole_of n ≡ Some z → 0 < exponent n
         → nat_abs z * 2 ^ 1075 ≡ digits n * 2 ^ exponent n }
+{}
+
+/// What reads as a regular expression is taken for one, so it is refused wherever it isn't under `$eq`.
+pub fn expressions_are_seen()
+    ensures { (j : Json) (t o : List ℕ) → read j ≡ Ok (scalar (regex t o)) → IsTrue (is_expression j) }
 {}

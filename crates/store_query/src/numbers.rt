@@ -68,7 +68,7 @@ fn whole_of(double: DoubleBits) -> Option<i64>
     signed(double.is_negative(), size)
 }
 
-/// The double, where it is just this number.
+/// The double, if it is exactly this number.
 fn if_same(number: i64, double: DoubleBits) -> Option<DoubleBits>
     ensures { option_map (λ d. d.0) result ≡ same_only number double.0 (whole_at double.0) }
 {

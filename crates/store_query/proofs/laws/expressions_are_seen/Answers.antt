@@ -1,0 +1,5 @@
+use Rattle.store_query.proofs.Expressions.{expression_seen}
+use Rattle.store_query.proofs.laws.expressions_are_seen.Goals as goal
+
+pub returns : goal.returns
+returns c = expression_seen
