@@ -3,7 +3,7 @@
 ghost use Rattle.bson_base.specs.Device.{CanRefuse};
 
 use bson_store::{ErrorKind, Sink};
-use cli_convert::{Stop as LineStop, report};
+use cli_convert::{Stop as LineStop, report_end};
 use cli_files::{FileError, report_file};
 use bson_base::write_all;
 use fallowtime_commands::{Refusal, Stop, Unread};
@@ -77,7 +77,7 @@ pub fn tell<F: Sink>(rt: &HostRuntime, faults: &mut F, ended: Ended) -> u8
             tell_line(faults, unread.line(rt.alloc()));
             2
         }
-        Ended::Lines(stop) => report(rt.alloc(), Err(stop), faults),
+        Ended::Lines(stop) => report_end(rt.alloc(), Err(stop), faults),
         Ended::Refused(refusal) => {
             tell_line(faults, refusal.line(rt.alloc()));
             1

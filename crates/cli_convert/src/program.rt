@@ -7,7 +7,7 @@ ghost use Rattle.cli_convert.specs.Reports.{SendsWhole};
 
 use crate::documents::write_lines;
 use crate::lines::write_documents;
-use crate::report::{MISUSED, put, report};
+use crate::report::{MISUSED, put, report_end};
 use crate::stop::Stop;
 use bson_base::{Sink, Source, write_all};
 use bson_model::extjson::Mode;
@@ -85,9 +85,9 @@ pub fn convert<I: Source, O: Sink, F: Sink>(
         (F.tally faults.old) (F.tally faults.new) result }
 {
     match task_of(words) {
-        Some(Task::ToLines(mode)) => report(alloc, write_lines(alloc, mode, input, output), faults),
-        Some(Task::ToBson) => report(alloc, write_documents(alloc, input, output), faults),
-        Some(Task::Help) => report(alloc, help(output), faults),
+        Some(Task::ToLines(mode)) => report_end(alloc, write_lines(alloc, mode, input, output), faults),
+        Some(Task::ToBson) => report_end(alloc, write_documents(alloc, input, output), faults),
+        Some(Task::Help) => report_end(alloc, help(output), faults),
         None => {
             put(faults, b"words: usage\n");
             MISUSED

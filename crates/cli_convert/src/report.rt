@@ -163,7 +163,7 @@ fn tell<F: Sink>(alloc: Global, stop: &Stop, faults: &mut F)
 }
 
 /// Reports why a conversion ended before its input did, and returns the program's status.
-pub fn report<F: Sink>(alloc: Global, done: Result<(), Stop>, faults: &mut F) -> u8
+pub fn report_end<F: Sink>(alloc: Global, done: Result<(), Stop>, faults: &mut F) -> u8
     requires { CanRefuse (F.tally faults.old) }
     ensures { Reports done (F.tally faults.old) (F.tally faults.new) result }
 {

@@ -2,7 +2,11 @@
 
 ghost use Rattle.std.specs.Prelude.{IfOk};
 ghost use Rattle.store_table.specs.Moves.{WasOpen};
-ghost use Rattle.bson_store.specs.Calls.{store_state, Relates};
+ghost use Rattle.bson_model.specs.View.{content};
+ghost use Rattle.store_model.specs.Reading.{KeepsGiven, Reading};
+ghost use Rattle.bson_store.specs.Calls.{store_state, PutsGiven, Relates};
+ghost use Rattle.bson_store.specs.Left.{LeavesPut};
+ghost use Rattle.bson_store.specs.Refusals.{as_done, reply_by};
 ghost use Rattle.fallowtime_commands.specs.Performing.{IsAnswerTo, LeavesRequest, Performs, reply_of};
 
 use crate::answer::{Answer, document, documents, flag, inserted, names, nothing, number};
@@ -11,6 +15,19 @@ use bson_store::{Bson, Document, Store, StoreError};
 use sqlite::Alter;
 use std::alloc::Global;
 use std::mem::replace;
+
+/// Puts a document in. It stands apart from `perform`, so that a wrong body is refused in seconds.
+fn put<S: Alter + Drop>(
+    store: &mut Store<S>,
+    name: &str,
+    document: Document,
+) -> Result<(), StoreError>
+    ensures moves { Relates S.Store store.old store.new (PutsGiven name.now (content document) (reply_by as_done result)) }
+    ensures open { WasOpen (store_state S.Store store.old) (store_state S.Store store.new) result }
+    ensures crash { (x : Reading) → KeepsGiven (content document) x → LeavesPut name.now x (reply_by as_done result) (store_state S.Store store.old) (store_state S.Store store.new) }
+{
+    store.put_document(name, document)
+}
 
 /// Does what is requested of the collection `name`: the call of the store for it. What goes into the store is taken
 /// out of the request.
@@ -35,7 +52,7 @@ pub fn perform<S: Alter + Drop>(
         }
         Request::Put(given) => {
             let given = replace(given, Document::new(alloc));
-            nothing(store.put_document(name, given))
+            nothing(put(store, name, given))
         }
         Request::Replace(given) => {
             let given = replace(given, Document::new(alloc));
