@@ -37,8 +37,8 @@ pub fn first_entries_may_change_places()
         → query (object (member l j (member k i js))) ≡ Ok g → Selects f d ↔ Selects g d }
 {}
 
-/// The whole number that a double is taken for is the number that it stands for, except for its sign: its digits times 2
-/// to the power of its exponent less 1075 (IEEE 754-2008, 3.4).
+/// The whole number that a double is taken for is the number that it is, except for its sign: its digits times 2 to the
+/// power of its exponent less 1075 (IEEE 754-2008, 3.4).
 pub fn wholes_are_exact()
     ensures { (n : ℕ) (z : ℤ) → whole_of n ≡ Some z → 0 < exponent n
         → nat_abs z * 2 ^ 1075 ≡ digits n * 2 ^ exponent n }

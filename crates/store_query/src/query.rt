@@ -16,10 +16,10 @@ use std::alloc::{AllocError, Global};
 use store_filter::Filter;
 
 /// The filter of a query, an object of MongoDB's query language: `{"customer.city":"Ulm","note":{"$exists":true}}`.
-/// All of its entries are asked. `Query` if it, or what `$and`, `$or` or `$nor` joins, is no object, `Operator` for a key
-/// that is no operator at its place, `Operand` for a value that doesn't belong under its path or operator, which is named,
-/// and `Memory` if a growth was refused, or a value has more than 1000 levels. It is the first of these faults in the order
-/// of the text.
+/// All of its entries are asked, both if a tree has two of one key. `Query` if it, or what `$and`, `$or` or `$nor`
+/// joins, is no object, `Operator` for a key that is no operator at its place, `Operand` for a value that doesn't
+/// belong under its path or operator, which is named, and `Memory` if a growth was refused, or a value has more than
+/// 1000 levels. It is the first of these faults in the order of the text.
 #[cycle(query)]
 pub fn query_of(alloc: Global, tree: &Value<'_>) -> Result<Filter, QueryError>
     ensures { Gives filter_of result (query (data_of tree.now)) }
@@ -110,8 +110,8 @@ fn fault_in(text: &str, scratch: &mut Scratch) -> Result<usize, AllocError> {
 }
 
 /// The filter of a text of JSON (RFC 8259). `scratch` is room that is kept from text to text. `Json` if the text is no
-/// JSON or nests deeper than 128 levels, with the byte, `RepeatedKey` if an object in it has a key twice; else the errors
-/// are those of `query_of`.
+/// JSON or nests deeper than 128 levels, with the byte, `RepeatedKey` if an object in it has a key twice; else the
+/// errors are those of `query_of`.
 pub fn read_query(alloc: Global, text: &str, scratch: &mut Scratch) -> Result<Filter, QueryError>
     ensures { IsQuery text.now result }
 {
