@@ -45,7 +45,7 @@ impl IdMaker {
     }
 
     /// A maker of the very ids that this one would make next. The caller lets one of both go.
-    pub(crate) fn copy(&self) -> IdMaker
+    pub fn copy(&self) -> IdMaker
         ensures { result ≡ self.now }
     {
         IdMaker {

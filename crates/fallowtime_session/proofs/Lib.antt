@@ -1,0 +1,5 @@
+pub mod Counting
+pub mod Identity
+pub mod Streams
+pub mod Texts
+pub mod Writing

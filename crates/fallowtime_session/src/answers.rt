@@ -1,0 +1,238 @@
+//! The lines that are answered.
+
+ghost use Rattle.std.specs.Prelude.{codes, decimal, map, string_bytes};
+ghost use Rattle.std.specs.Option.{option_map};
+ghost use Rattle.json.specs.Json.{array, boolean, no_members, number as number_form};
+ghost use Rattle.bson_model.specs.View.{view};
+ghost use Rattle.bson_store.specs.Export.{bytes_of_each};
+ghost use Rattle.fallowtime_session.specs.Answers.{IsLineOf, IsMember, Shows, ShowsBodies, ShowsBody, memory, one, refusal, texts, words};
+ghost use Rattle.fallowtime_session.specs.Objects.{IsWritable, Makes, MakesLine, ShowsFault, id_tree};
+ghost use Rattle.fallowtime_session.specs.Places.{place_text};
+
+use crate::bodies::{BodyFault, joined, push_bodies};
+use crate::objects::{begin, end, end_with, put_number};
+use crate::places::Place;
+use crate::questions::Layout;
+use bson_json::write_value;
+use bson_model::extjson::Mode;
+use bson_model::{Binary, BinarySubtype, Bson};
+use bson_store::StoreError;
+use bson_text::parts::put_text;
+use fallowtime_commands::Answer;
+use fallowtime_texts::{PrintFault, text_of_body};
+use json::Value;
+use std::alloc::{AllocError, Global};
+
+/// The line of a refusal: its kind, the place of the document of several, and the path of the key.
+fn refusal_line(
+    alloc: Global,
+    id: Option<&Value<'_>>,
+    kind: &str,
+    index: Option<u64>,
+    path: Option<&str>,
+) -> Result<Vec<u8>, AllocError>
+    requires { IsWritable id }
+    ensures { MakesLine (id_tree id.entry) (refusal kind.now index (option_map (λ t. t.now) path.entry)) result }
+{
+    let mut out = begin(alloc, id)?;
+    put_text(&mut out, "refused", kind)?;
+    if let Some(index) = index {
+        put_number(&mut out, "document", index)?;
+    }
+    if let Some(path) = path {
+        put_text(&mut out, "key", path)?;
+    }
+    end(out)
+}
+
+/// The line for out of memory.
+pub(crate) fn memory_line(alloc: Global, id: Option<&Value<'_>>) -> Result<Vec<u8>, AllocError>
+    requires { IsWritable id }
+    ensures { MakesLine (id_tree id.entry) memory result }
+{
+    refusal_line(alloc, id, "Memory", None, None)
+}
+
+/// The line for what is no question.
+pub(crate) fn words_line(
+    alloc: Global,
+    id: Option<&Value<'_>>,
+    place: &Place,
+) -> Result<Vec<u8>, AllocError>
+    requires { IsWritable id }
+    ensures { MakesLine (id_tree id.entry) (words (place_text place.now)) result }
+{
+    let text = place.text(alloc)?;
+    let mut out = begin(alloc, id)?;
+    put_text(&mut out, "refused", "Words")?;
+    put_text(&mut out, "at", text.as_str())?;
+    end(out)
+}
+
+/// The line of nothing.
+fn empty_line(alloc: Global, id: Option<&Value<'_>>) -> Result<Vec<u8>, AllocError>
+    requires { IsWritable id }
+    ensures { MakesLine (id_tree id.entry) no_members result }
+{
+    end(begin(alloc, id)?)
+}
+
+/// The line of a value.
+fn value_line(
+    alloc: Global,
+    id: Option<&Value<'_>>,
+    key: &str,
+    value: &Bson,
+) -> Result<Vec<u8>, AllocError>
+    requires { IsWritable id }
+    ensures { Makes (IsLineOf (id_tree id.entry) (IsMember key.now (view value.now))) result }
+{
+    let mut text = String::new(alloc);
+    write_value(alloc, value, Mode::Canonical, &mut text)?;
+    let mut out = begin(alloc, id)?;
+    out.key(key)?;
+    end_with(out, text.as_str())
+}
+
+/// The line of a truth value.
+fn flag_line(alloc: Global, id: Option<&Value<'_>>, flag: bool) -> Result<Vec<u8>, AllocError>
+    requires { IsWritable id }
+    ensures { MakesLine (id_tree id.entry) (one (codes "was_there") (boolean flag)) result }
+{
+    let mut out = begin(alloc, id)?;
+    out.key("was_there")?;
+    out.boolean(flag)?;
+    end(out)
+}
+
+/// The line of a number.
+fn number_line(alloc: Global, id: Option<&Value<'_>>, number: u64) -> Result<Vec<u8>, AllocError>
+    requires { IsWritable id }
+    ensures { MakesLine (id_tree id.entry) (one (codes "count") (number_form (decimal number))) result }
+{
+    let mut out = begin(alloc, id)?;
+    put_number(&mut out, "count", number)?;
+    end(out)
+}
+
+/// The line of names.
+fn names_line(
+    alloc: Global,
+    id: Option<&Value<'_>>,
+    names: &[String],
+) -> Result<Vec<u8>, AllocError>
+    requires { IsWritable id }
+    ensures { MakesLine (id_tree id.entry) (one (codes "names") (array (texts (map string_bytes names.now)))) result }
+{
+    let mut out = begin(alloc, id)?;
+    out.key("names")?;
+    out.begin_array()?;
+    for name in names {
+        out.string(name.as_str())?;
+    }
+    out.end_array()?;
+    end(out)
+}
+
+/// The line of the bytes of stored documents.
+fn stream_line(
+    alloc: Global,
+    id: Option<&Value<'_>>,
+    bodies: &[Vec<u8>],
+) -> Result<Vec<u8>, AllocError>
+    requires { IsWritable id }
+    ensures { Makes (ShowsBodies Layout.Stream (id_tree id.entry) (bytes_of_each bodies.now)) result }
+{
+    let bytes = joined(alloc, bodies)?;
+    let value = Bson::Binary(Binary {
+        subtype: BinarySubtype::Generic,
+        bytes,
+    });
+    value_line(alloc, id, "bytes", &value)
+}
+
+/// The line of a stored document that has no text.
+fn fault_line(
+    alloc: Global,
+    id: Option<&Value<'_>>,
+    index: Option<u64>,
+    fault: &PrintFault,
+) -> Result<Vec<u8>, AllocError>
+    requires { IsWritable id }
+    ensures { Makes (ShowsFault (id_tree id.entry) index fault.now) result }
+{
+    match fault {
+        PrintFault::ReservedKey(path) => {
+            refusal_line(alloc, id, "ReservedKey", index, Some(path.as_str()))
+        }
+        PrintFault::Damaged => refusal_line(alloc, id, "Database", index, None),
+        PrintFault::Memory => Err(AllocError),
+    }
+}
+
+/// The line of a stored document.
+fn document_line(
+    alloc: Global,
+    id: Option<&Value<'_>>,
+    body: &[u8],
+) -> Result<Vec<u8>, AllocError>
+    requires { IsWritable id }
+    ensures { Makes (ShowsBody (id_tree id.entry) body.now) result }
+{
+    let mut text = String::new(alloc);
+    match text_of_body(alloc, body, Mode::Canonical, &mut text) {
+        Ok(()) => {
+            let mut out = begin(alloc, id)?;
+            out.key("document")?;
+            end_with(out, text.as_str())
+        }
+        Err(fault) => fault_line(alloc, id, None, &fault),
+    }
+}
+
+/// The line of stored documents.
+fn documents_line(
+    alloc: Global,
+    id: Option<&Value<'_>>,
+    bodies: &[Vec<u8>],
+) -> Result<Vec<u8>, AllocError>
+    requires { IsWritable id }
+    ensures { Makes (ShowsBodies Layout.Each (id_tree id.entry) (bytes_of_each bodies.now)) result }
+{
+    let mut out = begin(alloc, id)?;
+    out.key("documents")?;
+    let mut line = out.into_inner();
+    line.push(b'[')?;
+    match push_bodies(alloc, bodies, &mut line) {
+        Ok(()) => {
+            line.extend_from_slice(b"]}\n")?;
+            Ok(line)
+        }
+        Err(BodyFault { index, fault }) => fault_line(alloc, id, Some(index), &fault),
+    }
+}
+
+/// The line of what the store returned.
+pub(crate) fn answer_line(
+    alloc: Global,
+    id: Option<&Value<'_>>,
+    layout: Layout,
+    outcome: &Result<Answer, StoreError>,
+) -> Result<Vec<u8>, AllocError>
+    requires { IsWritable id }
+    ensures { Makes (Shows layout (id_tree id.entry) outcome.now) result }
+{
+    match outcome {
+        Ok(Answer::Nothing) => empty_line(alloc, id),
+        Ok(Answer::Id(value)) => value_line(alloc, id, "_id", value),
+        Ok(Answer::Flag(flag)) => flag_line(alloc, id, *flag),
+        Ok(Answer::Number(number)) => number_line(alloc, id, *number),
+        Ok(Answer::Document(body)) => document_line(alloc, id, body.as_slice()),
+        Ok(Answer::Documents(bodies)) => match layout {
+            Layout::Each => documents_line(alloc, id, bodies.as_slice()),
+            Layout::Stream => stream_line(alloc, id, bodies.as_slice()),
+        },
+        Ok(Answer::Names(names)) => names_line(alloc, id, names.as_slice()),
+        Err(error) => refusal_line(alloc, id, error.kind.name(), error.document, None),
+    }
+}

@@ -1,0 +1,86 @@
+//! The session, over any devices.
+
+ghost use Rattle.std.specs.Prelude.{ℕ, List};
+ghost use Rattle.bson_base.specs.Device.{CanFail, CanRefuse};
+ghost use Rattle.bson_store.specs.Calls.{Relates};
+ghost use Rattle.cli_session_lines.specs.Line.{Keeps};
+ghost use Rattle.fallowtime_session.specs.Sessions.{Ends, Holds, Sends, Turn};
+ghost use Rattle.fallowtime_session.specs.Turns.{AnswersLine};
+
+use crate::turns::answer_of;
+use bson_base::{Sink, Source, write_all};
+use bson_store::{ErrorKind, Store};
+use cli_session_lines::{Kept, Line, Lines, Next};
+use fallowtime_texts::IdMaker;
+use json::Scratch;
+use sqlite::Alter;
+use std::alloc::Global;
+
+/// The answer if there is no memory for another one.
+const OUT_OF_MEMORY: &[u8; 21] = b"{\"refused\":\"Memory\"}\n";
+
+/// Writes the line of an answer.
+fn send<O: Sink>(output: &mut O, line: &[u8]) -> Result<(), ErrorKind>
+    requires { CanRefuse (O.tally output.old) }
+    ensures { Sends result line.now (O.tally output.old) (O.tally output.new) }
+{
+    match write_all(output, line) {
+        Ok(()) => Ok(()),
+        Err(_) => Err(ErrorKind::Writer),
+    }
+}
+
+/// Does what a line asks for, and writes its answer. A line without a byte is passed over. `Writer` if the write failed.
+fn reply<S: Alter + Drop, O: Sink>(
+    alloc: Global,
+    store: &mut Store<S>,
+    maker: &mut IdMaker,
+    scratch: &mut Scratch,
+    line: &Line,
+    output: &mut O,
+) -> Result<(), ErrorKind>
+    requires { CanRefuse (O.tally output.old) }
+    ensures { (answer : List ℕ) × Sends result answer (O.tally output.old) (O.tally output.new)
+        × ((text : List ℕ) → Keeps line.now text → Relates S.Store store.old store.new (AnswersLine maker.old maker.new text answer)) }
+{
+    if line.kept == Kept::Whole && line.bytes.is_empty() {
+        return Ok(());
+    }
+    match answer_of(alloc, store, maker, scratch, line) {
+        Ok(answer) => send(output, answer.as_slice()),
+        Err(_) => send(output, OUT_OF_MEMORY),
+    }
+}
+
+/// Does what the lines of `input` ask for on `store`, one after the other, and answers each on a line of `output`, until
+/// the input ends. A line without a byte is passed over. `maker` makes the `_id`s of documents that come without one.
+///
+/// `Reader` if a read failed, or a line or the input has 2⁶⁴ - 2 bytes or more; `Writer` if a write failed, after which
+/// nothing more is done; `Memory` if there is none for the session itself, and then no line is read.
+pub fn serve<S: Alter + Drop, I: Source, O: Sink>(
+    alloc: Global,
+    store: &mut Store<S>,
+    maker: &mut IdMaker,
+    input: &mut I,
+    output: &mut O,
+) -> Result<(), ErrorKind>
+    requires input { CanFail (I.feed input.old) }
+    requires output { CanRefuse (O.tally output.old) }
+    ensures { (turns : List Turn) × Ends result turns (I.feed input.old) (I.feed input.new) (O.tally output.old) (O.tally output.new)
+        × Relates S.Store store.old store.new (Holds maker.old maker.new turns) }
+{
+    let Ok(mut lines) = Lines::new(alloc) else {
+        return Err(ErrorKind::Memory);
+    };
+    let mut line = Line::new(alloc);
+    let mut scratch = Scratch::new(alloc);
+    for _turn in 0..u64::MAX {
+        match lines.read(input, &mut line) {
+            Ok(Next::Whole) => reply(alloc, store, maker, &mut scratch, &line, output)?,
+            Ok(Next::Last) => return reply(alloc, store, maker, &mut scratch, &line, output),
+            Ok(Next::End) => return Ok(()),
+            Err(_) => return Err(ErrorKind::Reader),
+        }
+    }
+    Err(ErrorKind::Reader)
+}
