@@ -191,6 +191,57 @@ fn command<I: Source, O: Sink>(
     }
 }
 
+/// The session over a connection, which it gives back. It is over any store, for the reason that `over` is.
+fn answer_over<S: Alter + Drop, I: Source, O: Sink>(
+    alloc: Global,
+    connection: Connection<S>,
+    maker: &mut IdMaker,
+    input: &mut I,
+    output: &mut O,
+) -> (Result<(), Ended>, Connection<S>)
+    requires input { CanFail (I.feed input.old) }
+    requires output { CanRefuse (O.tally output.old) }
+{
+    match Store::open(alloc, connection) {
+        Ok(mut store) => {
+            let ended = match fallowtime_session::serve(alloc, &mut store, maker, input, output) {
+                Ok(()) => Ok(()),
+                Err(kind) => Err(Ended::Refused(Refusal::from(kind))),
+            };
+            (ended, store.close())
+        }
+        Err((error, connection)) => (Err(Ended::Refused(Refusal::from(error))), connection),
+    }
+}
+
+/// Answers the requests of the lines over a file, which is made if it isn't there.
+fn session<I: Source, O: Sink>(
+    rt: &HostRuntime,
+    file: &str,
+    seconds: u64,
+    input: &mut I,
+    output: &mut O,
+) -> Result<(), Ended>
+    requires input { CanFail (I.feed input.old) }
+    requires output { CanRefuse (O.tally output.old) }
+{
+    let mut maker = maker_of(rt)?;
+    match open_within(rt, file, seconds) {
+        Ok(connection) => {
+            let (ended, connection) =
+                answer_over(rt.alloc(), connection, &mut maker, input, output);
+            close(connection);
+            ended
+        }
+        Err(error) => Err(Ended::File(error)),
+    }
+}
+
+/// Whether the words ask for a session, whose answers go out at once.
+pub fn is_session(words: &[String]) -> bool {
+    matches!(read_words(words), Some(Task::Session { .. }))
+}
+
 /// Reads the words, does what they ask for, and returns the program's status. Words that can't be read are reported
 /// before any file is opened.
 pub fn serve<I: Source, O: Sink, F: Sink>(
@@ -206,7 +257,9 @@ pub fn serve<I: Source, O: Sink, F: Sink>(
 {
     let ended = match read_words(words) {
         Some(Task::Command(words)) => command(rt, &words, input, output),
-        Some(Task::Session { .. }) => Err(Ended::Words(Unread::Usage)),
+        Some(Task::Session { file, seconds }) => {
+            session(rt, file, seconds.unwrap_or(PATIENCE), input, output)
+        }
         None => Err(Ended::Words(Unread::Usage)),
     };
     match ended {

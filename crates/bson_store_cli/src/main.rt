@@ -101,6 +101,21 @@ fn run_gathered(rt: &HostRuntime, words: &[String]) -> u8 {
     let_out(rt, output, status)
 }
 
+/// The program fallowtime over many requests, whose every answer goes out at once, behind its name.
+fn run_at_once(rt: &HostRuntime, words: &[String]) -> u8 {
+    let mut output = Counted::new(rt.stdout());
+    run_fallowtime(rt, words, &mut output)
+}
+
+/// The program fallowtime, behind its name.
+fn run_by_words(rt: &HostRuntime, words: &[String]) -> u8 {
+    if fallowtime::is_session(words) {
+        run_at_once(rt, words)
+    } else {
+        run_gathered(rt, words)
+    }
+}
+
 /// The program bson_session, whose every line of output goes out at once, behind its name.
 fn run_session(rt: &HostRuntime, words: &[String]) -> u8 {
     let mut input = Counted::new(rt.stdin());
@@ -116,7 +131,7 @@ fn start(rt: &HostRuntime, words: &[String]) -> u8 {
         return run_store(rt, words);
     };
     match program_of(name.as_str()) {
-        Program::Fallowtime => run_gathered(rt, words),
+        Program::Fallowtime => run_by_words(rt, words),
         Program::Session => run_session(rt, words),
         Program::Json => run_json(rt, words),
         Program::Store => run_store(rt, words),
