@@ -24,6 +24,7 @@ use sqlite::Alter;
 use std::alloc::{AllocError, Global};
 
 /// The parts of a question.
+#[derive(Drop)]
 struct Parts<'t, 'w> {
     /// Its id, if it has one.
     id: Option<&'t Value<'w>>,
