@@ -196,7 +196,7 @@ def wrong_citations():
 def wrong_commands():
     """Commands that README and the help of the program don't both have."""
     readme, script = ROOT / "README.md", ROOT / "bson_store"
-    table = re.search(r"^## Commands\n(.*?)^#", readme.read_text(), re.M | re.S)[1]
+    table = re.search(r"^### Commands of `bson_store`\n(.*?)^#", readme.read_text(), re.M | re.S)[1]
     cells = [line.split("|")[1] for line in table.split("\n") if line.startswith("| `")]
     shown = set(re.findall(r"`([a-z]+)[ `]", " ".join(cells)))
     helped = subprocess.run([script, "--help"], capture_output=True, text=True).stdout
