@@ -1,5 +1,5 @@
 -- Lines whose documents are taken, one after the other.
-use Rattle.std.proofs.Common.{◌≡◌, inl, inr, ℕ, ◌+◌, ◌<◌, ◌^◌, ◌-◌, List, [], ◌∷◌, ◌++◌, length, true, false, None, Some, Option, Result, Ok, Err, refl, sym, ap, subst, ◌∙◌, append_assoc, arith}
+use Rattle.std.proofs.Common.{◌≡◌, inl, inr, ℕ, ◌+◌, ◌<◌, ◌^◌, ◌-◌, List, [], ◌∷◌, ◌++◌, length, true, Some, Option, Result, Ok, Err, refl, sym, ap, subst, ◌∙◌, append_assoc, arith}
 use Rattle.std.specs.Prelude.{IsUtf8}
 use Rattle.std.proofs.lemmas.List.{length-append, append-nil}
 use Rattle.bson_base.specs.Device.{Feed, CanFail}
@@ -7,12 +7,12 @@ use Rattle.bson_base.specs.Value.{Members}
 use Rattle.bson_json_read.specs.Reading.{ReadsText}
 use Rattle.bson_model.specs.View.{content}
 use Rattle.bson_model.specs.declared.document.Document.{Document}
-use Rattle.cli_session_lines.specs.Line.{IsUnbroken, Keeps}
+use Rattle.cli_session_lines.specs.Line.{Keeps}
 use Rattle.cli_session_lines.specs.Lines.{waiting, ReadsNext}
 use Rattle.cli_session_lines.specs.declared.line.Line.{Line}
 use Rattle.cli_session_lines.specs.declared.lines.Lines.{Lines}
-use Rattle.cli_session_lines.specs.declared.lines.Next.TheVariants.{Whole, Last, End}
-use Rattle.cli_convert.specs.Lines.{Reads, IsReadAs, IsLine, GivesLines, ReadsLine, HasNext, StopsAt, TakesLine, TakesLines, EndsLines, TakesAll, TakesText, TakesNext}
+use Rattle.cli_session_lines.specs.declared.lines.Next.TheVariants.{Whole}
+use Rattle.cli_convert.specs.Lines.{Reads, IsLine, GivesLines, TakesLine, TakesLines, EndsLines, TakesAll, TakesText, TakesNext}
 use Rattle.cli_convert.specs.declared.stop.Stop.{Stop}
 use Rattle.cli_convert.specs.declared.stop.Stop.TheVariants as stop
 use Rattle.cli_convert.proofs.Parts.{one_part, more_parts, took_both, took_none}
@@ -42,24 +42,12 @@ more_given os ps old mid new held waits left a b = record {
 pub can_go_on : (o : Option Members) (old new : Feed) (held left : List ℕ) → GivesLines (o ∷ []) old new held left → CanFail old → CanFail new
 can_go_on o old new held left h can = subst (λ k. k < 2 ^ 64 - 1) (sym h.took.0) can
 
--- the next line has no document
-pub stops : (e : Stop) (n : ℕ) (old new : Feed) (waits text : List ℕ) → HasNext old new waits text → ReadsLine (n + 1) text (Err e) → StopsAt n old new waits e
-stops (stop.Document i fault) n old new waits text next h = absurd h
-stops (stop.Line i fault) n old new waits text next h = (h.0, (text, next, h.1))
-stops stop.Reader n old new waits text next h = absurd h
-stops stop.Writer n old new waits text next h = absurd h
-stops stop.Memory n old new waits text next h = next.1.0
-
 module _ {S : Type 0} (Takes : ℕ → Members → S → S → Result (Unit {0}) Stop → Type 0) where
   -- ---- one line
 
   pub document_taken : (n : ℕ) (text : List ℕ) (d : Members) (s t : S) (r : Result (Unit {0}) Stop) → Reads text d → Takes n d s t r → TakesText Takes n text s t r
   document_taken n text d s t (Ok x) read taken = (Some d, read, taken)
   document_taken n text d s t (Err e) read taken = inr (d, read, taken)
-
-  not_taken : (e : Stop) (n : ℕ) (old new : Feed) (waits text : List ℕ) (s t : S) → HasNext old new waits text → TakesText Takes (n + 1) text s t (Err e) → EndsLines Takes n old new waits s t (Err e)
-  not_taken e n old new waits text s t next (inl (refused, same)) = inl (stops e n old new waits text next refused, same)
-  not_taken e n old new waits text s t next (inr (d, read, taken)) = inr (text, d, next, read, taken)
 
   module _ (before after : Lines) (old new : Feed) (l : Line) (n : ℕ) (s t : S) where
     pub whole_taken : ReadsNext (Ok Whole) before after old new l → ((text : List ℕ) → Keeps l text → TakesText Takes (n + 1) text s t (Ok tt)) → TakesNext Takes n old new (waiting before) (waiting after) s t (Ok true)
@@ -75,23 +63,6 @@ module _ {S : Type 0} (Takes : ℕ → Members → S → S → Result (Unit {0})
           },
           taken,
         )
-
-    pub whole_refused : (e : Stop) → ReadsNext (Ok Whole) before after old new l → ((text : List ℕ) → Keeps l text → TakesText Takes (n + 1) text s t (Err e)) → TakesNext Takes n old new (waiting before) (waiting after) s t (Err e)
-    whole_refused e (fine, (given, gives, (text, unbroken, keeps, is))) takes =
-        not_taken e n old new (waiting before) text s t (given, (fine, gives), (unbroken, inr (waiting after, is))) (takes text keeps)
-
-    pub last_taken : ReadsNext (Ok Last) before after old new l → ((text : List ℕ) → Keeps l text → TakesText Takes (n + 1) text s t (Ok tt)) → TakesNext Takes n old new (waiting before) (waiting after) s t (Ok false)
-    last_taken (fine, (given, gives, (text, unbroken, keeps, is, some, left, end))) takes =
-        let (o, read, taken) = takes text keeps in
-        (given, o, ((fine, gives), end), subst IsUnbroken (sym is) unbroken, subst (λ bytes. IsReadAs bytes o) (sym is) read, taken)
-
-    pub last_refused : (e : Stop) → ReadsNext (Ok Last) before after old new l → ((text : List ℕ) → Keeps l text → TakesText Takes (n + 1) text s t (Err e)) → TakesNext Takes n old new (waiting before) (waiting after) s t (Err e)
-    last_refused e (fine, (given, gives, (text, unbroken, keeps, is, some, left, end))) takes =
-        not_taken e n old new (waiting before) text s t (given, (fine, gives), (unbroken, inl is)) (takes text keeps)
-
-  pub none_left : (before after : Lines) (old new : Feed) (l : Line) (n : ℕ) (s : S) → ReadsNext (Ok End) before after old new l → TakesNext Takes n old new (waiting before) (waiting after) s s (Ok false)
-  none_left before after old new l n s (fine, (given, gives, (is, left, end))) =
-      (given, None, ((fine, gives), end), subst IsUnbroken (sym is) (λ k d within e. absurd (omega (arith, within))), is, refl)
 
   -- ---- all of them
 

@@ -1,17 +1,16 @@
 -- Documents that were taken with their ids.
-use Rattle.std.proofs.Common.{◌≡◌, inl, inr, ℕ, ◌+◌, List, [], ◌∷◌, ◌++◌, length, None, Some, Option, Result, Ok, Err, refl, sym, ap, subst, ◌∙◌, append_assoc, append-nil, arith}
+use Rattle.std.proofs.Common.{◌≡◌, inl, inr, ℕ, ◌+◌, List, [], ◌∷◌, ◌++◌, length, None, Some, Option, Ok, Err, refl, sym, ap, subst, ◌∙◌, append_assoc, append-nil, arith}
 use Rattle.bson_base.specs.Device.{Feed}
 use Rattle.bson_base.specs.Value.{Members}
 use Rattle.bson_bytes.specs.Encode.{encode}
-use Rattle.cli_convert.specs.Lines.{TakesLine, TakesLines, EndsLines, TakesAll}
+use Rattle.cli_convert.specs.Lines.{TakesLines, EndsLines, TakesAll}
 use Rattle.cli_convert.specs.Parts.{InParts}
 use Rattle.cli_convert.specs.ToBson.{IsWritten, Unwritable}
 use Rattle.cli_convert.specs.declared.stop.Stop.{Stop}
 use Rattle.cli_convert.specs.declared.stop.Stop.TheVariants as stop
 use Rattle.cli_convert.proofs.Takings.{taken_more}
 use Rattle.fallowtime_texts.specs.Lines.{identified_each, maker_behind, places_behind, HasTaken, EndsReading, ReadsLines, TakesWithId}
-use Rattle.fallowtime_texts.specs.Made.{identified, maker_after}
-use Rattle.fallowtime_texts.specs.declared.lines.Taken.{Taken}
+use Rattle.fallowtime_texts.specs.Made.{identified}
 use Rattle.fallowtime_texts.specs.declared.lines.Taking.{Taking}
 use Rattle.fallowtime_texts.specs.declared.made.IdMaker.{IdMaker}
 

@@ -1,6 +1,6 @@
 use Rattle.std.proofs.Common.{◌≡◌, Err, subst, rules}
 use Rattle.bson_base.specs.Device.{Feed, Tally}
-use Rattle.cli_convert.specs.ToBson.{EndsBehind, TakesNothing, TakesSpoil}
+use Rattle.cli_convert.specs.ToBson.{EndsBehind, TakesNothing}
 use Rattle.cli_convert.specs.declared.stop.Stop.{Stop}
 use Rattle.cli_convert.specs.declared.stop.Stop.TheVariants.{Writer}
 use Rattle.cli_convert.proofs.ToBson.{spoiled_behind, still_refused, still_well}

@@ -1,4 +1,4 @@
-use Rattle.std.proofs.Common.{Err, ap, ◌∙◌, sym, subst, string_bytes}
+use Rattle.std.proofs.Common.{subst, string_bytes}
 use Rattle.std.proofs.lemmas.Result.{err_from_is_err_and}
 use Rattle.bson_model.specs.View.{content}
 use Rattle.fallowtime_texts.specs.Printed.{PrintsDocument}
