@@ -1,0 +1,68 @@
+#!/usr/bin/python3
+"""The requests of lines.py in one process of Python over sqlite3 and bson: each change is a transaction of its own in a file with a
+log, on the disk before the next one. The answers are those of `fallowtime FILE`.
+
+    python_sqlite.py FILE < LINES > ANSWERS"""
+import json
+import sqlite3
+import sys
+
+import bson
+from bson import json_util
+
+OPTIONS = json_util.JSONOptions(json_mode=json_util.JSONMode.CANONICAL, tz_aware=False, tzinfo=None)
+base = sqlite3.connect(sys.argv[1], isolation_level=None)
+base.execute("PRAGMA journal_mode = WAL")
+base.execute("PRAGMA synchronous = FULL")
+base.execute("CREATE TABLE documents (place INTEGER PRIMARY KEY, coll TEXT NOT NULL, idkey BLOB NOT NULL, body BLOB NOT NULL, UNIQUE (coll, idkey))")
+
+
+def key_of(value):
+    """The key of an `_id`."""
+    return bson.encode({"_id": value})
+
+
+def body_of(name, value):
+    """The body of the document with an `_id`, if there is one."""
+    return base.execute("SELECT body FROM documents WHERE coll = ? AND idkey = ?", (name, key_of(value))).fetchone()
+
+
+def change(name, value, body):
+    """Puts a body in the place of another; whether there is one."""
+    return base.execute("UPDATE documents SET body = ? WHERE coll = ? AND idkey = ?", (body, name, key_of(value))).rowcount == 1
+
+
+def insert(name, document):
+    """Puts a document in; whether its `_id` is free."""
+    try:
+        base.execute("INSERT INTO documents (coll, idkey, body) VALUES (?, ?, ?)", (name, key_of(document["_id"]), bson.encode(document)))
+    except sqlite3.IntegrityError:
+        return False
+    return True
+
+
+def answer(command, name, first, *more):
+    """What a request is answered."""
+    if command == "insert":
+        return {"_id": first["_id"]} if insert(name, first) else {"refused": "DuplicateId"}
+    if command == "put":
+        return {} if change(name, first["_id"], bson.encode(first)) or insert(name, first) else {"refused": "DuplicateId"}
+    if command == "replace":
+        return {} if change(name, first["_id"], bson.encode(first)) else {"refused": "NotFound"}
+    if command == "remove":
+        gone = base.execute("DELETE FROM documents WHERE coll = ? AND idkey = ?", (name, key_of(first))).rowcount
+        return {} if gone else {"refused": "NotFound"}
+    found = body_of(name, first)
+    if not found:
+        return {"refused": "NotFound"}
+    if command == "get":
+        return {"document": bson.decode(found[0])}
+    document = bson.decode(found[0])
+    document[more[0]] = more[1]
+    change(name, first, bson.encode(document))
+    return {}
+
+
+for line in sys.stdin.buffer:
+    request = json_util.loads(line, json_options=OPTIONS)
+    print(json_util.dumps(answer(*request), json_options=OPTIONS, separators=(",", ":")), flush=True)
