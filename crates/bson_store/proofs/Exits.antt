@@ -11,22 +11,22 @@ use Rattle.store_table.specs.Moves.{Moves, FindsRow, FindsPlace, Changes, AddsRo
 use Rattle.store_table.specs.declared.fault.Fault.{Fault}
 use Rattle.store_table.specs.declared.row.Found.{Found}
 use Rattle.store_documents.specs.Answers.{AnswersBytes, AnswersTree}
-use Rattle.store_documents.specs.Bodies.{AnswersGiven, AnswersInput, AnswersKept, AnswersWritten}
+use Rattle.store_documents.specs.Bodies.{AnswersInput, AnswersKept, AnswersWritten}
 use Rattle.store_documents.specs.declared.write.KeptRow.{KeptRow}
-use Rattle.store_model.specs.Reading.{KeepsGiven, Reading, readable, IsRead, ReadsBytes, ReadsTree}
+use Rattle.store_model.specs.Reading.{Reading, readable, IsRead, ReadsBytes, ReadsTree}
 use Rattle.store_model.specs.State.{NoneHasId, Form, in_bytes, in_json, Call, insert, replace, remove, on, Reply, done, refused, Answers, IsName, IsCall}
 use Rattle.store_model.specs.Run.{IsDecidedCall}
 use Rattle.store_model.specs.Table.{DocumentTable, documents_of}
 use Rattle.store_model.proofs.Plain.{object_tree}
 use Rattle.store_model.specs.declared.error.ErrorKind.{ErrorKind}
 use Rattle.store_model.specs.declared.error.ErrorKind.TheVariants as kind
-use Rattle.bson_store.specs.Calls.{Does, DoesBytes, DoesGiven, DoesTree, DoesRead, Looks}
+use Rattle.bson_store.specs.Calls.{Does, DoesBytes, DoesTree, DoesRead, Looks}
 use Rattle.bson_store.specs.Refusals.{kind_of_fault}
 use Rattle.store_model.specs.declared.error.StoreError.{StoreError}
 use Rattle.bson_store.proofs.Moving.{rests, moved, moved_twice}
 use Rattle.bson_store.proofs.Serving.{answers_stay, bad_name, denied, undecided, memory_other, written_fits, insert_unwritten, insert_unfound, duplicate, put_in, not_put_in}
 use Rattle.bson_store.proofs.Replacing.{replace_unwritten, replace_unfound, replace_none, put_in_place, not_put_in_place}
-use Rattle.bson_store.proofs.Reading.{TakesReading, bytes_bad_name, given_bad_name, tree_bad_name, bytes_refused, given_refused, tree_refused, bytes_read, given_read, tree_read}
+use Rattle.bson_store.proofs.Reading.{TakesReading, bytes_bad_name, tree_bad_name, bytes_refused, tree_refused, bytes_read, tree_read}
 use Rattle.bson_store.proofs.Finding.{Answered, unlooked, not_there, there, removed, unchanged}
 use Rattle.bson_store.proofs.Rewriting.{Remakes, rewritten}
 use Rattle.store_table.specs.declared.fault.Fault.TheVariants as faults
@@ -108,18 +108,6 @@ unkept_tree s n j call k t unwritten good (inr (inr memory)) wants =
     let w = wants memory in
     let a = object_tree w.0 in
     unread_tree s n j call k t good (inr (memory, a.0, rw w.1 a.1, a.2))
-
-pub bad_given : (s : State) (n : List ℕ) (e : Members) (call : Form → Reading → Call) → (IsName n → ⊥) → Moves s s (DoesGiven n (call in_json) e (refused kind.BadName None))
-bad_given s n e call bad = rests s (DoesGiven n (call in_json) e (refused kind.BadName None)) (λ docs. given_bad_name docs n e call bad)
-
-pub read_given : (s t : State) (n nb : List ℕ) (e : Members) (call : Form → Reading → Call) (d : Members) (r : Reply) → nb ≡ n → KeepsGiven e (readable d) → Moves s t (DoesRead nb call d r) → Moves s t (DoesGiven n (call in_json) e r)
-read_given s t n nb e call d r i reads m = moved s t (DoesRead nb call d r) (DoesGiven n (call in_json) e r) m (λ docs after h. given_read docs after n e call d r reads (subst (λ k. DoesRead k call d r docs after) i h))
-
--- a document that has no row
-pub unkept_given : (s : State) (n : List ℕ) (e : Members) (call : Form → Reading → Call) (k : ErrorKind) → TakesReading call → ((d : Members) (x : ErrorKind) → AnswersWritten d (Err x) → Moves s s (DoesRead n call d (refused x None)))
-    → IsName n → AnswersGiven e (Err k) → Moves s s (DoesGiven n (call in_json) e (refused k None))
-unkept_given s n e call k t unwritten good (inl reads) = rests s (DoesGiven n (call in_json) e (refused k None)) (λ docs. given_refused docs n e call k t good reads)
-unkept_given s n e call k t unwritten good (inr h) = read_given s s n n e call h.0 (refused k None) refl h.1 (unwritten h.0 k h.2)
 
 -- ---- inserts
 

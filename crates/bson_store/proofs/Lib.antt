@@ -22,6 +22,5 @@ pub mod Opened
 pub mod Renewed
 pub mod Opening
 pub mod Leaving
-pub mod Putting
 pub mod Again
 pub mod Restoring

@@ -5,15 +5,15 @@ use Rattle.bson_base.specs.Value.{Members}
 use Rattle.store_table.specs.Rows.{TableRow}
 use Rattle.store_table.specs.declared.fault.Fault.TheVariants as faults
 use Rattle.store_documents.specs.Answers.{AnswersBytes, AnswersTree}
-use Rattle.store_model.specs.Reading.{KeepsGiven, Reading, readable, unreadable, ReadsBytes, ReadsTree}
+use Rattle.store_model.specs.Reading.{Reading, readable, unreadable, ReadsBytes, ReadsTree}
 use Rattle.store_model.specs.State.{Form, in_bytes, in_json, Call, insert, replace, on, Reply, refused, Answers, IsName}
 use Rattle.store_model.specs.Reading.{Documents}
 use Rattle.store_model.specs.Run.{IsUnread, IsDecidedCall}
-use Rattle.store_model.proofs.Plain.{any_given, any_tree}
+use Rattle.store_model.proofs.Plain.{any_tree}
 use Rattle.store_documents.proofs.Streams.{any_bytes}
 use Rattle.store_model.specs.declared.error.ErrorKind.{ErrorKind}
 use Rattle.store_model.specs.declared.error.ErrorKind.TheVariants.{BadName, Memory}
-use Rattle.bson_store.specs.Calls.{Does, DoesBytes, DoesGiven, DoesTree, DoesRead}
+use Rattle.bson_store.specs.Calls.{Does, DoesBytes, DoesTree, DoesRead}
 use Rattle.bson_store.proofs.Serving.{bad_name, answers_stay, denied, undecided, memory_other}
 
 -- insert or replace
@@ -32,9 +32,6 @@ bytes_bad_name docs n b call bad = let x = any_bytes b in (x.0, x.1, bad_name do
 
 pub tree_bad_name : (docs : List TableRow) (n : List ℕ) (j : Data) (call : Form → Reading → Call) → (IsName n → ⊥) → DoesTree n (call in_json) j (refused BadName None) docs docs
 tree_bad_name docs n j call bad = let x = any_tree j in (x.0, x.1, bad_name docs n (call in_json x.0) bad)
-
-pub given_bad_name : (docs : List TableRow) (n : List ℕ) (e : Members) (call : Form → Reading → Call) → (IsName n → ⊥) → DoesGiven n (call in_json) e (refused BadName None) docs docs
-given_bad_name docs n e call bad = let x = any_given e in (x.0, x.1, bad_name docs n (call in_json x.0) bad)
 
 unread : (docs : List TableRow) (n : List ℕ) (call : Form → Reading → Call) (f : Form) (k : ErrorKind) → TakesReading call → IsName n → Does (on n (call f (unreadable k))) (refused k None) docs docs
 unread docs n call f k t good = answers_stay docs n (call f (unreadable k)) (refused k None) good (λ a s. t.unread f k _)
@@ -55,9 +52,3 @@ bytes_read docs after n b call d r reads does = (readable d, reads, does in_byte
 
 pub tree_read : (docs after : List TableRow) (n : List ℕ) (j : Data) (call : Form → Reading → Call) (d : Members) (r : Reply) → ReadsTree j (readable d) → DoesRead n call d r docs after → DoesTree n (call in_json) j r docs after
 tree_read docs after n j call d r reads does = (readable d, reads, does in_json)
-
-pub given_refused : (docs : List TableRow) (n : List ℕ) (e : Members) (call : Form → Reading → Call) (k : ErrorKind) → TakesReading call → IsName n → KeepsGiven e (unreadable k) → DoesGiven n (call in_json) e (refused k None) docs docs
-given_refused docs n e call k t good reads = (unreadable k, reads, unread docs n call in_json k t good)
-
-pub given_read : (docs after : List TableRow) (n : List ℕ) (e : Members) (call : Form → Reading → Call) (d : Members) (r : Reply) → KeepsGiven e (readable d) → DoesRead n call d r docs after → DoesGiven n (call in_json) e r docs after
-given_read docs after n e call d r reads does = (readable d, reads, does in_json)

@@ -1,18 +1,17 @@
 -- What the calls of the store say of the rows.
-use Rattle.std.specs.Prelude.{◌≡◌, ◌≢◌, ◌⊎◌, ℕ, List, Option, Some, None, Result, IfOk, IfErr}
+use Rattle.std.specs.Prelude.{◌≡◌, ℕ, List, Option, Some, None, Result, IfOk, IfErr}
 use Rattle.std.specs.List.{find}
 use Rattle.serde_json.specs.Data.{Data}
 use Rattle.bson_base.specs.Value.{Value, Members}
 use Rattle.store_table.specs.Rows.{TableRow, is_row_named}
 use Rattle.store_table.specs.Moves.{parts_of_found, parts_of_row, Moves}
 use Rattle.store_table.specs.declared.row.Found.{Found}
-use Rattle.store_model.specs.Reading.{KeepsGiven, Reading, ReadsBytes, ReadsTree, readable}
+use Rattle.store_model.specs.Reading.{Reading, ReadsBytes, ReadsTree, readable}
 use Rattle.store_model.specs.State as model
 use Rattle.store_model.specs.Table.{DocumentTable, Serves, documents_of}
 use Rattle.store_documents.specs.Bodies.{IsKeyOf}
 use Rattle.bson_store.specs.Shown.{Represents}
 use Rattle.bson_store.specs.Refusals.{IsDenied}
-use Rattle.store_model.specs.declared.error.ErrorKind.TheVariants.{NotFound}
 use Rattle.store_model.specs.declared.error.StoreError.{StoreError}
 use Rattle.sqlite_trees.specs.declared.store.Store.{Ghosts}
 use Rattle.sqlite.specs.State.{State}
@@ -42,20 +41,6 @@ DoesBytes n call bytes r old new = (x : Reading) × ReadsBytes bytes x × Does (
 -- a call with JSON does what the command does with what it reads as
 abbrev pub DoesTree : List ℕ → (Reading → model.Call) → Data → model.Reply → List TableRow → List TableRow → Type 0
 DoesTree n call j r old new = (x : Reading) × ReadsTree j x × Does (model.on n (call x)) r old new
-
--- a call with a document that is given does what the command does with its normal form, whose keys keep their order
-abbrev pub DoesGiven : List ℕ → (Reading → model.Call) → Members → model.Reply → List TableRow → List TableRow → Type 0
-DoesGiven n call e r old new = (x : Reading) × KeepsGiven e x × Does (model.on n (call x)) r old new
-
--- the document that an input reads as goes in the place of the one with its `_id`, or, if none has that, last
-abbrev pub Puts : List ℕ → Reading → model.Reply → List TableRow → List TableRow → Type 0
-Puts n x r old new =
-    (Does (model.on n (model.replace model.in_json x)) r old new × (r ≢ model.refused NotFound None))
-    ⊎ (Does (model.on n (model.replace model.in_json x)) (model.refused NotFound None) old old × Does (model.on n (model.insert model.in_json x)) r old new)
-
--- so of the normal form of a document that is given
-abbrev pub PutsGiven : List ℕ → Members → model.Reply → List TableRow → List TableRow → Type 0
-PutsGiven n e r old new = (x : Reading) × KeepsGiven e x × Puts n x r old new
 
 -- a call with a document that was read does what the command does with it, in whatever form it was given
 abbrev pub DoesRead : List ℕ → (model.Form → Reading → model.Call) → Members → model.Reply → List TableRow → List TableRow → Type 0

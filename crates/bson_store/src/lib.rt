@@ -7,7 +7,6 @@ mod command;
 mod dump;
 mod error;
 mod export;
-mod given;
 mod import;
 pub mod meanings;
 mod names;

@@ -108,7 +108,7 @@ impl<S: Alter + Drop> Store<S> {
     }
 
     /// Writes a row behind all others.
-    pub(crate) fn put_last(&mut self, collection: &str, key: &[u8], body: &[u8]) -> Result<(), Fault>
+    fn put_last(&mut self, collection: &str, key: &[u8], body: &[u8]) -> Result<(), Fault>
         ensures moves { Relates S.Store self.old self.new (AddsRows 1 (with_row collection.now key.now body.now) result) }
         ensures open { WasOpen (store_state S.Store self.old) (store_state S.Store self.new) result }
         ensures crash { Survives (store_state S.Store self.old) (store_state S.Store self.new) (MayLeave (with_row collection.now key.now body.now) (store_state S.Store self.old)) }
@@ -118,7 +118,7 @@ impl<S: Alter + Drop> Store<S> {
     }
 
     /// Writes a body in the place of a row's.
-    pub(crate) fn put_back(&mut self, found: &Found, body: &[u8]) -> Result<(), Fault>
+    fn put_back(&mut self, found: &Found, body: &[u8]) -> Result<(), Fault>
         ensures moves { Relates S.Store self.old self.new (Changes (with_body_at found.now.place body.now) result) }
         ensures open { WasOpen (store_state S.Store self.old) (store_state S.Store self.new) result }
         ensures crash { Survives (store_state S.Store self.old) (store_state S.Store self.new) (MayLeave (with_body_at found.now.place body.now) (store_state S.Store self.old)) }
@@ -127,7 +127,7 @@ impl<S: Alter + Drop> Store<S> {
     }
 
     /// Puts a document last in a collection, whose row this is.
-    pub(crate) fn insert_row(&mut self, name: Name<'_>, row: &KeptRow<'_>) -> Result<(), StoreError>
+    fn insert_row(&mut self, name: Name<'_>, row: &KeptRow<'_>) -> Result<(), StoreError>
         ensures moves { (d : Members) → IsRead d → AnswersWritten d (Ok row.now)
             → Relates S.Store self.old self.new (DoesRead (name_bytes name.entry) insert d (reply_by as_done result)) }
         ensures open { WasOpen (store_state S.Store self.old) (store_state S.Store self.new) result }
@@ -151,7 +151,7 @@ impl<S: Alter + Drop> Store<S> {
     }
 
     /// Puts a document, whose row this is, in the place of that of a collection with its `_id`.
-    pub(crate) fn replace_row(&mut self, name: Name<'_>, row: &KeptRow<'_>) -> Result<(), StoreError>
+    fn replace_row(&mut self, name: Name<'_>, row: &KeptRow<'_>) -> Result<(), StoreError>
         ensures moves { (d : Members) → IsRead d → AnswersWritten d (Ok row.now)
             → Relates S.Store self.old self.new (DoesRead (name_bytes name.entry) replace d (reply_by as_done result)) }
         ensures open { WasOpen (store_state S.Store self.old) (store_state S.Store self.new) result }

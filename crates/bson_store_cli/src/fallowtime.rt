@@ -33,7 +33,7 @@ fn form_of(options: &Options) -> Form {
 /// What makes the ids of this run: the seconds of the clock, and a number that no other run has but by chance.
 fn maker_of(rt: &HostRuntime) -> io::Result<IdMaker> {
     let seconds = match SystemTime::now(rt)?.duration_since(SystemTime::UNIX_EPOCH) {
-        Ok(since) => since.as_secs() as u32,
+        Ok(since) => u32::try_from(since.as_secs()).unwrap_or(u32::MAX),
         Err(_) => 0,
     };
     Ok(IdMaker::new(seconds, RandomState::new(rt)?.hash_one(&0u8)))

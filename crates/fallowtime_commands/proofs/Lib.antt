@@ -1,2 +1,3 @@
 mod Owning
 mod Printed
+mod Changing

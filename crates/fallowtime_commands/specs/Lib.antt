@@ -2,3 +2,5 @@ pub mod Performing
 pub mod Printing
 pub mod Reading
 pub mod Reports
+pub mod Setting
+pub mod Storing

@@ -1,19 +1,21 @@
 -- What a request does to the rows of a store.
-use Rattle.std.specs.Prelude.{◌≡◌, ℕ, List, map, Some, Result, Ok, Err, string_bytes}
+use Rattle.std.specs.Prelude.{◌≡◌, ℕ, List, map, Result, Ok, Err, string_bytes}
 use Rattle.sqlite.specs.State.{State, Survives}
 use Rattle.bson_model.specs.View.{content, view}
 use Rattle.bson_model.specs.declared.bson.Bson.{Bson}
 use Rattle.store_table.specs.Rows.{TableRow}
 use Rattle.store_filter.specs.Filters.{filter_of}
-use Rattle.store_model.specs.Reading.{KeepsGiven, Reading, ReadsStream}
+use Rattle.store_model.specs.Reading.{ReadsStream}
 use Rattle.store_model.specs.State as model
 use Rattle.store_model.specs.declared.error.StoreError.{StoreError}
-use Rattle.bson_store.specs.Calls.{Does, DoesGiven, PutsGiven}
+use Rattle.bson_store.specs.Calls.{Does}
 use Rattle.bson_store.specs.Export.{bytes_of_each}
-use Rattle.bson_store.specs.Left.{Leaves, LeavesGiven, LeavesMany, LeavesPut}
+use Rattle.bson_store.specs.Left.{Leaves, LeavesMany}
 use Rattle.bson_store.specs.Many.{DoesMany}
 use Rattle.fallowtime_commands.specs.declared.answer.Answer.{Answer}
 use Rattle.fallowtime_commands.specs.declared.answer.Answer.TheVariants as answer
+use Rattle.fallowtime_commands.specs.Setting.{LeavesSet, Sets}
+use Rattle.fallowtime_commands.specs.Storing.{LeavesPut, LeavesStored, Puts, Stores}
 use Rattle.fallowtime_commands.specs.declared.request.Request.{Request}
 use Rattle.fallowtime_commands.specs.declared.request.Request.TheVariants as request
 
@@ -68,11 +70,11 @@ IsAnswerTo request.Collections a = AreNames a
 
 -- the request does what the command of the store does that it stands for, on the collection n
 abbrev pub Performs : List ℕ → Request → model.Reply → List TableRow → List TableRow → Type 0
-Performs n (request.Insert id d) r old new = DoesGiven n (model.insert model.in_json) (content d) r old new
-Performs n (request.Put d) r old new = PutsGiven n (content d) r old new
-Performs n (request.Replace d) r old new = DoesGiven n (model.replace model.in_json) (content d) r old new
+Performs n (request.Insert id d) r old new = Stores n (model.insert model.in_bytes) (content d) r old new
+Performs n (request.Put d) r old new = Puts n (content d) r old new
+Performs n (request.Replace d) r old new = Stores n (model.replace model.in_bytes) (content d) r old new
 Performs n (request.Get id) r old new = Does (model.on n (model.get_raw (view id))) r old new
-Performs n (request.Set id key v) r old new = Does (model.on n (model.set (view id) key.now (Some (view v)))) r old new
+Performs n (request.Set id key v) r old new = Sets n (view id) key.now (view v) r old new
 Performs n (request.Unset id key) r old new = Does (model.on n (model.unset (view id) key.now)) r old new
 Performs n (request.Remove id) r old new = Does (model.on n (model.remove (view id))) r old new
 Performs n (request.Find f) r old new = Does (model.on n (model.find (filter_of f))) r old new
@@ -82,10 +84,10 @@ Performs n request.Collections r old new = Does model.collections r old new
 
 -- what a crash leaves of it: of a change what it leaves of that, and of a question no more than before
 abbrev pub LeavesRequest : List ℕ → Request → model.Reply → State → State → Type 0
-LeavesRequest n (request.Insert id d) r old new = LeavesGiven n (model.insert model.in_json) (content d) r old new
-LeavesRequest n (request.Put d) r old new = (x : Reading) → KeepsGiven (content d) x → LeavesPut n x r old new
-LeavesRequest n (request.Replace d) r old new = LeavesGiven n (model.replace model.in_json) (content d) r old new
-LeavesRequest n (request.Set id key v) r old new = Leaves old new (model.on n (model.set (view id) key.now (Some (view v)))) r
+LeavesRequest n (request.Insert id d) r old new = LeavesStored n (model.insert model.in_bytes) (content d) r old new
+LeavesRequest n (request.Put d) r old new = LeavesPut n (content d) r old new
+LeavesRequest n (request.Replace d) r old new = LeavesStored n (model.replace model.in_bytes) (content d) r old new
+LeavesRequest n (request.Set id key v) r old new = LeavesSet n (view id) key.now (view v) r old new
 LeavesRequest n (request.Unset id key) r old new = Leaves old new (model.on n (model.unset (view id) key.now)) r
 LeavesRequest n (request.Remove id) r old new = Leaves old new (model.on n (model.remove (view id))) r
 LeavesRequest n (request.Import stream) r old new = LeavesMany n (ReadsStream stream.items) r old new

@@ -8,6 +8,8 @@ mod printing;
 mod reading;
 mod refusal;
 mod request;
+mod setting;
+mod storing;
 mod unread;
 
 pub use answer::Answer;

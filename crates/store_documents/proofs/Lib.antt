@@ -5,7 +5,6 @@ pub mod OfRows
 mod OfStored
 mod OfTrees
 mod OfOrder
-mod OfGiven
 pub mod KeyLemmas
 pub mod Taken
 pub mod Gates

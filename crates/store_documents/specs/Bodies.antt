@@ -12,7 +12,7 @@ use Rattle.bson_meaning.specs.Before.{key as key_before}
 use Rattle.bson_meaning.specs.Meaning.{key}
 use Rattle.bson_meaning.specs.declared.key.KeyError.{KeyError}
 use Rattle.bson_meaning.specs.declared.key.KeyError.TheVariants as key_errors
-use Rattle.store_model.specs.Reading.{Reading, IsRead, IsKeepable, IsUnkeepable, KeepsGiven, ReadsBytes, readable, unreadable}
+use Rattle.store_model.specs.Reading.{Reading, IsRead, IsKeepable, IsUnkeepable, ReadsBytes, readable, unreadable}
 use Rattle.store_model.specs.State.{IsKept, IsName, refusal_of}
 use Rattle.store_model.specs.Table.{only_id, own_id}
 use Rattle.store_model.specs.declared.error.ErrorKind.{ErrorKind}
@@ -83,11 +83,6 @@ AnswersUnset k d (Err x) = x ≡ Memory
 abbrev pub AnswersKept : List ℕ → Result KeptRow ErrorKind → Type 0
 AnswersKept bytes (Ok w) = (d : Members) × ReadsBytes bytes (readable d) × IsRead d × AnswersWritten d (Ok w)
 AnswersKept bytes (Err k) = ReadsBytes bytes (unreadable k) ⊎ ((d : Members) × ReadsBytes bytes (readable d) × IsRead d × AnswersWritten d (Err k))
-
--- the row of the normal form of a document that is given, or why there is none
-abbrev pub AnswersGiven : Members → Result KeptRow ErrorKind → Type 0
-AnswersGiven e (Ok w) = (d : Members) × KeepsGiven e (readable d) × IsRead d × AnswersWritten d (Ok w)
-AnswersGiven e (Err k) = KeepsGiven e (unreadable k) ⊎ ((d : Members) × KeepsGiven e (readable d) × AnswersWritten d (Err k))
 
 -- the bytes are the written form of a document that can be kept, and this is the key of its `_id`
 abbrev pub StandUnder : List ℕ → List ℕ → Type 0

@@ -5,7 +5,6 @@
 
 mod answer;
 mod change;
-mod given;
 mod ids;
 mod json_row;
 mod keys;
@@ -23,7 +22,6 @@ mod write;
 
 pub use answer::json_of_body;
 pub use change::{Unset, body_with, body_without};
-pub use given::row_of_given;
 pub use ids::{ID_KEY, key_of_id};
 pub use json_row::row_of_json;
 pub use keys::Keys;
@@ -36,4 +34,4 @@ pub use stored::row_of_bytes;
 pub use stream::judge_stream;
 pub use text::text_of_body;
 pub use trees::check_json;
-pub use write::{KeptRow, row_of_document};
+pub use write::{KeptRow, body_of, row_of_document};

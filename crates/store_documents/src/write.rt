@@ -55,7 +55,7 @@ fn encoded(alloc: Global, document: &Document) -> Result<Vec<u8>, ErrorKind>
 
 /// The bytes of a document. `Nul` if a 00 stands in a key, a pattern or options, else `TooLong` if they are over
 /// 16777216; `Memory` if a growth was refused.
-pub(crate) fn body_of(alloc: Global, document: &Document) -> Result<Vec<u8>, ErrorKind>
+pub fn body_of(alloc: Global, document: &Document) -> Result<Vec<u8>, ErrorKind>
     ensures { MatchResult result (λ b. IsBody b.items (content document.now)) (IsUnwritten (content document.now)) }
 {
     if !is_plain_document(document) {

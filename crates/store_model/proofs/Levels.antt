@@ -12,7 +12,7 @@ use Rattle.store_model.specs.Reading.{IsRead}
 use Rattle.store_model.specs.State.{only}
 use Rattle.bson_base.specs.Value.{Value, scalar, array, document, scoped_code, Items, no_items, item, Members, no_members, member, look_up, put, without, levels, items_levels, members_levels, HasDistinctKeys, ItemsHaveDistinctKeys, MembersHaveDistinctKeys, EachPart}
 use Rattle.bson_meaning.proofs.Ordered.{Order, tied, look_up-asc}
-use Rattle.bson_meaning.proofs.Now.{in_order_same, normal_scalar_plain, normal_scalar_ranged, normal_scalar_clean, norm_each, norm_distinct}
+use Rattle.bson_meaning.proofs.Now.{in_order_same, normal_scalar_ranged, normal_scalar_clean, norm_each, norm_distinct}
 use Rattle.bson_meaning.proofs.Normal.{asc_each, both_each}
 use Rattle.bson_meaning.proofs.KeyLaw.{asc_distinct}
 use Rattle.store_model.proofs.Edits.{only_each, only_distinct}
@@ -94,20 +94,6 @@ set_read k v d n u s h p low = record {
 pub set_plain : (k : List ℕ) (v w : Value) (d e : Members) → HasNo00 k → norm_in_order v ≡ norm_in_order w → IsRead e
     → IsPlain (document (put k (norm_in_order v) d)) → IsPlain (document (put k (norm_in_order w) e))
 set_plain k v w d e n i h p = put_each HasNo00 IsPlainScalar k (norm_in_order w) e n (subst IsPlain i (put_back HasNo00 IsPlainScalar k (norm_in_order v) d p)) (clean_plain e h.clean)
-
--- ---- a document in its own order
-
--- the normal form of a document of few levels without a 00 is one that could be read
-pub given_read : (e : Members) → IsPlain (document e) → IsSound (document e) → levels (document e) ≤ level_limit → IsRead (norm_members e)
-given_read e p s low = record {
-  clean = norm_each (λ k. HasNo00 k × IsUtf8 k) HasNo00 (λ s. IsPlainScalar s × IsRangedScalar s) (λ s. IsPlainScalar s × IsCleanScalar s) (λ k h. h.0)
-      (λ s h. (normal_scalar_plain s h.1 h.0, normal_scalar_clean s h.1)) (document e) (both_each HasNo00 IsUtf8 IsPlainScalar IsRangedScalar (document e) p s.ranged);
-  sound = record {
-    ranged = norm_each IsUtf8 IsUtf8 IsRangedScalar IsRangedScalar (λ k h. h) normal_scalar_ranged (document e) s.ranged;
-    distinct = norm_distinct (document e) s.distinct;
-  };
-  shallow = subst (λ n. n ≤ level_limit) (sym (norm_levels (document e))) low;
-}
 
 -- ---- documents with fewer members
 

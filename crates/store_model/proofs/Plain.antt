@@ -1,4 +1,4 @@
--- Whether a tree is plain is decided, so every JSON tree and every document has a reading.
+-- Whether a tree is plain is decided, so every JSON tree has a reading.
 use Rattle.std.proofs.Common.{◌≡◌, ◌⊎◌, inl, inr, ℕ, zero, suc, ◌<◌, ◌≤◌, List, [], ◌∷◌, true, false, refl, arith}
 use Rattle.std.specs.Prelude.{Result, Ok, Err}
 use Rattle.std.proofs.Math.Dec.{leb}
@@ -10,8 +10,8 @@ use Rattle.bson_base.specs.Value.{Scalar, double, string, binary, undefined, obj
 use Rattle.bson_model.specs.JsonRead.{read_members}
 use Rattle.bson_model.specs.declared.extjson.de.Error.{Error}
 use Rattle.bson_meaning.specs.Gate.{level_limit}
-use Rattle.bson_meaning.specs.Meaning.{norm_members, norm_members_in_order}
-use Rattle.store_model.specs.Reading.{KeepsGiven, Reading, readable, unreadable, ReadsTree}
+use Rattle.bson_meaning.specs.Meaning.{norm_members_in_order}
+use Rattle.store_model.specs.Reading.{Reading, readable, unreadable, ReadsTree}
 use Rattle.store_model.specs.State.{in_json}
 use Rattle.store_model.specs.Run.{IsUnread}
 use Rattle.store_model.specs.declared.error.ErrorKind.TheVariants.{JsonRefused, NotAnObject, TooDeep, Nul}
@@ -98,11 +98,3 @@ any_tree (json.number n) = (unreadable NotAnObject, refl)
 any_tree (json.string t) = (unreadable NotAnObject, refl)
 any_tree (json.array js) = (unreadable NotAnObject, refl)
 any_tree (object js) = let h = has_reading js in (h.x, h.reads)
-
-pub any_given : (e : Members) → (a : Reading) × KeepsGiven e a
-any_given e = by (leb_tells (levels (document e)) level_limit) (plain (document e))
-  where
-    by : ((leb (levels (document e)) level_limit ≡ true) × (levels (document e) ≤ level_limit)) ⊎ ((leb (levels (document e)) level_limit ≡ false) × (level_limit < levels (document e))) → Decided (IsPlain (document e)) → (a : Reading) × KeepsGiven e a
-    by (inl low) (inl p) = (readable (norm_members e), (low.1, p, refl))
-    by (inl low) (inr p) = (unreadable Nul, (low.1, p))
-    by (inr high) p = (unreadable TooDeep, high.1)

@@ -11,7 +11,7 @@ use Rattle.bson_meaning.specs.Gate.{level_limit, IsFaultyOrDeep}
 use Rattle.bson_meaning.specs.JsonTrees.{IsJson, IsJsonObject}
 use Rattle.bson_meaning.specs.declared.gating.GateError.{GateError}
 use Rattle.bson_meaning.specs.declared.gating.GateError.TheVariants as gate
-use Rattle.store_model.specs.Reading.{Documents, Reading, readable, unreadable, kind_of_gate_error, ReadsBytes, IsUnfit, KeepsGiven, KeepsRead, ReadsTree, value_of, read_value, ReadsEach, IsUncut, Cuts, ReadsStream, ReadsTrees, IsRead, AreRead, IsReadingKind, IsReading, IsStop, AreAllJson, MayBoth}
+use Rattle.store_model.specs.Reading.{Documents, Reading, readable, unreadable, kind_of_gate_error, ReadsBytes, IsUnfit, KeepsRead, ReadsTree, value_of, read_value, ReadsEach, IsUncut, Cuts, ReadsStream, ReadsTrees, IsRead, AreRead, IsReadingKind, IsReading, IsStop, AreAllJson, MayBoth}
 use Rattle.store_model.specs.State.{IsSoundIfAny}
 use Rattle.store_model.specs.declared.error.ErrorKind.{ErrorKind}
 use Rattle.store_model.specs.declared.error.ErrorKind.TheVariants.{EndInside, BadLength, TooDeep, Nul}
@@ -151,11 +151,3 @@ kept_one (Err x) a b h j = h ∙ sym j
 pub one_tree : (j : Data) (a b : Reading) → ReadsTree j a → ReadsTree j b → a ≡ b
 one_tree (object js) a b h k = kept_one (read_members js) a b h k
 one_tree _ a b h k = h ∙ sym k
-
--- ---- one reading of a document that is given
-
-pub one_given : (e : Members) (a b : Reading) → KeepsGiven e a → KeepsGiven e b → a ≡ b
-one_given e (readable c) (readable d) h j = ap readable (h.2 ∙ sym j.2)
-one_given e (readable c) (unreadable k) h j = absurd (fit e k h.0 h.1 j)
-one_given e (unreadable k) (readable d) h j = absurd (fit e k j.0 j.1 h)
-one_given e (unreadable k) (unreadable l) h j = ap unreadable (unfit_one e k l h j)

@@ -10,7 +10,7 @@ use Rattle.bson_model.specs.JsonRead.{read, read_members}
 use Rattle.bson_model.specs.declared.extjson.de.Error.{Error}
 use Rattle.bson_meaning.specs.Gate.{level_limit, IsCounted, IsRefused, Passes}
 use Rattle.bson_meaning.specs.JsonTrees.{IsJson}
-use Rattle.bson_meaning.specs.Meaning.{norm_members, norm_members_in_order}
+use Rattle.bson_meaning.specs.Meaning.{norm_members_in_order}
 use Rattle.bson_meaning.specs.declared.gating.GateError.{GateError}
 use Rattle.bson_meaning.specs.declared.gating.GateError.TheVariants as gate
 use Rattle.store_model.specs.declared.error.ErrorKind.{ErrorKind}
@@ -60,11 +60,6 @@ IsUnfit e k = IsUnkeepable e k
 abbrev pub Keeps : Members → Reading → Type 0
 Keeps e (readable d) = (levels (document e) ≤ level_limit) × IsPlain (document e) × (d ≡ norm_members_in_order e)
 Keeps e (unreadable k) = IsUnfit e k
-
--- the normal form of a document that is given as one, with its keys in their own order
-abbrev pub KeepsGiven : Members → Reading → Type 0
-KeepsGiven e (readable d) = (levels (document e) ≤ level_limit) × IsPlain (document e) × (d ≡ norm_members e)
-KeepsGiven e (unreadable k) = IsUnfit e k
 
 abbrev pub KeepsRead : Result Members Error → Reading → Type 0
 KeepsRead (Ok e) a = Keeps e a

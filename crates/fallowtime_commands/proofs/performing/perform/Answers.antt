@@ -22,10 +22,10 @@ pub returns-in-Get-clause-moves : goal.returns-in-Get-clause-moves
 returns-in-Get-clause-moves g c = rw (c.in-Get.is, c.document.ensures.reply) c.get_raw.ensures.moves
 
 pub returns-in-Set-clause-moves : goal.returns-in-Set-clause-moves
-returns-in-Set-clause-moves g c = rw (c.in-Set.is, c.nothing-in-Set.ensures.reply) (rw c.replace-value.ensures.value at c.set_value.ensures.moves)
+returns-in-Set-clause-moves g c = rw (c.in-Set.is, c.nothing-in-Set.ensures.reply) (rw c.replace-value.ensures.value at c.set.ensures.moves)
 
 pub returns-in-Set-clause-crash : goal.returns-in-Set-clause-crash
-returns-in-Set-clause-crash g c = rw (c.in-Set.is, c.nothing-in-Set.ensures.reply) (rw c.replace-value.ensures.value at c.set_value.ensures.crash)
+returns-in-Set-clause-crash g c = rw (c.in-Set.is, c.nothing-in-Set.ensures.reply) (rw c.replace-value.ensures.value at c.set.ensures.crash)
 
 pub returns-in-Unset-clause-moves : goal.returns-in-Unset-clause-moves
 returns-in-Unset-clause-moves g c = rw (c.in-Unset.is, c.flag.ensures.reply) c.unset.ensures.moves
