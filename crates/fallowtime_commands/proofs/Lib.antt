@@ -1,3 +1,5 @@
 mod Owning
 mod Printed
+mod Keeping
+mod Putting
 mod Changing

@@ -1,7 +1,7 @@
 -- Documents that go into a store as they stand: by their written bytes, which keep each double and the order of keys.
 use Rattle.std.specs.Prelude.{◌≡◌, ◌⊎◌, ◌<◌, ◌≤◌, ℕ, List, Option, None, Bool, true, false}
 use Rattle.sqlite.specs.Effect.{Database}
-use Rattle.sqlite.specs.State.{State, HasCleanDisk}
+use Rattle.sqlite.specs.State.{State, HasCleanDisk, Survives}
 use Rattle.sqlite_trees.specs.Tree.{Trees}
 use Rattle.bson_base.specs.Kinds.{IsPlain}
 use Rattle.bson_base.specs.Value.{Members, document, has_key, levels}
@@ -46,7 +46,7 @@ Stores n call e r old new = (IsStopped n e r × (new ≡ old)) ⊎ DoesBytes n c
 
 -- what a crash leaves of that
 abbrev pub LeavesStored : List ℕ → (Reading → Call) → Members → Reply → State → State → Type 0
-LeavesStored n call e r old new = (IsStopped n e r × (new ≡ old)) ⊎ LeavesBytes n call (encode e) r old new
+LeavesStored n call e r old new = (IsStopped n e r × Survives old new (λ _. ⊥)) ⊎ LeavesBytes n call (encode e) r old new
 
 -- ---- a replacement, or an insertion if there is nothing to replace
 
@@ -70,7 +70,7 @@ Puts n e r old new = (IsStopped n e r × (new ≡ old)) ⊎ ((a : DocumentTable)
 -- what a crash leaves of that: what it leaves of a replacement, or of an insertion behind one that found nothing
 abbrev pub LeavesPut : List ℕ → Members → Reply → State → State → Type 0
 LeavesPut n e r old new =
-    (IsStopped n e r × (new ≡ old))
+    (IsStopped n e r × Survives old new (λ _. ⊥))
     ⊎ ((HasReplaced r × LeavesBytes n (replace in_bytes) (encode e) r old new)
     ⊎ (HasCleanDisk new → (first : Database) (docs : List TableRow) → ShowsOthers first old → Stands old docs → (a : DocumentTable) → Represents docs a
         → (db : Trees) → new.may_leave db

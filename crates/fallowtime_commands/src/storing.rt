@@ -37,9 +37,9 @@ fn kept_bytes(alloc: Global, document: &Document) -> Result<Vec<u8>, ErrorKind>
     if depth_of_document(document) > LEVEL_LIMIT {
         return Err(ErrorKind::TooDeep);
     }
-    if !document.contains_key(ID_KEY) {
+    let Some(_) = document.get(ID_KEY) else {
         return Err(unidentified(document));
-    }
+    };
     body_of(alloc, document)
 }
 
@@ -94,11 +94,12 @@ pub(crate) fn put<S: Alter + Drop>(
     ensures open { WasOpen (store_state S.Store store.old) (store_state S.Store store.new) result }
     ensures crash { LeavesPut name.now (content document.now) (reply_by as_done result) (store_state S.Store store.old) (store_state S.Store store.new) }
 {
-    let bytes = written(alloc, name, document)?;
-    match store.replace_raw(name, bytes.as_slice()) {
+    let kept = written(alloc, name, document)?;
+    let bytes = kept.as_slice();
+    match store.replace_raw(name, bytes) {
         Ok(()) => Ok(()),
         Err(error) => match error.kind {
-            ErrorKind::NotFound => store.insert_raw(name, bytes.as_slice()),
+            ErrorKind::NotFound => store.insert_raw(name, bytes),
             _ => Err(error),
         },
     }

@@ -1,22 +1,22 @@
 use Rattle.fallowtime_commands.proofs.performing.perform.Goals as goal
 
 pub returns-in-Insert-clause-moves : goal.returns-in-Insert-clause-moves
-returns-in-Insert-clause-moves g c = rw (c.in-Insert.is, c.inserted.ensures.reply) (rw c.replace-given.ensures.value at c.insert_document.ensures.moves)
+returns-in-Insert-clause-moves g c = rw (c.in-Insert.is, c.inserted.ensures.reply) c.insert.ensures.moves
 
 pub returns-in-Insert-clause-crash : goal.returns-in-Insert-clause-crash
-returns-in-Insert-clause-crash g c = rw (c.in-Insert.is, c.inserted.ensures.reply) (rw c.replace-given.ensures.value at c.insert_document.ensures.crash)
+returns-in-Insert-clause-crash g c = rw (c.in-Insert.is, c.inserted.ensures.reply) c.insert.ensures.crash
 
 pub returns-in-Put-clause-moves : goal.returns-in-Put-clause-moves
-returns-in-Put-clause-moves g c = rw (c.in-Put.is, c.nothing.ensures.reply) (rw c.replace-given-in-Put.ensures.value at c.put.ensures.moves)
+returns-in-Put-clause-moves g c = rw (c.in-Put.is, c.nothing.ensures.reply) c.put.ensures.moves
 
 pub returns-in-Put-clause-crash : goal.returns-in-Put-clause-crash
-returns-in-Put-clause-crash g c = rw (c.in-Put.is, c.nothing.ensures.reply) (rw c.replace-given-in-Put.ensures.value at c.put.ensures.crash)
+returns-in-Put-clause-crash g c = rw (c.in-Put.is, c.nothing.ensures.reply) c.put.ensures.crash
 
 pub returns-in-Replace-clause-moves : goal.returns-in-Replace-clause-moves
-returns-in-Replace-clause-moves g c = rw (c.in-Replace.is, c.nothing-in-Replace.ensures.reply) (rw c.replace-given-in-Replace.ensures.value at c.replace_document.ensures.moves)
+returns-in-Replace-clause-moves g c = rw (c.in-Replace.is, c.nothing-in-Replace.ensures.reply) c.replace.ensures.moves
 
 pub returns-in-Replace-clause-crash : goal.returns-in-Replace-clause-crash
-returns-in-Replace-clause-crash g c = rw (c.in-Replace.is, c.nothing-in-Replace.ensures.reply) (rw c.replace-given-in-Replace.ensures.value at c.replace_document.ensures.crash)
+returns-in-Replace-clause-crash g c = rw (c.in-Replace.is, c.nothing-in-Replace.ensures.reply) c.replace.ensures.crash
 
 pub returns-in-Get-clause-moves : goal.returns-in-Get-clause-moves
 returns-in-Get-clause-moves g c = rw (c.in-Get.is, c.document.ensures.reply) c.get_raw.ensures.moves

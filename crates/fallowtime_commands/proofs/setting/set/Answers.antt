@@ -19,10 +19,10 @@ returns-in_err-document-clause-moves g c =
 
 pub returns-clause-moves : goal.returns-clause-moves
 returns-clause-moves g c =
-    replaced_moves c.args.name.now (view c.args.id.now) c.args.key.now (view c.args.value) (store_state g.S.Store c.args.store.now) (store_state g.S.Store c.get_raw.new.self) (store_state g.S.Store c.replace_document.new.self) c.in_ok-body.body.items (content c.in_ok-document.document) (reply_by as_done c.replace_document.result)
-    (λ d kept is. c.in_ok-document.ensures d kept (rw c.as_slice.ensures.value is)) c.in_ok-body.ensures.moves c.replace_document.ensures.moves
+    replaced_moves c.args.name.now (view c.args.id.now) c.args.key.now (view c.args.value) (store_state g.S.Store c.args.store.now) (store_state g.S.Store c.get_raw.new.self) (store_state g.S.Store c.replace.new.store) c.in_ok-body.body.items (content c.in_ok-document.document) (reply_by as_done c.replace.result)
+    (λ d kept is. c.in_ok-document.ensures d kept (rw c.as_slice.ensures.value is)) c.in_ok-body.ensures.moves c.replace.ensures.moves
 
 pub returns-clause-crash : goal.returns-clause-crash
 returns-clause-crash g c =
-    replaced_leaves c.args.name.now (view c.args.id.now) c.args.key.now (view c.args.value) (store_state g.S.Store c.args.store.now) (store_state g.S.Store c.get_raw.new.self) (store_state g.S.Store c.replace_document.new.self) c.in_ok-body.body.items (content c.in_ok-document.document) (reply_by as_done c.replace_document.result)
-    (λ d kept is. c.in_ok-document.ensures d kept (rw c.as_slice.ensures.value is)) c.in_ok-body.ensures.moves c.in_ok-body.ensures.crash c.replace_document.ensures.moves c.replace_document.ensures.crash
+    replaced_leaves c.args.name.now (view c.args.id.now) c.args.key.now (view c.args.value) (store_state g.S.Store c.args.store.now) (store_state g.S.Store c.get_raw.new.self) (store_state g.S.Store c.replace.new.store) c.in_ok-body.body.items (content c.in_ok-document.document) (reply_by as_done c.replace.result)
+    (λ d kept is. c.in_ok-document.ensures d kept (rw c.as_slice.ensures.value is)) c.in_ok-body.ensures.moves c.in_ok-body.ensures.crash c.replace.ensures.moves c.replace.ensures.crash

@@ -1,0 +1,18 @@
+use Rattle.std.proofs.lemmas.Result.{err_from_is_err_and}
+use Rattle.bson_model.specs.View.{content}
+use Rattle.store_model.specs.State.{in_bytes}
+use Rattle.store_model.specs.State as model
+use Rattle.bson_store.specs.Calls.{store_state}
+use Rattle.bson_store.specs.Refusals.{as_done, reply_by}
+use Rattle.fallowtime_commands.proofs.Putting.{stopped, stored}
+use Rattle.fallowtime_commands.proofs.storing.insert.Goals as goal
+
+pub returns-in_err-bytes-clause-moves : goal.returns-in_err-bytes-clause-moves
+returns-in_err-bytes-clause-moves g c =
+    let p = err_from_is_err_and c.from_residual.result c.from_residual.ensures.1 in
+    rw (p.1, p.2) (stopped c.args.name.now (content c.args.document.now) (store_state g.S.Store c.args.store.now) (model.insert in_bytes) c.in_err-bytes.field-0.0 c.in_err-bytes.ensures)
+
+pub returns-clause-moves : goal.returns-clause-moves
+returns-clause-moves g c =
+    stored c.args.name.now (content c.args.document.now) (store_state g.S.Store c.args.store.now) (store_state g.S.Store c.insert_raw.new.self) (model.insert in_bytes) (reply_by as_done c.insert_raw.result)
+    (rw (c.as_slice.ensures.value, c.in_ok-bytes.ensures) at c.insert_raw.ensures.moves)
