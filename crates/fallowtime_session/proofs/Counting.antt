@@ -1,9 +1,9 @@
 -- Questions with another number of places than their command has.
-use Rattle.std.proofs.Common.{◌≡◌, ℕ, List, [], ◌∷◌, length, Err, codes, refl}
+use Rattle.std.proofs.Common.{◌≡◌, ℕ, List, [], ◌∷◌, length, Bor, None, Err, codes, refl}
 use Rattle.std.specs.declared.alloc.Global.{Global}
-use Rattle.json.specs.Value.{items_view}
+use Rattle.json.specs.Value.{items_view, members_view}
 use Rattle.json.specs.declared.value.Value.{Value}
-use Rattle.fallowtime_session.specs.Questions.{name_alone, name_and_document, name_and_filter, name_and_id, name_id_and_key, name_id_key_and_value}
+use Rattle.fallowtime_session.specs.Questions.{id_and_do, name_alone, name_and_document, name_and_filter, name_and_id, name_and_stream, name_id_and_key, name_id_key_and_value}
 
 abbrev Trees : Type 0
 Trees = List (Value Global)
@@ -25,6 +25,12 @@ no_id (p ∷ []) h = refl
 no_id (p ∷ q ∷ []) h = absurd (h refl)
 no_id (p ∷ q ∷ r ∷ ps) h = refl
 
+pub no_stream : (ps : Trees) → (length ps ≡ 2 → ⊥) → name_and_stream (items_view ps) ≡ Err (codes "command")
+no_stream [] h = refl
+no_stream (p ∷ []) h = refl
+no_stream (p ∷ q ∷ []) h = absurd (h refl)
+no_stream (p ∷ q ∷ r ∷ ps) h = refl
+
 pub no_key : (ps : Trees) → (length ps ≡ 3 → ⊥) → name_id_and_key (items_view ps) ≡ Err (codes "command")
 no_key [] h = refl
 no_key (p ∷ []) h = refl
@@ -45,3 +51,10 @@ no_filter [] one two = refl
 no_filter (p ∷ []) one two = absurd (one refl)
 no_filter (p ∷ q ∷ []) one two = absurd (two refl)
 no_filter (p ∷ q ∷ r ∷ ps) one two = refl
+
+-- an object with another number of members has no id
+pub no_parts : (ms : List (Bor (List ℕ) × Value Global)) → (length ms ≡ 2 → ⊥) → None ≡ id_and_do (members_view ms)
+no_parts [] h = refl
+no_parts (m ∷ []) h = refl
+no_parts (m ∷ n ∷ []) h = absurd (h refl)
+no_parts (m ∷ n ∷ o ∷ ms) h = refl

@@ -1,5 +1,9 @@
+pub mod Answering
+pub mod Asking
 pub mod Counting
+pub mod Holding
 pub mod Identity
 pub mod Streams
 pub mod Texts
 pub mod Writing
+pub mod Trees

@@ -1,6 +1,7 @@
 -- What the JSON of a line asks for, or the place at which it asks for nothing.
 use Rattle.std.specs.Prelude.{ℕ, ◌&&◌, if◌then◌else◌, List, [], ◌∷◌, codes, Option, Some, None, option_map, Result, Ok, Err}
 use Rattle.std.specs.Str.{bytes_eq}
+use Rattle.json.specs.Find.{as_array}
 use Rattle.json.specs.Json as json
 use Rattle.json.specs.Json.{Json, Items, no_items, item, Members, no_members, member}
 use Rattle.bson_base.specs.Answer.{◌>>=◌}
@@ -116,10 +117,13 @@ generic_bytes _ = Err (codes "stream")
 abbrev pub bytes_in : Json → Result (List ℕ) (List ℕ)
 bytes_in j = read_at (codes "stream") (read j) >>= generic_bytes
 
+abbrev pub stream_by : Option Items → Json → Result Asked (List ℕ)
+stream_by (Some js) j = Ok (import_trees js)
+stream_by None j = bytes_in j >>= λ bytes. Ok (import_bytes bytes)
+
 -- the documents of an array, or bytes
 abbrev pub stream_in : Json → Result Asked (List ℕ)
-stream_in (json.array js) = Ok (import_trees js)
-stream_in j = bytes_in j >>= λ bytes. Ok (import_bytes bytes)
+stream_in j = stream_by (as_array j) j
 
 -- a collection's name, and what belongs behind it; the first that isn't what has to be at its place decides
 abbrev pub name_alone : Items → Result (List ℕ) (List ℕ)
@@ -184,7 +188,10 @@ abbrev pub command_at : Json → Option Command
 command_at (json.string name) = command_of name
 command_at _ = None
 
+abbrev pub asked_in : Option Items → Result (List ℕ × Asked) (List ℕ)
+asked_in (Some (item name js)) = asked_by (command_at name) js
+asked_in _ = Err (codes "command")
+
 -- what an array of a command's name and of what belongs behind it asks for
 abbrev pub asked_of : Json → Result (List ℕ × Asked) (List ℕ)
-asked_of (json.array (item name js)) = asked_by (command_at name) js
-asked_of _ = Err (codes "command")
+asked_of j = asked_in (as_array j)

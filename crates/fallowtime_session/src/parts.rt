@@ -1,6 +1,8 @@
 //! What stands at the places of a question.
 
 ghost use Rattle.std.specs.Prelude.{◌≡◌, ◌++◌, List, ℕ};
+ghost use Rattle.std.specs.Option.{option_map};
+ghost use Rattle.json.specs.Find.{as_array};
 ghost use Rattle.json.specs.Value.{items_view, value_view as data_of};
 ghost use Rattle.bson_json_read.specs.Reading.{read, read_top};
 ghost use Rattle.bson_model.specs.View.{content, view};
@@ -20,6 +22,16 @@ use std::alloc::Global;
 use std::mem::replace;
 use store_filter::Filter;
 use store_query::QueryError;
+
+/// The items of an array.
+pub(crate) fn items_of<'t, 'w>(tree: &'t Value<'w>) -> Option<&'t [Value<'w>]>
+    ensures { option_map (λ items. items_view items.now) result ≡ as_array (data_of tree.now) }
+{
+    match tree {
+        Value::Array(items) => Some(items.as_slice()),
+        _ => None,
+    }
+}
 
 /// The name of a collection.
 pub(crate) fn collection_of<'w>(tree: &Value<'w>) -> Result<&'w str, Fault>

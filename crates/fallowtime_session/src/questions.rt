@@ -1,7 +1,6 @@
 //! What a line asks for.
 
 ghost use Rattle.std.specs.Prelude.{◌≡◌, IfOk, Some, true};
-ghost use Rattle.json.specs.Json.{array};
 ghost use Rattle.json.specs.Value.{items_view, value_view as data_of};
 ghost use Rattle.bson_base.specs.Value.{has_key, look_up};
 ghost use Rattle.bson_model.specs.View.{content, view};
@@ -15,7 +14,7 @@ ghost use Rattle.fallowtime_session.specs.declared.commands.Command.TheVariants 
 
 use crate::commands::{Command, command_named};
 use crate::parts::{
-    bytes_of, collection_of, document_of, filter_of, id_of, key_of, stream_of, value_of,
+    bytes_of, collection_of, document_of, filter_of, id_of, items_of, key_of, stream_of, value_of,
 };
 use crate::places::{Fault, Place};
 use bson_model::{Bson, Document};
@@ -136,9 +135,9 @@ fn with_filter<'w>(alloc: Global, places: &[Value<'w>]) -> Result<(&'w str, Filt
 fn stream_at(alloc: Global, tree: &Value<'_>, maker: &mut IdMaker) -> Result<Vec<u8>, Fault>
     ensures { GivesStream maker.old maker.new (data_of tree.now) result }
 {
-    match tree {
-        Value::Array(items) => stream_of(alloc, items.as_slice(), maker),
-        _ => bytes_of(alloc, tree),
+    match items_of(tree) {
+        Some(items) => stream_of(alloc, items, maker),
+        None => bytes_of(alloc, tree),
     }
 }
 
@@ -295,23 +294,6 @@ fn command_of(tree: &Value<'_>) -> Option<Command>
 }
 
 /// What an array of a command's name and of what belongs behind it asks for.
-fn question_in<'w>(
-    alloc: Global,
-    items: &[Value<'w>],
-    maker: &mut IdMaker,
-) -> Result<Question<'w>, Fault>
-    ensures { GivesQuestion maker.old maker.new (asked_of (array (items_view items.now))) result }
-{
-    match items {
-        [name, places @ ..] => match command_of(name) {
-            Some(command) => asked_by(alloc, command, places, maker),
-            None => Err(Fault::At(Place::Command)),
-        },
-        [] => Err(Fault::At(Place::Command)),
-    }
-}
-
-/// What a tree asks for.
 pub(crate) fn question_of<'w>(
     alloc: Global,
     tree: &Value<'w>,
@@ -319,8 +301,11 @@ pub(crate) fn question_of<'w>(
 ) -> Result<Question<'w>, Fault>
     ensures { GivesQuestion maker.old maker.new (asked_of (data_of tree.now)) result }
 {
-    match tree {
-        Value::Array(items) => question_in(alloc, items.as_slice(), maker),
+    match items_of(tree) {
+        Some([name, places @ ..]) => match command_of(name) {
+            Some(command) => asked_by(alloc, command, places, maker),
+            None => Err(Fault::At(Place::Command)),
+        },
         _ => Err(Fault::At(Place::Command)),
     }
 }

@@ -61,16 +61,18 @@ fn parts_of<'t, 'w>(tree: &'t Value<'w>) -> Parts<'t, 'w>
     ensures writable { IsWritable result.id }
     ensures command { data_of result.command.now ≡ command_in (data_of tree.now) }
 {
-    let named = match tree {
-        Value::Object(members) => id_and_do(members.as_slice()),
-        _ => None,
-    };
-    match named {
-        Some((id, command)) => Parts {
-            id: Some(id),
-            command,
+    match tree {
+        Value::Object(members) => match id_and_do(members.as_slice()) {
+            Some((id, command)) => Parts {
+                id: Some(id),
+                command,
+            },
+            None => Parts {
+                id: None,
+                command: tree,
+            },
         },
-        None => Parts {
+        _ => Parts {
             id: None,
             command: tree,
         },
@@ -125,9 +127,9 @@ fn answer_tree<S: Alter + Drop>(
     requires { HasNumbers (data_of tree.now) }
     ensures { Relates S.Store store.old store.new (AnswersTree maker.old maker.new (data_of tree.now) (made_line result)) }
 {
-    let parts = parts_of(tree);
-    let spare = memory_line(alloc, parts.id)?;
-    match answer_command(alloc, store, maker, parts.id, parts.command) {
+    let Parts { id, command } = parts_of(tree);
+    let spare = memory_line(alloc, id)?;
+    match answer_command(alloc, store, maker, id, command) {
         Ok(line) => Ok(line),
         Err(_) => Ok(spare),
     }

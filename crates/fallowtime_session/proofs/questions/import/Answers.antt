@@ -1,0 +1,10 @@
+use Rattle.std.proofs.Common.{arith, inl}
+use Rattle.fallowtime_session.proofs.Counting.{no_stream}
+use Rattle.fallowtime_session.proofs.questions.import.Goals as goal
+use Rattle.fallowtime_session.proofs.questions.import.Goals.{in_default-via-then-places-lt2, in_default-via-else-places-lt2+else-places-lt3}
+
+pub returns-in_default : goal.returns-in_default
+returns-in_default c =
+    inl (
+    no_stream c.args.places.now (λ e. elim c.in_default.branch [ in_default-via-then-places-lt2 w ↦ grind arith | in_default-via-else-places-lt2+else-places-lt3 w ↦ grind arith ])
+    )
