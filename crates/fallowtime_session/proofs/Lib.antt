@@ -7,3 +7,4 @@ pub mod Streams
 pub mod Texts
 pub mod Writing
 pub mod Trees
+pub mod Replying
