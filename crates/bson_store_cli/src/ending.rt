@@ -24,13 +24,19 @@ pub enum Ended {
 }
 
 impl Ended {
-    /// A refusal, of a document that came from one of these lines.
+    /// A refusal, of a document that came from one of these lines. The length of a document that was written from a line
+    /// is at fault only by being too long.
     pub fn of_line(refusal: Refusal, lines: &[u64]) -> Ended {
-        let line = match refusal.error.document {
+        let place = match refusal.error.document {
             Some(document) => lines.get(document as usize).copied(),
             None => None,
         };
-        Ended::Refused(Refusal { line, ..refusal })
+        let mut refusal = refusal;
+        if place.is_some() && matches!(refusal.error.kind, ErrorKind::BadLength) {
+            refusal.error.kind = ErrorKind::TooLong;
+        }
+        refusal.line = place;
+        Ended::Refused(refusal)
     }
 }
 
