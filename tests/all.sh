@@ -34,7 +34,7 @@ try /usr/bin/python3 tests/program.py "$work/bson_store"
 try /usr/bin/python3 tests/session.py "$work/bson_session"
 try /usr/bin/python3 tests/scripts.py "$work/bson_store"
 try /usr/bin/python3 tests/front.py "$work/fallowtime"
-for test in files.py:bson_store extended_json.py:bson_json; do
+for test in files.py:bson_store extended_json.py:bson_json fallowtime.py:fallowtime fallowtime_files.py:fallowtime; do
     [ ! -e "tests/${test%:*}" ] || try /usr/bin/python3 "tests/${test%:*}" "$work/${test#*:}"
 done
 try tests/readme.sh "$work/bson_store"

@@ -4,6 +4,7 @@ before and after the command.
 
     tests/crash.py PROGRAM [KILLS]
 
+PROGRAM is bson_store or fallowtime, by its name. fallowtime has `put` too, and reads the files as they were left: it plays back no log.
 Each time a copy of the files is opened by SQLite itself (Python's sqlite3), which tests its integrity and reads the bodies, and then
 the files are opened by the program, which exports them. Both have to find the documents before the command or those after it; of an
 import, all or none. Prints how often which was found, and ends with status 1 at the first file in which another state is found.
@@ -21,6 +22,7 @@ import time
 
 PROGRAM = sys.argv[1]
 KILLS = int(sys.argv[2]) if len(sys.argv) > 2 else 200
+IS_FALLOWTIME = pathlib.Path(PROGRAM).name == "fallowtime"
 FOLDER = pathlib.Path(tempfile.mkdtemp())
 FILE = FOLDER / "crash.db"
 SEED = 20261124
@@ -48,15 +50,16 @@ class Command:
 
 
 def next_command(generator, state, number):
-    kind = generator.choice(["insert", "replace", "import"] if state else ["insert", "import"])
+    kinds = ["insert", "import"] + ["replace"] * bool(state) + ["put"] * IS_FALLOWTIME
+    kind = generator.choice(kinds)
     after = dict(state)
     if kind == "insert":
         after[number] = document(number, 0)
         return Command(kind, ["insert", "c", json_of(number, 0)], b"", after)
-    if kind == "replace":
-        chosen = generator.choice(list(state))
+    if kind in ("replace", "put"):
+        chosen = generator.choice([*state, *[number] * (kind == "put")])
         after[chosen] = document(chosen, number)
-        return Command(kind, ["replace", "c", json_of(chosen, number)], b"", after)
+        return Command(kind, [kind, "c", json_of(chosen, number)], b"", after)
     new = {at: document(at, 0, generator.randrange(400)) for at in range(number, number + STREAM)}
     after.update(new)
     return Command(kind, ["import", "c"], b"".join(new.values()), after)
@@ -96,6 +99,8 @@ def by_sqlite():
 
 
 def by_program():
+    if IS_FALLOWTIME and not FILE.exists():
+        return b""
     return subprocess.run([PROGRAM, FILE, "export", "c"], capture_output=True, check=True).stdout
 
 

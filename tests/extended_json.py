@@ -8,7 +8,6 @@ prints one line a step, and ends with status 1 at the first that isn't as it sho
 be the file of that name beside the first, the pipe from one into the other is tried too. Each program is started under its own name,
 whatever its file is called. (A file `json.py` in this folder would stand in the place of Python's `json` for the other tests.)
 """
-import decimal
 import json
 import math
 import os
@@ -26,8 +25,7 @@ except ImportError:
     sys.exit("extended_json.py: needs Python's bson, of Debian: apt-get install python3-bson")
 
 sys.path.insert(0, str(pathlib.Path(__file__).resolve().parent))
-from page_reader import (ARRAY, BINARY, DATE, DECIMAL, DOCUMENT, DOUBLE, SCOPED)  # noqa: E402
-from random_documents import Spots, whole, write_document  # noqa: E402
+from random_documents import Spots, settle, whole, write_document  # noqa: E402
 
 PROGRAM = sys.argv[1]
 BESIDE = pathlib.Path(PROGRAM).parent / "bson_store"
@@ -191,27 +189,10 @@ holds("what is not a number keeps at most its sign", run("--to-bson", given=line
 # ---- documents of all kinds
 
 
-def settle(made):
-    """Makes what JSON doesn't keep: the bits of what is not a number, a decimal of more than one form; and no reserved key."""
-    for element in made:
-        tag, key, payload = element
-        if tag == DOUBLE and math.isnan(struct.unpack("<d", payload)[0]):
-            element[2] = struct.pack("<Q", 0x7FF8 << 48)
-        elif tag == DECIMAL:
-            digits = GENERATOR.randrange(10 ** GENERATOR.randrange(1, 34))
-            number = decimal.Decimal((GENERATOR.randrange(2), tuple(map(int, str(digits))), GENERATOR.randrange(-6000, 6000)))
-            element[2] = decimal128.Decimal128(number).bid
-        elif tag in (DOCUMENT, ARRAY):
-            settle(payload)
-        elif tag == SCOPED:
-            settle(payload[1])
-    return made
-
-
 def made_documents(count):
     for _ in range(count):
         out = bytearray()
-        write_document(out, settle(whole(GENERATOR)), Spots())
+        write_document(out, settle(GENERATOR, whole(GENERATOR)), Spots())
         yield bytes(out)
 
 

@@ -1,11 +1,15 @@
-"""Documents of all 21 kinds made at random, and damage to them, for tests/differential.py: `make_input` gives one input
-after the other.
+"""Documents of all 21 kinds made at random, and damage to them, for tests/differential.py, tests/extended_json.py and
+tests/fallowtime.py: `make_input` gives one input after the other.
 """
+import decimal
+import math
 import struct
 
-from page_reader import (ARRAY, BINARY, BOOLEAN, CODE, DATE, DEEPEST, DOCUMENT, DOUBLE, FIRST_DATE, INT64, LAST_DATE,
-                         LONGEST, NULL, OBJECT_ID, OLD_BINARY, POINTER, REGEX, SCOPED, SIZES, STRING, SYMBOL, TAGS,
-                         TEXTS)
+from bson import decimal128
+
+from page_reader import (ARRAY, BINARY, BOOLEAN, CODE, DATE, DECIMAL, DEEPEST, DOCUMENT, DOUBLE, FIRST_DATE, INT64,
+                         LAST_DATE, LONGEST, NULL, OBJECT_ID, OLD_BINARY, POINTER, REGEX, SCOPED, SIZES, STRING, SYMBOL,
+                         TAGS, TEXTS)
 
 # Documents as lists of elements. An element is [tag, key, payload]; the payload is bytes, for a text without length and
 # 00, or a list of elements, or for some tags a list of parts.
@@ -155,6 +159,25 @@ def written(made):
     out, spots = bytearray(), Spots()
     write_document(out, made, spots)
     return bytes(out), spots
+
+
+# What Extended JSON keeps of what is made.
+
+def settle(generator, made):
+    """Makes what JSON doesn't keep: what is not a number has a sign and no other bits, and a decimal has one form."""
+    for element in made:
+        tag, _, value = element
+        if tag == DOUBLE and math.isnan(struct.unpack("<d", value)[0]):
+            element[2] = struct.pack("<Q", 0x7FF8 << 48 | (value[7] & 0x80) << 56)
+        elif tag == DECIMAL:
+            digits = generator.randrange(10 ** generator.randrange(1, 34))
+            number = decimal.Decimal((generator.randrange(2), tuple(map(int, str(digits))), generator.randrange(-6000, 6000)))
+            element[2] = decimal128.Decimal128(number).bid
+        elif tag in (DOCUMENT, ARRAY):
+            settle(generator, value)
+        elif tag == SCOPED:
+            settle(generator, value[1])
+    return made
 
 
 # Damage to what is written: all lengths fit afterwards.

@@ -1,0 +1,444 @@
+#!/usr/bin/python3
+"""Runs the program fallowtime over files that other processes have, that may only be read, or that can't be had; with outputs and inputs
+that fail, with little memory, and many times at once beside a session that writes.
+
+    tests/fallowtime_files.py PROGRAM [INSERTS]
+
+PROGRAM is fallowtime, under whatever name. INSERTS is how many a session does beside 20 readers, 1000 if not given. Prints one line a
+step, and ends with status 1 at the first that isn't as it should be. Wants sqlite3.
+"""
+import atexit
+import json
+import os
+import pathlib
+import pty
+import resource
+import shutil
+import signal
+import sqlite3
+import subprocess
+import sys
+import tempfile
+import threading
+import time
+
+try:
+    import bson
+except ImportError:
+    sys.exit("fallowtime_files.py: needs sqlite3 and Python's bson, of Debian: apt-get install sqlite3 python3-pymongo")
+
+FOLDER = pathlib.Path(tempfile.mkdtemp(prefix="fallowtime-files-"))
+atexit.register(shutil.rmtree, FOLDER, ignore_errors=True)
+BIN, SHOP = FOLDER / "bin", FOLDER / "shop"
+BIN.mkdir()
+SHOP.mkdir()
+# The names under which the program is started say which one it is. Another user must reach it.
+PROGRAM, SESSION = str(BIN / "fallowtime"), str(BIN / "bson_session")
+shutil.copy(sys.argv[1], PROGRAM)
+os.symlink("fallowtime", SESSION)
+FOLDER.chmod(0o755)
+os.chdir(SHOP)
+INSERTS = int(sys.argv[2]) if len(sys.argv) > 2 else 1000
+READS = [["get", "c", "0"], ["find", "c"], ["count", "c"], ["export", "c"], ["collections"], ["backup", "copy.db"]]
+CHANGES = [["insert", "c", '{"_id":-1}'], ["put", "c", '{"_id":-1}'], ["replace", "c", '{"_id":0}'], ["set", "c", "0", "k", "1"],
+           ["unset", "c", "0", "k"], ["remove", "c", "0"], ["import", "c"]]
+MAKERS = ["insert", "put", "import"]
+# The longest that a call may take here.
+LONG = 120
+steps = 0
+
+
+def holds(step, found, wanted):
+    global steps
+    steps += 1
+    if found != wanted:
+        print(f"{step}: {found!r}"[:2000], f"in place of {wanted!r}"[:2000])
+        sys.exit(1)
+    print(f"{step}: {found!r}"[:150])
+
+
+def run(*words, given=b"", **more):
+    done = subprocess.run([PROGRAM, *words], input=given, capture_output=True, timeout=LONG, **more)
+    return done.returncode, done.stdout, done.stderr.decode()
+
+
+def ended(*words, **streams):
+    """The status, and what is on standard error, with a standard output or input of its own."""
+    done = subprocess.run([PROGRAM, *words], stderr=subprocess.PIPE, timeout=LONG, **{"stdin": subprocess.DEVNULL, **streams})
+    return done.returncode, done.stderr.decode()
+
+
+def refusal(told):
+    return 1, b"", f"refused: {told}\n"
+
+
+def files():
+    """Each file, byte for byte, with its mode and the time of its last change."""
+    found = {}
+    for path in SHOP.iterdir():
+        about = path.lstat()
+        found[path.name] = (path.read_bytes() if path.is_file() else b"", about.st_mode, about.st_mtime_ns)
+    return found
+
+
+def changed(before):
+    now = files()
+    return sorted(name for name in {*now, *before} if now.get(name) != before.get(name))
+
+
+def stay(step, before):
+    holds(f"{step}: files that changed", changed(before), [])
+
+
+def document(number):
+    return {"_id": number, "name": f"n{number}", "text": "x" * (number * 37 % 400)}
+
+
+def stream(numbers):
+    return b"".join(bson.encode(document(number)) for number in numbers)
+
+
+class Session:
+    """bson_session over a file, which no other process may change meanwhile."""
+
+    def __init__(self, file):
+        self.process = subprocess.Popen([SESSION, file], stdin=subprocess.PIPE, stdout=subprocess.PIPE)
+        self("collections")
+
+    def __call__(self, *words):
+        self.process.stdin.write(json.dumps({"words": words}).encode() + b"\n")
+        self.process.stdin.flush()
+        return json.loads(self.process.stdout.readline())
+
+    def close(self):
+        self.process.stdin.close()
+        return self.process.wait()
+
+
+def answers(file):
+    """What each command that only reads prints of a file."""
+    found = [run(file, *words) for words in READS[:-1]]
+    copy = FOLDER / "copy.db"
+    found.append(run(file, "backup", str(copy)))
+    found.append(run(str(copy), "export", "c"))
+    copy.unlink(missing_ok=True)
+    return found
+
+
+def answers_of(numbers):
+    lines = [json.dumps(document(number), separators=(",", ":")) + "\n" for number in numbers]
+    texts = [lines[0], "".join(lines), f"{len(lines)}\n"]
+    return [(0, out, "") for out in [*map(str.encode, texts), stream(numbers), b"c\n", b"", stream(numbers)]]
+
+
+def by_sqlite(file, *statements):
+    """What SQLite itself returns of the last one."""
+    connection = sqlite3.connect(file)
+    for statement in statements:
+        rows = connection.execute(statement).fetchall()
+    connection.commit()
+    connection.close()
+    return rows
+
+
+# ---- A FILE that isn't there is made by three commands alone.
+for words in READS + CHANGES:
+    makes = words[0] in MAKERS
+    holds(f"{words[0]} in no folder", run("none/none.db", *words), refusal("NoFolder" if makes else "NoFile"))
+    holds("what is there", os.listdir(), [])
+    if makes:
+        holds(f"{words[0]} makes it", run("none.db", *words), (0, {"insert": b"-1\n", "put": b"", "import": b"0\n"}[words[0]], ""))
+        holds("a store", run("none.db", "collections"), (0, b"" if words[0] == "import" else b"c\n", ""))
+        for path in SHOP.iterdir():
+            path.unlink()
+    else:
+        holds(f"{words[0]} of none", run("none.db", *words), refusal("NoFile"))
+        holds("what is there", os.listdir(), [])
+
+# ---- Files that are no store, or no files.
+holds("a store", run("shop.db", "import", "c", given=stream(range(300))), (0, b"300\n", ""))
+pathlib.Path("text").write_text("no database\n" * 1000)
+pathlib.Path("damaged.db").write_bytes(pathlib.Path("shop.db").read_bytes()[:100] + b"\xff" * 12188)
+pathlib.Path("cut.db").write_bytes(pathlib.Path("shop.db").read_bytes()[:5000])
+pathlib.Path("linked.db").write_bytes(pathlib.Path("shop.db").read_bytes())
+os.link("linked.db", "second.db")
+os.symlink("nowhere", "dangling.db")
+os.symlink("shop.db", "link.db")
+os.mkfifo("pipe")
+shutil.copy("shop.db", "hot.db")
+pathlib.Path("hot.db-journal").write_bytes(b"\xd9\xd5\x05\xf9\x20\xa1\x63\xd7" + bytes(504))
+by_sqlite("other.db", "CREATE TABLE documents (a, b)", "INSERT INTO documents VALUES (1, 2)")
+shutil.copy("shop.db", "bad.db")
+by_sqlite("bad.db", "UPDATE documents SET body = x'0500000000' WHERE place = 7")
+MINUS = "12000000015F696400000000000000008000"
+for file in "before.db", "collide.db":
+    holds("a store", run(file, "insert", "c", '{"_id":5}'), (0, b"5\n", ""))
+    by_sqlite(file, "DELETE FROM documents", f"INSERT INTO documents VALUES (1, 'c', x'{MINUS}', x'{MINUS}')")
+by_sqlite("collide.db", f"INSERT INTO documents VALUES (2, 'c', x'{MINUS.replace('8000', '0000')}', x'{MINUS}')")
+shutil.copy("shop.db", "last.db")
+by_sqlite("last.db", "UPDATE documents SET place = 9223372036854775807 WHERE place = 7")
+before = files()
+for file, told in [("text", "NoDatabase"), ("damaged.db", "NoDatabase"), ("cut.db", "NoDatabase"), (".", "NotPlain"), ("linked.db", "NotPlain"),
+                   ("pipe", "NotPlain"), ("/dev/null", "NotPlain"), ("shop.db/x.db", "NoFolder"), ("other.db", "NotAStore"), ("bad.db", "BadRow 7"),
+                   ("collide.db", "IdsCollide 1 2")]:
+    for words in READS:
+        holds(f"{words[0]} over {file}", run(file, *words), refusal(told))
+    stay("what is refused", before)
+    for words in CHANGES:
+        holds(f"{words[0]} over {file}", run(file, *words), refusal(told))
+    # A change that is refused as it opens a file may leave a log beside it, with nothing to play back.
+    holds("what is refused", [name for name in changed(before) if name != f"{file}-wal" or os.path.getsize(name) > 41], [])
+    for name in changed(before):
+        os.remove(name)
+for file, told, missed in ("dangling.db", "NotPlain", "NoFile"), ("file:shop.db", "NoName", "NoName"), (":memory:", "NoName", "NoName"):
+    for words in READS + CHANGES:
+        makes = words[0] in MAKERS
+        holds(f"{words[0]} over {file}", run(file, *words), refusal(told if makes else missed if words in READS else "NoFile"))
+holds("a journal, for a command that changes", run("hot.db", "remove", "c", "0"), refusal("Journal"))
+holds("and for one that reads, once it has waited", run("hot.db", "count", "c", "--wait", "0"), refusal("Journal"))
+stay("a journal", before)
+holds("keys from before, read", run("before.db", "get", "c", "0.0"), (0, b'{"_id":-0.0}\n', ""))
+stay("what was read", before)
+holds("insert behind the last place", run("last.db", "insert", "c", '{"_id":-1}'), refusal("Places"))
+holds("and changed", run("before.db", "set", "c", "-0.0", "k", "1"), (0, b"", ""))
+holds("have keys of now", run("before.db", "find", "c"), (0, b'{"_id":-0.0,"k":1}\n', ""))
+holds("by a link", run("link.db", "set", "c", "0", "name", '"n0"'), (0, b"", ""))
+holds("it is the file's", [run(file, "export", "c") == (0, stream(range(300)), "") for file in ("link.db", "shop.db")], [True, True])
+pathlib.Path("empty.db").touch()
+holds("a file of no bytes", [run("empty.db", *words) for words in READS[1:5]], [(0, b"", ""), (0, b"0\n", ""), (0, b"", ""), (0, b"", "")])
+holds("stays one", os.path.getsize("empty.db"), 0)
+by_sqlite("rule.db", "CREATE TABLE documents (place INTEGER PRIMARY KEY, coll TEXT NOT NULL, idkey BLOB NOT NULL, body BLOB NOT NULL, CHECK (coll < 'd'))")
+holds("a rule of somebody else", run("rule.db", "insert", "c", '{"_id":1}'), (0, b"1\n", ""))
+holds("a row that breaks it", run("rule.db", "insert", "d", '{"_id":1}'), refusal("Database"))
+
+# ---- Back-ups: a name that is there, or that SQLite has another use for.
+for path, told in [("text", "Exists"), ("shop.db", "Exists"), ("dangling.db", "Exists"), (".", "Exists"), ("none/b.db", "NoFolder"), ("text/b.db", "NoFolder"),
+                   ("b.db-wal", "NoName"), ("b.db-journal", "NoName"), ("b.db-shm", "NoName"), (":memory:", "NoName"), ("file:b.db", "NoName")]:
+    before = files()
+    holds(f"backup {path}", run("shop.db", "backup", path), refusal(told))
+    stay(f"backup {path}", before)
+for beside in "b.db-wal", "b.db-journal":
+    os.symlink("nowhere", beside)
+    holds(f"where {beside} is", run("shop.db", "backup", "b.db"), refusal("Exists"))
+    os.remove(beside)
+for path in SHOP.iterdir():
+    if path.name != "shop.db":
+        path.unlink()
+
+
+# ---- A second line at a terminal, and only there.
+def told_at_terminal(*words):
+    ours, theirs = pty.openpty()
+    done = subprocess.run([PROGRAM, *words], stdin=subprocess.DEVNULL, stdout=subprocess.DEVNULL, stderr=theirs)
+    os.close(theirs)
+    told = b""
+    try:
+        while piece := os.read(ours, 4096):
+            told += piece
+    except OSError:
+        pass
+    os.close(ours)
+    return done.returncode, told.decode().replace("\r\n", "\n")
+
+
+holds("at a terminal", told_at_terminal("none.db", "count", "c"), (1, "refused: NoFile\nthe file: it isn't there\n"))
+holds("at a terminal", told_at_terminal("shop.db", "get", "c", "-5"), (1, "refused: NotFound _id -5\n"))
+
+# ---- Beside a process that has the file: it is read as it is, and no change gets in.
+shop = Session("shop.db")
+holds("a change that a session does", [shop("insert", "c", json.dumps(document(number)))["status"] for number in range(300, 340)], [0] * 40)
+before = files()
+holds("reads beside a session", answers("shop.db") == answers_of(range(340)), True)
+stay("reads beside a session", before)
+for words in CHANGES:
+    began = time.time()
+    holds(f"{words[0]} beside a session", run("shop.db", *words, "--wait", "0"), refusal("Busy"))
+    holds("at once", time.time() - began < 4, True)
+for seconds, words in ("1", ["--wait", "1"]), ("5", []):
+    began = time.time()
+    holds(f"remove, waiting {seconds} seconds", run("shop.db", "remove", "c", "0", *words), refusal("Busy"))
+    holds("it did wait", float(seconds) - 0.2 < time.time() - began < float(seconds) + 20, True)
+stay("changes that are refused", before)
+waiting = subprocess.Popen([PROGRAM, "shop.db", "insert", "c", json.dumps(document(340)), "--wait", "60"], stdout=subprocess.PIPE, stderr=subprocess.PIPE)
+time.sleep(0.5)
+holds("one that waits", waiting.poll(), None)
+holds("the session ends", shop.close(), 0)
+holds("one that waited", (*waiting.communicate(), waiting.returncode), (b"340\n", b"", 0))
+inserts = [[PROGRAM, "shop.db", "insert", "c", json.dumps(document(number)), "--wait", "60"] for number in range(341, 361)]
+changes = [subprocess.Popen(words, stdout=subprocess.DEVNULL) for words in inserts]
+holds("20 changes at once", [change.wait() for change in changes], [0] * 20)
+holds("each is in", run("shop.db", "count", "c"), (0, b"361\n", ""))
+shop = Session("shop.db")
+shop("remove", "c", "350")
+shop.process.kill()
+shop.process.wait()
+before = files()
+holds("a log that was left", sorted(before), ["shop.db", "shop.db-wal"])
+holds("is read", run("shop.db", "count", "c"), (0, b"360\n", ""))
+stay("a log that was left", before)
+holds("and played back by a change", run("shop.db", "put", "c", json.dumps(document(350))), (0, b"", ""))
+holds("by SQLite itself", by_sqlite("shop.db", "SELECT count(*) FROM documents"), [(361,)])
+
+# SQLite itself in the middle of a change.
+connection = sqlite3.connect("shop.db", isolation_level=None)
+connection.execute("BEGIN EXCLUSIVE")
+connection.execute("DELETE FROM documents")
+holds("beside a change of SQLite's", run("shop.db", "count", "c"), (0, b"361\n", ""))
+holds("a change beside it", run("shop.db", "remove", "c", "0", "--wait", "0"), refusal("Busy"))
+connection.execute("ROLLBACK")
+connection.close()
+
+# A reader that can't go on has nothing locked.
+blocked = subprocess.Popen([PROGRAM, "shop.db", "export", "c"], stdout=subprocess.PIPE)
+first = blocked.stdout.read(1)
+holds("a change beside a reader", run("shop.db", "set", "c", "0", "k", "1", "--wait", "0"), (0, b"", ""))
+holds("the reader has what was there", first + blocked.communicate()[0][:19] == bson.encode(document(0))[:20], True)
+holds("a change back", run("shop.db", "unset", "c", "0", "k"), (0, b"true\n", ""))
+
+# ---- Files that may only be read, for a user who isn't root.
+if os.getuid() == 0:
+    NOBODY = {"user": 65534, "group": 65534, "extra_groups": []}
+    os.chmod("shop.db", 0o444)
+    SHOP.chmod(0o555)
+    before = files()
+    wanted = [(0, out, "") for out in (b'{"_id":0,"name":"n0","text":""}\n', b"361\n", b"c\n")]
+    holds("a file of mode 444 in a folder of mode 555", [run("shop.db", *words, **NOBODY) for words in (READS[0], READS[2], READS[4])], wanted)
+    holds("its back-up elsewhere", (os.chmod(FOLDER, 0o777), run("shop.db", "backup", str(FOLDER / "copy.db"), **NOBODY))[1], (0, b"", ""))
+    holds("has the same", run(str(FOLDER / "copy.db"), "export", "c", **NOBODY) == run("shop.db", "export", "c"), True)
+    os.chmod(FOLDER, 0o755)
+    for words in CHANGES + READS[-1:]:
+        holds(f"{words[0]} is denied", run("shop.db", *words, **NOBODY), refusal("Denied"))
+        holds(f"{words[0]} over no file", run("none.db", *words, **NOBODY), refusal("Denied" if words[0] in MAKERS else "NoFile"))
+    stay("what may only be read", before)
+    SHOP.chmod(0o777)
+    os.chmod("shop.db", 0o000)
+    for words in READS[:-1] + CHANGES:
+        holds(f"{words[0]} of a file that may not be read", run("shop.db", *words, **NOBODY), refusal("Denied"))
+    os.chmod("shop.db", 0o644)
+    SHOP.chmod(0o755)
+    holds("what root has", run("shop.db", "count", "c"), (0, b"361\n", ""))
+else:
+    print("files that may only be read weren't tried: that takes root")
+
+exported = run("shop.db", "export", "c")
+
+# ---- Outputs that take nothing, or that are closed, and inputs that can't be read.
+WRITER, READER = (1, "refused: Writer\n"), (1, "refused: Reader\n")
+for words in [*READS[:-1], ["find", "c", "--bson"], ["get", "c", "0", "--canonical"], ["unset", "c", "0", "k"], ["insert", "c", "{}"], ["import", "c"]]:
+    with open("/dev/full", "wb") as full:
+        holds(f"/dev/full: {words[0]}", ended("shop.db", *words, stdout=full), WRITER)
+    holds(f"no output: {words[0]}", ended("shop.db", *words, preexec_fn=lambda: os.close(1)), WRITER)
+    ours, theirs = os.pipe()
+    os.close(ours)
+    holds(f"nobody reads: {words[0]}", ended("shop.db", *words, stdout=theirs), WRITER)
+    os.close(theirs)
+holds("three inserts that were done", run("shop.db", "count", "c"), (0, b"364\n", ""))
+for line in run("shop.db", "find", "c", '{"_id":{"$type":"objectId"}}')[1].splitlines():
+    holds("remove of one", run("shop.db", "remove", "c", json.dumps(json.loads(line)["_id"])), (0, b"", ""))
+with open("/dev/full", "wb") as full:
+    holds("/dev/full: nothing to print", ended("shop.db", "set", "c", "0", "name", '"n0"', stdout=full), (0, ""))
+    holds("/dev/full: another refusal", ended("shop.db", "remove", "c", "1000", stdout=full), (1, "refused: NotFound _id 1000\n"))
+    done = subprocess.run([PROGRAM, "shop.db", "get", "c", "-5"], stdout=subprocess.PIPE, stderr=full)
+    holds("/dev/full as standard error", (done.returncode, done.stdout), (1, b""))
+# What is printed at once, as it is long, doesn't get into a file that has the number of a closed stream.
+LONG_ID = "y" * 100000
+for closed in [0], [1], [2], [0, 1, 2]:
+    streams = {name: None if number in closed else subprocess.DEVNULL for number, name in enumerate(["stdin", "stdout", "stderr"])}
+    words = [PROGRAM, "shop.db", "insert", "wide", json.dumps({"_id": LONG_ID})]
+    done = subprocess.run(words, preexec_fn=lambda: [os.close(number) for number in closed], **streams)
+    holds(f"a long _id with {closed} closed", done.returncode, int(1 in closed))
+    holds("the file is whole", by_sqlite("shop.db", "PRAGMA integrity_check"), [("ok",)])
+    holds("it is in", run("shop.db", "remove", "wide", LONG_ID), (0, b"", ""))
+folder = os.open("/", os.O_RDONLY)
+for options in [], ["--json"]:
+    holds(f"an input that fails {options}", ended("shop.db", "import", "c", *options, stdin=folder), READER)
+    holds(f"no input {options}", ended("shop.db", "import", "c", *options, stdin=None, preexec_fn=lambda: os.close(0)), READER)
+os.close(folder)
+holds("what is there", run("shop.db", "export", "c") == exported, True)
+
+
+# ---- A disk that is full.
+def limit_files(most):
+    signal.signal(signal.SIGXFSZ, signal.SIG_IGN)
+    resource.setrlimit(resource.RLIMIT_FSIZE, (most, most))
+
+
+large = b"".join(bson.encode({"_id": 10000 + i, "text": "x" * 1000}) for i in range(3000))
+holds("a file that may not grow", run("shop.db", "import", "c", given=large, preexec_fn=lambda: limit_files(1 << 18)), refusal("Database"))
+holds("nothing of it is in", run("shop.db", "export", "c") == exported, True)
+holds("it goes in", run("shop.db", "import", "c", given=large), (0, b"3000\n", ""))
+holds("a back-up that may not grow", run("shop.db", "backup", "b.db", preexec_fn=lambda: limit_files(1 << 20)), refusal("Disk"))
+holds("is not there", os.path.exists("b.db"), False)
+
+
+def limit_memory(most):
+    resource.setrlimit(resource.RLIMIT_AS, (most, most))
+
+
+# ---- Little memory: each command is done, or refused as out of memory, and never ended by a signal.
+QUERY = '{"$nor":[' * 60 + "{}" + "]}" * 60
+NESTED = '{"_id":-2,"v":' + "[" * 98 + "]" * 98 + "}"
+lines = b"".join(b'{"text":"%s"}\n' % (b"y" * 1000) for _ in range(20000))
+for words, given in [(["count", "c"], b""), (["count", "c", QUERY], b""), (["find", "c"], b""), (["export", "c"], b""), (["put", "c", NESTED], b""),
+                     (["get", "c", "-2"], b""), (["backup", "b.db"], b""), (["import", "more", "--json"], lines)]:
+    file = "more.db" if given else "shop.db"
+    wanted = run(file, *words, given=given)
+    holds(f"{words[0]} with all memory", (wanted[0], wanted[2]), (0, ""))
+    found = set()
+    for megabytes in [*range(400, 40, -40), *range(40, 2, -1)]:
+        for made in "b.db", "more.db", "more.db-wal":
+            pathlib.Path(made).unlink(missing_ok=True)
+        done = run(file, *words, given=given, preexec_fn=lambda: limit_memory(megabytes << 20))
+        if done[0] == 127:
+            break  # with less the system can't load the program
+        found.add(done if done[0] else done == wanted)
+    holds(f"{words[0]} with {megabytes} to 400 MB", found, {True, refusal("Memory")})
+
+# ---- Many readers beside a session of inserts: each answer is a state between two of them.
+holds("a file for the race", run("race.db", "insert", "c", json.dumps(document(0))), (0, b"0\n", ""))
+shop = Session("race.db")
+acknowledged, asked, reads, wrong, ends = 1, 1, 0, [], threading.Event()
+
+
+def count_lines(out):
+    ids = [json.loads(line)["_id"] for line in out.splitlines()]
+    return len(ids) if ids == list(range(len(ids))) else None
+
+
+def count_bodies(out):
+    number = len(bson.decode_all(out))
+    return number if out == stream(range(number)) else None
+
+
+# How many documents an answer has; None if it is no state.
+COUNTS = [(["export", "c"], count_bodies), (["count", "c"], int), (["find", "c"], count_lines), (["count", "c", '{"_id":{"$ne":-1}}'], int)]
+
+
+def read(number):
+    global reads
+    while not ends.is_set():
+        words, count = COUNTS[(number + reads) % len(COUNTS)]
+        least = acknowledged
+        status, out, told = run("race.db", *words)
+        most = asked
+        if (status, told) != (0, "") or not least <= (count(out) or 0) <= most:
+            wrong.append((words, least, most, status, out[:100], told))
+        reads += 1
+
+
+readers = [threading.Thread(target=read, args=(number,)) for number in range(20)]
+for reader in readers:
+    reader.start()
+for number in range(1, INSERTS + 1):
+    asked = number + 1
+    if shop("insert", "c", json.dumps(document(number)))["status"] != 0:
+        wrong.append(f"insert of {number}")
+    acknowledged = number + 1
+ends.set()
+for reader in readers:
+    reader.join()
+holds("reads that are no state between two inserts", wrong[:3], [])
+print(f"{reads} reads beside {INSERTS} inserts")
+holds("the session ends", shop.close(), 0)
+holds("all are in", run("race.db", "export", "c") == (0, stream(range(INSERTS + 1)), ""), True)
+print(f"{steps} steps, all as they should be")
