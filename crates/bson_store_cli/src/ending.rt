@@ -2,10 +2,10 @@
 
 ghost use Rattle.bson_base.specs.Device.{CanRefuse};
 
+use bson_base::write_all;
 use bson_store::{ErrorKind, Sink};
 use cli_convert::{Stop as LineStop, report_end};
 use cli_files::{FileError, report_file};
-use bson_base::write_all;
 use fallowtime_commands::{Refusal, Stop, Unread};
 use std::alloc::AllocError;
 use std::io;

@@ -228,8 +228,13 @@ fn session<I: Source, O: Sink>(
     let mut maker = maker_of(rt)?;
     match open_within(rt, file, seconds) {
         Ok(connection) => {
-            let (ended, connection) =
-                answer_over(rt.alloc(), connection, &mut maker, input, output);
+            let (ended, connection) = answer_over(
+                rt.alloc(),
+                connection,
+                &mut maker,
+                input,
+                output,
+            );
             close(connection);
             ended
         }

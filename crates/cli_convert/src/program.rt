@@ -85,7 +85,11 @@ pub fn convert<I: Source, O: Sink, F: Sink>(
         (F.tally faults.old) (F.tally faults.new) result }
 {
     match task_of(words) {
-        Some(Task::ToLines(mode)) => report_end(alloc, write_lines(alloc, mode, input, output), faults),
+        Some(Task::ToLines(mode)) => report_end(
+            alloc,
+            write_lines(alloc, mode, input, output),
+            faults,
+        ),
         Some(Task::ToBson) => report_end(alloc, write_documents(alloc, input, output), faults),
         Some(Task::Help) => report_end(alloc, help(output), faults),
         None => {

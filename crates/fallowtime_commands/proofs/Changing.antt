@@ -67,23 +67,23 @@ module _ (n : List ℕ) (id : Value) (k : List ℕ) (v : Value) where
   unmade_moves s t bytes kind memory m =
       moved s t (Does (on n (get_raw id)) (model.bytes bytes)) (Sets n id k v (refused kind None)) m
       (λ docs after does a shown.
-          let d = does a shown in
-          let good = got_name n id bytes docs a d.0 shown d.2 in
-          let w = got_document n id bytes docs a d.0 shown d.2 in
-          (d.0, d.1, inr (inr (w.0, d.0, w.2, inl ((kind, inr (good, inr (memory w.0 w.2.0 w.1)), refl), refl)))))
+      let d = does a shown in
+      let good = got_name n id bytes docs a d.0 shown d.2 in
+      let w = got_document n id bytes docs a d.0 shown d.2 in
+      (d.0, d.1, inr (inr (w.0, d.0, w.2, inl ((kind, inr (good, inr (memory w.0 w.2.0 w.1)), refl), refl)))))
 
   pub replaced_moves : (s m t : State) (bytes : List ℕ) (e : Members) (r : Reply) → ((d : Members) → IsKept d → bytes ≡ encode d → e ≡ put k v d)
       → Moves s m (Does (on n (get_raw id)) (model.bytes bytes)) → Moves m t (Stores n (replace in_bytes) e r) → Moves s t (Sets n id k v r)
   replaced_moves s m t bytes e r with_value first second =
       moved_twice s m t (Does (on n (get_raw id)) (model.bytes bytes)) (Stores n (replace in_bytes) e r) (Sets n id k v r) first second
       (λ docs mid after does stores a shown.
-          let d = does a shown in
-          let w = got_document n id bytes docs a d.0 shown d.2 in
-          let same = with_value w.0 w.2.0 w.1 in
-          elim stores [
-            | inl stopped ↦ (d.0, subst (λ (rows : List TableRow). Represents rows d.0) (sym stopped.1) d.1, inr (inr (w.0, d.0, w.2, inl (subst (λ x. IsStopped n x r) same stopped.0, refl))))
-            | inr does_bytes ↦ let c = does_bytes.2 d.0 d.1 in (c.0, c.1, inr (inr (w.0, d.0, w.2, inr (does_bytes.0, subst (λ x. ReadsBytes (encode x) does_bytes.0) same does_bytes.1, c.2))))
-          ])
+      let d = does a shown in
+      let w = got_document n id bytes docs a d.0 shown d.2 in
+      let same = with_value w.0 w.2.0 w.1 in
+      elim stores [
+        | inl stopped ↦ (d.0, subst (λ (rows : List TableRow). Represents rows d.0) (sym stopped.1) d.1, inr (inr (w.0, d.0, w.2, inl (subst (λ x. IsStopped n x r) same stopped.0, refl))))
+        | inr does_bytes ↦ let c = does_bytes.2 d.0 d.1 in (c.0, c.1, inr (inr (w.0, d.0, w.2, inr (does_bytes.0, subst (λ x. ReadsBytes (encode x) does_bytes.0) same does_bytes.1, c.2))))
+      ])
 
   -- ---- what a crash leaves
 

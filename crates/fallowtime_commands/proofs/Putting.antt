@@ -47,9 +47,9 @@ module _ (n : List ℕ) (e : Members) where
   inserted s m t i r first second =
       moved_twice s m t (DoesBytes n (replace in_bytes) (encode e) (refused NotFound i)) (DoesBytes n (insert in_bytes) (encode e) r) (Puts n e r) first second
       (λ docs mid after none does. inr (λ a shown.
-          let b = none.2 a shown in
-          let c = does.2 b.0 b.1 in
-          (c.0, c.1, inr (b.0, (i, none.0, none.1, b.2), (does.0, does.1, c.2)))))
+      let b = none.2 a shown in
+      let c = does.2 b.0 b.1 in
+      (c.0, c.1, inr (b.0, (i, none.0, none.1, b.2), (does.0, does.1, c.2)))))
 
   pub inserted_leaves : (s m t : State) (i : Option ℕ) (r : Reply) → Moves s m (DoesBytes n (replace in_bytes) (encode e) (refused NotFound i)) → LeavesBytes n (replace in_bytes) (encode e) (refused NotFound i) s m
       → Moves m t (DoesBytes n (insert in_bytes) (encode e) r) → LeavesBytes n (insert in_bytes) (encode e) r m t → LeavesPut n e r s t
@@ -59,7 +59,13 @@ module _ (n : List ℕ) (e : Members) where
       let z = next.1 y.0 y.1 in
       let none = y.2 in
       let does = z.2 in
-      let b = none.2 a shown in
-      (b.0, (i, none.0, none.1, b.2), (does.0, does.1,
+      let b = none.2 a shown in (
+        b.0,
+        (i, none.0, none.1, b.2),
+        (
+          does.0,
+          does.1,
           left_more (Holds first_db) m.may_leave s.may_leave (λ db mid. was none.0 none.1 next.0 first_db docs beside stands a shown db mid) (state_of b.0) (on n (insert in_bytes does.0)) r db
-          (leaves does.0 does.1 clean first_db y.0 (shows_then first_db s m beside y.3) y.1 b.0 b.1 db may)))))
+              (leaves does.0 does.1 clean first_db y.0 (shows_then first_db s m beside y.3) y.1 b.0 b.1 db may),
+        ),
+      )))

@@ -28,7 +28,7 @@ SetsIn n id k v r a c =
     ((IsFreeKey k → ⊥) × Serves a (on n (set id k (Some v))) r c)
     ⊎ ((IsRefusal r × Serves a (on n (get_raw id)) r c)
     ⊎ ((d : Members) × (b : DocumentTable) × Gets n id a d b
-        × ((IsStopped n (put k v d) r × (c ≡ b)) ⊎ ((x : Reading) × ReadsBytes (encode (put k v d)) x × Serves b (on n (replace in_bytes x)) r c))))
+    × ((IsStopped n (put k v d) r × (c ≡ b)) ⊎ ((x : Reading) × ReadsBytes (encode (put k v d)) x × Serves b (on n (replace in_bytes x)) r c))))
 
 -- whatever table the rows showed
 abbrev pub Sets : List ℕ → Value → List ℕ → Value → Reply → List TableRow → List TableRow → Type 0

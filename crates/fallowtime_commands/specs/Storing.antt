@@ -73,5 +73,5 @@ LeavesPut n e r old new =
     (IsStopped n e r × Survives old new (λ _. ⊥))
     ⊎ ((HasReplaced r × LeavesBytes n (replace in_bytes) (encode e) r old new)
     ⊎ (HasCleanDisk new → (first : Database) (docs : List TableRow) → ShowsOthers first old → Stands old docs → (a : DocumentTable) → Represents docs a
-        → (db : Trees) → new.may_leave db
-        → (b : DocumentTable) × FindsNone n (encode e) a b × ((y : Reading) × ReadsBytes (encode e) y × LeftBy (Holds first) old.may_leave (state_of b) (on n (insert in_bytes y)) r db)))
+    → (db : Trees) → new.may_leave db
+    → (b : DocumentTable) × FindsNone n (encode e) a b × ((y : Reading) × ReadsBytes (encode e) y × LeftBy (Holds first) old.may_leave (state_of b) (on n (insert in_bytes y)) r db)))

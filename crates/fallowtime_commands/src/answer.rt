@@ -38,10 +38,7 @@ pub(crate) fn nothing(outcome: Result<(), StoreError>) -> Result<Answer, StoreEr
 }
 
 /// An insertion is answered with the `_id`, which is taken; after a refusal it stays.
-pub(crate) fn inserted(
-    id: &mut Bson,
-    outcome: Result<(), StoreError>,
-) -> Result<Answer, StoreError>
+pub(crate) fn inserted(id: &mut Bson, outcome: Result<(), StoreError>) -> Result<Answer, StoreError>
     ensures reply { reply_of result ≡ reply_by as_done outcome }
     ensures shape { IfOk result (λ a. a ≡ Id id.old) }
 {

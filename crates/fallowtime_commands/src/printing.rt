@@ -108,12 +108,7 @@ fn print_bodies<O: Sink>(
 }
 
 /// Writes an id as a line of Extended JSON.
-fn print_id<O: Sink>(
-    alloc: Global,
-    id: &Bson,
-    mode: Mode,
-    output: &mut O,
-) -> Result<(), Refusal>
+fn print_id<O: Sink>(alloc: Global, id: &Bson, mode: Mode, output: &mut O) -> Result<(), Refusal>
     requires { CanRefuse (O.tally output.old) }
     ensures { PrintsId mode (view id.now) (O.tally output.old) (O.tally output.new) result }
 {

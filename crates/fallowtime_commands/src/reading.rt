@@ -123,10 +123,7 @@ fn unsetting_of<'w>(
     ensures { (maker : Maker) → MatchResult result (IsRequest maker Unset (map string_bytes places.now)) (IsUnread Unset (map string_bytes places.now)) }
 {
     match places {
-        [id, key] => Ok(Request::Unset(
-            id_of(alloc, id.as_str(), scratch)?,
-            key.as_str(),
-        )),
+        [id, key] => Ok(Request::Unset(id_of(alloc, id.as_str(), scratch)?, key.as_str())),
         _ => Err(Stop::Words(Unread::Usage)),
     }
 }
@@ -213,8 +210,6 @@ pub fn request_of<'w>(
         Command::Find => Ok(Request::Find(filter_of(alloc, places, scratch)?)),
         Command::Count => Ok(Request::Count(filter_of(alloc, places, scratch)?)),
         Command::Collections => collections_in(places),
-        Command::Import | Command::Export | Command::Backup => {
-            Err(Stop::Words(Unread::Usage))
-        }
+        Command::Import | Command::Export | Command::Backup => { Err(Stop::Words(Unread::Usage)) }
     }
 }

@@ -48,12 +48,7 @@ fn push_error(line: &mut String, error: Error) -> Result<(), AllocError>
 }
 
 /// Puts a text between two others behind a line.
-fn push_between(
-    line: &mut String,
-    front: &str,
-    text: &str,
-    back: &str,
-) -> Result<(), AllocError>
+fn push_between(line: &mut String, front: &str, text: &str, back: &str) -> Result<(), AllocError>
     ensures { OnOk result (string_bytes line.new ≡ string_bytes line.old ++ (front.now ++ (text.now ++ back.now))) }
 {
     line.push_str(front)?;
