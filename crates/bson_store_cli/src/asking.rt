@@ -14,11 +14,19 @@ use store_documents::Name;
 
 /// What a command asks of a store.
 #[derive(Drop)]
-pub enum Asked<'w> {
-    /// All documents of a collection as BSON, which go out one after the other.
-    Export,
-    /// A request; of documents from lines the place of each.
-    Request(Request<'w>, Vec<u64>),
+pub struct Asked<'w> {
+    /// The request; none to write all documents of the collection as BSON, one after the other.
+    pub request: Option<Request<'w>>,
+    /// Of documents that came from lines the line of each, counted from 1.
+    pub lines: Vec<u64>,
+}
+
+/// A request of no lines.
+fn without_lines(alloc: Global, request: Option<Request<'_>>) -> Asked<'_> {
+    Asked {
+        request,
+        lines: Vec::new(alloc),
+    }
 }
 
 /// The documents of the input, as BSON or as lines of Extended JSON. Under a bad name nothing is read.
@@ -35,10 +43,13 @@ fn import_of<I: Source>(
     }
     if words.options.lines {
         let taken = read_lines(alloc, input, maker)?;
-        return Ok(Asked::Request(Request::Import(taken.stream), taken.lines));
+        return Ok(Asked {
+            request: Some(Request::Import(taken.stream)),
+            lines: taken.lines,
+        });
     }
     match read_all(alloc, input) {
-        Ok(stream) => Ok(Asked::Request(Request::Import(stream), Vec::new(alloc))),
+        Ok(stream) => Ok(without_lines(alloc, Some(Request::Import(stream)))),
         Err(ReadAllError::Reader) => Err(Ended::Refused(Refusal::from(ErrorKind::Reader))),
         Err(ReadAllError::Memory) => Err(Ended::Refused(Refusal::from(ErrorKind::Memory))),
     }
@@ -54,12 +65,12 @@ pub fn asked_of<'w, I: Source>(
     requires { CanFail (I.feed input.old) }
 {
     match words.command {
-        Command::Export => Ok(Asked::Export),
+        Command::Export => Ok(without_lines(alloc, None)),
         Command::Import => import_of(alloc, words, maker, input),
         _ => {
             let mut scratch = Scratch::new(alloc);
             let request = request_of(alloc, words, maker, &mut scratch)?;
-            Ok(Asked::Request(request, Vec::new(alloc)))
+            Ok(without_lines(alloc, Some(request)))
         }
     }
 }

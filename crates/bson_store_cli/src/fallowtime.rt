@@ -39,6 +39,20 @@ fn maker_of(rt: &HostRuntime) -> io::Result<IdMaker> {
     Ok(IdMaker::new(seconds, RandomState::new(rt)?.hash_one(&0u8)))
 }
 
+/// Writes all documents of a collection as BSON.
+fn export<S: Alter + Drop, O: Sink>(
+    store: &mut Store<S>,
+    coll: &str,
+    output: &mut O,
+) -> Result<(), Refusal>
+    requires { CanRefuse (O.tally output.old) }
+{
+    match store.export(coll, output) {
+        Ok(()) => Ok(()),
+        Err(error) => Err(Refusal::from(error)),
+    }
+}
+
 /// Does what is asked over an open store.
 fn serve_store<S: Alter + Drop, O: Sink>(
     alloc: Global,
@@ -49,18 +63,16 @@ fn serve_store<S: Alter + Drop, O: Sink>(
 ) -> Result<(), Ended>
     requires { CanRefuse (O.tally output.old) }
 {
-    match asked {
-        Asked::Export => match store.export(words.coll, output) {
-            Ok(()) => Ok(()),
-            Err(error) => Err(Ended::Refused(Refusal::from(error))),
-        },
-        Asked::Request(request, lines) => {
+    let done = match &mut asked.request {
+        None => export(store, words.coll, output),
+        Some(request) => {
             let form = form_of(&words.options);
-            match execute(alloc, store, words.coll, request, form, output) {
-                Ok(()) => Ok(()),
-                Err(refusal) => Err(Ended::of_line(refusal, lines.as_slice())),
-            }
+            execute(alloc, store, words.coll, request, form, output)
         }
+    };
+    match done {
+        Ok(()) => Ok(()),
+        Err(refusal) => Err(Ended::of_line(refusal, asked.lines.as_slice())),
     }
 }
 
