@@ -1,5 +1,5 @@
 -- A session: lines, each with its answer.
-use Rattle.std.specs.Prelude.{◌≡◌, ◌⊎◌, ◌≤◌, ℕ, suc, ◌+◌, ◌-◌, ◌^◌, List, [], ◌∷◌, ◌++◌, Result, Ok, Err, length}
+use Rattle.std.specs.Prelude.{◌≡◌, ◌⊎◌, ◌≤◌, ℕ, ◌+◌, ◌-◌, ◌^◌, List, [], ◌∷◌, ◌++◌, Result, Ok, Err, length}
 use Rattle.std.specs.Io.KnownBytes.{Appends}
 use Rattle.bson_base.specs.Device.{Feed, Tally, Gives, IsExhausted, TakesBeginning}
 use Rattle.store_table.specs.Rows.{TableRow}
