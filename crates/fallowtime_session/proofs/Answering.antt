@@ -18,7 +18,7 @@ use Rattle.fallowtime_commands.specs.declared.answer.Answer.{Answer}
 use Rattle.fallowtime_texts.specs.declared.made.IdMaker.{IdMaker}
 use Rattle.fallowtime_session.specs.Answers.{Shows, line_of, memory, words}
 use Rattle.fallowtime_session.specs.Objects.{Makes, MakesLine}
-use Rattle.fallowtime_session.specs.Places.{byte_place, place_text}
+use Rattle.fallowtime_session.specs.Places.{byte_place}
 use Rattle.fallowtime_session.specs.Questions.{Asked, asked_of, command_in, id_of}
 use Rattle.fallowtime_session.specs.Requests.{Asks, AsksNothing}
 use Rattle.fallowtime_session.specs.Turns.{AnswersBytes, AnswersText, AnswersTree, Carries, Replies, RunsOut, made_line}

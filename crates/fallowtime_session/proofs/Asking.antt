@@ -1,5 +1,5 @@
 -- The question of a command.
-use Rattle.std.proofs.Common.{◌≡◌, ℕ, List, [], ◌∷◌, length, inl, inr, Bor, Some, Result, Ok, Err, codes, Vec, refl, ap, sym, ◌∙◌, subst}
+use Rattle.std.proofs.Common.{◌≡◌, ℕ, List, [], ◌∷◌, length, Bor, Some, Result, Ok, Err, codes, refl, ap, sym, ◌∙◌, subst}
 use Rattle.std.specs.declared.alloc.Global.{Global}
 use Rattle.json.specs.Json.{Items}
 use Rattle.json.specs.Value.{items_view}
@@ -16,7 +16,7 @@ use Rattle.fallowtime_texts.specs.declared.made.IdMaker.{IdMaker}
 use Rattle.store_filter.specs.Filters.{filter_of}
 use Rattle.store_filter.specs.declared.filter.Filter.{Filter}
 use Rattle.store_model.specs.State.{id_key}
-use Rattle.fallowtime_session.specs.Questions.{Asked, insert, put, replace, get, set, unset, remove, find, count, export, collections, asked, everything, name_alone, name_and_document, name_and_filter, name_and_id, name_and_stream, name_id_and_key, name_id_key_and_value}
+use Rattle.fallowtime_session.specs.Questions.{Asked, insert, put, replace, get, set, unset, remove, find, count, collections, asked, name_and_document, name_and_filter, name_and_id, name_id_and_key, name_id_key_and_value}
 use Rattle.fallowtime_session.specs.Requests.{GivesQuestion, IsRequest, layout_of}
 use Rattle.fallowtime_session.specs.declared.commands.Command.{Command}
 use Rattle.fallowtime_session.specs.declared.commands.Command.TheVariants as command

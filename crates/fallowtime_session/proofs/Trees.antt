@@ -1,5 +1,5 @@
 -- Trees of JSON as what they are taken apart into.
-use Rattle.std.proofs.Common.{◌≡◌, ℕ, List, Bor, Option, Some, None, option_map, Result, Ok, Err, Vec, inl, inr, refl, ap, sym, ◌∙◌, rules}
+use Rattle.std.proofs.Common.{◌≡◌, ℕ, List, Bor, Some, None, option_map, Result, Ok, Err, Vec, inl, inr, refl, ap, sym, ◌∙◌, rules}
 use Rattle.std.specs.declared.alloc.Global.{Global}
 use Rattle.json.specs.Find.{as_array}
 use Rattle.json.specs.Json.{Json, Items, array, object}
@@ -8,7 +8,7 @@ use Rattle.json.specs.declared.value.Value.{Value as Tree, Array, Object, the_le
 use Rattle.bson_base.specs.Answer.{◌>>=◌}
 use Rattle.fallowtime_texts.specs.declared.made.IdMaker.{IdMaker}
 use Rattle.fallowtime_session.specs.Places.{Gives}
-use Rattle.fallowtime_session.specs.Questions.{bytes_in, command_in, command_or, id_and_do, id_of, import_bytes, import_trees, stream_by, stream_in}
+use Rattle.fallowtime_session.specs.Questions.{bytes_in, command_in, command_or, id_and_do, id_of, import_bytes, import_trees, stream_by}
 use Rattle.fallowtime_session.specs.Requests.{GivesStream, PutsAll}
 use Rattle.fallowtime_session.specs.declared.places.Fault.{Fault}
 use Rattle.fallowtime_session.specs.declared.places.Fault.TheVariants.{At, Memory}

@@ -70,13 +70,15 @@ IsFaultAt ds i Memory = Unit {0}
 -- the texts of the kept documents that these bodies are went behind what was there; or one has no text
 abbrev pub PutsBodies : List (List ℕ) → List ℕ → List ℕ → Result (Unit {0}) BodyFault → Type 0
 PutsBodies bodies old new (Ok x) =
-    (ds : List Document) → AreKept ds → bodies ≡ map encode ds → AreFree ds × ((js : Items) × WritesItems Canonical (items_of (map document ds)) js × (new ≡ old ++ items_text 0 js))
+    (ds : List Document) → AreKept ds → bodies ≡ map encode ds
+    → AreFree ds × ((js : Items) × WritesItems Canonical (items_of (map document ds)) js × (new ≡ old ++ items_text 0 js))
 PutsBodies bodies old new (Err e) = (ds : List Document) → AreKept ds → bodies ≡ map encode ds → IsFaultAt ds e.index e.fault
 
 -- so of one more document, behind so many
 abbrev pub PutsBody : ℕ → List ℕ → List ℕ → List ℕ → Result (Unit {0}) PrintFault → Type 0
 PutsBody i body old new (Ok x) =
-    (d : Document) → IsKept d → body ≡ encode d → (has_reserved d ≡ false) × ((j : Json) × Writes Canonical (document d) j × (new ≡ old ++ (comma_before i ++ print (json_tokens j))))
+    (d : Document) → IsKept d → body ≡ encode d
+    → (has_reserved d ≡ false) × ((j : Json) × Writes Canonical (document d) j × (new ≡ old ++ (comma_before i ++ print (json_tokens j))))
 PutsBody i body old new (Err (ReservedKey path)) = (d : Document) → IsKept d → body ≡ encode d → reserved_path_below d ≡ Some (string_bytes path)
 PutsBody i body old new (Err Damaged) = (d : Document) → IsKept d → body ≡ encode d → ⊥
 PutsBody i body old new (Err Memory) = Unit {0}

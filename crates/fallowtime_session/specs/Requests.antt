@@ -90,7 +90,8 @@ Asks m n reading name q l = (a : Asked) × (reading ≡ Ok (name, a)) × IsReque
 -- It asks for nothing: at this place it isn't what has to be there, or one of several documents isn't.
 abbrev pub AsksNothing : IdMaker → Result (List ℕ × Asked) (List ℕ) → List ℕ → Type 0
 AsksNothing m reading place =
-    (reading ≡ Err place) ⊎ ((name : List ℕ) × (js : Items) × (i : ℕ) × (reading ≡ Ok (name, import_trees js)) × IsFirstUnfit m js i × (place ≡ document_place i))
+    (reading ≡ Err place)
+    ⊎ ((name : List ℕ) × (js : Items) × (i : ℕ) × (reading ≡ Ok (name, import_trees js)) × IsFirstUnfit m js i × (place ≡ document_place i))
 
 -- the question that a tree is, or why it is none
 abbrev pub GivesQuestion : IdMaker → IdMaker → Result (List ℕ × Asked) (List ℕ) → Result Question Fault → Type 0
@@ -101,5 +102,7 @@ GivesQuestion m n reading (Err Memory) = Unit {0}
 -- the stream that a tree is, or why it is none
 abbrev pub GivesStream : IdMaker → IdMaker → Json → Result (Vec ℕ Global) Fault → Type 0
 GivesStream m n j (Ok stream) = (a : Asked) × (stream_in j ≡ Ok a) × IsRequest m n a (request.Import stream) × (layout_of a ≡ Each)
-GivesStream m n j (Err (At p)) = (stream_in j ≡ Err (place_text p)) ⊎ ((js : Items) × (i : ℕ) × (stream_in j ≡ Ok (import_trees js)) × IsFirstUnfit m js i × (place_text p ≡ document_place i))
+GivesStream m n j (Err (At p)) =
+    (stream_in j ≡ Err (place_text p))
+    ⊎ ((js : Items) × (i : ℕ) × (stream_in j ≡ Ok (import_trees js)) × IsFirstUnfit m js i × (place_text p ≡ document_place i))
 GivesStream m n j (Err Memory) = Unit {0}

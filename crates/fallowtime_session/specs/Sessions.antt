@@ -1,5 +1,5 @@
 -- A session: lines, each with its answer.
-use Rattle.std.specs.Prelude.{◌≡◌, ◌⊎◌, ◌≤◌, ℕ, suc, ◌+◌, ◌-◌, ◌^◌, List, [], ◌∷◌, ◌++◌, Result, Ok, Err, length}
+use Rattle.std.specs.Prelude.{◌≡◌, ◌⊎◌, ◌≤◌, ℕ, ◌+◌, ◌-◌, ◌^◌, List, [], ◌∷◌, ◌++◌, Result, Ok, Err, length}
 use Rattle.std.specs.Io.KnownBytes.{Appends}
 use Rattle.bson_base.specs.Device.{Feed, Tally, Gives, IsExhausted, TakesBeginning}
 use Rattle.store_table.specs.Rows.{TableRow}
@@ -31,12 +31,15 @@ Holds m n (t ∷ ts) docs after = (next : IdMaker) × (mid : List TableRow) × A
 
 -- all of the input was read, and it is these lines, of which the last may lack its line feed
 abbrev pub ReadsAll : List Turn → Feed → Feed → Type 0
-ReadsAll turns old new = (bytes : List ℕ) × (new.failures ≡ old.failures) × Gives old.supply new.supply bytes × IsExhausted new.supply × ((bytes ≡ lines_of turns) ⊎ (bytes ++ 10 ∷ [] ≡ lines_of turns))
+ReadsAll turns old new =
+    (bytes : List ℕ) × (new.failures ≡ old.failures) × Gives old.supply new.supply bytes × IsExhausted new.supply
+    × ((bytes ≡ lines_of turns) ⊎ (bytes ++ 10 ∷ [] ≡ lines_of turns))
 
 -- these lines come first in what was read; the last may be all of it, and lack its line feed
 abbrev pub ReadsSome : List Turn → Feed → Feed → Type 0
 ReadsSome turns old new =
-    (bytes : List ℕ) × (left : List ℕ) × (new.failures ≡ old.failures) × Gives old.supply new.supply bytes × ((bytes ≡ lines_of turns ++ left) ⊎ ((bytes ++ 10 ∷ [] ≡ lines_of turns) × IsExhausted new.supply))
+    (bytes : List ℕ) × (left : List ℕ) × (new.failures ≡ old.failures) × Gives old.supply new.supply bytes
+    × ((bytes ≡ lines_of turns ++ left) ⊎ ((bytes ++ 10 ∷ [] ≡ lines_of turns) × IsExhausted new.supply))
 
 -- an answer went out, or a write failed and a beginning of it did
 abbrev pub Sends : Result (Unit {0}) ErrorKind → List ℕ → Tally → Tally → Type 0
@@ -50,7 +53,9 @@ WritesAll turns old new = (new.failures ≡ old.failures) × Appends old.taken n
 
 -- every answer but the last went out, and a beginning of that
 abbrev pub WritesSome : List Turn → Tally → Tally → Type 0
-WritesSome turns old new = (done : List Turn) × (last : Turn) × (turns ≡ done ++ last ∷ []) × ((mid : Tally) × WritesAll done old mid × Sends (Err Writer) last.answer mid new)
+WritesSome turns old new =
+    (done : List Turn) × (last : Turn) × (turns ≡ done ++ last ∷ [])
+    × ((mid : Tally) × WritesAll done old mid × Sends (Err Writer) last.answer mid new)
 
 -- then a read failed, or neither the line nor the input ends
 abbrev pub BreaksOff : List Turn → Feed → Feed → Type 0

@@ -81,7 +81,8 @@ AnswersLine m n text line docs after =
 -- a question was done, with this outcome, and its answer made; out of memory there is none
 abbrev pub Carries : Option Json → Question → Result (Vec ℕ Global) AllocError → List TableRow → List TableRow → Type 0
 Carries id q made docs after =
-    (r : Result Answer StoreError) × Performs q.collection.now q.request (reply_of r) docs after × IfOk r (IsAnswerTo q.request) × IfOk made (λ line. Shows q.layout id r line.items)
+    (r : Result Answer StoreError) × Performs q.collection.now q.request (reply_of r) docs after × IfOk r (IsAnswerTo q.request)
+    × IfOk made (λ line. Shows q.layout id r line.items)
 
 -- the line that is made; out of memory there is none
 abbrev pub Replies : IdMaker → IdMaker → Option Json → Result (List ℕ × Asked) (List ℕ) → Result (Vec ℕ Global) AllocError → List TableRow → List TableRow → Type 0

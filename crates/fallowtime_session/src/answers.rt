@@ -171,11 +171,7 @@ fn fault_line(
 }
 
 /// The line of a stored document.
-fn document_line(
-    alloc: Global,
-    id: Option<&Value<'_>>,
-    body: &[u8],
-) -> Result<Vec<u8>, AllocError>
+fn document_line(alloc: Global, id: Option<&Value<'_>>, body: &[u8]) -> Result<Vec<u8>, AllocError>
     requires { IsWritable id }
     ensures { Makes (ShowsBody (id_tree id.entry) body.now) result }
 {

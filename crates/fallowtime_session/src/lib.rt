@@ -1,5 +1,5 @@
-//! The line mode of the program `fallowtime`: requests from lines of JSON over an open store, each answered by a line of
-//! JSON.
+//! The line mode of the program `fallowtime`: lines of JSON ask something of an open store, and each is answered by a
+//! line of JSON.
 #![tactic(auto)]
 
 mod answers;

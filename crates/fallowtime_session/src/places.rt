@@ -10,8 +10,8 @@ use std::alloc::{AllocError, AllocFailed, Global};
 /// Where a line is no question.
 #[derive(Drop)]
 pub(crate) enum Place {
-    /// The line is no text of JSON (RFC 8259), or its objects and arrays lie more than 128 deep. The number is the byte,
-    /// counted from 0, at which that is seen.
+    /// The line is no text of JSON (RFC 8259), or its objects and arrays lie more than 128 deep. The number is of the
+    /// byte, counted from 0, at which that is seen.
     Byte(usize),
     /// An object has a key twice.
     RepeatedKey,

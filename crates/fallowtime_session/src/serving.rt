@@ -30,7 +30,8 @@ fn send<O: Sink>(output: &mut O, line: &[u8]) -> Result<(), ErrorKind>
     }
 }
 
-/// Does what a line asks for, and writes its answer. A line without a byte is passed over. `Writer` if the write failed.
+/// Does what a line asks for, and writes its answer. A line without a byte is passed over. `Writer` if the write
+/// failed.
 fn reply<S: Alter + Drop, O: Sink>(
     alloc: Global,
     store: &mut Store<S>,
@@ -52,8 +53,9 @@ fn reply<S: Alter + Drop, O: Sink>(
     }
 }
 
-/// Does what the lines of `input` ask for on `store`, one after the other, and answers each on a line of `output`, until
-/// the input ends. A line without a byte is passed over. `maker` makes the `_id`s of documents that come without one.
+/// Does what the lines of `input` ask for on `store`, one after the other, and answers each on a line of `output`,
+/// until the input ends. A line without a byte is passed over. `maker` makes the `_id`s of documents that come without
+/// one.
 ///
 /// `Reader` if a read failed, or a line or the input has 2⁶⁴ - 2 bytes or more; `Writer` if a write failed, after which
 /// nothing more is done; `Memory` if there is none for the session itself, and then no line is read.

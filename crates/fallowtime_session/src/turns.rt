@@ -33,9 +33,7 @@ struct Parts<'t, 'w> {
 }
 
 /// What stands under `id` and what under `do`, if an object has these two keys alone.
-fn id_and_do<'t, 'w>(
-    members: &'t [(&'w str, Value<'w>)],
-) -> Option<(&'t Value<'w>, &'t Value<'w>)>
+fn id_and_do<'t, 'w>(members: &'t [(&'w str, Value<'w>)]) -> Option<(&'t Value<'w>, &'t Value<'w>)>
     requires { MembersHaveNumbers (members_view members.now) }
     ensures parts { option_map (λ p. (data_of p.0.now, data_of p.1.now)) result ≡ id_and_do (members_view members.now) }
     ensures writable { ForSome result (λ p. HasNumbers (data_of p.0.now)) }

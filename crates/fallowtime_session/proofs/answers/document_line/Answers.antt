@@ -1,10 +1,7 @@
 use Rattle.std.proofs.Common.{◌≡◌, ℕ, List, [], ◌∷◌, ◌++◌, Ok, codes, ◌∙◌, ap, sym, subst}
 use Rattle.json.specs.Token.{key}
-use Rattle.bson_base.specs.Value.{Members}
-use Rattle.bson_bytes.specs.Encode.{encode}
 use Rattle.bson_model.specs.declared.extjson.ser.Mode.TheVariants.{Canonical}
 use Rattle.fallowtime_texts.specs.Printed.{PrintsDocument}
-use Rattle.store_model.specs.State.{IsKept}
 use Rattle.fallowtime_session.specs.Objects.{begun, id_tree}
 use Rattle.fallowtime_session.proofs.Writing.{document_made}
 use Rattle.fallowtime_session.proofs.answers.document_line.Goals as goal

@@ -1,4 +1,4 @@
-use Rattle.std.proofs.Common.{◌≡◌, length, arith, inl, refl}
+use Rattle.std.proofs.Common.{arith, inl, refl}
 use Rattle.fallowtime_session.proofs.Asking.{none_behind, some_behind}
 use Rattle.fallowtime_session.proofs.questions.collections.Goals as goal
 
