@@ -292,6 +292,7 @@ for spelling, fault in NO_NUMBERS:
     unread(f"get n {spelling}", f"id {fault}")
     unread("import n --json", f"line 2 {fault}", given=f'{{"_id":5}}\n{{"v":{spelling}}}\n'.encode())
 done("count n", "1")
+done('put n {"_id":0}')
 
 # ---- Texts that can't be read, of documents, values and lines; the byte counts from 1.
 FAULTS = [

@@ -367,6 +367,9 @@ large = b"".join(bson.encode({"_id": 10000 + i, "text": "x" * 1000}) for i in ra
 holds("a file that may not grow", run("shop.db", "import", "c", given=large, preexec_fn=lambda: limit_files(1 << 18)), refusal("Database"))
 holds("nothing of it is in", run("shop.db", "export", "c") == exported, True)
 holds("it goes in", run("shop.db", "import", "c", given=large), (0, b"3000\n", ""))
+holds("a new file that may not grow", run("new.db", "insert", "c", "{}", preexec_fn=lambda: limit_files(1 << 16)), refusal("Disk"))
+holds("it has nothing", run("new.db", "count", "c"), (0, b"0\n", ""))
+holds("and can be used", run("new.db", "insert", "c", '{"_id":1}'), (0, b"1\n", ""))
 holds("a back-up that may not grow", run("shop.db", "backup", "b.db", preexec_fn=lambda: limit_files(1 << 20)), refusal("Disk"))
 holds("is not there", os.path.exists("b.db"), False)
 
