@@ -162,7 +162,7 @@ TWO = '{"_id":2,"price":1.0,"lines":[{"count":3,"article":"tea"}]}'
 A4 = '{"z":1,"_id":"A-4","a":null}'
 CANONICAL = '{"_id":{"$numberInt":"1"},"price":{"$numberDouble":"1.5"},"city":"Ulm"}'
 BODIES = [body_of(body) for body in [{"_id": 1, "price": 1.5, "city": "Ulm"}, {"z": 1, "_id": "A-4", "a": None},
-                                         {"_id": bson.Int64(2), "price": 1.0, "lines": [{"count": 3, "article": "tea"}]}]]
+                                     {"_id": bson.Int64(2), "price": 1.0, "lines": [{"count": 3, "article": "tea"}]}]]
 done("get orders 1", ONE)
 done("get orders 1 --canonical", CANONICAL)
 check("get orders 1 --bson", (0, BODIES[0], ""))
@@ -314,7 +314,7 @@ for text, fault in FAULTS:
 unread("import n --json", "line 2 byte 7 Utf8EncodingError", given=b'{"_id":5}\n{"a":"\xff"}\n')
 unread("import n --json", "line 2 byte 1 NotJson", given=b'{"_id":5}\n\xef\xbb\xbf{}\n')
 unread("import n --json", "line 1 MalformedValue", given=b'{"a\\u0000b":1}')
-unread("set n {\"$oid\":\"1\"} v x", "id InvalidObjectId")
+unread('set n {"$oid":"1"} v x', "id InvalidObjectId")
 done("count n", "1")
 
 # What JSON can say and no document can hold: a 00 in a key, a pattern or options, and over 100 levels of the 128 that JSON has.
@@ -377,7 +377,7 @@ for word, number in SPELLED:
     done(["get", "ids", word], f'{{"n":{number},"_id":{IDS[number][1]}}}')
 for word, printed in [('{"$numberLong":"42"}', "42"), ('{"$numberDecimal":"42.0"}', '{"$numberDecimal":"42.0"}'), ("a-4", '"a-4"'), ("[2,1]", "[2,1]")]:
     refused(["get", "ids", word], f"NotFound _id {printed}")
-for number, (word, printed) in enumerate(IDS):
+for word, printed in IDS:
     done(["remove", "ids", word])
     refused(["remove", "ids", word], f"NotFound _id {printed}")
 done('insert ids {"_id":0.0}', "0.0")
@@ -446,7 +446,7 @@ line = b'{"_id":3,"v":"' + b"x" * (LONGEST - 22) + b'"}'
 check("get long 3", (0, line + b"\n", ""))
 refused("set long 3 w null", "TooLong")
 done("set long 3 v 1")
-done("put long {\"_id\":3}")
+done('put long {"_id":3}')
 done("remove long 3")
 done("import long --json", "1", given=line)
 check("export long", (0, full, ""))
@@ -472,10 +472,10 @@ done('insert r {"$oid":"at-the-top","_id":4}', "4")
 done("get r 4", '{"$oid":"at-the-top","_id":4}')
 
 # ---- Queries: the cases of store_query, each by `count`, and by `find` whether it prints the document.
-FOLD = ROOT / "crates/store_query_cases"
+CASES = ROOT / "crates/store_query_cases"
 FAULTS_OF_QUERIES = {"a key comes twice": "RepeatedKey", "a query is an object": "is no object"}
 collections = {}
-for number, (case, answer) in enumerate(zip((FOLD / "stdin").read_text().splitlines(), (FOLD / "stdout").read_text().splitlines())):
+for case, answer in zip((CASES / "stdin").read_text().splitlines(), (CASES / "stdout").read_text().splitlines()):
     query, document = case.split(" | ")
     if document not in collections:
         collections[document] = f"q{len(collections)}"
@@ -512,7 +512,7 @@ done('put d {"z":0.5,"_id":3}')
 holds("is changed by both", store("find", "d", '{"eq":[["_id"],3]}'), (0, body_of({"z": 0.5, "_id": 3}), ""))
 start("rows.db")
 done('insert c {"b":-1.5,"_id":{"y":1,"x":0.0}}', '{"y":1,"x":0.0}')
-done("insert d {\"_id\":1}", "1")
+done('insert d {"_id":1}', "1")
 connection = sqlite3.connect("rows.db")
 ROWS = [(1, "c", body_of({"_id": {"x": 0.0, "y": 1}}), body_of({"b": -1.5, "_id": {"y": 1, "x": 0.0}})), (2, "d", *[body_of({"_id": 1})] * 2)]
 holds("rows by SQLite", connection.execute("SELECT place, coll, idkey, body FROM documents ORDER BY place").fetchall(), ROWS)
@@ -547,7 +547,7 @@ def numeral(value):
 
 
 def text_of(part):
-    return json.dumps(part.decode() if isinstance(part, bytes) else part, ensure_ascii=False)
+    return json.dumps(part.decode(), ensure_ascii=False)
 
 
 def double_text(payload, is_relaxed):
