@@ -1,0 +1,133 @@
+"""The program: where it is, how it is started, and what it reports."""
+from __future__ import annotations
+
+import os
+import pathlib
+import shutil
+import subprocess
+import sys
+import tempfile
+import threading
+from typing import IO, List, Optional, Tuple
+
+from ._errors import REFUSED, WORDS, Ended, Refused, refusal
+
+NAME = "fallowtime"
+# The variable of the environment that names the program, if it is set.
+VARIABLE = "FALLOWTIME"
+# How much of what the program reports is kept, in bytes.
+LONGEST_REPORT = 1 << 16
+
+# Held while a process is made, so that no fork comes between: the new process would keep the ends of the pipes open.
+starting = threading.RLock()
+if hasattr(os, "register_at_fork"):
+    os.register_at_fork(before=starting.acquire, after_in_parent=starting.release, after_in_child=starting.release)
+
+
+def find_program() -> str:
+    """The program: what FALLOWTIME names, else `fallowtime` on the path, else that of the checkout in which this package lies."""
+    named = os.environ.get(VARIABLE)
+    if named:
+        return named
+    found = shutil.which(NAME)
+    if found:
+        return found
+    checkout = pathlib.Path(__file__).resolve().parents[2] / NAME
+    if checkout.is_file() and os.access(checkout, os.X_OK):
+        return str(checkout)
+    raise Ended(f"there is no program {NAME}: put it on the path, by ./install of its checkout, or name it in {VARIABLE}")
+
+
+def absolute(path: "os.PathLike[str] | str") -> str:
+    """The path of a file, from the root, so that it stays the same file if the folder of the process changes."""
+    name = os.fspath(path)
+    if not isinstance(name, str):
+        raise TypeError(f"the name of a file is a text, and not {type(name).__name__}")
+    if not name:
+        raise ValueError("the name of a file is empty")
+    if name == ":memory:" or name.startswith("file:"):
+        raise NotImplementedError(f"{name}: a store is in a file, and not in memory or at an address; ./{name} is a file of that name")
+    return os.path.abspath(name)
+
+
+class Report:
+    """What a process writes on standard error. It is kept in memory, if the system has files there, as a disk may be full."""
+
+    def __init__(self) -> None:
+        self.file: IO[bytes]
+        if hasattr(os, "memfd_create"):
+            self.file = os.fdopen(os.memfd_create("fallowtime-report"), "w+b", buffering=0)
+        else:
+            self.file = tempfile.TemporaryFile(buffering=0)
+        self._shown = 0
+
+    def text(self) -> str:
+        """The end of what was written until now."""
+        if self.file.closed:
+            return ""
+        begin = max(0, os.fstat(self.file.fileno()).st_size - LONGEST_REPORT)
+        return os.pread(self.file.fileno(), LONGEST_REPORT, begin).decode(errors="replace")
+
+    def show(self) -> None:
+        """Writes on standard error what came since the last time."""
+        new = os.pread(self.file.fileno(), LONGEST_REPORT, self._shown)
+        self._shown += len(new)
+        if new and sys.stderr is not None:
+            sys.stderr.write(new.decode(errors="replace"))
+            sys.stderr.flush()
+
+    def close(self) -> None:
+        self.file.close()
+
+
+def start(program: str, words: List[str], pipes: Optional[int], report: Report) -> "subprocess.Popen[bytes]":
+    """Starts the program with its words, its input and output as `pipes`. `Ended` if it can't be started.
+
+    It gets a session of its own, so that the signals of a terminal reach it by this process alone. What this process ignores it
+    ignores, too: by SIGXFSZ a file that would outgrow `ulimit -f` would else end it.
+    """
+    try:
+        with starting:
+            return subprocess.Popen([program, *words], stdin=pipes, stdout=pipes, stderr=report.file, bufsize=0,
+                                    start_new_session=True, restore_signals=False)
+    except OSError as error:
+        raise Ended(f"the program {program} can't be started: {error}") from error
+
+
+def run(program: str, words: List[str]) -> None:
+    """Runs the program once. `Refused` if it refuses, `Ended` if it ends otherwise."""
+    report = Report()
+    try:
+        process = start(program, words, subprocess.DEVNULL, report)
+        try:
+            status = process.wait()
+        except BaseException:
+            process.kill()
+            process.wait()
+            raise
+        text = report.text()
+    finally:
+        report.close()
+    if status == 0:
+        return
+    raise refused_of(text) or Ended(f"the program ended with status {status}", text, status)
+
+
+def refused_of(text: str) -> Optional[Refused]:
+    """The refusal that a report ends with, if it has one."""
+    for line in reversed(text.splitlines()):
+        if line.startswith(REFUSED):
+            kind, _, rest = line[len(REFUSED):].partition(" ")
+            document, key = _places(rest)
+            return refusal(kind, document, key)
+        if line.startswith(WORDS):
+            return refusal("Words", at=line[len(WORDS):])
+    return None
+
+
+def _places(rest: str) -> Tuple[Optional[int], Optional[str]]:
+    """The document and the key that are named behind a kind."""
+    name, _, value = rest.partition(" ")
+    if name == "document" and value.isdigit():
+        return int(value), None
+    return None, value if name == "key" else None

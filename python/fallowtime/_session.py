@@ -1,0 +1,242 @@
+"""One process of the program over one file: a line goes in, and a line comes back."""
+from __future__ import annotations
+
+import json
+import os
+import select
+import subprocess
+import threading
+import weakref
+from typing import Any, List, Optional
+
+from ._errors import Ended, refusal
+from ._program import Report, start
+
+# What the program takes of a line, in bytes.
+LONGEST = 64 << 20
+# How much is written or read at a time, in bytes: what a pipe holds.
+PIECE = 1 << 16
+# A question that asks for nothing. Its answer says that the file is open.
+GREETING = b"[]\n"
+# For how many milliseconds the file is waited for before what the program reports meanwhile is shown.
+PATIENCE = 500
+# For how many seconds a program is waited for that has to end by itself, and one that was asked to end.
+GRACE, LAST_GRACE = 60, 5
+
+
+class Session:
+    """A process of the program. All threads may ask it: one question is answered before the next one is sent."""
+
+    def __init__(self, program: str, words: List[str]) -> None:
+        self.lock = threading.RLock()
+        self._report = Report()
+        try:
+            self._process = start(program, words, subprocess.PIPE, self._report)
+        except BaseException:
+            self._report.close()
+            raise
+        assert self._process.stdin is not None and self._process.stdout is not None
+        self._input, self._output = self._process.stdin, self._process.stdout
+        os.set_blocking(self._input.fileno(), False)
+        self._has_room, self._has_answer = select.poll(), select.poll()
+        self._has_room.register(self._input, select.POLLOUT)
+        self._has_answer.register(self._output, select.POLLIN)
+        # What isn't sent yet of the last question, while its answer didn't come; else None. And what came of the answer.
+        self._due: Optional[memoryview] = None
+        self._pieces: List[bytes] = []
+        # Whether these two say how it is. Between a call of the system and the line behind it they may not.
+        self._is_sure = True
+        self._is_inside = False
+        # Why there is no program any more, and whether an exception has said so.
+        self._end: Optional[Ended] = None
+        self._is_reported = False
+        _sessions.add(self)
+
+    def open(self) -> None:
+        """Waits until the program has opened the file. `Ended` if it can't. What it reports meanwhile, as that it is built first, is
+        shown on standard error."""
+        with self.lock:
+            try:
+                answer = self._answer(GREETING, PATIENCE)
+                self._report.show()
+            except Ended:
+                raise
+            except BaseException as error:
+                self._stop(f"opening was cut off by {error!r}")
+                raise
+            if answer.get("refused") != "Words":
+                raise self._stop("this isn't the program fallowtime, or one of another time")
+
+    def ask(self, question: str) -> Any:
+        """The answer to a question, which is a text of JSON. `Refused` if it is refused, and `Ended` if there is no program.
+
+        An exception that comes in between, as of a signal, leaves the answer to be passed over by the next question, or ends the
+        program if that can't be. Whether the command of the question was done is then open.
+        """
+        line = question.encode() + b"\n"
+        if len(line) > LONGEST:
+            raise ValueError(f"a request has at most {LONGEST} bytes, and this one has {len(line)}")
+        with self.lock:
+            answer = self._answer(line, None)
+        kind = answer.get("refused")
+        if kind is not None:
+            raise refusal(kind, answer.get("document"), answer.get("key"), answer.get("at"))
+        return answer
+
+    def test_open(self) -> None:
+        """`Ended` if there is no program any more."""
+        if self._end is not None:
+            self._is_reported = True
+            raise Ended(*self._end.args)
+
+    def close(self) -> None:
+        """Ends the program: its input ends, and it is waited for. It may be called again. `Ended` if the program had ended by itself
+        and no exception said so."""
+        with self.lock:
+            if self._end is None:
+                # A program whose answer isn't waited for ends in its own way.
+                self._is_reported = self._due is not None
+                self._end = Ended("the store was closed")
+                ended = self._finish(GRACE)
+                if ended.status and not self._is_reported:
+                    self._end = ended
+            if self._end.status and not self._is_reported:
+                self.test_open()
+
+    def close_quietly(self) -> None:
+        """The same without an error, for the end of the store or of the interpreter."""
+        if self._end is None and self.lock.acquire(timeout=GRACE):
+            try:
+                self.close()
+            except Ended:
+                pass
+            finally:
+                self.lock.release()
+
+    def leave(self) -> None:
+        """In a process that was forked: the program is that of the first process, and its pipes are left to that."""
+        self.lock = threading.RLock()
+        self._is_inside = False
+        if self._end is None:
+            self._end = Ended("the store was opened by another process, of which this one is a copy")
+            self._process.returncode = 0
+            self._close_streams()
+
+    def _answer(self, line: bytes, patience: Optional[int]) -> Any:
+        """Sends a line and returns the answer to it."""
+        if self._is_inside:
+            raise RuntimeError("a request inside a request, as by a signal's handler")
+        self.test_open()
+        try:
+            self._is_inside = True
+            text = self._exchange(line, patience)
+        except Ended:
+            raise
+        except BaseException as error:
+            if not self._is_sure:
+                self._stop(f"a request was cut off by {error!r}")
+            raise
+        finally:
+            self._is_inside = False
+        try:
+            answer = json.loads(text.decode())
+        except ValueError:
+            answer = None
+        if not isinstance(answer, dict):
+            raise self._stop("the program answered what is no object of JSON")
+        return answer
+
+    def _exchange(self, line: bytes, patience: Optional[int]) -> bytes:
+        if self._due is not None:
+            # The answer to a question that was cut off comes first.
+            self._send()
+            self._receive(None)
+        self._due = memoryview(line)
+        self._send()
+        return self._receive(patience)
+
+    def _send(self) -> None:
+        """Writes what is due of the question."""
+        while self._due:
+            self._is_sure = False
+            try:
+                written = os.write(self._input.fileno(), self._due[:PIECE])
+            except BlockingIOError:
+                written = 0
+            except OSError:
+                raise self._fail() from None
+            self._due = self._due[written:]
+            self._is_sure = True
+            if self._due:
+                self._has_room.poll()
+
+    def _receive(self, patience: Optional[int]) -> bytes:
+        """Reads the answer, and shows what is reported meanwhile if it takes longer than `patience`."""
+        while True:
+            while not self._has_answer.poll(patience):
+                self._report.show()
+            self._is_sure = False
+            piece = os.read(self._output.fileno(), PIECE)
+            if not piece:
+                raise self._fail()
+            self._pieces.append(piece)
+            pieces = self._pieces
+            is_whole = piece.endswith(b"\n")
+            if is_whole:
+                self._pieces, self._due = [], None
+            self._is_sure = True
+            if is_whole:
+                return b"".join(pieces)
+
+    def _fail(self) -> Ended:
+        """The error for a program that has closed its pipes, as it has ended or is about to."""
+        self._end = self._finish(LAST_GRACE)
+        self._is_reported = True
+        return Ended(*self._end.args)
+
+    def _stop(self, reason: str) -> Ended:
+        """Ends the program, so that it doesn't have the file any longer, and returns the error for what comes behind."""
+        self._end = Ended(reason)
+        self._is_reported = True
+        ended = self._finish(0)
+        self._end = Ended(reason, ended.report)
+        return Ended(*self._end.args)
+
+    def _finish(self, seconds: float) -> Ended:
+        """Closes the pipes, waits so long for the end of the program before it is ended, and returns the error that says how it ended."""
+        self._close_streams()
+        status = self._wait(seconds)
+        ended = Ended(f"the program ended with status {status}", self._report.text(), status)
+        self._report.close()
+        return ended
+
+    def _wait(self, seconds: float) -> int:
+        try:
+            return self._process.wait(seconds)
+        except subprocess.TimeoutExpired:
+            # The script that builds a program passes this on to what it started.
+            self._process.terminate()
+        try:
+            return self._process.wait(LAST_GRACE)
+        except subprocess.TimeoutExpired:
+            self._process.kill()
+            return self._process.wait()
+
+    def _close_streams(self) -> None:
+        for stream in self._input, self._output:
+            try:
+                stream.close()
+            except OSError:
+                pass
+
+
+_sessions: "weakref.WeakSet[Session]" = weakref.WeakSet()
+
+
+def _leave_all() -> None:
+    for session in list(_sessions):
+        session.leave()
+
+
+if hasattr(os, "register_at_fork"):
+    os.register_at_fork(after_in_child=_leave_all)

@@ -1,0 +1,96 @@
+"""A store: one file, and the program that has it open."""
+from __future__ import annotations
+
+import os
+import weakref
+from typing import Any, List, Optional, Union
+
+from ._absent import OF_STORE, WithAbsent, test_options
+from ._collection import Collection
+from ._decode import Decoder
+from ._program import absolute, find_program, run
+from ._session import Session
+
+Path = Union[str, "os.PathLike[str]"]
+
+
+class Store(WithAbsent):
+    """A store in a file, which `fallowtime.open` opens: ``store["orders"]`` is a collection.
+
+    Threads may share it: their requests are answered one after the other, each to the one who asked. It is closed by `close`, at the
+    end of a `with`, or when nothing refers to it any more. A process that is forked has to open a file of its own.
+    """
+
+    _absent = OF_STORE
+
+    def __init__(self, path: Path, wait: Optional[int] = None, tz_aware: bool = False) -> None:
+        self._path = absolute(path)
+        self._program = find_program()
+        self._waiting = [] if wait is None else ["--wait", str(_seconds(wait))]
+        self._decoder = Decoder(tz_aware)
+        self._session = Session(self._program, [self._path, *self._waiting])
+        self._session.open()
+        self._closing = weakref.finalize(self, self._session.close_quietly)
+
+    @property
+    def path(self) -> str:
+        """The file, from the root."""
+        return self._path
+
+    def __getitem__(self, name: str) -> Collection:
+        """The collection of a name, which may have no document yet."""
+        if not isinstance(name, str):
+            raise TypeError(f"the name of a collection is a text, and not {name!r}")
+        return Collection(self, name)
+
+    # Without this, `in` and `for` would count through names.
+    __iter__ = None
+
+    def list_collection_names(self, **options: Any) -> List[str]:
+        """The names of the collections that have a document."""
+        test_options("list_collection_names", options)
+        names: List[str] = self._session.ask('["collections"]')["names"]
+        return names
+
+    def backup(self, path: Path) -> None:
+        """Writes all that the store holds into a new file: what every request that was answered has left. Requests may go on meanwhile.
+
+        `Refused` with the kind ``"Exists"`` if there is a file already, or the log of one of that name, which would be played over it.
+        """
+        self._session.test_open()
+        run(self._program, [self._path, "backup", absolute(path), *self._waiting])
+
+    def close(self) -> None:
+        """Closes the file. Requests behind that are `Ended`. It may be called again."""
+        self._session.close()
+
+    def __enter__(self) -> "Store":
+        return self
+
+    def __exit__(self, kind: Any, error: Any, trace: Any) -> None:
+        if kind is None:
+            self.close()
+        else:
+            self._session.close_quietly()
+
+    def __repr__(self) -> str:
+        return f"fallowtime.open({self._path!r})"
+
+
+def _seconds(wait: int) -> int:
+    if not isinstance(wait, int) or isinstance(wait, bool):
+        raise TypeError(f"wait is a number of seconds, and not {wait!r}")
+    if wait < 0:
+        raise ValueError(f"wait is a number of seconds, and not {wait}")
+    return wait
+
+
+def open(path: Path, *, wait: Optional[int] = None, tz_aware: bool = False) -> Store:
+    """Opens the store in a file, which is made if it isn't there.
+
+    `wait` is for how many seconds a file is waited for that another process has; else it is 5. With `tz_aware` the dates that come
+    back say that they are in UTC; without it they have no zone, as pymongo's.
+
+    `Ended` if the file can't be had; its `kind` says why: ``"Busy"`` if another process has it.
+    """
+    return Store(path, wait, tz_aware)

@@ -1,0 +1,70 @@
+"""Updates: keys at the top of a document that get a value or are taken away."""
+from __future__ import annotations
+
+import json
+from collections.abc import Mapping
+from typing import Any, Dict, List
+
+from ._absent import refuse
+from ._decode import Decoder, Tree
+from ._encode import encode_document, encode_value
+from ._errors import refusal
+
+
+class Update:
+    """What an update sets, as values and as JSON, and what it takes away."""
+
+    __slots__ = ("set", "texts", "unset")
+
+    def __init__(self, set: Dict[str, Any], unset: List[str]) -> None:
+        encode_document(set)
+        self.set, self.unset = set, unset
+        self.texts = {key: encode_value(value) for key, value in set.items()}
+
+    def changes(self, tree: Tree, decoder: Decoder) -> bool:
+        """Whether a document, as a tree, is another one behind the update."""
+        for key, text in self.texts.items():
+            if key not in tree or encode_value(decoder.value(tree[key])) != text:
+                return True
+        return any(key in tree for key in self.unset)
+
+    def text_behind(self, tree: Tree) -> str:
+        """The JSON of a document behind the update."""
+        changed = {key: value for key, value in tree.items() if key not in self.unset}
+        changed.update((key, json.loads(text)) for key, text in self.texts.items())
+        return json.dumps(changed, ensure_ascii=False, separators=(",", ":"))
+
+
+def read_update(update: Any) -> Update:
+    """The update of `$set` and `$unset`. NotImplementedError for other operators and for keys below the top."""
+    if isinstance(update, (list, tuple)):
+        refuse("a pipeline of update_one", "an update has $set and $unset")
+    if not isinstance(update, Mapping):
+        raise TypeError(f"an update is a dict, and not {type(update).__name__}")
+    if not update:
+        raise ValueError("an update has $set or $unset")
+    keys: Dict[str, Mapping[str, Any]] = {}
+    for operator, members in update.items():
+        if not isinstance(operator, str) or not operator.startswith("$"):
+            raise ValueError(f"an update has operators, as $set, and {operator!r} is none")
+        if operator not in ("$set", "$unset"):
+            refuse(f"the operator {operator} of update_one", "an update has $set and $unset")
+        if not isinstance(members, Mapping):
+            raise TypeError(f"{operator} takes a dict, and not {type(members).__name__}")
+        for key in members:
+            _test_key(operator, key)
+        keys[operator] = members
+    set, unset = dict(keys.get("$set", {})), list(keys.get("$unset", {}))
+    for key in unset:
+        if key in set:
+            raise ValueError(f"the key {key} is set and taken away")
+    return Update(set, unset)
+
+
+def _test_key(operator: str, key: Any) -> None:
+    if not isinstance(key, str):
+        raise TypeError(f"a key is a text, and not {key!r}")
+    if key == "_id":
+        raise refusal("BadKey", key=key)
+    if "." in key:
+        refuse(f"the path {key} in {operator}", "a key is one at the top of the document")
