@@ -12,7 +12,7 @@ from ._absent import OF_COLLECTION, WithAbsent, refuse, test_options
 from ._cursor import Cursor
 from ._decode import Tree
 from ._encode import encode_document, encode_text, encode_value, test_document
-from ._errors import Refused
+from ._errors import Refused, refusal
 from ._query import are_operators, encode_query, ids_asked, ids_of, is_regex
 from ._results import DeleteResult, InsertManyResult, InsertOneResult, UpdateResult
 from ._update import Update, read_update
@@ -56,7 +56,7 @@ class Collection(WithAbsent):
         test_options("insert_one", options)
         text, own = _with_id(document)
         _give_id(document, own)
-        self._ask("insert", text)
+        self._put(text)
         return InsertOneResult(own)
 
     def insert_many(self, documents: Iterable[Document], ordered: bool = True, **options: Any) -> InsertManyResult:
@@ -197,6 +197,13 @@ class Collection(WithAbsent):
         """The answer to a command of this collection."""
         return self._session.ask("[" + ",".join([f'"{command}"', self._quoted, *places]) + "]")
 
+    def _put(self, text: str) -> None:
+        """Puts a document in. By `import`, which keeps it as it is: `insert` makes 0.0 of -0.0."""
+        try:
+            self._ask("import", f"[{text}]")
+        except Refused as refused:
+            raise refusal(refused.kind, None, refused.key, refused.at) from None
+
     def _answer_if_found(self, command: str, *places: str) -> Any:
         """The answer to a command of a document, or None if there is no such document."""
         try:
@@ -246,7 +253,7 @@ class Collection(WithAbsent):
             own = document["_id"]
             if is_asked and ids_of(own)[0] not in ids_of(query["_id"]):
                 raise ValueError(f"the query asks for the _id {query['_id']!r}, and the document may have no other one")
-        self._ask("insert", self._text_with_id(document, encode_value(own)))
+        self._put(self._text_with_id(document, encode_value(own)))
         return UpdateResult(0, 0, own)
 
     def _text_with_id(self, document: Document, own: str) -> str:
@@ -258,10 +265,10 @@ class Collection(WithAbsent):
         """Makes the changes to a document that was found."""
         if not changes.changes(tree, self._decoder):
             return UpdateResult(1, 0)
-        if len(changes.texts) == 1 and not changes.unset:
+        if changes.is_scalar():
             (key, text), = changes.texts.items()
             self._ask("set", own, encode_text(key), text)
-        elif len(changes.unset) == 1 and not changes.texts:
+        elif len(changes.unset) == 1 and not changes.set:
             self._ask("unset", own, encode_text(changes.unset[0]))
         else:
             self._ask("replace", changes.text_behind(tree))

@@ -73,7 +73,7 @@ class Decoder:
     """Makes values of trees. Dates are in UTC, and say so if `tz_aware` is true."""
 
     def __init__(self, tz_aware: bool) -> None:
-        self._readers = {**_READERS, "$date": _date_of_zone} if tz_aware else _READERS
+        self._readers: Dict[str, Callable[[Tree], Any]] = {**_READERS, "$date": _date_of_zone} if tz_aware else _READERS
 
     def document(self, tree: Tree) -> Dict[str, Any]:
         """A document, at whose top no key is taken for a typed value."""

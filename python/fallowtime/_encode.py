@@ -9,7 +9,7 @@ import re
 import struct
 import uuid
 from collections.abc import Mapping
-from json.encoder import encode_basestring as encode_text  # with the quotes, and every letter as it is
+from json import encoder
 from typing import Any, Callable, Dict, FrozenSet, Optional
 
 from ._errors import refusal
@@ -28,6 +28,10 @@ DECIMAL128 = decimal.Context(prec=34, Emin=-6143, Emax=6144, clamp=1,
                              traps=[decimal.Inexact, decimal.Overflow, decimal.InvalidOperation])
 # The bits of the two NaNs that have a text.
 NAN_TEXTS = {0x7FF8 << 48: "NaN", 0xFFF8 << 48: "-NaN"}
+
+
+# A text with its quotes, and every letter as it is.
+encode_text: Callable[[str], str] = getattr(encoder, "encode_basestring")
 
 
 class _Reserved(Exception):
@@ -188,6 +192,11 @@ def _writer_of(kind: type) -> Optional[Callable[[Any], str]]:
     return None
 
 
+def is_scalar(value: Any) -> bool:
+    """Whether a value has no values in it."""
+    return not isinstance(value, (Mapping, list, tuple)) and getattr(value, "scope", None) is None
+
+
 def _value(value: Any, level: int) -> str:
     """A value; `level` is how many documents and arrays it is in, and one more."""
     kind = type(value)
@@ -271,11 +280,18 @@ def test_document(document: object) -> None:
         raise TypeError(f"a document or a query is a dict, and not {type(document).__name__}")
 
 
+def _sound(text: str) -> str:
+    """The text itself. UnicodeEncodeError if a part of it is half of a letter, which UTF-8 can't have."""
+    if not text.isascii():
+        text.encode()
+    return text
+
+
 def encode_document(document: Mapping[str, Any]) -> str:
     """A document. Refused as ReservedKey if below its top a key would make a typed value of what is there."""
     test_document(document)
     try:
-        return _members(document, 1, frozenset())
+        return _sound(_members(document, 1, frozenset()))
     except _Reserved:
         raise refusal("ReservedKey", key=path_below(document.items())) from None
 
@@ -283,6 +299,6 @@ def encode_document(document: Mapping[str, Any]) -> str:
 def encode_value(value: Any) -> str:
     """A value that is not a document of its own. Refused as ReservedKey like a document."""
     try:
-        return _value(value, 2)
+        return _sound(_value(value, 2))
     except _Reserved:
         raise refusal("ReservedKey", key=reserved_path(value)) from None

@@ -1,6 +1,7 @@
 """The program: where it is, how it is started, and what it reports."""
 from __future__ import annotations
 
+import json
 import os
 import pathlib
 import shutil
@@ -8,7 +9,7 @@ import subprocess
 import sys
 import tempfile
 import threading
-from typing import IO, List, Optional, Tuple
+from typing import IO, Iterator, List, Optional, Tuple
 
 from ._errors import REFUSED, WORDS, Ended, Refused, refusal
 
@@ -24,18 +25,35 @@ if hasattr(os, "register_at_fork"):
     os.register_at_fork(before=starting.acquire, after_in_parent=starting.release, after_in_child=starting.release)
 
 
+def checkouts() -> Iterator[pathlib.Path]:
+    """The checkout in which this package lies, and the one from which pip installed it, of which pip keeps a record (PEP 610)."""
+    yield pathlib.Path(__file__).resolve().parents[2]
+    # These take longer to come in than all of this package, and are wanted where neither the path nor a checkout has the program.
+    import importlib.metadata
+    import urllib.parse
+
+    try:
+        record = importlib.metadata.distribution(NAME).read_text("direct_url.json")
+        url = urllib.parse.urlsplit(json.loads(record or "{}").get("url", ""))
+    except (importlib.metadata.PackageNotFoundError, ValueError):
+        return
+    if url.scheme == "file":
+        yield pathlib.Path(urllib.parse.unquote(url.path)).parent
+
+
 def find_program() -> str:
-    """The program: what FALLOWTIME names, else `fallowtime` on the path, else that of the checkout in which this package lies."""
+    """The program: what FALLOWTIME names, else `fallowtime` on the path, else that of the checkout from which this package is."""
     named = os.environ.get(VARIABLE)
     if named:
         return named
     found = shutil.which(NAME)
     if found:
         return found
-    checkout = pathlib.Path(__file__).resolve().parents[2] / NAME
-    if checkout.is_file() and os.access(checkout, os.X_OK):
-        return str(checkout)
-    raise Ended(f"there is no program {NAME}: put it on the path, by ./install of its checkout, or name it in {VARIABLE}")
+    for checkout in checkouts():
+        program = checkout / NAME
+        if program.is_file() and os.access(program, os.X_OK):
+            return str(program)
+    raise Ended(f"there is no program {NAME}: put it on the path, by ./install in its checkout, or name it in {VARIABLE}")
 
 
 def absolute(path: "os.PathLike[str] | str") -> str:

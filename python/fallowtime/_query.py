@@ -68,14 +68,16 @@ def _exists(value: Any) -> str:
     return "true" if value else "false"
 
 
-def _type(value: Any) -> str:
+def _kind(value: Any) -> str:
     if isinstance(value, str):
         return encode_text(value)
     if isinstance(value, int) and not isinstance(value, bool):
         return "%d" % value
-    if isinstance(value, (list, tuple)):
-        return "[" + ",".join([_type(item) for item in value if not isinstance(item, (list, tuple))]) + "]"
     raise TypeError(f"$type takes a name or a number of a kind, or a list of these, and not {value!r}")
+
+
+def _type(value: Any) -> str:
+    return "[" + ",".join([_kind(item) for item in value]) + "]" if isinstance(value, (list, tuple)) else _kind(value)
 
 
 def _not(value: Any) -> str:

@@ -1,11 +1,11 @@
 """What the methods of a collection return, under pymongo's names."""
 from __future__ import annotations
 
-from typing import Any, List
+from typing import Any, List, Tuple
 
 
 class _Result:
-    __slots__ = ()
+    __slots__: Tuple[str, ...] = ()
 
     @property
     def acknowledged(self) -> bool:

@@ -7,7 +7,7 @@ import os
 import re
 import threading
 import time
-from typing import Any, Callable, Mapping, Optional, Union
+from typing import Any, Mapping, Optional, Union
 
 EPOCH = datetime.datetime(1970, 1, 1)
 UTC = datetime.timezone.utc
@@ -273,9 +273,10 @@ class Binary(bytes):
         return bytes(self), self._subtype
 
     def __eq__(self, other: object) -> bool:
-        if isinstance(other, Binary) or is_foreign(other, "Binary"):
-            return self._subtype == other.subtype and bytes(self) == bytes(other)  # type: ignore[attr-defined,call-overload]
-        return self._subtype == 0 and bytes(self) == other
+        if isinstance(other, bytes):
+            subtype: int = getattr(other, "subtype", 0)
+            return self._subtype == subtype and bytes(self) == bytes(other)
+        return False
 
     def __ne__(self, other: object) -> bool:
         return not self == other
