@@ -26,3 +26,8 @@ __all__ = [
     "InsertManyResult", "InsertOneResult", "Int64", "MaxKey", "MinKey", "ObjectId", "Refused", "Regex", "Store", "Symbol", "Timestamp",
     "Undefined", "UpdateResult", "open",
 ]
+
+# They are of this package, as tracebacks and pickle name them, wherever in it they are written.
+for _name in __all__:
+    globals()[_name].__module__ = __name__
+del _name

@@ -22,6 +22,8 @@ if TYPE_CHECKING:
     from ._store import Store
 
 Document = Mapping[str, Any]
+# A double that is zero and has a sign, in a text. In a text of JSON the quotes would have a backslash.
+NEGATIVE_ZERO = encode_value(-0.0)
 File = Union[str, "os.PathLike[str]", IO[bytes]]
 
 
@@ -198,7 +200,10 @@ class Collection(WithAbsent):
         return self._session.ask("[" + ",".join([f'"{command}"', self._quoted, *places]) + "]")
 
     def _put(self, text: str) -> None:
-        """Puts a document in. By `import`, which keeps it as it is: `insert` makes 0.0 of -0.0."""
+        """Puts a document in. The command `insert` makes 0.0 of -0.0; `import` keeps it."""
+        if NEGATIVE_ZERO not in text:
+            self._ask("insert", text)
+            return
         try:
             self._ask("import", f"[{text}]")
         except Refused as refused:

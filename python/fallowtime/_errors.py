@@ -73,5 +73,7 @@ class Ended(FallowtimeError):
 
 def refusal(kind: str, document: Optional[int] = None, key: Optional[str] = None, at: Optional[str] = None) -> Refused:
     """The error of a kind."""
+    if document is None and at is not None and at.startswith("document "):
+        document = int(at.partition(" ")[2])
     made = DuplicateKeyError if kind == "DuplicateId" else Refused
     return made(kind, document, key, at)

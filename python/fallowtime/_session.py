@@ -121,6 +121,7 @@ class Session:
             self._end = Ended("the store was opened by another process, of which this one is a copy")
             self._process.returncode = 0
             self._close_streams()
+            self._report.close()
 
     def _answer(self, line: bytes, patience: Optional[int]) -> Any:
         """Sends a line and returns the answer to it."""

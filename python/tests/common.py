@@ -2,6 +2,7 @@
 import os
 import pathlib
 import shutil
+import struct
 import sys
 import tempfile
 import unittest
@@ -22,23 +23,25 @@ def is_same(one, other):
     if type(one) is not type(other):
         return False
     if isinstance(one, float):
-        return one.hex() == other.hex() and str(one) == str(other)
+        return struct.pack("<d", one) == struct.pack("<d", other)
     if isinstance(one, dict):
         return list(one) == list(other) and all(is_same(one[key], other[key]) for key in one)
     if isinstance(one, list):
         return len(one) == len(other) and all(map(is_same, one, other))
     if isinstance(one, fallowtime.Code):
-        return one == other and is_same(one.scope, other.scope)
+        return str(one) == str(other) and is_same(one.scope, other.scope)
     return repr(one) == repr(other)
 
 
 class WithFolder(unittest.TestCase):
     """A test with an empty folder, which is deleted behind it, and stores in it."""
 
+    place = MEMORY
+
     def setUp(self):
         if PROGRAM is None:
             self.fail("FALLOWTIME has to name the program")
-        self.folder = pathlib.Path(tempfile.mkdtemp(prefix="fallowtime-", dir=MEMORY))
+        self.folder = pathlib.Path(tempfile.mkdtemp(prefix="fallowtime-", dir=self.place))
         self.addCleanup(shutil.rmtree, self.folder, ignore_errors=True)
 
     def open(self, name="test.db", **options):

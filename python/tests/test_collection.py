@@ -1,0 +1,437 @@
+"""Each method of a store and of a collection."""
+import inspect
+import io
+import itertools
+import os
+import pathlib
+import re
+import struct
+import subprocess
+import unittest
+
+from common import PROGRAM, WithFolder
+
+import fallowtime
+from fallowtime import Int64, ObjectId, Regex
+
+
+def counts(result):
+    return result.matched_count, result.modified_count, result.upserted_id
+
+
+class Inserting(WithFolder):
+    def test_insert_one(self):
+        with self.open() as store:
+            orders = store["orders"]
+            result = orders.insert_one({"_id": 1, "city": "Ulm"})
+            self.assertEqual((result.inserted_id, result.acknowledged, repr(result)), (1, True, "InsertOneResult(inserted_id=1)"))
+            self.assertRaises(fallowtime.DuplicateKeyError, orders.insert_one, {"_id": 1})
+            self.assert_refused("DuplicateId", orders.insert_one, {"_id": 1})
+            document = {"city": "Bonn"}
+            own = orders.insert_one(document).inserted_id
+            self.assertIsInstance(own, ObjectId)
+            self.assertEqual(document, {"city": "Bonn", "_id": own})
+            self.assertEqual([*orders.find_one(own)], ["_id", "city"])
+            self.assertRaises(fallowtime.DuplicateKeyError, orders.insert_one, document)
+            self.assertEqual(orders.insert_one({"_id": None}).inserted_id, None)
+            self.assertEqual(orders.count_documents({}), 3)
+
+    def test_an_id_that_was_given_stays_away_if_nothing_was_sent(self):
+        document = {"x": {1}}
+        with self.open() as store:
+            self.assertRaises(TypeError, store["c"].insert_one, document)
+            self.assertRaises(TypeError, store["c"].insert_many, [{"y": 1}, document])
+        self.assertEqual(document, {"x": {1}})
+
+    def test_insert_many_puts_in_all_or_none(self):
+        with self.open() as store:
+            orders = store["orders"]
+            documents = [{"_id": number} for number in range(3)] + [{"a": 1}]
+            result = orders.insert_many(iter(documents))
+            self.assertEqual(result.inserted_ids, [0, 1, 2, documents[3]["_id"]])
+            self.assertIsInstance(documents[3]["_id"], ObjectId)
+            refused = self.assert_refused("DuplicateId", orders.insert_many, [{"_id": 7}, {"_id": 8}, {"_id": 1}, {"_id": 9}], document=2)
+            self.assertIsInstance(refused, fallowtime.DuplicateKeyError)
+            self.assert_refused("DuplicateId", orders.insert_many, [{"_id": 7}, {"_id": 8}, {"_id": 7}], document=2)
+            self.assertEqual(orders.count_documents({}), 4)
+            for wrong in [], {}, {"_id": 1}, "ab", b"ab", 5, None, [1], [[("a", 1)]], ["a"]:
+                self.assertRaises(TypeError, orders.insert_many, wrong)
+            self.assertRaises(NotImplementedError, orders.insert_many, [{}], ordered=False)
+            self.assertEqual(orders.count_documents({}), 4)
+
+    def test_what_is_too_long(self):
+        with self.open() as store:
+            texts = [{"_id": number, "t": "x" * (15 << 20)} for number in range(5)]
+            self.assertRaises(ValueError, store["c"].insert_many, texts)
+            self.assertEqual(store["c"].insert_many(texts[:4]).inserted_ids, [0, 1, 2, 3])
+            self.assert_refused("TooLong", store["c"].insert_one, {"_id": 9, "t": "x" * (16 << 20)})
+            self.assertEqual([len(found["t"]) for found in store["c"].find()], [15 << 20] * 4)
+            self.assertEqual(store["c"].count_documents({"t": texts[0]["t"]}), 4)
+
+    def test_names(self):
+        with self.open() as store:
+            names = ["a", "-x", "--wait", "a.b", "$x", "ü\n\"", " ", "insert"]
+            for name in names:
+                store[name].insert_one({"_id": name})
+                self.assertEqual((store[name].name, store[name].store), (name, store))
+            self.assertEqual(sorted(store.list_collection_names()), sorted(names))
+            self.assert_refused("BadName", store[""].insert_one, {})
+            self.assert_refused("BadName", store["a\0"].find_one)
+            for wrong in 1, None, b"a":
+                self.assertRaises(TypeError, store.__getitem__, wrong)
+            self.assertEqual(store["a"], store["a"])
+            self.assertNotEqual(store["a"], store["-x"])
+            self.assertEqual(len({store["a"], store["a"]}), 1)
+            self.assertRaises(TypeError, iter, store)
+            self.assertEqual(repr(store["a"]), f"fallowtime.open({str(self.folder / 'test.db')!r})['a']")
+
+
+class Looking(WithFolder):
+    def setUp(self):
+        super().setUp()
+        self.store = self.open()
+        self.orders = self.store["orders"]
+        self.documents = [{"_id": number, "city": city, "price": price}
+                          for number, (city, price) in enumerate([("Ulm", 1), ("Berlin", 1.5), ("Ulm", 1.0), ("Bonn", Int64(1))])]
+        self.orders.insert_many(self.documents)
+
+    def test_find(self):
+        self.assertEqual([*self.orders.find()], self.documents)
+        self.assertEqual([*self.orders.find({})], self.documents)
+        self.assertEqual([*self.orders.find({"city": "Ulm"})], [self.documents[0], self.documents[2]])
+        self.assertEqual([*self.orders.find({"_id": 3})], self.documents[3:])
+        self.assertEqual([*self.orders.find({"_id": "3"})], [])
+        self.assertEqual([*self.store["none"].find()], [])
+        self.assertRaises(TypeError, self.orders.find, "Ulm")
+        self.assertRaises(TypeError, self.orders.find, [])
+
+    def test_a_cursor(self):
+        cursor = self.orders.find()
+        self.orders.delete_one({"_id": 1})
+        self.orders.insert_one({"_id": 9})
+        self.assertIs(iter(cursor), cursor)
+        self.assertTrue(cursor.alive)
+        self.assertEqual([next(cursor), cursor.next()], self.documents[:2])
+        self.assertEqual(cursor.to_list(), self.documents[2:])
+        self.assertFalse(cursor.alive)
+        self.assertRaises(StopIteration, next, cursor)
+        with self.orders.find() as cursor:
+            next(cursor)
+        self.assertEqual(cursor.to_list(), [])
+        cursor = self.orders.find()
+        self.store.close()
+        self.assertEqual(len([*cursor]), 4)
+
+    def test_find_one(self):
+        self.assertEqual(self.orders.find_one(), self.documents[0])
+        self.assertEqual(self.orders.find_one({}), self.documents[0])
+        self.assertEqual(self.orders.find_one(1), self.documents[1])
+        self.assertEqual(self.orders.find_one({"_id": 1}), self.documents[1])
+        self.assertEqual(self.orders.find_one({"city": "Ulm", "price": {"$ne": 2}}), self.documents[0])
+        self.assertIsNone(self.orders.find_one("1"))
+        self.assertIsNone(self.orders.find_one({"city": "Rome"}))
+        self.assertIsNone(self.store["none"].find_one())
+
+    def test_counts(self):
+        self.assertEqual(self.orders.count_documents({}), 4)
+        self.assertEqual(self.orders.count_documents({"city": "Ulm"}), 2)
+        self.assertEqual(self.orders.count_documents({"city": "Rome"}), 0)
+        self.assertEqual(self.orders.estimated_document_count(), 4)
+        self.assertRaises(TypeError, self.orders.count_documents)
+        self.assertRaises(TypeError, self.orders.count_documents, None)
+
+    def test_numbers_of_any_kind(self):
+        for value in 1, 1.0, True and 1:
+            self.assertEqual([found["_id"] for found in self.orders.find({"price": value})], [0, 2, 3])
+        self.assertEqual([found["_id"] for found in self.orders.find({"price": Int64(1)})], [3])
+        self.assertEqual([found["_id"] for found in self.orders.find({"price": {"$in": [1.5, 7]}})], [1])
+        self.assertEqual(self.orders.count_documents({"price": True}), 0)
+        kinds = self.store["kinds"]
+        for own in 5, Int64(5), 5.0, 6.0, Int64(7), 1.5, 1 << 40, float(1 << 41):
+            kinds.insert_one({"_id": own, "was": repr(own)})
+        self.assertEqual([found["was"] for found in kinds.find({"_id": 5})], ["5", "Int64(5)", "5.0"])
+        for asked, was in [(5, "5"), (5.0, "5.0"), (Int64(5), "Int64(5)"), (6, "6.0"), (7, "Int64(7)"), (7.0, "Int64(7)"), (1.5, "1.5"),
+                           (float(1 << 40), "1099511627776"), (1 << 41, "2199023255552.0")]:
+            self.assertEqual(kinds.find_one(asked)["was"], was)
+            self.assertEqual(kinds.find_one({"_id": asked})["was"], was)
+        self.assertIsNone(kinds.find_one(Int64(6)))
+        self.assertIsNone(kinds.find_one((1 << 53) + 1))
+        self.assertEqual(kinds.delete_one({"_id": 7}).deleted_count, 1)
+        self.assertEqual(kinds.update_one({"_id": 6}, {"$set": {"was": "six"}}).modified_count, 1)
+        self.assertEqual(kinds.replace_one({"_id": 6}, {"_id": 6, "a": 1}).modified_count, 1)
+        self.assertEqual(repr(kinds.find_one(6)), "{'_id': 6.0, 'a': 1}")
+
+    def test_queries(self):
+        many = self.store["many"]
+        many.insert_many([
+            {"_id": 0, "a": 1, "s": {"x": "deep", "list": [10, {"y": 5}]}}, {"_id": 1, "a": None}, {"_id": 2}, {"_id": 3, "a": "1", "n": 1.5},
+            {"_id": 4, "a": [1, 2]}, {"_id": 5, "a": {"x": 1, "y": 2}}, {"_id": 6, "a": Regex("U", "u")}, {"_id": 7, "a": float("nan")},
+            {"_id": 8, "a": float("inf")}, {"_id": 9, "a": True}, {"_id": 10, "a": 1e16}])
+        for query, wanted in [
+            ({"s.x": "deep"}, [0]), ({"s.list.0": 10}, [0]), ({"s.list.1.y": 5}, [0]), ({"a": None}, [1, 2]), ({"a": {"$ne": None}}, [0, *range(3, 11)]),
+            ({"a": {"$exists": True}}, [0, 1, *range(3, 11)]), ({"a": {"$exists": False}}, [2]), ({"a": {"$in": [1, "1", None]}}, [0, 1, 2, 3]),
+            ({"a": {"$in": (1,)}}, [0]), ({"a": {"$nin": [1, "1", None]}}, [4, 5, 6, 7, 8, 9, 10]), ({"a": {"$type": "string"}}, [3]), ({"a": {"$type": 2}}, [3]),
+            ({"a": {"$type": ["string", 16]}}, [0, 3]), ({"a": {"$type": "number"}}, [0, 7, 8, 10]), ({"a": [1, 2]}, [4]), ({"a": {"y": 2, "x": 1}}, [5]),
+            ({"a": {"$eq": {"x": 1, "y": 2}}}, [5]), ({"a": {"$eq": re.compile("U")}}, [6]), ({"a": {"$eq": Regex("U", "u")}}, [6]), ({"a": float("nan")}, [7]),
+            ({"a": float("inf")}, [8]), ({"a": -float("inf")}, []), ({"a": True}, [9]), ({"a": 10 ** 16}, [10]), ({"a": 1e16}, [10]),
+            ({"a": {"$not": {"$type": "number"}}, "n": {"$exists": True}}, [3]), ({"$or": [{"a": 1}, {"n": 1.5}]}, [0, 3]),
+            ({"$and": [{"a": "1"}, {"n": 1.5}]}, [3]), ({"$nor": [{"a": {"$exists": True}}]}, [2]), ({"$or": []}, []), ({"$and": ()}, [*range(11)]),
+            ({"_id": {"$in": [3, 9, 99]}}, [3, 9]), ({"_id": 3, "n": 1.5}, [3]), ({"_id": 3, "n": 1}, []), ({"a": {"$ne": 1, "$exists": True}}, [1, *range(3, 11)]),
+        ]:
+            with self.subTest(query=query):
+                self.assertEqual([found["_id"] for found in many.find(query)], wanted)
+                self.assertEqual(many.count_documents(query), len(wanted))
+                found = many.find_one(query)
+                self.assertEqual(found and found["_id"], wanted[0] if wanted else None)
+
+    def test_what_no_query_is(self):
+        for query, error in [
+            ({"a": {"$exists": 1}}, TypeError), ({"a": {"$in": 1}}, TypeError), ({"a": {"$in": "ab"}}, TypeError), ({"a": {"$type": 1.0}}, TypeError),
+            ({"a": {"$type": [["int"]]}}, TypeError), ({"a": {"$not": 1}}, TypeError), ({"a": {"$not": {"b": 1}}}, TypeError), ({"$or": {}}, TypeError),
+            ({"$and": [1]}, TypeError), ({1: 2}, TypeError), ({"a": 1 << 64}, OverflowError), ({"a": {"$in": [1 << 64]}}, OverflowError),
+        ]:
+            with self.subTest(query=query):
+                self.assertRaises(error, self.orders.find, query)
+                self.assertRaises(error, self.orders.count_documents, query)
+        self.assert_refused("Words", self.orders.find, {"a": {"$type": "text"}}, at="query $type takes no such value")
+
+
+class Changing(WithFolder):
+    def setUp(self):
+        super().setUp()
+        self.store = self.open()
+        self.orders = self.store["orders"]
+        self.orders.insert_many([{"_id": 1, "a": 1}, {"_id": 2, "a": 1, "b": {"y": 1, "x": 2}}, {"_id": 3, "a": 2}])
+
+    def test_replace_one(self):
+        replace = self.orders.replace_one
+        self.assertEqual(counts(replace({"_id": 1}, {"c": 1})), (1, 1, None))
+        self.assertEqual(counts(replace({"_id": 1}, {"c": 1})), (1, 0, None))
+        self.assertEqual(counts(replace({"_id": 1}, {"_id": 1, "c": 1})), (1, 0, None))
+        self.assertEqual(counts(replace({"_id": 1}, {"c": 1, "_id": 1})), (1, 1, None))
+        self.assertEqual([*self.orders.find_one(1)], ["c", "_id"])
+        self.assertEqual(counts(replace({"a": 1}, {"z": 1, "y": 2})), (1, 1, None))
+        self.assertEqual([*self.orders.find_one(2).items()], [("_id", 2), ("z", 1), ("y", 2)])
+        self.assertEqual(counts(replace({"_id": 9}, {"c": 1})), (0, 0, None))
+        self.assertEqual(counts(replace({"a": 9}, {"c": 1})), (0, 0, None))
+        self.assertRaises(ValueError, replace, {"_id": 1}, {"_id": 2})
+        self.assertRaises(ValueError, replace, {"_id": 1}, {"_id": "1"})
+        self.assertRaises(ValueError, replace, {"a": 2}, {"_id": 1})
+        self.assertRaises(ValueError, replace, {"_id": 1}, {"$set": {"a": 1}})
+        self.assertRaises(TypeError, replace, 1, {"a": 1})
+        self.assertRaises(TypeError, replace, {"_id": 1}, [("a", 1)])
+        self.assertEqual([found["_id"] for found in self.orders.find()], [1, 2, 3])
+        self.assertEqual(counts(replace({"_id": 3}, {})), (1, 1, None))
+        self.assertEqual(self.orders.find_one(3), {"_id": 3})
+
+    def test_replace_one_that_puts_in(self):
+        def replace(query, document):
+            return counts(self.orders.replace_one(query, document, upsert=True))
+
+        self.assertEqual(replace({"_id": 1}, {"c": 1}), (1, 1, None))
+        self.assertEqual(replace({"_id": 8}, {"c": 1}), (0, 0, 8))
+        self.assertEqual(self.orders.find_one(8), {"_id": 8, "c": 1})
+        self.assertEqual(replace({"_id": 9, "x": 1}, {"c": 2}), (0, 0, 9))
+        self.assertEqual(replace({"x": 1}, {"_id": "own", "c": 3}), (0, 0, "own"))
+        self.assertEqual(replace({"_id": 10.0}, {"c": 1, "_id": 10}), (0, 0, 10))
+        matched, modified, own = replace({"x": 1}, {"c": 4})
+        self.assertEqual((matched, modified, type(own)), (0, 0, ObjectId))
+        self.assertEqual(self.orders.find_one(own), {"_id": own, "c": 4})
+        self.assertEqual(type(replace({"_id": {"$in": [77]}}, {"c": 5})[2]), ObjectId)
+        self.assertEqual(replace({"_id": None}, {"c": 6}), (0, 0, None))
+        self.assertEqual(self.orders.find_one({"_id": None}), {"_id": None, "c": 6})
+        self.assertRaises(ValueError, replace, {"_id": 11}, {"_id": 12})
+        self.assertRaises(fallowtime.DuplicateKeyError, replace, {"x": 1}, {"_id": 1})
+        self.assertEqual(self.orders.count_documents({}), 10)
+
+    def test_update_one(self):
+        update = self.orders.update_one
+        self.assertEqual(counts(update({"_id": 1}, {"$set": {"a": 5}})), (1, 1, None))
+        self.assertEqual(counts(update({"_id": 1}, {"$set": {"a": 5}})), (1, 0, None))
+        self.assertEqual(counts(update({"_id": 1}, {"$set": {"a": 5.0}})), (1, 1, None))
+        self.assertEqual(counts(update({"_id": 1}, {"$set": {"b": {"z": 1, "a": 2}}})), (1, 1, None))
+        self.assertEqual(counts(update({"_id": 1}, {"$set": {"b": {"a": 2, "z": 1}}})), (1, 1, None))
+        self.assertEqual(counts(update({"_id": 1}, {"$set": {"b": {"a": 2, "z": 1}}})), (1, 0, None))
+        self.assertEqual(repr(self.orders.find_one(1)), "{'_id': 1, 'a': 5.0, 'b': {'a': 2, 'z': 1}}")
+        self.assertEqual(counts(update({"_id": 1}, {"$set": {"d": 1, "c": 2}, "$unset": {"a": ""}})), (1, 1, None))
+        self.assertEqual(repr(self.orders.find_one(1)), "{'_id': 1, 'b': {'a': 2, 'z': 1}, 'd': 1, 'c': 2}")
+        self.assertEqual(counts(update({"_id": 1}, {"$unset": {"d": 1}})), (1, 1, None))
+        self.assertEqual(counts(update({"_id": 1}, {"$unset": {"d": 1}})), (1, 0, None))
+        self.assertEqual(counts(update({"_id": 1}, {"$unset": {"b": 1, "c": 1, "none": 1}})), (1, 1, None))
+        self.assertEqual(self.orders.find_one(1), {"_id": 1})
+        self.assertEqual(counts(update({"a": 1}, {"$set": {"a": 7}})), (1, 1, None))
+        self.assertEqual(repr(self.orders.find_one(2)), "{'_id': 2, 'a': 7, 'b': {'y': 1, 'x': 2}}")
+        self.assertEqual(counts(update({"a": 1}, {"$set": {"a": 7}})), (0, 0, None))
+        self.assertEqual(counts(update({"_id": 1}, {"$set": {}, "$unset": {}})), (1, 0, None))
+        self.assertEqual(counts(update({"_id": 1}, {"$set": {"": 1, "-x": 2, "$k": 3}})), (1, 1, None))
+        self.assertEqual(self.orders.find_one(1), {"_id": 1, "": 1, "-x": 2, "$k": 3})
+
+    def test_what_no_update_is(self):
+        for update, error in [
+            ({}, ValueError), ({"a": 1}, ValueError), ({"$set": {"a": 1}, "b": 2}, ValueError), ({"$set": 1}, TypeError), ({"$set": {1: 2}}, TypeError),
+            ({"$set": {"a": 1}, "$unset": {"a": 1}}, ValueError), (None, TypeError), ("$set", TypeError), ({"$unset": ["a"]}, TypeError),
+            ({"$set": {"a.b": 1}}, NotImplementedError), ({"$unset": {"a.b": 1}}, NotImplementedError), ({"$inc": {"a": 1}}, NotImplementedError),
+            ([{"$set": {"a": 1}}], NotImplementedError), ({"$set": {"a": 1}, "$push": {"b": 1}}, NotImplementedError),
+        ]:
+            with self.subTest(update=update):
+                self.assertRaises(error, self.orders.update_one, {"_id": 1}, update)
+        self.assert_refused("BadKey", self.orders.update_one, {"_id": 1}, {"$set": {"_id": 1}}, key="_id")
+        self.assert_refused("BadKey", self.orders.update_one, {"_id": 1}, {"$unset": {"_id": 1}}, key="_id")
+        self.assertEqual(self.orders.find_one(1), {"_id": 1, "a": 1})
+
+    def test_update_one_that_puts_in(self):
+        update = self.orders.update_one
+        self.assertEqual(counts(update({"_id": 8}, {"$set": {"b": 1, "a": 2}, "$unset": {"c": 1}}, upsert=True)), (0, 0, 8))
+        self.assertEqual(repr(self.orders.find_one(8)), "{'_id': 8, 'b': 1, 'a': 2}")
+        self.assertEqual(counts(update({"_id": 8}, {"$set": {"b": 2}}, upsert=True)), (1, 1, None))
+        self.assertRaises(NotImplementedError, update, {"a": 77}, {"$set": {"b": 1}}, upsert=True)
+
+    def test_delete_one(self):
+        delete = self.orders.delete_one
+        self.assertEqual(delete({"_id": 9}).deleted_count, 0)
+        self.assertEqual(delete({"a": 1}).deleted_count, 1)
+        self.assertEqual([found["_id"] for found in self.orders.find()], [2, 3])
+        self.assertEqual(delete({"_id": 3}).deleted_count, 1)
+        self.assertEqual(delete({}).deleted_count, 1)
+        self.assertEqual(delete({}).deleted_count, 0)
+        self.assertEqual(self.store.list_collection_names(), [])
+        self.assertRaises(TypeError, delete, 1)
+
+    def test_an_id_that_is_no_scalar(self):
+        own = {"b": 1, "a": [1, 2]}
+        self.orders.insert_one({"_id": own, "a": 9})
+        self.assertEqual(self.orders.find_one({"_id": {"a": [1, 2], "b": 1}})["a"], 9)
+        self.assertEqual(counts(self.orders.update_one({"a": 9}, {"$set": {"c": 1}})), (1, 1, None))
+        self.assertEqual(counts(self.orders.replace_one({"a": 9}, {"c": 1})), (1, 1, None))
+        self.assertEqual([*self.orders.find_one({"_id": own})["_id"]], ["b", "a"])
+        self.assertEqual(self.orders.delete_one({"c": 1}).deleted_count, 1)
+
+
+class Files(WithFolder):
+    def test_export_and_import(self):
+        with self.open() as store:
+            documents = [{"_id": number, "x": -0.0} for number in range(5)]
+            store["a"].insert_many(documents)
+            self.assertEqual(store["a"].export(self.folder / "a.bson"), 5)
+            stream = io.BytesIO()
+            self.assertEqual(store["a"].export(stream), 5)
+            self.assertEqual(stream.getvalue(), (self.folder / "a.bson").read_bytes())
+            self.assertEqual(store["b"].import_(str(self.folder / "a.bson")), 5)
+            stream.seek(0)
+            self.assertEqual(store["c"].import_(stream), 5)
+            self.assertEqual(repr([*store["c"].find()]), repr(documents))
+            self.assert_refused("DuplicateId", store["b"].import_, self.folder / "a.bson", document=0)
+            self.assert_refused("EndInside", store["d"].import_, io.BytesIO(stream.getvalue()[:-1]), document=4)
+            self.assert_refused("NoId", store["d"].import_, io.BytesIO(struct.pack("<i", 5) + b"\0"), document=0)
+            self.assertEqual(store["none"].export(self.folder / "none"), 0)
+            self.assertEqual(store["none"].import_(self.folder / "none"), 0)
+            self.assertEqual(sorted(store.list_collection_names()), ["a", "b", "c"])
+            self.assertRaises(FileNotFoundError, store["d"].import_, self.folder / "not there")
+            self.assertRaises(OSError, store["a"].export, self.folder)
+            self.assertRaises(TypeError, store["d"].import_, io.StringIO("text"))
+            self.assertRaises(ValueError, store["d"].import_, io.BytesIO(bytes(50 << 20)))
+
+    def test_backup(self):
+        with self.open() as store:
+            store["c"].insert_one({"_id": 1})
+            store.backup(self.folder / "monday.db")
+            store["c"].insert_one({"_id": 2})
+            self.assert_refused("Exists", store.backup, self.folder / "monday.db")
+            self.assert_refused("NoFolder", store.backup, self.folder / "none" / "monday.db")
+            self.assert_refused("NoName", store.backup, self.folder / "monday.db-wal")
+            store.backup(str(self.folder / "-tuesday.db"))
+            self.assertEqual(store["c"].count_documents({}), 2)
+        for name, ids in ("monday.db", [1]), ("-tuesday.db", [1, 2]):
+            with self.open(name) as store:
+                self.assertEqual([found["_id"] for found in store["c"].find()], ids)
+
+    def test_names_of_files(self):
+        here = os.getcwd()
+        os.chdir(self.folder)
+        try:
+            for name in "-x.db", "--help", "a b.db", pathlib.Path("p.db"), "ü.db":
+                with fallowtime.open(name) as store:
+                    store["c"].insert_one({"_id": 1})
+                    os.chdir(here)
+                    store.backup(self.folder / f"{name}.copy")
+                    os.chdir(self.folder)
+                    self.assertEqual(store.path, str(self.folder / name))
+                self.assertTrue(os.path.exists(name))
+            for name in ":memory:", "file:x.db":
+                self.assertRaises(NotImplementedError, fallowtime.open, name)
+            self.assertRaises(ValueError, fallowtime.open, "")
+            for name in 5, None, b"x.db":
+                self.assertRaises(TypeError, fallowtime.open, name)
+            for wait, error in (-1, ValueError), (1.5, TypeError), ("1", TypeError), (True, TypeError):
+                self.assertRaises(error, fallowtime.open, "x.db", wait=wait)
+        finally:
+            os.chdir(here)
+
+    def test_beside_the_program(self):
+        with self.open() as store:
+            store["c"].insert_one({"_id": 1, "x": 1.5})
+            found = subprocess.run([PROGRAM, self.folder / "test.db", "get", "c", "1"], capture_output=True, text=True)
+            self.assertEqual((found.stdout, found.stderr), ('{"_id":1,"x":1.5}\n', ""))
+
+
+class Absent(WithFolder):
+    """What can't be had is refused before anything is sent: also by a store that is closed, which sends nothing."""
+
+    def test_what_cannot_be_had(self):
+        store = self.open()
+        collection, cursor = store["c"], store["c"].find()
+        store.close()
+        for name in ("update_many", "delete_many", "bulk_write", "aggregate", "distinct", "drop", "rename", "create_index", "find_one_and_update",
+                     "find_one_and_replace", "find_one_and_delete", "watch", "list_indexes"):
+            with self.assertRaisesRegex(NotImplementedError, name):
+                getattr(collection, name)({}, x=1)
+        for name in "sort", "limit", "skip", "hint", "count", "distinct", "rewind", "batch_size", "max_time_ms":
+            with self.assertRaisesRegex(NotImplementedError, name):
+                getattr(cursor, name)(1)
+        for name in "command", "drop_collection", "create_collection", "aggregate", "start_session":
+            with self.assertRaisesRegex(NotImplementedError, name):
+                getattr(store, name)("x")
+        for method, words, option in itertools.chain(
+            [("find", ({},), {name: 1}) for name in ("projection", "sort", "limit", "skip", "collation", "hint", "session", "max_time_ms", "batch_size")],
+            [("find_one", ({},), {name: 1}) for name in ("projection", "sort", "skip")],
+            [("count_documents", ({},), {name: 1}) for name in ("limit", "skip", "hint")],
+            [("insert_one", ({},), {"session": 1}), ("insert_many", ([{}],), {"session": 1}), ("delete_one", ({},), {"collation": 1}),
+             ("replace_one", ({}, {}), {"hint": 1}), ("update_one", ({}, {"$set": {"a": 1}}), {"array_filters": [1]})],
+        ):
+            with self.assertRaisesRegex(NotImplementedError, next(iter(option))):
+                getattr(collection, method)(*words, **option)
+        for query, name in [({"a": {"$gt": 1}}, "$gt"), ({"a": {"$regex": "x"}}, "$regex"), ({"$where": "x"}, "$where"), ({"a": {"$elemMatch": {}}}, "$elemMatch"),
+                            ({"$expr": {}}, "$expr"), ({"$or": [{"a": {"$lt": 1}}]}, "$lt"), ({"a": {"$not": {"$size": 1}}}, "$size"), ({"a": re.compile("x")}, "regular"),
+                            ({"a": {"$in": [re.compile("x")]}}, "regular"), ({"a": {"$not": re.compile("x")}}, "regular"), ({"_id": {"$gte": 1}}, "$gte"),
+                            ({"_id": re.compile("x")}, "regular"), ({"a": {"$eq": 1, "$mod": [1, 2]}}, "$mod"), ({"a": Regex("x")}, "regular")]:
+            for call in (collection.find, collection.find_one, collection.count_documents, collection.delete_one,
+                         lambda query: collection.update_one(query, {"$set": {"a": 1}}), lambda query: collection.replace_one(query, {})):
+                with self.subTest(query=query), self.assertRaisesRegex(NotImplementedError, re.escape(name)):
+                    call(query)
+
+    def test_options_that_ask_for_nothing(self):
+        with self.open() as store:
+            collection = store["c"]
+            collection.insert_one({"_id": 1}, session=None, bypass_document_validation=False)
+            self.assertEqual([*collection.find({}, None, sort=None, limit=0, skip=0, no_cursor_timeout=False)], [{"_id": 1}])
+            self.assertEqual(store.list_collection_names(session=None), ["c"])
+            self.assertRaises(TypeError, collection.find, {}, frobnicate=None)
+            self.assertRaises(TypeError, collection.insert_one, {}, ordered=True)
+
+    def test_names_that_nobody_has(self):
+        with self.open() as store:
+            for thing in store, store["c"], store["c"].find():
+                self.assertFalse(hasattr(thing, "frobnicate"))
+                self.assertRaises(AttributeError, getattr, thing, "__frobnicate__")
+
+    def test_each_method_has_a_text(self):
+        for kind in (value for value in vars(fallowtime).values() if inspect.isclass(value)):
+            self.assertTrue(inspect.getdoc(kind), kind)
+            for name, method in vars(kind).items():
+                if not name.startswith("_") and (inspect.isfunction(method) or isinstance(method, property)):
+                    self.assertTrue(inspect.getdoc(method), f"{kind.__name__}.{name}")
+        self.assertTrue(inspect.getdoc(fallowtime.open))
+
+
+if __name__ == "__main__":
+    unittest.main()
