@@ -1,4 +1,5 @@
-"""Packs the package for pip (PEP 517 and 660, wheels of version 1.0), by Python alone: no other package is needed, and no network."""
+"""Packs the package for pip (PEP 517 and 660, wheels of version 1.0), by Python alone: no other package is needed, and
+no network."""
 import base64
 import hashlib
 import io
@@ -25,9 +26,17 @@ def version():
 
 def metadata():
     project = (HERE / "pyproject.toml").read_text()
-    lines = ["Metadata-Version: 2.1", f"Name: {PACKAGE}", f"Version: {version()}", f"Summary: {value_of('description', project)}",
-             "License: MIT", f"Requires-Python: {value_of('requires-python', project)}",
-             "Description-Content-Type: text/markdown", "", (HERE / "README.md").read_text()]
+    lines = [
+        "Metadata-Version: 2.1",
+        f"Name: {PACKAGE}",
+        f"Version: {version()}",
+        f"Summary: {value_of('description', project)}",
+        "License: MIT",
+        f"Requires-Python: {value_of('requires-python', project)}",
+        "Description-Content-Type: text/markdown",
+        "",
+        (HERE / "README.md").read_text(),
+    ]
     return "\n".join(lines).encode()
 
 
@@ -67,7 +76,8 @@ def build_editable(wheel_directory, config_settings=None, metadata_directory=Non
 
 def build_sdist(sdist_directory, config_settings=None):
     name = f"{PACKAGE}-{version()}"
-    files = {**sources(), "PKG-INFO": metadata(), **{each: (HERE / each).read_bytes() for each in ("pyproject.toml", "packing.py", "README.md")}}
+    files = {**sources(), "PKG-INFO": metadata()}
+    files.update((beside, (HERE / beside).read_bytes()) for beside in ("pyproject.toml", "packing.py", "README.md"))
     with tarfile.open(pathlib.Path(sdist_directory) / f"{name}.tar.gz", "w:gz", format=tarfile.PAX_FORMAT) as packed:
         for path, content in files.items():
             entry = tarfile.TarInfo(f"{name}/{path}")

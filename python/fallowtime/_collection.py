@@ -13,7 +13,7 @@ from ._cursor import Cursor
 from ._decode import Tree
 from ._encode import encode_document, encode_text, encode_value, test_document
 from ._errors import Refused, refusal
-from ._query import are_operators, encode_query, ids_asked, ids_of, is_regex
+from ._query import are_operators, asks_for_id, encode_query, ids_of, is_number, is_regex
 from ._results import DeleteResult, InsertManyResult, InsertOneResult, UpdateResult
 from ._update import Update, read_update
 from ._values import ObjectId
@@ -64,8 +64,8 @@ class Collection(WithAbsent):
     def insert_many(self, documents: Iterable[Document], ordered: bool = True, **options: Any) -> InsertManyResult:
         """Puts documents in, all or none of them. Those without `_id` get new ObjectIds, as in `insert_one`.
 
-        `DuplicateKeyError` if the collection has the `_id` of one, or two have the same one: its `document` is the place, from 0, of the
-        one at fault. ValueError if they don't fit into one request, of 64 MiB.
+        `DuplicateKeyError` if the collection has the `_id` of one, or two have the same one: its `document` is the
+        place, from 0, of the one at fault. ValueError if they don't fit into one request, of 64 MiB.
         """
         test_options("insert_many", options)
         if not ordered:
@@ -82,11 +82,11 @@ class Collection(WithAbsent):
         return InsertManyResult([own for _, own in written])
 
     def import_(self, file: File) -> int:
-        """Puts the documents of a file in, all or none: BSON, one behind the other, each with its `_id`. The file is named, or is open
-        for bytes. Returns how many there are.
+        """Puts the documents of a file in, all or none: BSON, one behind the other, each with its `_id`. The file is
+        named, or is open for bytes. Returns how many there are.
 
-        `DuplicateKeyError` as in `insert_many`. ValueError if the file has more than some 48 MiB; the program takes more while no store
-        has its file open: ``fallowtime FILE import NAME < file``.
+        `DuplicateKeyError` as in `insert_many`. ValueError if the file has more than some 48 MiB; the program takes
+        more while no store has its file open: ``fallowtime FILE import NAME < file``.
         """
         if isinstance(file, (str, os.PathLike)):
             with builtins.open(file, "rb") as opened:
@@ -102,7 +102,8 @@ class Collection(WithAbsent):
     def find_one(self, filter: Any = None, projection: Any = None, **options: Any) -> Optional[Dict[str, Any]]:
         """The first document that a query selects, or None. What is no dict is the `_id` that is asked for.
 
-        By an `_id` it is one look into an index. By another query all documents that are selected come from the program.
+        By an `_id` it is one look into an index. By another query all documents that are selected come from the
+        program.
         """
         _test_reading("find_one", projection, options)
         if not isinstance(filter, Mapping):
@@ -126,8 +127,8 @@ class Collection(WithAbsent):
         return int(self._ask("count")["count"])
 
     def export(self, file: File) -> int:
-        """Writes all documents as BSON, one behind the other, to a file that is named, or is open for bytes. Returns how many there
-        are. A file that is there is written over."""
+        """Writes all documents as BSON, one behind the other, to a file that is named, or is open for bytes. Returns
+        how many there are. A file that is there is written over."""
         stream = binascii.a2b_base64(self._ask("export")["bytes"]["$binary"]["base64"])
         if isinstance(file, (str, os.PathLike)):
             with builtins.open(file, "wb") as opened:
@@ -138,11 +139,14 @@ class Collection(WithAbsent):
 
     # ---- changing
 
-    def replace_one(self, filter: Document, replacement: Document, upsert: bool = False, **options: Any) -> UpdateResult:
-        """Puts `replacement` in the place of the first document that a query selects. It gets the `_id` of that one, and may not have
-        another one.
+    def replace_one(
+        self, filter: Document, replacement: Document, upsert: bool = False, **options: Any
+    ) -> UpdateResult:
+        """Puts `replacement` in the place of the first document that a query selects. It gets the `_id` of that one,
+        and may not have another one.
 
-        With `upsert` it is put in if no document is selected: with its own `_id`, else with that of the query, else with a new ObjectId.
+        With `upsert` it is put in if no document is selected: with its own `_id`, else with that of the query, else
+        with a new ObjectId.
         """
         test_options("replace_one", options)
         test_document(replacement)
@@ -155,7 +159,7 @@ class Collection(WithAbsent):
                 return self._put_in(filter, replacement) if upsert else UpdateResult(0, 0)
             own, tree = found
             if "_id" in replacement and own not in ids_of(replacement["_id"]):
-                raise ValueError(f"the document that is selected has the _id {own}, and its replacement may have no other one")
+                raise ValueError(f"the document that is selected has the _id {own}; its replacement may have no other")
             text = self._text_with_id(replacement, own)
             if tree is not None and encode_document(self._decoder.document(tree)) == text:
                 return UpdateResult(1, 0)
@@ -163,15 +167,16 @@ class Collection(WithAbsent):
             return UpdateResult(1, 1)
 
     def update_one(self, filter: Document, update: Document, upsert: bool = False, **options: Any) -> UpdateResult:
-        """Gives keys of the first document that a query selects other values by `$set`, or takes them away by `$unset`: all at once.
-        A key is one at the top, and a new one becomes the last.
+        """Gives keys of the first document that a query selects other values by `$set`, or takes them away by `$unset`:
+        all at once. A key is one at the top, and a new one becomes the last.
 
-        With `upsert`, for a query of an `_id` alone, a document with that `_id` and the keys is put in if there is none.
+        With `upsert`, for a query of an `_id` alone, a document with that `_id` and the keys is put in if there is
+        none.
         """
         test_options("update_one", options)
         changes = read_update(update)
         test_document(filter)
-        if upsert and ids_asked(filter) is None:
+        if upsert and not asks_for_id(filter):
             refuse("upsert of update_one", "it needs a query of an _id alone")
         with self._session.lock:
             found = self._seek(filter)
@@ -183,11 +188,12 @@ class Collection(WithAbsent):
         """Removes the first document that a query selects."""
         test_options("delete_one", options)
         test_document(filter)
-        ids = ids_asked(filter)
         with self._session.lock:
-            if ids is None:
+            if asks_for_id(filter):
+                ids = ids_of(filter["_id"])
+            else:
                 found = self._seek(filter)
-                ids = [] if found is None else [found[0]]
+                ids = iter(()) if found is None else iter(found[:1])
             for own in ids:
                 if self._answer_if_found("remove", own) is not None:
                     return DeleteResult(1)
@@ -221,24 +227,22 @@ class Collection(WithAbsent):
     def _select(self, query: Document) -> List[Tree]:
         """The trees of all documents that a query selects."""
         test_document(query)
-        ids = ids_asked(query)
-        if ids is not None and len(ids) == 1:
-            answer = self._answer_if_found("get", ids[0])
+        if asks_for_id(query) and not is_number(query["_id"]):
+            answer = self._answer_if_found("get", encode_value(query["_id"]))
             return [] if answer is None else [answer["document"]]
         text = encode_query(query)
         answer = self._ask("find") if text == "{}" else self._ask("find", text)
         return list(answer["documents"])
 
     def _seek(self, query: Document, even_reserved: bool = False) -> Optional[Tuple[str, Tree]]:
-        """The first document that a query selects: its `_id`, as text, and its tree. With `even_reserved` the tree is None of a document
-        that has no Extended JSON, and is asked for by its `_id`."""
+        """The first document that a query selects: its `_id`, as text, and its tree. With `even_reserved` the tree is
+        None of a document that has no Extended JSON, and is asked for by its `_id`."""
         test_document(query)
-        ids = ids_asked(query)
-        if ids is None:
+        if not asks_for_id(query):
             trees = self._select(query)
             return (encode_value(self._decoder.value(trees[0]["_id"])), trees[0]) if trees else None
         with self._session.lock:
-            for own in ids:
+            for own in ids_of(query["_id"]):
                 try:
                     answer = self._answer_if_found("get", own)
                 except Refused as refused:
@@ -256,8 +260,8 @@ class Collection(WithAbsent):
             own = query["_id"] if is_asked else ObjectId()
         else:
             own = document["_id"]
-            if is_asked and ids_of(own)[0] not in ids_of(query["_id"]):
-                raise ValueError(f"the query asks for the _id {query['_id']!r}, and the document may have no other one")
+            if is_asked and encode_value(own) not in ids_of(query["_id"]):
+                raise ValueError(f"the query asks for the _id {query['_id']!r}; the document may have no other")
         self._put(self._text_with_id(document, encode_value(own)))
         return UpdateResult(0, 0, own)
 

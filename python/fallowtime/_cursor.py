@@ -8,8 +8,8 @@ from ._decode import Decoder, Tree
 
 
 class Cursor(WithAbsent):
-    """The documents that `find` returned, in the order in which they came into the collection. They are as they were when `find` was
-    called, whatever is changed behind it."""
+    """The documents that `find` returned, in the order in which they came into the collection. They are as they were
+    when `find` was called, whatever is changed behind it."""
 
     __slots__ = ("_trees", "_decoder")
     _absent = OF_CURSOR

@@ -7,8 +7,8 @@ import decimal
 import uuid
 from typing import Any, Callable, Dict
 
-from ._values import (EPOCH, FIRST_DATE, LAST_DATE, MILLISECOND, UTC, Binary, Code, DatetimeMS, DBPointer, Int64, MaxKey, MinKey, ObjectId,
-                      Regex, Symbol, Timestamp, Undefined)
+from ._values import (EPOCH, FIRST_DATE, LAST_DATE, MILLISECOND, UTC, Binary, Code, DatetimeMS, DBPointer, Int64,
+                      MaxKey, MinKey, ObjectId, Regex, Symbol, Timestamp, Undefined)
 
 Tree = Any
 
@@ -63,9 +63,21 @@ def _int64(tree: Tree) -> Int64:
 
 
 _READERS: Dict[str, Callable[[Tree], Any]] = {
-    "$numberInt": int, "$numberLong": _int64, "$numberDouble": float, "$numberDecimal": decimal.Decimal, "$oid": ObjectId, "$date": _date,
-    "$binary": _binary, "$regularExpression": _regex, "$symbol": Symbol, "$code": Code, "$timestamp": _timestamp, "$dbPointer": _pointer,
-    "$minKey": _min_key, "$maxKey": _max_key, "$undefined": _undefined,
+    "$numberInt": int,
+    "$numberLong": _int64,
+    "$numberDouble": float,
+    "$numberDecimal": decimal.Decimal,
+    "$oid": ObjectId,
+    "$date": _date,
+    "$binary": _binary,
+    "$regularExpression": _regex,
+    "$symbol": Symbol,
+    "$code": Code,
+    "$timestamp": _timestamp,
+    "$dbPointer": _pointer,
+    "$minKey": _min_key,
+    "$maxKey": _max_key,
+    "$undefined": _undefined,
 }
 
 

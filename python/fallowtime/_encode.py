@@ -1,4 +1,5 @@
-"""Values as canonical Extended JSON, which says the kind of each. What goes in is taken for its kind or refused, and never guessed."""
+"""Values as canonical Extended JSON, which says the kind of each. What goes in is taken for its kind or refused, and
+never guessed."""
 from __future__ import annotations
 
 import binascii
@@ -13,12 +14,15 @@ from json import encoder
 from typing import Any, Callable, Dict, FrozenSet, Optional
 
 from ._errors import refusal
-from ._values import (Binary, Code, DatetimeMS, DBPointer, Int64, MaxKey, MinKey, ObjectId, Regex, Symbol, Timestamp, Undefined,
-                      milliseconds_of, options_of)
+from ._values import (Binary, Code, DatetimeMS, DBPointer, Int64, MaxKey, MinKey, ObjectId, Regex, Symbol, Timestamp,
+                      Undefined, milliseconds_of, options_of)
 
-# The keys that make an object of Extended JSON a typed value. A dict with one of them, below the top, would come back as that.
-RESERVED = frozenset(["$oid", "$symbol", "$regularExpression", "$numberInt", "$numberLong", "$numberDouble", "$numberDecimal", "$binary",
-                      "$uuid", "$code", "$timestamp", "$date", "$minKey", "$maxKey", "$dbPointer", "$undefined"])
+# The keys that make an object of Extended JSON a typed value. A dict with one of them, below the top, would come back
+# as that.
+RESERVED = frozenset([
+    "$oid", "$symbol", "$regularExpression", "$numberInt", "$numberLong", "$numberDouble", "$numberDecimal", "$binary",
+    "$uuid", "$code", "$timestamp", "$date", "$minKey", "$maxKey", "$dbPointer", "$undefined",
+])
 # How many documents and arrays may lie in each other, the outermost one counted.
 DEEPEST = 100
 LEAST_INT32, GREATEST_INT32 = -1 << 31, (1 << 31) - 1
@@ -57,7 +61,7 @@ def decimal_text(value: decimal.Decimal) -> str:
     try:
         return str(DECIMAL128.create_decimal(value))
     except decimal.DecimalException:
-        raise ValueError(f"{value!r} doesn't fit into the 34 digits and the exponents of a decimal of 128 bits") from None
+        raise ValueError(f"{value!r} doesn't fit into the digits and exponents of a decimal of 128 bits") from None
 
 
 def test_int64(value: int) -> int:
@@ -110,7 +114,8 @@ def _object_id(value: Any) -> str:
 
 
 def _of_subtype(value: bytes, subtype: int) -> str:
-    return '{"$binary":{"base64":"%s","subType":"%02x"}}' % (binascii.b2a_base64(value, newline=False).decode("ascii"), subtype)
+    base64 = binascii.b2a_base64(value, newline=False).decode("ascii")
+    return '{"$binary":{"base64":"%s","subType":"%02x"}}' % (base64, subtype)
 
 
 def _bytes(value: bytes) -> str:
@@ -125,7 +130,8 @@ def _uuid(value: uuid.UUID) -> str:
     return _of_subtype(value.bytes, 4)
 
 
-def _pattern(value: "re.Pattern[Any]") -> str:
+def _pattern(value: Any) -> str:
+    """Of `re.compile`, or of the class Regex of bson."""
     if not isinstance(value.pattern, str):
         raise TypeError("a regular expression is kept if its pattern is a text, and not bytes")
     return _of_options(value.pattern, options_of(value.flags))
@@ -133,12 +139,6 @@ def _pattern(value: "re.Pattern[Any]") -> str:
 
 def _regex(value: Regex) -> str:
     return _of_options(value.pattern, value.options)
-
-
-def _foreign_regex(value: Any) -> str:
-    if not isinstance(value.pattern, str):
-        raise TypeError("a regular expression is kept if its pattern is a text, and not bytes")
-    return _of_options(value.pattern, options_of(value.flags))
 
 
 def _of_options(pattern: str, options: str) -> str:
@@ -171,14 +171,39 @@ def _undefined(value: Any) -> str:
 
 # What writes a value that has no value in it, by its class.
 _SCALARS: Dict[type, Callable[[Any], str]] = {
-    type(None): _null, bool: _boolean, int: _int, float: _double, str: encode_text, bytes: _bytes, Int64: _int64, decimal.Decimal: _decimal,
-    datetime.datetime: _date, DatetimeMS: _milliseconds, ObjectId: _object_id, Binary: _binary, uuid.UUID: _uuid, re.Pattern: _pattern,
-    Regex: _regex, Symbol: _symbol, Timestamp: _timestamp, DBPointer: _pointer, MinKey: _min_key, MaxKey: _max_key, Undefined: _undefined,
+    type(None): _null,
+    bool: _boolean,
+    int: _int,
+    float: _double,
+    str: encode_text,
+    bytes: _bytes,
+    Int64: _int64,
+    decimal.Decimal: _decimal,
+    datetime.datetime: _date,
+    DatetimeMS: _milliseconds,
+    ObjectId: _object_id,
+    Binary: _binary,
+    uuid.UUID: _uuid,
+    re.Pattern: _pattern,
+    Regex: _regex,
+    Symbol: _symbol,
+    Timestamp: _timestamp,
+    DBPointer: _pointer,
+    MinKey: _min_key,
+    MaxKey: _max_key,
+    Undefined: _undefined,
 }
 # The same of the classes of bson, by their names.
 _FOREIGN: Dict[str, Callable[[Any], str]] = {
-    "ObjectId": _object_id, "Int64": _int64, "Binary": _binary, "Regex": _foreign_regex, "Timestamp": _timestamp, "MinKey": _min_key,
-    "MaxKey": _max_key, "Decimal128": _decimal128, "DatetimeMS": _milliseconds,
+    "ObjectId": _object_id,
+    "Int64": _int64,
+    "Binary": _binary,
+    "Regex": _pattern,
+    "Timestamp": _timestamp,
+    "MinKey": _min_key,
+    "MaxKey": _max_key,
+    "Decimal128": _decimal128,
+    "DatetimeMS": _milliseconds,
 }
 
 

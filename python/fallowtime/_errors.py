@@ -15,12 +15,14 @@ class FallowtimeError(Exception):
 class Refused(FallowtimeError):
     """A request was refused, and nothing was changed. The store goes on.
 
-    `kind` is the name of the refusal, such as ``"NotFound"``; ``fallowtime --explain KIND`` says what each means, and what to do.
-    `document` is the place, from 0, of the document at fault of several, `key` the path of the key at fault, and `at` what of a
-    request can't be read if `kind` is ``"Words"``. Each is None if there is none.
+    `kind` is the name of the refusal, such as ``"NotFound"``; ``fallowtime --explain KIND`` says what each means, and
+    what to do. `document` is the place, from 0, of the document at fault of several, `key` the path of the key at
+    fault, and `at` what of a request can't be read if `kind` is ``"Words"``. Each is None if there is none.
     """
 
-    def __init__(self, kind: str, document: Optional[int] = None, key: Optional[str] = None, at: Optional[str] = None) -> None:
+    def __init__(
+        self, kind: str, document: Optional[int] = None, key: Optional[str] = None, at: Optional[str] = None
+    ) -> None:
         super().__init__(kind, document, key, at)
         self.kind = kind
         self.document = document
@@ -39,15 +41,17 @@ class Refused(FallowtimeError):
 
 
 class DuplicateKeyError(Refused):
-    """The collection has a document with this `_id` already, or two of the documents have the same one: the kind DuplicateId."""
+    """The collection has a document with this `_id` already, or two of the documents have the same one: the kind
+    DuplicateId."""
 
 
 class Ended(FallowtimeError):
     """The program isn't there any more, or couldn't be started, so the request wasn't sent or its answer didn't come.
 
     Whatever was answered before is in the file. A request that was under way is there as a whole or not at all.
-    `report` is what the program wrote on standard error, `status` what it ended with (below 0 the number of a signal), and `kind` the
-    name of the refusal that it reported: ``"Busy"`` if another process has the file. Each is None if there is none.
+    `report` is what the program wrote on standard error, `status` what it ended with (below 0 the number of a signal),
+    and `kind` the name of the refusal that it reported: ``"Busy"`` if another process has the file. Each is None if
+    there is none.
     """
 
     def __init__(self, reason: str, report: str = "", status: Optional[int] = None) -> None:
@@ -71,7 +75,9 @@ class Ended(FallowtimeError):
         return f"{self.reason}: {report}" if report else self.reason
 
 
-def refusal(kind: str, document: Optional[int] = None, key: Optional[str] = None, at: Optional[str] = None) -> Refused:
+def refusal(
+    kind: str, document: Optional[int] = None, key: Optional[str] = None, at: Optional[str] = None
+) -> Refused:
     """The error of a kind."""
     if document is None and at is not None and at.startswith("document "):
         document = int(at.partition(" ")[2])

@@ -26,9 +26,11 @@ if hasattr(os, "register_at_fork"):
 
 
 def checkouts() -> Iterator[pathlib.Path]:
-    """The checkout in which this package lies, and the one from which pip installed it, of which pip keeps a record (PEP 610)."""
+    """The checkout in which this package lies, and the one from which pip installed it, of which pip keeps a record
+    (PEP 610)."""
     yield pathlib.Path(__file__).resolve().parents[2]
-    # These take longer to come in than all of this package, and are wanted where neither the path nor a checkout has the program.
+    # These take longer to come in than all of this package, and are wanted where neither the path nor a checkout has
+    # the program.
     import importlib.metadata
     import urllib.parse
 
@@ -42,7 +44,8 @@ def checkouts() -> Iterator[pathlib.Path]:
 
 
 def find_program() -> str:
-    """The program: what FALLOWTIME names, else `fallowtime` on the path, else that of the checkout from which this package is."""
+    """The program: what FALLOWTIME names, else `fallowtime` on the path, else that of the checkout from which this
+    package is."""
     named = os.environ.get(VARIABLE)
     if named:
         return named
@@ -53,7 +56,7 @@ def find_program() -> str:
         program = checkout / NAME
         if program.is_file() and os.access(program, os.X_OK):
             return str(program)
-    raise Ended(f"there is no program {NAME}: put it on the path, by ./install in its checkout, or name it in {VARIABLE}")
+    raise Ended(f"there is no program {NAME}: ./install of its checkout puts it on the path, or {VARIABLE} names it")
 
 
 def absolute(path: "os.PathLike[str] | str") -> str:
@@ -64,12 +67,13 @@ def absolute(path: "os.PathLike[str] | str") -> str:
     if not name:
         raise ValueError("the name of a file is empty")
     if name == ":memory:" or name.startswith("file:"):
-        raise NotImplementedError(f"{name}: a store is in a file, and not in memory or at an address; ./{name} is a file of that name")
+        raise NotImplementedError(f"{name}: a store is in a file; ./{name} is a file of that name")
     return os.path.abspath(name)
 
 
 class Report:
-    """What a process writes on standard error. It is kept in memory, if the system has files there, as a disk may be full."""
+    """What a process writes on standard error. It is kept in memory, if the system has files there, as a disk may be
+    full."""
 
     def __init__(self) -> None:
         self.file: IO[bytes]
@@ -101,8 +105,8 @@ class Report:
 def start(program: str, words: List[str], pipes: Optional[int], report: Report) -> "subprocess.Popen[bytes]":
     """Starts the program with its words, its input and output as `pipes`. `Ended` if it can't be started.
 
-    It gets a session of its own, so that the signals of a terminal reach it by this process alone. What this process ignores it
-    ignores, too: by SIGXFSZ a file that would outgrow `ulimit -f` would else end it.
+    It gets a session of its own, so that the signals of a terminal reach it by this process alone. What this process
+    ignores it ignores, too: by SIGXFSZ a file that would outgrow `ulimit -f` would else end it.
     """
     try:
         with starting:

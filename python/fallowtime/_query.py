@@ -5,9 +5,9 @@ from __future__ import annotations
 import math
 import re
 from collections.abc import Mapping
-from typing import Any, Callable, Dict, List, Optional
+from typing import Any, Callable, Dict, Iterator
 
-from ._encode import GREATEST_INT32, LEAST_INT32, RESERVED, _int, double_text, encode_text, encode_value, test_int64
+from ._encode import GREATEST_INT32, LEAST_INT32, RESERVED, double_text, encode_text, encode_value, test_int64
 from ._values import Int64, Regex, is_foreign
 
 JOINING = frozenset(["$and", "$or", "$nor"])
@@ -44,7 +44,7 @@ def _operand(value: Any) -> str:
 def _plain_operand(value: Any) -> str:
     """A value that is asked for elsewhere, where a regular expression would search."""
     if is_regex(value):
-        raise NotImplementedError("a search by a regular expression, as no text is searched here; under $eq it is a value")
+        raise NotImplementedError("a search by a regular expression can't be had; under $eq it is a value")
     return _operand(value)
 
 
@@ -89,7 +89,13 @@ def _not(value: Any) -> str:
 
 
 _OPERATORS: Dict[str, Callable[[Any], str]] = {
-    "$eq": _operand, "$ne": _plain_operand, "$in": _among, "$nin": _not_among, "$exists": _exists, "$type": _type, "$not": _not,
+    "$eq": _operand,
+    "$ne": _plain_operand,
+    "$in": _among,
+    "$nin": _not_among,
+    "$exists": _exists,
+    "$type": _type,
+    "$not": _not,
 }
 
 
@@ -98,7 +104,7 @@ def _operators(value: "Mapping[str, Any]") -> str:
     for name, operand in value.items():
         write = _OPERATORS.get(name)
         if write is None:
-            raise NotImplementedError(f"the operator {name} in a query")
+            raise NotImplementedError(f"the operator {name} can't be had in a query")
         parts.append(encode_text(name) + ":" + write(operand))
     return "{" + ",".join(parts) + "}"
 
@@ -115,7 +121,7 @@ def _entry(path: Any, value: Any) -> str:
     if path in JOINING:
         return encode_text(path) + ":" + _joined(path, value)
     if path.startswith("$"):
-        raise NotImplementedError(f"the operator {path} at the top of a query")
+        raise NotImplementedError(f"the operator {path} can't be had at the top of a query")
     return encode_text(path) + ":" + (_operators(value) if are_operators(value) else _plain_operand(value))
 
 
@@ -126,30 +132,29 @@ def encode_query(query: Any) -> str:
     return "{" + ",".join([_entry(path, value) for path, value in query.items()]) + "}"
 
 
-def ids_asked(query: "Mapping[str, Any]") -> Optional[List[str]]:
-    """The `_id`s that a query asks for, as JSON, if it is one for an `_id` alone: that of its value, and of a number those of all
-    kinds that have this number. At most one document has each of them."""
-    if len(query) != 1 or "_id" not in query:
-        return None
-    value = query["_id"]
-    if are_operators(value) or is_regex(value):
-        return None
-    return ids_of(value)
+def asks_for_id(query: "Mapping[str, Any]") -> bool:
+    """Whether a query is one for an `_id` alone, so that the documents with the `ids_of` its value are what it
+    selects."""
+    return len(query) == 1 and "_id" in query and not are_operators(query["_id"]) and not is_regex(query["_id"])
 
 
-def ids_of(value: Any) -> List[str]:
-    """The `_id`s that a value stands for in a query, its own one first."""
-    own = encode_value(value)
+def ids_of(value: Any) -> Iterator[str]:
+    """The `_id`s that a value stands for in a query, as JSON, its own one first: of a number those of each kind that
+    has it. At most one document has each of them."""
+    yield encode_value(value)
     if not is_number(value):
-        return [own]
+        return
     if isinstance(value, float):
-        if not value.is_integer() or not -(2.0 ** 63) <= value < 2.0 ** 63:
-            return [own]
-        return [own, *_whole_ids(int(value))]
-    as_double = float(value)
-    return [*_whole_ids(value), *([encode_value(as_double)] if as_double == value else [])]
+        if value.is_integer() and -(2.0 ** 63) <= value < 2.0 ** 63:
+            yield from _whole_ids(int(value))
+        return
+    if LEAST_INT32 <= value <= GREATEST_INT32:
+        yield encode_value(Int64(value))
+    if float(value) == value:
+        yield encode_value(float(value))
 
 
-def _whole_ids(value: int) -> List[str]:
-    as_int64 = encode_value(Int64(value))
-    return [_int(value), as_int64] if LEAST_INT32 <= value <= GREATEST_INT32 else [as_int64]
+def _whole_ids(value: int) -> Iterator[str]:
+    if LEAST_INT32 <= value <= GREATEST_INT32:
+        yield encode_value(value)
+    yield encode_value(Int64(value))

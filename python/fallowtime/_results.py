@@ -36,8 +36,8 @@ class InsertManyResult(_Result):
 
 
 class UpdateResult(_Result):
-    """Of `replace_one` and `update_one`: how many documents the query found (0 or 1), how many were changed (not one that was so
-    already), and the `_id` of one that was put in."""
+    """Of `replace_one` and `update_one`: how many documents the query found (0 or 1), how many were changed (not one
+    that was so already), and the `_id` of one that was put in."""
 
     __slots__ = ("matched_count", "modified_count", "upserted_id")
 

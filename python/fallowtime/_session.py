@@ -41,7 +41,8 @@ class Session:
         self._has_room, self._has_answer = select.poll(), select.poll()
         self._has_room.register(self._input, select.POLLOUT)
         self._has_answer.register(self._output, select.POLLIN)
-        # What isn't sent yet of the last question, while its answer didn't come; else None. And what came of the answer.
+        # What isn't sent yet of the last question, while its answer didn't come; else None. And what came of the
+        # answer.
         self._due: Optional[memoryview] = None
         self._pieces: List[bytes] = []
         # Whether these two say how it is. Between a call of the system and the line behind it they may not.
@@ -53,8 +54,8 @@ class Session:
         _sessions.add(self)
 
     def open(self) -> None:
-        """Waits until the program has opened the file. `Ended` if it can't. What it reports meanwhile, as that it is built first, is
-        shown on standard error."""
+        """Waits until the program has opened the file. `Ended` if it can't. What it reports meanwhile, as that it is
+        built first, is shown on standard error."""
         with self.lock:
             try:
                 answer = self._answer(GREETING, PATIENCE)
@@ -68,10 +69,11 @@ class Session:
                 raise self._stop("this isn't the program fallowtime, or one of another time")
 
     def ask(self, question: str) -> Any:
-        """The answer to a question, which is a text of JSON. `Refused` if it is refused, and `Ended` if there is no program.
+        """The answer to a question, which is a text of JSON. `Refused` if it is refused, and `Ended` if there is no
+        program.
 
-        An exception that comes in between, as of a signal, leaves the answer to be passed over by the next question, or ends the
-        program if that can't be. Whether the command of the question was done is then open.
+        An exception that comes in between, as of a signal, leaves the answer to be passed over by the next question, or
+        ends the program if that can't be. Whether the command of the question was done is then open.
         """
         line = question.encode() + b"\n"
         if len(line) > LONGEST:
@@ -90,8 +92,8 @@ class Session:
             raise Ended(*self._end.args)
 
     def close(self) -> None:
-        """Ends the program: its input ends, and it is waited for. It may be called again. `Ended` if the program had ended by itself
-        and no exception said so."""
+        """Ends the program: its input ends, and it is waited for. It may be called again. `Ended` if the program had
+        ended by itself and no exception said so."""
         with self.lock:
             if self._end is None:
                 # A program whose answer isn't waited for ends in its own way.
@@ -196,7 +198,8 @@ class Session:
         return Ended(*self._end.args)
 
     def _stop(self, reason: str) -> Ended:
-        """Ends the program, so that it doesn't have the file any longer, and returns the error for what comes behind."""
+        """Ends the program, so that it doesn't have the file any longer, and returns the error for what comes
+        behind."""
         self._end = Ended(reason)
         self._is_reported = True
         ended = self._finish(0)
@@ -204,7 +207,8 @@ class Session:
         return Ended(*self._end.args)
 
     def _finish(self, seconds: float) -> Ended:
-        """Closes the pipes, waits so long for the end of the program before it is ended, and returns the error that says how it ended."""
+        """Closes the pipes, waits so long for the end of the program before it is ended, and returns the error that
+        says how it ended."""
         self._close_streams()
         status = self._wait(seconds)
         ended = Ended(f"the program ended with status {status}", self._report.text(), status)

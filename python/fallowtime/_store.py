@@ -17,8 +17,9 @@ Path = Union[str, "os.PathLike[str]"]
 class Store(WithAbsent):
     """A store in a file, which `fallowtime.open` opens: ``store["orders"]`` is a collection.
 
-    Threads may share it: their requests are answered one after the other, each to the one who asked. It is closed by `close`, at the
-    end of a `with`, or when nothing refers to it any more. A process that is forked has to open a file of its own.
+    Threads may share it: their requests are answered one after the other, each to the one who asked. It is closed by
+    `close`, at the end of a `with`, or when nothing refers to it any more. A process that is forked has to open a file
+    of its own.
     """
 
     _absent = OF_STORE
@@ -53,9 +54,11 @@ class Store(WithAbsent):
         return names
 
     def backup(self, path: Path) -> None:
-        """Writes all that the store holds into a new file: what every request that was answered has left. Requests may go on meanwhile.
+        """Writes all that the store holds into a new file: what every request that was answered has left. Requests may
+        go on meanwhile.
 
-        `Refused` with the kind ``"Exists"`` if there is a file already, or the log of one of that name, which would be played over it.
+        `Refused` with the kind ``"Exists"`` if there is a file already, or the log of one of that name, which would be
+        played over it.
         """
         self._session.test_open()
         run(self._program, [self._path, "backup", absolute(path), *self._waiting])
@@ -88,8 +91,8 @@ def _seconds(wait: int) -> int:
 def open(path: Path, *, wait: Optional[int] = None, tz_aware: bool = False) -> Store:
     """Opens the store in a file, which is made if it isn't there.
 
-    `wait` is for how many seconds a file is waited for that another process has; else it is 5. With `tz_aware` the dates that come
-    back say that they are in UTC; without it they have no zone, as pymongo's.
+    `wait` is for how many seconds a file is waited for that another process has; else it is 5. With `tz_aware` the
+    dates that come back say that they are in UTC; without it they have no zone, as pymongo's.
 
     `Ended` if the file can't be had; its `kind` says why: ``"Busy"`` if another process has it.
     """

@@ -1,5 +1,5 @@
-"""Classes for the kinds of BSON that Python has no class for. Those of `bson`, pymongo's package, are taken in their places as well,
-and `bson` takes these."""
+"""Classes for the kinds of BSON that Python has no class for. Those of `bson`, pymongo's package, are taken in their
+places as well, and `bson` takes these."""
 from __future__ import annotations
 
 import datetime
@@ -94,7 +94,8 @@ class _Ordered:
 
 
 class ObjectId(_Ordered):
-    """An id of 12 bytes: a new one without an argument, else that of 24 hexadecimal digits or of 12 bytes, or a copy."""
+    """An id of 12 bytes: a new one without an argument, else that of 24 hexadecimal digits or of 12 bytes, or a
+    copy."""
 
     __slots__ = ("_binary",)
     _type_marker = 7
@@ -165,7 +166,8 @@ class Int64(int):
 
 
 class Timestamp(_Ordered):
-    """MongoDB's internal timestamp: seconds since 1970 and a number, both of 32 bits without a sign. A date is a datetime."""
+    """MongoDB's internal timestamp: seconds since 1970 and a number, both of 32 bits without a sign. A date is a
+    datetime."""
 
     __slots__ = ("_time", "_inc")
     _type_marker = 17
@@ -193,6 +195,9 @@ class Timestamp(_Ordered):
     def as_datetime(self) -> datetime.datetime:
         """The date of the seconds, in UTC."""
         return datetime.datetime.fromtimestamp(self._time, UTC)
+
+    def __hash__(self) -> int:
+        return hash(self._time) ^ hash(self._inc)
 
     def _key(self) -> tuple[int, int]:
         return self._time, self._inc
@@ -247,8 +252,8 @@ class DatetimeMS(_Ordered):
 
 
 class Binary(bytes):
-    """Bytes with a subtype, a number from 0 to 255. Those of subtype 0 are bytes, and 16 bytes of subtype 4 a UUID: both come as
-    that."""
+    """Bytes with a subtype, a number from 0 to 255. Those of subtype 0 are bytes, and 16 bytes of subtype 4 a UUID:
+    both come as that."""
 
     _type_marker = 5
     _subtype: int
@@ -282,15 +287,15 @@ class Binary(bytes):
         return not self == other
 
     def __hash__(self) -> int:
-        return hash((bytes(self), self._subtype)) if self._subtype else hash(bytes(self))
+        return hash(bytes(self)) ^ hash(self._subtype)
 
     def __repr__(self) -> str:
         return f"Binary({bytes(self)!r}, {self._subtype})"
 
 
 class Regex:
-    """A regular expression as it is kept: a pattern, and options, which are letters in their order. It is equal to what `re.compile`
-    makes if that has the same pattern and flags. `flags` is a text of options, or flags of `re`."""
+    """A regular expression as it is kept: a pattern, and options, which are letters in their order. It is equal to what
+    `re.compile` makes if that has the same pattern and flags. `flags` is a text of options, or flags of `re`."""
 
     __slots__ = ("pattern", "options")
     _type_marker = 11
@@ -315,8 +320,8 @@ class Regex:
         return int(flags)
 
     def try_compile(self) -> "re.Pattern[str]":
-        """The same as a regular expression of `re`. `re.error` if it takes the pattern for none; ValueError for an option that it
-        hasn't."""
+        """The same as a regular expression of `re`. `re.error` if it takes the pattern for none; ValueError for an
+        option that it hasn't."""
         for letter in self.options:
             if letter not in FLAGS:
                 raise ValueError(f"re has no option {letter!r}")
@@ -326,8 +331,9 @@ class Regex:
         if isinstance(other, Regex):
             return self.pattern == other.pattern and self.options == other.options
         if isinstance(other, re.Pattern) or is_foreign(other, "Regex"):
+            pattern, flags = other.pattern, other.flags  # type: ignore[attr-defined]
             is_whole = all(letter in FLAGS for letter in self.options) and len(set(self.options)) == len(self.options)
-            return is_whole and self.pattern == other.pattern and self.flags == other.flags  # type: ignore[attr-defined]
+            return is_whole and self.pattern == pattern and self.flags == flags
         return NotImplemented
 
     def __hash__(self) -> int:
@@ -427,7 +433,7 @@ class _Alone:
         return type(other) is type(self) or is_foreign(other, type(self).__name__) or NotImplemented
 
     def __hash__(self) -> int:
-        return hash(type(self).__name__)
+        return hash(getattr(self, "_type_marker", 6))
 
     def __repr__(self) -> str:
         return f"{type(self).__name__}()"

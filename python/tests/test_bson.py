@@ -11,7 +11,8 @@ import uuid
 from common import ROOT, WithFolder, is_same
 
 import fallowtime
-from fallowtime import Binary, Code, DatetimeMS, DBPointer, Int64, MaxKey, MinKey, ObjectId, Regex, Symbol, Timestamp, Undefined
+from fallowtime import (Binary, Code, DatetimeMS, DBPointer, Int64, MaxKey, MinKey, ObjectId, Regex, Symbol, Timestamp,
+                        Undefined)
 
 try:
     import bson
@@ -38,11 +39,13 @@ def key(generator):
 
 
 def number(generator):
-    return generator.choice([0, 1, -1, generator.getrandbits(31), -generator.getrandbits(31), generator.getrandbits(62), -(1 << 63), (1 << 31)])
+    return generator.choice([0, 1, -1, generator.getrandbits(31), -generator.getrandbits(31), generator.getrandbits(62),
+                             -(1 << 63), (1 << 31)])
 
 
 def double(generator):
-    return generator.choice([0.0, -0.0, 1.5, float("inf"), -float("inf"), float("nan"), generator.random() * 10 ** generator.randint(-300, 300), 1e16, 1e-7, -2.0])
+    return generator.choice([0.0, -0.0, 1.5, float("inf"), -float("inf"), float("nan"),
+                             generator.random() * 10 ** generator.randint(-300, 300), 1e16, 1e-7, -2.0])
 
 
 def date(generator):
@@ -50,7 +53,9 @@ def date(generator):
 
 
 def decimal_of(generator):
-    return decimal.Decimal((generator.randrange(2), [generator.randrange(10) for _ in range(generator.randrange(1, 34))], generator.randint(-6176, 6111 - 34)))
+    return decimal.Decimal((generator.randrange(2),
+                            [generator.randrange(10) for _ in range(generator.randrange(1, 34))],
+                            generator.randint(-6176, 6111 - 34)))
 
 
 # For each kind, what makes a value of it at random, as it goes into the store and as bson takes it.
@@ -115,9 +120,11 @@ def scoped(generator, depth):
     return Code(script, ours), bson.Code(script, theirs)
 
 
-SCALARS = [both(text), both(number), both(double), both(date), both(lambda generator: uuid.UUID(int=generator.getrandbits(128))),
-           both(lambda generator: generator.choice([None, True, False])), object_id, int64, binary, regex, pattern, code, timestamp, decimal128,
-           lambda generator: (MinKey(), bson.MinKey()), lambda generator: (MaxKey(), bson.MaxKey())]
+SCALARS = [both(text), both(number), both(double), both(date),
+           both(lambda generator: uuid.UUID(int=generator.getrandbits(128))),
+           both(lambda generator: generator.choice([None, True, False])), object_id, int64, binary, regex, pattern,
+           code, timestamp, decimal128, lambda generator: (MinKey(), bson.MinKey()),
+           lambda generator: (MaxKey(), bson.MaxKey())]
 
 
 def value(generator, depth):
@@ -135,14 +142,16 @@ def whole(generator, own):
 class BesideBson(WithFolder):
     def setUp(self):
         super().setUp()
-        registry = codec_options.TypeRegistry(fallback_encoder=lambda value: bson.Decimal128(value) if isinstance(value, decimal.Decimal) else value)
-        self.options = codec_options.CodecOptions(uuid_representation=bson.binary.UuidRepresentation.STANDARD, type_registry=registry)
+        registry = codec_options.TypeRegistry(fallback_encoder=as_decimal128)
+        self.options = codec_options.CodecOptions(uuid_representation=bson.binary.UuidRepresentation.STANDARD,
+                                                  type_registry=registry)
 
     def encode(self, one):
         return bson.encode(one, codec_options=self.options)
 
     def test_the_bytes_of_documents(self):
-        """What goes in as values comes out as the bytes that bson makes of them, and as values comes out what went in."""
+        """What goes in as values comes out as the bytes that bson makes of them, and as values comes out what went
+        in."""
         generator = random.Random(SEED)
         pairs = [whole(generator, own) for own in range(DOCUMENTS)]
         with self.open() as store:
@@ -154,7 +163,7 @@ class BesideBson(WithFolder):
             for name, count in ("many", DOCUMENTS), ("one", PIECE):
                 stream = io.BytesIO()
                 self.assertEqual(store[name].export(stream), count)
-                self.assert_stream(stream.getvalue(), wanted if name == "many" else b"".join(self.encode(theirs) for _, theirs in pairs[:PIECE]))
+                self.assert_stream(stream.getvalue(), b"".join(self.encode(theirs) for _, theirs in pairs[:count]))
             for found, (ours, _) in zip(store["many"].find(), pairs):
                 self.assert_same(found, came_back(ours))
                 self.assertTrue(found == ours or "nan" in repr(ours))
@@ -201,8 +210,10 @@ class BesideBson(WithFolder):
             found = list(store["bytes"].find())
             self.assertEqual(len(found), count)
             kinds = {kind for each in found for kind in kinds_of(each)}
-            self.assertEqual(kinds, {type(None), bool, int, float, str, bytes, list, dict, ObjectId, Int64, Binary, Regex, Code, Timestamp, MinKey, MaxKey,
-                                     DBPointer, Symbol, Undefined, decimal.Decimal, datetime.datetime, DatetimeMS, *(kinds & {uuid.UUID})})
+            wanted = {type(None), bool, int, float, str, bytes, list, dict, ObjectId, Int64, Binary, Regex, Code,
+                      Timestamp, MinKey, MaxKey, DBPointer, Symbol, Undefined, decimal.Decimal, datetime.datetime,
+                      DatetimeMS}
+            self.assertEqual(kinds - {uuid.UUID}, wanted)
             store["values"].insert_many(found)
             self.assertTrue(all(map(is_same, store["values"].find(), found)))
             streams = []
@@ -218,12 +229,17 @@ class BesideBson(WithFolder):
             self.assertLess(len(unlike), count / 5)
 
     def test_equality_with_the_classes_of_bson(self):
-        for ours, theirs in [(ObjectId("6" * 24), bson.ObjectId("6" * 24)), (Int64(5), bson.Int64(5)), (Timestamp(1, 2), bson.Timestamp(1, 2)), (Regex("a", re.I), bson.Regex("a", re.I))]:
+        for ours, theirs in [(ObjectId("6" * 24), bson.ObjectId("6" * 24)), (Int64(5), bson.Int64(5)),
+                             (Timestamp(1, 2), bson.Timestamp(1, 2)), (Regex("a", re.I), bson.Regex("a", re.I))]:
             self.assertEqual(ours, theirs)
             self.assertEqual(theirs, ours)
-        for ours, theirs in [(MinKey(), bson.MinKey()), (MaxKey(), bson.MaxKey()), (Binary(b"x", 5), bson.Binary(b"x", 5)), (Code("x", {"a": 1}), bson.Code("x", {"a": 1}))]:
+            if not isinstance(ours, Regex):
+                self.assertEqual(hash(theirs), hash(ours))
+        for ours, theirs in [(MinKey(), bson.MinKey()), (MaxKey(), bson.MaxKey()),
+                             (Binary(b"x", 5), bson.Binary(b"x", 5)), (Code("x", {"a": 1}), bson.Code("x", {"a": 1}))]:
             self.assertEqual(ours, theirs)
-        self.assertEqual(hash(ObjectId("6" * 24)), hash(bson.ObjectId("6" * 24)))
+            if not isinstance(ours, Code):
+                self.assertEqual(hash(theirs), hash(ours))
         self.assertEqual(ObjectId(bson.ObjectId("6" * 24)), ObjectId("6" * 24))
         self.assertLess(ObjectId("6" * 24), bson.ObjectId("7" * 24))
 
@@ -231,7 +247,8 @@ class BesideBson(WithFolder):
         with self.open() as store:
             collection = store["c"]
             collection.insert_one(bson.SON([("_id", 1), ("b", bson.DBRef("c", 5)), ("a", bson.Decimal128("1.50"))]))
-            self.assertEqual(repr(collection.find_one()), "{'_id': 1, 'b': {'$ref': 'c', '$id': 5}, 'a': Decimal('1.50')}")
+            self.assertEqual(repr(collection.find_one()),
+                             "{'_id': 1, 'b': {'$ref': 'c', '$id': 5}, 'a': Decimal('1.50')}")
             raw = raw_bson.RawBSONDocument(bson.encode({"_id": 2, "a": {"b": 1}}))
             collection.insert_one(raw)
             self.assertEqual(collection.find_one(2), {"_id": 2, "a": {"b": 1}})
@@ -245,6 +262,11 @@ class BesideBson(WithFolder):
             self.assertRaises(NotImplementedError, collection.find, {"a": bson.Regex("x")})
             with self.assertRaises(ValueError):
                 collection.insert_one({"a": bson.Decimal128("sNaN")})
+
+
+def as_decimal128(value):
+    """What bson takes in the place of a decimal."""
+    return bson.Decimal128(value) if isinstance(value, decimal.Decimal) else value
 
 
 def came_back(value):

@@ -24,7 +24,8 @@ class Inserting(WithFolder):
         with self.open() as store:
             orders = store["orders"]
             result = orders.insert_one({"_id": 1, "city": "Ulm"})
-            self.assertEqual((result.inserted_id, result.acknowledged, repr(result)), (1, True, "InsertOneResult(inserted_id=1)"))
+            self.assertEqual((result.inserted_id, result.acknowledged, repr(result)),
+                             (1, True, "InsertOneResult(inserted_id=1)"))
             self.assertRaises(fallowtime.DuplicateKeyError, orders.insert_one, {"_id": 1})
             self.assert_refused("DuplicateId", orders.insert_one, {"_id": 1})
             document = {"city": "Bonn"}
@@ -50,7 +51,8 @@ class Inserting(WithFolder):
             result = orders.insert_many(iter(documents))
             self.assertEqual(result.inserted_ids, [0, 1, 2, documents[3]["_id"]])
             self.assertIsInstance(documents[3]["_id"], ObjectId)
-            refused = self.assert_refused("DuplicateId", orders.insert_many, [{"_id": 7}, {"_id": 8}, {"_id": 1}, {"_id": 9}], document=2)
+            refused = self.assert_refused("DuplicateId", orders.insert_many,
+                                          [{"_id": 7}, {"_id": 8}, {"_id": 1}, {"_id": 9}], document=2)
             self.assertIsInstance(refused, fallowtime.DuplicateKeyError)
             self.assert_refused("DuplicateId", orders.insert_many, [{"_id": 7}, {"_id": 8}, {"_id": 7}], document=2)
             self.assertEqual(orders.count_documents({}), 4)
@@ -91,8 +93,8 @@ class Looking(WithFolder):
         super().setUp()
         self.store = self.open()
         self.orders = self.store["orders"]
-        self.documents = [{"_id": number, "city": city, "price": price}
-                          for number, (city, price) in enumerate([("Ulm", 1), ("Berlin", 1.5), ("Ulm", 1.0), ("Bonn", Int64(1))])]
+        pairs = [("Ulm", 1), ("Berlin", 1.5), ("Ulm", 1.0), ("Bonn", Int64(1))]
+        self.documents = [{"_id": number, "city": city, "price": price} for number, (city, price) in enumerate(pairs)]
         self.orders.insert_many(self.documents)
 
     def test_find(self):
@@ -150,7 +152,8 @@ class Looking(WithFolder):
         for own in 5, Int64(5), 5.0, 6.0, Int64(7), 1.5, 1 << 40, float(1 << 41):
             kinds.insert_one({"_id": own, "was": repr(own)})
         self.assertEqual([found["was"] for found in kinds.find({"_id": 5})], ["5", "Int64(5)", "5.0"])
-        for asked, was in [(5, "5"), (5.0, "5.0"), (Int64(5), "Int64(5)"), (6, "6.0"), (7, "Int64(7)"), (7.0, "Int64(7)"), (1.5, "1.5"),
+        for asked, was in [(5, "5"), (5.0, "5.0"), (Int64(5), "Int64(5)"), (6, "6.0"), (7, "Int64(7)"),
+                           (7.0, "Int64(7)"), (1.5, "1.5"),
                            (float(1 << 40), "1099511627776"), (1 << 41, "2199023255552.0")]:
             self.assertEqual(kinds.find_one(asked)["was"], was)
             self.assertEqual(kinds.find_one({"_id": asked})["was"], was)
@@ -164,19 +167,25 @@ class Looking(WithFolder):
     def test_queries(self):
         many = self.store["many"]
         many.insert_many([
-            {"_id": 0, "a": 1, "s": {"x": "deep", "list": [10, {"y": 5}]}}, {"_id": 1, "a": None}, {"_id": 2}, {"_id": 3, "a": "1", "n": 1.5},
-            {"_id": 4, "a": [1, 2]}, {"_id": 5, "a": {"x": 1, "y": 2}}, {"_id": 6, "a": Regex("U", "u")}, {"_id": 7, "a": float("nan")},
-            {"_id": 8, "a": float("inf")}, {"_id": 9, "a": True}, {"_id": 10, "a": 1e16}])
+            {"_id": 0, "a": 1, "s": {"x": "deep", "list": [10, {"y": 5}]}}, {"_id": 1, "a": None}, {"_id": 2},
+            {"_id": 3, "a": "1", "n": 1.5}, {"_id": 4, "a": [1, 2]}, {"_id": 5, "a": {"x": 1, "y": 2}},
+            {"_id": 6, "a": Regex("U", "u")}, {"_id": 7, "a": float("nan")}, {"_id": 8, "a": float("inf")},
+            {"_id": 9, "a": True}, {"_id": 10, "a": 1e16}])
         for query, wanted in [
-            ({"s.x": "deep"}, [0]), ({"s.list.0": 10}, [0]), ({"s.list.1.y": 5}, [0]), ({"a": None}, [1, 2]), ({"a": {"$ne": None}}, [0, *range(3, 11)]),
-            ({"a": {"$exists": True}}, [0, 1, *range(3, 11)]), ({"a": {"$exists": False}}, [2]), ({"a": {"$in": [1, "1", None]}}, [0, 1, 2, 3]),
-            ({"a": {"$in": (1,)}}, [0]), ({"a": {"$nin": [1, "1", None]}}, [4, 5, 6, 7, 8, 9, 10]), ({"a": {"$type": "string"}}, [3]), ({"a": {"$type": 2}}, [3]),
-            ({"a": {"$type": ["string", 16]}}, [0, 3]), ({"a": {"$type": "number"}}, [0, 7, 8, 10]), ({"a": [1, 2]}, [4]), ({"a": {"y": 2, "x": 1}}, [5]),
-            ({"a": {"$eq": {"x": 1, "y": 2}}}, [5]), ({"a": {"$eq": re.compile("U")}}, [6]), ({"a": {"$eq": Regex("U", "u")}}, [6]), ({"a": float("nan")}, [7]),
-            ({"a": float("inf")}, [8]), ({"a": -float("inf")}, []), ({"a": True}, [9]), ({"a": 10 ** 16}, [10]), ({"a": 1e16}, [10]),
-            ({"a": {"$not": {"$type": "number"}}, "n": {"$exists": True}}, [3]), ({"$or": [{"a": 1}, {"n": 1.5}]}, [0, 3]),
-            ({"$and": [{"a": "1"}, {"n": 1.5}]}, [3]), ({"$nor": [{"a": {"$exists": True}}]}, [2]), ({"$or": []}, []), ({"$and": ()}, [*range(11)]),
-            ({"_id": {"$in": [3, 9, 99]}}, [3, 9]), ({"_id": 3, "n": 1.5}, [3]), ({"_id": 3, "n": 1}, []), ({"a": {"$ne": 1, "$exists": True}}, [1, *range(3, 11)]),
+            ({"s.x": "deep"}, [0]), ({"s.list.0": 10}, [0]), ({"s.list.1.y": 5}, [0]), ({"a": None}, [1, 2]),
+            ({"a": {"$ne": None}}, [0, *range(3, 11)]), ({"a": {"$exists": True}}, [0, 1, *range(3, 11)]),
+            ({"a": {"$exists": False}}, [2]), ({"a": {"$in": [1, "1", None]}}, [0, 1, 2, 3]),
+            ({"a": {"$in": (1,)}}, [0]), ({"a": {"$nin": [1, "1", None]}}, [4, 5, 6, 7, 8, 9, 10]),
+            ({"a": {"$type": "string"}}, [3]), ({"a": {"$type": 2}}, [3]), ({"a": {"$type": ["string", 16]}}, [0, 3]),
+            ({"a": {"$type": "number"}}, [0, 7, 8, 10]), ({"a": [1, 2]}, [4]), ({"a": {"y": 2, "x": 1}}, [5]),
+            ({"a": {"$eq": {"x": 1, "y": 2}}}, [5]), ({"a": {"$eq": re.compile("U")}}, [6]),
+            ({"a": {"$eq": Regex("U", "u")}}, [6]), ({"a": float("nan")}, [7]), ({"a": float("inf")}, [8]),
+            ({"a": -float("inf")}, []), ({"a": True}, [9]), ({"a": 10 ** 16}, [10]), ({"a": 1e16}, [10]),
+            ({"a": {"$not": {"$type": "number"}}, "n": {"$exists": True}}, [3]),
+            ({"$or": [{"a": 1}, {"n": 1.5}]}, [0, 3]), ({"$and": [{"a": "1"}, {"n": 1.5}]}, [3]),
+            ({"$nor": [{"a": {"$exists": True}}]}, [2]), ({"$or": []}, []), ({"$and": ()}, [*range(11)]),
+            ({"_id": {"$in": [3, 9, 99]}}, [3, 9]), ({"_id": 3, "n": 1.5}, [3]), ({"_id": 3, "n": 1}, []),
+            ({"a": {"$ne": 1, "$exists": True}}, [1, *range(3, 11)]),
         ]:
             with self.subTest(query=query):
                 self.assertEqual([found["_id"] for found in many.find(query)], wanted)
@@ -186,9 +195,11 @@ class Looking(WithFolder):
 
     def test_what_no_query_is(self):
         for query, error in [
-            ({"a": {"$exists": 1}}, TypeError), ({"a": {"$in": 1}}, TypeError), ({"a": {"$in": "ab"}}, TypeError), ({"a": {"$type": 1.0}}, TypeError),
-            ({"a": {"$type": [["int"]]}}, TypeError), ({"a": {"$not": 1}}, TypeError), ({"a": {"$not": {"b": 1}}}, TypeError), ({"$or": {}}, TypeError),
-            ({"$and": [1]}, TypeError), ({1: 2}, TypeError), ({"a": 1 << 64}, OverflowError), ({"a": {"$in": [1 << 64]}}, OverflowError),
+            ({"a": {"$exists": 1}}, TypeError), ({"a": {"$in": 1}}, TypeError), ({"a": {"$in": "ab"}}, TypeError),
+            ({"a": {"$type": 1.0}}, TypeError), ({"a": {"$type": [["int"]]}}, TypeError),
+            ({"a": {"$not": 1}}, TypeError), ({"a": {"$not": {"b": 1}}}, TypeError), ({"$or": {}}, TypeError),
+            ({"$and": [1]}, TypeError), ({1: 2}, TypeError), ({"a": 1 << 64}, OverflowError),
+            ({"a": {"$in": [1 << 64]}}, OverflowError),
         ]:
             with self.subTest(query=query):
                 self.assertRaises(error, self.orders.find, query)
@@ -268,9 +279,11 @@ class Changing(WithFolder):
 
     def test_what_no_update_is(self):
         for update, error in [
-            ({}, ValueError), ({"a": 1}, ValueError), ({"$set": {"a": 1}, "b": 2}, ValueError), ({"$set": 1}, TypeError), ({"$set": {1: 2}}, TypeError),
-            ({"$set": {"a": 1}, "$unset": {"a": 1}}, ValueError), (None, TypeError), ("$set", TypeError), ({"$unset": ["a"]}, TypeError),
-            ({"$set": {"a.b": 1}}, NotImplementedError), ({"$unset": {"a.b": 1}}, NotImplementedError), ({"$inc": {"a": 1}}, NotImplementedError),
+            ({}, ValueError), ({"a": 1}, ValueError), ({"$set": {"a": 1}, "b": 2}, ValueError),
+            ({"$set": 1}, TypeError), ({"$set": {1: 2}}, TypeError),
+            ({"$set": {"a": 1}, "$unset": {"a": 1}}, ValueError), (None, TypeError), ("$set", TypeError),
+            ({"$unset": ["a"]}, TypeError), ({"$set": {"a.b": 1}}, NotImplementedError),
+            ({"$unset": {"a.b": 1}}, NotImplementedError), ({"$inc": {"a": 1}}, NotImplementedError),
             ([{"$set": {"a": 1}}], NotImplementedError), ({"$set": {"a": 1}, "$push": {"b": 1}}, NotImplementedError),
         ]:
             with self.subTest(update=update):
@@ -281,7 +294,8 @@ class Changing(WithFolder):
 
     def test_update_one_that_puts_in(self):
         update = self.orders.update_one
-        self.assertEqual(counts(update({"_id": 8}, {"$set": {"b": 1, "a": 2}, "$unset": {"c": 1}}, upsert=True)), (0, 0, 8))
+        self.assertEqual(counts(update({"_id": 8}, {"$set": {"b": 1, "a": 2}, "$unset": {"c": 1}}, upsert=True)),
+                         (0, 0, 8))
         self.assertEqual(repr(self.orders.find_one(8)), "{'_id': 8, 'b': 1, 'a': 2}")
         self.assertEqual(counts(update({"_id": 8}, {"$set": {"b": 2}}, upsert=True)), (1, 1, None))
         self.assertRaises(NotImplementedError, update, {"a": 77}, {"$set": {"b": 1}}, upsert=True)
@@ -381,7 +395,8 @@ class Absent(WithFolder):
         store = self.open()
         collection, cursor = store["c"], store["c"].find()
         store.close()
-        for name in ("update_many", "delete_many", "bulk_write", "aggregate", "distinct", "drop", "rename", "create_index", "find_one_and_update",
+        for name in ("update_many", "delete_many", "bulk_write", "aggregate", "distinct", "drop", "rename",
+                     "create_index", "find_one_and_update",
                      "find_one_and_replace", "find_one_and_delete", "watch", "list_indexes"):
             with self.assertRaisesRegex(NotImplementedError, name):
                 getattr(collection, name)({}, x=1)
@@ -392,20 +407,27 @@ class Absent(WithFolder):
             with self.assertRaisesRegex(NotImplementedError, name):
                 getattr(store, name)("x")
         for method, words, option in itertools.chain(
-            [("find", ({},), {name: 1}) for name in ("projection", "sort", "limit", "skip", "collation", "hint", "session", "max_time_ms", "batch_size")],
+            [("find", ({},), {name: 1}) for name in ("projection", "sort", "limit", "skip", "collation", "hint",
+                                                     "session", "max_time_ms", "batch_size")],
             [("find_one", ({},), {name: 1}) for name in ("projection", "sort", "skip")],
             [("count_documents", ({},), {name: 1}) for name in ("limit", "skip", "hint")],
-            [("insert_one", ({},), {"session": 1}), ("insert_many", ([{}],), {"session": 1}), ("delete_one", ({},), {"collation": 1}),
+            [("insert_one", ({},), {"session": 1}), ("insert_many", ([{}],), {"session": 1}),
+             ("delete_one", ({},), {"collation": 1}),
              ("replace_one", ({}, {}), {"hint": 1}), ("update_one", ({}, {"$set": {"a": 1}}), {"array_filters": [1]})],
         ):
             with self.assertRaisesRegex(NotImplementedError, next(iter(option))):
                 getattr(collection, method)(*words, **option)
-        for query, name in [({"a": {"$gt": 1}}, "$gt"), ({"a": {"$regex": "x"}}, "$regex"), ({"$where": "x"}, "$where"), ({"a": {"$elemMatch": {}}}, "$elemMatch"),
-                            ({"$expr": {}}, "$expr"), ({"$or": [{"a": {"$lt": 1}}]}, "$lt"), ({"a": {"$not": {"$size": 1}}}, "$size"), ({"a": re.compile("x")}, "regular"),
-                            ({"a": {"$in": [re.compile("x")]}}, "regular"), ({"a": {"$not": re.compile("x")}}, "regular"), ({"_id": {"$gte": 1}}, "$gte"),
-                            ({"_id": re.compile("x")}, "regular"), ({"a": {"$eq": 1, "$mod": [1, 2]}}, "$mod"), ({"a": Regex("x")}, "regular")]:
+        for query, name in [({"a": {"$gt": 1}}, "$gt"), ({"a": {"$regex": "x"}}, "$regex"), ({"$where": "x"}, "$where"),
+                            ({"a": {"$elemMatch": {}}}, "$elemMatch"),
+                            ({"$expr": {}}, "$expr"), ({"$or": [{"a": {"$lt": 1}}]}, "$lt"),
+                            ({"a": {"$not": {"$size": 1}}}, "$size"), ({"a": re.compile("x")}, "regular"),
+                            ({"a": {"$in": [re.compile("x")]}}, "regular"),
+                            ({"a": {"$not": re.compile("x")}}, "regular"), ({"_id": {"$gte": 1}}, "$gte"),
+                            ({"_id": re.compile("x")}, "regular"), ({"a": {"$eq": 1, "$mod": [1, 2]}}, "$mod"),
+                            ({"a": Regex("x")}, "regular")]:
             for call in (collection.find, collection.find_one, collection.count_documents, collection.delete_one,
-                         lambda query: collection.update_one(query, {"$set": {"a": 1}}), lambda query: collection.replace_one(query, {})):
+                         lambda query: collection.update_one(query, {"$set": {"a": 1}}),
+                         lambda query: collection.replace_one(query, {})):
                 with self.subTest(query=query), self.assertRaisesRegex(NotImplementedError, re.escape(name)):
                     call(query)
 
@@ -413,7 +435,8 @@ class Absent(WithFolder):
         with self.open() as store:
             collection = store["c"]
             collection.insert_one({"_id": 1}, session=None, bypass_document_validation=False)
-            self.assertEqual([*collection.find({}, None, sort=None, limit=0, skip=0, no_cursor_timeout=False)], [{"_id": 1}])
+            self.assertEqual([*collection.find({}, None, sort=None, limit=0, skip=0, no_cursor_timeout=False)],
+                             [{"_id": 1}])
             self.assertEqual(store.list_collection_names(session=None), ["c"])
             self.assertRaises(TypeError, collection.find, {}, frobnicate=None)
             self.assertRaises(TypeError, collection.insert_one, {}, ordered=True)

@@ -1,4 +1,5 @@
-"""How it ends: closed, killed, cut off, forked, with the interpreter, with a file that can't be had, with a disk that is full."""
+"""How it ends: closed, killed, cut off, forked, with the interpreter, with a file that can't be had, with a disk that
+is full."""
 import contextlib
 import gc
 import io
@@ -42,7 +43,8 @@ class Closing(WithFolder):
         self.assertIsNone(store.close())
         self.assertEqual(process.returncode, 0)
         self.assertIsNone(store.close())
-        for call in (lambda: store["c"].find_one(), lambda: store.list_collection_names(), lambda: store.backup(self.folder / "b.db"),
+        for call in (lambda: store["c"].find_one(), lambda: store.list_collection_names(),
+                     lambda: store.backup(self.folder / "b.db"),
                      lambda: store["c"].insert_many([{}]), lambda: store["c"].update_one({}, {"$set": {"a": 1}})):
             with self.assertRaisesRegex(fallowtime.Ended, "the store was closed"):
                 call()
@@ -113,7 +115,8 @@ class Ending(WithFolder):
 
     def test_files_that_cannot_be_had(self):
         (self.folder / "text").write_text("this is no database, but a text" * 100)
-        for path, kind in [(self.folder, "NotPlain"), (self.folder / "none" / "x.db", "NoFolder"), (self.folder / "text", "NoDatabase")]:
+        for path, kind in [(self.folder, "NotPlain"), (self.folder / "none" / "x.db", "NoFolder"),
+                           (self.folder / "text", "NoDatabase")]:
             with self.assertRaises(fallowtime.Ended) as caught:
                 fallowtime.open(path)
             self.assertEqual((caught.exception.kind, caught.exception.status), (kind, 1))
@@ -146,7 +149,8 @@ class Ending(WithFolder):
         with mock.patch.dict(os.environ, FALLOWTIME=str(self.folder / "none")):
             with self.assertRaisesRegex(fallowtime.Ended, "can't be started"):
                 self.open()
-        with mock.patch.dict(os.environ, FALLOWTIME="", PATH=str(self.folder)), mock.patch.object(_program, "NAME", "fallowtime-none"):
+        nowhere = mock.patch.dict(os.environ, FALLOWTIME="", PATH=str(self.folder))
+        with nowhere, mock.patch.object(_program, "NAME", "fallowtime-none"):
             with self.assertRaisesRegex(fallowtime.Ended, "there is no program"):
                 self.open()
 
@@ -174,15 +178,19 @@ def run():
 insert(int(sys.argv[1]))
 """
         for number, (rest, status) in enumerate([
-            ("", 0), ("sys.exit(3)", 3), ("raise KeyError", 1), ("os._exit(4)", 4), ("threading.Thread(target=insert, args=(100,)).start()", 0),
+            ("", 0), ("sys.exit(3)", 3), ("raise KeyError", 1), ("os._exit(4)", 4),
+            ("threading.Thread(target=insert, args=(100,)).start()", 0),
             ("threading.Thread(target=run, daemon=True).start()\nimport time; time.sleep(0.3)", 0),
-            ("store.cycle = store", 0), ("pid = os.fork()\nif pid: os.waitpid(pid, 0)", 0), ("import os; os.kill(os.getpid(), 9)", -9),
+            ("store.cycle = store", 0), ("pid = os.fork()\nif pid: os.waitpid(pid, 0)", 0),
+            ("import os; os.kill(os.getpid(), 9)", -9),
             ("import multiprocessing\nmultiprocessing.get_context('fork').Process(target=print).start()", 0),
         ]):
             with self.subTest(rest=rest):
                 # With an error for each thing that is left open, except where the interpreter is cut off.
-                done = subprocess.run([sys.executable, "-W", "error", "-W", "ignore::DeprecationWarning", "-c", begin + rest, str(number)],
-                                      env={**os.environ, "PYTHONPATH": str(PYTHON)}, capture_output=True, text=True, timeout=60)
+                done = subprocess.run([sys.executable, "-W", "error", "-W", "ignore::DeprecationWarning", "-c",
+                                       begin + rest, str(number)],
+                                      env={**os.environ, "PYTHONPATH": str(PYTHON)}, capture_output=True, text=True,
+                                      timeout=60)
                 self.assertEqual(done.returncode, status, done.stderr)
                 if status in (0, 3):
                     self.assertEqual(done.stderr, "")
@@ -208,9 +216,12 @@ insert(int(sys.argv[1]))
             return self.open()
 
     def test_programs_that_are_made_up(self):
-        for script, text in [("cat", "no object of JSON"), ("echo '{}'; exec cat", "isn't the program fallowtime"), ("echo hello; exec cat", "no object of JSON"),
-                             ("exit 0", "status 0"), ("exec 1>&-; sleep 60", "status -15"), (f"{ANSWER}; read line; printf '{{\"refused\"'", "status 0")]:
-            with self.subTest(script=script), mock.patch.object(_session, "LAST_GRACE", 1), self.assertRaisesRegex(fallowtime.Ended, text):
+        for script, text in [("cat", "no object of JSON"), ("echo '{}'; exec cat", "isn't the program fallowtime"),
+                             ("echo hello; exec cat", "no object of JSON"),
+                             ("exit 0", "status 0"), ("exec 1>&-; sleep 60", "status -15"),
+                             (f"{ANSWER}; read line; printf '{{\"refused\"'", "status 0")]:
+            hurried = mock.patch.object(_session, "LAST_GRACE", 1)
+            with self.subTest(script=script), hurried, self.assertRaisesRegex(fallowtime.Ended, text):
                 store = self.open_made_up(script)
                 self.assertEqual(store["c"].find_one(), "never")
         store = self.open_made_up(f"{ANSWER}; read line; printf '\\377\\n'; exec cat")
@@ -219,7 +230,8 @@ insert(int(sys.argv[1]))
         self.assertIsNotNone(process_of(store).returncode)
 
     def test_an_answer_in_pieces(self):
-        store = self.open_made_up(f"{ANSWER}; read line; printf '{{\"na'; sleep 0.2; printf 'mes\":[\"ü'; sleep 0.2; printf '\"]}}'; sleep 0.2; echo; exec cat")
+        pieces = """printf '{"na'; sleep 0.2; printf 'mes":["ü'; sleep 0.2; printf '"]}'; sleep 0.2; echo"""
+        store = self.open_made_up(f"{ANSWER}; read line; {pieces}; exec cat")
         self.assertEqual(store.list_collection_names(), ["ü"])
 
     def test_a_program_that_does_not_end(self):
@@ -234,7 +246,8 @@ insert(int(sys.argv[1]))
     def test_what_is_reported_while_it_opens(self):
         said = io.StringIO()
         with contextlib.redirect_stderr(said):
-            store = self.open_made_up(f"echo 'it is built first' >&2; sleep 1.2; echo built >&2; {ANSWER}; echo later >&2; exec cat")
+            script = f"echo 'it is built first' >&2; sleep 1.2; echo built >&2; {ANSWER}; echo later >&2; exec cat"
+            store = self.open_made_up(script)
             self.assertIn(said.getvalue(), ["it is built first\nbuilt\n", "it is built first\nbuilt\nlater\n"])
             store.close()
 
@@ -255,13 +268,23 @@ class CutOff(WithFolder):
         self.addCleanup(restore)
         signal.setitimer(signal.ITIMER_REAL, seconds)
 
-    def cut(self, store, call, stopped=True):
-        """A call that is cut off by an exception while the program doesn't go on."""
+    def when_it_waits(self, store, work):
+        """Does something in a signal's handler as soon as a request waits for the program, which is stopped."""
         def handler(*_):
-            raise TooLate
+            if store._session._due is None or not store._session._is_sure:
+                signal.setitimer(signal.ITIMER_REAL, 0.05)
+            else:
+                work()
 
         process_of(store).send_signal(signal.SIGSTOP)
-        self.ring(0.2, handler)
+        self.ring(0.05, handler)
+
+    def cut(self, store, call):
+        """A call that is cut off by an exception while the program doesn't go on."""
+        def work():
+            raise TooLate
+
+        self.when_it_waits(store, work)
         self.assertRaises(TooLate, call)
         process_of(store).send_signal(signal.SIGCONT)
 
@@ -284,7 +307,8 @@ class CutOff(WithFolder):
             self.assertEqual(len([*store["c"].find()]), 100)
 
     def test_closing_behind_a_request_that_was_cut_off(self):
-        for call in (lambda store: store["c"].insert_many([{"_id": number, "t": "x" * 100000} for number in range(100)]), lambda store: store["c"].find()):
+        documents = [{"_id": number, "t": "x" * 100000} for number in range(100)]
+        for call in (lambda store: store["c"].insert_many(documents)), (lambda store: store["c"].find()):
             with self.open() as store:
                 self.cut(store, lambda: call(store))
             self.assertIsNotNone(process_of(store).returncode)
@@ -294,7 +318,7 @@ class CutOff(WithFolder):
     def test_a_request_inside_a_request(self):
         found = []
 
-        def handler(*_):
+        def work():
             try:
                 store["c"].find_one()
             except RuntimeError as error:
@@ -302,8 +326,7 @@ class CutOff(WithFolder):
             process_of(store).send_signal(signal.SIGCONT)
 
         with self.open() as store:
-            process_of(store).send_signal(signal.SIGSTOP)
-            self.ring(0.2, handler)
+            self.when_it_waits(store, work)
             store["c"].insert_one({"_id": 1})
             self.assertEqual(found, ["a request inside a request, as by a signal's handler"])
             self.assertEqual(store["c"].count_documents({}), 1)
@@ -475,7 +498,8 @@ try:
 except fallowtime.Ended as error:
     print(error)
 """
-        done = subprocess.run([sys.executable, "-c", script], env={**os.environ, "PYTHONPATH": str(PYTHON)}, capture_output=True, text=True, timeout=60)
+        done = subprocess.run([sys.executable, "-c", script], env={**os.environ, "PYTHONPATH": str(PYTHON)},
+                              capture_output=True, text=True, timeout=60)
         number, error, kind = done.stdout.splitlines()[0].split()
         self.assertEqual((done.returncode, done.stderr, error), (0, "", "Refused"))
         self.assertIn(kind, ("Disk", "Database"))

@@ -1,4 +1,5 @@
-"""The program is killed at random moments: what was answered is there, and at most the change that was under way more."""
+"""The program is killed at random moments: what was answered is there, and at most the change that was under way
+more."""
 import random
 import threading
 import unittest
@@ -9,6 +10,7 @@ import fallowtime
 
 KILLS = 50
 SEED = 20261126
+KINDS = ["insert", "insert", "many", "replace", "set", "sets", "unset", "delete"]
 
 
 class Kills(WithFolder):
@@ -57,14 +59,15 @@ class Kills(WithFolder):
 
     def change(self, generator, number, state):
         """A change, which is made to the state as well."""
-        kind = generator.choice(["insert", "insert", "many", "replace", "set", "sets", "unset", "delete"]) if state else "insert"
+        kind = generator.choice(KINDS) if state else "insert"
         own = generator.choice(list(state)) if state else None
         if kind == "insert":
             document = {"_id": number, "t": "x" * generator.randrange(2000)}
             state[number] = document
             return lambda collection: collection.insert_one(document)
         if kind == "many":
-            documents = [{"_id": number + place / 1000, "n": place, "t": "y" * 500} for place in range(1, generator.randrange(2, 200))]
+            places = range(1, generator.randrange(2, 200))
+            documents = [{"_id": number + place / 1000, "n": place, "t": "y" * 500} for place in places]
             state.update((document["_id"], document) for document in documents)
             return lambda collection: collection.insert_many(documents)
         if kind == "replace":

@@ -42,16 +42,20 @@ class Packing(WithFolder):
         """Without a network, into a folder: the package as it is, with its types."""
         if subprocess.run([sys.executable, "-m", "pip", "--version"], capture_output=True).returncode:
             self.skipTest("there is no pip here")
-        done = subprocess.run([sys.executable, "-m", "pip", "install", "--quiet", "--no-index", "--target", self.folder / "there", PYTHON],
+        done = subprocess.run([sys.executable, "-m", "pip", "install", "--quiet", "--no-index", "--target",
+                               self.folder / "there", PYTHON],
                               capture_output=True, text=True)
         self.assertEqual(done.returncode, 0, done.stderr)
         names = {path.name for path in (PYTHON / "fallowtime").iterdir() if path.name != "__pycache__"}
         self.assertIn("py.typed", names)
-        self.assertEqual({path.name for path in (self.folder / "there" / "fallowtime").iterdir()} - {"__pycache__"}, names)
-        script = "import fallowtime; s = fallowtime.open('x.db'); s['c'].insert_one({'_id': 1}); print(s['c'].find_one(), fallowtime.__file__)"
+        self.assertEqual({path.name for path in (self.folder / "there" / "fallowtime").iterdir()} - {"__pycache__"},
+                         names)
+        script = ("import fallowtime; c = fallowtime.open('x.db')['c']; c.insert_one({'_id': 1}); print(c.find_one(),"
+                  " fallowtime.__file__)")
         found = subprocess.run([sys.executable, "-c", script], cwd=self.folder, capture_output=True, text=True,
                                env={**os.environ, "PYTHONPATH": str(self.folder / "there")})
-        self.assertEqual((found.stdout, found.stderr), (f"{{'_id': 1}} {self.folder}/there/fallowtime/__init__.py\n", ""))
+        self.assertEqual((found.stdout, found.stderr),
+                         (f"{{'_id': 1}} {self.folder}/there/fallowtime/__init__.py\n", ""))
 
 
 if __name__ == "__main__":

@@ -12,7 +12,8 @@ COMMANDS = 10000
 
 class Threads(WithFolder):
     def test_each_gets_its_own_answers(self):
-        """Eight threads with ten thousand commands: each sees what it did itself, and what is refused is refused to it."""
+        """Eight threads with ten thousand commands: each sees what it did itself, and what is refused is refused to
+        it."""
         wrong = []
         store = self.open()
         shared = store["shared"]
@@ -40,7 +41,8 @@ class Threads(WithFolder):
                         holds("insert again", "refused", "refused")
                     holds("update", own.update_one({"_id": number}, {"$set": {"by": -1}}).modified_count, 1)
                     holds("not there", own.find_one(-1 - number), None)
-                    holds("in a shared document", shared.update_one({"_id": "number"}, {"$set": {f"key {thread}": number}}).matched_count, 1)
+                    holds("in a shared document",
+                          shared.update_one({"_id": "number"}, {"$set": {f"key {thread}": number}}).matched_count, 1)
                     holds("count", own.count_documents({"by": -1}), number + 1)
             except BaseException as error:
                 wrong.append((thread, error))
@@ -55,7 +57,8 @@ class Threads(WithFolder):
         self.assertEqual(wrong, [])
         self.assertGreaterEqual(sum(counts), COMMANDS)
         last = COMMANDS // THREADS // 8
-        self.assertEqual(shared.find_one(), {"_id": "number", "of": -1, **{f"key {thread}": last for thread in range(THREADS)}})
+        self.assertEqual(shared.find_one(),
+                         {"_id": "number", "of": -1, **{f"key {thread}": last for thread in range(THREADS)}})
         store.close()
 
     def test_updates_of_one_document_are_whole(self):

@@ -14,23 +14,29 @@ import uuid
 from common import WithFolder, is_same
 
 import fallowtime
-from fallowtime import (Binary, Code, DatetimeMS, DBPointer, Int64, MaxKey, MinKey, ObjectId, Regex, Symbol, Timestamp, Undefined)
+from fallowtime import (Binary, Code, DatetimeMS, DBPointer, Int64, MaxKey, MinKey, ObjectId, Regex, Symbol, Timestamp,
+                        Undefined)
 
 OID = ObjectId("650000000000000000000001")
 # Values that come back as themselves.
 KEPT = [
-    None, True, False, 0, 1, -1, 2147483647, -2147483648, Int64(0), Int64(1), Int64(-1), Int64(2147483648), Int64(-(1 << 63)),
-    Int64((1 << 63) - 1), 0.0, -0.0, 1.0, 1.5, 0.1, 1e16, 1e-5, 1e300, 5e-324, 2.2250738585072014e-308, 1.7976931348623157e308, math.inf,
-    -math.inf, math.nan, -math.nan, "", "text", "ü 中 😀 \n \x00 \x1f \x7f \u2028 \" \\ $oid", b"", b"\x00\xff", Binary(b"", 2), Binary(b"ab", 2), Binary(b"a", 4),
-    Binary(b"abc", 0x80), Binary(b"0123456789abcdef", 3), uuid.UUID("00112233-4455-6677-8899-aabbccddeeff"), datetime.datetime(1970, 1, 1),
-    datetime.datetime(2026, 3, 2, 9, 30, 0, 123000), datetime.datetime(1, 1, 1), datetime.datetime(9999, 12, 31, 23, 59, 59, 999000),
-    datetime.datetime(1969, 12, 31, 23, 59, 59, 999000), DatetimeMS(-62135596800001), DatetimeMS(253402300800000), DatetimeMS(-(1 << 63)),
-    DatetimeMS((1 << 63) - 1), decimal.Decimal("1.50"), decimal.Decimal("-0"), decimal.Decimal("0E-6176"), decimal.Decimal("1E+6111"),
+    None, True, False, 0, 1, -1, 2147483647, -2147483648, Int64(0), Int64(1), Int64(-1), Int64(2147483648),
+    Int64(-(1 << 63)), Int64((1 << 63) - 1), 0.0, -0.0, 1.0, 1.5, 0.1, 1e16, 1e-5, 1e300, 5e-324,
+    2.2250738585072014e-308, 1.7976931348623157e308, math.inf, -math.inf, math.nan, -math.nan, "", "text",
+    "ü 中 😀 \n \x00 \x1f \x7f \u2028 \" \\ $oid", b"", b"\x00\xff", Binary(b"", 2), Binary(b"ab", 2),
+    Binary(b"a", 4),
+    Binary(b"abc", 0x80), Binary(b"0123456789abcdef", 3), uuid.UUID("00112233-4455-6677-8899-aabbccddeeff"),
+    datetime.datetime(1970, 1, 1), datetime.datetime(2026, 3, 2, 9, 30, 0, 123000), datetime.datetime(1, 1, 1),
+    datetime.datetime(9999, 12, 31, 23, 59, 59, 999000), datetime.datetime(1969, 12, 31, 23, 59, 59, 999000),
+    DatetimeMS(-62135596800001), DatetimeMS(253402300800000), DatetimeMS(-(1 << 63)), DatetimeMS((1 << 63) - 1),
+    decimal.Decimal("1.50"), decimal.Decimal("-0"), decimal.Decimal("0E-6176"), decimal.Decimal("1E+6111"),
     decimal.Decimal("9.999999999999999999999999999999999E+6144"), decimal.Decimal("1E-6176"), decimal.Decimal("NaN"),
-    decimal.Decimal("Infinity"), decimal.Decimal("-Infinity"), decimal.Decimal("1234567890123456789012345678901234"), OID, Regex("a.b", "imsx"),
-    Regex("", ""), Regex("é\n", "uz"), Code("f()"), Code("f()", {}), Code("f()", {"$oid": 1, "x": [OID]}), Symbol("s"), Symbol(""),
-    Timestamp(0, 0), Timestamp(4294967295, 1), DBPointer("a.b", OID), MinKey(), MaxKey(), Undefined(), [], [1, 1.0, Int64(1)], {}, {"": 1},
-    {"a": {"b": [{"c": None}, [], {}]}}, {"$ref": "c", "$id": OID}, {"$": 1, "$set": 2, "a.b": 3, "0": 4}, {"b": 1, "a": 2},
+    decimal.Decimal("Infinity"), decimal.Decimal("-Infinity"), decimal.Decimal("1234567890123456789012345678901234"),
+    OID, Regex("a.b", "imsx"), Regex("", ""), Regex("é\n", "uz"), Code("f()"), Code("f()", {}),
+    Code("f()", {"$oid": 1, "x": [OID]}), Symbol("s"), Symbol(""), Timestamp(0, 0), Timestamp(4294967295, 1),
+    DBPointer("a.b", OID), MinKey(), MaxKey(), Undefined(), [], [1, 1.0, Int64(1)], {}, {"": 1},
+    {"a": {"b": [{"c": None}, [], {}]}}, {"$ref": "c", "$id": OID}, {"$": 1, "$set": 2, "a.b": 3, "0": 4},
+    {"b": 1, "a": 2},
 ]
 
 
@@ -52,8 +58,9 @@ class Zone(datetime.tzinfo):
 
 # Values that come back as another class that is equal, or as what is said here.
 TAKEN = [
-    (1 << 31, Int64(1 << 31)), (-(1 << 63), Int64(-(1 << 63))), ((1, 2), [1, 2]), (Level.LOW, 1), (Colour.RED, "red"), (Binary(b"x"), b"x"),
-    (Binary(bytes(16), 4), uuid.UUID(int=0)), (collections.OrderedDict(b=1, a=2), {"b": 1, "a": 2}), (re.compile("a", re.I), Regex("a", "iu")),
+    (1 << 31, Int64(1 << 31)), (-(1 << 63), Int64(-(1 << 63))), ((1, 2), [1, 2]), (Level.LOW, 1), (Colour.RED, "red"),
+    (Binary(b"x"), b"x"), (Binary(bytes(16), 4), uuid.UUID(int=0)),
+    (collections.OrderedDict(b=1, a=2), {"b": 1, "a": 2}), (re.compile("a", re.I), Regex("a", "iu")),
     (re.compile("(?x) a"), Regex("(?x) a", "ux")), (DatetimeMS(0), datetime.datetime(1970, 1, 1)),
     (datetime.datetime(2026, 3, 2, 9, 30, tzinfo=Zone()), datetime.datetime(2026, 3, 2, 7, 30)),
     (datetime.datetime(2026, 3, 2, 9, 30, 0, 123999), datetime.datetime(2026, 3, 2, 9, 30, 0, 123000)),
@@ -63,13 +70,15 @@ TAKEN = [
 SIGNALLING = struct.unpack("<d", struct.pack("<Q", 0x7FF8000000000001))[0]
 # Values that are refused, with the error.
 WRONG = [
-    (1 << 63, OverflowError), (-(1 << 63) - 1, OverflowError), (Int64(1 << 63), OverflowError), ({1}, TypeError), (1j, TypeError),
-    (object(), TypeError), (bytearray(b"x"), TypeError), (memoryview(b"x"), TypeError), (datetime.date(2026, 3, 2), TypeError),
-    (datetime.time(1), TypeError), (datetime.timedelta(1), TypeError), (range(3), TypeError), ({1: 2}, TypeError), ({b"a": 2}, TypeError),
-    ([{None: 1}], TypeError), ("\ud800", UnicodeEncodeError), ({"\udfff": 1}, UnicodeEncodeError), (re.compile(b"a"), TypeError),
-    (re.compile("a", re.A), ValueError), (decimal.Decimal("1" * 35), ValueError), (decimal.Decimal("1E+6145"), ValueError),
-    (decimal.Decimal("1E-6177"), ValueError), (decimal.Decimal("sNaN"), ValueError), (decimal.Decimal("-NaN"), ValueError),
-    (decimal.Decimal("NaN1"), ValueError), (SIGNALLING, ValueError), (len, TypeError), (int, TypeError), (iter([]), TypeError),
+    (1 << 63, OverflowError), (-(1 << 63) - 1, OverflowError), (Int64(1 << 63), OverflowError), ({1}, TypeError),
+    (1j, TypeError), (object(), TypeError), (bytearray(b"x"), TypeError), (memoryview(b"x"), TypeError),
+    (datetime.date(2026, 3, 2), TypeError), (datetime.time(1), TypeError), (datetime.timedelta(1), TypeError),
+    (range(3), TypeError), ({1: 2}, TypeError), ({b"a": 2}, TypeError), ([{None: 1}], TypeError),
+    ("\ud800", UnicodeEncodeError), ({"\udfff": 1}, UnicodeEncodeError), (re.compile(b"a"), TypeError),
+    (re.compile("a", re.A), ValueError), (decimal.Decimal("1" * 35), ValueError),
+    (decimal.Decimal("1E+6145"), ValueError), (decimal.Decimal("1E-6177"), ValueError),
+    (decimal.Decimal("sNaN"), ValueError), (decimal.Decimal("-NaN"), ValueError), (decimal.Decimal("NaN1"), ValueError),
+    (SIGNALLING, ValueError), (len, TypeError), (int, TypeError), (iter([]), TypeError),
 ]
 
 
@@ -85,14 +94,16 @@ class Kept(WithFolder):
                     one = {"_id": number, "value": value, "list": [value, [value]], "document": {"value": value}}
                     store["one"].insert_one(one)
                     self.assert_same(store["one"].find_one({"_id": number}),
-                                     {"_id": number, "value": back, "list": [back, [back]], "document": {"value": back}})
+                                     {"_id": number, "value": back, "list": [back, [back]],
+                                      "document": {"value": back}})
                     store["many"].insert_many([one, {**one, "_id": number + len(values)}])
                     store["set"].update_one({"_id": number}, {"$set": {"value": value}})
                     if repr(value) == "-0.0":
                         continue
                     self.assert_same(store["set"].find_one({"_id": number}), {"_id": number, "value": back})
-                    self.assertEqual(store["set"].update_one({"_id": number}, {"$set": {"value": value}}).modified_count, 0)
-                    self.assertEqual(store["set"].update_one({"_id": number}, {"$set": {"value": back}}).modified_count, 0)
+                    for again in value, back:
+                        result = store["set"].update_one({"_id": number}, {"$set": {"value": again}})
+                        self.assertEqual((result.matched_count, result.modified_count), (1, 0))
                     store["replaced"].replace_one({"_id": number}, {"value": value}, upsert=True)
                     self.assert_same(store["replaced"].find_one({"_id": number}), {"_id": number, "value": back})
                     self.assertEqual(store["replaced"].replace_one({"_id": number}, {"value": back}).modified_count, 0)
@@ -119,9 +130,11 @@ class Kept(WithFolder):
         with self.open() as store:
             for value, error in WRONG:
                 with self.subTest(value=repr(value)):
-                    for document in {"_id": 1, "v": value}, {"_id": 1, "v": [value]}, {"_id": 1, "v": {"w": value}}, {"_id": value}:
+                    places = {"v": value}, {"_id": 1, "v": [value]}, {"v": {"w": value}}, {"_id": value}
+                    for document in places:
                         for call in (store["c"].insert_one, lambda one: store["c"].insert_many([{"_id": 0}, one]),
-                                     lambda one: store["c"].replace_one({}, one), lambda one: store["c"].update_one({}, {"$set": {"v": one}}),
+                                     lambda one: store["c"].replace_one({}, one),
+                                     lambda one: store["c"].update_one({}, {"$set": {"v": one}}),
                                      lambda one: store["c"].find({"v": one})):
                             self.assertRaises(error, call, document)
             for document in 1, None, "a", [], [("a", 1)]:
@@ -143,7 +156,8 @@ class Kept(WithFolder):
             for value in date, date.astimezone(Zone()), date.replace(tzinfo=None):
                 store["c"].replace_one({"_id": 1}, {"date": value, "list": [value]}, upsert=True)
                 found = store["c"].find_one(1)
-                self.assertEqual((found["date"], found["date"].tzinfo, found["list"]), (date, datetime.timezone.utc, [date]))
+                self.assertEqual((found["date"], found["date"].tzinfo, found["list"]),
+                                 (date, datetime.timezone.utc, [date]))
             store["c"].insert_one({"_id": 2, "date": DatetimeMS(1 << 60)})
             self.assert_same(store["c"].find_one(2), {"_id": 2, "date": DatetimeMS(1 << 60)})
 
@@ -158,19 +172,22 @@ class Kept(WithFolder):
 
 class Reserved(WithFolder):
     def test_a_wrapper_by_accident(self):
-        keys = ["$oid", "$symbol", "$regularExpression", "$numberInt", "$numberLong", "$numberDouble", "$numberDecimal", "$binary",
-                "$uuid", "$code", "$timestamp", "$date", "$minKey", "$maxKey", "$dbPointer", "$undefined"]
+        keys = ["$oid", "$symbol", "$regularExpression", "$numberInt", "$numberLong", "$numberDouble", "$numberDecimal",
+                "$binary", "$uuid", "$code", "$timestamp", "$date", "$minKey", "$maxKey", "$dbPointer", "$undefined"]
         with self.open() as store:
             collection = store["c"]
             for key in keys:
                 with self.subTest(key=key):
-                    for value, path in [({key: 1}, key), ({"a": 1, key: 1}, key), ([1, {"b": {key: "x"}}], f"1.b.{key}"),
+                    for value, path in [({key: 1}, key), ({"a": 1, key: 1}, key),
+                                        ([1, {"b": {key: "x"}}], f"1.b.{key}"),
                                         (Code("f", {"d": {key: 1}}), f"d.{key}"), ({"b": {"$oid": 1}, key: 1}, key)]:
-                        self.assert_refused("ReservedKey", collection.insert_one, {"x": {"y": value}}, key=f"x.y.{path}")
+                        self.assert_refused("ReservedKey", collection.insert_one, {"x": {"y": value}},
+                                            key=f"x.y.{path}")
                         self.assert_refused("ReservedKey", collection.insert_one, {"_id": value}, key=f"_id.{path}")
                         self.assert_refused("ReservedKey", collection.insert_many, [{}, {"x": value}], key=f"x.{path}")
                         self.assert_refused("ReservedKey", collection.replace_one, {}, {"x": value}, key=f"x.{path}")
-                        self.assert_refused("ReservedKey", collection.update_one, {}, {"$set": {"x": value}}, key=f"x.{path}")
+                        self.assert_refused("ReservedKey", collection.update_one, {}, {"$set": {"x": value}},
+                                            key=f"x.{path}")
                         self.assert_refused("ReservedKey", collection.find, {"x": {"$eq": value}}, key=path)
                         self.assert_refused("ReservedKey", collection.find_one, {"_id": {"$in": [value]}}, key=path)
                     self.assert_refused("ReservedKey", collection.find, {"x": {key: 1}}, key=key)
@@ -181,7 +198,8 @@ class Reserved(WithFolder):
         with self.open() as store:
             store["c"].insert_one(document)
             self.assert_same(store["c"].find_one(), document)
-            self.assertEqual(store["c"].update_one({}, {"$set": {"$oid": "y"}, "$unset": {"$numberInt": 1}}).modified_count, 1)
+            result = store["c"].update_one({}, {"$set": {"$oid": "y"}, "$unset": {"$numberInt": 1}})
+            self.assertEqual(result.modified_count, 1)
             self.assert_same(store["c"].find_one(), {"_id": 1, "$oid": "y", "c": Code("f", {"$date": 1})})
 
     def test_what_came_as_bson_and_has_no_json(self):
@@ -214,7 +232,8 @@ class Reserved(WithFolder):
                 collection = store[repr(wrap)]
                 collection.insert_one(nested(100, wrap))
                 self.assertEqual(collection.count_documents({}), 1)
-                self.assertEqual(repr(collection.find_one()), repr(nested(100, wrap)).replace("(", "[").replace(",)", "]"))
+                self.assertEqual(repr(collection.find_one()),
+                                 repr(nested(100, wrap)).replace("(", "[").replace(",)", "]"))
                 for levels in 101, 102, 500, 5000:
                     self.assert_refused("TooDeep", collection.insert_one, nested(levels, wrap))
             circle = {}
@@ -259,7 +278,8 @@ class Classes(unittest.TestCase):
         self.assertNotEqual(MinKey(), MaxKey())
         self.assertLess(Timestamp(1, 2), Timestamp(2, 1))
         self.assertLess(DatetimeMS(1), DatetimeMS(2))
-        self.assertEqual(DatetimeMS(datetime.datetime(1970, 1, 1, 0, 0, 1)).as_datetime(), datetime.datetime(1970, 1, 1, 0, 0, 1))
+        self.assertEqual(DatetimeMS(datetime.datetime(1970, 1, 1, 0, 0, 1)).as_datetime(),
+                         datetime.datetime(1970, 1, 1, 0, 0, 1))
         self.assertRaises(OverflowError, DatetimeMS(1 << 60).as_datetime)
         self.assertEqual(Timestamp(datetime.datetime(1970, 1, 1, 0, 1), 1).time, 60)
 
@@ -274,11 +294,12 @@ class Classes(unittest.TestCase):
 
     def test_wrong_arguments(self):
         for make, error in [(lambda: Timestamp(-1, 0), ValueError), (lambda: Timestamp(0, 1 << 32), ValueError),
-                            (lambda: Timestamp("1", 0), TypeError), (lambda: Binary("x"), TypeError), (lambda: Binary(b"x", 256), ValueError),
-                            (lambda: Binary(b"x", "4"), TypeError), (lambda: Regex(b"x"), TypeError), (lambda: Regex("x", re.A), ValueError),
-                            (lambda: Code(b"x"), TypeError), (lambda: Code("x", 1), TypeError), (lambda: DBPointer(1, OID), TypeError),
-                            (lambda: DBPointer("x", "y"), ValueError), (lambda: DatetimeMS("1"), TypeError),
-                            (lambda: DatetimeMS(1 << 63), OverflowError)]:
+                            (lambda: Timestamp("1", 0), TypeError), (lambda: Binary("x"), TypeError),
+                            (lambda: Binary(b"x", 256), ValueError), (lambda: Binary(b"x", "4"), TypeError),
+                            (lambda: Regex(b"x"), TypeError), (lambda: Regex("x", re.A), ValueError),
+                            (lambda: Code(b"x"), TypeError), (lambda: Code("x", 1), TypeError),
+                            (lambda: DBPointer(1, OID), TypeError), (lambda: DBPointer("x", "y"), ValueError),
+                            (lambda: DatetimeMS("1"), TypeError), (lambda: DatetimeMS(1 << 63), OverflowError)]:
             self.assertRaises(error, make)
 
     def test_errors_are_copied(self):
