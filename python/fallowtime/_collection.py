@@ -12,7 +12,7 @@ from ._absent import OF_COLLECTION, WithAbsent, refuse, test_options
 from ._cursor import Cursor
 from ._decode import Tree
 from ._encode import encode_document, encode_text, encode_value, test_document
-from ._errors import Refused, refusal
+from ._errors import Refused
 from ._query import are_operators, asks_for_id, encode_query, ids_of, is_number, is_regex
 from ._results import DeleteResult, InsertManyResult, InsertOneResult, UpdateResult
 from ._update import Update, read_update
@@ -22,8 +22,6 @@ if TYPE_CHECKING:
     from ._store import Store
 
 Document = Mapping[str, Any]
-# A double that is zero and has a sign, in a text. In a text of JSON the quotes would have a backslash.
-NEGATIVE_ZERO = encode_value(-0.0)
 File = Union[str, "os.PathLike[str]", IO[bytes]]
 
 
@@ -58,7 +56,7 @@ class Collection(WithAbsent):
         test_options("insert_one", options)
         text, own = _with_id(document)
         _give_id(document, own)
-        self._put(text)
+        self._ask("insert", text)
         return InsertOneResult(own)
 
     def insert_many(self, documents: Iterable[Document], ordered: bool = True, **options: Any) -> InsertManyResult:
@@ -205,16 +203,6 @@ class Collection(WithAbsent):
         """The answer to a command of this collection."""
         return self._session.ask("[" + ",".join([f'"{command}"', self._quoted, *places]) + "]")
 
-    def _put(self, text: str) -> None:
-        """Puts a document in. The command `insert` makes 0.0 of -0.0; `import` keeps it."""
-        if NEGATIVE_ZERO not in text:
-            self._ask("insert", text)
-            return
-        try:
-            self._ask("import", f"[{text}]")
-        except Refused as refused:
-            raise refusal(refused.kind, None, refused.key, refused.at) from None
-
     def _answer_if_found(self, command: str, *places: str) -> Any:
         """The answer to a command of a document, or None if there is no such document."""
         try:
@@ -262,7 +250,7 @@ class Collection(WithAbsent):
             own = document["_id"]
             if is_asked and encode_value(own) not in ids_of(query["_id"]):
                 raise ValueError(f"the query asks for the _id {query['_id']!r}; the document may have no other")
-        self._put(self._text_with_id(document, encode_value(own)))
+        self._ask("insert", self._text_with_id(document, encode_value(own)))
         return UpdateResult(0, 0, own)
 
     def _text_with_id(self, document: Document, own: str) -> str:
@@ -274,10 +262,10 @@ class Collection(WithAbsent):
         """Makes the changes to a document that was found."""
         if not changes.changes(tree, self._decoder):
             return UpdateResult(1, 0)
-        if changes.is_scalar():
+        if len(changes.texts) == 1 and not changes.unset:
             (key, text), = changes.texts.items()
             self._ask("set", own, encode_text(key), text)
-        elif len(changes.unset) == 1 and not changes.set:
+        elif len(changes.unset) == 1 and not changes.texts:
             self._ask("unset", own, encode_text(changes.unset[0]))
         else:
             self._ask("replace", changes.text_behind(tree))

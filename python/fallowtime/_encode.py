@@ -217,11 +217,6 @@ def _writer_of(kind: type) -> Optional[Callable[[Any], str]]:
     return None
 
 
-def is_scalar(value: Any) -> bool:
-    """Whether a value has no values in it."""
-    return not isinstance(value, (Mapping, list, tuple)) and getattr(value, "scope", None) is None
-
-
 def _value(value: Any, level: int) -> str:
     """A value; `level` is how many documents and arrays it is in, and one more."""
     kind = type(value)

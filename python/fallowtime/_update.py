@@ -7,7 +7,7 @@ from typing import Any, Dict, List
 
 from ._absent import refuse
 from ._decode import Decoder, Tree
-from ._encode import encode_document, encode_value, is_scalar
+from ._encode import encode_document, encode_value
 from ._errors import refusal
 
 
@@ -20,10 +20,6 @@ class Update:
         encode_document(set)
         self.set, self.unset = set, unset
         self.texts = {key: encode_value(value) for key, value in set.items()}
-
-    def is_scalar(self) -> bool:
-        """Whether one key is set, to a value without parts. The keys of others would be sorted by the command `set`."""
-        return len(self.set) == 1 and not self.unset and all(map(is_scalar, self.set.values()))
 
     def changes(self, tree: Tree, decoder: Decoder) -> bool:
         """Whether a document, as a tree, is another one behind the update."""

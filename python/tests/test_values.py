@@ -98,8 +98,6 @@ class Kept(WithFolder):
                                       "document": {"value": back}})
                     store["many"].insert_many([one, {**one, "_id": number + len(values)}])
                     store["set"].update_one({"_id": number}, {"$set": {"value": value}})
-                    if repr(value) == "-0.0":
-                        continue
                     self.assert_same(store["set"].find_one({"_id": number}), {"_id": number, "value": back})
                     for again in value, back:
                         result = store["set"].update_one({"_id": number}, {"$set": {"value": again}})
