@@ -37,4 +37,5 @@ try /usr/bin/python3 tests/front.py "$work/fallowtime"
 for test in files.py:bson_store extended_json.py:bson_json fallowtime.py:fallowtime fallowtime_files.py:fallowtime; do
     [ ! -e "tests/${test%:*}" ] || try /usr/bin/python3 "tests/${test%:*}" "$work/${test#*:}"
 done
+try /usr/bin/python3 tests/python.py "$work/fallowtime"
 try tests/readme.sh "$work/bson_store"

@@ -26,7 +26,7 @@ BEGINS = re.compile(r"([-+*>#]|\d+[.)])$|#+$|\|")
 
 
 def pages():
-    return [page for folder in ("", "docs/", "crates/*/", "bench/") for page in sorted(ROOT.glob(folder + "*.md"))]
+    return [page for folder in ("", "docs/", "crates/*/", "bench/", "python/") for page in sorted(ROOT.glob(folder + "*.md"))]
 
 
 def fill(text, first, rest):
