@@ -50,6 +50,9 @@ def pack(folder, files):
     """Writes a wheel of these files into a folder, and returns its name."""
     about = f"{PACKAGE}-{version()}.dist-info"
     files = {**files, f"{about}/METADATA": metadata(), f"{about}/WHEEL": WHEEL.encode()}
+    licence = HERE.parent / "LICENSE"
+    if licence.exists():
+        files[f"{about}/LICENSE"] = licence.read_bytes()
     record = ""
     for name, content in files.items():
         digest = base64.urlsafe_b64encode(hashlib.sha256(content).digest()).rstrip(b"=").decode()

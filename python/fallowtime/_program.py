@@ -48,10 +48,10 @@ def find_program() -> str:
     package is."""
     named = os.environ.get(VARIABLE)
     if named:
-        return named
+        return os.path.abspath(named) if os.sep in named else named
     found = shutil.which(NAME)
     if found:
-        return found
+        return os.path.abspath(found)
     for checkout in checkouts():
         program = checkout / NAME
         if program.is_file() and os.access(program, os.X_OK):

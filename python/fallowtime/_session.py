@@ -75,11 +75,11 @@ class Session:
         An exception that comes in between, as of a signal, leaves the answer to be passed over by the next question, or
         ends the program if that can't be. Whether the command of the question was done is then open.
         """
-        line = question.encode() + b"\n"
+        line = question.encode()
         if len(line) > LONGEST:
             raise ValueError(f"a request has at most {LONGEST} bytes, and this one has {len(line)}")
         with self.lock:
-            answer = self._answer(line, None)
+            answer = self._answer(line + b"\n", None)
         kind = answer.get("refused")
         if kind is not None:
             raise refusal(kind, answer.get("document"), answer.get("key"), answer.get("at"))
@@ -95,6 +95,7 @@ class Session:
         """Ends the program: its input ends, and it is waited for. It may be called again. `Ended` if the program had
         ended by itself and no exception said so."""
         with self.lock:
+            self._test_outside()
             if self._end is None:
                 # A program whose answer isn't waited for ends in its own way.
                 self._is_reported = self._due is not None
@@ -110,7 +111,7 @@ class Session:
         if self._end is None and self.lock.acquire(timeout=GRACE):
             try:
                 self.close()
-            except Ended:
+            except (Ended, RuntimeError):
                 pass
             finally:
                 self.lock.release()
@@ -125,10 +126,14 @@ class Session:
             self._close_streams()
             self._report.close()
 
-    def _answer(self, line: bytes, patience: Optional[int]) -> Any:
-        """Sends a line and returns the answer to it."""
+    def _test_outside(self) -> None:
+        """RuntimeError in the middle of a request of this thread."""
         if self._is_inside:
             raise RuntimeError("a request inside a request, as by a signal's handler")
+
+    def _answer(self, line: bytes, patience: Optional[int]) -> Any:
+        """Sends a line and returns the answer to it."""
+        self._test_outside()
         self.test_open()
         try:
             self._is_inside = True
@@ -193,8 +198,9 @@ class Session:
 
     def _fail(self) -> Ended:
         """The error for a program that has closed its pipes, as it has ended or is about to."""
-        self._end = self._finish(LAST_GRACE)
+        self._end = Ended("the program has ended")
         self._is_reported = True
+        self._end = self._finish(LAST_GRACE)
         return Ended(*self._end.args)
 
     def _stop(self, reason: str) -> Ended:

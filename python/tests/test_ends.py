@@ -172,9 +172,12 @@ store = fallowtime.open({str(self.folder / "test.db")!r})
 def insert(number): store["c"].insert_one({{"_id": number}})
 def run():
     number = 1000
-    while True:
-        insert(number)
-        number += 1
+    try:
+        while True:
+            insert(number)
+            number += 1
+    except fallowtime.Ended:
+        pass
 insert(int(sys.argv[1]))
 """
         for number, (rest, status) in enumerate([
@@ -319,16 +322,17 @@ class CutOff(WithFolder):
         found = []
 
         def work():
-            try:
-                store["c"].find_one()
-            except RuntimeError as error:
-                found.append(str(error))
+            for call in store["c"].find_one, store.close:
+                try:
+                    call()
+                except RuntimeError as error:
+                    found.append(str(error))
             process_of(store).send_signal(signal.SIGCONT)
 
         with self.open() as store:
             self.when_it_waits(store, work)
             store["c"].insert_one({"_id": 1})
-            self.assertEqual(found, ["a request inside a request, as by a signal's handler"])
+            self.assertEqual(found, ["a request inside a request, as by a signal's handler"] * 2)
             self.assertEqual(store["c"].count_documents({}), 1)
 
     def test_opening_that_is_cut_off(self):
