@@ -179,7 +179,7 @@ class Collection(WithAbsent):
         with self._session.lock:
             found = self._seek(filter)
             if found is None:
-                return self._put_in(filter, changes.set) if upsert else UpdateResult(0, 0)
+                return self._put_in(filter, changes.given) if upsert else UpdateResult(0, 0)
             return self._change(changes, *found)
 
     def delete_one(self, filter: Document, **options: Any) -> DeleteResult:
@@ -262,11 +262,11 @@ class Collection(WithAbsent):
         """Makes the changes to a document that was found."""
         if not changes.changes(tree, self._decoder):
             return UpdateResult(1, 0)
-        if len(changes.texts) == 1 and not changes.unset:
+        if len(changes.texts) == 1 and not changes.taken:
             (key, text), = changes.texts.items()
             self._ask("set", own, encode_text(key), text)
-        elif len(changes.unset) == 1 and not changes.texts:
-            self._ask("unset", own, encode_text(changes.unset[0]))
+        elif len(changes.taken) == 1 and not changes.texts:
+            self._ask("unset", own, encode_text(changes.taken[0]))
         else:
             self._ask("replace", changes.text_behind(tree))
         return UpdateResult(1, 1)

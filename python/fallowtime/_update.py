@@ -12,25 +12,26 @@ from ._errors import refusal
 
 
 class Update:
-    """What an update sets, as values and as JSON, and what it takes away."""
+    """The values that an update gives to keys, as they are and as JSON, and the keys that it takes away."""
 
-    __slots__ = ("set", "texts", "unset")
+    __slots__ = ("given", "texts", "taken")
 
-    def __init__(self, set: Dict[str, Any], unset: List[str]) -> None:
-        encode_document(set)
-        self.set, self.unset = set, unset
-        self.texts = {key: encode_value(value) for key, value in set.items()}
+    def __init__(self, given: Dict[str, Any], taken: List[str]) -> None:
+        # As one document, so that a refusal names the whole path.
+        encode_document(given)
+        self.given, self.taken = given, taken
+        self.texts = {key: encode_value(value) for key, value in given.items()}
 
     def changes(self, tree: Tree, decoder: Decoder) -> bool:
         """Whether a document, as a tree, is another one behind the update."""
         for key, text in self.texts.items():
             if key not in tree or encode_value(decoder.value(tree[key])) != text:
                 return True
-        return any(key in tree for key in self.unset)
+        return any(key in tree for key in self.taken)
 
     def text_behind(self, tree: Tree) -> str:
         """The JSON of a document behind the update."""
-        changed = {key: value for key, value in tree.items() if key not in self.unset}
+        changed = {key: value for key, value in tree.items() if key not in self.taken}
         changed.update((key, json.loads(text)) for key, text in self.texts.items())
         return json.dumps(changed, ensure_ascii=False, separators=(",", ":"))
 
@@ -54,11 +55,11 @@ def read_update(update: Any) -> Update:
         for key in members:
             _test_key(operator, key)
         keys[operator] = members
-    set, unset = dict(keys.get("$set", {})), list(keys.get("$unset", {}))
-    for key in unset:
-        if key in set:
+    given, taken = dict(keys.get("$set", {})), list(keys.get("$unset", {}))
+    for key in taken:
+        if key in given:
             raise ValueError(f"the key {key} is set and taken away")
-    return Update(set, unset)
+    return Update(given, taken)
 
 
 def _test_key(operator: str, key: Any) -> None:

@@ -160,6 +160,8 @@ class Ending(WithFolder):
         own.chmod(0o755)
         with mock.patch.dict(os.environ, FALLOWTIME="/named", PATH=str(self.folder)):
             self.assertEqual(_program.find_program(), "/named")
+        with mock.patch.dict(os.environ, FALLOWTIME="a/named"):
+            self.assertEqual(_program.find_program(), os.path.abspath("a/named"))
         with mock.patch.dict(os.environ, FALLOWTIME="", PATH=str(self.folder)):
             self.assertEqual(_program.find_program(), str(own))
         with mock.patch.dict(os.environ, FALLOWTIME="", PATH="/none"):
