@@ -3,7 +3,7 @@
 #
 #     tests/all.sh PROGRAM
 #
-# The program acts by its name, so it is tried under its four names, as links in a folder that is deleted. What the tests print is
+# The program acts by its name, so it is tried under its three names, as links in a folder that is deleted. What the tests print is
 # printed only if one fails. They call sqlite3, jq and Python's bson; without these, and without the program, it fails.
 set -u
 fail() { echo "all.sh: $1"; exit 1; }
@@ -17,7 +17,7 @@ trap 'rm -rf "$work"' EXIT
 trap 'exit 129' HUP
 trap 'exit 130' INT
 trap 'exit 143' TERM
-for name in bson_store bson_session bson_json fallowtime; do ln -s "$program" "$work/$name"; done
+for name in bson_store bson_json fallowtime; do ln -s "$program" "$work/$name"; done
 
 # Runs a test with its words, and says how long it took.
 try() {
@@ -31,10 +31,9 @@ try() {
 
 try /usr/bin/python3 tests/edits.py
 try /usr/bin/python3 tests/program.py "$work/bson_store"
-try /usr/bin/python3 tests/session.py "$work/bson_session"
 try /usr/bin/python3 tests/scripts.py "$work/bson_store"
 try /usr/bin/python3 tests/front.py "$work/fallowtime"
-for test in files.py:bson_store extended_json.py:bson_json fallowtime.py:fallowtime fallowtime_files.py:fallowtime; do
+for test in files.py:bson_store extended_json.py:bson_json fallowtime.py:fallowtime fallowtime_lines.py:fallowtime fallowtime_files.py:fallowtime; do
     [ ! -e "tests/${test%:*}" ] || try /usr/bin/python3 "tests/${test%:*}" "$work/${test#*:}"
 done
 try /usr/bin/python3 tests/python.py "$work/fallowtime"

@@ -32,10 +32,9 @@ atexit.register(shutil.rmtree, FOLDER, ignore_errors=True)
 BIN, SHOP = FOLDER / "bin", FOLDER / "shop"
 BIN.mkdir()
 SHOP.mkdir()
-# The names under which the program is started say which one it is. Another user must reach it.
-PROGRAM, SESSION = str(BIN / "fallowtime"), str(BIN / "bson_session")
+# The name under which the program is started says which one it is. Another user must reach it.
+PROGRAM = str(BIN / "fallowtime")
 shutil.copy(sys.argv[1], PROGRAM)
-os.symlink("fallowtime", SESSION)
 FOLDER.chmod(0o755)
 os.chdir(SHOP)
 INSERTS = int(sys.argv[2]) if len(sys.argv) > 2 else 1000
@@ -99,14 +98,14 @@ def stream(numbers):
 
 
 class Session:
-    """bson_session over a file, which no other process may change meanwhile."""
+    """A session over a file, which no other process may change meanwhile."""
 
     def __init__(self, file):
-        self.process = subprocess.Popen([SESSION, file], stdin=subprocess.PIPE, stdout=subprocess.PIPE)
+        self.process = subprocess.Popen([PROGRAM, file], stdin=subprocess.PIPE, stdout=subprocess.PIPE)
         self("collections")
 
-    def __call__(self, *words):
-        self.process.stdin.write(json.dumps({"words": words}).encode() + b"\n")
+    def __call__(self, *request):
+        self.process.stdin.write(json.dumps(request).encode() + b"\n")
         self.process.stdin.flush()
         return json.loads(self.process.stdout.readline())
 
@@ -246,7 +245,8 @@ holds("at a terminal", told_at_terminal("shop.db", "get", "c", "-5"), (1, "refus
 
 # ---- Beside a process that has the file: it is read as it is, and no change gets in.
 shop = Session("shop.db")
-holds("a change that a session does", [shop("insert", "c", json.dumps(document(number)))["status"] for number in range(300, 340)], [0] * 40)
+holds("a change that a session does", [shop("insert", "c", document(number)) for number in range(300, 340)],
+      [{"_id": {"$numberInt": str(number)}} for number in range(300, 340)])
 before = files()
 holds("reads beside a session", answers("shop.db") == answers_of(range(340)), True)
 stay("reads beside a session", before)
@@ -269,7 +269,7 @@ changes = [subprocess.Popen(words, stdout=subprocess.DEVNULL) for words in inser
 holds("20 changes at once", [change.wait() for change in changes], [0] * 20)
 holds("each is in", run("shop.db", "count", "c"), (0, b"361\n", ""))
 shop = Session("shop.db")
-shop("remove", "c", "350")
+shop("remove", "c", 350)
 shop.process.kill()
 shop.process.wait()
 before = files()
@@ -434,7 +434,7 @@ for reader in readers:
     reader.start()
 for number in range(1, INSERTS + 1):
     asked = number + 1
-    if shop("insert", "c", json.dumps(document(number)))["status"] != 0:
+    if "_id" not in shop("insert", "c", document(number)):
         wrong.append(f"insert of {number}")
     acknowledged = number + 1
 ends.set()

@@ -29,10 +29,10 @@ BIN = FOLDER / "bin"
 SHOP = FOLDER / "shop"
 BIN.mkdir()
 SHOP.mkdir()
-STORE, SESSION = str(BIN / "bson_store"), str(BIN / "bson_session")
+STORE, LINES = str(BIN / "bson_store"), str(BIN / "fallowtime")
 # The names under which the program is started say which one it is.
 shutil.copy(sys.argv[1], STORE)
-os.symlink("bson_store", SESSION)
+os.symlink("bson_store", LINES)
 SECONDS = float(sys.argv[2]) if len(sys.argv) > 2 else 5.0
 os.chdir(SHOP)
 FOLDER.chmod(0o755)
@@ -82,22 +82,24 @@ def bytes_beside(file):
 
 
 class Session:
-    def __init__(self, *words):
-        self.process = subprocess.Popen([SESSION, *words], stdin=subprocess.PIPE, stdout=subprocess.PIPE)
+    """fallowtime over a file, which no other process may change meanwhile."""
 
-    def __call__(self, *words):
-        self.process.stdin.write(json.dumps({"words": words}).encode() + b"\n")
+    def __init__(self, *words):
+        self.process = subprocess.Popen([LINES, *words], stdin=subprocess.PIPE, stdout=subprocess.PIPE)
+
+    def __call__(self, *request):
+        self.process.stdin.write(json.dumps(request).encode() + b"\n")
         self.process.stdin.flush()
         return json.loads(self.process.stdout.readline())
 
     def insert(self, numbers):
         for number in numbers:
-            answer = self("insert", "c", document(number))
-            if answer != {"status": 0, "output": ""}:
+            answer = self("insert", "c", json.loads(document(number)))
+            if answer != {"_id": {"$numberInt": str(number)}}:
                 holds(f"insert of {number}", answer, "accepted")
 
     def export(self):
-        return base64.b64decode(self("export", "c")["bytes"])
+        return base64.b64decode(self("export", "c")["bytes"]["$binary"]["base64"])
 
     def kill(self):
         self.process.kill()
@@ -135,7 +137,7 @@ before = bytes_beside("shop.db")
 holds("one more", run("shop.db", "backup", "more.db"), DONE)
 holds("the file and its log stay, byte for byte", bytes_beside("shop.db") == before, True)
 holds("a command beside it", run("shop.db", "count", "c", ALL), REFUSED)
-holds("a second session beside it", subprocess.run([SESSION, "shop.db"], stdin=subprocess.DEVNULL, capture_output=True).returncode, 1)
+holds("a second session beside it", subprocess.run([LINES, "shop.db", "--wait", "0"], stdin=subprocess.DEVNULL, capture_output=True).returncode, 1)
 
 # ---- After a kill.
 exported = shop.export()
@@ -149,7 +151,7 @@ holds("the file itself", run("shop.db", "export", "c") == (0, exported, ""), Tru
 # A back-up that is put back where a killed session left its log: that goes first.
 shop = Session("shop.db")
 for number in range(0, 3000, 2):
-    shop("remove", "c", str(number))
+    shop("remove", "c", number)
 shop.insert(range(5000, 5040))
 shop.kill()
 subprocess.run("rm -f shop.db-wal shop.db-shm && cp killed.db shop.db", shell=True, check=True)
@@ -168,7 +170,7 @@ least = 3000
 for turn in range(12):
     shop = Session("shop.db")
     shop("collections")
-    sent = b"".join(json.dumps({"words": ["insert", "c", document(10000 + 1000 * turn + i)]}).encode() + b"\n" for i in range(900))
+    sent = b"".join(json.dumps(["insert", "c", json.loads(document(10000 + 1000 * turn + i))]).encode() + b"\n" for i in range(900))
     threading.Thread(target=feed, args=(shop.process.stdin, sent), daemon=True).start()
     answered = sum(1 for _ in (shop.process.stdout.readline() for _ in range(random.randrange(1, 700))))
     shop.kill()
@@ -257,11 +259,11 @@ holds("it did wait", 0.9 < time.time() - began < 60, True)
 holds("no waiting", run("--wait", "0", "shop.db", "count", "c", ALL), REFUSED)
 holds("a back-up waits for nobody", run("--wait", "60", "shop.db", "backup", "w.db"), DONE)
 waiting = subprocess.Popen([STORE, "--wait", "60", "shop.db", "insert", "c", document(-1)], stdout=subprocess.PIPE, stderr=subprocess.PIPE)
-second = Session("--wait", "60", "shop.db")
+second = Session("shop.db", "--wait", "60")
 time.sleep(0.5)
 holds("they wait", (waiting.poll(), second.process.poll()), (None, None))
 holds("the session ends", shop.close(), 0)
-holds("a session that waited", second("count", "c", ALL)["status"], 0)
+holds("a session that waited", list(second("count", "c")), ["count"])
 holds("it ends", second.close(), 0)
 holds("a command that waited", waiting.communicate(), (b"", b""))
 holds("it is done", run("shop.db", "get", "c", "-1")[0], 0)
@@ -273,9 +275,7 @@ holds("no number", run("--wait", "x", "shop.db", "count", "c", ALL), (2, b"", "w
 holds("a file of this name", run("--wait", "insert", "c", '{"_id":1}'), DONE)
 holds("waiting for it", run("--wait", "1", "--wait", "count", "c", ALL), (0, b"1\n", ""))
 holds("its back-up", run("--wait", "backup", "waited.db"), DONE)
-holds("a session over it", Session("--wait")("count", "c", ALL)["output"], "1\n")
-holds("sessions with too many words", [subprocess.run([SESSION, *words], stdin=subprocess.DEVNULL, capture_output=True).stderr
-      for words in (["--wait", "1"], ["--wait", "1", "a", "b"], ["a", "b"], [])], [b"words: usage\n"] * 4)
+holds("a session over it", Session("./--wait")("count", "c"), {"count": 1})
 
 # ---- At a terminal a second line says why, and only there.
 shop = Session("shop.db")
@@ -301,7 +301,7 @@ for words, why in [
 ]:
     holds(f"told of {words}", told_at_terminal(*words), (1, f"refused: Database\nthe file: {why}\n"))
     holds("off a terminal", run(*words), REFUSED)
-holds("told by a session", told_at_terminal("shop.db", program=SESSION)[1].count("\n"), 2)
+holds("told by a session", told_at_terminal("shop.db", "--wait", "0", program=LINES)[1].count("\n"), 2)
 holds("another refusal at a terminal", told_at_terminal("copy500.db", "get", "c", "-7"), (1, "refused: NotFound\n"))
 if os.getuid() == 0:
     SHOP.chmod(0o555)

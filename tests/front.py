@@ -28,7 +28,7 @@ FOLDER = pathlib.Path(tempfile.mkdtemp(prefix="front-"))
 atexit.register(shutil.rmtree, FOLDER, ignore_errors=True)
 HERE = FOLDER / "here"
 HERE.mkdir()
-NAMES = ["bson_store", "bson_session", "bson_json", "fallowtime"]
+NAMES = ["bson_store", "bson_json", "fallowtime"]
 USAGE = "words: usage\n"
 # For each command its places, and its options beside --wait.
 COMMANDS = {

@@ -6,7 +6,7 @@
 #
 # In a block ```console each line `$ COMMAND` is run (a line that ends in \ goes on in the next one), and the lines below it, up to
 # the next `$`, are what it prints on standard output and standard error. One shell runs all commands of a page. It starts in an
-# empty folder that has what the commands need of a checkout: `fallowtime`, `bson_store`, `bson_session` and `bson_json`, which are
+# empty folder that has what the commands need of a checkout: `fallowtime`, `bson_store` and `bson_json`, which are
 # PROGRAM under four names, and the folders `samples`, `tools` and `python`. Blocks of other kinds aren't run: ```sh is for what takes hours, a
 # network or a toolchain. The lines of each block ```rust stand one after the other in a source of crates/, apart from their
 # indentation and the comments behind them.
@@ -50,7 +50,7 @@ run_page() {
     local folder=$work/page
     rm -rf "$folder" && mkdir -p "$folder/tmp" "$folder/checkout"
     local name
-    for name in bson_store bson_session bson_json fallowtime; do cp "$program" "$folder/checkout/$name"; done
+    for name in bson_store bson_json fallowtime; do cp "$program" "$folder/checkout/$name"; done
     cp -r "$root/samples" "$root/tools" "$root/python" "$folder/checkout"
     blocks console "$1" >"$folder/printed"
     script <"$folder/printed" >"$folder/script"

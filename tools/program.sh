@@ -2,12 +2,12 @@
 # What the scripts at the top have in common: where the program is, what it was built from, which one runs, and how signals reach it.
 # They read it by `.`, with `root`, the folder of the checkout, and `name`, their own name, set.
 #
-# There is one program, of the crate bson_store_cli, and it acts by the name under which it is started. So it is there under four
+# There is one program, of the crate bson_store_cli, and it acts by the name under which it is started. So it is there under three
 # names: in target/quick as ./quick builds it, without a proof, and in crates/bson_store_cli/out as ./prove does. Beside each is its
 # record, bson_store.build: the version, the commit, how it was built, and the sources. What ./install puts elsewhere has it in the
 # folder program, and neither sources nor the scripts that build.
 crate=bson_store_cli
-names="bson_store bson_session bson_json fallowtime"
+names="bson_store bson_json fallowtime"
 quick_folder=$root/target/quick
 proved_folder=$root/crates/$crate/out
 installed_folder=$root/program

@@ -1,7 +1,7 @@
 //! The programs, one under several names. `bson_store` does a command over a database file with words; without, it
 //! reads one document from standard input, keeps it in a new store, and writes what the store exports to standard
-//! output. `fallowtime` does a command over a database file, with texts of JSON in and out. `bson_session` keeps a database file open, does the commands of the lines of standard input, and returns each
-//! by a line of standard output. `bson_json` turns BSON documents into lines of Extended JSON, and such lines into BSON.
+//! output. `fallowtime` does a command over a database file, with texts of JSON in and out, or keeps the file open and
+//! answers the requests of lines. `bson_json` turns BSON documents into lines of Extended JSON, and such lines into BSON.
 #![tactic(auto)]
 
 ghost use Rattle.std.specs.Prelude.{◌≡◌};
@@ -10,7 +10,6 @@ mod asking;
 mod commands;
 mod ending;
 mod fallowtime;
-mod session;
 mod stack;
 mod words;
 
@@ -116,14 +115,6 @@ fn run_by_words(rt: &HostRuntime, words: &[String]) -> u8 {
     }
 }
 
-/// The program bson_session, whose every line of output goes out at once, behind its name.
-fn run_session(rt: &HostRuntime, words: &[String]) -> u8 {
-    let mut input = Counted::new(rt.stdin());
-    let mut output = Counted::new(rt.stdout());
-    let mut faults = Counted::new(rt.stderr());
-    session::serve(rt, words, &mut input, &mut output, &mut faults)
-}
-
 /// Runs the program of the name under which this one was started, and returns its status. Without a name and words it
 /// is bson_store.
 fn start(rt: &HostRuntime, words: &[String]) -> u8 {
@@ -132,7 +123,6 @@ fn start(rt: &HostRuntime, words: &[String]) -> u8 {
     };
     match program_of(name.as_str()) {
         Program::Fallowtime => run_by_words(rt, words),
-        Program::Session => run_session(rt, words),
         Program::Json => run_json(rt, words),
         Program::Store => run_store(rt, words),
     }

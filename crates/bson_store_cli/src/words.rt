@@ -3,7 +3,7 @@
 ghost use Rattle.std.specs.Prelude.{◌≡◌, ◌↔◌, ℕ, List, [], ◌∷◌, MatchOption, Some, codes, map, string_bytes};
 ghost use Rattle.std.specs.Path.{path_file_name};
 ghost use Rattle.bson_store_cli.specs.Words.{AsksForCopy, AsksToWait};
-ghost use Rattle.bson_store_cli.specs.declared.words.Program.TheVariants.{Fallowtime, Json, Session};
+ghost use Rattle.bson_store_cli.specs.declared.words.Program.TheVariants.{Fallowtime, Json};
 
 use std::path::Path;
 use std::{env, io};
@@ -15,8 +15,6 @@ pub enum Program {
     Store,
     /// `fallowtime`: a command over a database file with texts of JSON, or requests of lines.
     Fallowtime,
-    /// `bson_session`: the commands of lines over one opened file.
-    Session,
     /// `bson_json`: BSON documents as lines of Extended JSON, and back.
     Json,
 }
@@ -25,12 +23,10 @@ pub enum Program {
 /// the others is bson_store's.
 pub fn program_of(name: &str) -> Program
     ensures fallowtime { (result ≡ Fallowtime) ↔ (path_file_name name.now ≡ Some (codes "fallowtime")) }
-    ensures session { (result ≡ Session) ↔ (path_file_name name.now ≡ Some (codes "bson_session")) }
     ensures json { (result ≡ Json) ↔ (path_file_name name.now ≡ Some (codes "bson_json")) }
 {
     match Path::new(name).file_name() {
         Some("fallowtime") => Program::Fallowtime,
-        Some("bson_session") => Program::Session,
         Some("bson_json") => Program::Json,
         _ => Program::Store,
     }

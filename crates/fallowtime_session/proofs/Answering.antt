@@ -9,10 +9,10 @@ use Rattle.store_table.specs.Moves.{Moves}
 use Rattle.store_table.specs.Rows.{TableRow}
 use Rattle.store_model.specs.declared.error.StoreError.{StoreError}
 use Rattle.bson_store.proofs.Moving.{moved, rests}
-use Rattle.cli_session_lines.specs.Line.{Keeps, KeepsSo}
-use Rattle.cli_session_lines.specs.declared.line.Kept.TheVariants.{TooLong, Whole}
-use Rattle.cli_session_lines.specs.declared.line.Line.{Line}
-use Rattle.cli_session_lines.specs.declared.line.TheConstants.{MOST}
+use Rattle.cli_lines.specs.Line.{Keeps, KeepsSo}
+use Rattle.cli_lines.specs.declared.line.Kept.TheVariants.{TooLong, Whole}
+use Rattle.cli_lines.specs.declared.line.Line.{Line}
+use Rattle.cli_lines.specs.declared.line.TheConstants.{MOST}
 use Rattle.fallowtime_commands.specs.Performing.{IsAnswerTo, Performs, reply_of}
 use Rattle.fallowtime_commands.specs.declared.answer.Answer.{Answer}
 use Rattle.fallowtime_texts.specs.declared.made.IdMaker.{IdMaker}

@@ -9,12 +9,12 @@ use Rattle.bson_base.proofs.DeviceLemmas.{Gives-trans}
 use Rattle.store_table.specs.Moves.{Moves}
 use Rattle.store_table.specs.Rows.{TableRow}
 use Rattle.bson_store.proofs.Moving.{moved_twice, rests}
-use Rattle.cli_session_lines.specs.Line.{IsUnbroken, Keeps}
-use Rattle.cli_session_lines.specs.Lines.{Reads, ReadsNext, waiting}
-use Rattle.cli_session_lines.specs.declared.line.Line.{Line}
-use Rattle.cli_session_lines.specs.declared.lines.Lines.{Lines}
-use Rattle.cli_session_lines.specs.declared.lines.Next.{Next}
-use Rattle.cli_session_lines.specs.declared.lines.Next.TheVariants.{Whole, Last, End}
+use Rattle.cli_lines.specs.Line.{IsUnbroken, Keeps}
+use Rattle.cli_lines.specs.Lines.{Reads, ReadsNext, waiting}
+use Rattle.cli_lines.specs.declared.line.Line.{Line}
+use Rattle.cli_lines.specs.declared.lines.Lines.{Lines}
+use Rattle.cli_lines.specs.declared.lines.Next.{Next}
+use Rattle.cli_lines.specs.declared.lines.Next.TheVariants.{Whole, Last, End}
 use Rattle.store_model.specs.declared.error.ErrorKind.{ErrorKind}
 use Rattle.store_model.specs.declared.error.ErrorKind.TheVariants.{Reader, Writer}
 use Rattle.fallowtime_texts.specs.declared.made.IdMaker.{IdMaker}

@@ -4,11 +4,11 @@ use Rattle.sqlite.specs.State.{State}
 use Rattle.json.specs.Print.{escape_byte, print_from}
 use Rattle.store_table.specs.Moves.{Moves}
 use Rattle.bson_store.proofs.Moving.{moved}
-use Rattle.cli_session_lines.specs.Line.{Keeps, KeepsSo}
-use Rattle.cli_session_lines.specs.declared.line.Kept.{Kept}
-use Rattle.cli_session_lines.specs.declared.line.Kept.TheVariants.{Memory, TooLong, Whole}
-use Rattle.cli_session_lines.specs.declared.line.Line.{Line}
-use Rattle.cli_session_lines.specs.declared.line.TheConstants.{MOST}
+use Rattle.cli_lines.specs.Line.{Keeps, KeepsSo}
+use Rattle.cli_lines.specs.declared.line.Kept.{Kept}
+use Rattle.cli_lines.specs.declared.line.Kept.TheVariants.{Memory, TooLong, Whole}
+use Rattle.cli_lines.specs.declared.line.Line.{Line}
+use Rattle.cli_lines.specs.declared.line.TheConstants.{MOST}
 use Rattle.fallowtime_texts.specs.declared.made.IdMaker.{IdMaker}
 use Rattle.fallowtime_session.specs.Answers.{line_of, memory}
 use Rattle.fallowtime_session.specs.Turns.{AnswersBytes, AnswersLine}

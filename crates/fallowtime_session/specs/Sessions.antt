@@ -3,7 +3,7 @@ use Rattle.std.specs.Prelude.{◌≡◌, ◌⊎◌, ◌≤◌, ℕ, ◌+◌, ◌
 use Rattle.std.specs.Io.KnownBytes.{Appends}
 use Rattle.bson_base.specs.Device.{Feed, Tally, Gives, IsExhausted, TakesBeginning}
 use Rattle.store_table.specs.Rows.{TableRow}
-use Rattle.cli_session_lines.specs.Line.{IsUnbroken}
+use Rattle.cli_lines.specs.Line.{IsUnbroken}
 use Rattle.store_model.specs.declared.error.ErrorKind.{ErrorKind}
 use Rattle.store_model.specs.declared.error.ErrorKind.TheVariants.{Memory, Reader, Writer}
 use Rattle.fallowtime_texts.specs.declared.made.IdMaker.{IdMaker}

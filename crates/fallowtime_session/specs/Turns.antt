@@ -7,7 +7,7 @@ use Rattle.json.specs.Strict.{HasUniqueKeys}
 use Rattle.store_model.specs.State.{When}
 use Rattle.store_model.specs.declared.error.StoreError.{StoreError}
 use Rattle.store_table.specs.Rows.{TableRow}
-use Rattle.cli_session_lines.specs.declared.line.TheConstants.{MOST}
+use Rattle.cli_lines.specs.declared.line.TheConstants.{MOST}
 use Rattle.fallowtime_commands.specs.Performing.{IsAnswerTo, Performs, reply_of}
 use Rattle.fallowtime_commands.specs.declared.answer.Answer.{Answer}
 use Rattle.fallowtime_commands.specs.declared.request.Request.{Request}

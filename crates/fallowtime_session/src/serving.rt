@@ -3,14 +3,14 @@
 ghost use Rattle.std.specs.Prelude.{ℕ, List};
 ghost use Rattle.bson_base.specs.Device.{CanFail, CanRefuse};
 ghost use Rattle.bson_store.specs.Calls.{Relates};
-ghost use Rattle.cli_session_lines.specs.Line.{Keeps};
+ghost use Rattle.cli_lines.specs.Line.{Keeps};
 ghost use Rattle.fallowtime_session.specs.Sessions.{Ends, Holds, Sends, Turn};
 ghost use Rattle.fallowtime_session.specs.Turns.{AnswersLine};
 
 use crate::turns::answer_of;
 use bson_base::{Sink, Source, write_all};
 use bson_store::{ErrorKind, Store};
-use cli_session_lines::{Kept, Line, Lines, Next};
+use cli_lines::{Kept, Line, Lines, Next};
 use fallowtime_texts::IdMaker;
 use json::Scratch;
 use sqlite::Alter;

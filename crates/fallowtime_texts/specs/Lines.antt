@@ -9,7 +9,7 @@ use Rattle.cli_convert.specs.Parts.{InParts}
 use Rattle.cli_convert.specs.ToBson.{IsWritten, Unwritable}
 use Rattle.cli_convert.specs.declared.stop.Stop.{Stop}
 use Rattle.cli_convert.specs.declared.stop.Stop.TheVariants as stop
-use Rattle.cli_session_lines.specs.Line.{IsUnbroken}
+use Rattle.cli_lines.specs.Line.{IsUnbroken}
 use Rattle.fallowtime_texts.specs.Made.{identified, maker_after}
 use Rattle.fallowtime_texts.specs.declared.lines.Taken.{Taken}
 use Rattle.fallowtime_texts.specs.declared.lines.Taking.{Taking}

@@ -3,7 +3,7 @@ use Rattle.std.proofs.lemmas.Result.{err_from_is_err_and}
 use Rattle.std.specs.Io.KnownBytes.{Appends}
 use Rattle.bson_store.specs.Calls.{store_state}
 use Rattle.bson_base.specs.Device.{Gives}
-use Rattle.cli_session_lines.specs.Lines.{waiting}
+use Rattle.cli_lines.specs.Lines.{waiting}
 use Rattle.fallowtime_session.proofs.Holding.{begin, on_whole, on_last, on_end, on_unsent, cannot_read, endless}
 use Rattle.fallowtime_session.proofs.serving.serve.Goals as goal
 

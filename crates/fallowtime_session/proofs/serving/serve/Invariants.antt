@@ -1,5 +1,5 @@
 use Rattle.bson_store.specs.Calls.{store_state}
-use Rattle.cli_session_lines.specs.Lines.{waiting}
+use Rattle.cli_lines.specs.Lines.{waiting}
 use Rattle.fallowtime_session.proofs.Holding.{SoFar}
 use Rattle.fallowtime_session.proofs.serving.serve.Given as goal
 

@@ -1,2 +1,0 @@
-mod Obeying
-mod Holding

@@ -1,4 +1,0 @@
-pub mod Line
-pub mod Lines
-pub mod Requests
-pub mod Answers

@@ -1,0 +1,280 @@
+#!/usr/bin/python3
+"""Runs sessions of the program fallowtime over a file: each request and what is answered, lines that are no request, ids that come back,
+long lines, and inputs and outputs that fail.
+
+    tests/fallowtime_lines.py PROGRAM [NUMBER]
+
+PROGRAM is fallowtime, under whatever name. Prints one line a step, and ends with status 1 at the first that isn't as it should be. At the
+end a session does NUMBER inserts with a get behind each, a thousand if none is given.
+"""
+import atexit
+import base64
+import json
+import os
+import pathlib
+import pty
+import resource
+import shutil
+import subprocess
+import sys
+import tempfile
+import time
+import tty
+
+try:
+    import bson
+except ImportError:
+    sys.exit("fallowtime_lines.py: needs Python's bson, of Debian: apt-get install python3-pymongo")
+
+FOLDER = pathlib.Path(tempfile.mkdtemp(prefix="fallowtime-lines-"))
+atexit.register(shutil.rmtree, FOLDER, ignore_errors=True)
+PROGRAM = str(FOLDER / "fallowtime")
+os.symlink(pathlib.Path(sys.argv[1]).resolve(), PROGRAM)
+LONGEST = 64 << 20
+steps = 0
+
+
+def holds(step, found, wanted):
+    global steps
+    steps += 1
+    if found != wanted:
+        print(f"{step}: {found!r}"[:2000], f"in place of {wanted!r}"[:2000])
+        sys.exit(1)
+    print(f"{step}: {found!r}"[:150])
+
+
+def run(lines, file="test.db", **more):
+    """The status, the answers, and what is on standard error, of a session over these lines."""
+    done = subprocess.run([PROGRAM, str(FOLDER / file)], input=lines, stdout=subprocess.PIPE, stderr=subprocess.PIPE, **more)
+    return done.returncode, done.stdout.decode().splitlines(), done.stderr.decode()
+
+
+def line_of(*request):
+    return json.dumps(request).encode() + b"\n"
+
+
+def int32(number):
+    return '{"$numberInt":"%d"}' % number
+
+
+def binary(stream, kind="00"):
+    return '{"$binary":{"base64":"%s","subType":"%s"}}' % (base64.b64encode(stream).decode(), kind)
+
+
+ONE, TWO = bson.encode({"_id": 1}), bson.encode({"_id": 2, "a": 1.5})
+NAMED = '{"_id":%s,"b":{"$numberDouble":"1.5"},"a":[null]}' % int32(3)
+NESTED = "[" * 100 + "]" * 100
+
+# Each request, what it is answered, and what may stand at its places. They are done in their order over one file.
+TABLE = [
+    ('["insert","c",{"_id":1}]', '{"_id":%s}' % int32(1)),
+    ('["insert","c",{"_id":1}]', '{"refused":"DuplicateId"}'),
+    ('["insert","c",{"_id":"A-1","p":4.25}]', '{"_id":"A-1"}'),
+    ('["insert","",{"_id":1}]', '{"refused":"BadName"}'),
+    ('["insert","c",{"_id":[1]}]', '{"refused":"NotPlain"}'),
+    ('["insert","c",{"_id":2,"n":%s}]' % NESTED, '{"refused":"TooDeep"}'),
+    ('["put","c",{"_id":3,"b":1.5,"a":[null]}]', "{}"),
+    ('["get","c",3]', '{"document":%s}' % NAMED),
+    ('["get","c",3.0]', '{"document":%s}' % NAMED),
+    ('["get","c","3"]', '{"refused":"NotFound"}'),
+    ('["put","c",{"_id":1,"x":true}]', "{}"),
+    ('["put","c",{"x":true}]', '{"refused":"NoId"}'),
+    ('["replace","c",{"_id":1,"x":{"$date":"2026-11-26T12:00:00Z"}}]', "{}"),
+    ('["get","c",1]', '{"document":{"_id":%s,"x":{"$date":{"$numberLong":"1795694400000"}}}}' % int32(1)),
+    ('["replace","c",{"_id":9}]', '{"refused":"NotFound"}'),
+    ('["set","c",1,"x",-0.0]', "{}"),
+    ('["set","c",1,"_id",2]', '{"refused":"IdKey"}'),
+    ('["set","c",9,"x",2]', '{"refused":"NotFound"}'),
+    ('["get","c",1]', '{"document":{"_id":%s,"x":{"$numberDouble":"-0.0"}}}' % int32(1)),
+    ('["unset","c",1,"x"]', '{"was_there":true}'),
+    ('["unset","c",1,"x"]', '{"was_there":false}'),
+    ('["unset","c",1,"_id"]', '{"refused":"IdKey"}'),
+    ('["find","c",{"p":4.25}]', '{"documents":[{"_id":"A-1","p":{"$numberDouble":"4.25"}}]}'),
+    ('["find","c"]', '{"documents":[{"_id":%s},{"_id":"A-1","p":{"$numberDouble":"4.25"}},%s]}' % (int32(1), NAMED)),
+    ('["find","none"]', '{"documents":[]}'),
+    ('["count","c"]', '{"count":3}'),
+    ('["count","c",{"p":{"$exists":true}}]', '{"count":1}'),
+    ('["count","c",{"$nor":[{"_id":{"$in":[1,"A-1"]}}]}]', '{"count":1}'),
+    ('["remove","c","A-1"]', "{}"),
+    ('["remove","c","A-1"]', '{"refused":"NotFound"}'),
+    ('["import","d",%s]' % binary(ONE + TWO), '{"count":2}'),
+    ('["import","d",[{"_id":3},{"_id":4,"a":2.5}]]', '{"count":2}'),
+    ('["import","d",[{"_id":5},{"_id":4}]]', '{"refused":"DuplicateId","document":1}'),
+    ('["import","d",%s]' % binary(ONE[:-1]), '{"refused":"BadLength","document":0}'),
+    ('["import","d",[]]', '{"count":0}'),
+    ('["export","d"]', '{"bytes":%s}' % binary(ONE + TWO + bson.encode({"_id": 3}) + bson.encode({"_id": 4, "a": 2.5}))),
+    ('["export","none"]', '{"bytes":%s}' % binary(b"")),
+    ('["export",""]', '{"refused":"BadName"}'),
+    ('["import","r",%s]' % binary(bson.encode({"_id": 1, "a": {"b": {"$oid": 1}}})), '{"count":1}'),
+    ('["get","r",1]', '{"refused":"ReservedKey","key":"a.b.$oid"}'),
+    ('["find","r"]', '{"refused":"ReservedKey","document":0,"key":"a.b.$oid"}'),
+    ('["insert","\\"\\n",{"_id":1}]', '{"_id":%s}' % int32(1)),
+    ('["collections"]', '{"names":["\\"\\n","c","d","r"]}'),
+    ('{"id":7,"do":["count","c"]}', '{"id":7,"count":2}'),
+    ('{"do":["count","c"],"id":{"a":[1.50,"\\u00fc"]}}', '{"id":{"a":[1.50,"\u00fc"]},"count":2}'),
+    ('{"do":["collections"]}', '{"names":["\\"\\n","c","d","r"]}'),
+    ('{"id":null,"do":["get","c",9]}', '{"id":null,"refused":"NotFound"}'),
+    ('{"id":1,"do":["remove","c",1]}', '{"id":1}'),
+    ('{"id":1,"do":["insert","c",{"_id":1}]}', '{"id":1,"_id":%s}' % int32(1)),
+    (' [ "count" , "c" ] ', '{"count":2}'),
+]
+# Lines that ask for nothing, and where they are wrong.
+WRONG = [
+    ("[", "byte 1"), ("nul", "byte 0"), ('["count","c"] 1', "byte 14"), ("\udcff", "byte 0"), ('["count","\udcff"]', "byte 10"),
+    ('["insert","c",{"_id":1,"a":1,"a":2}]', "repeated key"), ('{"id":1,"id":2,"do":["collections"]}', "repeated key"),
+    ("1", "command"), ("[]", "command"), ("{}", "command"), ("[1]", "command"), ('["frob"]', "command"), ('["Count","c"]', "command"),
+    ('["count"]', "command"), ('["count","c",{},1]', "command"), ('["insert","c"]', "command"), ('["collections","c"]', "command"),
+    ('["backup","b.db"]', "command"), ('{"id":1}', "command"), ('{"do":["collections"],"more":1}', "command"),
+    ('["count",1]', "collection"), ('["export",null]', "collection"),
+    ('["insert","c",1]', "document"), ('["put","c",{"_id":{"$oid":"x"}}]', "document"), ('["insert","c",{"a":{"$oid":1}}]', "document"),
+    ('["import","c",[{"_id":1},2]]', "document 1"), ('["import","c",[{"_id":1},{"a":{"$numberInt":"x"}}]]', "document 1"),
+    ('["get","c",{"$oid":"x"}]', "id"), ('["set","c",{"$date":1.5},"k",1]', "id"), ('["set","c",1,2,3]', "key"), ('["unset","c",1,null]', "key"),
+    ('["set","c",1,"k",{"$numberInt":"x"}]', "value"),
+    ('["find","c",1]', "query is no object"), ('["find","c",{"a":{"$gt":1}}]', "query no operator $gt"),
+    ('["count","c",{"a.b":{"$exists":2.5}}]', "query a.b takes no such value"),
+    ('["import","c","x"]', "stream"), ('["import","c",%s]' % binary(ONE, "05"), "stream"), ('["import","c",1]', "stream"),
+]
+
+
+def words_of(place):
+    return '{"refused":"Words","at":%s}' % json.dumps(place)
+
+
+def encoded(lines):
+    return "".join(f"{line}\n" for line in lines).encode(errors="surrogateescape")
+
+
+holds("each request", run(encoded(line for line, _ in TABLE), "table.db"), (0, [answer for _, answer in TABLE], ""))
+for (line, wanted), found in zip(WRONG, run(encoded(line for line, _ in WRONG), "wrong.db")[1]):
+    holds(f"where {line[:60]!r} is wrong", found, words_of(wanted))
+holds("none of them did anything", run(line_of("collections"), "wrong.db"), (0, ['{"names":[]}'], ""))
+holds("a wrong question of an id", run(b'{"id":[7],"do":["frob"]}\n', "wrong.db"), (0, ['{"id":[7],"refused":"Words","at":"command"}'], ""))
+DEEP = ["[" * 200 + "]" * 200, '["insert","c",{"_id":1,"a":%s}]' % ("[" * 150 + "]" * 150)]
+for line in DEEP:
+    answers = run(encoded([line, '["count","c"]']), "wrong.db")[1]
+    holds("a line of many levels", (len(answers), answers[0].startswith('{"refused":'), answers[1]), (2, True, '{"count":0}'))
+
+# An `_id` that is made is new each time, the first key, and comes back.
+made = [json.loads(answer)["_id"]["$oid"] for answer in run(b'["insert","m",{"a":1}]\n' * 100, "made.db")[1]]
+made += [json.loads(answer)["_id"]["$oid"] for answer in run(b'["insert","m",{"a":1}]\n', "made.db")[1]]
+holds("ids that are made", (len(set(made)), {len(one) for one in made}), (101, {24}))
+holds("the first document", run(line_of("get", "m", {"$oid": made[0]}), "made.db")[1], ['{"document":{"_id":{"$oid":"%s"},"a":%s}}' % (made[0], int32(1))])
+holds("of many", run(line_of("import", "n", [{"a": 1}] * 50), "made.db")[1], ['{"count":50}'])
+holds("by their seconds", all(abs(int(one[:8], 16) - time.time()) < 3600 for one in made), True)
+
+# The ends of lines and of the input.
+INSERT, COUNT = b'["put","c",{"_id":1}]\n', line_of("count", "c")
+holds("nothing", run(b""), (0, [], ""))
+holds("empty lines", run(b"\n\n" + line_of("collections") + b"\n"), (0, ['{"names":[]}'], ""))
+holds("no line feed at the end", run(INSERT[:-1]), (0, ["{}"], ""))
+holds("it is kept", run(COUNT), (0, ['{"count":1}'], ""))
+holds("a carriage return", run(COUNT[:-1] + b"\r\n"), (0, ['{"count":1}'], ""))
+
+# A line of 64 MiB is read, and one byte more is too long; the session goes on.
+padded = COUNT[:-1].ljust(LONGEST)
+holds("a line of 64 MiB", run(padded + b"\n"), (0, ['{"count":1}'], ""))
+holds("one byte more", run(padded + b" \n" + COUNT), (0, [words_of("64 MiB"), '{"count":1}'], ""))
+holds("the same at the end", run(padded + b" "), (0, [words_of("64 MiB")], ""))
+text = "x" * (20 << 20)
+holds("a line of 20 MB", run(line_of("count", text) + line_of("insert", "c", {"_id": 2, "text": text}) + COUNT),
+      (0, ['{"refused":"BadName"}', '{"refused":"TooLong"}', '{"count":1}'], ""))
+stream = b"".join(bson.encode({"_id": 10 + i, "text": "x" * (1 << 20)}) for i in range(20))
+holds("20 MB of documents", [answer[:14] for answer in run(encoded(['["import","wide",%s]' % binary(stream), '["export","wide"]']))[1]], ['{"count":20}', '{"bytes":{"$bi'])
+holds("they come back", run(line_of("export", "wide"))[1], ['{"bytes":%s}' % binary(stream)])
+
+# Each answer comes before the next line is asked for.
+process = subprocess.Popen([PROGRAM, str(FOLDER / "test.db")], stdin=subprocess.PIPE, stdout=subprocess.PIPE)
+for number in range(2, 5):
+    process.stdin.write(line_of("insert", "c", {"_id": number}))
+    process.stdin.flush()
+    holds("an answer", process.stdout.readline(), b'{"_id":%s}\n' % int32(number).encode())
+done = subprocess.run([PROGRAM, str(FOLDER / "test.db"), "--wait", "0"], input=COUNT, capture_output=True)
+holds("another session meanwhile", (done.returncode, done.stdout, done.stderr), (1, b"", b"refused: Busy\n"))
+process.stdin.close()
+holds("the end", (process.stdout.read(), process.wait()), (b"", 0))
+
+# An output that fails: no further request is done. First a device that is always full, and then a file that ends with each byte of the
+# answers in turn.
+with open("/dev/full", "wb") as full:
+    done = subprocess.run([PROGRAM, str(FOLDER / "test.db")], input=line_of("remove", "c", 1) + line_of("remove", "c", 2), stdout=full, stderr=subprocess.PIPE)
+holds("an output that fails", (done.returncode, done.stderr), (1, b"refused: Writer\n"))
+holds("what was done", run(line_of("get", "c", 1) + COUNT), (0, ['{"refused":"NotFound"}', '{"count":3}'], ""))
+PUTS = b"".join(line_of("put", "c", {"_id": number}) for number in range(3))
+ANSWER = b"{}\n"
+MOST = 1 << 24
+
+
+def with_room(room, file):
+    """A session with the three requests, whose output has room for so many bytes."""
+    path = FOLDER / (file + ".out")
+    with open(path, "wb") as output:
+        output.truncate(MOST - room)
+    with open(path, "ab") as output:
+        done = subprocess.run([PROGRAM, str(FOLDER / file)], input=PUTS, stdout=output, stderr=subprocess.PIPE, restore_signals=False,
+                              preexec_fn=lambda: resource.setrlimit(resource.RLIMIT_FSIZE, (MOST, MOST)))
+    with open(path, "rb") as output:
+        output.seek(MOST - room)
+        return done.returncode, output.read(), done.stderr
+
+
+def count_of(file):
+    return json.loads(run(COUNT, file)[1][0])["count"]
+
+
+for room in range(3 * len(ANSWER)):
+    file = f"room{room}.db"
+    found = with_room(room, file), count_of(file)
+    holds(f"an output of {room} bytes", found, ((1, (3 * ANSWER)[:room], b"refused: Writer\n"), room // len(ANSWER) + 1))
+holds("an output with room for all", (with_room(3 * len(ANSWER), "all.db"), count_of("all.db")), ((0, 3 * ANSWER, b""), 3))
+
+# An input that fails behind each line, and inside of the next one: all lines before it are answered.
+for number in range(4):
+    for begun in [b"", PUTS[:10]]:
+        file = f"read{number}{len(begun)}.db"
+        ours, theirs = pty.openpty()
+        tty.setraw(theirs)
+        process = subprocess.Popen([PROGRAM, str(FOLDER / file)], stdin=ours, stdout=subprocess.PIPE, stderr=subprocess.PIPE)
+        os.close(ours)
+        for line in PUTS.splitlines(keepends=True)[:number]:
+            os.write(theirs, line)
+            holds("an answer", process.stdout.readline(), ANSWER)
+        os.write(theirs, begun)
+        os.close(theirs)
+        found = process.communicate(), process.returncode, count_of(file)
+        holds(f"an input that fails behind {number} lines and {len(begun)} bytes", found, ((b"", b"refused: Reader\n"), 1, number))
+
+# Words and files that can't be had.
+for words in [[], ["a", "b"], ["a", "--wait"], ["a", "--wait", "s"], ["-a"], ["a", "--json"]]:
+    done = subprocess.run([PROGRAM, *words], stdin=subprocess.DEVNULL, capture_output=True)
+    holds(f"words {words} of the program", (done.returncode, done.stdout, done.stderr), (2, b"", b"words: usage\n"))
+holds("a folder", run(b"", "."), (1, [], "refused: NotPlain\n"))
+(FOLDER / "text").write_text("this is no database, but a text" * 100)
+holds("no database", run(b"", "text"), (1, [], "refused: NoDatabase\n"))
+holds("no folder", run(b"", "none/a.db"), (1, [], "refused: NoFolder\n"))
+
+# Little memory: each line is answered, or refused as out of memory, or the file can't be opened; nothing ends by a signal.
+lines = encoded(['["import","c",%s]' % binary(stream), '["count","c"]', '["find","c"]', '["export","c"]'])
+wanted = run(lines, "small.db")
+found = set()
+for megabytes in [*range(400, 40, -20), *range(40, 2, -1)]:
+    (FOLDER / "small.db").unlink(missing_ok=True)
+    (FOLDER / "small.db-wal").unlink(missing_ok=True)
+    status, answers, told = run(lines, "small.db", preexec_fn=lambda: resource.setrlimit(resource.RLIMIT_AS, (megabytes << 20, megabytes << 20)))
+    if status == 127:
+        break  # with less the system can't load the program
+    if status == 0:
+        known = [["memory" if answer == '{"refused":"Memory"}' else answer == whole for answer, whole in zip(answers, wanted[1])], len(answers)]
+        found.add(("answers", len(answers), all(one in ("memory", True) for one in known[0]) or known[0][0] == "memory"))
+    else:
+        found.add((status, len(answers), told))
+holds(f"with {megabytes} to 400 MB", found, {("answers", 4, True), (1, 0, "refused: Memory\n")})
+
+# Many inserts and gets in one session: a thousand of each, or as many as is told.
+count = int(sys.argv[2]) if len(sys.argv) > 2 else 1000
+began = time.time()
+lines = b"".join(line_of("insert", "c", {"_id": n, "n": str(n)}) + line_of("get", "c", n) for n in range(count))
+status, answers, told = run(lines, "many.db")
+holds("many inserts and gets", (status, len(answers), told, answers[0::2] == ['{"_id":%s}' % int32(n) for n in range(count)]), (0, 2 * count, "", True))
+holds("the last", json.loads(answers[-1])["document"]["n"], str(count - 1))
+print(f"{time.time() - began:.1f} s")
+print(f"{steps} steps, all as they should be")
