@@ -51,6 +51,7 @@ OPTIONS = ["--canonical", "--bson", "--json", "--wait 5"]
 STUB = """#!/bin/sh
 if [ "$2" = collections ]; then printf 'orders\\nold orders\\nmore\\n'; exit; fi
 if [ "$2$3" = importlines ]; then exec wc -l; fi
+if [ "$3" = long ]; then sleep 1.5; fi
 printf '%s' "$(basename -- "$0")"
 printf ' <%s>' "$@"
 echo
@@ -300,6 +301,35 @@ for number in None, signal.SIGINT, signal.SIGTERM:
     else:
         holds("an import", (process.communicate(b"{}\n{}\n")[0], process.returncode), (b"2\n", 0))
     os.close(ours)
+
+
+
+def told_of_long(words, **streams):
+    """What a command that takes long prints on a terminal that is its standard error, and where its streams lead if they are given."""
+    ours, theirs = pty.openpty()
+    streams = {name: theirs if stream == "terminal" else stream for name, stream in streams.items()}
+    done = subprocess.run([script, *words], stderr=theirs, cwd=HERE, env={**os.environ, "TERM": "vt100"}, **{"stdin": theirs, **streams})
+    os.close(theirs)
+    told = b""
+    try:
+        while piece := os.read(ours, 4096):
+            told += piece
+    except OSError:
+        pass
+    os.close(ours)
+    return done.returncode, done.stdout, told.decode()
+
+
+# So is what else may take long, and the line is gone at the end; what is printed on the terminal isn't watched, nor what is short.
+for words in ["t.db", "find", "long"], ["t.db", "export", "long"], ["t.db", "count", "long"]:
+    status, out, told = told_of_long(words, stdout=subprocess.PIPE)
+    holds(f"the progress of {words[1]}", (status, out.decode(), told.startswith("\r\n\x1b[Kfallowtime: 0 MB read"), told.endswith("\x1b[A\r\x1b[J")),
+          (0, "fallowtime" + "".join(f" <{word}>" for word in words) + "\n", True, True))
+for words in ["t.db", "find", "long"], ["t.db", "export", "long"]:
+    printed = told_of_long(words, stdout="terminal")[2]
+    holds(f"{words[1]} onto the terminal", printed, "fallowtime" + "".join(f" <{word}>" for word in words) + "\r\n")
+for words in ["t.db", "find", "c"], ["t.db", "backup", "b.db"], ["t.db", "get", "long", "1"], ["t.db", "set", "long", "1", "k", "1"]:
+    holds(f"no progress of {words[1]}", told_of_long(words, stdout=subprocess.PIPE)[2], "")
 
 # The page for man and the crate have the same commands and options.
 man = (ROOT / "man/fallowtime.1").read_text()

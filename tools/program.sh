@@ -157,8 +157,8 @@ version() {
     echo "$name ${number:-$(cat "$root/VERSION")} (commit ${commit:-unknown}, ${built:-unknown}${change:+, sources are newer})"
 }
 
-# Whether there is a terminal to say on how much of a long input is done, and the input isn't typed there.
-can_watch() { [ -t 2 ] && [ ! -t 0 ] && { command : 3<&0; } 2>/dev/null && [ "${TERM:-dumb}" != dumb ] && [ -r /proc/self/io ]; }
+# Whether there is a terminal to say on how much of something long is done.
+can_watch() { [ -t 2 ] && { command : 3<&0; } 2>/dev/null && [ "${TERM:-dumb}" != dumb ] && [ -r /proc/self/io ]; }
 
 # Says each second what a process has read and written, of which the system keeps count: on the line below the one where the cursor
 # is, so that what the program prints comes to stand above. It is deleted at the end.

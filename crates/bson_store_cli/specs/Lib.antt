@@ -1,1 +1,4 @@
+pub mod Asking
+pub mod Ending
+pub mod Serving
 pub mod Words

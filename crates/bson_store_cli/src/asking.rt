@@ -1,6 +1,8 @@
 //! What a command of `fallowtime` asks for, read of its words and of the input.
 
+ghost use Rattle.std.specs.Prelude.{◌≡◌, []};
 ghost use Rattle.bson_base.specs.Device.{CanFail};
+ghost use Rattle.bson_store_cli.specs.Asking.{Asks, AsksForLines, AsksForStream, AsksToImport};
 
 use crate::ending::Ended;
 use bson_base::{ReadAllError, read_all};
@@ -22,10 +24,43 @@ pub struct Asked<'w> {
 }
 
 /// A request of no lines.
-fn without_lines(alloc: Global, request: Option<Request<'_>>) -> Asked<'_> {
+fn without_lines(alloc: Global, request: Option<Request<'_>>) -> Asked<'_>
+    ensures request { result.request ≡ request }
+    ensures lines { result.lines.items ≡ [] }
+{
     Asked {
         request,
         lines: Vec::new(alloc),
+    }
+}
+
+/// The documents of the input as lines of Extended JSON.
+fn import_of_lines<I: Source>(
+    alloc: Global,
+    maker: &mut IdMaker,
+    input: &mut I,
+) -> Result<Asked<'static>, Ended>
+    requires { CanFail (I.feed input.old) }
+    ensures { AsksForLines (I.feed input.old) (I.feed input.new) maker.old maker.new result }
+{
+    match read_lines(alloc, input, maker) {
+        Ok(taken) => Ok(Asked {
+            request: Some(Request::Import(taken.stream)),
+            lines: taken.lines,
+        }),
+        Err(stop) => Err(Ended::Lines(stop)),
+    }
+}
+
+/// The documents of the input as BSON.
+fn import_of_stream<I: Source>(alloc: Global, input: &mut I) -> Result<Asked<'static>, Ended>
+    requires { CanFail (I.feed input.old) }
+    ensures { AsksForStream (I.feed input.old) (I.feed input.new) result }
+{
+    match read_all(alloc, input) {
+        Ok(stream) => Ok(without_lines(alloc, Some(Request::Import(stream)))),
+        Err(ReadAllError::Reader) => Err(Ended::Refused(Refusal::from(ErrorKind::Reader))),
+        Err(ReadAllError::Memory) => Err(Ended::Refused(Refusal::from(ErrorKind::Memory))),
     }
 }
 
@@ -37,25 +72,22 @@ fn import_of<I: Source>(
     input: &mut I,
 ) -> Result<Asked<'static>, Ended>
     requires { CanFail (I.feed input.old) }
+    ensures { AsksToImport words.now (I.feed input.old) (I.feed input.new) maker.old maker.new result }
 {
     if Name::new(words.coll).is_none() {
         return Err(Ended::Refused(Refusal::from(ErrorKind::BadName)));
     }
     if words.options.lines {
-        let taken = read_lines(alloc, input, maker)?;
-        return Ok(Asked {
-            request: Some(Request::Import(taken.stream)),
-            lines: taken.lines,
-        });
-    }
-    match read_all(alloc, input) {
-        Ok(stream) => Ok(without_lines(alloc, Some(Request::Import(stream)))),
-        Err(ReadAllError::Reader) => Err(Ended::Refused(Refusal::from(ErrorKind::Reader))),
-        Err(ReadAllError::Memory) => Err(Ended::Refused(Refusal::from(ErrorKind::Memory))),
+        import_of_lines(alloc, maker, input)
+    } else {
+        import_of_stream(alloc, input)
     }
 }
 
-/// What the words ask for.
+/// What the words and the input ask for: nothing but `import` reads the input, to its end.
+///
+/// `Words` if a word can't be read, the first one. Of `import` `Refused` by BadName, by Reader if a read failed, and by
+/// Memory; `Lines` if a line of `import --json` can't be read. `Refused` by Memory if a growth was refused.
 pub fn asked_of<'w, I: Source>(
     alloc: Global,
     words: &Words<'w>,
@@ -63,6 +95,7 @@ pub fn asked_of<'w, I: Source>(
     input: &mut I,
 ) -> Result<Asked<'w>, Ended>
     requires { CanFail (I.feed input.old) }
+    ensures { Asks words.now.command words.now (I.feed input.old) (I.feed input.new) maker.old maker.new result }
 {
     match words.command {
         Command::Export => Ok(without_lines(alloc, None)),

@@ -1,6 +1,9 @@
 //! Why `fallowtime` ends before its work is done, and what it reports of it.
 
-ghost use Rattle.bson_base.specs.Device.{CanRefuse};
+ghost use Rattle.std.specs.Prelude.{◌≡◌, IfOk, OnErr, string_bytes};
+ghost use Rattle.bson_base.specs.Device.{CanRefuse, TakesText};
+ghost use Rattle.cli_convert.specs.Reports.{memory_line};
+ghost use Rattle.bson_store_cli.specs.Ending.{TellsEnd, kind_of_line as line_kind, place_of as line_of};
 
 use bson_base::write_all;
 use bson_store::{ErrorKind, Sink};
@@ -23,35 +26,51 @@ pub enum Ended {
     File(FileError),
 }
 
+/// The kind of a refusal of a document that was written from a line: its length is at fault only by being too long.
+fn kind_of_line(kind: ErrorKind) -> ErrorKind
+    ensures { result ≡ line_kind kind }
+{
+    match kind {
+        ErrorKind::BadLength => ErrorKind::TooLong,
+        kind => kind,
+    }
+}
+
+/// The line that the document with a number came from, if there are lines.
+fn place_of(lines: &[u64], document: Option<u64>) -> Option<u64>
+    ensures { result ≡ line_of lines.now document }
+{
+    lines.get(document? as usize).copied()
+}
+
 impl Ended {
-    /// A refusal, of a document that came from one of these lines. The length of a document that was written from a line
-    /// is at fault only by being too long.
-    pub fn of_line(refusal: Refusal, lines: &[u64]) -> Ended {
-        let place = match refusal.error.document {
-            Some(document) => lines.get(document as usize).copied(),
-            None => None,
-        };
-        let mut refusal = refusal;
-        if place.is_some() && matches!(refusal.error.kind, ErrorKind::BadLength) {
-            refusal.error.kind = ErrorKind::TooLong;
+    ghost use Rattle.std.specs.Prelude.{◌≡◌};
+    ghost use Rattle.bson_store_cli.specs.Ending.{place_of as line_of, placed};
+    ghost use Rattle.bson_store_cli.specs.declared.ending.Ended.TheVariants.{Refused};
+
+    /// A refusal, of a document that came from one of these lines.
+    pub fn of_line(mut refusal: Refusal, lines: &[u64]) -> Ended
+        ensures { result ≡ Refused (placed (line_of lines.now refusal.error.document) refusal) }
+    {
+        refusal.line = place_of(lines, refusal.error.document);
+        if refusal.line.is_some() {
+            refusal.error.kind = kind_of_line(refusal.error.kind);
         }
-        refusal.line = place;
         Ended::Refused(refusal)
     }
 }
 
 impl From<Stop> for Ended {
+    ghost use Rattle.std.specs.Prelude.{◌≡◌};
+    ghost use Rattle.bson_store_cli.specs.Asking.{ended_of_stop};
+
+    ghost from_gives = { λ s e. e ≡ ended_of_stop s };
+
     fn from(stop: Stop) -> Ended {
         match stop {
             Stop::Words(unread) => Ended::Words(unread),
             Stop::Memory => Ended::Refused(Refusal::from(ErrorKind::Memory)),
         }
-    }
-}
-
-impl From<LineStop> for Ended {
-    fn from(stop: LineStop) -> Ended {
-        Ended::Lines(stop)
     }
 }
 
@@ -64,19 +83,30 @@ impl From<io::Error> for Ended {
 /// The line if there is no memory for another one.
 const OUT_OF_MEMORY: &str = "refused: Memory\n";
 
+/// Writes a line. A failure is of no further concern.
+fn put_line<F: Sink>(faults: &mut F, line: &str)
+    requires { CanRefuse (F.tally faults.old) }
+    ensures { TakesText (F.tally faults.old) (F.tally faults.new) line.now }
+{
+    let _ = write_all(faults, line.as_bytes());
+}
+
 /// Writes a line, or the one that reports out of memory.
 fn tell_line<F: Sink>(faults: &mut F, line: Result<String, AllocError>)
     requires { CanRefuse (F.tally faults.old) }
+    ensures line { IfOk line (λ line. TakesText (F.tally faults.old) (F.tally faults.new) (string_bytes line)) }
+    ensures memory { OnErr line (TakesText (F.tally faults.old) (F.tally faults.new) memory_line) }
 {
-    let _ = match line {
-        Ok(line) => write_all(faults, line.as_bytes()),
-        Err(_) => write_all(faults, OUT_OF_MEMORY.as_bytes()),
-    };
+    match line {
+        Ok(line) => put_line(faults, line.as_str()),
+        Err(_) => put_line(faults, OUT_OF_MEMORY),
+    }
 }
 
 /// Reports why the program ends, and returns its status.
 pub fn tell<F: Sink>(rt: &HostRuntime, faults: &mut F, ended: Ended) -> u8
     requires { CanRefuse (F.tally faults.old) }
+    ensures { TellsEnd ended (F.tally faults.old) (F.tally faults.new) result }
 {
     match ended {
         Ended::Words(unread) => {

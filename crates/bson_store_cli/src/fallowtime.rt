@@ -1,6 +1,18 @@
 //! The program `fallowtime`: one command over a database file, or a session of requests.
 
+ghost use Rattle.std.specs.Prelude.{◌≡◌, None, Result, Some};
+ghost use Rattle.sqlite.specs.State.{Survives};
 ghost use Rattle.bson_base.specs.Device.{CanFail, CanRefuse};
+ghost use Rattle.bson_store.specs.Calls.{Relates, store_state};
+ghost use Rattle.bson_store.specs.Export.{SendsCollection};
+ghost use Rattle.fallowtime_commands.specs.Performing.{LeavesRequest, Performs, reply_of};
+ghost use Rattle.fallowtime_commands.specs.Printing.{Tells};
+ghost use Rattle.fallowtime_commands.specs.declared.answer.Answer.{Answer as Answered};
+ghost use Rattle.fallowtime_commands.specs.declared.refusal.Refusal.{Refusal as Refused};
+ghost use Rattle.fallowtime_commands.specs.declared.request.Request.{Request as Requested};
+ghost use Rattle.store_model.specs.declared.error.StoreError.{StoreError as StoreRefusal};
+ghost use Rattle.bson_store_cli.specs.Ending.{ended_by};
+ghost use Rattle.bson_store_cli.specs.Serving.{form_by, plainly};
 
 use crate::asking::{Asked, asked_of};
 use crate::ending::{Ended, tell};
@@ -20,7 +32,9 @@ use std::{fs, io};
 const PATIENCE: u64 = 5;
 
 /// How a command prints documents.
-fn form_of(options: &Options) -> Form {
+fn form_of(options: &Options) -> Form
+    ensures { result ≡ form_by options.now.bytes options.now.canonical }
+{
     if options.bytes {
         Form::Bytes
     } else if options.canonical {
@@ -46,6 +60,9 @@ fn export<S: Alter + Drop, O: Sink>(
     output: &mut O,
 ) -> Result<(), Refusal>
     requires { CanRefuse (O.tally output.old) }
+    ensures { (sent : Result (Unit {0}) StoreRefusal) × (result ≡ plainly sent)
+        × Relates S.Store store.old store.new (SendsCollection coll.now (O.tally output.old) (O.tally output.new) sent)
+        × Survives (store_state S.Store store.old) (store_state S.Store store.new) (λ _. ⊥) }
 {
     match store.export(coll, output) {
         Ok(()) => Ok(()),
@@ -62,6 +79,16 @@ fn serve_store<S: Alter + Drop, O: Sink>(
     output: &mut O,
 ) -> Result<(), Ended>
     requires { CanRefuse (O.tally output.old) }
+    // A request is performed, and what it returns is printed in the form of the options.
+    ensures request { (r : Requested) → asked.old.request ≡ Some r → (done : Result (Unit {0}) Refused) × (outcome : Result Answered StoreRefusal)
+        × (result ≡ ended_by asked.old.lines.items done)
+        × Tells (form_by words.now.options.bytes words.now.options.canonical) outcome (O.tally output.old) (O.tally output.new) done
+        × Relates S.Store store.old store.new (Performs words.now.coll.now r (reply_of outcome))
+        × LeavesRequest words.now.coll.now r (reply_of outcome) (store_state S.Store store.old) (store_state S.Store store.new) }
+    // Without one the collection is written as BSON.
+    ensures export { asked.old.request ≡ None → (sent : Result (Unit {0}) StoreRefusal) × (result ≡ ended_by asked.old.lines.items (plainly sent))
+        × Relates S.Store store.old store.new (SendsCollection words.now.coll.now (O.tally output.old) (O.tally output.new) sent)
+        × Survives (store_state S.Store store.old) (store_state S.Store store.new) (λ _. ⊥) }
 {
     let done = match &mut asked.request {
         None => export(store, words.coll, output),

@@ -3,3 +3,4 @@ mod Printed
 mod Keeping
 mod Putting
 mod Changing
+mod Returned

@@ -3,6 +3,7 @@
 
 mod answer;
 mod executing;
+pub mod laws;
 mod performing;
 mod printing;
 mod reading;

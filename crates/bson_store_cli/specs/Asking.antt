@@ -1,0 +1,66 @@
+-- What a command of `fallowtime` asks for, by its words and the input.
+use Rattle.std.specs.Prelude.{◌≡◌, ℕ, List, [], Result, Ok, Err, Vec, Option, Some, None}
+use Rattle.std.specs.declared.alloc.Global.{Global}
+use Rattle.bson_base.specs.Device.{Feed, StopsReading, TookAll}
+use Rattle.bson_base.specs.declared.whole.ReadAllError.{ReadAllError}
+use Rattle.bson_base.specs.declared.whole.ReadAllError.TheVariants as reading
+use Rattle.cli_convert.specs.declared.stop.Stop.{Stop as LineStop}
+use Rattle.fallowtime_commands.specs.Reading.{IsRequestOf, StopsWords}
+use Rattle.fallowtime_commands.specs.Reports.{plain}
+use Rattle.fallowtime_commands.specs.declared.reading.Stop.{Stop}
+use Rattle.fallowtime_commands.specs.declared.reading.Stop.TheVariants as stop
+use Rattle.fallowtime_commands.specs.declared.request.Request.{Request}
+use Rattle.fallowtime_commands.specs.declared.request.Request.TheVariants as request
+use Rattle.fallowtime_texts.specs.Lines.{ReadsLines}
+use Rattle.fallowtime_texts.specs.declared.lines.Taken.{Taken}
+use Rattle.fallowtime_texts.specs.declared.made.IdMaker.{IdMaker}
+use Rattle.fallowtime_words.specs.declared.command.Command.{Command}
+use Rattle.fallowtime_words.specs.declared.command.Command.TheVariants as command
+use Rattle.fallowtime_words.specs.declared.words.Words.{Words as Wording}
+use Rattle.store_model.specs.Refusal.{refusal}
+use Rattle.store_model.specs.State.{IsName, When}
+use Rattle.store_model.specs.declared.error.ErrorKind.{ErrorKind}
+use Rattle.store_model.specs.declared.error.ErrorKind.TheVariants.{BadName, Memory, Reader}
+use Rattle.bson_store_cli.specs.declared.asking.Asked.{Asked}
+use Rattle.bson_store_cli.specs.declared.ending.Ended.{Ended}
+use Rattle.bson_store_cli.specs.declared.ending.Ended.TheVariants as ended
+
+-- a refusal of this kind, of which nothing more is known
+abbrev pub refused : ErrorKind → Ended
+refused k = ended.Refused (plain (refusal k))
+
+abbrev pub ended_of_stop : Stop → Ended
+ended_of_stop (stop.Words u) = ended.Words u
+ended_of_stop stop.Memory = refused Memory
+
+abbrev pub kind_of_read : ReadAllError → ErrorKind
+kind_of_read reading.Reader = Reader
+kind_of_read reading.Memory = Memory
+
+-- the documents of the input as BSON, taken to its end
+abbrev pub AsksForStream : Feed → Feed → Result Asked Ended → Type 0
+AsksForStream old new (Ok a) = (stream : Vec ℕ Global) × (a.request ≡ Some (request.Import stream)) × (a.lines.items ≡ []) × TookAll old new stream.items
+AsksForStream old new (Err e) = (error : ReadAllError) × (e ≡ refused (kind_of_read error)) × StopsReading error old new
+
+-- the documents of the lines of the input, each with its `_id`, and the line of each
+abbrev pub AsksForLines : Feed → Feed → IdMaker → IdMaker → Result Asked Ended → Type 0
+AsksForLines old new before after (Ok a) = (taken : Taken) × ReadsLines old new before after (Ok taken) × (a.request ≡ Some (request.Import taken.stream)) × (a.lines ≡ taken.lines)
+AsksForLines old new before after (Err e) = (line : LineStop) × ReadsLines old new before after (Err line) × (e ≡ ended.Lines line)
+
+-- under a bad name nothing is read
+abbrev pub AsksToImport : Wording → Feed → Feed → IdMaker → IdMaker → Result Asked Ended → Type 0
+AsksToImport w old new before after result =
+    When (IsName w.coll.now)
+        (When (w.options.lines ≡ true) (AsksForLines old new before after result) (AsksForStream old new result))
+        ((result ≡ Err (refused BadName)) × (new ≡ old))
+
+-- the request that the words stand for, by the ids of the maker
+abbrev pub AsksByWords : Wording → IdMaker → Result Asked Ended → Type 0
+AsksByWords w maker (Ok a) = (r : Request) × (a.request ≡ Some r) × (a.lines.items ≡ []) × IsRequestOf maker w r
+AsksByWords w maker (Err e) = (s : Stop) × StopsWords w s × (e ≡ ended_of_stop s)
+
+-- Only `import` reads the input, and only `export` asks for no request.
+abbrev pub Asks : Command → Wording → Feed → Feed → IdMaker → IdMaker → Result Asked Ended → Type 0
+Asks command.Import w old new before after result = AsksToImport w old new before after result
+Asks command.Export w old new before after result = ((a : Asked) × (result ≡ Ok a) × (a.request ≡ None) × (a.lines.items ≡ [])) × (new ≡ old)
+Asks _ w old new before after result = AsksByWords w before result × (new ≡ old)

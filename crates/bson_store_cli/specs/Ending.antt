@@ -1,0 +1,44 @@
+-- How a command of `fallowtime` ends, and what is reported of it.
+use Rattle.std.specs.Prelude.{◌≡◌, ◌⊎◌, ℕ, List, Option, Some, None, Result, Ok, Err, codes}
+use Rattle.std.specs.List.{slice_get}
+use Rattle.bson_base.specs.Device.{Tally, TakesText}
+use Rattle.cli_convert.specs.Reports.{Reports, memory_line}
+use Rattle.cli_files.specs.Fault.{fault_line}
+use Rattle.cli_words.specs.Lines.{line}
+use Rattle.fallowtime_commands.specs.Reports.{refusal_text, unread_text}
+use Rattle.fallowtime_commands.specs.declared.refusal.Refusal.{Refusal}
+use Rattle.store_model.specs.declared.error.ErrorKind.{ErrorKind}
+use Rattle.store_model.specs.declared.error.ErrorKind.TheVariants.{BadLength, TooLong}
+use Rattle.bson_store_cli.specs.declared.ending.Ended.{Ended}
+use Rattle.bson_store_cli.specs.declared.ending.Ended.TheVariants as ended
+
+-- the line that the document with this number came from, if there are lines
+abbrev pub place_of : List ℕ → Option ℕ → Option ℕ
+place_of lines None = None
+place_of lines (Some document) = slice_get lines document
+
+-- what is written from a line has a wrong length only by being too long
+abbrev pub kind_of_line : ErrorKind → ErrorKind
+kind_of_line BadLength = TooLong
+kind_of_line k = k
+
+-- the refusal of a document from this line, if it is from one
+abbrev pub placed : Option ℕ → Refusal → Refusal
+placed None r = record r { line = None }
+placed (Some n) r = record r { line = Some n; error = record (r.error) { kind = kind_of_line r.error.kind } }
+
+-- the end that a result is, where the documents came from these lines
+abbrev pub ended_by : List ℕ → Result (Unit {0}) Refusal → Result (Unit {0}) Ended
+ended_by lines (Ok x) = Ok x
+ended_by lines (Err r) = Err (ended.Refused (placed (place_of lines r.error.document) r))
+
+-- the line went out, or the one for out of memory, or a beginning of either
+abbrev pub TellsLine : List ℕ → Tally → Tally → Type 0
+TellsLine text before after = TakesText before after text ⊎ TakesText before after memory_line
+
+-- the line of why it ended, and the program's status: 2 for words or a line that can't be read
+abbrev pub TellsEnd : Ended → Tally → Tally → ℕ → Type 0
+TellsEnd (ended.Words u) before after status = (status ≡ 2) × TellsLine (unread_text u) before after
+TellsEnd (ended.Lines stop) before after status = Reports (Err stop) before after status
+TellsEnd (ended.Refused r) before after status = (status ≡ 1) × TellsLine (refusal_text r) before after
+TellsEnd (ended.File error) before after status = (status ≡ 1) × TakesText before after (line (fault_line error))
