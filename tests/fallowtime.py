@@ -429,10 +429,10 @@ for told, bad in [
     ("EndInside document 2", b"\5\0"), ("EndInside document 2", ZERO[:-1]), ("BadLength document 2", b"\4\0\0\0"),
     ("BadLength document 2", struct.pack("<i", LONGEST + 1) + b"x"), ("NotTerminated document 2", ZERO[:-1] + b"\1"),
     ("Faulty document 2", b"\x08\0\0\0\x20a\0\0"), ("TooDeep document 2", DEEP), ("NoId document 2", body_of({"a": 1})),
-    ("DuplicateId document 2", ZERO), ("DuplicateId document 2", body_of({"_id": 1})),
+    ("DuplicateId document 2 _id 5", ZERO), ("DuplicateId document 2 _id 1", body_of({"_id": 1})),
 ]:
     refused("import f", told, given=ZERO + GOOD + bad)
-for told, bad in [("DuplicateId line 4", b'{"_id":5}'), ("DuplicateId line 4", b'{"_id":1}'), ("TooDeep line 4", b'{"v":%s}' % levels(100).encode())]:
+for told, bad in [("DuplicateId line 4 _id 5", b'{"_id":5}'), ("DuplicateId line 4 _id 1", b'{"_id":1}'), ("TooDeep line 4", b'{"v":%s}' % levels(100).encode())]:
     refused("import f --json", told, given=b'{"_id":5}\n\n{"_id":6}\n' + bad + b'\n{"_id":8}\n')
 check("find f --bson", (0, body_of({"_id": 1}) + body_of({"_id": 2}), ""))
 

@@ -51,8 +51,8 @@ AsksForLines old new before after (Err e) = (line : LineStop) × ReadsLines old 
 abbrev pub AsksToImport : Wording → Feed → Feed → IdMaker → IdMaker → Result Asked Ended → Type 0
 AsksToImport w old new before after result =
     When (IsName w.coll.now)
-        (When (w.options.lines ≡ true) (AsksForLines old new before after result) (AsksForStream old new result))
-        ((result ≡ Err (refused BadName)) × (new ≡ old))
+    (When (w.options.lines ≡ true) (AsksForLines old new before after result) (AsksForStream old new result))
+    ((result ≡ Err (refused BadName)) × (new ≡ old))
 
 -- the request that the words stand for, by the ids of the maker
 abbrev pub AsksByWords : Wording → IdMaker → Result Asked Ended → Type 0

@@ -9,59 +9,31 @@ ghost use Rattle.fallowtime_commands.specs.Printing.{Tells};
 ghost use Rattle.fallowtime_commands.specs.declared.answer.Answer.{Answer as Answered};
 
 use crate::answer::Answer;
+use crate::ids::id_of_refusal;
 use crate::performing::perform;
 use crate::printing::{Form, print};
 use crate::refusal::Refusal;
 use crate::request::Request;
 use bson_base::Sink;
-use bson_json::write_value;
-use bson_store::extjson::Mode;
-use bson_store::{Bson, ErrorKind, Store, StoreError};
+use bson_store::{Store, StoreError};
 use sqlite::Alter;
 use std::alloc::Global;
 
-/// The `_id` that a request is about, if it is about one.
-fn id_in<'a>(request: &'a Request<'_>) -> Option<&'a Bson> {
-    match request {
-        Request::Insert(id, _) => Some(id),
-        Request::Get(id) => Some(id),
-        Request::Set(id, _, _) => Some(id),
-        Request::Unset(id, _) => Some(id),
-        Request::Remove(id) => Some(id),
-        Request::Put(document) => document.get("_id"),
-        Request::Replace(document) => document.get("_id"),
-        _ => None,
-    }
-}
-
-/// The `_id` that a request is about, as relaxed Extended JSON. None if there is none, or no memory for it.
-fn id_text(alloc: Global, request: &Request<'_>) -> Option<String> {
-    let id = id_in(request)?;
-    let mut text = String::new(alloc);
-    write_value(alloc, id, Mode::Relaxed, &mut text).ok()?;
-    Some(text)
-}
-
-/// A refusal of the store, with the `_id` that is taken, or that no document has.
-fn refusal_with(error: StoreError, id: Option<String>) -> Refusal
+/// A refusal of a request, with the `_id` that it is about, if it is about one.
+fn refusal_with(alloc: Global, request: &Request<'_>, error: StoreError) -> Refusal
     ensures { result.error ≡ error }
 {
-    match error.kind {
-        ErrorKind::DuplicateId | ErrorKind::NotFound => Refusal {
-            error,
-            line: None,
-            id,
-            key: None,
-        },
-        _ => Refusal::from(error),
+    Refusal {
+        id: id_of_refusal(alloc, request, &error),
+        ..Refusal::from(error)
     }
 }
 
 /// Prints what a request returned. Of one that was refused nothing is printed.
 fn print_outcome<O: Sink>(
     alloc: Global,
+    request: &Request<'_>,
     outcome: Result<Answer, StoreError>,
-    id: Option<String>,
     form: Form,
     output: &mut O,
 ) -> Result<(), Refusal>
@@ -70,7 +42,7 @@ fn print_outcome<O: Sink>(
 {
     match outcome {
         Ok(answer) => print(alloc, &answer, form, output),
-        Err(error) => Err(refusal_with(error, id)),
+        Err(error) => Err(refusal_with(alloc, request, error)),
     }
 }
 
@@ -90,7 +62,6 @@ pub fn execute<S: Alter + Drop, O: Sink>(
         × Relates S.Store store.old store.new (Performs name.now request.old (reply_of outcome))
         × LeavesRequest name.now request.old (reply_of outcome) (store_state S.Store store.old) (store_state S.Store store.new) }
 {
-    let id = id_text(alloc, request);
     let outcome = perform(alloc, store, name, request);
-    print_outcome(alloc, outcome, id, form, output)
+    print_outcome(alloc, request, outcome, form, output)
 }

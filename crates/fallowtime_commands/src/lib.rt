@@ -3,6 +3,7 @@
 
 mod answer;
 mod executing;
+mod ids;
 pub mod laws;
 mod performing;
 mod printing;

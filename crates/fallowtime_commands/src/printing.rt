@@ -8,10 +8,10 @@ ghost use Rattle.store_model.specs.Refusal.{refusal};
 ghost use Rattle.fallowtime_commands.specs.Printing.{Prints, PrintsBodies, PrintsBody, PrintsId, PrintsLine, PrintsName, PrintsNames, has_line_feed, kind_of_fault, mode_of};
 
 use crate::answer::Answer;
+use crate::ids::id_of_body;
 use crate::refusal::Refusal;
 use bson_base::{Sink, write_all};
 use bson_json::write_value;
-use bson_raw::RawDocument;
 use bson_store::extjson::Mode;
 use bson_store::{Bson, ErrorKind};
 use cli_words::write_line;
@@ -28,23 +28,13 @@ pub enum Form {
     Bytes,
 }
 
-/// The `_id` of the document that a store keeps as `body`, as relaxed Extended JSON. None if there is no memory for it.
-fn id_text(alloc: Global, body: &[u8]) -> Option<String> {
-    let document = RawDocument::from_bytes(body).ok()?;
-    let id = document.get(alloc, "_id").ok()??;
-    let id = id.to_bson(alloc).ok()?;
-    let mut text = String::new(alloc);
-    write_value(alloc, &id, Mode::Relaxed, &mut text).ok()?;
-    Some(text)
-}
-
 /// Why the document that a store keeps as `body` has no text.
 fn unprinted(alloc: Global, body: &[u8], fault: PrintFault) -> Refusal
     ensures { result.error ≡ refusal (kind_of_fault fault) }
 {
     match fault {
         PrintFault::ReservedKey(path) => Refusal {
-            id: id_text(alloc, body),
+            id: id_of_body(alloc, body),
             key: Some(path),
             ..Refusal::from(ErrorKind::ReservedKey)
         },
