@@ -1,7 +1,7 @@
--- What a result holds, seen otherwise.
+-- Results seen through a function, and a next step from a result.
 use Rattle.std.specs.Prelude.{Result, Ok, Err}
 
--- the result with its value seen by `view`
+-- the result with `view` applied to its value
 abbrev pub result_map : {X Y E : Type 0} → (X → Y) → Result X E → Result Y E
 result_map view (Ok x) = Ok (view x)
 result_map view (Err e) = Err e

@@ -1,4 +1,4 @@
--- The text of a moment (RFC 3339, section 5.6), against the proleptic Gregorian calendar.
+-- The text of a moment (RFC 3339, section 5.6), in the proleptic Gregorian calendar.
 use Rattle.std.specs.Prelude.{◌≡◌, ℕ, ◌+◌, ◌*◌, ◌/◌, ◌%◌, ◌==◌, ◌&&◌, ◌||◌, ◌<◌, nat_lt, nat_le, Bool, if◌then◌else◌, ℤ, pos, neg_ℤ, unsigned_abs, ◌+ℤ◌, ◌-ℤ◌, ◌*ℤ◌, ◌≤ℤ◌, int_div, int_le, IsTrue, List, [], ◌∷◌, ◌++◌, Option, Some, None, Result, Ok, Err, IsOk}
 use Rattle.std.specs.Char.{is_ascii_digit, digit_value}
 use Rattle.std.specs.Fmt.{signed_decimal, HasWrittenStyled, IsFlush}
@@ -66,7 +66,7 @@ pub record IsShownDate (millis : ℤ) (text : List ℕ) : Type 0 where
   pub date : IsTrue (has_date_text millis) → IsDateText millis text
   pub number : ¬ IsTrue (has_date_text millis) → text ≡ signed_decimal millis
 
--- the formatter g is f after writing that, whatever options f has
+-- g is the formatter f after that text was written, whatever options f has
 abbrev pub WritesDate : {W : Type 0} → (W → List ℕ → W → Type 0) → Formatter W → Result (Unit {0}) FormatError → ℤ → Formatter W → Type 0
 WritesDate took f r millis g = IsFlush f → IsOk r → (text : List ℕ) × IsShownDate millis text × HasWrittenStyled took f text g
 
@@ -118,7 +118,7 @@ read_minutes t = two_digits t >>= λ h. next_two 58 60 h.1 >>= λ m. if nat_lt h
 unfoldable pub read_clock : List ℕ → Option (ℕ × List ℕ)
 read_clock t = behind 84 116 t >>= λ u. read_minutes u >>= λ m. next_two 58 60 m.1 >>= λ s. Some (m.0 * 60 + s.0, s.1)
 
--- the digits in front, and what follows them
+-- the digits at the front, and what follows them
 abbrev pub digit_run : List ℕ → List ℕ × List ℕ
 digit_run [] = ([], [])
 digit_run (c ∷ cs) = if is_ascii_digit c then (c ∷ (digit_run cs).0, (digit_run cs).1) else ([], c ∷ cs)
@@ -136,7 +136,7 @@ abbrev pub nanoseconds : List ℕ → Option (List ℕ) → Option (ℕ × List 
 nanoseconds t None = Some (0, t)
 nanoseconds t (Some u) = some_digits (digit_run u)
 
--- nanoseconds, of which nine digits count
+-- nanoseconds, from the first nine digits
 unfoldable pub read_fraction : List ℕ → Option (ℕ × List ℕ)
 read_fraction t = nanoseconds t (behind 46 46 t)
 
@@ -161,7 +161,7 @@ read_offset (c ∷ cs) =
     else if c == 45 then read_late cs
     else None
 
--- the second of a day in a zone that is so many minutes ahead of UTC
+-- seconds since 1970 in UTC, for a second of a day in a zone that is `offset` minutes ahead of UTC
 abbrev pub utc_second : ℤ → ℕ → ℤ → ℤ
 utc_second day second offset = day *ℤ pos 86_400 +ℤ pos second -ℤ offset *ℤ pos 60
 

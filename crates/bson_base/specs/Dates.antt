@@ -1,5 +1,5 @@
--- The date text of a moment (RFC 3339, section 5.6) as a function of its milliseconds: year and month are counted on from the
--- first of January of the year 0, until the next one would begin after the moment.
+-- The date text of a moment (RFC 3339, section 5.6) as a function of its milliseconds. The year and the month are
+-- counted up from January of the year 0, as long as the next one begins at the moment or before it.
 use Rattle.std.specs.Prelude.{ℕ, zero, suc, ◌+◌, ◌/◌, ◌%◌, ℤ, pos, ◌*ℤ◌, ◌-ℤ◌, unsigned_abs, int_lt, if◌then◌else◌, List}
 use Rattle.std.specs.Fmt.{signed_decimal}
 use Rattle.jiff_core.specs.Calendar.{days_from_civil}
@@ -29,7 +29,7 @@ text_in_month y m z = text_within y m (unsigned_abs (z -ℤ month_start y m))
 abbrev pub text_in_year : ℕ → ℤ → List ℕ
 text_in_year y z = text_in_month y (month_from 11 y 1 z) z
 
--- the text, of a moment of the years 0 to 9999
+-- the text of a moment in the years 0 to 9999
 unfoldable pub date_text : ℤ → List ℕ
 date_text z = text_in_year (year_from 9999 0 z) z
 

@@ -8,7 +8,7 @@ use Rattle.bson_base.specs.Answer.{◌>>=◌, result_map}
 use Rattle.bson_base.specs.declared.decimal128.ParseError.{ParseError}
 use Rattle.bson_base.specs.declared.decimal128.ParseError.TheVariants.{EmptyExponent, InvalidExponent, InvalidCoefficient, Overflow, Underflow, InexactRounding}
 
--- the digits of a coefficient
+-- how many digits a coefficient may have
 abbrev pub digit_limit : ℕ
 digit_limit = 34
 
@@ -20,7 +20,7 @@ exponent_bias = 6176
 abbrev pub greatest_exponent : ℕ
 greatest_exponent = 12287
 
--- a sign is true if negative: as a truth value it needs no premise, and every bit pattern unpacks to one of these
+-- A sign is true if negative. As a truth value it needs no premise, and every bit pattern unpacks to one of these.
 pub data Decimal : Type 0 where
   not_a_number : Decimal
   -- whether it is negative
@@ -30,7 +30,7 @@ pub data Decimal : Type 0 where
 
 -- ---- the 128 bits as a number
 
--- the number of bytes, the lowest first
+-- the number that bytes spell, the lowest first
 abbrev pub number_of : List ℕ → ℕ
 number_of [] = 0
 number_of (b ∷ bs) = b + 256 * number_of bs
@@ -40,7 +40,7 @@ abbrev pub low_bytes : ℕ → ℕ → List ℕ
 low_bytes zero n = []
 low_bytes (suc k) n = n % 256 ∷ low_bytes k (n / 256)
 
--- its 16 bytes
+-- the 16 bytes of a number, the lowest first
 unfoldable pub sixteen_bytes : ℕ → List ℕ
 sixteen_bytes n = low_bytes 16 n
 
@@ -70,7 +70,7 @@ pack (finite s c e) = decimal_sign_bit s + e * 2 ^ 113 + c
 abbrev pub pack_nan : Bool → Bool → ℕ
 pack_nan s q = decimal_sign_bit s + 31 * 2 ^ 122 + (if q then 2 ^ 121 else 0)
 
--- what every unpacked decimal is
+-- what holds of every unpacked decimal
 abbrev pub IsUnpacked : Decimal → Type 0
 IsUnpacked not_a_number = Unit {0}
 IsUnpacked (infinity s) = Unit {0}
@@ -85,7 +85,7 @@ is_finite _ = false
 abbrev pub minus_if : Bool → List ℕ
 minus_if s = if s then 45 ∷ [] else []
 
--- digits with k of them behind the dot
+-- digits with k of them after the dot
 abbrev pub with_dot : ℕ → List ℕ → List ℕ
 with_dot k ds =
     if k == 0 then ds
@@ -96,7 +96,7 @@ with_dot k ds =
 abbrev pub exponent_text : ℕ → List ℕ
 exponent_text x = if nat_le exponent_bias x then 43 ∷ decimal (x - exponent_bias) else 45 ∷ decimal (exponent_bias - x)
 
--- the first digit, and the others behind a dot
+-- the first digit, and the others after a dot
 abbrev pub mantissa : List ℕ → List ℕ
 mantissa ds = with_dot (length ds - 1) ds
 
@@ -128,7 +128,7 @@ least_in_range = 59360
 abbrev pub greatest_in_range : ℕ
 greatest_in_range = 71647
 
--- what is before the first character that p finds, and what is behind it
+-- what is before the first character that p finds, and what is after it
 abbrev pub cut : (ℕ → Bool) → List ℕ → List ℕ × Option (List ℕ)
 cut p [] = ([], None)
 cut p (c ∷ cs) = if p c then ([], Some cs) else (c ∷ (cut p cs).0, (cut p cs).1)
@@ -158,7 +158,7 @@ value_after n (c ∷ cs) = value_after (n * 10 + digit_value c) cs
 abbrev pub value : List ℕ → ℕ
 value ds = value_after 0 ds
 
--- leading zeros go, leaving at least one digit
+-- without leading zeros, but with at least one digit
 abbrev pub strip : List ℕ → List ℕ
 strip [] = []
 strip (c ∷ []) = c ∷ []
@@ -177,7 +177,7 @@ read_exponent None = Ok reading_bias
 read_exponent (Some []) = Err EmptyExponent
 read_exponent (Some (c ∷ cs)) = if c == 43 then upward cs else if c == 45 then downward cs else upward (c ∷ cs)
 
--- the coefficient: its digits, and how many are behind the dot
+-- the coefficient: its digits, and how many are after the dot
 
 abbrev pub checked_digits : List ℕ → ℕ → Result (List ℕ × ℕ) ParseError
 checked_digits ds places = if nat_lt 0 (length ds) && all_digits ds then Ok (ds, places) else Err InvalidCoefficient
@@ -186,7 +186,7 @@ abbrev pub read_coefficient : List ℕ × Option (List ℕ) → Result (List ℕ
 read_coefficient (whole, None) = checked_digits whole 0
 read_coefficient (whole, Some part) = checked_digits (whole ++ part) (length part)
 
--- the first k digits, and an exponent that is greater by the number of those that are dropped
+-- the first k digits, and an exponent that is raised by the number of digits dropped
 abbrev pub lift : ℕ → List ℕ → ℕ → Result (List ℕ × ℕ) ParseError
 lift k ds x = if nat_lt 32767 (length ds - k) || nat_lt 98303 (x + (length ds - k)) then Err Overflow else Ok (take k ds, x + (length ds - k))
 
@@ -194,7 +194,7 @@ lift k ds x = if nat_lt 32767 (length ds - k) || nat_lt 98303 (x + (length ds - 
 unfoldable pub drop_tail : ℕ → List ℕ → ℕ → Result (List ℕ × ℕ) ParseError
 drop_tail k ds x = if all_zeros (drop k ds) then lift k ds x else Err InexactRounding
 
--- no more digits than there may be, and the exponent that goes with them
+-- at most `digit_limit` digits, and the exponent that goes with them
 abbrev pub shorten : List ℕ → ℕ → Result (List ℕ × ℕ) ParseError
 shorten ds x = if nat_le (length ds) digit_limit then Ok (ds, x) else drop_tail digit_limit ds x
 
@@ -205,15 +205,15 @@ drop_last s ds m =
     else if all_zeros (drop (length ds - m) ds) then Ok (finite s (value (take (length ds - m) ds)) 0)
     else Err InexactRounding
 
--- an exponent under the least drops digits
+-- if the exponent is below the least one, digits are dropped
 abbrev pub raise : Bool → List ℕ → ℕ → Result Decimal ParseError
 raise s ds x = if value ds == 0 then Ok (finite s 0 0) else drop_last s ds (least_in_range - x)
 
--- with m zeros more, and with the greatest exponent
+-- with m more zeros, and with the greatest exponent
 abbrev pub append_zeros : Bool → List ℕ → ℕ → Result Decimal ParseError
 append_zeros s ds m = if nat_le (length ds + m) digit_limit then Ok (finite s (value (ds ++ replicate m 48)) greatest_exponent) else Err Overflow
 
--- one over the greatest appends zeros
+-- if the exponent is above the greatest one, zeros are appended
 abbrev pub lower : Bool → List ℕ → ℕ → Result Decimal ParseError
 lower s ds x = if value ds == 0 then Ok (finite s 0 greatest_exponent) else append_zeros s ds (x - greatest_in_range)
 
@@ -242,7 +242,7 @@ read_number s t = read_cut s (cut is_e t)
 abbrev pub is_named : List ℕ → List ℕ → Bool
 is_named t name = bytes_eq (str_to_ascii_lowercase t) name
 
--- a text behind its sign: the 128 bits
+-- the 128 bits of a text after its sign
 abbrev pub read_unsigned_decimal : Bool → List ℕ → Result ℕ ParseError
 read_unsigned_decimal s t =
     if is_named t (codes "nan") then Ok (pack_nan s false)

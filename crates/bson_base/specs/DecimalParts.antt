@@ -32,6 +32,6 @@ IsFinite (Finite s c e) = (c < 10 ^ 34) × (e < 12288)
 abbrev pub IsShortened : ℕ → List ℕ → ℕ → Type 0
 IsShortened k ds x = (length ds ≤ k) × (all_digits ds ≡ true) × (x < 98304)
 
--- digits in two runs, one behind the other
+-- digits in two runs, one after the other
 abbrev pub digits_of : Digits → List ℕ
 digits_of d = d.whole.now ++ d.part.now

@@ -11,9 +11,9 @@ Counts old new (Err e) = new ≡ old + 1
 
 -- what a source knows of its bytes
 pub record Supply : Type 0 where
-  -- those that it gave so far
+  -- the bytes that it gave so far
   pub given : Option (List ℕ)
-  -- those that it would still give
+  -- the bytes that it would still give
   pub left : Option (List ℕ)
 
 -- a source gave bs: the first of what it had left
@@ -34,7 +34,7 @@ abbrev pub WriteTakes : {E : Type 0} → Option (List ℕ) → Option (List ℕ)
 WriteTakes old new (Ok n) buf = Appends old new (take n buf)
 WriteTakes old new (Err e) buf = Appends old new []
 
--- a beginning of bs was taken
+-- a prefix of bs was taken
 abbrev pub TakesBeginning : Option (List ℕ) → Option (List ℕ) → List ℕ → Type 0
 TakesBeginning old new bs = (n : ℕ) × Appends old new (take n bs)
 
@@ -43,7 +43,7 @@ pub record Tally : Type 0 where
   pub failures : ℕ
   pub taken : Option (List ℕ)
 
--- a text was taken, or a call failed and a beginning of it was
+-- a text was taken, or a call failed and a prefix of the text was taken
 abbrev pub TakesText : Tally → Tally → List ℕ → Type 0
 TakesText old new text = ((new.failures ≡ old.failures) × Appends old.taken new.taken text) ⊎ ((new.failures ≡ old.failures + 1) × TakesBeginning old.taken new.taken text)
 

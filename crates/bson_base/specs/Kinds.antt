@@ -44,7 +44,7 @@ IsRangedScalar (int64 z) = FitsSigned w64 z
 IsRangedScalar (decimal bs) = (length bs ≡ 16) × AreBytes bs
 IsRangedScalar _ = Unit {0}
 
--- what holds of every tree that is spoken of: its numbers and texts are those of their kinds, and no key occurs twice
+-- what holds of every tree considered here: its numbers and texts are those of their kinds, and no key occurs twice
 pub record IsSound (v : Value) : Type 0 where
   pub ranged : EachPart IsUtf8 IsRangedScalar v
   pub distinct : HasDistinctKeys v

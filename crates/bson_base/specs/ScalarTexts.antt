@@ -21,7 +21,8 @@ valid_uuid None = Err InvalidUuidString
 abbrev pub read_uuid : List ℕ → Result (List ℕ) Error
 read_uuid text = valid_uuid (uuid_of text)
 
--- whether a text is Base64 with padding and zero bits at its end (RFC 4648, section 4)
+-- why a text isn't decoded: it isn't Base64 with padding and zero bits at its end (RFC 4648,
+-- section 4), or out of memory
 abbrev pub RefusesBase64 : List ℕ → AnyBinaryError → Type 0
 RefusesBase64 text DecodingError = IsTrue (is_err (decode_of standard text))
 RefusesBase64 text Memory = Unit {0}

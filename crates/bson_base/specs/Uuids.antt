@@ -12,7 +12,7 @@ uuid_subtype CSharpLegacy = subtypes.UuidOld
 uuid_subtype JavaLegacy = subtypes.UuidOld
 uuid_subtype PythonLegacy = subtypes.UuidOld
 
--- the 16 bytes of a UUID in a form; twice gives the bytes again
+-- the 16 bytes of a UUID in a form; applied twice, it gives the bytes again
 abbrev pub uuid_form : UuidRepresentation → List ℕ → List ℕ
 uuid_form Standard bs = bs
 uuid_form CSharpLegacy bs = reverse (take 4 bs) ++ reverse (take 2 (drop 4 bs)) ++ reverse (take 2 (drop 6 bs)) ++ drop 8 bs

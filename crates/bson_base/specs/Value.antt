@@ -88,7 +88,7 @@ abbrev pub without : List ℕ → Members → Members
 without k no_members = no_members
 without k (member l v ms) = if bytes_eq k l then without k ms else member l v (without k ms)
 
--- the value in the key's place, or the member put last
+-- with the value in the key's place, or with the member added at the end
 abbrev pub put : List ℕ → Value → Members → Members
 put k v no_members = member k v no_members
 put k v (member l w ms) = if bytes_eq k l then member l v ms else member l w (put k v ms)

@@ -64,8 +64,8 @@ impl DateTime {
         DateTime(self.0.saturating_add(millis))
     }
 
-    /// The moment so much later, of which whole milliseconds count, or `MAX` if that passes it. A duration of more
-    /// than 9223372036854775807 milliseconds gives `MAX` from any moment.
+    /// The moment that much later, counted in whole milliseconds, or `MAX` if that passes it. A duration of more than
+    /// 9223372036854775807 milliseconds gives `MAX` from any moment.
     pub fn saturating_add_duration(self, duration: Duration) -> DateTime
         ensures within { let millis = as_nanos duration / 1_000_000 in
             millis < 2 ^ 63 → millis_of result ≡ saturate_signed w64 (millis_of self +ℤ pos millis) }
@@ -77,7 +77,7 @@ impl DateTime {
         }
     }
 
-    /// How much later it is than `earlier`, exactly, or None where `earlier` is the later one.
+    /// How much later it is than `earlier`, exactly, or None if `earlier` is the later one.
     pub fn checked_duration_since(self, earlier: DateTime) -> Option<Duration>
         ensures none { IsNone result ↔ (millis_of self <ℤ millis_of earlier) }
         ensures value { IfSome result (λ d. as_nanos d ≡ unsigned_abs (millis_of self -ℤ millis_of earlier) * 1_000_000) }
@@ -88,7 +88,7 @@ impl DateTime {
         Some(Duration::from_millis(self.0.abs_diff(earlier.0)))
     }
 
-    /// How much later it is than `earlier`, exactly, or zero where `earlier` is the later one.
+    /// How much later it is than `earlier`, exactly, or zero if `earlier` is the later one.
     pub fn saturating_duration_since(self, earlier: DateTime) -> Duration
         ensures later { millis_of earlier ≤ℤ millis_of self → as_nanos result ≡ unsigned_abs (millis_of self -ℤ millis_of earlier) * 1_000_000 }
         ensures earlier { millis_of self <ℤ millis_of earlier → as_nanos result ≡ 0 }

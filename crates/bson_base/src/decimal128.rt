@@ -21,10 +21,10 @@ use thiserror::Error;
 /// Why a text is no decimal.
 #[derive(Clone, Copy, Debug, PartialEq, Error)]
 pub enum ParseError {
-    /// Nothing stands behind the `e`.
+    /// Nothing follows the `e`.
     #[error("the exponent is empty")]
     EmptyExponent,
-    /// What stands behind the `e` is no whole number of 16 bits.
+    /// What follows the `e` is no whole number of 16 bits.
     #[error("the exponent is no number from -32768 to 32767")]
     InvalidExponent,
     /// The coefficient has no digit, two dots, or anything but digits and a dot.
@@ -48,7 +48,7 @@ pub enum ParseError {
 }
 
 /// A decimal number of IEEE 754-2008, as its 16 bytes, the lowest first (bsonspec.org 1.1, element type 13). Two are
-/// equal where their bytes are.
+/// equal if their bytes are.
 #[derive(Clone, Copy, Debug, PartialEq, Eq, Hash)]
 pub struct Decimal128 {
     pub(crate) bytes: [u8; 16],
@@ -95,7 +95,7 @@ impl FromStr for Decimal128 {
     }
 }
 
-/// `NaN` without a sign, `Infinity` and `-Infinity`, else all digits of the coefficient: plain where the exponent is at
+/// `NaN` without a sign, `Infinity` and `-Infinity`, else all digits of the coefficient: plain if the exponent is at
 /// most 0 and that of the first digit at least -6, else with `E`.
 impl fmt::Display for Decimal128 {
     ghost use Rattle.bson_base.specs.Scalars.{decimal_bytes};

@@ -15,11 +15,11 @@ pub struct DeviceFault;
 
 /// What gives bytes.
 pub trait Source {
-    // How many calls have failed, and the bytes given so far and those left, where they are known.
+    // How many calls have failed, and the bytes given so far and those left, if they are known.
     ghost feed: { Self → Feed };
 
-    /// Gives up to as many bytes as `buf` has room for, and says how many; none only at the end, or where there is no
-    /// room. Whoever calls it sees to it that fewer than 2⁶⁴ - 1 calls have failed.
+    /// Gives up to as many bytes as `buf` has room for, and says how many; none only at the end, or if there is no
+    /// room. The caller makes sure that fewer than 2⁶⁴ - 1 calls have failed.
     fn read(&mut self, buf: &mut [u8]) -> Result<usize, DeviceFault>
         requires { CanFail (feed self.old) }
         ensures counts { Counts (feed self.old).failures (feed self.new).failures result }
@@ -30,11 +30,11 @@ pub trait Source {
 
 /// What takes bytes.
 pub trait Sink {
-    // How many calls have failed, and the bytes taken so far, where they are known.
+    // How many calls have failed, and the bytes taken so far, if they are known.
     ghost tally: { Self → Tally };
 
-    /// Takes bytes from the front of `buf`, and says how many: at least one, where there are any. Whoever calls it sees
-    /// to it that fewer than 2⁶⁴ - 1 calls have failed.
+    /// Takes bytes from the front of `buf`, and says how many: at least one, if there are any. The caller makes sure
+    /// that fewer than 2⁶⁴ - 1 calls have failed.
     fn write(&mut self, buf: &[u8]) -> Result<usize, DeviceFault>
         requires { CanRefuse (tally self.old) }
         ensures counts { Counts (tally self.old).failures (tally self.new).failures result }
@@ -111,7 +111,7 @@ impl Sink for VecSink {
     }
 }
 
-/// A reader or writer of std beside the count of its failures. Each error of the reader or writer is one, also an
+/// A reader or writer of std with the count of its failures. Each error of the reader or writer is one, also an
 /// interrupted call, and so is a write that takes none of some bytes.
 #[derive(Drop)]
 pub struct Counted<T> {
@@ -165,7 +165,7 @@ impl<T: Write> Sink for Counted<T> {
     }
 }
 
-/// Writes all of `bytes`, or reports the first failure, after which a beginning of them was taken.
+/// Writes all of `bytes`, or reports the first failure, after which a prefix of them was taken.
 pub fn write_all<S: Sink>(sink: &mut S, bytes: &[u8]) -> Result<(), DeviceFault>
     requires { CanRefuse (S.tally sink.old) }
     ensures counts { Counts (S.tally sink.old).failures (S.tally sink.new).failures result }

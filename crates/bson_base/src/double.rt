@@ -3,7 +3,7 @@
 ghost use Rattle.std.specs.Prelude.{◌≡◌};
 ghost use Rattle.bson_base.specs.Doubles.{is_nan, is_infinite, is_zero, is_negative};
 
-/// A double as the 64 bits of its IEEE 754 pattern (bsonspec.org 1.1, element type 01). Two doubles are equal where
+/// A double as the 64 bits of its IEEE 754 pattern (bsonspec.org 1.1, element type 01). Two doubles are equal if
 /// their patterns are: the two zeros differ, and a NaN equals itself.
 #[derive(Clone, Copy, Debug, PartialEq, Eq, Hash)]
 pub struct DoubleBits(pub u64);

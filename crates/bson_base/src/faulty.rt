@@ -102,7 +102,7 @@ impl Sink for FaultySink {
 pub struct Interrupted<'a> {
     /// The bytes that it has left.
     pub bytes: &'a [u8],
-    /// How many calls go well before the one that is interrupted. None behind that.
+    /// How many calls go well before the one that is interrupted. None after that one.
     pub calls: Option<u64>,
 }
 

@@ -57,7 +57,7 @@ pub fn hashing<T: Hash>()
     ensures { (x y : T) → T.eq x y ≡ true → T.hash_input x ≡ T.hash_input y }
 {}
 
-/// Two values of a type that holds no memory are equal where they are one; of a double this is its pattern.
+/// Two values of a type that holds no memory are equal if they are the same; for a double this means its pattern.
 pub fn equal_scalars()
     ensures doubles { (x y : AnyDouble) → IsTrue (⟦<DoubleBits as PartialEq>⟧.eq x y) ↔ (x ≡ y) }
     ensures subtypes { (x y : AnySubtype) → IsTrue (⟦<BinarySubtype as PartialEq>⟧.eq x y) ↔ (x ≡ y) }
@@ -70,7 +70,7 @@ pub fn equal_scalars()
     ensures representations { (x y : AnyRepresentation) → IsTrue (⟦<UuidRepresentation as PartialEq>⟧.eq x y) ↔ (x ≡ y) }
 {}
 
-/// Two errors are equal where they are one, with all that they report.
+/// Two errors are equal if they are the same, with all that they report.
 pub fn equal_errors()
     ensures binaries { (x y : AnyBinaryError) → IsTrue (⟦<BinaryError as PartialEq>⟧.eq x y) ↔ (x ≡ y) }
     ensures moments { (x y : AnyDateTimeError) → IsTrue (⟦<DateTimeError as PartialEq>⟧.eq x y) ↔ (x ≡ y) }
@@ -82,7 +82,7 @@ pub fn equal_errors()
     equal_scalars();
 }
 
-/// Binary values, regular expressions and pointers are equal where their parts have the same bytes.
+/// Binary values, regular expressions and pointers are equal if their parts have the same bytes.
 pub fn equal_parts()
     ensures binaries { (x y : AnyBinary) → IsTrue (⟦<Binary as PartialEq>⟧.eq x y) ↔ ((x.subtype ≡ y.subtype) × (x.bytes.items ≡ y.bytes.items)) }
     ensures expressions { (x y : AnyRegex) → IsTrue (⟦<Regex as PartialEq>⟧.eq x y)
@@ -91,7 +91,7 @@ pub fn equal_parts()
         ↔ ((string_bytes x.namespace ≡ string_bytes y.namespace) × (x.id ≡ y.id)) }
 {}
 
-/// Vectors are equal where they have the same numbers, and bits where they have the same bytes and padding.
+/// Vectors are equal if they have the same numbers, and bits if they have the same bytes and padding.
 pub fn equal_vectors()
     ensures vectors { (x y : AnyVector) → IsTrue (⟦<Vector as PartialEq>⟧.eq x y) ↔ (vector_value x ≡ vector_value y) }
     ensures bits { (x y : AnyBits) → IsTrue (⟦<PackedBitVector as PartialEq>⟧.eq x y) ↔ (packed_value x ≡ packed_value y) }
@@ -118,8 +118,8 @@ pub fn tag_bytes()
     ensures { (x y : AnyKind) → tag_byte x ≡ tag_byte y → x ≡ y }
 {}
 
-/// A byte comes back from its subtype; a subtype comes back from its byte exactly where it is one that a byte stands
-/// for, which a `Reserved` or `UserDefined` with another's byte is not (bsonspec.org 1.1, "subtype").
+/// A byte comes back from its subtype. A subtype comes back from its byte exactly if a byte stands for it, which is not
+/// so of a `Reserved` or `UserDefined` with another's byte (bsonspec.org 1.1, "subtype").
 pub fn subtype_bytes()
     ensures bytes { (byte : ℕ) → subtype_byte (subtype_of byte) ≡ byte }
     ensures subtypes { (subtype : AnySubtype) → IsReadable subtype ↔ (subtype_of (subtype_byte subtype) ≡ subtype) }

@@ -23,7 +23,7 @@ pub enum Error {
     InvalidHexStringCharacter {
         /// The character whose number is that byte.
         c: char,
-        /// Where the byte stands, from 0.
+        /// Where the byte is, from 0.
         index: usize,
     },
     /// Another length than 24 bytes.
@@ -96,7 +96,7 @@ impl ObjectId {
     }
 
     /// The object id of 24 hexadecimal digits in either case. Refused: first an odd length in bytes, then the first
-    /// byte that is no digit, then any length but 24.
+    /// byte that is no digit, then any length except 24.
     pub fn parse_str(text: &str) -> Result<ObjectId>
         ensures { result_map id_bytes result ≡ object_id_of text.now }
     {

@@ -5,7 +5,7 @@ ghost use Rattle.std.specs.Fmt.{IsFlush, HasWrittenStyled, DisplaysOnOk, Display
 
 use std::fmt;
 
-// A writer that hands each text on to a formatter as it is.
+// A writer that passes each text to a formatter as it is.
 #[derive(Drop)]
 struct Through<'a, W> {
     f: &'a mut fmt::Formatter<W>,

@@ -18,7 +18,7 @@ pub struct Regex {
 }
 
 impl Regex {
-    /// A regular expression with its options in the order of their characters, each as often as it stands in `options`.
+    /// A regular expression with its options in the order of their characters, each as often as it occurs in `options`.
     /// The error is a refused growth.
     pub fn new(alloc: Global, pattern: String, options: String) -> Result<Regex, AllocError>
         ensures pattern { IfOk result (λ r. r.pattern ≡ pattern) }

@@ -4,8 +4,7 @@ ghost use Rattle.std.specs.Prelude.{◌≡◌, option_map};
 ghost use Rattle.std.specs.Str.{str_to_ascii_lowercase};
 ghost use Rattle.bson_base.specs.Decimal.{all_digits as are_digits, all_zeros as are_zeros, cut, is_named as is_named_by, marks};
 
-/// What stands in front of the first of two marks, and what stands behind it; all of a text without a mark stands in
-/// front.
+/// What is before the first of two marks, and what is after it; of a text without a mark all is before.
 pub fn cut_at(text: &[u8], mark: u8, other: u8) -> (&[u8], Option<&[u8]>)
     ensures { (result.0.now, option_map (λ s. s.now) result.1) ≡ cut (marks mark other) text.now }
 {

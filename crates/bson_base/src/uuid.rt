@@ -13,10 +13,10 @@ pub enum Error {
     /// The text is not one of the four forms of a UUID.
     #[error("the text is not a UUID")]
     InvalidUuidString,
-    /// The binary value has another subtype than the representation wants.
+    /// The binary value has another subtype than the representation requires.
     #[error("the subtype is not that of the representation")]
     RepresentationMismatch {
-        /// The subtype that the representation wants.
+        /// The subtype that the representation requires.
         expected_binary_subtype: BinarySubtype,
         /// The subtype that is there.
         actual_binary_subtype: BinarySubtype,
@@ -87,7 +87,7 @@ impl UuidRepresentation {
         }
     }
 
-    // The bytes put into this form; of bytes in this form those of the UUID.
+    // The bytes put into this form; for bytes in this form, those of the UUID.
     pub(crate) fn reordered(self, bytes: [u8; 16]) -> [u8; 16]
         ensures { result ≡ uuid_form self bytes }
     {

@@ -40,7 +40,7 @@ fn room(alloc: Global) -> Result<Vec<u8>, AllocError>
 }
 
 /// Reads a source to its end, and returns all that it had left. An interrupted call is a failure like any other. After
-/// `Reader` nothing is said of how far the source was read; with `Memory` no read failed.
+/// `Reader` it isn't known how far the source was read; with `Memory` no read failed.
 pub fn read_all<S: Source>(alloc: Global, source: &mut S) -> Result<Vec<u8>, ReadAllError>
     requires { CanFail (S.feed source.old) }
     ensures ok { IfOk result (λ bytes. TookAll (S.feed source.old)

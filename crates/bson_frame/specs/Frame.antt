@@ -1,4 +1,5 @@
--- The first frame of a byte list: a tag, a key and a payload, whose extent goes by the kind (bsonspec.org 1.1, "element").
+-- The first frame of a byte list: a tag, a key and a payload, whose size depends on the kind (bsonspec.org 1.1,
+-- "element").
 use Rattle.std.specs.Prelude.{◌≡◌, ℕ, zero, suc, ◌+◌, ◌-◌, ◌<◌, ◌≤◌, ◌^◌, List, [], ◌∷◌, ◌++◌, length, slice_index, IsUtf8, ◌⊎◌}
 use Rattle.std.specs.Int.{w32, from_le_bytes}
 use Rattle.bson_base.specs.declared.spec.ElementType.{ElementType}
@@ -108,7 +109,7 @@ HasNoFrame bytes = (e : Element) (rest : List ℕ) → IsFirstFrame bytes e rest
 
 -- The kind of the structural fault if there is no frame.
 
--- behind n names, each with its 00, comes a run with its 00 that isn't UTF-8
+-- after n names, each with its 00, comes a run with its 00 that isn't UTF-8
 abbrev pub NoTextAfter : ℕ → List ℕ → Type 0
 NoTextAfter zero bytes = (run : List ℕ) × (rest : List ℕ) × (bytes ≡ run ++ 0 ∷ rest) × HasNo00 run × (IsUtf8 run → ⊥)
 NoTextAfter (suc n) bytes = (name : List ℕ) × (rest : List ℕ) × (bytes ≡ name ++ 0 ∷ rest) × IsCstring name × NoTextAfter n rest

@@ -9,7 +9,7 @@ use Rattle.bson_frame.specs.declared.error.ErrorKind.TheVariants.{MalformedValue
 use Rattle.bson_frame.specs.Frame.{number, HasSize, IsTextSize, IsDocumentSize}
 use Rattle.bson_frame.specs.Reader.{IsWhole, IsNeverWhole}
 
--- the payload by itself has the size that its kind asks for; of a code with scope nothing is asked
+-- the payload by itself has the size that its kind requires; a code with scope may have any size
 abbrev pub IsPayload : ElementType → List ℕ → Type 0
 IsPayload kinds.JavaScriptCodeWithScope payload = Unit {0}
 IsPayload tag payload = HasSize tag payload (length payload)
@@ -36,7 +36,7 @@ IsEnvelope bytes = IsDocumentSize bytes (length bytes)
 abbrev pub IsNoText : List ℕ → ErrorKind → Type 0
 IsNoText bytes kind = (kind ≡ Utf8EncodingError) × (IsUtf8 bytes → ⊥)
 
--- an old binary whose inner length isn't the outer one less 4, also since the outer one is under 4
+-- an old binary whose inner length isn't the outer one less 4, which includes an outer one under 4
 pub record IsOldMisfit (payload : List ℕ) (kind : ErrorKind) : Type 0 where
   pub is : kind ≡ MalformedValue
   pub old : slice_index payload 4 ≡ subtype_byte subtypes.BinaryOld

@@ -26,7 +26,7 @@ asked_key e = string_bytes e.key
 abbrev pub IsBare : ErrorKind → Error → Type 0
 IsBare kind e = (e.kind ≡ kind) × (fault_key e ≡ None)
 
--- a payload fault under its key, or out of memory in its place
+-- a payload fault under its key, or out of memory instead of it
 abbrev pub IsFaultUnder : List ℕ → ErrorKind → Error → Type 0
 IsFaultUnder key kind e = ((e.kind ≡ kind) × (fault_key e ≡ Some key)) ⊎ IsBare OutOfMemory e
 

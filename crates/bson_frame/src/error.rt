@@ -1,4 +1,4 @@
-//! Why bytes can't be read, and why a value of one kind can't be had.
+//! Why bytes can't be read, and why there is no value of one kind.
 
 ghost use Rattle.std.specs.Prelude.{◌≡◌, string_bytes};
 ghost use Rattle.std.specs.Option.{option_map};
@@ -21,8 +21,7 @@ pub enum ErrorKind {
     OutOfMemory,
 }
 
-/// A fault, and the key that it stands under: that of the element where a payload is faulty, none where there is no
-/// frame.
+/// A fault, and the key that it is under: that of the element if a payload is faulty, none if there is no frame.
 #[derive(Debug, PartialEq, Drop)]
 pub struct Error {
     key: Option<String>,
@@ -89,17 +88,17 @@ impl std::error::Error for Error {}
 /// Why a value of one kind isn't there.
 #[derive(Debug, Drop, PartialEq)]
 pub enum ValueAccessErrorKind {
-    /// Nothing stands under the key.
+    /// There is nothing under the key.
     NotPresent,
-    /// A value of another kind stands under the key.
+    /// A value of another kind is under the key.
     UnexpectedType,
-    /// The bytes can't be read as far as the key, or what stands under it is faulty.
+    /// The bytes can't be read as far as the key, or the value under it is faulty.
     InvalidBson(Error),
     /// A growth was refused. Its error has the empty key.
     OutOfMemory,
 }
 
-/// A refused access, and the key that was asked for: of an array the index in decimal.
+/// A refused access, and the key that was asked for; for an array, the index in decimal.
 #[derive(Debug, Drop, PartialEq)]
 pub struct ValueAccessError {
     key: String,

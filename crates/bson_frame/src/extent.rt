@@ -24,7 +24,7 @@ fn split_at_zero(bytes: &[u8]) -> Option<(&[u8], &[u8])>
     }
 }
 
-/// How many of the first 16 bytes stand in front of the first one that is 00 or not ASCII; 16, if all do.
+/// How many of the first 16 bytes are before the first one that is 00 or not ASCII; 16 if there is none.
 fn ascii_run(bytes: &[u8]) -> usize
     requires { 16 ≤ length bytes.now }
     ensures short { result ≤ 16 }
@@ -84,7 +84,7 @@ fn ascii_end(bytes: &[u8]) -> Option<usize>
     }
 }
 
-/// The zero-terminated text at the front, and what follows its 00 (bsonspec.org 1.1, "cstring"). Where there is none,
+/// The zero-terminated text at the front, and what follows its 00 (bsonspec.org 1.1, "cstring"). If there is none,
 /// `Utf8EncodingError` if the bytes up to the first 00 aren't UTF-8, and `MalformedValue` if there is no 00.
 pub fn name_at(bytes: &[u8]) -> Result<(&str, &[u8]), ErrorKind>
     ensures { MatchResult result

@@ -12,7 +12,7 @@ use crate::parts::Frame;
 use bson_base::ElementType;
 
 /// The first frame of bytes (bsonspec.org 1.1, "element"): a known tag, a zero-terminated key and a payload that lies
-/// within the bytes. Where there is none, `Utf8EncodingError` if the key, or the pattern or options of a regular
+/// within the bytes. If there is none, `Utf8EncodingError` if the key, or the pattern or options of a regular
 /// expression, aren't UTF-8, else `MalformedValue`.
 pub fn frame(bytes: &[u8]) -> Result<Frame<'_>, ErrorKind>
     ensures { MatchResult result (λ f. IsFirstFrame bytes.now (element_of f) f.rest.now)

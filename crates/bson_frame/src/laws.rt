@@ -25,7 +25,7 @@ pub fn frame_or_fault()
         ⊎ ((kind : Kind) × IsStructuralFault bytes kind) }
 {}
 
-/// Where bytes have no first frame, that has one kind.
+/// If bytes have no first frame, the fault has one kind.
 pub fn one_structural_fault()
     ensures { (bytes : List ℕ) (j k : Kind) → IsStructuralFault bytes j → IsStructuralFault bytes k → j ≡ k }
 {}
@@ -35,7 +35,7 @@ pub fn payload_by_itself()
     ensures { (bytes : List ℕ) (e : Element) (rest : List ℕ) → IsFirstFrame bytes e rest → IsPayload e.tag e.payload }
 {}
 
-/// Bytes have at most one name in front.
+/// Bytes have at most one name at the front.
 pub fn one_name()
     ensures { (a b x y : List ℕ) → IsCstring a → IsCstring b → a ++ 0 ∷ x ≡ b ++ 0 ∷ y → (a ≡ b) × (x ≡ y) }
 {}
@@ -48,7 +48,7 @@ pub fn equal_errors()
     ensures refusals { (x y : AnyRefusal) → IsTrue (⟦<ValueAccessError as PartialEq>⟧.eq x y) ↔ ((asked_key x ≡ asked_key y) × (reason_of x.kind ≡ reason_of y.kind)) }
 {}
 
-/// Frames are equal where they have the same kind, key, payload and rest.
+/// Frames are equal if they have the same kind, key, payload and rest.
 pub fn equal_frames()
     ensures { (x y : AnyFrame) → IsTrue (⟦<Frame<'static> as PartialEq>⟧.eq x y) ↔ ((element_of x ≡ element_of y) × (x.rest.now ≡ y.rest.now)) }
 {}

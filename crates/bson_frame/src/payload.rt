@@ -11,7 +11,7 @@ use crate::parts::Frame;
 use bson_base::ElementType;
 use simdutf8::basic::from_utf8;
 
-/// The text at the front, and what follows it (bsonspec.org 1.1, "string"). Where there is none, `MalformedValue` if
+/// The text at the front, and what follows it (bsonspec.org 1.1, "string"). If there is none, `MalformedValue` if
 /// its extent doesn't lie within the bytes, and `Utf8EncodingError` if it isn't UTF-8.
 pub fn text_at(bytes: &[u8]) -> Result<(&str, &[u8]), ErrorKind>
     ensures { MatchResult result
@@ -91,7 +91,7 @@ fn old_fault(payload: &[u8]) -> Option<ErrorKind>
     }
 }
 
-/// What is wrong inside the payload of a frame, if anything is: `Utf8EncodingError` where a text isn't UTF-8, else
+/// What is wrong inside the payload of a frame, if anything is: `Utf8EncodingError` if a text isn't UTF-8, else
 /// `MalformedValue`, for a boolean other than 0 and 1, an old binary whose inner length doesn't fit, and a code with
 /// scope whose parts don't. Documents and arrays inside aren't looked into.
 pub fn payload_fault(frame: &Frame<'_>) -> Option<ErrorKind>

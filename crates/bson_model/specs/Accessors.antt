@@ -1,4 +1,4 @@
--- What the calls answer that ask a tree for one kind.
+-- What is returned by the calls that ask a tree for one kind.
 use Rattle.std.specs.Prelude.{ℕ, ℤ, List, Bool, true, false, Option, Some, None, Result, Ok, Err}
 use Rattle.bson_base.specs.declared.spec.BinarySubtype.TheVariants.{Generic}
 use Rattle.bson_base.specs.Value.{Value, scalar, array, document, scoped_code, Items, Members, Scalar, double, string, boolean, int32, int64, timestamp, object_id, date_time, decimal, symbol, db_pointer, binary, null}
@@ -61,7 +61,7 @@ abbrev pub scalar_generic : Scalar → Option (List ℕ)
 scalar_generic (binary Generic bs) = Some bs
 scalar_generic _ = None
 
--- a binary of any subtype, as it stands
+-- a binary of any subtype, as it is
 abbrev pub scalar_binary : Scalar → Option Value
 scalar_binary (binary s bs) = Some (scalar (binary s bs))
 scalar_binary _ = None
@@ -138,7 +138,7 @@ abbrev pub or_unexpected : {A : Type 0} → Option A → Result A ValueAccessErr
 or_unexpected None = Err UnexpectedType
 or_unexpected (Some x) = Ok x
 
--- NotPresent where the key isn't there, UnexpectedType where another kind stands
+-- NotPresent if the key isn't there, UnexpectedType if its value is of another kind
 abbrev pub of_kind : {A : Type 0} → (Value → Option A) → Option Value → Result A ValueAccessError
 of_kind as' None = Err NotPresent
 of_kind as' (Some v) = or_unexpected (as' v)

@@ -47,12 +47,12 @@ shown_scalar (decimal bs) = decimal_text bs
 shown_scalar max_key = codes "MaxKey"
 shown_scalar min_key = codes "MinKey"
 
--- `{ .. }` around members, and `{}` where there are none
+-- `{ .. }` around members, and `{}` if there are none
 abbrev pub in_braces : Members → List ℕ → List ℕ
 in_braces no_members t = codes "{}"
 in_braces (member k v ms) t = codes "{ " ++ t ++ codes " }"
 
--- what stands before a part: nothing before the first
+-- what is written before a part: nothing before the first
 abbrev pub mark_before : Bool → List ℕ
 mark_before first = if first then [] else codes ", "
 
@@ -63,7 +63,7 @@ abbrev mutual
   display_text (document ms) = in_braces ms (shown_members true ms)
   display_text (scoped_code t ms) = t
 
-  -- items, of which the first is the first of all or not
+  -- items, which begin with the first of all or not
   pub shown_items : Bool → Items → List ℕ
   shown_items first no_items = []
   shown_items first (item v vs) = mark_before first ++ display_text v ++ shown_items false vs

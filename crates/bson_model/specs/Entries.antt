@@ -24,7 +24,7 @@ abbrev pub is_occupied : Entry → Bool
 is_occupied (Occupied e) = true
 is_occupied (Vacant e) = false
 
--- the entry's key has the last value written through r, and where r is an error all stays
+-- the entry's key has the last value written through r, and if r is an error, everything stays
 abbrev pub EntryLends : {E : Type 0} → Entry → Result (MutBor Bson) E → Fml
 EntryLends e r = follows_so the_row bson.the_row (entry_document e).ghost_name (name_if_ok (λ x. x.ghost_name) r)
     (λ w n. IsOk r → pairs_of n ≡ put (entry_key e) (view w) (pairs_of (entry_document e).now)) (λ n. OnErr r (n ≡ (entry_document e).now))

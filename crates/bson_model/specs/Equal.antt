@@ -1,4 +1,4 @@
--- Equality of trees: documents as maps at every depth, and scalars as they stand.
+-- Equality of trees: documents as maps at every depth, and scalars as they are.
 use Rattle.std.specs.Prelude.{◌≡◌, ℕ, List, IsSomeAnd}
 use Rattle.bson_base.specs.Value.{Value, scalar, array, document, scoped_code, Items, no_items, item, Members, no_members, member, has_key, look_up}
 

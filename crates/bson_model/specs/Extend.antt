@@ -11,10 +11,10 @@ use Rattle.bson_model.specs.declared.bson.Bson.{Bson}
 abbrev pub put_all : List (String Global × Bson) → List (Key × Value) → List (Key × Value)
 put_all xs ps = fold (λ qs x. put (string_bytes x.0) (view x.1) qs) ps xs
 
--- qs has some of xs put into ps, from the first on, and not all
+-- qs is ps with some of xs put in, from the first on, but not all
 abbrev pub PutsSome : List (String Global × Bson) → List (Key × Value) → List (Key × Value) → Type 0
 PutsSome xs ps qs = (n : ℕ) × (n < length xs) × (qs ≡ put_all (take n xs) ps)
 
--- qs has those of xs put into ps that stand before one whose key is new
+-- qs is ps with those of xs put in that come before one whose key is new
 abbrev pub PutsUpToNew : List (String Global × Bson) → List (Key × Value) → List (Key × Value) → Type 0
 PutsUpToNew xs ps qs = (before after : List (String Global × Bson)) × (x : String Global × Bson) × (xs ≡ before ++ x ∷ after) × (qs ≡ put_all before ps) × (get (string_bytes x.0) qs ≡ None)

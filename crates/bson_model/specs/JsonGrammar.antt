@@ -1,5 +1,5 @@
--- The grammar of Extended JSON as it is read (MongoDB Extended JSON v2, "Conversion table" and "Parsing"): which value a
--- JSON tree stands for. The members of an object stand in the order of their keys, each key once.
+-- The grammar of Extended JSON as it is read (MongoDB Extended JSON v2, "Conversion table" and "Parsing"): which value
+-- a JSON tree stands for. The members of an object are in the order of their keys, each key once.
 use Rattle.std.specs.Prelude.{◌≡◌, ℕ, ◌^◌, ◌<◌, ℤ, MatchBool, true, List, codes, Some, Ok}
 use Rattle.base64.specs.GeneralPurpose.{decode_of}
 use Rattle.base64.specs.Engines.{standard}
@@ -65,7 +65,7 @@ abbrev mutual
   ReadsMembers (json.member k j js) (member l v ms) = (k ≡ l) × Reads j v × ReadsMembers js ms
   ReadsMembers _ _ = ⊥
 
-  -- a wrapper has no further key, but for `$scope` beside `$code`
+  -- a wrapper has no other key, except `$scope` beside `$code`
   pub ReadsTyped : json.Members → Value → Type 0
   ReadsTyped json.no_members v = ⊥
   ReadsTyped (json.member k j json.no_members) v = (r : Reserved) × (s : Scalar) × (reserved_of k ≡ Some r) × ReadsBody r j s × (v ≡ scalar s)

@@ -1,5 +1,5 @@
--- Extended JSON as it is read (MongoDB Extended JSON v2, "Parsing"): the value that a JSON tree stands for, or the first
--- fault in the order of keys. The members of an object stand in the order of their keys, each key once.
+-- Extended JSON as it is read (MongoDB Extended JSON v2, "Parsing"): the value that a JSON tree stands for, or the
+-- first fault in the order of keys. The members of an object are in the order of their keys, each key once.
 use Rattle.std.specs.Prelude.{◌≡◌, ℕ, ◌^◌, ◌==◌, ◌&&◌, nat_lt, ℤ, Bool, false, if◌then◌else◌, List, codes, Option, Some, None, Result, Ok, Err}
 use Rattle.std.specs.Str.{bytes_eq}
 use Rattle.base64.specs.GeneralPurpose.{decode_of}
@@ -30,7 +30,7 @@ abbrev pub some_or_error : {A : Type 0} → Option A → Result A Error
 some_or_error (Some x) = Ok x
 some_or_error None = Err DeserializationError
 
--- every fault of a text but that of an object id is one
+-- every fault of a text, except that of an object id, becomes DeserializationError
 abbrev pub ok_or_error : {A E : Type 0} → Result A E → Result A Error
 ok_or_error (Ok x) = Ok x
 ok_or_error (Err e) = Err DeserializationError
@@ -91,7 +91,7 @@ is_true _ = false
 
 -- ---- numbers
 
--- an Int32 where the number fits, else an Int64
+-- an Int32 if the number fits, else an Int64
 abbrev pub integer : ℤ → Value
 integer z = if fits_32 z then scalar (int32 z) else scalar (int64 z)
 
@@ -148,7 +148,7 @@ read_date_body _ = Err DeserializationError
 abbrev pub pointer_body : Data → Result (List ℕ × List ℕ) Error
 pointer_body j = bodies_under (codes "$id") (codes "$ref") j >>= λ p. under (key_of of_id) p.0 >>= id_body >>= λ bs. text_of p.1 >>= λ t. Ok (t, bs)
 
--- one value, where its body is right
+-- one value, if its body is right
 abbrev pub constant : Bool → Scalar → Result Scalar Error
 constant b s = if b then Ok s else Err DeserializationError
 
@@ -178,14 +178,14 @@ abbrev pub read_wrapped : Option Reserved → Data → Result Value Error
 read_wrapped None j = Err DeserializationError
 read_wrapped (Some r) j = scalar_of (read_body r j)
 
--- code beside what its scope reads as, where it has one
+-- code beside what its scope reads as, if it has one
 abbrev pub code_and_scope : List ℕ → Option Members → Value
 code_and_scope t (Some ms) = scoped_code t ms
 code_and_scope t None = scalar (code t)
 
 -- ---- values
 
--- An object with a reserved key has no further one, but for `$scope` beside `$code`.
+-- An object with a reserved key has no other key, except `$scope` beside `$code`.
 abbrev mutual
   pub read : Data → Result Value Error
   read json.null = Ok (scalar null)
@@ -211,7 +211,7 @@ abbrev mutual
       if bytes_eq k (key_of of_code) && bytes_eq l scope_key then (text_of j >>= λ t. read_scope i >>= λ o. Ok (code_and_scope t o)) else Err DeserializationError
   read_typed (json.member k j (json.member l i (json.member m h js))) = Err DeserializationError
 
-  -- the members of a scope, where there is one
+  -- the members of a scope, if there is one
   pub read_scope : Data → Result (Option Members) Error
   read_scope json.null = Ok None
   read_scope (object js) = read_members js >>= λ ms. Ok (Some ms)
@@ -220,16 +220,16 @@ abbrev mutual
   read_scope (text t) = Err DeserializationError
   read_scope (json.array js) = Err DeserializationError
 
--- ---- what a call answers
+-- ---- what a call returns
 
--- the result is this fault; where the fault is that memory ran out, nothing is said of it
+-- the reading is this fault; out of memory can be reported whatever the reading is
 abbrev pub Fails : {Y : Type 0} → Error → Result Y Error → Type 0
 Fails Memory r = Unit {0}
 Fails (InvalidObjectId e) r = r ≡ Err (InvalidObjectId e)
 Fails DeserializationError r = r ≡ Err DeserializationError
 Fails FiniteDouble r = r ≡ Err FiniteDouble
 
--- The answer x, seen by `view`, is what reading gives, unless memory ran out.
+-- What is returned, seen by `view`, is what reading gives, unless memory ran out.
 abbrev pub GivesReading : {X Y : Type 0} → (X → Y) → Result X Error → Result Y Error → Type 0
 GivesReading view (Ok x) r = r ≡ Ok (view x)
 GivesReading view (Err e) r = Fails e r

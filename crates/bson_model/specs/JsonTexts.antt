@@ -6,7 +6,7 @@ use Rattle.bson_base.specs.Decimal.{cut, is_e, is_dot, is_named, all_digits, all
 use Rattle.bson_model.specs.declared.extjson.de.Error.{Error}
 use Rattle.bson_model.specs.declared.extjson.de.Error.TheVariants.{DeserializationError, FiniteDouble}
 
--- whether a minus stands in front, and what stands behind a sign or none
+-- whether a minus is in front, and what follows the sign, if there is one
 abbrev pub sign_and_rest : List ℕ → Bool × List ℕ
 sign_and_rest [] = (false, [])
 sign_and_rest (c ∷ cs) = if c == 43 then (false, cs) else if c == 45 then (true, cs) else (false, c ∷ cs)
@@ -20,7 +20,7 @@ is_digits ds = nat_lt 0 (length ds) && all_digits ds
 abbrev pub with_sign : Bool × List ℕ → ℤ
 with_sign (s, ds) = if s then neg_ℤ (pos (value ds)) else pos (value ds)
 
--- a sign or none, and digits
+-- an optional sign, and digits
 abbrev pub integer_of : List ℕ → Option ℤ
 integer_of t = if is_digits (sign_and_rest t).1 then Some (with_sign (sign_and_rest t)) else None
 
@@ -42,7 +42,7 @@ int_of t = only_where fits_32 (integer_of t)
 unfoldable pub long_of : List ℕ → Option ℤ
 long_of t = only_where fits_64 (integer_of t)
 
--- ---- doubles: of the finite ones the zeros alone
+-- ---- doubles: of the finite ones only the zeros
 
 abbrev pub double_sign_bit : Bool → ℕ
 double_sign_bit s = if s then 2 ^ 63 else 0
@@ -51,26 +51,26 @@ abbrev pub joined_parts : List ℕ × Option (List ℕ) → List ℕ
 joined_parts (whole, None) = whole
 joined_parts (whole, Some part) = whole ++ part
 
--- what stands before the exponent, without its first dot
+-- what is before the exponent, without its first dot
 abbrev pub without_dot : List ℕ → List ℕ
 without_dot t = joined_parts (cut is_dot t)
 
--- behind `e`: a sign or none, and digits
+-- after `e`: an optional sign, and digits
 abbrev pub is_exponent : Option (List ℕ) → Bool
 is_exponent None = true
 is_exponent (Some t) = is_digits (sign_and_rest t).1
 
--- digits with at most one dot, and an exponent or none
+-- digits with at most one dot, and an optional exponent
 abbrev pub is_numeral : List ℕ × Option (List ℕ) → Bool
 is_numeral (front, behind) = is_digits (without_dot front) && is_exponent behind
 
--- the zero of the sign where all digits before the exponent are 0
+-- the zero of the sign, if all digits before the exponent are 0
 abbrev pub read_numeral : Bool → List ℕ × Option (List ℕ) → Result ℕ Error
 read_numeral s n =
     if is_numeral n then (if all_zeros (without_dot n.0) then Ok (double_sign_bit s) else Err FiniteDouble)
     else Err DeserializationError
 
--- what stands behind the sign
+-- what follows the sign
 abbrev pub read_unsigned_double : Bool × List ℕ → Result ℕ Error
 read_unsigned_double (s, t) =
     if is_named t (codes "nan") then Ok (double_sign_bit s + 0x7FF8_0000_0000_0000)

@@ -28,7 +28,7 @@ wrapper_of r j = object_of_one (key_of r) j
 abbrev pub text_wrapper : Reserved → List ℕ → Data
 text_wrapper r t = wrapper_of r (json.string t)
 
--- a NaN or an infinity with the sign of its top bit, or a zero, whose sign counts for nothing; any other double has none
+-- a NaN or an infinity with the sign of its top bit, or a zero, whose sign is dropped; any other double has none
 abbrev pub double_text : ℕ → Option (List ℕ)
 double_text n =
     if is_nan n then Some (minus_if (is_negative n) ++ codes "NaN")
@@ -96,7 +96,7 @@ write_scalar m (decimal bs) = Some (text_wrapper of_decimal (decimal_text bs))
 write_scalar m max_key = Some (wrapper_of of_max (number (unsigned 1)))
 write_scalar m min_key = Some (wrapper_of of_min (number (unsigned 1)))
 
--- the tree of a value; none exactly where it holds a finite double that isn't zero
+-- the tree of a value; none exactly if it holds a finite double that isn't zero
 abbrev mutual
   pub write : Mode → Value → Option Data
   write m (scalar s) = write_scalar m s
@@ -113,7 +113,8 @@ abbrev mutual
   write_members m no_members found = Some found
   write_members m (member k v ms) found = option_and_then (λ j. write_members m ms (json.put k j found)) (write m v)
 
--- What a writer answers, seen by `seen`, is what is to be written. It refuses what has no form, and else for want of memory alone.
+-- What a writer returns, seen by `seen`, is what is to be written. It refuses what has no form, and anything else only
+-- if out of memory.
 abbrev pub RefusesForm : {X : Type 0} → Error → Option X → Type 0
 RefusesForm Memory w = Unit {0}
 RefusesForm FiniteDouble w = w ≡ None
@@ -124,7 +125,7 @@ abbrev pub WritesForm : {X Y : Type 0} → (X → Y) → Result X Error → Opti
 WritesForm seen (Ok x) w = w ≡ Some (seen x)
 WritesForm seen (Err e) w = RefusesForm e w
 
--- whether a finite double that isn't zero stands in the value
+-- whether a finite double that isn't zero is in the value
 abbrev pub is_finite_and_not_zero : ℕ → Bool
 is_finite_and_not_zero n = not (is_nan n || is_infinite n || is_zero n)
 

@@ -45,7 +45,7 @@ i32_tree z = scalar (int32 z)
 abbrev pub i64_tree : ℤ → Value
 i64_tree z = scalar (int64 z)
 
--- an Int32 where the number fits, else an Int64
+-- an Int32 if the number fits, else an Int64
 abbrev pub u32_tree : ℕ → Value
 u32_tree n = if nat_lt n (2 ^ 31) then i32_tree (pos n) else i64_tree (pos n)
 
@@ -71,7 +71,7 @@ decimal128_tree d = scalar (decimal (decimal_bytes d))
 abbrev pub db_pointer_tree : DbPointer → Value
 db_pointer_tree p = scalar (db_pointer (string_bytes p.namespace) (id_bytes p.id))
 
--- the value, or Null where there is none
+-- the value, or Null if there is none
 abbrev pub option_tree : Option Bson → Value
 option_tree None = scalar null
 option_tree (Some v) = view v

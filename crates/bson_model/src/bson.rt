@@ -25,8 +25,8 @@ pub type Array = Vec<Bson>;
 
 /// A value of one of the 21 kinds of BSON (bsonspec.org 1.1). Contracts see it as its tree, by `view`.
 ///
-/// Two values are equal where their trees are, with documents compared as maps at every depth: the order of the keys
-/// does not count. Doubles are equal where their patterns are.
+/// Two values are equal if their trees are, with documents compared as maps at every depth: the order of the keys
+/// does not count. Doubles are equal if their patterns are.
 #[cycle(bson)]
 #[derive(Debug, PartialEq, Eq, Hash, Drop)]
 pub enum Bson {
@@ -64,7 +64,7 @@ pub struct JavaScriptCodeWithScope {
 }
 
 impl JavaScriptCodeWithScope {
-    /// A copy with memory of its own. It fails where there is no memory.
+    /// A copy with memory of its own. It fails if there is no memory.
     pub fn try_clone(&self, alloc: Global) -> Result<JavaScriptCodeWithScope, AllocError>
         ensures { IfOk result (λ c. scoped_code_tree c ≡ scoped_code_tree self.now) }
     {
@@ -79,35 +79,35 @@ impl Bson {
     ghost use Rattle.bson_model.specs.declared.bson.Bson as bson;
     ghost use Rattle.bson_model.specs.Rows.{array_row, document_row, text_row, object_id_row, date_time_row};
 
-    /// A text, copied. It fails where there is no memory.
+    /// A text, copied. It fails if there is no memory.
     pub fn from_text(alloc: Global, text: &str) -> Result<Bson, AllocError>
         ensures { IfOk result (λ v. view v ≡ scalar (string text.now)) }
     {
         Ok(Bson::String(String::from_str(alloc, text)?))
     }
 
-    /// An array of these items, copied. It fails where there is no memory.
+    /// An array of these items, copied. It fails if there is no memory.
     pub fn from_slice(alloc: Global, items: &[Bson]) -> Result<Bson, AllocError>
         ensures { IfOk result (λ v. view v ≡ array (items_of (map view items.now))) }
     {
         Ok(Bson::Array(copy_items(alloc, items)?))
     }
 
-    /// A UUID as a binary value of subtype Uuid (bsonspec.org 1.1, subtype 04). It fails where there is no memory.
+    /// A UUID as a binary value of subtype Uuid (bsonspec.org 1.1, subtype 04). It fails if there is no memory.
     pub fn from_uuid(alloc: Global, uuid: Uuid) -> Result<Bson, AllocError>
         ensures { IfOk result (λ v. view v ≡ scalar (binary BinarySubtype.Uuid (uuid_bytes uuid))) }
     {
         Ok(Bson::Binary(Binary::from_uuid(alloc, uuid)?))
     }
 
-    /// A vector as a binary value of subtype Vector (bsonspec.org 1.1, subtype 09). It fails where there is no memory.
+    /// A vector as a binary value of subtype Vector (bsonspec.org 1.1, subtype 09). It fails if there is no memory.
     pub fn from_vector(alloc: Global, vector: &Vector) -> Result<Bson, AllocError>
         ensures { IfOk result (λ v. view v ≡ scalar (binary BinarySubtype.Vector (vector_bytes (vector_value vector.now)))) }
     {
         Ok(Bson::Binary(Binary::from_vector(alloc, vector)?))
     }
 
-    /// A copy with memory of its own. It fails where there is no memory.
+    /// A copy with memory of its own. It fails if there is no memory.
     pub fn try_clone(&self, alloc: Global) -> Result<Bson, AllocError>
         ensures { IfOk result (λ v. view v ≡ view self.now) }
     {
@@ -143,7 +143,7 @@ impl Bson {
         }
     }
 
-    /// The double, where it is one.
+    /// The double, if it is one.
     pub fn as_f64(&self) -> Option<DoubleBits>
         ensures { option_map (λ d. d.0) result ≡ kinds.as_f64 (view self.now) }
     {
@@ -153,7 +153,7 @@ impl Bson {
         }
     }
 
-    /// The text, where it is one.
+    /// The text, if it is one.
     pub fn as_str(&self) -> Option<&str>
         ensures { option_map (λ s. s.now) result ≡ kinds.as_str (view self.now) }
     {
@@ -163,7 +163,7 @@ impl Bson {
         }
     }
 
-    /// The items, where it is an array.
+    /// The items, if it is an array.
     pub fn as_array(&self) -> Option<&Array>
         ensures { option_map (λ a. items_of (map view a.now.items)) result ≡ kinds.as_array (view self.now) }
     {
@@ -173,7 +173,7 @@ impl Bson {
         }
     }
 
-    /// The document, where it is one.
+    /// The document, if it is one.
     pub fn as_document(&self) -> Option<&Document>
         ensures { option_map (λ d. content d.now) result ≡ kinds.as_document (view self.now) }
     {
@@ -183,7 +183,7 @@ impl Bson {
         }
     }
 
-    /// The truth value, where it is one.
+    /// The truth value, if it is one.
     pub fn as_bool(&self) -> Option<bool>
         ensures { result ≡ kinds.as_bool (view self.now) }
     {
@@ -193,7 +193,7 @@ impl Bson {
         }
     }
 
-    /// The number, where it is an Int32.
+    /// The number, if it is an Int32.
     pub fn as_i32(&self) -> Option<i32>
         ensures { result ≡ kinds.as_i32 (view self.now) }
     {
@@ -203,7 +203,7 @@ impl Bson {
         }
     }
 
-    /// The number, where it is an Int64.
+    /// The number, if it is an Int64.
     pub fn as_i64(&self) -> Option<i64>
         ensures { result ≡ kinds.as_i64 (view self.now) }
     {
@@ -213,7 +213,7 @@ impl Bson {
         }
     }
 
-    /// The object id, where it is one.
+    /// The object id, if it is one.
     pub fn as_object_id(&self) -> Option<ObjectId>
         ensures { option_map id_bytes result ≡ kinds.as_object_id (view self.now) }
     {
@@ -223,7 +223,7 @@ impl Bson {
         }
     }
 
-    /// The moment, where it is a DateTime.
+    /// The moment, if it is a DateTime.
     pub fn as_datetime(&self) -> Option<&DateTime>
         ensures { option_map (λ t. millis_of t.now) result ≡ kinds.as_datetime (view self.now) }
     {
@@ -233,7 +233,7 @@ impl Bson {
         }
     }
 
-    /// The text, where it is a symbol.
+    /// The text, if it is a symbol.
     pub fn as_symbol(&self) -> Option<&str>
         ensures { option_map (λ s. s.now) result ≡ kinds.as_symbol (view self.now) }
     {
@@ -243,7 +243,7 @@ impl Bson {
         }
     }
 
-    /// The timestamp, where it is one.
+    /// The timestamp, if it is one.
     pub fn as_timestamp(&self) -> Option<Timestamp>
         ensures { option_map (λ t. (t.time, t.increment)) result ≡ kinds.as_timestamp (view self.now) }
     {
@@ -263,7 +263,7 @@ impl Bson {
         }
     }
 
-    /// The pointer, where it is a DbPointer.
+    /// The pointer, if it is a DbPointer.
     pub fn as_db_pointer(&self) -> Option<&DbPointer>
         ensures { option_map (λ p. (string_bytes p.now.namespace, id_bytes p.now.id)) result ≡ kinds.as_db_pointer (view self.now) }
     {
@@ -273,7 +273,7 @@ impl Bson {
         }
     }
 
-    /// The text, where it is one, to be written to.
+    /// The text, if it is one, to be written to.
     pub fn as_str_mut(&mut self) -> Option<&mut String>
         ensures* writes_back { sem 𝓛 (LendsIf the_row text_row self.entry result bson.String self.old) }
         ensures value { option_map (λ s. string_bytes s.now) result ≡ kinds.as_str (view self.old) }
@@ -285,7 +285,7 @@ impl Bson {
         }
     }
 
-    /// The items, where it is an array, to be written to.
+    /// The items, if it is an array, to be written to.
     pub fn as_array_mut(&mut self) -> Option<&mut Array>
         ensures* writes_back { sem 𝓛 (LendsIf the_row array_row self.entry result bson.Array self.old) }
         ensures value { option_map (λ a. items_of (map view a.now.items)) result ≡ kinds.as_array (view self.old) }
@@ -297,7 +297,7 @@ impl Bson {
         }
     }
 
-    /// The document, where it is one, to be written to.
+    /// The document, if it is one, to be written to.
     pub fn as_document_mut(&mut self) -> Option<&mut Document>
         ensures* writes_back { sem 𝓛 (LendsIf the_row document_row self.entry result bson.Document self.old) }
         ensures value { option_map (λ d. content d.now) result ≡ kinds.as_document (view self.old) }
@@ -309,7 +309,7 @@ impl Bson {
         }
     }
 
-    /// The object id, where it is one, to be written to.
+    /// The object id, if it is one, to be written to.
     pub fn as_object_id_mut(&mut self) -> Option<&mut ObjectId>
         ensures* writes_back { sem 𝓛 (LendsIf the_row object_id_row self.entry result bson.ObjectId self.old) }
         ensures value { option_map (λ i. id_bytes i.now) result ≡ kinds.as_object_id (view self.old) }
@@ -321,7 +321,7 @@ impl Bson {
         }
     }
 
-    /// The moment, where it is a DateTime, to be written to.
+    /// The moment, if it is a DateTime, to be written to.
     pub fn as_datetime_mut(&mut self) -> Option<&mut DateTime>
         ensures* writes_back { sem 𝓛 (LendsIf the_row date_time_row self.entry result bson.DateTime self.old) }
         ensures value { option_map (λ t. millis_of t.now) result ≡ kinds.as_datetime (view self.old) }
@@ -333,7 +333,7 @@ impl Bson {
         }
     }
 
-    /// The text, where it is a symbol, to be written to.
+    /// The text, if it is a symbol, to be written to.
     pub fn as_symbol_mut(&mut self) -> Option<&mut String>
         ensures* writes_back { sem 𝓛 (LendsIf the_row text_row self.entry result bson.Symbol self.old) }
         ensures value { option_map (λ s. string_bytes s.now) result ≡ kinds.as_symbol (view self.old) }
@@ -598,7 +598,7 @@ impl From<Decimal128> for Bson {
     }
 }
 
-/// An Int32 where the number fits, else an Int64.
+/// An Int32 if the number fits, else an Int64.
 impl From<u32> for Bson {
     ghost from_gives = { λ x v. view v ≡ u32_tree x };
 
@@ -620,7 +620,7 @@ impl From<[u8; 12]> for Bson {
     }
 }
 
-/// The value, or Null where there is none.
+/// The value, or Null if there is none.
 impl From<Option<Bson>> for Bson {
     ghost from_gives = { λ x v. view v ≡ option_tree x };
 

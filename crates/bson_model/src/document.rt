@@ -28,7 +28,7 @@ pub enum ValueAccessError {
     /// There is no such key.
     #[error("no value under the key")]
     NotPresent,
-    /// A value of another kind stands under the key.
+    /// A value of another kind is under the key.
     #[error("a value of another kind under the key")]
     UnexpectedType,
 }
@@ -36,10 +36,10 @@ pub enum ValueAccessError {
 /// What a typed getter returns.
 pub type ValueAccessResult<T> = Result<T, ValueAccessError>;
 
-/// Pairs of a key and a value, in the order in which the keys came, where no key stands twice (bsonspec.org 1.1,
-/// "document"). Contracts see the list of the pairs, by `pairs_of`.
+/// Pairs of a key and a value, in the order in which the keys came, with no key twice (bsonspec.org 1.1, "document").
+/// Contracts see the list of the pairs, by `pairs_of`.
 ///
-/// Two documents are equal where each has the other's keys and equal values under them: the order does not count.
+/// Two documents are equal if each has the other's keys and equal values under them: the order does not count.
 #[cycle(bson)]
 #[derive(Debug, PartialEq, Eq, Hash, Drop)]
 pub struct Document {
@@ -56,7 +56,7 @@ impl Document {
         }
     }
 
-    /// A copy with memory of its own. It fails where there is no memory.
+    /// A copy with memory of its own. It fails if there is no memory.
     pub fn try_clone(&self) -> Result<Document, AllocError>
         ensures { IfOk result (λ d. pairs_of d ≡ pairs_of self.now) }
     {
@@ -86,7 +86,7 @@ impl Document {
     }
 
     /// The place of a key, and the number of keys that it was compared with: at most as many as the number of pairs has
-    /// binary digits, and 0 where there are no pairs. It takes no memory.
+    /// binary digits, and 0 if there are no pairs. It takes no memory.
     pub fn find_index(&self, key: &str) -> (Option<usize>, u64)
         ensures index { result.0 ≡ place_of key.now (pairs_of self.now) }
         ensures compared { AtMostDigits result.1 (length (pairs_of self.now)) }
@@ -119,7 +119,7 @@ impl Document {
     }
 
     /// Puts a value under a key, and gives back the value that was there. A key that is there keeps its place, and a
-    /// new one goes last. It fails only where the key is new and there is no memory for the pair, and changes nothing
+    /// new one goes last. It fails only if the key is new and there is no memory for the pair, and changes nothing
     /// then.
     pub fn insert(&mut self, key: String, value: Bson) -> Result<Option<Bson>, AllocError>
         ensures before { IfOk result (λ before. option_map view before ≡ get (string_bytes key) (pairs_of self.old)) }
@@ -140,7 +140,7 @@ impl Document {
         Ok(())
     }
 
-    // The value under the key, after `default` was put last where there was none.
+    // The value under the key, after `default` was put last if there was none.
     #[tactic(auto, using(crate::proofs::Seen::seen_or_default, crate::proofs::Seen::put_seen, crate::proofs::Seen::seen_absent))]
     pub(crate) fn get_or_insert(
         &mut self,
@@ -154,7 +154,7 @@ impl Document {
         self.pairs.get_or_insert(key, default)
     }
 
-    // The same of the value that `default` makes, which is called only where there was none.
+    // The same of the value that `default` makes, which is called only if there was none.
     pub(crate) fn get_or_insert_with<F: FnOnce() -> Bson>(
         &mut self,
         key: String,
@@ -184,7 +184,7 @@ impl Document {
         self.pairs.remove(key)
     }
 
-    /// Puts each value under its key, one after the other, as `insert` does. Where there is no memory for one, its key
+    /// Puts each value under its key, one after the other, as `insert` does. If there is no memory for one, its key
     /// is new, and the pairs before it stay. Many pairs, in whatever order of keys, take a time that grows little
     /// faster than their number; `insert`, called as often, may move the index of all keys each time.
     pub fn extend(&mut self, pairs: Vec<(String, Bson)>) -> Result<(), AllocError>
@@ -195,8 +195,8 @@ impl Document {
         self.pairs.extend(pairs)
     }
 
-    /// The document of these pairs, put one after the other as `insert` does: where a key stands twice, it has the
-    /// place of the first pair and the value of the last.
+    /// The document of these pairs, put one after the other as `insert` does: if a key occurs twice, it has the place
+    /// of the first pair and the value of the last.
     pub fn from_pairs(alloc: Global, pairs: Vec<(String, Bson)>) -> Result<Document, AllocError>
         ensures { IfOk result (λ d. pairs_of d ≡ put_all pairs.items []) }
     {
@@ -214,7 +214,7 @@ impl Document {
 }
 
 /// The typed getters. Each returns `NotPresent` if the key is absent, and `UnexpectedType` if a value of another kind
-/// stands under it.
+/// is under it.
 impl Document {
     ghost use Rattle.std.specs.Borrow.{bool as truth_row, i32 as i32_row, i64 as i64_row};
     ghost use Rattle.bson_base.specs.Scalars.{id_bytes, millis_of, decimal_bytes};
@@ -533,7 +533,7 @@ impl Document {
         }
     }
 
-    /// Whether Null stands under a key.
+    /// Whether the value under a key is Null.
     pub fn is_null(&self, key: &str) -> bool
         ensures { result ≡ has_null (get key.now (pairs_of self.now)) }
     {

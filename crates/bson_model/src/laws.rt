@@ -1,4 +1,4 @@
-//! What no single call promises: the laws of equality and hashing, and that no key stands twice. Each function is
+//! What no single call promises: the laws of equality and hashing, and that no key occurs twice. Each function is
 //! called for its fact alone.
 ghost use Rattle.std.specs.Prelude.{◌≡◌, ◌↔◌, IsTrue, bytes_eq, map};
 ghost use Rattle.bson_model.specs.Equal.{Equal};
@@ -60,8 +60,8 @@ pub fn hashing_of_documents()
     hashing::<Document>();
 }
 
-/// Two values are equal exactly where their trees are, with documents compared as maps at every depth. It goes through
-/// both values for the fact that no key stands twice.
+/// Two values are equal exactly if their trees are, with documents compared as maps at every depth. It goes through
+/// both values for the fact that no key occurs twice.
 pub fn equality_of_trees(a: &Bson, b: &Bson) -> bool
     ensures { IsTrue result ↔ Equal (view a.now) (view b.now) }
 {
@@ -70,7 +70,7 @@ pub fn equality_of_trees(a: &Bson, b: &Bson) -> bool
     a == b
 }
 
-/// Two documents are equal exactly where each has the other's keys, and equal trees under them.
+/// Two documents are equal exactly if each has the other's keys, and equal trees under them.
 pub fn equality_of_members(a: &Document, b: &Document) -> bool
     ensures { IsTrue result ↔ Equal (document (content a.now)) (document (content b.now)) }
 {
@@ -79,7 +79,7 @@ pub fn equality_of_members(a: &Document, b: &Document) -> bool
     a == b
 }
 
-/// No key stands twice in any document of the value. It goes through the whole value.
+/// No key occurs twice in any document of the value. It goes through the whole value.
 #[cycle(distinct)]
 pub fn distinct_keys(value: &Bson)
     ensures { HasDistinctKeys (view value.now) }
@@ -92,7 +92,7 @@ pub fn distinct_keys(value: &Bson)
     }
 }
 
-/// No key stands twice in any document of the items. It goes through all of them.
+/// No key occurs twice in any document of the items. It goes through all of them.
 #[cycle(distinct)]
 pub fn distinct_keys_of_items(items: &[Bson])
     ensures { ItemsHaveDistinctKeys (items_of (map view items.now)) }
@@ -102,7 +102,7 @@ pub fn distinct_keys_of_items(items: &[Bson])
     }
 }
 
-/// No key stands twice in the document, nor in any document inside. It goes through the whole document.
+/// No key occurs twice in the document, nor in any document inside. It goes through the whole document.
 #[cycle(distinct)]
 pub fn distinct_keys_of_document(document: &Document)
     ensures { MembersHaveDistinctKeys (content document.now) }
@@ -111,7 +111,7 @@ pub fn distinct_keys_of_document(document: &Document)
     distinct_keys_of_items(document.pairs.values());
 }
 
-/// No key stands twice among the document's own; of the documents inside nothing is said. It looks at no pair.
+/// No key occurs twice among the document's own; this says nothing of the documents inside. It looks at no pair.
 pub fn distinct_keys_of_level(document: &Document)
     ensures { IsDistinct bytes_eq (keys_of (pairs_of document.now)) }
 {

@@ -4,12 +4,12 @@ ghost use Rattle.std.specs.Prelude.{◌≡◌, ◌+◌, MatchResult};
 
 use std::alloc::AllocError;
 
-/// So many documents, arrays and scopes inside each other are made into a tree of bytes, or of JSON. As the calls that
-/// make it call themselves for each level, and the stack is memory too, they return out of memory where there are more,
-/// before they go deeper.
+/// How many documents, arrays and scopes may be nested in each other in what is made into a tree, of bytes or of JSON.
+/// The calls that make it call themselves for each level, and the stack is memory too; so they return out of memory if
+/// there are more, before they go deeper.
 pub const STACK_LEVELS: u32 = 1000;
 
-/// How many levels may lie inside one of so many; out of memory where it would be one too many. Takes no memory.
+/// How many levels are left inside one of `levels` levels; out of memory if there is none. Takes no memory.
 pub fn levels_inside(levels: u32) -> Result<u32, AllocError>
     ensures { MatchResult result (λ inside. inside + 1 ≡ levels) (λ _. levels ≡ 0) }
 {

@@ -28,7 +28,7 @@ is_key k s = bytes_eq k (string_bytes s)
 abbrev pub place_of : {V : Type 0} → Key → List (Key × V) → Option ℕ
 place_of k ps = position (bytes_eq k) (keys_of ps)
 
--- c is at most the number of binary digits of n, which is d if n < 2 ^ d and no lesser d will do
+-- c is at most the number of binary digits of n, which is the least d with n < 2 ^ d
 abbrev pub AtMostDigits : ℕ → ℕ → Type 0
 AtMostDigits c n = (d : ℕ) → n < 2 ^ d → c ≤ d
 
@@ -40,7 +40,7 @@ IsIndexedAt k j ks = (i : ℕ) × (slice_get (index_of ks) j ≡ Some (k, i))
 abbrev pub GoesAt : Key → ℕ → List Key → Type 0
 GoesAt k j ks = (j ≤ length (index_of ks)) × (find key_cmp k (index_of ks) ≡ None) × ((n : ℕ) → place key_cmp k n (index_of ks) ≡ insert (index_of ks) j (k, n))
 
--- a place, once the one at p was taken out
+-- a place, after the one at p was taken out
 abbrev pub place_without : ℕ → ℕ → ℕ
 place_without p i = cond (nat_lt p i) (i - 1) i
 
@@ -48,7 +48,7 @@ abbrev pub with_first : {A : Type 0} → Option A → List A → List A
 with_first None xs = xs
 with_first (Some x) xs = x ∷ xs
 
--- the elements at these places, if there are such
+-- the elements at those of these places that are in the list
 abbrev pub pick : {A : Type 0} → List A → List ℕ → List A
 pick xs [] = []
 pick xs (i ∷ is) = with_first (slice_get xs i) (pick xs is)

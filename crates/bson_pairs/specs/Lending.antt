@@ -10,7 +10,7 @@ module _ (V : RattleType) (m : MutBor (List (Key × V.Denot))) where
   abbrev pub LendsAt : ℕ → Option (MutBor V.Denot) → Fml
   LendsAt i r = LendsIf (the_row V) V m r (set_at m.now i) m.now
 
-  -- the key has the last value written through r, and all else stays
+  -- the key has the last value written through r, and everything else stays
   abbrev pub LendsUnder : Key → Option (MutBor V.Denot) → Fml
   LendsUnder k r = LendsSo (the_row V) V m r (λ n w. OnSome r (n ≡ put k w m.now)) (λ n. n ≡ m.now)
 
@@ -18,6 +18,6 @@ module _ (V : RattleType) (m : MutBor (List (Key × V.Denot))) where
   abbrev pub LendsValueOf : ℕ → MutBor V.Denot → Fml
   LendsValueOf i r = Lends (the_row V) V m r (set_at m.now i)
 
-  -- the key has the last value written through r, in its place or last, and if r is an error all stays
+  -- the key has the last value written through r, in its place or last, and if r is an error, everything stays
   abbrev pub LendsOrInserts : {E : Type 0} → Key → Result (MutBor V.Denot) E → Fml
   LendsOrInserts k r = LendsSoOk (the_row V) V m r (λ n w. n ≡ put k w m.now) (λ n. n ≡ m.now)

@@ -36,7 +36,7 @@ impl<V: Drop> GrowingPairs<V> {
         GrowingPairs { keys, values }
     }
 
-    // As `Pairs::insert`; the value that was there goes.
+    // As `Pairs::insert`; the value that was there is dropped.
     fn put(&mut self, key: String, value: V) -> Result<(), AllocError>
         ensures ok { OnOk result (self.new ≡ put (string_bytes key) value self.old) }
         ensures err { OnErr result (self.new ≡ self.old) }

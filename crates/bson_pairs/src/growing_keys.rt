@@ -72,7 +72,7 @@ impl GrowingKeys {
         self.places.get(key).copied()
     }
 
-    /// Puts a text last that isn't there. Where it fails nothing has changed.
+    /// Puts a text last that isn't there. If it fails nothing has changed.
     pub(crate) fn push(&mut self, key: String) -> Result<(), AllocError>
         requires { None ≡ position (is_key (string_bytes key)) self.old }
         ensures ok { OnOk result (self.new ≡ self.old ++ key ∷ []) }

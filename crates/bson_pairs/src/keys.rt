@@ -30,7 +30,7 @@ impl Model for Keys {
     ghost invariant = { λ k. (k.order.items ≡ places_of (key_bytes k.texts.items)) × IsDistinct bytes_eq (key_bytes k.texts.items) };
 }
 
-// Where a key stands in this index, or where it would go, and how many keys were compared.
+// Where a key is in this index, or where it would go, and how many keys were compared.
 fn search(texts: &[String], order: &[usize], key: &str) -> (Result<usize, usize>, u64)
     requires { order.now ≡ places_of (key_bytes texts.now) }
     ensures stands { IfOk result.0 (λ j. IsIndexedAt key.now j (key_bytes texts.now)) }
@@ -53,7 +53,7 @@ fn search(texts: &[String], order: &[usize], key: &str) -> (Result<usize, usize>
     (Err(low), compared)
 }
 
-// A place, once the one at `taken` was taken out.
+// A place, after the one at `taken` was taken out.
 fn place_without(taken: usize, place: usize) -> usize
     ensures { result ≡ place_without taken place }
 {
@@ -155,7 +155,7 @@ impl Keys {
         }
     }
 
-    /// Puts a text last that isn't there, whose place in the index `spot` gave. Where it fails nothing has changed.
+    /// Puts a text last that isn't there, whose place in the index `spot` gave. If it fails nothing has changed.
     pub(crate) fn insert_at(&mut self, at: usize, key: String) -> Result<(), AllocError>
         requires { GoesAt (string_bytes key) at (key_bytes self.old) }
         ensures ok { OnOk result (self.new ≡ self.old ++ key ∷ []) }

@@ -1,4 +1,4 @@
-//! Lists of pairs of a text and a value, in which no text stands twice.
+//! Lists of pairs of a text and a value, in which no text occurs twice.
 #![tactic(auto)]
 
 mod ascending;

@@ -20,7 +20,7 @@ use std::collections::BTreeMap;
 use std::marker::Model;
 use std::{fmt, mem};
 
-// A list of more pairs goes by a tree of places.
+// A list of more pairs is put in by a tree of places.
 const MOST_ONE_BY_ONE: usize = 1024;
 
 /// Contracts see the list of the pairs, each key as its bytes.
@@ -171,7 +171,7 @@ impl<V: Drop> Pairs<V> {
         &mut self.values[index]
     }
 
-    /// The value under the key, after `default` was put last where there was none.
+    /// The value under the key, after `default` was put last if there was none.
     pub fn get_or_insert(&mut self, key: String, default: V) -> Result<&mut V, AllocError>
         ensures* writes_back { sem 𝓛 (LendsOrInserts V.row self.entry (string_bytes key) result) }
         ensures value { IfOk result (λ v. v.now ≡ unwrap_or (get (string_bytes key) self.old) default) }
@@ -234,9 +234,9 @@ impl<V: Drop> Pairs<V> {
         put
     }
 
-    /// Puts each value under its key, one after the other, as `insert` does. Where there is no memory for one, its key
-    /// is new, and the pairs before it stay. A long list goes by a tree, so that many new keys, in whatever order,
-    /// don't move the index each time; without memory for that it goes as `insert` does.
+    /// Puts each value under its key, one after the other, as `insert` does. If there is no memory for one, its key is
+    /// new, and the pairs before it stay. A long list is put in by a tree, so that many new keys, in whatever order,
+    /// don't move the index each time; without memory for that it is put in as `insert` does.
     pub fn extend(&mut self, pairs: Vec<(String, V)>) -> Result<(), AllocError>
         ensures ok { OnOk result (self.new ≡ put_each pairs.items self.old) }
         ensures err { OnErr result (PutsBeforeNew pairs.items self.old self.new) }

@@ -1,4 +1,5 @@
--- The texts of a UUID (RFC 4122, section 3): 32 digits, the same with hyphens, and those in braces or behind `urn:uuid:`.
+-- The texts of a UUID (RFC 4122, section 3): 32 digits, the same with hyphens, and those in braces or after
+-- `urn:uuid:`.
 use Rattle.std.specs.Prelude.{ℕ, List, Option}
 use Rattle.uuid.specs.Text.{hyphenated_text, lower, parsed}
 

@@ -1,5 +1,5 @@
-//! The texts of UUIDs. They stand in a crate of their own, since a crate that has a module `uuid` can't use the crate
-//! of that name.
+//! The texts of UUIDs. They are in a crate of their own, since a crate that has a module `uuid` can't use the crate of
+//! that name.
 #![tactic(auto)]
 
 ghost use Rattle.std.specs.Prelude.{◌≡◌};
@@ -10,7 +10,7 @@ use std::fmt;
 use uuid::Uuid;
 
 /// The 16 bytes of a UUID's text: 32 hexadecimal digits in either case, the same with hyphens, and that form in braces
-/// or behind `urn:uuid:`.
+/// or after `urn:uuid:`.
 #[tactic(auto, unfolding(crate::specs::UuidText::uuid_of))]
 pub fn parse(text: &str) -> Option<[u8; 16]>
     ensures { result ≡ uuid_of text.now }

@@ -16,7 +16,7 @@ use std::alloc::Global;
 use std::fmt;
 
 impl Binary {
-    /// The bytes of a Base64 text with padding (RFC 4648, section 4), as a subtype, or as Generic where none is given.
+    /// The bytes of a Base64 text with padding (RFC 4648, section 4), as a subtype, or as Generic if none is given.
     /// `DecodingError` if the text isn't Base64, `Memory` if a growth was refused.
     pub fn from_base64(
         alloc: Global,

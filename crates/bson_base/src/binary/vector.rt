@@ -28,7 +28,7 @@ impl PackedBitVector {
     ghost use Rattle.bson_base.specs.Vectors.{packed_value};
 
     /// The bits of `vector` without the lowest `padding` bits of its last byte; no padding is 0. A padding over 7, or
-    /// over 0 where there is no byte, is `Error::Vector`.
+    /// over 0 if there is no byte, is `Error::Vector`.
     pub fn new(vector: Vec<u8>, padding: Option<u8>) -> Result<PackedBitVector>
         ensures value { IfOk result (λ p. packed_value p ≡ packed_bit (unwrap_or padding 0) vector.items) }
         ensures refused { IsErr result ↔ (is_padding (unwrap_or padding 0) vector.items ≡ false) }

@@ -7,7 +7,7 @@ ghost use Rattle.bson_base.specs.DateText.{day_number as day_number_of, is_day, 
 
 use jiff_core::civil::Date;
 
-/// The number of a day from 1970-01-01, where the calendar has that day in a year from -9999 to 9999.
+/// The number of a day from 1970-01-01, if the calendar has that day in a year from -9999 to 9999.
 #[tactic(auto, unfolding(crate::specs::DateText::day_number))]
 pub(crate) fn day_number(year: i32, month: u8, day: u8) -> Option<i64>
     ensures value { result ≡ day_number_of year month day }
@@ -46,7 +46,7 @@ pub(crate) struct CivilDay {
     pub(crate) day: u8,
 }
 
-/// The day of the calendar with a number from 1970-01-01, where it lies in the years 0 to 9999.
+/// The day of the calendar with a number from 1970-01-01, if it lies in the years 0 to 9999.
 pub(crate) fn civil_day(number: i64) -> Option<CivilDay>
     ensures civil { IfSome result (λ d. IsCivilDate (pos d.year) d.month d.day) }
     ensures at { IfSome result (λ d. days_from_civil (pos d.year) d.month d.day ≡ number) }

@@ -39,7 +39,7 @@ fn four_digits(text: &[u8]) -> Option<(u32, &[u8])>
     Some((first * 100 + second, rest))
 }
 
-/// What stands behind one of two characters.
+/// What follows one of two characters.
 #[tactic(auto, unfolding(crate::specs::DateText::behind))]
 fn behind(text: &[u8], mark: u8, other: u8) -> Option<&[u8]>
     ensures { option_map (λ s. s.now) result ≡ behind_of mark other text.now }
@@ -96,7 +96,7 @@ fn read_minutes(text: &[u8]) -> Option<(u32, &[u8])>
     }
 }
 
-/// The second of the day, behind a `T`.
+/// The second of the day, after a `T`.
 #[tactic(auto, unfolding(crate::specs::DateText::read_clock))]
 fn read_clock(text: &[u8]) -> Option<(u32, &[u8])>
     ensures value { option_map (λ p. (p.0, p.1.now)) result ≡ clock_of text.now }
@@ -108,7 +108,7 @@ fn read_clock(text: &[u8]) -> Option<(u32, &[u8])>
     Some((minutes * 60 + second, rest))
 }
 
-/// The digits in front, and what stands behind them.
+/// The digits at the front, and what follows them.
 fn split_digits(text: &[u8]) -> (&[u8], &[u8])
     ensures { (result.0.now, result.1.now) ≡ digit_run text.now }
 {
@@ -120,7 +120,7 @@ fn split_digits(text: &[u8]) -> (&[u8], &[u8])
     (text, &text[text.len()..])
 }
 
-/// What digits are worth, where the first one counts 100000000 and each a tenth of the one before.
+/// What digits are worth: the first one counts 100000000, and each one a tenth of the one before.
 fn digits_worth(digits: &[u8]) -> u32
     requires { all_digits digits.now ≡ true }
     ensures value { result ≡ worth_of 100_000_000 digits.now }
@@ -135,7 +135,7 @@ fn digits_worth(digits: &[u8]) -> u32
     sum
 }
 
-/// Nanoseconds behind a dot, or 0 where there is none.
+/// Nanoseconds after a dot, or 0 if there is none.
 #[tactic(auto, unfolding(crate::specs::DateText::read_fraction))]
 fn read_fraction(text: &[u8]) -> Option<(u32, &[u8])>
     ensures value { option_map (λ p. (p.0, p.1.now)) result ≡ fraction_of text.now }

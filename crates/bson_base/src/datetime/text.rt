@@ -48,7 +48,7 @@ fn two(number: u32) -> TwoDigits
     TwoDigits { number }
 }
 
-/// Milliseconds, shown without trailing zeros behind a dot.
+/// Milliseconds, shown without trailing zeros after a dot.
 #[derive(Clone, Copy)]
 struct Fraction {
     millis: u32,
@@ -142,7 +142,7 @@ fn day_and_clock(millis: i64) -> (i64, u32)
 }
 
 impl DateTime {
-    /// The date text of RFC 3339 in UTC, with milliseconds where they aren't 0. `CannotFormat` outside the years 0000
+    /// The date text of RFC 3339 in UTC, with milliseconds if they aren't 0. `CannotFormat` outside the years 0000
     /// to 9999, `Memory` if a growth was refused.
     pub fn try_to_rfc3339_string(self, alloc: Global) -> Result<String>
         ensures text { IfOk result (λ text. IsDateText (millis_of self) (string_bytes text)) }
@@ -160,7 +160,7 @@ impl DateTime {
     }
 
     /// The moment of a date text of RFC 3339: a four-digit year, a real day, `T` or `t`, hours, minutes and seconds
-    /// without leap seconds, optionally a dot and digits of which nine count, and `Z`, `z` or an offset. Nanoseconds
+    /// without leap seconds, optionally a dot and digits (nine of them count), and `Z`, `z` or an offset. Nanoseconds
     /// become milliseconds by truncation towards zero. Any other text is refused by `InvalidTimestamp`.
     pub fn parse_rfc3339_str(text: &str) -> Result<DateTime>
         ensures { result_map millis_of result ≡ date_of text.now }
@@ -187,7 +187,7 @@ fn write_date<W: fmt::Write>(f: &mut fmt::Formatter<W>, millis: i64) -> fmt::Res
     }
 }
 
-/// The date text, or the milliseconds in decimal where there is none.
+/// The date text, or the milliseconds in decimal if there is none.
 impl fmt::Display for DateTime {
     ghost output = { λ t. Some (shown_date (millis_of t)) };
 

@@ -1,4 +1,4 @@
-//! The digits of a decimal's text, which stand on both sides of the dot.
+//! The digits of a decimal's text, which are on both sides of the dot.
 
 ghost use Rattle.std.specs.Prelude.{◌≡◌, ◌<◌, ◌≤◌, ◌^◌, ◌+◌, ◌-◌, ◌++◌, ℕ, true, min, length, take, drop, replicate};
 ghost use Rattle.bson_base.specs.Decimal.{all_digits as are_digits, all_zeros as are_zeros, strip as stripped, value as number_of, value_after as value_behind};
@@ -6,7 +6,7 @@ ghost use Rattle.bson_base.specs.DecimalParts.{digits_of};
 
 use crate::texts::{all_digits, all_zeros};
 
-/// Digits in two runs, one behind the other.
+/// Digits in two runs, one after the other.
 #[derive(Clone, Copy)]
 pub(crate) struct Digits<'a> {
     pub(crate) whole: &'a [u8],

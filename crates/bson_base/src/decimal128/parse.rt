@@ -20,7 +20,7 @@ const GREATEST_IN_RANGE: u32 = 71647;
 
 type Shortened<'a> = Result<(Digits<'a>, u32), ParseError>;
 
-/// The value of digits, or 100000 where it is more.
+/// The value of digits, or 100000 if it is more.
 fn small_value(digits: &[u8]) -> u32
     requires { are_digits digits.now ≡ true }
     ensures { result ≡ min (number_of digits.now) 100000 }
@@ -73,7 +73,7 @@ fn read_exponent(text: Option<&[u8]>) -> Result<u32, ParseError>
     }
 }
 
-/// The digits of a coefficient, and how many stand behind the dot.
+/// The digits of a coefficient, and how many of them are after the dot.
 fn read_coefficient(text: &[u8]) -> Result<(Digits<'_>, usize), ParseError>
     ensures value { result_map (λ p. (digits_of p.0, p.1)) result ≡ coefficient_of (cut is_dot text.now) }
     ensures digits { IfOk result (λ p. are_digits (digits_of p.0) ≡ true) }

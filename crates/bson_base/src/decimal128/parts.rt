@@ -83,7 +83,7 @@ impl Parts {
 
 const LIMIT: u128 = 10_000_000_000_000_000_000_000_000_000_000_000;
 
-/// A coefficient, which counts as 0 where it is over its limit (IEEE 754-2008, 3.5.2).
+/// A coefficient, which counts as 0 if it is over its limit (IEEE 754-2008, 3.5.2).
 pub fn limited(coefficient: u128) -> u128
     ensures { result ≡ limited_of coefficient }
 {

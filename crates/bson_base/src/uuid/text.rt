@@ -11,7 +11,7 @@ use std::fmt;
 
 impl Uuid {
     /// The UUID of a text: 32 hexadecimal digits in either case, the same with hyphens, and that form in braces or
-    /// behind `urn:uuid:`. Any other text is refused by `InvalidUuidString`.
+    /// after `urn:uuid:`. Any other text is refused by `InvalidUuidString`.
     pub fn parse_str(text: &str) -> Result<Uuid>
         ensures { result_map uuid_bytes result ≡ read_uuid text.now }
     {

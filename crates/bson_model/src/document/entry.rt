@@ -78,8 +78,8 @@ impl<'a> Entry<'a> {
         }
     }
 
-    /// The value under the key, to be written to. Where the key is absent, `default` is put last first; that fails
-    /// where there is no memory, and changes nothing then.
+    /// The value under the key, to be written to. If the key is absent, it is first put last, with `default`; that
+    /// fails if there is no memory, and changes nothing then.
     pub fn or_insert(self, default: Bson) -> Result<&'a mut Bson, AllocError>
         ensures* writes_back { sem 𝓛 (EntryLends self.entry result) }
         ensures value { IfOk result (λ v. view v.now ≡ unwrap_or (get (entry_key self.entry) (pairs_of (entry_document self.entry).now)) (view default)) }
@@ -97,7 +97,7 @@ impl<'a> Entry<'a> {
         }
     }
 
-    /// As `or_insert`, of the value that `default` makes. It is called only where the key is absent.
+    /// As `or_insert`, of the value that `default` makes. It is called only if the key is absent.
     pub fn or_insert_with<F: FnOnce() -> Bson>(self, default: F) -> Result<&'a mut Bson, AllocError>
     where
         F: Drop,

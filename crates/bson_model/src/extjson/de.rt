@@ -28,14 +28,14 @@ pub enum Error {
     /// The text under `$oid` is no object id.
     #[error("the text is no object id")]
     InvalidObjectId(oid::Error),
-    /// A wrapper has a further key, its body has another form, or a key of the body is absent or unknown.
+    /// A wrapper has another key, its body has another form, or a key of the body is absent or unknown.
     #[error("the tree is no Extended JSON")]
     DeserializationError,
     /// A double that is finite and not zero: a number that is no signed integer of 64 bits, or a numeral under
     /// `$numberDouble` with a digit other than 0.
     #[error("the number is a finite double")]
     FiniteDouble,
-    /// A growth of memory was refused, or more than 1000 levels lie inside each other.
+    /// A growth of memory was refused, or more than 1000 levels are nested in each other.
     #[error("out of memory")]
     Memory,
 }
@@ -88,7 +88,7 @@ fn has_reserved(members: &Map<String, Value>) -> bool
     false
 }
 
-/// The value of a whole number that stands bare in JSON: an Int32 if it fits, else an Int64.
+/// The value of a whole number without a wrapper: an Int32 if it fits, else an Int64.
 pub fn integer(n: i64) -> Bson
     ensures { view result ≡ integer_of n }
 {
@@ -118,7 +118,7 @@ pub fn with_scope(code: String, scope: Option<Document>) -> Bson
     }
 }
 
-/// The value of a JSON tree, among which so many levels may lie.
+/// The value of a JSON tree, which may have `levels` levels.
 #[cycle(read)]
 fn read(alloc: Global, value: Value, levels: u32) -> Result<Bson>
     ensures { GivesReading view result (value_of (data_of value)) }
@@ -220,7 +220,7 @@ impl Bson {
         read(alloc, json, STACK_LEVELS)
     }
 
-    /// The value that a JSON object stands for: a typed value where it has a reserved key, else a document. The errors
+    /// The value that a JSON object stands for: a typed value if it has a reserved key, else a document. The errors
     /// are those of `try_from_value`.
     pub fn try_from_map(alloc: Global, map: Map<String, Value>) -> Result<Bson>
         ensures { GivesReading view result (read (object (members_view map.entries))) }

@@ -9,7 +9,7 @@ use crate::extjson::Mode;
 use crate::extjson::de::Error;
 use bson_base::laws;
 
-/// Two errors are equal where they are one, with all that they report.
+/// Two errors are equal if they are the same, with all that they report.
 pub fn equal_errors()
     ensures trees { (x y : AnyError) → IsTrue (⟦<Error as PartialEq>⟧.eq x y) ↔ (x ≡ y) }
     ensures getters { (x y : AnyAccessError) → IsTrue (⟦<ValueAccessError as PartialEq>⟧.eq x y) ↔ (x ≡ y) }
@@ -17,7 +17,7 @@ pub fn equal_errors()
     laws::equal_errors();
 }
 
-/// Two forms of Extended JSON are equal where they are one.
+/// Two forms of Extended JSON are equal if they are the same.
 pub fn equal_modes()
     ensures { (x y : AnyMode) → IsTrue (⟦<Mode as PartialEq>⟧.eq x y) ↔ (x ≡ y) }
 {}

@@ -6,7 +6,7 @@ ghost use Rattle.bson_base.specs.Dates.{date_text};
 ghost use Rattle.bson_model.specs.JsonWrite.{holds_finite, write};
 ghost use Rattle.bson_model.specs.declared.extjson.ser.Mode.{Mode};
 
-/// A value has an Extended JSON tree, in either form, exactly where no finite double other than the zeros stands in it.
+/// A value has an Extended JSON tree, in either form, exactly if no finite double other than the zeros is in it.
 pub fn written_values()
     ensures { (m : Mode) (v : Value) → is_some (write m v) ≡ not (holds_finite v) }
 {}

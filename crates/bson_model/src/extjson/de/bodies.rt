@@ -257,7 +257,7 @@ fn is_true(value: Value) -> bool
     }
 }
 
-// The value of a key that stands for one value alone, where its body is right.
+// The value of a key that stands for one value alone, if its body is right.
 fn constant(is_right: bool, constant: Bson) -> Result<Bson>
     ensures { GivesReading view result (if is_right then Ok (view constant) else Err DeserializationError) }
 {

@@ -52,7 +52,7 @@ fn marked_by(key: &str) -> Option<Wrapper>
 }
 
 /// The kind of typed value that a key marks, if it marks one. All keys that do begin with `$`, and few others: so most
-/// keys are held against no other text.
+/// keys are compared with no other text.
 pub fn wrapper_of(key: &str) -> Option<Wrapper>
     ensures { option_map reserved_key result ≡ reserved_of key.now }
 {

@@ -13,7 +13,7 @@ const NAN: u64 = 0x7FF8_0000_0000_0000;
 
 const INFINITY: u64 = 0x7FF0_0000_0000_0000;
 
-/// The number of a text under `$numberInt`: a sign or none, and digits, in the range of 32 bits.
+/// The number of a text under `$numberInt`: an optional sign, and digits, in the range of 32 bits.
 #[tactic(auto, unfolding(crate::specs::JsonTexts::int_of))]
 pub fn read_int(text: &str) -> Option<i32>
     ensures { result ≡ int_of text.now }
@@ -24,7 +24,7 @@ pub fn read_int(text: &str) -> Option<i32>
     }
 }
 
-/// The number of a text under `$numberLong`: a sign or none, and digits, in the range of 64 bits.
+/// The number of a text under `$numberLong`: an optional sign, and digits, in the range of 64 bits.
 #[tactic(auto, unfolding(crate::specs::JsonTexts::long_of))]
 pub fn read_long(text: &str) -> Option<i64>
     ensures { result ≡ long_of text.now }
@@ -35,7 +35,7 @@ pub fn read_long(text: &str) -> Option<i64>
     }
 }
 
-/// Whether a minus stands in front, and what stands behind a sign or none.
+/// Whether a minus is in front, and what follows the sign, if there is one.
 fn split_sign(text: &[u8]) -> (bool, &[u8])
     ensures { (result.0, result.1.now) ≡ sign_and_rest text.now }
 {
@@ -67,7 +67,7 @@ fn sign_bit(negative: bool) -> u64
     if negative { SIGN } else { 0 }
 }
 
-// What stands on both sides of a dot; all of a text without one stands in front.
+// What is before a dot, and what is after it; of a text without one all is before.
 fn split_dot(text: &[u8]) -> (&[u8], &[u8])
     ensures { result.0.now ++ result.1.now ≡ without_dot text.now }
 {
@@ -95,7 +95,7 @@ fn some_digits(whole: &[u8], part: &[u8]) -> bool
     whole.len() + part.len() > 0 && both_digits(whole, part)
 }
 
-/// A double behind its sign.
+/// A double after its sign.
 fn read_unsigned(negative: bool, text: &[u8]) -> Result<u64>
     ensures { result ≡ unsigned_of (negative, text.now) }
 {
