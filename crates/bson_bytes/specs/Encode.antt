@@ -25,7 +25,8 @@ abbrev pub is_old : BinarySubtype → Bool
 is_old subtypes.BinaryOld = true
 is_old _ = false
 
--- what follows the subtype: the old binary has its length once more (bsonspec.org 1.1, "subtype")
+-- what follows the subtype: the old binary has its length a second time (bsonspec.org 1.1,
+-- "subtype")
 unfoldable pub inner : BinarySubtype → List ℕ → List ℕ
 inner s bs = if is_old s then le32 (length bs) ++ bs else bs
 
@@ -53,7 +54,8 @@ scalar_bytes (decimal bs) = bs
 scalar_bytes max_key = []
 scalar_bytes min_key = []
 
--- elements, with a length that counts all in front and a 00 behind (bsonspec.org 1.1, "document")
+-- elements, with a length in front that counts all of the bytes, and a 00 behind them (bsonspec.org
+-- 1.1, "document")
 unfoldable pub frame_of : List ℕ → List ℕ
 frame_of elements = le32 (length elements + 5) ++ (elements ++ 0 ∷ [])
 

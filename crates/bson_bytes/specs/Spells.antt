@@ -1,5 +1,5 @@
--- What bytes mean as a tree. Bytes spell a tree of all their frames; meaning settles that tree: a repeated key has its last
--- value in the place of its first, and the options of a regular expression ascend.
+-- What bytes mean as a tree. Bytes spell a tree of all their frames; meaning settles that tree: a repeated key has its
+-- last value, at the place where the key came first, and the options of a regular expression ascend.
 use Rattle.std.specs.Prelude.{◌≡◌, ℕ, ◌+◌, ◌==◌, List, [], ◌∷◌, ◌++◌, drop, slice_index, unwrap_or, if◌then◌else◌}
 use Rattle.std.specs.Int.{w32, w64, from_le_bytes, cast_signed}
 use Rattle.bson_base.specs.declared.spec.ElementType.TheVariants as kinds
@@ -57,7 +57,7 @@ abbrev pub settle_scalar : Scalar → Scalar
 settle_scalar (regex p o) = regex p (sorted_text o)
 settle_scalar s = s
 
--- Each key once, in the place where it came first, with the value that came last; so at every depth.
+-- Each key once, at the place where it came first, with the value that came last; the same at every depth.
 abbrev mutual
   pub settle_value : Value → Value
   settle_value (scalar s) = scalar (settle_scalar s)
@@ -77,6 +77,6 @@ abbrev mutual
 abbrev pub Means : List ℕ → Members → Type 0
 Means bytes d = (ms : Members) × IsEnvelope bytes × SpellsMembers (drop 4 bytes) ms × (d ≡ settle ms)
 
--- no tree is spelled behind the length: some level has a fault
+-- the bytes behind the length spell no tree: some level has a fault
 abbrev pub IsFaulty : List ℕ → Type 0
 IsFaulty bytes = (ms : Members) → SpellsMembers (drop 4 bytes) ms → ⊥

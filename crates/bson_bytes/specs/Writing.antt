@@ -1,4 +1,4 @@
--- What is reported if a tree is written.
+-- What is reported when a tree is written.
 use Rattle.std.specs.Prelude.{◌≡◌, ℕ, ◌<◌, ◌^◌, List, ◌++◌, None}
 use Rattle.bson_base.specs.Kinds.{IsPlain}
 use Rattle.bson_base.specs.Value.{Value}
@@ -18,7 +18,7 @@ RefusesWriting Reason OutOfMemory = Unit {0}
 abbrev pub IsWriteRefusal : Type 0 → Error → Type 0
 IsWriteRefusal Reason e = RefusesWriting Reason e.kind × (fault_key e ≡ None)
 
--- the bytes from before are in front
+-- the old bytes are a prefix of the new ones
 abbrev pub StartsWith : List ℕ → List ℕ → Type 0
 StartsWith new old = (more : List ℕ) × (new ≡ old ++ more)
 

@@ -18,7 +18,7 @@ pub fn trees_come_back()
     ensures { (d : Members) → IsClean (document d) → IsSound (document d) → size d < 2 ^ 31 → Means (encode d) d }
 {}
 
-/// The bytes of clean trees keep them apart, whatever follows them.
+/// Different clean trees have different bytes, whatever follows these.
 pub fn bytes_tell()
     ensures { (d e : Members) (x y : List ℕ) → IsClean (document d) → IsSound (document d) → IsClean (document e) → IsSound (document e)
         → size d < 2 ^ 31 → size e < 2 ^ 31 → encode d ++ x ≡ encode e ++ y → (d ≡ e) × (x ≡ y) }

@@ -1,6 +1,6 @@
 //! Writing leaves at the end of bytes: texts, names, binary values, and the length of what was written.
 //!
-//! Where a call is refused, a part of its bytes may have been appended; those from before stay.
+//! If a call is refused, a part of its bytes may have been appended; those from before stay.
 
 ghost use Rattle.std.specs.Prelude.{◌≡◌, ◌↔◌, IsTrue, ◌+◌, ◌<◌, ◌≤◌, ◌^◌, ◌++◌, ◌∷◌, [], List, ℕ, length, decimal, OnOk, OnErr, IfErr};
 ghost use Rattle.bson_base.specs.Kinds.{HasNo00, IsPlainScalar};
@@ -16,7 +16,7 @@ use bson_base::{BinarySubtype, ElementType, ObjectId, Timestamp};
 use bson_frame::{Error, ErrorKind, LENGTH_LIMIT, Result};
 use itoa::Buffer;
 
-/// The refusal of a 00 where none may stand, or of too many bytes.
+/// The refusal of a 00 where none may be, or of too many bytes.
 pub(crate) fn refusal() -> Error
     ensures { IsBare MalformedValue result }
 {
@@ -58,7 +58,7 @@ pub fn has_no_zero(bytes: &[u8]) -> bool
     !bytes.contains(&0)
 }
 
-/// Appends a key, a pattern or options, and 00 (bsonspec.org 1.1, "cstring"). `MalformedValue` if a 00 stands in it.
+/// Appends a key, a pattern or options, and 00 (bsonspec.org 1.1, "cstring"). `MalformedValue` if a 00 is in it.
 #[tactic(auto, unfolding(crate::specs::Encode::cstring_of))]
 pub fn write_name(name: &str, out: &mut Vec<u8>) -> Result<()>
     ensures ok { OnOk result (out.new.items ≡ out.old.items ++ cstring_of name.now) }
@@ -73,8 +73,8 @@ pub fn write_name(name: &str, out: &mut Vec<u8>) -> Result<()>
     write_bytes(&[0], out)
 }
 
-/// Appends what stands in front of an element's payload: its tag, its key and 00 (bsonspec.org 1.1, "element").
-/// `MalformedValue` if a 00 stands in the key.
+/// Appends what comes before an element's payload: its tag, its key and 00 (bsonspec.org 1.1, "element").
+/// `MalformedValue` if a 00 is in the key.
 #[tactic(auto, unfolding(crate::specs::Encode::cstring_of))]
 pub fn write_front(kind: ElementType, key: &str, out: &mut Vec<u8>) -> Result<()>
     ensures ok { OnOk result (out.new.items ≡ out.old.items ++ tag_byte kind ∷ cstring_of key.now) }
@@ -86,8 +86,8 @@ pub fn write_front(kind: ElementType, key: &str, out: &mut Vec<u8>) -> Result<()
     write_name(key, out)
 }
 
-/// Appends what stands in front of an item's payload: its tag, its place in the array in decimal, and 00 (bsonspec.org
-/// 1.1, element type 04). The error is a refused growth.
+/// Appends what comes before an item's payload: its tag, its place in the array in decimal, and 00 (bsonspec.org 1.1,
+/// element type 04). The error is a refused growth.
 #[tactic(auto, unfolding(crate::specs::Encode::cstring_of))]
 pub fn write_place(kind: ElementType, place: usize, out: &mut Vec<u8>) -> Result<()>
     ensures ok { OnOk result (out.new.items ≡ out.old.items ++ tag_byte kind ∷ cstring_of (decimal place)) }
@@ -128,8 +128,8 @@ pub fn write_binary(subtype: BinarySubtype, bytes: &[u8], out: &mut Vec<u8>) -> 
     write_bytes(bytes, out)
 }
 
-/// Appends a pattern and options, each with its 00 (bsonspec.org 1.1, element type 0B). `MalformedValue` if a 00 stands
-/// in one of them.
+/// Appends a pattern and options, each with its 00 (bsonspec.org 1.1, element type 0B). `MalformedValue` if a 00 is in
+/// one of them.
 pub fn write_regex(pattern: &str, options: &str, out: &mut Vec<u8>) -> Result<()>
     ensures ok { OnOk result (out.new.items ≡ out.old.items ++ scalar_bytes (regex pattern.now options.now)) }
     ensures plain { OnOk result (IsPlainScalar (regex pattern.now options.now)) }
@@ -163,7 +163,7 @@ pub fn write_pointer(namespace: &str, id: ObjectId, out: &mut Vec<u8>) -> Result
     write_bytes(&id.bytes(), out)
 }
 
-/// Puts a number in the place of four bytes.
+/// Puts a number in place of four bytes.
 #[tactic(auto, unfolding(crate::specs::Encode::le32))]
 fn put_number(out: &mut Vec<u8>, at: usize, number: u32)
     requires { at + 4 ≤ length out.old.items }
@@ -177,7 +177,7 @@ fn put_number(out: &mut Vec<u8>, at: usize, number: u32)
     out[at + 3] = d;
 }
 
-/// Puts the number of the bytes from `start` on in the place of the first four of them, which were left as room for it.
+/// Puts the number of the bytes from `start` on in place of the first four of them, which were left as room for it.
 /// `MalformedValue` if they are over 2147483647; nothing is changed then. Takes no memory.
 pub fn put_length(out: &mut Vec<u8>, start: usize) -> Result<()>
     requires { start + 4 ≤ length out.old.items }

@@ -17,7 +17,7 @@ use bson_frame::{LENGTH_LIMIT, Result};
 use bson_model::{Bson, Document, JavaScriptCodeWithScope};
 use std::alloc::Global;
 
-/// Appends a value's bytes. They may be too many for a length to say if no length counts them.
+/// Appends a value's bytes. They may be too many for a length to hold, if no length counts them.
 #[cycle(write)]
 #[tactic(auto, unfolding(crate::specs::Encode::le32, crate::specs::Encode::le64))]
 fn put_value(value: &Bson, out: &mut Vec<u8>) -> Result<()>
@@ -48,8 +48,8 @@ fn put_value(value: &Bson, out: &mut Vec<u8>) -> Result<()>
     }
 }
 
-/// Appends a document (bsonspec.org 1.1, "document"). `MalformedValue` if a 00 stands in a key, a pattern or options,
-/// and where its bytes are over 2147483647. No key is reported.
+/// Appends a document (bsonspec.org 1.1, "document"). `MalformedValue` if a 00 is in a key, a pattern or options,
+/// and if its bytes are over 2147483647. No key is reported.
 #[cycle(write)]
 pub fn write_document(document: &Document, out: &mut Vec<u8>) -> Result<()>
     ensures ok { OnOk result (out.new.items ≡ out.old.items ++ encode (content document.now)) }
@@ -102,8 +102,8 @@ pub fn write_items(items: &[Bson], out: &mut Vec<u8>) -> Result<()>
     put_length(out, start)
 }
 
-/// Appends the payload of a value (bsonspec.org 1.1, "element"). `MalformedValue` if a 00 stands in a key, a pattern or
-/// options, and where the payload is over 2147483647 bytes. No key is reported.
+/// Appends the payload of a value (bsonspec.org 1.1, "element"). `MalformedValue` if a 00 is in a key, a pattern or
+/// options, and if the payload is over 2147483647 bytes. No key is reported.
 pub fn write_value(value: &Bson, out: &mut Vec<u8>) -> Result<()>
     ensures ok { OnOk result (out.new.items ≡ out.old.items ++ value_bytes (view value.now)) }
     ensures fits { OnOk result (CanBeWritten (view value.now)) }
@@ -118,7 +118,7 @@ pub fn write_value(value: &Bson, out: &mut Vec<u8>) -> Result<()>
     Ok(())
 }
 
-/// The bytes of a document (bsonspec.org 1.1, "document"). `MalformedValue` if a 00 stands in a key, a pattern or
+/// The bytes of a document (bsonspec.org 1.1, "document"). `MalformedValue` if a 00 is in a key, a pattern or
 /// options, and if the bytes are over 2147483647; `OutOfMemory` if a growth is refused. No key is reported.
 pub fn encode_document(alloc: Global, document: &Document) -> Result<Vec<u8>>
     ensures ok { IfOk result (λ b. b.items ≡ encode (content document.now)) }

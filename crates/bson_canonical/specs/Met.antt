@@ -15,7 +15,7 @@ AreUpTo greatest (met ∷ keys) = (is_gt (slice_cmp nat_cmp met.now greatest) �
 abbrev pub IsNew : List ℕ → List (Bor (List ℕ)) → Type 0
 IsNew key keys = list_any (λ met. bytes_eq met.now key) keys ≡ false
 
--- these keys were met, in this order; the ones that are kept of them come behind those of the documents around
+-- these keys were met, in this order; those of them that are kept come after the keys of the documents around
 pub record HasMet (met : MetKeys) (outer kept all : List (Bor (List ℕ))) : Type 0 where
   pub bound : AreUpTo met.greatest.now all
   pub start : met.outer ≡ length outer

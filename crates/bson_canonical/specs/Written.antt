@@ -23,15 +23,15 @@ AreWritten elements = (ms : Members) → SpellsMembers elements ms → (settle m
 abbrev pub AreItemsWritten : ℕ → List ℕ → Type 0
 AreItemsWritten i elements = (vs : Items) → SpellsItems elements vs → (settle_items vs ≡ vs) × (elements ≡ items_bytes i vs ++ 0 ∷ [])
 
--- a payload of this kind spells a value of at most so many levels, none of which has a fault
+-- a payload of this kind spells a value of at most `inner` levels, none of which has a fault
 abbrev pub IsSpelled : ElementType → List ℕ → ℕ → Type 0
 IsSpelled tag payload inner = (v : Value) × (value_kind v ≡ tag) × SpellsValue payload v × (levels v ≤ inner)
 
--- so do elements, with the 00 behind them
+-- elements, with the 00 behind them, spell members of at most `inner` levels
 abbrev pub AreSpelled : List ℕ → ℕ → Type 0
 AreSpelled elements inner = (ms : Members) × SpellsMembers elements ms × (members_levels ms ≤ inner)
 
--- and an array's elements
+-- an array's elements, with the 00 behind them, spell items of at most `inner` levels
 abbrev pub AreItemsSpelled : List ℕ → ℕ → Type 0
 AreItemsSpelled elements inner = (vs : Items) × SpellsItems elements vs × (items_levels vs ≤ inner)
 
@@ -44,7 +44,7 @@ abbrev pub AreAbsent : List (Bor (List ℕ)) → List ℕ → Type 0
 AreAbsent [] elements = Unit {0}
 AreAbsent (met ∷ keys) elements = IsAbsent met.now elements × AreAbsent keys elements
 
--- A scalar of this kind has one payload: its options have no order, nothing is put in twice, and it holds no name.
+-- A scalar of this kind has one payload: it has no options to be put in order, no second length, and no name.
 abbrev pub HasOneForm : ElementType → Type 0
 HasOneForm kinds.EmbeddedDocument = ⊥
 HasOneForm kinds.Array = ⊥
@@ -58,11 +58,11 @@ HasOneForm _ = Unit {0}
 abbrev pub IsNewBinary : List ℕ → Type 0
 IsNewBinary payload = slice_index payload 4 ≢ subtype_byte subtypes.BinaryOld
 
--- the options behind the pattern of a regular expression are in the order of their characters
+-- the options after the pattern of a regular expression are in the order of their characters
 abbrev pub HasOrderedOptions : List ℕ → Type 0
 HasOrderedOptions payload = (size : IsRegexSize payload (length payload)) → sorted_text size.options ≡ size.options
 
--- the first element of the key is e
+-- the first element with the key is e
 abbrev pub IsFirstUnder : List ℕ → List ℕ → Element → Type 0
 IsFirstUnder k elements e = (ms : Members) → SpellsMembers elements ms → (v : Value) × (look_up k ms ≡ Some v) × (value_kind v ≡ e.tag) × SpellsValue e.payload v
 

@@ -11,10 +11,10 @@ use bson_base::ElementType;
 use bson_frame::{Frame, is_end, name_at, payload_fault, sized_frame};
 use itoa::Buffer;
 
-/// The subtype of old binaries, whose length stands twice (bsonspec.org 1.1, "subtype").
+/// The subtype of old binaries, which have their length twice (bsonspec.org 1.1, "subtype").
 const OLD: u8 = 2;
 
-/// The first element of a key.
+/// The first element with a key.
 pub(crate) fn first_under<'a>(key: &str, elements: &'a [u8]) -> Option<Frame<'a>>
     ensures { IfSome result (λ f. IsFirstUnder key.now elements.now (element_of f) × IsPayload f.tag f.payload.now) }
 {
@@ -52,7 +52,7 @@ fn has_one_form(tag: ElementType) -> bool
     )
 }
 
-/// Whether the length of a binary stands in front of it alone.
+/// Whether a binary has its length only once, in front of it.
 fn is_new_binary(payload: &[u8]) -> bool
     ensures { IsTrue result → IsNewBinary payload.now }
 {
@@ -100,7 +100,7 @@ pub(crate) fn is_scalar_written(tag: ElementType, payload: &[u8]) -> bool
     }
 }
 
-/// True: the elements of a document are as they are written, and have no fault. So many levels may lie among them.
+/// True: the elements of a document are as they are written, have no fault, and at most `inner` levels among them.
 #[cycle(written)]
 pub(crate) fn are_written<'a>(elements: &'a [u8], inner: usize, kept: &mut KeptKeys<'a>) -> bool
     ensures { IsTrue result → AreWritten elements.now × AreSpelled elements.now inner × (kept.new.items ≡ kept.old.items) }

@@ -14,13 +14,13 @@ use bson_base::ElementType;
 use bson_frame::{Frame, LEVEL_LIMIT};
 
 /// True: what follows the length spells a document of at most 100 levels without a fault at any level, and the bytes are
-/// the written form of the document that they mean (bsonspec.org 1.1, "document"). No key stands twice, the keys of an
+/// the written form of the document that they mean (bsonspec.org 1.1, "document"). No key occurs twice, the keys of an
 /// array are its places in decimal, the options of a regular expression ascend, and nothing else has two written forms.
 /// The declared length is the caller's to test.
 ///
-/// False says nothing: that is returned, too, for options that aren't ASCII, pointers, code with scope and old binaries,
-/// and for a key that isn't greater by its bytes than all before it, where these and the keys before it in the documents
-/// around it are over 96.
+/// False decides nothing: it is also returned for options that aren't ASCII, pointers, code with scope and old
+/// binaries, and for a key that isn't greater by its bytes than all before it, if these and the keys before it in the
+/// documents around it are over 96.
 ///
 /// It goes over the bytes once. A key that is greater than all before it takes one comparison, another one up to 96.
 pub fn is_written_form(bytes: &[u8]) -> bool
@@ -49,8 +49,8 @@ fn is_written_alone(frame: &Frame<'_>) -> bool
     }
 }
 
-/// The first element of a key, of a document whose bytes these are. Its payload is the written form of the value under
-/// the key. None says nothing: that is returned, too, for a value for which `is_written_form` would say nothing.
+/// The first element with a key, in a document with these bytes. Its payload is the written form of the value under the
+/// key. None decides nothing: it is also returned for a value for which `is_written_form` would decide nothing.
 pub fn written_element<'a>(key: &str, bytes: &'a [u8]) -> Option<Frame<'a>>
     ensures { IfSome result (λ f. (ms : Members) → SpellsMembers (drop 4 bytes.now) ms → IsWrittenUnder key.now ms (element_of f)) }
 {

@@ -14,19 +14,19 @@ use std::cmp::Ordering;
 /// How many keys are kept to be compared with later ones.
 const MOST_KEYS: usize = 96;
 
-/// The keys that are kept, of all documents that are being gone over, the innermost last: there is one array, since
-/// each document inside would take longer to make its own than to be gone over.
+/// The keys that are kept, of all documents that are being walked, the innermost last. There is one array, since making
+/// one for each document inside would take longer than walking it.
 pub(crate) type KeptKeys<'a> = ArrayVec<&'a str, MOST_KEYS>;
 
 /// The keys that were met of one document. Each key that is greater than all before it by its bytes is known to be new,
-/// however many there are; of another key that is known while all before it are kept.
+/// however many there are; for another key this is known only while all before it are kept.
 #[derive(Drop)]
 pub(crate) struct MetKeys<'a> {
     /// The greatest of them; the empty text before the first.
     greatest: &'a str,
     /// How many keys are kept of the documents around this one.
     outer: usize,
-    /// Whether there are more than those that are kept behind these.
+    /// Whether there are more keys than those that are kept after these.
     has_more: bool,
 }
 
@@ -89,7 +89,7 @@ impl<'a> MetKeys<'a> {
         }
     }
 
-    /// Lets the kept keys of the document go.
+    /// Drops the kept keys of the document.
     pub(crate) fn end(&self, kept: &mut KeptKeys<'a>)
         ensures { (front all : List (Bor (List ℕ))) → HasMet self.now front kept.old.items all → kept.new.items ≡ front }
     {

@@ -1,5 +1,5 @@
--- What reading gives: a value, or a fault. The words are those of the grammar over sorted trees (JsonRead of bson_model), with
--- the faults of this one.
+-- What reading gives: a value, or a fault. The names are those of the grammar over sorted trees (JsonRead of
+-- bson_model), with the faults of this one.
 use Rattle.std.specs.Prelude.{◌≡◌, Bool, if◌then◌else◌, Option, Some, None, Result, Ok, Err}
 use Rattle.bson_base.specs.Answer.{◌>>=◌}
 use Rattle.bson_base.specs.Value.{Scalar, Value, scalar}
@@ -12,7 +12,7 @@ abbrev pub some_or_error : {A : Type 0} → Option A → Result A Error
 some_or_error (Some x) = Ok x
 some_or_error None = Err NotExtendedJson
 
--- every fault of a text but that of an object id is one
+-- every fault of a text, except that of an object id, becomes NotExtendedJson
 abbrev pub ok_or_error : {A E : Type 0} → Result A E → Result A Error
 ok_or_error (Ok x) = Ok x
 ok_or_error (Err e) = Err NotExtendedJson
@@ -26,7 +26,7 @@ abbrev pub id_or_error : {A : Type 0} → Result A oid.Error → Result A Error
 id_or_error (Ok x) = Ok x
 id_or_error (Err e) = Err (of_object_id e)
 
--- one value, where its body is right
+-- one value, if its body is right
 abbrev pub constant : Bool → Scalar → Result Scalar Error
 constant b s = if b then Ok s else Err NotExtendedJson
 
@@ -35,7 +35,8 @@ scalar_of r = r >>= λ s. Ok (scalar s)
 
 -- ---- what a call returns
 
--- the result is this fault; where the fault is that memory ran out, nothing is said of it; a tree is JSON
+-- the reading is this fault; out of memory can be reported whatever the reading is, and NotJson never, as a tree is
+-- JSON
 abbrev pub Fails : {Y : Type 0} → Error → Result Y Error → Type 0
 Fails Memory r = Unit {0}
 Fails (NotJson n) r = ⊥

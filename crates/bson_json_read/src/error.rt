@@ -9,8 +9,8 @@ use thiserror::Error as ThisError;
 /// Why a text, or a tree of JSON, was refused.
 #[derive(Clone, Copy, Debug, PartialEq, ThisError)]
 pub enum Error {
-    /// The text is no JSON (RFC 8259), or its objects and arrays lie more than 128 deep. The number is the byte, counted
-    /// from 0, at which that is seen.
+    /// The text is no JSON (RFC 8259), or its objects and arrays are nested more than 128 deep. The number is the byte,
+    /// counted from 0, at which that is seen.
     #[error("no JSON at byte {0}")]
     NotJson(usize),
     /// An object that is a document has a key twice.
@@ -22,11 +22,11 @@ pub enum Error {
     /// A number without a wrapper is whole and not in the range of 64 bits, or too large for a double.
     #[error("the number is out of range")]
     NumberOutOfRange,
-    /// The text is no object, a wrapper has a further key, its body has another form or is out of range, or a key of the
+    /// The text is no object, a wrapper has another key, its body has another form or is out of range, or a key of the
     /// body is absent or unknown.
     #[error("the tree is no Extended JSON")]
     NotExtendedJson,
-    /// A growth of memory was refused, or more than 1000 levels lie inside each other.
+    /// A growth of memory was refused, or more than 1000 levels are nested in each other.
     #[error("out of memory")]
     Memory,
 }

@@ -39,7 +39,7 @@ fn add(document: &mut Document, key: String, value: Bson) -> Result<()>
     }
 }
 
-/// The value of a JSON tree, among which so many levels may lie.
+/// The value of a JSON tree, which may have `levels` levels.
 #[cycle(read)]
 fn read(alloc: Global, value: &Value<'_>, levels: u32) -> Result<Bson>
     ensures { GivesReading view result (value_of (data_of value.now)) }

@@ -1,4 +1,4 @@
--- What values meant before: the two zeros of a double were apart.
+-- What values meant before: the two zeros of a double were two values.
 use Rattle.std.specs.Prelude.{ℕ, List}
 use Rattle.bson_base.specs.Value.{Value, Members}
 use Rattle.bson_meaning.specs.Forms as form

@@ -1,5 +1,5 @@
--- Normal forms, keys in order, keys of documents and the same meaning, where the two zeros of a double are apart and where they
--- are one.
+-- Normal forms, keys in order, keys of documents and the same meaning, for both ways to take the two zeros of a double:
+-- apart, or as one.
 use Rattle.std.specs.Prelude.{◌≡◌, ℕ, List, if◌then◌else◌, IsSomeAnd, Option, Some, None}
 use Rattle.std.specs.Ordering.{nat_cmp, match_ordering}
 use Rattle.std.specs.Cmp.Lexicographic.{slice_cmp}
@@ -19,12 +19,12 @@ use Rattle.bson_meaning.specs.declared.scalars.Zeros.TheVariants.{Apart, Joined}
 abbrev pub quiet : ℕ → ℕ
 quiet n = if is_negative n then 0xFFF8_0000_0000_0000 else 0x7FF8_0000_0000_0000
 
--- a NaN becomes the quiet one of its sign; where the zeros are one, a zero becomes the positive one
+-- a NaN becomes the quiet one of its sign; if the zeros are one, a zero becomes the positive one
 unfoldable pub normal_double : Zeros → ℕ → ℕ
 normal_double Apart n = if is_nan n then quiet n else n
 normal_double Joined n = if is_nan n then quiet n else if is_zero n then 0 else n
 
--- the first form of what 16 bytes mean; every NaN becomes one
+-- the first form of what 16 bytes mean; every NaN becomes the same one
 unfoldable pub normal_decimal : List ℕ → List ℕ
 normal_decimal bytes = sixteen_bytes (pack (unpack (number_of bytes)))
 

@@ -27,7 +27,8 @@ abbrev pub Leads : List ℕ → List Element → List ℕ → Type 0
 Leads bytes [] rest = bytes ≡ rest
 Leads bytes (e ∷ es) rest = (next : List ℕ) × IsFirstFrame bytes e next × Leads next es rest
 
--- Among these elements lie so many documents more, each in a frame of the one around it. Faults beside these frames don't matter.
+-- Among these elements n documents nest, each in a frame of the one around it. Faults outside of these frames don't
+-- matter.
 unfoldable pub Nests : ℕ → List ℕ → Type 0
 Nests zero elements = Unit {0}
 Nests (suc n) elements = (before : List Element) × (rest : List ℕ) × (e : Element) × (next : List ℕ) × (inner : List ℕ) ×
@@ -35,11 +36,11 @@ Nests (suc n) elements = (before : List Element) × (rest : List ℕ) × (e : El
 
 -- ---- the tests, in their order
 
--- the declared length lies within its limits and is that of the bytes
+-- the declared length is within its limits and is that of the bytes
 abbrev pub IsCounted : List ℕ → Type 0
 IsCounted bytes = (5 ≤ number bytes) × (number bytes ≤ size_limit) × (length bytes ≡ number bytes)
 
--- the bytes fail this test, and none before it; of Faulty and TooDeep either is told where both stand
+-- the bytes fail this test, and none before it; if they fail both Faulty and TooDeep, either is reported
 abbrev pub IsRefused : List ℕ → GateError → Type 0
 IsRefused bytes EndInside = (length bytes < 4) ⊎ ((5 ≤ number bytes) × (number bytes ≤ size_limit) × (length bytes < number bytes))
 IsRefused bytes BadLength = (4 ≤ length bytes) × ((number bytes < 5) ⊎ (size_limit < number bytes) ⊎ (number bytes < length bytes))
@@ -47,7 +48,7 @@ IsRefused bytes NotTerminated = IsCounted bytes × (slice_index bytes (length by
 IsRefused bytes Faulty = IsCounted bytes × IsEnvelope bytes × IsFaulty bytes
 IsRefused bytes TooDeep = IsCounted bytes × IsEnvelope bytes × Nests level_limit (drop 4 bytes)
 
--- the tests of which either is told where bytes fail both
+-- the tests of which either is reported if bytes fail both
 abbrev pub IsFaultyOrDeep : GateError → Type 0
 IsFaultyOrDeep Faulty = Unit {0}
 IsFaultyOrDeep TooDeep = Unit {0}
@@ -57,7 +58,7 @@ IsFaultyOrDeep _ = ⊥
 abbrev pub Passes : List ℕ → Type 0
 Passes bytes = IsCounted bytes × IsEnvelope bytes × ((ms : Members) × SpellsMembers (drop 4 bytes) ms × (levels (document ms) ≤ level_limit))
 
--- ---- what testing elements tells, where so many levels may lie among them
+-- ---- what testing elements reports, if at most `inner` levels may be among them
 
 abbrev pub ReadsElements : List ℕ → ℕ → Result (Unit {0}) GateError → Type 0
 ReadsElements elements inner (Ok x) = (ms : Members) × SpellsMembers elements ms × (members_levels ms ≤ inner)
@@ -65,7 +66,7 @@ ReadsElements elements inner (Err Faulty) = (ms : Members) → SpellsMembers ele
 ReadsElements elements inner (Err TooDeep) = Nests (inner + 1) elements
 ReadsElements elements inner (Err _) = ⊥
 
--- what testing a payload reports, where so many levels may lie inside it
+-- what testing a payload reports, if at most `inner` levels may be inside it
 abbrev pub ReadsPayload : ElementType → List ℕ → ℕ → Result (Unit {0}) GateError → Type 0
 ReadsPayload tag payload inner (Ok x) = (v : Value) × (value_kind v ≡ tag) × SpellsValue payload v × (levels v ≤ inner)
 ReadsPayload tag payload inner (Err Faulty) = (v : Value) → value_kind v ≡ tag → SpellsValue payload v → ⊥

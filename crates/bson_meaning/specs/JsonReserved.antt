@@ -1,4 +1,5 @@
--- Reserved keys below the top of a document. There Extended JSON would read a typed value in place of the document that was written.
+-- Reserved keys below the top of a document. There Extended JSON would read a typed value instead of the document that
+-- was written.
 use Rattle.std.specs.Prelude.{ℕ, suc, Bool, false, ◌||◌, if◌then◌else◌, List, ◌++◌, codes, decimal, Option, Some, None, option_map}
 use Rattle.bson_model.specs.JsonKeys.{is_reserved}
 use Rattle.bson_base.specs.Value.{Value, scalar, array, document, scoped_code, Items, no_items, item, Members, no_members, member}
@@ -9,7 +10,7 @@ some_reserved no_members = false
 some_reserved (member k v ms) = is_reserved k || some_reserved ms
 
 abbrev mutual
-  -- a document in the value has one, itself counted; the keys of a scope are free
+  -- a document in the value, or the value itself, has one among its keys; the keys of a scope are free
   pub reserved_in : Value → Bool
   reserved_in (scalar s) = false
   reserved_in (array vs) = reserved_in_items vs
@@ -32,7 +33,7 @@ abbrev pub first_reserved : Members → Option (List ℕ)
 first_reserved no_members = None
 first_reserved (member k v ms) = if is_reserved k then Some k else first_reserved ms
 
--- a path behind one more step
+-- a path with one more step in front
 abbrev pub behind_step : List ℕ → Option (List ℕ) → Option (List ℕ)
 behind_step s path = option_map (λ p. s ++ codes "." ++ p) path
 

@@ -1,4 +1,5 @@
--- What holds of every JSON tree (RFC 8259): its texts are UTF-8, its integers have 64 bits, and no key of an object stands twice.
+-- What holds of every JSON tree (RFC 8259): its texts are UTF-8, its integers have 64 bits, and no key of an object
+-- occurs twice.
 use Rattle.std.specs.Prelude.{◌≡◌, ℕ, ℤ, List, false, Some, FitsSigned, IsUtf8}
 use Rattle.std.specs.Int.{w64}
 use Rattle.std.specs.Str.{bytes_eq}

@@ -1,4 +1,4 @@
--- What a call for the key of a document answers.
+-- What a call for the key of a document returns.
 use Rattle.std.specs.Prelude.{◌≡◌, ◌↔◌, ℕ, ◌<◌, ◌≤◌, List, length, Result, Err, Vec, IfOk, OnOk}
 use Rattle.std.specs.declared.alloc.Global.{Global}
 use Rattle.bson_base.specs.Kinds.{IsPlain, IsSound}
@@ -19,9 +19,9 @@ pub record AnswersKey (zeros : Zeros) (d : Members) (result : Result (Vec ℕ Gl
   pub fits : OnOk result (length (key zeros d) ≤ length_limit)
   pub plain : OnOk result (IsPlain (document d))
   pub sound : OnOk result (IsSound (document d))
-  -- each refusal comes exactly where it is due, and a 00 before the length; want of memory comes after both
+  -- each refusal is reported exactly if its reason holds, and a 00 before the length; out of memory comes after both
   pub not_plain : (result ≡ Err NotPlain) ↔ (IsPlain (document d) → ⊥)
   pub too_long : (result ≡ Err TooLong) ↔ IsPlain (document d) × (length_limit < length (key zeros d))
-  -- what keys are for, for every other document
+  -- what keys are for: they are equal exactly if the documents mean the same
   pub tells : (e : Members) → IsPlain (document e) → IsSound (document e) → length (key zeros e) ≤ length_limit
       → OnOk result ((key zeros d ≡ key zeros e) ↔ Same zeros (document d) (document e))

@@ -1,4 +1,4 @@
--- What the parts of the comparison tell.
+-- What the parts of the comparison return.
 use Rattle.std.specs.Prelude.{◌≡◌, true}
 use Rattle.bson_base.specs.Value.{Value, scalar, Members, no_members, member, has_key}
 

@@ -24,13 +24,13 @@ pub enum GateError {
     /// There is a fault at some level.
     #[error("the bytes have a fault")]
     Faulty,
-    /// More than 100 documents, arrays and scopes lie inside each other.
+    /// More than 100 documents, arrays and scopes are nested in each other.
     #[error("more than 100 levels")]
     TooDeep,
 }
 
 /// Tests whether bytes are a document (bsonspec.org 1.1, "document") of at most 16777216 bytes and 100 levels, without
-/// a fault at any level. The error is that of the first test that fails, in the order of `GateError`; where there is a
+/// a fault at any level. The error is that of the first test that fails, in the order of `GateError`; if there is a
 /// fault and too many levels, either is reported. Takes no memory, and goes no deeper than 100 levels.
 pub fn gate(bytes: &[u8]) -> Result<(), GateError>
     ensures { MatchResult result (λ _. Passes bytes.now) (IsRefused bytes.now) }
@@ -59,7 +59,7 @@ fn test_length(bytes: &[u8]) -> Result<(), GateError>
     Ok(())
 }
 
-/// Tests the elements of a document, down to its last byte, among which so many levels may lie.
+/// Tests the elements of a document, down to its last byte, among which `inner` levels may be.
 #[cycle(elements)]
 fn test_elements(elements: &[u8], inner: usize) -> Result<(), GateError>
     ensures { ReadsElements elements.now inner result }

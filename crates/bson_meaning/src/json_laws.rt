@@ -31,7 +31,7 @@ pub fn trees_go_by_meaning()
 {}
 
 /// The canonical tree of a document without a reserved key below its top reads as a document of the same normal form,
-/// which is plain where the first is, and no deeper.
+/// which is plain if the first is, and no deeper.
 pub fn canonical_trees_read_back()
     ensures members { (d : Members) (js : json.Members) → IsSound (document d) → has_reserved d ≡ false
         → write_members Canonical d json.no_members ≡ Some js
@@ -43,7 +43,7 @@ pub fn canonical_trees_read_back()
         × (IsPlain (document d) → IsPlain (document e)) × (levels (document e) ≤ levels (document d)) }
 {}
 
-/// What a JSON tree reads as is sound. The normal form of a document that is read so is clean where the document is
+/// What a JSON tree reads as is sound. The normal form of a document that is read from one is clean if the document is
 /// plain.
 pub fn readings_are_sound()
     ensures value { (j : Data) (v : Value) → IsJson j → read j ≡ Ok v → IsSound v }

@@ -25,7 +25,7 @@ use thiserror::Error;
 /// Why a document has no key.
 #[derive(Clone, Copy, Debug, PartialEq, Eq, Error)]
 pub enum KeyError {
-    /// A 00 stands in a key, a pattern or options.
+    /// A 00 is in a key, a pattern or options.
     #[error("a zero byte in a key, a pattern or options")]
     NotPlain,
     /// The key would be over 2147483647 bytes.
@@ -46,7 +46,7 @@ impl From<AllocError> for KeyError {
     }
 }
 
-/// The bytes of the document's normal form with its keys in order. Two documents have the same key exactly where they
+/// The bytes of the document's normal form with its keys in order. Two documents have the same key exactly if they
 /// mean the same, as long as neither is refused. A document that has a key was counted first, which shows that it is
 /// sound.
 pub fn meaning_key(alloc: Global, document: &Document) -> Result<Vec<u8>, KeyError>
@@ -56,14 +56,14 @@ pub fn meaning_key(alloc: Global, document: &Document) -> Result<Vec<u8>, KeyErr
 }
 
 /// The key that the document had before the two zeros of a double meant the same. Two documents have the same such key
-/// exactly where they meant the same, as long as neither is refused. Refused as `meaning_key` is.
+/// exactly if they meant the same, as long as neither is refused. Refused as `meaning_key` is.
 pub fn meaning_key_before(alloc: Global, document: &Document) -> Result<Vec<u8>, KeyError>
     ensures { AnswersKey Apart (content document.now) result }
 {
     key_where(Zeros::Apart, alloc, document)
 }
 
-/// The key of a document, with its zeros taken so.
+/// The key of a document, with its zeros taken as `zeros` says.
 fn key_where(zeros: Zeros, alloc: Global, document: &Document) -> Result<Vec<u8>, KeyError>
     ensures { AnswersKey zeros (content document.now) result }
 {
@@ -100,7 +100,7 @@ pub fn meaning_key_before_of_element(
     element_key_where(Zeros::Apart, alloc, name, value)
 }
 
-/// The key of the document that has this element alone, with its zeros taken so.
+/// The key of the document that has this element alone, with its zeros taken as `zeros` says.
 fn element_key_where(
     zeros: Zeros,
     alloc: Global,

@@ -1,5 +1,5 @@
-//! Laws of meaning. Each function below does nothing, and its contract is the law. It is said of sound values: their
-//! numbers and texts are those of their kinds, and no key stands twice. Every value at hand is sound, as `soundness`
+//! Laws of meaning. Each function below does nothing, and its contract is the law. The laws hold of sound values: their
+//! numbers and texts are those of their kinds, and no key occurs twice. Every value at hand is sound, as `soundness`
 //! says.
 
 ghost use Rattle.std.specs.Prelude.{MatchResult, ◌≡◌, ◌↔◌, ◌≤◌, ◌⊎◌, IsTrue, List, ℕ, length};
@@ -59,8 +59,8 @@ pub fn keys_keep_sizes()
     ensures trees { (d : Members) → IsClean (document d) → IsSound (document d) → size (norm_members_in_order d) ≡ size d }
 {}
 
-/// Bytes that pass the gate are refused by no test: where a fault or too many levels are reported, they are there.
-/// Bytes that don't pass are refused in one way, but that of `Faulty` and `TooDeep` either is reported if both hold.
+/// Bytes that pass the gate are refused by no test: if a fault or too many levels are reported, they are there. Bytes
+/// that don't pass are refused in one way, except that either of `Faulty` and `TooDeep` is reported if both hold.
 pub fn one_answer_of_the_gate()
     ensures passes { (bytes : List ℕ) (error : AnyGateError) → Passes bytes → IsRefused bytes error → ⊥ }
     ensures refused { (bytes : List ℕ) (e f : AnyGateError) → IsRefused bytes e → IsRefused bytes f
@@ -74,7 +74,7 @@ pub fn passing_means()
 {}
 
 /// What means the same as a plain value is plain. Two documents of one member each, under one key, mean the same
-/// exactly where their values do.
+/// exactly if their values do.
 pub fn same_values()
     ensures plain { (v w : Value) → IsSound v → IsSound w → Same v w → IsPlain w → IsPlain v }
     ensures under { (k : List ℕ) (v w : Value) → Same (document (member k v no_members)) (document (member k w no_members)) ↔ Same v w }
@@ -86,21 +86,21 @@ pub fn normal_forms_are_clean()
 {}
 
 /// What meant the same while the two zeros of a double were apart means the same now. A key from before that is a key
-/// now is of a document that means the same, so no row under an old key stands in the way of a row under its new one,
-/// but where both mean the same.
+/// now is of a document that means the same, so no row under an old key is in the way of a row under its new one,
+/// unless both mean the same.
 pub fn meanings_from_before()
     ensures same { (v w : Value) → IsSound v → IsSound w → SameBefore v w → Same v w }
     ensures keys { (d e : Members) → IsPlain (document d) → IsSound (document d) → IsPlain (document e) → IsSound (document e)
         → length (key_before d) ≤ length_limit → length (key e) ≤ length_limit → key_before d ≡ key e → key d ≡ key e }
 {}
 
-/// Errors are equal where they are one.
+/// Errors are equal if they are the same.
 pub fn equal_errors()
     ensures keys { (x y : AnyKeyError) → IsTrue (⟦<KeyError as PartialEq>⟧.eq x y) ↔ (x ≡ y) }
     ensures gate { (x y : AnyGateError) → IsTrue (⟦<GateError as PartialEq>⟧.eq x y) ↔ (x ≡ y) }
 {}
 
-/// A clean document that is written into a buffer comes back from it. It is refused where it has no written form, or a
+/// A clean document that is written into a buffer comes back from it. It is refused if it has no written form, or a
 /// growth is refused, and for no other reason.
 pub fn documents_come_back(alloc: Global, document: &Document) -> bson_frame::Result<Document>
     ensures { IsClean (document_tree document.now) → MatchResult result (λ back. content back ≡ content document.now)

@@ -121,7 +121,7 @@ fn length_of_scalar(value: &Bson) -> usize
     }
 }
 
-/// An old binary has its length once more (bsonspec.org 1.1, "subtype").
+/// An old binary has its length a second time (bsonspec.org 1.1, "subtype").
 fn length_of_binary(binary: &Binary) -> usize
     ensures { result ≡ scalar_size (normal_scalar (with_subtype binary.now.subtype binary.now.bytes.items)) }
 {

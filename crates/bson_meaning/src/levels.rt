@@ -6,8 +6,8 @@ ghost use Rattle.bson_model.specs.View.{view, items_of, content};
 
 use bson_model::{Bson, Document};
 
-/// How many documents, arrays and scopes lie inside each other: 0 for a scalar, 1 for a document or array of scalars.
-/// No tree that fits into a machine has more than `usize::MAX`; it would be returned for such.
+/// How many documents, arrays and scopes are nested in each other: 0 for a scalar, 1 for a document or array of
+/// scalars. No tree that fits into a machine has more than `usize::MAX`; it would be returned for such.
 #[cycle(depth)]
 pub fn depth(value: &Bson) -> usize
     ensures { result ≡ min (levels (view value.now)) (2 ^ 64 - 1) }
@@ -20,7 +20,7 @@ pub fn depth(value: &Bson) -> usize
     }
 }
 
-/// How many documents, arrays and scopes lie inside each other, the document itself counted. Else as `depth`.
+/// How many documents, arrays and scopes are nested in each other, the document itself counted. Else as `depth`.
 pub fn depth_of_document(document: &Document) -> usize
     ensures { result ≡ min (levels (tree (content document.now))) (2 ^ 64 - 1) }
 {

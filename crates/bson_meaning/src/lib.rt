@@ -1,4 +1,4 @@
-//! What documents mean: their normal form, keys that are equal where the meaning is, and the gate for bytes.
+//! What documents mean: their normal form, keys that are equal if the meanings are, and the gate for bytes.
 #![tactic(auto)]
 
 mod compare;

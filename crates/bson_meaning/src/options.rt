@@ -18,7 +18,7 @@ pub(crate) fn same_options(options: &str, others: &str) -> bool
     has_counts_of(options, others) && has_counts_of(others, options)
 }
 
-/// Whether each character of the second text stands equally often in both.
+/// Whether each character of the second text occurs equally often in both.
 fn has_counts_of(text: &str, other: &str) -> bool
     ensures { IsTrue result ↔ StandAlike (chars text.now) (chars other.now) (chars other.now) }
 {

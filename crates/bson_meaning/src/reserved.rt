@@ -119,7 +119,7 @@ fn path_below(alloc: Global, document: &Document) -> Result<Option<String>, Allo
     Ok(None)
 }
 
-/// The path to the first reserved key below the top, where there is one: keys, and places in arrays, with dots between
+/// The path to the first reserved key below the top, if there is one: keys, and places in arrays, with dots between
 /// them. It fails only if a growth of memory was refused.
 pub fn reserved_path_below(alloc: Global, document: &Document) -> Result<Option<String>, AllocError>
     ensures path { IfOk result (λ o. option_map (λ t. string_bytes t) o ≡ path_of_members (content document.now)) }

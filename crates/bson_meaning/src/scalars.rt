@@ -34,7 +34,7 @@ fn quiet(double: DoubleBits) -> DoubleBits
     }
 }
 
-/// The double, or the quiet NaN of its sign where it is a NaN, or the positive zero where it is a zero and the zeros
+/// The double, or the quiet NaN of its sign if it is a NaN, or the positive zero if it is a zero and the zeros
 /// are one.
 #[tactic(auto, unfolding(crate::specs::Forms::normal_double))]
 pub(crate) fn normal_double(zeros: Zeros, double: DoubleBits) -> DoubleBits
@@ -49,7 +49,7 @@ pub(crate) fn normal_double(zeros: Zeros, double: DoubleBits) -> DoubleBits
     }
 }
 
-/// The double, or the positive zero where it is a zero.
+/// The double, or the positive zero if it is a zero.
 fn joined(double: DoubleBits) -> DoubleBits
     ensures { result.0 ≡ (if is_zero double.0 then 0 else double.0) }
 {
@@ -75,7 +75,7 @@ pub(crate) fn normal_decimal(decimal: &Decimal128) -> Decimal128
     Decimal128::from_bytes(bytes_of_number(normal_bits(number_of_bytes(&decimal.bytes()))))
 }
 
-/// The first form of 128 bits: where the coefficient is over its limit it is 0, and every NaN is the quiet positive one
+/// The first form of 128 bits: if the coefficient is over its limit it is 0, and every NaN is the quiet positive one
 /// (IEEE 754-2008, 3.5.2, binary encoding).
 #[tactic(auto, unfolding(bson_base::specs::Decimal::unpack))]
 fn normal_bits(bits: u128) -> u128

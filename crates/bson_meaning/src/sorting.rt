@@ -12,8 +12,8 @@ ghost use Rattle.bson_meaning.specs.Pairs.{sorted_pair};
 use bson_model::{Bson, Document, JavaScriptCodeWithScope};
 use std::alloc::{AllocError, Global};
 
-/// The document with its keys ascending by their bytes, and so each document and scope inside; arrays keep their order.
-/// The error is a refused growth; the document is dropped then.
+/// The document with its keys ascending by their bytes, and the same of each document and scope inside; arrays keep
+/// their order. The error is a refused growth; the document is dropped then.
 #[cycle(sorted)]
 pub fn sorted(alloc: Global, document: Document) -> Result<Document, AllocError>
     ensures { IfOk result (λ d. content d ≡ asc_members (content document)) }

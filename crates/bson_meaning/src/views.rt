@@ -16,8 +16,8 @@ use crate::scalars::{Zeros, normal_decimal, normal_double, normal_subtype};
 use bson_model::{Bson, Document};
 use bson_raw::{RawArray, RawBsonRef, RawDocument, RawElement};
 
-/// Whether a view means the same as a value, where the view has no fault and no key twice at any level; of other views
-/// nothing is said. Each key is looked up in the index of its document. Takes no memory.
+/// Whether a view means the same as a value, if the view has no fault and no key twice at any level; for other views
+/// the result means nothing. Each key is looked up in the index of its document. Takes no memory.
 #[cycle(views)]
 pub fn same_as_raw(raw: RawBsonRef<'_>, value: &Bson) -> bool
     ensures { (v : Value) → SpellsRawValue (ref_value raw.entry) v → HasDistinctKeys v → IsTrue result ↔ Same v (view value.now) }

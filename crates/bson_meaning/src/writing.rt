@@ -1,7 +1,7 @@
 //! The bytes of a tree's normal form with its keys in order. Neither is made: the pairs are written as their keys
 //! ascend.
 //!
-//! Where a call is refused, a part of its bytes may have been appended.
+//! If a call is refused, a part of its bytes may have been appended.
 
 ghost use Rattle.std.specs.Prelude.{◌≡◌, ◌++◌, map, IfErr, IfOk, OnOk};
 ghost use Rattle.bson_base.specs.Kinds.{IsPlain};
@@ -24,7 +24,7 @@ use bson_frame::Result;
 use bson_model::{Bson, Document, ElementType, JavaScriptCodeWithScope, Regex};
 use std::alloc::Global;
 
-/// The bytes of a document. `MalformedValue` if a 00 stands in a key, a pattern or options, and if the bytes are over
+/// The bytes of a document. `MalformedValue` if a 00 is in a key, a pattern or options, and if the bytes are over
 /// 2147483647; `OutOfMemory` if a growth is refused. No key is reported.
 pub(crate) fn encode_in_order(zeros: Zeros, alloc: Global, document: &Document) -> Result<Vec<u8>>
     ensures ok { IfOk result (λ b. b.items ≡ encode (norm_members_in_order zeros (content document.now))) }
@@ -126,7 +126,7 @@ fn write_scoped(zeros: Zeros, code: &JavaScriptCodeWithScope, out: &mut Vec<u8>)
     put_length(out, start)
 }
 
-/// Appends the payload of a value. It may be too long for a length to say if no length counts it.
+/// Appends the payload of a value. It may be too long for a length to hold, if no length counts it.
 #[cycle(in_order)]
 fn write_normal(zeros: Zeros, value: &Bson, out: &mut Vec<u8>) -> Result<()>
     ensures ok { OnOk result (out.new.items ≡ out.old.items ++ value_bytes (norm_in_order zeros (view value.now))) }

@@ -14,7 +14,7 @@ use Rattle.bson_raw.specs.declared.bson_ref.RawBsonRef.{RawBsonRef}
 use Rattle.bson_raw.specs.ReadValue.{IsValue}
 use Rattle.bson_raw.specs.Read.{GetAnswer}
 
--- the key of a refusal: of an array the index in decimal
+-- the key of a refusal; for an array, the index in decimal
 abbrev pub asked_text : Asked → List ℕ
 asked_text (Key key) = key.now
 asked_text (Place index) = decimal index
@@ -23,7 +23,7 @@ asked_text (Place index) = decimal index
 abbrev pub any_value : RawBsonRef → Option RawBsonRef
 any_value v = Some v
 
--- an element was found, and of its value the getter takes this
+-- an element was found, and this is what the getter takes of its value
 pub record TakesValue {T : Type 0} (pick : RawBsonRef → Option T) (found : Option (Result Element ErrorKind)) (taken : Option T) : Type 0 where
   pub element : Element
   pub is_found : found ≡ Some (Ok element)
@@ -43,7 +43,7 @@ abbrev pub HasNoWant : ValueAccessErrorKind → Type 0
 HasNoWant (refusals.InvalidBson x) = x.kind ≢ faults.OutOfMemory
 HasNoWant kind = Unit {0}
 
--- a refusal of this kind under the key, or out of memory in its place, under the empty key
+-- a refusal of this kind under the key, or out of memory instead, under the empty key
 abbrev pub IsAccessRefusal : List ℕ → ValueAccessErrorKind → ValueAccessError → Type 0
 IsAccessRefusal key kind e = ((e.kind ≡ kind) × (asked_key e ≡ key) × HasNoWant kind) ⊎ ((e.kind ≡ refusals.OutOfMemory) × (asked_key e ≡ []))
 

@@ -50,7 +50,7 @@ EndsLongEnough [] = Unit {0}
 EndsLongEnough (e ∷ []) = IsLongEnough e
 EndsLongEnough (e ∷ f ∷ elements) = EndsLongEnough (f ∷ elements)
 
--- a walk without a structural fault that ends so gains the element
+-- a walk without a structural fault that ends this way gains the element
 abbrev pub Gains : List ℕ → List ℕ → Element → Type 0
 Gains old new e = (elements : List Element) → IsDocumentWalk old elements None → EndsLongEnough elements → IsDocumentWalk new (elements ++ e ∷ []) None
 

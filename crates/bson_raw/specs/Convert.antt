@@ -35,7 +35,7 @@ elements_in kinds.Array payload = Some (drop 4 payload)
 elements_in kinds.JavaScriptCodeWithScope payload = Some (drop 4 (scope_in payload))
 elements_in tag payload = None
 
--- The way leads past elements that spell values to a fault: where there is no frame, under no key, or in the
+-- The way leads past elements that spell values to a fault: no frame, which is reported under no key, or a fault in the
 -- payload of an element, under its key.
 abbrev pub IsFirstFault : List ℕ → Way → Option (List ℕ) → ErrorKind → Type 0
 IsFirstFault bytes here None kind = (bytes ≢ 0 ∷ []) × IsStructuralFault bytes kind
@@ -52,7 +52,7 @@ abbrev pub HasFaultIn : Element → Option (List ℕ) → ErrorKind → Type 0
 HasFaultIn e key kind = ((key ≡ Some e.key) × IsPayloadFault e.tag e.payload kind)
     ⊎ ((inner : List ℕ) × IsFaultless e.tag e.payload × (elements_in e.tag e.payload ≡ Some inner) × HasFault inner key kind)
 
--- a fault is reported: out of memory, under no key, or a kind and a key of which this holds
+-- a fault is reported: out of memory, under no key, or a kind and a key for which Fault holds
 abbrev pub Told : (Option (List ℕ) → ErrorKind → Type 0) → Option (List ℕ) → ErrorKind → Type 0
 Told Fault key MalformedValue = Fault key MalformedValue
 Told Fault key Utf8EncodingError = Fault key Utf8EncodingError

@@ -22,7 +22,7 @@ IsInputLength n = (5 ≤ n) × (n ≤ size_limit)
 abbrev pub AreDeclared : List ℕ → Type 0
 AreDeclared bytes = IsInputLength (number bytes) × (length bytes ≡ number bytes)
 
--- too few for a length, or fewer than are declared
+-- too few bytes for a length, or fewer than are declared
 abbrev pub EndInDocument : List ℕ → Type 0
 EndInDocument bytes = (length bytes < 4) ⊎ ((4 ≤ length bytes) × IsInputLength (number bytes) × (length bytes < number bytes))
 
@@ -39,7 +39,7 @@ ReadsDocument old new (Err BadLength) = (bytes : List ℕ) × Took old new bytes
 ReadsDocument old new (Err (Raw e)) = (bytes : List ℕ) × Took old new bytes × AreDeclared bytes × IsRawFault bytes e
 ReadsDocument old new (Err Memory) = new.failures ≡ old.failures
 
--- the next document of a source that gives one behind the other: None where it had nothing left
+-- the next document of a source that gives one after the other: None if it had nothing left
 abbrev pub ReadsNextDocument : Feed → Feed → Result (Option Document) ReadError → Type 0
 ReadsNextDocument old new (Ok None) = TookAll old new []
 ReadsNextDocument old new (Ok (Some d)) = ReadsDocument old new (Ok d)

@@ -7,7 +7,7 @@ use Rattle.bson_raw.specs.declared.bson.RawBson.TheVariants.{Array}
 use Rattle.bson_raw.specs.Buffer.{array_buffer_bytes, next_place}
 use Rattle.bson_raw.specs.Walk.{walk_items, OnWalk}
 
--- the next value has the number of the items as its place; a fault counts as an item
+-- the place of the next value is the number of the items; a fault counts as an item
 abbrev pub GoesOn : RawArrayBuf → Type 0
 GoesOn a = OnWalk (array_buffer_bytes a) (λ elements fault. next_place a ≡ length (walk_items elements fault))
 

@@ -30,8 +30,8 @@ CanBeRaw (values.array vs) = CanBeWritten (values.array vs)
 CanBeRaw (values.document ms) = CanBeWritten (values.document ms)
 CanBeRaw (values.scoped_code t ms) = CanBeWritten (values.document ms)
 
--- a document went out; or nothing did, as it can't be written or memory ran out; or a beginning, as a call of the device
--- failed. Of a device is known how many of its calls failed, and the bytes that it took, if it knows them.
+-- a document was written; or nothing was, as it can't be written or memory ran out; or a prefix was, as a call of the
+-- device failed. What is known of a device: how many of its calls failed, and the bytes that it took, if it knows them.
 abbrev pub SendsDocument : Members → Tally → Tally → Result (Unit {0}) WriteError → Type 0
 SendsDocument d old new (Ok x) = CanBeWritten (values.document d) × (new.failures ≡ old.failures) × Appends old.taken new.taken (encode d)
 SendsDocument d old new (Err Writer) = CanBeWritten (values.document d) × (new.failures ≡ old.failures + 1) × TakesBeginning old.taken new.taken (encode d)

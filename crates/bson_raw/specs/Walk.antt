@@ -20,7 +20,7 @@ IsWalk bytes (e ∷ elements) fault = (rest : List ℕ) × IsFirstFrame bytes e 
 abbrev pub IsDocumentWalk : List ℕ → List Element → Option ErrorKind → Type 0
 IsDocumentWalk bytes elements fault = IsWalk (drop 4 bytes) elements fault
 
--- it holds of the walk of the bytes: of its elements, and of the structural fault that it ends at
+-- P holds of the walk of the bytes: of its elements, and of the structural fault that it ends at
 abbrev pub OnWalk : List ℕ → (List Element → Option ErrorKind → Type 0) → Type 0
 OnWalk bytes P = (elements : List Element) (fault : Option ErrorKind) → IsDocumentWalk bytes elements fault → P elements fault
 
@@ -30,7 +30,7 @@ walk_items [] None = []
 walk_items [] (Some kind) = Err kind ∷ []
 walk_items (e ∷ elements) fault = Ok e ∷ walk_items elements fault
 
--- one after the other, items are the walk of a document, each as R says
+-- the items are those of the walk of a document, in order, each as R says
 pub record YieldsWalk {T : Type 0} (R : Result Element ErrorKind → T → Type 0) (bytes : List ℕ) (items : List T) : Type 0 where
   pub elements : List Element
   pub fault : Option ErrorKind

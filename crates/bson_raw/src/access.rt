@@ -33,7 +33,7 @@ impl<'k> Asked<'k> {
         }
     }
 
-    /// A refusal of what was asked for; out of memory in its place if there is none for its key.
+    /// A refusal of what was asked for; out of memory instead if there is none for its key.
     fn refusal(self, alloc: Global, kind: ValueAccessErrorKind) -> ValueAccessError
         requires { HasNoWant kind }
         ensures { IsAccessRefusal (asked_text self.entry) kind result }

@@ -97,8 +97,8 @@ fn finish_append(bytes: &mut Vec<u8>, end: usize, tag: u8) -> Result<()>
     }
 }
 
-/// Puts a value into the bytes of a document, under a key and in front of the final 00. `MalformedValue` if a 00 stands
-/// in the key, a pattern or options, and if the document would be over 2147483647 bytes. A refusal changes nothing.
+/// Puts a value into the bytes of a document, under a key and in front of the final 00. `MalformedValue` if a 00 is in
+/// the key, a pattern or options, and if the document would be over 2147483647 bytes. A refusal changes nothing.
 pub(crate) fn append_to(bytes: &mut Vec<u8>, key: &str, value: RawBsonRef<'_>) -> Result<()>
     requires { IsEnvelope bytes.old.items }
     ensures bytes { AppendsElement bytes.old.items bytes.new.items key.now (ref_value value.entry) result }

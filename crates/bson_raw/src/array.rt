@@ -19,7 +19,7 @@ use bson_model::{Array, STACK_LEVELS};
 use std::alloc::Global;
 
 /// A view of the bytes of an array: a document whose keys don't count (bsonspec.org 1.1, element type 04). Two views
-/// are equal where their bytes are.
+/// are equal if their bytes are.
 #[derive(Clone, Copy, Debug, PartialEq)]
 pub struct RawArray<'a> {
     pub(crate) document: RawDocument<'a>,
@@ -51,7 +51,7 @@ impl<'a> RawArray<'a> {
     }
 
     /// The values in order, payload faults in their places, and a structural fault last. Memory is taken for the key of
-    /// a payload fault alone; if there is none, out of memory is returned in its place and the walk goes on.
+    /// a payload fault alone; if there is none, out of memory is returned instead, and the walk goes on.
     pub fn iter(self, alloc: Global) -> RawArrayIter<'a>
         ensures start { values_left result ≡ Some (drop 4 (array_bytes self.entry)) }
         ensures walk { (items : List (Result AnyValue Fault)) → Drains value_steps result items

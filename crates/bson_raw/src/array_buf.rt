@@ -14,7 +14,7 @@ use bson_frame::Error;
 use std::alloc::{AllocError, Global};
 
 /// The bytes of one array: a document whose keys are the places in decimal (bsonspec.org 1.1, element type 04). Two are
-/// equal where their bytes are.
+/// equal if their bytes are.
 #[derive(Drop)]
 #[derive_where(Debug, PartialEq)]
 pub struct RawArrayBuf {
@@ -61,7 +61,7 @@ impl RawArrayBuf {
 
     /// The array of these values, one after the other.
     ///
-    /// The first refusal ends it and is returned: `MalformedValue`, under no key, if a 00 stands in a pattern or
+    /// The first refusal ends it and is returned: `MalformedValue`, under no key, if a 00 is in a pattern or
     /// options, and if the array would be over 2147483647 bytes; `OutOfMemory` if a growth is refused.
     pub fn from_iter(alloc: Global, values: Vec<RawBson>) -> Result<RawArrayBuf, Error>
         ensures bytes { Builds array_buffer_bytes (items_from 0 values.items) result }
@@ -76,7 +76,7 @@ impl RawArrayBuf {
 
     /// Puts a value last. Its key is the number of the values in front of it, in decimal.
     ///
-    /// `MalformedValue`, under no key, if a 00 stands in a pattern or options, and if the array would be over
+    /// `MalformedValue`, under no key, if a 00 is in a pattern or options, and if the array would be over
     /// 2147483647 bytes. A refusal changes nothing.
     pub fn push(&mut self, value: RawBson) -> Result<(), Error>
         ensures value { AppendsElement (array_buffer_bytes self.old) (array_buffer_bytes self.new) (decimal (next_place self.old)) (own_value value) result }
@@ -104,7 +104,7 @@ impl RawArrayBuf {
     }
 
     /// The values in order, payload faults in their places, and a structural fault last. Memory is taken for the key of
-    /// a payload fault alone; if there is none, out of memory is returned in its place and the walk goes on.
+    /// a payload fault alone; if there is none, out of memory is returned instead, and the walk goes on.
     pub fn iter(&self) -> RawArrayIter<'_>
         ensures start { values_left result ≡ Some (drop 4 (array_buffer_bytes self.now)) }
         ensures walk { (items : List (Result AnyValue Fault)) → Drains value_steps result items

@@ -36,7 +36,7 @@ pub struct RawJavaScriptCodeWithScope {
     pub scope: RawDocumentBuf,
 }
 
-/// A value that owns its bytes (bsonspec.org 1.1, "element"). Two are equal where they are of one kind and their bytes
+/// A value that owns its bytes (bsonspec.org 1.1, "element"). Two are equal if they are of one kind and their bytes
 /// and numbers are equal.
 #[derive(Debug, PartialEq, Drop)]
 pub enum RawBson {

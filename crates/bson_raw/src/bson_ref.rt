@@ -61,7 +61,7 @@ pub struct RawDbPointerRef<'a> {
     pub id: ObjectId,
 }
 
-/// A value that borrows its bytes (bsonspec.org 1.1, "element"). Two are equal where they are of one kind and their
+/// A value that borrows its bytes (bsonspec.org 1.1, "element"). Two are equal if they are of one kind and their
 /// bytes and numbers are equal.
 #[derive(Clone, Copy, Debug, PartialEq)]
 pub enum RawBsonRef<'a> {

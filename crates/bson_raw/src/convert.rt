@@ -1,6 +1,6 @@
 //! From bytes to trees. Elements are read from the front, once each, and the reader goes into an array, a document or a
-//! scope where it meets it; so the fault that is reported is the first in the order of the bytes. The stack is memory
-//! too: where more than `STACK_LEVELS` lie inside each other, a call returns out of memory before it goes deeper.
+//! scope when it meets one; so the fault that is reported is the first in the order of the bytes. The stack is memory
+//! too: if more than `STACK_LEVELS` are nested in each other, a call returns out of memory before it goes deeper.
 
 ghost use Rattle.std.specs.Prelude.{◌≡◌, ◌≢◌, ℕ, List, ◌<◌, ◌↔◌, ◌∷◌, ◌+◌, [], drop, length, string_bytes, IfOk, IsTrue, MatchResult, OnOk};
 ghost use Rattle.bson_base.specs.Options.{sorted_text};
@@ -40,10 +40,10 @@ pub(crate) fn elements(document: RawDocument<'_>) -> &[u8]
     elements
 }
 
-// So many pairs are put into a document as they come.
+// How many pairs are put into a document as they come.
 const FIRST_PAIRS: usize = 64;
 
-/// Puts a value under a key. A key that is there keeps its place, and its value goes.
+/// Puts a value under a key. A key that is there keeps its place, and its old value is dropped.
 fn put_pair(
     alloc: Global,
     document: &mut Document,
@@ -70,7 +70,7 @@ fn keep_pair(
     Ok(())
 }
 
-/// Puts a pair into the document, or keeps it for the end where the document has many already.
+/// Puts a pair into the document, or keeps it for the end if the document has many already.
 fn take_pair(
     alloc: Global,
     document: &mut Document,
@@ -89,8 +89,8 @@ fn take_pair(
     }
 }
 
-/// The document of these elements, among which so many levels may lie. Many pairs are put together at the end, so that
-/// they take no more than their sorting, in whatever order of keys.
+/// The document of these elements, among which `levels` levels may be. Many pairs are put in together at the end, so
+/// that they take no longer than their sorting, whatever the order of their keys.
 #[cycle(convert)]
 pub(crate) fn document_of(alloc: Global, elements: &[u8], levels: u32) -> Result<Document, Error>
     ensures { ConvertsMembers elements.now result }
@@ -109,7 +109,7 @@ pub(crate) fn document_of(alloc: Global, elements: &[u8], levels: u32) -> Result
     Ok(document)
 }
 
-/// The array of these elements, whatever their keys. So many levels may lie among them.
+/// The array of these elements, whatever their keys, among which `levels` levels may be.
 #[cycle(convert)]
 pub(crate) fn array_of(alloc: Global, elements: &[u8], levels: u32) -> Result<Array, Error>
     ensures { ConvertsItems elements.now result }
@@ -179,7 +179,7 @@ pub(crate) fn tree_of(alloc: Global, value: RawBsonRef<'_>, levels: u32) -> Resu
     }
 }
 
-/// Code with the tree of its scope, among whose elements so many levels may lie.
+/// Code with the tree of its scope, among whose elements `levels` levels may be.
 #[cycle(convert)]
 fn scoped_of(
     alloc: Global,

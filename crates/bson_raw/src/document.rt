@@ -21,8 +21,7 @@ use bson_model::{Document, STACK_LEVELS};
 use std::alloc::Global;
 
 /// A view of the bytes of one document (bsonspec.org 1.1, "document"): at least 5 bytes, their number in the first
-/// four, and 00 as the last. What stands between isn't looked at until it is read. Two views are equal where their
-/// bytes are.
+/// four, and 00 as the last. What is between isn't looked at until it is read. Two views are equal if their bytes are.
 #[derive(Clone, Copy, Debug, PartialEq)]
 pub struct RawDocument<'a> {
     pub(crate) bytes: &'a [u8],
@@ -82,7 +81,7 @@ impl<'a> RawDocument<'a> {
     }
 
     /// The keys and values in order, payload faults in their places, and a structural fault last. Memory is taken for
-    /// the key of a payload fault alone; if there is none, out of memory is returned in its place and the walk goes on.
+    /// the key of a payload fault alone; if there is none, out of memory is returned instead, and the walk goes on.
     pub fn iter(self, alloc: Global) -> Iter<'a>
         ensures start { pairs_left result ≡ Some (drop 4 (bytes_of self.entry)) }
         ensures walk { (items : List (Result (Bor (List ℕ) × AnyValue) Fault)) → Drains pair_steps result items
@@ -228,14 +227,14 @@ impl RawDocument<'_> {
     ghost use Rattle.bson_raw.specs.Convert.{HasFault, TellsFault};
     ghost use Rattle.bson_raw.specs.View.{bytes_of};
 
-    /// The document that the bytes mean: a repeated key has its last value in the place of its first, and the options
+    /// The document that the bytes mean: a repeated key has its last value at the place of its first, and the options
     /// of a regular expression are in the order of their characters.
     ///
-    /// Where an element at any depth is faulty, the first fault in the order of the bytes: `MalformedValue`, or
-    /// `Utf8EncodingError` where a text isn't UTF-8, under the key of the element whose payload is faulty, or under
-    /// none where bytes begin with no element. `OutOfMemory`, under no key, if a growth was refused, and if over 1000
-    /// documents, arrays and scopes lie inside each other, this one among them: the stack is memory too, and the call
-    /// goes no deeper.
+    /// If an element at any depth is faulty, the error is the first fault in the order of the bytes: `MalformedValue`,
+    /// or `Utf8EncodingError` if a text isn't UTF-8, under the key of the element whose payload is faulty, or under
+    /// none if bytes begin with no element. `OutOfMemory`, under no key, if a growth was refused, and if over 1000
+    /// documents, arrays and scopes are nested in each other, this one among them: the stack is memory too, and the
+    /// call goes no deeper.
     pub fn to_document(self, alloc: Global) -> Result<Document, Error>
         ensures tree { MatchResult result (λ d. Means (bytes_of self.entry) (content d))
             (TellsFault (HasFault (drop 4 (bytes_of self.entry)))) }

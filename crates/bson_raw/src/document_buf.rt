@@ -16,7 +16,7 @@ use bson_frame::Error;
 use std::alloc::{AllocError, Global};
 
 /// The bytes of one document (bsonspec.org 1.1, "document"): at least 5 bytes, their number in the first four, and 00
-/// as the last. What stands between isn't looked at until it is read. Two are equal where their bytes are.
+/// as the last. What is between isn't looked at until it is read. Two are equal if their bytes are.
 #[derive(Debug, PartialEq, Drop)]
 pub struct RawDocumentBuf {
     pub(crate) bytes: Vec<u8>,
@@ -73,7 +73,7 @@ impl RawDocumentBuf {
 
     /// The document of these values under their keys, one after the other.
     ///
-    /// The first refusal ends it and is returned: `MalformedValue`, under no key, if a 00 stands in a key, a pattern or
+    /// The first refusal ends it and is returned: `MalformedValue`, under no key, if a 00 is in a key, a pattern or
     /// options, and if the document would be over 2147483647 bytes; `OutOfMemory` if a growth is refused.
     pub fn from_iter(alloc: Global, pairs: Vec<(String, RawBson)>) -> Result<RawDocumentBuf, Error>
         ensures { Builds buffer_bytes (map raw_pair pairs.items) result }
@@ -88,7 +88,7 @@ impl RawDocumentBuf {
 
     /// Puts a value last, under a key. It takes time in proportion to the element, except for growths of the buffer.
     ///
-    /// `MalformedValue`, under no key, if a 00 stands in the key, a pattern or options, and if the document would be
+    /// `MalformedValue`, under no key, if a 00 is in the key, a pattern or options, and if the document would be
     /// over 2147483647 bytes. A refusal changes nothing.
     pub fn append_ref(&mut self, key: &str, value: RawBsonRef<'_>) -> Result<(), Error>
         ensures bytes { AppendsElement (buffer_bytes self.old) (buffer_bytes self.new) key.now (ref_value value.entry) result }
@@ -122,7 +122,7 @@ impl RawDocumentBuf {
     }
 
     /// The keys and values in order, payload faults in their places, and a structural fault last. Memory is taken for
-    /// the key of a payload fault alone; if there is none, out of memory is returned in its place and the walk goes on.
+    /// the key of a payload fault alone; if there is none, out of memory is returned instead, and the walk goes on.
     pub fn iter(&self) -> Iter<'_>
         ensures start { pairs_left result ≡ Some (drop 4 (buffer_bytes self.now)) }
         ensures walk { (items : List (Result (Bor (List ℕ) × AnyValue) Fault)) → Drains pair_steps result items

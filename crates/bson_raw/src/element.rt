@@ -46,7 +46,7 @@ impl<'a> RawElement<'a> {
         self.frame.tag
     }
 
-    /// The value, or the kind of the payload fault: `Utf8EncodingError` where a text isn't UTF-8, else
+    /// The value, or the kind of the payload fault: `Utf8EncodingError` if a text isn't UTF-8, else
     /// `MalformedValue`. Takes no memory.
     pub fn value_or_kind(&self) -> Result<RawBsonRef<'a>, ErrorKind>
         ensures { IsDecoded (parts_of self.now).tag (parts_of self.now).payload result }
@@ -55,8 +55,8 @@ impl<'a> RawElement<'a> {
         value_of(self.frame.tag, self.frame.payload)
     }
 
-    /// The value, or the payload fault under its key. Memory is taken for that key alone; where it finds none, the
-    /// fault is out of memory, under no key.
+    /// The value, or the payload fault under its key. Memory is taken for that key alone; if there is none, the fault
+    /// is out of memory, under no key.
     pub fn value(&self, alloc: Global) -> Result<RawBsonRef<'a>, Error>
         ensures { ReadsElement (parts_of self.now) result }
     {
@@ -77,10 +77,10 @@ impl RawElement<'_> {
 
     /// The value that the payload means, as a tree.
     ///
-    /// Where the payload or an element at any depth inside is faulty, the first fault in the order of the bytes:
-    /// `MalformedValue`, or `Utf8EncodingError` where a text isn't UTF-8, under the key of the element whose payload is
-    /// faulty, or under none where bytes begin with no element. `OutOfMemory`, under no key, if a growth was refused,
-    /// and if over 1000 documents, arrays and scopes lie inside each other, the value among them.
+    /// If the payload or an element at any depth inside is faulty, the error is the first fault in the order of the
+    /// bytes: `MalformedValue`, or `Utf8EncodingError` if a text isn't UTF-8, under the key of the element whose
+    /// payload is faulty, or under none if bytes begin with no element. `OutOfMemory`, under no key, if a growth was
+    /// refused, and if over 1000 documents, arrays and scopes are nested in each other, the value among them.
     pub fn to_bson(&self, alloc: Global) -> Result<Bson, Error>
         ensures tree { MatchResult result (IsValueOf (parts_of self.now)) (TellsFault (HasFaultIn (parts_of self.now))) }
         ensures none { IfErr result (TellsFault (λ _ _. (v : Value) → value_kind v ≡ (parts_of self.now).tag → SpellsValue (parts_of self.now).payload v → ⊥)) }
@@ -91,7 +91,7 @@ impl RawElement<'_> {
     }
 }
 
-/// A fault under a key; out of memory in its place if there is none for the key.
+/// A fault under a key; out of memory instead if there is none for the key.
 pub(crate) fn fault_under(alloc: Global, key: &str, kind: ErrorKind) -> Error
     ensures { IsFaultUnder key.now kind result }
 {

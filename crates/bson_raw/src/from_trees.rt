@@ -23,7 +23,7 @@ use std::alloc::Global;
 impl RawDocumentBuf {
     /// The written form of a document (bsonspec.org 1.1, "document").
     ///
-    /// `MalformedValue`, under no key, if a 00 stands in a key, a pattern or options, and if the bytes would be over
+    /// `MalformedValue`, under no key, if a 00 is in a key, a pattern or options, and if the bytes would be over
     /// 2147483647; `OutOfMemory` if a growth is refused.
     pub fn from_document(alloc: Global, document: &Document) -> Result<RawDocumentBuf, Error>
         ensures ok { IfOk result (λ d. buffer_bytes d ≡ encode (content document.now)) }
@@ -45,9 +45,9 @@ impl RawDocumentBuf {
 }
 
 impl RawBson {
-    /// The value, with what stands inside written.
+    /// The value, with what is inside written.
     ///
-    /// `MalformedValue`, under no key, if a 00 stands in a key, a pattern or options inside, and if an array, a
+    /// `MalformedValue`, under no key, if a 00 is in a key, a pattern or options inside, and if an array, a
     /// document or a scope would be over 2147483647 bytes; `OutOfMemory` if a growth is refused.
     pub fn from_bson(alloc: Global, value: Bson) -> Result<RawBson, Error>
         ensures ok { IfOk result (λ v. own_value v ≡ raw_of (view value)) }

@@ -55,7 +55,7 @@ pub fn fault_comes_last()
         → k + 1 ≡ length (walk_items elements fault) }
 {}
 
-/// A document yields nothing exactly where it is empty.
+/// A document yields nothing exactly if it is empty.
 pub fn empty_yields_nothing()
     ensures { (bytes : List ℕ) → OnWalk bytes (λ elements fault. (IsDocumentWalk bytes [] None ↔ (walk_items elements fault ≡ []))) }
 {}
@@ -99,8 +99,8 @@ pub fn one_first_fault()
     bson_frame::laws::one_structural_fault();
 }
 
-/// Bytes that mean a document have no fault: not in their walk, not in a payload of it, and not at any depth. So it is
-/// with what a clean document is written as.
+/// Bytes that mean a document have no fault: not in their walk, not in a payload of it, and not at any depth. The same
+/// holds of what a clean document is written as.
 pub fn documents_have_no_fault()
     ensures walk { (bytes : List ℕ) (d : Members) (elements : List Element) (fault : Option Kind) → Means bytes d → IsDocumentWalk bytes elements fault
         → (fault ≡ None) × All (λ e. IsFaultless e.tag e.payload) elements }

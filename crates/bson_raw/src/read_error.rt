@@ -9,7 +9,7 @@ use std::alloc::{AllocError, AllocFailed};
 /// Why no document was read from a reader.
 #[derive(Debug, Drop, PartialEq, thiserror::Error)]
 pub enum ReadError {
-    /// A read failed. Nothing is said of how far the reader was read.
+    /// A read failed. It isn't known how far the reader was read.
     #[error("the reader failed")]
     Reader,
     /// The reader came to its end inside the document; all that it had left was read.
@@ -21,7 +21,7 @@ pub enum ReadError {
     /// The bytes mean no document; as many as are declared were read. The kind isn't out of memory.
     #[error("{0}")]
     Raw(Error),
-    /// A growth was refused. Nothing is said of how far the reader was read.
+    /// A growth was refused. It isn't known how far the reader was read.
     #[error("out of memory")]
     Memory,
 }

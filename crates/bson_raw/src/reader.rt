@@ -34,7 +34,7 @@ fn read_head<R: Source>(reader: &mut R) -> Result<Option<[u8; 4]>, ReadError>
     }
 }
 
-/// The length that the first four bytes declare, where a document may have it.
+/// The length that the first four bytes declare, if a document may have it.
 fn declared(head: [u8; 4]) -> Result<usize, ReadError>
     ensures { MatchResult result (λ n. (n ≡ number head) × IsInputLength n)
         (λ e. (e ≡ BadLength) × (IsInputLength (number head) → ⊥)) }
@@ -49,7 +49,7 @@ fn declared(head: [u8; 4]) -> Result<usize, ReadError>
     Ok(number as usize)
 }
 
-/// Puts the first four bytes and those behind them, up to a length, in the place of what was in `room`.
+/// Replaces what was in `room` by the first four bytes and those behind them, up to a length.
 fn read_rest<R: Source>(
     reader: &mut R,
     head: [u8; 4],
@@ -76,7 +76,7 @@ fn read_rest<R: Source>(
     }
 }
 
-/// Puts the bytes of the next document in the place of what was in `room`; false if nothing was left.
+/// Replaces what was in `room` by the bytes of the next document; false if nothing was left.
 fn read_bytes<R: Source>(reader: &mut R, room: &mut Vec<u8>) -> Result<bool, ReadError>
     requires { CanFail (R.feed reader.old) }
     ensures { TakesDeclared (R.feed reader.old)
@@ -115,12 +115,12 @@ fn document_in(alloc: Global, bytes: &[u8]) -> Result<Document, ReadError>
     }
 }
 
-/// The next document of a reader that gives one behind the other, as `RawDocument::to_document` reads it; `None` if the
-/// reader had nothing left. Of the reader the bytes that the document declares are taken, and no more. `room` is memory
-/// that is kept from document to document: what it held is lost. Whoever calls it sees to it that fewer than 2⁶⁴ - 1
-/// calls of the reader have failed.
+/// The next document of a reader that gives one after the other, as `RawDocument::to_document` reads it; `None` if the
+/// reader had nothing left. Exactly the bytes that the document declares are taken from the reader. `room` is memory
+/// that is kept from document to document: what it held is lost. The caller makes sure that fewer than 2⁶⁴ - 1 calls of
+/// the reader have failed.
 ///
-/// `EndInside` if the reader ended behind at least one byte of the document; else each error is as `from_reader` reports
+/// `EndInside` if the reader ended after at least one byte of the document; else each error is as `from_reader` reports
 /// it.
 pub fn next_document<R: Source>(
     alloc: Global,
@@ -137,15 +137,15 @@ pub fn next_document<R: Source>(
     Ok(Some(document_in(alloc, room)?))
 }
 
-/// The document that the reader's next bytes mean, as `RawDocument::to_document` reads them. Of the reader the bytes
-/// that the document declares are taken, and no more. Whoever calls it sees to it that fewer than 2⁶⁴ - 1 calls of the
-/// reader have failed.
+/// The document that the reader's next bytes mean, as `RawDocument::to_document` reads them. Exactly the bytes that the
+/// document declares are taken from the reader. The caller makes sure that fewer than 2⁶⁴ - 1 calls of the reader have
+/// failed.
 ///
 /// `Reader` if a read failed; `EndInside` if the reader ended inside the document, which took all that was left;
 /// `BadLength` if the declared length is under 5 or over 16777216, which took four bytes; `Raw` if the bytes mean no
-/// document, which took as many as are declared: `MalformedValue` under no key where the last isn't 00, else the fault
-/// that `to_document` reports; `Memory` if a growth was refused, and if over 1000 levels lie inside each other, which
-/// took as many as are declared.
+/// document, which took as many as are declared: `MalformedValue` under no key if the last isn't 00, else the fault
+/// that `to_document` reports; `Memory` if a growth was refused, and if over 1000 levels are nested in each other,
+/// which took as many as are declared.
 pub fn from_reader<R: Source>(alloc: Global, reader: &mut R) -> Result<Document, ReadError>
     requires { CanFail (R.feed reader.old) }
     ensures { ReadsDocument (R.feed reader.old)

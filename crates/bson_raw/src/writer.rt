@@ -13,9 +13,9 @@ use std::alloc::Global;
 
 /// Writes a document (bsonspec.org 1.1, "document"). All its bytes are made before the first write.
 ///
-/// `Raw` if a 00 stands in a key, a pattern or options, or the document would be over 2147483647 bytes; `Memory` if a
-/// growth is refused; nothing went out then. `Writer` if a write failed, or took none of some bytes; a beginning went
-/// out.
+/// `Raw` if a 00 is in a key, a pattern or options, or the document would be over 2147483647 bytes; `Memory` if a
+/// growth is refused; nothing was written then. `Writer` if a write failed, or took none of some bytes; a prefix was
+/// written.
 pub fn to_writer<W: Sink>(
     alloc: Global,
     document: &Document,

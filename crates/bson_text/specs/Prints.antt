@@ -21,7 +21,7 @@ tokens_of_items ds = items_tokens (items_outline ds)
 abbrev pub tokens_of_members : Members → List Token
 tokens_of_members ms = members_tokens (members_outline ms)
 
--- the writer, which was old, has these tokens more
+-- these tokens were added to those of the old writer
 abbrev pub Adds : List Token → Written → Written → Type 0
 Adds ts old new = (new.tokens ≡ old.tokens ++ ts) × (new.before ≡ old.before)
 
@@ -30,7 +30,7 @@ abbrev pub AddsForm : {Y : Type 0} → (Y → List Token) → Option Y → Writt
 AddsForm tokens None old new = ⊥
 AddsForm tokens (Some y) old new = Adds (tokens y) old new
 
--- What is to be written was printed. Refused is what has no form, and else for want of memory alone.
+-- What is to be written was printed. What has no form is refused, and anything else only if out of memory.
 abbrev pub Prints : {Y : Type 0} → (Y → List Token) → Option Y → Result (Unit {0}) Error → Written → Written → Type 0
 Prints tokens w (Ok _) old new = AddsForm tokens w old new
 Prints tokens w (Err e) old new = RefusesForm e w
@@ -40,7 +40,7 @@ abbrev pub write_pairs : List (Key × Value) → Option Members
 write_pairs [] = Some no_members
 write_pairs (p ∷ ps) = option_and_then (λ j. option_map (member p.0 j) (write_pairs ps)) (write Canonical p.1)
 
--- The text is that of the tree. Refused is what has none, and else for want of memory alone.
+-- The text is that of the tree. It is refused if there is no tree, and else only if out of memory.
 abbrev pub WritesText : Option Data → List ℕ → Result (Unit {0}) Error → Type 0
 WritesText w t (Ok _) = (j : Data) × (w ≡ Some j) × (t ≡ compact_text j)
 WritesText w t (Err e) = RefusesForm e w

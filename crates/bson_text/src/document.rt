@@ -1,4 +1,4 @@
-//! Documents, with what stands in them, and the whole text.
+//! Documents, with what is in them, and the whole text.
 
 ghost use Rattle.std.specs.Prelude.{map, string_bytes};
 ghost use Rattle.bson_base.specs.Value.{array, document as tree};
@@ -91,8 +91,8 @@ fn print_scoped(
     Ok(())
 }
 
-/// Puts the text of a document's tree in canonical Extended JSON in the place of what `text` held, whose room is used
-/// again. The keys of each object ascend by their bytes.
+/// Replaces what `text` held by the text of a document's tree in canonical Extended JSON, and uses its room again. The
+/// keys of each object ascend by their bytes.
 ///
 /// `FiniteDouble` if a finite double other than the zeros is in the document, `Memory` if a growth was refused.
 pub fn write_canonical(alloc: Global, document: &Document, text: &mut String) -> Result<(), Error>

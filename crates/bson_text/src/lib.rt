@@ -1,4 +1,5 @@
-//! Documents as the text of their canonical Extended JSON (MongoDB Extended JSON v2), without a tree of JSON between.
+//! Documents as the text of their canonical Extended JSON (MongoDB Extended JSON v2), without a tree of JSON in
+//! between.
 #![tactic(auto)]
 
 mod document;

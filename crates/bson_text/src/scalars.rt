@@ -1,4 +1,4 @@
-//! Values with nothing inside, as they stand in canonical Extended JSON.
+//! Values with nothing inside, as they are in canonical Extended JSON.
 
 ghost use Rattle.std.specs.Prelude.{◌≡◌, [], ◌∷◌, true, option_map, string_bytes, IfOk, OnOk};
 ghost use Rattle.serde_json.specs.Data.{boolean as json_boolean, number as json_number, unsigned};

@@ -1,4 +1,4 @@
-//! Laws of `==`: views, buffers and errors are equal where all that they show is equal.
+//! Laws of `==`: views, buffers and errors are equal if all that they show is equal.
 
 ghost use Rattle.std.specs.Prelude.{◌≡◌, ◌↔◌, IsTrue, string_bytes};
 ghost use Rattle.bson_base.specs.Scalars.{id_bytes};
@@ -31,7 +31,7 @@ use crate::document_buf::RawDocumentBuf;
 use crate::read_error::ReadError;
 use crate::write_error::WriteError;
 
-/// Documents and arrays are equal where their bytes are, whether they borrow or own them.
+/// Documents and arrays are equal if their bytes are, whether they borrow or own them.
 pub fn equal_documents()
     ensures documents { (x y : AnyDocument) → IsTrue (⟦<RawDocument<'static> as PartialEq>⟧.eq x y) ↔ (bytes_of x ≡ bytes_of y) }
     ensures arrays { (x y : AnyArray) → IsTrue (⟦<RawArray<'static> as PartialEq>⟧.eq x y) ↔ (array_bytes x ≡ array_bytes y) }
@@ -39,7 +39,7 @@ pub fn equal_documents()
     ensures array_buffers { (x y : AnyArrayBuffer) → IsTrue (⟦<RawArrayBuf as PartialEq>⟧.eq x y) ↔ (array_buffer_bytes x ≡ array_buffer_bytes y) }
 {}
 
-/// Binary values, regular expressions, pointers and code with a scope are equal where all their parts are.
+/// Binary values, regular expressions, pointers and code with a scope are equal if all their parts are.
 pub fn equal_parts()
     ensures binaries { (x y : AnyBinaryRef) → IsTrue (⟦<RawBinaryRef<'static> as PartialEq>⟧.eq x y) ↔ ((x.subtype ≡ y.subtype) × (x.bytes.now ≡ y.bytes.now)) }
     ensures expressions { (x y : AnyRegexRef) → IsTrue (⟦<RawRegexRef<'static> as PartialEq>⟧.eq x y)
@@ -52,7 +52,7 @@ pub fn equal_parts()
         ↔ ((string_bytes x.code ≡ string_bytes y.code) × (buffer_bytes x.scope ≡ buffer_bytes y.scope)) }
 {}
 
-/// Values are equal where they are of one kind and show the same.
+/// Values are equal if they are of one kind and show the same.
 pub fn equal_values()
     ensures borrowed { (x y : AnyValue) → IsTrue (⟦<RawBsonRef<'static> as PartialEq>⟧.eq x y) ↔ (ref_value x ≡ ref_value y) }
     ensures owned { (x y : AnyOwned) → IsTrue (⟦<RawBson as PartialEq>⟧.eq x y) ↔ (own_value x ≡ own_value y) }
