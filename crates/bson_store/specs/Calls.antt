@@ -26,11 +26,11 @@ store_connection s = table_connection s.table
 abbrev pub store_state : {S : Type 0} → Ghosts S → Store S → State
 store_state g s = table_state g s.table
 
--- the rows of a store before a call and behind it are related so
+-- the rows of a store before a call and after it are related by P
 abbrev pub Relates : {S : Type 0} → Ghosts S → Store S → Store S → (List TableRow → List TableRow → Type 0) → Type 0
 Relates g old new P = Moves (store_state g old) (store_state g new) P
 
--- whatever table the rows showed, they show one now that the command took it to
+-- whatever table the rows showed, they now show one that the command took it to
 abbrev pub Does : model.Command → model.Reply → List TableRow → List TableRow → Type 0
 Does c r old new = (a : DocumentTable) → Represents old a → (b : DocumentTable) × Represents new b × Serves a c r b
 

@@ -1,4 +1,4 @@
--- The trees of a collection, as they are made and handed on.
+-- The trees of a collection, as they are made and passed to a taker.
 use Rattle.std.specs.Prelude.{◌≡◌, ◌⊎◌, ℕ, ◌+◌, List, [], ◌∷◌, ◌++◌, length, Option, Result, Ok, Err, map, MatchOption, MatchResult}
 use Rattle.serde_json.specs.Data.{Data}
 use Rattle.serde_json.specs.View.{view as data_of}
@@ -16,18 +16,18 @@ use Rattle.store_model.specs.Refusal.{refusal, refusal_at}
 use Rattle.bson_store.specs.Shown.{Represents}
 use Rattle.store_model.specs.declared.error.StoreError.{StoreError}
 
--- the tree that is wanted, or the refusal that stands in its place, or want of memory
+-- the tree that r has, or its refusal, at the place i; or out of memory
 abbrev pub TellsTree : Result Data ErrorKind → ℕ → Result Json StoreError → Type 0
 TellsTree r i (Ok j) = r ≡ Ok (data_of j)
 TellsTree r i (Err e) = (e ≡ refusal Memory) ⊎ ((k : ErrorKind) × (r ≡ Err k) × (e ≡ refusal_at k i))
 
--- the text of the tree that is wanted, or the refusal that stands in its place, or want of memory
+-- the text of the tree that r has, or its refusal, at the place i; or out of memory
 abbrev pub TellsText : Result Data ErrorKind → ℕ → List ℕ → Result (Unit {0}) StoreError → Type 0
 TellsText r i t (Ok x) = (j : Data) × (r ≡ Ok j) × (t ≡ compact_text j)
 TellsText r i t (Err e) = (e ≡ refusal Memory) ⊎ ((k : ErrorKind) × (r ≡ Err k) × (e ≡ refusal_at k i))
 
--- The tree that is wanted was taken behind these; or the taker refused it; or these were taken, and what stands in its place is
--- told, or memory or the database was wanting.
+-- The tree that r has was taken after these; or the taker refused it; or only these were taken, and the refusal of r is
+-- reported, or memory ran out, or the database refused.
 abbrev pub HandsOn : (List Data → Type 0) → (List Data → StoreError → Type 0) → List Data → ℕ → Result Data ErrorKind → Result ℕ StoreError → Type 0
 HandsOn took refused_by out i r (Ok next) = (j : Data) × (r ≡ Ok j) × took (out ++ j ∷ []) × (next ≡ i + 1)
 HandsOn took refused_by out i r (Err e) = refused_by out e ⊎ (took out × (IsDenied e ⊎ ((k : ErrorKind) × (r ≡ Err k) × (e ≡ refusal_at k i))))
@@ -40,26 +40,27 @@ TakesAll took ds = (js : List Data) × (trees_of 0 ds ≡ Ok js) × took js
 abbrev pub AreFirstTrees : List Data → Documents → Type 0
 AreFirstTrees js ds = (front : Documents) × (back : Documents) × (ds ≡ front ++ back) × (trees_of 0 front ≡ Ok js)
 
--- The trees of the first documents were taken, and the taker refused the one behind them; or memory or the database was wanting
--- behind them, or the first of the documents that has no tree is told.
+-- The trees of the first documents were taken, and the taker refused the next one; or memory ran out or the database
+-- refused after them, or the first document without a tree is reported.
 abbrev pub Stops : (List Data → Type 0) → (List Data → StoreError → Type 0) → Documents → StoreError → Type 0
 Stops took refused_by ds e = (js : List Data) × AreFirstTrees js ds × (refused_by js e ⊎ (took js × (IsDenied e ⊎ (trees_reply (trees_of 0 ds) ≡ refused e.kind e.document))))
 
--- whatever documents the bodies were written for, the trees of them all were taken, and so many they are, unless there is a refusal
+-- whatever documents the bodies were written for, the trees of all of them were taken, i in number, unless there is a
+-- refusal
 abbrev pub HandedOn : (List Data → Type 0) → (List Data → StoreError → Type 0) → ℕ → List (List ℕ) → Option StoreError → Type 0
 HandedOn took refused_by i bodies refusal = (ds : Documents) → AreKept ds → bodies ≡ map encode ds
     → MatchOption refusal (TakesAll (λ js. took js × (i ≡ length js)) ds) (Stops took refused_by ds)
 
--- Whatever table the rows show, the trees of its list were taken; or the name is bad, and none was, or a beginning of them was, and
--- it is told why no more were; the rows stay.
+-- Whatever table the rows show, the trees of its list were taken; or the name is bad, and none was taken; or the first
+-- ones were, and it is reported why no more were. The rows stay.
 pub record HandsTrees {T : Type 0} (took : T → List Data → Type 0) (refused_by : T → List Data → StoreError → Type 0) (n : List ℕ) (result : Result T (StoreError × T)) (docs after : List TableRow) : Type 0 where
   pub same : after ≡ docs
   pub handed : (a : DocumentTable) → Represents docs a → MatchResult result
       (λ t. IsName n × TakesAll (took t) (documents_of a n))
       (λ e. ((IsName n → ⊥) × (e.0 ≡ refusal BadName) × took e.1 []) ⊎ (IsName n × Stops (took e.1) (refused_by e.1) (documents_of a n) e.0))
 
--- Whatever table the rows show, each document of its list has a tree; or the name is bad; or memory or the database was wanting, or
--- the first of the documents that has no tree is told; the rows stay.
+-- Whatever table the rows show, each document of its list has a tree; or the name is bad; or memory ran out or the
+-- database refused; or the first document without a tree is reported. The rows stay.
 pub record ChecksTrees (n : List ℕ) (result : Result (Unit {0}) StoreError) (docs after : List TableRow) : Type 0 where
   pub same : after ≡ docs
   pub checked : (a : DocumentTable) → Represents docs a → MatchResult result

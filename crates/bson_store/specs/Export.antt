@@ -13,8 +13,8 @@ use Rattle.store_model.specs.declared.error.ErrorKind.TheVariants.{BadName, Memo
 use Rattle.bson_store.specs.Shown.{Represents}
 use Rattle.store_model.specs.declared.error.StoreError.{StoreError}
 
--- All of bs went out; or a beginning of it did, and a call of the sink failed where `Writer` is told, and none where `Memory` or
--- `Database` is.
+-- All of bs was written; or a prefix of it was, and a call of the sink failed if `Writer` is reported, and none failed
+-- if `Memory` or `Database` is.
 abbrev pub Delivers : List ℕ → Tally → Tally → Result (Unit {0}) ErrorKind → Type 0
 Delivers bs old new (Ok x) = (new.failures ≡ old.failures) × Appends old.taken new.taken bs
 Delivers bs old new (Err Memory) = (new.failures ≡ old.failures) × TakesBeginning old.taken new.taken bs
@@ -32,7 +32,7 @@ abbrev pub Exports : State → List ℕ → Tally → Tally → Result (Unit {0}
 Exports s n old new (Ok x) = IsName n × Delivers (flat_map encode (list_of s n)) old new (Ok x)
 Exports s n old new (Err e) = (e.document ≡ None) × ExportRefused s n old new e.kind
 
--- whatever table the rows show, its list goes out, and the rows stay
+-- whatever table the rows show, its list is written, and the rows stay
 pub record SendsCollection (n : List ℕ) (old new : Tally) (result : Result (Unit {0}) StoreError) (docs after : List TableRow) : Type 0 where
   pub same : after ≡ docs
   pub exports : (a : DocumentTable) → Represents docs a → Exports (state_of a) n old new result
@@ -41,7 +41,7 @@ pub record SendsCollection (n : List ℕ) (old new : Tally) (result : Result (Un
 abbrev pub bytes_of_each : List (Vec ℕ Global) → List (List ℕ)
 bytes_of_each = map (λ (v : Vec ℕ Global). v.items)
 
--- bodies went out one after the other, or a beginning of them did and a write failed
+-- bodies were written one after the other, or a prefix of them was, and a write failed
 abbrev pub Sent : Tally → Tally → Bool → List (List ℕ) → Type 0
 Sent old new false bodies = (new.failures ≡ old.failures) × Appends old.taken new.taken (flat_map (λ (b : List ℕ). b) bodies)
 Sent old new true bodies = (new.failures ≡ old.failures + 1) × TakesBeginning old.taken new.taken (flat_map (λ (b : List ℕ). b) bodies)

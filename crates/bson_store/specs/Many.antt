@@ -33,7 +33,7 @@ DoesMany n Reads r old new = (ds : Documents) × (stop : Option ErrorKind) × Re
 abbrev pub TakesStream : List ℕ → Feed → Feed → model.Reply → List TableRow → List TableRow → Type 0
 TakesStream n old new r docs after = model.IsName n × ((bytes : List ℕ) × TookAll old new bytes × DoesMany n (ReadsStream bytes) r docs after)
 
--- under a bad name nothing is read; `Reader` tells that a read failed, and no other kind does
+-- under a bad name nothing is read; `Reader` reports that a read failed, and no other kind does
 abbrev pub ImportRefused : List ℕ → Feed → Feed → ErrorKind → Option ℕ → List TableRow → List TableRow → Type 0
 ImportRefused n old new BadName place docs after = (model.IsName n → ⊥) × (place ≡ None) × (new ≡ old) × (after ≡ docs)
 ImportRefused n old new Reader place docs after = model.IsName n × (place ≡ None) × StopsReading reads.Reader old new × (after ≡ docs)
@@ -56,7 +56,7 @@ pub record Meets (n k : List ℕ) (met : Keys) (result : Result Bool StoreError)
   pub there : IfOk result (λ b. b ≡ list_any (bytes_eq k) (keys_in n docs) || has_met met k)
   pub denied : IfErr result IsDenied
 
--- the place of the first row whose key is in the collection or that of a row before
+-- the place of the first row whose key is in the collection or is that of an earlier row
 pub record FindsTaken (n : List ℕ) (rows : List KeptRow) (result : Result (Option ℕ) StoreError) (docs after : List TableRow) : Type 0 where
   pub same : after ≡ docs
   pub place : IfOk result (λ o. o ≡ first_taken 0 (keys_in n docs) (keys_of_rows rows))
@@ -66,7 +66,7 @@ pub record FindsTaken (n : List ℕ) (rows : List KeptRow) (result : Result (Opt
 abbrev pub Lends : NewRow → KeptRow → Type 0
 Lends r w = (r.idkey.now ≡ w.key.items) × (r.body.now ≡ cow_slice_items w.body)
 
--- a row's key is there already, or the table or memory refused
+-- a row's key is there already, or the table refused, or memory ran out
 abbrev pub IsAddFault : StoreError → Type 0
 IsAddFault e = ((x : Fault) × (e ≡ refusal (kind_of_fault x))) ⊎ ((i : ℕ) × (e ≡ refusal_at DuplicateId i))
 
@@ -78,6 +78,6 @@ pub record AddsAll (n : List ℕ) (rows : List KeptRow) (result : Result ℕ Sto
 
 -- ---- what comes back
 
--- so many documents were put in, and the rows show a table whose list of the name is this
+-- `count` documents were put in, and the rows show a table whose list of the name m is ds
 abbrev pub Restored : List ℕ → Documents → ℕ → List TableRow → Type 0
 Restored m ds count docs = (count ≡ length ds) × ((u : DocumentTable) × Represents docs u × (documents_of u m ≡ ds))

@@ -15,8 +15,8 @@ use Rattle.bson_store.specs.Refusals.{kind_of_opening}
 use Rattle.store_model.specs.Refusal.{refusal}
 use Rattle.store_model.specs.declared.error.StoreError.{StoreError}
 
--- A row that a store can have written, under its key of now or under the one that its `_id` had before the two zeros of a double
--- meant the same; the key of now is given beside the one that it has.
+-- A row that a store can have written, under its current key or under the one that its `_id` had before the two zeros
+-- of a double meant the same; the current key is given beside the one that the row has.
 abbrev pub IsRowUnder : List ℕ → List ℕ → List ℕ → List ℕ → Type 0
 IsRowUnder coll k body now = (row : IsRow coll now body) × ((k ≡ now) ⊎ (k ≡ key_before (own_id row.document)))
 
@@ -24,12 +24,12 @@ IsRowUnder coll k body now = (row : IsRow coll now body) × ((k ≡ now) ⊎ (k 
 abbrev pub RepresentsSome : List TableRow → Type 0
 RepresentsSome docs = (a : DocumentTable) × Represents docs a
 
--- rows under keys of now or from before show a table of documents, and other rows show the same one under keys of now
+-- rows under current or older keys show a table of documents, and other rows show the same table under current keys
 abbrev pub StandFor : List TableRow → List TableRow → Type 0
 StandFor docs after = ((a : DocumentTable) × RepresentsOnce docs a × Represents after a) × ((a : DocumentTable) → RepresentsOnce docs a → Represents after a)
 
--- The table was made, beside what there was, or is found with the rows that it had, each under its key of now, and the other tables
--- as they were; nothing is written where all had that.
+-- The table was made, beside what there was, or is found with the rows that it had, each under its current key, and the
+-- other tables as they were; nothing is written if all rows had that key.
 pub record Opens (old new : State) : Type 0 where
   pub made : IsBlank old → HoldsRows new []
   pub beside : HasNoTable old → StandsBeside old new

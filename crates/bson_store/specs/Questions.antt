@@ -21,13 +21,13 @@ as_list v = bytes_list (bytes_of_each v.items)
 abbrev pub as_names : Vec (String Global) Global → Reply
 as_names v = names (map string_bytes v.items)
 
--- the view of a document's bytes is there where the filter selects the document; nothing is refused
+-- there is a view of a document's bytes if the filter selects the document; nothing is refused
 abbrev pub IsPick : Filter → Members → List ℕ → Result (Option RawDocument) StoreError → Type 0
 IsPick f d bytes (Ok None) = Selects f (document d) → ⊥
 IsPick f d bytes (Ok (Some view)) = Selects f (document d) × (view_bytes view ≡ bytes)
 IsPick f d bytes (Err e) = ⊥
 
--- a document comes behind those that were taken, where the filter selects it
+-- a document is taken after the others, if the filter selects it
 abbrev pub Turns : (Documents → Type 0) → Filter → Documents → Members → Type 0
 Turns took f out d = When (Selects f (document d)) (took (out ++ d ∷ [])) (took out)
 

@@ -1,4 +1,4 @@
--- What the refusals of the table are told as, and what a call's result is as a reply.
+-- What the refusals of the table are reported as, and what a call's result is as a reply.
 use Rattle.std.specs.Prelude.{◌≡◌, ◌≢◌, Bool, ℕ, Result, Ok, Err, Vec, map}
 use Rattle.std.specs.declared.alloc.Global.{Global}
 use Rattle.serde_json.specs.View.{view as data_of}
@@ -25,7 +25,7 @@ kind_of_opening (opens.IdsCollide first second) = IdsCollide first second
 kind_of_opening opens.Memory = Memory
 kind_of_opening opens.Database = Database
 
--- memory was wanted, or the database refused
+-- memory ran out, or the database refused
 abbrev pub IsDenied : StoreError → Type 0
 IsDenied e = (x : Fault) × (x ≢ faults.Places) × (e ≡ refusal (kind_of_fault x))
 

@@ -52,7 +52,7 @@ AsksEach (x ∷ xs) (c ∷ cs) = Asks x c × AsksEach xs cs
 AsksEach [] (c ∷ cs) = ⊥
 AsksEach (x ∷ xs) [] = ⊥
 
--- whatever two lists of commands are read as, it is what commands are, and means the same
+-- whatever the two lists of commands are read as, these are commands as `AreCommands` says, and mean the same
 abbrev pub MeanTheSame : List Command → List Command → Type 0
 MeanTheSame xs ys = (cs : List model.Command) (ds : List model.Command) → AsksEach xs cs → AsksEach ys ds → SameCommands cs ds × model.AreCommands cs × model.AreCommands ds
 
@@ -80,7 +80,7 @@ EndsAccepted (r ∷ q ∷ rs) = EndsAccepted (q ∷ rs)
 abbrev pub WasOpenFor : Reply → State → State → Type 0
 WasOpenFor r old new = IsAccepted r → HasCleanDisk new → (docs : List TableRow) → Stands old docs → IsTrue old.is_open × IsTrue new.is_open
 
--- where the last command was accepted the connection is open, so the rows that it shows are told of
+-- if the last command was accepted, the connection is open, so it shows rows
 abbrev pub EndsOpen : List Reply → State → State → Type 0
 EndsOpen replies old new = EndsAccepted replies → HasCleanDisk new → (docs : List TableRow) → Stands old docs → IsTrue new.is_open
 

@@ -47,7 +47,7 @@ AreRowsOnceOf (r ∷ rs) (d ∷ ds) = IsRowOnceOf r d × AreRowsOnceOf rs ds
 AreRowsOnceOf [] (d ∷ ds) = ⊥
 AreRowsOnceOf (r ∷ rs) [] = ⊥
 
--- the rows of bytes show the table, each under its key of now or the one from before
+-- the rows of bytes show the table, each under its current key or the older one
 pub record RepresentsOnce (docs : List TableRow) (t : DocumentTable) : Type 0 where
   pub each : AreRowsOnceOf t docs
   pub good : AreRows t

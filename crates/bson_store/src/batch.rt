@@ -100,7 +100,7 @@ fn exported<S: Alter + Drop>(store: &mut Store<S>, name: &str) -> Reply
     match store.export(name, &mut sink) {
         Ok(()) => Reply::Bytes(sink.bytes),
         Err(error) => match error.kind {
-            // A sink in memory fails for want of memory alone.
+            // A sink in memory fails only if out of memory.
             ErrorKind::Writer => Reply::Refused(StoreError::from(ErrorKind::Memory)),
             _ => Reply::Refused(error),
         },
@@ -182,17 +182,19 @@ pub fn run<S: Alter + Drop>(
 ) -> Result<Vec<Reply>, AllocError>
     // Whatever table the rows showed, the replies and the table that they show now are those of a run through tables.
     ensures tables { IfOk result (λ replies. Relates S.Store store.old store.new (AnswersThroughTables commands.items replies.items)) }
-    // So they are those of the commands on plain lists of documents, but where memory, the database or places were wanted.
+    // So they are those of the commands on plain lists of documents, unless memory or places ran out or the database
+    // refused.
     ensures lists { IfOk result (λ replies. Relates S.Store store.old store.new (AnswersAsLists commands.items replies.items)) }
-    // Where the last command was accepted the connection is open, so these rows are in its table.
+    // If the last command was accepted the connection is open, so these rows are in its table.
     ensures open { IfOk result (λ replies. EndsOpen replies.items (store_state S.Store store.old) (store_state S.Store store.new)) }
     // What a crash leaves now is left along this run, from what it might leave before, with the other tables as they were.
     ensures crash { IfOk result (λ replies. Moves (store_state S.Store store.old) (store_state S.Store store.new)
         (LeavesAsLists commands.items replies.items (store_state S.Store store.old) (store_state S.Store store.new))) }
-    // So where a crash could leave one state alone before, it leaves the state at the end, or what one of the commands makes of that.
+    // So if a crash could leave only one state before, it leaves the state at the end, or what one of the commands
+    // makes of that.
     ensures ends { IfOk result (λ replies. Moves (store_state S.Store store.old) (store_state S.Store store.new)
         (LeavesTheEnd commands.items replies.items (store_state S.Store store.old) (store_state S.Store store.new))) }
-    // Where memory was wanted for the replies, no command was done.
+    // If memory ran out for the replies, no command was done.
     ensures err { OnErr result (store.new ≡ store.old) }
 {
     let mut replies = Vec::with_capacity(store.allocator(), commands.len())?;

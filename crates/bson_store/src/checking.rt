@@ -20,7 +20,7 @@ use store_documents::check_json;
 use store_model::{ErrorKind, StoreError};
 use store_table::Visit;
 
-/// Returns the place behind that of a body of the collection, if its document has a tree.
+/// Returns the place after that of a body of the collection, if its document has a tree.
 fn pass(alloc: Global, body: &[u8], place: u64) -> Result<u64, StoreError>
     ensures { (out : List Data) (d : Members) → IsKept d → body.now ≡ encode d → HandsOn (λ _. Unit {0}) (λ _ _. ⊥) out place (json_of Canonical d) result }
 {
@@ -71,8 +71,8 @@ impl<S: Alter + Drop> Store<S> {
     /// Whether each document of the collection `name` has a tree in canonical Extended JSON, as `each_json` makes it.
     /// Most are seen to have one from their bytes alone.
     ///
-    /// Refused by BadName; by ReservedKey and FiniteDouble of the first document that has no such tree, of the two by
-    /// ReservedKey, and `document` says which it is; and by Memory and Database.
+    /// Refused by BadName; by ReservedKey or FiniteDouble of the first document that has no such tree (by ReservedKey
+    /// if both hold), and `document` says which document it is; and by Memory and Database.
     pub fn check_json(&mut self, name: &str) -> Result<(), StoreError>
         ensures moves { Relates S.Store self.old self.new (ChecksTrees name.now result) }
         ensures open { WasOpen (store_state S.Store self.old) (store_state S.Store self.new) result }

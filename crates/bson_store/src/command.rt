@@ -92,7 +92,7 @@ pub enum Reply {
     Count(u64),
     /// Written documents, one after the other.
     Bytes(Vec<u8>),
-    /// Written documents, each for itself.
+    /// Written documents, each by itself.
     BytesList(Vec<Vec<u8>>),
     /// A document as Extended JSON.
     Json(Value),

@@ -27,10 +27,10 @@ use store_table::Visit;
 pub trait TakeJson {
     ghost use Rattle.store_model.specs.declared.error.StoreError.{StoreError};
 
-    /// Since it was the first, the second has taken these trees, in this order.
+    /// Between the first state and the second, the taker took these trees, in this order.
     ghost took: { Self → Self → List Data → Type 0 };
 
-    /// Since it was the first, the second has taken these trees, and refused the next one by this.
+    /// Between the first state and the second, the taker took these trees, and refused the next one with this error.
     ghost refused: { Self → Self → List Data → StoreError → Type 0 };
 
     /// Takes a tree.
@@ -49,7 +49,7 @@ fn tree_at(alloc: Global, body: &[u8], place: u64) -> Result<Value, StoreError>
     }
 }
 
-/// Hands the tree of the body at a place on, and returns the place behind it.
+/// Passes the tree of the body at a place to the taker, and returns the next place.
 fn hand_on<T: TakeJson>(
     alloc: Global,
     taker: &mut T,
@@ -68,8 +68,8 @@ fn hand_on<T: TakeJson>(
     Ok(next)
 }
 
-/// Hands the trees of the bodies on that the table hands out, one body at a time. After the first that has no tree, or
-/// that is refused, none are asked for.
+/// Passes on the trees of the bodies that the table hands out, one body at a time. After the first that has no tree, or
+/// that is refused, it asks for no more.
 #[derive(Drop)]
 pub struct JsonVisitor<T> {
     pub taker: T,
@@ -128,9 +128,9 @@ impl<S: Alter + Drop> Store<S> {
     /// Hands the documents of the collection `name` to `taker`, one after the other, as Extended JSON in canonical mode
     /// (MongoDB Extended JSON v2), and gives the taker back. One document is held at a time.
     ///
-    /// Refused by BadName; by ReservedKey and FiniteDouble of the first document that has no such tree, of the two by
-    /// ReservedKey, and `document` says which it is; by what the taker refuses a tree by; and by Memory and Database.
-    /// The taker, which is given back beside the refusal, was then handed a beginning of the trees.
+    /// Refused by BadName; by ReservedKey or FiniteDouble of the first document that has no such tree (by ReservedKey
+    /// if both hold), and `document` says which document it is; by the error with which the taker refuses a tree; and
+    /// by Memory and Database. The taker, which is given back with the refusal, was then handed the first of the trees.
     pub fn each_json<T: TakeJson + Drop>(
         &mut self,
         name: &str,
@@ -168,8 +168,8 @@ impl<S: Alter + Drop> Store<S> {
 
     /// The documents of the collection `name` as Extended JSON in canonical mode (MongoDB Extended JSON v2), in order.
     ///
-    /// Refused by BadName; by ReservedKey and FiniteDouble of the first document that has no such tree, of the two by
-    /// ReservedKey, and `document` says which it is; and by Memory and Database.
+    /// Refused by BadName; by ReservedKey or FiniteDouble of the first document that has no such tree (by ReservedKey
+    /// if both hold), and `document` says which document it is; and by Memory and Database.
     pub fn dump_json(&mut self, name: &str) -> Result<Vec<Value>, StoreError>
         ensures moves { Relates S.Store self.old self.new (Does (on name.now dump) (reply_by as_json_list result)) }
         ensures open { WasOpen (store_state S.Store self.old) (store_state S.Store self.new) result }

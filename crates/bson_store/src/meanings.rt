@@ -26,8 +26,8 @@ ghost use Rattle.bson_store.specs.declared.command.Reply.{Reply};
 
 use sqlite::{Alter, Connection};
 
-/// Two lists of commands that mean the same, run from tables that mean the same with the same denied to both, are
-/// answered with the same meaning and leave tables that mean the same.
+/// Two lists of commands that mean the same, run from tables that mean the same with the same denied to both, have
+/// replies that mean the same and leave tables that mean the same.
 pub fn runs_go_by_meaning()
     ensures { (xs ys : List Command) (rs qs : List Reply) (old older new newer : List TableRow) (a b : DocumentTable)
         → MeanTheSame xs ys → Represents old a → Represents older b → SameStates (state_of a) (state_of b)
@@ -55,7 +55,7 @@ pub fn dumps_are_restored()
         → documents_of b m ≡ [] → Restored m (map (λ d. norm_members_in_order d) (documents_of a n)) count last }
 {}
 
-/// What a crash leaves is found again: where `sqlite` opens a connection over trees that hold a state, `Store::open`
+/// What a crash leaves is found again: if `sqlite` opens a connection over trees that hold a state, `Store::open`
 /// finds that state by its clause `finds`. `crash` of each call says which state a crash leaves it; after `run` it is
 /// that at the end of the commands, or what one of them makes of it (`ends`).
 pub fn crashes_are_found<S: Alter>(_connection: &Connection<S>)

@@ -21,7 +21,7 @@ use store_table::Visit;
 
 /// What is kept of the documents that a filter selects.
 pub trait Take {
-    /// Since it was the first, the second has taken these documents, in this order.
+    /// Between the first state and the second, the taker took these documents, in this order.
     ghost took: { Self → Self → Documents → Type 0 };
 
     /// Takes a document from its written form.
@@ -112,7 +112,7 @@ fn add_projection(
     Ok(())
 }
 
-/// The document of a body, where the filter selects it.
+/// The document of a body, if the filter selects it.
 fn selected<'a>(filter: &Filter, body: &'a [u8]) -> Result<Option<RawDocument<'a>>, StoreError>
     ensures { (d : Members) → IsKept d → body.now ≡ encode d → IsPick (filter_of filter.now) d body.now result }
 {
@@ -127,7 +127,7 @@ fn selected<'a>(filter: &Filter, body: &'a [u8]) -> Result<Option<RawDocument<'a
     }
 }
 
-/// Hands the document of a body on, where the filter selects it.
+/// Passes on the document of a body, if the filter selects it.
 fn pick_row<T: Take>(taker: &mut T, filter: &Filter, body: &[u8]) -> Result<(), StoreError>
     ensures picked { (first : T) (out : Documents) (d : Members) → IsKept d → body.now ≡ encode d → T.took first taker.old out
         → OnOk result (Turns (T.took first taker.new) (filter_of filter.now) out d) }
@@ -139,7 +139,7 @@ fn pick_row<T: Take>(taker: &mut T, filter: &Filter, body: &[u8]) -> Result<(), 
     Ok(())
 }
 
-/// Hands the documents that a filter selects on, until a refusal.
+/// Passes on the documents that a filter selects, until a refusal.
 #[derive(Drop)]
 pub struct FilterVisitor<'a, T> {
     pub filter: &'a Filter,

@@ -67,7 +67,7 @@ impl<S: Alter + Drop> Store<S> {
     }
 
     /// The written forms of the documents of the collection `name` that a filter selects, in the collection's order. A
-    /// name without documents has none. Beside the answer one document is held at a time.
+    /// name without documents has none. Besides the result, one document is held at a time.
     ///
     /// Refused by BadName, Memory and Database.
     pub fn find(&mut self, name: &str, filter: &Filter) -> Result<Vec<Vec<u8>>, StoreError>
@@ -95,8 +95,8 @@ impl<S: Alter + Drop> Store<S> {
         Ok(count.number)
     }
 
-    /// Of each document of the collection `name` that a filter selects, in the collection's order, the elements with a
-    /// listed key at the top, as a document in that one's own order. Beside the answer one document is held at a time.
+    /// For each document of the collection `name` that a filter selects, in the collection's order, a document of its
+    /// top elements with a listed key, in their own order. Besides the result, one document is held at a time.
     ///
     /// Refused by BadName, Memory and Database.
     pub fn project(

@@ -4,7 +4,7 @@ use std::alloc::{AllocError, Global};
 use store_documents::{RowKey, is_store_row, key_of_row};
 use store_table::RowCheck;
 
-/// The test that `Store::open` makes of each row, beside what the table itself asks.
+/// The test that `Store::open` makes of each row, besides what the table itself asks.
 #[derive(Drop)]
 pub struct RowTest {
     pub alloc: Global,

@@ -24,13 +24,15 @@ use store_table::Visit;
 pub trait TakeText {
     ghost use Rattle.store_model.specs.declared.error.StoreError.{StoreError};
 
-    /// Since it was the first, the second has taken the texts of these trees, in this order.
+    /// Between the first state and the second, the taker took the texts of these trees, in this order.
     ghost took: { Self → Self → List Data → Type 0 };
 
-    /// Since it was the first, the second has taken the texts of these trees, and refused that of the next one by this.
+    /// Between the first state and the second, the taker took the texts of these trees, and refused that of the next
+    /// one with this error.
     ghost refused: { Self → Self → List Data → StoreError → Type 0 };
 
-    /// Takes the text of a tree. The keys of each object ascend by their bytes, and no space stands between its parts.
+    /// Takes the text of a tree. The keys of each object ascend by their bytes, and there is no space between its
+    /// parts.
     fn take_text(&mut self, text: &str) -> Result<(), StoreError>
         ensures took { (first : Self) (out : List Data) (tree : Data) → text.now ≡ compact_text tree → took first self.old out
             → OnOk result (took first self.new (out ++ tree ∷ [])) }
@@ -47,7 +49,7 @@ fn text_at(alloc: Global, body: &[u8], place: u64, text: &mut String) -> Result<
     }
 }
 
-/// Hands the text of the tree of the body at a place on, and returns the place behind it.
+/// Passes the text of the tree of the body at a place to the taker, and returns the next place.
 fn hand_text<T: TakeText>(
     alloc: Global,
     taker: &mut T,
@@ -67,8 +69,8 @@ fn hand_text<T: TakeText>(
     Ok(next)
 }
 
-/// Hands the texts of the bodies on that the table hands out, one body at a time. After the first that has none, or
-/// that is refused, none are asked for.
+/// Passes on the texts of the bodies that the table hands out, one body at a time. After the first that has none, or
+/// that is refused, it asks for no more.
 #[derive(Drop)]
 pub struct TextVisitor<T> {
     pub taker: T,
@@ -115,8 +117,8 @@ impl<S: Alter + Drop> Store<S> {
     /// in canonical mode (MongoDB Extended JSON v2), and gives the taker back: `each_json` without the trees. One
     /// document is held at a time.
     ///
-    /// Refused as `each_json` is, and by what the taker refuses a text by. The taker, which is given back beside the
-    /// refusal, was then handed a beginning of the texts.
+    /// Refused as `each_json` is, and by the error with which the taker refuses a text. The taker, which is given back
+    /// with the refusal, was then handed the first of the texts.
     pub fn each_text<T: TakeText + Drop>(
         &mut self,
         name: &str,

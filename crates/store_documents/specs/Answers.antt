@@ -1,4 +1,4 @@
--- What is answered where bytes or JSON are read as documents, and where documents are given as JSON.
+-- What is returned when bytes or JSON are read as documents, and when documents are given as JSON.
 use Rattle.std.specs.Prelude.{◌≡◌, ◌⊎◌, ℕ, List, Some, None, Result, Ok, Err}
 use Rattle.serde_json.specs.Data.{Data}
 use Rattle.serde_json.specs.View.{view as data_of}
@@ -14,12 +14,12 @@ use Rattle.store_model.specs.State.{in_json}
 use Rattle.store_model.specs.declared.error.ErrorKind.{ErrorKind}
 use Rattle.store_model.specs.declared.error.ErrorKind.TheVariants.{JsonRefused, Memory}
 
--- what the bytes read as; or memory was wanted, and they read as some document
+-- what the bytes read as; or memory ran out, and they read as some document
 abbrev pub AnswersBytes : List ℕ → Result Document ErrorKind → Type 0
 AnswersBytes bytes (Ok d) = ReadsBytes bytes (readable (content d))
 AnswersBytes bytes (Err k) = ReadsBytes bytes (unreadable k) ⊎ ((k ≡ Memory) × (d : Members) × ReadsBytes bytes (readable d))
 
--- what the tree reads as; or memory was wanted, and it reads as what isn't decided before anything grows
+-- what the tree reads as; or memory ran out, and it reads as something that isn't decided before anything grows
 abbrev pub AnswersTree : Data → Result Document ErrorKind → Type 0
 AnswersTree j (Ok d) = ReadsTree j (readable (content d))
 AnswersTree j (Err k) = ReadsTree j (unreadable k) ⊎ ((k ≡ Memory) × (a : Reading) × ReadsTree j a × (IsUnread in_json a → ⊥))
@@ -29,12 +29,12 @@ abbrev pub AnswersValue : Data → Result Bson ErrorKind → Type 0
 AnswersValue j (Ok v) = read_value j ≡ Some (view v)
 AnswersValue j (Err k) = ((k ≡ JsonRefused) × (read_value j ≡ None)) ⊎ (k ≡ Memory)
 
--- the tree that is wanted, the refusal that stands in its place, or want of memory
+-- the tree of r, its refusal, or out of memory
 abbrev pub AnswersJson : Result Data ErrorKind → Result Json ErrorKind → Type 0
 AnswersJson r (Ok j) = r ≡ Ok (data_of j)
 AnswersJson r (Err k) = (r ≡ Err k) ⊎ (k ≡ Memory)
 
--- the text of the tree that is wanted, the refusal that stands in its place, or want of memory
+-- the text of the tree of r, its refusal, or out of memory
 abbrev pub AnswersText : Result Data ErrorKind → List ℕ → Result (Unit {0}) ErrorKind → Type 0
 AnswersText r t (Ok x) = (j : Data) × (r ≡ Ok j) × (t ≡ compact_text j)
 AnswersText r t (Err k) = (r ≡ Err k) ⊎ (k ≡ Memory)

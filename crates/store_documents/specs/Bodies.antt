@@ -24,7 +24,7 @@ use Rattle.store_documents.specs.declared.write.KeptRow.{KeptRow}
 
 -- ---- ids
 
--- the key of an id tells whether a kept document has it
+-- the key of an id decides whether a kept document has the id
 pub record IsKeyOf (k : List ℕ) (id : Value) : Type 0 where
   pub sound : IsSound id
   pub plain : IsPlain id
@@ -42,7 +42,7 @@ MeansItself kinds.JavaScriptCodeWithScope = ⊥
 MeansItself kinds.Decimal128 = ⊥
 MeansItself _ = Unit {0}
 
--- what is told for an `_id` that has no key; none that is kept is such
+-- what is reported for an `_id` that has no key; every `_id` that is kept has one
 abbrev pub refusal_of_key : KeyError → ErrorKind
 refusal_of_key key_errors.NotPlain = Nul
 refusal_of_key key_errors.TooLong = TooLong
@@ -54,7 +54,7 @@ refusal_of_key key_errors.Memory = Memory
 abbrev pub IsBody : List ℕ → Members → Type 0
 IsBody bytes d = (bytes ≡ encode d) × IsPlain (document d) × (size d ≤ size_limit)
 
--- no length can tell the size, or memory was wanted
+-- the size is too large for a length, or memory ran out
 abbrev pub IsLong : Members → ErrorKind → Type 0
 IsLong d k = ((k ≡ TooLong) × (2 ^ 31 ≤ size d)) ⊎ (k ≡ Memory)
 
@@ -62,7 +62,7 @@ IsLong d k = ((k ≡ TooLong) × (2 ^ 31 ≤ size d)) ⊎ (k ≡ Memory)
 abbrev pub IsUnwritten : Members → ErrorKind → Type 0
 IsUnwritten d k = ((k ≡ Nul) × (IsPlain (document d) → ⊥)) ⊎ ((k ≡ TooLong) × IsPlain (document d) × (size_limit < size d)) ⊎ (k ≡ Memory)
 
--- ---- what is answered
+-- ---- what is returned
 
 -- a document is written beside the key of its `_id`, or refused
 abbrev pub AnswersWritten : Members → Result KeptRow ErrorKind → Type 0
@@ -99,13 +99,13 @@ pub record IsRow (coll k bytes : List ℕ) : Type 0 where
   pub key : k ≡ key (own_id document)
   pub body : bytes ≡ encode document
 
--- a row that a store can have written before the two zeros of a double meant the same: it has the key of its `_id` from then, and
--- this is the key of now
+-- a row that a store can have written before the two zeros of a double meant the same: it has the key that its `_id`
+-- had then, and `now` is the current key
 pub record IsRowOnce (coll k bytes now : List ℕ) : Type 0 where
   pub row : IsRow coll now bytes
   pub old : k ≡ key_before (own_id row.document)
 
--- what is told of a row's key
+-- what is reported of a row's key
 abbrev pub TellsKey : List ℕ → List ℕ → List ℕ → RowKey → Type 0
 TellsKey coll k bytes Own = IsRow coll k bytes
 TellsKey coll k bytes (Before now) = IsRowOnce coll k bytes now.items × (k ≢ now.items)
@@ -117,11 +117,11 @@ TellsKey coll k bytes Neither = (now : List ℕ) (row : IsRow coll now bytes) �
 abbrev pub IsOrderedBody : List ℕ → Members → Type 0
 IsOrderedBody bytes e = (bytes ≡ key e) × IsSound (document e) × IsPlain (document e) × (length (key e) ≤ size_limit)
 
--- why there are none
+-- why there are no such bytes
 abbrev pub IsUnordered : Members → ErrorKind → Type 0
 IsUnordered e k = ((k ≡ Nul) × (IsPlain (document e) → ⊥)) ⊎ ((k ≡ TooLong) × IsPlain (document e) × (size_limit < length (key e))) ⊎ (k ≡ Memory)
 
--- the row of the document that an input reads as, or why there is none, or memory was wanted
+-- the row of the document that an input reads as, or why there is none, or memory ran out
 abbrev pub AnswersInput : (Reading → Type 0) → Result KeptRow ErrorKind → Type 0
 AnswersInput Reads (Ok w) = (d : Members) × Reads (readable d) × IsRead d × AnswersWritten d (Ok w)
 AnswersInput Reads (Err k) = Reads (unreadable k) ⊎ ((d : Members) × Reads (readable d) × (refusal_of d ≡ Some k)) ⊎ (k ≡ Memory)

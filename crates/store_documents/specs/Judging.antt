@@ -1,4 +1,4 @@
--- What judging many documents answers.
+-- What judging many documents returns.
 use Rattle.std.specs.Prelude.{◌≡◌, ◌⊎◌, ℕ, List, [], ◌∷◌, Option, Some, None, IsSomeAnd, Result, Ok, Err, Vec}
 use Rattle.std.specs.declared.alloc.Global.{Global}
 use Rattle.std.specs.Borrow.{Bor}
@@ -15,13 +15,13 @@ use Rattle.store_model.specs.declared.error.StoreError.{StoreError}
 use Rattle.store_model.specs.Refusal.{refusal, refusal_at}
 use Rattle.store_documents.specs.declared.write.KeptRow.{KeptRow}
 
--- the row of one document, or why there is none, or memory was wanted
+-- the row of one document, or why there is none, or memory ran out
 abbrev pub AnswersRow : (Reading → Type 0) → Result KeptRow ErrorKind → Type 0
 AnswersRow Reads (Ok w) = (d : Members) × Reads (readable d) × IsRead d × (refusal_of d ≡ None) × (cow_slice_items w.body ≡ encode d) × (w.key.items ≡ key (own_id d))
 AnswersRow Reads (Err kind.Memory) = Unit {0}
 AnswersRow Reads (Err k) = Reads (unreadable k) ⊎ ((d : Members) × Reads (readable d) × (refusal_of d ≡ Some k))
 
--- the input's first document can't be read or kept, or memory was wanted
+-- the input's first document can't be read or kept, or memory ran out
 abbrev pub RefusesFront : (Documents → Option ErrorKind → Type 0) → ErrorKind → Type 0
 RefusesFront Reads kind.Memory = Unit {0}
 RefusesFront Reads k = Reads [] (Some k) ⊎ ((d : Members) × (more : Documents) × (stop : Option ErrorKind) × Reads (d ∷ more) stop × (refusal_of d ≡ Some k))

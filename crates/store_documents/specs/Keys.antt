@@ -16,7 +16,7 @@ has_met s k = list_any (λ x. bytes_eq k x.now) s.met.keys
 abbrev pub keys_of_rows : List KeptRow → List (List ℕ)
 keys_of_rows = map (λ (w : KeptRow). w.key.items)
 
--- The keys come in order to those that are there: the place, from i on, of the first that is there already.
+-- The keys are added in order to those that are there: the place, from i on, of the first that is there already.
 abbrev pub first_taken : ℕ → List (List ℕ) → List (List ℕ) → Option ℕ
 first_taken i there [] = None
 first_taken i there (k ∷ ks) = if list_any (bytes_eq k) there then Some i else first_taken (suc i) (there ++ k ∷ []) ks

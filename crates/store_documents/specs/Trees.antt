@@ -1,4 +1,4 @@
--- What is seen of a document's JSON tree in its bytes: no double stands there, and no reserved key below the top.
+-- What is seen of a document's JSON tree in its bytes: there is no double, and no reserved key below the top.
 use Rattle.std.specs.Prelude.{◌≡◌, ℕ, List, false}
 use Rattle.bson_base.specs.Value.{Value, value_kind, Items, Members}
 use Rattle.bson_base.specs.declared.spec.ElementType.{ElementType}

@@ -19,7 +19,7 @@ Encodes (views.Document x) v = (ms : Members) × (v ≡ document ms) × (bytes_o
 Encodes (views.JavaScriptCodeWithScope x) v = (ms : Members) × (v ≡ scoped_code x.code.now ms) × (bytes_of x.scope ≡ encode ms)
 Encodes raw v = v ≡ scalar (view_scalar raw)
 
--- what is said of the document that the bytes are the written form of
+-- P holds of the document whose written form the bytes are
 abbrev pub OfWritten : List ℕ → (Members → Type 0) → Type 0
 OfWritten bytes P = (d : Members) → IsClean (document d) → IsSound (document d) → bytes ≡ encode d → P d
 
@@ -30,7 +30,7 @@ Finds (Some raw) o = (v : Value) × (o ≡ Some v) × Encodes raw v
 
 -- ---- a step of a path
 
--- a value that comes back from its bytes: clean, sound, and not longer than a length can tell
+-- a value that comes back from its bytes: clean, sound, and not longer than a length can state
 pub record ComesBack (v : Value) : Type 0 where
   pub clean : IsClean v
   pub sound : IsSound v
@@ -56,7 +56,7 @@ abbrev pub FindsElement : Option RawElement → Option Value → Type 0
 FindsElement None o = o ≡ None
 FindsElement (Some e) o = (v : Value) × (o ≡ Some v) × IsWrittenFor (parts_of e) v
 
--- how many bytes stand behind the length of what a path can go on in
+-- how many bytes follow the length of a value that a path can go into
 abbrev pub room : RawBsonRef → ℕ
 room (views.Array x) = length (array_bytes x) - 4
 room (views.Document x) = length (bytes_of x) - 4

@@ -1,5 +1,5 @@
-//! Questions to documents that are answered from their bytes: what stands at a path, whether a filter selects them, and
-//! their elements under listed keys (bsonspec.org 1.1). Look-ups and filters take no memory.
+//! What is read of documents from their bytes: the value at a path, whether a filter selects them, and their elements
+//! under listed keys (bsonspec.org 1.1). Look-ups and filters take no memory.
 #![tactic(auto)]
 
 mod filter;

@@ -11,11 +11,11 @@ ghost use Rattle.store_model.specs.Filter.{at, frames, pairs, place_among};
 use bson_raw::{RawBsonRef, RawDocument, RawElement};
 
 /// The value at a path of keys, and how many elements were met at all steps of the path together: up to and with the
-/// one that was found, or all where none has the key. A step looks in a document, or in an array for the key of a
+/// one that was found, or all if none has the key. A step looks in a document, or in an array for the key of a
 /// position; in any other value it finds nothing and meets none. The empty path is the document itself.
 ///
-/// Takes no memory. In bytes that are no document's written form, a step goes by the first element with the key and
-/// ends at the first fault.
+/// Takes no memory. In bytes that are no document's written form, a step takes the first element with the key and ends
+/// at the first fault.
 pub fn look_up<'a>(document: RawDocument<'a>, path: &[String]) -> (Option<RawBsonRef<'a>>, u64)
     ensures found { OfWritten (bytes_of document.entry) (λ d. Finds result.0 (at (tree d) (path_of path.now))) }
     ensures met { OfWritten (bytes_of document.entry) (λ d. result.1 ≡ frames (tree d) (path_of path.now)) }

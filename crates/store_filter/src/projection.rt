@@ -15,8 +15,8 @@ use bson_frame::frame;
 use bson_raw::RawDocument;
 use std::alloc::{AllocError, Global};
 
-/// The bytes of a document of the elements whose keys are listed, in the order in which they stand in this one. The
-/// error is a refused growth.
+/// The bytes of a document of the elements whose keys are listed, in the order that they have in this one. The error is
+/// a refused growth.
 ///
 /// In bytes that are no document's written form, the elements before the first fault count, repeated keys included.
 pub fn project(

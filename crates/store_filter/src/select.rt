@@ -64,14 +64,14 @@ fn equals_at(document: RawDocument<'_>, path: &[String], value: &Bson) -> bool
     }
 }
 
-/// Whether a value stands at the path.
+/// Whether there is a value at the path.
 fn exists_at(document: RawDocument<'_>, path: &[String]) -> bool
     ensures { OfWritten (bytes_of document.entry) (λ d. IsTrue result ↔ Selects (exists (path_of path.now)) (tree d)) }
 {
     look_up(document, path).0.is_some()
 }
 
-/// Whether a value of the kind stands at the path.
+/// Whether there is a value of the kind at the path.
 fn has_kind_at(document: RawDocument<'_>, path: &[String], kind: ElementType) -> bool
     ensures { OfWritten (bytes_of document.entry) (λ d. IsTrue result ↔ Selects (is_of (path_of path.now) kind) (tree d)) }
 {

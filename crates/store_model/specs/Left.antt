@@ -1,23 +1,24 @@
--- What a crash may leave behind commands. What it leaves, a disk or a database, is of any type X; Holds says which states it holds.
+-- What a crash may leave after commands. What it leaves, a disk or a database, is of any type X; Holds says which
+-- states it holds.
 use Rattle.std.specs.Prelude.{◌≡◌, ◌⊎◌, ℕ, suc, List, [], ◌∷◌}
 use Rattle.store_model.specs.State.{State, Command, Reply, refused, Step}
 use Rattle.store_model.specs.Run.{Denials, Run}
 use Rattle.store_model.specs.declared.error.ErrorKind.TheVariants.{Memory, Database}
 
 module _ {X : Type 0} (Holds : X → State → Type 0) where
-  -- it holds the state that the command makes of s where it is answered so
+  -- it holds a state that the command makes of s with this reply
   abbrev pub HoldsAfter : State → Command → Reply → X → Type 0
   HoldsAfter s c r x = (t : State) × Step s c r t × Holds x t
 
-  -- Behind an accepted command a crash leaves the state after it and no other; behind a refused one what it might leave before it,
-  -- and where memory was wanted or the database refused also the state that a step makes of the state there.
+  -- After an accepted command a crash leaves the state after it and no other. After a refused one it leaves what it
+  -- might leave before; if memory ran out or the database refused, also a state that a step makes of s.
   abbrev pub LeftBy : (X → Type 0) → State → Command → Reply → X → Type 0
   LeftBy Before s c (refused Memory i) x = Before x ⊎ ((r : Reply) × HoldsAfter s c r x)
   LeftBy Before s c (refused Database i) x = Before x ⊎ ((r : Reply) × HoldsAfter s c r x)
   LeftBy Before s c (refused k i) x = Before x
   LeftBy Before s c r x = HoldsAfter s c r x
 
-  -- So along a run: each command begins with what a crash may leave behind the one before it.
+  -- The same along a run: each command begins with what a crash may leave after the one before it.
   abbrev pub LeftAlong : (X → Type 0) → (w : Denials) (i : ℕ) (s : State) (cs : List Command) (rs : List Reply) (t : State) → Run w i s cs rs t → X → Type 0
   LeftAlong Before w i s [] [] t run = Before
   LeftAlong Before w i s (c ∷ cs) (r ∷ rs) t (u, turn, run) = LeftAlong (LeftBy Before s c r) w (suc i) u cs rs t run

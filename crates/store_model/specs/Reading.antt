@@ -26,7 +26,7 @@ pub data Reading : Type 0 where
 
 -- ---- one document
 
--- the kind that is told for a test of the gate
+-- the kind that is reported for a test of the gate
 abbrev pub kind_of_gate_error : GateError → ErrorKind
 kind_of_gate_error gate.EndInside = EndInside
 kind_of_gate_error gate.BadLength = BadLength
@@ -45,13 +45,13 @@ IsUnkeepable d Nul = (levels (document d) ≤ level_limit) × (IsPlain (document
 IsUnkeepable d TooLong = (levels (document d) ≤ level_limit) × IsPlain (document d) × (size_limit < size d)
 IsUnkeepable d _ = ⊥
 
--- it passes all three
+-- the changed document passes all three tests
 pub record IsKeepable (d : Members) : Type 0 where
   pub shallow : levels (document d) ≤ level_limit
   pub plain : IsPlain (document d)
   pub small : size d ≤ size_limit
 
--- why a document that JSON stands for can't be normalized: the same tests but for that of its size
+-- why a document that JSON stands for can't be normalized: the same tests except that of its size
 abbrev pub IsUnfit : Members → ErrorKind → Type 0
 IsUnfit e TooLong = ⊥
 IsUnfit e k = IsUnkeepable e k
@@ -70,7 +70,7 @@ abbrev pub ReadsTree : Data → Reading → Type 0
 ReadsTree (object js) a = KeepsRead (read_members js) a
 ReadsTree _ a = a ≡ unreadable NotAnObject
 
--- the value that JSON stands for, where its reader takes it
+-- the value that JSON stands for, if its reader takes it
 abbrev pub value_of : Result Value Error → Option Value
 value_of (Ok v) = Some v
 value_of (Err x) = None
@@ -80,8 +80,8 @@ read_value j = value_of (read j)
 
 -- ---- many
 
--- The inputs read as these documents, one for each, down to where it stops: at the end, for what is behind, or at the first input
--- that can't be read, and why it can't.
+-- The inputs read as these documents, one for each, down to where it stops: at the end, with what `behind` says; or at
+-- the first input that can't be read, and why it can't.
 abbrev pub ReadsEach : {A : Type 0} → (A → Reading → Type 0) → List A → Option ErrorKind → Documents → Option ErrorKind → Type 0
 ReadsEach Reads [] behind [] stop = stop ≡ behind
 ReadsEach Reads (a ∷ more) behind [] (Some k) = Reads a (unreadable k)
@@ -118,7 +118,7 @@ abbrev pub AreRead : Documents → Type 0
 AreRead [] = Unit {0}
 AreRead (d ∷ ds) = IsRead d × AreRead ds
 
--- why an input can't be read: 3 to 11
+-- why an input can't be read: the kinds 3 to 11
 abbrev pub IsReadingKind : ErrorKind → Type 0
 IsReadingKind NotAnObject = Unit {0}
 IsReadingKind JsonRefused = Unit {0}
@@ -142,7 +142,7 @@ abbrev pub AreAllJson : List Data → Type 0
 AreAllJson [] = Unit {0}
 AreAllJson (j ∷ js) = IsJson j × AreAllJson js
 
--- the two refusals of bytes of which either is told where both stand
+-- the two refusals of bytes of which either is reported if both hold
 abbrev pub MayBoth : ErrorKind → Type 0
 MayBoth Faulty = Unit {0}
 MayBoth TooDeep = Unit {0}

@@ -1,4 +1,4 @@
--- Runs of commands on plain lists, where some may be denied what they need.
+-- Runs of commands on plain lists, in which some may be denied what they need.
 use Rattle.std.specs.Prelude.{◌≡◌, ◌⊎◌, ℕ, suc, List, [], ◌∷◌, if◌then◌else◌, Option, Some, None}
 use Rattle.std.specs.Str.{bytes_eq}
 use Rattle.std.specs.Ordering.{nat_cmp}
@@ -23,7 +23,7 @@ kind_of_denial places = Places
 abbrev pub Denials : Type 0
 Denials = FinMap nat_cmp Denial
 
--- a command that is denied something is refused with that kind and changes nothing; every other goes by a step
+-- a command that is denied something is refused with that kind and changes nothing; every other makes a step
 abbrev pub Turn : Option Denial → State → Command → Reply → State → Type 0
 Turn None s c r t = Step s c r t
 Turn (Some x) s c r t = (r ≡ refused (kind_of_denial x) None) × (t ≡ s)
@@ -56,14 +56,14 @@ abbrev pub IsDecided : Command → Type 0
 IsDecided (on n call) = (IsName n → ⊥) ⊎ IsDecidedCall call
 IsDecided collections = ⊥
 
--- nothing is denied of a command that is decided before anything grows
+-- nothing is denied to a command that is decided before anything grows
 abbrev pub SparesDecided : Denials → ℕ → List Command → Type 0
 SparesDecided w i [] = Unit {0}
 SparesDecided w i (c ∷ cs) = (IsDecided c → get w i ≡ None) × SparesDecided w (suc i) cs
 
 -- ---- one collection
 
--- the calls to a name, with what is denied of them
+-- the calls to a name, with what is denied to them
 abbrev pub calls_of : List ℕ → Denials → ℕ → List Command → List (Option Denial × Call)
 calls_of n w i [] = []
 calls_of n w i (on m call ∷ cs) = if bytes_eq n m then (get w i, call) ∷ calls_of n w (suc i) cs else calls_of n w (suc i) cs

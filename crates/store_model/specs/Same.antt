@@ -67,7 +67,7 @@ ReadsDocuments (on n (replace f a)) = Unit {0}
 ReadsDocuments (on n (import ds stop)) = Unit {0}
 ReadsDocuments _ = ⊥
 
--- where documents are read, all kinds for which an input can't be read count as one
+-- in a command that reads documents, all kinds for which an input can't be read count as one
 abbrev pub SameKind : Command → ErrorKind → ErrorKind → Type 0
 SameKind c k l = (k ≡ l) ⊎ (ReadsDocuments c × IsReadingKind k × IsReadingKind l)
 

@@ -1,5 +1,5 @@
--- Collections as plain lists of documents: what a call answers on one list, and a step of the whole. What a call is given as
--- bytes or as JSON stands here as what it reads as.
+-- Collections as plain lists of documents: what a call returns on one list, and a step of the whole. What a call is
+-- given as bytes or as JSON is here what it reads as.
 use Rattle.std.specs.Prelude.{◌≡◌, ◌≢◌, ◌⊎◌, ℕ, suc, ◌<◌, ◌≤◌, List, [], ◌∷◌, ◌++◌, length, map, Bool, true, false, if◌then◌else◌, nat_lt, Option, Some, None, IsSomeAnd, MatchOption, Result, Ok, Err, IsUtf8}
 use Rattle.std.specs.List.{flat_map, list_any}
 use Rattle.std.specs.Str.{bytes_eq}
@@ -36,7 +36,7 @@ abbrev pub or_no_documents : Option Documents → Documents
 or_no_documents None = []
 or_no_documents (Some ds) = ds
 
--- the list of a name, empty where the name isn't there
+-- the list of a name, empty if the name isn't there
 abbrev pub list_of : State → List ℕ → Documents
 list_of s n = or_no_documents (get s n)
 
@@ -63,7 +63,7 @@ NoneHasId id (d ∷ ds) = (HasId id d → ⊥) × NoneHasId id ds
 abbrev pub IsTaken : Members → Documents → Type 0
 IsTaken d ds = IsSomeAnd (look_up id_key d) (λ id. SomeHasId id ds)
 
--- d has the id, stands between front and back, and is the first that has it
+-- d has the id, is between front and back, and is the first that has it
 pub record StandsAt (id : Value) (ds front : Documents) (d : Members) (back : Documents) : Type 0 where
   pub split : ds ≡ front ++ d ∷ back
   pub before : NoneHasId id front
@@ -83,7 +83,7 @@ pub data Form : Type 0 where
 pub data Call : Type 0 where
   insert : Form → Reading → Call
   replace : Form → Reading → Call
-  -- the value, where the JSON reader takes it
+  -- the value, if the JSON reader takes it
   set : Value → List ℕ → Option Value → Call
   unset : Value → List ℕ → Call
   remove : Value → Call
@@ -113,14 +113,14 @@ pub data Reply : Type 0 where
   -- the kind, and the place of the refused document in a call of many
   refused : ErrorKind → Option ℕ → Reply
 
--- ---- answers in JSON
+-- ---- results in JSON
 
--- a finite double is told where there is no tree
+-- a finite double is reported if there is no tree
 abbrev pub or_finite : Option Data → Result Data ErrorKind
 or_finite None = Err FiniteDouble
 or_finite (Some j) = Ok j
 
--- the tree of a document; a reserved key is told before a finite double
+-- the tree of a document; a reserved key is reported before a finite double
 abbrev pub json_of : Mode → Members → Result Data ErrorKind
 json_of m d = if has_reserved d then Err ReservedKey else or_finite (write m (document d))
 
@@ -160,7 +160,7 @@ abbrev pub or_later : Option ErrorKind → ℕ → Option (ErrorKind × ℕ) →
 or_later None i later = later
 or_later (Some k) i later = Some (k, i)
 
--- the first document that isn't kept and why, from the place i on; what can't be read stands behind all of them
+-- the first document that isn't kept and why, from the place i on; what can't be read comes after all of them
 abbrev pub first_refusal : ℕ → Documents → Option ErrorKind → Option (ErrorKind × ℕ)
 first_refusal i [] None = None
 first_refusal i [] (Some k) = Some (k, i)
@@ -192,7 +192,7 @@ abbrev pub PutsBack : Documents → Documents → Members → Documents → Repl
 PutsBack ds front d back r es = (IsKeepable d × (r ≡ done) × (es ≡ front ++ d ∷ back))
     ⊎ ((k : ErrorKind) × IsUnkeepable d k × Refuses k ds r es)
 
--- on the list ds the call may answer r and leave es
+-- on the list ds the call may return r and leave es
 abbrev pub Answers : Call → Documents → Reply → Documents → Type 0
 Answers (insert f (unreadable k)) ds r es = Refuses k ds r es
 Answers (insert f (readable d)) ds r es = MatchOption (refusal_of d)
@@ -280,7 +280,7 @@ abbrev pub IsSoundIfAny : Option Value → Type 0
 IsSoundIfAny None = Unit {0}
 IsSoundIfAny (Some v) = IsSound v
 
--- what comes in is as it is read, and values and keys are such as are spoken of
+-- what comes in is as it is read, ids and values are sound, and keys are texts
 abbrev pub IsCall : Call → Type 0
 IsCall (insert f a) = IsReading a
 IsCall (replace f a) = IsReading a

@@ -35,7 +35,7 @@ AreOf n (r ∷ rs) = (r.name ≡ n) × AreOf n rs
 abbrev pub with_document : Members → DocumentRow → DocumentRow
 with_document d r = record { place = r.place; name = r.name; document = d }
 
--- the greatest place, 0 where there is none
+-- the greatest place, or 0 if there is none
 abbrev pub greatest : DocumentTable → ℕ
 greatest [] = 0
 greatest (r ∷ rs) = max r.place (greatest rs)
@@ -48,7 +48,8 @@ abbrev pub TakePlaces : ℕ → DocumentTable → Type 0
 TakePlaces n [] = Unit {0}
 TakePlaces n (r ∷ rs) = (r.place ≡ suc n) × (r.place ≤ greatest_place) × TakePlaces (suc n) rs
 
--- Rows came behind the last, at the places after the greatest one; or one row went, or has another document. Every other row is as it was.
+-- Rows came after the last, at the places after the greatest one; or one row went, or has another document. Every other
+-- row is as it was.
 abbrev pub Follows : DocumentTable → DocumentTable → Type 0
 Follows a b = ((new : DocumentTable) × (b ≡ a ++ new) × TakePlaces (greatest a) new)
     ⊎ ((front : DocumentTable) × (r : DocumentRow) × (back : DocumentTable) × (a ≡ front ++ r ∷ back)
@@ -72,13 +73,13 @@ IsRefusal _ = ⊥
 abbrev pub WantsPlaces : DocumentTable → Command → Type 0
 WantsPlaces a c = (greatest_place < greatest a + new_documents c) × (r : Reply) × (t : State) × Step (state_of a) c r t × (IsRefusal r → ⊥)
 
--- nothing is denied of a command that is decided before anything grows, and places are where the table wants them
+-- nothing is denied to a command that is decided before anything grows, and places only if the table lacks them
 abbrev pub MayBeDenied : Option Denial → DocumentTable → Command → Type 0
 MayBeDenied None a c = Unit {0}
 MayBeDenied (Some places) a c = (IsDecided c → ⊥) × WantsPlaces a c
 MayBeDenied (Some x) a c = IsDecided c → ⊥
 
--- one command takes a table to another, where x is denied of it
+-- one command takes a table to another, and x is denied to it
 abbrev pub TurnThrough : Option Denial → DocumentTable → Command → Reply → DocumentTable → Type 0
 TurnThrough x a c r b = Turn x (state_of a) c r (state_of b) × Follows a b × MayBeDenied x a c
 

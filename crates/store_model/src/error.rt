@@ -40,15 +40,15 @@ pub enum ErrorKind {
     NotFound,
     /// 15: the collection has a document with this `_id`.
     DuplicateId,
-    /// 16: a JSON answer has a reserved key below its top.
+    /// 16: a document that is returned as JSON has a reserved key below its top.
     ReservedKey,
-    /// 17: a JSON answer has a finite double other than the zeros.
+    /// 17: a document that is returned as JSON has a finite double other than the zeros.
     FiniteDouble,
     /// 18: the table can't be read by its four columns.
     NotAStore,
     /// 19: the first row that this store can't have written.
     BadRow(i64),
-    /// 20: memory was wanted.
+    /// 20: memory ran out.
     Memory,
     /// 21: the database returned another refusal.
     Database,

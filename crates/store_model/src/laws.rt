@@ -48,15 +48,15 @@ pub fn steps_keep_states()
     ensures refused { (s : State) (n : List ℕ) → IsStore s → store s n (list_of s n) ≡ s }
 {}
 
-/// From states of the same meaning, two commands of the same meaning are answered with the same meaning, and leave
-/// states of the same meaning.
+/// From states of the same meaning, two commands of the same meaning have replies of the same meaning, and leave states
+/// of the same meaning.
 pub fn step_congruence()
     ensures { (c d : Command) (s t : State) (r q : Reply) (s2 t2 : State)
         → SameCommand c d → IsCommand c → IsCommand d → SameStates s t → IsStore s → IsStore t
         → Step s c r s2 → Step t d q t2 → SameReply c r q × SameStates s2 t2 }
 {}
 
-/// The same of whole lists of commands, where the same is denied of both.
+/// The same of whole lists of commands, if the same is denied to both.
 pub fn congruence()
     ensures { (w : Denials) (cs ds : List Command) (s t : State) (rs qs : List Reply) (s2 t2 : State)
         → SameCommands cs ds → AreCommands cs → AreCommands ds → SameStates s t → IsStore s → IsStore t
@@ -69,8 +69,8 @@ pub fn runs_keep_states()
         → Run w 0 s cs rs t → IsStore t }
 {}
 
-/// Replies about one collection, and its list at the end, depend alone on its list, the calls to it, and what is denied
-/// of these.
+/// Replies about one collection, and its list at the end, depend only on its list, the calls to it, and what is denied
+/// to these.
 pub fn one_collection()
     ensures { (n : List ℕ) (w v : Denials) (cs ds : List Command) (rs qs : List Reply) (s t s2 t2 : State)
         → list_of s n ≡ list_of t n → calls_of n w 0 cs ≡ calls_of n v 0 ds
@@ -78,7 +78,7 @@ pub fn one_collection()
         → (replies_of n cs rs ≡ replies_of n ds qs) × (list_of s2 n ≡ list_of t2 n) }
 {}
 
-/// A run through tables is a run of the states that they stand for, and denies nothing of what is decided before
+/// A run through tables is a run of the states that they stand for, and denies nothing to what is decided before
 /// anything grows.
 pub fn tables_run_as_states()
     ensures run { (w : Denials) (a b : DocumentTable) (cs : List Command) (rs : List Reply) → RunThrough w 0 a cs rs b
@@ -97,8 +97,8 @@ pub fn readings_are_sound()
     ensures trees { (js : List Data) (ds : Documents) (stop : Option Kind) → AreAllJson js → ReadsTrees js ds stop → AreRead ds × IsStop stop }
 {}
 
-/// Bytes read as one document or are refused with one kind, but that of Faulty and TooDeep either is reported if both
-/// hold. A JSON tree has one reading.
+/// Bytes read as one document or are refused with one kind, except that either of Faulty and TooDeep is reported if
+/// both hold. A JSON tree has one reading.
 pub fn one_reading()
     ensures document { (bs : List ℕ) (d e : Members) → ReadsBytes bs (readable d) → ReadsBytes bs (readable e) → d ≡ e }
     ensures either { (bs : List ℕ) (d : Members) (k : Kind) → ReadsBytes bs (readable d) → ReadsBytes bs (unreadable k) → ⊥ }
@@ -150,21 +150,21 @@ pub fn dumps_come_back()
         → (q ≡ number (length (list_of s n))) × (list_of u m ≡ map (λ d. norm_members_in_order d) (list_of s n)) }
 {}
 
-/// A run through tables goes on by one call more. So a list of calls, each served by itself, is a run.
+/// A run through tables can go on by one more call. So a list of calls, each served by itself, is a run.
 pub fn runs_go_on()
     ensures { (w : Denials) (a m b : DocumentTable) (cs : List Command) (rs : List Reply) (c : Command) (r : Reply)
         → RunThrough w 0 a cs rs m → Serves m c r b
         → (v : Denials) × RunThrough v 0 a (cs ++ c ∷ []) (rs ++ r ∷ []) b }
 {}
 
-/// What a crash leaves behind a run that began with one state alone is the state at its end, or what one of the
-/// commands, refused if out of memory or by the database behind the last accepted one, makes of that.
+/// After a run that began with a single state, a crash leaves the state at its end, or what one of the commands makes
+/// of that: one that was refused, out of memory or by the database, after the last accepted one.
 pub fn crashes_leave_the_end()
     ensures { (w : Denials) (s t : State) (cs : List Command) (rs : List Reply) (run : Run w 0 s cs rs t)
         → IsStore s → (x : State) → LeftAlong Is (λ y. y ≡ s) w 0 s cs rs t run x → IsEndOrOneMore cs t x }
 {}
 
-/// What a crash leaves behind a run that began with one state alone goes on by one command more.
+/// What a crash leaves after a run that began with a single state goes on by one more command.
 pub fn crashes_go_on()
     ensures { (w : Denials) (s t u : State) (cs : List Command) (rs : List Reply) (c : Command) (r : Reply) (run : Run w 0 s cs rs t)
         (o : Option Denial) → Turn o t c r u → (v : Denials) × (more : Run v 0 s (cs ++ c ∷ []) (rs ++ r ∷ []) u)
@@ -191,7 +191,7 @@ pub fn tables_stand_for_lists()
         → state_of (front ++ back) ≡ store (state_of (front ++ r ∷ back)) r.name (documents_of front r.name ++ documents_of back r.name) }
 {}
 
-/// Worked rows: what stands at paths and how far they go, what is selected, what calls return on small lists.
+/// Worked rows: the values at paths and how far they go, what is selected, what calls return on small lists.
 pub fn worked_rows()
     ensures found { at (document with_array) (codes "v" ∷ codes "0" ∷ []) ≡ Some a_text }
     ensures absent { at (document with_array) (codes "v" ∷ codes "7" ∷ []) ≡ None }
@@ -217,8 +217,8 @@ pub fn worked_rows()
     ensures again { Answers (import (with_two ∷ with_id ∷ []) None) (with_id ∷ []) (refused DuplicateId (Some 1)) (with_id ∷ []) }
 {}
 
-/// Ids go by their written keys: an id that a kept document has can be written, with the key of that document's own;
-/// and a key that is equal to it is that of an id which the document has.
+/// Ids are compared by their written keys: an id that a kept document has can be written, with the key of that
+/// document's own; and a key that is equal to it is that of an id which the document has.
 pub fn ids_go_by_keys()
     ensures plain { (d : Members) (id : Value) → IsKept d → IsSound id → HasId id d → IsPlain id }
     ensures short { (d : Members) (id : Value) → IsKept d → IsSound id → HasId id d → length (key (only_id id)) ≤ size_limit }
@@ -233,7 +233,7 @@ pub fn rows_are_a_state()
     ensures { (rows : DocumentTable) → AreRows rows ↔ IsStore (state_of rows) }
 {}
 
-/// Where a command leaves the state, it leaves every row as it was.
+/// If a command leaves the state, it leaves every row as it was.
 pub fn rows_stay()
     ensures { (a b : DocumentTable) → Follows a b → state_of b ≡ state_of a → b ≡ a }
 {}

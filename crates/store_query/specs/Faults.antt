@@ -8,7 +8,7 @@ use Rattle.store_query.specs.Query.{Fault, no_operand, no_operator, no_query, qu
 use Rattle.store_query.specs.declared.error.QueryError.{QueryError}
 use Rattle.store_query.specs.declared.error.QueryError.TheVariants.{Json as NoJson, RepeatedKey, Query, Operator, Operand, Memory}
 
--- the error names the fault; of no memory nothing is said
+-- the error names the fault; out of memory stands for any fault
 abbrev pub Names : QueryError → Fault → Type 0
 Names Memory f = Unit {0}
 Names Query f = f ≡ no_query
@@ -25,7 +25,7 @@ Fails (Operand k) r = r ≡ Err (no_operand (string_bytes k))
 Fails (NoJson n) r = ⊥
 Fails RepeatedKey r = ⊥
 
--- the result, seen by `view`, is the one that is given, or its error names the fault that is
+-- the result, seen by `view`, is the one that is given, or its error names the given fault
 abbrev pub Gives : {X Y : Type 0} → (X → Y) → Result X QueryError → Result Y Fault → Type 0
 Gives view (Ok x) r = r ≡ Ok (view x)
 Gives view (Err e) r = Fails e r

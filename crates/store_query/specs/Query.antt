@@ -1,5 +1,5 @@
--- A query in MongoDB's language, as a filter of the store, or the first fault in the order of the text. No path goes
--- through an array but by a position.
+-- A query in MongoDB's language, as a filter of the store, or the first fault in the order of the text. A path goes
+-- through an array only by a position.
 use Rattle.std.specs.Prelude.{ℕ, ◌==◌, ◌&&◌, not, is_some, Bool, false, if◌then◌else◌, List, [], ◌∷◌, codes, Option, Some, None, Result, Ok, Err}
 use Rattle.std.specs.List.{slice_split}
 use Rattle.std.specs.Str.{bytes_eq}
@@ -75,12 +75,12 @@ value_under k j = or_fault k (read j)
 abbrev pub absent_or_null : Path → Filter
 absent_or_null p = any_of (tests_of (equals p (scalar null) ∷ no (exists p) ∷ []))
 
--- a number is that of any kind, and every other value is one by its meaning
+-- a number matches that number of any kind, and every other value matches by its meaning
 abbrev pub is_kept : List ℕ → List ℕ → Json → Option (List ℕ) → Result Filter Fault
 is_kept p k j (Some t) = some_or_fault k (number_test (keys p) t)
 is_kept p k j None = value_under k j >>= λ v. Ok (equals (keys p) v)
 
--- under `$eq`; null is what isn't there, too
+-- under `$eq`; null also matches what isn't there
 abbrev pub is_value : List ℕ → List ℕ → Json → Result Filter Fault
 is_value p k j = if is_null j then Ok (absent_or_null (keys p)) else is_kept p k j (as_number j)
 
@@ -88,7 +88,7 @@ is_value p k j = if is_null j then Ok (absent_or_null (keys p)) else is_kept p k
 abbrev pub is_expression : Json → Bool
 is_expression j = is_some (get (key_of of_regex) j)
 
--- anywhere else: an expression, by which MongoDB matches texts, has no place there
+-- anywhere else: an expression, by which MongoDB matches texts, doesn't belong there
 abbrev pub is_plain_value : List ℕ → List ℕ → Json → Result Filter Fault
 is_plain_value p k j = if is_expression j then Err (no_operand k) else is_value p k j
 
@@ -96,7 +96,7 @@ abbrev pub each_value : List ℕ → List ℕ → json.Items → Result (List Fi
 each_value p k json.no_items = Ok []
 each_value p k (json.item j js) = is_plain_value p k j >>= λ f. each_value p k js >>= λ fs. Ok (f ∷ fs)
 
--- an array of values, one of which it is
+-- the value is one of an array
 abbrev pub among : List ℕ → List ℕ → Json → Result Filter Fault
 among p k (json.array js) = each_value p k js >>= λ fs. Ok (any_of (tests_of fs))
 among p k _ = Err (no_operand k)
@@ -130,7 +130,7 @@ has_kinds p k j = has_kind p k j
 
 -- ---- what is asked of a path
 
--- under an operator; the last argument is what it is if that is `$not`
+-- under an operator; the last argument is the result if the operator is `$not`
 abbrev pub test : List ℕ → List ℕ → Option Operator → Json → Result Filter Fault → Result Filter Fault
 test p o None j negation = Err (no_operator o)
 test p o (Some Eq) j negation = is_value p o j
@@ -178,7 +178,7 @@ joined Nor fs = no (any_of (tests_of fs))
 abbrev pub asked : List ℕ → Json → Result Filter Fault
 asked k j = if begins_with_dollar k then Err (no_operator k) else condition k j
 
--- under a key of a query; the last argument is what it joins if it joins queries
+-- under a key of a query; the last argument is what the key joins if it joins queries
 abbrev pub entry : List ℕ → Option Joining → Json → Result (List Filter) Fault → Result Filter Fault
 entry k (Some c) j branches = branches >>= λ fs. Ok (joined c fs)
 entry k None j branches = asked k j

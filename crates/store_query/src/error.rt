@@ -9,8 +9,8 @@ use thiserror::Error;
 /// Why a query gives no filter.
 #[derive(Debug, Drop, Error)]
 pub enum QueryError {
-    /// The text is no JSON (RFC 8259), or its objects and arrays lie more than 128 deep. The number is the byte at
-    /// which that is seen, counted from 0.
+    /// The text is no JSON (RFC 8259), or its objects and arrays are nested more than 128 deep. The number is the byte
+    /// at which that is seen, counted from 0.
     #[error("no JSON at byte {0}")]
     Json(usize),
     /// An object in the text has a key twice.

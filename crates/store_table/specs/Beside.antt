@@ -11,11 +11,11 @@ use Rattle.sqlite.specs.Effect.{Database, IsDatabase, SparesFrozen}
 use Rattle.sqlite.specs.State.{State, Shows as Sees}
 use Rattle.store_table.specs.Schema.{documents, HasDocuments}
 
--- where a table of the schema counts its rows and the one for the counts isn't there, that one is made too
+-- if a table of the schema counts its rows and the table of the counts isn't there, that one is made too
 abbrev pub AddsCounts : Schema → Schema → Type 0
 AddsCounts schema after = MatchBool (lacks_sequence schema) ((counts : Table) × (table_defined_by sequence_text ≡ Ok counts) × (after ≡ created schema counts)) (after ≡ schema)
 
--- the empty table comes behind the tables that are there, which have the rows that they had; the indexes are those of
+-- the empty table comes after the tables that are there, which have the rows that they had; the indexes are those of
 -- the rows, and what the database doesn't understand stays
 pub record AddsTable (old new : Database) : Type 0 where
   pub schema : AddsCounts (created old.schema documents) new.schema

@@ -18,7 +18,7 @@ module _ (accepts : List ℕ → List ℕ → List ℕ → Type 0) where
   abbrev pub AreGood : List TableRow → Type 0
   AreGood docs = AreGoodAfter [] docs
 
-  -- the first row that a store can't have written stands at this place
+  -- the first row that a store can't have written is at this place
   pub record IsFirstBad (docs : List TableRow) (place : ℤ) : Type 0 where
     pub front : List TableRow
     pub bad : TableRow

@@ -8,6 +8,6 @@ use Rattle.store_table.specs.Rows.{TableRow, HasRows, HoldsRows}
 abbrev pub AddsNothing : State → State → Type 0
 AddsNothing old new = Survives old new (λ _. ⊥)
 
--- the rows of the table changed so, and the schema and the other tables as they were
+-- the rows of the table changed this way, and the schema and the other tables as they were
 abbrev pub MayChange : (List TableRow → List TableRow) → State → Trees → Type 0
 MayChange change s trees = (docs : List TableRow) → HoldsRows s docs → HasRows s.now trees (change docs)

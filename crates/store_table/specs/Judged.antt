@@ -1,4 +1,4 @@
--- What rows that are read one after the other come to.
+-- What is found of rows that are read one after the other.
 use Rattle.std.specs.Prelude.{◌≡◌, ℕ, ℤ, List, map, true, false, Result, Ok, Err}
 use Rattle.std.specs.List.{list_all}
 use Rattle.sqlite_value.specs.Order.{Row}
@@ -17,12 +17,12 @@ module _ (accepts : List ℕ → List ℕ → List ℕ → Type 0) where
     pub seen : HasSeen keys (map doc_of rows)
     pub place : last ≡ last_place (map doc_of rows)
 
-  -- the rows have the types, and the first bad one stands at this place
+  -- the rows have the types, and the first bad one is at this place
   pub record AreBad (rows : List Row) (place : ℤ) : Type 0 where
     pub typed : list_all is_listed rows ≡ true
     pub first : IsFirstBad accepts (map doc_of rows) place
 
-  -- what is told of the rows: a type that one of them hasn't, wherever it stands, or else the first bad one, or else that they pass
+  -- what is reported of the rows: a wrong type of any one of them, or else the first bad one, or else that they pass
   abbrev pub JudgesRow : List Pair → ℤ → List Row → Result (Unit {0}) OpenError → Type 0
   JudgesRow keys last rows (Ok done) = ArePassed keys last rows
   JudgesRow keys last rows (Err NotAStore) = list_all is_listed rows ≡ false

@@ -22,7 +22,7 @@ abbrev pub PutsKey : Option ℕ → ℤ → List ℕ → Database → Database �
 PutsKey limit place idkey db after =
     (c : Compiled) × (understood db.schema rekey_text ≡ Ok c) × (tally : Tally) × Does limit keys_enforced (Int place ∷ Blob idkey ∷ []) db (text_of rekey_text c) c.returning c.command (Ok (tally, after))
 
--- so with each of these, one after the other, and nothing else
+-- the same with each of these keys, one after the other, and nothing else
 abbrev pub PutsKeys : Option ℕ → List NewKey → Database → Database → Type 0
 PutsKeys limit [] db after = after ≡ db
 PutsKeys limit (k ∷ keys) db after = (mid : Database) × PutsKey limit k.place k.idkey.items db mid × PutsKeys limit keys mid after

@@ -18,8 +18,8 @@ use Rattle.store_table.specs.Beside.{KeepsOthers, ShowsOthers}
 abbrev pub Stands : State → List TableRow → Type 0
 Stands s docs = IsTrue s.is_open → HoldsRows s docs
 
--- on a disk that returns what was written, rows that stood before are followed by rows that stand now, the two are related so, and
--- the schema and the other tables are as they were
+-- on a disk that returns what was written, P holds of the rows before and the rows now, and the schema and the other
+-- tables are as they were
 abbrev pub Moves : State → State → (List TableRow → List TableRow → Type 0) → Type 0
 Moves old new P = HasCleanDisk new → HasCleanDisk old × ((docs : List TableRow) → Stands old docs → (after : List TableRow) × Stands new after × P docs after × KeepsOthers old new)
 
@@ -27,16 +27,17 @@ Moves old new P = HasCleanDisk new → HasCleanDisk old × ((docs : List TableRo
 abbrev pub WasOpen : {A E : Type 0} → State → State → Result A E → Type 0
 WasOpen old new result = HasCleanDisk new → (docs : List TableRow) → Stands old docs → OnOk result (IsTrue old.is_open × IsTrue new.is_open)
 
--- a crash may leave the rows changed so, and the schema and the other tables as they were
+-- a crash may leave the rows changed this way, and the schema and the other tables as they were
 abbrev pub MayLeave : (List TableRow → List TableRow) → State → Trees → Type 0
 MayLeave change old trees = (first : Database) (docs : List TableRow) → ShowsOthers first old → Stands old docs → HasRows first trees (change docs)
 
--- after a call that was accepted a crash leaves the rows changed so and no others, and the schema and the other tables as they were
+-- after a call that was accepted a crash leaves only the rows changed this way, and the schema and the other tables as
+-- they were
 abbrev pub Settles : {A : Type 0} → (List TableRow → List TableRow) → State → State → Result A Fault → Type 0
 Settles change old new result =
     HasCleanDisk new → (first : Database) (docs : List TableRow) → ShowsOthers first old → Stands old docs → OnOk result ((db : Trees) → new.may_leave db → HasRows first db (change docs))
 
--- there are so many places after the greatest one
+-- there are n places after the greatest one
 abbrev pub IsRoomFor : ℕ → List TableRow → Type 0
 IsRoomFor n docs = (last_place docs +ℤ pos n) <ℤ pos (2 ^ 63)
 
@@ -53,31 +54,31 @@ parts_of_found f = (f.place, f.body.items)
 abbrev pub parts_of_row : TableRow → ℤ × List ℕ
 parts_of_row d = (d.place, d.body)
 
--- the first row with this collection and key is found, or that there is none
+-- the first row with this collection and key is found, or it is found that there is none
 pub record FindsRow (coll idkey : List ℕ) (result : Result (Option Found) Fault) (docs after : List TableRow) : Type 0 where
   pub same : after ≡ docs
   pub found : IfOk result (λ f. option_map parts_of_found f ≡ option_map parts_of_row (find (is_row_named coll idkey) docs))
   pub faults : IfErr result (λ e. e ≢ Places)
 
--- it is told whether there is no row
+-- it is reported whether there is no row
 pub record FindsNone (result : Result Bool Fault) (docs after : List TableRow) : Type 0 where
   pub same : after ≡ docs
   pub none : IfOk result (λ none. IsTrue none ↔ (docs ≡ []))
   pub faults : IfErr result (λ e. e ≢ Places)
 
--- the place of the first row with this collection and key is found, or that there is none
+-- the place of the first row with this collection and key is found, or it is found that there is none
 pub record FindsPlace (coll idkey : List ℕ) (result : Result (Option ℤ) Fault) (docs after : List TableRow) : Type 0 where
   pub same : after ≡ docs
   pub found : IfOk result (λ p. p ≡ option_map (λ (d : TableRow). d.place) (find (is_row_named coll idkey) docs))
   pub faults : IfErr result (λ e. e ≢ Places)
 
--- the rows are changed so, or the call is refused
+-- the rows are changed this way, or the call is refused
 pub record Changes (change : List TableRow → List TableRow) (result : Result (Unit {0}) Fault) (docs after : List TableRow) : Type 0 where
   pub done : OnOk result (after ≡ change docs)
   pub refused : OnErr result (after ≡ docs)
   pub faults : IfErr result (λ e. e ≢ Places)
 
--- so many rows come after the others, or the call is refused
+-- n rows come after the others, or the call is refused
 pub record AddsRows (n : ℕ) (change : List TableRow → List TableRow) (result : Result (Unit {0}) Fault) (docs after : List TableRow) : Type 0 where
   pub done : OnOk result (after ≡ change docs)
   pub room : OnOk result (IsRoomFor n docs)
@@ -94,7 +95,7 @@ pub record Lists (result : Result (BTreeSet (Vec ℕ Global)) Fault) (docs after
 abbrev pub bodies_of : List ℕ → List TableRow → List (List ℕ)
 bodies_of coll docs = map (λ (d : TableRow). d.body) (filter (is_in coll) docs)
 
--- a visitor has taken the bodies of a collection in order, all of them or a beginning
+-- a visitor has taken the bodies of a collection in order, all of them or the first ones
 pub record Visits {V : Type 0} (took : V → List (List ℕ) → Type 0) (first last : V) (coll : List ℕ) (result : Result Bool Fault) (docs after : List TableRow) : Type 0 where
   pub same : after ≡ docs
   pub whole : took first [] → IfOk result (λ all. IsTrue all → took last (bodies_of coll docs))

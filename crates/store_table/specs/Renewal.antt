@@ -17,7 +17,7 @@ use Rattle.store_table.specs.Check.{AreGood, IsFirstBad}
 use Rattle.store_table.specs.Seen.{Pair, pair_cmp}
 use Rattle.store_table.specs.Keys.{PutsKeys}
 
--- what may be committed where these keys are put
+-- what may be committed while these keys are put
 pub record MayPut (keys : List NewKey) (old : State) (trees : Trees) : Type 0 where
   pub shown : (docs : List TableRow) → HoldsRows old docs → HasRows old.now trees (with_keys_at keys docs)
   pub put : (db : Held) × PutsKeys old.step_limit keys old.now db × (trees ≡ db.trees)
@@ -59,7 +59,8 @@ module _ (renews : List ℕ → List ℕ → List ℕ → List ℕ → Type 0) w
   AcceptsOnce coll idkey body = (now : List ℕ) × renews coll idkey body now
 
 module _ (accepts : List ℕ → List ℕ → List ℕ → Type 0) (renews : List ℕ → List ℕ → List ℕ → List ℕ → Type 0) where
-  -- no two of the renewed rows have one collection and key; the map has their places, and the keys make the rows them
+  -- no two of the renewed rows have the same collection and key; the map has their places, and the keys turn the rows
+  -- into these
   pub record StandApart (docs after : List TableRow) (r : Renewals) : Type 0 where
     pub good : AreGood accepts after
     pub places : HasPlaces r.places after
@@ -73,11 +74,11 @@ module _ (accepts : List ℕ → List ℕ → List ℕ → Type 0) (renews : Lis
     pub renewed : AreRenewed renews docs after
     pub told : MatchOption r.twin (StandApart docs after r) (λ p. IsTwin accepts after p.0 p.1)
 
-  -- the rows have their keys of now, no two of a collection have the same, and the other tables are as they were
+  -- the rows have their current keys, no two of a collection have the same, and the other tables are as they were
   abbrev pub Renewed : State → State → Type 0
   Renewed old new = (docs : List TableRow) → HoldsRows old docs → (after : List TableRow) × HoldsRows new after × AreRenewed renews docs after × AreGood accepts after × SparesOthers old.now new.now
 
-  -- why they haven't
+  -- why they don't
   abbrev pub Unrenewed : State → State → OpenError → Type 0
   Unrenewed old new NotAStore = ReadsNot old new
   Unrenewed old new (BadRow place) = (docs : List TableRow) × Reads old new docs × IsFirstBad (AcceptsOnce renews) docs place
@@ -86,8 +87,8 @@ module _ (accepts : List ℕ → List ℕ → List ℕ → Type 0) (renews : Lis
   Unrenewed old new Memory = Unit {0}
   Unrenewed old new Database = Unit {0}
 
-  -- The rows that are read are good under some key, and these keys, each at its place, make them rows under keys of now, no two of
-  -- which have one collection and key.
+  -- The rows that are read are good under some key, and these keys, each at its place, turn them into rows under
+  -- current keys, no two of which have the same collection and key.
   pub record KeysOfNow (old : State) : Type 0 where
     pub docs : List TableRow
     pub after : List TableRow
@@ -116,16 +117,16 @@ module _ (renews : List ℕ → List ℕ → List ℕ → List ℕ → Type 0) w
   abbrev pub HasOldKey : State → Type 0
   HasOldKey old = (docs : List TableRow) × (place : ℤ) × Reads old old docs × IsFirstBad (IsOwn renews) docs place
 
-  -- where a row isn't, the keys of now may be committed
+  -- if a row isn't, the current keys may be committed
   abbrev pub RenewsOld : State → Trees → Type 0
   RenewsOld old trees = HasOldKey old × MayRenew (IsOwn renews) renews old trees
 
-  -- the rows are good under their own keys, and nothing changes; or one of them isn't, and the keys of now were put
+  -- the rows are good under their own keys, and nothing changes; or one of them isn't, and the current keys were put
   abbrev pub PassesOnce : State → State → Type 0
   PassesOnce old new = PassesOpening (IsOwn renews) old new ⊎ (HasOldKey old × HasRekeyed (IsOwn renews) renews old new)
 
-  -- what an open leaves: the table made, beside what there was, or found with rows that a store can have written, which have their
-  -- keys of now
+  -- what an open leaves: the table made, beside what there was, or found with rows that a store can have written, which
+  -- have their current keys
   pub record Opened (old new : State) : Type 0 where
     pub made : IsBlank old → HoldsRows new []
     pub beside : HasNoTable old → StandsBeside old new
@@ -142,6 +143,6 @@ module _ (renews : List ℕ → List ℕ → List ℕ → List ℕ → Type 0) w
   Unopened old new Memory = Unit {0}
   Unopened old new Database = Unit {0}
 
-  -- what an open may commit: the table, or the keys of now where a row hasn't its own
+  -- what an open may commit: the table, or the current keys if a row doesn't have its own
   abbrev pub Makes : State → Trees → Type 0
   Makes old trees = (HasNoTable old × AreBeside old.now trees) ⊎ (HasTable old × RenewsOld old trees)

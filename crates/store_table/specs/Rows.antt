@@ -29,7 +29,7 @@ columns_of d = Int d.place ∷ Null ∷ Text d.coll ∷ Blob d.idkey ∷ Blob d.
 abbrev pub IsRising : List TableRow → Type 0
 IsRising = IsAscending (λ a b. a.place <ℤ b.place)
 
--- each document stands below this place
+-- each document is below this place
 abbrev pub AreBelow : ℤ → List TableRow → Type 0
 AreBelow place = AllByRecursion (λ d. d.place <ℤ place)
 
@@ -37,7 +37,7 @@ AreBelow place = AllByRecursion (λ d. d.place <ℤ place)
 unfoldable pub ListsSchema : Database → Type 0
 ListsSchema db = Lists (db.trees catalog_tree) db.schema
 
--- where the table stands in the database, whatever else it has, with these rows
+-- where the table is in the database, whatever else it has, with these rows
 pub record TableRows (db : Database) (docs : List TableRow) : Type 0 where
   pub place : ℕ
   pub tree : ℕ
@@ -117,7 +117,7 @@ pub record Inside (s : State) (first docs : List TableRow) : Type 0 where
 pub record KeepsCommitted (s : State) (first : List TableRow) : Type 0 where
   pub table : RowsIn s.committed first
 
--- rows of a collection at one place after the other
+-- rows of a collection at consecutive places
 abbrev pub docs_from : ℤ → List ℕ → List NewRow → List TableRow
 docs_from place coll [] = []
 docs_from place coll (r ∷ rows) = record { place = place; coll = coll; idkey = r.idkey.now; body = r.body.now } ∷ docs_from (place +ℤ pos 1) coll rows

@@ -28,19 +28,21 @@ IsSelect text = AsksForRows (first text)
 abbrev pub first_value : Row → List ℕ
 first_value r = bytes_in (column r 0)
 
--- the visitor has taken the whole answer, or a beginning of one
+-- the visitor has taken the whole result, or the first rows of one
 abbrev pub TookRows : {V : Type 0} → (V → List (List ℕ) → Type 0) → V → List ℕ → Row → State → State → Type 0
 TookRows took v sql params old new = (rows : List Row) × Shown sql params old new rows × took v (map first_value rows)
 
 abbrev pub TookSome : {V : Type 0} → (V → List (List ℕ) → Type 0) → V → List ℕ → Row → State → Type 0
 TookSome took v sql params old = (rows : List Row) × ((rows ≡ []) ⊎ (IsTrue old.is_open × Begins sql params old rows)) × took v (map first_value rows)
 
--- a read that is answered leaves everything; one that is refused leaves the rows and the other tables, or the connection is shut
+-- a read that succeeds leaves everything; one that is refused leaves the rows and the other tables, or the connection
+-- is shut
 pub record ReadsRows {A E : Type 0} (old new : State) (result : Result A E) : Type 0 where
   pub unchanged : OnOk result (IsUnchanged old new)
   pub refused : OnErr result (IsTrue new.is_open → IsTrue old.is_open × ((docs : List TableRow) → HoldsRows old docs → HoldsRows new docs))
   pub others : OnErr result ((docs : List TableRow) → Stands old docs → KeepsOthers old new)
 
--- The + keeps the engine from the index on (coll, idkey), by which it would have to sort the whole answer before the first row.
+-- The + keeps the engine from the index on (coll, idkey), by which it would have to sort the whole result before the
+-- first row.
 abbrev pub scan_text : List ℕ
 scan_text = codes "SELECT body FROM documents WHERE +coll = ?1 COLLATE BINARY ORDER BY place"

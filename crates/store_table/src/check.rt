@@ -18,7 +18,7 @@ use sqlite::{Alter, Connection, Error, Row};
 use std::alloc::{AllocError, Global};
 use std::collections::BTreeSet;
 
-/// What the store above asks of a row beside the rules of the table.
+/// What the store above asks of a row besides the rules of the table.
 pub trait RowCheck {
     /// A row of this collection, this written key and this body is or was one of the store's own, and this is its key
     /// now.
@@ -60,8 +60,8 @@ impl<C: RowCheck> TestsRows for Own<'_, C> {
     }
 }
 
-/// Adds a key and its collection, and says whether the set had them not. The key goes first, since it keeps most rows
-/// apart.
+/// Adds a key and its collection, and says whether the set didn't have them. The key goes first, since it keeps most
+/// rows apart.
 fn meet(
     seen: &mut BTreeSet<(Vec<u8>, Vec<u8>)>,
     alloc: Global,
@@ -100,7 +100,7 @@ fn is_good_after<J: TestsRows>(
     check.accepts_row(coll, idkey, bytes_at(row, 3))
 }
 
-/// The verdict so far, unless the row hasn't the types, which decides it wherever the row stands.
+/// The verdict so far, unless the row doesn't have the types, which decides it wherever the row is.
 fn unless_mistyped(verdict: Result<(), OpenError>, row: &Row) -> Result<(), OpenError>
     ensures kept { IsTrue (is_listed row.now) → result ≡ verdict }
     ensures mistyped { is_listed row.now ≡ false → result ≡ Err OpenError.NotAStore }
@@ -136,8 +136,8 @@ pub(crate) fn judge<J: TestsRows>(
     }
 }
 
-/// Reads the whole table, and tests each row. One row is held at a time, beside the names and keys of those before it;
-/// each takes a logarithm of their number.
+/// Reads the whole table, and tests each row. One row is held at a time, besides the names and keys of those before it;
+/// each takes the time of a logarithm of their number.
 pub(crate) fn survey<S: Alter, J: TestsRows>(
     alloc: Global,
     conn: &mut Connection<S>,

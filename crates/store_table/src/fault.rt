@@ -10,7 +10,7 @@ pub enum Fault {
     Memory,
     /// The database refused: its disk, a limit on steps, or a connection that an earlier fault shut.
     Database,
-    /// There are not so many places after the greatest one.
+    /// There are too few places after the greatest one.
     Places,
 }
 

@@ -15,7 +15,7 @@ fn add_name(names: &mut BTreeSet<Vec<u8>>, alloc: Global, name: &[u8]) -> Result
     Ok(())
 }
 
-/// Takes each value as a name. It stops where memory runs out.
+/// Takes each value as a name. It stops when memory runs out.
 #[derive(Drop)]
 pub(crate) struct Names {
     pub(crate) names: BTreeSet<Vec<u8>>,

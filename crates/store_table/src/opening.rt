@@ -74,7 +74,7 @@ pub(crate) fn bytes_at(row: &Row, at: usize) -> &[u8]
     }
 }
 
-/// Makes the table where the database has no object of the name, and tests it where it has.
+/// Makes the table if the database has no object of the name, and tests it if it has one.
 pub(crate) fn prepare<S: Alter, C: RowCheck>(
     alloc: Global,
     conn: &mut Connection<S>,

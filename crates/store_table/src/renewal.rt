@@ -1,4 +1,4 @@
-//! Rows under old keys, which get their keys of now.
+//! Rows under old keys, which get their current keys.
 
 ghost use Rattle.std.specs.Prelude.{◌≡◌, ◌++◌, ◌∷◌, [], false, List, Option, None, option_map, find, IfOk, IfErr, IsOk, MatchResult, Ok, Err, OnOk, OnErr};
 ghost use Rattle.store_table.specs.Cells.{doc_of};
@@ -39,19 +39,19 @@ pub(crate) fn meet_place(
     Ok(met)
 }
 
-/// What is known of the keys of now, of the rows so far.
+/// What is known of the current keys of the rows so far.
 #[derive(Drop)]
 pub(crate) struct Renewals {
-    /// The place of each row under its key of now and its collection.
+    /// The place of each row under its current key and its collection.
     pub(crate) places: BTreeMap<(Vec<u8>, Vec<u8>), i64>,
-    /// The keys that take the place of others.
+    /// The keys that replace others.
     pub(crate) keys: Vec<NewKey>,
-    /// The first two places that have one collection and key of now.
+    /// The first two places that have the same collection and current key.
     pub(crate) twin: Option<(i64, i64)>,
 }
 
 impl Renewals {
-    /// Of no rows.
+    /// Renewals of no rows.
     pub(crate) fn new(alloc: Global) -> Renewals
         ensures twin { result.twin ≡ None }
         ensures keys { result.keys.items ≡ [] }
@@ -64,7 +64,7 @@ impl Renewals {
         }
     }
 
-    /// Goes on by a row that has its own key, or the one from before in its place.
+    /// Takes one more row, which has its own key, or the one from before instead.
     pub(crate) fn take<C: RowCheck>(
         &mut self,
         alloc: Global,
@@ -95,7 +95,7 @@ impl Renewals {
 }
 
 impl Renewals {
-    /// Goes on by a row, unless something is wrong with it or one before it.
+    /// Takes one more row, unless something is wrong with it or one before it.
     fn go_on<C: RowCheck>(
         &mut self,
         alloc: Global,
@@ -113,7 +113,7 @@ impl Renewals {
     }
 }
 
-/// What is reported once all rows were read.
+/// What is reported after all rows were read.
 fn ended(verdict: Result<(), OpenError>, renewals: Renewals) -> Result<Renewals, OpenError>
     ensures { MatchResult verdict (λ _. result ≡ Ok renewals) (λ e. result ≡ Err e) }
 {
@@ -139,8 +139,8 @@ impl<C: RowCheck> TestsRows for Once<'_, C> {
     }
 }
 
-/// Reads the whole table, tests each row under either key, and gathers the keys of now. Held are the names and keys of
-/// the rows before, and the keys that take the place of others.
+/// Reads the whole table, tests each row under either key, and gathers the current keys. It holds the names and keys of
+/// the rows before, and the keys that replace others.
 pub(crate) fn survey_old<S: Alter, C: RowCheck>(
     alloc: Global,
     conn: &mut Connection<S>,
@@ -194,7 +194,7 @@ fn write_keys<S: Alter>(conn: &mut Connection<S>, keys: &[NewKey]) -> Result<(),
     rekey_all(conn, keys)
 }
 
-/// Replaces the keys from before by those of now: all of them, or none.
+/// Replaces the keys from before by the current ones: all of them, or none.
 pub(crate) fn renew<S: Alter, C: RowCheck>(
     alloc: Global,
     conn: &mut Connection<S>,
@@ -217,7 +217,7 @@ pub(crate) fn renew<S: Alter, C: RowCheck>(
     }
 }
 
-/// Tests the table, and replaces keys from before by those of now, where there are any.
+/// Tests the table, and replaces keys from before by the current ones, if there are any.
 pub(crate) fn settle_keys<S: Alter, C: RowCheck>(
     alloc: Global,
     conn: &mut Connection<S>,

@@ -33,6 +33,6 @@ pub(crate) const ALL_ROWS: &str = "SELECT place, coll, idkey, body FROM document
 pub(crate) const NAMES: &str = "SELECT coll FROM documents ORDER BY place";
 
 /// The bodies of a collection. The `+` keeps the engine from the index on (coll, idkey), by which it would have to sort
-/// the whole answer before the first row.
+/// the whole result before the first row.
 pub(crate) const BODIES: &str =
     "SELECT body FROM documents WHERE +coll = ?1 COLLATE BINARY ORDER BY place";

@@ -56,7 +56,7 @@ fn insert_row<'a, S: Alter>(
     )
 }
 
-/// Adds a row after all others, and commits it. It stands apart from `insert_row`, so that a wrong body is refused in
+/// Adds a row after all others, and commits it. It is separate from `insert_row`, so that a wrong body is refused in
 /// seconds.
 pub(crate) fn add_committed<'a, S: Alter>(
     conn: &mut Connection<S>,
@@ -130,7 +130,7 @@ pub(crate) fn places<'a, S: Alter>(
     )
 }
 
-/// The greatest place, where the table has a row.
+/// The greatest place, if the table has a row.
 pub(crate) fn greatest_if_any<S: Alter>(conn: &mut Connection<S>) -> Result<Option<i64>, Error>
     ensures place { HasCleanDisk (state S.Store conn.new) → (docs : List TableRow) → HoldsRows (state S.Store conn.old) docs
         → IfOk result (λ place. MatchOption place (docs ≡ []) (λ p. (docs ≢ []) × (p ≡ last_place docs))) }
@@ -144,7 +144,7 @@ pub(crate) fn greatest_if_any<S: Alter>(conn: &mut Connection<S>) -> Result<Opti
     }
 }
 
-/// The greatest place, or 0 of a table with no rows.
+/// The greatest place, or 0 for a table with no rows.
 pub(crate) fn greatest<S: Alter>(conn: &mut Connection<S>) -> Result<i64, Error>
     ensures place { HasCleanDisk (state S.Store conn.new) → (docs : List TableRow) → HoldsRows (state S.Store conn.old) docs → IfOk result (λ place. place ≡ last_place docs) }
     ensures read { HasCleanDisk (state S.Store conn.new) → ReadsRows (state S.Store conn.old) (state S.Store conn.new) result }

@@ -1,4 +1,4 @@
-//! Values of an answer's one column, one at a time.
+//! Values of a result's one column, one at a time.
 
 ghost use Rattle.std.specs.Prelude.{◌≡◌, ℕ, List, [], ◌∷◌, ◌++◌, false, IsTrue, IfOk};
 ghost use Rattle.sqlite.specs.Values.{bound};
@@ -13,7 +13,7 @@ use sqlite::{Alter, Connection, Error, ErrorCode};
 
 /// What is done with each body of a collection.
 pub trait Visit {
-    /// Since it was the first visitor, the second has taken these bodies, in this order.
+    /// Between the first state and the second, the visitor took these bodies, in this order.
     ghost took: { Self → Self → List (List ℕ) → Type 0 };
 
     /// It asks for no further body.
@@ -25,7 +25,7 @@ pub trait Visit {
         ensures more { result ≡ false → is_done self.new };
 }
 
-/// Hands the first value of each row of an answer to a visitor, until it asks for no more. One row is read at a time.
+/// Hands the first value of each row of a result to a visitor, until it asks for no more. One row is read at a time.
 /// True: all were taken.
 pub(crate) fn visit_values<S: Alter, V: Visit>(
     conn: &mut Connection<S>,
