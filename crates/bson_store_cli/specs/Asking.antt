@@ -25,7 +25,7 @@ use Rattle.bson_store_cli.specs.declared.asking.Asked.{Asked}
 use Rattle.bson_store_cli.specs.declared.ending.Ended.{Ended}
 use Rattle.bson_store_cli.specs.declared.ending.Ended.TheVariants as ended
 
--- a refusal of this kind, of which nothing more is known
+-- a refusal of this kind, without further details
 abbrev pub refused : ErrorKind → Ended
 refused k = ended.Refused (plain (refusal k))
 

@@ -17,7 +17,7 @@ abbrev pub place_of : List ℕ → Option ℕ → Option ℕ
 place_of lines None = None
 place_of lines (Some document) = slice_get lines document
 
--- what is written from a line has a wrong length only by being too long
+-- what is written from a line can only have a wrong length by being too long
 abbrev pub kind_of_line : ErrorKind → ErrorKind
 kind_of_line BadLength = TooLong
 kind_of_line k = k
@@ -27,12 +27,12 @@ abbrev pub placed : Option ℕ → Refusal → Refusal
 placed None r = record r { line = None }
 placed (Some n) r = record r { line = Some n; error = record (r.error) { kind = kind_of_line r.error.kind } }
 
--- the end that a result is, where the documents came from these lines
+-- how a result ends the command, if the documents came from these lines
 abbrev pub ended_by : List ℕ → Result (Unit {0}) Refusal → Result (Unit {0}) Ended
 ended_by lines (Ok x) = Ok x
 ended_by lines (Err r) = Err (ended.Refused (placed (place_of lines r.error.document) r))
 
--- the line went out, or the one for out of memory, or a beginning of either
+-- the line was written, or the one for out of memory, or a prefix of either
 abbrev pub TellsLine : List ℕ → Tally → Tally → Type 0
 TellsLine text before after = TakesText before after text ⊎ TakesText before after memory_line
 

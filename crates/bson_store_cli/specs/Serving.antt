@@ -13,7 +13,7 @@ form_by true canonical = Bytes
 form_by false true = Lines Canonical
 form_by false false = Lines Relaxed
 
--- a result with its refusal, of which nothing more is known
+-- a result; its refusal has no further details
 abbrev pub plainly : Result (Unit {0}) StoreError → Result (Unit {0}) Refusal
 plainly (Ok x) = Ok x
 plainly (Err e) = Err (plain e)

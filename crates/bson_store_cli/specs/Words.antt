@@ -2,11 +2,11 @@
 use Rattle.std.specs.Prelude.{◌≡◌, ◌<◌, ◌^◌, ℕ, List, [], ◌∷◌, codes}
 use Rattle.std.specs.Str.Parse.{IsNumeral, digits_value, without_leading_plus}
 
--- they begin with `--wait` and a number of seconds
+-- the words begin with `--wait` and a number of seconds
 abbrev pub AsksToWait : List (List ℕ) → ℕ → List (List ℕ) → Type 0
 AsksToWait words seconds behind = (text : List ℕ) × (words ≡ codes "--wait" ∷ text ∷ behind)
     × IsNumeral 10 (without_leading_plus text) × (digits_value 10 (without_leading_plus text) ≡ seconds) × (seconds < 2 ^ 64)
 
--- they are `FILE backup PATH`
+-- the words are `FILE backup PATH`
 abbrev pub AsksForCopy : List (List ℕ) → List ℕ → List ℕ → Type 0
 AsksForCopy words file path = words ≡ file ∷ codes "backup" ∷ path ∷ []

@@ -1,4 +1,4 @@
-//! What a command of `fallowtime` asks for, read of its words and of the input.
+//! What a command of `fallowtime` asks for, read from its words and from the input.
 
 ghost use Rattle.std.specs.Prelude.{◌≡◌, []};
 ghost use Rattle.bson_base.specs.Device.{CanFail};
@@ -19,7 +19,7 @@ use store_documents::Name;
 pub struct Asked<'w> {
     /// The request; none to write all documents of the collection as BSON, one after the other.
     pub request: Option<Request<'w>>,
-    /// Of documents that came from lines the line of each, counted from 1.
+    /// For documents that came from lines, the line of each, counted from 1.
     pub lines: Vec<u64>,
 }
 
@@ -84,10 +84,10 @@ fn import_of<I: Source>(
     }
 }
 
-/// What the words and the input ask for: nothing but `import` reads the input, to its end.
+/// What the words and the input ask for: only `import` reads the input, to its end.
 ///
-/// `Words` if a word can't be read, the first one. Of `import` `Refused` by BadName, by Reader if a read failed, and by
-/// Memory; `Lines` if a line of `import --json` can't be read. `Refused` by Memory if a growth was refused.
+/// `Words` if a word can't be read, the first one. For `import`, `Refused` by BadName, by Reader if a read failed, and
+/// by Memory; `Lines` if a line of `import --json` can't be read. `Refused` by Memory if a growth was refused.
 pub fn asked_of<'w, I: Source>(
     alloc: Global,
     words: &Words<'w>,

@@ -14,8 +14,8 @@ use cli_words::{Words, read_words};
 use sqlite::{Alter, Connection, FileStore};
 use std::alloc::Global;
 
-/// Does the command of the words over a connection, and gives it back beside the program's status. It is over any
-/// store, as what closing one of files does would else be gone through at each of its ends.
+/// Does the command of the words over a connection, and gives it back with the program's status. It is over any store,
+/// since what closing one of files does would otherwise be gone through at each of its ends.
 fn over<S: Alter + Drop, I: Source, O: Sink, F: Sink>(
     alloc: Global,
     connection: Connection<S>,
@@ -38,8 +38,9 @@ fn over<S: Alter + Drop, I: Source, O: Sink, F: Sink>(
 }
 
 /// Opens the store of a connection, and gives the connection back: what a back-up is made of is a sound store. If the
-/// database held a state, under keys of now or from before, what is committed then holds it under keys of now. So do the
-/// bytes that `write_whole` writes of it, and an open over these finds that state by the clause `finds` of `Store::open`.
+/// database held a state, under current or older keys, what is committed then holds it under current keys. So do the
+/// bytes that `write_whole` writes of it, and an open over these finds that state by the clause `finds` of
+/// `Store::open`.
 fn judged(
     alloc: Global,
     connection: Connection<FileStore<Loaded>>,

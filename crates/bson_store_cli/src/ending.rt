@@ -22,7 +22,7 @@ pub enum Ended {
     Lines(LineStop),
     /// The store or a device refused, or it is out of memory.
     Refused(Refusal),
-    /// The file can't be had.
+    /// The file can't be used.
     File(FileError),
 }
 
@@ -83,7 +83,7 @@ impl From<io::Error> for Ended {
 /// The line if there is no memory for another one.
 const OUT_OF_MEMORY: &str = "refused: Memory\n";
 
-/// Writes a line. A failure is of no further concern.
+/// Writes a line. A failure is ignored.
 fn put_line<F: Sink>(faults: &mut F, line: &str)
     requires { CanRefuse (F.tally faults.old) }
     ensures { TakesText (F.tally faults.old) (F.tally faults.new) line.now }

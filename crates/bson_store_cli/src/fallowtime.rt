@@ -28,7 +28,7 @@ use std::hash::{BuildHasher, RandomState};
 use std::time::SystemTime;
 use std::{fs, io};
 
-/// For how many seconds a file is waited for that another process has, if nothing is said.
+/// How many seconds to wait for a file that another process has, if the words don't say.
 const PATIENCE: u64 = 5;
 
 /// How a command prints documents.
@@ -44,7 +44,7 @@ fn form_of(options: &Options) -> Form
     }
 }
 
-/// What makes the ids of this run: the seconds of the clock, and a number that no other run has but by chance.
+/// What makes the ids of this run: the seconds of the clock, and a number that no other run has, except by chance.
 fn maker_of(rt: &HostRuntime) -> io::Result<IdMaker> {
     let seconds = match SystemTime::now(rt)?.duration_since(SystemTime::UNIX_EPOCH) {
         Ok(since) => u32::try_from(since.as_secs()).unwrap_or(u32::MAX),
@@ -103,8 +103,8 @@ fn serve_store<S: Alter + Drop, O: Sink>(
     }
 }
 
-/// Does what is asked over a connection, and gives that back. It is over any store, as what closing one of files does
-/// would else be gone through at each of its ends.
+/// Does what is asked over a connection, and gives that back. It is over any store, since what closing one of files
+/// does would otherwise be gone through at each of its ends.
 fn over<S: Alter + Drop, O: Sink>(
     alloc: Global,
     connection: Connection<S>,
@@ -281,7 +281,7 @@ fn session<I: Source, O: Sink>(
     }
 }
 
-/// Whether the words ask for a session, whose answers go out at once.
+/// Whether the words ask for a session, whose answers are written at once.
 pub fn is_session(words: &[String]) -> bool {
     matches!(read_words(words), Some(Task::Session { .. }))
 }

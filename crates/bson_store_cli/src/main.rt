@@ -21,7 +21,7 @@ use std::io::{BufWriter, Write};
 use std::process::ExitCode;
 use words::{Program, program_of, words_of};
 
-/// How many bytes of output are gathered before they go out.
+/// How many bytes of output are gathered before they are written.
 const OUTPUT_ROOM: usize = 65536;
 
 /// Does what the words ask of bson_store, and returns the program's status.
@@ -52,8 +52,8 @@ fn run_conversion<O: Write>(rt: &HostRuntime, words: &[String], output: &mut Cou
     convert(rt.alloc(), words, &mut input, output, &mut faults)
 }
 
-/// Lets the gathered output go out, and returns the program's status: a failure here is one of the output, like any
-/// write's before it.
+/// Writes the gathered output, and returns the program's status: a failure here is one of the output, like that of any
+/// write before it.
 fn let_out<W: Write + Drop>(rt: &HostRuntime, mut output: Counted<BufWriter<W>>, status: u8) -> u8 {
     match output.device.flush() {
         Err(_) if status == 0 => report(rt, ErrorKind::Writer),
@@ -61,7 +61,7 @@ fn let_out<W: Write + Drop>(rt: &HostRuntime, mut output: Counted<BufWriter<W>>,
     }
 }
 
-/// The program bson_store, whose output is gathered, behind its name.
+/// The program bson_store, over the words after its name; its output is gathered.
 fn run_store(rt: &HostRuntime, words: &[String]) -> u8 {
     let Ok(writer) = BufWriter::with_capacity(rt.alloc(), OUTPUT_ROOM, rt.stdout()) else {
         return report(rt, ErrorKind::Memory);
@@ -71,7 +71,7 @@ fn run_store(rt: &HostRuntime, words: &[String]) -> u8 {
     let_out(rt, output, status)
 }
 
-/// The program bson_json, whose output is gathered, behind its name.
+/// The program bson_json, over the words after its name; its output is gathered.
 fn run_json(rt: &HostRuntime, words: &[String]) -> u8 {
     let Ok(writer) = BufWriter::with_capacity(rt.alloc(), OUTPUT_ROOM, rt.stdout()) else {
         return report(rt, ErrorKind::Memory);
@@ -90,7 +90,7 @@ fn run_fallowtime<O: Write>(rt: &HostRuntime, words: &[String], output: &mut Cou
     fallowtime::serve(rt, words, &mut input, output, &mut faults)
 }
 
-/// The program fallowtime over one command, whose output is gathered, behind its name.
+/// The program fallowtime over one command, by the words after its name; its output is gathered.
 fn run_gathered(rt: &HostRuntime, words: &[String]) -> u8 {
     let Ok(writer) = BufWriter::with_capacity(rt.alloc(), OUTPUT_ROOM, rt.stdout()) else {
         return report(rt, ErrorKind::Memory);
@@ -100,13 +100,13 @@ fn run_gathered(rt: &HostRuntime, words: &[String]) -> u8 {
     let_out(rt, output, status)
 }
 
-/// The program fallowtime over many requests, whose every answer goes out at once, behind its name.
+/// The program fallowtime over many requests, by the words after its name; every answer is written at once.
 fn run_at_once(rt: &HostRuntime, words: &[String]) -> u8 {
     let mut output = Counted::new(rt.stdout());
     run_fallowtime(rt, words, &mut output)
 }
 
-/// The program fallowtime, behind its name.
+/// The program fallowtime, over the words after its name.
 fn run_by_words(rt: &HostRuntime, words: &[String]) -> u8 {
     if fallowtime::is_session(words) {
         run_at_once(rt, words)

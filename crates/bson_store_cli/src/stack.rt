@@ -27,7 +27,7 @@ fn take(zeros: &mut fs::File, parts: usize) -> u8 {
 /// What begins the line of the stack in the system's list of a process's limits.
 const LIMIT_LINE: &str = "Max stack size";
 
-/// The first of the limits that a line has behind its name, 0 if that is no number.
+/// The first of the limits that a line has after its name, 0 if that is no number.
 fn limit_in(limits: &str) -> u64 {
     let first = limits.trim_start().split(' ').next().unwrap_or("");
     if first == "unlimited" {
@@ -49,7 +49,7 @@ fn limit(rt: &HostRuntime) -> u64 {
     0
 }
 
-/// Asks for the stack that the program needs, half of what it may have at the most. From then on it doesn't grow. An
+/// Asks for the stack that the program needs, at most half of what it may have. From then on it doesn't grow. An
 /// error says that there is no memory for it.
 pub fn reserve(rt: &HostRuntime) -> Result<(), AllocError> {
     let need = (limit(rt) / 2).min(NEED as u64) as usize;

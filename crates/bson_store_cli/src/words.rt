@@ -1,4 +1,4 @@
-//! The name under which the program was started, and the words behind that which aren't in the table of commands.
+//! The name under which the program was started, and the words after it which aren't in the table of commands.
 
 ghost use Rattle.std.specs.Prelude.{◌≡◌, ◌↔◌, ℕ, List, [], ◌∷◌, MatchOption, Some, codes, map, string_bytes};
 ghost use Rattle.std.specs.Path.{path_file_name};
@@ -19,8 +19,8 @@ pub enum Program {
     Json,
 }
 
-/// The program that goes by the name under which it was started: the last part of that path. Every name but those of
-/// the others is bson_store's.
+/// The program of the name under which it was started: the last part of that path. Every name except those of the
+/// others is bson_store's.
 pub fn program_of(name: &str) -> Program
     ensures fallowtime { (result ≡ Fallowtime) ↔ (path_file_name name.now ≡ Some (codes "fallowtime")) }
     ensures json { (result ≡ Json) ↔ (path_file_name name.now ≡ Some (codes "bson_json")) }
@@ -32,7 +32,7 @@ pub fn program_of(name: &str) -> Program
     }
 }
 
-/// The name of the program, and the words behind it.
+/// The name of the program, and the words after it.
 pub fn words_of(rt: &HostRuntime) -> io::Result<Vec<String>> {
     let mut words = Vec::new(rt.alloc());
     for word in env::args(rt)? {
@@ -41,8 +41,8 @@ pub fn words_of(rt: &HostRuntime) -> io::Result<Vec<String>> {
     Ok(words)
 }
 
-/// For how many seconds a file is waited for that another process has, and the words behind that. `--wait SECONDS` in
-/// front of the others says so; none if there is no number behind it, or another word at the front.
+/// How many seconds to wait for a file that another process has, and the words after that. `--wait SECONDS` before the
+/// others says so; none if there is no number after it, or another word at the front.
 pub fn patience_of(words: &[String]) -> Option<(u64, &[String])>
     ensures { MatchOption result
         ((seconds : ℕ) (behind : List (List ℕ)) → AsksToWait (map string_bytes words.now) seconds behind → ⊥)

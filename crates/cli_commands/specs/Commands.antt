@@ -26,12 +26,12 @@ use Rattle.cli_words.specs.declared.texts.TextError.TheVariants.{Unreadable}
 abbrev pub IsIdText : List ℕ → Value → Type 0
 IsIdText text id = (j : Data) × (data_of_text text ≡ Some j) × (value_of j ≡ Ok id)
 
--- the form that the words behind an id ask for: canonical, if there are none
+-- the form that the words after an id ask for: canonical, if there are none
 abbrev pub mode_of : List (List ℕ) → Mode
 mode_of [] = Canonical
 mode_of (form ∷ forms) = Relaxed
 
--- the key that the words behind an id begin with
+-- the key that the words after an id begin with
 abbrev pub first_key : List (List ℕ) → List ℕ
 first_key [] = []
 first_key (key ∷ more) = key
@@ -53,7 +53,7 @@ IsOfSet n texts c = (text : List ℕ) × (key : List ℕ) × (value : List ℕ) 
 abbrev pub IsOfStream : List ℕ → Feed → Feed → model.Command → Type 0
 IsOfStream n old new c = (bytes : List ℕ) × (ds : Documents) × (stop : Option ErrorKind) × model.When (model.IsName n) (TookAll old new bytes) (new ≡ old) × ReadsStream bytes ds stop × (c ≡ model.on n (model.import ds stop))
 
--- what the trees read as that the lines of the input have, taken to its end
+-- what the trees of the lines of the input read as; the input is taken to its end
 abbrev pub IsOfLines : List ℕ → Feed → Feed → model.Command → Type 0
 IsOfLines n old new c =
     (bytes : List ℕ) × (js : List Data) × (ds : Documents) × (stop : Option ErrorKind) × TookAll old new bytes × HaveTrees (lines_in bytes) js × ReadsTrees js ds stop
@@ -78,7 +78,7 @@ IsCommandOf Dump n texts c = c ≡ model.on n model.dump
 IsCommandOf Collections n texts c = c ≡ model.collections
 IsCommandOf _ n texts c = ⊥
 
--- or, of a call that reads the input, with what that gave
+-- the same; a call that reads the input takes what that gave
 abbrev pub IsOfCall : Call → List ℕ → List (List ℕ) → Feed → Feed → model.Command → Type 0
 IsOfCall Import n texts old new = IsOfStream n old new
 IsOfCall Load n texts old new = IsOfLines n old new
@@ -104,7 +104,7 @@ IsNoId texts = (text : List ℕ) × (more : List (List ℕ)) × (texts ≡ text 
 abbrev pub IsNoJson : List (List ℕ) → Type 0
 IsNoJson texts = (front : List (List ℕ)) × (text : List ℕ) × (texts ≡ front ++ text ∷ []) × AnswersText text (Err Unreadable)
 
--- it is that of one
+-- the first text is that of an id
 abbrev pub HasId : List (List ℕ) → Type 0
 HasId texts = (text : List ℕ) × (more : List (List ℕ)) × (id : Value) × (texts ≡ text ∷ more) × IsIdText text id
 
@@ -125,7 +125,7 @@ IsUnreadText Find texts words.Filter = IsNoFilter texts
 IsUnreadText Count texts words.Filter = IsNoFilter texts
 IsUnreadText _ texts _ = ⊥
 
--- what is reported of the texts of a call is so: they are no line of the table, or they are one, and this text can't be read
+-- why the texts of a call are refused: they are no line of the table, or they are one, but this text can't be read
 abbrev pub IsUnread : Call → List (List ℕ) → UsageError → Type 0
 IsUnread call texts Usage = Takes call texts → ⊥
 IsUnread call texts w = Takes call texts × IsUnreadText call texts w
@@ -134,7 +134,7 @@ IsUnread call texts w = Takes call texts × IsUnreadText call texts w
 abbrev pub HasBadLine : Feed → Feed → ℕ → Type 0
 HasBadLine old new i = (bytes : List ℕ) × TookAll old new bytes × IsFirstBadLine (lines_in bytes) i
 
--- then nothing of the input is read; or, of `load`, all of it
+-- the same, and nothing of the input is read; or, by `load`, all of it
 abbrev pub Complains : Call → List (List ℕ) → Feed → Feed → UsageError → Type 0
 Complains Load texts old new (Line i) = Takes Load texts × HasBadLine old new i
 Complains call texts old new w = IsUnread call texts w × (new ≡ old)

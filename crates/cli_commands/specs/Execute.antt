@@ -28,21 +28,21 @@ use Rattle.cli_commands.specs.declared.stop.Failure.TheVariants.{Words, Refused}
 abbrev pub Accepts : (Command → Type 0) → DocumentTable → DocumentTable → Type 0
 Accepts Meant a b = (c : Command) × Meant c × (r : Reply) × (IsRefusal r → ⊥) × Serves a c r b
 
--- such a command is refused so, by its own step, or as memory, places or the database may be denied
+-- such a command is refused with this error: by its own step, or because memory, places or the database is denied
 abbrev pub IsRefusedBy : (Command → Type 0) → StoreError → DocumentTable → Type 0
 IsRefusedBy Meant e a = (c : Command) × Meant c × Serves a c (refused e.kind e.document) a
 
--- whatever table the rows showed, they show one now that it came to
+-- whatever table the rows showed, they now show one that To relates it to
 abbrev pub Comes : (DocumentTable → DocumentTable → Type 0) → List TableRow → List TableRow → Type 0
 Comes To old new = (a : DocumentTable) → Represents old a → (b : DocumentTable) × Represents new b × To a b
 
 -- ---- the devices
 
--- a call of a device failed, which has this kind
+-- a call of a device failed, and this kind reports it
 abbrev pub IsFailure : ErrorKind → ℕ → ℕ → StoreError → Type 0
 IsFailure kind old new e = (e ≡ refusal kind) × (new ≡ old + 1)
 
--- or it is out of memory, and none did
+-- the same; or it is out of memory, and no call failed
 abbrev pub IsFault : ErrorKind → ℕ → ℕ → StoreError → Type 0
 IsFault kind old new e = IsFailure kind old new e ⊎ ((e ≡ refusal Memory) × (new ≡ old))
 
@@ -53,36 +53,36 @@ Fails kind _ old new = new ≡ old
 
 -- ---- one command of the store
 
--- the text isn't such, and this is reported; or out of memory
+-- a text can't be read, and this is reported; or out of memory
 abbrev pub StopsFor : UsageError → Type 0 → Failure → Type 0
 StopsFor w Unread (Words c) = (c ≡ w) × Unread
 StopsFor w Unread (Refused e) = e ≡ refusal Memory
 
--- A command was accepted. Or it was refused, and the table is the same; or it wasn't asked of the store for this fault; or it is
--- reported, rightly, that a text can't be read.
+-- A command was accepted. Or it was refused, and the table is the same; or the store wasn't asked because of this
+-- fault; or a text can't be read, as is reported.
 abbrev pub Performed : (Command → Type 0) → (StoreError → Type 0) → (UsageError → Type 0) → Result Answer Failure → DocumentTable → DocumentTable → Type 0
 Performed Meant Fault Unread (Ok x) a b = Accepts Meant a b
 Performed Meant Fault Unread (Err (Refused e)) a b = (b ≡ a) × (IsRefusedBy Meant e a ⊎ Fault e)
 Performed Meant Fault Unread (Err (Words w)) a b = (b ≡ a) × Unread w
 
--- so of a command for which the rows showed a table
+-- the same of whatever table the rows showed
 abbrev pub Performs : (Command → Type 0) → (StoreError → Type 0) → (UsageError → Type 0) → Result Answer Failure → List TableRow → List TableRow → Type 0
 Performs Meant Fault Unread result = Comes (Performed Meant Fault Unread result)
 
--- an answer wasn't printed: a write failed, or it is out of memory, which only the text of a tree takes
+-- an answer wasn't printed: a write failed, or it is out of memory, which only the text of a tree can be
 abbrev pub IsUnprinted : Answer → ℕ → ℕ → StoreError → Type 0
 IsUnprinted (Tree j) old new e = IsFault Writer old new e
 IsUnprinted x old new e = IsFailure Writer old new e
 
--- what is done is printed, or it is reported why not; of what isn't done nothing is printed
+-- what was done is printed, or it is reported why not; if nothing was done, nothing is printed
 abbrev pub Tells : Result Answer Failure → Result (Unit {0}) Failure → ℕ → ℕ → Type 0
 Tells (Ok x) result old new = ((result ≡ Ok tt) × (new ≡ old)) ⊎ ((e : StoreError) × (result ≡ Err (Refused e)) × IsUnprinted x old new e)
 Tells (Err e) result old new = (result ≡ Err e) × (new ≡ old)
 
 -- ---- a command and its printing
 
--- before the store is asked it is out of memory for a text of the words, or a read fails, or it is out of memory for what was
--- read; of an import only under a good name
+-- before the store is asked, memory runs out for a text of the words, or a read fails, or memory runs out for what was
+-- read; an import reads only under a good name
 abbrev pub Starves : Call → List ℕ → List (List ℕ) → Feed → Feed → StoreError → Type 0
 Starves Import n texts fed left e = IsName n × IsFault Reader fed.failures left.failures e
 Starves Load n texts fed left e = IsFault Reader fed.failures left.failures e
@@ -91,43 +91,44 @@ Starves call n texts fed left e = (texts ≢ []) × (e ≡ refusal Memory) × (l
 abbrev pub IsUnasked : Call → List ℕ → List (List ℕ) → Feed → Feed → StoreError → Type 0
 IsUnasked call n texts fed left e = Takes call texts × Starves call n texts fed left e
 
--- what a command answers wasn't printed, as a write failed; or it is out of memory, and the table is the same
+-- what a command returned wasn't printed, as a write failed; or it is out of memory, and the table is the same
 abbrev pub Misprints : ℕ → ℕ → StoreError → DocumentTable → DocumentTable → Type 0
 Misprints old new e a b = IsFailure Writer old new e ⊎ ((e ≡ refusal Memory) × (new ≡ old) × (b ≡ a))
 
--- A command was accepted, and what it answers printed. Or the table is the same, and the refusal is the command's own, or that of
--- the input; or a command was accepted, and the refusal is that of the output. Or a text can't be read, and the table is the same.
+-- A command was accepted, and what it returned was printed. Or the table is the same, and the refusal is the command's
+-- own, or that of the input; or a command was accepted, and the refusal is that of the output. Or a text can't be read,
+-- and the table is the same.
 abbrev pub Ended : (Command → Type 0) → (StoreError → Type 0) → (StoreError → DocumentTable → DocumentTable → Type 0) → (UsageError → Type 0) → Result (Unit {0}) Failure → DocumentTable → DocumentTable → Type 0
 Ended Meant Unasked Unprinted Unread (Ok x) a b = Accepts Meant a b
 Ended Meant Unasked Unprinted Unread (Err (Refused e)) a b = ((b ≡ a) × (IsRefusedBy Meant e a ⊎ Unasked e)) ⊎ (Unprinted e a b × Accepts Meant a b)
 Ended Meant Unasked Unprinted Unread (Err (Words w)) a b = (b ≡ a) × Unread w
 
--- all documents of an export went out, or a beginning of them
+-- all documents of an export were written, or a prefix of them
 abbrev pub Sends : Call → List ℕ → Tally → Tally → Result (Unit {0}) Failure → DocumentTable → Type 0
 Sends Export n old new (Ok x) a = Exports (state_of a) n old new (Ok x)
 Sends Export n old new (Err (Refused e)) a = Exports (state_of a) n old new (Err e)
 Sends _ n old new _ a = Unit {0}
 
--- so of the call on the collection n, with these texts
+-- all of this for the call on the collection n, with these texts
 pub record Executed (call : Call) (n : List ℕ) (texts : List (List ℕ)) (fed left : Feed) (old new : Tally) (outcome : Result (Unit {0}) Failure) (a b : DocumentTable) : Type 0 where
   pub ended : Ended (AsksFor call n texts fed left) (IsUnasked call n texts fed left) (Misprints old.failures new.failures) (Complains call texts fed left) outcome a b
   pub reader : Fails Reader outcome fed.failures left.failures
   pub writer : Fails Writer outcome old.failures new.failures
   pub sent : Sends call n old new outcome a
 
--- whatever table the rows showed
+-- the same of whatever table the rows showed
 abbrev pub Executes : Wording → Feed → Feed → Tally → Tally → Result (Unit {0}) Failure → List TableRow → List TableRow → Type 0
 Executes w fed left old new outcome = Comes (Executed w.call w.coll.now (map string_bytes w.rest.now) fed left old new outcome)
 
 -- ---- what is reported
 
--- where a text couldn't be read the output is as it was
+-- if a text couldn't be read, the output is as it was
 abbrev pub SilentUnread : {A : Type 0} → Result (Unit {0}) Failure → A → A → Type 0
 SilentUnread (Ok x) old new = Unit {0}
 SilentUnread (Err (Refused e)) old new = Unit {0}
 SilentUnread (Err (Words w)) old new = new ≡ old
 
--- the status, and the line that went out, or a beginning of it where a write failed
+-- the status, and the line that was written, or a prefix of it if a write failed
 abbrev pub Reports : Result (Unit {0}) Failure → ℕ → Tally → Tally → Type 0
 Reports (Ok x) status old new = status ≡ 0
 Reports (Err (Refused e)) status old new = (status ≡ 1) × TakesText old new (refusal_line e.kind e.document)

@@ -28,7 +28,8 @@ is_change Import = true
 is_change Load = true
 is_change _ = false
 
--- a command of those that are meant was accepted, and what it did to the rows and what a crash leaves of it are told of one and the same
+-- a command of those that are meant was accepted; what it did to the rows and what a crash leaves of it are both stated
+-- for this command
 pub record Settled (Meant : Command → Type 0) (old new : State) : Type 0 where
   pub command : Command
   pub meant : Meant command
@@ -41,15 +42,15 @@ pub record Settled (Meant : Command → Type 0) (old new : State) : Type 0 where
 abbrev pub LeavesRefused : (Command → Type 0) → StoreError → State → State → Type 0
 LeavesRefused Meant e old new = (c : Command) × Meant c × Leaves old new c (refused e.kind e.document)
 
--- Where a command was accepted and its answer printed, a crash leaves what it leaves of that command. Where it was refused, no more
--- than before, or what it leaves of a refused command; or the refusal is that of the output, and the command was accepted. Where a
--- text can't be read, no more than before.
+-- If a command was accepted and its answer printed, a crash leaves what it leaves of that command. If it was refused, a
+-- crash leaves only what it could leave before, or what it leaves of a refused command; or the refusal is that of the
+-- output, and the command was accepted. If a text can't be read, a crash leaves only what it could leave before.
 abbrev pub LeavesBy : {A : Type 0} → (Command → Type 0) → (StoreError → Type 0) → Result A Failure → State → State → Type 0
 LeavesBy Meant Unprinted (Ok x) old new = Settled Meant old new
 LeavesBy Meant Unprinted (Err (Refused e)) old new = Survives old new (λ _. ⊥) ⊎ (LeavesRefused Meant e old new ⊎ (Unprinted e × Settled Meant old new))
 LeavesBy Meant Unprinted (Err (Words w)) old new = Survives old new (λ _. ⊥)
 
--- a call that changes nothing leaves no more than before
+-- after a call that changes nothing, a crash leaves only what it could leave before
 abbrev pub LeavesCall : Call → List ℕ → List (List ℕ) → Feed → Feed → Tally → Tally → Result (Unit {0}) Failure → State → State → Type 0
 LeavesCall call n texts fed left before behind outcome old new =
     MatchBool (is_change call) (LeavesBy (AsksFor call n texts fed left) (IsFailure Writer before.failures behind.failures) outcome old new) (Survives old new (λ _. ⊥))

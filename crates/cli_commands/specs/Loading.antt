@@ -13,7 +13,7 @@ use Rattle.cli_commands.specs.Execute.{IsFault}
 use Rattle.cli_commands.specs.declared.stop.Failure.{Failure}
 use Rattle.cli_commands.specs.declared.stop.Failure.TheVariants.{Words, Refused}
 
--- the tree of the line is taken behind these, if it has one
+-- the tree of the line is taken after these, if it has one
 abbrev pub TakesLine : List ℕ → List Data → (List Data → Type 0) → Type 0
 TakesLine [] js Taken = Taken js
 TakesLine (b ∷ bs) js Taken = (j : Data) × IsTreeLine (b ∷ bs) j × Taken (js ++ j ∷ [])

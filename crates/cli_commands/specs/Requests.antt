@@ -1,4 +1,4 @@
--- What the words ask for, as it is read of their texts.
+-- What the words ask for, as it is read from their texts.
 use Rattle.std.specs.Prelude.{◌≡◌, ◌≢◌, ℕ, List, [], Some, map, drop, slice_index_or, string_bytes}
 use Rattle.serde_json.specs.Read.{read as data_of_text}
 use Rattle.serde_json.specs.View.{view as data_of}
@@ -34,7 +34,7 @@ call_of requests.Dump = Dump
 call_of requests.Load = Load
 call_of requests.Collections = Collections
 
--- the text at a place; empty where none is there
+-- the text at a place; empty if there is none
 abbrev pub text_at : List (List ℕ) → ℕ → List ℕ
 text_at texts i = slice_index_or texts i []
 
@@ -60,7 +60,7 @@ IsRequest call texts r = (call ≡ call_of r) × Takes call texts × IsRead text
 abbrev pub IsRequestOf : Wording → Request → Type 0
 IsRequestOf w = IsRequest w.call (map string_bytes w.rest.now)
 
--- they are none, or one of the texts can't be read; or out of memory for a text
+-- the words are no line of the table, or one of the texts can't be read; or out of memory for a text
 abbrev pub Stops : Call → List (List ℕ) → Failure → Type 0
 Stops call texts (Words w) = IsUnread call texts w
 Stops call texts (Refused e) = (e ≡ refusal Memory) × Takes call texts × (texts ≢ [])

@@ -24,7 +24,7 @@ pub enum Answer {
     Names(Vec<String>),
 }
 
-/// A change is answered with nothing.
+/// A change returns nothing.
 pub fn nothing(outcome: Result<(), StoreError>) -> Result<Answer, Failure>
     ensures { result ≡ answer_by as_nothing outcome }
 {

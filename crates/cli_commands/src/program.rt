@@ -25,7 +25,7 @@ use serde_json::Value;
 use sqlite::Alter;
 use std::alloc::Global;
 
-/// Prints what a command returns. Of one that isn't done nothing is printed.
+/// Prints what a command returns. Nothing is printed of one that isn't done.
 fn print_outcome<O: Sink>(
     alloc: Global,
     outcome: Result<Answer, Failure>,
@@ -44,7 +44,7 @@ fn print_outcome<O: Sink>(
     }
 }
 
-/// Puts a document in. It stands apart from `perform`, so that a wrong body is refused in seconds.
+/// Puts a document in. It is separate from `perform`, so that a wrong body is refused in seconds.
 fn insert<S: Alter + Drop>(store: &mut Store<S>, name: &str, json: Value) -> Result<(), StoreError>
     ensures moves { Relates S.Store store.old store.new (DoesTree name.now (inserted in_json) (data_of json) (reply_by as_done result)) }
     ensures crash { LeavesTree name.now (inserted in_json) (data_of json) (reply_by as_done result) (store_state S.Store store.old) (store_state S.Store store.new) }
@@ -121,13 +121,13 @@ fn obey<S: Alter + Drop, I: Source, O: Sink>(
     perform(alloc, store, words, &mut request, input, output)
 }
 
-/// Does the command that the words ask for on `store`, and returns the program's status. Nothing of the words but their
-/// texts is left to read: the file is open.
+/// Does the command that the words ask for on `store`, and returns the program's status. Only the texts of the words
+/// are left to read: the file is open.
 ///
 /// With 0 the command was accepted and its answer printed to `output`. With 1 it was refused, or its answer couldn't be
-/// printed, and the line `refused: KIND` went to `faults`. With 2 a text of the words or a line of the input can't be
-/// read, and the line that says so went to `faults`; the store and `output` are as they were. Where a write to `faults`
-/// fails nothing more is done.
+/// printed, and the line `refused: KIND` was written to `faults`. With 2 a text of the words or a line of the input
+/// can't be read, and the line that says so was written to `faults`; the store and `output` are as they were. If a
+/// write to `faults` fails, nothing more is done.
 pub fn execute<S: Alter + Drop, I: Source, O: Sink, F: Sink>(
     alloc: Global,
     store: &mut Store<S>,
@@ -148,7 +148,8 @@ pub fn execute<S: Alter + Drop, I: Source, O: Sink, F: Sink>(
     ensures step { (outcome : Result (Unit {0}) Outcome) × Reports outcome result (F.tally faults.old) (F.tally faults.new)
         × Relates S.Store store.old store.new (Executes words.now (I.feed input.old) (I.feed input.new)
         (O.tally output.old) (O.tally output.new) outcome) }
-    // What a crash leaves of it: after an accepted command what it leaves of that, else what it could leave before, or of a refused one.
+    // What a crash leaves of it: after an accepted command what it leaves of that; otherwise what it could leave
+    // before, or what it leaves of a refused one.
     ensures crash { (outcome : Result (Unit {0}) Outcome) × Reports outcome result (F.tally faults.old) (F.tally faults.new)
         × LeavesAsked words.now (I.feed input.old) (I.feed input.new) (O.tally output.old) (O.tally output.new) outcome
         (store_state S.Store store.old) (store_state S.Store store.new) }

@@ -12,7 +12,7 @@ use crate::stop::Failure;
 use bson_store::{Sink, Store};
 use sqlite::Alter;
 
-/// `export COLL`: the written documents go out one after the other.
+/// `export COLL`: the written documents are written to the output one after the other.
 pub fn export<S: Alter + Drop, O: Sink>(
     store: &mut Store<S>,
     name: &str,
@@ -29,8 +29,8 @@ pub fn export<S: Alter + Drop, O: Sink>(
     }
 }
 
-/// `dump COLL`: the documents as canonical Extended JSON, which go out one a line. A document that has no such form is
-/// reported before anything is printed: the collection is gone through twice, with one document held at a time.
+/// `dump COLL`: the documents as canonical Extended JSON, one a line. A document that has no such form is reported
+/// before anything is printed: the collection is walked twice, with one document held at a time.
 pub fn dump<S: Alter + Drop, O: Sink>(
     store: &mut Store<S>,
     name: &str,

@@ -26,7 +26,7 @@ use serde_json::Value;
 use std::alloc::Global;
 use store_filter::Filter;
 
-/// The text at a place among the words; empty where none is there.
+/// The text at a place among the words; empty if there is none.
 pub fn text_at(words: &[String], place: usize) -> &str
     ensures { result.now ≡ text_at (map string_bytes words.now) place }
 {
@@ -58,7 +58,7 @@ pub fn id_of(alloc: Global, text: &str) -> Result<Bson, Failure>
     }
 }
 
-/// The form of Extended JSON that the words behind an id ask for.
+/// The form of Extended JSON that the words after an id ask for.
 pub fn mode_of(words: &[String]) -> Mode
     ensures { result ≡ mode_of (drop 1 (map string_bytes words.now)) }
 {

@@ -14,7 +14,7 @@ use Rattle.cli_convert.specs.declared.stop.LineFault.TheVariants.{TooLong, NotUt
 use Rattle.cli_convert.specs.declared.stop.Stop.{Stop}
 use Rattle.cli_convert.specs.declared.stop.Stop.TheVariants as stop
 
--- the text of a line and the document of it
+-- the text of a line and its document
 abbrev pub Reads : List ℕ → Members → Type 0
 Reads text d = (0 < length text) × IsUtf8 text × ((read : Document) × (content read ≡ d) × ReadsText text (Ok read))
 
@@ -55,11 +55,11 @@ ReadsLine n text (Err stop.Memory) = Unit {0}
 abbrev pub BeginsWith : List ℕ → List ℕ → Type 0
 BeginsWith bytes text = IsUnbroken text × ((bytes ≡ text) ⊎ ((more : List ℕ) × (bytes ≡ text ++ 10 ∷ more)))
 
--- the source gave some bytes more, and those that waited and these begin with this text
+-- the source gave some more bytes; the waiting bytes and these begin with this text
 abbrev pub HasNext : Feed → Feed → List ℕ → List ℕ → Type 0
 HasNext old new waiting text = (given : List ℕ) × Took old new given × BeginsWith (waiting ++ given) text
 
--- Behind n lines, where some bytes wait, no document comes, and why not: the next line has none, or couldn't be read.
+-- Why no document comes after n lines, while some bytes wait: the next line has none, or couldn't be read.
 abbrev pub StopsAt : ℕ → Feed → Feed → List ℕ → Stop → Type 0
 StopsAt n old new waiting (stop.Document i fault) = ⊥
 StopsAt n old new waiting (stop.Line i fault) = (i ≡ n + 1) × ((text : List ℕ) × HasNext old new waiting text × RefusesText text fault)
@@ -69,20 +69,20 @@ StopsAt n old new waiting stop.Memory = new.failures ≡ old.failures
 
 -- ---- what becomes of their documents
 
--- S is what documents are taken into. `Takes n d` relates it before to it after, and to what is returned, if the document d of
--- line n is taken.
+-- S is what documents are taken into. `Takes n d` relates S before and after, and what is returned, if the document d
+-- of line n is taken.
 module _ {S : Type 0} (Takes : ℕ → Members → S → S → Result (Unit {0}) Stop → Type 0) where
   -- line n was taken: its document, if it has one
   abbrev pub TakesLine : ℕ → Option Members → S → S → Type 0
   TakesLine n None before after = after ≡ before
   TakesLine n (Some d) before after = Takes n d before after (Ok tt)
 
-  -- so were the lines behind line n, one after the other
+  -- the lines after line n were taken, one after the other
   abbrev pub TakesLines : ℕ → List (Option Members) → S → S → Type 0
   TakesLines n [] before after = after ≡ before
   TakesLines n (o ∷ os) before after = (mid : S) × TakesLine (n + 1) o before mid × TakesLines (n + 1) os mid after
 
-  -- What comes behind n lines, where some bytes wait: the last line, which may have no byte; or no document; or one that
+  -- What comes after n lines, while some bytes wait: the last line, which may have no byte; or no document; or one that
   -- isn't taken.
   abbrev pub EndsLines : ℕ → Feed → Feed → List ℕ → S → S → Result (Unit {0}) Stop → Type 0
   EndsLines n old new waiting before after (Ok x) =
@@ -91,7 +91,7 @@ module _ {S : Type 0} (Takes : ℕ → Members → S → S → Result (Unit {0})
       (StopsAt n old new waiting e × (after ≡ before))
       ⊎ ((text : List ℕ) × (d : Members) × HasNext old new waiting text × Reads text d × Takes (n + 1) d before after (Err e))
 
-  -- The first lines of the source were taken; and then there was no line feed more, or the next line wasn't taken.
+  -- The first lines of the source were taken; and then there was no further line feed, or the next line wasn't taken.
   pub record TakesAll (old new : Feed) (before after : S) (result : Result (Unit {0}) Stop) : Type 0 where
     pub lines : List (Option Members)
     pub read : Feed
@@ -108,7 +108,7 @@ module _ {S : Type 0} (Takes : ℕ → Members → S → S → Result (Unit {0})
   TakesText n text before after (Ok x) = (o : Option Members) × IsReadAs text o × TakesLine n o before after
   TakesText n text before after (Err e) = (ReadsLine n text (Err e) × (after ≡ before)) ⊎ ((d : Members) × Reads text d × Takes n d before after (Err e))
 
-  -- one line more was taken, or it was the last one
+  -- one more line was taken; or the last one was
   abbrev pub TakesNext : ℕ → Feed → Feed → List ℕ → List ℕ → S → S → Result Bool Stop → Type 0
   TakesNext n old new held waiting before after (Ok true) = (o : Option Members) × GivesLines (o ∷ []) old new held waiting × TakesLine (n + 1) o before after
   TakesNext n old new held waiting before after (Ok false) = EndsLines n old new held before after (Ok tt)

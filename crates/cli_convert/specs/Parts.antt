@@ -1,4 +1,4 @@
--- Bytes in parts that stand one behind the other, and what a sink took.
+-- Bytes in parts that follow each other, and what a sink took.
 use Rattle.std.specs.Prelude.{◌≡◌, ℕ, List, [], ◌∷◌, ◌++◌}
 use Rattle.std.specs.Io.KnownBytes.{Appends}
 use Rattle.bson_base.specs.Device.{Tally}

@@ -18,7 +18,7 @@ task_of_word word =
     else if bytes_eq word (codes "--help") then Some Help
     else None
 
--- without a word lines of relaxed JSON
+-- without a word: lines of relaxed JSON
 abbrev pub task_of : List (List ℕ) → Option Task
 task_of [] = Some (ToLines Relaxed)
 task_of (word ∷ []) = task_of_word word

@@ -60,7 +60,7 @@ stop_text stop.Reader = codes "refused: Reader\n"
 stop_text stop.Writer = codes "refused: Writer\n"
 stop_text stop.Memory = memory_line
 
--- 2 where a line can't be read, and 1 for everything else that is refused
+-- 2 if a line can't be read, and 1 for everything else that is refused
 abbrev pub stop_status : Stop → ℕ
 stop_status (stop.Document i f) = 1
 stop_status (stop.Line i f) = 2
@@ -73,7 +73,7 @@ abbrev pub Reports : Result (Unit {0}) Stop → Tally → Tally → ℕ → Type
 Reports (Ok x) before after status = (status ≡ 0) × (after ≡ before)
 Reports (Err e) before after status = (status ≡ stop_status e) × (TakesText before after (stop_text e) ⊎ TakesText before after memory_line)
 
--- a text was written; or a beginning, as a call failed
+-- a text was written; or a prefix of it, as a call failed
 abbrev pub SendsWhole : List ℕ → Tally → Tally → Result (Unit {0}) Stop → Type 0
 SendsWhole text before after (Ok x) = (after.failures ≡ before.failures) × Appends before.taken after.taken text
 SendsWhole text before after (Err stop.Writer) = (after.failures ≡ before.failures + 1) × TakesBeginning before.taken after.taken text

@@ -14,7 +14,7 @@ use Rattle.cli_convert.specs.declared.stop.LineFault.TheVariants.{TooLong, NotUt
 use Rattle.cli_convert.specs.declared.stop.Stop.{Stop}
 use Rattle.cli_convert.specs.declared.stop.Stop.TheVariants as stop
 
--- what goes out of a line
+-- what is written for a line
 abbrev pub IsWritten : List ℕ → Option Members → Type 0
 IsWritten bytes None = bytes ≡ []
 IsWritten bytes (Some d) = CanBeWritten (document d) × (bytes ≡ encode d)
@@ -38,8 +38,8 @@ RefusesLine text fault = RefusesText text fault ⊎ ((d : Members) × Reads text
 abbrev pub spoil : List ℕ
 spoil = 255 ∷ 255 ∷ 255 ∷ 255 ∷ []
 
--- What comes behind n lines, where some bytes wait: the last line, which may have no byte; or a refusal, and what the sink takes
--- with it goes by Tail.
+-- What comes after n lines, while some bytes wait: the last line, which may have no byte; or a refusal, and then the
+-- sink takes what Tail says.
 abbrev pub EndsDocuments : (Tally → Tally → Type 0) → ℕ → Feed → Feed → List ℕ → Tally → Tally → Result (Unit {0}) Stop → Type 0
 EndsDocuments Tail n old new waiting before after (Ok x) =
     (given : List ℕ) × (o : Option Members) × TookAll old new given × IsUnbroken (waiting ++ given) × IsReadAs (waiting ++ given) o × Sent (o ∷ []) before after
@@ -50,7 +50,8 @@ EndsDocuments Tail n old new waiting before after (Err stop.Writer) =
     (text : List ℕ) × (d : Members) × HasNext old new waiting text × Reads text d × CanBeWritten (document d) × (after.failures ≡ before.failures + 1) × TakesBeginning before.taken after.taken (encode d)
 EndsDocuments Tail n old new waiting before after (Err stop.Memory) = (new.failures ≡ old.failures) × Tail before after
 
--- The first lines of the source went out as documents; and then there was no line feed more, or the next line didn't go out.
+-- The first lines of the source were written as documents; and then there was no further line feed, or the next line
+-- wasn't written.
 pub record EndsBehind (Tail : Tally → Tally → Type 0) (old new : Feed) (before after : Tally) (result : Result (Unit {0}) Stop) : Type 0 where
   pub lines : List (Option Members)
   pub read : Feed
@@ -60,11 +61,11 @@ pub record EndsBehind (Tail : Tally → Tally → Type 0) (old new : Feed) (befo
   pub sent : Sent lines before written
   pub end : EndsDocuments Tail (length lines) read new waiting written after result
 
--- bytes with which no document begins, or a beginning of them as a call failed
+-- bytes with which no document begins, or a prefix of them, as a call failed
 abbrev pub TakesSpoil : Tally → Tally → Type 0
 TakesSpoil before after = TakesText before after spoil
 
--- so, and behind a refusal other than of the sink's own the sink takes bytes that spoil the stream
+-- the same, and after a refusal that isn't the sink's own, the sink takes bytes that spoil the stream
 abbrev pub WritesDocuments : Feed → Feed → Tally → Tally → Result (Unit {0}) Stop → Type 0
 WritesDocuments old new before after result = EndsBehind TakesSpoil old new before after result
 
@@ -73,7 +74,7 @@ WritesDocuments old new before after result = EndsBehind TakesSpoil old new befo
 abbrev pub TakesNothing : Tally → Tally → Type 0
 TakesNothing before after = after ≡ before
 
--- the document of line n went out
+-- the document of line n was written
 abbrev pub SendsOut : ℕ → Members → Tally → Tally → Result (Unit {0}) Stop → Type 0
 SendsOut n d before after (Ok x) = CanBeWritten (document d) × Passed before after (encode d)
 SendsOut n d before after (Err (stop.Document i fault)) = ⊥

@@ -20,7 +20,7 @@ use Rattle.cli_convert.specs.declared.stop.Stop.TheVariants as stop
 abbrev pub IsDocument : List ℕ → Members → Type 0
 IsDocument bytes d = AreDeclared bytes × Means bytes d
 
--- so, and no key below its top is reserved
+-- the same, and no key below its top is reserved
 abbrev pub IsFree : List ℕ → Members → Type 0
 IsFree bytes d = IsDocument bytes d × (has_reserved d ≡ false)
 
@@ -28,7 +28,7 @@ IsFree bytes d = IsDocument bytes d × (has_reserved d ≡ false)
 abbrev pub IsLineOf : Mode → List ℕ → Members → Type 0
 IsLineOf m line d = (text : List ℕ) × IsTextOf m (document d) text × (line ≡ text ++ 10 ∷ [])
 
--- The source gave these documents, one behind the other, and the sink took a line of each.
+-- The source gave these documents, one after the other, and the sink took a line of each.
 pub record Wrote (m : Mode) (ds : List Members) (old new : Feed) (before after : Tally) : Type 0 where
   pub bytes : List ℕ
   pub took : Took old new bytes
@@ -44,7 +44,7 @@ RefusesNext old new BadLength = ReadsNextDocument old new (Err reading.BadLength
 RefusesNext old new (Raw e) = ReadsNextDocument old new (Err (reading.Raw e))
 RefusesNext old new (ReservedKey path) = (bytes : List ℕ) × (d : Members) × Took old new bytes × IsDocument bytes d × (reserved_path_below d ≡ Some (string_bytes path))
 
--- what comes behind n documents that became lines
+-- what comes after n documents that became lines
 abbrev pub EndsLines : Mode → ℕ → Feed → Feed → Tally → Tally → Result (Unit {0}) Stop → Type 0
 EndsLines m n old new before after (Ok x) = TookAll old new [] × (after ≡ before)
 EndsLines m n old new before after (Err (stop.Document i fault)) = (i ≡ n) × RefusesNext old new fault × (after ≡ before)
@@ -64,7 +64,7 @@ pub record WritesLines (m : Mode) (old new : Feed) (before after : Tally) (resul
 
 -- ---- its parts
 
--- the next document of the source, where there is one
+-- the next document of the source, if there is one
 abbrev pub ReadsFree : ℕ → Feed → Feed → Result (Option Document) Stop → Type 0
 ReadsFree n old new (Ok None) = TookAll old new []
 ReadsFree n old new (Ok (Some d)) = (bytes : List ℕ) × Took old new bytes × IsFree bytes (content d)
@@ -74,7 +74,7 @@ ReadsFree n old new (Err stop.Reader) = new.failures ≡ old.failures + 1
 ReadsFree n old new (Err stop.Writer) = ⊥
 ReadsFree n old new (Err stop.Memory) = new.failures ≡ old.failures
 
--- the line of a document went out
+-- the line of a document was written
 abbrev pub SendsLine : Mode → Members → Tally → Tally → Result (Unit {0}) Stop → Type 0
 SendsLine m d before after (Ok x) = (line : List ℕ) × IsLineOf m line d × Passed before after line
 SendsLine m d before after (Err (stop.Document i fault)) = ⊥
@@ -83,7 +83,7 @@ SendsLine m d before after (Err stop.Reader) = ⊥
 SendsLine m d before after (Err stop.Writer) = (line : List ℕ) × IsLineOf m line d × (after.failures ≡ before.failures + 1) × TakesBeginning before.taken after.taken line
 SendsLine m d before after (Err stop.Memory) = after ≡ before
 
--- one document more became a line, or it was the end
+-- one more document became a line, or it was the end
 abbrev pub TurnsLine : Mode → ℕ → Feed → Feed → Tally → Tally → Result Bool Stop → Type 0
 TurnsLine m n old new before after (Ok true) = (d : Members) × Wrote m (d ∷ []) old new before after
 TurnsLine m n old new before after (Ok false) = EndsLines m n old new before after (Ok tt)

@@ -65,12 +65,12 @@ fn help<O: Sink>(output: &mut O) -> Result<(), Stop>
     }
 }
 
-/// Does what the words behind the program's name ask for, and returns its status. Without a word the documents of the
-/// input go out as lines of relaxed Extended JSON, with `--canonical` of canonical; with `--to-bson` the documents of the
-/// lines of the input as BSON; with `--help` how the program is called.
+/// Does what the words after the program's name ask for, and returns its status. Without a word the documents of the
+/// input are written as lines of relaxed Extended JSON, with `--canonical` of canonical; with `--to-bson` the documents
+/// of the lines of the input as BSON; with `--help` how the program is called.
 ///
-/// 0: done. 1: `refused: KIND` is reported, with ` document N`, from 0, behind it if one document is at fault. 2: `words:
-/// usage`, or `words: line N`, from 1. What the output gathers is for the caller to let go out.
+/// 0: done. 1: `refused: KIND` is reported, followed by ` document N`, from 0, if one document is at fault. 2:
+/// `words: usage`, or `words: line N`, from 1. The caller writes what the output gathers.
 pub fn convert<I: Source, O: Sink, F: Sink>(
     alloc: Global,
     words: &[String],

@@ -42,7 +42,7 @@ fn refusal(alloc: Global, kind: &str, place: u64, more: &str) -> Result<String, 
     Ok(line)
 }
 
-/// A path behind a space.
+/// A path after a space.
 fn path_text(alloc: Global, path: &str) -> Result<String, AllocError>
     ensures { IfOk result (λ t. string_bytes t ≡ codes " " ++ path.now) }
 {
@@ -143,7 +143,7 @@ fn status_of(stop: &Stop) -> u8
     }
 }
 
-/// Writes bytes. A failure is of no further concern.
+/// Writes bytes. A failure is ignored.
 pub(crate) fn put<S: Sink>(sink: &mut S, bytes: &[u8])
     requires { CanRefuse (S.tally sink.old) }
     ensures { TakesText (S.tally sink.old) (S.tally sink.new) bytes.now }

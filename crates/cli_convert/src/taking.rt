@@ -132,7 +132,7 @@ fn turn<I: Source, T, W: Take<T>>(
     }
 }
 
-/// Takes the document of each line of the input, which is a text of Extended JSON. A line of no bytes is passed over, and
+/// Takes the document of each line of the input, which is a text of Extended JSON. An empty line is skipped, and
 /// counts. The last line may be without its line feed. One line is held at a time.
 ///
 /// The first error ends it: `Line` if a line is refused, `Reader` if a read failed, `Memory`, or what `take` returned.

@@ -1,4 +1,4 @@
--- What the program reports of a file that can't be had.
+-- What the program reports of a file that can't be used.
 use Rattle.std.specs.Prelude.{ℕ, List, codes}
 use Rattle.store_model.specs.declared.error.ErrorKind.{ErrorKind}
 use Rattle.store_model.specs.declared.error.ErrorKind.TheVariants as kind
@@ -9,7 +9,7 @@ abbrev pub kind_of : FileError → ErrorKind
 kind_of Memory = kind.Memory
 kind_of _ = kind.Database
 
--- what fallowtime reports, whose kinds tell the faults apart
+-- what fallowtime reports: each fault has its own kind
 abbrev pub fault_line : FileError → List ℕ
 fault_line Memory = codes "refused: Memory"
 fault_line NoFile = codes "refused: NoFile"

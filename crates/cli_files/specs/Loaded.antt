@@ -2,6 +2,6 @@
 use Rattle.std.specs.Prelude.{ℕ, List}
 use Rattle.cli_files.specs.declared.loaded.Loaded.{Loaded}
 
--- its member `seen`
+-- the bytes of the file
 abbrev pub loaded_bytes : Loaded → List ℕ
 loaded_bytes m = m.bytes.items

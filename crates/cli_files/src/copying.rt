@@ -29,7 +29,7 @@ pub fn whole(connection: Connection<FileStore<Loaded>>) -> Result<Vec<u8>, FileE
     }
 }
 
-/// Writes such a file. After an error a beginning of it may have been written: `Disk` if a write failed.
+/// Writes such a file. After an error a prefix of it may have been written: `Disk` if a write failed.
 pub fn write_whole<F: Sink>(
     connection: Connection<FileStore<Loaded>>,
     copy: &mut F,
@@ -80,7 +80,7 @@ fn judge_copy_name(path: &str) -> Result<(), FileError> {
     Ok(())
 }
 
-/// Refuses a path at which something is, whose opening would find that beside a new file.
+/// Refuses a path at which something is: the opening of a new file would find that beside it.
 fn refuse_leftover(rt: &HostRuntime, path: &str) -> Result<(), FileError> {
     if fs::symlink_metadata(rt, path).is_ok() {
         return Err(FileError::Exists);
@@ -111,7 +111,7 @@ fn settle(rt: &HostRuntime, path: &str, file: &fs::File) -> Result<(), FileError
 
 /// Writes what the connection last committed into a new file, and syncs that. A file that is there stays as it is, as
 /// do a log and a journal of that name: `Exists`. A name that SQLite has another use for is `NoName`. After every error
-/// but `Exists` there is no file.
+/// except `Exists` there is no file.
 pub fn copy(
     rt: &HostRuntime,
     connection: Connection<FileStore<Loaded>>,

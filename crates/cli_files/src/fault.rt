@@ -1,4 +1,4 @@
-//! Why a file can't be had.
+//! Why a file can't be used.
 
 ghost use Rattle.std.specs.Prelude.{◌≡◌};
 ghost use Rattle.cli_files.specs.Fault.{fault_line, kind_of};
@@ -10,7 +10,7 @@ use std::io;
 use store_model::ErrorKind;
 use thiserror::Error;
 
-/// Why a file can't be had. The texts are for a person at a terminal.
+/// Why a file can't be used. The texts are for a person at a terminal.
 #[derive(Clone, Copy, Debug, PartialEq, Eq, Error)]
 pub enum FileError {
     /// Out of memory.
@@ -101,7 +101,7 @@ impl From<io::Error> for FileError {
     }
 }
 
-/// Why the files at a path can't be had.
+/// Why the files at a path can't be used.
 impl From<OpenError> for FileError {
     fn from(error: OpenError) -> FileError {
         match error {

@@ -1,4 +1,4 @@
-//! What the programs do with a database file, and what they report where they can't have it.
+//! What the programs do with a database file, and what they report if they can't use it.
 #![tactic(auto)]
 
 mod copying;

@@ -9,7 +9,8 @@ use std::alloc::AllocError;
 use std::io;
 
 /// The bytes of a file as they were read, and what was changed of them since, in memory alone: nothing goes back to the
-/// file. It tells no lie, so nothing that is read is tested once more, and there is nothing that a crash could leave.
+/// file. It returns what was written to it, so nothing that is read is tested once more, and there is nothing that a
+/// crash could leave.
 #[derive(Drop)]
 pub struct Loaded {
     bytes: Vec<u8>,

@@ -9,14 +9,14 @@ use std::{fs, io, thread};
 /// How many bytes a page of a new file has, and one of most others.
 const PAGE: u64 = 4096;
 
-/// How many pages are kept in memory at the least. The room is taken and zeroed as a file is opened, so a small one has
+/// How many pages are kept in memory at least. The room is taken and zeroed as a file is opened, so a small one has
 /// little.
 const LEAST_PAGES: usize = 256;
 
-/// How many pages are kept in memory at the most, 64 MiB: else a file of gigabytes would take as much memory.
+/// How many pages are kept in memory at most, 64 MiB: else a file of gigabytes would take as much memory.
 const MOST_PAGES: usize = 16384;
 
-/// How many thousandths of a second pass between two tries to have a file.
+/// How many thousandths of a second pass between two tries to open a file.
 pub(crate) const PAUSE: u64 = 50;
 
 /// How many tries there are in a second.

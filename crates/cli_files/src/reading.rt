@@ -19,7 +19,7 @@ use std::{fs, thread};
 /// How many pages are kept in memory beside the file that is there already.
 const PAGES: usize = 1024;
 
-/// For how many seconds at the least the files are read again, if they were written meanwhile.
+/// For how many seconds at least the files are read again, if they were written meanwhile.
 const LEAST_SECONDS: u64 = 5;
 
 /// How many bytes the header of a log has.
@@ -173,8 +173,8 @@ pub(crate) fn over(
 
 /// Opens the database that the files at a path hold at this moment: what is changed of it stays in memory. A file that
 /// isn't there is refused by `NoFile`, one beside a rollback journal by `Journal`, and by `Busy` one that was written
-/// again and again for so many seconds, five at the least. Memory returns what was written to it, so what is said of the
-/// connection holds of no premise on a disk.
+/// again and again for so many seconds, at least five. Memory returns what was written to it, so what is stated of
+/// the connection needs no premise on a disk.
 pub fn read(
     rt: &HostRuntime,
     path: &str,

@@ -1,4 +1,4 @@
-//! What a program reports where it does no command, and the status that goes with it.
+//! What a program reports if it does no command, and the status that goes with it.
 
 ghost use Rattle.std.specs.Prelude.{◌≡◌, ◌≢◌, None};
 ghost use Rattle.std.specs.IoError.{error_kind};
@@ -32,7 +32,7 @@ pub fn refuse<F: Sink>(faults: &mut F, kind: ErrorKind) -> u8
     REFUSED
 }
 
-/// Reports that a file can't be had, and returns the status of that. At a terminal a second line says why.
+/// Reports that a file can't be used, and returns the status of that. At a terminal a second line says why.
 pub fn refuse_file<F: Sink>(rt: &HostRuntime, faults: &mut F, error: FileError) -> u8
     requires { CanRefuse (F.tally faults.old) }
     ensures status { result ≡ 1 }
@@ -45,7 +45,7 @@ pub fn refuse_file<F: Sink>(rt: &HostRuntime, faults: &mut F, error: FileError) 
     status
 }
 
-/// Reports why a file can't be had, as `fallowtime` does, and returns the status of that. At a terminal a second line
+/// Reports why a file can't be used, as `fallowtime` does, and returns the status of that. At a terminal a second line
 /// says it in words.
 #[tactic(auto, using(crate::proofs::Telling::writes))]
 pub fn report_file<F: Sink>(rt: &HostRuntime, faults: &mut F, error: FileError) -> u8
@@ -71,7 +71,7 @@ pub fn misuse<F: Sink>(faults: &mut F) -> u8
     MISUSED
 }
 
-/// Reports that the words can't be had, and returns the status of that: out of memory, or some word is no text.
+/// Reports that the words can't be read as texts, or out of memory, and returns the status of that.
 pub fn unread<F: Sink>(error: io::Error, faults: &mut F) -> u8
     requires { CanRefuse (F.tally faults.old) }
     ensures memory { error_kind error ≡ OutOfMemory → (result ≡ 1) × TakesText (F.tally faults.old) (F.tally faults.new) (refusal_line Memory None) }

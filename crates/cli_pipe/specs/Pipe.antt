@@ -1,4 +1,4 @@
--- What the program does to its input, its output and the device that faults are told to.
+-- What the program does to its input, its output and the device that faults are reported to.
 use Rattle.std.specs.Prelude.{◌≡◌, ◌⊎◌, ℕ, List, [], ◌∷◌, Some, None, Result, Ok, Err, codes}
 use Rattle.bson_base.specs.Device.{Feed, TookAll, Tally, TakesText, StopsReading}
 use Rattle.bson_base.specs.Value.{Members}
@@ -22,7 +22,8 @@ use Rattle.bson_store.specs.Export.{Delivers}
 abbrev pub ReadsInput : Feed → Feed → Members → Type 0
 ReadsInput old new d = (bytes : List ℕ) × TookAll old new bytes × ReadsBytes bytes (readable d)
 
--- all of it was read, and it can't be read as a document for this reason, or means one that isn't kept for it
+-- all of the input was read; it can't be read as a document for this reason, or it means one that isn't kept for this
+-- reason
 abbrev pub ReadsRefused : Feed → Feed → ErrorKind → Type 0
 ReadsRefused old new kind = (bytes : List ℕ) × TookAll old new bytes × (ReadsBytes bytes (unreadable kind) ⊎ ((d : Members) × ReadsBytes bytes (readable d) × (refusal_of d ≡ Some kind)))
 
@@ -34,7 +35,7 @@ HasAlone s d = (docs : List TableRow) × (a : DocumentTable) × Stands s docs ×
 abbrev pub KeepsInput : Feed → Feed → State → Type 0
 KeepsInput old new s = (d : Members) × ReadsInput old new d × (refusal_of d ≡ None) × HasAlone s d
 
--- why it is not
+-- why it is not kept
 abbrev pub RefusesInput : ErrorKind → Feed → Feed → Type 0
 RefusesInput Reader old new = StopsReading reads.Reader old new
 RefusesInput Memory old new = StopsReading reads.Memory old new ⊎ ((d : Members) × ReadsInput old new d)
@@ -43,13 +44,14 @@ RefusesInput kind old new = ReadsRefused old new kind
 
 -- ---- the program
 
--- Once a document was read, memory was wanted or the database refused: nothing went out, or the document is kept, and a
--- beginning of it did.
+-- After a document was read, memory ran out or the database refused: nothing was written, or the document is kept, and
+-- a prefix of it was written.
 abbrev pub Denies : ErrorKind → Feed → Feed → Tally → Tally → Type 0
 Denies kind old new before after = (d : Members) × ReadsInput old new d × ((after ≡ before) ⊎ ((refusal_of d ≡ None) × Delivers (encode d) before after (Err kind)))
 
--- All was read, it means a document that is kept, and this went out as it is written; or why not. Only where Writer, Memory or
--- Database is told may something have gone out. The database can refuse before the first byte is read.
+-- All of the input was read, it means a document that is kept, and this was written to the output; or why not. Only if
+-- Writer, Memory or Database is reported can something have been written. The database can refuse before the first byte
+-- is read.
 abbrev pub Exchanges : Feed → Feed → Tally → Tally → Result (Unit {0}) ErrorKind → Type 0
 Exchanges old new before after (Ok x) = (d : Members) × ReadsInput old new d × (refusal_of d ≡ None) × Delivers (encode d) before after (Ok x)
 Exchanges old new before after (Err Writer) = (d : Members) × ReadsInput old new d × (refusal_of d ≡ None) × Delivers (encode d) before after (Err Writer)
@@ -64,7 +66,7 @@ pub record Devices : Type 0 where
   pub output : Tally
   pub faults : Tally
 
--- status 0: it is done, and nothing is told; status 1: it was refused, and the line tells why
+-- status 0: it is done, and nothing is reported; status 1: it was refused, and the line reports why
 abbrev pub Pipes : Devices → Devices → ℕ → Type 0
 Pipes old new status = ((status ≡ 0) × Exchanges old.input new.input old.output new.output (Ok tt) × (new.faults ≡ old.faults))
     ⊎ ((kind : ErrorKind) × (status ≡ 1) × Exchanges old.input new.input old.output new.output (Err kind) × TakesText old.faults new.faults (refusal_line kind None))

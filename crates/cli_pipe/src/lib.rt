@@ -1,5 +1,4 @@
-//! The program `bson_store` where it is given no words: one document in, kept in a new store, and out as the store
-//! exports it.
+//! The program `bson_store` without words: one document in, kept in a new store, and out as the store exports it.
 #![tactic(auto)]
 
 mod program;

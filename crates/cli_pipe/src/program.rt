@@ -85,12 +85,12 @@ fn exchange<I: Source, O: Sink>(
 }
 
 /// Opens a new store in memory, reads `input` to its end, keeps the document that its bytes mean, and writes what the
-/// store exports to `output`. The answer is the status of the program: 0, or 1 where this is refused, and then the line
-/// `refused: KIND` goes to `faults`. Where that fails nothing more is done.
+/// store exports to `output`. Returns the status of the program: 0, or 1 if this is refused, and then the line
+/// `refused: KIND` is written to `faults`. If that fails, nothing more is done.
 ///
-/// The kinds are Reader, where a read failed; EndInside, BadLength, NotTerminated, Faulty and TooDeep of the bytes;
-/// NoId and TooLong of the document; Writer, where a write failed or took nothing; and Memory and Database, but never
-/// in the place of a refusal by bytes that were read.
+/// The kinds are Reader, if a read failed; EndInside, BadLength, NotTerminated, Faulty and TooDeep of the bytes; NoId
+/// and TooLong of the document; Writer, if a write failed or took nothing; and Memory and Database, but never instead
+/// of a refusal of bytes that were read.
 pub fn pipe<I: Source, O: Sink, F: Sink>(
     alloc: Global,
     input: &mut I,

@@ -58,7 +58,8 @@ AnswersTree j (Ok f) = IsFilter j (filter_of f)
 AnswersTree j (Err Unreadable) = (f : Filter) → IsFilter j f → ⊥
 AnswersTree j (Err Memory) = Unit {0}
 
--- the tree is an array of trees that stand for the filters, or no array of such; or out of memory
+-- the tree is an array of trees that stand for the filters, or it is no such array; or out of
+-- memory
 abbrev pub AnswersTrees : Data → Result (Vec Test Global) TextError → Type 0
 AnswersTrees j (Ok fs) = (js : Items) × (j ≡ array js) × AreFilters js (tests_of (map filter_of fs.items))
 AnswersTrees j (Err Unreadable) = (js : Items) (fs : Filters) → j ≡ array js → AreFilters js fs → ⊥

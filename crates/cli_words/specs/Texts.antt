@@ -11,7 +11,7 @@ use Rattle.bson_model.specs.declared.extjson.de.Error.{Error}
 use Rattle.cli_words.specs.declared.texts.TextError.{TextError}
 use Rattle.cli_words.specs.declared.texts.TextError.TheVariants.{Unreadable, Memory}
 
--- the tree of the text, or there is none; or memory was wanted
+-- the tree of the text, or there is none; or out of memory
 abbrev pub AnswersText : List ℕ → Result Json TextError → Type 0
 AnswersText text (Ok j) = data_of_text text ≡ Some (data_of j)
 AnswersText text (Err Unreadable) = data_of_text text ≡ None
@@ -21,7 +21,7 @@ AnswersText text (Err Memory) = Unit {0}
 abbrev pub HasNoValue : Data → Type 0
 HasNoValue j = (fault : Error) × (value_of j ≡ Err fault)
 
--- the value of the Extended JSON text, or there is none; or memory was wanted
+-- the value of the Extended JSON text, or there is none; or out of memory
 abbrev pub AnswersId : List ℕ → Result Bson TextError → Type 0
 AnswersId text (Ok v) = (j : Data) × (data_of_text text ≡ Some j) × (value_of j ≡ Ok (view v))
 AnswersId text (Err Unreadable) = (data_of_text text ≡ None) ⊎ ((j : Data) × (data_of_text text ≡ Some j) × HasNoValue j)

@@ -33,7 +33,7 @@ Takes Find rest = length rest ≡ 1
 Takes Count rest = length rest ≡ 1
 Takes _ rest = rest ≡ []
 
--- the words behind the command begin with the name of a collection, but those of `collections`
+-- the words after the command begin with the name of a collection, except those of `collections`
 abbrev pub HasName : Call → List (List ℕ) → List ℕ → List (List ℕ) → Type 0
 HasName Collections words coll rest = (coll ≡ []) × (rest ≡ words)
 HasName call words coll rest = words ≡ coll ∷ rest

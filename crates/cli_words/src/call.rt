@@ -5,7 +5,7 @@
 pub enum Call {
     /// `insert COLL JSON`: puts a document into a collection.
     Insert,
-    /// `replace COLL JSON`: puts a document in the place of that with the same `_id`.
+    /// `replace COLL JSON`: replaces the document with the same `_id`.
     Replace,
     /// `get COLL ID [--relaxed]`: prints a document as Extended JSON, canonical by default.
     Get,
@@ -61,7 +61,7 @@ impl Call {
         }
     }
 
-    /// Whether these words may follow the name of the collection; of `collections`, which takes no name, the command.
+    /// Whether these words may follow the name of the collection; for `collections`, which takes no name, the command.
     pub fn takes(self, rest: &[String]) -> bool
         ensures { IsTrue result ↔ Takes self (map string_bytes rest.now) }
     {

@@ -37,7 +37,7 @@ fn write_parts<S: Sink>(sink: &mut S, parts: &[&str]) -> Result<(), DeviceFault>
     Ok(())
 }
 
-/// Writes a text and a line feed. After a failure a beginning of the line was written.
+/// Writes a text and a line feed. After a failure a prefix of the line was written.
 pub fn write_line<S: Sink>(sink: &mut S, text: &str) -> Result<(), DeviceFault>
     requires { CanRefuse (S.tally sink.old) }
     ensures counts { Counts (S.tally sink.old).failures (S.tally sink.new).failures result }
@@ -47,7 +47,7 @@ pub fn write_line<S: Sink>(sink: &mut S, text: &str) -> Result<(), DeviceFault>
     write_parts(sink, &[text, "\n"])
 }
 
-/// Writes a number in decimal and a line feed. After a failure a beginning of the line was written.
+/// Writes a number in decimal and a line feed. After a failure a prefix of the line was written.
 pub fn write_number<S: Sink>(sink: &mut S, number: u64) -> Result<(), DeviceFault>
     requires { CanRefuse (S.tally sink.old) }
     ensures counts { Counts (S.tally sink.old).failures (S.tally sink.new).failures result }
@@ -58,7 +58,7 @@ pub fn write_number<S: Sink>(sink: &mut S, number: u64) -> Result<(), DeviceFaul
     write_line(sink, digits.format(number))
 }
 
-/// Writes `true` or `false` and a line feed. After a failure a beginning of the line was written.
+/// Writes `true` or `false` and a line feed. After a failure a prefix of the line was written.
 pub fn write_flag<S: Sink>(sink: &mut S, flag: bool) -> Result<(), DeviceFault>
     requires { CanRefuse (S.tally sink.old) }
     ensures counts { Counts (S.tally sink.old).failures (S.tally sink.new).failures result }
@@ -68,7 +68,7 @@ pub fn write_flag<S: Sink>(sink: &mut S, flag: bool) -> Result<(), DeviceFault>
     write_line(sink, if flag { "true" } else { "false" })
 }
 
-/// Writes the line that reports a refusal with two places. After a failure a beginning of the line was written.
+/// Writes the line that reports a refusal with two places. After a failure a prefix of the line was written.
 fn write_collision<S: Sink>(
     sink: &mut S,
     name: &str,
@@ -83,7 +83,7 @@ fn write_collision<S: Sink>(
     write_parts(sink, &["refused: ", name, " ", first, " ", second, "\n"])
 }
 
-/// Writes the line that reports a refusal: `refused: KIND`, followed by ` document N` where the refusal is one of
+/// Writes the line that reports a refusal: `refused: KIND`, followed by ` document N` if the refusal is one of
 /// several documents, or by the place of a bad row, or by those of two documents that collide. After a failure a
 /// beginning of the line was written.
 pub fn write_refusal<S: Sink>(
@@ -115,7 +115,7 @@ pub fn write_refusal<S: Sink>(
     write_parts(sink, &["refused: ", name, "\n"])
 }
 
-/// Writes the line that reports what is wrong with the words, as `words: usage`. After a failure a beginning of the
+/// Writes the line that reports what is wrong with the words, as `words: usage`. After a failure a prefix of the
 /// line was written.
 pub fn write_complaint<S: Sink>(sink: &mut S, complaint: UsageError) -> Result<(), DeviceFault>
     requires { CanRefuse (S.tally sink.old) }

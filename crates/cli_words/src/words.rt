@@ -7,7 +7,7 @@ ghost use Rattle.cli_words.specs.declared.call.Call.{Call};
 
 use crate::call::Call;
 
-/// A line of the program's table: each word is taken by its place, also where it begins with a hyphen.
+/// A line of the program's table: each word is taken by its place, also if it begins with a hyphen.
 #[derive(Clone, Copy, Debug)]
 pub struct Words<'a> {
     /// The file of the store.
@@ -16,11 +16,11 @@ pub struct Words<'a> {
     pub call: Call,
     /// The name of the collection; empty for `collections`.
     pub coll: &'a str,
-    /// The words behind the name.
+    /// The words after the name.
     pub rest: &'a [String],
 }
 
-/// The name of the collection, empty for `collections`, and the words behind it.
+/// The name of the collection, empty for `collections`, and the words after it.
 fn collection(call: Call, words: &[String]) -> Option<(&str, &[String])>
     ensures { MatchOption result
         ((call ≢ Collections) × (words.now ≡ []))
@@ -33,8 +33,8 @@ fn collection(call: Call, words: &[String]) -> Option<(&str, &[String])>
     Some((name.as_str(), rest))
 }
 
-/// Reads the words behind the program's name: the file, the command, the collection and what follows. None where they
-/// are no line of the program's table. What the texts say isn't looked at.
+/// Reads the words after the program's name: the file, the command, the collection and what follows. None if they are
+/// no line of the program's table. What the texts say isn't looked at.
 pub fn read_words(words: &[String]) -> Option<Words<'_>>
     ensures { MatchOption result
         ((file coll : List ℕ) (call : Call) (rest : List (List ℕ)) → IsLine (map string_bytes words.now) file call coll rest → ⊥)
