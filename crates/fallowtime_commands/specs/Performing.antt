@@ -52,7 +52,7 @@ abbrev pub AreNames : Answer → Type 0
 AreNames (answer.Names names) = Unit {0}
 AreNames _ = ⊥
 
--- an insertion is answered with the `_id`, other changes with nothing, and a question with what it asks for
+-- an insertion returns the `_id`, another change returns nothing, and a question what it asks for
 abbrev pub IsAnswerTo : Request → Answer → Type 0
 IsAnswerTo (request.Insert id d) a = (own : Bson) × (a ≡ answer.Id own) × (view own ≡ view id)
 IsAnswerTo (request.Put d) a = a ≡ answer.Nothing
@@ -68,7 +68,7 @@ IsAnswerTo request.Collections a = AreNames a
 
 -- ---- rows
 
--- the request does what the command of the store does that it stands for, on the collection n
+-- on the collection n, the request does what the store's command does that it stands for
 abbrev pub Performs : List ℕ → Request → model.Reply → List TableRow → List TableRow → Type 0
 Performs n (request.Insert id d) r old new = Stores n (model.insert model.in_bytes) (content d) r old new
 Performs n (request.Put d) r old new = Puts n (content d) r old new
@@ -82,7 +82,8 @@ Performs n (request.Count f) r old new = Does (model.on n (model.count (filter_o
 Performs n (request.Import stream) r old new = DoesMany n (ReadsStream stream.items) r old new
 Performs n request.Collections r old new = Does model.collections r old new
 
--- what a crash leaves of it: of a change what it leaves of that, and of a question no more than before
+-- what a crash leaves of a request: of a change, what it leaves of the store's command; of a question, only what it
+-- could leave before
 abbrev pub LeavesRequest : List ℕ → Request → model.Reply → State → State → Type 0
 LeavesRequest n (request.Insert id d) r old new = LeavesStored n (model.insert model.in_bytes) (content d) r old new
 LeavesRequest n (request.Put d) r old new = LeavesPut n (content d) r old new

@@ -50,7 +50,7 @@ kind_of_fault faults.Memory = Memory
 abbrev pub IsUnprinted : Members → Tally → Tally → StoreError → Type 0
 IsUnprinted d before after e = ((e ≡ refusal ReservedKey) × ((path : List ℕ) × (reserved_path_below d ≡ Some path)) × (after ≡ before)) ⊎ (IsOutOfMemory before after e ⊎ IsUnwritten before after e)
 
--- so of the document whose written form is kept as the body
+-- the same of the document whose written form is kept as the body
 abbrev pub PrintsBody : Form → List ℕ → Tally → Tally → Result (Unit {0}) Refusal → Type 0
 PrintsBody f body before after (Ok x) = (part : List ℕ) × Passed before after part × ((d : Members) → IsKept d → body ≡ encode d → IsPrinted f d part)
 PrintsBody f body before after (Err r) = (d : Members) → IsKept d → body ≡ encode d → IsUnprinted d before after r.error

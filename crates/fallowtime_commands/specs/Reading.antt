@@ -63,13 +63,13 @@ StopsQuery t Memory = Unit {0}
 
 -- ---- requests
 
--- of one word the filter that is its query, of none that of every document
+-- for one word, the filter of that query; for no word, the filter that selects every document
 abbrev pub IsFilterOf : List (List ℕ) → Filter → Type 0
 IsFilterOf [] f = f ≡ all_of no_filters
 IsFilterOf (t ∷ []) f = IsQueryText t f
 IsFilterOf _ f = ⊥
 
--- what a command with these words in its places asks for; of a document without an `_id` with the next one of the maker
+-- what a command with these words in its places asks for; a document without an `_id` gets the next one of the maker
 abbrev pub IsRequest : IdMaker → Command → List (List ℕ) → Request → Type 0
 IsRequest maker command.Insert (t ∷ []) (request.Insert id d) = ((e : Members) × IsDocumentText t e × (content d ≡ identified maker e)) × (look_up id_key (content d) ≡ Some (view id))
 IsRequest maker command.Put (t ∷ []) (request.Put d) = IsDocumentText t (content d)
@@ -88,7 +88,7 @@ IsRequestOf maker w r = IsRequest maker w.command (map string_bytes w.places.now
 
 -- ---- what can't be read
 
--- of so many words, and of any other number they fit no command
+-- what stops a command with this many words; any other number of words fits no command
 abbrev pub WithNone : List (List ℕ) → Stop → Type 0
 WithNone [] s = ⊥
 WithNone _ s = s ≡ Words Usage
@@ -110,7 +110,7 @@ WithOneAtMost P [] s = ⊥
 WithOneAtMost P (t ∷ []) s = P t s
 WithOneAtMost P _ s = s ≡ Words Usage
 
--- the first of the words in the places of a command that can't be read is this; or it is out of memory
+-- this is the first of the words in the places of a command that can't be read; or it is out of memory
 abbrev pub IsUnread : Command → List (List ℕ) → Stop → Type 0
 IsUnread command.Insert ts s = WithOne StopsDocument ts s
 IsUnread command.Put ts s = WithOne StopsDocument ts s

@@ -17,11 +17,11 @@ use Rattle.fallowtime_commands.specs.declared.unread.Unread.TheVariants.{Usage, 
 
 -- ---- refusals
 
--- a refusal of which nothing more is known
+-- a refusal without further details
 abbrev pub plain : StoreError → Refusal
 plain e = record { error = e; line = None; id = None; key = None }
 
--- a word and a text behind it, if there is one
+-- a word and a text after it, if there is one
 abbrev pub named_text : List ℕ → Option (String Global) → List ℕ
 named_text word None = []
 named_text word (Some text) = word ++ string_bytes text

@@ -21,8 +21,8 @@ use Rattle.fallowtime_commands.specs.Storing.{IsStopped}
 abbrev pub Gets : List ℕ → Value → DocumentTable → Members → DocumentTable → Type 0
 Gets n id a d b = IsKept d × Serves a (on n (get_raw id)) (model.bytes (encode d)) b
 
--- A key that can't be set is refused as `set` refuses it, and an id that no document has as `get_raw` does. Else the document with the
--- id is replaced by one with the value under the key: in the key's place, or last.
+-- A key that can't be set is refused as `set` refuses it, and an id that no document has as `get_raw` refuses it.
+-- Otherwise the document with the id is replaced by one with the value under the key: in the key's place, or last.
 abbrev pub SetsIn : List ℕ → Value → List ℕ → Value → Reply → DocumentTable → DocumentTable → Type 0
 SetsIn n id k v r a c =
     ((IsFreeKey k → ⊥) × Serves a (on n (set id k (Some v))) r c)
@@ -30,11 +30,11 @@ SetsIn n id k v r a c =
     ⊎ ((d : Members) × (b : DocumentTable) × Gets n id a d b
     × ((IsStopped n (put k v d) r × (c ≡ b)) ⊎ ((x : Reading) × ReadsBytes (encode (put k v d)) x × Serves b (on n (replace in_bytes x)) r c))))
 
--- whatever table the rows showed
+-- the same of whatever table the rows showed
 abbrev pub Sets : List ℕ → Value → List ℕ → Value → Reply → List TableRow → List TableRow → Type 0
 Sets n id k v r old new = (a : DocumentTable) → Represents old a → (c : DocumentTable) × Represents new c × SetsIn n id k v r a c
 
--- what a crash leaves of that: no more than before, or what it leaves of the replacement
+-- what a crash leaves of that: only what it could leave before, or what it leaves of the replacement
 abbrev pub LeavesSet : List ℕ → Value → List ℕ → Value → Reply → State → State → Type 0
 LeavesSet n id k v r old new =
     HasCleanDisk new → (first : Database) (docs : List TableRow) → ShowsOthers first old → Stands old docs → (a : DocumentTable) → Represents docs a

@@ -1,4 +1,4 @@
--- Documents that go into a store as they stand: by their written bytes, which keep each double and the order of keys.
+-- Documents that go into a store as they are: by their written bytes, which keep each double and the order of keys.
 use Rattle.std.specs.Prelude.{◌≡◌, ◌⊎◌, ◌<◌, ◌≤◌, ℕ, List, Option, None, Bool, true, false}
 use Rattle.sqlite.specs.Effect.{Database}
 use Rattle.sqlite.specs.State.{State, HasCleanDisk, Survives}
@@ -31,7 +31,7 @@ IsUnkept e NoId = (levels (document e) ≤ level_limit) × IsPlain (document e) 
 IsUnkept e TooLong = (levels (document e) ≤ level_limit) × IsPlain (document e) × (has_key id_key e ≡ true) × (size_limit < size e)
 IsUnkept e _ = ⊥
 
--- a document is refused by the name, by a test of its own, or, under a good name, out of memory
+-- a document is refused for the name, by a test of its own, or, under a good name, because memory ran out
 abbrev pub IsUnasked : List ℕ → Members → ErrorKind → Type 0
 IsUnasked n e k = ((IsName n → ⊥) × (k ≡ BadName)) ⊎ (IsName n × (IsUnkept e k ⊎ (k ≡ Memory)))
 
@@ -67,7 +67,7 @@ PutsIn n bytes r a c =
 abbrev pub Puts : List ℕ → Members → Reply → List TableRow → List TableRow → Type 0
 Puts n e r old new = (IsStopped n e r × (new ≡ old)) ⊎ ((a : DocumentTable) → Represents old a → (c : DocumentTable) × Represents new c × PutsIn n (encode e) r a c)
 
--- what a crash leaves of that: what it leaves of a replacement, or of an insertion behind one that found nothing
+-- what a crash leaves of that: what it leaves of a replacement, or of an insertion after one that found nothing
 abbrev pub LeavesPut : List ℕ → Members → Reply → State → State → Type 0
 LeavesPut n e r old new =
     (IsStopped n e r × Survives old new (λ _. ⊥))

@@ -22,13 +22,13 @@ pub enum Answer {
     Number(u64),
     /// A written document.
     Document(Vec<u8>),
-    /// Written documents, each for itself.
+    /// Written documents, each by itself.
     Documents(Vec<Vec<u8>>),
     /// Names of collections.
     Names(Vec<String>),
 }
 
-/// A change is answered with nothing.
+/// A change returns nothing.
 pub(crate) fn nothing(outcome: Result<(), StoreError>) -> Result<Answer, StoreError>
     ensures reply { reply_of result ≡ reply_by as_done outcome }
     ensures shape { IfOk result (λ a. a ≡ Nothing) }
@@ -37,7 +37,7 @@ pub(crate) fn nothing(outcome: Result<(), StoreError>) -> Result<Answer, StoreEr
     Ok(Answer::Nothing)
 }
 
-/// An insertion is answered with the `_id`, which is taken; after a refusal it stays.
+/// An insertion returns the `_id`, which is taken; after a refusal it stays.
 pub(crate) fn inserted(id: &mut Bson, outcome: Result<(), StoreError>) -> Result<Answer, StoreError>
     ensures reply { reply_of result ≡ reply_by as_done outcome }
     ensures shape { IfOk result (λ a. a ≡ Id id.old) }

@@ -29,7 +29,7 @@ fn refusal_with(alloc: Global, request: &Request<'_>, error: StoreError) -> Refu
     }
 }
 
-/// Prints what a request returned. Of one that was refused nothing is printed.
+/// Prints what a request returned. Nothing is printed of one that was refused.
 fn print_outcome<O: Sink>(
     alloc: Global,
     request: &Request<'_>,

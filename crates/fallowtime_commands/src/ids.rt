@@ -58,8 +58,8 @@ fn id_in<'a>(request: &'a Request<'_>) -> Option<&'a Bson> {
     }
 }
 
-/// The text of the `_id` that is taken, or that no document has, if that is why a request is refused. Of an import it is
-/// that of the document that is refused. None if there is no memory for it.
+/// The text of the `_id` that is taken, or that no document has, if that is why a request is refused. For an import it
+/// is that of the document that is refused. None if there is no memory for it.
 pub(crate) fn id_of_refusal(
     alloc: Global,
     request: &Request<'_>,

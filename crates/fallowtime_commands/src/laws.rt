@@ -18,9 +18,9 @@ ghost use Rattle.fallowtime_commands.specs.declared.printing.Form.TheVariants.{L
 
 use bson_json_laws::canonical_texts_read_back;
 
-/// The line that `find --canonical` and `get --canonical` print of a kept document without a reserved key below its top,
-/// `import --json` reads as that document, settled, with its own `_id`, as far as the levels of JSON go that the reader
-/// takes; or it is out of memory.
+/// The line that `find --canonical` and `get --canonical` print of a kept document without a reserved key below its top
+/// is read by `import --json` as that document, settled, with its own `_id`, if it has no more levels of JSON than the
+/// reader takes; or it is out of memory.
 pub fn printed_documents_are_read()
     ensures read { (d e : Members) (text : List ℕ) (maker : IdMaker) → IsKept d → has_reserved d ≡ false → json_levels (document d) ≤ 125
         → IsPrinted (Lines Canonical) d (line text) → Reads text e → identified maker e ≡ settle_members Canonical d }

@@ -1,4 +1,5 @@
-//! The commands of the program `fallowtime`: what is requested of a store is done, and answered.
+//! The commands of the program `fallowtime`: what is requested of a store is done, and what that
+//! returns is printed.
 #![tactic(auto)]
 
 mod answer;

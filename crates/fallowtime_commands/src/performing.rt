@@ -17,9 +17,9 @@ use std::mem::replace as take;
 /// Does what is requested of the collection `name`: the call of the store for it. A value that is set is taken out of the
 /// request.
 ///
-/// Refused as that call is: of `Insert` and `Replace`, in this order, by BadName; TooDeep, Nul, NoId and TooLong; and then
-/// by DuplicateId and Places, or by NotFound; `Put` by neither DuplicateId nor NotFound; `Set` as `set`, whose value keeps
-/// the order of its keys; `Import` as `import_bytes`.
+/// Refused as that call is: for `Insert` and `Replace`, in this order, by BadName; TooDeep, Nul, NoId and TooLong; and
+/// then by DuplicateId and Places, or by NotFound; `Put` by neither DuplicateId nor NotFound; `Set` as `set`, whose
+/// value keeps the order of its keys; `Import` as `import_bytes`.
 pub fn perform<S: Alter + Drop>(
     alloc: Global,
     store: &mut Store<S>,

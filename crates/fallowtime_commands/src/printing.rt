@@ -24,7 +24,7 @@ use std::alloc::Global;
 pub enum Form {
     /// As lines of Extended JSON in this mode.
     Lines(Mode),
-    /// As BSON, one behind the other.
+    /// As BSON, one after the other.
     Bytes,
 }
 
@@ -160,7 +160,7 @@ fn mode_of(form: Form) -> Mode
 /// Writes an answer: an id, a number, `true` or `false` on a line, documents in their form, names one a line.
 ///
 /// Refused by ReservedKey if a document has a key below its top that Extended JSON reserves, and then the documents
-/// before it are written; by Writer if a write failed, and by Memory. A beginning may be written then.
+/// before it are written; by Writer if a write failed, and by Memory. A prefix may be written then.
 pub fn print<O: Sink>(
     alloc: Global,
     answer: &Answer,

@@ -128,7 +128,7 @@ fn unsetting_of<'w>(
     }
 }
 
-/// The filter of the words behind a collection: of one the query that it is, and of none every document.
+/// The filter of the words after a collection: for one, that of the query that it is; for none, that of every document.
 fn filter_of(alloc: Global, places: &[String], scratch: &mut Scratch) -> Result<Filter, Stop>
     ensures { MatchResult result (λ f. IsFilterOf (map string_bytes places.now) (filter_of f)) (WithOneAtMost StopsQuery (map string_bytes places.now)) }
 {

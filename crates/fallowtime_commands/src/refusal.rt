@@ -57,7 +57,7 @@ impl From<AllocError> for Refusal {
     }
 }
 
-/// Puts a word and a number behind a line.
+/// Appends a word and a number to a line.
 fn push_number(line: &mut String, word: &str, number: &str) -> Result<(), AllocError>
     ensures { OnOk result (string_bytes line.new ≡ string_bytes line.old ++ (word.now ++ number.now)) }
 {
@@ -65,7 +65,7 @@ fn push_number(line: &mut String, word: &str, number: &str) -> Result<(), AllocE
     line.push_str(number)
 }
 
-/// Puts a word and a text behind a line, if there is a text.
+/// Appends a word and a text to a line, if there is a text.
 fn push_named(line: &mut String, word: &str, text: &Option<String>) -> Result<(), AllocError>
     ensures { OnOk result (string_bytes line.new ≡ string_bytes line.old ++ named_text word.now text.now) }
 {
@@ -75,8 +75,8 @@ fn push_named(line: &mut String, word: &str, text: &Option<String>) -> Result<()
     }
 }
 
-/// Puts the place of what is refused behind a line: the line of the input, the number of the document, or the places
-/// of rows.
+/// Appends the place of what is refused to a line: the line of the input, the number of the document, or the places of
+/// rows.
 fn push_place(line: &mut String, refusal: &Refusal) -> Result<(), AllocError>
     ensures { OnOk result (string_bytes line.new ≡ string_bytes line.old ++ place_text refusal.now) }
 {
@@ -101,7 +101,7 @@ impl Refusal {
     ghost use Rattle.std.specs.Prelude.{◌≡◌, IfOk, string_bytes};
     ghost use Rattle.fallowtime_commands.specs.Reports.{refusal_text};
 
-    /// The line that reports it: `refused: KIND`, and behind that what helps.
+    /// The line that reports it: `refused: KIND`, followed by what helps.
     pub fn line(&self, alloc: Global) -> Result<String, AllocError>
         ensures { IfOk result (λ line. string_bytes line ≡ refusal_text self.now) }
     {

@@ -7,9 +7,9 @@ use bson_store::{Bson, Document, Filter};
 pub enum Request<'w> {
     /// To put a document in, which has this `_id`.
     Insert(Bson, Document),
-    /// To put a document in, or in the place of the one with its `_id`.
+    /// To put a document in, or to replace the one with its `_id`.
     Put(Document),
-    /// To put a document in the place of the one with its `_id`.
+    /// To replace the document with the `_id` of this one.
     Replace(Document),
     /// The document with an `_id`.
     Get(Bson),

@@ -61,7 +61,7 @@ fn with_value(alloc: Global, body: &[u8], key: &str, value: Bson) -> Result<Docu
 /// key's place, or last if the key isn't there. What the value holds keeps the order of its keys.
 ///
 /// Refused, in this order, by BadName; BadKey, if the key is `_id` or holds a 00; NotFound; TooDeep, Nul and TooLong of
-/// the changed document; and by Memory and Database, but never in the place of BadName or BadKey.
+/// the changed document; and by Memory and Database, but never instead of BadName or BadKey.
 pub(crate) fn set<S: Alter + Drop>(
     alloc: Global,
     store: &mut Store<S>,

@@ -1,4 +1,4 @@
-//! Documents that go into a store as they stand.
+//! Documents that go into a store as they are.
 
 ghost use Rattle.std.specs.Prelude.{◌≡◌, ◌⊎◌, MatchResult};
 ghost use Rattle.bson_base.specs.Kinds.{IsPlain};
@@ -68,7 +68,7 @@ pub(crate) fn insert<S: Alter + Drop>(
     store.insert_raw(name, bytes.as_slice())
 }
 
-/// Puts a document in the place of the one of the collection `name` with its `_id`.
+/// Replaces the document of the collection `name` with the `_id` of this one.
 pub(crate) fn replace<S: Alter + Drop>(
     alloc: Global,
     store: &mut Store<S>,
@@ -83,7 +83,7 @@ pub(crate) fn replace<S: Alter + Drop>(
     store.replace_raw(name, bytes.as_slice())
 }
 
-/// Puts a document in the place of the one of the collection `name` with its `_id`, or, if there is none, last.
+/// Replaces the document of the collection `name` with the `_id` of this one, or, if there is none, puts this one last.
 pub(crate) fn put<S: Alter + Drop>(
     alloc: Global,
     store: &mut Store<S>,

@@ -21,7 +21,7 @@ pub enum Unread {
     Query(QueryError),
 }
 
-/// Puts the place of a byte, counted from 1, behind a line.
+/// Appends the place of a byte, counted from 1, to a line.
 fn push_byte(line: &mut String, byte: usize) -> Result<(), AllocError>
     ensures { OnOk result (string_bytes line.new ≡ string_bytes line.old ++ byte_text byte) }
 {
@@ -30,7 +30,7 @@ fn push_byte(line: &mut String, byte: usize) -> Result<(), AllocError>
     line.push_str(digits.format(byte.saturating_add(1)))
 }
 
-/// Puts why a text of Extended JSON can't be read behind a line.
+/// Appends to a line why a text of Extended JSON can't be read.
 fn push_error(line: &mut String, error: Error) -> Result<(), AllocError>
     ensures { OnOk result (string_bytes line.new ≡ string_bytes line.old ++ error_text error) }
 {
@@ -47,7 +47,7 @@ fn push_error(line: &mut String, error: Error) -> Result<(), AllocError>
     }
 }
 
-/// Puts a text between two others behind a line.
+/// Appends a text between two others to a line.
 fn push_between(line: &mut String, front: &str, text: &str, back: &str) -> Result<(), AllocError>
     ensures { OnOk result (string_bytes line.new ≡ string_bytes line.old ++ (front.now ++ (text.now ++ back.now))) }
 {
@@ -56,7 +56,7 @@ fn push_between(line: &mut String, front: &str, text: &str, back: &str) -> Resul
     line.push_str(back)
 }
 
-/// Puts why a query can't be read behind a line.
+/// Appends to a line why a query can't be read.
 fn push_query_error(line: &mut String, error: &QueryError) -> Result<(), AllocError>
     ensures { OnOk result (string_bytes line.new ≡ string_bytes line.old ++ query_text error.now) }
 {
@@ -77,7 +77,7 @@ impl Unread {
     ghost use Rattle.std.specs.Prelude.{◌≡◌, IfOk, string_bytes};
     ghost use Rattle.fallowtime_commands.specs.Reports.{unread_text};
 
-    /// The line that reports it: `words: ` and what can't be read, and behind that why.
+    /// The line that reports it: `words: ` and what can't be read, followed by why.
     pub fn line(&self, alloc: Global) -> Result<String, AllocError>
         ensures { IfOk result (λ line. string_bytes line ≡ unread_text self.now) }
     {

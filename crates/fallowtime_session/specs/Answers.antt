@@ -1,4 +1,4 @@
--- The line that is answered.
+-- The line of an answer.
 use Rattle.std.specs.Prelude.{◌≡◌, ◌⊎◌, ℕ, zero, suc, false, List, [], ◌∷◌, ◌++◌, map, codes, decimal, string_bytes, Option, Some, None, Result, Ok, Err}
 use Rattle.std.specs.List.{flat_map}
 use Rattle.json.specs.Json.{Json, Items, no_items, item, Members, no_members, member, boolean, string, number, array as json_array, object}
@@ -22,7 +22,7 @@ use Rattle.fallowtime_session.specs.declared.questions.Layout.TheVariants.{Each,
 
 -- ---- lines
 
--- the members behind the id of the question, if it has one
+-- the members after the id of the question, if it has one
 abbrev pub behind_id : Option Json → Members → Members
 behind_id None js = js
 behind_id (Some i) js = member (codes "id") i js
@@ -48,11 +48,11 @@ with_text key (Some t) js = member key (string t) js
 abbrev pub refusal : List ℕ → Option ℕ → Option (List ℕ) → Members
 refusal kind index path = member (codes "refused") (string kind) (with_number (codes "document") index (with_text (codes "key") path no_members))
 
--- what is answered to what is no question
+-- the answer to what is no question
 abbrev pub words : List ℕ → Members
 words place = member (codes "refused") (string (codes "Words")) (one (codes "at") (string place))
 
--- and out of memory
+-- the answer if memory ran out
 abbrev pub memory : Members
 memory = refusal (codes "Memory") None None
 
@@ -94,7 +94,7 @@ texts (t ∷ ts) = item (string t) (texts ts)
 
 -- ---- lines of answers
 
--- the line of members of which P holds, behind the id
+-- the line of members of which P holds, after the id
 abbrev pub IsLineOf : Option Json → (Members → Type 0) → List ℕ → Type 0
 IsLineOf id P line = (js : Members) × P js × (line ≡ line_of id js)
 
@@ -107,7 +107,7 @@ abbrev pub ShowsBodies : Layout → Option Json → List (List ℕ) → List ℕ
 ShowsBodies Each id bodies line = (ds : List Document) → AreKept ds → bodies ≡ map encode ds → IsLineOf id (ShowsDocuments ds) line
 ShowsBodies Stream id bodies line = IsLineOf id (IsMember (codes "bytes") (scalar (binary Generic (flat_map (λ (b : List ℕ). b) bodies)))) line
 
--- the line that answers what the store returned
+-- the line of the answer for what the store returned
 abbrev pub Shows : Layout → Option Json → Result Answer StoreError → List ℕ → Type 0
 Shows l id (Ok answer.Nothing) line = line ≡ line_of id no_members
 Shows l id (Ok (answer.Id own)) line = IsLineOf id (IsMember (codes "_id") (view own)) line

@@ -27,7 +27,7 @@ abbrev pub comma_before : ℕ → List ℕ
 comma_before zero = []
 comma_before (suc i) = 44 ∷ []
 
--- the texts of items behind so many others
+-- the texts of items after i others
 abbrev pub items_text : ℕ → Items → List ℕ
 items_text i no_items = []
 items_text i (item j js) = comma_before i ++ (print (json_tokens j) ++ items_text (suc i) js)
@@ -45,11 +45,11 @@ abbrev pub begun : Option Json → List Token
 begun None = begin_object ∷ []
 begun (Some i) = begin_object ∷ key (codes "id") ∷ json_tokens i
 
--- the line that is made is one of which P holds; out of memory there is none
+-- P holds of the line that is made; there is none if memory ran out
 abbrev pub Makes : (List ℕ → Type 0) → Result (Vec ℕ Global) AllocError → Type 0
 Makes P r = IfOk r (λ (line : Vec ℕ Global). P line.items)
 
--- the line of these members behind the id
+-- the line of these members after the id
 abbrev pub MakesLine : Option Json → Members → Result (Vec ℕ Global) AllocError → Type 0
 MakesLine id js r = Makes (λ line. line ≡ line_of id js) r
 
@@ -67,14 +67,14 @@ IsFaultAt ds i (ReservedKey path) = IsFirstReserved ds i (string_bytes path)
 IsFaultAt ds i Damaged = ⊥
 IsFaultAt ds i Memory = Unit {0}
 
--- the texts of the kept documents that these bodies are went behind what was there; or one has no text
+-- the texts of the kept documents that these bodies are were added to what was there; or one has no text
 abbrev pub PutsBodies : List (List ℕ) → List ℕ → List ℕ → Result (Unit {0}) BodyFault → Type 0
 PutsBodies bodies old new (Ok x) =
     (ds : List Document) → AreKept ds → bodies ≡ map encode ds
     → AreFree ds × ((js : Items) × WritesItems Canonical (items_of (map document ds)) js × (new ≡ old ++ items_text 0 js))
 PutsBodies bodies old new (Err e) = (ds : List Document) → AreKept ds → bodies ≡ map encode ds → IsFaultAt ds e.index e.fault
 
--- so of one more document, behind so many
+-- the same of one more document, after i others
 abbrev pub PutsBody : ℕ → List ℕ → List ℕ → List ℕ → Result (Unit {0}) PrintFault → Type 0
 PutsBody i body old new (Ok x) =
     (d : Document) → IsKept d → body ≡ encode d

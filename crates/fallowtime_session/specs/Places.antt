@@ -1,4 +1,4 @@
--- Where a line is no question, as it is answered.
+-- The place at which a line is no question, as the answer reports it.
 use Rattle.std.specs.Prelude.{◌≡◌, ℕ, ◌+◌, ◌-◌, ◌^◌, min, List, ◌++◌, codes, decimal, string_bytes, Result, Ok, Err}
 use Rattle.fallowtime_session.specs.declared.places.Fault.{Fault}
 use Rattle.fallowtime_session.specs.declared.places.Fault.TheVariants.{At, Memory}
@@ -35,7 +35,7 @@ place_text (place.Operand name) = operand_place (string_bytes name)
 place_text place.Stream = codes "stream"
 place_text place.TooLong = codes "64 MiB"
 
--- what is read is at fault at this place; out of memory nothing is said of it
+-- the reading is at fault at this place; out of memory can be reported whatever the reading is
 abbrev pub Fails : {Y : Type 0} → Fault → Result Y (List ℕ) → Type 0
 Fails (At p) r = r ≡ Err (place_text p)
 Fails Memory r = Unit {0}

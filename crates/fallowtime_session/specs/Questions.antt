@@ -26,7 +26,7 @@ pub data Asked : Type 0 where
   remove : Value → Asked
   find : Filter → Asked
   count : Filter → Asked
-  -- documents of BSON, one behind the other
+  -- documents of BSON, one after the other
   import_bytes : List ℕ → Asked
   -- trees of JSON that stand for documents
   import_trees : Items → Asked
@@ -35,7 +35,7 @@ pub data Asked : Type 0 where
 
 -- ---- the id and the command
 
--- what stands under `id` and what under `do`, if an object has these two keys alone
+-- the values under `id` and under `do`, if an object has these two keys alone
 abbrev pub id_and_do : Members → Option (Json × Json)
 id_and_do (member k i (member l j no_members)) =
     if bytes_eq k (codes "id") && bytes_eq l (codes "do") then Some (i, j)
@@ -52,7 +52,7 @@ abbrev pub command_or : Json → Option (Json × Json) → Json
 command_or j None = j
 command_or j (Some p) = p.1
 
--- what stands for its command: with an id what is under `do`, and without one all of it
+-- what states its command: with an id the value under `do`, and without one all of it
 abbrev pub command_in : Json → Json
 command_in (json.object js) = command_or (json.object js) (id_and_do js)
 command_in j = j
@@ -70,7 +70,7 @@ command_of name =
     ∷ (codes "count", command.Count) ∷ (codes "import", command.Import) ∷ (codes "export", command.Export)
     ∷ (codes "collections", command.Collections) ∷ []) name
 
--- ---- what stands behind the name
+-- ---- what follows the name
 
 -- the text, or this place
 abbrev pub text_at : List ℕ → Json → Result (List ℕ) (List ℕ)
@@ -125,7 +125,7 @@ stream_by None j = bytes_in j >>= λ bytes. Ok (import_bytes bytes)
 abbrev pub stream_in : Json → Result Asked (List ℕ)
 stream_in j = stream_by (as_array j) j
 
--- a collection's name, and what belongs behind it; the first that isn't what has to be at its place decides
+-- a collection's name, and what belongs after it; the first that isn't what is expected at its place is reported
 abbrev pub name_alone : Items → Result (List ℕ) (List ℕ)
 name_alone (item n no_items) = collection_in n
 name_alone _ = Err (codes "command")
@@ -163,7 +163,7 @@ name_and_stream _ = Err (codes "command")
 
 -- ---- commands
 
--- what a command asks for with what is behind its name, and of which collection
+-- what a command asks for with what follows its name, and of which collection
 abbrev pub asked : Command → Items → Result (List ℕ × Asked) (List ℕ)
 asked command.Insert js = name_and_document js >>= λ p. Ok (p.0, insert p.1)
 asked command.Put js = name_and_document js >>= λ p. Ok (p.0, put p.1)
@@ -192,6 +192,6 @@ abbrev pub asked_in : Option Items → Result (List ℕ × Asked) (List ℕ)
 asked_in (Some (item name js)) = asked_by (command_at name) js
 asked_in _ = Err (codes "command")
 
--- what an array of a command's name and of what belongs behind it asks for
+-- what an array asks for that has a command's name and what belongs after it
 abbrev pub asked_of : Json → Result (List ℕ × Asked) (List ℕ)
 asked_of j = asked_in (as_array j)

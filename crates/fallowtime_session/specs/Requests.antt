@@ -29,7 +29,7 @@ abbrev pub IsWritten : IdMaker → Json → List ℕ → IdMaker → Type 0
 IsWritten m j bytes n =
     (d : Members) × (read_top j ≡ Ok d) × CanBeWritten (document (identified m d)) × (bytes ≡ encode (identified m d)) × (n ≡ maker_after m d)
 
--- the bytes are those of all these documents, one behind the other
+-- the bytes are those of all these documents, one after the other
 abbrev pub AreWritten : IdMaker → Items → List ℕ → IdMaker → Type 0
 AreWritten m no_items bytes n = (bytes ≡ []) × (n ≡ m)
 AreWritten m (item j js) bytes n =
@@ -39,7 +39,7 @@ AreWritten m (item j js) bytes n =
 abbrev pub IsUnfit : IdMaker → Json → Type 0
 IsUnfit m j = ((e : Error) × (read_top j ≡ Err e)) ⊎ ((d : Members) × (read_top j ≡ Ok d) × (CanBeWritten (document (identified m d)) → ⊥))
 
--- so many trees are those of documents, and the next one isn't
+-- the first i trees are those of documents, and the next one isn't
 abbrev pub IsFirstUnfit : IdMaker → Items → ℕ → Type 0
 IsFirstUnfit m no_items i = ⊥
 IsFirstUnfit m (item j js) zero = IsUnfit m j
@@ -47,7 +47,7 @@ IsFirstUnfit m (item j js) (suc i) = (first : List ℕ) × (mid : IdMaker) × Is
 
 -- ---- its parts
 
--- the bytes of one more document went behind those of others, which are so many; or it is unfit
+-- the bytes of one more document were added to those of i others; or it is unfit
 abbrev pub PutsBehind : IdMaker → IdMaker → ℕ → Json → List ℕ → List ℕ → Result (Unit {0}) Fault → Type 0
 PutsBehind m n i j old new (Ok x) = (bytes : List ℕ) × IsWritten m j bytes n × (new ≡ old ++ bytes)
 PutsBehind m n i j old new (Err (At p)) = IsUnfit m j × (place_text p ≡ document_place i)
@@ -78,7 +78,7 @@ IsRequest m n export (request.Find g) = (filter_of g ≡ everything) × (n ≡ m
 IsRequest m n collections request.Collections = n ≡ m
 IsRequest m n _ _ = ⊥
 
--- how documents are answered
+-- how documents are laid out in the answer
 abbrev pub layout_of : Asked → Layout
 layout_of export = Stream
 layout_of _ = Each
@@ -87,7 +87,7 @@ layout_of _ = Each
 abbrev pub Asks : IdMaker → IdMaker → Result (List ℕ × Asked) (List ℕ) → List ℕ → Request → Layout → Type 0
 Asks m n reading name q l = (a : Asked) × (reading ≡ Ok (name, a)) × IsRequest m n a q × (l ≡ layout_of a)
 
--- It asks for nothing: at this place it isn't what has to be there, or one of several documents isn't.
+-- It asks for nothing: at this place it isn't what is expected, or one of several documents is unfit.
 abbrev pub AsksNothing : IdMaker → Result (List ℕ × Asked) (List ℕ) → List ℕ → Type 0
 AsksNothing m reading place =
     (reading ≡ Err place)

@@ -9,7 +9,7 @@ use Rattle.store_model.specs.declared.error.ErrorKind.TheVariants.{Memory, Reade
 use Rattle.fallowtime_texts.specs.declared.made.IdMaker.{IdMaker}
 use Rattle.fallowtime_session.specs.Turns.{AnswersLine}
 
--- a line, and what is answered to it
+-- a line, and its answer
 pub record Turn : Type 0 where
   pub text : List ℕ
   pub answer : List ℕ
@@ -24,7 +24,7 @@ abbrev pub answers_of : List Turn → List ℕ
 answers_of [] = []
 answers_of (t ∷ ts) = t.answer ++ answers_of ts
 
--- the lines are answered one after the other, each over the rows that the one before it left
+-- the lines get their answers one after the other, each over the rows that the one before it left
 abbrev pub Holds : IdMaker → IdMaker → List Turn → List TableRow → List TableRow → Type 0
 Holds m n [] docs after = (n ≡ m) × (after ≡ docs)
 Holds m n (t ∷ ts) docs after = (next : IdMaker) × (mid : List TableRow) × AnswersLine m next t.text t.answer docs mid × Holds next n ts mid after
@@ -41,23 +41,23 @@ ReadsSome turns old new =
     (bytes : List ℕ) × (left : List ℕ) × (new.failures ≡ old.failures) × Gives old.supply new.supply bytes
     × ((bytes ≡ lines_of turns ++ left) ⊎ ((bytes ++ 10 ∷ [] ≡ lines_of turns) × IsExhausted new.supply))
 
--- an answer went out, or a write failed and a beginning of it did
+-- an answer was written, or a write failed and a prefix of it was written
 abbrev pub Sends : Result (Unit {0}) ErrorKind → List ℕ → Tally → Tally → Type 0
 Sends (Ok x) answer old new = (new.failures ≡ old.failures) × Appends old.taken new.taken answer
 Sends (Err Writer) answer old new = (new.failures ≡ old.failures + 1) × TakesBeginning old.taken new.taken answer
 Sends (Err kind) answer old new = ⊥
 
--- every answer went out
+-- every answer was written
 abbrev pub WritesAll : List Turn → Tally → Tally → Type 0
 WritesAll turns old new = (new.failures ≡ old.failures) × Appends old.taken new.taken (answers_of turns)
 
--- every answer but the last went out, and a beginning of that
+-- every answer except the last was written, and a prefix of that one
 abbrev pub WritesSome : List Turn → Tally → Tally → Type 0
 WritesSome turns old new =
     (done : List Turn) × (last : Turn) × (turns ≡ done ++ last ∷ [])
     × ((mid : Tally) × WritesAll done old mid × Sends (Err Writer) last.answer mid new)
 
--- then a read failed, or neither the line nor the input ends
+-- after these lines a read failed inside of a line, or at least 2 ^ 64 - 2 bytes were read
 abbrev pub BreaksOff : List Turn → Feed → Feed → Type 0
 BreaksOff turns old new =
     (bytes : List ℕ) × (left : List ℕ) × Gives old.supply new.supply bytes × (bytes ≡ lines_of turns ++ left)

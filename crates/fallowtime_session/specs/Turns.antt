@@ -1,4 +1,4 @@
--- What comes of a line.
+-- The outcome of a line.
 use Rattle.std.specs.Prelude.{◌≡◌, ◌⊎◌, ◌<◌, ℕ, List, [], length, Option, None, Some, Result, Ok, Err, IfOk, IsSomeAnd, IsUtf8, codes, Vec}
 use Rattle.std.specs.declared.alloc.AllocError.{AllocError}
 use Rattle.std.specs.declared.alloc.Global.{Global}
@@ -28,18 +28,19 @@ abbrev pub Does : IdMaker → IdMaker → Result (List ℕ × Asked) (List ℕ) 
 Does m n reading l r docs after =
     (name : List ℕ) × (q : Request) × Asks m n reading name q l × Performs name q (reply_of r) docs after × IfOk r (IsAnswerTo q)
 
--- The line that is answered: to what was done, or to what is no question.
+-- The line of the answer: to what was done, or to what is no question.
 abbrev pub Answers : IdMaker → IdMaker → Option Json → Result (List ℕ × Asked) (List ℕ) → List ℕ → List TableRow → List TableRow → Type 0
 Answers m n id reading line docs after =
     ((place : List ℕ) × AsksNothing m reading place × (line ≡ line_of id (words place)) × Stays m n docs after)
     ⊎ ((l : Layout) × (r : Result Answer StoreError) × Does m n reading l r docs after × Shows l id r line)
 
--- memory ran out before anything was done, or behind it
+-- memory ran out before anything was done, or after it
 abbrev pub RunsOut : IdMaker → IdMaker → Result (List ℕ × Asked) (List ℕ) → List TableRow → List TableRow → Type 0
 RunsOut m n reading docs after =
     Stays m n docs after ⊎ ((l : Layout) × (r : Result Answer StoreError) × Does m n reading l r docs after)
 
--- A question is answered, with its id; or it is answered that memory ran out, without the id only if nothing was done.
+-- A question gets its answer, with its id; or the answer is that memory ran out, without the id only if nothing was
+-- done.
 abbrev pub AnswersTree : IdMaker → IdMaker → Json → List ℕ → List TableRow → List TableRow → Type 0
 AnswersTree m n j line docs after =
     Answers m n (id_of j) (asked_of (command_in j)) line docs after
@@ -50,41 +51,41 @@ AnswersTree m n j line docs after =
 abbrev pub HasTree : List ℕ → Json → Type 0
 HasTree text j = IsUtf8 text × (tree_of text ≡ Some j) × HasUniqueKeys j
 
--- a text has none: it is no JSON, as is seen at some byte, or an object in it has a key twice
+-- a text has no such tree: it is no JSON, as is seen at some byte, or an object in it has a key twice
 abbrev pub HasNoTree : List ℕ → List ℕ → Type 0
 HasNoTree text place =
     ((IsUtf8 text → tree_of text ≡ None) × ((i : ℕ) × (place ≡ byte_place i)))
     ⊎ (IsUtf8 text × IsSomeAnd (tree_of text) (λ j. HasUniqueKeys j → ⊥) × (place ≡ codes "repeated key"))
 
--- what comes of a text: of its tree; or it has none; or memory ran out before that was seen
+-- the outcome of a text: that of its tree; or it has none; or memory ran out before that was seen
 abbrev pub AnswersText : IdMaker → IdMaker → List ℕ → List ℕ → List TableRow → List TableRow → Type 0
 AnswersText m n text line docs after =
     ((j : Json) × HasTree text j × AnswersTree m n j line docs after)
     ⊎ ((place : List ℕ) × HasNoTree text place × (line ≡ line_of None (words place)) × Stays m n docs after)
     ⊎ ((line ≡ line_of None memory) × Stays m n docs after)
 
--- what comes of a line of over 64 MiB
+-- the outcome of a line of over 64 MiB
 abbrev pub AnswersLong : IdMaker → IdMaker → List ℕ → List TableRow → List TableRow → Type 0
 AnswersLong m n line docs after = ((line ≡ line_of None (words (codes "64 MiB"))) ⊎ (line ≡ line_of None memory)) × Stays m n docs after
 
--- what comes of a line of some bytes
+-- the outcome of a line of some bytes
 abbrev pub AnswersBytes : IdMaker → IdMaker → List ℕ → List ℕ → List TableRow → List TableRow → Type 0
 AnswersBytes m n text line docs after = When (MOST < length text) (AnswersLong m n line docs after) (AnswersText m n text line docs after)
 
--- what comes of a line; one without a byte is passed over
+-- the outcome of a line; an empty one is skipped
 abbrev pub AnswersLine : IdMaker → IdMaker → List ℕ → List ℕ → List TableRow → List TableRow → Type 0
 AnswersLine m n text line docs after =
     When (text ≡ []) ((line ≡ []) × Stays m n docs after) (AnswersBytes m n text line docs after)
 
 -- ---- its parts
 
--- a question was done, with this outcome, and its answer made; out of memory there is none
+-- a question was done, with this outcome, and its answer made; there is none if memory ran out
 abbrev pub Carries : Option Json → Question → Result (Vec ℕ Global) AllocError → List TableRow → List TableRow → Type 0
 Carries id q made docs after =
     (r : Result Answer StoreError) × Performs q.collection.now q.request (reply_of r) docs after × IfOk r (IsAnswerTo q.request)
     × IfOk made (λ line. Shows q.layout id r line.items)
 
--- the line that is made; out of memory there is none
+-- the line that is made; there is none if memory ran out
 abbrev pub Replies : IdMaker → IdMaker → Option Json → Result (List ℕ × Asked) (List ℕ) → Result (Vec ℕ Global) AllocError → List TableRow → List TableRow → Type 0
 Replies m n id reading (Ok line) docs after = Answers m n id reading line.items docs after
 Replies m n id reading (Err e) docs after = RunsOut m n reading docs after

@@ -1,4 +1,4 @@
-//! The lines that are answered.
+//! The lines of answers.
 
 ghost use Rattle.std.specs.Prelude.{codes, decimal, map, string_bytes};
 ghost use Rattle.std.specs.Option.{option_map};

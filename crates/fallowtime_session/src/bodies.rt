@@ -19,7 +19,7 @@ pub(crate) struct BodyFault {
     pub(crate) fault: PrintFault,
 }
 
-/// Puts what stands in front of a text behind the line, and then the text.
+/// Appends what comes before a text to the line, and then the text.
 fn push(line: &mut Vec<u8>, index: usize, text: &[u8]) -> Result<(), AllocError>
     ensures { OnOk result (line.new.items ≡ line.old.items ++ (comma_before index ++ text.now)) }
 {
@@ -29,8 +29,8 @@ fn push(line: &mut Vec<u8>, index: usize, text: &[u8]) -> Result<(), AllocError>
     line.extend_from_slice(text)
 }
 
-/// Puts the text of a stored document behind the line, and a comma in front of it if there are others before it. `text`
-/// is room that is kept from document to document.
+/// Appends the text of a stored document to the line, after a comma if there are others before it. `text` is room that
+/// is kept from document to document.
 fn push_body(
     alloc: Global,
     index: usize,
@@ -47,7 +47,7 @@ fn push_body(
     }
 }
 
-/// Puts the texts of stored documents behind the line, with commas between them. The first that has none is reported.
+/// Appends the texts of stored documents to the line, with commas between them. The first that has none is reported.
 pub(crate) fn push_bodies(
     alloc: Global,
     bodies: &[Vec<u8>],
@@ -67,7 +67,7 @@ pub(crate) fn push_bodies(
     Ok(())
 }
 
-/// The bytes of stored documents, one behind the other.
+/// The bytes of stored documents, one after the other.
 pub(crate) fn joined(alloc: Global, bodies: &[Vec<u8>]) -> Result<Vec<u8>, AllocError>
     ensures { IfOk result (λ stream. stream.items ≡ flat_map (λ (b : List ℕ). b) (bytes_of_each bodies.now)) }
 {

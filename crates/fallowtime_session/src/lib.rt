@@ -1,4 +1,4 @@
-//! The line mode of the program `fallowtime`: lines of JSON ask something of an open store, and each is answered by a
+//! The line mode of the program `fallowtime`: lines of JSON ask something of an open store, and the answer to each is a
 //! line of JSON.
 #![tactic(auto)]
 

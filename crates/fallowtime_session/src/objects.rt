@@ -1,4 +1,4 @@
-//! The objects that are answered.
+//! The objects of answers.
 
 ghost use Rattle.std.specs.Prelude.{◌≡◌, ◌++◌, ◌∷◌, [], IfOk, OnOk, codes, decimal};
 ghost use Rattle.bson_text.specs.Prints.{Adds};

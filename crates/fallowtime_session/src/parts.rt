@@ -1,4 +1,4 @@
-//! What stands at the places of a question.
+//! What is at the places of a question.
 
 ghost use Rattle.std.specs.Prelude.{◌≡◌, ◌++◌, List, ℕ};
 ghost use Rattle.std.specs.Option.{option_map};
@@ -130,7 +130,7 @@ pub(crate) fn bytes_of(alloc: Global, tree: &Value<'_>) -> Result<Vec<u8>, Fault
     take_bytes(alloc, &mut value)
 }
 
-/// Puts the bytes of the document of a tree, with its `_id`, behind those of others. `index` is how many these are.
+/// Appends the bytes of the document of a tree, with its `_id`, to those of others. `index` is how many these are.
 fn put_behind(
     alloc: Global,
     tree: &Value<'_>,
@@ -151,7 +151,7 @@ fn put_behind(
     }
 }
 
-/// The bytes of the documents of trees, each with its `_id`, one behind the other.
+/// The bytes of the documents of trees, each with its `_id`, one after the other.
 pub(crate) fn stream_of(
     alloc: Global,
     items: &[Value<'_>],

@@ -10,8 +10,8 @@ use std::alloc::{AllocError, AllocFailed, Global};
 /// Where a line is no question.
 #[derive(Drop)]
 pub(crate) enum Place {
-    /// The line is no text of JSON (RFC 8259), or its objects and arrays lie more than 128 deep. The number is of the
-    /// byte, counted from 0, at which that is seen.
+    /// The line is no text of JSON (RFC 8259), or its objects and arrays are nested more than 128 deep. The number is
+    /// of the byte, counted from 0, at which that is seen.
     Byte(usize),
     /// An object has a key twice.
     RepeatedKey,
@@ -44,9 +44,9 @@ pub(crate) enum Place {
 /// Why a line is no question.
 #[derive(Drop)]
 pub(crate) enum Fault {
-    /// Something in it isn't what has to be at its place.
+    /// Something in it isn't what is expected at its place.
     At(Place),
-    /// A growth of memory was refused, or more than 1000 levels lie inside each other.
+    /// A growth of memory was refused, or more than 1000 levels are nested in each other.
     Memory,
 }
 
@@ -67,7 +67,7 @@ impl<T: Drop> From<AllocFailed<T>> for Fault {
     }
 }
 
-/// A text, and a name behind it.
+/// A text, and a name after it.
 fn with_name(alloc: Global, text: &str, name: &str) -> Result<String, AllocError>
     ensures { IfOk result (λ t. string_bytes t ≡ text.now ++ name.now) }
 {
@@ -76,7 +76,7 @@ fn with_name(alloc: Global, text: &str, name: &str) -> Result<String, AllocError
     Ok(whole)
 }
 
-/// A text, and a number behind it.
+/// A text, and a number after it.
 fn with_number(alloc: Global, text: &str, number: u64) -> Result<String, AllocError>
     ensures { IfOk result (λ t. string_bytes t ≡ text.now ++ decimal number) }
 {

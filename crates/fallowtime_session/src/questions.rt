@@ -24,27 +24,27 @@ use json::Value;
 use std::alloc::{AllocError, Global};
 use store_filter::Filter;
 
-/// How the documents that are returned are answered.
+/// How the documents that are returned are laid out in the answer.
 #[derive(Clone, Copy, Debug, PartialEq, Eq)]
 pub(crate) enum Layout {
-    /// Each for itself, as Extended JSON.
+    /// Each by itself, as Extended JSON.
     Each,
-    /// Their bytes, one behind the other.
+    /// Their bytes, one after the other.
     Stream,
 }
 
 /// What a line asks for.
 #[derive(Drop)]
 pub(crate) struct Question<'w> {
-    /// The collection; of `Collections` an empty text.
+    /// The collection; an empty text for `Collections`.
     pub(crate) collection: &'w str,
     /// What is requested of the store.
     pub(crate) request: Request<'w>,
-    /// How documents are answered.
+    /// How documents are laid out in the answer.
     pub(crate) layout: Layout,
 }
 
-/// A question whose documents are answered each for itself.
+/// A question to which documents are returned each by itself.
 fn plain<'w>(collection: &'w str, request: Request<'w>) -> Question<'w>
     ensures { (result.collection ≡ collection.entry) × (result.request ≡ request.entry) × (result.layout ≡ Layout.Each) }
 {
@@ -258,7 +258,7 @@ fn collections<'w>(places: &[Value<'w>]) -> Result<Question<'w>, Fault>
     }
 }
 
-/// What a command asks for with what is behind its name.
+/// What a command asks for with what follows its name.
 fn asked_by<'w>(
     alloc: Global,
     command: Command,
@@ -293,7 +293,7 @@ fn command_of(tree: &Value<'_>) -> Option<Command>
     }
 }
 
-/// What an array of a command's name and of what belongs behind it asks for.
+/// What an array asks for that has a command's name and what belongs after it.
 pub(crate) fn question_of<'w>(
     alloc: Global,
     tree: &Value<'w>,

@@ -28,11 +28,11 @@ use std::alloc::{AllocError, Global};
 struct Parts<'t, 'w> {
     /// Its id, if it has one.
     id: Option<&'t Value<'w>>,
-    /// What stands for its command.
+    /// What states its command.
     command: &'t Value<'w>,
 }
 
-/// What stands under `id` and what under `do`, if an object has these two keys alone.
+/// The values under `id` and under `do`, if an object has these two keys alone.
 fn id_and_do<'t, 'w>(members: &'t [(&'w str, Value<'w>)]) -> Option<(&'t Value<'w>, &'t Value<'w>)>
     requires { MembersHaveNumbers (members_view members.now) }
     ensures parts { option_map (λ p. (data_of p.0.now, data_of p.1.now)) result ≡ id_and_do (members_view members.now) }
@@ -52,7 +52,7 @@ fn id_and_do<'t, 'w>(members: &'t [(&'w str, Value<'w>)]) -> Option<(&'t Value<'
     }
 }
 
-/// The id of a question, if it has one, and what stands for its command.
+/// The id of a question, if it has one, and what states its command.
 fn parts_of<'t, 'w>(tree: &'t Value<'w>) -> Parts<'t, 'w>
     requires { HasNumbers (data_of tree.now) }
     ensures id { id_tree result.id ≡ id_of (data_of tree.now) }

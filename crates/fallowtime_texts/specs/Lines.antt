@@ -15,19 +15,19 @@ use Rattle.fallowtime_texts.specs.declared.lines.Taken.{Taken}
 use Rattle.fallowtime_texts.specs.declared.lines.Taking.{Taking}
 use Rattle.fallowtime_texts.specs.declared.made.IdMaker.{IdMaker}
 
--- the documents of lines, where there are some, each with its `_id`
+-- the documents of the lines that have one, each with its `_id`
 abbrev pub identified_each : IdMaker → List (Option Members) → List (Option Members)
 identified_each maker [] = []
 identified_each maker (None ∷ os) = None ∷ identified_each maker os
 identified_each maker (Some d ∷ os) = Some (identified maker d) ∷ identified_each (maker_after maker d) os
 
--- the maker behind them
+-- the maker after them
 abbrev pub maker_behind : IdMaker → List (Option Members) → IdMaker
 maker_behind maker [] = maker
 maker_behind maker (None ∷ os) = maker_behind maker os
 maker_behind maker (Some d ∷ os) = maker_behind (maker_after maker d) os
 
--- the places of the lines that have a document, where the first line is the one behind line n
+-- the places of the lines that have a document; the first line is the one after line n
 abbrev pub places_behind : ℕ → List (Option Members) → List ℕ
 places_behind n [] = []
 places_behind n (None ∷ os) = places_behind (n + 1) os
@@ -37,8 +37,8 @@ places_behind n (Some d ∷ os) = (n + 1) ∷ places_behind (n + 1) os
 abbrev pub HasTaken : List (Option Members) → IdMaker → IdMaker → Taken → Type 0
 HasTaken os before after taken = InParts IsWritten taken.stream.items (identified_each before os) × (taken.lines.items ≡ places_behind 0 os) × (after ≡ maker_behind before os)
 
--- What comes behind these lines, where some bytes wait: the last line, which may have no byte; or why there is no further
--- document, or none that can be written with its `_id`.
+-- What comes after these lines, while some bytes wait: the last line, which may have no byte; or why there is no
+-- further document, or none that can be written with its `_id`.
 abbrev pub EndsReading : List (Option Members) → Feed → Feed → List ℕ → IdMaker → IdMaker → Result Taken Stop → Type 0
 EndsReading os old new waiting before after (Ok taken) =
     (given : List ℕ) × (o : Option Members) × TookAll old new given × IsUnbroken (waiting ++ given) × IsReadAs (waiting ++ given) o × HasTaken (os ++ o ∷ []) before after taken
@@ -58,7 +58,7 @@ pub record ReadsLines (old new : Feed) (before after : IdMaker) (result : Result
 
 -- ---- its parts
 
--- a document was put behind those that were taken; or it has no written form, or memory ran out
+-- a document was added to those that were taken; or it has no written form, or memory ran out
 abbrev pub PutsBehind : ℕ → Members → Taken → Taken → Result (Unit {0}) Stop → Type 0
 PutsBehind n d before after (Ok x) = CanBeWritten (document d) × (after.stream.items ≡ before.stream.items ++ encode d) × (after.lines.items ≡ before.lines.items ++ n ∷ [])
 PutsBehind n d before after (Err (stop.Document i fault)) = ⊥

@@ -14,7 +14,7 @@ maker_at seconds n = record { seconds = seconds; next = n }
 abbrev pub made_bytes : IdMaker → List ℕ
 made_bytes maker = to_be_bytes w32 maker.seconds ++ to_be_bytes w64 maker.next
 
--- the maker behind one id
+-- the maker after one id
 abbrev pub next_maker : IdMaker → IdMaker
 next_maker maker = maker_at maker.seconds ((maker.next + 1) % 2 ^ 64)
 
@@ -26,6 +26,6 @@ id_member maker = (id_key, scalar (object_id (made_bytes maker)))
 abbrev pub identified : IdMaker → Members → Members
 identified maker d = if has_key id_key d then d else member (id_member maker).0 (id_member maker).1 d
 
--- the maker behind a document
+-- the maker after a document
 abbrev pub maker_after : IdMaker → Members → IdMaker
 maker_after maker d = if has_key id_key d then maker else next_maker maker

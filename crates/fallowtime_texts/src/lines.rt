@@ -15,7 +15,7 @@ use std::alloc::Global;
 /// Documents that were taken from lines.
 #[derive(Drop)]
 pub struct Taken {
-    /// Their bytes as BSON, one behind the other.
+    /// Their bytes as BSON, one after the other.
     pub stream: Vec<u8>,
     /// The line of each, counted from 1.
     pub lines: Vec<u64>,
@@ -28,7 +28,7 @@ struct Taking {
     maker: IdMaker,
 }
 
-/// Documents with an `_id` go behind those that were taken.
+/// Documents with an `_id` are added to those that were taken.
 struct WithIds;
 
 impl Take<Taking> for WithIds {
@@ -49,7 +49,7 @@ impl Take<Taking> for WithIds {
     }
 }
 
-/// Puts the document of a line behind those that were taken.
+/// Adds the document of a line to those that were taken.
 fn put_behind(document: &Document, number: u64, taken: &mut Taken) -> Result<(), Stop>
     ensures { PutsBehind number (content document.now) taken.old taken.new result }
 {
@@ -65,12 +65,12 @@ fn put_behind(document: &Document, number: u64, taken: &mut Taken) -> Result<(),
     }
 }
 
-/// Reads the documents of the lines of the input, up to its end. Each line is a text of Extended JSON; one of no bytes is
-/// passed over, and counts. A document without an `_id` gets one of the maker.
+/// Reads the documents of the lines of the input, up to its end. Each line is a text of Extended JSON; an empty one is
+/// skipped, and counts. A document without an `_id` gets one of the maker.
 ///
 /// `Line` if a line, counted from 1, has over 64 MiB, is no UTF-8, is no text of Extended JSON, or if its document with
 /// its `_id` has no written form; `Reader` if a read failed; `Memory` if a growth of memory was refused, or more than
-/// 1000 levels lie inside each other. Then the maker is as it was.
+/// 1000 levels are nested in each other. Then the maker is as it was.
 pub fn read_lines<I: Source>(
     alloc: Global,
     input: &mut I,

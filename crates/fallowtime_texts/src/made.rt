@@ -32,7 +32,7 @@ impl IdMaker {
         }
     }
 
-    /// The next id: 4 bytes of seconds and 8 of the number, the highest byte first in both. Behind the greatest number
+    /// The next id: 4 bytes of seconds and 8 of the number, the highest byte first in both. After the greatest number
     /// comes 0.
     pub fn make(&mut self) -> ObjectId
         ensures bytes { id_bytes result ≡ made_bytes self.old }
@@ -44,7 +44,7 @@ impl IdMaker {
         ObjectId::from_bytes([a, b, c, d, e, f, g, h, i, j, k, l])
     }
 
-    /// A maker of the very ids that this one would make next. The caller lets one of both go.
+    /// A maker of the same ids that this one would make next. The caller drops one of the two.
     pub fn copy(&self) -> IdMaker
         ensures { result ≡ self.now }
     {
@@ -55,7 +55,7 @@ impl IdMaker {
     }
 }
 
-/// The pairs of a document behind a made `_id`.
+/// The pairs of a document after a made `_id`.
 fn pairs_behind_id(
     alloc: Global,
     document: Document,

@@ -61,8 +61,8 @@ fn text_of_document(
     }
 }
 
-/// Puts the text of the document that a store keeps as `body`, in Extended JSON, in the place of what `text` held, whose
-/// room is used again. What `text` holds after an error isn't said.
+/// Replaces what `text` held by the text of the document that a store keeps as `body`, in Extended JSON, and uses its
+/// room again. After an error `text` may hold anything.
 ///
 /// `ReservedKey` if a document below the top has a key such as `$oid`, with the path to the first one, `Memory` if a
 /// growth was refused. `Damaged` only for bytes that no store keeps.

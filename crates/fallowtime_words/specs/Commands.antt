@@ -30,7 +30,7 @@ makers = Insert ∷ Put ∷ Import ∷ []
 abbrev pub BeginsWith : List ℕ → List ℕ → Type 0
 BeginsWith front word = (rest : List ℕ) × (word ≡ front ++ rest)
 
--- the words behind the command begin with the name of a collection, except those of two commands
+-- the words after the command begin with the name of a collection, except those of two commands
 abbrev pub HasName : Command → List (List ℕ) → List ℕ → List (List ℕ) → Type 0
 HasName Collections words coll rest = (coll ≡ []) × (rest ≡ words)
 HasName Backup words coll rest = (coll ≡ []) × (rest ≡ words)

@@ -1,4 +1,4 @@
--- The options behind the places: what their words are, and which a command has.
+-- The options after the places: what their words are, and which a command has.
 use Rattle.std.specs.Prelude.{◌≡◌, ◌<◌, ◌^◌, ◌⊎◌, ℕ, List, [], ◌∷◌, codes, count_by, Bool, true, false, if◌then◌else◌, Option, Some, None}
 use Rattle.std.specs.List.{filter_map}
 use Rattle.std.specs.Str.Parse.{IsNumeral, digits_value}
@@ -19,7 +19,7 @@ Lead words Bytes behind = words ≡ codes "--bson" ∷ behind
 Lead words Lines behind = words ≡ codes "--json" ∷ behind
 Lead words (Wait n) behind = (text : List ℕ) × (words ≡ codes "--wait" ∷ text ∷ behind) × IsSeconds text n
 
--- the words are those of options, one behind the other
+-- the words are those of options, one after the other
 abbrev pub Spell : List (List ℕ) → List Given → Type 0
 Spell words [] = words ≡ []
 Spell words (g ∷ gs) = (behind : List (List ℕ)) × Lead words g behind × Spell behind gs
@@ -58,7 +58,7 @@ pub record Gathers (gs : List Given) (o : Options) : Type 0 where
 abbrev pub AreOptions : List (List ℕ) → Options → Type 0
 AreOptions words o = (gs : List Given) × Spell words gs × Gathers gs o
 
--- no option but `--wait`
+-- no option except `--wait`
 abbrev pub OnlyWait : Options → Type 0
 OnlyWait o = (o.canonical ≡ false) × (o.bytes ≡ false) × (o.lines ≡ false)
 

@@ -5,7 +5,7 @@ use Rattle.fallowtime_words.specs.declared.options.Given.{Given}
 use Rattle.fallowtime_words.specs.declared.options.Given.TheVariants.{Canonical, Bytes, Lines, Wait}
 use Rattle.fallowtime_words.specs.declared.options.Options.{Options}
 
--- no word, or one that begins with two hyphens in front
+-- no word, or words of which the first begins with two hyphens
 abbrev pub MayFollow : List (List ℕ) → Type 0
 MayFollow words = (word : List ℕ) (more : List (List ℕ)) → words ≡ word ∷ more → BeginsWith (codes "--") word
 

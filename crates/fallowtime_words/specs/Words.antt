@@ -1,4 +1,4 @@
--- The words behind the program's name, and what they ask for.
+-- The words after the program's name, and what they ask for.
 use Rattle.std.specs.Prelude.{◌≡◌, ℕ, List, ◌∷◌, ◌++◌, codes, map, string_bytes, Option}
 use Rattle.fallowtime_words.specs.Commands.{command_name, BeginsWith, HasName, HasPlaces}
 use Rattle.fallowtime_words.specs.Options.{AreOptions, OnlyWait, Takes}
@@ -20,15 +20,15 @@ asked_of (task.Session file seconds) = session file.now seconds
 abbrev pub IsFile : List ℕ → Type 0
 IsFile word = ¬ BeginsWith (codes "-") word
 
--- behind the name: the places, and then the options
+-- after the name: the places, and then the options
 abbrev pub HasRest : Command → List (List ℕ) → List (List ℕ) → Options → Type 0
 HasRest command words places o = (given : List (List ℕ)) × (words ≡ places ++ given) × HasPlaces command places × AreOptions given o × Takes command o
 
--- behind the command: the name, the places and the options
+-- after the command: the name, the places and the options
 abbrev pub HasAll : Command → List (List ℕ) → List ℕ → List (List ℕ) → Options → Type 0
 HasAll command words coll places o = (rest : List (List ℕ)) × HasName command words coll rest × HasRest command rest places o
 
--- no option but this, if it is given: for how many seconds a file is waited for
+-- no option, or only this one: for how many seconds a file is waited for
 abbrev pub Wait : List (List ℕ) → Option ℕ → Type 0
 Wait words seconds = (o : Options) × AreOptions words o × OnlyWait o × (o.seconds ≡ seconds)
 

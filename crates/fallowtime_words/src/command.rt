@@ -7,9 +7,9 @@ use crate::options::Options;
 pub enum Command {
     /// `insert COLL DOC`: puts a document in, and prints its `_id`.
     Insert,
-    /// `put COLL DOC`: puts a document in, or in the place of the one with its `_id`.
+    /// `put COLL DOC`: puts a document in, or replaces the one with its `_id`.
     Put,
-    /// `replace COLL DOC`: puts a document in the place of the one with its `_id`.
+    /// `replace COLL DOC`: replaces the document with the `_id` of DOC.
     Replace,
     /// `get COLL ID`: prints a document.
     Get,

@@ -1,4 +1,4 @@
-//! The words of the program `fallowtime`: its commands, their options, and what the words behind the program's name ask
+//! The words of the program `fallowtime`: its commands, their options, and what the words after the program's name ask
 //! for.
 #![tactic(auto)]
 

@@ -1,4 +1,4 @@
-//! The options behind the places of a command.
+//! The options after the places of a command.
 
 ghost use Rattle.std.specs.Prelude.{◌≡◌, ◌↔◌, ◌∷◌, ℕ, List, Some, MatchOption, codes, map, string_bytes};
 ghost use Rattle.fallowtime_words.specs.Options.{AreOptions, IsSeconds, Lead};
@@ -14,7 +14,7 @@ pub struct Options {
     pub bytes: bool,
     /// `--json`: documents are read from lines of Extended JSON; else from BSON.
     pub lines: bool,
-    /// `--wait SECONDS`: for how many seconds a file is waited for that another process has, if that is said.
+    /// `--wait SECONDS`: how many seconds to wait for a file that another process has, if that is given.
     pub seconds: Option<u64>,
 }
 
@@ -37,7 +37,7 @@ fn seconds_of(word: &str) -> Option<u64>
     word.parse::<u64>().ok()
 }
 
-/// The option `--wait` whose SECONDS is the first of the words, and the words behind that.
+/// The option `--wait` whose SECONDS is the first of the words, and the words after that.
 fn split_wait(words: &[String]) -> Option<(Given, &[String])>
     ensures { MatchOption result
         ((given : Given) (behind : List (List ℕ)) → Lead (codes "--wait" ∷ map string_bytes words.now) given behind → ⊥)
@@ -48,7 +48,7 @@ fn split_wait(words: &[String]) -> Option<(Given, &[String])>
     Some((Given::Wait(seconds), behind))
 }
 
-/// The option at the front of the words, and the words behind it.
+/// The option at the front of the words, and the words after it.
 fn split_option(words: &[String]) -> Option<(Given, &[String])>
     ensures { MatchOption result
         ((given : Given) (behind : List (List ℕ)) → Lead (map string_bytes words.now) given behind → ⊥)
@@ -77,7 +77,7 @@ impl Options {
         seconds: None,
     };
 
-    /// Whether there is none but `--wait`.
+    /// Whether there is none except `--wait`.
     pub(crate) fn only_wait(self) -> bool
         ensures { IsTrue result ↔ OnlyWait self }
     {
@@ -110,7 +110,7 @@ impl Options {
     }
 }
 
-/// The options that are the words, in any order, each at the most once; none if the words are anything else.
+/// The options that are the words, in any order, each at most once; none if the words are anything else.
 pub fn read_options(words: &[String]) -> Option<Options>
     ensures { (options : Options) → AreOptions (map string_bytes words.now) options ↔ (result ≡ Some options) }
 {

@@ -1,4 +1,4 @@
-//! What stands behind the name of the collection: the places of a command, and the options behind them.
+//! What follows the name of the collection: the places of a command, and the options after them.
 
 ghost use Rattle.std.specs.Prelude.{◌≡◌, ◌↔◌, ◌≤◌, ◌++◌, ℕ, List, IsTrue, codes, length, take, map, string_bytes, MatchOption};
 ghost use Rattle.fallowtime_words.specs.Commands.{BeginsWith, HasPlaces, IsQuery};

@@ -19,8 +19,8 @@ pub struct Words<'a> {
     pub command: Command,
     /// The name of the collection; empty for `collections` and `backup`.
     pub coll: &'a str,
-    /// The words behind the name that are no options: DOC, ID KEY VALUE, QUERY, PATH. Each is taken by its place, also if
-    /// it begins with a hyphen, except a QUERY.
+    /// The words after the name that are no options: DOC, ID KEY VALUE, QUERY, PATH. Each is taken by its place, also
+    /// if it begins with a hyphen, except a QUERY.
     pub places: &'a [String],
     /// The options.
     pub options: Options,
@@ -35,7 +35,7 @@ pub enum Task<'a> {
     Session {
         /// The file of the store.
         file: &'a str,
-        /// For how many seconds the file is waited for if another process has it, if that is said.
+        /// How many seconds to wait for the file if another process has it, if that is given.
         seconds: Option<u64>,
     },
 }
@@ -47,7 +47,7 @@ fn is_file(word: &str) -> bool
     !matches!(word.as_bytes(), [b'-', ..])
 }
 
-/// The command that the first of the words names, and the words behind it.
+/// The command that the first of the words names, and the words after it.
 fn split_command(words: &[String]) -> Option<(Command, &[String])>
     ensures { MatchOption result
         ((command : Command) (behind : List (List ℕ)) → map string_bytes words.now ≡ command_name command ∷ behind → ⊥)
@@ -58,7 +58,7 @@ fn split_command(words: &[String]) -> Option<(Command, &[String])>
     Some((command, behind))
 }
 
-/// The name of the collection, empty for a command that has none, and the words behind it.
+/// The name of the collection, empty for a command that has none, and the words after it.
 fn split_name(command: Command, words: &[String]) -> Option<(&str, &[String])>
     ensures { MatchOption result
         ((coll : List ℕ) (rest : List (List ℕ)) → HasName command (map string_bytes words.now) coll rest → ⊥)
@@ -71,7 +71,7 @@ fn split_name(command: Command, words: &[String]) -> Option<(&str, &[String])>
     Some((name.as_str(), rest))
 }
 
-/// The line of a command over a file, of the words behind the command.
+/// The line of a command over a file, by the words after the command.
 fn read_line<'a>(file: &'a str, command: Command, words: &'a [String]) -> Option<Words<'a>>
     ensures { MatchOption result
         ((coll : List ℕ) (places : List (List ℕ)) (options : Options) → HasAll command (map string_bytes words.now) coll places options → ⊥)
@@ -89,8 +89,8 @@ fn read_line<'a>(file: &'a str, command: Command, words: &'a [String]) -> Option
     })
 }
 
-/// How long a session waits for its file, by the words behind it: for these seconds, or as it is by default. None if the
-/// words are anything but `--wait SECONDS` or nothing.
+/// How long a session waits for its file, by the words after it: for these seconds, or for the default. None if there
+/// are other words than `--wait SECONDS`.
 fn read_patience(words: &[String]) -> Option<Option<u64>>
     ensures { MatchOption result
         ((seconds : Option ℕ) → Wait (map string_bytes words.now) seconds → ⊥)
@@ -119,7 +119,7 @@ fn read_behind<'a>(file: &'a str, words: &'a [String]) -> Option<Task<'a>>
     }
 }
 
-/// Reads the words behind the program's name: a line of the table, or a session. None if they are neither. What the
+/// Reads the words after the program's name: a line of the table, or a session. None if they are neither. What the
 /// texts say isn't looked at.
 pub fn read_words(words: &[String]) -> Option<Task<'_>>
     ensures task { MatchOption result

@@ -24,6 +24,6 @@ pub record IsPutAndGot (n bytes : List ℕ) (id : Value) (got : List ℕ) (a : D
 abbrev pub PutsAndGets : List ℕ → List ℕ → Value → Result (Vec ℕ Global) StoreError → List TableRow → List TableRow → Type 0
 PutsAndGets n bytes id result docs after = IfOk result (λ v. (a : DocumentTable) → Represents docs a → IsPutAndGot n bytes id v.items a after)
 
--- a list of the name that was empty is that of the table a then, and has so many documents
+-- if the list of the name was empty, it is now that of the table a, and has `count` documents
 abbrev pub Copies : List ℕ → DocumentTable → Result ℕ StoreError → List TableRow → List TableRow → Type 0
 Copies n a result more last = IfOk result (λ count. (b : DocumentTable) → Represents more b → documents_of b n ≡ [] → Restored n (documents_of a n) count last)
