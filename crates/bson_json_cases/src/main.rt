@@ -1,11 +1,12 @@
-//! Cases of documents as Extended JSON with all doubles. Each line of standard input is a case: what to do, and with what. One
-//! line of standard output answers it. The files `stdin` and `stdout` hold the cases and their answers.
+//! Cases of documents as Extended JSON with all doubles. Each line of standard input is a case: what to do, and with
+//! what. One line of standard output is its answer. The files `stdin` and `stdout` hold the cases and their answers.
 //!
 //! - `read`, with a text of JSON: the bytes of the document that it reads as, in hexadecimal.
 //! - `value`, with a text of JSON: the canonical text of the value that it reads as.
-//! - `canonical`, `relaxed`, with bytes in hexadecimal: the text of the document that they hold, or the path to a reserved key.
+//! - `canonical`, `relaxed`, with bytes in hexadecimal: the text of the document that they hold, or the path to a
+//!   reserved key.
 //!
-//! A refusal is answered by the error's name, with what it holds behind it.
+//! The answer to a refusal is the error's name, followed by what it holds.
 #![tactic(auto)]
 
 use bson_json_read::{Error, Scratch, bson_of_text, document_of_text};

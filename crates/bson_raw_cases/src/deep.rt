@@ -27,7 +27,7 @@ const SCALARS: [&str; 10] = [
     "regex",
 ];
 
-/// How many bytes a level has beside those of the one inside.
+/// How many bytes a level has besides those of the one inside.
 fn own_bytes(kind: &str) -> u32 {
     if kind == "scopes" { 16 } else { 7 }
 }
@@ -77,7 +77,7 @@ fn note<T: fmt::Debug + Drop>(
     line.push_str(text.as_str())
 }
 
-/// The same of a call whose value is too long to be told.
+/// The same of a call whose value is too long to be shown.
 fn note_whether<T: Drop, E: fmt::Debug + Drop>(
     alloc: Global,
     line: &mut String,
@@ -125,7 +125,7 @@ fn of_bytes(alloc: Global, line: &mut String, bytes: &[u8]) -> Result<(), AllocE
     )
 }
 
-/// What calls return that write bytes behind others, and whether what they wrote ends in the bytes.
+/// What calls return that write bytes after others, and whether what they wrote ends in the bytes.
 fn of_writers(alloc: Global, line: &mut String, bytes: &[u8]) -> Result<(), AllocError> {
     note(alloc, line, "has_no_zero", has_no_zero(bytes))?;
     let mut out = Vec::new(alloc);

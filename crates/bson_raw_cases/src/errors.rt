@@ -16,7 +16,7 @@ fn texts<T: fmt::Display>(alloc: Global, errors: &[T]) -> Result<String, AllocEr
     Ok(texts)
 }
 
-/// The texts of each error of a type; where an error holds another one, that is a malformed value under the key k.
+/// The texts of each error of a type; if an error holds another one, that is a malformed value under the key k.
 pub fn answer(alloc: Global, word: &str) -> Result<String, AllocError> {
     match word {
         "ErrorKind" => texts(alloc, &KINDS),

@@ -18,7 +18,7 @@ pub fn answer(alloc: Global, word: &str, rest: &str) -> Result<String, AllocErro
     }
 }
 
-/// What the getters of numbers and moments answer under a key.
+/// What the getters of numbers and moments return under a key.
 pub fn number_under(
     alloc: Global,
     kind: &str,
@@ -37,7 +37,7 @@ pub fn number_under(
     }
 }
 
-/// What the getters of texts and parts answer under a key.
+/// What the getters of texts and parts return under a key.
 fn part_under(
     alloc: Global,
     kind: &str,
@@ -57,7 +57,7 @@ fn part_under(
     }
 }
 
-/// The text of why no boolean stands under a key.
+/// The text of why there is no boolean under a key.
 fn reason(alloc: Global, document: RawDocument<'_>, key: &str) -> Result<String, AllocError> {
     match document.get_bool(alloc, key) {
         Ok(_) => String::from_str(alloc, "a boolean"),
@@ -77,7 +77,7 @@ fn copied_binary(
     }
 }
 
-/// What the getters of numbers and moments answer at a place.
+/// What the getters of numbers and moments return at a place.
 pub fn number_at(
     alloc: Global,
     kind: &str,
@@ -96,7 +96,7 @@ pub fn number_at(
     }
 }
 
-/// What the getters of texts and parts answer at a place.
+/// What the getters of texts and parts return at a place.
 fn part_at(
     alloc: Global,
     kind: &str,

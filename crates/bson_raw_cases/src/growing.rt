@@ -1,4 +1,4 @@
-//! Calls that make buffers, and that put something last into them, where memory is refused at one allocation.
+//! Calls that make buffers, and that put something last into them, when memory is refused at one allocation.
 //!
 //! Each element of a document is put last into another one and into an array, each time into a copy that has no room
 //! left, and into a tree, as the page of `growing_trees` says; and the buffers are made of the document in every other
@@ -63,7 +63,7 @@ pub fn outcome_of(is_right: bool, right: Outcome) -> Outcome {
     if is_right { right } else { Outcome::Wrong }
 }
 
-/// Whether an error is want of memory and nothing more.
+/// Whether an error is out of memory and nothing more.
 pub fn is_want_of_memory(error: &Error) -> bool {
     *error == Error::new(None, ErrorKind::OutOfMemory)
 }
@@ -193,7 +193,7 @@ fn read(alloc: Global, document: RawDocument<'_>) -> Result<Document, Error> {
     }
 }
 
-/// What a writer gets of a tree. It has room for so many bytes, so that it takes no memory. Where the call is out of
+/// What a writer gets of a tree. It has room for so many bytes, so that it takes no memory. If the call is out of
 /// memory it gets nothing.
 fn sent(alloc: Global, tree: &Document, room: usize) -> Result<Vec<u8>, Error> {
     let mut sink = VecSink::new(alloc);

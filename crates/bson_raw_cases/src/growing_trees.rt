@@ -1,4 +1,4 @@
-//! Calls that put something into a tree, where memory is refused at one allocation.
+//! Calls that put something into a tree, when memory is refused at one allocation.
 //!
 //! Each element of a document is put under its key into a copy of a tree that has those before it, by `insert` and by
 //! the `or_insert` of an entry. A call that is out of memory has to return just that and to leave the tree as it was;

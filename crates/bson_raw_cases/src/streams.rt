@@ -47,7 +47,7 @@ fn read_interrupted(alloc: Global, calls: u64, bytes: &[u8]) -> Result<String, A
     told(alloc, (answer, at, reader.failed))
 }
 
-/// What a writer of all bytes answers, and what it has taken.
+/// What a writer of all bytes returns, and what it has taken.
 pub fn send(alloc: Global, document: &Document) -> Result<String, AllocError> {
     let mut sink = VecSink::new(alloc);
     let answer = to_writer(alloc, document, &mut sink);
@@ -55,7 +55,7 @@ pub fn send(alloc: Global, document: &Document) -> Result<String, AllocError> {
     format!(in alloc; "{answer:?} [{digits}]")
 }
 
-/// What a writer of so many bytes answers, and what it has taken.
+/// What a writer of so many bytes returns, and what it has taken.
 pub fn send_slowly(alloc: Global, room: u64, document: &Document) -> Result<String, AllocError> {
     let mut sink = FaultySink::new(alloc, room);
     let answer = to_writer(alloc, document, &mut sink);
@@ -63,7 +63,7 @@ pub fn send_slowly(alloc: Global, room: u64, document: &Document) -> Result<Stri
     format!(in alloc; "{answer:?} [{digits}]")
 }
 
-/// What a writer of std answers that takes no bytes, and how many of its calls failed.
+/// What a writer of std returns that takes no bytes, and how many of its calls failed.
 pub fn send_nowhere(alloc: Global, document: &Document) -> Result<String, AllocError> {
     let mut sink = Counted::new(Full);
     let answer = to_writer(alloc, document, &mut sink);

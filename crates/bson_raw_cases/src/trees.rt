@@ -14,7 +14,7 @@ fn value_of(alloc: Global, text: &str) -> Option<Bson> {
     }
 }
 
-/// The answer to a case of a value, and of what may stand in front of it.
+/// The answer to a case of a value, and of what may come before it.
 pub fn answer(alloc: Global, word: &str, rest: &str) -> Result<String, AllocError> {
     let (first, text) = match word {
         "append" | "push" | "send_slowly" => rest.split_once(' ').unwrap_or((rest, "")),
@@ -115,7 +115,7 @@ fn append_one(
     buffer.append(key, RawBson::from_bson(alloc, value)?)
 }
 
-/// What each `append` answers, and the bytes that the buffer has then.
+/// What each `append` returns, and the bytes that the buffer has then.
 fn append(alloc: Global, digits: &str, document: Document) -> Result<String, AllocError> {
     let mut buffer = match begun(alloc, digits) {
         Ok(buffer) => buffer,
@@ -151,7 +151,7 @@ fn push_one(buffer: &mut RawArrayBuf, alloc: Global, value: Bson) -> Result<(), 
     buffer.push(RawBson::from_bson(alloc, value)?)
 }
 
-/// What each `push` answers, and the bytes that the buffer has then.
+/// What each `push` returns, and the bytes that the buffer has then.
 fn push(alloc: Global, digits: &str, items: Vec<Bson>) -> Result<String, AllocError> {
     let mut buffer = match array_begun(alloc, digits) {
         Ok(buffer) => buffer,

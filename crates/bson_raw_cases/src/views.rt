@@ -47,7 +47,7 @@ fn walk(alloc: Global, document: RawDocument<'_>) -> Result<String, AllocError> 
     members(alloc, head.as_str(), document.iter(alloc))
 }
 
-/// Key and value of each item, or its fault, behind what is told first.
+/// Key and value of each item, or its fault, after what comes first.
 pub fn members(alloc: Global, first: &str, items: Iter<'_>) -> Result<String, AllocError> {
     let mut line = String::from_str(alloc, first)?;
     for item in items {
@@ -56,7 +56,7 @@ pub fn members(alloc: Global, first: &str, items: Iter<'_>) -> Result<String, Al
     Ok(line)
 }
 
-/// The value of each item, or its fault, behind what is told first.
+/// The value of each item, or its fault, after what comes first.
 pub fn values(alloc: Global, first: &str, items: RawArrayIter<'_>) -> Result<String, AllocError> {
     let mut line = String::from_str(alloc, first)?;
     for item in items {
@@ -65,7 +65,7 @@ pub fn values(alloc: Global, first: &str, items: RawArrayIter<'_>) -> Result<Str
     Ok(line)
 }
 
-/// Key and kind of each element, or its fault, behind what is told first.
+/// Key and kind of each element, or its fault, after what comes first.
 pub fn elements(alloc: Global, first: &str, items: RawIter<'_>) -> Result<String, AllocError> {
     let mut line = String::from_str(alloc, first)?;
     for item in items {

@@ -1,5 +1,5 @@
-//! Tests of bson_base, bson_model and bson_raw: what no line of a program of cases can show. Cases whose answers are texts are lines
-//! of bson_tree_cases and bson_raw_cases.
+//! Tests of bson_base, bson_model and bson_raw: what no line of a program of cases can show. Cases whose answers are
+//! texts are lines of bson_tree_cases and bson_raw_cases.
 #![tactic(auto)]
 
 #[cfg(test)]

@@ -1,5 +1,5 @@
-//! Vectors of numbers: copies, and what is no vector (the vector specification of the BSON drivers). What bytes hold is told by lines of
-//! bson_tree_cases.
+//! Vectors of numbers: copies, and what is no vector (the vector specification of the BSON drivers). What bytes hold is
+//! tested by lines of bson_tree_cases.
 
 use bson_base::binary::{Error, PackedBitVector, Vector};
 use bson_base::{Binary, BinarySubtype};

@@ -21,7 +21,7 @@ pub fn tree(alloc: Global, word: &str, parts: &str) -> Result<String, AllocError
     }
 }
 
-/// The text of a document or a code with scope, which print their own where they are no value.
+/// The text of a document or a code with scope, which print their own if they are no value.
 fn show_alone(alloc: Global, value: &Bson) -> Result<String, AllocError> {
     match value {
         Bson::Document(document) => document.to_string(alloc),

@@ -4,7 +4,7 @@ use crate::orders;
 use bson_model::{Bson, Document};
 use std::alloc::{AllocError, Global};
 
-/// The number that a value is, where it is an Int32.
+/// The number that a value is, if it is an Int32.
 fn number_of(value: Option<Bson>) -> Option<i32> {
     match &value {
         Some(value) => value.as_i32(),
@@ -12,25 +12,25 @@ fn number_of(value: Option<Bson>) -> Option<i32> {
     }
 }
 
-/// Puts a number under a key. The number that stood there.
+/// Puts a number under a key. Returns the number that was there.
 fn insert(document: &mut Document, key: String, number: i32) -> Result<Option<i32>, AllocError> {
     Ok(number_of(document.insert(key, Bson::Int32(number))?))
 }
 
-/// Writes a number where an entry lends a value, after `or_insert` put 7 under an absent key.
+/// Writes a number to the value that an entry lends, after `or_insert` put 7 under an absent key.
 fn or_insert(document: &mut Document, key: String, number: i32) -> Result<(), AllocError> {
     let lent = document.entry(key).or_insert(Bson::Int32(7))?;
     *lent = Bson::Int32(number);
     Ok(())
 }
 
-/// Puts a number where a key is absent.
+/// Puts a number if a key is absent.
 fn or_insert_with(document: &mut Document, key: String, number: i32) -> Result<(), AllocError> {
     let _ = document.entry(key).or_insert_with(|| Bson::Int32(number))?;
     Ok(())
 }
 
-/// Writes a number where a key lends a value. Whether it does.
+/// Writes a number to the value that a key lends. Whether it lends one.
 fn write_by_key(document: &mut Document, key: &str, number: i32) -> bool {
     match document.get_mut(key) {
         Some(value) => {
@@ -41,7 +41,7 @@ fn write_by_key(document: &mut Document, key: &str, number: i32) -> bool {
     }
 }
 
-/// Writes a number where a place lends a value. Whether it does.
+/// Writes a number to the value that a place lends. Whether it lends one.
 fn write_by_place(document: &mut Document, place: &str, number: i32) -> bool {
     match document.get_index_mut(place.parse::<usize>().unwrap_or(usize::MAX)) {
         Some(value) => {
@@ -58,7 +58,7 @@ fn push(pairs: &mut Vec<(String, Bson)>, key: String, number: i32) -> Result<(),
     Ok(())
 }
 
-/// Pairs that are told by a key and a number each.
+/// Pairs that are given by a key and a number each.
 fn pairs_of(alloc: Global, texts: &str) -> Result<Vec<(String, Bson)>, AllocError> {
     let mut pairs = Vec::new(alloc);
     for text in texts.split(';') {
@@ -75,7 +75,7 @@ fn extend(alloc: Global, document: &mut Document, pair: &str) -> Result<String, 
     document.len().to_string(alloc)
 }
 
-/// Does a step that takes its key along, and tells what it answers.
+/// Does a step that takes its key along, and shows what it returns.
 fn step_with_key(
     document: &mut Document,
     alloc: Global,
@@ -109,7 +109,7 @@ fn clear(alloc: Global, document: &mut Document) -> Result<String, AllocError> {
     format!(in alloc; "{was_empty} {is_empty}")
 }
 
-/// Does a step, and tells what it answers.
+/// Does a step, and shows what it returns.
 fn step(
     document: &mut Document,
     alloc: Global,
@@ -132,7 +132,7 @@ fn step(
     }
 }
 
-/// Does the step that a text tells by a word, a key and maybe a number, and adds what it answers.
+/// Does the step that a text gives by a word, a key and maybe a number, and adds what it returns.
 fn add_step(
     told: &mut String,
     alloc: Global,
@@ -163,7 +163,7 @@ fn add_steps(
     Ok(())
 }
 
-/// What each step answers on a document that begins empty, and the document at the end.
+/// What each step returns on a document that begins empty, and the document at the end.
 pub fn edit(alloc: Global, steps: &str) -> Result<String, AllocError> {
     let mut told = String::new(alloc);
     let mut document = Document::new(alloc);

@@ -7,7 +7,7 @@ use std::fmt::Display;
 
 type Told = Option<ValueAccessError>;
 
-/// Adds what a getter found, behind its name, and nothing where it refused.
+/// Adds what a getter found, after its name, and nothing if it refused.
 fn add<T: Display + Drop>(
     told: &mut String,
     alloc: Global,
@@ -53,7 +53,7 @@ fn errors_of_reads(document: &Document, key: &str) -> [Told; 12] {
     ]
 }
 
-/// Adds what the getters of single values find. A double is told by its pattern, as a number.
+/// Adds what the getters of single values find. A double is shown by its pattern, as a number.
 fn add_single(
     told: &mut String,
     alloc: Global,
@@ -71,7 +71,7 @@ fn add_single(
     add(told, alloc, "get_datetime", document.get_datetime(key))
 }
 
-/// Adds what the getters of texts and lists find. An array, a document and bytes are told by their length.
+/// Adds what the getters of texts and lists find. An array, a document and bytes are shown by their length.
 fn add_long(
     told: &mut String,
     alloc: Global,
@@ -114,7 +114,7 @@ fn errors_of_lending(document: &mut Document, key: &str) -> [Told; 12] {
     ]
 }
 
-/// Writes where a number is lent: the smallest double over zero, `false`, 1 and 2.
+/// Writes to what is lent, if it is a number: the smallest double over zero, `false`, 1 and 2.
 fn write_numbers(document: &mut Document, key: &str) {
     if let Ok(lent) = document.get_f64_mut(key) {
         *lent = DoubleBits(1);
@@ -130,7 +130,7 @@ fn write_numbers(document: &mut Document, key: &str) {
     }
 }
 
-/// Writes where a moment, an id or a decimal is lent: the increment 1, the moment 5, and bytes of 1.
+/// Writes to what is lent, if it is a moment, an id or a decimal: the increment 1, the moment 5, and bytes of 1.
 fn write_moments(document: &mut Document, key: &str) {
     if let Ok(lent) = document.get_timestamp_mut(key) {
         lent.increment = 1;
@@ -162,7 +162,7 @@ fn clear(document: &mut Document, key: &str) {
     }
 }
 
-/// How many of the getters that lend refuse a key with each error, and the document once what is lent is written to.
+/// How many of the getters that lend refuse a key with each error, and the document after what is lent was written to.
 pub fn lend(alloc: Global, document: &mut Document, key: &str) -> Result<String, AllocError> {
     let refused = refusals(alloc, &errors_of_lending(document, key))?;
     write_numbers(document, key);

@@ -42,7 +42,7 @@ fn members(alloc: Global, text: &str) -> Option<Map<String, Value>> {
     }
 }
 
-/// What a JSON object reads as where it is given as a map.
+/// What a JSON object reads as if it is given as a map.
 pub fn read_map(alloc: Global, text: &str) -> Result<String, AllocError> {
     let Some(members) = members(alloc, text) else {
         return String::from_str(alloc, "no JSON object");
@@ -50,7 +50,7 @@ pub fn read_map(alloc: Global, text: &str) -> Result<String, AllocError> {
     told(alloc, Bson::try_from_map(alloc, members))
 }
 
-/// What a JSON object reads as where it is to be a document.
+/// What a JSON object reads as if it is to be a document.
 pub fn read_document(alloc: Global, text: &str) -> Result<String, AllocError> {
     let Some(members) = members(alloc, text) else {
         return String::from_str(alloc, "no JSON object");
@@ -102,8 +102,9 @@ fn around(alloc: Global, kind: &str, tree: Value) -> Result<Value, AllocError> {
 
 /// A tree of so many levels, the last of which is an empty object.
 ///
-/// The cases go to 10000. What reads a tree takes it and drops it, and the drop of the kit's type calls itself once a level: on a
-/// stack of 8 MB some 37300 levels fit. A deeper tree could be taken apart here level by level, but not behind a call that took it.
+/// The cases go to 10000. What reads a tree takes it and drops it, and the drop of the kit's type calls itself once a
+/// level: on a stack of 8 MB some 37300 levels fit. A deeper tree could be taken apart here level by level, but not
+/// after a call that took it.
 fn nested(alloc: Global, kind: &str, levels: u32) -> Result<Value, AllocError> {
     let mut tree = Value::Object(Map::new(alloc));
     for _ in 1..levels {

@@ -1,10 +1,10 @@
-//! What a value answers, lends, and is equal to.
+//! What a value returns, lends, and is equal to.
 
 use bson_model::{Bson, DateTime, Document, ObjectId, laws};
 use std::alloc::{AllocError, Global};
 use std::hash::{BuildHasher, BuildHasherDefault, DefaultHasher};
 
-/// Adds a name where a question has an answer.
+/// Adds the name of a method if it returned something.
 fn add(told: &mut String, name: &str, has_answer: bool) -> Result<(), AllocError> {
     if has_answer {
         told.push_str(name)?;
@@ -12,7 +12,7 @@ fn add(told: &mut String, name: &str, has_answer: bool) -> Result<(), AllocError
     Ok(())
 }
 
-/// Adds the questions that a value answers, by the names of their methods.
+/// Adds the names of the methods that return something of a value.
 fn add_answers(told: &mut String, value: &Bson) -> Result<(), AllocError> {
     add(told, " as_f64", value.as_f64().is_some())?;
     add(told, " as_str", value.as_str().is_some())?;
@@ -29,7 +29,7 @@ fn add_answers(told: &mut String, value: &Bson) -> Result<(), AllocError> {
     add(told, " as_db_pointer", value.as_db_pointer().is_some())
 }
 
-/// The kind of a value, and the questions that it answers.
+/// The kind of a value, and the methods that return something of it.
 pub fn kind(alloc: Global, value: &Bson) -> Result<String, AllocError> {
     let mut told = format!(in alloc; "{:?}", value.element_type())?;
     add_answers(&mut told, value)?;
@@ -66,7 +66,7 @@ fn clear(value: &mut Bson) {
     }
 }
 
-/// Writes twelve bytes of 1, or the moment 1, where a value lends an object id or a moment.
+/// Writes twelve bytes of 1, or the moment 1, if a value lends an object id or a moment.
 fn write(value: &mut Bson) {
     if let Some(lent) = value.as_object_id_mut() {
         *lent = ObjectId::from_bytes([1; 12]);
@@ -76,7 +76,7 @@ fn write(value: &mut Bson) {
     }
 }
 
-/// The parts that a value lends, and the value once they are written to.
+/// The parts that a value lends, and the value after they were written to.
 pub fn overwrite(alloc: Global, value: &mut Bson) -> Result<String, AllocError> {
     let mut told = String::new(alloc);
     add_lent(&mut told, value)?;

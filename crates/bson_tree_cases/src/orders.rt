@@ -108,14 +108,14 @@ fn put_descending(document: &mut Document, alloc: Global) -> Result<(), AllocErr
     Ok(())
 }
 
-/// Whether a key stands at a place, found by no more than ten comparisons.
+/// Whether a key is at a place, found by at most ten comparisons.
 fn is_at(document: &Document, key: String, wanted: usize) -> bool {
     let (place, compared) = document.find_index(key.as_str());
     place == Some(wanted) && compared <= 10
 }
 
-/// How many of a thousand keys that were put in descending order, from the first on, are found at their places by no more than
-/// ten comparisons.
+/// How many of a thousand keys that were put in descending order, from the first on, are found at their places by at
+/// most ten comparisons.
 fn found_at_places(alloc: Global, document: &Document) -> Result<u32, AllocError> {
     for number in 0..1000 {
         if !is_at(document, key_of(alloc, number)?, 999 - number as usize) {
@@ -170,7 +170,7 @@ pub fn at_once(alloc: Global, count: &str) -> Result<String, AllocError> {
     is_as_one_by_one(alloc, &at_once, count)?.to_string(alloc)
 }
 
-/// Whether a key comes after the one before it, where there is one.
+/// Whether a key comes after the one before it, if there is one.
 fn comes_after(before: Option<&String>, key: &String) -> bool {
     match before {
         Some(before) => before < key,

@@ -8,7 +8,7 @@ use std::alloc::{AllocError, Global};
 use std::fmt;
 use std::time::Duration;
 
-/// What a word about scalars makes of the rest of its line, or None where it is no such word.
+/// What a word about scalars makes of the rest of its line, or None if it is no such word.
 pub fn answer(alloc: Global, word: &str, rest: &str) -> Result<Option<String>, AllocError> {
     let told = match word {
         "decimal" => decimal(alloc, rest),
@@ -177,7 +177,7 @@ fn tag(alloc: Global, digits: &str) -> Result<String, AllocError> {
     }
 }
 
-/// A case of two moments, or of a moment and milliseconds, all told by milliseconds.
+/// A case of two moments, or of a moment and milliseconds, all given in milliseconds.
 fn between_moments(alloc: Global, word: &str, rest: &str) -> Result<Option<String>, AllocError> {
     let Some((first, second)) = rest.split_once(' ') else {
         return Ok(None);

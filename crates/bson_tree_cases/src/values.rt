@@ -1,4 +1,5 @@
-//! Values as a line tells them: parts with `;` between, each a word and what belongs to it. The crate's page has the words.
+//! Values as a line gives them: parts with `;` between, each a word and what belongs to it. The crate's page has the
+//! words.
 
 use bson_model::{
     Binary, BinarySubtype, Bson, DateTime, DbPointer, Decimal128, Document, DoubleBits,
@@ -7,7 +8,7 @@ use bson_model::{
 use hex::FromHex;
 use std::alloc::{AllocError, Global};
 
-/// The value that the parts make, or None where they make none or more than one.
+/// The value that the parts make, or None if they make none or more than one.
 pub fn value_of(alloc: Global, parts: &str) -> Result<Option<Bson>, AllocError> {
     let mut made = Vec::new(alloc);
     for part in parts.split(';') {
@@ -167,7 +168,7 @@ fn of_two(
     }
 }
 
-/// Pattern and options as they are told, also where the options stand in another order than they are kept in.
+/// Pattern and options as they are given, also if the options are in another order than they are kept in.
 fn regex(alloc: Global, pattern: &str, options: &str) -> Result<Option<Bson>, AllocError> {
     let pattern = String::from_str(alloc, pattern)?;
     let options = String::from_str(alloc, options)?;

@@ -1,4 +1,4 @@
-//! Texts where a width and a fill or the indented form are asked for, which are to change nothing.
+//! Texts when a width and a fill or the indented form are asked for, which are to change nothing.
 
 use bson_model::Bson;
 use std::alloc::{AllocError, Global};

@@ -36,7 +36,7 @@ fn answer_lines<S: Alter + Drop>(
     Ok(())
 }
 
-/// Tells whether the database does a statement of SQL.
+/// Reports whether the database does a statement of SQL.
 fn tell_done<S: Alter>(
     connection: &mut Connection<S>,
     line: &str,
@@ -47,7 +47,7 @@ fn tell_done<S: Alter>(
     told.push_str(if is_done { "done\n" } else { "refused\n" })
 }
 
-/// Tells how many rows the last statement that writes has changed.
+/// Reports how many rows the last statement that writes has changed.
 fn tell_changes(alloc: Global, changes: usize, told: &mut String) -> Result<(), AllocError> {
     told.push_str((changes as u64).to_string(alloc)?.as_str())?;
     told.push_str("\n")
@@ -80,7 +80,7 @@ fn prepare<S: Alter>(
     Ok(())
 }
 
-/// Tells why a store isn't opened.
+/// Reports why a store isn't opened.
 fn tell_unopened(alloc: Global, error: StoreError, told: &mut String) -> Result<(), AllocError> {
     tell_refusal(alloc, error, told)?;
     told.push_str("\n")
@@ -102,7 +102,7 @@ fn answer_part<S: Alter + Drop>(
     }
 }
 
-/// Answers the lines behind the `close` of a part.
+/// Answers the lines after the `close` of a part.
 fn answer_behind<S: Alter>(
     alloc: Global,
     connection: &mut Connection<S>,

@@ -1,14 +1,14 @@
-//! Bytes as a line tells them, and as an answer shows them.
+//! Bytes as a line gives them, and as an answer shows them.
 
 use std::alloc::{AllocError, Global};
 
 /// How many bytes the empty document has.
 const EMPTY: u32 = 5;
 
-/// How many bytes a document with one document under an empty key has beside that: a length, a tag, two times 00.
+/// How many bytes a document with one document under an empty key has besides that: a length, a tag, two times 00.
 const LEVEL: u32 = 7;
 
-/// The bytes that a text tells. None where it tells none, or where memory is wanted.
+/// The bytes that a text gives. None if it gives none, or if memory runs out.
 pub fn told_by(alloc: Global, text: &str) -> Option<Vec<u8>> {
     if let Some(lines) = text.strip_prefix("lines:") {
         return bytes_of_lines(alloc, lines).ok();
@@ -23,7 +23,7 @@ pub fn told_by(alloc: Global, text: &str) -> Option<Vec<u8>> {
     Some(bytes)
 }
 
-/// The text, with a line feed in the place of each bar.
+/// The text, with a line feed instead of each bar.
 fn bytes_of_lines(alloc: Global, text: &str) -> Result<Vec<u8>, AllocError> {
     let lines = text.replace(alloc, '|', "\n")?;
     Vec::from_slice(alloc, lines.as_bytes())
@@ -44,7 +44,7 @@ fn bytes_of_levels(alloc: Global, levels: u32) -> Result<Vec<u8>, AllocError> {
     Ok(bytes)
 }
 
-/// Puts bytes behind the others: those of hexadecimal digits, as often as stands before a star.
+/// Appends bytes to the others: those of hexadecimal digits, as often as the number before a star says.
 fn put_part(alloc: Global, bytes: &mut Vec<u8>, part: &str) -> Option<()> {
     let (times, digits) = part.split_once('*').unwrap_or(("1", part));
     let times = times.parse::<u32>().ok()?;
@@ -52,7 +52,7 @@ fn put_part(alloc: Global, bytes: &mut Vec<u8>, part: &str) -> Option<()> {
     put_again(bytes, &again, times).ok()
 }
 
-/// Puts the same bytes behind the others, so often.
+/// Appends the same bytes to the others, so often.
 fn put_again(bytes: &mut Vec<u8>, again: &[u8], times: u32) -> Result<(), AllocError> {
     for _ in 0..times {
         bytes.extend_from_slice(again)?;
@@ -60,7 +60,7 @@ fn put_again(bytes: &mut Vec<u8>, again: &[u8], times: u32) -> Result<(), AllocE
     Ok(())
 }
 
-/// The text of printed bytes, with `\n` in the place of each line feed.
+/// The text of printed bytes, with `\n` instead of each line feed.
 pub fn shown(alloc: Global, printed: &[u8]) -> Result<String, AllocError> {
     match str::from_utf8(printed) {
         Ok(text) => text.replace(alloc, '\n', "\\n"),

@@ -1,4 +1,4 @@
-//! Commands as a line tells them: a word, the name of the collection and what belongs to them, with bars between.
+//! Commands as a line gives them: a word, the name of the collection and what belongs to them, with bars between.
 
 use crate::{bytes, trees};
 use bson_store::extjson::Mode;
@@ -7,17 +7,17 @@ use cli_words::{read_filter, read_id};
 use serde_json::Value;
 use std::alloc::Global;
 
-/// What stands before the first bar, and what behind it.
+/// What is before the first bar, and what is after it.
 fn cut(text: &str) -> (&str, &str) {
     text.split_once('|').unwrap_or((text, ""))
 }
 
-/// The name that a text tells, with a 00 in the place of each `\0`.
+/// The name that a text gives, with a 00 instead of each `\0`.
 fn name_of(alloc: Global, text: &str) -> Option<String> {
     text.replace(alloc, "\\0", "\0").ok()
 }
 
-/// The command that a text tells. None where it tells none, or where memory is wanted.
+/// The command that a text gives. None if it gives none, or if memory runs out.
 pub fn command_of(alloc: Global, text: &str) -> Option<Command> {
     let (word, rest) = cut(text);
     let (name, rest) = cut(rest);
@@ -68,7 +68,7 @@ fn named(alloc: Global, name: &str, id: &str) -> Option<(String, Bson)> {
     Some((name_of(alloc, name)?, id))
 }
 
-/// A command with an id, and with nothing behind it or with the word `relaxed`.
+/// A command with an id, and with nothing after it or with the word `relaxed`.
 fn with_id(alloc: Global, word: &str, name: &str, rest: &str) -> Option<Command> {
     let (id, form) = cut(rest);
     let mode = match form {
@@ -111,7 +111,7 @@ fn set_of(alloc: Global, name: &str, rest: &str) -> Option<Command> {
     })
 }
 
-/// A command with a filter, and one that projects with the keys behind it.
+/// A command with a filter, and one that projects with the keys after it.
 fn with_filter(alloc: Global, word: &str, name: &str, rest: &str) -> Option<Command> {
     let (filter, keys) = cut(rest);
     let name = name_of(alloc, name)?;

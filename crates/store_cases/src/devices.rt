@@ -8,7 +8,7 @@ use bson_store::{Reply, Store};
 use sqlite::Alter;
 use std::alloc::{AllocError, Global};
 
-/// Tells a reply, and how often the device failed.
+/// Shows a reply, and how often the device failed.
 fn told(alloc: Global, reply: Reply, failed: u64) -> Result<String, AllocError> {
     let mut told = String::new(alloc);
     tell(alloc, &reply, &mut told)?;
@@ -16,7 +16,7 @@ fn told(alloc: Global, reply: Reply, failed: u64) -> Result<String, AllocError> 
     Ok(told)
 }
 
-/// What `import` into a collection answers of bytes from the reader.
+/// What `import` into a collection returns for bytes from the reader.
 fn imported<S: Alter + Drop>(
     alloc: Global,
     store: &mut Store<S>,
@@ -31,8 +31,8 @@ fn imported<S: Alter + Drop>(
     told(alloc, reply, reader.failed)
 }
 
-/// The answer to a collection, a number of calls and bytes with bars between them: what comes of an import from a reader that is
-/// interrupted behind so many calls.
+/// The answer to a collection, a number of calls and bytes with bars between them: what comes of an import from a
+/// reader that is interrupted after so many calls.
 pub fn import_interrupted<S: Alter + Drop>(
     alloc: Global,
     store: &mut Store<S>,

@@ -1,7 +1,7 @@
-//! The program's words and its pipe, where memory is refused at one allocation.
+//! The program's words and its pipe, when memory is refused at one allocation.
 //!
 //! Some lines of words, each over a store of its own with two documents, and `pipe`. One that is out of memory has to
-//! have status 1, to print no more than a beginning of what it prints else, to say `refused: Memory`, and to leave the
+//! have status 1, to print at most a prefix of what it prints otherwise, to say `refused: Memory`, and to leave the
 //! documents as they were; once more it has to do what it is for. Before that, memory is taken as often as the line
 //! says: under `rt try --fail-alloc N` that number decides which allocation is refused, so that all can be tried with
 //! one build (`.ci/refused_memory`).
@@ -13,7 +13,7 @@ use bson_store::Store;
 use sqlite::{Alter, Connection};
 use std::alloc::{AllocError, Global};
 
-/// A line of words, what it prints, and the documents behind it.
+/// A line of words, what it prints, and the documents after it.
 struct Task {
     line: &'static str,
     /// In the form of the page of `words`.
@@ -88,7 +88,7 @@ enum Outcome {
     Wrong,
 }
 
-/// What came of the lines, once memory was taken so often. What tells no number is 0.
+/// What came of the lines, after memory was taken so often. A text that is no number counts as 0.
 pub fn answer(alloc: Global, times: &str) -> &'static str {
     if !is_allocated(alloc, times.parse::<usize>().unwrap_or(0)) {
         return TOO_EARLY;
@@ -163,7 +163,7 @@ fn is_done(told: &str, task: &Task) -> bool {
     }
 }
 
-/// Whether a line was out of memory, and printed no more than a beginning.
+/// Whether a line was out of memory, and printed at most a prefix.
 fn is_refused(told: &str, task: &Task) -> bool {
     let Some(told) = told.strip_suffix(" told refused: Memory\\n") else {
         return false;

@@ -1,8 +1,8 @@
-//! How far an export gets where memory is refused.
+//! How far an export gets when memory is refused.
 //!
 //! A store in memory is filled, memory is taken as often as the line says, and then the store is exported to a writer
 //! that takes no memory. Under `rt try --fail-alloc N` that number decides which allocation of the export is refused,
-//! so that all of them can be tried with one build; `.ci/refused_memory` does so. So no memory is taken here behind the
+//! so that all of them can be tried with one build; `.ci/refused_memory` does so. So no memory is taken here after the
 //! export.
 
 use crate::counting::Counting;
@@ -22,10 +22,11 @@ const BEGINNING: [u8; 9] = [14, 0, 0, 0, 16, 95, 105, 100, 0];
 /// How long all of them are.
 const ALL: u64 = BODY * DOCUMENTS as u64;
 
-/// What is told where memory was refused before the export.
+/// What is reported if memory was refused before the export.
 const TOO_EARLY: &str = "refused before the export";
 
-/// How far the export gets, once memory was taken so often after the store was filled. What tells no number is 0.
+/// How far the export gets, if memory was taken so often after the store was filled. A text that is no number counts as
+/// 0.
 pub fn answer(alloc: Global, times: &str) -> &'static str {
     let times = times.parse::<usize>().unwrap_or(0);
     match Connection::open_in_memory(alloc) {
@@ -85,7 +86,7 @@ pub fn is_allocated(alloc: Global, times: usize) -> bool {
     true
 }
 
-/// What an export answers, and how many bytes went out before.
+/// What an export returns, and how many bytes were written before.
 fn exported<S: Alter + Drop>(store: &mut Store<S>) -> &'static str {
     let mut writer = Counting { bytes: 0 };
     match store.export("c", &mut writer) {
@@ -95,7 +96,7 @@ fn exported<S: Alter + Drop>(store: &mut Store<S>) -> &'static str {
     }
 }
 
-/// A refusal behind so many bytes.
+/// A refusal after so many bytes.
 fn refused(kind: ErrorKind, bytes: u64) -> &'static str {
     match kind {
         ErrorKind::Memory => {

@@ -7,7 +7,7 @@
 //! refused. Which limit a command needs is the database's own matter.
 //!
 //! The same is done with an opening over two rows under keys from before, which it replaces: a row says what the
-//! opening replied under the limit, and under which keys the rows are behind it, and then the same without a limit. One
+//! opening replied under the limit, and under which keys the rows are after it, and then the same without a limit. One
 //! that is refused leaves the old keys.
 
 use crate::lists;
@@ -18,7 +18,7 @@ use bson_store::Store;
 use sqlite::{Alter, Connection};
 use std::alloc::{AllocError, Global};
 
-/// Behind the greatest limit that is tried.
+/// Above the greatest limit that is tried.
 const MOST: u64 = 1000;
 
 /// The rows of all limits, of commands or of an opening alone. One that is that of the limit before it is left out.
@@ -149,7 +149,7 @@ fn opened_alone<S: Alter + Drop>(
     }
 }
 
-/// Tells under which keys the rows are.
+/// Reports under which keys the rows are.
 fn tell_keys<S: Alter>(
     alloc: Global,
     connection: &mut Connection<S>,

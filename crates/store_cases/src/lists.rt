@@ -6,7 +6,7 @@ use bson_store::{Command, Reply, Store, StoreError, run};
 use sqlite::Alter;
 use std::alloc::{AllocError, Global};
 
-/// The commands of a line. None where one of them is none, or where memory is wanted.
+/// The commands of a line. None if one of them is none, or if memory runs out.
 fn commands_of(alloc: Global, line: &str) -> Option<Vec<Command>> {
     let mut commands = Vec::new(alloc);
     for text in line.split(';') {
@@ -15,7 +15,7 @@ fn commands_of(alloc: Global, line: &str) -> Option<Vec<Command>> {
     Some(commands)
 }
 
-/// Tells replies, with `; ` between them.
+/// Shows replies, with `; ` between them.
 fn tell_all(alloc: Global, replies: &[Reply]) -> Result<String, AllocError> {
     let mut told = String::new(alloc);
     for reply in replies {

@@ -1,9 +1,10 @@
-//! A list of commands where memory is refused at one allocation.
+//! A list of commands when memory is refused at one allocation.
 //!
-//! The list has every command of `run`. It is run over a new store in memory, and then, over another one, without the commands that
-//! replied `Memory`: the other replies and the documents in the end have to be the same. Where `run` itself returns that it is out of
-//! memory, nothing may have changed. Before that, memory is taken as often as the line says: under `rt try --fail-alloc N` that number
-//! decides which allocation is refused, so that all can be tried with one build (`.ci/refused_memory`).
+//! The list has every command of `run`. It is run over a new store in memory, and then, over another one, without the
+//! commands that replied `Memory`: the other replies and the documents in the end have to be the same. If `run` itself
+//! returns that it is out of memory, nothing may have changed. Before that, memory is taken as often as the line says:
+//! under `rt try --fail-alloc N` that number decides which allocation is refused, so that all can be tried with one
+//! build (`.ci/refused_memory`).
 
 use crate::commands::command_of;
 use crate::exporting::is_allocated;
@@ -38,18 +39,18 @@ const COMMANDS: [&str; 22] = [
     "remove|c|1",
 ];
 
-/// What is told if memory was refused before the line's own calls, and if it was refused to what is around them.
+/// What is reported if memory was refused before the line's own calls, and if it was refused to what is around them.
 pub const TOO_EARLY: &str = "refused before the list";
 
 pub const ELSEWHERE: &str = "well: memory was refused elsewhere";
 
-/// What is told if a command was out of memory, and nothing else.
+/// What is reported if a command was out of memory, and nothing else.
 pub const SOME: &str = "well: some command was out of memory";
 
 /// What the documents in the end are asked by.
 const STATE: [&str; 3] = ["collections", "export|c", "export|d"];
 
-/// What came of the list, once memory was taken so often. What tells no number is 0.
+/// What came of the list, after memory was taken so often. A text that is no number counts as 0.
 pub fn answer(alloc: Global, times: &str) -> &'static str {
     if !is_allocated(alloc, times.parse::<usize>().unwrap_or(0)) {
         return TOO_EARLY;
@@ -60,8 +61,8 @@ pub fn answer(alloc: Global, times: &str) -> &'static str {
     }
 }
 
-/// Runs the list, and then what of it wasn't out of memory, and compares. Out of memory where nothing can be compared: the refused
-/// allocation belongs to the second store, or to a text.
+/// Runs the list, and then what of it wasn't out of memory, and compares. Out of memory if nothing can be compared: the
+/// refused allocation belongs to the second store, or to a text.
 fn compared(alloc: Global) -> Result<&'static str, AllocError> {
     let mut kept = Vec::new(alloc);
     let first = told_of_new(alloc, &COMMANDS, &mut kept)?;
@@ -139,7 +140,7 @@ fn commands_of(alloc: Global, texts: &[&'static str]) -> Result<Vec<Command>, Al
     Ok(commands)
 }
 
-/// Tells the replies that aren't out of memory, and puts their commands into a list.
+/// Shows the replies that aren't out of memory, and puts their commands into a list.
 fn keep(
     alloc: Global,
     texts: &[&'static str],
@@ -155,7 +156,7 @@ fn keep(
     Ok(())
 }
 
-/// Tells a reply, and whether it was told: one that says it is out of memory isn't.
+/// Shows a reply, and returns whether it was shown: one that says it is out of memory isn't.
 fn tell_unless_memory(alloc: Global, reply: &Reply, told: &mut String) -> Result<bool, AllocError> {
     let mut one = String::new(alloc);
     tell(alloc, reply, &mut one)?;

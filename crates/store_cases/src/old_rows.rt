@@ -38,7 +38,7 @@ pub fn fill<S: Alter>(connection: &mut Connection<S>) -> bool {
     true
 }
 
-/// The keys of the rows that a database has. `Other` is also where they can't be read.
+/// The keys of the rows that a database has. It is `Other` also if they can't be read.
 pub fn found_keys<S: Alter>(
     alloc: Global,
     connection: &mut Connection<S>,

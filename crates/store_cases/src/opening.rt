@@ -1,4 +1,4 @@
-//! A store that is opened over rows under keys from before, where memory is refused at one allocation.
+//! A store that is opened over rows under keys from before, when memory is refused at one allocation.
 //!
 //! An opening that is out of memory has to return just that and to leave both rows under their old keys, and the next
 //! one has to succeed. Both rows are under their new keys then. Before that, memory is taken as often as the line says:
@@ -12,7 +12,7 @@ use bson_store::{ErrorKind, Store};
 use sqlite::{Alter, Connection};
 use std::alloc::Global;
 
-/// What came of the opening, once memory was taken so often. What tells no number is 0.
+/// What came of the opening, after memory was taken so often. A text that is no number counts as 0.
 pub fn answer(alloc: Global, times: &str) -> &'static str {
     if !is_allocated(alloc, times.parse::<usize>().unwrap_or(0)) {
         return TOO_EARLY;
@@ -49,8 +49,7 @@ fn opened<S: Alter + Drop>(
     }
 }
 
-/// What is there behind an opening. Reading the rows may be out of memory: where they are others, they are read once
-/// more.
+/// What is there after an opening. Reading the rows may be out of memory: if they are others, they are read once more.
 fn behind_opening<S: Alter + Drop>(alloc: Global, mut connection: Connection<S>) -> &'static str {
     match found_keys(alloc, &mut connection) {
         Ok(Keys::New) => "well",
@@ -61,7 +60,7 @@ fn behind_opening<S: Alter + Drop>(alloc: Global, mut connection: Connection<S>)
     }
 }
 
-/// What is there behind an opening that was out of memory, and behind the next one.
+/// What is there after an opening that was out of memory, and after the next one.
 fn behind_refusal<S: Alter + Drop>(alloc: Global, mut connection: Connection<S>) -> &'static str {
     let left = found_keys(alloc, &mut connection);
     let (mut connection, refusal) = opened(alloc, connection);

@@ -1,10 +1,10 @@
-//! What is told of replies and refusals.
+//! What is shown of replies and refusals.
 
 use bson_store::{Reply, StoreError};
 use serde_json::Value;
 use std::alloc::{AllocError, Global};
 
-/// Tells a refusal: its kind, and which document was refused, where it is one of several.
+/// Shows a refusal: its kind, and which document was refused, if it is one of several.
 pub fn tell_refusal(alloc: Global, error: StoreError, told: &mut String) -> Result<(), AllocError> {
     let kind = error.kind;
     told.push_str(format!(in alloc; "Refused {kind:?}")?.as_str())?;
@@ -14,7 +14,7 @@ pub fn tell_refusal(alloc: Global, error: StoreError, told: &mut String) -> Resu
     }
 }
 
-/// Tells a reply: its variant, and what it holds.
+/// Shows a reply: its variant, and what it holds.
 pub fn tell(alloc: Global, reply: &Reply, told: &mut String) -> Result<(), AllocError> {
     match reply {
         Reply::Done => told.push_str("Done"),

@@ -1,12 +1,13 @@
 //! Disks that stop at a call, under the store.
 //!
-//! A list of commands runs over files of which one fails from some call on, up to the first command that is refused. Then the machine
-//! comes back, the files are opened again, and the rest of the commands is run. A row says how many commands were accepted before
-//! the stop, what is found behind it, what the rest of the commands replied, and what is there in the end. A document is
-//! shown by its `_id`, and by the value under `a` if there is one.
+//! A list of commands runs over files of which one fails from some call on, up to the first command that is refused.
+//! Then the machine comes back, the files are opened again, and the rest of the commands is run. A row says how many
+//! commands were accepted before the stop, what is found after it, what the rest of the commands replied, and what is
+//! there in the end. A document is shown by its `_id`, and by the value under `a` if there is one.
 //!
-//! The same is done with an opening of a store whose file has two rows under keys from before the two zeros of a double meant the same,
-//! which the opening replaces: a row says whether the store was opened before the stop, and what is found behind it.
+//! The same is done with an opening of a store whose file has two rows under keys from before the two zeros of a double
+//! meant the same, which the opening replaces: a row says whether the store was opened before the stop, and what is
+//! found after it.
 
 use crate::replies::tell_refusal;
 use crate::{lists, old_rows};
@@ -36,7 +37,7 @@ enum Phase {
     Fill,
     /// What is done before the stop.
     Before,
-    /// What is done behind it: the files are what a crash left.
+    /// What is done after it: the files are what a crash left.
     Behind,
 }
 
@@ -50,7 +51,7 @@ struct Stop {
     is_opened: bool,
     /// How many commands were accepted before it.
     accepted: usize,
-    /// What was found behind it.
+    /// What was found after it.
     found: String,
     /// What the rest of the commands replied.
     replies: String,
@@ -200,7 +201,7 @@ fn reopened<D: Disk + Drop>(
     }
 }
 
-/// Does over an open store what is done before the stop, or behind it.
+/// Does over an open store what is done before the stop, or after it.
 fn work<S: Alter + Drop>(alloc: Global, store: &mut Store<S>, stop: &mut Stop) {
     let outcome = match (stop.phase, stop.has_commands) {
         (Phase::Behind, true) => go_on(alloc, store, stop),

@@ -14,7 +14,7 @@ fn value_text(alloc: Global, row: &Row, at: usize) -> Result<String, AllocError>
     }
 }
 
-/// Tells the four values of a row, with a space between them.
+/// Shows the four values of a row, with a space between them.
 fn tell_row(alloc: Global, row: &Row, told: &mut String) -> Result<(), AllocError> {
     for at in 0..4usize {
         if at > 0 {
@@ -25,7 +25,7 @@ fn tell_row(alloc: Global, row: &Row, told: &mut String) -> Result<(), AllocErro
     Ok(())
 }
 
-/// Tells the place, the collection, the key and the body of each row, with `; ` between rows.
+/// Shows the place, the collection, the key and the body of each row, with `; ` between rows.
 fn tell_rows(alloc: Global, rows: &[Row], told: &mut String) -> Result<(), AllocError> {
     for at in 0..rows.len() {
         if at > 0 {
@@ -36,7 +36,7 @@ fn tell_rows(alloc: Global, rows: &[Row], told: &mut String) -> Result<(), Alloc
     told.push_str("\n")
 }
 
-/// Tells the rows of the table, in order of place.
+/// Shows the rows of the table, in order of place.
 pub fn tell<S: Alter>(
     alloc: Global,
     connection: &mut Connection<S>,

@@ -2,29 +2,31 @@
 //!
 //! `session`, with steps on one database in memory, from left to right with ` | ` between them:
 //!
-//! - `sql TEXT` runs statements. `ask TEXT` tells the number in the first row of a query, -1 where the query is refused, and -2
-//!   where it gives no integer.
-//! - `rows` tells the rows apart by one number, by the query that `sessions` has: 10000 for each row, 100 for each place, and 1 for
-//!   each byte of a body. -1 and -2 as above.
-//! - `open`, with calls after it, opens the table, runs the calls and closes it again. A row is good where its body isn't empty.
+//! - `sql TEXT` runs statements. `ask TEXT` reports the number in the first row of a query, -1 if the query is refused,
+//!   and -2 if it gives no integer.
+//! - `rows` is one number that tells the rows apart, by the query that `sessions` has: 10000 for each row, 100 for each
+//!   place, and 1 for each byte of a body. -1 and -2 as above.
+//! - `open`, with calls after it, opens the table, runs the calls and closes it again. A row is good if its body isn't
+//!   empty.
 //!
-//! The calls have `; ` between them. A key is one byte, told as a number. Bodies are answered as hexadecimal digits.
+//! The calls have `; ` between them. A key is one byte, given as a number. Bodies are shown as hexadecimal digits.
 //!
-//! - `put COLLECTION KEY` adds a row whose body is the key twice, and `put_two COLLECTION KEY KEY` two rows at once, whose bodies are
-//!   their keys three times.
+//! - `put COLLECTION KEY` adds a row whose body is the key twice, and `put_two COLLECTION KEY KEY` two rows at once,
+//!   whose bodies are their keys three times.
 //! - `rewrite PLACE` puts a body of five nines at a place, and `remove PLACE` removes the row there.
-//! - `find COLLECTION KEY` tells a row's place and body.
-//! - `names` tells the collections in their order.
-//! - `take COLLECTION MOST` visits bodies until it has so many: how many it took, their bytes, and whether the visit says that all were taken.
+//! - `find COLLECTION KEY` reports a row's place and body.
+//! - `names` reports the collections in their order.
+//! - `take COLLECTION MOST` visits bodies until it has so many: how many it took, their bytes, and whether the visit
+//!   says that all were taken.
 //!
-//! Steps and calls are answered by `ok`, by what they tell, or by the error's name, with `; ` between the answers.
+//! The answer to a step or a call is `ok`, what it reports, or the error's name, with `; ` between the answers.
 //!
-//! `bounded_calls` and `bounded_opens` make a fixed list of calls, and open a table of two rows, under one bound on the steps of a
-//! statement after the other. The page of `bounds` says what they tell.
+//! `bounded_calls` and `bounded_opens` make a fixed list of calls, and open a table of two rows, under one bound on the
+//! steps of a statement after the other. The page of `bounds` says what they report.
 //!
-//! `stop`, with `log` or `database` and a number: changes rows over files of which that one stops at this call, and tells whether the
-//! stop came before the end and all went well behind it. `stops` does so for each call from one number up to another, and
-//! tells how many of them went well. The page of `crashes` says what that is.
+//! `stop`, with `log` or `database` and a number: changes rows over files of which that one stops at this call, and
+//! reports whether the stop came before the end and all went well after it. `stops` does so for each call from one
+//! number up to another, and reports how many of them went well. The page of `crashes` says what that is.
 
 mod answers;
 mod bounds;

@@ -1,10 +1,11 @@
-//! Trees of JSON as a line tells them.
+//! Trees of JSON as a line gives them.
 
 use cli_words::parse_json;
 use serde_json::{Map, Value};
 use std::alloc::{AllocError, Global};
 
-/// The tree that a text tells: of JSON, or so many objects inside each other. None where it tells none, or where memory is wanted.
+/// The tree that a text gives: of JSON, or so many objects inside each other. None if it gives none, or if memory runs
+/// out.
 pub fn told_by(alloc: Global, text: &str) -> Option<Value> {
     match text.strip_prefix("levels:") {
         Some(levels) => tree_of_levels(alloc, levels.parse::<u32>().ok()?).ok(),
@@ -30,7 +31,7 @@ fn object_around(alloc: Global, tree: Value) -> Result<Value, AllocError> {
     Ok(Value::Object(members))
 }
 
-/// The trees of texts with bars between them; none of no text.
+/// The trees of texts with bars between them; none for no text.
 pub fn all_told_by(alloc: Global, texts: &str) -> Option<Vec<Value>> {
     let mut trees = Vec::new(alloc);
     if texts.is_empty() {

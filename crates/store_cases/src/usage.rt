@@ -1,11 +1,11 @@
-//! The example of docs/USING.md on stores: `usage` tells how many documents the filter of the example selects.
+//! The example of docs/USING.md on stores: `usage` reports how many documents the filter of the example selects.
 
 use bson_store::{Bson, Filter, Store};
 use serde_json::Value;
 use sqlite::{Alter, Connection};
 use std::alloc::Global;
 
-/// How many Adas a store counts that one was put into. None where it refuses.
+/// How many Adas a store counts that one was put into. None if it refuses.
 fn adas<S: Alter + Drop>(alloc: Global, store: &mut Store<S>) -> Option<u64> {
     let json = Value::from_str(alloc, "{\"_id\":1,\"name\":\"Ada\"}").ok()?;
     store.insert_json("people", json).ok()?;

@@ -11,13 +11,13 @@ use cli_words::{Call, Words, read_words};
 use sqlite::Alter;
 use std::alloc::{AllocError, Global};
 
-/// How many bytes an output takes before it takes memory: where memory is refused, a short one takes none.
+/// How many bytes an output takes before it takes memory: if memory is refused, a short one takes none.
 const ROOM: usize = 1000;
 
 /// A line of words, and the devices that it is given.
 #[derive(Clone, Copy)]
 struct Case<'a> {
-    /// The bytes of the input, as they are told.
+    /// The bytes of the input, as the line gives them.
     input: &'a str,
     /// How many calls of the input succeed.
     calls: Option<u64>,
@@ -50,7 +50,7 @@ fn case_of(line: &str) -> Case<'_> {
     case
 }
 
-/// The words, behind the name of a file.
+/// The words, after the name of a file.
 fn words_of(alloc: Global, line: &str) -> Result<Vec<String>, AllocError> {
     let mut words = Vec::new(alloc);
     words.push(String::from_str(alloc, "file")?)?;
@@ -68,7 +68,7 @@ fn printed(alloc: Global, call: Call, output: &[u8]) -> Result<String, AllocErro
     }
 }
 
-/// Status, what was printed and what was told; neither of the two where it is nothing.
+/// Status, what was printed and what was reported; neither of the two if it is nothing.
 fn told(
     alloc: Global,
     call: Call,
@@ -183,7 +183,7 @@ fn answer_words<S: Alter + Drop>(
     }
 }
 
-/// Status, what `pipe` printed and what it told. That it printed its input is told by these words.
+/// Status, what `pipe` printed and what it reported. If it printed its input, the answer says just that.
 fn told_of_pipe(
     alloc: Global,
     status: u8,

@@ -71,7 +71,7 @@ fn json(alloc: Global, bytes: &[u8], mode: Mode) -> Result<String, TextError> {
     }
 }
 
-/// Why a document has no tree, as it is told without the tree and with it.
+/// Why a document has no tree, as it is reported without the tree and with it.
 fn checked(alloc: Global, bytes: &[u8]) -> Result<String, TextError> {
     let checked = check_json(alloc, bytes, Mode::Canonical).err();
     let written = json_of_body(alloc, bytes, Mode::Canonical).err();

@@ -56,7 +56,7 @@ fn asking(alloc: Global, asked: Bson) -> Result<Filter, TextError> {
     Ok(Filter::Eq(told::list(alloc, "v", '.')?, asked))
 }
 
-/// What stands at a path, and how many elements were met.
+/// What is at a path, and how many elements were met.
 pub fn look(alloc: Global, rest: &str) -> Result<String, TextError> {
     let (path, bytes) = told::halves(rest)?;
     let path = told::list(alloc, path, '.')?;
@@ -73,7 +73,7 @@ fn look_at(alloc: Global, path: &[String], bytes: &str) -> Result<String, TextEr
     tell::shown(alloc, &(kind, met))
 }
 
-/// What is left of a document where keys are listed.
+/// What is left of a document if keys are listed.
 pub fn left(alloc: Global, rest: &str) -> Result<String, TextError> {
     let (keys, bytes) = told::halves(rest)?;
     let keys = told::list(alloc, keys, '.')?;

@@ -1,4 +1,4 @@
-//! How answers are told.
+//! How answers are shown.
 
 use cli_words::TextError;
 use std::alloc::Global;

@@ -1,4 +1,4 @@
-//! What the parts of a line tell. The crate's page has the forms.
+//! What the parts of a line give. The crate's page has the forms.
 
 use bson_bytes::encode_document;
 use bson_model::{Binary, BinarySubtype, Bson, Decimal128, Document, DoubleBits, Regex};
@@ -37,7 +37,7 @@ fn decimal(digits: &str) -> Option<Bson> {
     Some(Bson::Decimal128(Decimal128::from_bytes(bytes)))
 }
 
-/// Pattern and options as they are told, also where the options are in another order than they are kept in.
+/// Pattern and options as they are given, also if the options are in another order than they are kept in.
 fn regex(alloc: Global, rest: &str) -> Result<Bson, TextError> {
     let Some((pattern, options)) = rest.split_once(' ') else {
         return Err(TextError::Unreadable);
@@ -104,7 +104,7 @@ fn of_string(alloc: Global, text: &str) -> Result<Vec<u8>, TextError> {
     }
 }
 
-/// What stands between the marks, or nothing where nothing stands.
+/// The parts between the marks; none of an empty text.
 pub fn list(alloc: Global, text: &str, mark: char) -> Result<Vec<String>, AllocError> {
     let mut parts = Vec::new(alloc);
     if !text.is_empty() {

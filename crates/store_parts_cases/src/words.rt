@@ -28,7 +28,7 @@ pub fn id(alloc: Global, rest: &str) -> Result<String, TextError> {
     tell::outcome(alloc, read_id(alloc, rest))
 }
 
-/// How many trees stand in lines of JSON.
+/// How many trees are in lines of JSON.
 pub fn lines(alloc: Global, rest: &str) -> Result<String, TextError> {
     let bytes = told::bytes(alloc, rest)?;
     let mut loader = Loader::new(alloc);
@@ -58,7 +58,7 @@ fn kind_named(name: &str) -> Option<ErrorKind> {
     }
 }
 
-/// The kind of a name with a place or two behind it.
+/// The kind of a name with a place or two after it.
 fn kind_with_places(name: &str) -> Option<ErrorKind> {
     if let Some(row) = name.strip_prefix("BadRow ") {
         return Some(ErrorKind::BadRow(row.parse::<i64>().ok()?));
@@ -99,7 +99,7 @@ pub fn complaint(alloc: Global, rest: &str) -> Result<String, TextError> {
     taken(alloc, &sink, written)
 }
 
-/// What a sink takes where two numbers and both flags are written to it, one after the other.
+/// What a sink takes when two numbers and both flags are written to it, one after the other.
 fn print(alloc: Global, first: u64, second: u64) -> Result<VecSink, DeviceFault> {
     let mut sink = VecSink::new(alloc);
     write_number(&mut sink, first)?;

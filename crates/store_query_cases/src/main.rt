@@ -1,5 +1,5 @@
-//! Cases of queries. Each line of standard input is a query and a document, both as JSON, with ` | ` between them. One
-//! line of standard output answers it: `true` or `false`, whether the query selects the document, or the error. The
+//! Cases of queries. Each line of standard input is a query and a document, both as JSON, with ` | ` between them. Its
+//! answer is one line of standard output: `true` or `false`, whether the query selects the document, or the error. The
 //! files `stdin` and `stdout` hold the cases and their answers.
 #![tactic(auto)]
 

@@ -67,7 +67,7 @@ fn nested(alloc: Global, levels: u32) -> Result<Vec<u8>, AllocError> {
     Ok(bytes)
 }
 
-/// Whether a value stands at a path in a document, and how many elements were met.
+/// Whether there is a value at a path in a document, and how many elements were met.
 fn looked_up(bytes: &[u8], path: &[String]) -> Option<(bool, u64)> {
     let document = RawDocument::from_bytes(bytes).ok()?;
     let (found, met) = look_up(document, path);

@@ -1,5 +1,6 @@
-//! Tests of the crates between raw documents and the table (bson_meaning, store_filter, store_documents), where a line of
-//! `store_parts_cases` can't tell the case: inputs of millions of bytes or a thousand levels, and readers that go slowly or fail.
+//! Tests of the crates between raw documents and the table (bson_meaning, store_filter, store_documents) for cases that
+//! a line of `store_parts_cases` can't give: inputs of millions of bytes or a thousand levels, and readers that go
+//! slowly or fail.
 #![tactic(auto)]
 
 #[cfg(test)]

@@ -17,7 +17,7 @@ fn zeros(alloc: Global, count: usize) -> Result<Bson, AllocError> {
     Ok(Bson::Binary(Binary { subtype, bytes }))
 }
 
-/// The document `{_id: bytes}`, which takes 15 bytes beside the bytes.
+/// The document `{_id: bytes}`, which takes 15 bytes besides the bytes.
 fn long(alloc: Global, count: usize) -> Result<Document, AllocError> {
     let mut document = Document::new(alloc);
     let key = String::from_str(alloc, "_id")?;

@@ -2,7 +2,8 @@
 
 use std::alloc::{AllocError, Global};
 
-/// Answers with `; ` between them. Want of memory is kept until the line is asked for, so that who holds a connection has no early exit.
+/// Answers with `; ` between them. Out of memory is kept until the line is asked for, so that a function that holds a
+/// connection has no early exit.
 #[derive(Drop)]
 pub struct Answers {
     line: String,

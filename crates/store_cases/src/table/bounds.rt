@@ -9,7 +9,7 @@ use sqlite::{Alter, Connection};
 use std::alloc::{AllocError, Global};
 use store_table::{OpenError, Table};
 
-/// Behind the greatest bound that is tried.
+/// Above the greatest bound that is tried.
 const MOST: u64 = 200;
 
 /// The calls that are made under each bound.
@@ -56,7 +56,7 @@ impl Sum {
         }
     }
 
-    /// What is to be there behind the call at this place of the list.
+    /// What is to be there after the call at this place of the list.
     fn and_call(self, at: usize) -> Sum {
         let sum = Sum {
             accepted: self.accepted.wrapping_add(1),
@@ -78,7 +78,7 @@ impl Sum {
         }
     }
 
-    /// What is to be there behind a call with this answer.
+    /// What is to be there after a call with this answer.
     fn and_answer(self, at: usize, answer: &str) -> Sum {
         match answer {
             "Database" => self,
@@ -120,7 +120,7 @@ fn calls_within(alloc: Global, limit: u64) -> Sum {
     sum
 }
 
-/// Tries the table under a bound, makes the calls, and holds the rows against those of the accepted ones.
+/// Tries the table under a bound, makes the calls, and compares the rows with those of the accepted ones.
 fn called<S: Alter + Drop>(
     alloc: Global,
     mut conn: Connection<S>,
@@ -163,8 +163,8 @@ struct Tries {
     wrong: bool,
 }
 
-/// Opens a table of two rows under one bound after the other, on one connection. Whether the first opens were refused by the
-/// database, the last one was accepted, and the rows stood behind each.
+/// Opens a table of two rows under one bound after the other, on one connection. Whether the first opens were refused
+/// by the database, the last one was accepted, and the rows were there after each.
 pub fn opens(alloc: Global) -> Result<String, AllocError> {
     let mut tries = Tries {
         refused: 0,

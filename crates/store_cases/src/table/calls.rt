@@ -1,4 +1,4 @@
-//! Calls of the table as words tell them. None of them owns a table: each would be proved anew to drop it.
+//! Calls of the table as words give them. None of them owns a table: each would be proved anew to drop it.
 
 use super::answers::Answers;
 use sqlite::Alter;
@@ -6,7 +6,7 @@ use std::alloc::{AllocError, Global};
 use std::collections::BTreeSet;
 use store_table::{Fault, Found, NewRow, RowCheck, Table, Visit};
 
-/// A row is good where its body isn't empty, under any key, and keeps the key that it has.
+/// A row is good if its body isn't empty, under any key, and keeps the key that it has.
 #[derive(Clone, Copy, Drop)]
 pub struct HasBody {
     pub alloc: Global,
@@ -52,14 +52,14 @@ impl Visit for Taker {
     }
 }
 
-/// Runs calls with `; ` between them, and adds what each answers.
+/// Runs calls with `; ` between them, and adds what each returns.
 pub fn run<S: Alter + Drop>(alloc: Global, table: &mut Table<S>, calls: &str, told: &mut Answers) {
     for call in calls.split("; ") {
         told.add(answer(alloc, table, call));
     }
 }
 
-/// What a call answers.
+/// What a call returns.
 pub fn answer<S: Alter + Drop>(
     alloc: Global,
     table: &mut Table<S>,
@@ -82,7 +82,7 @@ fn refusal(alloc: Global, fault: Fault) -> Result<String, AllocError> {
     format!(in alloc; "{fault:?}")
 }
 
-/// Changes the rows. Another word changes nothing, and is refused as want of memory.
+/// Changes the rows. Another word changes nothing, and is refused as out of memory.
 pub fn change<S: Alter + Drop>(
     alloc: Global,
     table: &mut Table<S>,
@@ -173,7 +173,7 @@ fn taken(alloc: Global, taker: &Taker, all: bool) -> Result<String, AllocError> 
     format!(in alloc; "{count} bodies, {bytes} bytes, {end}")
 }
 
-/// A row at a place, as the calls that change one want it.
+/// A row at a place, as the calls that change one need it.
 fn at(alloc: Global, place: &str) -> Found {
     Found {
         place: place.parse::<i64>().unwrap_or(0),
@@ -189,7 +189,7 @@ fn row_of(keys: &[u8; 3]) -> NewRow<'_> {
     }
 }
 
-/// The byte of a number, and 0 where it is none.
+/// The byte of a number, and 0 if it is none.
 fn byte_of(number: &str) -> u8 {
     number.parse::<u8>().unwrap_or(0)
 }

@@ -1,8 +1,8 @@
 //! Disks that stop at a call.
 //!
-//! A list of changes runs over files of which one fails from some call on, up to the first change that is refused. Then the machine
-//! comes back, and the files are opened again. All is well where each accepted change is found, and perhaps the next one, and where
-//! the rest of the changes then ends in the rows that a run without a stop ends in.
+//! A list of changes runs over files of which one fails from some call on, up to the first change that is refused. Then
+//! the machine comes back, and the files are opened again. All is well if each accepted change is found, and perhaps
+//! the next one, and if the rest of the changes then ends in the rows that a run without a stop ends in.
 
 use super::calls::{self, HasBody};
 use super::sessions::rows;
@@ -11,7 +11,8 @@ use sqlite_disk::{Crash, Disk, Fuse, Memory};
 use std::alloc::{AllocError, Global};
 use store_table::Table;
 
-/// The changes: two rows, another body, two rows at once, another body, a row less. A session of `stdin` tells their rows too.
+/// The changes: two rows, another body, two rows at once, another body, a row less. A session of `stdin` shows their
+/// rows too.
 const CHANGES: [&str; 6] = [
     "put c 1",
     "put c 2",
@@ -31,8 +32,8 @@ struct Run {
     refused: bool,
 }
 
-/// What a stop came to: whether it has come, how many changes were accepted before it, the rows that were found afterwards, those at
-/// the end, and whether all behind it was opened.
+/// What a stop came to: whether it has come, how many changes were accepted before it, the rows that were found
+/// afterwards, those at the end, and whether all after it was opened.
 #[derive(Clone, Copy)]
 struct Outcome {
     has_come: bool,
@@ -113,8 +114,8 @@ fn fused(alloc: Global, log_calls: u64, db_calls: u64) -> Files<Fuse<Memory>> {
     }
 }
 
-/// Does over files what is done before the stop, or behind it. One function does both, as its proof takes some twenty seconds: it owns a
-/// database in files.
+/// Does over files what is done before the stop, or after it. One function does both, as its proof takes some twenty
+/// seconds: it owns a database in files.
 fn run_over<D: Disk + Drop>(alloc: Global, files: Files<D>, stop: &mut Outcome) -> Files<D> {
     match reopened(alloc, files) {
         Ok(conn) => closed(worked(alloc, conn, stop)),
@@ -163,7 +164,7 @@ fn reopened<D: Disk + Drop>(
     }
 }
 
-/// Tells the rows, and runs the rest of the changes.
+/// Shows the rows, and runs the rest of the changes.
 fn go_on<S: Alter + Drop>(alloc: Global, conn: Connection<S>, stop: &mut Outcome) -> Connection<S> {
     let mut run = Run {
         done: 0,

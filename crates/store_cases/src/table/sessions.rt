@@ -10,7 +10,7 @@ use store_table::{OpenError, Table};
 const ROWS: &str =
     "SELECT count(*) * 10000 + coalesce(sum(place * 100 + length(body)), 0) FROM documents";
 
-/// What the steps answer.
+/// What the steps return.
 pub fn answer(alloc: Global, steps: &str) -> Result<String, AllocError> {
     let mut told = Answers::new(alloc);
     match Connection::open_in_memory(alloc) {
@@ -63,7 +63,7 @@ fn refusal(alloc: Global, error: OpenError) -> Result<String, AllocError> {
     format!(in alloc; "{error:?}")
 }
 
-/// What a step answers that leaves the connection open.
+/// What a step returns that leaves the connection open.
 fn asked<S: Alter>(
     alloc: Global,
     conn: &mut Connection<S>,
@@ -89,7 +89,7 @@ fn executed<S: Alter>(
     }
 }
 
-/// The number in the first row of a query, -1 where the query is refused, and -2 where it gives no integer.
+/// The number in the first row of a query, -1 if the query is refused, and -2 if it gives no integer.
 fn number<S: Alter>(conn: &mut Connection<S>, text: &str) -> i64 {
     match conn.query_row(text, &[]) {
         Ok(row) => row.get::<i64>(0).unwrap_or(-2),
