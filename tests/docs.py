@@ -3,21 +3,24 @@
 
     tests/docs.py            says what is wrong, a line each, and ends with status 1 if there is anything
     tests/docs.py --wrap [PAGE ..]
-                             first wraps each paragraph and list item that has a line over 120 columns, and makes a list of each
-                             table that has one, of all pages or of those named
+                             first wraps each paragraph and list item that has a line over 120 columns, of all pages or of those
+                             named
 
-What is wrong: a line over 120 columns outside of blocks of code; a link to a file or a heading that isn't there, or to anything
-outside the repository; a row that stands in two tables; a crate without a page or without its line in docs/ARCHITECTURE.md; a
-refusal without its line in docs/REFUSALS.md; a decision that is cited anywhere and has neither an entry nor a line that says where it
-went; a command that only one of README and `./bson_store --help` has.
+What is wrong: a line over 120 columns outside of blocks of code and tables; a cell of a table over 160, which is a paragraph; a
+table whose rows have different numbers of cells; a link to a file or a heading that isn't there, or to anything outside the
+repository; a row that stands in two tables; a crate without a page or without its line in docs/ARCHITECTURE.md; a refusal without
+its line in docs/REFUSALS.md; a decision that is cited anywhere by a name that it hasn't, or has no reason; a command that only one of
+README and `./bson_store --help` has.
 """
 import pathlib
 import re
 import subprocess
 import sys
 
-WIDTH = 120
+# The columns of a line, and of a cell of a table without the targets of its links.
+WIDTH, CELL = 120, 160
 ROOT = pathlib.Path(__file__).resolve().parent.parent
+DECISIONS, PROVING = ROOT / "docs/DECISIONS.md", ROOT / "docs/PROVING.md"
 ITEM = re.compile(r"( *)([-*+]|\d+\.) +")
 # A span of code or a link, which stays on one line if it has at most 60 characters.
 WHOLE = re.compile(r"`[^`]*`|\[[^\]]*\]\([^)]*\)")
@@ -42,29 +45,6 @@ def fill(text, first, rest):
             words = words[len(kept):]
         words.append(token)
     return [*lines, (rest if lines else first) + " ".join(words)]
-
-
-def list_of(table):
-    """A table as a list: an item for each row, and in it one for each further column if there are more than two."""
-    rows = [[cell.strip().replace("\\|", "|") for cell in re.split(r"(?<!\\)\|", row.strip()[1:-1])] for row in table]
-    head = rows[0] if len(rows) > 1 and set("".join(rows[1])) <= set("-:") else None
-    if head:
-        rows = rows[2:]
-    lines = []
-    if len(rows[0]) == 2:
-        if head and all(head):
-            lines += [f"*{head[0][0].upper()}{head[0][1:]}: {head[1]}.*", ""]
-        for first, second in rows:
-            lines += fill(f"{first}: {second}" if second else first, "- ", "  ")
-        return lines
-    if head[0]:
-        lines += [f"*{head[0][0].upper()}{head[0][1:]}:*", ""]
-    for first, *others in rows:
-        lines += fill(first, "- ", "  ")
-        for name, cell in zip(head[1:], others):
-            if cell:
-                lines += fill(f"{name}: {cell}" if name else cell, "  - ", "    ")
-    return lines
 
 
 def blocks(lines):
@@ -92,10 +72,8 @@ def blocks(lines):
 def wrapped(text):
     out = []
     for kind, lines in blocks(text.split("\n")):
-        if kind not in ("text", "table") or max(map(len, lines)) <= WIDTH:
+        if kind != "text" or max(map(len, lines)) <= WIDTH:
             out += lines
-        elif kind == "table":
-            out += list_of(lines)
         else:
             item = ITEM.match(lines[0])
             quote = "> " if lines[0].startswith("> ") else ""
@@ -140,6 +118,29 @@ def wrong_links(page):
                 yield number, f"a link to {target}, but no such heading"
 
 
+def cells(row):
+    """The cells of a row of a table."""
+    return [cell.strip() for cell in re.split(r"(?<!\\)\|", row.strip().strip("|"))]
+
+
+def wrong_lines(page):
+    """Lines that are too wide, and tables that are none."""
+    wanted = 0
+    for number, line in prose(page):
+        if not line.startswith("|"):
+            wanted = 0
+            if len(line) > WIDTH:
+                yield number, f"{len(line)} columns"
+            continue
+        row = cells(line)
+        wanted = wanted or len(row)
+        if len(row) != wanted:
+            yield number, f"a row of {len(row)} cells in a table of {wanted}"
+        for cell in row:
+            if len(re.sub(r"\]\([^)]*\)", "]", cell)) > CELL:
+                yield number, f"a cell of {len(cell)} columns"
+
+
 def wrong_rows(all_pages):
     """Rows that stand twice."""
     seen = {}
@@ -165,22 +166,12 @@ def missing():
             yield refusals, 1, f"no line for {kind}"
 
 
-def numbers(text):
-    """The numbers of a list such as "3, 5 and 90 to 95"."""
-    for first, last in re.findall(r"(\d+)(?: to (\d+))?", text):
-        yield from range(int(first), int(last or first) + 1)
-
-
-CITED = re.compile(r"DECISIONS(?:\.md)?(?:\]\([^)]*\))?,\s+((?:\d+(?:,\s+|\s+and\s+|\s+to\s+)?)+)(?!\d)")
+CITED = re.compile(r'DECISIONS(?:\.md)?(?:\]\([^)]*\))?, +(?:"([^"\n]+)"|(\d+))')
 
 
 def wrong_citations():
-    """Decisions that are cited and aren't there. A citation may be in any file, a page's anchor aside."""
-    decisions, proving = (ROOT / "docs/DECISIONS.md").read_text(), (ROOT / "docs/PROVING.md").read_text()
-    known = {int(number) for page in (decisions, proving) for number in re.findall(r"^### (\d+)\. ", page, re.M)}
-    gone = decisions[decisions.index("## Numbers that are gone"):decisions.index("## New entries")]
-    for line in re.findall(r"^- ([\d, to]+): ", gone, re.M):
-        known |= set(numbers(line))
+    """Decisions that are cited by a name that isn't there, or by a number, which none has. A citation may be in any file."""
+    known = {slug(heading) for heading in re.findall(r"^##+ (.*)$", DECISIONS.read_text(), re.M)}
     listed = subprocess.run(["git", "ls-files", "-z"], cwd=ROOT, capture_output=True, check=True).stdout.decode().split("\0")
     for name in filter(re.compile(r"\.(md|rt|antt|py|sh|txt)$|^[^.]*$").search, filter(None, listed)):
         try:
@@ -188,9 +179,17 @@ def wrong_citations():
         except (UnicodeDecodeError, FileNotFoundError, IsADirectoryError):
             continue
         for found in CITED.finditer(text):
-            for number in numbers(re.sub(r"\s+", " ", found[1])):
-                if number not in known:
-                    yield ROOT / name, text.count("\n", 0, found.start()) + 1, f"DECISIONS, {number}, which isn't there"
+            if found[2] or slug(found[1]) not in known:
+                yield ROOT / name, text.count("\n", 0, found.start()) + 1, f"{found[0]}, which isn't there"
+
+
+def wrong_decisions():
+    """Decisions without a reason."""
+    for page in (DECISIONS, PROVING):
+        text = page.read_text()
+        for entry in re.split(r"^(?=##+ )", text, flags=re.M):
+            if "- **Decision**" in entry and "- **Why**: " not in entry:
+                yield page, text[:text.index(entry)].count("\n") + 1, f"no reason for {entry.splitlines()[0].lstrip('# ')}"
 
 
 def wrong_commands():
@@ -212,8 +211,8 @@ def main():
         for page in map(pathlib.Path, sys.argv[2:] or all_pages):
             page.write_text(wrapped(page.read_text()))
     wrong = [(page, number, what) for page in all_pages for number, what in wrong_links(page)]
-    wrong += [(page, number, f"{len(line)} columns") for page in all_pages for number, line in prose(page) if len(line) > WIDTH]
-    wrong += [*wrong_rows(all_pages), *missing(), *wrong_citations(), *wrong_commands()]
+    wrong += [(page, number, what) for page in all_pages for number, what in wrong_lines(page)]
+    wrong += [*wrong_rows(all_pages), *missing(), *wrong_citations(), *wrong_decisions(), *wrong_commands()]
     for page, number, what in wrong:
         print(f"{page.relative_to(ROOT)}:{number}: {what}")
     print(f"docs: {len(all_pages)} pages, {len(wrong)} to mend")
