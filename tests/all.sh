@@ -1,5 +1,5 @@
 #!/bin/sh
-# Holds a built program against all tests of programs and scripts, and the commands of README and USING against it.
+# Holds a built program against all tests of programs and scripts, and the commands of README, USING and FILES against it.
 #
 #     tests/all.sh PROGRAM
 #

@@ -6,11 +6,12 @@
                              first wraps each paragraph and list item that has a line over 120 columns, of all pages or of those
                              named
 
-What is wrong: a line over 120 columns outside of blocks of code and tables; a cell of a table over 160, which is a paragraph; a
-table whose rows have different numbers of cells; a link to a file or a heading that isn't there, or to anything outside the
-repository; a row that stands in two tables; a crate without a page or without its line in docs/ARCHITECTURE.md; a refusal without
-its line in docs/REFUSALS.md; a decision that is cited anywhere by a name that it hasn't, or has no reason; a command that only one of
-README and `./bson_store --help` has.
+What is wrong: a line over 120 columns outside of blocks of code and tables; a cell of a table over 240, which is a paragraph; a
+table whose rows have different numbers of cells; a page of docs/ over 150 lines without a table of contents; a link to a file or a
+heading that isn't there, or to anything outside the repository; a row that stands in two tables; a crate without a page or without
+its line in ARCHITECTURE; a refusal without its line in REFUSALS; a decision that is cited anywhere by a name that it hasn't, or has
+no reason; a page that a script, a test or a page names by a path where it isn't; a command that only one of COMMANDS and `--help`
+has; a signature in CALLS that no source has, or a call of a store that isn't there.
 """
 import pathlib
 import re
@@ -18,9 +19,11 @@ import subprocess
 import sys
 
 # The columns of a line, and of a cell of a table without the targets of its links.
-WIDTH, CELL = 120, 160
+WIDTH, CELL = 120, 240
+# The lines of a page that needs no table of contents.
+LONG = 150
 ROOT = pathlib.Path(__file__).resolve().parent.parent
-DECISIONS, PROVING = ROOT / "docs/DECISIONS.md", ROOT / "docs/PROVING.md"
+DECISIONS, PROVING = ROOT / "docs/development/DECISIONS.md", ROOT / "docs/development/PROVING.md"
 ITEM = re.compile(r"( *)([-*+]|\d+\.) +")
 # A span of code or a link, which stays on one line if it has at most 60 characters.
 WHOLE = re.compile(r"`[^`]*`|\[[^\]]*\]\([^)]*\)")
@@ -29,7 +32,7 @@ BEGINS = re.compile(r"([-+*>#]|\d+[.)])$|#+$|\|")
 
 
 def pages():
-    return [page for folder in ("", "docs/", "crates/*/", "bench/", "python/") for page in sorted(ROOT.glob(folder + "*.md"))]
+    return [page for folder in ("", "docs/", "docs/development/", "crates/*/", "bench/", "python/") for page in sorted(ROOT.glob(folder + "*.md"))]
 
 
 def fill(text, first, rest):
@@ -154,11 +157,11 @@ def wrong_rows(all_pages):
 
 def missing():
     """What has to have its line and hasn't."""
-    architecture, refusals = ROOT / "docs/ARCHITECTURE.md", ROOT / "docs/REFUSALS.md"
+    architecture, refusals = ROOT / "docs/development/ARCHITECTURE.md", ROOT / "docs/REFUSALS.md"
     for name in re.findall(r"^([a-z]\w*):", (ROOT / "crates.txt").read_text(), re.M):
         if not (ROOT / "crates" / name / "README.md").exists():
             yield ROOT / "crates.txt", 1, f"{name} has no page crates/{name}/README.md"
-        if f"../crates/{name}/README.md" not in architecture.read_text():
+        if f"../../crates/{name}/README.md" not in architecture.read_text():
             yield architecture, 1, f"no link to the page of {name}"
     kinds = re.search(r"pub enum ErrorKind \{(.*?)\n\}", (ROOT / "crates/store_model/src/error.rt").read_text(), re.S)
     for kind in re.findall(r"^    ([A-Z]\w*)", kinds[1], re.M):
@@ -169,18 +172,27 @@ def missing():
 CITED = re.compile(r'DECISIONS(?:\.md)?(?:\]\([^)]*\))?, +(?:"([^"\n]+)"|(\d+))')
 
 
-def wrong_citations():
-    """Decisions that are cited by a name that isn't there, or by a number, which none has. A citation may be in any file."""
-    known = {slug(heading) for heading in re.findall(r"^##+ (.*)$", DECISIONS.read_text(), re.M)}
+def texts():
+    """The repository's files of text, each with what is in it."""
     listed = subprocess.run(["git", "ls-files", "-z"], cwd=ROOT, capture_output=True, check=True).stdout.decode().split("\0")
-    for name in filter(re.compile(r"\.(md|rt|antt|py|sh|txt)$|^[^.]*$").search, filter(None, listed)):
+    for name in filter(re.compile(r"\.(md|rt|antt|py|sh|awk|txt)$|^[^.]*$").search, filter(None, listed)):
         try:
-            text = (ROOT / name).read_text()
+            yield ROOT / name, (ROOT / name).read_text()
         except (UnicodeDecodeError, FileNotFoundError, IsADirectoryError):
             continue
+
+
+def wrong_citations():
+    """Decisions that are cited by a name that isn't there, or by a number, which none has; pages that are named by a path, outside of
+    the crates, where they aren't."""
+    known = {slug(heading) for heading in re.findall(r"^##+ (.*)$", DECISIONS.read_text(), re.M)}
+    for path, text in texts():
         for found in CITED.finditer(text):
             if found[2] or slug(found[1]) not in known:
-                yield ROOT / name, text.count("\n", 0, found.start()) + 1, f"{found[0]}, which isn't there"
+                yield path, text.count("\n", 0, found.start()) + 1, f"{found[0]}, which isn't there"
+        for found in re.finditer(r"\bdocs/[\w/]*[A-Z]+\.md", text):
+            if ROOT / "crates" not in path.parents and not (ROOT / found[0]).exists():
+                yield path, text.count("\n", 0, found.start()) + 1, f"{found[0]}, which isn't there"
 
 
 def wrong_decisions():
@@ -193,16 +205,56 @@ def wrong_decisions():
 
 
 def wrong_commands():
-    """Commands that README and the help of the program don't both have."""
-    readme, script = ROOT / "README.md", ROOT / "bson_store"
-    table = re.search(r"^### Commands of `bson_store`\n(.*?)^#", readme.read_text(), re.M | re.S)[1]
-    cells = [line.split("|")[1] for line in table.split("\n") if line.startswith("| `")]
-    shown = set(re.findall(r"`([a-z]+)[ `]", " ".join(cells)))
-    helped = subprocess.run([script, "--help"], capture_output=True, text=True).stdout
-    told = set(re.findall(r"^  ([a-z]+)(?: |$)", helped, re.M))
-    for page, names, other in ((readme, shown - told, "--help"), (script, told - shown, "README")):
-        for name in sorted(names):
-            yield page, 1, f"the command {name}, which {other} hasn't"
+    """Commands that COMMANDS and the help of a program don't both have."""
+    page = ROOT / "docs/COMMANDS.md"
+    for program in ("fallowtime", "bson_store"):
+        table = re.search(rf"^### Commands of `{program}`\n(.*?)^#", page.read_text(), re.M | re.S)[1]
+        shown = set(re.findall(r"^\| `([a-z]+)[ `]", table, re.M))
+        helped = subprocess.run([ROOT / program, "--help"], capture_output=True, text=True).stdout
+        told = set(re.findall(r"^  ([a-z]+)(?: |$)", helped, re.M))
+        for name in sorted(shown - told):
+            yield page, 1, f"the command {name}, which {program} --help hasn't"
+        for name in sorted(told - shown):
+            yield page, 1, f"no command {name}, which {program} --help has"
+
+
+def signatures(crate):
+    """The public functions of a crate's sources, each with the type that it is a method of, on one line."""
+    head = re.compile(r"^impl(?:<[^>\n]*>)? (\w+)|^( *)pub fn ((?:.|\n)*?)(?=\s*(?:\{|ensures|requires|decreases))", re.M)
+    for source in sorted((ROOT / "crates" / crate / "src").rglob("*.rt")):
+        owner = ""
+        for found in head.finditer(re.sub(r"^ *//.*$", "", source.read_text(), flags=re.M)):
+            owner = found[1] or owner
+            if found[3]:
+                text = " ".join(found[3].split()).replace("( ", "(").replace(", )", ")").replace(",)", ")")
+                yield owner if found[2] else "", "fn " + text
+
+
+def wrong_calls():
+    """Signatures of CALLS that no source has, and calls of a store that it hasn't."""
+    page = ROOT / "docs/CALLS.md"
+    crates = "bson_store bson_model bson_raw bson_json bson_json_read bson_meaning".split()
+    known = {crate: set(signatures(crate)) for crate in crates}
+    anywhere = {text for found in known.values() for _, text in found}
+    shown = re.findall(r"^fn .*$", page.read_text(), re.M)
+    for number, line in enumerate(page.read_text().split("\n"), 1):
+        if line.startswith("fn ") and line not in anywhere:
+            yield page, number, "a signature that no source has"
+    for owner, text in sorted(known["bson_store"]):
+        if owner == "Store" and text not in shown:
+            yield page, 1, f"no {text}"
+
+
+def wrong_contents(all_pages):
+    """Pages of docs/ over 150 lines that don't link to each of their sections in front of the first one."""
+    for page in all_pages:
+        text = page.read_text()
+        if ROOT / "docs" not in page.parents or text.count("\n") <= LONG:
+            continue
+        front = text.partition("\n## ")[0]
+        for heading in re.findall(r"^## (.*)$", "\n".join(line for _, line in prose(page)), re.M):
+            if f"(#{slug(heading)})" not in front:
+                yield page, 1, f"no line for {heading} in its table of contents"
 
 
 def main():
@@ -212,7 +264,8 @@ def main():
             page.write_text(wrapped(page.read_text()))
     wrong = [(page, number, what) for page in all_pages for number, what in wrong_links(page)]
     wrong += [(page, number, what) for page in all_pages for number, what in wrong_lines(page)]
-    wrong += [*wrong_rows(all_pages), *missing(), *wrong_citations(), *wrong_decisions(), *wrong_commands()]
+    wrong += [*wrong_rows(all_pages), *missing(), *wrong_citations(), *wrong_decisions()]
+    wrong += [*wrong_commands(), *wrong_calls(), *wrong_contents(all_pages)]
     for page, number, what in wrong:
         print(f"{page.relative_to(ROOT)}:{number}: {what}")
     print(f"docs: {len(all_pages)} pages, {len(wrong)} to mend")

@@ -1,4 +1,4 @@
-"""A reader of documents written from the pages (docs/FORMATS.md, sections 1 and 2, docs/SCOPE.md, 7.3), for
+"""A reader of documents written from the pages (docs/FORMATS.md, sections 1 and 2, docs/development/SCOPE.md, 7.3), for
 tests/differential.py: `read` tells of bytes with which kind they have to be refused, or which bytes have to come back.
 """
 import struct

@@ -1,5 +1,5 @@
 #!/bin/bash
-# Runs the commands that README.md and docs/USING.md show, and compares what they print with what the pages say.
+# Runs the commands that README.md, docs/USING.md and docs/FILES.md show, and compares what they print with what the pages say.
 #
 #     tests/readme.sh PROGRAM [PAGE.md ..]
 #     tests/readme.sh --programs [PAGE.md ..]
@@ -22,7 +22,7 @@ if [ "${1-}" != --programs ]; then
     program=$(readlink -f -- "$1")
 fi
 shift
-[ $# -gt 0 ] || set -- "$root/README.md" "$root/docs/USING.md"
+[ $# -gt 0 ] || set -- "$root/README.md" "$root/docs/USING.md" "$root/docs/FILES.md"
 work=$(mktemp -d) || exit 1
 trap 'rm -rf "$work"' EXIT
 status=0
