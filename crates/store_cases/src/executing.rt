@@ -34,7 +34,7 @@ const WITH_3: &str =
 const WITH_4: &str =
     "Bytes (0e000000105f69640001000000000e000000105f69640002000000000e000000105f69640003000000000e000000105f6964000400000000)";
 
-/// The lines. What they print is worked out by hand from docs/SCOPE.md, and the bytes from bsonspec.org 1.1.
+/// The lines. What they print is worked out by hand from docs/development/SCOPE.md, and the bytes from bsonspec.org 1.1.
 const TASKS: [Task; 8] = [
     Task {
         line: "get|c|1",
