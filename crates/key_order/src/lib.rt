@@ -1,0 +1,50 @@
+//! Pairs with their keys ascending by their bytes, put in one after the other.
+#![tactic(auto)]
+
+ghost use Rattle.std.specs.Prelude.{◌≡◌, ◌≤◌, length, IfOk, IfSome, IsTrue};
+ghost use Rattle.key_order.specs.Order.{Ascends, GoesAt, IsPutInOrder};
+
+use std::alloc::AllocError;
+use std::cmp::Ordering;
+
+/// So many pairs are taken: each is looked for among those that are there, from the last to the first.
+pub const MOST_PAIRS: usize = 64;
+
+/// How many of the pairs have their key before this one. None if one has this key.
+fn place_of<T>(pairs: &[(&str, T)], key: &str) -> Option<usize>
+    requires { Ascends pairs.now }
+    ensures goes { IfSome result (λ at. GoesAt key.now at pairs.now) }
+    ensures within { IfSome result (λ at. at ≤ length pairs.now) }
+{
+    let mut at = pairs.len();
+    while at > 0 {
+        match key.cmp(pairs[at - 1].0) {
+            Ordering::Less => at -= 1,
+            Ordering::Equal => return None,
+            Ordering::Greater => return Some(at),
+        }
+    }
+    Some(0)
+}
+
+/// Puts a pair in its place among pairs whose keys ascend. False, and nothing was put, if there are 64 already, or if
+/// one of them has the key.
+pub fn put<'a, T: Copy>(
+    pairs: &mut Vec<(&'a str, T)>,
+    key: &'a str,
+    value: T,
+) -> Result<bool, AllocError>
+    requires { Ascends pairs.old.items }
+    ensures { IfOk result (λ b. IsTrue b → IsPutInOrder key.entry value pairs.old.items pairs.new.items) }
+{
+    if pairs.len() == MOST_PAIRS {
+        return Ok(false);
+    }
+    let Some(at) = place_of(pairs.as_slice(), key) else {
+        return Ok(false);
+    };
+    match pairs.insert(at, (key, value)) {
+        Ok(()) => Ok(true),
+        Err(_) => Err(AllocError),
+    }
+}
