@@ -1,5 +1,5 @@
 -- Trees that are seen in bytes.
-use Rattle.std.proofs.Common.{◌≡◌, ◌-◌, ◌<◌, ℕ, List, [], ◌∷◌, take, drop, length, get_or, Bool, true, false, Option, Some, None, Err, refl, sym, ap, ◌∙◌, subst, arith}
+use Rattle.std.proofs.Common.{◌≡◌, ◌-◌, ◌<◌, ℕ, List, [], ◌∷◌, take, drop, length, get_or, Bool, true, false, Option, Some, None, Ok, Err, refl, sym, ap, ◌∙◌, subst, arith}
 use Rattle.std.specs.Prelude.{◌||◌, IsTrue, nat_eq, not, is_some, if◌then◌else◌}
 use Rattle.std.proofs.lemmas.List.{length-drop, take_all}
 use Rattle.serde_json.specs.Data.{Data}
@@ -18,6 +18,7 @@ use Rattle.bson_meaning.specs.JsonReserved.{has_reserved, reserved_in, reserved_
 use Rattle.bson_model.specs.JsonKeys.{is_reserved, reserved_of}
 use Rattle.bson_model.specs.JsonWrite.{holds_finite, items_hold_finite, members_hold_finite, scalar_is_finite, write}
 use Rattle.bson_model.specs.declared.extjson.ser.Mode.{Mode}
+use Rattle.bson_model.specs.declared.extjson.ser.Mode.TheVariants.{Canonical}
 use Rattle.bson_model.proofs.FiniteLemmas.{is_written}
 use Rattle.store_model.specs.State.{IsKept, or_finite, json_of}
 use Rattle.store_model.specs.declared.error.ErrorKind.TheVariants.{ReservedKey}
@@ -126,7 +127,7 @@ there : (o : Option Data) → is_some o ≡ true → HasTree (or_finite o)
 there (Some j) is = (j, refl)
 there None is = cc
 
-spelled : (b : List ℕ) (d : Members) → IsKept d → b ≡ encode d → SpellsMembers (drop 4 b) d
+pub spelled : (b : List ℕ) (d : Members) → IsKept d → b ≡ encode d → SpellsMembers (drop 4 b) d
 spelled b d kept is =
     let inside : SpellsMembers (drop 4 (encode d)) d = subst (λ (x : List ℕ). SpellsMembers x d) (sym (framed_inside (members_bytes d))) (spelled_members d kept.read.clean kept.read.sound.ranged (omega (arith, kept.small, members_length d))) in
     subst (λ (x : List ℕ). SpellsMembers (drop 4 x) d) (sym is) inside
@@ -135,3 +136,11 @@ pub told_tree : (b : List ℕ) (d : Members) → IsKept d → b ≡ encode d →
 told_tree b d kept is told m =
     let seen = told.0 d (spelled b d kept is) in
     subst (λ (r : Bool). HasTree (if r then Err ReservedKey else or_finite (write m (document d)))) (sym seen.0) (there (write m (document d)) (is_written m (document d) ∙ ap not seen.1))
+
+-- a document that has a tree has no reserved key, and its tree is the written one
+pub its_tree : (d : Members) (j : Data) → HasTree (json_of Canonical d) → write Canonical (document d) ≡ Some j → json_of Canonical d ≡ Ok j
+its_tree d j there is = by (has_reserved d) there
+  where
+    by : (r : Bool) → HasTree (if r then Err ReservedKey else or_finite (write Canonical (document d))) → (if r then Err ReservedKey else or_finite (write Canonical (document d))) ≡ Ok j
+    by false h = ap or_finite is
+    by true h = let bad = h.1 in absurd cc

@@ -51,7 +51,10 @@ fn unidentified(document: &Document) -> ErrorKind
 }
 
 /// The row of the normal form of a document, with its keys in order, where that is kept. Neither is made as a tree.
-fn row_in_order(alloc: Global, document: &Document) -> Result<KeptRow<'static>, ErrorKind>
+pub(crate) fn row_in_order(
+    alloc: Global,
+    document: &Document,
+) -> Result<KeptRow<'static>, ErrorKind>
     ensures { AnswersInput (Keeps (content document.now)) result }
 {
     if depth_of_document(document) > LEVEL_LIMIT {

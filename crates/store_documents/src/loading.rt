@@ -1,13 +1,16 @@
 //! JSON trees as they come in, judged one at a time or all at once.
 
-ghost use Rattle.std.specs.Prelude.{◌++◌, ◌∷◌, [], List, map, Ok, Err, MatchResult};
+ghost use Rattle.std.specs.Prelude.{◌≡◌, ◌++◌, ◌∷◌, [], List, map, Some, Ok, Err, MatchResult, false, IsTrue};
 ghost use Rattle.serde_json.specs.Data.{Data};
+ghost use Rattle.serde_json.specs.Read.{read as data_of_text};
 ghost use Rattle.serde_json.specs.View.{view as data_of};
 ghost use Rattle.store_model.specs.Reading.{ReadsTree, ReadsTrees};
 ghost use Rattle.store_documents.specs.Judging.{AnswersRow, Judges};
 
-use crate::json_row::row_of_json;
+use crate::json_row::{row_in_order, row_of_json};
 use crate::write::KeptRow;
+use bson_text_read::document_of_text;
+use json::Scratch;
 use serde_json::Value;
 use std::alloc::Global;
 use store_model::{ErrorKind, StoreError};
@@ -20,13 +23,16 @@ fn row_of(alloc: Global, json: Value) -> Result<KeptRow<'static>, ErrorKind>
     row_of_json(alloc, json)
 }
 
-/// Judges the next tree behind those of the rows, and puts its row last.
-fn judge(alloc: Global, rows: &mut Vec<KeptRow<'static>>, json: Value) -> Result<(), StoreError>
-    ensures { (js : List Data) → Judges (ReadsTrees js) (Ok rows.old)
-        → MatchResult result (λ _. Judges (ReadsTrees (js ++ data_of json ∷ [])) (Ok rows.new))
-        (λ e. (more : List Data) → Judges (ReadsTrees ((js ++ data_of json ∷ []) ++ more)) (Err e)) }
+/// Puts the row of the next tree behind those of the rows.
+fn keep(
+    rows: &mut Vec<KeptRow<'static>>,
+    row: Result<KeptRow<'static>, ErrorKind>,
+) -> Result<(), StoreError>
+    ensures { (j : Data) → AnswersRow (ReadsTree j) row.entry → (js : List Data) → Judges (ReadsTrees js) (Ok rows.old)
+        → MatchResult result (λ _. Judges (ReadsTrees (js ++ j ∷ [])) (Ok rows.new))
+        (λ e. (more : List Data) → Judges (ReadsTrees ((js ++ j ∷ []) ++ more)) (Err e)) }
 {
-    match row_of(alloc, json) {
+    match row {
         Ok(row) => {
             rows.push(row)?;
             Ok(())
@@ -43,6 +49,8 @@ pub struct Loader {
     /// The first refusal, behind which nothing is judged.
     refusal: Option<StoreError>,
     alloc: Global,
+    /// Room for reading texts.
+    scratch: Scratch,
 }
 
 impl Loader {
@@ -56,6 +64,19 @@ impl Loader {
             rows: Vec::new(alloc),
             refusal: None,
             alloc,
+            scratch: Scratch::new(alloc),
+        }
+    }
+
+    /// Takes the row of the next tree. Behind the first that is refused, rows are let go.
+    fn take_row(&mut self, row: Result<KeptRow<'static>, ErrorKind>)
+        ensures { (j : Data) → AnswersRow (ReadsTree j) row.entry → (js : List Data) → HasTaken self.old js → HasTaken self.new (js ++ j ∷ []) }
+    {
+        if self.refusal.is_some() {
+            return;
+        }
+        if let Err(error) = keep(&mut self.rows, row) {
+            self.refusal = Some(error);
         }
     }
 
@@ -66,9 +87,22 @@ impl Loader {
         if self.refusal.is_some() {
             return;
         }
-        if let Err(error) = judge(self.alloc, &mut self.rows, json) {
-            self.refusal = Some(error);
-        }
+        let row = row_of(self.alloc, json);
+        self.take_row(row);
+    }
+
+    /// Takes the tree of a text (RFC 8259), which isn't made. False, and nothing was taken, for texts that have to be
+    /// read by their tree: those that have none, and some others.
+    pub fn take_text(&mut self, text: &str) -> bool
+        ensures taken { IsTrue result → (j : Data) × (data_of_text text.now ≡ Some j) × ((js : List Data) → HasTaken self.old js → HasTaken self.new (js ++ j ∷ [])) }
+        ensures untaken { result ≡ false → (js : List Data) → HasTaken self.old js → HasTaken self.new js }
+    {
+        let Ok(document) = document_of_text(self.alloc, text, &mut self.scratch) else {
+            return false;
+        };
+        let row = row_in_order(self.alloc, &document);
+        self.take_row(row);
+        true
     }
 
     /// The rows of the trees that were taken.
@@ -82,6 +116,7 @@ impl Loader {
             rows,
             refusal,
             alloc: _,
+            scratch: _,
         } = self;
         match refusal {
             None => Ok(rows),

@@ -104,7 +104,7 @@ fn holds_told(bytes: &[u8], keys: Keys, inner: usize) -> bool
 
 /// True: the kept document whose written form these bytes are has a tree. False says nothing: that is returned, too,
 /// for documents with any double, with code with scope, or with another key that begins with `$` below the top.
-fn has_tree(body: &[u8]) -> bool
+pub(crate) fn has_tree(body: &[u8]) -> bool
     ensures { IsTrue result → (d : Members) → IsKept d → body.now ≡ encode d → (m : Form) → HasTree (json_of m d) }
 {
     holds_told(body, Keys::Free, LEVEL_LIMIT)

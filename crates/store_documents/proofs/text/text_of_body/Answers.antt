@@ -7,7 +7,7 @@ use Rattle.store_documents.proofs.text.text_of_body.Goals as goal
 
 pub returns-in_err-document : goal.returns-in_err-document
 returns-in_err-document c = λ d kept is.
-    let p = err_from_is_err_and c.from_residual.result c.from_residual.ensures.1 in
+    let p = err_from_is_err_and c.from_residual-in_err-document.result c.from_residual-in_err-document.ensures.1 in
     rw (p.1, p.2) (inr (c.in_err-document.ensures d kept is))
 
 pub returns : goal.returns
