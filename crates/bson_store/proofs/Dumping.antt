@@ -22,9 +22,9 @@ use Rattle.bson_store.specs.Calls.{Does}
 use Rattle.bson_store.specs.Dump.{AreFirstTrees, HandedOn, HandsOn, HandsTrees, Stops, TakesAll}
 use Rattle.bson_store.specs.Refusals.{IsDenied, kind_of_fault}
 use Rattle.store_model.specs.Refusal.{refusal}
-use Rattle.bson_store.specs.declared.dump.JsonVisitor.{JsonVisitor}
 use Rattle.bson_store.specs.declared.dump.Trees.{Trees}
 use Rattle.store_model.specs.declared.error.StoreError.{StoreError}
+use Rattle.bson_store.specs.declared.walk.Walk.{Walk}
 use Rattle.bson_store.proofs.Adding.{kept_there}
 use Rattle.bson_store.proofs.Exporting.{bodies_are}
 use Rattle.bson_store.proofs.Moving.{rests, moved}
@@ -156,7 +156,7 @@ handed_one old new was refused_by i next bodies body None none hands h ds kept i
     let k = subst AreKept p.split kept in
     let t = h p.front (front_kept p.front (p.d ∷ []) k) p.written in
     let r = hands t.0 p.d (kept_last p.front p.d k) p.last t.2.0 in
-    (t.0 ++ r.0 ∷ [], ap (trees_of 0) p.split ∙ trees_longer 0 p.front p.d t.0 r.0 t.1 r.1, (r.2, r.3 ∙ ap (λ (m : ℕ). m + 1) t.2.1 ∙ sym (longer t.0 r.0)))
+    (t.0 ++ r.0.0 ∷ [], ap (trees_of 0) p.split ∙ trees_longer 0 p.front p.d t.0 r.0.0 t.1 r.0.1, (r.0.2, r.1 ∙ ap (λ (m : ℕ). m + 1) t.2.1 ∙ sym (longer t.0 r.0.0)))
 
 -- the body has no tree, or it is refused
 pub handed_none : (old new : List Data → Type 0) (was refused_by : List Data → StoreError → Type 0) (i next : ℕ) (bodies : List (List ℕ)) (body : List ℕ) (o : Option StoreError) (e : StoreError) → is_some o ≡ false
@@ -216,19 +216,19 @@ pub unnamed : {T : Type 0} (took : T → List Data → Type 0) (refused_by : T �
 unnamed took refused_by s n t e start bad is = rests s (HandsTrees took refused_by n (Err (e, t))) (λ docs. record { same = refl; handed = λ a _. inl (bad, is, start) })
 
 -- what a visitor has handed on since it was the first
-abbrev pub Took : {T : Type 0} → (T → T → List Data → Type 0) → (T → T → List Data → StoreError → Type 0) → JsonVisitor T → JsonVisitor T → List (List ℕ) → Type 0
-Took took refused_by first v bodies = HandedOn (took first.taker v.taker) (refused_by first.taker v.taker) v.place bodies v.refusal
+abbrev pub Took : {T : Type 0} → (T → T → List Data → Type 0) → (T → T → List Data → StoreError → Type 0) → Walk T → Walk T → List (List ℕ) → Type 0
+Took took refused_by first v bodies = HandedOn (took first.step v.step) (refused_by first.step v.step) v.place bodies v.refusal
 
-module _ {T : Type 0} (took : T → T → List Data → Type 0) (refused_by : T → T → List Data → StoreError → Type 0) (first last : JsonVisitor T) (n : List ℕ) (docs after : List TableRow) (start : took first.taker first.taker []) (at : first.place ≡ 0) (fine : first.refusal ≡ None) (good : IsName n) where
+module _ {T : Type 0} (took : T → T → List Data → Type 0) (refused_by : T → T → List Data → StoreError → Type 0) (first last : Walk T) (n : List ℕ) (docs after : List TableRow) (start : took first.step first.step []) (at : first.place ≡ 0) (fine : first.refusal ≡ None) (good : IsName n) where
   starts : Took took refused_by first first []
-  starts = subst (λ o. HandedOn (took first.taker first.taker) (refused_by first.taker first.taker) first.place [] o) (sym fine) (handed_nothing (took first.taker first.taker) (refused_by first.taker first.taker) first.place start at)
+  starts = subst (λ o. HandedOn (took first.step first.step) (refused_by first.step first.step) first.place [] o) (sym fine) (handed_nothing (took first.step first.step) (refused_by first.step first.step) first.place start at)
 
   -- what is told of the documents that were gone through
   abbrev Gone : Option StoreError → Documents → Type 0
-  Gone o ds = MatchOption o (TakesAll (λ js. took first.taker last.taker js × (last.place ≡ length js)) ds) (Stops (took first.taker last.taker) (refused_by first.taker last.taker) ds)
+  Gone o ds = MatchOption o (TakesAll (λ js. took first.step last.step js × (last.place ≡ length js)) ds) (Stops (took first.step last.step) (refused_by first.step last.step) ds)
 
   -- the table refused
-  pub unhanded : (x : Fault) → last.refusal ≡ None → Visits (Took took refused_by first) first last n (Err x) docs after → HandsTrees (took first.taker) (refused_by first.taker) n (Err (refusal (kind_of_fault x), last.taker)) docs after
+  pub unhanded : (x : Fault) → last.refusal ≡ None → Visits (Took took refused_by first) first last n (Err x) docs after → HandsTrees (took first.step) (refused_by first.step) n (Err (refusal (kind_of_fault x), last.step)) docs after
   unhanded x none h =
       let w = h.some starts in
       record {
@@ -240,7 +240,7 @@ module _ {T : Type 0} (took : T → T → List Data → Type 0) (refused_by : T 
       }
 
   -- all trees were taken
-  pub handed : (all : Bool) → last.refusal ≡ None → (all ≡ false → is_some last.refusal ≡ true) → Visits (Took took refused_by first) first last n (Ok all) docs after → HandsTrees (took first.taker) (refused_by first.taker) n (Ok last.taker) docs after
+  pub handed : (all : Bool) → last.refusal ≡ None → (all ≡ false → is_some last.refusal ≡ true) → Visits (Took took refused_by first) first last n (Ok all) docs after → HandsTrees (took first.step) (refused_by first.step) n (Ok last.step) docs after
   handed false none stopped h = let some : is_some last.refusal ≡ true = stopped refl in let no_one : is_some last.refusal ≡ false = ap is_some none in absurd (cc)
   handed true none stopped h = record {
     same = h.same;
@@ -251,7 +251,7 @@ module _ {T : Type 0} (took : T → T → List Data → Type 0) (refused_by : T 
   }
 
   -- some document stopped it, or the taker
-  pub stopped_at : (result : Result Bool Fault) (e : StoreError) → last.refusal ≡ Some e → Visits (Took took refused_by first) first last n result docs after → HandsTrees (took first.taker) (refused_by first.taker) n (Err (e, last.taker)) docs after
+  pub stopped_at : (result : Result Bool Fault) (e : StoreError) → last.refusal ≡ Some e → Visits (Took took refused_by first) first last n result docs after → HandsTrees (took first.step) (refused_by first.step) n (Err (e, last.step)) docs after
   stopped_at result e is h =
       let w = h.some starts in
       record {
@@ -259,7 +259,7 @@ module _ {T : Type 0} (took : T → T → List Data → Type 0) (refused_by : T 
         handed = λ a s.
             let p = parted w.0 w.1 (documents_of a n) (w.2 ∙ bodies_are n a docs s.each) in
             let t : Gone (Some e) p.front = subst (λ o. Gone o p.front) is (w.3 p.front (front_kept p.front p.back (subst AreKept p.split (kept_there docs a n s))) p.written) in
-            inr (good, subst (λ l. Stops (took first.taker last.taker) (refused_by first.taker last.taker) l e) (sym p.split) (stops_longer (took first.taker last.taker) (refused_by first.taker last.taker) p.front p.back e t));
+            inr (good, subst (λ l. Stops (took first.step last.step) (refused_by first.step last.step) l e) (sym p.split) (stops_longer (took first.step last.step) (refused_by first.step last.step) p.front p.back e t));
       }
 
 -- ---- all trees as the answer of a dump

@@ -15,8 +15,8 @@ pub mod Naming
 pub mod Keyed
 pub mod Adding
 pub mod Importing
+pub mod Devices
 pub mod Dumping
-pub mod Printing
 pub mod Passing
 pub mod Opened
 pub mod Renewed

@@ -28,9 +28,14 @@ TellsText r i t (Err e) = (e ≡ refusal Memory) ⊎ ((k : ErrorKind) × (r ≡ 
 
 -- The tree that r has was taken after these; or the taker refused it; or only these were taken, and the refusal of r is
 -- reported, or memory ran out, or the database refused.
+abbrev pub StepsOn : (List Data → Type 0) → (List Data → StoreError → Type 0) → List Data → ℕ → Result Data ErrorKind → Result (Unit {0}) StoreError → Type 0
+StepsOn took refused_by out i r (Ok x) = (j : Data) × (r ≡ Ok j) × took (out ++ j ∷ [])
+StepsOn took refused_by out i r (Err e) = refused_by out e ⊎ (took out × (IsDenied e ⊎ ((k : ErrorKind) × (r ≡ Err k) × (e ≡ refusal_at k i))))
+
+-- the same, with the next place
 abbrev pub HandsOn : (List Data → Type 0) → (List Data → StoreError → Type 0) → List Data → ℕ → Result Data ErrorKind → Result ℕ StoreError → Type 0
-HandsOn took refused_by out i r (Ok next) = (j : Data) × (r ≡ Ok j) × took (out ++ j ∷ []) × (next ≡ i + 1)
-HandsOn took refused_by out i r (Err e) = refused_by out e ⊎ (took out × (IsDenied e ⊎ ((k : ErrorKind) × (r ≡ Err k) × (e ≡ refusal_at k i))))
+HandsOn took refused_by out i r (Ok next) = StepsOn took refused_by out i r (Ok tt) × (next ≡ i + 1)
+HandsOn took refused_by out i r (Err e) = StepsOn took refused_by out i r (Err e)
 
 -- the trees of all these documents were taken
 abbrev pub TakesAll : (List Data → Type 0) → Documents → Type 0

@@ -1,5 +1,5 @@
 -- What the refusals of the table are reported as, and what a call's result is as a reply.
-use Rattle.std.specs.Prelude.{◌≡◌, ◌≢◌, Bool, ℕ, Result, Ok, Err, Vec, map}
+use Rattle.std.specs.Prelude.{◌≡◌, ◌≢◌, ◌+◌, Bool, ℕ, Result, Ok, Err, Vec, map}
 use Rattle.std.specs.declared.alloc.Global.{Global}
 use Rattle.serde_json.specs.View.{view as data_of}
 use Rattle.serde_json.specs.declared.value.Value.{Value as Json}
@@ -25,7 +25,7 @@ kind_of_opening (opens.IdsCollide first second) = IdsCollide first second
 kind_of_opening opens.Memory = Memory
 kind_of_opening opens.Database = Database
 
--- memory ran out, or the database refused
+-- memory was wanted, or the database refused
 abbrev pub IsDenied : StoreError → Type 0
 IsDenied e = (x : Fault) × (x ≢ faults.Places) × (e ≡ refusal (kind_of_fault x))
 
@@ -51,3 +51,8 @@ as_number i = model.number i
 
 abbrev pub as_json_list : Vec Json Global → model.Reply
 as_json_list v = model.json_list (map data_of v.items)
+
+-- a call of a device failed exactly if its kind is reported
+abbrev pub ReportsFailure : {A : Type 0} → ErrorKind → Result A StoreError → ℕ → ℕ → Type 0
+ReportsFailure kind (Ok x) old new = new ≡ old
+ReportsFailure kind (Err e) old new = model.When (e.kind ≡ kind) (new ≡ old + 1) (new ≡ old)

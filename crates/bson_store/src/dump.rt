@@ -10,18 +10,17 @@ ghost use Rattle.store_table.specs.Moves.{WasOpen};
 ghost use Rattle.store_model.specs.State.{IsKept, dump, on, json_of};
 ghost use Rattle.sqlite.specs.State.{Survives};
 ghost use Rattle.bson_store.specs.Calls.{store_state, Does, Relates};
-ghost use Rattle.bson_store.specs.Dump.{HandsOn, HandsTrees, TellsTree};
+ghost use Rattle.bson_store.specs.Dump.{HandsTrees, TellsTree};
 ghost use Rattle.bson_store.specs.Refusals.{as_json_list, reply_by};
 
-use crate::error::fault_refusal;
-use crate::store::{Store, good_name};
+use crate::store::Store;
+use crate::walk::Step;
 use bson_model::extjson::Mode;
 use serde_json::Value;
 use sqlite::Alter;
 use std::alloc::Global;
 use store_documents::json_of_body;
-use store_model::{ErrorKind, StoreError};
-use store_table::Visit;
+use store_model::StoreError;
 
 /// What is done with the trees of a collection's documents, which come one at a time.
 pub trait TakeJson {
@@ -49,57 +48,20 @@ fn tree_at(alloc: Global, body: &[u8], place: u64) -> Result<Value, StoreError>
     }
 }
 
-/// Passes the tree of the body at a place to the taker, and returns the next place.
-fn hand_on<T: TakeJson>(
-    alloc: Global,
-    taker: &mut T,
-    body: &[u8],
-    place: u64,
-) -> Result<u64, StoreError>
-    ensures { (first : T) (out : List Data) (d : Members) → IsKept d → body.now ≡ encode d → T.took first taker.old out
-        → HandsOn (T.took first taker.new) (T.refused first taker.new) out place (json_of Canonical d) result }
-{
-    let tree = tree_at(alloc, body, place)?;
-    let Some(next) = place.checked_add(1) else {
-        // There are fewer places for rows than numbers.
-        return Err(StoreError::from(ErrorKind::Database));
-    };
-    taker.take(tree)?;
-    Ok(next)
-}
-
-/// Passes on the trees of the bodies that the table hands out, one body at a time. After the first that has no tree, or
-/// that is refused, it asks for no more.
+/// Hands trees to a taker.
 #[derive(Drop)]
-pub struct JsonVisitor<T> {
-    pub taker: T,
-    pub alloc: Global,
-    pub place: u64,
-    pub refusal: Option<StoreError>,
+struct JsonStep<T> {
+    taker: T,
 }
 
-impl<T: TakeJson> Visit for JsonVisitor<T> {
-    ghost use Rattle.std.specs.Prelude.{IsSome};
-    ghost use Rattle.bson_store.specs.Dump.{HandedOn};
+impl<T: TakeJson> Step for JsonStep<T> {
+    ghost took = { λ first step out. T.took first.taker step.taker out };
 
-    ghost took = { λ first v bodies. HandedOn (T.took first.taker v.taker) (T.refused first.taker v.taker) v.place bodies v.refusal };
+    ghost refused = { λ first step out e. T.refused first.taker step.taker out e };
 
-    ghost is_done = { λ v. IsSome v.refusal };
-
-    fn visit(&mut self, body: &[u8]) -> bool {
-        if self.refusal.is_some() {
-            return false;
-        }
-        match hand_on(self.alloc, &mut self.taker, body, self.place) {
-            Ok(next) => {
-                self.place = next;
-                true
-            }
-            Err(error) => {
-                self.refusal = Some(error);
-                false
-            }
-        }
+    fn step(&mut self, alloc: Global, body: &[u8], place: u64) -> Result<(), StoreError> {
+        let tree = tree_at(alloc, body, place)?;
+        self.taker.take(tree)
     }
 }
 
@@ -140,29 +102,9 @@ impl<S: Alter + Drop> Store<S> {
         ensures open { WasOpen (store_state S.Store self.old) (store_state S.Store self.new) result }
         ensures crash { Survives (store_state S.Store self.old) (store_state S.Store self.new) (λ _. ⊥) }
     {
-        let name = match good_name(name) {
-            Ok(name) => name,
-            Err(error) => return Err((error, taker)),
-        };
-        let mut visitor = JsonVisitor {
-            taker,
-            alloc: self.alloc,
-            place: 0,
-            refusal: None,
-        };
-        let visited = self.table.visit_bodies(name.as_str(), &mut visitor);
-        let JsonVisitor {
-            taker,
-            alloc: _,
-            place: _,
-            refusal,
-        } = visitor;
-        if let Some(error) = refusal {
-            return Err((error, taker));
-        }
-        match visited {
-            Ok(_) => Ok(taker),
-            Err(fault) => Err((fault_refusal(fault), taker)),
+        match self.walk(name, JsonStep { taker }) {
+            Ok(step) => Ok(step.taker),
+            Err((error, step)) => Err((error, step.taker)),
         }
     }
 

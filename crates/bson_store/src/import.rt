@@ -1,6 +1,6 @@
 //! Many documents at once: all of them go into a collection, or none.
 
-ghost use Rattle.std.specs.Prelude.{◌≡◌, ◌||◌, ℕ, List, length, map, false, Some, None, IfOk, IsErrOf, IsTrue};
+ghost use Rattle.std.specs.Prelude.{◌≡◌, ◌||◌, ℕ, List, length, map, false, Some, None, IfOk, IfErr, IsErrOf, IsTrue};
 ghost use Rattle.bson_base.specs.Device.{CanFail};
 ghost use Rattle.std.specs.List.{AllZip};
 ghost use Rattle.std.specs.Str.{bytes_eq};
@@ -17,8 +17,9 @@ ghost use Rattle.store_documents.specs.Judging.{Judges};
 ghost use Rattle.store_documents.specs.Keys.{has_met};
 ghost use Rattle.store_documents.specs.Loading.{HasTaken};
 ghost use Rattle.bson_store.specs.Calls.{store_state, Relates};
-ghost use Rattle.bson_store.specs.Many.{AddsAll, DoesMany, FindsTaken, Imports, Lends, Meets};
-ghost use Rattle.bson_store.specs.Refusals.{as_number, reply_by};
+ghost use Rattle.bson_store.specs.Many.{AddsAll, DoesMany, FindsTaken, Imports, IsAddFault, Lends, Meets};
+ghost use Rattle.bson_store.specs.Refusals.{ReportsFailure, as_number, reply_by};
+ghost use Rattle.store_model.specs.declared.error.ErrorKind.TheVariants.{Reader};
 
 use crate::error::fault_refusal;
 use crate::store::{Store, good_name};
@@ -64,6 +65,7 @@ impl<S: Alter + Drop> Store<S> {
         ensures moves { Relates S.Store self.old self.new (Meets collection.now key.now met.old result) }
         ensures open { WasOpen (store_state S.Store self.old) (store_state S.Store self.new) result }
         ensures crash { Survives (store_state S.Store self.old) (store_state S.Store self.new) (λ _. ⊥) }
+        ensures own { IfErr result IsAddFault }
         ensures met { IfOk result (λ taken. taken ≡ false → (k : List ℕ) → has_met met.new k ≡ bytes_eq k key.now || has_met met.old k) }
     {
         let found = match self.table.place_of(collection, key) {
@@ -84,6 +86,7 @@ impl<S: Alter + Drop> Store<S> {
         rows: &[KeptRow<'_>],
     ) -> Result<Option<u64>, StoreError>
         ensures moves { Relates S.Store self.old self.new (FindsTaken collection.now rows.now result) }
+        ensures own { IfErr result IsAddFault }
         ensures open { HasCleanDisk (store_state S.Store self.new) → (docs : List TableRow) → Stands (store_state S.Store self.old) docs → IfOk result (λ _. IsTrue (store_state S.Store self.new).is_open → IsTrue (store_state S.Store self.old).is_open) }
         ensures crash { Survives (store_state S.Store self.old) (store_state S.Store self.new) (λ _. ⊥) }
     {
@@ -106,6 +109,7 @@ impl<S: Alter + Drop> Store<S> {
         rows: &[KeptRow<'_>],
     ) -> Result<Option<u64>, StoreError>
         ensures moves { Relates S.Store self.old self.new (FindsTaken collection.now rows.now result) }
+        ensures own { IfErr result IsAddFault }
         ensures open { HasCleanDisk (store_state S.Store self.new) → (docs : List TableRow) → Stands (store_state S.Store self.old) docs → IfOk result (λ _. IsTrue (store_state S.Store self.new).is_open → IsTrue (store_state S.Store self.old).is_open) }
         ensures crash { Survives (store_state S.Store self.old) (store_state S.Store self.new) (λ _. ⊥) }
     {
@@ -134,6 +138,7 @@ impl<S: Alter + Drop> Store<S> {
     fn add_all(&mut self, name: Name<'_>, rows: &[KeptRow<'_>]) -> Result<u64, StoreError>
         ensures moves { Relates S.Store self.old self.new (AddsAll (name_bytes name.entry) rows.now result) }
         ensures open { WasOpen (store_state S.Store self.old) (store_state S.Store self.new) result }
+        ensures own { IfErr result IsAddFault }
         ensures crash { LeavesRows (name_bytes name.entry) rows.now result (store_state S.Store self.old) (store_state S.Store self.new) }
     {
         let collection = name.as_str();
@@ -161,6 +166,9 @@ impl<S: Alter + Drop> Store<S> {
         ensures moves { Relates S.Store self.old self.new (Imports name.now (R.feed reader.old)
             (R.feed reader.new) result) }
         ensures open { WasOpen (store_state S.Store self.old) (store_state S.Store self.new) result }
+        // `Reader` is reported exactly if a read failed, whatever the disk does.
+        ensures device { ReportsFailure Reader result (R.feed reader.old).failures
+            (R.feed reader.new).failures }
         ensures crash { LeavesImport name.now (R.feed reader.old) (R.feed reader.new) result
             (store_state S.Store self.old) (store_state S.Store self.new) }
     {

@@ -15,6 +15,7 @@ mod questions;
 mod row_test;
 mod store;
 mod texts;
+mod walk;
 
 pub use batch::run;
 pub use bson_model::{

@@ -16,13 +16,13 @@ ghost use Rattle.bson_store.specs.Left.{FindsState, Holds, HoldsOnce, Keeps, Lea
 ghost use Rattle.store_table.specs.Rows.{TableRow, with_body_at};
 ghost use Rattle.bson_store.specs.Calls.{store_connection, store_state, Does, DoesBytes, DoesTree, DoesRead, Looks, Relates};
 ghost use Rattle.bson_store.specs.Export.{SendsCollection};
-ghost use Rattle.bson_store.specs.Refusals.{reply_by, as_done, as_flag, as_bytes, as_json};
+ghost use Rattle.bson_store.specs.Refusals.{ReportsFailure, reply_by, as_done, as_flag, as_bytes, as_json};
 ghost use Rattle.store_model.specs.Refusal.{refusal};
 ghost use Rattle.store_documents.specs.Bodies.{AnswersWritten};
 ghost use Rattle.store_documents.specs.Names.{name_bytes};
 ghost use Rattle.store_model.specs.Reading.{IsRead, read_value};
 ghost use Rattle.store_model.specs.State.{IsName, IsFreeKey, in_bytes, in_json, insert, replace, set, unset, remove, get_raw, get_json, on};
-ghost use Rattle.store_model.specs.declared.error.ErrorKind.TheVariants.{BadName, Database, NotAStore};
+ghost use Rattle.store_model.specs.declared.error.ErrorKind.TheVariants.{BadName, Database, NotAStore, Writer};
 
 use crate::error::{fault_refusal, opening_refusal};
 use crate::export::ExportVisitor;
@@ -391,6 +391,9 @@ impl<S: Alter + Drop> Store<S> {
         ensures moves { Relates S.Store self.old self.new (SendsCollection name.now (W.tally writer.old)
             (W.tally writer.new) result) }
         ensures open { WasOpen (store_state S.Store self.old) (store_state S.Store self.new) result }
+        // `Writer` is reported exactly if a write failed, whatever the disk does.
+        ensures device { ReportsFailure Writer result (W.tally writer.old).failures
+            (W.tally writer.new).failures }
         ensures crash { Survives (store_state S.Store self.old) (store_state S.Store self.new) (λ _. ⊥) }
     {
         let name = good_name(name)?;

@@ -10,15 +10,14 @@ ghost use Rattle.store_table.specs.Moves.{WasOpen};
 ghost use Rattle.store_model.specs.State.{IsKept, json_of};
 ghost use Rattle.sqlite.specs.State.{Survives};
 ghost use Rattle.bson_store.specs.Calls.{store_state, Relates};
-ghost use Rattle.bson_store.specs.Dump.{HandsOn, HandsTrees, TellsText};
+ghost use Rattle.bson_store.specs.Dump.{HandsTrees, TellsText};
 
-use crate::error::fault_refusal;
-use crate::store::{Store, good_name};
+use crate::store::Store;
+use crate::walk::Step;
 use sqlite::Alter;
 use std::alloc::Global;
 use store_documents::text_of_body;
-use store_model::{ErrorKind, StoreError};
-use store_table::Visit;
+use store_model::StoreError;
 
 /// What is done with the texts of the trees of a collection's documents, which come one at a time.
 pub trait TakeText {
@@ -49,66 +48,23 @@ fn text_at(alloc: Global, body: &[u8], place: u64, text: &mut String) -> Result<
     }
 }
 
-/// Passes the text of the tree of the body at a place to the taker, and returns the next place.
-fn hand_text<T: TakeText>(
-    alloc: Global,
-    taker: &mut T,
-    body: &[u8],
-    place: u64,
-    text: &mut String,
-) -> Result<u64, StoreError>
-    ensures { (first : T) (out : List Data) (d : Members) → IsKept d → body.now ≡ encode d → T.took first taker.old out
-        → HandsOn (T.took first taker.new) (T.refused first taker.new) out place (json_of Canonical d) result }
-{
-    text_at(alloc, body, place, text)?;
-    let Some(next) = place.checked_add(1) else {
-        // There are fewer places for rows than numbers.
-        return Err(StoreError::from(ErrorKind::Database));
-    };
-    taker.take_text(text.as_str())?;
-    Ok(next)
-}
-
-/// Passes on the texts of the bodies that the table hands out, one body at a time. After the first that has none, or
-/// that is refused, it asks for no more.
+/// Hands the texts of trees to a taker.
 #[derive(Drop)]
-pub struct TextVisitor<T> {
-    pub taker: T,
-    pub alloc: Global,
-    pub place: u64,
-    pub refusal: Option<StoreError>,
-    /// Where each text is made, in the room of the one before it.
-    pub text: String,
+struct TextStep<T> {
+    taker: T,
+    /// Where each text is made, in the memory of the one before it.
+    text: String,
 }
 
-impl<T: TakeText> Visit for TextVisitor<T> {
-    ghost use Rattle.std.specs.Prelude.{IsSome};
-    ghost use Rattle.bson_store.specs.Dump.{HandedOn};
+impl<T: TakeText> Step for TextStep<T> {
+    ghost took = { λ first step out. T.took first.taker step.taker out };
 
-    ghost took = { λ first v bodies. HandedOn (T.took first.taker v.taker) (T.refused first.taker v.taker) v.place bodies v.refusal };
+    ghost refused = { λ first step out e. T.refused first.taker step.taker out e };
 
-    ghost is_done = { λ v. IsSome v.refusal };
-
-    fn visit(&mut self, body: &[u8]) -> bool {
-        if self.refusal.is_some() {
-            return false;
-        }
-        match hand_text(
-            self.alloc,
-            &mut self.taker,
-            body,
-            self.place,
-            &mut self.text,
-        ) {
-            Ok(next) => {
-                self.place = next;
-                true
-            }
-            Err(error) => {
-                self.refusal = Some(error);
-                false
-            }
-        }
+    fn step(&mut self, alloc: Global, body: &[u8], place: u64) -> Result<(), StoreError> {
+        text_at(alloc, body, place, &mut self.text)?;
+        self.taker.take_text(self.text.as_str())?;
+        Ok(())
     }
 }
 
@@ -128,32 +84,10 @@ impl<S: Alter + Drop> Store<S> {
         ensures open { WasOpen (store_state S.Store self.old) (store_state S.Store self.new) result }
         ensures crash { Survives (store_state S.Store self.old) (store_state S.Store self.new) (λ _. ⊥) }
     {
-        let name = match good_name(name) {
-            Ok(name) => name,
-            Err(error) => return Err((error, taker)),
-        };
         let text = String::new(self.alloc);
-        let mut visitor = TextVisitor {
-            taker,
-            alloc: self.alloc,
-            place: 0,
-            refusal: None,
-            text,
-        };
-        let visited = self.table.visit_bodies(name.as_str(), &mut visitor);
-        let TextVisitor {
-            taker,
-            alloc: _,
-            place: _,
-            refusal,
-            text: _,
-        } = visitor;
-        if let Some(error) = refusal {
-            return Err((error, taker));
-        }
-        match visited {
-            Ok(_) => Ok(taker),
-            Err(fault) => Err((fault_refusal(fault), taker)),
+        match self.walk(name, TextStep { taker, text }) {
+            Ok(step) => Ok(step.taker),
+            Err((error, step)) => Err((error, step.taker)),
         }
     }
 }

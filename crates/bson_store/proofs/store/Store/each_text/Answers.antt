@@ -1,51 +1,21 @@
-use Rattle.std.proofs.Common.{Ok, Err, None, refl, subst, sym}
-use Rattle.store_table.specs.Moves.{Visits}
-use Rattle.store_table.specs.Table.{table_state}
-use Rattle.store_documents.specs.Names.{name_bytes}
-use Rattle.store_model.specs.State.{IsName}
+use Rattle.std.proofs.Common.{Ok, Err}
 use Rattle.bson_store.specs.Calls.{store_state}
 use Rattle.bson_store.specs.Dump.{HandsTrees}
-use Rattle.bson_store.specs.Refusals.{kind_of_fault}
-use Rattle.store_model.specs.Refusal.{refusal}
-use Rattle.bson_store.specs.declared.texts.TextVisitor.{TextVisitor}
 use Rattle.bson_store.proofs.Moving.{moved}
-use Rattle.bson_store.proofs.Dumping.{handed, stopped_at, unhanded}
-use Rattle.bson_store.proofs.Printing.{TookTexts, as_trees, visits_alike}
 use Rattle.bson_store.proofs.store.Store.each_text.Goals as goal
 
-pub returns-in-Some-clause-moves : goal.returns-in-Some-clause-moves
-returns-in-Some-clause-moves g c start =
+pub returns-in-Ok-clause-moves : goal.returns-in-Ok-clause-moves
+returns-in-Ok-clause-moves g c start =
     let took = g.T.TakeText.took in
     let refused_by = g.T.TakeText.refused in
-    let first : TextVisitor g.row.T.Denot = record { taker = c.args.taker; alloc = c.args.self.now.alloc; place = 0; refusal = None; text = c.new-text.result } in
-    let last = c.visit_bodies-visited.new.visitor in
-    let n = name_bytes c.in-Ok.name in
-    moved (store_state g.S.Store c.args.self.now) (table_state g.S.Store c.visit_bodies-visited.new.self) (Visits (TookTexts took refused_by first) first last n (c.visit_bodies-visited.result)) (HandsTrees (took c.args.taker) (refused_by c.args.taker) c.args.name.now (Err (c.in-Some.error, last.taker)))
-    (rw c.as_str.ensures.text at c.visit_bodies-visited.ensures.moves)
-    (λ docs after h. subst (λ m. HandsTrees (took c.args.taker) (refused_by c.args.taker) m (Err (c.in-Some.error, last.taker)) docs after) c.in-Ok.ensures.0
-    (stopped_at took refused_by (as_trees first) (as_trees last) n docs after start refl refl (subst IsName (sym c.in-Ok.ensures.0) c.in-Ok.ensures.1) c.visit_bodies-visited.result c.in-Some.error c.in-Some.is (visits_alike took refused_by first last n c.visit_bodies-visited.result docs after h)))
+    let n = c.args.name.now in
+    moved (store_state g.S.Store c.args.self.now) (store_state g.S.Store c.walk.new.self) _ (HandsTrees (took c.args.taker) (refused_by c.args.taker) n (Ok c.in-Ok.step.taker))
+    (c.in-Ok.ensures.moves start) (λ docs after h. record { same = h.same; handed = h.handed })
 
-pub returns-in-Ok-visited-clause-moves : goal.returns-in-Ok-visited-clause-moves
-returns-in-Ok-visited-clause-moves g c start =
+pub returns-in-Err-clause-moves : goal.returns-in-Err-clause-moves
+returns-in-Err-clause-moves g c start =
     let took = g.T.TakeText.took in
     let refused_by = g.T.TakeText.refused in
-    let first : TextVisitor g.row.T.Denot = record { taker = c.args.taker; alloc = c.args.self.now.alloc; place = 0; refusal = None; text = c.new-text.result } in
-    let last = c.visit_bodies-visited.new.visitor in
-    let n = name_bytes c.in-Ok.name in
-    moved (store_state g.S.Store c.args.self.now) (table_state g.S.Store c.visit_bodies-visited.new.self) (Visits (TookTexts took refused_by first) first last n (Ok c.in-Ok-visited.field-0)) (HandsTrees (took c.args.taker) (refused_by c.args.taker) c.args.name.now (Ok last.taker))
-    (rw c.as_str.ensures.text at c.in-Ok-visited.ensures.moves)
-    (λ docs after h. subst (λ m. HandsTrees (took c.args.taker) (refused_by c.args.taker) m (Ok last.taker) docs after) c.in-Ok.ensures.0
-    (handed took refused_by (as_trees first) (as_trees last) n docs after start refl refl (subst IsName (sym c.in-Ok.ensures.0) c.in-Ok.ensures.1) c.in-Ok-visited.field-0 c.in_default.is c.in-Ok-visited.ensures.stopped (visits_alike took refused_by first last n (Ok c.in-Ok-visited.field-0) docs after h)))
-
-pub returns-clause-moves : goal.returns-clause-moves
-returns-clause-moves g c start =
-    let took = g.T.TakeText.took in
-    let refused_by = g.T.TakeText.refused in
-    let first : TextVisitor g.row.T.Denot = record { taker = c.args.taker; alloc = c.args.self.now.alloc; place = 0; refusal = None; text = c.new-text.result } in
-    let last = c.visit_bodies-visited.new.visitor in
-    let n = name_bytes c.in-Ok.name in
-    rw c.fault_refusal.ensures
-    (moved (store_state g.S.Store c.args.self.now) (table_state g.S.Store c.visit_bodies-visited.new.self) (Visits (TookTexts took refused_by first) first last n (Err c.in-Err-visited.fault)) (HandsTrees (took c.args.taker) (refused_by c.args.taker) c.args.name.now (Err (refusal (kind_of_fault c.in-Err-visited.fault), last.taker)))
-    (rw c.as_str.ensures.text at c.in-Err-visited.ensures.moves)
-    (λ docs after h. subst (λ m. HandsTrees (took c.args.taker) (refused_by c.args.taker) m (Err (refusal (kind_of_fault c.in-Err-visited.fault), last.taker)) docs after) c.in-Ok.ensures.0
-    (unhanded took refused_by (as_trees first) (as_trees last) n docs after start refl refl (subst IsName (sym c.in-Ok.ensures.0) c.in-Ok.ensures.1) c.in-Err-visited.fault c.in_default.is (visits_alike took refused_by first last n (Err c.in-Err-visited.fault) docs after h))))
+    let n = c.args.name.now in
+    moved (store_state g.S.Store c.args.self.now) (store_state g.S.Store c.walk.new.self) _ (HandsTrees (took c.args.taker) (refused_by c.args.taker) n (Err (c.in-Err.error, c.in-Err.step.taker)))
+    (c.in-Err.ensures.moves start) (λ docs after h. record { same = h.same; handed = h.handed })

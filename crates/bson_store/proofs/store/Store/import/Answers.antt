@@ -1,4 +1,4 @@
-use Rattle.std.proofs.Common.{Err, subst}
+use Rattle.std.proofs.Common.{Err, inr, refl, subst}
 use Rattle.std.proofs.lemmas.Result.{err_from_is_err_and}
 use Rattle.store_documents.specs.Names.{name_bytes}
 use Rattle.store_model.specs.declared.error.ErrorKind.TheVariants as kind
@@ -8,6 +8,7 @@ use Rattle.store_documents.specs.Judging.{Judges}
 use Rattle.bson_store.specs.Calls.{store_state}
 use Rattle.bson_store.specs.Many.{AddsAll, Imports}
 use Rattle.store_model.specs.Refusal.{kind_of_reading, refusal}
+use Rattle.bson_store.proofs.Devices.{of_adding, of_judging, of_reading}
 use Rattle.bson_store.proofs.Importing.{import_unnamed, import_unread, import_refused, import_added}
 use Rattle.bson_store.proofs.Leaving.{fed_leave}
 use Rattle.bson_store.proofs.Moving.{rests, moved}
@@ -59,3 +60,30 @@ returns-clause-crash g c =
     let new : Feed = g.R.Source.feed c.read_all.new.source in
     fed_leave (store_state g.S.Store c.args.self.now) (store_state g.S.Store c.add_all.new.self) c.args.name.now (name_bytes c.in_ok-name.name) bytes old new c.in_ok-rows.rows c.add_all.result c.in_ok-name.ensures.0 c.in_ok-name.ensures.1 c.in_ok-bytes.ensures.ok
     (rw c.as_slice-stream.ensures.value at c.in_ok-rows.ensures.rows) (rw c.as_slice.ensures.value at c.add_all.ensures.moves) (rw c.as_slice.ensures.value at c.add_all.ensures.crash)
+
+pub returns-in_err-name-clause-device : goal.returns-in_err-name-clause-device
+returns-in_err-name-clause-device g c =
+    let p = err_from_is_err_and c.from_residual.result c.from_residual.ensures.1 in
+    rw (p.1, p.2, c.in_err-name.ensures.0) (inr ((λ is. cc), refl))
+
+pub returns-in_err-bytes-clause-device : goal.returns-in_err-bytes-clause-device
+returns-in_err-bytes-clause-device g c =
+    let old : Feed = g.R.Source.feed c.args.reader.now in
+    let new : Feed = g.R.Source.feed c.read_all.new.source in
+    let p = err_from_is_err_and c.from_residual-in_err-bytes.result c.from_residual-in_err-bytes.ensures.1 in
+    rw (p.1, p.2) (of_reading c.in_err-bytes.field-0.0 old new c.in_err-bytes.ensures.err)
+
+pub returns-in_err-rows-clause-device : goal.returns-in_err-rows-clause-device
+returns-in_err-rows-clause-device g c =
+    let x = c.in_err-rows.field-0.0 in
+    let old : Feed = g.R.Source.feed c.args.reader.now in
+    let new : Feed = g.R.Source.feed c.read_all.new.source in
+    let p = err_from_is_err_and c.from_residual-in_err-rows.result c.from_residual-in_err-rows.ensures.1 in
+    rw (p.1, p.2)
+    (of_judging c.args.name.now c.in_ok-bytes.bytes.items old new x c.in_ok-name.ensures.1 (rw c.as_slice-stream.ensures.value at c.judged.ensures.range) c.in_ok-bytes.ensures.ok (subst (λ b. Judges (ReadsStream b) (Err x)) c.as_slice-stream.ensures.value c.in_err-rows.ensures.rows))
+
+pub returns-clause-device : goal.returns-clause-device
+returns-clause-device g c =
+    let old : Feed = g.R.Source.feed c.args.reader.now in
+    let new : Feed = g.R.Source.feed c.read_all.new.source in
+    of_adding c.add_all.result old new c.in_ok-bytes.ensures.ok.0.0 c.add_all.ensures.own
