@@ -1,9 +1,9 @@
 -- What a crash leaves of the ends of a command.
-use Rattle.std.proofs.Common.{◌≡◌, ◌⊎◌, inl, inr, ℕ, suc, List, [], ◌∷◌, Bool, true, false, Option, None, Some, Result, Ok, Err, IsErr, MatchBool, MatchOption, refl, sym, subst, subst₂}
-use Rattle.sqlite.specs.State.{State, Survives}
+use Rattle.std.proofs.Common.{◌≡◌, ◌⊎◌, inl, inr, ℕ, suc, List, [], ◌∷◌, Bool, true, false, Option, None, Some, Result, Ok, Err, IsErr, MatchBool, MatchOption, refl, sym, subst, subst₂, arith}
+use Rattle.sqlite.specs.State.{State, HasCleanDisk, Survives}
 use Rattle.bson_base.specs.Device.{Feed, Tally}
 use Rattle.serde_json.specs.Data.{Data}
-use Rattle.store_table.specs.Moves.{Moves}
+use Rattle.store_table.specs.Moves.{Moves, WasOpen}
 use Rattle.store_table.specs.Rows.{TableRow}
 use Rattle.store_model.specs.Reading.{Documents, Reading, ReadsTree, ReadsTrees}
 use Rattle.store_model.specs.State.{Command, Call, Reply, Appends, Step, first_refusal, import, number, on, or_later, refusal_of, refused}
@@ -21,12 +21,12 @@ use Rattle.bson_store.specs.Many.{DoesMany}
 use Rattle.bson_store.specs.Refusals.{as_number, reply_by}
 use Rattle.bson_store.specs.Shown.{Represents}
 use Rattle.bson_store.proofs.Leaving.{step_of, survives_itself}
-use Rattle.bson_store.proofs.Moving.{moved}
+use Rattle.bson_store.proofs.Moving.{Relation, moved}
 use Rattle.cli_words.specs.declared.call.Call.{Call as Asked}
 use Rattle.cli_commands.specs.Answers.{answer_by}
 use Rattle.cli_commands.specs.Commands.{AsksFor, IsOfStream}
 use Rattle.cli_commands.specs.Execute.{IsFailure, IsUnprinted, Tells}
-use Rattle.cli_commands.specs.Leaving.{is_change, Settled, LeavesBy, LeavesCall}
+use Rattle.cli_commands.specs.Leaving.{is_change, Settled, StaysOpen, LeavesBy, LeavesCall}
 use Rattle.cli_commands.specs.declared.answer.Answer.{Answer}
 use Rattle.cli_commands.specs.declared.stop.Failure.{Failure}
 use Rattle.cli_commands.specs.declared.stop.Failure.TheVariants.{Refused, Words}
@@ -70,11 +70,11 @@ module _ (s t : State) (Meant : Command → Type 0) where
 
   -- what is meant is asked for
   pub with_line : {A : Type 0} (Asked : Command → Type 0) (Unprinted : StoreError → Type 0) (r : Result A Failure) → ((c : Command) → Meant c → Asked c) → LeavesBy Meant Unprinted r s t → LeavesBy Asked Unprinted r s t
-  with_line Asked Unprinted (Ok x) asks h = record { command = h.command; meant = asks h.command h.meant; reply = h.reply; accepted = h.accepted; moves = h.moves; crash = h.crash }
+  with_line Asked Unprinted (Ok x) asks h = record { command = h.command; meant = asks h.command h.meant; reply = h.reply; accepted = h.accepted; stays = h.stays; moves = h.moves; crash = h.crash }
   with_line Asked Unprinted (Err (Refused e)) asks (inl was) = inl was
   with_line Asked Unprinted (Err (Refused e)) asks (inr (inl (c, meant, leaves))) = inr (inl (c, asks c meant, leaves))
   with_line Asked Unprinted (Err (Refused e)) asks (inr (inr (why, h))) =
-      inr (inr (why, record { command = h.command; meant = asks h.command h.meant; reply = h.reply; accepted = h.accepted; moves = h.moves; crash = h.crash }))
+      inr (inr (why, record { command = h.command; meant = asks h.command h.meant; reply = h.reply; accepted = h.accepted; stays = h.stays; moves = h.moves; crash = h.crash }))
   with_line Asked Unprinted (Err (Words w)) asks h = h
 
   -- nothing was asked of the store
@@ -85,41 +85,42 @@ module _ (s t : State) (Meant : Command → Type 0) where
 
   -- one call of the store
   by_call : {A : Type 0} (c : Command) (f : A → Reply) (g : A → Answer) (outcome : Result A StoreError) → Meant c → ((x : A) → IsRefusal (f x) → ⊥)
-      → Moves s t (Does c (reply_by f outcome)) → Leaves s t c (reply_by f outcome) → LeavesBy Meant Never (answer_by g outcome) s t
-  by_call c f g (Ok x) meant accepts moves crash = record { command = c; meant = meant; reply = f x; accepted = accepts x; moves = moves; crash = crash }
-  by_call c f g (Err e) meant accepts moves crash = inr (inl (c, meant, crash))
+      → Moves s t (Does c (reply_by f outcome)) → WasOpen s t outcome → Leaves s t c (reply_by f outcome) → LeavesBy Meant Never (answer_by g outcome) s t
+  by_call c f g (Ok x) meant accepts moves stays crash = record { command = c; meant = meant; reply = f x; accepted = accepts x; stays = stays; moves = moves; crash = crash }
+  by_call c f g (Err e) meant accepts moves stays crash = inr (inl (c, meant, crash))
 
   pub call_leaves : {A : Type 0} (c : Command) (f : A → Reply) (g : A → Answer) (outcome : Result A StoreError) (answer : Result Answer Failure) → answer ≡ answer_by g outcome → Meant c → ((x : A) → IsRefusal (f x) → ⊥)
-      → Moves s t (Does c (reply_by f outcome)) → Leaves s t c (reply_by f outcome) → LeavesBy Meant Never answer s t
-  call_leaves c f g outcome answer is meant accepts moves crash = subst (λ (r : Result Answer Failure). LeavesBy Meant Never r s t) (sym is) (by_call c f g outcome meant accepts moves crash)
+      → Moves s t (Does c (reply_by f outcome)) → WasOpen s t outcome → Leaves s t c (reply_by f outcome) → LeavesBy Meant Never answer s t
+  call_leaves c f g outcome answer is meant accepts moves stays crash = subst (λ (r : Result Answer Failure). LeavesBy Meant Never r s t) (sym is) (by_call c f g outcome meant accepts moves stays crash)
 
   -- one with a tree
   pub tree_leaves : {A : Type 0} (n : List ℕ) (call : Reading → Call) (j : Data) (f : A → Reply) (g : A → Answer) (outcome : Result A StoreError) (answer : Result Answer Failure) → answer ≡ answer_by g outcome
-      → ((x : Reading) → ReadsTree j x → Meant (on n (call x))) → ((x : A) → IsRefusal (f x) → ⊥) → Moves s t (DoesTree n call j (reply_by f outcome)) → LeavesTree n call j (reply_by f outcome) s t → LeavesBy Meant Never answer s t
-  tree_leaves n call j f g outcome answer is meant accepts moves crash =
+      → ((x : Reading) → ReadsTree j x → Meant (on n (call x))) → ((x : A) → IsRefusal (f x) → ⊥) → Moves s t (DoesTree n call j (reply_by f outcome)) → WasOpen s t outcome → LeavesTree n call j (reply_by f outcome) s t → LeavesBy Meant Never answer s t
+  tree_leaves n call j f g outcome answer is meant accepts moves stays crash =
       let x = any_tree j in
       call_leaves (on n (call x.0)) f g outcome answer is (meant x.0 x.1) accepts
       (moved s t (DoesTree n call j (reply_by f outcome)) (Does (on n (call x.0)) (reply_by f outcome)) moves (λ docs after h. subst (λ (y : Reading). Does (on n (call y)) (reply_by f outcome) docs after) (one_tree j h.0 x.0 h.1 x.1) h.2))
-      (crash x.0 x.1)
+      stays (crash x.0 x.1)
 
   -- ---- many documents
 
   -- a load of trees
   pub trees_leave : (n : List ℕ) (js : List Data) (g : ℕ → Answer) (outcome : Result ℕ StoreError) (answer : Result Answer Failure) → answer ≡ answer_by g outcome
-      → ((ds : Documents) (stop : Option ErrorKind) → ReadsTrees js ds stop → Meant (on n (import ds stop))) → Moves s t (DoesMany n (ReadsTrees js) (reply_by as_number outcome)) → LeavesMany n (ReadsTrees js) (reply_by as_number outcome) s t
+      → ((ds : Documents) (stop : Option ErrorKind) → ReadsTrees js ds stop → Meant (on n (import ds stop))) → Moves s t (DoesMany n (ReadsTrees js) (reply_by as_number outcome)) → WasOpen s t outcome → LeavesMany n (ReadsTrees js) (reply_by as_number outcome) s t
       → LeavesBy Meant Never answer s t
-  trees_leave n js g outcome answer is meant moves crash = subst (λ (r : Result Answer Failure). LeavesBy Meant Never r s t) (sym is) (by outcome moves crash)
+  trees_leave n js g outcome answer is meant moves stays crash = subst (λ (r : Result Answer Failure). LeavesBy Meant Never r s t) (sym is) (by outcome moves stays crash)
     where
       x : (ds : Documents) × (stop : Option ErrorKind) × ReadsTrees js ds stop
       x = any_trees js
 
-      by : (outcome : Result ℕ StoreError) → Moves s t (DoesMany n (ReadsTrees js) (reply_by as_number outcome)) → LeavesMany n (ReadsTrees js) (reply_by as_number outcome) s t → LeavesBy Meant Never (answer_by g outcome) s t
-      by (Err e) moves crash = inr (inl (on n (import x.0 x.1), meant x.0 x.1 x.2, crash x.0 x.1 x.2))
-      by (Ok i) moves crash = record {
+      by : (outcome : Result ℕ StoreError) → Moves s t (DoesMany n (ReadsTrees js) (reply_by as_number outcome)) → WasOpen s t outcome → LeavesMany n (ReadsTrees js) (reply_by as_number outcome) s t → LeavesBy Meant Never (answer_by g outcome) s t
+      by (Err e) moves stays crash = inr (inl (on n (import x.0 x.1), meant x.0 x.1 x.2, crash x.0 x.1 x.2))
+      by (Ok i) moves stays crash = record {
         command = on n (import x.0 x.1);
         meant = meant x.0 x.1 x.2;
         reply = number i;
         accepted = λ no. no;
+        stays = stays;
         moves = moved s t (DoesMany n (ReadsTrees js) (number i)) (Does (on n (import x.0 x.1)) (number i)) moves (λ docs after h a shown. here docs after a shown h x.1 x.2);
         crash = crash x.0 x.1 x.2;
       }
@@ -132,15 +133,39 @@ module _ (s t : State) (Meant : Command → Type 0) where
           here docs after a shown (ds, Some k, reads, does) stop told = let y = does a shown in absurd (not_taken a y.0 n ds k i y.2)
 
 -- an import of a stream
-pub stream_leaves : (s t : State) (n : List ℕ) (fed left : Feed) (g : ℕ → Answer) (outcome : Result ℕ StoreError) (answer : Result Answer Failure) → answer ≡ answer_by g outcome → LeavesImport n fed left outcome s t → LeavesBy (IsOfStream n fed left) Never answer s t
-stream_leaves s t n fed left g outcome answer is h = subst (λ (r : Result Answer Failure). LeavesBy (IsOfStream n fed left) Never r s t) (sym is) (elim h [
+pub stream_leaves : (s t : State) (n : List ℕ) (fed left : Feed) (g : ℕ → Answer) (outcome : Result ℕ StoreError) (answer : Result Answer Failure) → answer ≡ answer_by g outcome → WasOpen s t outcome → LeavesImport n fed left outcome s t → LeavesBy (IsOfStream n fed left) Never answer s t
+stream_leaves s t n fed left g outcome answer is stays h = subst (λ (r : Result Answer Failure). LeavesBy (IsOfStream n fed left) Never r s t) (sym is) (elim h [
   | inl denied ↦ not_done s t (IsOfStream n fed left) Never (answer_by g outcome) (still outcome denied.0) denied.1
-  | inr stream ↦ by_call s t (IsOfStream n fed left) (on n (import stream.documents None)) as_number g outcome (stream.bytes, stream.documents, None, inl (stream.name, stream.took), stream.reads, refl) (λ x no. no) stream.moves stream.crash
+  | inr stream ↦ by_call s t (IsOfStream n fed left) (on n (import stream.documents None)) as_number g outcome (stream.bytes, stream.documents, None, inl (stream.name, stream.took), stream.reads, refl) (λ x no. no) stream.moves stays stream.crash
 ])
   where
     still : (outcome : Result ℕ StoreError) → IsErr outcome → IsErr (answer_by g outcome)
     still (Ok x) is = absurd (let e = is in cc)
     still (Err e) is = refl
+
+-- ---- an open connection
+
+module _ (s t : State) where
+  open_by : {A : Type 0} (g : A → Answer) (outcome : Result A StoreError) → WasOpen s t outcome → WasOpen s t (answer_by g outcome)
+  open_by g (Ok x) stays = stays
+  open_by g (Err e) stays = λ clean docs stands. tt
+
+  -- what is answered by a call of the store
+  pub answered_open : {A : Type 0} (g : A → Answer) (outcome : Result A StoreError) (answer : Result Answer Failure) → answer ≡ answer_by g outcome → WasOpen s t outcome → WasOpen s t answer
+  answered_open g outcome answer is stays = subst (λ (r : Result Answer Failure). WasOpen s t r) (sym is) (open_by g outcome stays)
+
+  -- and is printed
+  pub printed_open : (old new : ℕ) (outcome : Result Answer Failure) (result : Result (Unit {0}) Failure) → Tells outcome result old new → WasOpen s t outcome → WasOpen s t result
+  printed_open old new (Ok x) result (inl (is, same)) stays = subst (λ (r : Result (Unit {0}) Failure). WasOpen s t r) (sym is) stays
+  printed_open old new (Ok x) result (inr (e, is, why)) stays = subst (λ (r : Result (Unit {0}) Failure). WasOpen s t r) (sym is) (λ clean docs stands. tt)
+  printed_open old new (Err e) result (is, same) stays = subst (λ (r : Result (Unit {0}) Failure). WasOpen s t r) (sym is) (λ clean docs stands. tt)
+
+-- one call behind another
+pub open_twice : (s m t : State) (P : Relation) → StaysOpen s m → Moves s m P → Survives m t (λ _. ⊥) → StaysOpen m t → StaysOpen s t
+open_twice s m t P first moves later second clean docs stands =
+    let early : HasCleanDisk m = omega (arith, clean, later.clean) in
+    let mid = (moves early).1 docs stands in
+    ((first early docs stands).0, (second clean mid.0 mid.1).1)
 
 -- ---- the call that was asked for
 

@@ -1,4 +1,5 @@
 pub mod Accepting
+pub mod Devices
 pub mod Ending
 pub mod Failing
 pub mod Readable

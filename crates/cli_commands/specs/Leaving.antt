@@ -1,8 +1,9 @@
 -- What a crash leaves of a command of the program.
-use Rattle.std.specs.Prelude.{◌≡◌, ◌⊎◌, ℕ, Bool, true, false, List, Result, Ok, Err, MatchBool, map, string_bytes}
+use Rattle.std.specs.Prelude.{◌≡◌, ◌⊎◌, ℕ, Bool, true, false, List, Result, Ok, Err, IsTrue, MatchBool, map, string_bytes}
 use Rattle.bson_base.specs.Device.{Feed, Tally}
-use Rattle.sqlite.specs.State.{State, Survives}
-use Rattle.store_table.specs.Moves.{Moves}
+use Rattle.sqlite.specs.State.{State, HasCleanDisk, Survives}
+use Rattle.store_table.specs.Moves.{Moves, Stands}
+use Rattle.store_table.specs.Rows.{TableRow}
 use Rattle.store_model.specs.State.{Command, Reply, refused}
 use Rattle.store_model.specs.Table.{IsRefusal}
 use Rattle.store_model.specs.declared.error.ErrorKind.TheVariants.{Writer}
@@ -28,13 +29,18 @@ is_change Import = true
 is_change Load = true
 is_change _ = false
 
--- a command of those that are meant was accepted; what it did to the rows and what a crash leaves of it are both stated
--- for this command
+-- on a disk that returns what was written, the connection was open and is
+abbrev pub StaysOpen : State → State → Type 0
+StaysOpen old new = HasCleanDisk new → (docs : List TableRow) → Stands old docs → IsTrue old.is_open × IsTrue new.is_open
+
+-- a command of those that are meant was accepted, on an open connection; what it did to the rows and what a crash leaves
+-- of it are both stated for this command
 pub record Settled (Meant : Command → Type 0) (old new : State) : Type 0 where
   pub command : Command
   pub meant : Meant command
   pub reply : Reply
   pub accepted : IsRefusal reply → ⊥
+  pub stays : StaysOpen old new
   pub moves : Moves old new (Does command reply)
   pub crash : Leaves old new command reply
 

@@ -5,7 +5,9 @@ ghost use Rattle.bson_base.specs.Device.{CanFail};
 ghost use Rattle.bson_store.specs.Calls.{Relates, store_state};
 ghost use Rattle.cli_words.specs.declared.call.Call.TheVariants.{Load};
 ghost use Rattle.cli_commands.specs.Commands.{AsksFor, Complains};
-ghost use Rattle.cli_commands.specs.Execute.{IsUnasked, Performs};
+ghost use Rattle.store_table.specs.Moves.{WasOpen};
+ghost use Rattle.store_model.specs.declared.error.ErrorKind.TheVariants.{Reader};
+ghost use Rattle.cli_commands.specs.Execute.{IsReported, IsUnasked, Performs};
 ghost use Rattle.cli_commands.specs.Leaving.{LeavesBy};
 ghost use Rattle.cli_commands.specs.declared.answer.Answer.TheVariants.{Number};
 
@@ -27,6 +29,8 @@ pub fn load<S: Alter + Drop, I: Source>(
     requires { CanFail (I.feed input.old) }
     ensures moves { Relates S.Store store.old store.new (Performs (AsksFor Load name.now [] (I.feed input.old) (I.feed input.new))
         (IsUnasked Load name.now [] (I.feed input.old) (I.feed input.new)) (Complains Load [] (I.feed input.old) (I.feed input.new)) result) }
+    ensures open { WasOpen (store_state S.Store store.old) (store_state S.Store store.new) result }
+    ensures device { IsReported Reader result (I.feed input.old).failures (I.feed input.new).failures }
     ensures crash { LeavesBy (AsksFor Load name.now [] (I.feed input.old) (I.feed input.new)) (λ _. ⊥) result (store_state S.Store store.old) (store_state S.Store store.new) }
     ensures number { IfOk result (λ answer. (count : ℕ) × (answer ≡ Number count)) }
 {

@@ -8,8 +8,9 @@ ghost use Rattle.bson_store.specs.Calls.{DoesTree, Relates, store_state};
 ghost use Rattle.bson_store.specs.Left.{LeavesTree};
 ghost use Rattle.bson_store.specs.Refusals.{as_done, reply_by};
 ghost use Rattle.cli_commands.specs.Commands.{Spares};
-ghost use Rattle.cli_commands.specs.Execute.{Executes, Reports, SilentUnread, Tells};
-ghost use Rattle.cli_commands.specs.Leaving.{LeavesAsked};
+ghost use Rattle.store_table.specs.Moves.{WasOpen};
+ghost use Rattle.cli_commands.specs.Execute.{Executes, Reports, ReportsFailures, SilentUnread, Tells};
+ghost use Rattle.cli_commands.specs.Leaving.{LeavesAsked, StaysOpen};
 ghost use Rattle.cli_commands.specs.Requests.{IsRequestOf};
 ghost use Rattle.cli_commands.specs.declared.stop.Failure.{Failure as Outcome};
 
@@ -47,6 +48,7 @@ fn print_outcome<O: Sink>(
 /// Puts a document in. It is separate from `perform`, so that a wrong body is refused in seconds.
 fn insert<S: Alter + Drop>(store: &mut Store<S>, name: &str, json: Value) -> Result<(), StoreError>
     ensures moves { Relates S.Store store.old store.new (DoesTree name.now (inserted in_json) (data_of json) (reply_by as_done result)) }
+    ensures open { WasOpen (store_state S.Store store.old) (store_state S.Store store.new) result }
     ensures crash { LeavesTree name.now (inserted in_json) (data_of json) (reply_by as_done result) (store_state S.Store store.old) (store_state S.Store store.new) }
 {
     store.insert_json(name, json)
@@ -66,8 +68,11 @@ fn perform<S: Alter + Drop, I: Source, O: Sink>(
     requires output { CanRefuse (O.tally output.old) }
     ensures step { Relates S.Store store.old store.new (Executes words.now (I.feed input.old) (I.feed input.new)
         (O.tally output.old) (O.tally output.new) result) }
+    ensures open { WasOpen (store_state S.Store store.old) (store_state S.Store store.new) result }
     ensures crash { LeavesAsked words.now (I.feed input.old) (I.feed input.new) (O.tally output.old) (O.tally output.new) result
         (store_state S.Store store.old) (store_state S.Store store.new) }
+    ensures devices { ReportsFailures words.now.call result (I.feed input.old).failures (I.feed input.new).failures
+        (O.tally output.old).failures (O.tally output.new).failures }
     ensures unread { SilentUnread result output.old output.new }
     ensures spared { Spares words.now.call input.old input.new }
 {
@@ -112,8 +117,11 @@ fn obey<S: Alter + Drop, I: Source, O: Sink>(
     requires output { CanRefuse (O.tally output.old) }
     ensures step { Relates S.Store store.old store.new (Executes words.now (I.feed input.old) (I.feed input.new)
         (O.tally output.old) (O.tally output.new) result) }
+    ensures open { WasOpen (store_state S.Store store.old) (store_state S.Store store.new) result }
     ensures crash { LeavesAsked words.now (I.feed input.old) (I.feed input.new) (O.tally output.old) (O.tally output.new) result
         (store_state S.Store store.old) (store_state S.Store store.new) }
+    ensures devices { ReportsFailures words.now.call result (I.feed input.old).failures (I.feed input.new).failures
+        (O.tally output.old).failures (O.tally output.new).failures }
     ensures unread { SilentUnread result output.old output.new }
     ensures spared { Spares words.now.call input.old input.new }
 {
@@ -148,6 +156,12 @@ pub fn execute<S: Alter + Drop, I: Source, O: Sink, F: Sink>(
     ensures step { (outcome : Result (Unit {0}) Outcome) × Reports outcome result (F.tally faults.old) (F.tally faults.new)
         × Relates S.Store store.old store.new (Executes words.now (I.feed input.old) (I.feed input.new)
         (O.tally output.old) (O.tally output.new) outcome) }
+    // Whatever the disk does, a failed read or write is reported, except a write of `dump`.
+    ensures devices { (outcome : Result (Unit {0}) Outcome) × Reports outcome result (F.tally faults.old) (F.tally faults.new)
+        × ReportsFailures words.now.call outcome (I.feed input.old).failures (I.feed input.new).failures
+        (O.tally output.old).failures (O.tally output.new).failures }
+    // A command is accepted only on an open connection, which stays open.
+    ensures open { result ≡ 0 → StaysOpen (store_state S.Store store.old) (store_state S.Store store.new) }
     // What a crash leaves of it: after an accepted command what it leaves of that; otherwise what it could leave
     // before, or what it leaves of a refused one.
     ensures crash { (outcome : Result (Unit {0}) Outcome) × Reports outcome result (F.tally faults.old) (F.tally faults.new)

@@ -4,7 +4,9 @@ ghost use Rattle.std.specs.Prelude.{[]};
 ghost use Rattle.sqlite.specs.State.{Survives};
 ghost use Rattle.bson_store.specs.Calls.{Relates, store_state};
 ghost use Rattle.cli_words.specs.declared.call.Call.TheVariants.{Export, Dump};
-ghost use Rattle.cli_commands.specs.Execute.{Comes, Executed, SilentUnread};
+ghost use Rattle.store_table.specs.Moves.{WasOpen};
+ghost use Rattle.store_model.specs.declared.error.ErrorKind.TheVariants.{Writer};
+ghost use Rattle.cli_commands.specs.Execute.{Comes, Executed, Fails, SilentUnread};
 ghost use Rattle.bson_base.specs.Device.{Feed, CanRefuse};
 
 use crate::dumping::Printer;
@@ -20,7 +22,9 @@ pub fn export<S: Alter + Drop, O: Sink>(
 ) -> Result<(), Failure>
     requires { CanRefuse (O.tally output.old) }
     ensures step { (f : Feed) → Relates S.Store store.old store.new (Comes (Executed Export name.now [] f f (O.tally output.old) (O.tally output.new) result)) }
+    ensures open { WasOpen (store_state S.Store store.old) (store_state S.Store store.new) result }
     ensures crash { Survives (store_state S.Store store.old) (store_state S.Store store.new) (λ _. ⊥) }
+    ensures device { Fails Writer result (O.tally output.old).failures (O.tally output.new).failures }
     ensures unread { SilentUnread result output.old output.new }
 {
     match store.export(name, output) {
@@ -38,6 +42,7 @@ pub fn dump<S: Alter + Drop, O: Sink>(
 ) -> Result<(), Failure>
     requires { CanRefuse (O.tally output.old) }
     ensures step { (f : Feed) → Relates S.Store store.old store.new (Comes (Executed Dump name.now [] f f (O.tally output.old) (O.tally output.new) result)) }
+    ensures open { WasOpen (store_state S.Store store.old) (store_state S.Store store.new) result }
     ensures crash { Survives (store_state S.Store store.old) (store_state S.Store store.new) (λ _. ⊥) }
     ensures unread { SilentUnread result output.old output.new }
 {

@@ -1,6 +1,6 @@
 //! What the texts among the words of a command stand for.
 
-ghost use Rattle.std.specs.Prelude.{◌≡◌, ℕ, List, Some, Err, IfErr, OnOk, MatchResult, drop, map, string_bytes};
+ghost use Rattle.std.specs.Prelude.{◌≡◌, ℕ, List, Some, Err, IfErr, IsTrue, OnOk, MatchResult, drop, false, map, string_bytes};
 ghost use Rattle.bson_base.specs.Device.{CanFail};
 ghost use Rattle.serde_json.specs.Data.{Data};
 ghost use Rattle.serde_json.specs.Read.{read as data_of_text};
@@ -79,11 +79,29 @@ pub fn filter_of_text(alloc: Global, text: &str) -> Result<Filter, Failure>
     }
 }
 
+/// Takes a line's tree, which isn't made, or nothing of a line of no bytes. False, and nothing was taken, where the line
+/// has to be read by its tree.
+fn take_seen(loader: &mut Loader, line: &[u8]) -> bool
+    ensures taken { IsTrue result → (js : List Data) → HasTaken loader.old js → TakesLine line.now js (HasTaken loader.new) }
+    ensures untaken { result ≡ false → (js : List Data) → HasTaken loader.old js → HasTaken loader.new js }
+{
+    if line.is_empty() {
+        return true;
+    }
+    match str::from_utf8(line) {
+        Ok(text) => loader.take_text(text),
+        Err(_) => false,
+    }
+}
+
 /// Takes the tree of a line, if it has one.
 fn take_line(alloc: Global, loader: &mut Loader, line: &[u8], number: u64) -> Result<(), Failure>
     ensures ok { OnOk result ((js : List Data) → HasTaken loader.old js → TakesLine line.now js (HasTaken loader.new)) }
     ensures err { IfErr result (StopsFor (UsageError.Line number) (IsBadLine line.now)) }
 {
+    if take_seen(loader, line) {
+        return Ok(());
+    }
     match read_line(alloc, line) {
         Ok(Some(tree)) => {
             loader.take(tree);

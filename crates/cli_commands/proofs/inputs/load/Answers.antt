@@ -7,7 +7,8 @@ use Rattle.cli_commands.specs.Commands.{AsksFor}
 use Rattle.std.proofs.lemmas.Result.{err_from_is_err_and}
 use Rattle.bson_store.proofs.Leaving.{survives_itself}
 use Rattle.cli_commands.specs.Answers as answers
-use Rattle.cli_commands.proofs.Leaving.{not_done, trees_leave}
+use Rattle.cli_commands.proofs.Devices.{lines_stop, lines_taken}
+use Rattle.cli_commands.proofs.Leaving.{answered_open, not_done, trees_leave}
 use Rattle.cli_commands.proofs.Taking.{load_performs, unlined}
 use Rattle.cli_commands.proofs.inputs.load.Goals as goal
 
@@ -34,10 +35,22 @@ returns-clause-crash g c =
     let left : Feed = g.I.Source.feed c.judged_input.new.input in
     let taken = c.in_ok-loader.ensures in
     trees_leave (store_state g.S.Store c.args.store.now) (store_state g.S.Store c.load.new.self) (AsksFor words.Load n [] fed left) n taken.1 answers.number_answer c.load.result c.number.result c.number.ensures
-    (λ ds stop reads. (refl, (taken.0, taken.1, ds, stop, taken.2, taken.3, reads, refl))) (c.load.ensures.moves taken.1 taken.4) (c.load.ensures.crash taken.1 taken.4)
+    (λ ds stop reads. (refl, (taken.0, taken.1, ds, stop, taken.2, taken.3, reads, refl))) (c.load.ensures.moves taken.1 taken.4) c.load.ensures.open (c.load.ensures.crash taken.1 taken.4)
 
 pub returns-in_err-loader-clause-crash : goal.returns-in_err-loader-clause-crash
 returns-in_err-loader-clause-crash g c =
     let s = store_state g.S.Store c.args.store.now in
     let p = err_from_is_err_and c.from_residual.result c.from_residual.ensures.1 in
     not_done s s (AsksFor words.Load c.args.name.now [] (g.I.Source.feed c.args.input.now) (g.I.Source.feed c.judged_input.new.input)) (λ e. ⊥) c.from_residual.result (rw p.1 refl) (survives_itself s)
+
+pub returns-clause-open : goal.returns-clause-open
+returns-clause-open g c =
+    answered_open (store_state g.S.Store c.args.store.now) (store_state g.S.Store c.load.new.self) answers.number_answer c.load.result c.number.result c.number.ensures c.load.ensures.open
+
+pub returns-clause-device : goal.returns-clause-device
+returns-clause-device g c = lines_taken (g.I.Source.feed c.args.input.now) (g.I.Source.feed c.judged_input.new.input) c.in_ok-loader.loader c.number.result c.in_ok-loader.ensures
+
+pub returns-in_err-loader-clause-device : goal.returns-in_err-loader-clause-device
+returns-in_err-loader-clause-device g c =
+    let p = err_from_is_err_and c.from_residual.result c.from_residual.ensures.1 in
+    rw (p.1, p.2) (lines_stop (g.I.Source.feed c.args.input.now) (g.I.Source.feed c.judged_input.new.input) c.in_err-loader.field-0.0 c.in_err-loader.ensures)

@@ -4,7 +4,7 @@ use Rattle.bson_base.specs.Device.{Feed, Tally}
 use Rattle.store_table.specs.Moves.{Moves}
 use Rattle.bson_store.specs.Calls.{store_state}
 use Rattle.cli_words.specs.Lines.{complaint_line, refusal_line}
-use Rattle.cli_commands.specs.Execute.{Executes}
+use Rattle.cli_commands.specs.Execute.{Executes, ReportsFailures}
 use Rattle.cli_commands.specs.Leaving.{LeavesAsked}
 use Rattle.cli_commands.specs.declared.stop.Failure.{Failure}
 use Rattle.cli_commands.specs.declared.stop.Failure.TheVariants.{Refused, Words}
@@ -75,4 +75,27 @@ returns-in-Err-Words-clause-crash g c =
       Err (Words w),
       (refl, writes line.result (g.F.Sink.tally c.args.faults.now) (g.F.Sink.tally line.new.sink) (complaint_line w) line.ensures.counts line.ensures.ok line.ensures.err),
       subst (λ (x : Failure). LeavesAsked c.args.words.now fed left old new (Err x) s t) c.in-Err-Words.field-0-is c.in-Err-Words.ensures.crash,
+    )
+
+pub returns-in-Ok-clause-devices : goal.returns-in-Ok-clause-devices
+returns-in-Ok-clause-devices g c = (Ok tt, refl, c.in-Ok.ensures.devices)
+
+pub returns-in-Err-Refused-clause-devices : goal.returns-in-Err-Refused-clause-devices
+returns-in-Err-Refused-clause-devices g c =
+    let e = c.in-Err-Refused.error in
+    let line = c.write_refusal in (
+      Err (Refused e),
+      (refl, writes line.result (g.F.Sink.tally c.args.faults.now) (g.F.Sink.tally line.new.sink) (refusal_line e.kind e.document) line.ensures.counts line.ensures.ok line.ensures.err),
+      subst (λ (x : Failure). ReportsFailures c.args.words.now.call (Err x) (g.I.Source.feed c.args.input.now).failures (g.I.Source.feed c.obey.new.input).failures (g.O.Sink.tally c.args.output.now).failures (g.O.Sink.tally c.obey.new.output).failures)
+          c.in-Err-Refused.field-0-is c.in-Err-Refused.ensures.devices,
+    )
+
+pub returns-in-Err-Words-clause-devices : goal.returns-in-Err-Words-clause-devices
+returns-in-Err-Words-clause-devices g c =
+    let w = c.in-Err-Words.complaint in
+    let line = c.write_complaint in (
+      Err (Words w),
+      (refl, writes line.result (g.F.Sink.tally c.args.faults.now) (g.F.Sink.tally line.new.sink) (complaint_line w) line.ensures.counts line.ensures.ok line.ensures.err),
+      subst (λ (x : Failure). ReportsFailures c.args.words.now.call (Err x) (g.I.Source.feed c.args.input.now).failures (g.I.Source.feed c.obey.new.input).failures (g.O.Sink.tally c.args.output.now).failures (g.O.Sink.tally c.obey.new.output).failures)
+          c.in-Err-Words.field-0-is c.in-Err-Words.ensures.devices,
     )

@@ -2,6 +2,7 @@ use Rattle.std.proofs.Common.{map, string_bytes}
 use Rattle.std.proofs.lemmas.Result.{err_from_is_err_and}
 use Rattle.bson_base.specs.Device.{Feed, Tally}
 use Rattle.bson_store.specs.Calls.{store_state}
+use Rattle.cli_commands.proofs.Devices.{none_reports}
 use Rattle.cli_commands.proofs.Ending.{not_asked}
 use Rattle.cli_commands.proofs.Leaving.{of_none}
 use Rattle.cli_commands.proofs.Sparing.{spares_same}
@@ -25,3 +26,9 @@ returns-in_err-request-clause-crash g c =
 
 pub returns-in_err-request-clause-spared : goal.returns-in_err-request-clause-spared
 returns-in_err-request-clause-spared g c = spares_same c.args.words.now.call c.args.input.now
+
+pub returns-in_err-request-clause-devices : goal.returns-in_err-request-clause-devices
+returns-in_err-request-clause-devices g c =
+    let w = c.args.words.now in
+    let p = err_from_is_err_and c.from_residual.result c.from_residual.ensures.1 in
+    rw (p.1, p.2) (none_reports w.call (map string_bytes w.rest.now) c.in_err-request.field-0.0 (g.I.Source.feed c.args.input.now).failures (g.O.Sink.tally c.args.output.now).failures c.in_err-request.ensures)

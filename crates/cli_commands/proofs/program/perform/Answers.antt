@@ -8,7 +8,7 @@ use Rattle.bson_store.specs.Refusals as store
 use Rattle.store_filter.specs.Filters.{filter_of}
 use Rattle.store_model.specs.Reading as model_reading
 use Rattle.store_model.specs.State as model
-use Rattle.store_model.specs.declared.error.ErrorKind.TheVariants.{Writer}
+use Rattle.store_model.specs.declared.error.ErrorKind.TheVariants.{Reader, Writer}
 use Rattle.cli_words.specs.Words.{Takes}
 use Rattle.cli_words.specs.declared.call.Call.TheVariants as words
 use Rattle.cli_commands.specs.Answers as answers
@@ -17,7 +17,8 @@ use Rattle.cli_commands.specs.Execute.{IsFailure}
 use Rattle.cli_commands.specs.Leaving.{LeavesCall}
 use Rattle.cli_commands.specs.Requests.{IsRequestOf, IsTreeText, text_at}
 use Rattle.cli_commands.proofs.Ending.{as_asked, failed_write, got_prints, imported_asked, loaded_asked, number_unprinted, plain, planted}
-use Rattle.cli_commands.proofs.Leaving.{call_leaves, of_change, printed, stream_leaves, tree_leaves, with_line}
+use Rattle.cli_commands.proofs.Devices.{dump_reports, export_reports, import_reports, reports, still}
+use Rattle.cli_commands.proofs.Leaving.{answered_open, call_leaves, of_change, printed, printed_open, stream_leaves, tree_leaves, with_line}
 use Rattle.cli_commands.proofs.Sparing.{spares_import, spares_load, spares_same}
 use Rattle.cli_commands.proofs.Taking.{import_performs}
 use Rattle.cli_commands.proofs.Wording.{of_filter, of_tree, of_id, of_get, of_set, of_unset, some_texts}
@@ -205,7 +206,7 @@ returns-in-Insert-clause-crash g c =
     (with_line s t (IsCommandOf words.Insert n texts) (AsksFor words.Insert n texts fed fed) (IsFailure Writer old.failures new.failures) c.print_outcome.result (λ x meant. (takes, meant))
     (printed s t (IsCommandOf words.Insert n texts) old.failures new.failures c.nothing-outcome.result c.print_outcome.result (failed_write old.failures new.failures answers.as_nothing c.insert.result c.nothing-outcome.result c.nothing-outcome.ensures (λ y e why. why)) c.print_outcome.ensures.told
     (tree_leaves s t (IsCommandOf words.Insert n texts) n (model.insert model.in_json) (data_of c.take.result) store.as_done answers.as_nothing c.insert.result c.nothing-outcome.result c.nothing-outcome.ensures
-    (of_tree (model.insert model.in_json) n texts c.take.result takes (subst (IsTreeText (text_at texts 0)) (sym c.take.ensures.taken) asked.2)) (λ x no. no) c.insert.ensures.moves c.insert.ensures.crash)))
+    (of_tree (model.insert model.in_json) n texts c.take.result takes (subst (IsTreeText (text_at texts 0)) (sym c.take.ensures.taken) asked.2)) (λ x no. no) c.insert.ensures.moves c.insert.ensures.open c.insert.ensures.crash)))
 
 pub returns-in-Replace-clause-crash : goal.returns-in-Replace-clause-crash
 returns-in-Replace-clause-crash g c =
@@ -223,7 +224,7 @@ returns-in-Replace-clause-crash g c =
     (with_line s t (IsCommandOf words.Replace n texts) (AsksFor words.Replace n texts fed fed) (IsFailure Writer old.failures new.failures) c.print_outcome-in-Replace.result (λ x meant. (takes, meant))
     (printed s t (IsCommandOf words.Replace n texts) old.failures new.failures c.nothing-outcome-in-Replace.result c.print_outcome-in-Replace.result (failed_write old.failures new.failures answers.as_nothing c.replace_json.result c.nothing-outcome-in-Replace.result c.nothing-outcome-in-Replace.ensures (λ y e why. why)) c.print_outcome-in-Replace.ensures.told
     (tree_leaves s t (IsCommandOf words.Replace n texts) n (model.replace model.in_json) (data_of c.take-in-Replace.result) store.as_done answers.as_nothing c.replace_json.result c.nothing-outcome-in-Replace.result c.nothing-outcome-in-Replace.ensures
-    (of_tree (model.replace model.in_json) n texts c.take-in-Replace.result takes (subst (IsTreeText (text_at texts 0)) (sym c.take-in-Replace.ensures.taken) asked.2)) (λ x no. no) c.replace_json.ensures.moves c.replace_json.ensures.crash)))
+    (of_tree (model.replace model.in_json) n texts c.take-in-Replace.result takes (subst (IsTreeText (text_at texts 0)) (sym c.take-in-Replace.ensures.taken) asked.2)) (λ x no. no) c.replace_json.ensures.moves c.replace_json.ensures.open c.replace_json.ensures.crash)))
 
 pub returns-in-Set-clause-crash : goal.returns-in-Set-clause-crash
 returns-in-Set-clause-crash g c =
@@ -242,7 +243,7 @@ returns-in-Set-clause-crash g c =
     (with_line s t (IsCommandOf words.Set n texts) (AsksFor words.Set n texts fed fed) (IsFailure Writer old.failures new.failures) c.print_outcome-in-Set.result (λ x meant. (takes, meant))
     (printed s t (IsCommandOf words.Set n texts) old.failures new.failures c.nothing-outcome-in-Set.result c.print_outcome-in-Set.result (failed_write old.failures new.failures answers.as_nothing c.set.result c.nothing-outcome-in-Set.result c.nothing-outcome-in-Set.ensures (λ y e why. why)) c.print_outcome-in-Set.ensures.told
     (call_leaves s t (IsCommandOf words.Set n texts) (model.on n (model.set (view c.in-Set.id) c.in-Set.key.now (model_reading.read_value (data_of c.take-in-Set.result)))) store.as_done answers.as_nothing c.set.result c.nothing-outcome-in-Set.result c.nothing-outcome-in-Set.ensures
-    (of_set n texts (view c.in-Set.id) c.in-Set.key.now c.take-in-Set.result takes read) (λ x no. no) c.set.ensures.moves c.set.ensures.crash)))
+    (of_set n texts (view c.in-Set.id) c.in-Set.key.now c.take-in-Set.result takes read) (λ x no. no) c.set.ensures.moves c.set.ensures.open c.set.ensures.crash)))
 
 pub returns-in-Unset-clause-crash : goal.returns-in-Unset-clause-crash
 returns-in-Unset-clause-crash g c =
@@ -260,7 +261,7 @@ returns-in-Unset-clause-crash g c =
     (with_line s t (IsCommandOf words.Unset n texts) (AsksFor words.Unset n texts fed fed) (IsFailure Writer old.failures new.failures) c.print_outcome-in-Unset.result (λ x meant. (takes, meant))
     (printed s t (IsCommandOf words.Unset n texts) old.failures new.failures c.flag.result c.print_outcome-in-Unset.result (failed_write old.failures new.failures answers.flag_answer c.unset.result c.flag.result c.flag.ensures (λ y e why. why)) c.print_outcome-in-Unset.ensures.told
     (call_leaves s t (IsCommandOf words.Unset n texts) (model.on n (model.unset (view c.in-Unset.id) c.in-Unset.key.now)) store.as_flag answers.flag_answer c.unset.result c.flag.result c.flag.ensures
-    (of_unset n texts (view c.in-Unset.id) c.in-Unset.key.now takes asked.2) (λ x no. no) c.unset.ensures.moves c.unset.ensures.crash)))
+    (of_unset n texts (view c.in-Unset.id) c.in-Unset.key.now takes asked.2) (λ x no. no) c.unset.ensures.moves c.unset.ensures.open c.unset.ensures.crash)))
 
 pub returns-in-Remove-clause-crash : goal.returns-in-Remove-clause-crash
 returns-in-Remove-clause-crash g c =
@@ -278,7 +279,7 @@ returns-in-Remove-clause-crash g c =
     (with_line s t (IsCommandOf words.Remove n texts) (AsksFor words.Remove n texts fed fed) (IsFailure Writer old.failures new.failures) c.print_outcome-in-Remove.result (λ x meant. (takes, meant))
     (printed s t (IsCommandOf words.Remove n texts) old.failures new.failures c.nothing.result c.print_outcome-in-Remove.result (failed_write old.failures new.failures answers.as_nothing c.remove.result c.nothing.result c.nothing.ensures (λ y e why. why)) c.print_outcome-in-Remove.ensures.told
     (call_leaves s t (IsCommandOf words.Remove n texts) (model.on n (model.remove (view c.in-Remove.id))) store.as_done answers.as_nothing c.remove.result c.nothing.result c.nothing.ensures
-    (of_id (λ id more. model.remove id) n texts (view c.in-Remove.id) (some_texts 0 texts takes) asked.2) (λ x no. no) c.remove.ensures.moves c.remove.ensures.crash)))
+    (of_id (λ id more. model.remove id) n texts (view c.in-Remove.id) (some_texts 0 texts takes) asked.2) (λ x no. no) c.remove.ensures.moves c.remove.ensures.open c.remove.ensures.crash)))
 
 pub returns-in-Get-clause-crash : goal.returns-in-Get-clause-crash
 returns-in-Get-clause-crash g c =
@@ -373,7 +374,7 @@ returns-in-Import-clause-crash g c =
     of_change s t words.Import w.call n texts fed left old new c.print_outcome-in-Import.result asked.0
     (with_line s t (IsOfStream n fed left) (AsksFor words.Import n texts fed left) (IsFailure Writer old.failures new.failures) c.print_outcome-in-Import.result (λ x meant. (subst (λ y. Takes y texts) asked.0 asked.1, meant))
     (printed s t (IsOfStream n fed left) old.failures new.failures c.number-in-Import.result c.print_outcome-in-Import.result (failed_write old.failures new.failures answers.number_answer c.import.result c.number-in-Import.result c.number-in-Import.ensures (λ y e why. why)) c.print_outcome-in-Import.ensures.told
-    (stream_leaves s t n fed left answers.number_answer c.import.result c.number-in-Import.result c.number-in-Import.ensures c.import.ensures.crash)))
+    (stream_leaves s t n fed left answers.number_answer c.import.result c.number-in-Import.result c.number-in-Import.ensures c.import.ensures.open c.import.ensures.crash)))
 
 pub returns-in-Load-clause-crash : goal.returns-in-Load-clause-crash
 returns-in-Load-clause-crash g c =
@@ -429,3 +430,152 @@ returns-in-Import-clause-spared g c = spares_import c.args.words.now.call c.args
 
 pub returns-in-Load-clause-spared : goal.returns-in-Load-clause-spared
 returns-in-Load-clause-spared g c = spares_load c.args.words.now.call c.args.input.now c.load.new.input (subst (IsRequestOf c.args.words.now) c.in-Load.is c.requires.request).0
+
+pub returns-in-Insert-clause-open : goal.returns-in-Insert-clause-open
+returns-in-Insert-clause-open g c =
+    let s = store_state g.S.Store c.args.store.now in
+    let t = store_state g.S.Store c.insert.new.store in
+    printed_open s t (g.O.Sink.tally c.args.output.now).failures (g.O.Sink.tally c.print_outcome.new.output).failures c.nothing-outcome.result c.print_outcome.result c.print_outcome.ensures.told
+    (answered_open s t answers.as_nothing c.insert.result c.nothing-outcome.result c.nothing-outcome.ensures c.insert.ensures.open)
+
+pub returns-in-Insert-clause-devices : goal.returns-in-Insert-clause-devices
+returns-in-Insert-clause-devices g c =
+    let fed = (g.I.Source.feed c.args.input.now).failures in
+    reports words.Insert c.args.words.now.call c.nothing-outcome.result c.print_outcome.result fed fed (g.O.Sink.tally c.args.output.now).failures (g.O.Sink.tally c.print_outcome.new.output).failures
+    (subst (IsRequestOf c.args.words.now) c.in-Insert.is c.requires.request).0 tt (still Reader c.nothing-outcome.result fed fed refl) c.print_outcome.ensures.told
+
+pub returns-in-Replace-clause-open : goal.returns-in-Replace-clause-open
+returns-in-Replace-clause-open g c =
+    let s = store_state g.S.Store c.args.store.now in
+    let t = store_state g.S.Store c.replace_json.new.self in
+    printed_open s t (g.O.Sink.tally c.args.output.now).failures (g.O.Sink.tally c.print_outcome-in-Replace.new.output).failures c.nothing-outcome-in-Replace.result c.print_outcome-in-Replace.result c.print_outcome-in-Replace.ensures.told
+    (answered_open s t answers.as_nothing c.replace_json.result c.nothing-outcome-in-Replace.result c.nothing-outcome-in-Replace.ensures c.replace_json.ensures.open)
+
+pub returns-in-Replace-clause-devices : goal.returns-in-Replace-clause-devices
+returns-in-Replace-clause-devices g c =
+    let fed = (g.I.Source.feed c.args.input.now).failures in
+    reports words.Replace c.args.words.now.call c.nothing-outcome-in-Replace.result c.print_outcome-in-Replace.result fed fed (g.O.Sink.tally c.args.output.now).failures (g.O.Sink.tally c.print_outcome-in-Replace.new.output).failures
+    (subst (IsRequestOf c.args.words.now) c.in-Replace.is c.requires.request).0 tt (still Reader c.nothing-outcome-in-Replace.result fed fed refl) c.print_outcome-in-Replace.ensures.told
+
+pub returns-in-Get-clause-open : goal.returns-in-Get-clause-open
+returns-in-Get-clause-open g c =
+    let s = store_state g.S.Store c.args.store.now in
+    let t = store_state g.S.Store c.get_json.new.self in
+    printed_open s t (g.O.Sink.tally c.args.output.now).failures (g.O.Sink.tally c.print_outcome-in-Get.new.output).failures c.tree.result c.print_outcome-in-Get.result c.print_outcome-in-Get.ensures.told
+    (answered_open s t answers.as_tree c.get_json.result c.tree.result c.tree.ensures c.get_json.ensures.open)
+
+pub returns-in-Get-clause-devices : goal.returns-in-Get-clause-devices
+returns-in-Get-clause-devices g c =
+    let fed = (g.I.Source.feed c.args.input.now).failures in
+    reports words.Get c.args.words.now.call c.tree.result c.print_outcome-in-Get.result fed fed (g.O.Sink.tally c.args.output.now).failures (g.O.Sink.tally c.print_outcome-in-Get.new.output).failures
+    (subst (IsRequestOf c.args.words.now) c.in-Get.is c.requires.request).0 tt (still Reader c.tree.result fed fed refl) c.print_outcome-in-Get.ensures.told
+
+pub returns-in-Set-clause-open : goal.returns-in-Set-clause-open
+returns-in-Set-clause-open g c =
+    let s = store_state g.S.Store c.args.store.now in
+    let t = store_state g.S.Store c.set.new.self in
+    printed_open s t (g.O.Sink.tally c.args.output.now).failures (g.O.Sink.tally c.print_outcome-in-Set.new.output).failures c.nothing-outcome-in-Set.result c.print_outcome-in-Set.result c.print_outcome-in-Set.ensures.told
+    (answered_open s t answers.as_nothing c.set.result c.nothing-outcome-in-Set.result c.nothing-outcome-in-Set.ensures c.set.ensures.open)
+
+pub returns-in-Set-clause-devices : goal.returns-in-Set-clause-devices
+returns-in-Set-clause-devices g c =
+    let fed = (g.I.Source.feed c.args.input.now).failures in
+    reports words.Set c.args.words.now.call c.nothing-outcome-in-Set.result c.print_outcome-in-Set.result fed fed (g.O.Sink.tally c.args.output.now).failures (g.O.Sink.tally c.print_outcome-in-Set.new.output).failures
+    (subst (IsRequestOf c.args.words.now) c.in-Set.is c.requires.request).0 tt (still Reader c.nothing-outcome-in-Set.result fed fed refl) c.print_outcome-in-Set.ensures.told
+
+pub returns-in-Unset-clause-open : goal.returns-in-Unset-clause-open
+returns-in-Unset-clause-open g c =
+    let s = store_state g.S.Store c.args.store.now in
+    let t = store_state g.S.Store c.unset.new.self in
+    printed_open s t (g.O.Sink.tally c.args.output.now).failures (g.O.Sink.tally c.print_outcome-in-Unset.new.output).failures c.flag.result c.print_outcome-in-Unset.result c.print_outcome-in-Unset.ensures.told
+    (answered_open s t answers.flag_answer c.unset.result c.flag.result c.flag.ensures c.unset.ensures.open)
+
+pub returns-in-Unset-clause-devices : goal.returns-in-Unset-clause-devices
+returns-in-Unset-clause-devices g c =
+    let fed = (g.I.Source.feed c.args.input.now).failures in
+    reports words.Unset c.args.words.now.call c.flag.result c.print_outcome-in-Unset.result fed fed (g.O.Sink.tally c.args.output.now).failures (g.O.Sink.tally c.print_outcome-in-Unset.new.output).failures
+    (subst (IsRequestOf c.args.words.now) c.in-Unset.is c.requires.request).0 tt (still Reader c.flag.result fed fed refl) c.print_outcome-in-Unset.ensures.told
+
+pub returns-in-Remove-clause-open : goal.returns-in-Remove-clause-open
+returns-in-Remove-clause-open g c =
+    let s = store_state g.S.Store c.args.store.now in
+    let t = store_state g.S.Store c.remove.new.self in
+    printed_open s t (g.O.Sink.tally c.args.output.now).failures (g.O.Sink.tally c.print_outcome-in-Remove.new.output).failures c.nothing.result c.print_outcome-in-Remove.result c.print_outcome-in-Remove.ensures.told
+    (answered_open s t answers.as_nothing c.remove.result c.nothing.result c.nothing.ensures c.remove.ensures.open)
+
+pub returns-in-Remove-clause-devices : goal.returns-in-Remove-clause-devices
+returns-in-Remove-clause-devices g c =
+    let fed = (g.I.Source.feed c.args.input.now).failures in
+    reports words.Remove c.args.words.now.call c.nothing.result c.print_outcome-in-Remove.result fed fed (g.O.Sink.tally c.args.output.now).failures (g.O.Sink.tally c.print_outcome-in-Remove.new.output).failures
+    (subst (IsRequestOf c.args.words.now) c.in-Remove.is c.requires.request).0 tt (still Reader c.nothing.result fed fed refl) c.print_outcome-in-Remove.ensures.told
+
+pub returns-in-Find-clause-open : goal.returns-in-Find-clause-open
+returns-in-Find-clause-open g c =
+    let s = store_state g.S.Store c.args.store.now in
+    let t = store_state g.S.Store c.find.new.self in
+    printed_open s t (g.O.Sink.tally c.args.output.now).failures (g.O.Sink.tally c.print_outcome-in-Find.new.output).failures c.documents.result c.print_outcome-in-Find.result c.print_outcome-in-Find.ensures.told
+    (answered_open s t answers.as_documents c.find.result c.documents.result c.documents.ensures c.find.ensures.open)
+
+pub returns-in-Find-clause-devices : goal.returns-in-Find-clause-devices
+returns-in-Find-clause-devices g c =
+    let fed = (g.I.Source.feed c.args.input.now).failures in
+    reports words.Find c.args.words.now.call c.documents.result c.print_outcome-in-Find.result fed fed (g.O.Sink.tally c.args.output.now).failures (g.O.Sink.tally c.print_outcome-in-Find.new.output).failures
+    (subst (IsRequestOf c.args.words.now) c.in-Find.is c.requires.request).0 tt (still Reader c.documents.result fed fed refl) c.print_outcome-in-Find.ensures.told
+
+pub returns-in-Count-clause-open : goal.returns-in-Count-clause-open
+returns-in-Count-clause-open g c =
+    let s = store_state g.S.Store c.args.store.now in
+    let t = store_state g.S.Store c.count.new.self in
+    printed_open s t (g.O.Sink.tally c.args.output.now).failures (g.O.Sink.tally c.print_outcome-in-Count.new.output).failures c.number.result c.print_outcome-in-Count.result c.print_outcome-in-Count.ensures.told
+    (answered_open s t answers.number_answer c.count.result c.number.result c.number.ensures c.count.ensures.open)
+
+pub returns-in-Count-clause-devices : goal.returns-in-Count-clause-devices
+returns-in-Count-clause-devices g c =
+    let fed = (g.I.Source.feed c.args.input.now).failures in
+    reports words.Count c.args.words.now.call c.number.result c.print_outcome-in-Count.result fed fed (g.O.Sink.tally c.args.output.now).failures (g.O.Sink.tally c.print_outcome-in-Count.new.output).failures
+    (subst (IsRequestOf c.args.words.now) c.in-Count.is c.requires.request).0 tt (still Reader c.number.result fed fed refl) c.print_outcome-in-Count.ensures.told
+
+pub returns-in-Collections-clause-open : goal.returns-in-Collections-clause-open
+returns-in-Collections-clause-open g c =
+    let s = store_state g.S.Store c.args.store.now in
+    let t = store_state g.S.Store c.collections.new.self in
+    printed_open s t (g.O.Sink.tally c.args.output.now).failures (g.O.Sink.tally c.print_outcome-in-Collections.new.output).failures c.names.result c.print_outcome-in-Collections.result c.print_outcome-in-Collections.ensures.told
+    (answered_open s t answers.names_answer c.collections.result c.names.result c.names.ensures c.collections.ensures.open)
+
+pub returns-in-Collections-clause-devices : goal.returns-in-Collections-clause-devices
+returns-in-Collections-clause-devices g c =
+    let fed = (g.I.Source.feed c.args.input.now).failures in
+    reports words.Collections c.args.words.now.call c.names.result c.print_outcome-in-Collections.result fed fed (g.O.Sink.tally c.args.output.now).failures (g.O.Sink.tally c.print_outcome-in-Collections.new.output).failures
+    (subst (IsRequestOf c.args.words.now) c.in-Collections.is c.requires.request).0 tt (still Reader c.names.result fed fed refl) c.print_outcome-in-Collections.ensures.told
+
+pub returns-in-Import-clause-open : goal.returns-in-Import-clause-open
+returns-in-Import-clause-open g c =
+    let s = store_state g.S.Store c.args.store.now in
+    let t = store_state g.S.Store c.import.new.self in
+    printed_open s t (g.O.Sink.tally c.args.output.now).failures (g.O.Sink.tally c.print_outcome-in-Import.new.output).failures c.number-in-Import.result c.print_outcome-in-Import.result c.print_outcome-in-Import.ensures.told
+    (answered_open s t answers.number_answer c.import.result c.number-in-Import.result c.number-in-Import.ensures c.import.ensures.open)
+
+pub returns-in-Import-clause-devices : goal.returns-in-Import-clause-devices
+returns-in-Import-clause-devices g c =
+    import_reports c.args.words.now.call c.import.result c.number-in-Import.result c.print_outcome-in-Import.result (g.I.Source.feed c.args.input.now).failures (g.I.Source.feed c.import.new.reader).failures (g.O.Sink.tally c.args.output.now).failures (g.O.Sink.tally c.print_outcome-in-Import.new.output).failures
+    (subst (IsRequestOf c.args.words.now) c.in-Import.is c.requires.request).0 c.number-in-Import.ensures c.import.ensures.device c.print_outcome-in-Import.ensures.told
+
+pub returns-in-Load-clause-open : goal.returns-in-Load-clause-open
+returns-in-Load-clause-open g c =
+    printed_open (store_state g.S.Store c.args.store.now) (store_state g.S.Store c.load.new.store) (g.O.Sink.tally c.args.output.now).failures (g.O.Sink.tally c.print_outcome-in-Load.new.output).failures c.load.result c.print_outcome-in-Load.result
+    c.print_outcome-in-Load.ensures.told c.load.ensures.open
+
+pub returns-in-Load-clause-devices : goal.returns-in-Load-clause-devices
+returns-in-Load-clause-devices g c =
+    reports words.Load c.args.words.now.call c.load.result c.print_outcome-in-Load.result (g.I.Source.feed c.args.input.now).failures (g.I.Source.feed c.load.new.input).failures (g.O.Sink.tally c.args.output.now).failures (g.O.Sink.tally c.print_outcome-in-Load.new.output).failures
+    (subst (IsRequestOf c.args.words.now) c.in-Load.is c.requires.request).0 tt c.load.ensures.device c.print_outcome-in-Load.ensures.told
+
+pub returns-in-Export-clause-devices : goal.returns-in-Export-clause-devices
+returns-in-Export-clause-devices g c =
+    export_reports c.args.words.now.call c.export.result (g.I.Source.feed c.args.input.now).failures (g.O.Sink.tally c.args.output.now).failures (g.O.Sink.tally c.export.new.output).failures
+    (subst (IsRequestOf c.args.words.now) c.in-Export.is c.requires.request).0 c.export.ensures.device
+
+pub returns-in-Dump-clause-devices : goal.returns-in-Dump-clause-devices
+returns-in-Dump-clause-devices g c =
+    dump_reports c.args.words.now.call c.dump.result (g.I.Source.feed c.args.input.now).failures (g.O.Sink.tally c.args.output.now).failures (g.O.Sink.tally c.dump.new.output).failures
+    (subst (IsRequestOf c.args.words.now) c.in-Dump.is c.requires.request).0

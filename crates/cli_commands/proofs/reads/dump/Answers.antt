@@ -3,6 +3,7 @@ use Rattle.bson_base.specs.Device.{Tally}
 use Rattle.sqlite.proofs.StateLemmas.{survives_then}
 use Rattle.bson_store.specs.Calls.{store_state}
 use Rattle.cli_commands.specs.declared.dumping.Printer.{Printer}
+use Rattle.cli_commands.proofs.Leaving.{open_twice}
 use Rattle.cli_commands.proofs.Sending.{dumped, not_dumped, unchecked}
 use Rattle.cli_commands.proofs.reads.dump.Goals as goal
 
@@ -30,3 +31,7 @@ returns-in-Ok-clause-crash g c = survives_then (store_state g.S.Store c.args.sto
 
 pub returns-in-Err-each_text-clause-crash : goal.returns-in-Err-each_text-clause-crash
 returns-in-Err-each_text-clause-crash g c = survives_then (store_state g.S.Store c.args.store.now) (store_state g.S.Store c.check_json.new.self) (store_state g.S.Store c.each_text.new.self) _ _ (λ _. ⊥) (λ _ db none. none) (λ _ db none. none) c.check_json.ensures.crash c.each_text.ensures.crash
+
+pub returns-in-Ok-clause-open : goal.returns-in-Ok-clause-open
+returns-in-Ok-clause-open g c =
+    open_twice (store_state g.S.Store c.args.store.now) (store_state g.S.Store c.check_json.new.self) (store_state g.S.Store c.each_text.new.self) _ c.in_default.ensures.open c.in_default.ensures.moves c.each_text.ensures.crash c.in-Ok.ensures.open
