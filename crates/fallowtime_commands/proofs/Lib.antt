@@ -4,3 +4,4 @@ mod Keeping
 mod Putting
 mod Changing
 mod Returned
+pub mod Leaving

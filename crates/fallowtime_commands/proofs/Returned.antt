@@ -1,5 +1,5 @@
 -- Documents that were printed and are read again.
-use Rattle.std.proofs.Common.{refl, sym, subst, ◌≡◌, ◌≤◌, ℕ, List, [], ◌∷◌, false, Result, Ok, Err}
+use Rattle.std.proofs.Common.{arith, refl, sym, subst, ◌≡◌, ◌≤◌, ℕ, List, [], ◌∷◌, false, Result, Ok, Err}
 use Rattle.std.proofs.lemmas.List.{append_cancel_right}
 use Rattle.bson_base.specs.Kinds.{IsSound}
 use Rattle.bson_base.specs.Value.{document, has_key, look_up, Members, no_members, member}
@@ -23,7 +23,7 @@ use Rattle.fallowtime_commands.specs.declared.printing.Form.TheVariants.{Lines}
 -- settling keeps the keys
 settled_keys : (m : Mode) (k : List ℕ) (ms : Members) → has_key k (settle_members m ms) ≡ has_key k ms
 settled_keys m k no_members = refl
-settled_keys m k (member l v ms) = grind (settled_keys m k ms)
+settled_keys m k (member l v ms) = grind (arith, settled_keys m k ms)
 
 -- the text of the line
 printed : (d : Members) (text : List ℕ) → IsPrinted (Lines Canonical) d (line text) → IsTextOf Canonical (document d) text
@@ -35,8 +35,8 @@ ReadBack = (ms : Members) (t : List ℕ) (r : Result Document Error) → IsSound
 
 pub read_again : ReadBack → (d e : Members) (text : List ℕ) (maker : IdMaker) → IsKept d → has_reserved d ≡ false → json_levels (document d) ≤ 125 → IsPrinted (Lines Canonical) d (line text) → Reads text e
     → identified maker e ≡ settle_members Canonical d
-read_again back d e text maker kept free low is (some, utf8, found, gives, reads) =
-    grind (back d text (Ok found) kept.read.sound free low (printed d text is) reads, gives, kept.identified, settled_keys Canonical id_key d)
+read_again back d e text maker kept free low is (some, utf8, (found, gives, reads)) =
+    grind (arith, back d text (Ok found) kept.read.sound free low (printed d text is) reads, gives, kept.identified, settled_keys Canonical id_key d)
 
 pub refused_again : ReadBack → (d : Members) (text : List ℕ) (error : Error) → IsKept d → has_reserved d ≡ false → json_levels (document d) ≤ 125 → IsPrinted (Lines Canonical) d (line text)
     → ReadsText text (Err error) → error ≡ Memory

@@ -1,3 +1,4 @@
+pub mod Left
 pub mod Performing
 pub mod Printing
 pub mod Reading

@@ -2,6 +2,7 @@
 
 ghost use Rattle.std.specs.Prelude.{◌≡◌, Result};
 ghost use Rattle.bson_base.specs.Device.{CanRefuse};
+ghost use Rattle.store_table.specs.Moves.{WasOpen};
 ghost use Rattle.bson_store.specs.Calls.{store_state, Relates};
 ghost use Rattle.store_model.specs.declared.error.StoreError.{StoreError as StoreRefusal};
 ghost use Rattle.fallowtime_commands.specs.Performing.{LeavesRequest, Performs, reply_of};
@@ -61,6 +62,9 @@ pub fn execute<S: Alter + Drop, O: Sink>(
     ensures step { (outcome : Result Answered StoreRefusal) × Tells form outcome (O.tally output.old) (O.tally output.new) result
         × Relates S.Store store.old store.new (Performs name.now request.old (reply_of outcome))
         × LeavesRequest name.now request.old (reply_of outcome) (store_state S.Store store.old) (store_state S.Store store.new) }
+    // What was accepted was done on an open connection, which stays open.
+    ensures open { (outcome : Result Answered StoreRefusal) × Tells form outcome (O.tally output.old) (O.tally output.new) result
+        × WasOpen (store_state S.Store store.old) (store_state S.Store store.new) outcome }
 {
     let outcome = perform(alloc, store, name, request);
     print_outcome(alloc, request, outcome, form, output)
