@@ -2,8 +2,6 @@
 use Rattle.std.proofs.Common.{arith, ◌≡◌, ◌≢◌, ◌<◌, inr, ℕ, List, [], ◌∷◌, ◌++◌, None, codes, refl, subst}
 use Rattle.sqlite.specs.State.{State}
 use Rattle.json.specs.Print.{escape_byte, print_from}
-use Rattle.store_table.specs.Moves.{Moves}
-use Rattle.bson_store.proofs.Moving.{moved}
 use Rattle.cli_lines.specs.Line.{Keeps, KeepsSo}
 use Rattle.cli_lines.specs.declared.line.Kept.{Kept}
 use Rattle.cli_lines.specs.declared.line.Kept.TheVariants.{Memory, TooLong, Whole}
@@ -11,7 +9,9 @@ use Rattle.cli_lines.specs.declared.line.Line.{Line}
 use Rattle.cli_lines.specs.declared.line.TheConstants.{MOST}
 use Rattle.fallowtime_texts.specs.declared.made.IdMaker.{IdMaker}
 use Rattle.fallowtime_session.specs.Answers.{line_of, memory}
+use Rattle.fallowtime_session.specs.Deeds.{DoesOne}
 use Rattle.fallowtime_session.specs.Turns.{AnswersBytes, AnswersLine}
+use Rattle.fallowtime_session.proofs.Answering.{so}
 
 -- a line that is kept with no byte has none, and no other line has
 some_text : (l : Line) (text : List ℕ) → (l.kept ≡ Whole → l.bytes.items ≡ [] → ⊥) → Keeps l text → text ≢ []
@@ -22,8 +22,8 @@ some_text l text some keeps none = by l.kept refl (subst (Keeps l) none keeps)
     by TooLong is kept = let long : MOST < 0 = subst (λ k. KeepsSo k l.bytes.items []) is kept in omega (arith, long)
     by Memory is kept = let long : 0 < 0 = subst (λ k. KeepsSo k l.bytes.items []) is kept in omega (arith, long)
 
-pub line_answered : (s t : State) (m n : IdMaker) (l : Line) (text line : List ℕ) → (l.kept ≡ Whole → l.bytes.items ≡ [] → ⊥) → Keeps l text → Moves s t (AnswersBytes m n text line) → Moves s t (AnswersLine m n text line)
-line_answered s t m n l text line some keeps moves = moved s t (AnswersBytes m n text line) (AnswersLine m n text line) moves (λ docs after h. inr (some_text l text some keeps, h))
+pub line_answered : (s t : State) (m n : IdMaker) (l : Line) (text line : List ℕ) → (l.kept ≡ Whole → l.bytes.items ≡ [] → ⊥) → Keeps l text → DoesOne (AnswersBytes m n text line) s t → DoesOne (AnswersLine m n text line) s t
+line_answered s t m n l text line some keeps h = so s t (AnswersBytes m n text line) (AnswersLine m n text line) (λ deed h. inr (some_text l text some keeps, h)) h
 
 -- the line for out of memory, when there is none for its id either
 pub memory_line : codes "{\"refused\":\"Memory\"}" ++ 10 ∷ [] ≡ line_of None memory

@@ -3,5 +3,7 @@ pub mod Questions
 pub mod Requests
 pub mod Answers
 pub mod Objects
+pub mod Deeds
 pub mod Turns
 pub mod Sessions
+pub mod Leaving

@@ -1,5 +1,5 @@
 -- A session: lines, each with its answer.
-use Rattle.std.specs.Prelude.{◌≡◌, ◌⊎◌, ◌≤◌, ℕ, ◌+◌, ◌-◌, ◌^◌, List, [], ◌∷◌, ◌++◌, Result, Ok, Err, length}
+use Rattle.std.specs.Prelude.{◌≡◌, ◌⊎◌, ◌≤◌, ℕ, ◌+◌, ◌-◌, ◌^◌, List, [], ◌∷◌, ◌++◌, Option, Result, Ok, Err, length}
 use Rattle.std.specs.Io.KnownBytes.{Appends}
 use Rattle.bson_base.specs.Device.{Feed, Tally, Gives, IsExhausted, TakesBeginning}
 use Rattle.store_table.specs.Rows.{TableRow}
@@ -7,12 +7,14 @@ use Rattle.cli_lines.specs.Line.{IsUnbroken}
 use Rattle.store_model.specs.declared.error.ErrorKind.{ErrorKind}
 use Rattle.store_model.specs.declared.error.ErrorKind.TheVariants.{Memory, Reader, Writer}
 use Rattle.fallowtime_texts.specs.declared.made.IdMaker.{IdMaker}
+use Rattle.fallowtime_session.specs.Deeds.{Changes, Deed}
 use Rattle.fallowtime_session.specs.Turns.{AnswersLine}
 
--- a line, and its answer
+-- a line, its answer, and what was done for it
 pub record Turn : Type 0 where
   pub text : List ℕ
   pub answer : List ℕ
+  pub deed : Option Deed
   pub unbroken : IsUnbroken text
 
 -- the lines, each with its line feed
@@ -27,7 +29,7 @@ answers_of (t ∷ ts) = t.answer ++ answers_of ts
 -- the lines get their answers one after the other, each over the rows that the one before it left
 abbrev pub Holds : IdMaker → IdMaker → List Turn → List TableRow → List TableRow → Type 0
 Holds m n [] docs after = (n ≡ m) × (after ≡ docs)
-Holds m n (t ∷ ts) docs after = (next : IdMaker) × (mid : List TableRow) × AnswersLine m next t.text t.answer docs mid × Holds next n ts mid after
+Holds m n (t ∷ ts) docs after = (next : IdMaker) × (mid : List TableRow) × AnswersLine m next t.text t.answer t.deed × Changes t.deed docs mid × Holds next n ts mid after
 
 -- all of the input was read, and it is these lines, of which the last may lack its line feed
 abbrev pub ReadsAll : List Turn → Feed → Feed → Type 0
@@ -41,23 +43,23 @@ ReadsSome turns old new =
     (bytes : List ℕ) × (left : List ℕ) × (new.failures ≡ old.failures) × Gives old.supply new.supply bytes
     × ((bytes ≡ lines_of turns ++ left) ⊎ ((bytes ++ 10 ∷ [] ≡ lines_of turns) × IsExhausted new.supply))
 
--- an answer was written, or a write failed and a prefix of it was written
+-- an answer went out, or a write failed and a beginning of it did
 abbrev pub Sends : Result (Unit {0}) ErrorKind → List ℕ → Tally → Tally → Type 0
 Sends (Ok x) answer old new = (new.failures ≡ old.failures) × Appends old.taken new.taken answer
 Sends (Err Writer) answer old new = (new.failures ≡ old.failures + 1) × TakesBeginning old.taken new.taken answer
 Sends (Err kind) answer old new = ⊥
 
--- every answer was written
+-- every answer went out
 abbrev pub WritesAll : List Turn → Tally → Tally → Type 0
 WritesAll turns old new = (new.failures ≡ old.failures) × Appends old.taken new.taken (answers_of turns)
 
--- every answer except the last was written, and a prefix of that one
+-- every answer but the last went out, and a beginning of that
 abbrev pub WritesSome : List Turn → Tally → Tally → Type 0
 WritesSome turns old new =
     (done : List Turn) × (last : Turn) × (turns ≡ done ++ last ∷ [])
     × ((mid : Tally) × WritesAll done old mid × Sends (Err Writer) last.answer mid new)
 
--- after these lines a read failed inside of a line, or at least 2 ^ 64 - 2 bytes were read
+-- then a read failed, or neither the line nor the input ends
 abbrev pub BreaksOff : List Turn → Feed → Feed → Type 0
 BreaksOff turns old new =
     (bytes : List ℕ) × (left : List ℕ) × Gives old.supply new.supply bytes × (bytes ≡ lines_of turns ++ left)

@@ -2,8 +2,11 @@
 
 ghost use Rattle.std.specs.Prelude.{ℕ, List};
 ghost use Rattle.bson_base.specs.Device.{CanFail, CanRefuse};
-ghost use Rattle.bson_store.specs.Calls.{Relates};
+ghost use Rattle.store_table.specs.Moves.{Moves};
+ghost use Rattle.bson_store.specs.Calls.{Relates, store_state};
 ghost use Rattle.cli_lines.specs.Line.{Keeps};
+ghost use Rattle.fallowtime_session.specs.Deeds.{DoesOne};
+ghost use Rattle.fallowtime_session.specs.Leaving.{LeavesTurns};
 ghost use Rattle.fallowtime_session.specs.Sessions.{Ends, Holds, Sends, Turn};
 ghost use Rattle.fallowtime_session.specs.Turns.{AnswersLine};
 
@@ -42,7 +45,8 @@ fn reply<S: Alter + Drop, O: Sink>(
 ) -> Result<(), ErrorKind>
     requires { CanRefuse (O.tally output.old) }
     ensures { (answer : List ℕ) × Sends result answer (O.tally output.old) (O.tally output.new)
-        × ((text : List ℕ) → Keeps line.now text → Relates S.Store store.old store.new (AnswersLine maker.old maker.new text answer)) }
+        × ((text : List ℕ) → Keeps line.now text → DoesOne (AnswersLine maker.old maker.new text answer)
+        (store_state S.Store store.old) (store_state S.Store store.new)) }
 {
     if line.kept == Kept::Whole && line.bytes.is_empty() {
         return Ok(());
@@ -68,8 +72,13 @@ pub fn serve<S: Alter + Drop, I: Source, O: Sink>(
 ) -> Result<(), ErrorKind>
     requires input { CanFail (I.feed input.old) }
     requires output { CanRefuse (O.tally output.old) }
-    ensures { (turns : List Turn) × Ends result turns (I.feed input.old) (I.feed input.new) (O.tally output.old) (O.tally output.new)
+    ensures step { (turns : List Turn) × Ends result turns (I.feed input.old) (I.feed input.new) (O.tally output.old) (O.tally output.new)
         × Relates S.Store store.old store.new (Holds maker.old maker.new turns) }
+    // What a crash leaves now is left along the lines, from what it might leave before: behind a request that was accepted what that
+    // leaves; and behind a fault that shut the connection none is accepted.
+    ensures crash { (turns : List Turn) × Ends result turns (I.feed input.old) (I.feed input.new) (O.tally output.old) (O.tally output.new)
+        × Moves (store_state S.Store store.old) (store_state S.Store store.new)
+        (LeavesTurns maker.old maker.new turns (store_state S.Store store.old) (store_state S.Store store.new)) }
 {
     let Ok(mut lines) = Lines::new(alloc) else {
         return Err(ErrorKind::Memory);

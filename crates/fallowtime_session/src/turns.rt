@@ -4,9 +4,10 @@ ghost use Rattle.std.specs.Prelude.{◌≡◌, ℕ, List, None};
 ghost use Rattle.std.specs.Option.{ForSome, option_map};
 ghost use Rattle.json.specs.Tree.{HasNumbers, MembersHaveNumbers};
 ghost use Rattle.json.specs.Value.{members_view, value_view as data_of};
-ghost use Rattle.bson_store.specs.Calls.{Relates};
+ghost use Rattle.bson_store.specs.Calls.{store_state};
 ghost use Rattle.cli_lines.specs.Line.{Keeps};
 ghost use Rattle.fallowtime_session.specs.Answers.{line_of, words};
+ghost use Rattle.fallowtime_session.specs.Deeds.{DoesOne};
 ghost use Rattle.fallowtime_session.specs.Objects.{IsWritable, Makes, id_tree};
 ghost use Rattle.fallowtime_session.specs.Places.{byte_place};
 ghost use Rattle.fallowtime_session.specs.Questions.{asked_of, command_in, id_and_do, id_of};
@@ -85,7 +86,8 @@ fn answer_question<S: Alter + Drop>(
     question: Question<'_>,
 ) -> Result<Vec<u8>, AllocError>
     requires { IsWritable id }
-    ensures { Relates S.Store store.old store.new (Carries (id_tree id.entry) question.entry result) }
+    ensures { Carries (id_tree id.entry) question.entry result
+        (store_state S.Store store.old) (store_state S.Store store.new) }
 {
     let mut question = question;
     let outcome = perform(alloc, store, question.collection, &mut question.request);
@@ -101,7 +103,8 @@ fn answer_command<S: Alter + Drop>(
     command: &Value<'_>,
 ) -> Result<Vec<u8>, AllocError>
     requires { IsWritable id }
-    ensures { Relates S.Store store.old store.new (Replies maker.old maker.new (id_tree id.entry) (asked_of (data_of command.now)) result) }
+    ensures { DoesOne (Replies maker.old maker.new (id_tree id.entry) (asked_of (data_of command.now)) result)
+        (store_state S.Store store.old) (store_state S.Store store.new) }
 {
     let mut trial = maker.copy();
     match question_of(alloc, command, &mut trial) {
@@ -123,7 +126,8 @@ fn answer_tree<S: Alter + Drop>(
     tree: &Value<'_>,
 ) -> Result<Vec<u8>, AllocError>
     requires { HasNumbers (data_of tree.now) }
-    ensures { Relates S.Store store.old store.new (AnswersTree maker.old maker.new (data_of tree.now) (made_line result)) }
+    ensures { DoesOne (AnswersTree maker.old maker.new (data_of tree.now) (made_line result))
+        (store_state S.Store store.old) (store_state S.Store store.new) }
 {
     let Parts { id, command } = parts_of(tree);
     let spare = memory_line(alloc, id)?;
@@ -156,7 +160,8 @@ fn answer_text<S: Alter + Drop>(
     scratch: &mut Scratch,
     text: &str,
 ) -> Result<Vec<u8>, AllocError>
-    ensures { Relates S.Store store.old store.new (AnswersText maker.old maker.new text.now (made_line result)) }
+    ensures { DoesOne (AnswersText maker.old maker.new text.now (made_line result))
+        (store_state S.Store store.old) (store_state S.Store store.new) }
 {
     match Value::parse_strict(alloc, text, scratch) {
         Ok(tree) => return answer_tree(alloc, store, maker, &tree),
@@ -175,7 +180,8 @@ fn answer_bytes<S: Alter + Drop>(
     scratch: &mut Scratch,
     bytes: &[u8],
 ) -> Result<Vec<u8>, AllocError>
-    ensures { Relates S.Store store.old store.new (AnswersText maker.old maker.new bytes.now (made_line result)) }
+    ensures { DoesOne (AnswersText maker.old maker.new bytes.now (made_line result))
+        (store_state S.Store store.old) (store_state S.Store store.new) }
 {
     match str::from_utf8(bytes) {
         Ok(text) => answer_text(alloc, store, maker, scratch, text),
@@ -191,7 +197,8 @@ pub(crate) fn answer_of<S: Alter + Drop>(
     scratch: &mut Scratch,
     line: &Line,
 ) -> Result<Vec<u8>, AllocError>
-    ensures { (text : List ℕ) → Keeps line.now text → Relates S.Store store.old store.new (AnswersBytes maker.old maker.new text (made_line result)) }
+    ensures { (text : List ℕ) → Keeps line.now text → DoesOne (AnswersBytes maker.old maker.new text (made_line result))
+        (store_state S.Store store.old) (store_state S.Store store.new) }
 {
     match line.kept {
         Kept::Whole => answer_bytes(alloc, store, maker, scratch, line.bytes.as_slice()),

@@ -1,6 +1,6 @@
 use Rattle.std.proofs.Common.{subst}
-use Rattle.store_table.specs.Moves.{Moves}
 use Rattle.bson_store.specs.Calls.{store_state}
+use Rattle.fallowtime_session.specs.Deeds.{DoesOne}
 use Rattle.fallowtime_session.specs.Turns.{AnswersText, made_line}
 use Rattle.fallowtime_session.proofs.Answering.{no_text}
 use Rattle.fallowtime_session.proofs.turns.answer_bytes.Goals as goal
@@ -9,7 +9,7 @@ pub returns-in-Ok : goal.returns-in-Ok
 returns-in-Ok g c =
     let s = store_state g.S.Store c.args.store.now in
     let t = store_state g.S.Store c.answer_text.new.store in
-    subst (λ bytes. Moves s t (AnswersText c.args.maker.now c.answer_text.new.maker bytes (made_line c.answer_text.result))) c.in-Ok.ensures.cases.0 c.answer_text.ensures
+    subst (λ bytes. DoesOne (AnswersText c.args.maker.now c.answer_text.new.maker bytes (made_line c.answer_text.result)) s t) c.in-Ok.ensures.cases.0 c.answer_text.ensures
 
 pub returns-in-Err : goal.returns-in-Err
 returns-in-Err g c = no_text (store_state g.S.Store c.args.store.now) c.args.maker.now c.args.bytes.now c.in-Err.ensures.cases.0 c.valid_up_to.result c.words_line.result c.words_line.ensures

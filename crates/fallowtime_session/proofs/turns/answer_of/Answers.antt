@@ -1,6 +1,6 @@
 use Rattle.std.proofs.Common.{◌≡◌, ◌∙◌, subst}
-use Rattle.store_table.specs.Moves.{Moves}
 use Rattle.bson_store.specs.Calls.{store_state}
+use Rattle.fallowtime_session.specs.Deeds.{DoesOne}
 use Rattle.fallowtime_session.specs.Turns.{AnswersText, made_line}
 use Rattle.fallowtime_session.proofs.Answering.{kept_whole, long_is, no_memory, too_long, whole_is}
 use Rattle.fallowtime_session.proofs.turns.answer_of.Goals as goal
@@ -12,7 +12,7 @@ returns-in-Whole g c = λ text keeps.
     let kept = whole_is c.args.line.now text keeps c.in-Whole.is in
     let same : c.as_slice.result.now ≡ text = c.as_slice.ensures.value ∙ kept.0 in
     let line = made_line c.answer_bytes.result in
-    kept_whole s t c.args.maker.now c.answer_bytes.new.maker text line kept.1 (subst (λ bytes. Moves s t (AnswersText c.args.maker.now c.answer_bytes.new.maker bytes line)) same c.answer_bytes.ensures)
+    kept_whole s t c.args.maker.now c.answer_bytes.new.maker text line kept.1 (subst (λ bytes. DoesOne (AnswersText c.args.maker.now c.answer_bytes.new.maker bytes line) s t) same c.answer_bytes.ensures)
 
 pub returns-in-TooLong : goal.returns-in-TooLong
 returns-in-TooLong g c = λ text keeps.

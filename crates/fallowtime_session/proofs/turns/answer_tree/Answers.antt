@@ -1,13 +1,12 @@
 use Rattle.std.proofs.Common.{None, inr, refl, subst, sym}
 use Rattle.std.proofs.lemmas.Result.{err_from_is_err_and}
 use Rattle.json.specs.Value.{value_view}
-use Rattle.store_table.specs.Moves.{Moves}
 use Rattle.bson_store.specs.Calls.{store_state}
-use Rattle.bson_store.proofs.Moving.{rests}
 use Rattle.fallowtime_session.specs.Answers.{line_of, memory}
+use Rattle.fallowtime_session.specs.Deeds.{DoesOne}
 use Rattle.fallowtime_session.specs.Objects.{id_tree}
 use Rattle.fallowtime_session.specs.Turns.{AnswersTree, made_line}
-use Rattle.fallowtime_session.proofs.Answering.{answered, ran_out}
+use Rattle.fallowtime_session.proofs.Answering.{answered, idle, ran_out}
 use Rattle.fallowtime_session.proofs.turns.answer_tree.Goals as goal
 
 pub returns-in_err-spare : goal.returns-in_err-spare
@@ -16,7 +15,7 @@ returns-in_err-spare g c =
     let s = store_state g.S.Store c.args.store.now in
     let m = c.args.maker.now in
     let tree = value_view c.args.tree.now in
-    subst (λ r. Moves s s (AnswersTree m m tree (made_line r))) (sym p.1) (rests s (AnswersTree m m tree (line_of None memory)) (λ docs. inr (inr ((refl, refl), refl))))
+    subst (λ r. DoesOne (AnswersTree m m tree (made_line r)) s s) (sym p.1) (idle s (AnswersTree m m tree (line_of None memory)) (inr (inr ((refl, refl), refl))))
 
 pub returns-in-Ok : goal.returns-in-Ok
 returns-in-Ok g c =
