@@ -1,5 +1,5 @@
 -- What a command of `fallowtime` asks for, by its words and the input.
-use Rattle.std.specs.Prelude.{◌≡◌, ℕ, List, [], Result, Ok, Err, Vec, Option, Some, None}
+use Rattle.std.specs.Prelude.{◌≡◌, ℕ, List, [], true, Result, Ok, Err, Vec, Option, Some, None}
 use Rattle.std.specs.declared.alloc.Global.{Global}
 use Rattle.bson_base.specs.Device.{Feed, StopsReading, TookAll}
 use Rattle.bson_base.specs.declared.whole.ReadAllError.{ReadAllError}

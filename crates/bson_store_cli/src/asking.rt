@@ -25,7 +25,7 @@ pub struct Asked<'w> {
 
 /// A request of no lines.
 fn without_lines(alloc: Global, request: Option<Request<'_>>) -> Asked<'_>
-    ensures request { result.request ≡ request }
+    ensures request { result.request ≡ request.entry }
     ensures lines { result.lines.items ≡ [] }
 {
     Asked {

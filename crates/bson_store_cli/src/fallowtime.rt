@@ -70,6 +70,16 @@ fn export<S: Alter + Drop, O: Sink>(
     }
 }
 
+/// The end that a result is, of documents that came from these lines.
+fn ended_of(done: Result<(), Refusal>, lines: &[u64]) -> Result<(), Ended>
+    ensures { result ≡ ended_by lines.now done }
+{
+    match done {
+        Ok(()) => Ok(()),
+        Err(refusal) => Err(Ended::of_line(refusal, lines)),
+    }
+}
+
 /// Does what is asked over an open store.
 fn serve_store<S: Alter + Drop, O: Sink>(
     alloc: Global,
@@ -90,16 +100,16 @@ fn serve_store<S: Alter + Drop, O: Sink>(
         × Relates S.Store store.old store.new (SendsCollection words.now.coll.now (O.tally output.old) (O.tally output.new) sent)
         × Survives (store_state S.Store store.old) (store_state S.Store store.new) (λ _. ⊥) }
 {
-    let done = match &mut asked.request {
-        None => export(store, words.coll, output),
+    match &mut asked.request {
+        None => {
+            let done = export(store, words.coll, output);
+            ended_of(done, asked.lines.as_slice())
+        }
         Some(request) => {
             let form = form_of(&words.options);
-            execute(alloc, store, words.coll, request, form, output)
+            let done = execute(alloc, store, words.coll, request, form, output);
+            ended_of(done, asked.lines.as_slice())
         }
-    };
-    match done {
-        Ok(()) => Ok(()),
-        Err(refusal) => Err(Ended::of_line(refusal, asked.lines.as_slice())),
     }
 }
 
