@@ -6,7 +6,7 @@ use Rattle.std.proofs.Math.Nat.{pow-le-pow_right, pow-suc}
 use Rattle.std.proofs.Math.Seq.{drop-append-add}
 use Rattle.std.proofs.lemmas.List.{drop-append-le, drop_all}
 use Rattle.bson_base.specs.Decimal.{value, value_after, all_digits, all_zeros, strip}
-use Rattle.bson_base.proofs.PrintedReads.{value_after-append}
+use Rattle.bson_base.proofs.PrintedDecimalLemmas.{value_after-append}
 
 -- a value never gets less
 value_grows : (n : ℕ) (ds : List ℕ) → n ≤ value_after n ds

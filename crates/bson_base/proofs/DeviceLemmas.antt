@@ -15,7 +15,7 @@ pub Gives-trans : (a b c : Supply) (bs cs : List ℕ) → Gives a b bs → Gives
 Gives-trans a b c bs cs first second =
     (Appends-trans a.given b.given c.given bs cs first.0 second.0, Consumes-trans a.left b.left c.left bs cs first.1 second.1)
 
--- the first n of what stands from `at` on
+-- the first n of the elements from `at` on
 pub take_rest : (xs : List ℕ) (at n : ℕ) → at ≤ length xs → n ≤ length (take (length xs - at) (drop at xs)) → take n (take (length xs - at) (drop at xs)) ≡ take n (drop at xs)
 take_rest xs at n h e = grind (arith, common_steps)
 
@@ -25,7 +25,7 @@ take_front xs ys n e = subst (λ m. take m (xs ++ ys) ≡ xs) e (take-append_sea
 pub drop_drop : (at n : ℕ) (xs : List ℕ) → drop n (drop at xs) ≡ drop (at + n) xs
 drop_drop at n xs = grind (arith, common_steps)
 
--- the first n of the ys put in place of k elements from `at` on
+-- the first n of the ys, put in the place of k elements from `at` on
 pub take_put_mid : (at k n : ℕ) (xs ys : List ℕ) → at ≤ length xs → n ≤ length ys → take (at + n) (put_mid at k xs ys) ≡ take at xs ++ take n ys
 take_put_mid at k n xs ys within few =
     take-add at n (put_mid at k xs ys)

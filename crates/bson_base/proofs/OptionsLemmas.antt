@@ -17,7 +17,7 @@ use Rattle.std.proofs.lemmas.Bool.{and_from, and_parts}
 abbrev pub one_at : ℕ → ℕ → ℕ
 one_at n x = cond (eqb x n) 1 0
 
--- how often n stands in xs
+-- how often n occurs in xs
 abbrev count : ℕ → List ℕ → ℕ
 count n xs = sum_by (one_at n) xs
 
@@ -30,7 +30,7 @@ one_at_self n = grind (arith, common_steps)
 one_at_other : (n x : ℕ) → n < x → one_at n x ≡ 0
 one_at_other n x h = grind (arith, common_steps)
 
--- a number below the first of a list in order does not stand in it
+-- a number below the first of a sorted list doesn't occur in it
 count_below : (n x : ℕ) (xs : List ℕ) → n < x → NeverDescends (x ∷ xs) → count n (x ∷ xs) ≡ 0
 count_below n x [] h up = omega (arith, count-cons n x [], one_at_other n x h)
 count_below n x (y ∷ ys) h up = omega (arith, count-cons n x (y ∷ ys), one_at_other n x h, count_below n y ys (omega (arith, up.0)) up.1)

@@ -21,7 +21,7 @@ module _ {W : Type 0} (took : W → List ℕ → W → Type 0) where
         rest.1 ∙ p.1.1,
       )
 
-  -- v is what the formatter is once the loan ends
+  -- v is what the formatter is when the loan ends
   pub written_styled : (s t : Through W) (v : Formatter W) (r : Result (Unit {0}) Error) (o : Option (List ℕ)) → (t.f.ghost_name ≡ s.f.ghost_name → v ≡ t.f.now) → OnOk r (WritesText Took s o t) → DisplaysStyledOnOk took s.f.now r o v
   written_styled s t v r None back h = tt
   written_styled s t v (Err e) (Some bs) back h = λ flush ok. absurd (true≢false (sym ok))
@@ -29,7 +29,7 @@ module _ {W : Type 0} (took : W → List ℕ → W → Type 0) where
       let p = calls s h.parts t h.calls in
       subst (HasWrittenStyled took s.f.now bs) (sym (back p.1)) (has_written_styled_of_eq _ _ _ _ _ h.whole (p.0 flush))
 
-  -- a formatter without options is one whatever options
+  -- a formatter that has no options is one that may have any
   pub plain_from_styled : (f g : Formatter W) (r : Result (Unit {0}) Error) (o : Option (List ℕ)) → DisplaysStyledOnOk took f r o g → DisplaysOnOk took f r o g
   plain_from_styled f g r None h = tt
   plain_from_styled f g r (Some bs) h = λ plain ok.

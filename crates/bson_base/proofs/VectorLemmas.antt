@@ -22,7 +22,7 @@ written_is_vector (Int8 v) = refl
 written_is_vector (Float32 v) = ap (λ k. k == 0) (whole_patterns v.items)
 written_is_vector (PackedBit p) = p.padded
 
--- the numbers that groups of four bytes stand for
+-- the numbers that groups of four bytes encode
 abbrev numbers_of : List ℕ → List ℕ
 numbers_of (a ∷ b ∷ c ∷ d ∷ bs) = from_le_bytes w32 (a ∷ b ∷ c ∷ d ∷ []) ∷ numbers_of bs
 numbers_of _ = []
@@ -38,7 +38,7 @@ signs_back [] small = refl
 signs_back (z ∷ zs) small =
     ap (λ y. y ∷ map (cast_signed w8) (map (cast_unsigned w8) zs)) (to_z-of_z w8 z (All-head (FitsSigned w8) z zs small)) ∙ ap (λ l. z ∷ l) (signs_back zs (All-tail (FitsSigned w8) z zs small))
 
--- the first byte tells the type
+-- the first byte says which type it is
 types_agree : (x y : VectorValue) → vector_bytes x ≡ vector_bytes y → get_or (vector_bytes x) 0 0 ≡ get_or (vector_bytes y) 0 0
 types_agree x y e = ap (λ l. get_or l 0 0) e
 

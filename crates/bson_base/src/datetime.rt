@@ -43,7 +43,7 @@ impl DateTime {
     /// The earliest moment that a `DateTime` can hold.
     pub const MIN: DateTime = DateTime(i64::MIN);
 
-    /// The moment so many milliseconds after 1970-01-01T00:00:00Z.
+    /// The moment `millis` milliseconds after 1970-01-01T00:00:00Z.
     pub fn from_millis(millis: i64) -> DateTime
         ensures { millis_of result ≡ millis }
     {
@@ -57,7 +57,7 @@ impl DateTime {
         self.0
     }
 
-    /// The moment so many milliseconds later, or the nearest that a `DateTime` can hold.
+    /// The moment `millis` milliseconds later, or the nearest that a `DateTime` can hold.
     pub fn saturating_add_millis(self, millis: i64) -> DateTime
         ensures { millis_of result ≡ saturate_signed w64 (millis_of self +ℤ millis) }
     {

@@ -54,7 +54,7 @@ scalar_bytes (decimal bs) = bs
 scalar_bytes max_key = []
 scalar_bytes min_key = []
 
--- elements, with a length in front that counts all of the bytes, and a 00 behind them (bsonspec.org
+-- elements, with a length in front that counts all of the bytes, and a 00 after them (bsonspec.org
 -- 1.1, "document")
 unfoldable pub frame_of : List ℕ → List ℕ
 frame_of elements = le32 (length elements + 5) ++ (elements ++ 0 ∷ [])

@@ -77,6 +77,6 @@ abbrev mutual
 abbrev pub Means : List ℕ → Members → Type 0
 Means bytes d = (ms : Members) × IsEnvelope bytes × SpellsMembers (drop 4 bytes) ms × (d ≡ settle ms)
 
--- the bytes behind the length spell no tree: some level has a fault
+-- the bytes after the length spell no tree: some level has a fault
 abbrev pub IsFaulty : List ℕ → Type 0
 IsFaulty bytes = (ms : Members) → SpellsMembers (drop 4 bytes) ms → ⊥

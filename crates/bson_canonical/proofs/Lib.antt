@@ -1,4 +1,4 @@
-mod Ascents
-mod Payloads
-mod Turns
-mod Values
+mod AscentLemmas
+mod PayloadLemmas
+mod TurnLemmas
+mod ValueLemmas

@@ -15,11 +15,11 @@ use Rattle.bson_frame.specs.Frame.{Element, IsRegexSize}
 abbrev pub IsWritten : ElementType → List ℕ → Type 0
 IsWritten tag payload = (v : Value) → value_kind v ≡ tag → SpellsValue payload v → (settle_value v ≡ v) × (payload ≡ value_bytes v)
 
--- elements, with the 00 behind them, are written as the members that they spell
+-- elements, with the 00 after them, are written as the members that they spell
 abbrev pub AreWritten : List ℕ → Type 0
 AreWritten elements = (ms : Members) → SpellsMembers elements ms → (settle ms ≡ ms) × (elements ≡ members_bytes ms ++ 0 ∷ [])
 
--- an array's elements, with the 00 behind them, are written as the items that they spell, from the place i on
+-- an array's elements, with the 00 after them, are written as the items that they spell, from the place i on
 abbrev pub AreItemsWritten : ℕ → List ℕ → Type 0
 AreItemsWritten i elements = (vs : Items) → SpellsItems elements vs → (settle_items vs ≡ vs) × (elements ≡ items_bytes i vs ++ 0 ∷ [])
 
@@ -27,11 +27,11 @@ AreItemsWritten i elements = (vs : Items) → SpellsItems elements vs → (settl
 abbrev pub IsSpelled : ElementType → List ℕ → ℕ → Type 0
 IsSpelled tag payload inner = (v : Value) × (value_kind v ≡ tag) × SpellsValue payload v × (levels v ≤ inner)
 
--- elements, with the 00 behind them, spell members of at most `inner` levels
+-- elements, with the 00 after them, spell members of at most `inner` levels
 abbrev pub AreSpelled : List ℕ → ℕ → Type 0
 AreSpelled elements inner = (ms : Members) × SpellsMembers elements ms × (members_levels ms ≤ inner)
 
--- an array's elements, with the 00 behind them, spell items of at most `inner` levels
+-- an array's elements, with the 00 after them, spell items of at most `inner` levels
 abbrev pub AreItemsSpelled : List ℕ → ℕ → Type 0
 AreItemsSpelled elements inner = (vs : Items) × SpellsItems elements vs × (items_levels vs ≤ inner)
 

@@ -145,7 +145,8 @@ fn are_items_written<'a>(elements: &'a [u8], inner: usize, kept: &mut KeptKeys<'
 #[cycle(written)]
 pub(crate) fn is_written<'a>(frame: &Frame<'a>, inner: usize, kept: &mut KeptKeys<'a>) -> bool
     requires { IsPayload frame.now.tag frame.now.payload.now }
-    ensures { IsTrue result → IsWritten frame.now.tag frame.now.payload.now × IsSpelled frame.now.tag frame.now.payload.now inner × (kept.new.items ≡ kept.old.items) }
+    ensures { IsTrue result → IsWritten frame.now.tag frame.now.payload.now × IsSpelled frame.now.tag frame.now.payload.now inner
+        × (kept.new.items ≡ kept.old.items) }
 {
     if has_fault(frame) {
         return false;

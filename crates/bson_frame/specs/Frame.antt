@@ -9,7 +9,8 @@ use Rattle.bson_base.specs.Kinds.{HasNo00}
 use Rattle.bson_frame.specs.declared.error.ErrorKind.{ErrorKind}
 use Rattle.bson_frame.specs.declared.error.ErrorKind.TheVariants.{MalformedValue, Utf8EncodingError, OutOfMemory}
 
--- the greatest number of bytes that a length can declare, since it is a signed number of 32 bits (bsonspec.org 1.1, "int32")
+-- the greatest number of bytes that a length can declare, since it is a signed number of 32 bits (bsonspec.org 1.1,
+-- "int32")
 abbrev pub length_limit : ℕ
 length_limit = 2147483647
 
@@ -21,7 +22,7 @@ size_limit = 16777216
 abbrev pub number : List ℕ → ℕ
 number bytes = from_le_bytes w32 bytes
 
--- a key, a pattern or options, without the 00 behind it: a text without 00 (bsonspec.org 1.1, "cstring")
+-- a key, a pattern or options, without the 00 after it: a text without 00 (bsonspec.org 1.1, "cstring")
 pub record IsCstring (run : List ℕ) : Type 0 where
   pub no_zero : HasNo00 run
   pub text : IsUtf8 run

@@ -14,7 +14,7 @@ abbrev pub IsPayload : ElementType → List ℕ → Type 0
 IsPayload kinds.JavaScriptCodeWithScope payload = Unit {0}
 IsPayload tag payload = HasSize tag payload (length payload)
 
--- the bytes of a text behind its length, without the 00
+-- the bytes of a text after its length, without the 00
 abbrev pub text_in : List ℕ → List ℕ
 text_in bytes = take (number bytes - 1) (drop 4 bytes)
 

@@ -45,7 +45,8 @@ pub fn equal_errors()
     ensures kinds { (x y : Kind) → IsTrue (⟦<ErrorKind as PartialEq>⟧.eq x y) ↔ (x ≡ y) }
     ensures faults { (x y : AnyError) → IsTrue (⟦<Error as PartialEq>⟧.eq x y) ↔ ((fault_key x ≡ fault_key y) × (x.kind ≡ y.kind)) }
     ensures reasons { (x y : AnyReason) → IsTrue (⟦<ValueAccessErrorKind as PartialEq>⟧.eq x y) ↔ (reason_of x ≡ reason_of y) }
-    ensures refusals { (x y : AnyRefusal) → IsTrue (⟦<ValueAccessError as PartialEq>⟧.eq x y) ↔ ((asked_key x ≡ asked_key y) × (reason_of x.kind ≡ reason_of y.kind)) }
+    ensures refusals { (x y : AnyRefusal) → IsTrue (⟦<ValueAccessError as PartialEq>⟧.eq x y)
+        ↔ ((asked_key x ≡ asked_key y) × (reason_of x.kind ≡ reason_of y.kind)) }
 {}
 
 /// Frames are equal if they have the same kind, key, payload and rest.

@@ -7,7 +7,7 @@ use bson_base::ElementType;
 pub struct Frame<'a> {
     /// The kind that its first byte stands for.
     pub tag: ElementType,
-    /// Its key, without the 00 behind it.
+    /// Its key, without the 00 after it.
     pub key: &'a str,
     /// The bytes of its value.
     pub payload: &'a [u8],

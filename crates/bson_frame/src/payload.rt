@@ -51,6 +51,7 @@ fn code_fault(payload: &[u8]) -> Option<ErrorKind>
     ensures { MatchOption result ((kind : Kind) → CodeFault payload.now kind → ⊥)
         (CodeFault payload.now) }
 {
+    // Its length, a text without a byte and a document without an element: 4, 5 and 5 bytes.
     if payload.len() < 14 {
         return Some(ErrorKind::MalformedValue);
     }

@@ -50,6 +50,7 @@ fn test_length(bytes: &[u8]) -> Result<(), GateError>
         return Err(GateError::EndInside);
     };
     let declared = u32::from_le_bytes([*a, *b, *c, *d]) as usize;
+    // A document without an element has five bytes.
     if declared < 5 || declared > SIZE_LIMIT || bytes.len() > declared {
         return Err(GateError::BadLength);
     }
@@ -114,6 +115,7 @@ fn scope_of(payload: &[u8]) -> Option<&[u8]>
     requires { IsFaultless JavaScriptCodeWithScope payload.now }
     ensures { MatchOption result ⊥ (λ scope. (scope.now ≡ scope_in payload.now) × (5 ≤ length scope.now)) }
 {
+    // Its length, a text without a byte and a document without an element: 4, 5 and 5 bytes.
     if payload.len() < 14 {
         return None;
     }

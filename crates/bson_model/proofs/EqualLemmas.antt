@@ -1,4 +1,4 @@
--- `==` on values, by their trees: `bson_eq a b` exactly where the trees are Equal, if no key stands twice.
+-- `==` on values, by their trees: `bson_eq a b` exactly if the trees are Equal, provided that keys are distinct.
 use Rattle.std.proofs.Common.{◌≡◌, Bool, true, false, cond, List, [], ◌∷◌, map, Option, Some, None, is_some, unwrap_or, Vec, Global, string_bytes, bytes_eq, refl, sym, ap, ◌∙◌, subst, true≢false}
 use Rattle.std.specs.Bool.{Decides}
 use Rattle.std.specs.Cmp.Lexicographic.{pointwise}

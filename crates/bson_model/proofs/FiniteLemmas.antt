@@ -1,4 +1,4 @@
--- A value has a tree exactly where no finite double other than the zeros stands in it.
+-- A value has a tree exactly if there is no finite double in it other than the zeros.
 use Rattle.std.proofs.Common.{◌≡◌, ℕ, List, ◌++◌, Bool, true, false, Option, Some, None, refl, ◌∙◌}
 use Rattle.std.specs.Prelude.{if◌then◌else◌, not, ◌||◌, is_some, option_map, option_and_then, codes}
 use Rattle.serde_json.specs.Data as json

@@ -22,9 +22,9 @@ use Rattle.bson_model.specs.JsonRead.{some_or_error, ok_or_error, id_or_error, t
 use Rattle.bson_model.specs.JsonTexts.{int_of, long_of, double_of, byte_of}
 use Rattle.bson_model.specs.declared.extjson.de.Error.{Error}
 use Rattle.std.proofs.lemmas.Bool.{and_parts}
-use Rattle.bson_base.proofs.Members.{equal_keys}
+use Rattle.bson_base.proofs.MemberLemmas.{equal_keys}
 
--- ---- an answer that is there, step by step
+-- ---- a result that is Ok, step by step
 
 bind_ok : {A B : Type 0} (r : Result A Error) (f : A → Result B Error) (y : B) → (r >>= f) ≡ Ok y → (x : A) × (r ≡ Ok x) × (f x ≡ Ok y)
 bind_ok (Ok x) f y h = (x, refl, h)

@@ -177,7 +177,7 @@ members_step all left more ps qs k v b sorted so first is puts =
 pub members_end : (all left : List Entry) (ps : List Named) → SoFar all left ps → left ≡ [] → read_members (members_view all) ≡ Ok (members_of ps)
 members_end all left ps so none = so.reads ∙ ap (λ us. after_members (members_of ps) (read_members (members_view us))) none ∙ ap Ok (members_then-none (members_of ps))
 
--- ---- code beside its scope
+-- ---- code with its scope
 
 pub typed_two : (es fs gs : List Entry) (k l : String Global) (v w : json.Value)
     → es ≡ (k, v) ∷ fs → fs ≡ (l, w) ∷ gs → gs ≡ [] → bytes_eq (string_bytes k) (key_of of_code) ≡ true → bytes_eq (string_bytes l) scope_key ≡ true

@@ -114,7 +114,7 @@ long_none t h = sym (read_none (FitsSigned w64) fits_64 fits_64_so so_fits_64 t 
 
 -- ---- a byte
 
--- what is made of the kit's answer
+-- what is made of the kit's result
 abbrev pub byte_told : Result (List ℕ) FromHexError → Option ℕ
 byte_told (Ok bs) = Some (slice_index_or bs 0 0)
 byte_told (Err e) = None

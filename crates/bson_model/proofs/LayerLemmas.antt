@@ -256,7 +256,7 @@ family-Code x y = code_laws.is x y
 pub other-Code : (x y : JavaScriptCodeWithScope) → bson_eq (roll-Bson (Bson-F.JavaScriptCodeWithScope x)) (roll-Bson (Bson-F.JavaScriptCodeWithScope y)) ≡ (string_eq x.code y.code && document_eq x.scope y.scope)
 other-Code x y = search (rules, the_lemmas, is, family-Code)
 
--- a layer with values inside, beside one of another kind
+-- a layer with values inside, compared with one of another kind
 pub apart-Array : (x : Vec Bson Global) (z : Layer)
     → ((y : Vec Bson Global) → HasDistinctKeys (seen (Bson-F.Array y)) → Decides (unfolded (roll-Bson (Bson-F.Array x)) (roll-Bson (Bson-F.Array y))) (Equal (seen (Bson-F.Array x)) (seen (Bson-F.Array y))))
     → HasDistinctKeys (seen z) → Decides (unfolded (roll-Bson (Bson-F.Array x)) (roll-Bson z)) (Equal (seen (Bson-F.Array x)) (seen z))

@@ -1,4 +1,4 @@
--- What a document ends as that was spent on two calls, where each lends a part of what it was given.
+-- What a document that was lent through two calls ends as, where each call lends a part of what it was given.
 use mathlib.Core.Option.{Option, none, some}
 use seplogic.Ra.Ura.{Ura}
 use base.Logic.{ent, sep, via, ex∗, ex_i, comm∗}

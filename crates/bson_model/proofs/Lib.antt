@@ -10,6 +10,6 @@ pub mod JsonTextsLemmas
 pub mod JsonReadLemmas
 pub mod JsonGrammarLemmas
 pub mod ExtendLemmas
-pub mod Seen
+pub mod SeenLemmas
 pub mod LendLemmas
-pub mod KeyMarks
+pub mod KeyMarkLemmas

@@ -70,12 +70,12 @@ view-DateTime x = search (rules, the_lemmas)
 pub view-Decimal128 : (x : Decimal128) → view (bson.Decimal128 x) ≡ decimal128_tree x
 view-Decimal128 x = search (rules, the_lemmas)
 
--- a binary that is asked for as it stands
+-- a binary that is asked for as it is
 pub is_binary : (v w : Value) → Some w ≡ as_binary v → v ≡ w
 is_binary (scalar (binary s bs)) w e = let same : scalar (binary s bs) ≡ w = cc in same
 is_binary v w e = absurd (cc)
 
--- where the bytes of a generic binary are lent, its subtype is Generic
+-- if the bytes of a generic binary are lent, its subtype is Generic
 pub is_generic : {X : Type 0} (h : X → List ℕ) (s : BinarySubtype) (bs : List ℕ) (r : Option X) → option_map h r ≡ as_binary_generic (scalar (binary s bs)) → OnSome r (s ≡ Generic)
 is_generic h s bs None e = tt
 is_generic h Generic bs (Some x) e = refl

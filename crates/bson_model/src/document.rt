@@ -78,7 +78,7 @@ impl Document {
     }
 
     /// The value under a key.
-    #[tactic(auto, using(crate::proofs::Seen::seen_under))]
+    #[tactic(auto, using(crate::proofs::SeenLemmas::seen_under))]
     pub fn get(&self, key: &str) -> Option<&Bson>
         ensures { option_map (λ v. view v.now) result ≡ get key.now (pairs_of self.now) }
     {
@@ -110,7 +110,7 @@ impl Document {
     }
 
     /// The value of the pair at a place, to be written to.
-    #[tactic(auto, using(crate::proofs::Seen::seen_at, crate::proofs::Seen::set_seen))]
+    #[tactic(auto, using(crate::proofs::SeenLemmas::seen_at, crate::proofs::SeenLemmas::set_seen))]
     pub fn get_index_mut(&mut self, index: usize) -> Option<&mut Bson>
         ensures* writes_back { sem 𝓛 (LendsValueAt self.entry index result) }
         ensures value { option_map (λ v. view v.now) result ≡ slice_get (values_of (pairs_of self.old)) index }
@@ -141,7 +141,7 @@ impl Document {
     }
 
     // The value under the key, after `default` was put last if there was none.
-    #[tactic(auto, using(crate::proofs::Seen::seen_or_default, crate::proofs::Seen::put_seen, crate::proofs::Seen::seen_absent))]
+    #[tactic(auto, using(crate::proofs::SeenLemmas::seen_or_default, crate::proofs::SeenLemmas::put_seen, crate::proofs::SeenLemmas::seen_absent))]
     pub(crate) fn get_or_insert(
         &mut self,
         key: String,
@@ -164,7 +164,8 @@ impl Document {
         F: Drop,
         requires { ForNone (get (string_bytes key) (pairs_of self.old)) (F.pre default) }
         ensures* writes_back { sem 𝓛 (LendsOrInsertsValue self.entry (string_bytes key) result) }
-        ensures value { IfOk result (λ v. MatchOption (get (string_bytes key) (pairs_of self.old)) (IsTreeOf (F.post default) (view v.now)) (λ w. view v.now ≡ w)) }
+        ensures value { IfOk result (λ v. MatchOption (get (string_bytes key) (pairs_of self.old))
+            (IsTreeOf (F.post default) (view v.now)) (λ w. view v.now ≡ w)) }
         ensures absent { OnErr result (get (string_bytes key) (pairs_of self.old) ≡ None) }
     {
         if self.contains_key(key.as_str()) {
@@ -176,7 +177,7 @@ impl Document {
     }
 
     /// Takes the pair of a key out, and gives its value. The others keep their order.
-    #[tactic(auto, using(crate::proofs::Seen::seen_out, crate::proofs::Seen::seen_rest))]
+    #[tactic(auto, using(crate::proofs::SeenLemmas::seen_out, crate::proofs::SeenLemmas::seen_rest))]
     pub fn remove(&mut self, key: &str) -> Option<Bson>
         ensures value { option_map view result ≡ get key.now (pairs_of self.old) }
         ensures rest { pairs_of self.new ≡ without key.now (pairs_of self.old) }

@@ -1,4 +1,4 @@
--- Lists of keys in which none stands twice.
+-- Lists of distinct keys.
 use Rattle.std.proofs.Common.{◌≡◌, ◌&&◌, ◌⊎◌, inl, inr, ℕ, zero, suc, ◌<◌, Bool, true, false, cond, List, [], ◌∷◌, length, get_or, slice_get, Option, Some, None, is_some, String, string_bytes, bytes_eq, refl, sym, ap, ◌∙◌, arith, true≢false}
 use Rattle.std.specs.Cmp.{first_so, second_so}
 use Rattle.std.specs.Cmp.Lexicographic.{nat_list_eq_equiv}
@@ -39,7 +39,7 @@ module _ {V : Type 0} where
   has_each [] = refl
   has_each (q ∷ qs) = and_from _ _ (ap (λ b. is_some (cond b (Some q.1) (get q.0 qs))) ((bytes_eq-Decides q.0 q.0).1 refl)) (later_too q qs (keys_of qs) (has_each qs))
 
--- two tests agree on the keys that pass a third, where they agree wherever it passes
+-- two tests agree on the keys that pass a third, if they agree wherever it passes
 agree : (t u v : Key → Bool) → ((k : Key) → v k ≡ true → t k ≡ u k) → (ks : List Key) → list_all v ks ≡ true → list_all t ks ≡ list_all u ks
 agree t u v f [] h = refl
 agree t u v f (k ∷ ks) h = λ i. f k (first_so _ _ h) i && agree t u v f ks (second_so (v k) _ h) i
@@ -51,7 +51,7 @@ module _ {V : Type 0} (E : V → V → Bool) where
   as_there (Some x) (Some y) s (inl e) = absurd (true≢false (ap is_some e))
   as_there (Some x) (Some y) s (inr e) = sym e
 
-  -- where all keys of the first have equal values, it is enough that the second has no other key
+  -- if all keys of the first have equal values, it is enough that the second has no other key
   pub pairs_eq-has_all : (ps qs : List (Key × V)) → list_all (same_at E ps qs) (keys_of ps) ≡ true → list_all (λ k. has_key k ps) (keys_of qs) ≡ list_all (same_at E ps qs) (keys_of qs)
   pairs_eq-has_all ps qs h =
       agree (λ k. has_key k ps) (same_at E ps qs) (λ k. has_key k qs) (λ k s. as_there (get k ps) (get k qs) s (there_passes (same_at E ps qs) k ps h)) (keys_of qs) (has_each qs)

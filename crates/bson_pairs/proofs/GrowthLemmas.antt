@@ -48,7 +48,7 @@ tree-push ts t s es fs n is gone copy long put =
 pub distinct-pushed : (ts : List (String Global)) (t : String Global) → IsDistinct bytes_eq (key_bytes ts) → find key_cmp (string_bytes t) (index_of (key_bytes ts)) ≡ None → IsDistinct bytes_eq (key_bytes (ts ++ t ∷ []))
 distinct-pushed ts t d gone = subst (IsDistinct bytes_eq) (sym (map-append string_bytes ts (t ∷ []))) (distinct-push (key_bytes ts) (string_bytes t) d gone)
 
--- of distinct keys none stands among those before it
+-- of distinct keys none is among those before it
 none_before : (n : ℕ) (ks : List Key) (i : ℕ) (d : Key) → IsDistinct bytes_eq ks → i < length ks → get (get_or ks i d) (numbered_from n (take i ks)) ≡ None
 none_before n [] i d h l = absurd (omega arith)
 none_before n (k ∷ ks) zero d h l = refl

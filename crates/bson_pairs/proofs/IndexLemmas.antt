@@ -48,7 +48,7 @@ turned k l h = nat_list_cmp_total.antisymm l k ∙ ap ordering_reverse h
 turned_back : (k l : Key) → key_cmp k l ≡ Greater → key_cmp l k ≡ Less
 turned_back k l h = nat_list_cmp_total.antisymm l k ∙ ap ordering_reverse h
 
--- ---- what stands in it
+-- ---- what is in it
 
 module _ {V : Type 0} (P : Key × V → Type 0) where
   all-place : (k : Key) (v : V) (es : List (Key × V)) → P (k, v) → AllByRecursion P es → AllByRecursion P (place key_cmp k v es)
@@ -74,7 +74,7 @@ stands_from before (k ∷ ks) n e =
     let later = stands_from (before ++ k ∷ []) ks (n + 1) (ap (λ m. m + 1) e ∙ sym (length-append before (k ∷ []))) in
     (ap (slice_get (before ++ k ∷ ks)) e ∙ slice_get_seam before k ks, subst (λ l. AllByRecursion (λ e. slice_get l e.1 ≡ Some e.0) (numbered_from (n + 1) ks)) (append_assoc before (k ∷ []) ks) later)
 
--- each entry has the key that stands at its place
+-- each entry has the key at its place
 pub standing : (ks : List Key) → AllByRecursion (λ e. slice_get ks e.1 ≡ Some e.0) (index_of ks)
 standing ks = all-ascending (λ e. slice_get ks e.1 ≡ Some e.0) (numbered_from 0 ks) (stands_from [] ks 0 refl)
 
@@ -115,7 +115,7 @@ place_at ks order j is within =
 pub place_within : (ts : List (String Global)) (order : List ℕ) (j : ℕ) → order ≡ places_of (key_bytes ts) → j < length order → get_or order j 0 < length ts
 place_within ts order j is within = subst (λ n. get_or order j 0 < n) (length-map ts string_bytes) (slice_get_within (key_bytes ts) (get_or order j 0) _ (place_at (key_bytes ts) order j is within).2)
 
--- a text that is read through the places stands there in the index
+-- a text that is read through the places is in the index there
 pub read_at : (ts : List (String Global)) (order : List ℕ) (j : ℕ) (t : String Global) → order ≡ places_of (key_bytes ts) → j < length order → t ≡ get_or ts (get_or order j 0) t
     → slice_get (index_of (key_bytes ts)) j ≡ Some (string_bytes t, get_or order j 0)
 read_at ts order j t is within read =
@@ -137,7 +137,7 @@ from_texts k n (t ∷ ts) = ap (cond (bytes_eq k (string_bytes t)) (Some n)) (fr
 pub position-key_bytes : (k : Key) (ts : List (String Global)) → position (bytes_eq k) (key_bytes ts) ≡ position (is_key k) ts
 position-key_bytes k ts = position_from-zero (bytes_eq k) (key_bytes ts) ∙ from_texts k 0 ts ∙ sym (position_from-zero (is_key k) ts)
 
--- the index answers as a look at one text after the other
+-- the index finds what a search of one text after the other finds
 pub find-index : (k : Key) (ts : List (String Global)) → find key_cmp k (index_of (key_bytes ts)) ≡ position (is_key k) ts
 find-index k ts = find-ascending k (numbered_from 0 (key_bytes ts)) ∙ get-numbered k 0 (key_bytes ts) ∙ from_texts k 0 ts ∙ sym (position_from-zero (is_key k) ts)
 
@@ -153,7 +153,7 @@ module _ {V : Type 0} where
   below_at f (x ∷ es) zero e h is = let same : x ≡ e = cc in subst (λ x. key_cmp f x.0 ≡ Less) same (less _ (and_first _ _ h))
   below_at f (x ∷ es) (suc j) e h is = below_at f es j e (and_second _ _ h) is
 
-  -- where the one at j is above k, so are those after it
+  -- if the one at j is above k, so are those after it
   pub above_from : (k : Key) (es : List (Key × V)) (j : ℕ) (e : Key × V) → T (is_sorted key_cmp es) → slice_get es j ≡ Some e → key_cmp k e.0 ≡ Less → AllByRecursion (λ e. key_cmp k e.0 ≡ Less) (drop j es)
   above_from k [] j e h is p = absurd (cc)
   above_from k (x ∷ es) zero e h is p =
@@ -162,7 +162,7 @@ module _ {V : Type 0} where
       (q, all_above k x es q (and_first _ _ h))
   above_from k (x ∷ es) (suc j) e h is p = above_from k es j e (and_second _ _ h) is p
 
-  -- where the one at j is below k, so are those before it
+  -- if the one at j is below k, so are those before it
   pub below_to : (k : Key) (es : List (Key × V)) (j : ℕ) (e : Key × V) → T (is_sorted key_cmp es) → slice_get es j ≡ Some e → key_cmp k e.0 ≡ Greater → AllByRecursion (λ e. key_cmp k e.0 ≡ Greater) (take (suc j) es)
   below_to k [] j e h is p = absurd (cc)
   below_to k (x ∷ es) zero e h is p = let same : x ≡ e = cc in (subst (λ x. key_cmp k x.0 ≡ Greater) (sym same) p, tt)
@@ -184,7 +184,7 @@ module _ {V : Type 0} where
   goes_between k v (e ∷ es) zero h g = ap (λ o. by_order o ((k, v) ∷ e ∷ es) ((e.0, v) ∷ es) (e ∷ place key_cmp k v es)) g.0
   goes_between k v (e ∷ es) (suc j) h g = ap (λ o. by_order o ((k, v) ∷ e ∷ es) ((e.0, v) ∷ es) (e ∷ place key_cmp k v es)) h.0 ∙ ap (λ l. e ∷ l) (goes_between k v es j h.1 g)
 
-  -- a look-up finds what stands there
+  -- a look-up finds what is there
   pub find_at : (k : Key) (v : V) (es : List (Key × V)) (j : ℕ) → T (is_sorted key_cmp es) → slice_get es j ≡ Some (k, v) → find key_cmp k es ≡ Some v
   find_at k v [] j h is = absurd (cc)
   find_at k v (x ∷ es) zero h is =
@@ -293,7 +293,7 @@ option_some : {V W : Type 0} (h : V → W) (b : Bool) (v : V) (o : Option V) →
 option_some h true v o = refl
 option_some h false v o = refl
 
--- places that begin one further on, moved down
+-- places counted from one further on, moved down
 moved_down : (q : Key) (n m : ℕ) (ks : List Key) → m ≤ n → get q (numbered_from n ks) ≡ option_map (place_without m) (get q (numbered_from (n + 1) ks))
 moved_down q n m [] h = refl
 moved_down q n m (k ∷ ks) h =

@@ -1,4 +1,4 @@
--- Keys beside values, place by place.
+-- Keys and values, place by place.
 use Rattle.std.proofs.Common.{◌≡◌, ◌&&◌, ℕ, zero, suc, ◌+◌, ◌<◌, List, [], ◌∷◌, ◌++◌, length, map, set, get_or, slice_get, remove, Option, Some, None, Result, Ok, Err, unwrap_or, Bool, true, false, cond, bytes_eq, String, string_bytes, MutBor, refl, sym, ap, ◌∙◌, subst, arith, true≢false}
 use Rattle.std.specs.List.{zip, list_all, AllZip, position_from, position}
 use Rattle.std.specs.Result.{OnErr}
@@ -218,7 +218,7 @@ value-last k v (p ∷ ps) = value-last k v ps
 pub same_some : {V : Type 0} (x y d : V) → Some x ≡ Some y → x ≡ y
 same_some x y d e = ap (λ o. unwrap_or o d) e
 
--- what a set of keys answers of a key that it lacks, said of the pairs
+-- what a set of keys returns for a key that it lacks, said of the pairs
 pub get-missing : {V : Type 0} (ks : List (String Global)) (vs : List V) (ps : List (Key × V)) (k q : Key) → entries_of ks vs ≡ ps → k ≡ q → None ≡ position (is_key k) ks → get q ps ≡ None
 get-missing ks vs ps k q is same gone = ap (λ l. get l ps) (sym same) ∙ sym (ap (get k) is) ∙ get-absent k ks vs (absent_if (is_key k) ks gone)
 

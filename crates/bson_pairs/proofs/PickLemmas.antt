@@ -70,7 +70,7 @@ module _ {V : Type 0} where
       length_bytes [] = refl
       length_bytes (k ∷ ks) = ap suc (length_bytes ks)
 
-  -- what stands at a place
+  -- what is at a place
   slice_get-keyed : (ks : List (String Global)) (vs : List V) (i : ℕ) (d : String Global) (e : V) → i < length ks → length vs ≡ length ks → slice_get (entries_of ks vs) i ≡ Some (string_bytes (get_or ks i d), get_or vs i e)
   slice_get-keyed [] vs i d e h l = absurd (omega arith)
   slice_get-keyed (x ∷ ks) [] i d e h l = absurd (omega arith)

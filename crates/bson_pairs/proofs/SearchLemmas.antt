@@ -9,7 +9,7 @@ use Rattle.bson_pairs.specs.Ascending.{key_cmp}
 use Rattle.bson_pairs.specs.Index.{index_of, AtMostDigits, GoesAt, IsIndexedAt}
 use Rattle.bson_pairs.specs.Keyed.{Key}
 
--- k isn't below `low` nor from `high` on, after so many comparisons
+-- k is neither before `low` nor at `high` or after it, and `compared` comparisons were made
 pub record Searching (ks : List Key) (k : Key) (low high compared : ℕ) : Type 0 where
   pub ordered : low ≤ high
   pub inside : high ≤ length (index_of ks)

@@ -31,7 +31,8 @@ impl Model for GrowingKeys {
 
     ghost view = { λ k. k.texts.items };
 
-    ghost invariant = { λ k. (seen_places k.places.entries ≡ index_of (key_bytes k.texts.items)) × IsDistinct bytes_eq (key_bytes k.texts.items) × (k.order.items ≡ []) × (length k.texts.items ≤ vec_capacity k.order) };
+    ghost invariant = { λ k. (seen_places k.places.entries ≡ index_of (key_bytes k.texts.items)) × IsDistinct bytes_eq (key_bytes k.texts.items)
+        × (k.order.items ≡ []) × (length k.texts.items ≤ vec_capacity k.order) };
 }
 
 /// The places of these texts, in a tree.

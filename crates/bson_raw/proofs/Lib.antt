@@ -1,18 +1,18 @@
-pub mod Walks
-pub mod Turns
-pub mod Runs
-pub mod Puts
-pub mod Sizes
-pub mod Gains
-pub mod Builds
-pub mod Settling
-pub mod Progress
-pub mod Converting
-pub mod Faults
-pub mod Reading
-pub mod FirstFaults
-pub mod ComesBack
-mod BorrowedEqual
-mod OwnedEqual
-mod NoFaults
-mod Sized
+pub mod WalkLemmas
+pub mod TurnLemmas
+pub mod RunLemmas
+pub mod AppendLemmas
+pub mod SizeLemmas
+pub mod GrowthLemmas
+pub mod BuildLemmas
+pub mod SettleLemmas
+pub mod ProgressLemmas
+pub mod ConversionLemmas
+pub mod FaultLemmas
+pub mod ReadLemmas
+pub mod FirstFaultLemmas
+pub mod RoundTripLemmas
+mod BorrowedEqualLemmas
+mod OwnedEqualLemmas
+mod NoFaultLemmas
+mod SizedLemmas

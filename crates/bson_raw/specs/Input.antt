@@ -59,7 +59,7 @@ ReadsHead old new (Err Reader) = new.failures ≡ old.failures + 1
 ReadsHead old new (Err EndInside) = (bytes : List ℕ) × TookAll old new bytes × (0 < length bytes) × (length bytes < 4)
 ReadsHead old new (Err _) = ⊥
 
--- the bytes behind the first four, up to a length
+-- the bytes after the first four, up to a length
 abbrev pub ReadsRest : Feed → Feed → List ℕ → ℕ → List ℕ → Result (Unit {0}) ReadError → Type 0
 ReadsRest old new head n all (Ok x) = (rest : List ℕ) × Took old new rest × (all ≡ head ++ rest) × (length all ≡ n)
 ReadsRest old new head n all (Err Reader) = new.failures ≡ old.failures + 1

@@ -16,7 +16,7 @@ IsWalk bytes [] None = bytes ≡ 0 ∷ []
 IsWalk bytes [] (Some kind) = (bytes ≢ 0 ∷ []) × IsStructuralFault bytes kind
 IsWalk bytes (e ∷ elements) fault = (rest : List ℕ) × IsFirstFrame bytes e rest × IsWalk rest elements fault
 
--- the walk of a document begins behind its length
+-- the walk of a document begins after its length
 abbrev pub IsDocumentWalk : List ℕ → List Element → Option ErrorKind → Type 0
 IsDocumentWalk bytes elements fault = IsWalk (drop 4 bytes) elements fault
 

@@ -17,7 +17,7 @@ scoped_value c = scoped_code c.code.now (bytes_of c.scope)
 abbrev pub CanWrite : RawValue → Type 0
 CanWrite v = IsPlainRaw v × (length (raw_payload v) < 2 ^ 31)
 
--- what becomes of a document's elements and of what was put behind its final 00, with the tag in place of that 00: a
+-- what becomes of a document's elements and of what was put after its final 00, with the tag in place of that 00: a
 -- document, if it isn't too long
 abbrev pub Closes : List ℕ → List ℕ → List ℕ → ℕ → List ℕ → Result (Unit {0}) Error → Type 0
 Closes four body more tag new (Ok x) = (new ≡ le32 (length body + length more + 5) ++ (body ++ tag ∷ more)) × (length body + length more + 5 < 2 ^ 31)

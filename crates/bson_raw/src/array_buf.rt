@@ -80,7 +80,8 @@ impl RawArrayBuf {
     /// 2147483647 bytes. A refusal changes nothing.
     pub fn push(&mut self, value: RawBson) -> Result<(), Error>
         ensures value { AppendsElement (array_buffer_bytes self.old) (array_buffer_bytes self.new) (decimal (next_place self.old)) (own_value value) result }
-        ensures walk { OnOk result (Gains (array_buffer_bytes self.old) (array_buffer_bytes self.new) (element_for (decimal (next_place self.old)) (own_value value))) }
+        ensures walk { OnOk result (Gains (array_buffer_bytes self.old) (array_buffer_bytes self.new)
+            (element_for (decimal (next_place self.old)) (own_value value))) }
         ensures place { next_place self.new ≡ (if is_ok result then next_place self.old + 1 else next_place self.old) }
     {
         let alloc = *self.document.bytes.allocator();

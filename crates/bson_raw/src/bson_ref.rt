@@ -12,7 +12,7 @@ use bson_frame::Error;
 use bson_model::{Bson, STACK_LEVELS};
 use std::alloc::{AllocError, Global};
 
-/// Bytes with a subtype (bsonspec.org 1.1, element type 05). Of an old binary the bytes behind its inner length.
+/// Bytes with a subtype (bsonspec.org 1.1, element type 05). Of an old binary the bytes after its inner length.
 #[derive(Clone, Copy, Debug, PartialEq)]
 pub struct RawBinaryRef<'a> {
     /// What the bytes are.

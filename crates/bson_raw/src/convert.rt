@@ -126,7 +126,7 @@ pub(crate) fn array_of(alloc: Global, elements: &[u8], levels: u32) -> Result<Ar
     Ok(items)
 }
 
-/// The tree of an element's value, of at most so many levels.
+/// The tree of an element's value, of at most `levels` levels.
 #[cycle(convert)]
 fn element_tree(alloc: Global, frame: &Frame<'_>, levels: u32) -> Result<Bson, Error>
     requires { IsPayload frame.now.tag frame.now.payload.now }
@@ -138,7 +138,7 @@ fn element_tree(alloc: Global, frame: &Frame<'_>, levels: u32) -> Result<Bson, E
     }
 }
 
-/// The tree of a value that was read, of at most so many levels.
+/// The tree of a value that was read, of at most `levels` levels.
 #[cycle(convert)]
 pub(crate) fn tree_of(alloc: Global, value: RawBsonRef<'_>, levels: u32) -> Result<Bson, Error>
     ensures { ConvertsValue (ref_value value.entry) result }

@@ -149,11 +149,13 @@ fn db_pointer(payload: &[u8]) -> Result<RawBsonRef<'_>, ErrorKind>
 fn binary(payload: &[u8]) -> Result<RawBsonRef<'_>, ErrorKind>
     ensures { Decodes kinds.Binary payload.now result }
 {
+    // Four bytes of length, and one of the subtype.
     if payload.len() < 5 {
         return Err(ErrorKind::MalformedValue);
     }
     let (front, bytes) = payload.split_at(5);
     let subtype = BinarySubtype::from(front[4]);
+    // The old binary has its length once more inside, in four bytes.
     if front[4] != 2 {
         return Ok(RawBsonRef::Binary(RawBinaryRef { subtype, bytes }));
     }
@@ -173,6 +175,7 @@ fn binary(payload: &[u8]) -> Result<RawBsonRef<'_>, ErrorKind>
 fn code_with_scope(payload: &[u8]) -> Result<RawBsonRef<'_>, ErrorKind>
     ensures { Decodes kinds.JavaScriptCodeWithScope payload.now result }
 {
+    // Its length, the length and the 00 of a text without a byte, and a document without an element: 4, 5 and 5 bytes.
     if payload.len() < 14 {
         return Err(ErrorKind::MalformedValue);
     }

@@ -49,7 +49,7 @@ fn declared(head: [u8; 4]) -> Result<usize, ReadError>
     Ok(number as usize)
 }
 
-/// Replaces what was in `room` by the first four bytes and those behind them, up to a length.
+/// Replaces what was in `room` by the first four bytes and those after them, up to a length.
 fn read_rest<R: Source>(
     reader: &mut R,
     head: [u8; 4],

@@ -1,4 +1,5 @@
-//! Bytes of many levels, each inside the one before and under the empty key, and what the calls on bytes return of them.
+//! Bytes of many levels, each inside the one before and under the empty key, and what the calls on bytes return of
+//! them.
 
 use crate::{getters, told};
 use bson_base::{BinarySubtype, SliceSource};
@@ -32,7 +33,7 @@ fn own_bytes(kind: &str) -> u32 {
     if kind == "scopes" { 16 } else { 7 }
 }
 
-/// Appends a level down to the one inside, which has so many bytes.
+/// Appends a level down to the one inside, which has `inside` bytes.
 fn put_level(bytes: &mut Vec<u8>, kind: &str, inside: u32) -> Result<(), AllocError> {
     let length = inside.wrapping_add(own_bytes(kind));
     bytes.extend_from_slice(&length.to_le_bytes())?;
@@ -48,7 +49,7 @@ fn put_level(bytes: &mut Vec<u8>, kind: &str, inside: u32) -> Result<(), AllocEr
     }
 }
 
-/// The bytes of so many levels, of which the last is empty.
+/// The bytes of `count` levels, of which the last is empty.
 fn levels(alloc: Global, kind: &str, count: u32) -> Result<Vec<u8>, AllocError> {
     let own = own_bytes(kind);
     let mut bytes = Vec::new(alloc);

@@ -193,7 +193,7 @@ fn read(alloc: Global, document: RawDocument<'_>) -> Result<Document, Error> {
     }
 }
 
-/// What a writer gets of a tree. It has room for so many bytes, so that it takes no memory. If the call is out of
+/// What a writer gets of a tree. It has room for `room` bytes, so that it takes no memory. If the call is out of
 /// memory it gets nothing.
 fn sent(alloc: Global, tree: &Document, room: usize) -> Result<Vec<u8>, Error> {
     let mut sink = VecSink::new(alloc);

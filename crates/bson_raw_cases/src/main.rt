@@ -35,7 +35,7 @@
 //!
 //! With a kind and a number:
 //!
-//! - `deep KIND NUMBER`: what the calls return that take the bytes of so many documents inside each other, each under
+//! - `deep KIND NUMBER`: what the calls return that take the bytes of that many documents inside each other, each under
 //!   the empty key, or of as many arrays or scopes in the outermost document, as KIND says; `true` if they return a
 //!   tree or a copy.
 //!

@@ -55,7 +55,7 @@ pub fn send(alloc: Global, document: &Document) -> Result<String, AllocError> {
     format!(in alloc; "{answer:?} [{digits}]")
 }
 
-/// What a writer of so many bytes returns, and what it has taken.
+/// What a writer with room for `room` bytes returns, and what it has taken.
 pub fn send_slowly(alloc: Global, room: u64, document: &Document) -> Result<String, AllocError> {
     let mut sink = FaultySink::new(alloc, room);
     let answer = to_writer(alloc, document, &mut sink);

@@ -100,7 +100,7 @@ fn around(alloc: Global, kind: &str, tree: Value) -> Result<Value, AllocError> {
     }
 }
 
-/// A tree of so many levels, the last of which is an empty object.
+/// A tree of the given number of levels, the last of which is an empty object.
 ///
 /// The cases go to 10000. What reads a tree takes it and drops it, and the drop of the kit's type calls itself once a
 /// level: on a stack of 8 MB some 37300 levels fit. A deeper tree could be taken apart here level by level, but not

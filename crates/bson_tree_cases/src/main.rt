@@ -41,7 +41,7 @@
 //!   keys were compared with it).
 //! - `from_pairs`, with keys and numbers: length and text of the document that they make at once.
 //! - `descending`: how many of 1000 keys that are put in descending order are found at their places by at most 10
-//!   comparisons. `at_once`, with a number: whether so many keys that go up and down make, at once, the document that
+//!   comparisons. `at_once`, with a number: whether that many keys that go up and down make, at once, the document that
 //!   they make one by one. `extended`, with a number and a document: how many pairs ascend, and are found, once so many
 //!   such keys are added, and 000.
 //! - `from_u32`, `from_id`, `from_option`, `from_text`, `from_items`, `from_slice`, `from_uuid`, `from_vector`: kind

@@ -150,7 +150,7 @@ fn put_each(document: &mut Document, pairs: Vec<(String, Bson)>) -> Result<(), A
     Ok(())
 }
 
-/// The document of so many mixed pairs, put one by one.
+/// The document of `count` mixed pairs, put one by one.
 fn one_by_one(alloc: Global, count: u32) -> Result<Document, AllocError> {
     let mut document = Document::new(alloc);
     put_each(&mut document, mixed_pairs(alloc, count)?)?;
@@ -163,7 +163,7 @@ fn is_as_one_by_one(alloc: Global, at_once: &Document, count: u32) -> Result<boo
     Ok(at_once.keys().eq(each.keys()) && *at_once == each)
 }
 
-/// Whether so many mixed pairs at once make the document that they make one by one.
+/// Whether `count` mixed pairs at once make the document that they make one by one.
 pub fn at_once(alloc: Global, count: &str) -> Result<String, AllocError> {
     let count = count.parse::<u32>().unwrap_or(0);
     let at_once = Document::from_pairs(alloc, mixed_pairs(alloc, count)?)?;
@@ -192,7 +192,7 @@ fn count_ascending(document: &Document) -> u64 {
     count
 }
 
-/// How many pairs of a document ascend that was extended by so many mixed pairs, and then by the key 000.
+/// How many pairs of a document ascend that was extended by `count` mixed pairs, and then by the key 000.
 pub fn extended(alloc: Global, document: &mut Document, count: &str) -> Result<String, AllocError> {
     let count = count.parse::<u32>().unwrap_or(0);
     document.extend(mixed_pairs(alloc, count)?)?;

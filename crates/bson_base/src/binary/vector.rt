@@ -136,7 +136,7 @@ impl Vector {
     }
 }
 
-// Whether so many bits of the last byte can be left out.
+// Whether `padding` bits of the last byte can be left out.
 fn can_pad(padding: u8, bytes: &[u8]) -> bool
     ensures { result ≡ is_padding padding bytes.now }
 {

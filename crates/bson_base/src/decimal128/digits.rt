@@ -75,7 +75,7 @@ impl<'a> Digits<'a> {
         }
     }
 
-    /// The first so many digits.
+    /// The first `count` digits.
     pub(crate) fn first(self, count: usize) -> Digits<'a>
         requires { count ≤ length (digits_of self) }
         ensures { digits_of result ≡ take count (digits_of self.entry) }

@@ -180,7 +180,7 @@ fn raise(negative: bool, digits: Digits<'_>, exponent: u32) -> Result<Parts, Par
     }
 }
 
-/// A number followed by so many zeros, at most 34 digits in all.
+/// A number of `before` digits with `zeros` zeros after it, at most 34 digits in all.
 fn times_ten(start: u128, before: usize, zeros: usize) -> u128
     requires few { before + zeros ≤ digit_limit }
     requires low { start < 10 ^ before }

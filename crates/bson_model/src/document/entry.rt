@@ -103,7 +103,8 @@ impl<'a> Entry<'a> {
         F: Drop,
         requires { ForNone (get (entry_key self) (pairs_of (entry_document self).now)) (F.pre default) }
         ensures* writes_back { sem 𝓛 (EntryLends self.entry result) }
-        ensures value { IfOk result (λ v. MatchOption (get (entry_key self.entry) (pairs_of (entry_document self.entry).now)) (IsTreeOf (F.post default) (view v.now)) (λ w. view v.now ≡ w)) }
+        ensures value { IfOk result (λ v. MatchOption (get (entry_key self.entry) (pairs_of (entry_document self.entry).now))
+            (IsTreeOf (F.post default) (view v.now)) (λ w. view v.now ≡ w)) }
         ensures absent { OnErr result (get (entry_key self.entry) (pairs_of (entry_document self.entry).now) ≡ None) }
     {
         match self {

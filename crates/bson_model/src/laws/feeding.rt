@@ -36,9 +36,11 @@ pub fn what_values_feed()
     ensures documents { (x : Pairs) → bson_writes (bson.Document x) ≡ feeds.usize 3 ++ document_writes x }
     ensures truths { (x : Bool) → bson_writes (bson.Boolean x) ≡ feeds.usize 4 ++ feeds.bool x }
     ensures nulls { bson_writes bson.Null ≡ feeds.usize 5 }
-    ensures expressions { (x : AnyRegex) → bson_writes (bson.RegularExpression x) ≡ feeds.usize 6 ++ feeds.str (string_bytes x.pattern) ++ feeds.str (string_bytes x.options) }
+    ensures expressions { (x : AnyRegex) → bson_writes (bson.RegularExpression x)
+        ≡ feeds.usize 6 ++ feeds.str (string_bytes x.pattern) ++ feeds.str (string_bytes x.options) }
     ensures codes { (x : String Global) → bson_writes (bson.JavaScriptCode x) ≡ feeds.usize 7 ++ feeds.str (string_bytes x) }
-    ensures scoped_codes { (x : AnyCode) → bson_writes (bson.JavaScriptCodeWithScope x) ≡ feeds.usize 8 ++ feeds.str (string_bytes x.code) ++ document_writes x.scope }
+    ensures scoped_codes { (x : AnyCode) → bson_writes (bson.JavaScriptCodeWithScope x)
+        ≡ feeds.usize 8 ++ feeds.str (string_bytes x.code) ++ document_writes x.scope }
     ensures small_integers { (x : ℤ) → bson_writes (bson.Int32 x) ≡ feeds.usize 9 ++ feeds.i32 x }
     ensures integers { (x : ℤ) → bson_writes (bson.Int64 x) ≡ feeds.usize 10 ++ feeds.i64 x }
     ensures timestamps { (x : AnyTimestamp) → bson_writes (bson.Timestamp x) ≡ feeds.usize 11 ++ feeds.u32 x.time ++ feeds.u32 x.increment }

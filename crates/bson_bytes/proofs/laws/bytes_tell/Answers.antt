@@ -1,4 +1,4 @@
-use Rattle.bson_bytes.proofs.Told.{bytes_tell}
+use Rattle.bson_bytes.proofs.ApartLemmas.{bytes_tell}
 use Rattle.bson_bytes.proofs.laws.bytes_tell.Goals as goal
 
 pub returns : goal.returns

@@ -1,4 +1,4 @@
-use Rattle.bson_bytes.proofs.Lengths.{encode_length}
+use Rattle.bson_bytes.proofs.LengthLemmas.{encode_length}
 use Rattle.bson_bytes.proofs.laws.sizes.Goals as goal
 
 pub returns : goal.returns

@@ -1,4 +1,4 @@
-use Rattle.bson_bytes.proofs.Told.{values_tell}
+use Rattle.bson_bytes.proofs.ApartLemmas.{values_tell}
 use Rattle.bson_bytes.proofs.laws.values_tell.Goals as goal
 
 pub returns : goal.returns

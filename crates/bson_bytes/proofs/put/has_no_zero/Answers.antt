@@ -1,4 +1,4 @@
-use Rattle.bson_bytes.proofs.Zeros.{no_zero_told}
+use Rattle.bson_bytes.proofs.ZeroLemmas.{no_zero_told}
 use Rattle.bson_bytes.proofs.put.has_no_zero.Goals as goal
 
 pub returns : goal.returns

@@ -1,5 +1,5 @@
 use Rattle.bson_bytes.specs.Encode.{le32}
-use Rattle.bson_bytes.proofs.Places.{four_set}
+use Rattle.bson_bytes.proofs.PlaceLemmas.{four_set}
 use Rattle.bson_bytes.proofs.put.put_number.Goals as goal
 
 pub returns : goal.returns

@@ -2,8 +2,8 @@ use Rattle.std.proofs.Common.{◌≡◌, ◌∙◌, ◌+◌, ◌++◌, ◌∷◌
 use Rattle.std.proofs.lemmas.Result.{err_from_is_err_and}
 use Rattle.bson_base.specs.Value.{array}
 use Rattle.bson_bytes.specs.Encode.{members_bytes, items_bytes, text_bytes, value_bytes, value_size}
-use Rattle.bson_bytes.proofs.Lengths.{members_length, items_length, text_length, framed_length}
-use Rattle.bson_bytes.proofs.Written.{room, written_in, framed_ok, scoped_in, scoped_ok, short_ok, long_refused, begun_kept, no_items_left, next_item, item_refused, item_written}
+use Rattle.bson_bytes.proofs.LengthLemmas.{members_length, items_length, text_length, framed_length}
+use Rattle.bson_bytes.proofs.WrittenLemmas.{room, written_in, framed_ok, scoped_in, scoped_ok, short_ok, long_refused, begun_kept, no_items_left, next_item, item_refused, item_written}
 use Rattle.bson_model.specs.Rest.{iter_rest}
 use Rattle.bson_model.specs.Trees.{document_tree, scoped_code_tree}
 use Rattle.bson_model.specs.View.{view, pairs_of, items_of, members_of}

@@ -1,6 +1,6 @@
 use Rattle.std.proofs.Common.{◌+◌, drop, map}
 use Rattle.bson_bytes.specs.Encode.{members_size, items_size, value_size}
-use Rattle.bson_bytes.proofs.Writing.{MembersTo, ItemsTo}
+use Rattle.bson_bytes.proofs.WritingLemmas.{MembersTo, ItemsTo}
 use Rattle.bson_model.specs.Rest.{iter_rest}
 use Rattle.bson_model.specs.View.{view, pairs_of, items_of, members_of}
 use Rattle.bson_bytes.proofs.write.+write.Given as goal

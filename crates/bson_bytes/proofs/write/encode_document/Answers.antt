@@ -1,7 +1,7 @@
 use Rattle.std.proofs.Common.{◌≡◌, arith, rules}
 use Rattle.bson_bytes.specs.Encode.{members_bytes, encode}
-use Rattle.bson_bytes.proofs.Lengths.{members_length}
-use Rattle.bson_bytes.proofs.Written.{written_envelope}
+use Rattle.bson_bytes.proofs.LengthLemmas.{members_length}
+use Rattle.bson_bytes.proofs.WrittenLemmas.{written_envelope}
 use Rattle.bson_model.specs.View.{pairs_of, members_of}
 use Rattle.bson_bytes.proofs.write.encode_document.Goals as goal
 

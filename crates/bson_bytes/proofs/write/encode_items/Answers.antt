@@ -1,7 +1,7 @@
 use Rattle.std.proofs.Common.{◌≡◌, map, arith, rules}
 use Rattle.bson_bytes.specs.Encode.{items_bytes, frame_of}
-use Rattle.bson_bytes.proofs.Lengths.{items_length}
-use Rattle.bson_bytes.proofs.Written.{written_envelope}
+use Rattle.bson_bytes.proofs.LengthLemmas.{items_length}
+use Rattle.bson_bytes.proofs.WrittenLemmas.{written_envelope}
 use Rattle.bson_model.specs.View.{view, items_of}
 use Rattle.bson_bytes.proofs.write.encode_items.Goals as goal
 

@@ -1,7 +1,7 @@
 use Rattle.std.proofs.Common.{◌≡◌, ◌+◌, ◌∙◌, ℕ, length, ap, arith, rules, length-append}
 use Rattle.bson_bytes.specs.Encode.{value_bytes, value_size}
 use Rattle.bson_bytes.specs.Writing.{CanBeWritten}
-use Rattle.bson_bytes.proofs.Lengths.{value_length}
+use Rattle.bson_bytes.proofs.LengthLemmas.{value_length}
 use Rattle.bson_model.specs.View.{view}
 use Rattle.bson_bytes.proofs.write.write_value.Goals as goal
 

@@ -2,10 +2,10 @@ use Rattle.std.proofs.Common.{[], ◌∷◌, ◌++◌, ◌-◌, refl, sym, ◌�
 use Rattle.bson_frame.specs.View.{element_of}
 use Rattle.bson_canonical.specs.Met.{HasMet}
 use Rattle.bson_canonical.specs.Written.{AreItemsSpelled, AreItemsWritten, AreSpelled, AreWritten}
-use Rattle.bson_canonical.proofs.Turns.{absent_all_more, absent_front, end_absent_all, end_items_spelled, end_items_written, end_spelled, end_written, items_spelled_more, items_written_more, spelled_more, written_more}
-use Rattle.bson_canonical.proofs.Values.{all_behind, array_spelled, array_written, deeper, document_spelled, document_written}
+use Rattle.bson_canonical.proofs.TurnLemmas.{absent_all_more, absent_front, end_absent_all, end_items_spelled, end_items_written, end_spelled, end_written, items_spelled_more, items_written_more, spelled_more, written_more}
+use Rattle.bson_canonical.proofs.ValueLemmas.{all_behind, array_spelled, array_written, deeper, document_spelled, document_written}
 use Rattle.bson_canonical.proofs.elements.+written.Goals as goal
-use Rattle.bson_bytes.proofs.Meant.{are_bytes}
+use Rattle.bson_bytes.proofs.MeaningLemmas.{are_bytes}
 
 pub are_items_written-loop-place-init : goal.are_items_written-loop-place-init
 are_items_written-loop-place-init t c = (λ rest. rest, λ rest. rest, refl)

@@ -1,4 +1,4 @@
-use Rattle.bson_canonical.proofs.Payloads.{tested_in_order}
+use Rattle.bson_canonical.proofs.PayloadLemmas.{tested_in_order}
 use Rattle.bson_canonical.proofs.elements.are_in_order.Goals as goal
 
 pub returns-then-is_ascii : goal.returns-then-is_ascii

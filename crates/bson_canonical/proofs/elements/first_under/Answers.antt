@@ -2,7 +2,7 @@ use Rattle.std.proofs.Common.{sym, ◌∙◌}
 use Rattle.std.proofs.lemmas.Slice.Eq.{bytes_eq-Decides}
 use mathlib.Core.Bool.{true≢false}
 use Rattle.bson_frame.specs.View.{element_of}
-use Rattle.bson_canonical.proofs.Turns.{first_behind, first_here}
+use Rattle.bson_canonical.proofs.TurnLemmas.{first_behind, first_here}
 use Rattle.bson_canonical.proofs.elements.first_under.Goals as goal
 
 pub returns-then-eq : goal.returns-then-eq

@@ -1,4 +1,4 @@
-use Rattle.bson_canonical.proofs.Payloads.{ordered_options}
+use Rattle.bson_canonical.proofs.PayloadLemmas.{ordered_options}
 use Rattle.bson_canonical.proofs.elements.has_ordered_options.Goals as goal
 
 pub returns : goal.returns

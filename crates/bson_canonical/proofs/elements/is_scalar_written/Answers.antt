@@ -1,8 +1,8 @@
 use Rattle.std.proofs.Common.{ap}
-use Rattle.bson_canonical.proofs.Values.{binary_written, one_form_inner, regex_written, scalar_spelled, scalar_written}
+use Rattle.bson_canonical.proofs.ValueLemmas.{binary_written, one_form_inner, regex_written, scalar_spelled, scalar_written}
 use Rattle.bson_canonical.proofs.elements.is_scalar_written.Goals as goal
-use Rattle.bson_bytes.proofs.Meant.{are_bytes}
-use Rattle.bson_bytes.proofs.ScalarReads.{HasInner}
+use Rattle.bson_bytes.proofs.MeaningLemmas.{are_bytes}
+use Rattle.bson_bytes.proofs.ScalarReadLemmas.{HasInner}
 
 pub returns-in-Binary-clause-written : goal.returns-in-Binary-clause-written
 returns-in-Binary-clause-written c u =

@@ -1,8 +1,8 @@
 use Rattle.std.proofs.Common.{subst, arith}
 use Rattle.bson_canonical.specs.Written.{AreSpelled, AreWritten}
-use Rattle.bson_canonical.proofs.Values.{all_behind, form}
+use Rattle.bson_canonical.proofs.ValueLemmas.{all_behind, form}
 use Rattle.bson_canonical.proofs.form.is_written_form.Goals as goal
-use Rattle.bson_bytes.proofs.Meant.{are_bytes}
+use Rattle.bson_bytes.proofs.MeaningLemmas.{are_bytes}
 
 pub returns-clause-form : goal.returns-clause-form
 returns-clause-form c t d means =

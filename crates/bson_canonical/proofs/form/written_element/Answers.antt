@@ -1,8 +1,8 @@
 use Rattle.std.proofs.Common.{drop, subst}
 use Rattle.bson_frame.specs.View.{element_of}
 use Rattle.bson_canonical.specs.Written.{IsFirstUnder}
-use Rattle.bson_canonical.proofs.Turns.{under}
-use Rattle.bson_canonical.proofs.Values.{all_behind}
+use Rattle.bson_canonical.proofs.TurnLemmas.{under}
+use Rattle.bson_canonical.proofs.ValueLemmas.{all_behind}
 use Rattle.bson_canonical.proofs.form.written_element.Goals as goal
 
 pub returns-then-is_written_alone : goal.returns-then-is_written_alone

@@ -2,7 +2,7 @@ use Rattle.std.proofs.Common.{sym, ap, ◌∙◌, arith}
 use Rattle.std.specs.Simd.Lanes.{chunk}
 use Rattle.std.proofs.lemmas.Simd.{leading_from_mask_l, length-chunk, trailing_mask_l}
 use lib.Count.{count_trailing_zeros}
-use Rattle.bson_frame.proofs.Ascii.{ends_counted, is_end, run_in_front}
+use Rattle.bson_frame.proofs.AsciiLemmas.{ends_counted, is_end, run_in_front}
 use Rattle.bson_frame.proofs.extent.ascii_run.Goals as goal
 
 pub returns-then-ends-eq0-clause-run : goal.returns-then-ends-eq0-clause-run

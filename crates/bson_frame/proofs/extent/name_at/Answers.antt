@@ -1,6 +1,6 @@
 use Rattle.std.proofs.lemmas.Str.{IsUtf8-from_ascii}
 use Rattle.std.proofs.lemmas.List.{take_rest}
-use Rattle.bson_frame.proofs.Ascii.{ascii_run, whole_run, splits_at_zero}
+use Rattle.bson_frame.proofs.AsciiLemmas.{ascii_run, whole_run, splits_at_zero}
 use Rattle.bson_frame.proofs.extent.name_at.Goals as goal
 
 pub from_utf8_unchecked-requires : goal.from_utf8_unchecked-requires

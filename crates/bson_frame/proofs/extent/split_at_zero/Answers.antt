@@ -1,7 +1,7 @@
 use Rattle.std.proofs.Common.{length, subst, arith}
 use Rattle.std.proofs.lemmas.List.{take_all, take_rest}
 use Rattle.bson_base.specs.Kinds.{HasNo00}
-use Rattle.bson_frame.proofs.Runs.{none_passed, splits_at}
+use Rattle.bson_frame.proofs.RunLemmas.{none_passed, splits_at}
 use Rattle.bson_frame.proofs.extent.split_at_zero.Goals as goal
 
 pub returns-in-Some : goal.returns-in-Some

@@ -5,10 +5,10 @@ use Rattle.bson_model.specs.Keyed.{Key, ascending}
 use Rattle.bson_model.specs.Rest.{lent_member, ascending_rest}
 use Rattle.bson_model.specs.View.{view, pairs_of, members_of}
 use Rattle.bson_meaning.specs.Meaning.{Same}
-use Rattle.bson_meaning.proofs.InTurn.{SameInTurn, in_turn, ascending_low, ended_if, keys_differ, keys_meet, turn_longer, turn_other_key, turn_other_value, turn_more, turn_end}
-use Rattle.bson_meaning.proofs.Turns.{items_end, levels_more}
+use Rattle.bson_meaning.proofs.PairwiseLemmas.{SameInTurn, in_turn, ascending_low, ended_if, keys_differ, keys_meet, turn_longer, turn_other_key, turn_other_value, turn_more, turn_end}
+use Rattle.bson_meaning.proofs.TurnLemmas.{items_end, levels_more}
 use Rattle.bson_meaning.proofs.compare.+same.Goals as goal
-use Rattle.bson_raw.proofs.Progress.{untrue}
+use Rattle.bson_raw.proofs.ProgressLemmas.{untrue}
 
 pub same_items-returns : goal.same_items-returns
 same_items-returns t c =

@@ -4,7 +4,7 @@ use Rattle.bson_model.specs.Equal.{SameKeys}
 use Rattle.bson_model.specs.Rest.{ascending_rest}
 use Rattle.bson_model.specs.View.{view, pairs_of, items_of, members_of}
 use Rattle.bson_meaning.specs.Meaning.{SameItems, SameUnder}
-use Rattle.bson_meaning.proofs.InTurn.{SameInTurn}
+use Rattle.bson_meaning.proofs.PairwiseLemmas.{SameInTurn}
 use Rattle.bson_meaning.proofs.compare.+same.Given as goal
 
 abbrev pub decreases-same_meaning : goal.decreases-same_meaning

@@ -2,7 +2,7 @@ use Rattle.std.proofs.Common.{sym, ap, ◌∙◌, not, true, false, ◌≡◌}
 use denote.Enum.Bare.{true_same}
 use Rattle.bson_base.specs.contracts.spec.ElementType.{the_type}
 use Rattle.bson_model.specs.View.{view}
-use Rattle.bson_meaning.proofs.Comparing.{same_kind}
+use Rattle.bson_meaning.proofs.ComparisonLemmas.{same_kind}
 use Rattle.bson_meaning.proofs.compare.same_scalar.Goals as goal
 
 pub returns-then-ne : goal.returns-then-ne

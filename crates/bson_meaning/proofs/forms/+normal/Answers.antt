@@ -5,8 +5,8 @@ use Rattle.bson_base.specs.Value.{scoped_code}
 use Rattle.bson_model.specs.View.{view, pairs_of, items_of, members_of}
 use Rattle.bson_model.proofs.ViewLemmas.{view-WithScope}
 use Rattle.bson_meaning.specs.Meaning.{norm}
-use Rattle.bson_meaning.proofs.Putting.{KeysOnce, tops_once, once_changed, put_all_once, normal_members, normal_items, finished}
-use Rattle.bson_meaning.proofs.InTurn.{stand_once}
+use Rattle.bson_meaning.proofs.PutLemmas.{KeysOnce, tops_once, once_changed, put_all_once, normal_members, normal_items, finished}
+use Rattle.bson_meaning.proofs.PairwiseLemmas.{stand_once}
 use Rattle.bson_meaning.proofs.forms.+normal.Goals as goal
 use Rattle.std.proofs.lemmas.List.{nil_from_length}
 

@@ -6,7 +6,7 @@ use Rattle.bson_model.specs.Rest.{owned_member, into_iter_rest}
 use Rattle.bson_model.specs.View.{view, pairs_of, items_of, members_of}
 use Rattle.bson_meaning.specs.Meaning.{norm}
 use Rattle.bson_meaning.specs.Pairs.{normal_pair}
-use Rattle.bson_meaning.proofs.InTurn.{StandOnce}
+use Rattle.bson_meaning.proofs.PairwiseLemmas.{StandOnce}
 use Rattle.bson_meaning.proofs.forms.+normal.Given as goal
 
 abbrev pub decreases-normalize : goal.decreases-normalize

@@ -2,10 +2,10 @@ use Rattle.std.proofs.Common.{rules, subst, arith, drop, ◌-◌}
 use Rattle.bson_frame.specs.Payload.{IsFaultless}
 use Rattle.bson_frame.specs.View.{element_of}
 use Rattle.bson_meaning.specs.Gate.{ReadsElements}
-use Rattle.bson_meaning.proofs.Progress.{progress_no_frame, progress_more}
-use Rattle.bson_meaning.proofs.Held.{element_fault, scalar_read, nests_zero, held_reads}
+use Rattle.bson_meaning.proofs.ProgressLemmas.{progress_no_frame, progress_more}
+use Rattle.bson_meaning.proofs.PayloadLemmas.{element_fault, scalar_read, nests_zero, held_reads}
 use Rattle.bson_meaning.proofs.gating.+elements.Goals as goal
-use Rattle.bson_raw.proofs.Progress.{untrue}
+use Rattle.bson_raw.proofs.ProgressLemmas.{untrue}
 
 pub test_elements-returns-in_default : goal.test_elements-returns-in_default
 test_elements-returns-in_default t c =

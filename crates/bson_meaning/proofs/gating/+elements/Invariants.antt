@@ -1,5 +1,5 @@
 use Rattle.std.proofs.Common.{◌+◌, ◌*◌, length}
-use Rattle.bson_meaning.proofs.Progress.{Progress}
+use Rattle.bson_meaning.proofs.ProgressLemmas.{Progress}
 use Rattle.bson_meaning.proofs.gating.+elements.Given as goal
 
 abbrev pub decreases-test_elements : goal.decreases-test_elements

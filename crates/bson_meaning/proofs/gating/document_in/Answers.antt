@@ -1,6 +1,6 @@
 use Rattle.std.proofs.Common.{subst}
 use Rattle.bson_frame.specs.Payload.{IsFaultless}
-use Rattle.bson_meaning.proofs.Held.{scope_holds}
+use Rattle.bson_meaning.proofs.PayloadLemmas.{scope_holds}
 use Rattle.bson_meaning.proofs.gating.document_in.Goals as goal
 
 pub scope_of-requires : goal.scope_of-requires

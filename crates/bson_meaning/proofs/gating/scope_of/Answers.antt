@@ -3,7 +3,7 @@ use Rattle.bson_frame.specs.declared.error.ErrorKind.TheVariants.{MalformedValue
 use Rattle.bson_frame.specs.Payload.{TextFault, IsTextAt, text_in, scope_in, code_in}
 use Rattle.std.proofs.Common.{IsUtf8, drop, ◌+◌, ◌≡◌}
 use Rattle.bson_frame.specs.Frame.{number}
-use Rattle.bson_meaning.proofs.Held.{no_text, scope_long}
+use Rattle.bson_meaning.proofs.PayloadLemmas.{no_text, scope_long}
 use Rattle.bson_meaning.proofs.gating.scope_of.Goals as goal
 
 pub returns-then-payload-lt14 : goal.returns-then-payload-lt14

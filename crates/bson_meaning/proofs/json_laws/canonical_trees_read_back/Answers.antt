@@ -9,7 +9,7 @@ use Rattle.bson_model.specs.JsonWrite.{write_members}
 use Rattle.bson_model.specs.declared.extjson.ser.Mode.TheVariants.{Canonical}
 use Rattle.bson_meaning.specs.JsonReserved.{has_reserved}
 use Rattle.bson_meaning.specs.Meaning.{norm_members_in_order}
-use Rattle.bson_meaning.proofs.JsonReads.{canonical_comes, raised}
+use Rattle.bson_meaning.proofs.JsonReadLemmas.{canonical_comes, raised}
 use Rattle.bson_meaning.proofs.json_laws.canonical_trees_read_back.Goals as goal
 
 tree_back : (d : Members) (j : Data) → IsSound (document d) → has_reserved d ≡ false → (o : Option json.Members) → write_members Canonical d json.no_members ≡ o

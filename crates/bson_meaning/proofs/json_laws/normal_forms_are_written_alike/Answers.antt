@@ -1,4 +1,4 @@
-use Rattle.bson_meaning.proofs.JsonSame.{write_norm, write_asc}
+use Rattle.bson_meaning.proofs.JsonSameLemmas.{write_norm, write_asc}
 use Rattle.bson_meaning.proofs.json_laws.normal_forms_are_written_alike.Goals as goal
 
 pub returns : goal.returns

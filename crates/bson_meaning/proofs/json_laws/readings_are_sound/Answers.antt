@@ -1,4 +1,4 @@
-use Rattle.bson_meaning.proofs.JsonSound.{value_sound, document_sound, kept_clean, kept_sound}
+use Rattle.bson_meaning.proofs.JsonSoundLemmas.{value_sound, document_sound, kept_clean, kept_sound}
 use Rattle.bson_meaning.proofs.json_laws.readings_are_sound.Goals as goal
 
 pub returns : goal.returns

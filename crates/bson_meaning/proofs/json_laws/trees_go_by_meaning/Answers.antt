@@ -1,6 +1,6 @@
 use Rattle.bson_base.specs.Value.{document}
-use Rattle.bson_meaning.proofs.JsonReads.{trees_exactly}
-use Rattle.bson_meaning.proofs.JsonSame.{write_same, reserved_same}
+use Rattle.bson_meaning.proofs.JsonReadLemmas.{trees_exactly}
+use Rattle.bson_meaning.proofs.JsonSameLemmas.{write_same, reserved_same}
 use Rattle.bson_meaning.proofs.json_laws.trees_go_by_meaning.Goals as goal
 
 pub returns : goal.returns

@@ -1,7 +1,7 @@
 use Rattle.bson_model.specs.View.{view}
 use Rattle.bson_meaning.specs.Keys.{alone}
-use Rattle.bson_meaning.proofs.AnsweringKeys.{with_zero, too_long, written}
-use Rattle.bson_raw.proofs.Progress.{untrue}
+use Rattle.bson_meaning.proofs.KeyResultLemmas.{with_zero, too_long, written}
+use Rattle.bson_raw.proofs.ProgressLemmas.{untrue}
 use Rattle.bson_meaning.proofs.key.element_key_where.Goals as goal
 
 pub returns-then-not-is_plain_element-clause-key : goal.returns-then-not-is_plain_element-clause-key

@@ -1,7 +1,7 @@
 use Rattle.bson_base.specs.Value.{member, no_members}
 use Rattle.bson_model.specs.View.{view}
 use Rattle.bson_meaning.specs.declared.scalars.Zeros.TheVariants.{Joined}
-use Rattle.bson_meaning.proofs.Normal.{long_alike}
+use Rattle.bson_meaning.proofs.NormalLemmas.{long_alike}
 use Rattle.bson_meaning.proofs.key.is_element_too_long.Goals as goal
 
 pub returns-clause-long : goal.returns-clause-long

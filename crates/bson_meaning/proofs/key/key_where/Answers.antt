@@ -1,6 +1,6 @@
 use Rattle.bson_model.specs.View.{pairs_of, members_of}
-use Rattle.bson_meaning.proofs.AnsweringKeys.{with_zero, too_long, written}
-use Rattle.bson_raw.proofs.Progress.{untrue}
+use Rattle.bson_meaning.proofs.KeyResultLemmas.{with_zero, too_long, written}
+use Rattle.bson_raw.proofs.ProgressLemmas.{untrue}
 use Rattle.bson_meaning.proofs.key.key_where.Goals as goal
 
 pub returns-then-not-has_plain_members : goal.returns-then-not-has_plain_members

@@ -4,7 +4,7 @@ use Rattle.bson_model.specs.View.{pairs_of, members_of}
 use Rattle.bson_raw.specs.Buffer.{buffer_bytes}
 use Rattle.bson_raw.specs.Convert.{HasFault, TellsFault}
 use Rattle.std.proofs.Common.{drop}
-use Rattle.bson_raw.proofs.ComesBack.{comes_back}
+use Rattle.bson_raw.proofs.RoundTripLemmas.{comes_back}
 use Rattle.bson_meaning.proofs.laws.documents_come_back.Goals as goal
 
 pub returns-in-Ok : goal.returns-in-Ok

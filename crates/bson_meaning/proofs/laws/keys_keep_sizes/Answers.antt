@@ -1,7 +1,7 @@
 use Rattle.std.proofs.Common.{◌∙◌}
-use Rattle.bson_bytes.proofs.Lengths.{encode_length}
+use Rattle.bson_bytes.proofs.LengthLemmas.{encode_length}
 use Rattle.bson_meaning.specs.Meaning.{norm_members_in_order}
-use Rattle.bson_meaning.proofs.Now.{key_size}
+use Rattle.bson_meaning.proofs.NowLemmas.{key_size}
 use Rattle.bson_meaning.proofs.laws.keys_keep_sizes.Goals as goal
 
 pub returns : goal.returns

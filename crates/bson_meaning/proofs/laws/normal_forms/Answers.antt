@@ -1,4 +1,4 @@
-use Rattle.bson_meaning.proofs.Now.{twice, same_norm}
+use Rattle.bson_meaning.proofs.NowLemmas.{twice, same_norm}
 use Rattle.bson_meaning.proofs.laws.normal_forms.Goals as goal
 
 pub returns : goal.returns

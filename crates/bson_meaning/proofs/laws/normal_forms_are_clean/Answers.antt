@@ -1,4 +1,4 @@
-use Rattle.bson_meaning.proofs.PlainSame.{normal_clean}
+use Rattle.bson_meaning.proofs.PlainLemmas.{normal_clean}
 use Rattle.bson_meaning.proofs.laws.normal_forms_are_clean.Goals as goal
 
 pub returns : goal.returns

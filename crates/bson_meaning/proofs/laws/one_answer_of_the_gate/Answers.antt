@@ -1,5 +1,5 @@
-use Rattle.bson_meaning.proofs.Held.{one_answer}
-use Rattle.bson_meaning.proofs.OneRefusal.{one_refusal}
+use Rattle.bson_meaning.proofs.PayloadLemmas.{one_answer}
+use Rattle.bson_meaning.proofs.RefusalLemmas.{one_refusal}
 use Rattle.bson_meaning.proofs.laws.one_answer_of_the_gate.Goals as goal
 
 pub returns : goal.returns

@@ -1,6 +1,6 @@
 use Rattle.std.proofs.Common.{refl}
 use Rattle.bson_bytes.specs.Spells.{settle}
-use Rattle.bson_meaning.proofs.OneRefusal.{passing_low}
+use Rattle.bson_meaning.proofs.RefusalLemmas.{passing_low}
 use Rattle.bson_meaning.proofs.laws.passing_means.Goals as goal
 
 pub returns : goal.returns

@@ -1,4 +1,4 @@
-use Rattle.bson_meaning.proofs.Now.{same_itself, same_back, same_on}
+use Rattle.bson_meaning.proofs.NowLemmas.{same_itself, same_back, same_on}
 use Rattle.bson_meaning.proofs.laws.same_is_an_equivalence.Goals as goal
 
 pub returns : goal.returns

@@ -1,6 +1,6 @@
 use Rattle.std.proofs.Common.{arith}
 use Rattle.bson_model.specs.View.{pairs_of}
-use Rattle.bson_meaning.proofs.InTurn.{stand_once}
+use Rattle.bson_meaning.proofs.PairwiseLemmas.{stand_once}
 use Rattle.bson_meaning.proofs.lengths.+lengths.Goals as goal
 
 pub length_of_members-loop-key-init : goal.length_of_members-loop-key-init

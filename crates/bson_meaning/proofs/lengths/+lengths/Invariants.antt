@@ -5,7 +5,7 @@ use Rattle.bson_bytes.specs.Encode.{items_size, members_size}
 use Rattle.bson_model.specs.Rest.{iter_rest}
 use Rattle.bson_model.specs.View.{view, pairs_of, items_of, members_of}
 use Rattle.bson_meaning.specs.Meaning.{norm_items, norm_members}
-use Rattle.bson_meaning.proofs.InTurn.{StandOnce}
+use Rattle.bson_meaning.proofs.PairwiseLemmas.{StandOnce}
 use Rattle.bson_meaning.proofs.lengths.+lengths.Given as goal
 
 abbrev pub decreases-length_of_value : goal.decreases-length_of_value

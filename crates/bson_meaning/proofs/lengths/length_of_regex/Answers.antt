@@ -1,7 +1,7 @@
 use Rattle.std.proofs.Common.{◌≡◌, length, string_bytes, arith}
 use Rattle.std.proofs.lemmas.Str.{IsUtf8-string_bytes}
 use Rattle.bson_base.specs.Options.{sorted_text}
-use Rattle.bson_meaning.proofs.NormalScalars.{sorted_text_length}
+use Rattle.bson_meaning.proofs.NormalScalarLemmas.{sorted_text_length}
 use Rattle.bson_meaning.proofs.lengths.length_of_regex.Goals as goal
 
 pub returns : goal.returns

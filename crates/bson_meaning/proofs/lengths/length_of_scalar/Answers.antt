@@ -5,7 +5,7 @@ use Rattle.bson_bytes.specs.Encode.{value_size}
 use Rattle.bson_model.specs.View.{view}
 use Rattle.bson_model.proofs.ViewLemmas.{view-Decimal128}
 use Rattle.bson_meaning.specs.Meaning.{norm}
-use Rattle.bson_meaning.proofs.Decimals.{normal_decimal_length}
+use Rattle.bson_meaning.proofs.DecimalLemmas.{normal_decimal_length}
 use Rattle.bson_meaning.proofs.lengths.length_of_scalar.Goals as goal
 
 pub returns-in-Decimal128 : goal.returns-in-Decimal128

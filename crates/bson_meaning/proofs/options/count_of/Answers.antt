@@ -1,7 +1,7 @@
 use Rattle.std.proofs.Common.{ap, ◌∙◌, chars, arith}
 use Rattle.std.specs.Str.Iter.{chars_rest}
 use Rattle.bson_meaning.specs.Counts.{count}
-use Rattle.bson_meaning.proofs.Characters.{step, no_more, count_first, count_other}
+use Rattle.bson_meaning.proofs.CharacterLemmas.{step, no_more, count_first, count_other}
 use Rattle.bson_meaning.proofs.options.count_of.Goals as goal
 
 pub loop-other-preserved-then-other-character : goal.loop-other-preserved-then-other-character

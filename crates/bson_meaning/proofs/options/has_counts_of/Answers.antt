@@ -1,7 +1,7 @@
 use Rattle.std.proofs.Common.{sym, ◌∙◌, chars, subst, refl, List, ℕ}
 use Rattle.std.specs.Str.Iter.{chars_rest}
 use Rattle.bson_meaning.specs.Counts.{StandAlike}
-use Rattle.bson_meaning.proofs.Characters.{step, no_more}
+use Rattle.bson_meaning.proofs.CharacterLemmas.{step, no_more}
 use Rattle.bson_meaning.proofs.options.has_counts_of.Goals as goal
 
 pub returns-then-count_of : goal.returns-then-count_of

@@ -1,5 +1,5 @@
 use Rattle.std.proofs.Common.{chars, sym}
-use Rattle.bson_meaning.proofs.Characters.{alike_sorted, sorted_alike, sorted_length}
+use Rattle.bson_meaning.proofs.CharacterLemmas.{alike_sorted, sorted_alike, sorted_length}
 use Rattle.bson_meaning.proofs.options.same_options.Goals as goal
 
 pub returns-then-options-others : goal.returns-then-options-others

@@ -1,5 +1,5 @@
 use Rattle.bson_model.specs.View.{content}
-use Rattle.bson_meaning.proofs.ReservedPaths.{told}
+use Rattle.bson_meaning.proofs.ReservedPathLemmas.{told}
 use Rattle.bson_meaning.proofs.reserved.reserved_path_below.Goals as goal
 
 pub returns-clause-reserved : goal.returns-clause-reserved

@@ -5,8 +5,8 @@ use Rattle.bson_base.specs.Value.{scoped_code}
 use Rattle.bson_model.specs.View.{view, pairs_of, items_of, members_of}
 use Rattle.bson_model.proofs.ViewLemmas.{view-WithScope}
 use Rattle.bson_meaning.specs.Meaning.{asc}
-use Rattle.bson_meaning.proofs.Putting.{KeysOnce, keys_once, once_changed, put_all_once, sorted_items, finished}
-use Rattle.bson_meaning.proofs.InOrder.{sorted_once, keys_stay, sorted_members}
+use Rattle.bson_meaning.proofs.PutLemmas.{KeysOnce, keys_once, once_changed, put_all_once, sorted_items, finished}
+use Rattle.bson_meaning.proofs.SortedPairLemmas.{sorted_once, keys_stay, sorted_members}
 use Rattle.bson_meaning.proofs.sorting.+sorted.Goals as goal
 use Rattle.std.proofs.lemmas.List.{nil_from_length}
 

@@ -3,8 +3,8 @@ use Rattle.bson_base.specs.Value.{look_up, item, levels, items_levels}
 use Rattle.bson_model.specs.View.{view, pairs_of, items_of, members_of}
 use Rattle.bson_raw.specs.View.{left_of, parts_of}
 use Rattle.bson_raw.specs.Walk.{steps_from}
-use Rattle.bson_meaning.proofs.InTurn.{once_here, stand_once}
-use Rattle.bson_meaning.proofs.Viewing.{compares_raw, members_none, members_many, members_other, members_more, members_end, members_wrong, items_longer, items_other, items_more, items_wrong, items_done, items_over, items_closed, number_length}
+use Rattle.bson_meaning.proofs.PairwiseLemmas.{once_here, stand_once}
+use Rattle.bson_meaning.proofs.ViewLemmas.{compares_raw, members_none, members_many, members_other, members_more, members_end, members_wrong, items_longer, items_other, items_more, items_wrong, items_done, items_over, items_closed, number_length}
 use Rattle.bson_meaning.proofs.views.+views.Goals as goal
 
 pub same_element-returns-in-Ok : goal.same_element-returns-in-Ok

@@ -3,7 +3,7 @@ use Rattle.bson_base.specs.Value.{Items, Members, levels, items_levels, members_
 use Rattle.bson_bytes.specs.Spells.{SpellsItems, SpellsMembers}
 use Rattle.bson_model.specs.View.{view, pairs_of, items_of, members_of}
 use Rattle.bson_raw.specs.View.{bytes_of, array_bytes, left_of}
-use Rattle.bson_meaning.proofs.Viewing.{MembersLeft, ItemsLeft}
+use Rattle.bson_meaning.proofs.ViewLemmas.{MembersLeft, ItemsLeft}
 use Rattle.bson_meaning.proofs.views.+views.Given as goal
 
 abbrev pub decreases-same_as_raw : goal.decreases-same_as_raw

@@ -3,7 +3,7 @@ use Rattle.bson_base.specs.Value.{look_up}
 use Rattle.bson_model.specs.View.{view, pairs_of, members_of}
 use Rattle.bson_model.proofs.EqualLemmas.{look_up-members_of}
 use Rattle.bson_meaning.proofs.views.value_under.Goals as goal
-use Rattle.bson_base.proofs.Members.{found_levels}
+use Rattle.bson_base.proofs.MemberLemmas.{found_levels}
 
 pub returns-in-Some : goal.returns-in-Some
 returns-in-Some c =

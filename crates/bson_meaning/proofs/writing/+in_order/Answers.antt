@@ -2,12 +2,12 @@ use Rattle.std.proofs.Common.{◌≡◌, ◌∙◌, ◌+◌, ◌++◌, ◌∷◌
 use Rattle.std.proofs.lemmas.Result.{err_from_is_err_and}
 use Rattle.bson_base.specs.Value.{array, scoped_code}
 use Rattle.bson_bytes.specs.Encode.{members_bytes, items_bytes, text_bytes, encode, value_size}
-use Rattle.bson_bytes.proofs.Lengths.{members_length, items_length, text_length, framed_length}
-use Rattle.bson_bytes.proofs.Written.{room, written_in, framed_ok, scoped_in, scoped_ok, short_ok, long_refused, no_items_left, item_refused}
+use Rattle.bson_bytes.proofs.LengthLemmas.{members_length, items_length, text_length, framed_length}
+use Rattle.bson_bytes.proofs.WrittenLemmas.{room, written_in, framed_ok, scoped_in, scoped_ok, short_ok, long_refused, no_items_left, item_refused}
 use Rattle.bson_model.specs.Rest.{ascending_rest}
 use Rattle.bson_model.specs.View.{view, pairs_of, items_of, members_of}
 use Rattle.bson_meaning.specs.Forms.{norm_members_in_order, norm_items_in_order, norm_in_order}
-use Rattle.bson_meaning.proofs.InOrderBytes.{between, members_begin, next_item}
+use Rattle.bson_meaning.proofs.OrderedBytesLemmas.{between, members_begin, next_item}
 use Rattle.bson_meaning.proofs.writing.+in_order.Goals as goal
 
 pub write_in_order-returns : goal.write_in_order-returns

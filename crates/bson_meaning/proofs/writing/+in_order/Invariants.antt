@@ -1,10 +1,10 @@
 use Rattle.std.proofs.Common.{◌+◌, drop, map}
 use Rattle.bson_bytes.specs.Encode.{members_size, items_size, value_size}
-use Rattle.bson_bytes.proofs.Writing.{MembersTo, ItemsTo}
+use Rattle.bson_bytes.proofs.WritingLemmas.{MembersTo, ItemsTo}
 use Rattle.bson_model.specs.Rest.{ascending_rest}
 use Rattle.bson_model.specs.View.{view, pairs_of, items_of, members_of}
 use Rattle.bson_meaning.specs.Forms.{norm_members_in_order, norm_items_in_order, norm_in_order}
-use Rattle.bson_meaning.proofs.InTurn.{each}
+use Rattle.bson_meaning.proofs.PairwiseLemmas.{each}
 use Rattle.bson_meaning.proofs.writing.+in_order.Given as goal
 
 abbrev pub decreases-write_normal : goal.decreases-write_normal

@@ -1,6 +1,6 @@
 use Rattle.std.proofs.Common.{sym, ◌∙◌}
 use Rattle.bson_model.specs.View.{view}
-use Rattle.bson_meaning.proofs.InOrderBytes.{kind_of_in_order}
+use Rattle.bson_meaning.proofs.OrderedBytesLemmas.{kind_of_in_order}
 use Rattle.bson_meaning.proofs.writing.normal_kind.Goals as goal
 
 pub returns : goal.returns

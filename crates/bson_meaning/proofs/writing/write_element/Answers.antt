@@ -3,7 +3,7 @@ use Rattle.bson_base.specs.Kinds.{IsPlain}
 use Rattle.bson_base.specs.Value.{document, member, no_members}
 use Rattle.bson_model.specs.View.{view}
 use Rattle.bson_meaning.specs.Forms.{norm_in_order}
-use Rattle.bson_meaning.proofs.InOrderBytes.{between, one_element}
+use Rattle.bson_meaning.proofs.OrderedBytesLemmas.{between, one_element}
 use Rattle.bson_meaning.proofs.writing.write_element.Goals as goal
 
 pub returns : goal.returns

@@ -4,8 +4,8 @@ use Rattle.bson_base.specs.Tags.{tag_byte}
 use Rattle.bson_raw.specs.Append.{CanTake, body_of}
 use Rattle.bson_raw.specs.Raw.{ref_value, raw_kind}
 use Rattle.bson_raw.specs.Written.{CanWrite, Closes}
-use Rattle.bson_raw.proofs.Puts.{behind, body_length, four_length, rest_of, closes_to, refusal_for, can_write, cut_down}
-use Rattle.bson_raw.proofs.Gains.{gains_where_taken}
+use Rattle.bson_raw.proofs.AppendLemmas.{behind, body_length, four_length, rest_of, closes_to, refusal_for, can_write, cut_down}
+use Rattle.bson_raw.proofs.GrowthLemmas.{gains_where_taken}
 use Rattle.bson_raw.proofs.append.append_to.Goals as goal
 
 pub returns-in-Ok-clause-bytes : goal.returns-in-Ok-clause-bytes

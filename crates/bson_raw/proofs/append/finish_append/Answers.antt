@@ -1,5 +1,5 @@
 use Rattle.std.proofs.Common.{arith}
-use Rattle.bson_raw.proofs.Puts.{length_kept, closed, closed_length}
+use Rattle.bson_raw.proofs.AppendLemmas.{length_kept, closed, closed_length}
 use Rattle.bson_raw.proofs.append.finish_append.Goals as goal
 
 pub index_mut-requires : goal.index_mut-requires

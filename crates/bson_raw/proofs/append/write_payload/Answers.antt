@@ -1,5 +1,5 @@
 use Rattle.bson_base.specs.Scalars.{id_bytes}
-use Rattle.bson_raw.proofs.Puts.{long_text, long_binary, long_pointer}
+use Rattle.bson_raw.proofs.AppendLemmas.{long_text, long_binary, long_pointer}
 use Rattle.bson_raw.proofs.append.write_payload.Goals as goal
 
 pub returns-in-String-clause-refused : goal.returns-in-String-clause-refused

@@ -1,7 +1,7 @@
 use Rattle.std.proofs.Common.{ℕ, List, ◌++◌, ap, ◌∙◌, arith}
 use Rattle.std.proofs.lemmas.Result.{err_from_is_err_and}
 use Rattle.bson_raw.specs.View.{bytes_of}
-use Rattle.bson_raw.proofs.Puts.{scoped_put, long_scoped, long_code}
+use Rattle.bson_raw.proofs.AppendLemmas.{scoped_put, long_scoped, long_code}
 use Rattle.bson_raw.proofs.append.write_scoped.Goals as goal
 
 pub returns-in_err-write_text-clause-refused : goal.returns-in_err-write_text-clause-refused

@@ -7,9 +7,9 @@ use Rattle.bson_frame.specs.View.{element_of}
 use Rattle.bson_model.specs.Extend.{put_all}
 use Rattle.bson_model.specs.View.{view, members_of, pairs_of}
 use Rattle.bson_model.specs.declared.bson.Bson.{the_lemmas}
-use Rattle.bson_raw.proofs.Converting.{inner_shorter, element_converted}
-use Rattle.bson_raw.proofs.Progress.{frame_longer, no_frame, faulty_element, untrue, members_start, members_done, members_more, items_done, items_more}
-use Rattle.bson_raw.proofs.Settling.{members_of_put}
+use Rattle.bson_raw.proofs.ConversionLemmas.{inner_shorter, element_converted}
+use Rattle.bson_raw.proofs.ProgressLemmas.{frame_longer, no_frame, faulty_element, untrue, members_start, members_done, members_more, items_done, items_more}
+use Rattle.bson_raw.proofs.SettleLemmas.{members_of_put}
 use Rattle.bson_raw.proofs.convert.+convert.Goals as goal
 
 pub tree_of-returns-in-Double : goal.tree_of-returns-in-Double

@@ -1,8 +1,8 @@
 use Rattle.std.proofs.Common.{◌≡◌, ◌<◌, ◌+◌, length, []}
 use Rattle.bson_model.specs.Extend.{put_all}
 use Rattle.bson_model.specs.View.{members_of, pairs_of}
-use Rattle.bson_raw.proofs.Converting.{inner_length}
-use Rattle.bson_raw.proofs.Progress.{MembersTo, ItemsTo}
+use Rattle.bson_raw.proofs.ConversionLemmas.{inner_length}
+use Rattle.bson_raw.proofs.ProgressLemmas.{MembersTo, ItemsTo}
 use Rattle.bson_raw.specs.View.{bytes_of}
 use Rattle.bson_raw.proofs.convert.+convert.Given as goal
 

@@ -1,5 +1,5 @@
 use Rattle.std.proofs.Common.{length, arith}
-use Rattle.bson_frame.proofs.Names.{no_pattern, no_options}
+use Rattle.bson_frame.proofs.NameLemmas.{no_pattern, no_options}
 use Rattle.bson_raw.proofs.decode.regex.Goals as goal
 
 pub returns-in-Err : goal.returns-in-Err

@@ -1,4 +1,4 @@
-use Rattle.bson_raw.proofs.Walks.{a_walk}
+use Rattle.bson_raw.proofs.WalkLemmas.{a_walk}
 use Rattle.bson_raw.proofs.laws.a_walk.Goals as goal
 
 pub returns : goal.returns

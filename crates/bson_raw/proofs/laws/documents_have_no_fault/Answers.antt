@@ -1,5 +1,5 @@
 use Rattle.bson_bytes.specs.Encode.{encode}
-use Rattle.bson_raw.proofs.NoFaults.{meant_walk, meant_inside}
+use Rattle.bson_raw.proofs.NoFaultLemmas.{meant_walk, meant_inside}
 use Rattle.bson_raw.proofs.laws.documents_have_no_fault.Goals as goal
 
 pub returns-clause-walk : goal.returns-clause-walk

@@ -1,5 +1,5 @@
 use Rattle.std.proofs.Common.{drop}
-use Rattle.bson_raw.proofs.Walks.{empty_walk, no_items}
+use Rattle.bson_raw.proofs.WalkLemmas.{empty_walk, no_items}
 use Rattle.bson_raw.proofs.laws.empty_yields_nothing.Goals as goal
 
 pub returns : goal.returns

@@ -1,6 +1,6 @@
 use Rattle.bson_raw.specs.View.{pairs_left}
 use Rattle.bson_raw.specs.Read.{IsPairRead, pair_steps}
-use Rattle.bson_raw.proofs.Runs.{run_ends}
+use Rattle.bson_raw.proofs.RunLemmas.{run_ends}
 use Rattle.bson_raw.proofs.laws.iter_ends.Goals as goal
 
 pub returns : goal.returns

@@ -1,4 +1,4 @@
-use Rattle.bson_raw.proofs.FirstFaults.{first_fault_is_one}
+use Rattle.bson_raw.proofs.FirstFaultLemmas.{first_fault_is_one}
 use Rattle.bson_raw.proofs.laws.one_first_fault.Goals as goal
 
 pub returns : goal.returns

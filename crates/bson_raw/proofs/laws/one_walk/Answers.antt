@@ -1,4 +1,4 @@
-use Rattle.bson_raw.proofs.Walks.{walk_is_one}
+use Rattle.bson_raw.proofs.WalkLemmas.{walk_is_one}
 use Rattle.bson_raw.proofs.laws.one_walk.Goals as goal
 
 pub returns : goal.returns

@@ -1,5 +1,5 @@
 use Rattle.bson_raw.specs.View.{parts_of}
-use Rattle.bson_raw.proofs.Sized.{payload_had}
+use Rattle.bson_raw.proofs.SizedLemmas.{payload_had}
 use Rattle.bson_raw.proofs.laws.payload_of_an_element.Goals as goal
 
 pub returns : goal.returns

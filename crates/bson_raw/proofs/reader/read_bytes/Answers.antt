@@ -2,7 +2,7 @@ use Rattle.std.proofs.Common.{List, ℕ, Option, Ok, subst}
 use Rattle.std.proofs.lemmas.Result.{err_from_is_err_and}
 use Rattle.bson_base.specs.Device.{Feed}
 use Rattle.bson_raw.specs.Input.{ReadsHead}
-use Rattle.bson_raw.proofs.Reading.{rest_taken, rest_refused}
+use Rattle.bson_raw.proofs.ReadLemmas.{rest_taken, rest_refused}
 use Rattle.bson_raw.proofs.reader.read_bytes.Goals as goal
 
 pub returns-in_err-read_rest-in-Some : goal.returns-in_err-read_rest-in-Some

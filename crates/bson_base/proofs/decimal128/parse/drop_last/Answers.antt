@@ -1,7 +1,7 @@
 use Rattle.std.proofs.Common.{◌-◌, ◌∙◌, ap}
 use Rattle.bson_base.specs.Decimal.{all_digits}
 use Rattle.bson_base.specs.DecimalParts.{digits_of}
-use Rattle.bson_base.proofs.PrintedReads.{all_digits-take}
+use Rattle.bson_base.proofs.PrintedDecimalLemmas.{all_digits-take}
 use Rattle.bson_base.proofs.decimal128.parse.drop_last.Goals as goal
 
 pub value-requires-clause-all : goal.value-requires-clause-all

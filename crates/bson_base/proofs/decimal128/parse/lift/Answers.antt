@@ -1,7 +1,7 @@
 use Rattle.std.proofs.Common.{◌∙◌, length, ap, arith, length-take}
 use Rattle.bson_base.specs.Decimal.{all_digits}
 use Rattle.bson_base.specs.DecimalParts.{digits_of}
-use Rattle.bson_base.proofs.PrintedReads.{all_digits-take}
+use Rattle.bson_base.proofs.PrintedDecimalLemmas.{all_digits-take}
 use Rattle.bson_base.proofs.decimal128.parse.lift.Goals as goal
 
 pub returns-clause-digits : goal.returns-clause-digits

@@ -1,6 +1,6 @@
 use Rattle.std.proofs.Common.{◌∙◌, sym, arith}
 use Rattle.bson_base.specs.Decimal.{sixteen_bytes}
-use Rattle.bson_base.proofs.DecimalBits.{bytes_of-low_first}
+use Rattle.bson_base.proofs.DecimalBitsLemmas.{bytes_of-low_first}
 use Rattle.bson_base.proofs.decimal128.parts.bytes_of_number.Goals as goal
 
 pub returns : goal.returns

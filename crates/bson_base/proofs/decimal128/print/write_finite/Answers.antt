@@ -1,6 +1,6 @@
 use Rattle.std.proofs.Common.{◌<◌, ◌^◌, refl, arith}
 use Rattle.std.proofs.lemmas.Grind.{put_two}
-use Rattle.bson_base.proofs.PrintedReads.{digits-decimal}
+use Rattle.bson_base.proofs.PrintedDecimalLemmas.{digits-decimal}
 use Rattle.bson_base.proofs.decimal128.print.write_finite.Goals as goal
 
 pub write_number-requires-clause-some : goal.write_number-requires-clause-some

@@ -1,4 +1,4 @@
-use Rattle.bson_base.proofs.DecimalBits.{unpack-pack}
+use Rattle.bson_base.proofs.DecimalBitsLemmas.{unpack-pack}
 use Rattle.bson_base.proofs.laws.decimals.packed_decimals_come_back.Goals as goal
 
 pub returns : goal.returns

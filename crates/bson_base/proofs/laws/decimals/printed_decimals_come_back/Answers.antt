@@ -1,6 +1,6 @@
 use Rattle.bson_base.specs.Decimal.{unpack}
-use Rattle.bson_base.proofs.DecimalBits.{unpack_is}
-use Rattle.bson_base.proofs.PrintedReads.{finite_back, decimal_back}
+use Rattle.bson_base.proofs.DecimalBitsLemmas.{unpack_is}
+use Rattle.bson_base.proofs.PrintedDecimalLemmas.{finite_back, decimal_back}
 use Rattle.bson_base.proofs.laws.decimals.printed_decimals_come_back.Goals as goal
 
 pub returns-clause-parts : goal.returns-clause-parts

@@ -4,7 +4,7 @@ use Rattle.std.specs.Borrow.{Bor}
 use Rattle.std.specs.List.{list_any}
 use Rattle.std.specs.Str.{bytes_eq}
 use mathlib.Core.Bool.{true≢false}
-use Rattle.bson_canonical.proofs.Ascents.{met_greater, met_other}
+use Rattle.bson_canonical.proofs.AscentLemmas.{met_greater, met_other}
 use Rattle.bson_canonical.proofs.keys.MetKeys.meet.Goals as goal
 
 pub returns-then-is_greater : goal.returns-then-is_greater

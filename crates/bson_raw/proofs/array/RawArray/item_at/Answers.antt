@@ -1,6 +1,6 @@
 use Rattle.std.proofs.Common.{refl, subst, sym, Option, List, ℕ}
 use Rattle.bson_raw.specs.Walk.{walk_items}
-use Rattle.bson_raw.proofs.Turns.{IsLeft, nth_found}
+use Rattle.bson_raw.proofs.TurnLemmas.{IsLeft, nth_found}
 use Rattle.bson_raw.proofs.array.RawArray.item_at.Goals as goal
 
 pub returns : goal.returns

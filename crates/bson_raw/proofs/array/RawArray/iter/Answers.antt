@@ -1,7 +1,7 @@
 use Rattle.std.proofs.Common.{drop}
 use Rattle.bson_raw.specs.View.{array_bytes, values_left}
 use Rattle.bson_raw.specs.Read.{IsItemRead, value_steps}
-use Rattle.bson_raw.proofs.Runs.{run_walks}
+use Rattle.bson_raw.proofs.RunLemmas.{run_walks}
 use Rattle.bson_raw.proofs.array.RawArray.iter.Goals as goal
 
 pub returns-clause-walk : goal.returns-clause-walk

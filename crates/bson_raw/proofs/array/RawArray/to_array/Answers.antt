@@ -1,5 +1,5 @@
 use Rattle.bson_raw.specs.View.{array_bytes}
-use Rattle.bson_raw.proofs.Faults.{no_array}
+use Rattle.bson_raw.proofs.FaultLemmas.{no_array}
 use Rattle.bson_raw.proofs.array.RawArray.to_array.Goals as goal
 
 pub returns-clause-none : goal.returns-clause-none

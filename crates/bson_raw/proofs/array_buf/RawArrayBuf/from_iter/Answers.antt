@@ -6,7 +6,7 @@ use Rattle.bson_raw.specs.Append.{empty_bytes}
 use Rattle.bson_raw.specs.Buffer.{array_buffer_bytes, next_place}
 use Rattle.bson_raw.specs.Pairs.{items_from}
 use Rattle.bson_raw.specs.Raw.{own_value}
-use Rattle.bson_raw.proofs.Builds.{OnTheWay, begins, goes_on, stops, ends, no_memory}
+use Rattle.bson_raw.proofs.BuildLemmas.{OnTheWay, begins, goes_on, stops, ends, no_memory}
 use Rattle.bson_raw.proofs.array_buf.RawArrayBuf.from_iter.Goals as goal
 use Rattle.std.proofs.lemmas.List.{nil_from_length}
 

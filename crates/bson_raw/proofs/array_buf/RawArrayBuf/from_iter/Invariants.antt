@@ -2,7 +2,7 @@ use Rattle.std.proofs.Common.{◌≡◌, ◌+◌, length}
 use Rattle.std.specs.Vec.Iter.{into_iter_items}
 use Rattle.bson_raw.specs.Buffer.{array_buffer_bytes, next_place}
 use Rattle.bson_raw.specs.Pairs.{items_from}
-use Rattle.bson_raw.proofs.Builds.{OnTheWay}
+use Rattle.bson_raw.proofs.BuildLemmas.{OnTheWay}
 use Rattle.bson_raw.proofs.array_buf.RawArrayBuf.from_iter.Given as goal
 
 abbrev pub invariant-loop-value : goal.invariant-loop-value

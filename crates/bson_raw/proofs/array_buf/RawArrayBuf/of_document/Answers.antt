@@ -3,7 +3,7 @@ use Rattle.bson_frame.specs.declared.error.ErrorKind.{ErrorKind}
 use Rattle.bson_frame.specs.Frame.{Element}
 use Rattle.bson_raw.specs.Buffer.{buffer_bytes}
 use Rattle.bson_raw.specs.Walk.{IsItem, walk_items}
-use Rattle.bson_raw.proofs.Puts.{zip_length}
+use Rattle.bson_raw.proofs.AppendLemmas.{zip_length}
 use Rattle.bson_raw.proofs.array_buf.RawArrayBuf.of_document.Goals as goal
 
 pub returns-clause-place : goal.returns-clause-place

@@ -1,7 +1,7 @@
 use Rattle.std.proofs.Common.{arith}
 use Rattle.bson_raw.specs.Buffer.{buffer_bytes}
 use Rattle.bson_raw.specs.Raw.{own_value}
-use Rattle.bson_raw.proofs.Puts.{grown}
+use Rattle.bson_raw.proofs.AppendLemmas.{grown}
 use Rattle.bson_raw.proofs.array_buf.RawArrayBuf.push.Goals as goal
 
 pub invariant_of-self : goal.invariant_of-self

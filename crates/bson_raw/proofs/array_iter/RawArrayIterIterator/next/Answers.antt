@@ -1,6 +1,6 @@
 use Rattle.std.proofs.Common.{Some, Ok, Err}
 use Rattle.bson_raw.specs.View.{left_of}
-use Rattle.bson_raw.proofs.Runs.{element_read}
+use Rattle.bson_raw.proofs.RunLemmas.{element_read}
 use Rattle.bson_raw.proofs.array_iter.RawArrayIterIterator.next.Goals as goal
 
 pub returns-in-Ok-value-clause-steps : goal.returns-in-Ok-value-clause-steps

@@ -1,5 +1,5 @@
 use Rattle.bson_raw.specs.Raw.{ref_value}
-use Rattle.bson_raw.proofs.Faults.{no_tree}
+use Rattle.bson_raw.proofs.FaultLemmas.{no_tree}
 use Rattle.bson_raw.proofs.bson_ref.RawBsonRef.to_bson.Goals as goal
 
 pub returns-clause-none : goal.returns-clause-none

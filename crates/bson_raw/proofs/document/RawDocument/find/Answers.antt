@@ -3,7 +3,7 @@ use Rattle.std.specs.Str.{bytes_eq}
 use Rattle.bson_raw.specs.declared.raw_iter.RawIter.{RawIter}
 use Rattle.bson_raw.specs.View.{left_of}
 use Rattle.bson_raw.specs.Walk.{walk_items}
-use Rattle.bson_raw.proofs.Turns.{IsLeft, turn, turn_end, found_element, found_fault, found_nothing, passed_element}
+use Rattle.bson_raw.proofs.TurnLemmas.{IsLeft, turn, turn_end, found_element, found_fault, found_nothing, passed_element}
 use Rattle.bson_raw.proofs.document.RawDocument.find.Goals as goal
 
 pub loop-item-init : goal.loop-item-init

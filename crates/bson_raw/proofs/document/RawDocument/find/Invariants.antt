@@ -3,7 +3,7 @@ use Rattle.bson_frame.specs.declared.error.ErrorKind.{ErrorKind}
 use Rattle.bson_frame.specs.Frame.{Element}
 use Rattle.bson_raw.specs.View.{bytes_of, left_of}
 use Rattle.bson_raw.specs.Walk.{ends_at}
-use Rattle.bson_raw.proofs.Turns.{IsLeft}
+use Rattle.bson_raw.proofs.TurnLemmas.{IsLeft}
 use Rattle.bson_raw.proofs.document.RawDocument.find.Given as goal
 
 -- the look-up in the items that are left finds what the look-up in all finds

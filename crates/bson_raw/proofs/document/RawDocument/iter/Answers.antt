@@ -1,7 +1,7 @@
 use Rattle.std.proofs.Common.{drop}
 use Rattle.bson_raw.specs.View.{bytes_of, pairs_left}
 use Rattle.bson_raw.specs.Read.{IsPairRead, pair_steps}
-use Rattle.bson_raw.proofs.Runs.{run_walks}
+use Rattle.bson_raw.proofs.RunLemmas.{run_walks}
 use Rattle.bson_raw.proofs.document.RawDocument.iter.Goals as goal
 
 pub returns-clause-walk : goal.returns-clause-walk

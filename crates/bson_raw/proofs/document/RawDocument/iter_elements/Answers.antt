@@ -1,7 +1,7 @@
 use Rattle.std.proofs.Common.{drop, ap, Some}
 use Rattle.bson_raw.specs.View.{bytes_of, left_of}
 use Rattle.bson_raw.specs.Walk.{IsItem, raw_steps}
-use Rattle.bson_raw.proofs.Runs.{run_walks, raw_reads}
+use Rattle.bson_raw.proofs.RunLemmas.{run_walks, raw_reads}
 use Rattle.bson_raw.proofs.document.RawDocument.iter_elements.Goals as goal
 
 pub returns-clause-walk : goal.returns-clause-walk

@@ -1,5 +1,5 @@
 use Rattle.bson_raw.specs.View.{bytes_of}
-use Rattle.bson_raw.proofs.Faults.{no_document}
+use Rattle.bson_raw.proofs.FaultLemmas.{no_document}
 use Rattle.bson_raw.proofs.document.RawDocument.to_document.Goals as goal
 
 pub returns-clause-none : goal.returns-clause-none

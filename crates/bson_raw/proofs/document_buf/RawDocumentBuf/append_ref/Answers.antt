@@ -1,5 +1,5 @@
 use Rattle.bson_raw.specs.Raw.{ref_value}
-use Rattle.bson_raw.proofs.Puts.{envelope_kept}
+use Rattle.bson_raw.proofs.AppendLemmas.{envelope_kept}
 use Rattle.bson_raw.proofs.document_buf.RawDocumentBuf.append_ref.Goals as goal
 
 pub invariant_of-self : goal.invariant_of-self

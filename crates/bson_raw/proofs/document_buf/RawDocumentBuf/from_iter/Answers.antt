@@ -6,7 +6,7 @@ use Rattle.bson_raw.specs.Append.{CanTake, element_for, with_element, empty_byte
 use Rattle.bson_raw.specs.Buffer.{buffer_bytes}
 use Rattle.bson_raw.specs.Pairs.{raw_pair}
 use Rattle.bson_raw.specs.Raw.{RawValue, own_value}
-use Rattle.bson_raw.proofs.Builds.{OnTheWay, begins, goes_on, stops, ends, no_memory}
+use Rattle.bson_raw.proofs.BuildLemmas.{OnTheWay, begins, goes_on, stops, ends, no_memory}
 use Rattle.bson_raw.proofs.document_buf.RawDocumentBuf.from_iter.Goals as goal
 use Rattle.std.proofs.lemmas.List.{nil_from_length}
 

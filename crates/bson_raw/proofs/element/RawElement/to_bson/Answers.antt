@@ -1,6 +1,6 @@
 use Rattle.bson_raw.specs.View.{parts_of}
-use Rattle.bson_raw.proofs.Converting.{element_converted}
-use Rattle.bson_raw.proofs.Faults.{no_value}
+use Rattle.bson_raw.proofs.ConversionLemmas.{element_converted}
+use Rattle.bson_raw.proofs.FaultLemmas.{no_value}
 use Rattle.bson_raw.proofs.element.RawElement.to_bson.Goals as goal
 
 pub returns-clause-tree : goal.returns-clause-tree

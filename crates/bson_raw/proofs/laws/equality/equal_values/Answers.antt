@@ -1,5 +1,5 @@
-use Rattle.bson_raw.proofs.BorrowedEqual.{borrowed_Decides}
-use Rattle.bson_raw.proofs.OwnedEqual.{owned_Decides}
+use Rattle.bson_raw.proofs.BorrowedEqualLemmas.{borrowed_Decides}
+use Rattle.bson_raw.proofs.OwnedEqualLemmas.{owned_Decides}
 use Rattle.bson_raw.proofs.laws.equality.equal_values.Goals as goal
 
 pub returns-clause-borrowed : goal.returns-clause-borrowed

@@ -2,7 +2,7 @@ use Rattle.std.proofs.Common.{◌≡◌, ◌∙◌, ◌+◌, ◌++◌, length, a
 use Rattle.std.proofs.lemmas.List.{length-append}
 use Rattle.bson_base.specs.Decimal.{all_digits, value_after}
 use Rattle.bson_base.proofs.DecimalLemmas.{all_digits-both, below_last_power}
-use Rattle.bson_base.proofs.PrintedReads.{value_after-append}
+use Rattle.bson_base.proofs.PrintedDecimalLemmas.{value_after-append}
 use Rattle.bson_base.proofs.decimal128.digits.Digits.value.Goals as goal
 use Rattle.std.proofs.lemmas.Bool.{and_parts}
 

@@ -1,5 +1,5 @@
 use Rattle.std.proofs.Common.{◌<◌, length, subst}
-use Rattle.bson_model.proofs.KeyMarks.{empty_key, unmarked}
+use Rattle.bson_model.proofs.KeyMarkLemmas.{empty_key, unmarked}
 use Rattle.bson_model.proofs.extjson.de.keys.wrapper_of.Goals as goal
 
 pub returns-in-empty : goal.returns-in-empty
