@@ -5,6 +5,8 @@
 //! - `value`, with a text of JSON: the canonical text of the value that it reads as.
 //! - `canonical`, `relaxed`, with bytes in hexadecimal: the text of the document that they hold, or the path to a
 //!   reserved key.
+//! - `raw`, with the same: the canonical text straight from the bytes, and the relaxed one behind a space; `Unseen` if
+//!   that is left to the tree.
 //!
 //! The answer to a refusal is the error's name, followed by what it holds.
 #![tactic(auto)]
@@ -79,12 +81,31 @@ fn write(alloc: Global, digits: &str, mode: Mode) -> Result<String, AllocError> 
     Ok(text)
 }
 
+/// The text of a document in hexadecimal, straight from its bytes.
+fn write_raw(alloc: Global, digits: &str, mode: Mode) -> Result<String, AllocError> {
+    let Ok(bytes) = hex::decode(alloc, digits) else {
+        return String::from_str(alloc, "hexadecimal");
+    };
+    let mut text = String::new(alloc);
+    match bson_raw_json::write_raw(alloc, bytes.as_slice(), mode, &mut text) {
+        Ok(()) => Ok(text),
+        Err(error) => shown(alloc, error),
+    }
+}
+
+fn raw(alloc: Global, digits: &str) -> Result<String, AllocError> {
+    let canonical = write_raw(alloc, digits, Mode::Canonical)?;
+    let relaxed = write_raw(alloc, digits, Mode::Relaxed)?;
+    format!(in alloc; "{canonical} {relaxed}")
+}
+
 /// The answer to a case.
 fn answer(alloc: Global, line: &str) -> Result<String, AllocError> {
     let (word, rest) = line.split_once(' ').unwrap_or((line, ""));
     match word {
         "canonical" => write(alloc, rest, Mode::Canonical),
         "relaxed" => write(alloc, rest, Mode::Relaxed),
+        "raw" => raw(alloc, rest),
         "value" => value(alloc, rest),
         _ => read(alloc, rest),
     }

@@ -1,2 +1,3 @@
-mod Walks
-mod Steps
+mod WalkLemmas
+mod StepLemmas
+mod StraightLemmas

@@ -1,9 +1,10 @@
 //! Values with nothing inside.
 
-ghost use Rattle.std.specs.Prelude.{◌≡◌, OnOk};
+ghost use Rattle.std.specs.Prelude.{◌≡◌, IfErr, OnOk};
 ghost use Rattle.bson_raw.specs.Raw.{ref_value};
 ghost use Rattle.bson_text.specs.Prints.{AddsForm, tokens_of};
-ghost use Rattle.bson_raw_text.specs.Forms.{leaf_form};
+ghost use Rattle.bson_raw_text.specs.Forms.{leaf_form, IsStraightLeaf};
+ghost use Rattle.bson_raw_text.specs.Straight.{IfUnseen};
 
 use crate::unwritten::Unwritten;
 use bson_raw::RawBsonRef;
@@ -22,8 +23,10 @@ pub(crate) fn print_leaf(
     value: RawBsonRef<'_>,
     out: &mut Writer,
 ) -> Result<(), Unwritten>
-    ensures form { OnOk result (AddsForm tokens_of (leaf_form (ref_value value.entry)) out.old out.new) }
+    ensures form { OnOk result (AddsForm tokens_of
+        (leaf_form (ref_value value.entry)) out.old out.new) }
     ensures before { OnOk result (out.new.before ≡ out.old.before) }
+    ensures seen { IfErr result (IfUnseen (IsStraightLeaf (ref_value value.entry) → ⊥)) }
 {
     match value {
         RawBsonRef::String(text) => Ok(out.string(text)?),

@@ -9,7 +9,7 @@ use std::alloc::{AllocError, AllocFailed};
 pub enum Unwritten {
     /// A growth was refused.
     Memory,
-    /// The document is of those whose text is made of their tree: nothing is said of it.
+    /// The document has a fault, or is one of those whose text is made of their tree.
     Unseen,
 }
 

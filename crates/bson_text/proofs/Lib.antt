@@ -1,2 +1,2 @@
-pub mod Sorted
-mod Steps
+pub mod SortLemmas
+mod StepLemmas

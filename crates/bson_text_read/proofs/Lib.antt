@@ -1,2 +1,2 @@
-mod Told
-mod Members
+mod WrapperLemmas
+mod MemberLemmas

@@ -63,7 +63,7 @@ fn add(alloc: Global, document: &mut Document, key: &str, value: Bson) -> Result
     }
 }
 
-/// The value of a tree, among which so many levels may lie.
+/// The value of a tree, of at most `inner` levels.
 #[cycle(read)]
 fn read(alloc: Global, value: &Value<'_>, inner: usize) -> Result<Bson, Unread>
     ensures { IfOk result (λ b. HasNumbers (value_view value.now) → ReadsJson (value_view value.now) (view b)) }

@@ -17,7 +17,7 @@ use json::Value;
 use serde_json::Value as Tree;
 use std::alloc::Global;
 
-/// The value of a number that stands bare. `Unseen` if it is no whole number of 64 bits.
+/// The value of a number without a wrapper. `Unseen` if it is no whole number of 64 bits.
 pub(crate) fn number(alloc: Global, text: &str) -> Result<Bson, Unread>
     ensures { IfOk result (λ b. IsNumber text.now → ReadsJson (json.number text.now) (view b)) }
 {

@@ -1,5 +1,5 @@
-pub mod Parts
-mod ToLines
-pub mod Takings
-mod ToBson
-mod Spoiled
+pub mod PartLemmas
+mod ToLinesLemmas
+pub mod TakeLemmas
+mod ToBsonLemmas
+mod SpoiledLemmas

@@ -27,7 +27,7 @@ IsReadAs text (Some d) = Reads text d
 abbrev pub IsLine : List ℕ → Option Members → Type 0
 IsLine line o = (text : List ℕ) × (line ≡ text ++ 10 ∷ []) × IsUnbroken text × IsReadAs text o
 
--- The source gave these lines, and behind them what is held.
+-- The source gave these lines, and after them what is held.
 pub record GivesLines (os : List (Option Members)) (old new : Feed) (held waiting : List ℕ) : Type 0 where
   pub given : List ℕ
   pub took : Took old new given

@@ -115,7 +115,8 @@ fn turn<I: Source, T, W: Take<T>>(
     requires index { index + 1 < 2 ^ 64 }
     requires input { CanFail (I.feed input.old) }
     requires target { W.can_take target.old }
-    ensures taken { TakesNext W.takes index (I.feed input.old) (I.feed input.new) (waiting room.old.lines) (waiting room.new.lines) target.old target.new result }
+    ensures taken { TakesNext W.takes index (I.feed input.old) (I.feed input.new)
+        (waiting room.old.lines) (waiting room.new.lines) target.old target.new result }
     ensures more { OnOk result (W.can_take target.new) }
 {
     match room.lines.read(input, &mut room.line) {

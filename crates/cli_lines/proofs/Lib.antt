@@ -1,2 +1,2 @@
-mod Cutting
-mod Collecting
+mod CutLemmas
+mod CollectLemmas

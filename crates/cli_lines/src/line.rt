@@ -47,7 +47,7 @@ impl Line {
         self.kept = Kept::Whole;
     }
 
-    /// Puts a piece behind what it has.
+    /// Appends a piece.
     pub(crate) fn take(&mut self, piece: &[u8])
         ensures { (text : List ℕ) → Keeps self.old text → Keeps self.new (text ++ piece.now) }
     {

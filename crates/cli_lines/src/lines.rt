@@ -77,7 +77,7 @@ impl Lines {
         Ok(self.at < self.until)
     }
 
-    /// Puts bytes behind the line, up to the next line feed, and returns whether that was met.
+    /// Appends bytes to the line, up to the next line feed, and returns whether that was met.
     fn hand_out(&mut self, line: &mut Line) -> bool
         ensures whole { IsTrue result ⊎ (waiting self.new ≡ []) }
         ensures piece { (piece : List ℕ) × IsUnbroken piece × (waiting self.old ≡ piece ++ (broken result ++ waiting self.new))

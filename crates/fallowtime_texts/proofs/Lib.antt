@@ -1,3 +1,3 @@
-mod Identified
-mod Reading
-mod Adding
+mod IdLemmas
+mod ReadLemmas
+mod AddLemmas

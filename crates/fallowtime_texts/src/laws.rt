@@ -6,5 +6,6 @@ ghost use Rattle.fallowtime_texts.specs.Made.{made_bytes, maker_at};
 /// Ids of the same seconds whose numbers differ are different. The numbers of a maker go round, so its first 2⁶⁴ ids
 /// differ.
 pub fn made_ids_differ()
-    ensures { (seconds m n : ℕ) → m < 2 ^ 64 → n < 2 ^ 64 → made_bytes (maker_at seconds m) ≡ made_bytes (maker_at seconds n) → m ≡ n }
+    ensures { (seconds m n : ℕ) → m < 2 ^ 64 → n < 2 ^ 64
+        → made_bytes (maker_at seconds m) ≡ made_bytes (maker_at seconds n) → m ≡ n }
 {}

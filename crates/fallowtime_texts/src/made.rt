@@ -61,7 +61,8 @@ fn pairs_behind_id(
     document: Document,
     maker: &mut IdMaker,
 ) -> Result<Vec<(String, Bson)>, AllocError>
-    ensures pairs { IfOk result (λ v. map owned_member v.items ≡ id_member maker.old ∷ pairs_of document) }
+    ensures pairs { IfOk result (λ v. map owned_member v.items ≡ id_member maker.old ∷ pairs_of
+        document) }
     ensures maker { maker.new ≡ next_maker maker.old }
 {
     let id = Bson::ObjectId(maker.make());

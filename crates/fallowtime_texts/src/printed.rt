@@ -14,6 +14,7 @@ use bson_meaning::reserved_path_below;
 use bson_model::Document;
 use bson_model::extjson::Mode;
 use bson_raw::{ErrorKind, RawDocument};
+use bson_raw_json::{Unwritten, write_raw};
 use std::alloc::Global;
 
 /// Why a stored document has no text.
@@ -29,7 +30,8 @@ pub enum PrintFault {
 
 /// The document that bytes mean, if they mean one; others may be refused, or not.
 fn document_of(alloc: Global, bytes: &[u8]) -> Result<Document, PrintFault>
-    ensures { (d : Members) → Means bytes.now d → MatchResult result (λ e. Means bytes.now (content e)) (λ k. k ≡ Memory) }
+    ensures { (d : Members) → Means bytes.now d → MatchResult result
+        (λ e. Means bytes.now (content e)) (λ k. k ≡ Memory) }
 {
     let Ok(raw) = RawDocument::from_bytes(bytes) else {
         return Err(PrintFault::Damaged);
@@ -61,8 +63,19 @@ fn text_of_document(
     }
 }
 
+/// The text, by way of the document's tree.
+fn text_by_tree(alloc: Global, body: &[u8], mode: Mode, text: &mut String) -> Result<(), PrintFault>
+    ensures { (d : Members) → IsKept d → body.now ≡ encode d
+        → PrintsDocument mode d (string_bytes text.new) result }
+{
+    let document = document_of(alloc, body)?;
+    text_of_document(alloc, &document, mode, text)
+}
+
 /// Replaces what `text` held by the text of the document that a store keeps as `body`, in Extended JSON, and uses its
 /// room again. After an error `text` may hold anything.
+///
+/// Most documents are written straight from their bytes; of the others the tree is made.
 ///
 /// `ReservedKey` if a document below the top has a key such as `$oid`, with the path to the first one, `Memory` if a
 /// growth was refused. `Damaged` only for bytes that no store keeps.
@@ -72,8 +85,12 @@ pub fn text_of_body(
     mode: Mode,
     text: &mut String,
 ) -> Result<(), PrintFault>
-    ensures { (d : Members) → IsKept d → body.now ≡ encode d → PrintsDocument mode d (string_bytes text.new) result }
+    ensures { (d : Members) → IsKept d → body.now ≡ encode d
+        → PrintsDocument mode d (string_bytes text.new) result }
 {
-    let document = document_of(alloc, body)?;
-    text_of_document(alloc, &document, mode, text)
+    match write_raw(alloc, body, mode, text) {
+        Ok(()) => Ok(()),
+        Err(Unwritten::Memory) => Err(PrintFault::Memory),
+        Err(Unwritten::Unseen) => text_by_tree(alloc, body, mode, text),
+    }
 }

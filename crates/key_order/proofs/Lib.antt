@@ -1,2 +1,2 @@
-pub mod Places
-pub mod Forms
+pub mod PlaceLemmas
+pub mod FormLemmas

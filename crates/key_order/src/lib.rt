@@ -1,8 +1,9 @@
 //! Pairs with their keys ascending by their bytes, put in one after the other.
 #![tactic(auto)]
 
-ghost use Rattle.std.specs.Prelude.{◌≡◌, ◌≤◌, length, IfOk, IfSome, IsTrue};
-ghost use Rattle.key_order.specs.Order.{Ascends, GoesAt, IsPutInOrder};
+ghost use Rattle.std.specs.Prelude.{◌≡◌, ◌≤◌, ◌↔◌, ◌⊎◌, false, length, IfNone, IfOk, IfSome, IsTrue, OnErr};
+ghost use Rattle.std.specs.Bool.{OnFalse};
+ghost use Rattle.key_order.specs.Order.{Ascends, GoesAt, HasKey, IsPutInOrder};
 
 use std::alloc::AllocError;
 use std::cmp::Ordering;
@@ -15,6 +16,7 @@ fn place_of<T>(pairs: &[(&str, T)], key: &str) -> Option<usize>
     requires { Ascends pairs.now }
     ensures goes { IfSome result (λ at. GoesAt key.now at pairs.now) }
     ensures within { IfSome result (λ at. at ≤ length pairs.now) }
+    ensures here { IfNone result (HasKey key.now pairs.now) }
 {
     let mut at = pairs.len();
     while at > 0 {
@@ -28,16 +30,20 @@ fn place_of<T>(pairs: &[(&str, T)], key: &str) -> Option<usize>
 }
 
 /// Puts a pair in its place among pairs whose keys ascend. False, and nothing was put, if there are 64 already, or if
-/// one of them has the key.
+/// one of them has the key. Out of memory, too, the pairs are as they were.
 pub fn put<'a, T: Copy>(
     pairs: &mut Vec<(&'a str, T)>,
     key: &'a str,
     value: T,
 ) -> Result<bool, AllocError>
     requires { Ascends pairs.old.items }
-    ensures { IfOk result (λ b. IsTrue b → IsPutInOrder key.entry value pairs.old.items pairs.new.items) }
+    ensures put { IfOk result (λ b. IsTrue b → IsPutInOrder key.entry value pairs.old.items pairs.new.items) }
+    ensures refused { IfOk result
+        (λ b. (b ≡ false) ↔ (MOST_PAIRS ≤ length pairs.old.items ⊎ HasKey key.now pairs.old.items)) }
+    ensures left { IfOk result (λ b. OnFalse b (pairs.new.items ≡ pairs.old.items)) }
+    ensures err { OnErr result (pairs.new.items ≡ pairs.old.items) }
 {
-    if pairs.len() == MOST_PAIRS {
+    if pairs.len() >= MOST_PAIRS {
         return Ok(false);
     }
     let Some(at) = place_of(pairs.as_slice(), key) else {

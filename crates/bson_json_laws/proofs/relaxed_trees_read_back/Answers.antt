@@ -1,5 +1,5 @@
 use Rattle.bson_model.specs.declared.extjson.ser.Mode.TheVariants.{Relaxed}
-use Rattle.bson_json_laws.proofs.Back.{value_back, top_back}
+use Rattle.bson_json_laws.proofs.ReadBackLemmas.{value_back, top_back}
 use Rattle.bson_json_laws.proofs.relaxed_trees_read_back.Goals as goal
 
 pub returns : goal.returns

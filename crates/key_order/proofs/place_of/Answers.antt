@@ -1,5 +1,5 @@
 use Rattle.std.proofs.Common.{◌≡◌, ◌∙◌, subst, sym, arith}
-use Rattle.key_order.proofs.Places.{Left, at_end, behind, first, one_down, within}
+use Rattle.key_order.proofs.PlaceLemmas.{Left, at_end, behind, first, met_before, one_down, within}
 use Rattle.key_order.proofs.place_of.Goals as goal
 
 pub loop-at-init : goal.loop-at-init
@@ -27,3 +27,6 @@ pub returns-clause-goes : goal.returns-clause-goes
 returns-clause-goes g c =
     let none : c.loop-at.at ≡ 0 = omega (arith, c.loop-at-test.false) in
     first c.args.key.now c.args.pairs.now (subst (λ n. Left c.args.key.now n c.args.pairs.now) none c.loop-at.invariant)
+
+pub returns-in-Equal-clause-here : goal.returns-in-Equal-clause-here
+returns-in-Equal-clause-here g c = met_before c.args.key.now c.loop-at.at c.args.pairs.now c.index-pairs-at.result c.loop-at-test.true c.loop-at.invariant (sym c.cmp.ensures ∙ c.in-Equal.is)

@@ -1,4 +1,4 @@
-use Rattle.key_order.proofs.Places.{Left}
+use Rattle.key_order.proofs.PlaceLemmas.{Left}
 use Rattle.key_order.proofs.place_of.Given as goal
 
 abbrev pub invariant-loop-at : goal.invariant-loop-at

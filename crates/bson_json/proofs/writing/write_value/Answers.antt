@@ -1,6 +1,6 @@
 use Rattle.std.proofs.Common.{string_bytes, ◌∙◌}
 use Rattle.bson_model.specs.View.{view}
-use Rattle.bson_json.proofs.Printing.{whole_text}
+use Rattle.bson_json.proofs.PrintLemmas.{whole_text}
 use Rattle.bson_json.proofs.writing.write_value.Goals as goal
 
 pub text_of-requires : goal.text_of-requires

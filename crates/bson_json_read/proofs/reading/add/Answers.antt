@@ -1,6 +1,6 @@
 use Rattle.std.proofs.Common.{string_bytes}
 use Rattle.bson_model.specs.View.{view, pairs_of}
-use Rattle.bson_json_read.proofs.Onward.{added_twice, added_new}
+use Rattle.bson_json_read.proofs.OnwardLemmas.{added_twice, added_new}
 use Rattle.bson_json_read.proofs.reading.add.Goals as goal
 
 pub returns-in-Some : goal.returns-in-Some

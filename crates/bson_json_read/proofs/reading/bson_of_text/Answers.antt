@@ -1,6 +1,6 @@
 use Rattle.bson_model.specs.View.{view}
 use Rattle.bson_json_read.specs.Reading.{read}
-use Rattle.bson_json_read.proofs.Onward.{text_reads}
+use Rattle.bson_json_read.proofs.OnwardLemmas.{text_reads}
 use Rattle.bson_json_read.proofs.reading.bson_of_text.Goals as goal
 
 pub returns : goal.returns

@@ -1,6 +1,6 @@
 use Rattle.bson_model.specs.View.{content}
 use Rattle.bson_json_read.specs.Reading.{read_top}
-use Rattle.bson_json_read.proofs.Onward.{text_reads}
+use Rattle.bson_json_read.proofs.OnwardLemmas.{text_reads}
 use Rattle.bson_json_read.proofs.reading.document_of_text.Goals as goal
 
 pub returns : goal.returns

@@ -1,7 +1,8 @@
 use Rattle.std.proofs.Common.{◌≡◌, ◌+◌, ◌*◌, Some, drop}
 use Rattle.json.specs.Written.{Written}
 use Rattle.bson_raw.specs.View.{array_bytes, left_of}
-use Rattle.bson_raw_text.proofs.Steps.{ItemsEnd, PairsEnd}
+use Rattle.bson_raw_text.proofs.StepLemmas.{ItemsEnd, PairsEnd}
+use Rattle.bson_raw_text.proofs.StraightLemmas.{ItemsSoFar}
 use Rattle.bson_raw_text.proofs.writing.+print.Given as goal
 
 abbrev pub decreases-print_value : goal.decreases-print_value
@@ -24,3 +25,4 @@ invariant-print_items-loop-item l =
     × (l.out.before ≡ l.initial.out.before)
     × (goal.iterator-print_items-loop-item).can_next l.item-iterator
     × (goal.iterator-print_items-loop-item).is_finite l.item-iterator
+    × ItemsSoFar (drop 4 (array_bytes l.array)) (left_of l.item-iterator)

@@ -4,11 +4,11 @@ use Rattle.bson_base.specs.Value.{document}
 use Rattle.bson_bytes.specs.Spells.{SpellsMembers}
 use Rattle.bson_model.specs.JsonWrite.{write}
 use Rattle.bson_model.specs.declared.extjson.ser.Mode.TheVariants.{Canonical}
-use Rattle.bson_raw_text.proofs.Steps.{whole_text}
+use Rattle.bson_raw_text.proofs.StepLemmas.{whole_text}
 use Rattle.bson_raw_text.proofs.writing.write_raw.Goals as goal
 
-pub returns : goal.returns
-returns c = λ ms h.
+pub returns-clause-text : goal.returns-clause-text
+returns-clause-text c = λ ms h.
     let new = c.print_members.new.out in
     let empty : c.new-out.result.before ≡ [] = search rules in
     let whole : string_bytes c.from_utf8_unchecked.result ≡ new.before ++ print new.tokens = search rules in

@@ -14,7 +14,7 @@ use Rattle.bson_model.specs.declared.bson.Bson.{the_lemmas}
 use Rattle.bson_model.specs.declared.extjson.ser.Mode.TheVariants.{Canonical}
 use Rattle.bson_model.proofs.ShowLemmas.{item_at}
 use Rattle.bson_text.specs.Prints.{AddsForm, tokens_of}
-use Rattle.bson_text.proofs.Steps.{behind, items_done, items_fail, items_form, items_low, items_next, members_begin, members_done, members_fail, members_low, scoped_done}
+use Rattle.bson_text.proofs.StepLemmas.{behind, items_done, items_fail, items_form, items_low, items_next, members_begin, members_done, members_fail, members_low, scoped_done}
 use Rattle.bson_text.proofs.document.+print.Goals as goal
 
 pub print_items-loop-item-preserved : goal.print_items-loop-item-preserved

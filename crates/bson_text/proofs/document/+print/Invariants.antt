@@ -5,7 +5,7 @@ use Rattle.bson_model.specs.JsonWrite.{write_members}
 use Rattle.bson_model.specs.Rest.{ascending_rest}
 use Rattle.bson_model.specs.View.{view, pairs_of, items_of, members_of}
 use Rattle.bson_model.specs.declared.extjson.ser.Mode.TheVariants.{Canonical}
-use Rattle.bson_text.proofs.Steps.{ItemsEnd, MembersEnd, items_form}
+use Rattle.bson_text.proofs.StepLemmas.{ItemsEnd, MembersEnd, items_form}
 use Rattle.bson_text.proofs.document.+print.Given as goal
 
 abbrev pub decreases-print_value : goal.decreases-print_value

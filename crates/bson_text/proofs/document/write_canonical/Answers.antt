@@ -4,7 +4,7 @@ use Rattle.bson_base.specs.Value.{document}
 use Rattle.bson_model.specs.JsonWrite.{write}
 use Rattle.bson_model.specs.View.{members_of, pairs_of}
 use Rattle.bson_model.specs.declared.extjson.ser.Mode.TheVariants.{Canonical}
-use Rattle.bson_text.proofs.Steps.{whole_text}
+use Rattle.bson_text.proofs.StepLemmas.{whole_text}
 use Rattle.bson_text.proofs.document.write_canonical.Goals as goal
 
 pub returns : goal.returns

@@ -4,7 +4,7 @@ use Rattle.std.specs.Fmt.{signed_decimal}
 use Rattle.json.specs.Token.{Token, begin_object, end_object, key, string}
 use Rattle.bson_base.specs.Scalars.{millis_of}
 use Rattle.bson_text.specs.Prints.{Adds}
-use Rattle.bson_text.proofs.Steps.{behind}
+use Rattle.bson_text.proofs.StepLemmas.{behind}
 use Rattle.bson_text.proofs.scalars.print_date.Goals as goal
 
 pub returns : goal.returns

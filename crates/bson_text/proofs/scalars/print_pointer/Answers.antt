@@ -4,7 +4,7 @@ use Rattle.json.specs.Token.{Token, begin_object, end_object, key, string}
 use Rattle.bson_base.specs.Scalars.{id_bytes}
 use Rattle.bson_model.specs.JsonWrite.{write_id}
 use Rattle.bson_text.specs.Prints.{tokens_of}
-use Rattle.bson_text.proofs.Steps.{behind}
+use Rattle.bson_text.proofs.StepLemmas.{behind}
 use Rattle.bson_text.proofs.scalars.print_pointer.Goals as goal
 
 pub returns : goal.returns

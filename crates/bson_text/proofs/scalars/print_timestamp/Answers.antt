@@ -1,7 +1,7 @@
 use Rattle.std.proofs.Common.{List, [], ◌∷◌, ◌++◌, codes, decimal}
 use Rattle.std.proofs.lemmas.Result.{on_ok_weaker}
 use Rattle.json.specs.Token.{Token, begin_object, end_object, key, number}
-use Rattle.bson_text.proofs.Steps.{behind}
+use Rattle.bson_text.proofs.StepLemmas.{behind}
 use Rattle.bson_text.proofs.scalars.print_timestamp.Goals as goal
 
 pub returns : goal.returns

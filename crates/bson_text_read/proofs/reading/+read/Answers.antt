@@ -9,7 +9,7 @@ use Rattle.bson_model.specs.View.{pairs_of, view, items_of}
 use Rattle.bson_model.specs.declared.bson.Bson.{the_lemmas}
 use Rattle.bson_model.proofs.ViewLemmas.{view-Document}
 use Rattle.bson_text_read.specs.Reads.{ReadsJson, ReadsPairs}
-use Rattle.bson_text_read.proofs.Members.{array_told, boolean_told, items_done, items_more, items_none, null_told, object_if, object_told, pairs_done, pairs_more, pairs_none, string_told}
+use Rattle.bson_text_read.proofs.MemberLemmas.{array_told, boolean_told, items_done, items_more, items_none, null_told, object_if, object_told, pairs_done, pairs_more, pairs_none, string_told}
 use Rattle.bson_text_read.proofs.reading.+read.Goals as goal
 
 pub read_items-loop-item-init : goal.read_items-loop-item-init

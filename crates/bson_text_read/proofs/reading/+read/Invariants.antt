@@ -1,6 +1,6 @@
 use Rattle.std.proofs.Common.{◌+◌, ◌*◌, drop}
 use Rattle.bson_model.specs.View.{pairs_of}
-use Rattle.bson_text_read.proofs.Members.{ItemsSoFar, PairsSoFar}
+use Rattle.bson_text_read.proofs.MemberLemmas.{ItemsSoFar, PairsSoFar}
 use Rattle.bson_text_read.proofs.reading.+read.Given as goal
 
 abbrev pub decreases-read : goal.decreases-read

@@ -1,7 +1,7 @@
 use Rattle.std.proofs.Common.{◌≡◌, None, rules, string_bytes}
 use Rattle.bson_pairs.specs.Keyed.{get}
 use Rattle.bson_model.specs.View.{pairs_of, view}
-use Rattle.bson_text_read.proofs.Members.{appended}
+use Rattle.bson_text_read.proofs.MemberLemmas.{appended}
 use Rattle.bson_text_read.proofs.reading.add.Goals as goal
 
 pub returns-in-None : goal.returns-in-None

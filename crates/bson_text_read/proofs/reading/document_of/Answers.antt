@@ -4,7 +4,7 @@ use Rattle.json.specs.Value.{value_view, members_view}
 use Rattle.json.specs.declared.value.Value.{the_lemmas}
 use Rattle.bson_model.specs.View.{pairs_of}
 use Rattle.bson_text_read.specs.Reads.{ReadsPairs}
-use Rattle.bson_text_read.proofs.Members.{document_if}
+use Rattle.bson_text_read.proofs.MemberLemmas.{document_if}
 use Rattle.bson_text_read.proofs.reading.document_of.Goals as goal
 
 pub returns : goal.returns

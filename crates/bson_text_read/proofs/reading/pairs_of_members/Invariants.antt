@@ -1,7 +1,7 @@
 use Rattle.std.proofs.Common.{drop}
 use Rattle.json.specs.Value.{members_view}
 use Rattle.key_order.specs.Order.{Ascends}
-use Rattle.bson_text_read.proofs.Members.{Taken}
+use Rattle.bson_text_read.proofs.MemberLemmas.{Taken}
 use Rattle.bson_text_read.proofs.reading.pairs_of_members.Given as goal
 
 abbrev pub invariant-loop-key : goal.invariant-loop-key

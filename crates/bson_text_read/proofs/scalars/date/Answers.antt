@@ -1,7 +1,7 @@
 use Rattle.std.proofs.Common.{◌≡◌, rules}
 use Rattle.json.specs.Value.{value_view}
 use Rattle.bson_base.specs.Scalars.{millis_of}
-use Rattle.bson_text_read.proofs.Told.{date_told}
+use Rattle.bson_text_read.proofs.WrapperLemmas.{date_told}
 use Rattle.bson_text_read.proofs.scalars.date.Goals as goal
 
 pub returns : goal.returns

@@ -1,5 +1,5 @@
 use Rattle.json.specs.Value.{value_view}
-use Rattle.bson_text_read.proofs.Told.{int_if}
+use Rattle.bson_text_read.proofs.WrapperLemmas.{int_if}
 use Rattle.bson_text_read.proofs.scalars.int.Goals as goal
 
 pub returns : goal.returns

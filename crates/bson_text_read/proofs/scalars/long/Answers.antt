@@ -1,5 +1,5 @@
 use Rattle.json.specs.Value.{value_view}
-use Rattle.bson_text_read.proofs.Told.{long_if}
+use Rattle.bson_text_read.proofs.WrapperLemmas.{long_if}
 use Rattle.bson_text_read.proofs.scalars.long.Goals as goal
 
 pub returns : goal.returns

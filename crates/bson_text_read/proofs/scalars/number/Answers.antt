@@ -5,7 +5,7 @@ use Rattle.serde_json.specs.View.{number_view, view}
 use Rattle.serde_json.specs.declared.value.Value.{the_lemmas}
 use Rattle.bson_model.specs.JsonRead.{integer}
 use Rattle.bson_model.specs.View.{view as value_of}
-use Rattle.bson_text_read.proofs.Told.{number_told}
+use Rattle.bson_text_read.proofs.WrapperLemmas.{number_told}
 use Rattle.bson_text_read.proofs.scalars.number.Goals as goal
 
 pub returns-in-Some : goal.returns-in-Some

@@ -1,6 +1,6 @@
 use Rattle.json.specs.Value.{value_view}
 use Rattle.bson_base.specs.Scalars.{id_bytes}
-use Rattle.bson_text_read.proofs.Told.{id_told}
+use Rattle.bson_text_read.proofs.WrapperLemmas.{id_told}
 use Rattle.bson_text_read.proofs.scalars.object_id.Goals as goal
 
 pub returns-in-Ok : goal.returns-in-Ok

@@ -5,7 +5,7 @@ use Rattle.bson_base.specs.Value.{scalar, int32, int64, object_id, date_time}
 use Rattle.bson_model.specs.JsonKeys.{of_date, of_id, of_int, of_long}
 use Rattle.bson_model.specs.JsonWrappers.{reserved_key}
 use Rattle.bson_model.specs.declared.bson.Bson.{the_lemmas}
-use Rattle.bson_text_read.proofs.Told.{typed_told}
+use Rattle.bson_text_read.proofs.WrapperLemmas.{typed_told}
 use Rattle.bson_text_read.proofs.scalars.wrapped.Goals as goal
 
 pub returns-in_ok-int-in-NumberInt : goal.returns-in_ok-int-in-NumberInt

@@ -2,7 +2,7 @@ use Rattle.std.proofs.Common.{Ok, Option, subst}
 use Rattle.bson_base.specs.Device.{Feed, Tally}
 use Rattle.bson_model.specs.declared.document.Document.{Document}
 use Rattle.cli_convert.specs.ToLines.{ReadsFree}
-use Rattle.cli_convert.proofs.ToLines.{line_sent}
+use Rattle.cli_convert.proofs.ToLinesLemmas.{line_sent}
 use Rattle.cli_convert.proofs.documents.turn.Goals as goal
 
 pub returns-in_ok-send_line-in-Some : goal.returns-in_ok-send_line-in-Some

@@ -1,7 +1,7 @@
 use Rattle.std.proofs.Common.{Bool, Ok, subst}
 use Rattle.bson_base.specs.Device.{Feed, Tally}
 use Rattle.cli_convert.specs.ToLines.{TurnsLine}
-use Rattle.cli_convert.proofs.ToLines.{begun, can_go_on, went_on}
+use Rattle.cli_convert.proofs.ToLinesLemmas.{begun, can_go_on, went_on}
 use Rattle.cli_convert.proofs.documents.write_lines.Goals as goal
 
 pub loop-index-init : goal.loop-index-init

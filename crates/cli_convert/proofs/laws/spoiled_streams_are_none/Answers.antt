@@ -1,4 +1,4 @@
-use Rattle.cli_convert.proofs.Spoiled.{spoiled}
+use Rattle.cli_convert.proofs.SpoiledLemmas.{spoiled}
 use Rattle.cli_convert.proofs.laws.spoiled_streams_are_none.Goals as goal
 
 pub returns : goal.returns

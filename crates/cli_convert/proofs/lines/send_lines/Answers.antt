@@ -1,4 +1,4 @@
-use Rattle.cli_convert.proofs.ToBson.{all_sent}
+use Rattle.cli_convert.proofs.ToBsonLemmas.{all_sent}
 use Rattle.cli_convert.proofs.lines.send_lines.Goals as goal
 
 pub returns : goal.returns

@@ -3,7 +3,7 @@ use Rattle.bson_base.specs.Device.{Feed, Tally}
 use Rattle.cli_convert.specs.ToBson.{EndsBehind, TakesNothing}
 use Rattle.cli_convert.specs.declared.stop.Stop.{Stop}
 use Rattle.cli_convert.specs.declared.stop.Stop.TheVariants.{Writer}
-use Rattle.cli_convert.proofs.ToBson.{spoiled_behind, still_refused, still_well}
+use Rattle.cli_convert.proofs.ToBsonLemmas.{spoiled_behind, still_refused, still_well}
 use Rattle.cli_convert.proofs.lines.write_documents.Goals as goal
 
 pub returns-in-Ok : goal.returns-in-Ok

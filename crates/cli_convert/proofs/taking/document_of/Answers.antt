@@ -1,6 +1,6 @@
 use Rattle.std.proofs.Common.{List, ℕ, Ok, subst}
 use Rattle.bson_json_read.specs.Reading.{ReadsText}
-use Rattle.cli_convert.proofs.Takings.{text_read}
+use Rattle.cli_convert.proofs.TakeLemmas.{text_read}
 use Rattle.cli_convert.proofs.taking.document_of.Goals as goal
 
 pub returns-in-Ok-document_of_text : goal.returns-in-Ok-document_of_text

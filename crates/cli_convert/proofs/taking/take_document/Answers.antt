@@ -1,5 +1,5 @@
 use Rattle.bson_model.specs.View.{content}
-use Rattle.cli_convert.proofs.Takings.{document_taken}
+use Rattle.cli_convert.proofs.TakeLemmas.{document_taken}
 use Rattle.cli_convert.proofs.taking.take_document.Goals as goal
 
 pub returns-clause-taken : goal.returns-clause-taken

@@ -1,6 +1,6 @@
 use Rattle.bson_base.specs.Device.{CanFail}
 use Rattle.cli_lines.specs.Lines.{waiting}
-use Rattle.cli_convert.proofs.Takings.{SoFar}
+use Rattle.cli_convert.proofs.TakeLemmas.{SoFar}
 use Rattle.cli_convert.proofs.taking.take_lines.Given as goal
 
 abbrev pub invariant-loop-index : goal.invariant-loop-index

@@ -2,7 +2,7 @@ use Rattle.std.proofs.Common.{Ok, subst}
 use Rattle.bson_base.specs.Device.{Feed}
 use Rattle.cli_lines.specs.Lines.{ReadsNext}
 use Rattle.cli_lines.specs.declared.lines.Next.{Next}
-use Rattle.cli_convert.proofs.Takings.{whole_taken}
+use Rattle.cli_convert.proofs.TakeLemmas.{whole_taken}
 use Rattle.cli_convert.proofs.taking.turn.Goals as goal
 
 pub returns-in_ok-take_line-in-Ok-Whole-clause-taken : goal.returns-in_ok-take_line-in-Ok-Whole-clause-taken

@@ -1,4 +1,4 @@
-use Rattle.fallowtime_texts.proofs.Identified.{numbers_same}
+use Rattle.fallowtime_texts.proofs.IdLemmas.{numbers_same}
 use Rattle.fallowtime_texts.proofs.laws.made_ids_differ.Goals as goal
 
 pub returns : goal.returns

@@ -1,6 +1,6 @@
 use Rattle.std.proofs.lemmas.Result.{err_from_is_err_and}
 use Rattle.fallowtime_texts.specs.declared.lines.Taking.{Taking}
-use Rattle.fallowtime_texts.proofs.Adding.{read_so, stopped_so}
+use Rattle.fallowtime_texts.proofs.AddLemmas.{read_so, stopped_so}
 use Rattle.fallowtime_texts.proofs.lines.read_lines.Goals as goal
 
 pub returns-in_err-take_lines : goal.returns-in_err-take_lines

@@ -1,6 +1,6 @@
 use Rattle.std.proofs.Common.{◌∙◌}
 use Rattle.std.proofs.lemmas.Result.{IfOk-weaker}
-use Rattle.fallowtime_texts.proofs.Identified.{gained, kept_so, maker_kept, maker_moved}
+use Rattle.fallowtime_texts.proofs.IdLemmas.{gained, kept_so, maker_kept, maker_moved}
 use Rattle.fallowtime_texts.proofs.made.with_id.Goals as goal
 
 pub returns-then-contains_key-clause-document : goal.returns-then-contains_key-clause-document

@@ -1,5 +1,5 @@
 use Rattle.std.proofs.Common.{◌-◌, take, drop}
-use Rattle.cli_lines.proofs.Cutting.{before_unbroken, all_unbroken, all_between, cut_between}
+use Rattle.cli_lines.proofs.CutLemmas.{before_unbroken, all_unbroken, all_between, cut_between}
 use Rattle.cli_lines.proofs.lines.Lines.hand_out.Goals as goal
 
 pub returns-in-Some-clause-piece : goal.returns-in-Some-clause-piece

@@ -2,7 +2,7 @@ use Rattle.std.proofs.Common.{rules, ◌∙◌, ap, ◌+◌, ◌-◌, ◌^◌, i
 use Rattle.std.proofs.lemmas.Result.{err_from_is_err_and}
 use Rattle.bson_base.specs.Device.{Gives}
 use Rattle.cli_lines.specs.Lines.{waiting}
-use Rattle.cli_lines.proofs.Collecting.{begin, filled, failed, finished, went_on, endless}
+use Rattle.cli_lines.proofs.CollectLemmas.{begin, filled, failed, finished, went_on, endless}
 use Rattle.cli_lines.proofs.lines.Lines.read.Goals as goal
 
 pub loop-piece-init : goal.loop-piece-init

@@ -1,6 +1,6 @@
 use Rattle.std.proofs.Common.{◌≡◌}
 use Rattle.cli_lines.specs.Lines.{waiting}
-use Rattle.cli_lines.proofs.Collecting.{Collects}
+use Rattle.cli_lines.proofs.CollectLemmas.{Collects}
 use Rattle.cli_lines.proofs.lines.Lines.read.Given as goal
 
 abbrev pub invariant-loop-piece : goal.invariant-loop-piece
