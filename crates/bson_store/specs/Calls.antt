@@ -6,6 +6,7 @@ use Rattle.bson_base.specs.Value.{Value, Members}
 use Rattle.store_table.specs.Rows.{TableRow, is_row_named}
 use Rattle.store_table.specs.Moves.{parts_of_found, parts_of_row, Moves}
 use Rattle.store_table.specs.declared.row.Found.{Found}
+use Rattle.store_model.specs.Filter.{Path}
 use Rattle.store_model.specs.Reading.{Reading, ReadsBytes, ReadsTree, readable}
 use Rattle.store_model.specs.State as model
 use Rattle.store_model.specs.Table.{DocumentTable, Serves, documents_of}
@@ -16,18 +17,22 @@ use Rattle.store_model.specs.declared.error.StoreError.{StoreError}
 use Rattle.sqlite_trees.specs.declared.store.Store.{Ghosts}
 use Rattle.sqlite.specs.State.{State}
 use Rattle.sqlite.specs.Held.{Held}
-use Rattle.store_table.specs.Table.{connection_of as table_connection, table_state}
+use Rattle.store_indexed.specs.Table.{HasIndex as TableHasIndex, connection_of as table_connection, indexed_state as table_state}
 use Rattle.bson_store.specs.declared.store.Store.{Store}
 
 -- a store's connection, and its state
-abbrev pub store_connection : {S : Type 0} → Store S → Held S
+abbrev pub store_connection : {S : Type 0} {h : _} → Store S h → Held S
 store_connection s = table_connection s.table
 
-abbrev pub store_state : {S : Type 0} → Ghosts S → Store S → State
+abbrev pub store_state : {S : Type 0} {h : _} → Ghosts S → Store S h → State
 store_state g s = table_state g s.table
 
+-- a store has an index of a collection on a path
+abbrev pub HasIndex : {S : Type 0} {h : _} → Store S h → List ℕ → Path → Type 0
+HasIndex s n path = TableHasIndex s.table n path
+
 -- the rows of a store before a call and after it are related by P
-abbrev pub Relates : {S : Type 0} → Ghosts S → Store S → Store S → (List TableRow → List TableRow → Type 0) → Type 0
+abbrev pub Relates : {S : Type 0} {h : _} → Ghosts S → Store S h → Store S h → (List TableRow → List TableRow → Type 0) → Type 0
 Relates g old new P = Moves (store_state g old) (store_state g new) P
 
 -- whatever table the rows showed, they now show one that the command took it to

@@ -1,5 +1,5 @@
 -- The trees of a collection, as they are made and passed to a taker.
-use Rattle.std.specs.Prelude.{◌≡◌, ◌⊎◌, ℕ, ◌+◌, List, [], ◌∷◌, ◌++◌, length, Option, Result, Ok, Err, map, MatchOption, MatchResult}
+use Rattle.std.specs.Prelude.{◌≡◌, ◌⊎◌, ℕ, ◌+◌, List, [], ◌∷◌, ◌++◌, length, Option, Some, None, Result, Ok, Err, map, MatchOption, MatchResult}
 use Rattle.serde_json.specs.Data.{Data}
 use Rattle.serde_json.specs.View.{view as data_of}
 use Rattle.serde_json.specs.Written.{compact_text}
@@ -15,6 +15,7 @@ use Rattle.bson_store.specs.Refusals.{IsDenied}
 use Rattle.store_model.specs.Refusal.{refusal, refusal_at}
 use Rattle.bson_store.specs.Shown.{Represents}
 use Rattle.store_model.specs.declared.error.StoreError.{StoreError}
+use Rattle.store_documents.specs.Answers.{IsOfStore}
 
 -- the tree that r has, or its refusal, at the place i; or out of memory
 abbrev pub TellsTree : Result Data ErrorKind → ℕ → Result Json StoreError → Type 0
@@ -71,3 +72,20 @@ pub record ChecksTrees (n : List ℕ) (result : Result (Unit {0}) StoreError) (d
   pub checked : (a : DocumentTable) → Represents docs a → MatchResult result
       (λ _. IsName n × ((js : List Data) × (trees_of 0 (documents_of a n) ≡ Ok js)))
       (λ e. ((IsName n → ⊥) × (e ≡ refusal BadName)) ⊎ (IsName n × (IsDenied e ⊎ (trees_reply (trees_of 0 (documents_of a n)) ≡ refused e.kind e.document))))
+
+-- ---- whatever the disk does
+
+-- the taker stands; or it refused with this error; or it stands, and the store refused
+abbrev pub Outlasts : {A : Type 0} → Type 0 → (StoreError → Type 0) → Result A StoreError → Type 0
+Outlasts stands refused_by (Ok x) = stands
+Outlasts stands refused_by (Err e) = refused_by e ⊎ (stands × IsOfStore e.kind)
+
+-- the same of the first refusal of a walk, if there is one
+abbrev pub Lasts : Type 0 → (StoreError → Type 0) → Option StoreError → Type 0
+Lasts stands refused_by None = stands
+Lasts stands refused_by (Some e) = refused_by e ⊎ (stands × IsOfStore e.kind)
+
+-- the same of a taker that is given back
+abbrev pub GivesBack : {T : Type 0} → (T → Type 0) → (T → StoreError → Type 0) → Result T (StoreError × T) → Type 0
+GivesBack stands refused_by (Ok t) = stands t
+GivesBack stands refused_by (Err e) = refused_by e.1 e.0 ⊎ (stands e.1 × IsOfStore e.0.kind)

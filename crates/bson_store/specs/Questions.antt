@@ -8,11 +8,13 @@ use Rattle.bson_raw.specs.declared.document.RawDocument.{RawDocument}
 use Rattle.store_table.specs.Rows.{TableRow}
 use Rattle.store_model.specs.Filter.{Filter, Selects}
 use Rattle.store_model.specs.Reading.{Documents}
-use Rattle.store_model.specs.State.{AreKept, Picks, When, Reply, bytes_list, names}
+use Rattle.store_model.specs.Refusal.{refusal}
+use Rattle.store_model.specs.State.{AreKept, IsName, Picks, When, Reply, bytes_list, names}
 use Rattle.store_model.specs.Table.{DocumentTable, documents_of}
 use Rattle.bson_store.specs.Export.{bytes_of_each}
 use Rattle.bson_store.specs.Refusals.{IsDenied}
 use Rattle.bson_store.specs.Shown.{Represents}
+use Rattle.store_model.specs.declared.error.ErrorKind.TheVariants.{BadName}
 use Rattle.store_model.specs.declared.error.StoreError.{StoreError}
 
 abbrev pub as_list : Vec (Vec ℕ Global) Global → Reply
@@ -40,3 +42,9 @@ pub record Picked {T : Type 0} (took : T → Documents → Type 0) (n : List ℕ
   pub same : after ≡ docs
   pub taken : (a : DocumentTable) → Represents docs a → IfOk result (λ t. (out : Documents) × Picks f (documents_of a n) out × took t out)
   pub denied : (a : DocumentTable) → Represents docs a → IfErr result IsDenied
+
+-- an index was made or dropped, or not: the rows stay
+pub record Indexed {A : Type 0} (n : List ℕ) (result : Result A StoreError) (docs after : List TableRow) : Type 0 where
+  pub same : after ≡ docs
+  pub bad : (IsName n → ⊥) → result ≡ Err (refusal BadName)
+  pub denied : IsName n → IfErr result IsDenied

@@ -25,7 +25,7 @@ kind_of_opening (opens.IdsCollide first second) = IdsCollide first second
 kind_of_opening opens.Memory = Memory
 kind_of_opening opens.Database = Database
 
--- memory was wanted, or the database refused
+-- out of memory, or the database refused
 abbrev pub IsDenied : StoreError → Type 0
 IsDenied e = (x : Fault) × (x ≢ faults.Places) × (e ≡ refusal (kind_of_fault x))
 

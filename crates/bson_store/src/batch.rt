@@ -93,8 +93,10 @@ fn json_list(outcome: Result<Vec<Value>, StoreError>) -> Reply
 /// The written documents of a collection, in memory.
 fn exported<S: Alter + Drop>(store: &mut Store<S>, name: &str) -> Reply
     ensures moves { Relates S.Store store.old store.new (Exported name.now result) }
-    ensures open { WasOpenFor result (store_state S.Store store.old) (store_state S.Store store.new) }
-    ensures crash { Leaves (store_state S.Store store.old) (store_state S.Store store.new) (on name.now export) (reply_of result) }
+    ensures open { WasOpenFor result (store_state S.Store store.old)
+        (store_state S.Store store.new) }
+    ensures crash { Leaves (store_state S.Store store.old) (store_state S.Store store.new)
+        (on name.now export) (reply_of result) }
 {
     let mut sink = VecSink::new(store.allocator());
     match store.export(name, &mut sink) {
@@ -110,8 +112,10 @@ fn exported<S: Alter + Drop>(store: &mut Store<S>, name: &str) -> Reply
 /// Documents that go into a collection from memory.
 fn imported<S: Alter + Drop>(store: &mut Store<S>, name: &str, bytes: &[u8]) -> Reply
     ensures moves { Relates S.Store store.old store.new (Imported name.now bytes.now result) }
-    ensures open { WasOpenFor result (store_state S.Store store.old) (store_state S.Store store.new) }
-    ensures crash { LeavesMany name.now (ReadsStream bytes.now) (reply_of result) (store_state S.Store store.old) (store_state S.Store store.new) }
+    ensures open { WasOpenFor result (store_state S.Store store.old)
+        (store_state S.Store store.new) }
+    ensures crash { LeavesMany name.now (ReadsStream bytes.now) (reply_of result)
+        (store_state S.Store store.old) (store_state S.Store store.new) }
 {
     let mut source = SliceSource::new(bytes);
     counted(store.import(name, &mut source))
@@ -120,8 +124,10 @@ fn imported<S: Alter + Drop>(store: &mut Store<S>, name: &str, bytes: &[u8]) -> 
 /// One command. JSON is handed over to the call that keeps it; all else is lent.
 fn execute<S: Alter + Drop>(store: &mut Store<S>, command: Command) -> Reply
     ensures moves { Relates S.Store store.old store.new (Obeys command result) }
-    ensures open { WasOpenFor result (store_state S.Store store.old) (store_state S.Store store.new) }
-    ensures crash { LeavesCommand command result (store_state S.Store store.old) (store_state S.Store store.new) }
+    ensures open { WasOpenFor result (store_state S.Store store.old)
+        (store_state S.Store store.new) }
+    ensures crash { LeavesCommand command result (store_state S.Store store.old)
+        (store_state S.Store store.new) }
 {
     match command {
         Command::InsertJson { name, json } => done(store.insert_json(name.as_str(), json)),
@@ -141,8 +147,10 @@ fn execute<S: Alter + Drop>(store: &mut Store<S>, command: Command) -> Reply
 fn execute_lent<S: Alter + Drop>(store: &mut Store<S>, command: &Command) -> Reply
     requires { IsLent command.now }
     ensures moves { Relates S.Store store.old store.new (Obeys command.now result) }
-    ensures open { WasOpenFor result (store_state S.Store store.old) (store_state S.Store store.new) }
-    ensures crash { LeavesCommand command.now result (store_state S.Store store.old) (store_state S.Store store.new) }
+    ensures open { WasOpenFor result (store_state S.Store store.old)
+        (store_state S.Store store.new) }
+    ensures crash { LeavesCommand command.now result (store_state S.Store store.old)
+        (store_state S.Store store.new) }
 {
     match command {
         Command::InsertRaw { name, bytes } => done(store.insert_raw(
@@ -181,19 +189,24 @@ pub fn run<S: Alter + Drop>(
     commands: Vec<Command>,
 ) -> Result<Vec<Reply>, AllocError>
     // Whatever table the rows showed, the replies and the table that they show now are those of a run through tables.
-    ensures tables { IfOk result (λ replies. Relates S.Store store.old store.new (AnswersThroughTables commands.items replies.items)) }
+    ensures tables { IfOk result (λ replies. Relates S.Store store.old store.new
+        (AnswersThroughTables commands.items replies.items)) }
     // So they are those of the commands on plain lists of documents, unless memory or places ran out or the database
     // refused.
-    ensures lists { IfOk result (λ replies. Relates S.Store store.old store.new (AnswersAsLists commands.items replies.items)) }
+    ensures lists { IfOk result (λ replies. Relates S.Store store.old store.new
+        (AnswersAsLists commands.items replies.items)) }
     // If the last command was accepted the connection is open, so these rows are in its table.
-    ensures open { IfOk result (λ replies. EndsOpen replies.items (store_state S.Store store.old) (store_state S.Store store.new)) }
+    ensures open { IfOk result (λ replies. EndsOpen replies.items (store_state S.Store store.old)
+        (store_state S.Store store.new)) }
     // What a crash leaves now is left along this run, from what it might leave before, with the other tables as they were.
-    ensures crash { IfOk result (λ replies. Moves (store_state S.Store store.old) (store_state S.Store store.new)
-        (LeavesAsLists commands.items replies.items (store_state S.Store store.old) (store_state S.Store store.new))) }
+    ensures crash { IfOk result (λ replies. Moves (store_state S.Store store.old)
+        (store_state S.Store store.new) (LeavesAsLists commands.items replies.items
+        (store_state S.Store store.old) (store_state S.Store store.new))) }
     // So if a crash could leave only one state before, it leaves the state at the end, or what one of the commands
     // makes of that.
-    ensures ends { IfOk result (λ replies. Moves (store_state S.Store store.old) (store_state S.Store store.new)
-        (LeavesTheEnd commands.items replies.items (store_state S.Store store.old) (store_state S.Store store.new))) }
+    ensures ends { IfOk result (λ replies. Moves (store_state S.Store store.old)
+        (store_state S.Store store.new) (LeavesTheEnd commands.items replies.items
+        (store_state S.Store store.old) (store_state S.Store store.new))) }
     // If memory ran out for the replies, no command was done.
     ensures err { OnErr result (store.new ≡ store.old) }
 {

@@ -1,9 +1,11 @@
 //! Whether the documents of a collection have JSON trees, without the trees.
 
+ghost use Rattle.std.specs.Prelude.{IfErr};
 ghost use Rattle.store_table.specs.Moves.{WasOpen};
-ghost use Rattle.sqlite.specs.State.{Survives};
+ghost use Rattle.store_table.specs.Crash.{AddsNothing};
 ghost use Rattle.bson_store.specs.Calls.{store_state, Relates};
 ghost use Rattle.bson_store.specs.Dump.{ChecksTrees};
+ghost use Rattle.store_documents.specs.Answers.{IsOfStore};
 
 use crate::store::Store;
 use crate::walk::Step;
@@ -22,6 +24,9 @@ impl Step for Checking {
 
     ghost refused = { λ _ _ _ _. ⊥ };
 
+    ghost stopped = { λ _ _ _. ⊥ };
+
+    #[tactic(auto, using(crate::proofs::StandLemmas::at_of_store))]
     fn step(&mut self, alloc: Global, body: &[u8], place: u64) -> Result<(), StoreError> {
         match check_json(alloc, body, Mode::Canonical) {
             Ok(()) => Ok(()),
@@ -38,8 +43,10 @@ impl<S: Alter + Drop> Store<S> {
     /// if both hold), and `document` says which document it is; and by Memory and Database.
     pub fn check_json(&mut self, name: &str) -> Result<(), StoreError>
         ensures moves { Relates S.Store self.old self.new (ChecksTrees name.now result) }
-        ensures open { WasOpen (store_state S.Store self.old) (store_state S.Store self.new) result }
-        ensures crash { Survives (store_state S.Store self.old) (store_state S.Store self.new) (λ _. ⊥) }
+        ensures open { WasOpen (store_state S.Store self.old)
+            (store_state S.Store self.new) result }
+        ensures kind { IfErr result (λ e. IsOfStore e.kind) }
+        ensures crash { AddsNothing (store_state S.Store self.old) (store_state S.Store self.new) }
     {
         match self.walk(name, Checking) {
             Ok(_) => Ok(()),

@@ -8,7 +8,7 @@ ghost use Rattle.bson_bytes.specs.Encode.{encode};
 ghost use Rattle.bson_model.specs.declared.extjson.ser.Mode.TheVariants.{Canonical};
 ghost use Rattle.store_table.specs.Moves.{WasOpen};
 ghost use Rattle.store_model.specs.State.{IsKept, dump, on, json_of};
-ghost use Rattle.sqlite.specs.State.{Survives};
+ghost use Rattle.store_table.specs.Crash.{AddsNothing};
 ghost use Rattle.bson_store.specs.Calls.{store_state, Does, Relates};
 ghost use Rattle.bson_store.specs.Dump.{HandsTrees, TellsTree};
 ghost use Rattle.bson_store.specs.Refusals.{as_json_list, reply_by};
@@ -34,13 +34,16 @@ pub trait TakeJson {
 
     /// Takes a tree.
     fn take(&mut self, tree: Value) -> Result<(), StoreError>
-        ensures took { (first : Self) (out : List Data) → took first self.old out → OnOk result (took first self.new (out ++ data_of tree ∷ [])) }
-        ensures refused { (first : Self) (out : List Data) → took first self.old out → IfErr result (refused first self.new out) };
+        ensures took { (first : Self) (out : List Data) → took first self.old out
+            → OnOk result (took first self.new (out ++ data_of tree ∷ [])) }
+        ensures refused { (first : Self) (out : List Data) → took first self.old out
+            → IfErr result (refused first self.new out) };
 }
 
 /// The tree of the body at a place of the collection.
 fn tree_at(alloc: Global, body: &[u8], place: u64) -> Result<Value, StoreError>
-    ensures { (d : Members) → IsKept d → body.now ≡ encode d → TellsTree (json_of Canonical d) place result }
+    ensures { (d : Members) → IsKept d → body.now ≡ encode d
+        → TellsTree (json_of Canonical d) place result }
 {
     match json_of_body(alloc, body, Mode::Canonical) {
         Ok(json) => Ok(json),
@@ -98,9 +101,11 @@ impl<S: Alter + Drop> Store<S> {
         name: &str,
         taker: T,
     ) -> Result<T, (StoreError, T)>
-        ensures moves { T.took taker taker [] → Relates S.Store self.old self.new (HandsTrees (T.took taker) (T.refused taker) name.now result) }
-        ensures open { WasOpen (store_state S.Store self.old) (store_state S.Store self.new) result }
-        ensures crash { Survives (store_state S.Store self.old) (store_state S.Store self.new) (λ _. ⊥) }
+        ensures moves { T.took taker taker [] → Relates S.Store self.old self.new
+            (HandsTrees (T.took taker) (T.refused taker) name.now result) }
+        ensures open { WasOpen (store_state S.Store self.old)
+            (store_state S.Store self.new) result }
+        ensures crash { AddsNothing (store_state S.Store self.old) (store_state S.Store self.new) }
     {
         match self.walk(name, JsonStep { taker }) {
             Ok(step) => Ok(step.taker),
@@ -113,9 +118,11 @@ impl<S: Alter + Drop> Store<S> {
     /// Refused by BadName; by ReservedKey or FiniteDouble of the first document that has no such tree (by ReservedKey
     /// if both hold), and `document` says which document it is; and by Memory and Database.
     pub fn dump_json(&mut self, name: &str) -> Result<Vec<Value>, StoreError>
-        ensures moves { Relates S.Store self.old self.new (Does (on name.now dump) (reply_by as_json_list result)) }
-        ensures open { WasOpen (store_state S.Store self.old) (store_state S.Store self.new) result }
-        ensures crash { Survives (store_state S.Store self.old) (store_state S.Store self.new) (λ _. ⊥) }
+        ensures moves { Relates S.Store self.old self.new
+            (Does (on name.now dump) (reply_by as_json_list result)) }
+        ensures open { WasOpen (store_state S.Store self.old)
+            (store_state S.Store self.new) result }
+        ensures crash { AddsNothing (store_state S.Store self.old) (store_state S.Store self.new) }
     {
         let trees = Vec::new(self.alloc);
         match self.each_json(name, Trees { trees }) {

@@ -15,7 +15,8 @@ pub(crate) fn push_copy(
     alloc: Global,
     body: &[u8],
 ) -> Result<(), AllocError>
-    ensures { OnOk result (bytes_of_each bodies.new.items ≡ bytes_of_each bodies.old.items ++ body.now ∷ []) }
+    ensures { OnOk result (bytes_of_each bodies.new.items ≡ bytes_of_each bodies.old.items
+        ++ body.now ∷ []) }
 {
     let copy = Vec::from_slice(alloc, body)?;
     bodies.push(copy)?;

@@ -7,6 +7,7 @@ ghost use Rattle.std.specs.Str.{bytes_eq};
 ghost use Rattle.serde_json.specs.Data.{Data};
 ghost use Rattle.serde_json.specs.View.{view as data_of};
 ghost use Rattle.sqlite.specs.State.{HasCleanDisk, Survives};
+ghost use Rattle.store_table.specs.Crash.{AddsNothing};
 ghost use Rattle.store_table.specs.Moves.{AddsRows, MayLeave, Stands, WasOpen, with_rows};
 ghost use Rattle.store_table.specs.Rows.{TableRow};
 ghost use Rattle.bson_store.specs.Left.{LeavesImport, LeavesMany, LeavesRows};
@@ -55,18 +56,21 @@ fn new_rows<'a>(alloc: Global, rows: &'a [KeptRow<'_>]) -> Result<Vec<NewRow<'a>
 }
 
 impl<S: Alter + Drop> Store<S> {
-    /// Whether a key is in the collection or was met before. Where it wasn't, it is met now.
+    /// Whether a key is in the collection or was met before. If it wasn't, it is met now.
     fn is_taken<'a>(
         &mut self,
         collection: &str,
         met: &mut Keys<'a>,
         key: &'a [u8],
     ) -> Result<bool, StoreError>
-        ensures moves { Relates S.Store self.old self.new (Meets collection.now key.now met.old result) }
-        ensures open { WasOpen (store_state S.Store self.old) (store_state S.Store self.new) result }
-        ensures crash { Survives (store_state S.Store self.old) (store_state S.Store self.new) (λ _. ⊥) }
+        ensures moves { Relates S.Store self.old self.new
+            (Meets collection.now key.now met.old result) }
+        ensures open { WasOpen (store_state S.Store self.old)
+            (store_state S.Store self.new) result }
+        ensures crash { AddsNothing (store_state S.Store self.old) (store_state S.Store self.new) }
         ensures own { IfErr result IsAddFault }
-        ensures met { IfOk result (λ taken. taken ≡ false → (k : List ℕ) → has_met met.new k ≡ bytes_eq k key.now || has_met met.old k) }
+        ensures met { IfOk result (λ taken. taken ≡ false → (k : List ℕ)
+            → has_met met.new k ≡ bytes_eq k key.now || has_met met.old k) }
     {
         let found = match self.table.place_of(collection, key) {
             Ok(found) => found,
@@ -79,16 +83,20 @@ impl<S: Alter + Drop> Store<S> {
         Ok(!is_new)
     }
 
-    /// The place of the first row whose key is in the collection or that of a row before, where each is looked up.
+    /// The place of the first row whose key is in the collection or that of a row before; each is looked up.
     fn first_looked_up(
         &mut self,
         collection: &str,
         rows: &[KeptRow<'_>],
     ) -> Result<Option<u64>, StoreError>
-        ensures moves { Relates S.Store self.old self.new (FindsTaken collection.now rows.now result) }
+        ensures moves { Relates S.Store self.old self.new
+            (FindsTaken collection.now rows.now result) }
         ensures own { IfErr result IsAddFault }
-        ensures open { HasCleanDisk (store_state S.Store self.new) → (docs : List TableRow) → Stands (store_state S.Store self.old) docs → IfOk result (λ _. IsTrue (store_state S.Store self.new).is_open → IsTrue (store_state S.Store self.old).is_open) }
-        ensures crash { Survives (store_state S.Store self.old) (store_state S.Store self.new) (λ _. ⊥) }
+        ensures open { HasCleanDisk (store_state S.Store self.new) → (docs : List TableRow)
+            → Stands (store_state S.Store self.old) docs
+            → IfOk result (λ _. IsTrue (store_state S.Store self.new).is_open
+            → IsTrue (store_state S.Store self.old).is_open) }
+        ensures crash { AddsNothing (store_state S.Store self.old) (store_state S.Store self.new) }
     {
         let mut met = Keys::new(self.alloc);
         for at in 0..rows.len() {
@@ -108,10 +116,14 @@ impl<S: Alter + Drop> Store<S> {
         collection: &str,
         rows: &[KeptRow<'_>],
     ) -> Result<Option<u64>, StoreError>
-        ensures moves { Relates S.Store self.old self.new (FindsTaken collection.now rows.now result) }
+        ensures moves { Relates S.Store self.old self.new
+            (FindsTaken collection.now rows.now result) }
         ensures own { IfErr result IsAddFault }
-        ensures open { HasCleanDisk (store_state S.Store self.new) → (docs : List TableRow) → Stands (store_state S.Store self.old) docs → IfOk result (λ _. IsTrue (store_state S.Store self.new).is_open → IsTrue (store_state S.Store self.old).is_open) }
-        ensures crash { Survives (store_state S.Store self.old) (store_state S.Store self.new) (λ _. ⊥) }
+        ensures open { HasCleanDisk (store_state S.Store self.new) → (docs : List TableRow)
+            → Stands (store_state S.Store self.old) docs
+            → IfOk result (λ _. IsTrue (store_state S.Store self.new).is_open
+            → IsTrue (store_state S.Store self.old).is_open) }
+        ensures crash { AddsNothing (store_state S.Store self.old) (store_state S.Store self.new) }
     {
         let is_empty = match self.table.is_empty() {
             Ok(is_empty) => is_empty,
@@ -126,20 +138,27 @@ impl<S: Alter + Drop> Store<S> {
 
     /// Writes all rows, in one transaction.
     fn write_all(&mut self, collection: &str, rows: &[NewRow<'_>]) -> Result<(), Fault>
-        ensures moves { Relates S.Store self.old self.new (AddsRows (length rows.now) (with_rows collection.now rows.now) result) }
-        ensures open { WasOpen (store_state S.Store self.old) (store_state S.Store self.new) result }
-        ensures crash { Survives (store_state S.Store self.old) (store_state S.Store self.new) (MayLeave (with_rows collection.now rows.now) (store_state S.Store self.old)) }
-        ensures full { IsErrOf result Fault.Places → Survives (store_state S.Store self.old) (store_state S.Store self.new) (λ _. ⊥) }
+        ensures moves { Relates S.Store self.old self.new
+            (AddsRows (length rows.now) (with_rows collection.now rows.now) result) }
+        ensures open { WasOpen (store_state S.Store self.old)
+            (store_state S.Store self.new) result }
+        ensures crash { Survives (store_state S.Store self.old) (store_state S.Store self.new)
+            (MayLeave (with_rows collection.now rows.now) (store_state S.Store self.old)) }
+        ensures full { IsErrOf result Fault.Places
+            → AddsNothing (store_state S.Store self.old) (store_state S.Store self.new) }
     {
         self.table.append_all(collection, rows)
     }
 
     /// Puts the documents that these rows are last in a collection, and says how many they are.
     fn add_all(&mut self, name: Name<'_>, rows: &[KeptRow<'_>]) -> Result<u64, StoreError>
-        ensures moves { Relates S.Store self.old self.new (AddsAll (name_bytes name.entry) rows.now result) }
-        ensures open { WasOpen (store_state S.Store self.old) (store_state S.Store self.new) result }
+        ensures moves { Relates S.Store self.old self.new
+            (AddsAll (name_bytes name.entry) rows.now result) }
+        ensures open { WasOpen (store_state S.Store self.old)
+            (store_state S.Store self.new) result }
         ensures own { IfErr result IsAddFault }
-        ensures crash { LeavesRows (name_bytes name.entry) rows.now result (store_state S.Store self.old) (store_state S.Store self.new) }
+        ensures crash { LeavesRows (name_bytes name.entry) rows.now result
+            (store_state S.Store self.old) (store_state S.Store self.new) }
     {
         let collection = name.as_str();
         let taken = self.first_taken(collection, rows)?;
@@ -156,7 +175,7 @@ impl<S: Alter + Drop> Store<S> {
     /// Puts the documents of a stream last in the collection `name`, in their order, and returns how many they are: the
     /// bytes that `reader` has up to its end, one document after the other. Either all are put in or none.
     ///
-    /// Refused by BadName, before anything is read; by Reader, where a read failed; by EndInside, BadLength,
+    /// Refused by BadName, before anything is read; by Reader, if a read failed; by EndInside, BadLength,
     /// NotTerminated, Faulty, TooDeep, NoId and TooLong of the first document that is refused for one of these; else by
     /// DuplicateId of the first whose `_id` is in the collection or in an earlier document of the stream; by Places;
     /// and by Memory and Database, but never in the place of BadName. `document` says which document was refused. Of
@@ -165,7 +184,8 @@ impl<S: Alter + Drop> Store<S> {
         requires { CanFail (R.feed reader.old) }
         ensures moves { Relates S.Store self.old self.new (Imports name.now (R.feed reader.old)
             (R.feed reader.new) result) }
-        ensures open { WasOpen (store_state S.Store self.old) (store_state S.Store self.new) result }
+        ensures open { WasOpen (store_state S.Store self.old)
+            (store_state S.Store self.new) result }
         // `Reader` is reported exactly if a read failed, whatever the disk does.
         ensures device { ReportsFailure Reader result (R.feed reader.old).failures
             (R.feed reader.new).failures }
@@ -183,9 +203,12 @@ impl<S: Alter + Drop> Store<S> {
     ///
     /// Refused as `import`, but never by Reader.
     pub fn import_bytes(&mut self, name: &str, stream: &[u8]) -> Result<u64, StoreError>
-        ensures moves { Relates S.Store self.old self.new (DoesMany name.now (ReadsStream stream.now) (reply_by as_number result)) }
-        ensures open { WasOpen (store_state S.Store self.old) (store_state S.Store self.new) result }
-        ensures crash { LeavesMany name.now (ReadsStream stream.now) (reply_by as_number result) (store_state S.Store self.old) (store_state S.Store self.new) }
+        ensures moves { Relates S.Store self.old self.new
+            (DoesMany name.now (ReadsStream stream.now) (reply_by as_number result)) }
+        ensures open { WasOpen (store_state S.Store self.old)
+            (store_state S.Store self.new) result }
+        ensures crash { LeavesMany name.now (ReadsStream stream.now) (reply_by as_number result)
+            (store_state S.Store self.old) (store_state S.Store self.new) }
     {
         let name = good_name(name)?;
         let rows = judged(self.alloc, stream)?;
@@ -201,9 +224,13 @@ impl<S: Alter + Drop> Store<S> {
     /// tree; by Places; and by Memory and Database, but never in the place of BadName. `document` says which document
     /// was refused.
     pub fn load_json(&mut self, name: &str, trees: Vec<Value>) -> Result<u64, StoreError>
-        ensures moves { Relates S.Store self.old self.new (DoesMany name.now (ReadsTrees (map data_of trees.items)) (reply_by as_number result)) }
-        ensures open { WasOpen (store_state S.Store self.old) (store_state S.Store self.new) result }
-        ensures crash { LeavesMany name.now (ReadsTrees (map data_of trees.items)) (reply_by as_number result) (store_state S.Store self.old) (store_state S.Store self.new) }
+        ensures moves { Relates S.Store self.old self.new
+            (DoesMany name.now (ReadsTrees (map data_of trees.items)) (reply_by as_number result)) }
+        ensures open { WasOpen (store_state S.Store self.old)
+            (store_state S.Store self.new) result }
+        ensures crash { LeavesMany name.now (ReadsTrees (map data_of trees.items))
+            (reply_by as_number result) (store_state S.Store self.old)
+            (store_state S.Store self.new) }
     {
         let name = good_name(name)?;
         let rows = judge_trees(self.alloc, trees)?;
@@ -216,10 +243,13 @@ impl<S: Alter + Drop> Store<S> {
     /// Refused as `load_json`.
     pub fn load(&mut self, name: &str, loader: Loader) -> Result<u64, StoreError>
         ensures moves { (js : List Data) → HasTaken loader js
-            → Relates S.Store self.old self.new (DoesMany name.now (ReadsTrees js) (reply_by as_number result)) }
-        ensures open { WasOpen (store_state S.Store self.old) (store_state S.Store self.new) result }
+            → Relates S.Store self.old self.new (DoesMany name.now (ReadsTrees js)
+            (reply_by as_number result)) }
+        ensures open { WasOpen (store_state S.Store self.old)
+            (store_state S.Store self.new) result }
         ensures crash { (js : List Data) → HasTaken loader js
-            → LeavesMany name.now (ReadsTrees js) (reply_by as_number result) (store_state S.Store self.old) (store_state S.Store self.new) }
+            → LeavesMany name.now (ReadsTrees js) (reply_by as_number result)
+            (store_state S.Store self.old) (store_state S.Store self.new) }
     {
         let name = good_name(name)?;
         let rows = loader.finish()?;

@@ -8,6 +8,7 @@ mod dump;
 mod error;
 mod export;
 mod import;
+mod indexing;
 pub mod meanings;
 mod names;
 mod picking;

@@ -13,7 +13,8 @@ use store_model::{ErrorKind, StoreError};
 
 /// Puts a name last.
 fn add_name(names: &mut Vec<String>, name: Vec<u8>) -> Result<(), StoreError>
-    ensures added { OnOk result (map string_bytes names.new.items ≡ map string_bytes names.old.items ++ name.items ∷ []) }
+    ensures added { OnOk result (map string_bytes names.new.items ≡ map string_bytes names.old.items
+        ++ name.items ∷ []) }
     ensures refused { IsUtf8 name.items → IfErr result (λ e. e ≡ refusal Memory) }
 {
     let Ok(text) = String::from_utf8(name) else {
@@ -30,7 +31,8 @@ fn add_name(names: &mut Vec<String>, name: Vec<u8>) -> Result<(), StoreError>
 pub(crate) fn names_of(alloc: Global, set: BTreeSet<Vec<u8>>) -> Result<Vec<String>, StoreError>
     ensures same { IfOk result (λ names. map string_bytes names.items ≡ bytes_of_each set.keys) }
     ensures ascending { IfOk result (λ names. AreAscending (map string_bytes names.items)) }
-    ensures refused { ((n : List ℕ) → IsTrue (has_name set.keys n) → IsUtf8 n) → IfErr result (λ e. e ≡ refusal Memory) }
+    ensures refused { ((n : List ℕ) → IsTrue (has_name set.keys n) → IsUtf8 n)
+        → IfErr result (λ e. e ≡ refusal Memory) }
 {
     let mut names = Vec::new(alloc);
     for name in set {

@@ -26,8 +26,9 @@ pub trait Take {
 
     /// Takes a document from its written form.
     fn take(&mut self, document: RawDocument<'_>) -> Result<(), StoreError>
-        ensures took { (first : Self) (out : Documents) (d : Members) → IsKept d → view_bytes document.entry ≡ encode d
-            → took first self.old out → OnOk result (took first self.new (out ++ d ∷ [])) }
+        ensures took { (first : Self) (out : Documents) (d : Members) → IsKept d
+            → view_bytes document.entry ≡ encode d → took first self.old out
+            → OnOk result (took first self.new (out ++ d ∷ [])) }
         ensures denied { IfErr result IsDenied };
 }
 
@@ -105,7 +106,9 @@ fn add_projection(
     document: RawDocument<'_>,
     keys: &[String],
 ) -> Result<(), AllocError>
-    ensures { OfWritten (view_bytes document.entry) (λ d. OnOk result (bytes_of_each bodies.new.items ≡ bytes_of_each bodies.old.items ++ encode (only (path_of keys.now) d) ∷ [])) }
+    ensures { OfWritten (view_bytes document.entry)
+        (λ d. OnOk result (bytes_of_each bodies.new.items ≡ bytes_of_each bodies.old.items ++ encode
+        (only (path_of keys.now) d) ∷ [])) }
 {
     let body = project(alloc, document, keys)?;
     bodies.push(body)?;
@@ -114,7 +117,8 @@ fn add_projection(
 
 /// The document of a body, if the filter selects it.
 fn selected<'a>(filter: &Filter, body: &'a [u8]) -> Result<Option<RawDocument<'a>>, StoreError>
-    ensures { (d : Members) → IsKept d → body.now ≡ encode d → IsPick (filter_of filter.now) d body.now result }
+    ensures { (d : Members) → IsKept d → body.now ≡ encode d
+        → IsPick (filter_of filter.now) d body.now result }
 {
     let Ok(document) = RawDocument::from_bytes(body) else {
         // No store wrote such a body: the disk returns another than was written.
@@ -129,8 +133,9 @@ fn selected<'a>(filter: &Filter, body: &'a [u8]) -> Result<Option<RawDocument<'a
 
 /// Passes on the document of a body, if the filter selects it.
 fn pick_row<T: Take>(taker: &mut T, filter: &Filter, body: &[u8]) -> Result<(), StoreError>
-    ensures picked { (first : T) (out : Documents) (d : Members) → IsKept d → body.now ≡ encode d → T.took first taker.old out
-        → OnOk result (Turns (T.took first taker.new) (filter_of filter.now) out d) }
+    ensures picked { (first : T) (out : Documents) (d : Members) → IsKept d → body.now ≡ encode d
+        → T.took first taker.old out → OnOk result
+        (Turns (T.took first taker.new) (filter_of filter.now) out d) }
     ensures denied { (d : Members) → IsKept d → body.now ≡ encode d → IfErr result IsDenied }
 {
     if let Some(document) = selected(filter, body)? {

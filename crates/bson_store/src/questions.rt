@@ -5,7 +5,7 @@ ghost use Rattle.store_filter.specs.Filters.{filter_of, path_of};
 ghost use Rattle.store_table.specs.Moves.{WasOpen};
 ghost use Rattle.store_documents.specs.Names.{name_bytes};
 ghost use Rattle.store_model.specs.State.{collections, count, find, on, project};
-ghost use Rattle.sqlite.specs.State.{Survives};
+ghost use Rattle.store_table.specs.Crash.{AddsNothing};
 ghost use Rattle.bson_store.specs.Calls.{Does, store_state, Relates};
 ghost use Rattle.bson_store.specs.Questions.{Picked, as_list, as_names};
 ghost use Rattle.bson_store.specs.Refusals.{as_number, reply_by};
@@ -24,9 +24,11 @@ impl<S: Alter + Drop> Store<S> {
     ///
     /// Refused by Memory and Database.
     pub fn collections(&mut self) -> Result<Vec<String>, StoreError>
-        ensures moves { Relates S.Store self.old self.new (Does collections (reply_by as_names result)) }
-        ensures open { WasOpen (store_state S.Store self.old) (store_state S.Store self.new) result }
-        ensures crash { Survives (store_state S.Store self.old) (store_state S.Store self.new) (λ _. ⊥) }
+        ensures moves { Relates S.Store self.old self.new
+            (Does collections (reply_by as_names result)) }
+        ensures open { WasOpen (store_state S.Store self.old)
+            (store_state S.Store self.new) result }
+        ensures crash { AddsNothing (store_state S.Store self.old) (store_state S.Store self.new) }
     {
         match self.table.collections() {
             Ok(names) => names_of(self.alloc, names),
@@ -42,16 +44,18 @@ impl<S: Alter + Drop> Store<S> {
         taker: T,
     ) -> Result<T, StoreError>
         requires { T.took taker taker [] }
-        ensures moves { Relates S.Store self.old self.new (Picked (T.took taker) (name_bytes name.entry) (filter_of filter.now) result) }
-        ensures open { WasOpen (store_state S.Store self.old) (store_state S.Store self.new) result }
-        ensures crash { Survives (store_state S.Store self.old) (store_state S.Store self.new) (λ _. ⊥) }
+        ensures moves { Relates S.Store self.old self.new
+            (Picked (T.took taker) (name_bytes name.entry) (filter_of filter.now) result) }
+        ensures open { WasOpen (store_state S.Store self.old)
+            (store_state S.Store self.new) result }
+        ensures crash { AddsNothing (store_state S.Store self.old) (store_state S.Store self.new) }
     {
         let mut visitor = FilterVisitor {
             filter,
             taker,
             fault: None,
         };
-        match self.table.visit_bodies(name.as_str(), &mut visitor) {
+        match self.table.visit_asked(name.as_str(), filter, &mut visitor) {
             Ok(_) => {}
             Err(fault) => return Err(fault_refusal(fault)),
         }
@@ -71,9 +75,11 @@ impl<S: Alter + Drop> Store<S> {
     ///
     /// Refused by BadName, Memory and Database.
     pub fn find(&mut self, name: &str, filter: &Filter) -> Result<Vec<Vec<u8>>, StoreError>
-        ensures moves { Relates S.Store self.old self.new (Does (on name.now (find (filter_of filter.now))) (reply_by as_list result)) }
-        ensures open { WasOpen (store_state S.Store self.old) (store_state S.Store self.new) result }
-        ensures crash { Survives (store_state S.Store self.old) (store_state S.Store self.new) (λ _. ⊥) }
+        ensures moves { Relates S.Store self.old self.new
+            (Does (on name.now (find (filter_of filter.now))) (reply_by as_list result)) }
+        ensures open { WasOpen (store_state S.Store self.old)
+            (store_state S.Store self.new) result }
+        ensures crash { AddsNothing (store_state S.Store self.old) (store_state S.Store self.new) }
     {
         let name = good_name(name)?;
         let bodies = Vec::new(self.alloc);
@@ -86,9 +92,11 @@ impl<S: Alter + Drop> Store<S> {
     ///
     /// Refused by BadName, Memory and Database.
     pub fn count(&mut self, name: &str, filter: &Filter) -> Result<u64, StoreError>
-        ensures moves { Relates S.Store self.old self.new (Does (on name.now (count (filter_of filter.now))) (reply_by as_number result)) }
-        ensures open { WasOpen (store_state S.Store self.old) (store_state S.Store self.new) result }
-        ensures crash { Survives (store_state S.Store self.old) (store_state S.Store self.new) (λ _. ⊥) }
+        ensures moves { Relates S.Store self.old self.new
+            (Does (on name.now (count (filter_of filter.now))) (reply_by as_number result)) }
+        ensures open { WasOpen (store_state S.Store self.old)
+            (store_state S.Store self.new) result }
+        ensures crash { AddsNothing (store_state S.Store self.old) (store_state S.Store self.new) }
     {
         let name = good_name(name)?;
         let count = self.pick(name, filter, Count { number: 0 })?;
@@ -105,9 +113,12 @@ impl<S: Alter + Drop> Store<S> {
         filter: &Filter,
         keys: &[String],
     ) -> Result<Vec<Vec<u8>>, StoreError>
-        ensures moves { Relates S.Store self.old self.new (Does (on name.now (project (filter_of filter.now) (path_of keys.now))) (reply_by as_list result)) }
-        ensures open { WasOpen (store_state S.Store self.old) (store_state S.Store self.new) result }
-        ensures crash { Survives (store_state S.Store self.old) (store_state S.Store self.new) (λ _. ⊥) }
+        ensures moves { Relates S.Store self.old self.new
+            (Does (on name.now (project (filter_of filter.now) (path_of keys.now)))
+            (reply_by as_list result)) }
+        ensures open { WasOpen (store_state S.Store self.old)
+            (store_state S.Store self.new) result }
+        ensures crash { AddsNothing (store_state S.Store self.old) (store_state S.Store self.new) }
     {
         let name = good_name(name)?;
         let projections = Projections {

@@ -4,6 +4,7 @@ ghost use Rattle.std.specs.Prelude.{◌≡◌, ◌↔◌, false, IsTrue, IfOk, I
 ghost use Rattle.bson_base.specs.Device.{CanRefuse};
 ghost use Rattle.sqlite.specs.Held.{state};
 ghost use Rattle.sqlite.specs.State.{HasCleanDisk, Survives};
+ghost use Rattle.store_table.specs.Crash.{AddsNothing};
 ghost use Rattle.store_table.specs.Open.{HasNoTable, IsNameTaken, KeepsAll};
 ghost use Rattle.store_table.specs.Renewal.{Makes};
 ghost use Rattle.bson_store.specs.Opening.{IsRowUnder, Opens, RefusesToOpen};
@@ -38,12 +39,14 @@ use store_documents::{
     ID_KEY, KeptRow, Name, body_with, body_without, json_of_body, key_of_id, row_of_bytes,
     row_of_json, value_of_json,
 };
+use store_indexed::IndexedTable;
 use store_model::{ErrorKind, StoreError};
-use store_table::{Fault, Found, Table};
+use store_table::{Fault, Found};
 
 /// The name of a collection. BadName if it can't be one.
 pub(crate) fn good_name(name: &str) -> Result<Name<'_>, StoreError>
-    ensures { MatchResult result (λ n. (name_bytes n ≡ name.now) × IsName name.now) (λ e. (e ≡ refusal BadName) × (IsName name.now → ⊥)) }
+    ensures { MatchResult result (λ n. (name_bytes n ≡ name.now) × IsName name.now)
+        (λ e. (e ≡ refusal BadName) × (IsName name.now → ⊥)) }
 {
     match Name::new(name) {
         Some(name) => Ok(name),
@@ -61,39 +64,54 @@ fn is_free(key: &str) -> bool
 /// Named collections of documents, one document for each `_id` in a collection.
 #[derive(Drop)]
 pub struct Store<S: Alter + Drop> {
-    pub(crate) table: Table<S>,
+    pub(crate) table: IndexedTable<S>,
     pub(crate) alloc: Global,
 }
 
 impl<S: Alter + Drop> Store<S> {
-    /// Opens the store of a database: its table of documents, which is made where there is none. Keys from before the
-    /// two zeros of a double meant the same are replaced by those of now, all in one transaction; a table that has none
+    /// Opens the store of a database: its table of documents, which is made if there is none. Keys from before the
+    /// two zeros of a double meant the same are replaced by current ones, all in one transaction; a table that has none
     /// is not written to. A refusal gives the connection back, with every row as it was.
     ///
-    /// Refused by NotAStore, where `documents` can't be read by the four columns; by BadRow, with the place of the
-    /// first row that no store can have written, under either key; by IdsCollide, where two documents of one collection
+    /// Refused by NotAStore, if `documents` can't be read by the four columns; by BadRow, with the place of the
+    /// first row that no store can have written, under either key; by IdsCollide, if two documents of one collection
     /// have `_id`s that mean the same now, with the place of the first and the least place that has such a document
     /// before it; and by Memory and Database.
     pub fn open(
         alloc: Global,
         connection: Connection<S>,
     ) -> Result<Store<S>, (StoreError, Connection<S>)>
-        ensures opened { IfOk result (λ s. HasCleanDisk (store_state S.Store s) → Opens (state S.Store connection) (store_state S.Store s)) }
-        ensures refused { IfErr result (λ e. HasCleanDisk (state S.Store e.1) → RefusesToOpen (state S.Store connection) (state S.Store e.1) e.0) }
-        ensures kept { IfErr result (λ e. HasCleanDisk (state S.Store e.1) → KeepsAll (state S.Store connection) (state S.Store e.1)) }
-        ensures taken { (state S.Store connection).in_transaction ≡ false → HasNoTable (state S.Store connection) → IsNameTaken (state S.Store connection) → IsErrAnd result (λ e. (e.0 ≡ refusal NotAStore) × (e.1 ≡ connection)) }
-        ensures busy { IsTrue (state S.Store connection).in_transaction → IsErrAnd result (λ e. (e.0 ≡ refusal Database) × (e.1 ≡ connection)) }
-        // A crash leaves what it could leave before, or what the open makes: the empty table, or rows under their keys of now.
-        ensures crash { IfOk result (λ s. Survives (state S.Store connection) (store_state S.Store s) (Makes IsRowUnder (state S.Store connection))) }
-        ensures crash_refused { IfErr result (λ e. Survives (state S.Store connection) (state S.Store e.1) (Makes IsRowUnder (state S.Store connection))) }
-        // Where `sqlite` opened the connection over a database that holds a state, under keys of now or from before, whatever a
-        // crash did to it, the store has that state, and a crash leaves it alone. A crash in the open leaves the old keys or the
-        // new ones, and both stand for the state; keys of now are left where the database had no others. The other tables stay.
-        ensures finds { (x : Lists) → FindsState HoldsOnce (state S.Store connection) x → IfOk result (λ s. HasCleanDisk (store_state S.Store s) → Keeps (store_state S.Store s) x × LeavesOnly (Holds (state S.Store connection).now) (store_state S.Store s) x) }
-        ensures leaves { (x : Lists) → FindsState Holds (state S.Store connection) x → IfErr result (λ e. HasCleanDisk (state S.Store e.1) → LeavesOnly (Holds (state S.Store connection).now) (state S.Store e.1) x) }
-        ensures leaves_old { (x : Lists) → FindsState HoldsOnce (state S.Store connection) x → IfErr result (λ e. HasCleanDisk (state S.Store e.1) → LeavesOnly (HoldsOnce (state S.Store connection).now) (state S.Store e.1) x) }
+        ensures opened { IfOk result (λ s. HasCleanDisk (store_state S.Store s)
+            → Opens (state S.Store connection) (store_state S.Store s)) }
+        ensures refused { IfErr result (λ e. HasCleanDisk (state S.Store e.1)
+            → RefusesToOpen (state S.Store connection) (state S.Store e.1) e.0) }
+        ensures kept { IfErr result (λ e. HasCleanDisk (state S.Store e.1)
+            → KeepsAll (state S.Store connection) (state S.Store e.1)) }
+        ensures taken { (state S.Store connection).in_transaction ≡ false
+            → HasNoTable (state S.Store connection) → IsNameTaken (state S.Store connection)
+            → IsErrAnd result (λ e. (e.0 ≡ refusal NotAStore) × (e.1 ≡ connection)) }
+        ensures busy { IsTrue (state S.Store connection).in_transaction
+            → IsErrAnd result (λ e. (e.0 ≡ refusal Database) × (e.1 ≡ connection)) }
+        // A crash leaves what it could leave before, or what the open makes: the empty table, or rows under their current keys.
+        ensures crash { IfOk result (λ s. Survives (state S.Store connection)
+            (store_state S.Store s) (Makes IsRowUnder (state S.Store connection))) }
+        ensures crash_refused { IfErr result (λ e. Survives (state S.Store connection)
+            (state S.Store e.1) (Makes IsRowUnder (state S.Store connection))) }
+        // If `sqlite` opened the connection over a database that holds a state, under current keys or keys from before, whatever a
+        // crash did to it, the store has that state, and a crash leaves only that. A crash in the open leaves the old keys or the
+        // new ones, and both stand for the state; only current keys are left if the database had no others. The other tables stay.
+        ensures finds { (x : Lists) → FindsState HoldsOnce (state S.Store connection) x
+            → IfOk result (λ s. HasCleanDisk (store_state S.Store s)
+            → Keeps (store_state S.Store s) x × LeavesOnly (Holds (state S.Store connection).now)
+            (store_state S.Store s) x) }
+        ensures leaves { (x : Lists) → FindsState Holds (state S.Store connection) x
+            → IfErr result (λ e. HasCleanDisk (state S.Store e.1)
+            → LeavesOnly (Holds (state S.Store connection).now) (state S.Store e.1) x) }
+        ensures leaves_old { (x : Lists) → FindsState HoldsOnce (state S.Store connection) x
+            → IfErr result (λ e. HasCleanDisk (state S.Store e.1)
+            → LeavesOnly (HoldsOnce (state S.Store connection).now) (state S.Store e.1) x) }
     {
-        match Table::open(alloc, connection, &RowTest { alloc }) {
+        match IndexedTable::open(alloc, connection, &RowTest { alloc }) {
             Ok(table) => Ok(Store { table, alloc }),
             Err((error, connection)) => Err((opening_refusal(error), connection)),
         }
@@ -107,21 +125,28 @@ impl<S: Alter + Drop> Store<S> {
         table.close()
     }
 
-    /// Writes a row behind all others.
+    /// Writes a row after all others.
     fn put_last(&mut self, collection: &str, key: &[u8], body: &[u8]) -> Result<(), Fault>
-        ensures moves { Relates S.Store self.old self.new (AddsRows 1 (with_row collection.now key.now body.now) result) }
-        ensures open { WasOpen (store_state S.Store self.old) (store_state S.Store self.new) result }
-        ensures crash { Survives (store_state S.Store self.old) (store_state S.Store self.new) (MayLeave (with_row collection.now key.now body.now) (store_state S.Store self.old)) }
-        ensures full { IsErrOf result Fault.Places → Survives (store_state S.Store self.old) (store_state S.Store self.new) (λ _. ⊥) }
+        ensures moves { Relates S.Store self.old self.new
+            (AddsRows 1 (with_row collection.now key.now body.now) result) }
+        ensures open { WasOpen (store_state S.Store self.old)
+            (store_state S.Store self.new) result }
+        ensures crash { Survives (store_state S.Store self.old) (store_state S.Store self.new)
+            (MayLeave (with_row collection.now key.now body.now) (store_state S.Store self.old)) }
+        ensures full { IsErrOf result Fault.Places
+            → AddsNothing (store_state S.Store self.old) (store_state S.Store self.new) }
     {
         self.table.append(collection, key, body)
     }
 
     /// Writes a body in the place of a row's.
     fn put_back(&mut self, found: &Found, body: &[u8]) -> Result<(), Fault>
-        ensures moves { Relates S.Store self.old self.new (Changes (with_body_at found.now.place body.now) result) }
-        ensures open { WasOpen (store_state S.Store self.old) (store_state S.Store self.new) result }
-        ensures crash { Survives (store_state S.Store self.old) (store_state S.Store self.new) (MayLeave (with_body_at found.now.place body.now) (store_state S.Store self.old)) }
+        ensures moves { Relates S.Store self.old self.new
+            (Changes (with_body_at found.now.place body.now) result) }
+        ensures open { WasOpen (store_state S.Store self.old)
+            (store_state S.Store self.new) result }
+        ensures crash { Survives (store_state S.Store self.old) (store_state S.Store self.new)
+            (MayLeave (with_body_at found.now.place body.now) (store_state S.Store self.old)) }
     {
         self.table.rewrite_at(found, body)
     }
@@ -129,10 +154,13 @@ impl<S: Alter + Drop> Store<S> {
     /// Puts a document last in a collection, whose row this is.
     fn insert_row(&mut self, name: Name<'_>, row: &KeptRow<'_>) -> Result<(), StoreError>
         ensures moves { (d : Members) → IsRead d → AnswersWritten d (Ok row.now)
-            → Relates S.Store self.old self.new (DoesRead (name_bytes name.entry) insert d (reply_by as_done result)) }
-        ensures open { WasOpen (store_state S.Store self.old) (store_state S.Store self.new) result }
+            → Relates S.Store self.old self.new (DoesRead (name_bytes name.entry) insert d
+            (reply_by as_done result)) }
+        ensures open { WasOpen (store_state S.Store self.old)
+            (store_state S.Store self.new) result }
         ensures crash { (d : Members) → IsRead d → AnswersWritten d (Ok row.now)
-            → LeavesRead (name_bytes name.entry) insert d (reply_by as_done result) (store_state S.Store self.old) (store_state S.Store self.new) }
+            → LeavesRead (name_bytes name.entry) insert d (reply_by as_done result)
+            (store_state S.Store self.old) (store_state S.Store self.new) }
     {
         let collection = name.as_str();
         let key = row.key.as_slice();
@@ -153,10 +181,13 @@ impl<S: Alter + Drop> Store<S> {
     /// Puts a document, whose row this is, in the place of that of a collection with its `_id`.
     fn replace_row(&mut self, name: Name<'_>, row: &KeptRow<'_>) -> Result<(), StoreError>
         ensures moves { (d : Members) → IsRead d → AnswersWritten d (Ok row.now)
-            → Relates S.Store self.old self.new (DoesRead (name_bytes name.entry) replace d (reply_by as_done result)) }
-        ensures open { WasOpen (store_state S.Store self.old) (store_state S.Store self.new) result }
+            → Relates S.Store self.old self.new (DoesRead (name_bytes name.entry) replace d
+            (reply_by as_done result)) }
+        ensures open { WasOpen (store_state S.Store self.old)
+            (store_state S.Store self.new) result }
         ensures crash { (d : Members) → IsRead d → AnswersWritten d (Ok row.now)
-            → LeavesRead (name_bytes name.entry) replace d (reply_by as_done result) (store_state S.Store self.old) (store_state S.Store self.new) }
+            → LeavesRead (name_bytes name.entry) replace d (reply_by as_done result)
+            (store_state S.Store self.old) (store_state S.Store self.new) }
     {
         let collection = name.as_str();
         let key = row.key.as_slice();
@@ -176,9 +207,13 @@ impl<S: Alter + Drop> Store<S> {
 
     /// The row of the document of a collection whose `_id` means the same as `id`.
     fn row_of(&mut self, name: Name<'_>, id: &Bson) -> Result<Option<Found>, StoreError>
-        ensures moves { Relates S.Store self.old self.new (Looks (name_bytes name.entry) (view id.now) result) }
-        ensures open { HasCleanDisk (store_state S.Store self.new) → (docs : List TableRow) → Stands (store_state S.Store self.old) docs → IfOk result (λ found. IsSome found → IsTrue (store_state S.Store self.old).is_open × IsTrue (store_state S.Store self.new).is_open) }
-        ensures crash { Survives (store_state S.Store self.old) (store_state S.Store self.new) (λ _. ⊥) }
+        ensures moves { Relates S.Store self.old self.new
+            (Looks (name_bytes name.entry) (view id.now) result) }
+        ensures open { HasCleanDisk (store_state S.Store self.new) → (docs : List TableRow)
+            → Stands (store_state S.Store self.old) docs
+            → IfOk result (λ found. IsSome found → IsTrue (store_state S.Store self.old).is_open
+            × IsTrue (store_state S.Store self.new).is_open) }
+        ensures crash { AddsNothing (store_state S.Store self.old) (store_state S.Store self.new) }
     {
         let key = match key_of_id(self.alloc, id) {
             Ok(key) => key,
@@ -195,16 +230,19 @@ impl<S: Alter + Drop> Store<S> {
         }
     }
 
-    /// Puts the document that `bytes` mean last in the collection `name`, and makes the collection where it isn't
+    /// Puts the document that `bytes` mean last in the collection `name`, and makes the collection if it isn't
     /// there. The document is kept as it means: of a repeated key the last value, in the place of the first.
     ///
     /// Refused, in this order, by BadName; by EndInside, BadLength, NotTerminated, Faulty and TooDeep of the bytes; by
     /// NoId, TooLong, DuplicateId, Places; and by Memory and Database, but never in the place of a refusal by the name
     /// or the bytes.
     pub fn insert_raw(&mut self, name: &str, bytes: &[u8]) -> Result<(), StoreError>
-        ensures moves { Relates S.Store self.old self.new (DoesBytes name.now (insert in_bytes) bytes.now (reply_by as_done result)) }
-        ensures open { WasOpen (store_state S.Store self.old) (store_state S.Store self.new) result }
-        ensures crash { LeavesBytes name.now (insert in_bytes) bytes.now (reply_by as_done result) (store_state S.Store self.old) (store_state S.Store self.new) }
+        ensures moves { Relates S.Store self.old self.new
+            (DoesBytes name.now (insert in_bytes) bytes.now (reply_by as_done result)) }
+        ensures open { WasOpen (store_state S.Store self.old)
+            (store_state S.Store self.new) result }
+        ensures crash { LeavesBytes name.now (insert in_bytes) bytes.now (reply_by as_done result)
+            (store_state S.Store self.old) (store_state S.Store self.new) }
     {
         let name = good_name(name)?;
         let row = row_of_bytes(self.alloc, bytes)?;
@@ -216,9 +254,13 @@ impl<S: Alter + Drop> Store<S> {
     /// Refused, in this order, by BadName; NotAnObject; JsonRefused, TooDeep and Nul; NoId, TooLong, DuplicateId,
     /// Places; and by Memory and Database, but never in the place of BadName or NotAnObject.
     pub fn insert_json(&mut self, name: &str, json: Value) -> Result<(), StoreError>
-        ensures moves { Relates S.Store self.old self.new (DoesTree name.now (insert in_json) (data_of json) (reply_by as_done result)) }
-        ensures open { WasOpen (store_state S.Store self.old) (store_state S.Store self.new) result }
-        ensures crash { LeavesTree name.now (insert in_json) (data_of json) (reply_by as_done result) (store_state S.Store self.old) (store_state S.Store self.new) }
+        ensures moves { Relates S.Store self.old self.new
+            (DoesTree name.now (insert in_json) (data_of json) (reply_by as_done result)) }
+        ensures open { WasOpen (store_state S.Store self.old)
+            (store_state S.Store self.new) result }
+        ensures crash { LeavesTree name.now (insert in_json) (data_of json)
+            (reply_by as_done result) (store_state S.Store self.old)
+            (store_state S.Store self.new) }
     {
         let name = good_name(name)?;
         let row = row_of_json(self.alloc, json)?;
@@ -227,11 +269,14 @@ impl<S: Alter + Drop> Store<S> {
 
     /// Puts the document that `bytes` mean in the place of that of the collection `name` whose `_id` means the same.
     ///
-    /// Refused as `insert_raw`, but by NotFound where that is refused by DuplicateId, and never by Places.
+    /// Refused as `insert_raw`, but by NotFound if that is refused by DuplicateId, and never by Places.
     pub fn replace_raw(&mut self, name: &str, bytes: &[u8]) -> Result<(), StoreError>
-        ensures moves { Relates S.Store self.old self.new (DoesBytes name.now (replace in_bytes) bytes.now (reply_by as_done result)) }
-        ensures open { WasOpen (store_state S.Store self.old) (store_state S.Store self.new) result }
-        ensures crash { LeavesBytes name.now (replace in_bytes) bytes.now (reply_by as_done result) (store_state S.Store self.old) (store_state S.Store self.new) }
+        ensures moves { Relates S.Store self.old self.new
+            (DoesBytes name.now (replace in_bytes) bytes.now (reply_by as_done result)) }
+        ensures open { WasOpen (store_state S.Store self.old)
+            (store_state S.Store self.new) result }
+        ensures crash { LeavesBytes name.now (replace in_bytes) bytes.now (reply_by as_done result)
+            (store_state S.Store self.old) (store_state S.Store self.new) }
     {
         let name = good_name(name)?;
         let row = row_of_bytes(self.alloc, bytes)?;
@@ -241,11 +286,15 @@ impl<S: Alter + Drop> Store<S> {
     /// Puts the document that `json` stands for, in normal form with its keys in order, in the place of that of the
     /// collection `name` whose `_id` means the same.
     ///
-    /// Refused as `insert_json`, but by NotFound where that is refused by DuplicateId, and never by Places.
+    /// Refused as `insert_json`, but by NotFound if that is refused by DuplicateId, and never by Places.
     pub fn replace_json(&mut self, name: &str, json: Value) -> Result<(), StoreError>
-        ensures moves { Relates S.Store self.old self.new (DoesTree name.now (replace in_json) (data_of json) (reply_by as_done result)) }
-        ensures open { WasOpen (store_state S.Store self.old) (store_state S.Store self.new) result }
-        ensures crash { LeavesTree name.now (replace in_json) (data_of json) (reply_by as_done result) (store_state S.Store self.old) (store_state S.Store self.new) }
+        ensures moves { Relates S.Store self.old self.new
+            (DoesTree name.now (replace in_json) (data_of json) (reply_by as_done result)) }
+        ensures open { WasOpen (store_state S.Store self.old)
+            (store_state S.Store self.new) result }
+        ensures crash { LeavesTree name.now (replace in_json) (data_of json)
+            (reply_by as_done result) (store_state S.Store self.old)
+            (store_state S.Store self.new) }
     {
         let name = good_name(name)?;
         let row = row_of_json(self.alloc, json)?;
@@ -253,15 +302,20 @@ impl<S: Alter + Drop> Store<S> {
     }
 
     /// Puts a value, in normal form with its keys in order, under a top key of the document of the collection `name`
-    /// whose `_id` means the same as `id`: in the key's place, or last where the key isn't there.
+    /// whose `_id` means the same as `id`: in the key's place, or last if the key isn't there.
     ///
-    /// Refused, in this order, by BadName; BadKey, where the key is `_id` or holds a 00; JsonRefused of the value;
+    /// Refused, in this order, by BadName; BadKey, if the key is `_id` or holds a 00; JsonRefused of the value;
     /// NotFound; TooDeep, Nul and TooLong of the changed document; and by Memory and Database, but never in the place
     /// of BadName or BadKey.
     pub fn set(&mut self, name: &str, id: &Bson, key: &str, value: Value) -> Result<(), StoreError>
-        ensures moves { Relates S.Store self.old self.new (Does (on name.now (set (view id.now) key.now (read_value (data_of value)))) (reply_by as_done result)) }
-        ensures open { WasOpen (store_state S.Store self.old) (store_state S.Store self.new) result }
-        ensures crash { Leaves (store_state S.Store self.old) (store_state S.Store self.new) (on name.now (set (view id.now) key.now (read_value (data_of value)))) (reply_by as_done result) }
+        ensures moves { Relates S.Store self.old self.new
+            (Does (on name.now (set (view id.now) key.now (read_value (data_of value))))
+            (reply_by as_done result)) }
+        ensures open { WasOpen (store_state S.Store self.old)
+            (store_state S.Store self.new) result }
+        ensures crash { Leaves (store_state S.Store self.old) (store_state S.Store self.new)
+            (on name.now (set (view id.now) key.now (read_value (data_of value))))
+            (reply_by as_done result) }
     {
         good_name(name)?;
         if !is_free(key) {
@@ -282,9 +336,14 @@ impl<S: Alter + Drop> Store<S> {
         key: &str,
         value: Bson,
     ) -> Result<(), StoreError>
-        ensures moves { Relates S.Store self.old self.new (Does (on name.now (set (view id.now) key.now (Some (view value)))) (reply_by as_done result)) }
-        ensures open { WasOpen (store_state S.Store self.old) (store_state S.Store self.new) result }
-        ensures crash { Leaves (store_state S.Store self.old) (store_state S.Store self.new) (on name.now (set (view id.now) key.now (Some (view value)))) (reply_by as_done result) }
+        ensures moves { Relates S.Store self.old self.new
+            (Does (on name.now (set (view id.now) key.now (Some (view value))))
+            (reply_by as_done result)) }
+        ensures open { WasOpen (store_state S.Store self.old)
+            (store_state S.Store self.new) result }
+        ensures crash { Leaves (store_state S.Store self.old) (store_state S.Store self.new)
+            (on name.now (set (view id.now) key.now (Some (view value))))
+            (reply_by as_done result) }
     {
         let name = good_name(name)?;
         if !is_free(key) {
@@ -305,12 +364,15 @@ impl<S: Alter + Drop> Store<S> {
     /// Takes a top key out of the document of the collection `name` whose `_id` means the same as `id`, and says
     /// whether it was there. The rest keeps its order.
     ///
-    /// Refused, in this order, by BadName; BadKey, where the key is `_id` or holds a 00; NotFound; and by Memory and
+    /// Refused, in this order, by BadName; BadKey, if the key is `_id` or holds a 00; NotFound; and by Memory and
     /// Database, but never in the place of BadName or BadKey.
     pub fn unset(&mut self, name: &str, id: &Bson, key: &str) -> Result<bool, StoreError>
-        ensures moves { Relates S.Store self.old self.new (Does (on name.now (unset (view id.now) key.now)) (reply_by as_flag result)) }
-        ensures open { WasOpen (store_state S.Store self.old) (store_state S.Store self.new) result }
-        ensures crash { Leaves (store_state S.Store self.old) (store_state S.Store self.new) (on name.now (unset (view id.now) key.now)) (reply_by as_flag result) }
+        ensures moves { Relates S.Store self.old self.new
+            (Does (on name.now (unset (view id.now) key.now)) (reply_by as_flag result)) }
+        ensures open { WasOpen (store_state S.Store self.old)
+            (store_state S.Store self.new) result }
+        ensures crash { Leaves (store_state S.Store self.old) (store_state S.Store self.new)
+            (on name.now (unset (view id.now) key.now)) (reply_by as_flag result) }
     {
         let name = good_name(name)?;
         if !is_free(key) {
@@ -335,9 +397,12 @@ impl<S: Alter + Drop> Store<S> {
     ///
     /// Refused by BadName, NotFound, Memory and Database.
     pub fn remove(&mut self, name: &str, id: &Bson) -> Result<(), StoreError>
-        ensures moves { Relates S.Store self.old self.new (Does (on name.now (remove (view id.now))) (reply_by as_done result)) }
-        ensures open { WasOpen (store_state S.Store self.old) (store_state S.Store self.new) result }
-        ensures crash { Leaves (store_state S.Store self.old) (store_state S.Store self.new) (on name.now (remove (view id.now))) (reply_by as_done result) }
+        ensures moves { Relates S.Store self.old self.new
+            (Does (on name.now (remove (view id.now))) (reply_by as_done result)) }
+        ensures open { WasOpen (store_state S.Store self.old)
+            (store_state S.Store self.new) result }
+        ensures crash { Leaves (store_state S.Store self.old) (store_state S.Store self.new)
+            (on name.now (remove (view id.now))) (reply_by as_done result) }
     {
         let name = good_name(name)?;
         let Some(found) = self.row_of(name, id)? else {
@@ -353,9 +418,11 @@ impl<S: Alter + Drop> Store<S> {
     ///
     /// Refused by BadName, NotFound, Memory and Database.
     pub fn get_raw(&mut self, name: &str, id: &Bson) -> Result<Vec<u8>, StoreError>
-        ensures moves { Relates S.Store self.old self.new (Does (on name.now (get_raw (view id.now))) (reply_by as_bytes result)) }
-        ensures open { WasOpen (store_state S.Store self.old) (store_state S.Store self.new) result }
-        ensures crash { Survives (store_state S.Store self.old) (store_state S.Store self.new) (λ _. ⊥) }
+        ensures moves { Relates S.Store self.old self.new
+            (Does (on name.now (get_raw (view id.now))) (reply_by as_bytes result)) }
+        ensures open { WasOpen (store_state S.Store self.old)
+            (store_state S.Store self.new) result }
+        ensures crash { AddsNothing (store_state S.Store self.old) (store_state S.Store self.new) }
     {
         let name = good_name(name)?;
         let Some(found) = self.row_of(name, id)? else {
@@ -366,12 +433,14 @@ impl<S: Alter + Drop> Store<S> {
 
     /// The document of the collection `name` whose `_id` means the same as `id`, as Extended JSON.
     ///
-    /// Refused, in this order, by BadName; NotFound; ReservedKey, where a document below the top has a key that
-    /// Extended JSON reserves; FiniteDouble, where a double is finite and no zero; and by Memory and Database.
+    /// Refused, in this order, by BadName; NotFound; ReservedKey, if a document below the top has a key that
+    /// Extended JSON reserves; FiniteDouble, if a double is finite and no zero; and by Memory and Database.
     pub fn get_json(&mut self, name: &str, id: &Bson, mode: Mode) -> Result<Value, StoreError>
-        ensures moves { Relates S.Store self.old self.new (Does (on name.now (get_json mode (view id.now))) (reply_by as_json result)) }
-        ensures open { WasOpen (store_state S.Store self.old) (store_state S.Store self.new) result }
-        ensures crash { Survives (store_state S.Store self.old) (store_state S.Store self.new) (λ _. ⊥) }
+        ensures moves { Relates S.Store self.old self.new
+            (Does (on name.now (get_json mode (view id.now))) (reply_by as_json result)) }
+        ensures open { WasOpen (store_state S.Store self.old)
+            (store_state S.Store self.new) result }
+        ensures crash { AddsNothing (store_state S.Store self.old) (store_state S.Store self.new) }
     {
         let name = good_name(name)?;
         let Some(found) = self.row_of(name, id)? else {
@@ -384,17 +453,18 @@ impl<S: Alter + Drop> Store<S> {
 
     /// Writes the written documents of the collection `name` to `writer`, one after the other.
     ///
-    /// Refused by BadName, and then nothing is written; by Writer, where a write failed or took nothing; and by Memory
+    /// Refused by BadName, and then nothing is written; by Writer, if a write failed or took nothing; and by Memory
     /// and Database. A beginning may have been written.
     pub fn export<W: Sink>(&mut self, name: &str, writer: &mut W) -> Result<(), StoreError>
         requires { CanRefuse (W.tally writer.old) }
-        ensures moves { Relates S.Store self.old self.new (SendsCollection name.now (W.tally writer.old)
-            (W.tally writer.new) result) }
-        ensures open { WasOpen (store_state S.Store self.old) (store_state S.Store self.new) result }
+        ensures moves { Relates S.Store self.old self.new
+            (SendsCollection name.now (W.tally writer.old) (W.tally writer.new) result) }
+        ensures open { WasOpen (store_state S.Store self.old)
+            (store_state S.Store self.new) result }
         // `Writer` is reported exactly if a write failed, whatever the disk does.
         ensures device { ReportsFailure Writer result (W.tally writer.old).failures
             (W.tally writer.new).failures }
-        ensures crash { Survives (store_state S.Store self.old) (store_state S.Store self.new) (λ _. ⊥) }
+        ensures crash { AddsNothing (store_state S.Store self.old) (store_state S.Store self.new) }
     {
         let name = good_name(name)?;
         let mut visitor = ExportVisitor {

@@ -1,6 +1,6 @@
 //! All documents of a collection as the text of their Extended JSON, one at a time.
 
-ghost use Rattle.std.specs.Prelude.{◌≡◌, ◌++◌, ◌∷◌, [], List, IfErr, OnOk, string_bytes};
+ghost use Rattle.std.specs.Prelude.{◌≡◌, ◌++◌, ◌∷◌, [], List, IfErr, MatchResult, OnOk, string_bytes};
 ghost use Rattle.serde_json.specs.Data.{Data};
 ghost use Rattle.serde_json.specs.Written.{compact_text};
 ghost use Rattle.bson_base.specs.Value.{Members};
@@ -8,9 +8,10 @@ ghost use Rattle.bson_bytes.specs.Encode.{encode};
 ghost use Rattle.bson_model.specs.declared.extjson.ser.Mode.TheVariants.{Canonical};
 ghost use Rattle.store_table.specs.Moves.{WasOpen};
 ghost use Rattle.store_model.specs.State.{IsKept, json_of};
-ghost use Rattle.sqlite.specs.State.{Survives};
+ghost use Rattle.store_table.specs.Crash.{AddsNothing};
 ghost use Rattle.bson_store.specs.Calls.{store_state, Relates};
-ghost use Rattle.bson_store.specs.Dump.{HandsTrees, TellsText};
+ghost use Rattle.bson_store.specs.Dump.{GivesBack, HandsTrees, TellsText};
+ghost use Rattle.store_documents.specs.Answers.{IsOfStore};
 
 use crate::store::Store;
 use crate::walk::Step;
@@ -30,17 +31,29 @@ pub trait TakeText {
     /// one with this error.
     ghost refused: { Self → Self → List Data → StoreError → Type 0 };
 
+    /// Between the first state and the second, the taker took the texts that it was handed, whatever they are.
+    ghost stands: { Self → Self → Type 0 } = { λ _ _. Unit {0} };
+
+    /// Between the first state and the second, the taker refused the last text that it was handed with this error.
+    ghost stopped: { Self → Self → StoreError → Type 0 } = { λ _ _ _. Unit {0} };
+
     /// Takes the text of a tree. The keys of each object ascend by their bytes, and there is no space between its
     /// parts.
     fn take_text(&mut self, text: &str) -> Result<(), StoreError>
-        ensures took { (first : Self) (out : List Data) (tree : Data) → text.now ≡ compact_text tree → took first self.old out
-            → OnOk result (took first self.new (out ++ tree ∷ [])) }
-        ensures refused { (first : Self) (out : List Data) → took first self.old out → IfErr result (refused first self.new out) };
+        ensures took { (first : Self) (out : List Data) (tree : Data) → text.now ≡ compact_text tree
+            → took first self.old out → OnOk result (took first self.new (out ++ tree ∷ [])) }
+        ensures refused { (first : Self) (out : List Data) → took first self.old out
+            → IfErr result (refused first self.new out) }
+        ensures stands { (first : Self) → stands first self.old
+            → MatchResult result (λ _. stands first self.new) (stopped first self.new) };
 }
 
 /// The text of the tree of the body at a place of the collection.
+#[tactic(auto, using(crate::proofs::StandLemmas::at_of_store))]
 fn text_at(alloc: Global, body: &[u8], place: u64, text: &mut String) -> Result<(), StoreError>
-    ensures { (d : Members) → IsKept d → body.now ≡ encode d → TellsText (json_of Canonical d) place (string_bytes text.new) result }
+    ensures text { (d : Members) → IsKept d → body.now ≡ encode d
+        → TellsText (json_of Canonical d) place (string_bytes text.new) result }
+    ensures kind { IfErr result (λ e. IsOfStore e.kind) }
 {
     match text_of_body(alloc, body, text) {
         Ok(()) => Ok(()),
@@ -61,6 +74,10 @@ impl<T: TakeText> Step for TextStep<T> {
 
     ghost refused = { λ first step out e. T.refused first.taker step.taker out e };
 
+    ghost stands = { λ first step. T.stands first.taker step.taker };
+
+    ghost stopped = { λ first step e. T.stopped first.taker step.taker e };
+
     fn step(&mut self, alloc: Global, body: &[u8], place: u64) -> Result<(), StoreError> {
         text_at(alloc, body, place, &mut self.text)?;
         self.taker.take_text(self.text.as_str())?;
@@ -80,9 +97,14 @@ impl<S: Alter + Drop> Store<S> {
         name: &str,
         taker: T,
     ) -> Result<T, (StoreError, T)>
-        ensures moves { T.took taker taker [] → Relates S.Store self.old self.new (HandsTrees (T.took taker) (T.refused taker) name.now result) }
-        ensures open { WasOpen (store_state S.Store self.old) (store_state S.Store self.new) result }
-        ensures crash { Survives (store_state S.Store self.old) (store_state S.Store self.new) (λ _. ⊥) }
+        ensures moves { T.took taker taker [] → Relates S.Store self.old self.new
+            (HandsTrees (T.took taker) (T.refused taker) name.now result) }
+        ensures open { WasOpen (store_state S.Store self.old)
+            (store_state S.Store self.new) result }
+        // Whatever the disk does: an error is the taker's exactly if it refused, and else of no device's kind.
+        ensures stands { T.stands taker taker
+            → GivesBack (T.stands taker) (T.stopped taker) result }
+        ensures crash { AddsNothing (store_state S.Store self.old) (store_state S.Store self.new) }
     {
         let text = String::new(self.alloc);
         match self.walk(name, TextStep { taker, text }) {

@@ -1,15 +1,16 @@
-pub mod OfBytes
-pub mod OfBodies
-pub mod OfChanges
-pub mod OfRows
-mod OfStored
-mod OfTrees
-mod OfOrder
+pub mod ByteLemmas
+pub mod BodyLemmas
+pub mod ChangeLemmas
+pub mod RowLemmas
+mod StoredLemmas
+mod TreeLemmas
+mod OrderLemmas
 pub mod KeyLemmas
-pub mod Taken
-pub mod Gates
-pub mod Streams
-pub mod SoFar
-pub mod Going
-pub mod Appending
-pub mod Loads
+pub mod TakenLemmas
+pub mod GateLemmas
+pub mod StreamLemmas
+pub mod JudgeLemmas
+pub mod ManyLemmas
+pub mod AppendLemmas
+pub mod LoadLemmas
+pub mod KindLemmas

@@ -12,7 +12,7 @@ use Rattle.store_model.specs.Reading.{Reading, readable, unreadable, read_value,
 use Rattle.store_model.specs.Run.{IsUnread}
 use Rattle.store_model.specs.State.{in_json}
 use Rattle.store_model.specs.declared.error.ErrorKind.{ErrorKind}
-use Rattle.store_model.specs.declared.error.ErrorKind.TheVariants.{JsonRefused, Memory}
+use Rattle.store_model.specs.declared.error.ErrorKind.TheVariants.{JsonRefused, Memory, Reader, Writer}
 
 -- what the bytes read as; or memory ran out, and they read as some document
 abbrev pub AnswersBytes : List ℕ → Result Document ErrorKind → Type 0
@@ -47,3 +47,9 @@ HasTree r = (j : Data) × (r ≡ Ok j)
 abbrev pub AnswersChecked : Result Data ErrorKind → Result (Unit {0}) ErrorKind → Type 0
 AnswersChecked r (Ok x) = HasTree r
 AnswersChecked r (Err k) = (r ≡ Err k) ⊎ (k ≡ Memory)
+
+-- the kind is no device's: neither a read nor a write failed
+abbrev pub IsOfStore : ErrorKind → Type 0
+IsOfStore Reader = ⊥
+IsOfStore Writer = ⊥
+IsOfStore _ = Unit {0}

@@ -1,12 +1,12 @@
 //! Written documents as JSON.
 
-ghost use Rattle.std.specs.Prelude.{◌≡◌};
+ghost use Rattle.std.specs.Prelude.{◌≡◌, IfErr};
 ghost use Rattle.bson_base.specs.Value.{Members, document as tree};
 ghost use Rattle.bson_bytes.specs.Encode.{encode};
 ghost use Rattle.bson_model.specs.JsonWrite.{write};
 ghost use Rattle.bson_model.specs.View.{content};
 ghost use Rattle.store_model.specs.State.{IsKept, or_finite, json_of};
-ghost use Rattle.store_documents.specs.Answers.{AnswersJson};
+ghost use Rattle.store_documents.specs.Answers.{AnswersJson, IsOfStore};
 
 use crate::read::document_of_body;
 use bson_meaning::has_reserved_below;
@@ -47,10 +47,12 @@ fn json_of_document(alloc: Global, document: Document, mode: Mode) -> Result<Val
 ///
 /// `ReservedKey` if a document below the top has a reserved key (`$oid` or another that marks a typed value), which
 /// would be read as another value; the keys of a code's scope are free. Else `FiniteDouble` if a finite double other
-/// than the zeros stands in the document. `Memory` if a growth was refused. Bytes that aren't the written form of a
+/// than the zeros is in the document. `Memory` if a growth was refused. Bytes that aren't the written form of a
 /// kept document may be refused as `Faulty`.
 pub fn json_of_body(alloc: Global, body: &[u8], mode: Mode) -> Result<Value, ErrorKind>
-    ensures { (d : Members) → IsKept d → body.now ≡ encode d → AnswersJson (json_of mode d) result }
+    ensures tree { (d : Members) → IsKept d → body.now ≡ encode d
+        → AnswersJson (json_of mode d) result }
+    ensures kind { IfErr result IsOfStore }
 {
     let document = document_of_body(alloc, body)?;
     json_of_document(alloc, document, mode)

@@ -1,6 +1,6 @@
 //! Written documents with one member changed.
 
-ghost use Rattle.std.specs.Prelude.{◌≡◌, IfOk, OnOk, string_bytes};
+ghost use Rattle.std.specs.Prelude.{◌≡◌, IfErr, IfOk, OnOk, string_bytes};
 ghost use Rattle.bson_base.specs.Kinds.{IsSound};
 ghost use Rattle.bson_base.specs.Value.{Members, put};
 ghost use Rattle.bson_bytes.specs.Encode.{encode};
@@ -8,6 +8,7 @@ ghost use Rattle.bson_meaning.specs.Meaning.{norm_in_order};
 ghost use Rattle.bson_model.specs.Keyed.{has_key as has_pair, put as put_pair, without as without_pair};
 ghost use Rattle.bson_model.specs.View.{view, pairs_of, content};
 ghost use Rattle.store_model.specs.State.{IsKept};
+ghost use Rattle.store_documents.specs.Answers.{IsOfStore};
 ghost use Rattle.store_documents.specs.Bodies.{AnswersChanged, AnswersUnset};
 
 use crate::read::document_of_body;
@@ -27,9 +28,10 @@ fn kept_value(alloc: Global, value: Bson) -> Result<Bson, AllocError>
     sort_keys(alloc, normal)
 }
 
-/// Puts a value under a key: in the key's place where it is there, else last.
+/// Puts a value under a key: in the key's place if it is there, else last.
 fn put_value(document: &mut Document, key: String, value: Bson) -> Result<(), AllocError>
-    ensures { OnOk result (pairs_of document.new ≡ put_pair (string_bytes key) (view value) (pairs_of document.old)) }
+    ensures { OnOk result (pairs_of document.new ≡ put_pair (string_bytes key) (view value)
+        (pairs_of document.old)) }
 {
     document.put(key, value)
 }
@@ -41,7 +43,8 @@ fn put_normal(
     key: &str,
     value: Bson,
 ) -> Result<(), AllocError>
-    ensures put { OnOk result (content document.new ≡ put key.now (norm_in_order (view value)) (content document.old)) }
+    ensures put { OnOk result (content document.new ≡ put key.now (norm_in_order (view value))
+        (content document.old)) }
     ensures sound { OnOk result (IsSound (view value)) }
 {
     let value = kept_value(alloc, value)?;
@@ -50,7 +53,7 @@ fn put_normal(
 }
 
 /// The bytes of a changed document. `TooDeep`, `Nul` and `TooLong` if it can't be kept, in this order.
-#[tactic(auto, using(crate::proofs::OfChanges::changed))]
+#[tactic(auto, using(crate::proofs::ChangeLemmas::changed))]
 fn changed_body(alloc: Global, document: &Document) -> Result<Vec<u8>, ErrorKind>
     ensures { AnswersChanged (content document.now) result }
 {
@@ -60,16 +63,18 @@ fn changed_body(alloc: Global, document: &Document) -> Result<Vec<u8>, ErrorKind
     body_of(alloc, document)
 }
 
-/// What a kept document is written as once a value stands under a key: in the key's place where it is there, else last.
+/// What a kept document is written as once a value is under a key: in the key's place if it is there, else last.
 /// The value is kept in normal form with its keys in order. `body` is the written form of the document.
 ///
-/// `TooDeep` if the document then has over 100 levels, else `Nul` if a 00 stands in a key, a pattern or options, else
+/// `TooDeep` if the document then has over 100 levels, else `Nul` if a 00 is in a key, a pattern or options, else
 /// `TooLong` if its bytes are over 16777216; `Memory` if a growth was refused. Bytes that aren't the written form of a
-/// kept document may be refused as `Faulty`. Where it isn't refused, the value is known to be
+/// kept document may be refused as `Faulty`. If it isn't refused, the value is known to be
 /// sound.
 pub fn body_with(alloc: Global, body: &[u8], key: &str, value: Bson) -> Result<Vec<u8>, ErrorKind>
-    ensures changed { (d : Members) → IsKept d → body.now ≡ encode d → AnswersChanged (put key.now (norm_in_order (view value)) d) result }
+    ensures changed { (d : Members) → IsKept d → body.now ≡ encode d
+        → AnswersChanged (put key.now (norm_in_order (view value)) d) result }
     ensures sound { IfOk result (λ _. IsSound (view value)) }
+    ensures kind { IfErr result IsOfStore }
 {
     let mut document = document_of_body(alloc, body)?;
     match put_normal(alloc, &mut document, key, value) {
@@ -101,7 +106,8 @@ fn take_out(document: &mut Document, key: &str) -> bool
 /// `Memory` if a growth was refused. Bytes that aren't the written form of a kept document may be refused as
 /// `Faulty` or as `write_document` refuses them.
 pub fn body_without(alloc: Global, body: &[u8], key: &str) -> Result<Unset, ErrorKind>
-    ensures { (d : Members) → IsKept d → body.now ≡ encode d → AnswersUnset key.now d result }
+    ensures unset { (d : Members) → IsKept d → body.now ≡ encode d → AnswersUnset key.now d result }
+    ensures kind { IfErr result IsOfStore }
 {
     let mut document = document_of_body(alloc, body)?;
     let was_there = take_out(&mut document, key);

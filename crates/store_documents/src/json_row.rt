@@ -21,11 +21,12 @@ use std::alloc::Global;
 use std::borrow::CowSlice;
 use store_model::ErrorKind;
 
-/// The bytes of the normal form of a document, with its keys in order. `Nul` if a 00 stands in a key, a pattern or
+/// The bytes of the normal form of a document, with its keys in order. `Nul` if a 00 is in a key, a pattern or
 /// options, else `TooLong` if they are over 16777216; `Memory` if a growth was refused. Of a document with such bytes
 /// it is known that it is sound.
 fn ordered_body(alloc: Global, document: &Document) -> Result<Vec<u8>, ErrorKind>
-    ensures { MatchResult result (λ b. IsOrderedBody b.items (content document.now)) (IsUnordered (content document.now)) }
+    ensures { MatchResult result (λ b. IsOrderedBody b.items (content document.now))
+        (IsUnordered (content document.now)) }
 {
     match meaning_key(alloc, document) {
         Ok(body) => {
@@ -50,7 +51,7 @@ fn unidentified(document: &Document) -> ErrorKind
     }
 }
 
-/// The row of the normal form of a document, with its keys in order, where that is kept. Neither is made as a tree.
+/// The row of the normal form of a document, with its keys in order, if that is kept. Neither is made as a tree.
 pub(crate) fn row_in_order(
     alloc: Global,
     document: &Document,
@@ -77,7 +78,7 @@ pub(crate) fn row_in_order(
 /// its keys in order.
 ///
 /// `NotAnObject` if the tree is no object; `JsonRefused` if it is no Extended JSON, or holds a finite double other than
-/// the zeros; `TooDeep` if the document has over 100 levels; `Nul` if a 00 stands in a key, a pattern or options of it;
+/// the zeros; `TooDeep` if the document has over 100 levels; `Nul` if a 00 is in a key, a pattern or options of it;
 /// `NoId` if it has no `_id`; `TooLong` if its bytes are over 16777216; each if none before it is reported. `Memory` if
 /// a growth was refused, and never in the place of `NotAnObject`.
 pub fn row_of_json(alloc: Global, json: Value) -> Result<KeptRow<'static>, ErrorKind>

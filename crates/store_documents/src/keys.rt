@@ -23,7 +23,7 @@ impl<'a> Keys<'a> {
         }
     }
 
-    /// Adds a key, and says whether it wasn't there yet. Where memory is wanted, the keys are as before.
+    /// Adds a key, and says whether it wasn't there yet. If memory runs out, the keys are as before.
     pub fn meet(&mut self, key: &'a [u8]) -> Result<bool, AllocError>
         ensures new { IfOk result (λ is_new. is_new ≡ not (has_met self.old key.now)) }
         ensures added { IfOk result (λ is_new. IsTrue is_new

@@ -12,8 +12,10 @@ ghost use Rattle.store_documents.specs.Keys.{first_taken, keys_of};
 /// down to its end or to what can't be read, and so does every list of trees.
 pub fn inputs_have_readings()
     ensures bytes { (bytes : List ℕ) → (a : Reading) × ReadsBytes bytes a }
-    ensures stream { (bytes : List ℕ) → (ds : Documents) × (stop : Option Kind) × ReadsStream bytes ds stop }
-    ensures trees { (js : List Data) → (ds : Documents) × (stop : Option Kind) × ReadsTrees js ds stop }
+    ensures stream { (bytes : List ℕ) → (ds : Documents) × (stop : Option Kind)
+        × ReadsStream bytes ds stop }
+    ensures trees { (js : List Data) → (ds : Documents) × (stop : Option Kind)
+        × ReadsTrees js ds stop }
 {}
 
 /// Documents as they are read, none of which is refused, are such as are kept.
@@ -21,7 +23,7 @@ pub fn judged_documents_are_kept()
     ensures { (ds : Documents) → AreRead ds → first_refusal 0 ds None ≡ None → AreKept ds }
 {}
 
-/// Documents go into a list by the written keys of their ids: all of them, or none where some key is there already, in
+/// Documents go into a list by the written keys of their ids: all of them, or none if some key is there already, in
 /// the list or from a document before.
 pub fn rows_go_in()
     ensures { (ds more : Documents) → AreKept ds → AreKept more

@@ -16,21 +16,22 @@ use std::alloc::Global;
 use store_model::{ErrorKind, StoreError};
 
 /// The row of the document that a tree stands for.
-#[tactic(auto, using(crate::proofs::Going::input_row))]
+#[tactic(auto, using(crate::proofs::ManyLemmas::input_row))]
 fn row_of(alloc: Global, json: Value) -> Result<KeptRow<'static>, ErrorKind>
     ensures { AnswersRow (ReadsTree (data_of json)) result }
 {
     row_of_json(alloc, json)
 }
 
-/// Puts the row of the next tree behind those of the rows.
+/// Appends the row of the next tree to the rows.
 fn keep(
     rows: &mut Vec<KeptRow<'static>>,
     row: Result<KeptRow<'static>, ErrorKind>,
 ) -> Result<(), StoreError>
-    ensures { (j : Data) → AnswersRow (ReadsTree j) row.entry → (js : List Data) → Judges (ReadsTrees js) (Ok rows.old)
-        → MatchResult result (λ _. Judges (ReadsTrees (js ++ j ∷ [])) (Ok rows.new))
-        (λ e. (more : List Data) → Judges (ReadsTrees ((js ++ j ∷ []) ++ more)) (Err e)) }
+    ensures { (j : Data) → AnswersRow (ReadsTree j) row.entry → (js : List Data)
+        → Judges (ReadsTrees js) (Ok rows.old) → MatchResult result
+        (λ _. Judges (ReadsTrees (js ++ j ∷ [])) (Ok rows.new)) (λ e. (more : List Data)
+        → Judges (ReadsTrees ((js ++ j ∷ []) ++ more)) (Err e)) }
 {
     match row {
         Ok(row) => {
@@ -46,7 +47,7 @@ fn keep(
 #[derive(Drop)]
 pub struct Loader {
     rows: Vec<KeptRow<'static>>,
-    /// The first refusal, behind which nothing is judged.
+    /// The first refusal, after which nothing is judged.
     refusal: Option<StoreError>,
     alloc: Global,
     /// Room for reading texts.
@@ -68,9 +69,10 @@ impl Loader {
         }
     }
 
-    /// Takes the row of the next tree. Behind the first that is refused, rows are let go.
+    /// Takes the row of the next tree. After the first that is refused, rows are dropped.
     fn take_row(&mut self, row: Result<KeptRow<'static>, ErrorKind>)
-        ensures { (j : Data) → AnswersRow (ReadsTree j) row.entry → (js : List Data) → HasTaken self.old js → HasTaken self.new (js ++ j ∷ []) }
+        ensures { (j : Data) → AnswersRow (ReadsTree j) row.entry → (js : List Data)
+            → HasTaken self.old js → HasTaken self.new (js ++ j ∷ []) }
     {
         if self.refusal.is_some() {
             return;
@@ -80,9 +82,10 @@ impl Loader {
         }
     }
 
-    /// Takes the next tree. Behind the first that is refused, trees are let go.
+    /// Takes the next tree. After the first that is refused, trees are dropped.
     pub fn take(&mut self, json: Value)
-        ensures { (js : List Data) → HasTaken self.old js → HasTaken self.new (js ++ data_of json ∷ []) }
+        ensures { (js : List Data) → HasTaken self.old js
+            → HasTaken self.new (js ++ data_of json ∷ []) }
     {
         if self.refusal.is_some() {
             return;
@@ -94,8 +97,10 @@ impl Loader {
     /// Takes the tree of a text (RFC 8259), which isn't made. False, and nothing was taken, for texts that have to be
     /// read by their tree: those that have none, and some others.
     pub fn take_text(&mut self, text: &str) -> bool
-        ensures taken { IsTrue result → (j : Data) × (data_of_text text.now ≡ Some j) × ((js : List Data) → HasTaken self.old js → HasTaken self.new (js ++ j ∷ [])) }
-        ensures untaken { result ≡ false → (js : List Data) → HasTaken self.old js → HasTaken self.new js }
+        ensures taken { IsTrue result → (j : Data) × (data_of_text text.now ≡ Some j)
+            × ((js : List Data) → HasTaken self.old js → HasTaken self.new (js ++ j ∷ [])) }
+        ensures untaken { result ≡ false → (js : List Data) → HasTaken self.old js
+            → HasTaken self.new js }
     {
         let Ok(document) = document_of_text(self.alloc, text, &mut self.scratch) else {
             return false;

@@ -16,7 +16,7 @@ pub struct Name<'a> {
 impl<'a> Name<'a> {
     ghost use Rattle.store_documents.specs.Names.{name_bytes};
 
-    /// The name that a text is, where it is one.
+    /// The name that a text is, if it is one.
     pub fn new(text: &'a str) -> Option<Name<'a>>
         ensures some { IsSome result ↔ (IsName text.now) }
         ensures text { IfSome result (λ n. name_bytes n ≡ text.now) }

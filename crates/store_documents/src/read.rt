@@ -1,6 +1,6 @@
 //! Documents and values as they come in.
 
-ghost use Rattle.std.specs.Prelude.{◌≡◌, ◌⊎◌, ◌≢◌, IfOk, MatchOption, MatchResult};
+ghost use Rattle.std.specs.Prelude.{◌≡◌, ◌⊎◌, ◌≢◌, IfErr, IfOk, MatchOption, MatchResult};
 ghost use Rattle.serde_json.specs.Data.{object};
 ghost use Rattle.serde_json.specs.View.{view as data_of, members_view};
 ghost use Rattle.bson_base.specs.Value.{Members};
@@ -11,7 +11,7 @@ ghost use Rattle.bson_model.specs.declared.extjson.de.Error.TheVariants as json_
 ghost use Rattle.store_model.specs.Reading.{IsRead, ReadsTree, kind_of_gate_error, unreadable};
 ghost use Rattle.store_model.specs.State.{IsKept};
 ghost use Rattle.store_model.specs.declared.error.ErrorKind.TheVariants.{JsonRefused, Memory, NotAnObject};
-ghost use Rattle.store_documents.specs.Answers.{AnswersBytes, AnswersValue};
+ghost use Rattle.store_documents.specs.Answers.{AnswersBytes, AnswersValue, IsOfStore};
 
 use bson_frame as frames;
 use bson_meaning::{GateError, gate};
@@ -36,7 +36,8 @@ pub(crate) fn gate_refusal(error: GateError) -> ErrorKind
 
 /// The refusal for a fault of the JSON reader.
 pub(crate) fn json_refusal(error: extjson::de::Error) -> ErrorKind
-    ensures { ((error ≡ json_faults.Memory) × (result ≡ Memory)) ⊎ ((error ≢ json_faults.Memory) × (result ≡ JsonRefused)) }
+    ensures { ((error ≡ json_faults.Memory) × (result ≡ Memory))
+        ⊎ ((error ≢ json_faults.Memory) × (result ≡ JsonRefused)) }
 {
     match error {
         extjson::de::Error::Memory => ErrorKind::Memory,
@@ -48,7 +49,9 @@ pub(crate) fn json_refusal(error: extjson::de::Error) -> ErrorKind
 
 /// The document that bytes mean, if they mean one; others may be refused, or not. `Memory` if a growth was refused.
 fn document_if_any(alloc: Global, bytes: &[u8]) -> Result<Document, ErrorKind>
-    ensures { (d : Members) → Means bytes.now d → MatchResult result (λ d. Means bytes.now (content d)) (λ k. k ≡ Memory) }
+    ensures read { (d : Members) → Means bytes.now d
+        → MatchResult result (λ d. Means bytes.now (content d)) (λ k. k ≡ Memory) }
+    ensures kind { IfErr result IsOfStore }
 {
     let Ok(raw) = RawDocument::from_bytes(bytes) else {
         return Err(ErrorKind::Faulty);
@@ -71,9 +74,11 @@ pub(crate) fn document_of(alloc: Global, bytes: &[u8]) -> Result<Document, Error
 }
 
 /// The kept document of which `body` is the written form. Other bytes are refused, or are some document. `Memory` if a
-/// growth was refused.
+/// growth was refused. No refusal, of whatever bytes, is `Reader` or `Writer`; so it is of each call here.
 pub fn document_of_body(alloc: Global, body: &[u8]) -> Result<Document, ErrorKind>
-    ensures { (d : Members) → IsKept d → body.now ≡ encode d → MatchResult result (λ e. content e ≡ d) (λ k. k ≡ Memory) }
+    ensures read { (d : Members) → IsKept d → body.now ≡ encode d
+        → MatchResult result (λ e. content e ≡ d) (λ k. k ≡ Memory) }
+    ensures kind { IfErr result IsOfStore }
 {
     document_if_any(alloc, body)
 }
@@ -82,7 +87,7 @@ pub fn document_of_body(alloc: Global, body: &[u8]) -> Result<Document, ErrorKin
 /// first.
 ///
 /// `EndInside`, `BadLength`, `NotTerminated`, `Faulty` and `TooDeep` are those of the gate, the first whose test fails.
-/// `Memory` comes only where the gate refuses nothing, and where a growth was refused.
+/// `Memory` is returned only if a growth was refused, and never in place of a refusal by the gate.
 pub fn document_of_bytes(alloc: Global, bytes: &[u8]) -> Result<Document, ErrorKind>
     ensures answer { AnswersBytes bytes.now result }
     ensures read { IfOk result (λ d. IsRead (content d)) }
@@ -95,7 +100,8 @@ pub fn document_of_bytes(alloc: Global, bytes: &[u8]) -> Result<Document, ErrorK
 
 /// The members of an object.
 pub(crate) fn object_of(json: Value) -> Option<Map<String, Value>>
-    ensures { MatchOption result (ReadsTree (data_of json) (unreadable NotAnObject)) (λ m. data_of json ≡ object (members_view m.entries)) }
+    ensures { MatchOption result (ReadsTree (data_of json) (unreadable NotAnObject))
+        (λ m. data_of json ≡ object (members_view m.entries)) }
 {
     match json {
         Value::Object(map) => Some(map),

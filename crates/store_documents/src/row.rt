@@ -31,7 +31,8 @@ fn is_text_of_name(collection: &[u8]) -> bool
 
 /// Whether a document is written as these bytes, under this key.
 fn is_written_so(written: &KeptRow<'_>, key: &[u8], body: &[u8]) -> bool
-    ensures { IsTrue result ↔ ((written.now.key.items ≡ key.now) × (cow_slice_items written.now.body ≡ body.now)) }
+    ensures { IsTrue result ↔ ((written.now.key.items ≡ key.now)
+        × (cow_slice_items written.now.body ≡ body.now)) }
 {
     written.key.as_slice() == key && written.body.as_slice() == body
 }
@@ -86,7 +87,8 @@ pub enum RowKey {
 /// written form. The error is a refused growth.
 fn key_before(alloc: Global, body: &[u8]) -> Result<Vec<u8>, AllocError>
     requires { (d : Members) × IsKept d × (body.now ≡ encode d) }
-    ensures { (d : Members) → IsKept d → body.now ≡ encode d → IfOk result (λ k. k.items ≡ key_before (own_id d)) }
+    ensures { (d : Members) → IsKept d → body.now ≡ encode d
+        → IfOk result (λ k. k.items ≡ key_before (own_id d)) }
 {
     let Ok(document) = document_of(alloc, body) else {
         return Err(AllocError);
@@ -116,7 +118,8 @@ fn key_against(
     body: &[u8],
 ) -> Result<RowKey, AllocError>
     requires { AnswersKept body.now (Ok written) }
-    ensures { (collection : List ℕ) → IsName collection → IsUtf8 collection → IfOk result (TellsKey collection key.now body.now) }
+    ensures { (collection : List ℕ) → IsName collection → IsUtf8 collection
+        → IfOk result (TellsKey collection key.now body.now) }
 {
     let KeptRow {
         key: now,

@@ -31,7 +31,8 @@ const AROUND: usize = 10;
 /// The document whose one element has the key `_id`, this kind and this payload.
 fn alone(alloc: Global, id: &Frame<'_>) -> Result<Vec<u8>, AllocError>
     requires { length id.now.payload.now + 10 < 2 ^ 32 }
-    ensures { IfOk result (λ b. b.items ≡ frame_of (tag_byte id.now.tag ∷ (cstring_of id_key ++ id.now.payload.now))) }
+    ensures { IfOk result (λ b. b.items ≡ frame_of
+        (tag_byte id.now.tag ∷ (cstring_of id_key ++ id.now.payload.now))) }
 {
     let size = id.payload.len() + AROUND;
     let mut bytes = Vec::with_capacity(alloc, size)?;
@@ -63,7 +64,8 @@ fn means_itself(tag: ElementType) -> bool
 /// The key of an `_id` from its element, as it is written. `Memory` if a growth was refused.
 fn key_of_element(alloc: Global, id: &Frame<'_>) -> Result<Vec<u8>, ErrorKind>
     requires { (d : Members) × IsKept d × IsWrittenUnder id_key d (element_of id.now) }
-    ensures { (d : Members) → IsKept d → IsWrittenUnder id_key d (element_of id.now) → MatchResult result (λ k. k.items ≡ key (own_id d)) (λ e. e ≡ Memory) }
+    ensures { (d : Members) → IsKept d → IsWrittenUnder id_key d (element_of id.now)
+        → MatchResult result (λ k. k.items ≡ key (own_id d)) (λ e. e ≡ Memory) }
 {
     let Ok(bytes) = alone(alloc, id) else {
         return Err(ErrorKind::Memory);
@@ -85,10 +87,11 @@ fn is_whole(bytes: &[u8]) -> bool
     bytes.len() <= SIZE_LIMIT && is_envelope(bytes)
 }
 
-/// The key of the document that bytes mean, where they pass the gate and are its written form, and both are seen
+/// The key of the document that bytes mean, if they pass the gate and are its written form, and both are seen
 /// without its tree. `Memory` if a growth was refused; the bytes pass the gate then, too.
 pub(crate) fn key_as_it_stands(alloc: Global, bytes: &[u8]) -> Result<Option<Vec<u8>>, ErrorKind>
-    ensures { MatchResult result (λ k. IfSome k (λ k. StandUnder k.items bytes.now)) (λ e. (e ≡ Memory) × Passes bytes.now) }
+    ensures { MatchResult result (λ k. IfSome k (λ k. StandUnder k.items bytes.now))
+        (λ e. (e ≡ Memory) × Passes bytes.now) }
 {
     if !is_whole(bytes) || !is_written_form(bytes) {
         return Ok(None);
@@ -115,8 +118,8 @@ pub(crate) fn row_by_tree(alloc: Global, bytes: &[u8]) -> Result<KeptRow<'static
 /// of the first. Bytes that are the written form already are lent, and no tree is made of them.
 ///
 /// `EndInside`, `BadLength`, `NotTerminated`, `Faulty` and `TooDeep` are those of the gate, the first whose test fails;
-/// then `NoId` if it has no `_id`, and `TooLong` if its bytes are over 16777216. `Memory` comes only where the gate
-/// refuses nothing, and where a growth was refused.
+/// then `NoId` if it has no `_id`, and `TooLong` if its bytes are over 16777216. `Memory` is returned only if a
+/// growth was refused, and never in place of a refusal by the gate.
 pub fn row_of_bytes(alloc: Global, bytes: &[u8]) -> Result<KeptRow<'_>, ErrorKind>
     ensures { AnswersKept bytes.now result }
 {

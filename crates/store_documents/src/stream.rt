@@ -15,10 +15,11 @@ use store_model::{ErrorKind, StoreError};
 const SHORTEST: usize = 5;
 
 /// Cuts the first document off by its declared length (bsonspec.org 1.1, "document"), which counts itself. `EndInside`
-/// where there are fewer than four bytes, or fewer than declared; `BadLength` if the length is under 5 or over
+/// if there are fewer than four bytes, or fewer than declared; `BadLength` if the length is under 5 or over
 /// 16777216.
 fn cut(bytes: &[u8]) -> Result<(&[u8], &[u8]), ErrorKind>
-    ensures { MatchResult result (λ r. (bytes.now ≡ r.0.now ++ r.1.now) × IsCounted r.0.now) (IsUncut bytes.now) }
+    ensures { MatchResult result (λ r. (bytes.now ≡ r.0.now ++ r.1.now) × IsCounted r.0.now)
+        (IsUncut bytes.now) }
 {
     let [a, b, c, d, ..] = bytes else {
         return Err(ErrorKind::EndInside);
@@ -34,7 +35,7 @@ fn cut(bytes: &[u8]) -> Result<(&[u8], &[u8]), ErrorKind>
 }
 
 /// The row of the document that bytes mean.
-#[tactic(auto, using(crate::proofs::Going::kept_row))]
+#[tactic(auto, using(crate::proofs::ManyLemmas::kept_row))]
 fn row_of_piece(alloc: Global, bytes: &[u8]) -> Result<KeptRow<'_>, ErrorKind>
     ensures { AnswersRow (ReadsBytes bytes.now) result }
 {
@@ -52,7 +53,7 @@ fn first_row(alloc: Global, bytes: &[u8]) -> Result<(KeptRow<'_>, &[u8]), ErrorK
     Ok((row, rest))
 }
 
-/// Judges the documents of a stream, which stand one after the other and each declare their length (bsonspec.org 1.1,
+/// Judges the documents of a stream, which follow each other and each declare their length (bsonspec.org 1.1,
 /// "document"), and returns the rows that they are kept as.
 ///
 /// The first document that is refused decides: `EndInside`, `BadLength`, `NotTerminated`, `Faulty` and `TooDeep` of its

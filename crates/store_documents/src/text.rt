@@ -8,7 +8,7 @@ ghost use Rattle.bson_model.specs.View.{content};
 ghost use Rattle.bson_model.specs.declared.extjson.ser.Mode.TheVariants.{Canonical};
 ghost use Rattle.store_model.specs.State.{IsKept, or_finite, json_of};
 ghost use Rattle.store_model.specs.declared.error.ErrorKind.TheVariants.{Memory};
-ghost use Rattle.store_documents.specs.Answers.{AnswersText};
+ghost use Rattle.store_documents.specs.Answers.{AnswersText, IsOfStore};
 
 use crate::read::document_of_body;
 use crate::trees::has_tree;
@@ -21,7 +21,8 @@ use store_model::ErrorKind;
 
 /// The text of a document's tree. `FiniteDouble` if a finite double other than the zeros is in it, or `Memory`.
 fn text_written(alloc: Global, document: &Document, text: &mut String) -> Result<(), ErrorKind>
-    ensures { AnswersText (or_finite (write Canonical (tree (content document.now)))) (string_bytes text.new) result }
+    ensures { AnswersText (or_finite (write Canonical (tree (content document.now))))
+        (string_bytes text.new) result }
 {
     match write_canonical(alloc, document, text) {
         Ok(()) => Ok(()),
@@ -34,7 +35,8 @@ fn text_written(alloc: Global, document: &Document, text: &mut String) -> Result
 /// The text of a document's tree. `ReservedKey` if it has a reserved key below its top, else `FiniteDouble`, or
 /// `Memory`.
 fn text_of_document(alloc: Global, document: &Document, text: &mut String) -> Result<(), ErrorKind>
-    ensures { AnswersText (json_of Canonical (content document.now)) (string_bytes text.new) result }
+    ensures { AnswersText (json_of Canonical (content document.now))
+        (string_bytes text.new) result }
 {
     if has_reserved_below(document) {
         return Err(ErrorKind::ReservedKey);
@@ -45,7 +47,8 @@ fn text_of_document(alloc: Global, document: &Document, text: &mut String) -> Re
 /// Puts the text of the tree in the place of what `text` held, and returns true; or false for documents whose text has
 /// to be made of their tree. `Memory` if a growth was refused.
 fn text_of_bytes(alloc: Global, body: &[u8], text: &mut String) -> Result<bool, ErrorKind>
-    ensures written { IfOk result (λ b. IsTrue b → (d : Members) → IsKept d → body.now ≡ encode d → AnswersText (json_of Canonical d) (string_bytes text.new) (Ok tt)) }
+    ensures written { IfOk result (λ b. IsTrue b → (d : Members) → IsKept d → body.now ≡ encode d
+        → AnswersText (json_of Canonical d) (string_bytes text.new) (Ok tt)) }
     ensures refused { IfErr result (λ k. k ≡ Memory) }
 {
     if !has_tree(body) {
@@ -63,7 +66,9 @@ fn text_of_bytes(alloc: Global, body: &[u8], text: &mut String) -> Result<bool, 
 ///
 /// Refuses what `json_of_body` refuses, by the same kinds; what `text` holds then isn't said.
 pub fn text_of_body(alloc: Global, body: &[u8], text: &mut String) -> Result<(), ErrorKind>
-    ensures { (d : Members) → IsKept d → body.now ≡ encode d → AnswersText (json_of Canonical d) (string_bytes text.new) result }
+    ensures text { (d : Members) → IsKept d → body.now ≡ encode d
+        → AnswersText (json_of Canonical d) (string_bytes text.new) result }
+    ensures kind { IfErr result IsOfStore }
 {
     if text_of_bytes(alloc, body, text)? {
         return Ok(());

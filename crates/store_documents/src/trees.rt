@@ -1,12 +1,12 @@
-//! Whether a kept document has a JSON tree, where that is seen from its bytes, without the tree.
+//! Whether a kept document has a JSON tree, if that is seen from its bytes, without the tree.
 
-ghost use Rattle.std.specs.Prelude.{◌≡◌, drop, false, IsTrue};
+ghost use Rattle.std.specs.Prelude.{◌≡◌, drop, false, IfErr, IsTrue};
 ghost use Rattle.bson_base.specs.Value.{Members};
 ghost use Rattle.bson_bytes.specs.Encode.{encode};
 ghost use Rattle.bson_model.specs.JsonKeys.{is_reserved};
 ghost use Rattle.bson_model.specs.declared.extjson.ser.Mode.{Mode as Form};
 ghost use Rattle.store_model.specs.State.{IsKept, json_of};
-ghost use Rattle.store_documents.specs.Answers.{AnswersChecked, HasTree};
+ghost use Rattle.store_documents.specs.Answers.{AnswersChecked, HasTree, IsOfStore};
 ghost use Rattle.store_documents.specs.Trees.{AreTold, HasNoDouble, IsTold};
 ghost use Rattle.store_documents.specs.declared.trees.Keys.TheVariants.{Unreserved};
 
@@ -36,7 +36,7 @@ fn is_unreserved(key: &str) -> bool
     }
 }
 
-/// True: the key may stand there.
+/// True: the key may be there.
 fn may_stand(key: &str, keys: Keys) -> bool
     ensures { IsTrue result → keys ≡ Unreserved → is_reserved key.now ≡ false }
 {
@@ -105,7 +105,8 @@ fn holds_told(bytes: &[u8], keys: Keys, inner: usize) -> bool
 /// True: the kept document whose written form these bytes are has a tree. False says nothing: that is returned, too,
 /// for documents with any double, with code with scope, or with another key that begins with `$` below the top.
 pub(crate) fn has_tree(body: &[u8]) -> bool
-    ensures { IsTrue result → (d : Members) → IsKept d → body.now ≡ encode d → (m : Form) → HasTree (json_of m d) }
+    ensures { IsTrue result → (d : Members) → IsKept d → body.now ≡ encode d → (m : Form)
+        → HasTree (json_of m d) }
 {
     holds_told(body, Keys::Free, LEVEL_LIMIT)
 }
@@ -115,7 +116,9 @@ pub(crate) fn has_tree(body: &[u8]) -> bool
 ///
 /// Refuses what `json_of_body` refuses, by the same kinds.
 pub fn check_json(alloc: Global, body: &[u8], mode: Mode) -> Result<(), ErrorKind>
-    ensures { (d : Members) → IsKept d → body.now ≡ encode d → AnswersChecked (json_of mode d) result }
+    ensures checked { (d : Members) → IsKept d → body.now ≡ encode d
+        → AnswersChecked (json_of mode d) result }
+    ensures kind { IfErr result IsOfStore }
 {
     if has_tree(body) {
         return Ok(());

@@ -22,7 +22,7 @@ use store_model::ErrorKind;
 pub struct KeptRow<'a> {
     /// The key of its `_id`.
     pub key: Vec<u8>,
-    /// Its bytes: the caller's, where it gave them as they are kept.
+    /// Its bytes: the caller's, if it gave them as they are kept.
     pub body: CowSlice<'a, u8, Global>,
 }
 
@@ -41,7 +41,8 @@ pub(crate) fn key_refusal(error: KeyError) -> ErrorKind
 /// `Memory`.
 fn encoded(alloc: Global, document: &Document) -> Result<Vec<u8>, ErrorKind>
     requires { IsPlain (tree (content document.now)) }
-    ensures { MatchResult result (λ b. b.items ≡ encode (content document.now)) (IsLong (content document.now)) }
+    ensures { MatchResult result (λ b. b.items ≡ encode (content document.now))
+        (IsLong (content document.now)) }
 {
     match encode_document(alloc, document) {
         Ok(bytes) => Ok(bytes),
@@ -53,10 +54,11 @@ fn encoded(alloc: Global, document: &Document) -> Result<Vec<u8>, ErrorKind>
     }
 }
 
-/// The bytes of a document. `Nul` if a 00 stands in a key, a pattern or options, else `TooLong` if they are over
+/// The bytes of a document. `Nul` if a 00 is in a key, a pattern or options, else `TooLong` if they are over
 /// 16777216; `Memory` if a growth was refused.
 pub fn body_of(alloc: Global, document: &Document) -> Result<Vec<u8>, ErrorKind>
-    ensures { MatchResult result (λ b. IsBody b.items (content document.now)) (IsUnwritten (content document.now)) }
+    ensures { MatchResult result (λ b. IsBody b.items (content document.now))
+        (IsUnwritten (content document.now)) }
 {
     if !is_plain_document(document) {
         return Err(ErrorKind::Nul);

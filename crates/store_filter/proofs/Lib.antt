@@ -1,6 +1,6 @@
-pub mod Members
-pub mod Looking
-pub mod Views
-pub mod Following
-pub mod Selecting
-pub mod Listing
+pub mod MemberLemmas
+pub mod LookUpLemmas
+pub mod ViewLemmas
+pub mod PathLemmas
+pub mod SelectLemmas
+pub mod ProjectionLemmas

@@ -168,7 +168,8 @@ pub fn crashes_leave_the_end()
 pub fn crashes_go_on()
     ensures { (w : Denials) (s t u : State) (cs : List Command) (rs : List Reply) (c : Command) (r : Reply) (run : Run w 0 s cs rs t)
         (o : Option Denial) → Turn o t c r u → (v : Denials) × (more : Run v 0 s (cs ++ c ∷ []) (rs ++ r ∷ []) u)
-        × ((x : State) → LeftBy Is (LeftAlong Is (λ y. y ≡ s) w 0 s cs rs t run) t c r x → LeftAlong Is (λ y. y ≡ s) v 0 s (cs ++ c ∷ []) (rs ++ r ∷ []) u more x) }
+        × ((x : State) → LeftBy Is (LeftAlong Is (λ y. y ≡ s) w 0 s cs rs t run)
+        t c r x → LeftAlong Is (λ y. y ≡ s) v 0 s (cs ++ c ∷ []) (rs ++ r ∷ []) u more x) }
 {}
 
 /// A refused command leaves the state.

@@ -1,7 +1,7 @@
-//! Cases of the crates between raw documents and the table (bson_meaning, store_filter, store_documents, cli_words)
-//! whose answers are texts. Each line of standard input is a case: what to do, and with what. Its answer is one line of
-//! standard output. The files `stdin` and `stdout` hold the cases and their answers, worked out by hand from
-//! bsonspec.org 1.1, IEEE 754-2008 and MongoDB Extended JSON v2.
+//! Cases of the crates between raw documents and the table (bson_meaning, bson_raw_text, store_filter,
+//! store_documents, cli_words) whose answers are texts. Each line of standard input is a case: what to do, and with
+//! what. Its answer is one line of standard output. The files `stdin` and `stdout` hold the cases and their answers,
+//! worked out by hand from bsonspec.org 1.1, IEEE 754-2008 and MongoDB Extended JSON v2.
 //!
 //! If a case takes several parts, there is ` | ` between them. The forms of parts:
 //!
@@ -32,6 +32,8 @@
 //!   reported without the tree and with it. `row NAME | KEY | BODY`: whether a store can have written the row.
 //! - `stream BYTES`, `trees BYTES` (lines of JSON): the bytes of the documents. `meets KEY|KEY|..`: which keys are met
 //!   for the first time.
+//! - `reads TEXT`: whether a line of JSON is read without its tree. `writes BYTES`: whether the text of a document is
+//!   written without its tree. If it isn't, the answer is `left`.
 //! - `words WORD|WORD|..`: the line of the table that they are. `id TEXT`: the value. `lines BYTES`: how many trees.
 //! - `refusal KIND`, `refusal KIND | DOCUMENT`, `complaint WHAT`, `printed NUMBER NUMBER` (and both flags): what is
 //!   printed.
@@ -45,6 +47,7 @@ mod documents;
 mod errors;
 mod filters;
 mod meaning;
+mod straight;
 mod streams;
 mod tell;
 mod told;
@@ -88,6 +91,8 @@ fn answer_store(alloc: Global, word: &str, rest: &str) -> Result<String, TextErr
         "stream" => streams::stream(alloc, rest),
         "trees" => streams::trees(alloc, rest),
         "meets" => streams::meets(alloc, rest),
+        "reads" => straight::reads(alloc, rest),
+        "writes" => straight::writes(alloc, rest),
         _ => answer_words(alloc, word, rest),
     }
 }

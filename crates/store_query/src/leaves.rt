@@ -33,8 +33,8 @@ fn owned(alloc: Global, pieces: &[&str]) -> Result<Vec<String>, QueryError>
     Ok(keys)
 }
 
-/// The keys of a path, between its dots.
-fn keys_of(alloc: Global, path: &str) -> Result<Vec<String>, QueryError>
+/// The keys of a path, between its dots. `Memory` if a growth was refused, and no other error.
+pub fn keys_of(alloc: Global, path: &str) -> Result<Vec<String>, QueryError>
     ensures { Gives (λ v. path_of v.items) result (Ok (keys path.now)) }
 {
     let pieces = pieces(alloc, path)?;

@@ -12,7 +12,7 @@ use Rattle.store_table.specs.Schema.{HasDocuments, IsFree}
 use Rattle.store_table.specs.Rows.{TableRow, RowsIn, IsBlank, ListsSchema, HoldsRows, columns_of}
 use Rattle.store_table.proofs.StatementLemmas.{lists_own, seen, unseen}
 
--- databases that list their schemas have the same one, where they have the same trees
+-- databases that list their schemas have the same one, if they have the same trees
 same_schema : (a b : Database) → ListsSchema a → ListsSchema b → b.trees ≡ a.trees → b.schema ≡ a.schema
 unfolding ListsSchema
 same_schema a b h k same = lists_once (a.trees catalog_tree) b.schema a.schema (subst (λ (t : Trees). Lists (t catalog_tree) b.schema) same k) h

@@ -1,4 +1,4 @@
--- What a query over the table answers.
+-- What a query over the table returns.
 use Rattle.std.proofs.Common.{◌≡◌, ◌^◌, ℕ, nat_le, List, [], ◌∷◌, ◌++◌, map, filter, flat_map, Bool, true, false, ◌&&◌, cond, if◌then◌else◌, refl, ap, subst, ◌∙◌, Some, is_eq}
 use Rattle.std.specs.List.{list_all}
 use Rattle.std.specs.List.Sorted.{IsPermutation, IsSorted}
@@ -18,7 +18,7 @@ use Rattle.sqlite_sql.specs.Program.{overlay}
 use Rattle.sqlite.specs.Tree.{Trees}
 use Rattle.sqlite.specs.Effect.{Answers, Database}
 use Rattle.store_table.specs.Rows.{TableRow, columns_of, TableRows}
-use Rattle.store_table.proofs.Texts.{plain_query, query_at, program}
+use Rattle.store_table.proofs.TextLemmas.{plain_query, query_at, program}
 
 -- = on two values that are not NULL, as a test
 pub and_true : (b : Bool) → b && true ≡ b
@@ -67,7 +67,7 @@ pub record Outputs (filter_terms project : List Term) (order : List (Term × Key
   pub sorted : IsSorted (output_cmp (plain_query filter_terms project order)) all
   pub shown : rows ≡ map (λ o. o.1) all
 
--- every row passes where nothing is asked
+-- every row passes if nothing is asked
 pub keeps_all : (rows : List Row) → filter (passes [] []) rows ≡ rows
 keeps_all [] = refl
 keeps_all (r ∷ rows) = ap (λ rs. r ∷ rs) (keeps_all rows)

@@ -29,7 +29,7 @@ use Rattle.store_table.proofs.StatementLemmas.{unchanged_shows, undone_shows, un
 use Rattle.store_table.proofs.OthersLemmas.{still_others, others_after, refused_others}
 use Rattle.store_table.proofs.PlainLemmas.{AsksForRows, Bare, bare_if, if_select_is}
 
--- no refusal has the name of an answer with no rows
+-- no refusal to read is QueryReturnedNoRows
 not_read : (limit : Option ℕ) (command : Command) (db : Database) (params : Row) → RefusesToRead limit command db params QueryReturnedNoRows → ⊥
 not_read limit (Select q names) db params (inl h) = absurd (let e = h.0 in cc)
 not_read limit (Select q names) db params (inr (inl h)) = absurd (let e = h.0 in cc)
@@ -112,7 +112,7 @@ module _ (text : List ℕ) (asked : AsksForRows (first text)) where
       let it = subst (λ k. FailsToShow old new text ran.0 (timed params ran.0.formats ran.1.now) QueryReturnedNoRows k) (bare old.now.schema ran.0 ran.1.is).0 ran.2 in
       absurd (not_read old.step_limit ran.0.command it.0 (timed params ran.0.formats ran.1.now) it.2)
 
-  -- the first row of an answer
+  -- the first row of a result
   pub row_same : (params : Row) (old new : State) (row : Row) → QueriesRow text params old new (Ok row) → IsUnchanged old new
   unfolding QueriesRow
   row_same params old new row (inl q) = q.1

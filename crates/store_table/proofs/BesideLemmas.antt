@@ -31,7 +31,7 @@ use Rattle.store_table.specs.Schema.{documents}
 use Rattle.store_table.specs.Beside.{AddsCounts, AddsTable, StandsBeside, AreBeside}
 use Rattle.store_table.proofs.InsertLemmas.{went, same_value}
 use Rattle.store_table.proofs.PlainLemmas.{if_select_is, same_compiled}
-use Rattle.store_table.proofs.Texts.{create_text, create_defines}
+use Rattle.store_table.proofs.TextLemmas.{create_text, create_defines}
 
 -- ---- what the text means
 
@@ -51,7 +51,7 @@ create_makes = (refl, refl)
 abbrev IsCreating : List ℕ → Compiled → Type 0
 IsCreating text c = (c.command ≡ CreateTable) × (c.returning ≡ None) × (c.formats ≡ []) × (text_of text c ≡ text)
 
--- no name is spared where it is taken
+-- a name that is taken isn't passed over
 spared : (reserved other same missing : Bool) → missing ≡ false → (if reserved then Err Misuse else (if other then Err Exists else (if same then (if missing then Ok false else Err Exists) else Ok true))) ≡ Ok false → ⊥
 spared true other same missing none h = cc
 spared false true same missing none h = cc
@@ -124,7 +124,7 @@ kept_then : (tables : List Table) (a b c : Trees) → KeepsRows tables a b → K
 kept_then [] a b c h k = tt
 kept_then (t ∷ tables) a b c h k = (k.0 ∙ h.0, kept_then tables a b c h.1 k.1)
 
--- the table, and that of the counts behind it
+-- the table, and that of the counts after it
 adds_counts : (old mid new : Database) → mid.schema ≡ created old.schema documents → mid.trees (next_tree old.schema) ≡ [] → KeepsRows old.schema.tables old.trees mid.trees
     → MakesSequence mid (Ok new) → AddsCounts mid.schema new.schema × (new.trees (next_tree old.schema) ≡ []) × KeepsRows old.schema.tables old.trees new.trees
 adds_counts old mid new is empty rows h = elim (cases_Bool (lacks_sequence mid.schema)) [

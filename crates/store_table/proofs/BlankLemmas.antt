@@ -1,4 +1,4 @@
--- A table that is made beside others is there with no row.
+-- A table that is made beside others is there, without a row.
 use Rattle.std.proofs.Common.{◌≡◌, ◌⊎◌, inl, inr, ◌<◌, ◌≤◌, ◌^◌, ◌+◌, ◌++◌, ◌∷◌, [], ℕ, zero, suc, max, fold, List, true, false, ◌==◌, nat_le, length, find, slice_get, filter, Option, None, Some, option_map, option_and_then, Ok, Err, Result, OnOk, refl, sym, ap, subst, ◌∙◌, arith, eq-eqb, codes}
 use Rattle.std.specs.List.{AllByRecursion, AllZip, position_from}
 use Rattle.std.specs.List.Sorted.{IsPermutation}
@@ -121,7 +121,7 @@ counts_refer : (counts : Table) → table_defined_by sequence_text ≡ Ok counts
 unfolding everything
 counts_refer counts is = sym (ap references_of is)
 
--- no table behind that of documents is over its tree, or refers to one
+-- no table after that of documents has its tree, or refers to another
 pub record AreApart (tree : ℕ) (rest : List Table) : Type 0 where
   pub trees : AllByRecursion (λ (t : Table). (t.tree == tree) ≡ false) rest
   pub references : AllByRecursion (λ (t : Table). t.references ≡ []) rest
@@ -142,7 +142,7 @@ added s after h = elim (cases_Bool (lacks_sequence (created s documents))) [
     joined [] t u = refl
     joined (x ∷ xs) t u = ap (λ ts. x ∷ ts) (joined xs t u)
 
--- ---- the table stands
+-- ---- the table is there
 
 low_trees : (rs : List Row) (ts : List Table) → AllZip IsTableRow rs ts → AllByRecursion (λ (t : Table). t.tree < 65536) ts
 low_trees [] [] h = tt

@@ -34,7 +34,7 @@ use Rattle.store_table.specs.Beside.{SparesOthers}
 use Rattle.store_table.proofs.OthersLemmas.{trees_have}
 use Rattle.store_table.proofs.PermLemmas.{gone_perm, back_perm}
 use Rattle.store_table.proofs.InsertLemmas.{went, same_value, table_with}
-use Rattle.store_table.proofs.Texts.{plain_query, equals, delete_text, update_text}
+use Rattle.store_table.proofs.TextLemmas.{plain_query, equals, delete_text, update_text}
 use Rattle.store_table.proofs.CommandLemmas.{program_at, body_project}
 use Rattle.store_table.proofs.MeansLemmas.{delete_is, update_is}
 

@@ -1,4 +1,4 @@
--- What the INSERT, the UPDATEs and the DELETE mean, wherever the table stands in a schema.
+-- What the INSERT, the UPDATEs and the DELETE mean, wherever the table is in a schema.
 use Rattle.std.proofs.Common.{◌≡◌, ℕ, ◌-◌, List, [], ◌∷◌, codes, None, Some, Ok, refl}
 use Rattle.sqlite.specs.declared.types.Value.TheVariants.{Null}
 use Rattle.sqlite.specs.Schema.{Schema}
@@ -23,7 +23,7 @@ use Rattle.sqlite_tied.specs.Compute.{everything}
 use Rattle.store_table.specs.Schema.{documents, documents_at, HasDocuments}
 use Rattle.store_table.proofs.LookLemmas.{by_nothing}
 use Rattle.store_table.proofs.FilterLemmas.{after, parameter, place_test, place_lowered}
-use Rattle.store_table.proofs.Texts.{query_at, program, equals, insert_terms}
+use Rattle.store_table.proofs.TextLemmas.{query_at, program, equals, insert_terms}
 
 abbrev pub insert_names : List (List ℕ)
 insert_names = codes "place" ∷ codes "coll" ∷ codes "idkey" ∷ codes "body" ∷ []

@@ -1,4 +1,4 @@
--- What the tests of the texts mean, wherever the table stands in a schema.
+-- What the tests of the texts mean, wherever the table is in a schema.
 use Rattle.std.proofs.Common.{◌≡◌, ℕ, ◌-◌, suc, List, [], ◌∷◌, codes, true, false, Option, None, Some, Ok, refl, nat_lt}
 use Rattle.sqlite.specs.declared.types.Value.TheVariants.{Null}
 use Rattle.sqlite.specs.Schema.{Schema}
@@ -20,11 +20,11 @@ use Rattle.sqlite_resolve.specs.Compare.{compared, unbound}
 use Rattle.sqlite_resolve.specs.Expr.{lower_to, lower, node, opened, passes, tests_truth, tests_alias, wanted_truth, both, operation, combine, prefixed}
 use Rattle.sqlite_tied.specs.Compute.{everything}
 use Rattle.store_table.specs.Schema.{HasDocuments}
-use Rattle.store_table.proofs.Trees.{trees}
+use Rattle.store_table.proofs.TreeLemmas.{trees}
 use Rattle.store_table.proofs.LookLemmas.{by_bytes, by_nothing, named_column, scope_at, lowers, place_column, coll_column, idkey_column}
-use Rattle.store_table.proofs.Texts.{equals}
+use Rattle.store_table.proofs.TextLemmas.{equals}
 
--- what is collected where no step and no aggregate was
+-- what is collected if there was no step and no aggregate
 abbrev pub collected : ℕ → Option Collation → Carried → State
 collected budget written last = record (fresh 2 max_budget) { budget = budget; written = written; last = last }
 

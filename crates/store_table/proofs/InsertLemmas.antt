@@ -29,7 +29,7 @@ use Rattle.store_table.specs.Beside.{SparesOthers}
 use Rattle.store_table.proofs.OthersLemmas.{spared_by, trees_have}
 use Rattle.store_table.proofs.PermLemmas.{add_perm}
 use Rattle.store_table.proofs.RowLemmas.{cast_null, cast_int, rising_last}
-use Rattle.store_table.proofs.Texts.{insert_text, insert_terms}
+use Rattle.store_table.proofs.TextLemmas.{insert_text, insert_terms}
 use Rattle.store_table.proofs.MeansLemmas.{insert_is}
 
 abbrev pub given : TableRow → Row
@@ -43,7 +43,7 @@ went (inr on) = on
 pub same_value : {B E : Type 0} {a b : B} → ◌≡◌ {A = Result B E} (Ok a) (Ok b) → a ≡ b
 same_value e = cc
 
--- the table with other rows, where the other tables have theirs
+-- the table with other rows, if the other tables have theirs
 pub table_with : (db after : Database) (docs made : List TableRow) (rows : TableRows db docs) (trees : Trees) (all : List Row) → after.schema ≡ db.schema → after.trees ≡ trees → trees rows.tree ≡ all → IsPermutation (map columns_of made) all → IsRising made
     → AllByRecursion (λ t. t.tree ≢ rows.tree → trees t.tree ≡ db.trees t.tree) db.schema.tables → IsDatabase after → TableRows after made × SparesOthers db after
 table_with db after docs made rows trees all schema is there perm rising kept sound = (

@@ -1,4 +1,4 @@
--- What is told of rows that are read one after the other.
+-- What is reported of rows that are read one after the other.
 use Rattle.std.proofs.Common.{◌≡◌, inl, inr, append_assoc, ℕ, ℤ, List, [], ◌∷◌, ◌++◌, map, Bool, true, false, ◌&&◌, Result, Ok, Err, is_err, IsTrue, refl, sym, ap, subst, ◌∙◌}
 use Rattle.std.specs.List.{list_all}
 use Rattle.std.proofs.lemmas.Bool.{cases_Bool}
@@ -73,7 +73,7 @@ module _ (accepts : List ℕ → List ℕ → List ℕ → Type 0) where
     first = record { front = map doc_of rows; bad = doc_of r; back = []; all = map_end r rows; good = h.good; refused = bad; is = is };
   }
 
-  -- where nothing is wrong
+  -- if nothing is wrong
   pub passed_if : (keys : List Pair) (last : ℤ) (rows : List Row) (r : Row) (verdict now : Result (Unit {0}) OpenError) → is_err now ≡ false → (IsTrue (is_listed r) → now ≡ verdict) → (is_listed r ≡ false → now ≡ Err NotAStore)
       → JudgesRow accepts keys last rows verdict → ArePassed accepts keys last rows × (is_listed r ≡ true)
   passed_if keys last rows r verdict now e kept mistyped h = elim (cases_Bool (is_listed r)) [

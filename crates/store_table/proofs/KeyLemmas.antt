@@ -28,7 +28,7 @@ use Rattle.store_table.specs.Beside.{SparesOthers}
 use Rattle.store_table.proofs.PermLemmas.{key_perm}
 use Rattle.store_table.proofs.InsertLemmas.{went, same_value, table_with}
 use Rattle.store_table.proofs.ChangeLemmas.{by_place}
-use Rattle.store_table.proofs.Texts.{rekey_text}
+use Rattle.store_table.proofs.TextLemmas.{rekey_text}
 use Rattle.store_table.proofs.CommandLemmas.{program_at, idkey_project}
 use Rattle.store_table.proofs.MeansLemmas.{rekey_is}
 

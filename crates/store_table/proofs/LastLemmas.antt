@@ -23,8 +23,8 @@ use Rattle.store_table.specs.Rows.{TableRow, columns_of, IsRising, HoldsRows, la
 use Rattle.store_table.proofs.StatementLemmas.{seen}
 use Rattle.store_table.proofs.AnswerLemmas.{passes, stored_matches, map_map, keeps_all}
 use Rattle.store_table.proofs.LastPlaceLemmas.{below_next}
-pub use Rattle.store_table.proofs.Texts.{greatest_text}
-use Rattle.store_table.proofs.Texts.{plain_query, query_at, program}
+pub use Rattle.store_table.proofs.TextLemmas.{greatest_text}
+use Rattle.store_table.proofs.TextLemmas.{plain_query, query_at, program}
 use Rattle.store_table.proofs.MeansLemmas.{greatest_is}
 use Rattle.store_table.proofs.ReadLemmas.{key_of, not_below}
 

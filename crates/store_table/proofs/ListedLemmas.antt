@@ -22,12 +22,12 @@ use Rattle.store_table.specs.Rows.{TableRow, columns_of, RowsIn, HoldsRows, IsRi
 use Rattle.store_table.specs.Open.{all_text, Reads}
 use Rattle.store_table.specs.Cells.{doc_of}
 use Rattle.store_table.specs.Check.{AreGood}
-use Rattle.store_table.proofs.Texts.{all_query, query_at, program, by_place}
+use Rattle.store_table.proofs.TextLemmas.{all_query, query_at, program, by_place}
 use Rattle.store_table.proofs.MeansLemmas.{all_is}
 use Rattle.store_table.proofs.ReadLemmas.{in_order, answers_of}
 use Rattle.store_table.proofs.AnswerLemmas.{outputs_of, stored_matches, passes as keeps, map_map, keeps_all}
 use Rattle.store_table.proofs.TypedLemmas.{IsTyped, typed_row}
-use Rattle.store_table.proofs.ListedRows.{put_down, put_down_is}
+use Rattle.store_table.proofs.ListedRowLemmas.{put_down, put_down_is}
 use Rattle.store_table.proofs.StatementLemmas.{lists_own, seen, unseen}
 use Rattle.store_table.proofs.CheckLemmas.{good_rises}
 
@@ -37,7 +37,7 @@ all_at tree = query_at tree [] (col 1 0 ∷ col 1 2 ∷ col 1 3 ∷ col 1 4 ∷ 
 abbrev cols : Row → Row
 cols r = (output all_query ([] ∷ r ∷ [])).1
 
--- what the query answers of any rows
+-- what the query returns of any rows
 pub answered : (db : Database) (tree : ℕ) (rows : List Row) → nat_le (2 ^ 31) tree ≡ false → Answers db (program (all_at tree)) [] rows → IsPermutation (map cols (db.trees tree)) rows
 answered db tree rows stored answers =
     let a : IsAnswerAs Null (all_at tree) (overlay db.trees []) [] rows = answers.answer Null in

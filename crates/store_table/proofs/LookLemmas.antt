@@ -1,4 +1,4 @@
--- What a column of the table stands for, wherever the table stands in a schema.
+-- What a column of the table means, wherever the table is in a schema.
 use Rattle.std.proofs.Common.{◌≡◌, ℕ, ◌+◌, ◌-◌, suc, ◌++◌, List, [], ◌∷◌, codes, Bool, true, false, Option, None, Some, Ok, refl, nat_lt}
 use Rattle.sqlite.specs.Schema.{Schema}
 use Rattle.sqlite.specs.Term.{col}
@@ -20,7 +20,7 @@ use Rattle.sqlite_resolve.specs.Scope.{Context, find as looked_up, term_of, colu
 use Rattle.sqlite_resolve.specs.Body.{table_in, declared, shown as shows, heading, is_column}
 use Rattle.sqlite_tied.specs.Compute.{everything}
 use Rattle.store_table.specs.Schema.{documents, HasDocuments}
-use Rattle.store_table.proofs.Trees.{trees}
+use Rattle.store_table.proofs.TreeLemmas.{trees}
 
 abbrev pub bound_at : ℕ → Bound
 bound_at n = record { name = codes "documents"; table = n; slot = 1; shared = [] }

@@ -1,4 +1,4 @@
--- What the texts mean, wherever the table stands in a schema.
+-- What the texts mean, wherever the table is in a schema.
 use Rattle.std.proofs.Common.{◌≡◌, ℕ, List, [], ◌∷◌, codes, true, false, None, Ok, Err, Result, refl}
 use Rattle.sqlite.specs.Schema.{Schema}
 use Rattle.sqlite.specs.Term.{col}
@@ -19,11 +19,11 @@ use Rattle.sqlite_tied.specs.Compute.{everything}
 use Rattle.store_table.specs.Schema.{HasDocuments}
 use Rattle.store_table.specs.Open.{all_text}
 use Rattle.store_table.specs.Names.{names_text}
-use Rattle.store_table.specs.Visit.{scan_text}
+use Rattle.store_table.specs.Visit.{scan_text, placed_text}
 use Rattle.store_table.proofs.FilterLemmas.{named_terms, scan_terms}
-use Rattle.store_table.proofs.QueryLemmas.{place_key, names_select, all_select, greatest_select, found_select, places_select, scan_select, names_read, all_read, greatest_read, found_read, places_read, scan_read}
+use Rattle.store_table.proofs.QueryLemmas.{place_key, names_select, all_select, greatest_select, found_select, places_select, scan_select, at_select, placed_select, names_read, all_read, greatest_read, found_read, places_read, scan_read, at_read, placed_read}
 use Rattle.store_table.proofs.CommandLemmas.{insert_statement, update_statement, delete_statement, body_project, idkey_project, program_at, insert_means, insert_untimed, delete_means, body_means, idkey_means}
-use Rattle.store_table.proofs.Texts.{query_at, program, greatest_text, insert_text, insert_terms, delete_text, update_text, rekey_text, find_text, places_text}
+use Rattle.store_table.proofs.TextLemmas.{query_at, program, equals, at_text, greatest_text, insert_text, insert_terms, delete_text, update_text, rekey_text, find_text, places_text}
 
 -- the text is read as this statement, with no time in it
 abbrev pub ParsesAs : Statement → Checked Parsed → Type 0
@@ -90,6 +90,14 @@ places_parses : ParsesAs (written.Select places_select) (first places_text)
 unfolding everything
 places_parses = (refl, refl)
 
+placed_parses : ParsesAs (written.Select placed_select) (first placed_text)
+unfolding everything
+placed_parses = (refl, refl)
+
+at_parses : ParsesAs (written.Select at_select) (first at_text)
+unfolding everything
+at_parses = (refl, refl)
+
 scan_parses : ParsesAs (written.Select scan_select) (first scan_text)
 unfolding everything
 scan_parses = (refl, refl)
@@ -128,3 +136,9 @@ module _ (schema : Schema) (n tree : ℕ) (h : HasDocuments schema.tables n tree
 
   pub scan_is : Means schema scan_text (Select (program (query_at tree scan_terms (col 1 4 ∷ []) (place_key false))) (codes "body" ∷ []))
   scan_is = select_by schema scan_text scan_select _ scan_parses (scan_read schema n tree h)
+
+  pub at_is : Means schema at_text (Select (program (query_at tree (equals 0 0 ∷ []) (col 1 2 ∷ col 1 4 ∷ []) (place_key false))) (codes "coll" ∷ codes "body" ∷ []))
+  at_is = select_by schema at_text at_select _ at_parses (at_read schema n tree h)
+
+  pub placed_is : Means schema placed_text (Select (program (query_at tree scan_terms (col 1 0 ∷ col 1 4 ∷ []) (place_key false))) (codes "place" ∷ codes "body" ∷ []))
+  placed_is = select_by schema placed_text placed_select _ placed_parses (placed_read schema n tree h)

@@ -14,7 +14,7 @@ use Rattle.store_table.specs.Rows.{TableRow, HoldsRows, is_in}
 use Rattle.store_table.specs.Visit.{IsSelect, first_value}
 use Rattle.store_table.specs.Names.{has_name, is_same_name, names_text}
 use Rattle.store_table.proofs.StatementLemmas.{seen}
-use Rattle.store_table.proofs.Texts.{by_place}
+use Rattle.store_table.proofs.TextLemmas.{by_place}
 use Rattle.store_table.proofs.MeansLemmas.{names_is}
 use Rattle.store_table.proofs.AnswerLemmas.{outputs_of}
 use Rattle.store_table.proofs.ReadLemmas.{in_order, answers_of}

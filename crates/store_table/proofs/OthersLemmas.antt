@@ -60,7 +60,7 @@ trees_have first db docs h spared = record {
 pub left_beside : (a b : Database) (trees : Trees) (docs : List TableRow) → SparesOthers a b → HasRows b trees docs → HasRows a trees docs
 left_beside a b trees docs h r = trees_have a (record { schema = b.schema; trees = trees }) docs r.table (spared_then a b (record { schema = b.schema; trees = trees }) h r.others)
 
--- where the other tables are kept, an open connection still shows them
+-- if the other tables are kept, an open connection still shows them
 pub shows_then : (first : Database) (old new : State) → ShowsOthers first old → KeepsOthers old new → ShowsOthers first new
 shows_then first old new h k still = spared_then first old.now new.now (h (k.was_open still)) (k.spared still)
 
@@ -80,14 +80,14 @@ others_then a b c h k = record {
 pub rest_others : (s : State) → KeepsOthers s s
 rest_others s = record { was_open = λ still. still; spared = λ still. spared_all s.now s.now refl }
 
--- behind a read
+-- after a read
 pub others_after : (old mid new : State) → IsUnchanged old mid → KeepsOthers mid new → KeepsOthers old new
 others_after old mid new u = others_then old mid new (still_others old mid u)
 
 pub settled_of : (s : State) (docs : List TableRow) → HoldsRows s docs → IsSettled s
 settled_of s docs h = record { autocommit = h.autocommit; committed = λ _. h.settled }
 
--- a refusal, where no transaction was open
+-- a refusal, if no transaction was open
 pub refused_others : (old new : State) (docs : List TableRow) → (IsTrue new.is_open → IsTrue old.is_open) → (IsSettled old → KeepsAll old new) → Stands old docs → KeepsOthers old new
 refused_others old new docs was kept stands = record {
   was_open = was;

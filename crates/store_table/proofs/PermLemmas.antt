@@ -13,7 +13,7 @@ use Rattle.sqlite.specs.Order.{Row, value_cmp}
 use Rattle.sqlite_trees.specs.Tree.{rowid, put_row, has_rowid, without_rowid}
 use Rattle.std.proofs.Common.{ℤ}
 
--- a row that is put in where its rowid is free is one more row
+-- a row that is put in under a free rowid is one more row
 pub put_perm : (new : Row) (rows : List Row) → AllByRecursion (λ r. value_cmp (rowid r) (rowid new) ≡ Equal → ⊥) rows → IsPermutation (new ∷ rows) (put_row new rows)
 put_perm new [] h = IsPermutation-refl (new ∷ [])
 put_perm new (r ∷ rows) h = go (value_cmp (rowid r) (rowid new)) h.0 (put_perm new rows h.1)

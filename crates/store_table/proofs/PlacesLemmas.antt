@@ -1,4 +1,4 @@
--- A map from keys and names to places, beside the rows that it stands for.
+-- A map from keys and names to places, and the rows that it represents.
 use Rattle.std.proofs.Common.{◌≡◌, ◌++◌, ℤ, List, [], ◌∷◌, Bool, true, false, cond, ◌&&◌, Some, None, option_map, find, bytes_eq, refl, sym, ap, ap₂, ◌∙◌, is_eq}
 use Rattle.std.specs.BTreeMap.{BTreeMap, get}
 use Rattle.std.proofs.lemmas.Bool.{and_parts}

@@ -1,4 +1,4 @@
--- What a SELECT over the table means, wherever the table stands in a schema.
+-- What a SELECT over the table means, wherever the table is in a schema.
 use Rattle.std.proofs.Common.{◌≡◌, ℕ, ◌+◌, ◌-◌, suc, List, [], ◌∷◌, map, codes, negsuc, Bool, true, false, Option, None, Some, Ok, refl, nat_lt}
 use Rattle.sqlite.specs.declared.types.Value.TheVariants.{Int}
 use Rattle.sqlite.specs.Schema.{Schema}
@@ -34,10 +34,10 @@ use Rattle.sqlite_resolve.specs.Program.{Building, Shown as Answer, source, sour
 use Rattle.sqlite_resolve.specs.Compile.{read}
 use Rattle.sqlite_tied.specs.Compute.{everything}
 use Rattle.store_table.specs.Schema.{documents, HasDocuments}
-use Rattle.store_table.proofs.Trees.{trees}
+use Rattle.store_table.proofs.TreeLemmas.{trees}
 use Rattle.store_table.proofs.LookLemmas.{bound_at, by_bytes, by_nothing, named_column, shown_column, output_of, scope_at, IsColumn, lowers, shows_column, table_is, place_column, coll_column, idkey_column, body_column}
-use Rattle.store_table.proofs.FilterLemmas.{collected, after, by_collate, named_terms, scan_terms, named_test, scan_test, named_lowered, scan_lowered}
-use Rattle.store_table.proofs.Texts.{query_at, program}
+use Rattle.store_table.proofs.FilterLemmas.{collected, after, by_collate, named_terms, scan_terms, named_test, scan_test, named_lowered, scan_lowered, place_test, place_lowered}
+use Rattle.store_table.proofs.TextLemmas.{query_at, program, equals}
 
 abbrev pub table_source : Source
 table_source = roll-Source (record { is_left = false; origin = Table (codes "documents"); alias = None; on = None; using = [] })
@@ -89,6 +89,12 @@ places_select = select_of (core_of (shown_column (codes "place") ∷ []) (Some n
 
 abbrev pub scan_select : Select
 scan_select = select_of (core_of (shown_column (codes "body") ∷ []) (Some scan_test)) false None
+
+abbrev pub placed_select : Select
+placed_select = select_of (core_of (shown_column (codes "place") ∷ shown_column (codes "body") ∷ []) (Some scan_test)) false None
+
+abbrev pub at_select : Select
+at_select = select_of (core_of (shown_column (codes "coll") ∷ shown_column (codes "body") ∷ []) (Some place_test)) false None
 
 unpaged : (core : Core) (schema : Schema) → paging schema (select_of core false None) ≡ Ok no_page
 unfolding paging Rattle.sqlite_resolve.specs.Select.constant_or trees
@@ -269,3 +275,31 @@ module _ (schema : Schema) (n tree : ℕ) (h : HasDocuments schema.tables n tree
       selects shown (Some scan_test) outs scan_terms false None no_page (after 99999 by_bytes) 99994 (Some Binary) by_collate
       (gives_one (codes "body") 3 by_bytes (body_column schema n tree h) (Some scan_test))
       (matches_some shown scan_test outs _ (after 99999 by_bytes) (collected 99994 (Some Binary) by_collate) (scan_lowered schema n tree h outs 99999 by_bytes refl refl refl refl refl)) refl refl (unpaged _) _ scan_typed
+
+  -- ---- SELECT coll, body FROM documents WHERE place = ?1 ORDER BY place
+
+  at_typed : typed schema [] (draft_of tree (equals 0 0 ∷ []) (col 1 2 ∷ col 1 4 ∷ []) (place_key false) no_page) ≡ Ok (program (query_at tree (equals 0 0 ∷ []) (col 1 2 ∷ col 1 4 ∷ []) (place_key false)))
+  unfolding everything
+  at_typed = rw (h.stored, h.own) refl
+
+  pub at_read : read schema at_select ≡ Ok (Selects (program (query_at tree (equals 0 0 ∷ []) (col 1 2 ∷ col 1 4 ∷ []) (place_key false))) (codes "coll" ∷ codes "body" ∷ []))
+  at_read =
+      let outs = output_of (codes "coll") 1 by_bytes ∷ output_of (codes "body") 3 by_bytes ∷ [] in
+      let shown = shown_column (codes "coll") ∷ shown_column (codes "body") ∷ [] in
+      selects shown (Some place_test) outs (equals 0 0 ∷ []) false None no_page (after 99998 by_bytes) 99995 None by_nothing
+      (gives_two (codes "coll") (codes "body") 1 3 by_bytes by_bytes (coll_column schema n tree h) (body_column schema n tree h) (Some place_test))
+      (matches_some shown place_test outs _ (after 99998 by_bytes) (after 99995 by_nothing) (place_lowered schema n tree h outs 99998 by_bytes refl refl refl)) refl refl (unpaged _) _ at_typed
+
+  -- ---- SELECT place, body FROM documents WHERE +coll = ?1 COLLATE BINARY ORDER BY place
+
+  placed_typed : typed schema [] (draft_of tree scan_terms (col 1 0 ∷ col 1 4 ∷ []) (place_key false) no_page) ≡ Ok (program (query_at tree scan_terms (col 1 0 ∷ col 1 4 ∷ []) (place_key false)))
+  unfolding everything
+  placed_typed = rw (h.stored, h.own) refl
+
+  pub placed_read : read schema placed_select ≡ Ok (Selects (program (query_at tree scan_terms (col 1 0 ∷ col 1 4 ∷ []) (place_key false))) (codes "place" ∷ codes "body" ∷ []))
+  placed_read =
+      let outs = output_of (codes "place") 0 by_nothing ∷ output_of (codes "body") 3 by_bytes ∷ [] in
+      let shown = shown_column (codes "place") ∷ shown_column (codes "body") ∷ [] in
+      selects shown (Some scan_test) outs scan_terms false None no_page (after 99998 by_bytes) 99993 (Some Binary) by_collate
+      (gives_two (codes "place") (codes "body") 0 3 by_nothing by_bytes (place_column schema n tree h) (body_column schema n tree h) (Some scan_test))
+      (matches_some shown scan_test outs _ (after 99998 by_bytes) (collected 99993 (Some Binary) by_collate) (scan_lowered schema n tree h outs 99998 by_bytes refl refl refl refl refl)) refl refl (unpaged _) _ placed_typed

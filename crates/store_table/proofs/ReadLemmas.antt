@@ -1,5 +1,5 @@
--- What the queries answer, and that they change nothing.
-use Rattle.std.proofs.Common.{ap₂, Equal, suc, add-one, bytes_eq, ◌≡◌, ◌<ℤ◌, ◌≤ℤ◌, ℕ, ℤ, List, [], ◌∷◌, map, filter, Bool, true, false, cond, ◌&&◌, Some, refl, sym, ap, ◌∙◌, arith, is_eq, is_lt, option_map, find, slice_get}
+-- What the queries return, and that they change nothing.
+use Rattle.std.proofs.Common.{codes, ap₂, Equal, suc, add-one, bytes_eq, ◌≡◌, ◌<ℤ◌, ◌≤ℤ◌, ℕ, ℤ, List, [], ◌∷◌, map, filter, Bool, true, false, cond, ◌&&◌, Some, refl, sym, ap, ◌∙◌, arith, is_eq, is_lt, option_map, find, slice_get}
 use Rattle.std.specs.List.{AllByRecursion, list_all, sum_by}
 use Rattle.std.specs.List.Sorted.{IsSorted}
 use Rattle.std.specs.Ordering.{int_cmp, ordering_then}
@@ -20,12 +20,12 @@ use Rattle.sqlite.specs.Effect.{Answers}
 use Rattle.sqlite_value.specs.declared.keys.Key.{Key}
 use Rattle.sqlite.specs.State.{State, Shown}
 use Rattle.sqlite.proofs.Callers.{reads_as}
-use Rattle.store_table.specs.Rows.{TableRow, columns_of, HoldsRows, IsRising, is_row_named}
+use Rattle.store_table.specs.Rows.{TableRow, columns_of, HoldsRows, IsRising, is_at, is_row_named}
 use Rattle.store_table.proofs.StatementLemmas.{seen}
 use Rattle.store_table.proofs.AnswerLemmas.{and_true, Outputs, outputs_of, equal_is, map_map}
 use Rattle.store_table.proofs.SortLemmas.{same_order, Strict, Rises}
-use Rattle.store_table.proofs.Texts.{plain_query, query_at, program, equals, by_place, find_text, places_text}
-use Rattle.store_table.proofs.MeansLemmas.{Means, find_is, places_is}
+use Rattle.store_table.proofs.TextLemmas.{plain_query, query_at, program, equals, by_place, find_text, places_text, at_text}
+use Rattle.store_table.proofs.MeansLemmas.{Means, find_is, places_is, at_is}
 use Rattle.std.proofs.lemmas.Map.Text.{is_eq-slice_cmp}
 
 pub text_test : (a b : List ℕ) → is_eq (value_cmp (Text a) (Text b)) ≡ bytes_eq a b
@@ -127,6 +127,22 @@ module _ (coll idkey : List ℕ) (old new : State) (docs : List TableRow) (rows 
   named_places s =
       let project = col 1 0 ∷ [] in
       in_order named_terms project (Text coll ∷ Blob idkey ∷ []) (is_row_named coll idkey) docs rows (seen h.table).rising (rows_of places_text _ project (places_is old.now.schema (seen h.table).place (seen h.table).tree (seen h.table).stands) s)
+
+-- ---- a row by its place
+
+at_test : (p : ℤ) (d : TableRow) → list_all (holds ((Int p ∷ []) ∷ columns_of d ∷ [])) (equals 0 0 ∷ []) ≡ is_at p d
+at_test p d = and_true _ ∙ equal_is (Int d.place) (Int p) (is_at p d) refl refl (ap is_eq (value_cmp-Int d.place p))
+
+abbrev pub at_row : TableRow → Row
+at_row d = Text d.coll ∷ Blob d.body ∷ []
+
+pub rows_at : (p : ℤ) (old new : State) (docs : List TableRow) (rows : List Row) → HoldsRows old docs → Shown at_text (Int p ∷ []) old new rows → rows ≡ map at_row (filter (is_at p) docs)
+rows_at p old new docs rows h s =
+    let project = col 1 2 ∷ col 1 4 ∷ [] in
+    let params = Int p ∷ [] in
+    let m = at_is old.now.schema (seen h.table).place (seen h.table).tree (seen h.table).stands in
+    in_order (equals 0 0 ∷ []) project params (is_at p) docs rows (seen h.table).rising
+    (outputs_of (equals 0 0 ∷ []) project by_place params (is_at p) docs old.now rows (seen h.table) (at_test p) (answers_of at_text params old new docs (codes "coll" ∷ codes "body" ∷ []) (equals 0 0 ∷ []) project by_place rows h m s))
 
 abbrev pub found_row : TableRow → Row
 found_row d = Int d.place ∷ Blob d.body ∷ []

@@ -175,7 +175,7 @@ module _ (renews : List ℕ → List ℕ → List ℕ → List ℕ → Type 0) (
     pub renews_old : mid.step_limit ≡ old.step_limit → (place : ℤ) → RefusesOpening (IsOwn renews) old mid (BadRow place) → (db : Trees) → MayRenew (IsOwn renews) renews mid db → RenewsOld renews old db
     renews_old limit place bad db may = (old_key place bad, back_may limit db may)
 
-    -- and then the keys of now were put
+    -- and then the current keys were put
     pub passed_once : mid.step_limit ≡ old.step_limit → (place : ℤ) → RefusesOpening (IsOwn renews) old mid (BadRow place) → HasRekeyed (IsOwn renews) renews mid new → PassesOnce renews old new
     passed_once limit place bad done = inr (
       old_key place bad,

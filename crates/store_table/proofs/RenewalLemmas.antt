@@ -1,4 +1,4 @@
--- Rows and their keys of now, one after the other.
+-- Rows and their current keys, one after the other.
 use Rattle.std.proofs.Common.{◌≡◌, ◌++◌, ◌∷◌, [], ◌+ℤ◌, ◌<ℤ◌, ◌≤ℤ◌, ℕ, ℤ, pos, List, map, Bool, true, false, cond, ◌||◌, Option, Some, None, option_map, find, is_some, MatchOption, Result, Ok, Err, IsOk, OnOk, is_err, append-nil, append_assoc, refl, sym, ap, subst, ◌∙◌, arith}
 use Rattle.std.proofs.lemmas.Int.{ints}
 use Rattle.std.specs.List.{AllByRecursion, list_any}

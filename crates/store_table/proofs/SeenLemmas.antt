@@ -1,4 +1,4 @@
--- A set of keys and names, beside the rows that it stands for.
+-- A set of keys and names, and the rows that it represents.
 use Rattle.std.proofs.Common.{◌≡◌, ◌++◌, ℕ, List, [], ◌∷◌, Bool, true, false, ◌&&◌, ◌||◌, bytes_eq, refl, sym, ap, ap₂, ◌∙◌, is_eq, Less, Equal, Greater, Ordering, IsTrue, IfOk, Result, Ok, Err}
 use Rattle.std.specs.List.{list_any}
 use Rattle.std.specs.Ordering.{nat_cmp, ordering_then}

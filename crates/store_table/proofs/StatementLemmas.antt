@@ -31,7 +31,7 @@ pub lists_own : (db : Database) → IsDatabase db → ListsSchema db
 unfolding ListsSchema
 lists_own db sound = sound.lists
 
--- where the rows of a database stand
+-- the rows of a database, with the word unfolded and folded again
 pub seen : {db : Database} {docs : List TableRow} → RowsIn db docs → TableRows db docs
 unfolding RowsIn
 seen h = h
@@ -111,7 +111,7 @@ commits_as sql params s db schema command has is plain no_commit no_release h =
       | inr w ↦ (w.1, w.2, w.3, w.4, w.5)
     ]
 
--- a refused statement leaves the database, where no transaction is open
+-- a refused statement leaves the database, if no transaction is open
 pub undone_keeps : (old new : State) → IsSettled old → IsRolledBack old new → KeepsAll old new
 undone_keeps old new settled u still =
     let back = u.undone still in
@@ -128,7 +128,7 @@ keeps_then old mid new h k still =
     let one = h two.was_open in
     record { was_open = one.was_open; is_open = two.is_open; now_is = two.now_is ∙ one.now_is; committed_is = two.committed_is ∙ one.committed_is; mode = two.mode ∙ one.mode }
 
--- where nothing changed, nothing is left open
+-- if nothing changed, nothing is left open
 pub settled_still : (old new : State) → IsUnchanged old new → IsSettled old → IsSettled new
 settled_still old new u h = record { autocommit = u.0.mode ∙ h.autocommit; committed = λ still. u.0.now_is ∙ h.committed u.0.was_open ∙ sym u.0.committed_is }
 

@@ -1,5 +1,5 @@
 -- What the calls of the table say of its rows.
-use Rattle.std.proofs.Common.{◌≡◌, ◌≢◌, inl, inr, Bool, ◌+ℤ◌, ◌++◌, ◌∷◌, [], ℕ, ℤ, pos, List, map, Option, Some, None, option_map, Result, Ok, Err, OnOk, IsTrue, IsErrAnd, refl, sym, ap, ap₂, subst, ◌∙◌, arith}
+use Rattle.std.proofs.Common.{◌≡◌, ◌≢◌, inl, inr, Bool, ◌+ℤ◌, ◌++◌, ◌∷◌, [], ℕ, ℤ, pos, List, map, Option, Some, None, option_map, Vec, Global, bytes_eq, cond, if◌then◌else◌, Result, Ok, Err, OnOk, IsTrue, IsErrAnd, refl, sym, ap, ap₂, subst, ◌∙◌, arith}
 use Rattle.sqlite.specs.declared.types.Value.TheVariants.{Text}
 use Rattle.sqlite.specs.declared.error.Error.{Error}
 use Rattle.sqlite.specs.declared.error.Error.TheVariants.{SqliteFailure}
@@ -14,16 +14,17 @@ use Rattle.store_table.specs.declared.row.Found.{Found}
 use Rattle.store_table.specs.Fault.{fault_of}
 use Rattle.store_table.specs.Rows.{TableRow, RowsIn, HasRows, HoldsRows, AreBelow, last_place}
 use Rattle.store_table.specs.Cells.{int_in, bytes_in}
-use Rattle.store_table.specs.Moves.{Stands, MayLeave, Visits, Changes, AddsRows, with_row, bodies_of, parts_of_found, parts_of_row}
-use Rattle.store_table.specs.Visit.{TookSome, first_value, scan_text}
+use Rattle.store_table.specs.Moves.{Stands, MayLeave, Visits, VisitsPlaced, placed_of, Changes, AddsBehind, with_row, bodies_of, parts_of_found, parts_of_row, body_if_in}
+use Rattle.store_table.specs.Visit.{TookSome, first_value, scan_text, TookSomePlaced, placed, placed_text}
 use Rattle.store_table.specs.declared.fault.Fault.{Fault}
-use Rattle.store_table.proofs.ScanLemmas.{some_scan}
+use Rattle.store_table.proofs.ScanLemmas.{some_scan, some_placed}
 use Rattle.store_table.proofs.StatementLemmas.{unchanged_shows, seen}
 use Rattle.store_table.proofs.OthersLemmas.{trees_have, left_beside, shows_then, still_others}
 use Rattle.store_table.specs.Beside.{SparesOthers, ShowsOthers}
+use Rattle.store_table.specs.Open.{IsSettled, KeepsAll}
 use Rattle.store_table.specs.Written.{WritesRows}
 use Rattle.store_table.proofs.LastPlaceLemmas.{below_next}
-use Rattle.store_table.proofs.ReadLemmas.{found_row, found_place}
+use Rattle.store_table.proofs.ReadLemmas.{found_row, found_place, at_row}
 
 pub not_places : (e : Error) → fault_of e ≢ Places
 not_places (SqliteFailure OutOfMemory) h = cc
@@ -37,11 +38,11 @@ shows_back old new docs u h = record {
   table = subst (λ (d : Database). RowsIn d docs) u.0.now_is h.table;
 }
 
--- where the last commit is what a crash leaves, it leaves the rows that are shown, and all else that is
+-- if a crash leaves the last commit, it leaves the rows that are shown, and all else that is
 pub left_rows : (first : Database) (s : State) (docs : List TableRow) (db : Trees) → HoldsRows s docs → SparesOthers first s.now → db ≡ s.committed.trees → HasRows first db docs
 left_rows first s docs db h spared is = subst (λ (t : Trees). HasRows first t docs) (sym (is ∙ sym (ap (λ (d : Database). d.trees) h.settled))) (trees_have first s.now docs h.table spared)
 
--- behind a write
+-- after a write
 pub left_written : {A E : Type 0} (first : Database) (old new : State) (change : List TableRow → List TableRow) (result : Result A E) (docs : List TableRow) → ShowsOthers first old → Stands old docs → WritesRows old new change result
     → OnOk result ((db : Trees) → (IsTrue new.is_open → db ≡ new.committed.trees) → HasRows first db (change docs))
 left_written first old new change (Err e) docs beside stands w = tt
@@ -77,6 +78,26 @@ pub found_none : (o : Option TableRow) → option_map found_row o ≡ None → o
 found_none None e = refl
 found_none (Some d) e = absurd (cc)
 
+pub collection_is : (o : Option TableRow) (row : Row) (v : Vec ℕ Global) → option_map at_row o ≡ Some row → v.items ≡ bytes_in (column row 0) → option_map (λ (w : Vec ℕ Global). w.items) (Some v) ≡ option_map (λ (d : TableRow). d.coll) o
+collection_is None row v e h = absurd (cc)
+collection_is (Some d) row v e h =
+    let same : at_row d ≡ row = cc in
+    ap (λ (c : List ℕ). Some c) (h ∙ ap (λ (r : Row). bytes_in (column r 0)) (sym same))
+
+pub collection_none : (o : Option TableRow) → option_map at_row o ≡ None → option_map (λ (w : Vec ℕ Global). w.items) None ≡ option_map (λ (d : TableRow). d.coll) o
+collection_none None e = refl
+collection_none (Some d) e = absurd (cc)
+
+pub body_is : (coll : List ℕ) (o : Option TableRow) (row : Row) → option_map at_row o ≡ Some row → (if bytes_eq (bytes_in (column row 0)) coll then bytes_in (column row 1) ∷ [] else []) ≡ body_if_in coll o
+body_is coll None row e = absurd (cc)
+body_is coll (Some d) row e =
+    let same : at_row d ≡ row = cc in
+    ap (λ (r : Row). cond (bytes_eq (bytes_in (column r 0)) coll) (bytes_in (column r 1) ∷ []) []) (sym same)
+
+pub body_none : (coll : List ℕ) (o : Option TableRow) → option_map at_row o ≡ None → body_if_in coll o ≡ []
+body_none coll None e = refl
+body_none coll (Some d) e = absurd (cc)
+
 -- a read and then a write of the rows: what a crash may leave
 pub crash_written : (old mid new : State) (change made : List TableRow → List TableRow) → (HasCleanDisk mid → IsUnchanged old mid) → Survives old mid (λ _. ⊥)
     → Survives mid new (λ trees. (docs : List TableRow) → HoldsRows mid docs → HasRows mid.now trees (made docs)) → (HasCleanDisk mid → (docs : List TableRow) → HoldsRows old docs → made docs ≡ change docs)
@@ -105,7 +126,22 @@ visits_refused took first last coll old docs stands (Err e) why is some = record
     begun (rows, inl none, t) = ([], bodies_of coll docs, refl, subst (λ (rs : List Row). took last (map first_value rs)) none t)
     begun (rows, inr given, t) = some_scan took last coll old docs (stands given.0) (rows, inr given, t)
 
-pub appends_err : (n : ℕ) (change : List TableRow → List TableRow) (docs : List TableRow) (r : Result (Unit {0}) Fault) (why : Error) → IsErrAnd r (λ e. e ≡ fault_of why) → AddsRows n change r docs docs
+-- a visit that is refused: whatever was taken is a beginning
+pub placed_refused : {V : Type 0} (took : V → List (ℤ × List ℕ) → Type 0) (first last : V) (coll : List ℕ) (old : State) (docs : List TableRow) → Stands old docs → (r : Result Bool Fault) (why : Error) → IsErrAnd r (λ e. e ≡ fault_of why)
+    → (took first [] → TookSomePlaced took last placed_text (Text coll ∷ []) old) → VisitsPlaced took first last coll r docs docs
+placed_refused took first last coll old docs stands (Ok all) why is some = absurd is
+placed_refused took first last coll old docs stands (Err e) why is some = record {
+  same = refl;
+  whole = λ none. tt;
+  some = λ none. begun (some none);
+  faults = λ places. not_places why (sym is ∙ places);
+}
+  where
+    begun : TookSomePlaced took last placed_text (Text coll ∷ []) old → (taken : List (ℤ × List ℕ)) × (rest : List (ℤ × List ℕ)) × (taken ++ rest ≡ placed_of coll docs) × took last taken
+    begun (rows, inl none, t) = ([], placed_of coll docs, refl, subst (λ (rs : List Row). took last (map placed rs)) none t)
+    begun (rows, inr given, t) = some_placed took last coll old docs (stands given.0) (rows, inr given, t)
+
+pub appends_err : {A : Type 0} (n : ℕ) (change : List TableRow → List TableRow) (docs : List TableRow) (r : Result A Fault) (why : Error) → IsErrAnd r (λ e. e ≡ fault_of why) → AddsBehind n change r docs docs
 appends_err n change docs (Ok u) why is = absurd is
 appends_err n change docs (Err e) why is = record { done = tt; room = tt; refused = refl; full = λ places. absurd (not_places why (sym is ∙ places)) }
 
@@ -119,3 +155,15 @@ pub added_shows : (old mid new : State) (last place : ℤ) (coll idkey body : Li
 added_shows old mid new last place coll idkey body docs u h greatest next added =
     let is : place ≡ (last_place docs +ℤ pos 1) = next ∙ ap (λ (p : ℤ). p +ℤ pos 1) greatest in
     subst (λ (p : ℤ). HoldsRows new (docs ++ record { place = p; coll = coll; idkey = idkey; body = body } ∷ [])) is (added (unchanged_shows old mid docs h u))
+
+-- ---- a look at all rows
+
+-- rows stand behind a refusal that keeps all
+pub stands_kept : (old new : State) (docs : List TableRow) → IsSettled old → (IsSettled old → KeepsAll old new) → Stands old docs → Stands new docs
+stands_kept old new docs settled keeps stands still =
+    let s = keeps settled still in
+    let h = stands s.was_open in
+    record { is_open = still; autocommit = s.mode ∙ h.autocommit; settled = s.now_is ∙ h.settled ∙ sym s.committed_is; table = subst (λ (d : Database). RowsIn d docs) (sym s.now_is) h.table }
+
+pub kept_open : (old new : State) → IsSettled old → (IsSettled old → KeepsAll old new) → IsTrue new.is_open → IsTrue old.is_open
+kept_open old new settled keeps still = (keeps settled still).was_open

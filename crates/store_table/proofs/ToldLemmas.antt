@@ -1,4 +1,4 @@
--- What an open is told by the rows that were read one after the other.
+-- What an open learns from the rows that were read one after the other.
 use Rattle.std.proofs.Common.{inr, ◌≡◌, ℕ, ℤ, List, [], map, Result, Ok, Err, OnOk, IfOk, IfErr, IsOk, MatchResult, refl}
 use Rattle.sqlite.specs.Order.{Row}
 use Rattle.sqlite.specs.State.{State, Shown, IsUnchanged}

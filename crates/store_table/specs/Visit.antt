@@ -1,5 +1,5 @@
 -- Values that are taken one after the other.
-use Rattle.std.specs.Prelude.{◌≡◌, ◌⊎◌, ℕ, Bool, true, false, List, [], map, codes, Result, Ok, Err, IsTrue, OnOk, OnErr}
+use Rattle.std.specs.Prelude.{◌≡◌, ◌⊎◌, ℕ, ℤ, Bool, true, false, List, [], map, codes, Result, Ok, Err, IsTrue, OnOk, OnErr}
 use Rattle.sqlite_value.specs.Order.{Row, column}
 use Rattle.sqlite_ast.specs.declared.Statement.{Statement}
 use Rattle.sqlite_ast.specs.declared.Statement.TheVariants as written
@@ -8,7 +8,7 @@ use Rattle.sqlite_resolve.specs.declared.error.CompileError.{CompileError}
 use Rattle.sqlite_resolve.specs.Compile.{first}
 use Rattle.sqlite.specs.State.{State, Shown, Begins, IsUnchanged}
 use Rattle.store_table.specs.Rows.{TableRow, HoldsRows}
-use Rattle.store_table.specs.Cells.{bytes_in}
+use Rattle.store_table.specs.Cells.{int_in, bytes_in}
 use Rattle.store_table.specs.Moves.{Stands}
 use Rattle.store_table.specs.Beside.{KeepsOthers}
 
@@ -46,3 +46,19 @@ pub record ReadsRows {A E : Type 0} (old new : State) (result : Result A E) : Ty
 -- first row.
 abbrev pub scan_text : List ℕ
 scan_text = codes "SELECT body FROM documents WHERE +coll = ?1 COLLATE BINARY ORDER BY place"
+
+-- ---- with their places
+
+-- the place and the body of a row
+abbrev pub placed : Row → ℤ × List ℕ
+placed r = (int_in (column r 0), bytes_in (column r 1))
+
+-- the visitor has taken the whole answer, or a beginning of one
+abbrev pub TookPlaced : {V : Type 0} → (V → List (ℤ × List ℕ) → Type 0) → V → List ℕ → Row → State → State → Type 0
+TookPlaced took v sql params old new = (rows : List Row) × Shown sql params old new rows × took v (map placed rows)
+
+abbrev pub TookSomePlaced : {V : Type 0} → (V → List (ℤ × List ℕ) → Type 0) → V → List ℕ → Row → State → Type 0
+TookSomePlaced took v sql params old = (rows : List Row) × ((rows ≡ []) ⊎ (IsTrue old.is_open × Begins sql params old rows)) × took v (map placed rows)
+
+abbrev pub placed_text : List ℕ
+placed_text = codes "SELECT place, body FROM documents WHERE +coll = ?1 COLLATE BINARY ORDER BY place"

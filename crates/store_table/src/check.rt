@@ -26,12 +26,16 @@ pub trait RowCheck {
 
     /// Whether a row is one of the store's own under the key that it has. An error is out of memory.
     fn passes(&self, coll: &[u8], idkey: &[u8], body: &[u8]) -> Result<bool, AllocError>
-        ensures { IfOk result (λ good. MatchBool good (renews self.now coll.now idkey.now body.now idkey.now) (¬ renews self.now coll.now idkey.now body.now idkey.now)) };
+        ensures { IfOk result (λ good. MatchBool good
+            (renews self.now coll.now idkey.now body.now idkey.now)
+            (¬ renews self.now coll.now idkey.now body.now idkey.now)) };
 
     /// The key that a row has now, which is then its own. An error is out of memory.
     fn renewed(&self, coll: &[u8], idkey: &[u8], body: &[u8]) -> Result<Option<Vec<u8>>, AllocError>
-        ensures { IfOk result (λ k. MatchOption k ((now : List ℕ) → renews self.now coll.now idkey.now body.now now → ⊥)
-            (λ now. renews self.now coll.now idkey.now body.now now.items × renews self.now coll.now now.items body.now now.items)) };
+        ensures { IfOk result (λ k. MatchOption k ((now : List ℕ)
+            → renews self.now coll.now idkey.now body.now now → ⊥)
+            (λ now. renews self.now coll.now idkey.now body.now now.items
+            × renews self.now coll.now now.items body.now now.items)) };
 }
 
 /// A test of rows.
@@ -41,7 +45,8 @@ pub(crate) trait TestsRows {
 
     /// Whether such a row is accepted. An error is out of memory.
     fn accepts_row(&self, coll: &[u8], idkey: &[u8], body: &[u8]) -> Result<bool, AllocError>
-        ensures { IfOk result (λ good. MatchBool good (accepts self.now coll.now idkey.now body.now) (¬ accepts self.now coll.now idkey.now body.now)) };
+        ensures { IfOk result (λ good. MatchBool good (accepts self.now coll.now idkey.now body.now)
+            (¬ accepts self.now coll.now idkey.now body.now)) };
 }
 
 /// The test of a row under its own key.
@@ -69,7 +74,9 @@ fn meet(
     idkey: &[u8],
 ) -> Result<bool, AllocError>
     ensures new { IfOk result (λ is_new. is_new ≡ not (has_pair seen.old.keys coll.now idkey.now)) }
-    ensures added { IfOk result (λ is_new. IsTrue is_new → (c k : List ℕ) → has_pair seen.new.keys c k ≡ (bytes_eq c coll.now && bytes_eq k idkey.now) || has_pair seen.old.keys c k) }
+    ensures added { IfOk result (λ is_new. IsTrue is_new → (c k : List ℕ)
+        → has_pair seen.new.keys c k ≡ (bytes_eq c coll.now && bytes_eq k idkey.now) || has_pair
+        seen.old.keys c k) }
 {
     let key = Vec::from_slice(alloc, idkey)?;
     let name = Vec::from_slice(alloc, coll)?;
@@ -86,8 +93,10 @@ fn is_good_after<J: TestsRows>(
     check: &J,
 ) -> Result<bool, AllocError>
     ensures good { (docs : List TableRow) → HasSeen seen.old.keys docs → last ≡ last_place docs
-        → IfOk result (λ good. MatchBool good (IsGoodAfter (J.accepts check.now) docs (doc_of row.now)) (¬ IsGoodAfter (J.accepts check.now) docs (doc_of row.now))) }
-    ensures seen { (docs : List TableRow) → HasSeen seen.old.keys docs → IfOk result (λ good. IsTrue good → HasSeen seen.new.keys (docs ++ doc_of row.now ∷ [])) }
+        → IfOk result (λ good. MatchBool good (IsGoodAfter (J.accepts check.now) docs
+        (doc_of row.now)) (¬ IsGoodAfter (J.accepts check.now) docs (doc_of row.now))) }
+    ensures seen { (docs : List TableRow) → HasSeen seen.old.keys docs
+        → IfOk result (λ good. IsTrue good → HasSeen seen.new.keys (docs ++ doc_of row.now ∷ [])) }
 {
     let coll = bytes_at(row, 1);
     let idkey = bytes_at(row, 2);
@@ -121,8 +130,10 @@ pub(crate) fn judge<J: TestsRows>(
     row: &Row,
     check: &J,
 ) -> Result<Result<(), OpenError>, AllocError>
-    ensures judged { (rows : List Row) → JudgesRow (J.accepts check.now) seen.old.keys last rows verdict
-        → IfOk result (λ now. JudgesRow (J.accepts check.now) seen.new.keys (int_in (column row.now 0)) (rows ++ row.now ∷ []) now) }
+    ensures judged { (rows : List Row) → JudgesRow
+        (J.accepts check.now) seen.old.keys last rows verdict
+        → IfOk result (λ now. JudgesRow (J.accepts check.now) seen.new.keys
+        (int_in (column row.now 0)) (rows ++ row.now ∷ []) now) }
     ensures passed { IfOk result (λ now. IsOk now → IsOk verdict) }
 {
     let now = unless_mistyped(verdict, row);
@@ -143,8 +154,12 @@ pub(crate) fn survey<S: Alter, J: TestsRows>(
     conn: &mut Connection<S>,
     check: &J,
 ) -> Result<(), OpenError>
-    ensures read { HasCleanDisk (state S.Store conn.new) → OnOk result (PassesOpening (J.accepts check.now) (state S.Store conn.old) (state S.Store conn.new)) }
-    ensures refused { HasCleanDisk (state S.Store conn.new) → IfErr result (λ e. RefusesOpening (J.accepts check.now) (state S.Store conn.old) (state S.Store conn.new) e) }
+    ensures read { HasCleanDisk (state S.Store conn.new)
+        → OnOk result (PassesOpening (J.accepts check.now) (state S.Store conn.old)
+        (state S.Store conn.new)) }
+    ensures refused { HasCleanDisk (state S.Store conn.new)
+        → IfErr result (λ e. RefusesOpening (J.accepts check.now) (state S.Store conn.old)
+        (state S.Store conn.new) e) }
     ensures kept { HasCleanDisk (state S.Store conn.new) → IsSettled (state S.Store conn.old)
         → OnErr result (KeepsAll (state S.Store conn.old) (state S.Store conn.new)) }
     ensures crash { AddsNothing (state S.Store conn.old) (state S.Store conn.new) }

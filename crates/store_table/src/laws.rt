@@ -9,6 +9,8 @@ ghost use Rattle.store_table.specs.Schema.{HasDocuments};
 
 /// A list of objects is that of one schema, in which the table of documents is at one place, over one tree.
 pub fn one_schema()
-    ensures listed { (objects : List Row) (a b : Schema) → Lists objects a → Lists objects b → b ≡ a }
-    ensures stands { (tables : List Table) (p q m n : ℕ) → HasDocuments tables p m → HasDocuments tables q n → (q ≡ p) × (n ≡ m) }
+    ensures listed { (objects : List Row) (a b : Schema) → Lists objects a → Lists objects b
+        → b ≡ a }
+    ensures stands { (tables : List Table) (p q m n : ℕ) → HasDocuments tables p m
+        → HasDocuments tables q n → (q ≡ p) × (n ≡ m) }
 {}

@@ -8,7 +8,8 @@ use std::alloc::{AllocError, Global};
 use std::collections::BTreeSet;
 
 fn add_name(names: &mut BTreeSet<Vec<u8>>, alloc: Global, name: &[u8]) -> Result<(), AllocError>
-    ensures { IfOk result (λ _. (c : List ℕ) → has_name names.new.keys c ≡ bytes_eq c name.now || has_name names.old.keys c) }
+    ensures { IfOk result (λ _. (c : List ℕ) → has_name names.new.keys c ≡ bytes_eq c name.now ||
+        has_name names.old.keys c) }
 {
     let key = Vec::from_slice(alloc, name)?;
     names.insert(key)?;

@@ -80,12 +80,21 @@ pub(crate) fn prepare<S: Alter, C: RowCheck>(
     conn: &mut Connection<S>,
     check: &C,
 ) -> Result<(), OpenError>
-    ensures opened { HasCleanDisk (state S.Store conn.new) → OnOk result (Opened (C.renews check.now) (state S.Store conn.old) (state S.Store conn.new)) }
-    ensures refused { HasCleanDisk (state S.Store conn.new) → IfErr result (λ e. Unopened (C.renews check.now) (state S.Store conn.old) (state S.Store conn.new) e) }
-    ensures kept { HasCleanDisk (state S.Store conn.new) → OnErr result (KeepsAll (state S.Store conn.old) (state S.Store conn.new)) }
-    ensures taken { (state S.Store conn.old).in_transaction ≡ false → HasNoTable (state S.Store conn.old) → IsNameTaken (state S.Store conn.old) → (result ≡ Err OpenError.NotAStore) × (conn.new ≡ conn.old) }
-    ensures busy { IsTrue (state S.Store conn.old).in_transaction → (result ≡ Err OpenError.Database) × (conn.new ≡ conn.old) }
-    ensures crash { Survives (state S.Store conn.old) (state S.Store conn.new) (Makes (C.renews check.now) (state S.Store conn.old)) }
+    ensures opened { HasCleanDisk (state S.Store conn.new)
+        → OnOk result (Opened (C.renews check.now) (state S.Store conn.old)
+        (state S.Store conn.new)) }
+    ensures refused { HasCleanDisk (state S.Store conn.new)
+        → IfErr result (λ e. Unopened (C.renews check.now) (state S.Store conn.old)
+        (state S.Store conn.new) e) }
+    ensures kept { HasCleanDisk (state S.Store conn.new)
+        → OnErr result (KeepsAll (state S.Store conn.old) (state S.Store conn.new)) }
+    ensures taken { (state S.Store conn.old).in_transaction ≡ false
+        → HasNoTable (state S.Store conn.old) → IsNameTaken (state S.Store conn.old)
+        → (result ≡ Err OpenError.NotAStore) × (conn.new ≡ conn.old) }
+    ensures busy { IsTrue (state S.Store conn.old).in_transaction
+        → (result ≡ Err OpenError.Database) × (conn.new ≡ conn.old) }
+    ensures crash { Survives (state S.Store conn.old) (state S.Store conn.new)
+        (Makes (C.renews check.now) (state S.Store conn.old)) }
 {
     if !conn.is_autocommit() {
         return Err(OpenError::Database);
@@ -101,11 +110,16 @@ pub(crate) fn prepare<S: Alter, C: RowCheck>(
 
 /// Makes the table in a database that has no object of the name.
 fn make_table<S: Alter>(conn: &mut Connection<S>) -> Result<(), OpenError>
-    ensures made { HasCleanDisk (state S.Store conn.new) → IsBlank (state S.Store conn.old) → OnOk result (HoldsRows (state S.Store conn.new) []) }
-    ensures beside { HasCleanDisk (state S.Store conn.new) → (state S.Store conn.old).in_transaction ≡ false → OnOk result (StandsBeside (state S.Store conn.old) (state S.Store conn.new)) }
+    ensures made { HasCleanDisk (state S.Store conn.new) → IsBlank (state S.Store conn.old)
+        → OnOk result (HoldsRows (state S.Store conn.new) []) }
+    ensures beside { HasCleanDisk (state S.Store conn.new)
+        → (state S.Store conn.old).in_transaction ≡ false
+        → OnOk result (StandsBeside (state S.Store conn.old) (state S.Store conn.new)) }
     ensures told { IfErr result (λ e. (e ≡ OpenError.Memory) ⊎ (e ≡ OpenError.Database)) }
-    ensures kept { HasCleanDisk (state S.Store conn.new) → IsSettled (state S.Store conn.old) → OnErr result (KeepsAll (state S.Store conn.old) (state S.Store conn.new)) }
-    ensures crash { Survives (state S.Store conn.old) (state S.Store conn.new) (AreBeside (state S.Store conn.old).now) }
+    ensures kept { HasCleanDisk (state S.Store conn.new) → IsSettled (state S.Store conn.old)
+        → OnErr result (KeepsAll (state S.Store conn.old) (state S.Store conn.new)) }
+    ensures crash { Survives (state S.Store conn.old) (state S.Store conn.new)
+        (AreBeside (state S.Store conn.old).now) }
 {
     match create(conn) {
         Ok(_) => Ok(()),

@@ -29,8 +29,11 @@ pub(crate) fn meet_place(
     idkey: &[u8],
     place: i64,
 ) -> Result<Option<i64>, AllocError>
-    ensures met { (docs : List TableRow) → HasPlaces places.old docs → IfOk result (λ p. p ≡ option_map (λ (d : TableRow). d.place) (find (is_row_named coll.now idkey.now) docs)) }
-    ensures added { (docs : List TableRow) (d : TableRow) → HasPlaces places.old docs → d.coll ≡ coll.now → d.idkey ≡ idkey.now → d.place ≡ place
+    ensures met { (docs : List TableRow) → HasPlaces places.old docs
+        → IfOk result (λ p. p ≡ option_map (λ (d : TableRow). d.place)
+        (find (is_row_named coll.now idkey.now) docs)) }
+    ensures added { (docs : List TableRow) (d : TableRow) → HasPlaces places.old docs
+        → d.coll ≡ coll.now → d.idkey ≡ idkey.now → d.place ≡ place
         → IfOk result (λ p. p ≡ None → HasPlaces places.new (docs ++ d ∷ [])) }
 {
     let key = Vec::from_slice(alloc, idkey)?;
@@ -71,8 +74,11 @@ impl Renewals {
         row: &Row,
         check: &C,
     ) -> Result<(), AllocError>
-        ensures { (docs : List TableRow) → IsGoodAfter (AcceptsOnce (C.renews check.now)) docs (doc_of row.now) → AreRenewals (IsOwn (C.renews check.now)) (C.renews check.now) docs self.old
-            → OnOk result (AreRenewals (IsOwn (C.renews check.now)) (C.renews check.now) (docs ++ doc_of row.now ∷ []) self.new) }
+        ensures { (docs : List TableRow) → IsGoodAfter (AcceptsOnce (C.renews check.now)) docs
+            (doc_of row.now) → AreRenewals (IsOwn (C.renews check.now))
+            (C.renews check.now) docs self.old → OnOk result
+            (AreRenewals (IsOwn (C.renews check.now)) (C.renews check.now)
+            (docs ++ doc_of row.now ∷ []) self.new) }
     {
         if self.twin.is_some() {
             return Ok(());
@@ -103,8 +109,11 @@ impl Renewals {
         row: &Row,
         check: &C,
     ) -> Result<(), AllocError>
-        ensures { (docs : List TableRow) → (IsOk verdict.now → IsGoodAfter (AcceptsOnce (C.renews check.now)) docs (doc_of row.now)) → (IsOk verdict.now → AreRenewals (IsOwn (C.renews check.now)) (C.renews check.now) docs self.old)
-            → OnOk result (IsOk verdict.now → AreRenewals (IsOwn (C.renews check.now)) (C.renews check.now) (docs ++ doc_of row.now ∷ []) self.new) }
+        ensures { (docs : List TableRow) → (IsOk verdict.now
+            → IsGoodAfter (AcceptsOnce (C.renews check.now)) docs (doc_of row.now))
+            → (IsOk verdict.now → AreRenewals (IsOwn (C.renews check.now)) (C.renews check.now) docs self.old)
+            → OnOk result (IsOk verdict.now → AreRenewals (IsOwn (C.renews check.now)) (C.renews check.now)
+            (docs ++ doc_of row.now ∷ []) self.new) }
     {
         if verdict.is_err() {
             return Ok(());
@@ -146,8 +155,14 @@ pub(crate) fn survey_old<S: Alter, C: RowCheck>(
     conn: &mut Connection<S>,
     check: &C,
 ) -> Result<Renewals, OpenError>
-    ensures read { HasCleanDisk (state S.Store conn.new) → IfOk result (λ r. (docs : List TableRow) × Reads (state S.Store conn.old) (state S.Store conn.new) docs × AreGood (AcceptsOnce (C.renews check.now)) docs × AreRenewals (IsOwn (C.renews check.now)) (C.renews check.now) docs r) }
-    ensures refused { HasCleanDisk (state S.Store conn.new) → IfErr result (λ e. RefusesOpening (AcceptsOnce (C.renews check.now)) (state S.Store conn.old) (state S.Store conn.new) e) }
+    ensures read { HasCleanDisk (state S.Store conn.new)
+        → IfOk result (λ r. (docs : List TableRow)
+        × Reads (state S.Store conn.old) (state S.Store conn.new) docs
+        × AreGood (AcceptsOnce (C.renews check.now)) docs
+        × AreRenewals (IsOwn (C.renews check.now)) (C.renews check.now) docs r) }
+    ensures refused { HasCleanDisk (state S.Store conn.new)
+        → IfErr result (λ e. RefusesOpening (AcceptsOnce (C.renews check.now))
+        (state S.Store conn.old) (state S.Store conn.new) e) }
     ensures kept { HasCleanDisk (state S.Store conn.new) → IsSettled (state S.Store conn.old)
         → OnErr result (KeepsAll (state S.Store conn.old) (state S.Store conn.new)) }
     ensures crash { AddsNothing (state S.Store conn.old) (state S.Store conn.new) }
@@ -181,15 +196,21 @@ pub(crate) fn survey_old<S: Alter, C: RowCheck>(
 
 /// Puts the keys at their places, in one transaction.
 fn write_keys<S: Alter>(conn: &mut Connection<S>, keys: &[NewKey]) -> Result<(), Error>
-    ensures done { HasCleanDisk (state S.Store conn.new) → (docs : List TableRow) → HoldsRows (state S.Store conn.old) docs
-        → OnOk result (HoldsRows (state S.Store conn.new) (with_keys_at keys.now docs)) }
-    ensures spared { HasCleanDisk (state S.Store conn.new) → (docs : List TableRow) → HoldsRows (state S.Store conn.old) docs
-        → OnOk result (SparesOthers (state S.Store conn.old).now (state S.Store conn.new).now) }
-    ensures puts { HasCleanDisk (state S.Store conn.new) → OnOk result (Sees (state S.Store conn.old) (state S.Store conn.new) (state S.Store conn.new).now (state S.Store conn.new).now false
-        × PutsKeys (state S.Store conn.old).step_limit keys.now (state S.Store conn.old).now (state S.Store conn.new).now) }
+    ensures done { HasCleanDisk (state S.Store conn.new) → (docs : List TableRow)
+        → HoldsRows (state S.Store conn.old) docs → OnOk result
+        (HoldsRows (state S.Store conn.new) (with_keys_at keys.now docs)) }
+    ensures spared { HasCleanDisk (state S.Store conn.new) → (docs : List TableRow)
+        → HoldsRows (state S.Store conn.old) docs → OnOk result
+        (SparesOthers (state S.Store conn.old).now (state S.Store conn.new).now) }
+    ensures puts { HasCleanDisk (state S.Store conn.new)
+        → OnOk result (Sees (state S.Store conn.old) (state S.Store conn.new)
+        (state S.Store conn.new).now (state S.Store conn.new).now false
+        × PutsKeys (state S.Store conn.old).step_limit keys.now (state S.Store conn.old).now
+        (state S.Store conn.new).now) }
     ensures kept { HasCleanDisk (state S.Store conn.new) → IsSettled (state S.Store conn.old)
         → OnErr result (KeepsAll (state S.Store conn.old) (state S.Store conn.new)) }
-    ensures crash { Survives (state S.Store conn.old) (state S.Store conn.new) (MayPut keys.now (state S.Store conn.old)) }
+    ensures crash { Survives (state S.Store conn.old) (state S.Store conn.new)
+        (MayPut keys.now (state S.Store conn.old)) }
 {
     rekey_all(conn, keys)
 }
@@ -200,12 +221,19 @@ pub(crate) fn renew<S: Alter, C: RowCheck>(
     conn: &mut Connection<S>,
     check: &C,
 ) -> Result<(), OpenError>
-    ensures renewed { HasCleanDisk (state S.Store conn.new) → IsLive (state S.Store conn.old) → OnOk result (Renewed (IsOwn (C.renews check.now)) (C.renews check.now) (state S.Store conn.old) (state S.Store conn.new)) }
-    ensures read { HasCleanDisk (state S.Store conn.new) → OnOk result (HasRekeyed (IsOwn (C.renews check.now)) (C.renews check.now) (state S.Store conn.old) (state S.Store conn.new)) }
-    ensures refused { HasCleanDisk (state S.Store conn.new) → IfErr result (λ e. Unrenewed (IsOwn (C.renews check.now)) (C.renews check.now) (state S.Store conn.old) (state S.Store conn.new) e) }
+    ensures renewed { HasCleanDisk (state S.Store conn.new) → IsLive (state S.Store conn.old)
+        → OnOk result (Renewed (IsOwn (C.renews check.now)) (C.renews check.now)
+        (state S.Store conn.old) (state S.Store conn.new)) }
+    ensures read { HasCleanDisk (state S.Store conn.new)
+        → OnOk result (HasRekeyed (IsOwn (C.renews check.now)) (C.renews check.now)
+        (state S.Store conn.old) (state S.Store conn.new)) }
+    ensures refused { HasCleanDisk (state S.Store conn.new)
+        → IfErr result (λ e. Unrenewed (IsOwn (C.renews check.now)) (C.renews check.now)
+        (state S.Store conn.old) (state S.Store conn.new) e) }
     ensures kept { HasCleanDisk (state S.Store conn.new) → IsSettled (state S.Store conn.old)
         → OnErr result (KeepsAll (state S.Store conn.old) (state S.Store conn.new)) }
-    ensures crash { Survives (state S.Store conn.old) (state S.Store conn.new) (MayRenew (IsOwn (C.renews check.now)) (C.renews check.now) (state S.Store conn.old)) }
+    ensures crash { Survives (state S.Store conn.old) (state S.Store conn.new)
+        (MayRenew (IsOwn (C.renews check.now)) (C.renews check.now) (state S.Store conn.old)) }
 {
     let renewals = survey_old(alloc, conn, check)?;
     if let Some((first, second)) = renewals.twin {
@@ -223,12 +251,19 @@ pub(crate) fn settle_keys<S: Alter, C: RowCheck>(
     conn: &mut Connection<S>,
     check: &C,
 ) -> Result<(), OpenError>
-    ensures settled { HasCleanDisk (state S.Store conn.new) → IsLive (state S.Store conn.old) → OnOk result (Renewed (IsOwn (C.renews check.now)) (C.renews check.now) (state S.Store conn.old) (state S.Store conn.new)) }
-    ensures read { HasCleanDisk (state S.Store conn.new) → OnOk result (PassesOnce (C.renews check.now) (state S.Store conn.old) (state S.Store conn.new)) }
-    ensures refused { HasCleanDisk (state S.Store conn.new) → IfErr result (λ e. Unrenewed (IsOwn (C.renews check.now)) (C.renews check.now) (state S.Store conn.old) (state S.Store conn.new) e) }
+    ensures settled { HasCleanDisk (state S.Store conn.new) → IsLive (state S.Store conn.old)
+        → OnOk result (Renewed (IsOwn (C.renews check.now)) (C.renews check.now)
+        (state S.Store conn.old) (state S.Store conn.new)) }
+    ensures read { HasCleanDisk (state S.Store conn.new)
+        → OnOk result (PassesOnce (C.renews check.now) (state S.Store conn.old)
+        (state S.Store conn.new)) }
+    ensures refused { HasCleanDisk (state S.Store conn.new)
+        → IfErr result (λ e. Unrenewed (IsOwn (C.renews check.now)) (C.renews check.now)
+        (state S.Store conn.old) (state S.Store conn.new) e) }
     ensures kept { HasCleanDisk (state S.Store conn.new) → IsSettled (state S.Store conn.old)
         → OnErr result (KeepsAll (state S.Store conn.old) (state S.Store conn.new)) }
-    ensures crash { Survives (state S.Store conn.old) (state S.Store conn.new) (RenewsOld (C.renews check.now) (state S.Store conn.old)) }
+    ensures crash { Survives (state S.Store conn.old) (state S.Store conn.new)
+        (RenewsOld (C.renews check.now) (state S.Store conn.old)) }
 {
     match survey(alloc, conn, &Own { check }) {
         Err(OpenError::BadRow(_)) => renew(alloc, conn, check),

@@ -25,6 +25,14 @@ pub(crate) const NAMED: &str =
 pub(crate) const PLACES: &str =
     "SELECT place FROM documents WHERE coll = ?1 COLLATE BINARY AND idkey = ?2 ORDER BY place";
 
+/// The collection and the body of the row at a place.
+pub(crate) const AT_PLACE: &str =
+    "SELECT coll, body FROM documents WHERE place = ?1 ORDER BY place";
+
+/// The places and bodies of a collection.
+pub(crate) const PLACED_BODIES: &str =
+    "SELECT place, body FROM documents WHERE +coll = ?1 COLLATE BINARY ORDER BY place";
+
 pub(crate) const GREATEST_PLACE: &str = "SELECT place FROM documents ORDER BY place DESC LIMIT 1";
 
 pub(crate) const ALL_ROWS: &str = "SELECT place, coll, idkey, body FROM documents ORDER BY place";

@@ -12,7 +12,7 @@ const LETTERS: [u8; 31] = [
     0, 2, 0, 0, 0, 0x61, 0, 0, 0,
 ];
 
-/// A path of so many steps by one key.
+/// A path of `count` steps by one key.
 fn steps(alloc: Global, key: &str, count: u32) -> Result<Vec<String>, AllocError> {
     let mut path = Vec::new(alloc);
     for _ in 0..count {
@@ -58,7 +58,7 @@ fn heads(alloc: Global, levels: u32) -> Result<Vec<u8>, AllocError> {
     Ok(bytes)
 }
 
-/// A document of so many levels under the key `a`, the innermost empty.
+/// A document of `levels` levels under the key `a`, the innermost empty.
 fn nested(alloc: Global, levels: u32) -> Result<Vec<u8>, AllocError> {
     let mut bytes = heads(alloc, levels)?;
     for _ in 0..levels {
@@ -74,7 +74,7 @@ fn looked_up(bytes: &[u8], path: &[String]) -> Option<(bool, u64)> {
     Some((found.is_some(), met))
 }
 
-/// What is found so many steps down in a document of a thousand levels.
+/// What is found `count` steps down in a document of a thousand levels.
 fn found_below(alloc: Global, count: u32) -> Result<Option<(bool, u64)>, AllocError> {
     let bytes = nested(alloc, 1000)?;
     let path = steps(alloc, "a", count)?;
@@ -91,7 +91,7 @@ fn a_path_of_a_thousand_steps(rt: HostRuntime) -> Result<(), Fail> {
     Ok(())
 }
 
-/// The front of so many documents inside each other, under empty keys, that take seven bytes each.
+/// The front of `levels` documents inside each other, under empty keys, that take seven bytes each.
 fn fronts(alloc: Global, size: u32, levels: u32) -> Result<Vec<u8>, AllocError> {
     let mut bytes = Vec::new(alloc);
     for i in 0..levels {

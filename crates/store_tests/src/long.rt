@@ -25,7 +25,7 @@ fn long(alloc: Global, count: usize) -> Result<Document, AllocError> {
     Ok(document)
 }
 
-/// Why a document of so many bytes isn't written.
+/// Why a document that is so long isn't written.
 fn refusal(alloc: Global, count: usize) -> Result<Option<ErrorKind>, AllocError> {
     let document = long(alloc, count)?;
     Ok(row_of_document(alloc, &document).err())
@@ -47,7 +47,7 @@ fn a_member_that_makes_a_document_too_long(rt: HostRuntime) -> Result<(), Fail> 
     Ok(())
 }
 
-/// {_id: 1, a: an array of so many nulls under empty keys}
+/// {_id: 1, a: an array of `number` nulls under empty keys}
 pub(crate) fn nulls(alloc: Global, number: u32) -> Result<Vec<u8>, AllocError> {
     let number = number.min(3000000);
     let mut bytes = Vec::new(alloc);

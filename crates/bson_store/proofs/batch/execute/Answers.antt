@@ -6,7 +6,7 @@ use Rattle.store_model.specs.State as model
 use Rattle.bson_store.specs.Calls.{store_state}
 use Rattle.bson_store.specs.declared.command.Command.TheVariants as commands
 use Rattle.bson_store.specs.Refusals.{reply_by, as_done, as_number}
-use Rattle.bson_store.proofs.Going.{leaves_many, leaves_one, leaves_tree, obeys, obeys_many, obeys_tree, reply_open}
+use Rattle.bson_store.proofs.RunLemmas.{leaves_many, leaves_one, leaves_tree, obeys, obeys_many, obeys_tree, reply_open}
 use Rattle.bson_store.proofs.batch.execute.Goals as goal
 
 pub returns-in-InsertJson-clause-moves : goal.returns-in-InsertJson-clause-moves

@@ -8,8 +8,8 @@ use Rattle.bson_store.specs.declared.command.Command.TheVariants as commands
 use Rattle.bson_store.specs.Questions.{as_list, as_names}
 use Rattle.bson_store.specs.Refusals.{reply_by, as_done, as_flag, as_bytes, as_json, as_json_list, as_number}
 use Rattle.bson_store.specs.Runs.{reply_of}
-use Rattle.bson_store.proofs.Leaving.{result_leaves}
-use Rattle.bson_store.proofs.Going.{leaves_bytes, leaves_many, leaves_one, obeys, obeys_bytes, obeys_many, reply_open}
+use Rattle.bson_store.proofs.CrashLemmas.{result_leaves}
+use Rattle.bson_store.proofs.RunLemmas.{leaves_bytes, leaves_many, leaves_one, obeys, obeys_bytes, obeys_many, reply_open}
 use Rattle.bson_store.proofs.batch.execute_lent.Goals as goal
 
 pub returns-in-InsertRaw-clause-moves : goal.returns-in-InsertRaw-clause-moves

@@ -3,10 +3,10 @@ use Rattle.bson_base.specs.Device.{Tally}
 use Rattle.store_model.specs.State as model
 use Rattle.store_model.specs.declared.error.ErrorKind.TheVariants as kind
 use Rattle.bson_store.specs.Calls.{store_state, store_connection, Does}
-use Rattle.bson_store.proofs.Leaving.{accepted_leaves}
+use Rattle.bson_store.proofs.CrashLemmas.{accepted_leaves}
 use Rattle.bson_store.specs.Export.{SendsCollection}
-use Rattle.bson_store.proofs.Moving.{moved}
-use Rattle.bson_store.proofs.Exporting.{sent, not_sent, sink_failed}
+use Rattle.bson_store.proofs.MoveLemmas.{moved}
+use Rattle.bson_store.proofs.ExportLemmas.{sent, not_sent, sink_failed}
 use Rattle.bson_store.proofs.batch.exported.Goals as goal
 
 pub returns-in-Ok-clause-moves : goal.returns-in-Ok-clause-moves

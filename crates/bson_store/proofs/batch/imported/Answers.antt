@@ -6,12 +6,12 @@ use Rattle.bson_store.specs.Left.{Leaves}
 use Rattle.bson_store.specs.Calls.{store_state}
 use Rattle.bson_store.specs.Many.{DoesMany, Imports}
 use Rattle.bson_store.specs.Runs.{Imported}
-use Rattle.bson_store.proofs.Importing.{from_memory, whole_slice}
-use Rattle.bson_store.proofs.Leaving.{memory_leaves}
-use Rattle.bson_store.proofs.Moving.{moved}
+use Rattle.bson_store.proofs.ImportLemmas.{from_memory, whole_slice}
+use Rattle.bson_store.proofs.CrashLemmas.{memory_leaves}
+use Rattle.bson_store.proofs.MoveLemmas.{moved}
 use Rattle.bson_store.proofs.batch.imported.Goals as goal
 use Rattle.bson_store.specs.Refusals.{as_number}
-use Rattle.bson_store.proofs.Going.{reply_open}
+use Rattle.bson_store.proofs.RunLemmas.{reply_open}
 
 pub returns-clause-moves : goal.returns-clause-moves
 returns-clause-moves g c =

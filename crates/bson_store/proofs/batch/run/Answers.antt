@@ -2,7 +2,7 @@ use Rattle.std.proofs.Common.{◌∷◌, [], length, ap, ◌∙◌, arith, lengt
 use Rattle.std.specs.Vec.Iter.{into_iter_items}
 use Rattle.bson_store.specs.Calls.{store_state}
 use Rattle.bson_store.specs.declared.command.Reply.{Reply}
-use Rattle.bson_store.proofs.Going.{so_far_start, so_far_more, so_far_all, so_far_left, so_far_open, ends_moved, lists_moved}
+use Rattle.bson_store.proofs.RunLemmas.{so_far_start, so_far_more, so_far_all, so_far_left, so_far_open, ends_moved, lists_moved}
 use Rattle.bson_store.proofs.batch.run.Goals as goal
 use Rattle.std.proofs.lemmas.List.{nil_from_length}
 

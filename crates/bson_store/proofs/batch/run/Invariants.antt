@@ -2,7 +2,7 @@ use Rattle.std.proofs.Common.{◌≡◌, ◌≤◌, length, ◌+◌}
 use Rattle.std.specs.Vec.{vec_capacity}
 use Rattle.std.specs.Vec.Iter.{into_iter_items, into_iter_len}
 use Rattle.bson_store.specs.Calls.{store_state}
-use Rattle.bson_store.proofs.Going.{SoFar}
+use Rattle.bson_store.proofs.RunLemmas.{SoFar}
 use Rattle.bson_store.proofs.batch.run.Given as goal
 
 abbrev pub invariant-loop-command : goal.invariant-loop-command

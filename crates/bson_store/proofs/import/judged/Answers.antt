@@ -1,5 +1,5 @@
 use Rattle.bson_store.proofs.import.judged.Goals as goal
-use Rattle.bson_bytes.proofs.Meant.{are_bytes}
+use Rattle.bson_bytes.proofs.MeaningLemmas.{are_bytes}
 
 pub returns-clause-range : goal.returns-clause-range
 returns-clause-range c = are_bytes c.args.stream.now c.type_inv.stream

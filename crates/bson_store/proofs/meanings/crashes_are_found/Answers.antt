@@ -1,5 +1,5 @@
 use Rattle.sqlite.specs.Held.{state}
-use Rattle.bson_store.proofs.Again.{state_found, run_found}
+use Rattle.bson_store.proofs.ReopenLemmas.{state_found, run_found}
 use Rattle.bson_store.proofs.meanings.crashes_are_found.Goals as goal
 
 pub returns-clause-calls : goal.returns-clause-calls

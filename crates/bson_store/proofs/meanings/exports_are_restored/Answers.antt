@@ -1,4 +1,4 @@
-use Rattle.bson_store.proofs.Restoring.{export_back, calls_back}
+use Rattle.bson_store.proofs.RestoreLemmas.{export_back, calls_back}
 use Rattle.bson_store.proofs.meanings.exports_are_restored.Goals as goal
 
 pub returns : goal.returns

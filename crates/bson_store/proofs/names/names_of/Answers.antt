@@ -1,7 +1,7 @@
 use Rattle.std.proofs.Common.{sym, subst}
 use Rattle.std.proofs.lemmas.Result.{err_from_is_err_and}
 use Rattle.store_model.specs.State.{AreAscending}
-use Rattle.bson_store.proofs.Naming.{so_far_start, so_far_more, so_far_all, so_far_utf8, in_order}
+use Rattle.bson_store.proofs.NameLemmas.{so_far_start, so_far_more, so_far_all, so_far_utf8, in_order}
 use Rattle.bson_store.proofs.names.names_of.Goals as goal
 
 pub loop-name-init : goal.loop-name-init

@@ -1,4 +1,4 @@
-use Rattle.bson_store.proofs.Naming.{SoFar}
+use Rattle.bson_store.proofs.NameLemmas.{SoFar}
 use Rattle.bson_store.proofs.names.names_of.Given as goal
 
 abbrev pub invariant-loop-name : goal.invariant-loop-name

@@ -1,7 +1,7 @@
 use Rattle.std.proofs.Common.{refl, subst, sym}
 use Rattle.bson_frame.specs.Payload.{IsEnvelope}
 use Rattle.store_model.specs.Reading.{readable}
-use Rattle.store_model.proofs.Restore.{written_reads}
+use Rattle.store_model.proofs.RestoreLemmas.{written_reads}
 use Rattle.bson_store.proofs.picking.selected.Goals as goal
 
 pub returns-in_default : goal.returns-in_default

@@ -2,7 +2,7 @@ use Rattle.std.proofs.Common.{string_bytes}
 use Rattle.std.proofs.lemmas.Result.{on_ok_weaker}
 use Rattle.bson_meaning.specs.Meaning.{norm_in_order}
 use Rattle.bson_model.specs.View.{view, pairs_of}
-use Rattle.store_documents.proofs.OfChanges.{value_put}
+use Rattle.store_documents.proofs.ChangeLemmas.{value_put}
 use Rattle.store_documents.proofs.change.put_normal.Goals as goal
 
 pub returns-clause-put : goal.returns-clause-put

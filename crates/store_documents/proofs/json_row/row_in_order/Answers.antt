@@ -4,7 +4,7 @@ use Rattle.std.proofs.lemmas.Result.{err_from_is_err_and}
 use Rattle.bson_model.specs.View.{view, pairs_of, members_of}
 use Rattle.bson_model.proofs.EqualLemmas.{look_up-members_of}
 use Rattle.store_model.specs.State.{id_key}
-use Rattle.store_documents.proofs.OfOrder.{no_key, ordered, unidentified, unordered}
+use Rattle.store_documents.proofs.OrderLemmas.{no_key, ordered, unidentified, unordered}
 use Rattle.store_documents.proofs.json_row.row_in_order.Goals as goal
 
 pub returns-in_default : goal.returns-in_default

@@ -1,6 +1,6 @@
 use Rattle.serde_json.specs.View.{view as data_of, members_view}
 use Rattle.bson_model.specs.View.{members_of, pairs_of}
-use Rattle.store_documents.proofs.OfOrder.{faulted, from_tree}
+use Rattle.store_documents.proofs.OrderLemmas.{faulted, from_tree}
 use Rattle.store_documents.proofs.json_row.row_of_json.Goals as goal
 
 pub returns-in-Ok-clause-row : goal.returns-in-Ok-clause-row

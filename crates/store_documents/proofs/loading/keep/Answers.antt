@@ -4,7 +4,7 @@ use Rattle.store_model.specs.declared.error.ErrorKind.TheVariants.{Memory}
 use Rattle.store_model.specs.Refusal.{refusal}
 use Rattle.store_model.specs.Reading.{ReadsTree}
 use Rattle.store_documents.specs.Judging.{AnswersRow}
-use Rattle.store_documents.proofs.Loads.{refused, taken, wanted}
+use Rattle.store_documents.proofs.LoadLemmas.{refused, taken, wanted}
 use Rattle.store_documents.proofs.loading.keep.Goals as goal
 
 pub returns-in_err-push-in-Ok : goal.returns-in_err-push-in-Ok

@@ -1,9 +1,9 @@
 use Rattle.std.proofs.Common.{inl}
 use Rattle.bson_bytes.specs.Spells.{settle}
-use Rattle.store_documents.proofs.OfBytes.{converted, converted_read}
-use Rattle.store_documents.proofs.OfStored.{meant}
+use Rattle.store_documents.proofs.ByteLemmas.{converted, converted_read}
+use Rattle.store_documents.proofs.StoredLemmas.{meant}
 use Rattle.store_documents.proofs.read.document_of_bytes.Goals as goal
-use Rattle.bson_bytes.proofs.Meant.{are_bytes}
+use Rattle.bson_bytes.proofs.MeaningLemmas.{are_bytes}
 
 pub returns-in-Err-clause-answer : goal.returns-in-Err-clause-answer
 returns-in-Err-clause-answer c = inl (c.in-Err.error, c.in-Err.ensures, c.gate_refusal.ensures)

@@ -1,6 +1,6 @@
 use Rattle.std.proofs.Common.{◌<◌, length, [], refl, sym, arith}
 use Rattle.store_documents.specs.Keys.{has_met, keys_of_rows}
-use Rattle.store_documents.proofs.Taken.{come_again, come_more, key_at, met_before, not_met, rows_below}
+use Rattle.store_documents.proofs.TakenLemmas.{come_again, come_more, key_at, met_before, not_met, rows_below}
 use Rattle.store_documents.proofs.repeats.first_repeated.Goals as goal
 
 pub loop-at-preserved : goal.loop-at-preserved

@@ -2,7 +2,7 @@ use Rattle.std.proofs.Common.{refl, sym, ◌∙◌}
 use Rattle.std.specs.Cow.{cow_slice_items}
 use Rattle.std.proofs.lemmas.Result.{IfOk-weaker}
 use Rattle.store_documents.specs.Bodies.{StandUnder}
-use Rattle.store_documents.proofs.OfRows.{is_row, no_row, not_answered, row_back, WritesAs}
+use Rattle.store_documents.proofs.RowLemmas.{is_row, no_row, not_answered, row_back, WritesAs}
 use Rattle.store_documents.proofs.row.is_store_row.Goals as goal
 
 pub returns-in-Ok-Some : goal.returns-in-Ok-Some

@@ -1,6 +1,6 @@
 use Rattle.std.proofs.Common.{sym, ◌∙◌, refl}
 use Rattle.std.specs.Cow.{cow_slice_items}
-use Rattle.store_documents.proofs.OfRows.{WritesAs, other_body, own_key_told, old_key_told, no_key_told, kept_of, untrue_so}
+use Rattle.store_documents.proofs.RowLemmas.{WritesAs, other_body, own_key_told, old_key_told, no_key_told, kept_of, untrue_so}
 use Rattle.store_documents.proofs.row.key_against.Goals as goal
 
 pub key_before-requires : goal.key_before-requires

@@ -2,7 +2,7 @@ use Rattle.std.proofs.Common.{Err, sym, ap, ◌∙◌}
 use Rattle.bson_model.specs.View.{view, pairs_of, members_of}
 use Rattle.bson_model.proofs.EqualLemmas.{look_up-members_of}
 use Rattle.store_model.specs.State.{id_key}
-use Rattle.store_documents.proofs.OfRows.{kept_means, no_id_there, its_key, its_had_key, not_too_long}
+use Rattle.store_documents.proofs.RowLemmas.{kept_means, no_id_there, its_key, its_had_key, not_too_long}
 use Rattle.store_documents.proofs.row.key_before.Goals as goal
 
 pub document_of-requires : goal.document_of-requires

@@ -1,5 +1,5 @@
 use Rattle.std.proofs.lemmas.Result.{IfOk-weaker}
-use Rattle.store_documents.proofs.OfRows.{not_answered, neither_told}
+use Rattle.store_documents.proofs.RowLemmas.{not_answered, neither_told}
 use Rattle.store_documents.proofs.row.key_of_row.Goals as goal
 
 pub returns-in-Err : goal.returns-in-Err

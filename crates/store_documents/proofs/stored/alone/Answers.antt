@@ -1,6 +1,6 @@
 use Rattle.std.proofs.Common.{refl, ap, ◌∙◌, ◌++◌, ◌∷◌, [], ◌+◌, length, List, ℕ}
 use Rattle.bson_base.specs.Tags.{tag_byte}
-use Rattle.store_documents.proofs.OfStored.{around}
+use Rattle.store_documents.proofs.StoredLemmas.{around}
 use Rattle.store_documents.proofs.stored.alone.Goals as goal
 
 pub returns : goal.returns

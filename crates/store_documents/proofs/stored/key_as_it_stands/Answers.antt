@@ -3,9 +3,9 @@ use Rattle.std.specs.declared.borrow.CowSlice.TheVariants as slice
 use Rattle.std.proofs.lemmas.Result.{err_from_is_err_and}
 use Rattle.bson_bytes.specs.Spells.{settle}
 use Rattle.bson_frame.specs.View.{element_of}
-use Rattle.store_documents.proofs.OfStored.{found, passing, row, stands}
+use Rattle.store_documents.proofs.StoredLemmas.{found, passing, row, stands}
 use Rattle.store_documents.proofs.stored.key_as_it_stands.Goals as goal
-use Rattle.bson_bytes.proofs.Meant.{are_bytes}
+use Rattle.bson_bytes.proofs.MeaningLemmas.{are_bytes}
 
 pub key_of_element-requires : goal.key_of_element-requires
 key_of_element-requires c =

@@ -2,7 +2,7 @@ use Rattle.std.proofs.Common.{Err, ap, ◌∙◌}
 use Rattle.bson_frame.specs.View.{element_of}
 use Rattle.bson_model.specs.View.{members_of, pairs_of}
 use Rattle.store_model.specs.Table.{only_id}
-use Rattle.store_documents.proofs.OfStored.{alone_itself, alone_key, alone_means, alone_refused, alone_short}
+use Rattle.store_documents.proofs.StoredLemmas.{alone_itself, alone_key, alone_means, alone_refused, alone_short}
 use Rattle.store_documents.proofs.stored.key_of_element.Goals as goal
 
 pub alone-requires : goal.alone-requires

@@ -1,9 +1,9 @@
 use Rattle.std.proofs.lemmas.Result.{err_from_is_err_and}
 use Rattle.bson_bytes.specs.Spells.{settle}
 use Rattle.bson_model.specs.View.{members_of, pairs_of}
-use Rattle.store_documents.proofs.OfStored.{by_tree, meant, wants}
+use Rattle.store_documents.proofs.StoredLemmas.{by_tree, meant, wants}
 use Rattle.store_documents.proofs.stored.row_by_tree.Goals as goal
-use Rattle.bson_bytes.proofs.Meant.{are_bytes}
+use Rattle.bson_bytes.proofs.MeaningLemmas.{are_bytes}
 
 pub document_of-requires : goal.document_of-requires
 document_of-requires c = (settle c.in_default.ensures.2.0, meant c.args.bytes.now c.in_default.ensures)

@@ -1,7 +1,7 @@
 use Rattle.std.proofs.lemmas.Result.{err_from_is_err_and}
-use Rattle.store_documents.proofs.OfStored.{wants}
+use Rattle.store_documents.proofs.StoredLemmas.{wants}
 use Rattle.store_documents.proofs.stored.row_of_bytes.Goals as goal
-use Rattle.bson_bytes.proofs.Meant.{are_bytes}
+use Rattle.bson_bytes.proofs.MeaningLemmas.{are_bytes}
 
 pub returns-in_err-key : goal.returns-in_err-key
 returns-in_err-key c =

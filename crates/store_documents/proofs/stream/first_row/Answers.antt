@@ -1,5 +1,5 @@
 use Rattle.std.proofs.lemmas.Result.{err_from_is_err_and}
-use Rattle.store_documents.proofs.Going.{front_kept, front_refused}
+use Rattle.store_documents.proofs.ManyLemmas.{front_kept, front_refused}
 use Rattle.store_documents.proofs.stream.first_row.Goals as goal
 
 pub returns-in_err-row-clause-answer : goal.returns-in_err-row-clause-answer

@@ -4,9 +4,9 @@ use Rattle.std.proofs.lemmas.Result.{err_from_is_err_and}
 use Rattle.store_model.specs.Reading.{ReadsStream}
 use Rattle.store_model.specs.Refusal.{refusal_at}
 use Rattle.store_documents.specs.Judging.{Judges}
-use Rattle.store_documents.proofs.Going.{judged_memory, judged_refused}
-use Rattle.store_documents.proofs.SoFar.{so_far_pushed, so_far_done}
-use Rattle.store_documents.proofs.Streams.{any_stream, stream_end}
+use Rattle.store_documents.proofs.ManyLemmas.{judged_memory, judged_refused}
+use Rattle.store_documents.proofs.JudgeLemmas.{so_far_pushed, so_far_done}
+use Rattle.store_documents.proofs.StreamLemmas.{any_stream, stream_end}
 use Rattle.store_documents.proofs.stream.judge_stream.Goals as goal
 
 pub returns-in_err-push-in-Ok : goal.returns-in_err-push-in-Ok

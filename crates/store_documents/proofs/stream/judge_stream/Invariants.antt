@@ -1,6 +1,6 @@
 use Rattle.std.proofs.Common.{length}
 use Rattle.store_model.specs.Reading.{ReadsStream}
-use Rattle.store_documents.proofs.SoFar.{SoFar}
+use Rattle.store_documents.proofs.JudgeLemmas.{SoFar}
 use Rattle.store_documents.proofs.stream.judge_stream.Given as goal
 
 abbrev pub invariant-loop-rest : goal.invariant-loop-rest

@@ -1,7 +1,7 @@
 use Rattle.std.proofs.Common.{subst}
 use Rattle.bson_frame.specs.View.{element_of}
 use Rattle.store_documents.specs.Trees.{AreTold}
-use Rattle.store_documents.proofs.OfTrees.{all_behind, array_told, document_told, end_told, scalar_told, told_more}
+use Rattle.store_documents.proofs.TreeLemmas.{all_behind, array_told, document_told, end_told, scalar_told, told_more}
 use Rattle.store_documents.proofs.trees.+told.Goals as goal
 
 pub are_told-loop-rest-preserved : goal.are_told-loop-rest-preserved

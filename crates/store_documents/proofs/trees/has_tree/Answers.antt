@@ -1,4 +1,4 @@
-use Rattle.store_documents.proofs.OfTrees.{told_tree}
+use Rattle.store_documents.proofs.TreeLemmas.{told_tree}
 use Rattle.store_documents.proofs.trees.has_tree.Goals as goal
 
 pub returns : goal.returns

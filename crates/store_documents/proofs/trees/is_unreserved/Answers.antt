@@ -1,5 +1,5 @@
 use Rattle.std.proofs.Common.{subst, ◌<◌, length}
-use Rattle.store_documents.proofs.OfTrees.{empty_free, free}
+use Rattle.store_documents.proofs.TreeLemmas.{empty_free, free}
 use Rattle.store_documents.proofs.trees.is_unreserved.Goals as goal
 
 pub returns-in-empty : goal.returns-in-empty

@@ -1,6 +1,6 @@
 use Rattle.std.proofs.Common.{inl, inr, refl, ap, arith, length}
 use Rattle.bson_model.specs.View.{pairs_of, members_of}
-use Rattle.bson_bytes.proofs.Lengths.{encode_length}
+use Rattle.bson_bytes.proofs.LengthLemmas.{encode_length}
 use Rattle.store_documents.proofs.write.body_of.Goals as goal
 
 pub returns-then-len-gt-SIZE_LIMIT : goal.returns-then-len-gt-SIZE_LIMIT

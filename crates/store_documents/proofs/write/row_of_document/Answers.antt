@@ -3,7 +3,7 @@ use Rattle.std.proofs.lemmas.Result.{err_from_is_err_and}
 use Rattle.bson_model.specs.View.{view, pairs_of, members_of}
 use Rattle.bson_model.proofs.EqualLemmas.{look_up-members_of}
 use Rattle.store_model.specs.State.{id_key}
-use Rattle.store_documents.proofs.OfBodies.{no_id, no_key, no_refusal, own_key, unwritten}
+use Rattle.store_documents.proofs.BodyLemmas.{no_id, no_key, no_refusal, own_key, unwritten}
 use Rattle.store_documents.proofs.write.row_of_document.Goals as goal
 
 pub returns-in_default : goal.returns-in_default

@@ -1,5 +1,5 @@
 use Rattle.std.proofs.Common.{sym}
-use Rattle.store_filter.proofs.Views.{array_held}
+use Rattle.store_filter.proofs.ViewLemmas.{array_held}
 use Rattle.store_filter.proofs.paths.elements_of.Goals as goal
 
 pub returns-clause-held : goal.returns-clause-held

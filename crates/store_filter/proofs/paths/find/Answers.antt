@@ -2,7 +2,7 @@ use Rattle.std.proofs.Common.{◌≡◌, ◌∙◌, List, ℕ, Some, true, false
 use Rattle.std.specs.Str.{bytes_eq}
 use Rattle.bson_raw.specs.View.{bytes_of, left_of, parts_of}
 use Rattle.bson_raw.specs.Walk.{steps_from}
-use Rattle.store_filter.proofs.Looking.{start, start_room, here, here_met, passed, nowhere, all_met, no_fault, step_room}
+use Rattle.store_filter.proofs.LookUpLemmas.{start, start_room, here, here_met, passed, nowhere, all_met, no_fault, step_room}
 use Rattle.store_filter.proofs.paths.find.Goals as goal
 
 pub loop-item-init : goal.loop-item-init

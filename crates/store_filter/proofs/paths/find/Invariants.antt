@@ -3,7 +3,7 @@ use Rattle.bson_base.specs.Value.{Members}
 use Rattle.bson_bytes.specs.Encode.{encode}
 use Rattle.bson_raw.specs.View.{bytes_of, left_of}
 use Rattle.store_filter.specs.Views.{ComeBack}
-use Rattle.store_filter.proofs.Looking.{Progress, left_length}
+use Rattle.store_filter.proofs.LookUpLemmas.{Progress, left_length}
 use Rattle.store_filter.proofs.paths.find.Given as goal
 
 abbrev pub invariant-loop-item : goal.invariant-loop-item

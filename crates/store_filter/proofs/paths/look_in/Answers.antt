@@ -2,7 +2,7 @@ use Rattle.std.proofs.Common.{Option, sym, subst}
 use Rattle.bson_base.specs.Value.{Value, look_up}
 use Rattle.bson_raw.specs.declared.element.RawElement.{RawElement}
 use Rattle.store_filter.specs.Views.{Finds, FindsElement}
-use Rattle.store_filter.proofs.Members.{pairs_back, found_back}
+use Rattle.store_filter.proofs.MemberLemmas.{pairs_back, found_back}
 use Rattle.store_filter.proofs.paths.look_in.Goals as goal
 use Rattle.store_model.specs.Filter.{pairs}
 

@@ -5,8 +5,8 @@ use Rattle.bson_raw.specs.declared.bson_ref.RawBsonRef.{RawBsonRef}
 use Rattle.bson_raw.specs.View.{bytes_of}
 use Rattle.store_filter.specs.Filters.{path_of}
 use Rattle.store_filter.specs.Views.{room, room_of}
-use Rattle.store_filter.proofs.Members.{document_back}
-use Rattle.store_filter.proofs.Following.{onward, stopped, stopped_met, stepped, arrived}
+use Rattle.store_filter.proofs.MemberLemmas.{document_back}
+use Rattle.store_filter.proofs.PathLemmas.{onward, stopped, stopped_met, stepped, arrived}
 use Rattle.store_filter.proofs.paths.look_up.Goals as goal
 
 pub loop-key-init : goal.loop-key-init

@@ -3,7 +3,7 @@ use Rattle.bson_raw.specs.View.{bytes_of}
 use Rattle.bson_base.specs.Value.{document}
 use Rattle.store_filter.specs.Filters.{path_of}
 use Rattle.store_filter.specs.Views.{OfWritten, room}
-use Rattle.store_filter.proofs.Following.{OnTheWay}
+use Rattle.store_filter.proofs.PathLemmas.{OnTheWay}
 use Rattle.store_filter.proofs.paths.look_up.Given as goal
 
 abbrev pub invariant-loop-key : goal.invariant-loop-key

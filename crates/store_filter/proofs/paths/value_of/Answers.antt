@@ -1,6 +1,6 @@
 use Rattle.std.proofs.Common.{refl}
 use Rattle.bson_raw.specs.View.{parts_of}
-use Rattle.store_filter.proofs.Views.{encoded, faultless}
+use Rattle.store_filter.proofs.ViewLemmas.{encoded, faultless}
 use Rattle.store_filter.proofs.paths.value_of.Goals as goal
 
 pub returns-in-Ok-clause-written : goal.returns-in-Ok-clause-written

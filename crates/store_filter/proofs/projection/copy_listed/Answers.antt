@@ -5,7 +5,7 @@ use Rattle.std.specs.Str.{bytes_eq}
 use Rattle.bson_frame.specs.Frame.{IsFirstFrame}
 use Rattle.bson_frame.specs.View.{element_of}
 use Rattle.store_filter.specs.Filters.{path_of}
-use Rattle.store_filter.proofs.Listing.{Copying, FewCopied, any_mapped, copied_one, element_bytes, left_out, few_copied, few_left_out, split_front, front_taken, copy_end}
+use Rattle.store_filter.proofs.ProjectionLemmas.{Copying, FewCopied, any_mapped, copied_one, element_bytes, left_out, few_copied, few_left_out, split_front, front_taken, copy_end}
 use Rattle.store_filter.proofs.projection.copy_listed.Goals as goal
 use Rattle.store_filter.proofs.projection.copy_listed.Goals.{then-is_listed+in_ok-extend_from_slice, else-is_listed}
 

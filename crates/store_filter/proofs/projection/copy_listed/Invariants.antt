@@ -3,7 +3,7 @@ use Rattle.bson_base.specs.Value.{Members}
 use Rattle.bson_bytes.specs.Encode.{members_bytes}
 use Rattle.store_filter.specs.Filters.{path_of}
 use Rattle.store_filter.specs.Views.{ComeBack}
-use Rattle.store_filter.proofs.Listing.{Copying, FewCopied}
+use Rattle.store_filter.proofs.ProjectionLemmas.{Copying, FewCopied}
 use Rattle.store_filter.proofs.projection.copy_listed.Given as goal
 
 abbrev pub invariant-loop-first : goal.invariant-loop-first

@@ -3,8 +3,8 @@ use Rattle.bson_base.specs.Value.{document}
 use Rattle.bson_bytes.specs.Encode.{members_bytes}
 use Rattle.bson_raw.specs.View.{bytes_of}
 use Rattle.store_filter.specs.Filters.{path_of}
-use Rattle.store_filter.proofs.Listing.{body_inside, framed_now}
-use Rattle.store_filter.proofs.Members.{document_back, pairs_back}
+use Rattle.store_filter.proofs.ProjectionLemmas.{body_inside, framed_now}
+use Rattle.store_filter.proofs.MemberLemmas.{document_back, pairs_back}
 use Rattle.store_filter.proofs.projection.project.Goals as goal
 use Rattle.store_model.specs.State.{only}
 

@@ -1,7 +1,7 @@
 use Rattle.std.proofs.Common.{map, drop}
 use Rattle.bson_base.specs.Value.{document}
 use Rattle.store_filter.specs.Filters.{filter_of, tests_of}
-use Rattle.store_filter.proofs.Selecting.{none_from, all_end, any_end}
+use Rattle.store_filter.proofs.SelectLemmas.{none_from, all_end, any_end}
 use Rattle.store_filter.proofs.select.+filters.Goals as goal
 
 pub selects_all-returns : goal.selects_all-returns

@@ -5,8 +5,8 @@ use Rattle.bson_raw.specs.declared.bson_ref.RawBsonRef.{RawBsonRef}
 use Rattle.bson_raw.specs.View.{bytes_of}
 use Rattle.store_filter.specs.Filters.{path_of}
 use Rattle.store_filter.specs.Views.{Finds}
-use Rattle.store_filter.proofs.Members.{document_back}
-use Rattle.store_filter.proofs.Selecting.{means_same}
+use Rattle.store_filter.proofs.MemberLemmas.{document_back}
+use Rattle.store_filter.proofs.SelectLemmas.{means_same}
 use Rattle.store_filter.proofs.select.equals_at.Goals as goal
 use Rattle.store_model.specs.Filter.{at}
 

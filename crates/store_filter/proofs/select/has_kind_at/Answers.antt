@@ -5,7 +5,7 @@ use Rattle.bson_base.specs.Value.{document}
 use Rattle.bson_raw.specs.declared.bson_ref.RawBsonRef.{RawBsonRef}
 use Rattle.store_filter.specs.Filters.{path_of}
 use Rattle.store_filter.specs.Views.{Finds}
-use Rattle.store_filter.proofs.Selecting.{kind_asked}
+use Rattle.store_filter.proofs.SelectLemmas.{kind_asked}
 use Rattle.store_filter.proofs.select.has_kind_at.Goals as goal
 use Rattle.store_model.specs.Filter.{at}
 

@@ -1,4 +1,4 @@
-use Rattle.store_model.proofs.Runs.{run_same}
+use Rattle.store_model.proofs.RunLemmas.{run_same}
 use Rattle.store_model.proofs.laws.congruence.Goals as goal
 
 pub returns : goal.returns

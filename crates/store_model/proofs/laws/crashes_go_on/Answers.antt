@@ -1,6 +1,6 @@
 use Rattle.std.proofs.Common.{◌≡◌}
 use Rattle.store_model.specs.Left.{Is}
-use Rattle.store_model.proofs.Left.{left_goes_on}
+use Rattle.store_model.proofs.LeftLemmas.{left_goes_on}
 use Rattle.store_model.proofs.laws.crashes_go_on.Goals as goal
 
 pub returns : goal.returns

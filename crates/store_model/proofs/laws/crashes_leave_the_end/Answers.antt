@@ -1,6 +1,6 @@
 use Rattle.std.proofs.Common.{◌≡◌, subst, sym}
 use Rattle.store_model.specs.Left.{Is, IsEndOrOneMore}
-use Rattle.store_model.proofs.Left.{left_in_the_end}
+use Rattle.store_model.proofs.LeftLemmas.{left_in_the_end}
 use Rattle.store_model.proofs.laws.crashes_leave_the_end.Goals as goal
 
 pub returns : goal.returns

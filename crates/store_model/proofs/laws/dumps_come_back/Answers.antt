@@ -1,4 +1,4 @@
-use Rattle.store_model.proofs.Restore.{dump_restored}
+use Rattle.store_model.proofs.RestoreLemmas.{dump_restored}
 use Rattle.store_model.proofs.laws.dumps_come_back.Goals as goal
 
 pub returns : goal.returns

@@ -1,4 +1,4 @@
-use Rattle.store_model.proofs.Restore.{stream_back, export_restored}
+use Rattle.store_model.proofs.RestoreLemmas.{stream_back, export_restored}
 use Rattle.store_model.proofs.laws.exports_come_back.Goals as goal
 
 pub returns : goal.returns

@@ -1,4 +1,4 @@
-use Rattle.store_model.proofs.Selecting.{selects_same, same_filter}
+use Rattle.store_model.proofs.SelectLemmas.{selects_same, same_filter}
 use Rattle.store_model.proofs.laws.filters_go_by_meaning.Goals as goal
 
 pub returns : goal.returns

@@ -1,4 +1,4 @@
-use Rattle.store_model.proofs.Ids.{has_written, written_has}
+use Rattle.store_model.proofs.IdLemmas.{has_written, written_has}
 use Rattle.store_model.proofs.laws.ids_go_by_keys.Goals as goal
 
 pub returns : goal.returns

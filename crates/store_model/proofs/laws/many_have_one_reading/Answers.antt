@@ -1,4 +1,4 @@
-use Rattle.store_model.proofs.OneMany.{streams_alike, trees_alike}
+use Rattle.store_model.proofs.ManyLemmas.{streams_alike, trees_alike}
 use Rattle.store_model.proofs.laws.many_have_one_reading.Goals as goal
 
 pub returns : goal.returns

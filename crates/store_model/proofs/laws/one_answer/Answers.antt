@@ -1,4 +1,4 @@
-use Rattle.store_model.proofs.Functions.{one_step}
+use Rattle.store_model.proofs.FunctionLemmas.{one_step}
 use Rattle.store_model.proofs.laws.one_answer.Goals as goal
 
 pub returns : goal.returns

@@ -1,4 +1,4 @@
-use Rattle.store_model.proofs.Functions.{one_collection}
+use Rattle.store_model.proofs.FunctionLemmas.{one_collection}
 use Rattle.store_model.proofs.laws.one_collection.Goals as goal
 
 pub returns : goal.returns

@@ -1,4 +1,4 @@
-use Rattle.store_model.proofs.Readings.{one_document, not_both, one_refusal, one_tree}
+use Rattle.store_model.proofs.ReadingLemmas.{one_document, not_both, one_refusal, one_tree}
 use Rattle.store_model.proofs.laws.one_reading.Goals as goal
 
 pub returns : goal.returns

@@ -1,4 +1,4 @@
-use Rattle.store_model.proofs.Readings.{bytes_read, tree_read, value_read, stream_read, trees_read}
+use Rattle.store_model.proofs.ReadingLemmas.{bytes_read, tree_read, value_read, stream_read, trees_read}
 use Rattle.store_model.proofs.laws.readings_are_sound.Goals as goal
 
 pub returns : goal.returns

@@ -1,4 +1,4 @@
-use Rattle.store_model.proofs.Refused.{refused_stays}
+use Rattle.store_model.proofs.RefusalLemmas.{refused_stays}
 use Rattle.store_model.proofs.laws.refusals_stay.Goals as goal
 
 pub returns : goal.returns

@@ -1,4 +1,4 @@
-use Rattle.store_model.proofs.Keys.{rows_are_a_state, a_state_has_rows}
+use Rattle.store_model.proofs.KeyLemmas.{rows_are_a_state, a_state_has_rows}
 use Rattle.store_model.proofs.laws.rows_are_a_state.Goals as goal
 
 pub returns : goal.returns

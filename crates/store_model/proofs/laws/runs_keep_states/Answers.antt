@@ -1,4 +1,4 @@
-use Rattle.store_model.proofs.Runs.{run_good}
+use Rattle.store_model.proofs.RunLemmas.{run_good}
 use Rattle.store_model.proofs.laws.runs_keep_states.Goals as goal
 
 pub returns : goal.returns

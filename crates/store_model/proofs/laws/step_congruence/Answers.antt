@@ -1,4 +1,4 @@
-use Rattle.store_model.proofs.Runs.{step_same}
+use Rattle.store_model.proofs.RunLemmas.{step_same}
 use Rattle.store_model.proofs.laws.step_congruence.Goals as goal
 
 pub returns : goal.returns

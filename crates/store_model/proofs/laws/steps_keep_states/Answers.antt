@@ -1,5 +1,5 @@
-use Rattle.store_model.proofs.Kept.{step_good}
-use Rattle.store_model.proofs.States.{stored_again}
+use Rattle.store_model.proofs.KeptLemmas.{step_good}
+use Rattle.store_model.proofs.StateLemmas.{stored_again}
 use Rattle.store_model.proofs.laws.steps_keep_states.Goals as goal
 
 pub returns : goal.returns

@@ -1,4 +1,4 @@
-use Rattle.store_model.proofs.Tables.{run_of_states, run_spares}
+use Rattle.store_model.proofs.TableLemmas.{run_of_states, run_spares}
 use Rattle.store_model.proofs.laws.tables_run_as_states.Goals as goal
 
 pub returns : goal.returns

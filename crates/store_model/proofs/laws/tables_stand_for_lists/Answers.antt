@@ -1,4 +1,4 @@
-use Rattle.store_model.proofs.Rows.{list_of-state_of, rows_last, row_there, row_changed, row_gone}
+use Rattle.store_model.proofs.RowLemmas.{list_of-state_of, rows_last, row_there, row_changed, row_gone}
 use Rattle.store_model.proofs.laws.tables_stand_for_lists.Goals as goal
 
 pub returns : goal.returns

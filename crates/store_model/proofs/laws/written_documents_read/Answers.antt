@@ -1,4 +1,4 @@
-use Rattle.store_model.proofs.Restore.{written_reads}
+use Rattle.store_model.proofs.RestoreLemmas.{written_reads}
 use Rattle.store_model.proofs.laws.written_documents_read.Goals as goal
 
 pub returns : goal.returns

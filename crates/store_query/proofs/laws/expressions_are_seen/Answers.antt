@@ -1,4 +1,4 @@
-use Rattle.store_query.proofs.Expressions.{expression_seen}
+use Rattle.store_query.proofs.ExpressionLemmas.{expression_seen}
 use Rattle.store_query.proofs.laws.expressions_are_seen.Goals as goal
 
 pub returns : goal.returns

@@ -1,5 +1,5 @@
 use Rattle.std.proofs.Common.{◌≤◌, ◌<◌, ◌/◌, ◌%◌, arith}
-use Rattle.store_query.proofs.Doubles.{large_size}
+use Rattle.store_query.proofs.DoubleLemmas.{large_size}
 use Rattle.store_query.proofs.numbers.size_of.Goals as goal
 
 pub returns-else-exponent-lt1075 : goal.returns-else-exponent-lt1075

@@ -1,7 +1,7 @@
 use Rattle.std.proofs.Common.{[]}
 use Rattle.sqlite.specs.Held.{state}
 use Rattle.sqlite.proofs.StateLemmas.{survives_weaker}
-use Rattle.store_table.proofs.Texts.{create_text}
+use Rattle.store_table.proofs.TextLemmas.{create_text}
 use Rattle.store_table.proofs.StatementLemmas.{if_refused_keeps}
 use Rattle.store_table.proofs.BlankLemmas.{blank_ok}
 use Rattle.store_table.proofs.BesideLemmas.{create_beside, beside_commits}

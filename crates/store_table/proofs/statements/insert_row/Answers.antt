@@ -6,7 +6,7 @@ use Rattle.sqlite.proofs.StateLemmas.{unchanged}
 use Rattle.store_table.specs.Rows.{TableRow}
 use Rattle.store_table.proofs.InsertLemmas.{add_ok, add_crash, given}
 use Rattle.store_table.proofs.WrittenLemmas.{written_by}
-use Rattle.store_table.proofs.Texts.{insert_text}
+use Rattle.store_table.proofs.TextLemmas.{insert_text}
 use Rattle.store_table.proofs.statements.insert_row.Goals as goal
 
 pub returns-clause-written : goal.returns-clause-written

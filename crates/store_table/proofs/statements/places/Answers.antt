@@ -2,7 +2,7 @@ use Rattle.std.proofs.lemmas.Result.{IfOk-weaker}
 use Rattle.sqlite.specs.Held.{state}
 use Rattle.store_table.proofs.AnyLemmas.{is_read, leaves_nothing}
 use Rattle.store_table.proofs.ReadLemmas.{named_places}
-use Rattle.store_table.proofs.Texts.{places_text, places_asks}
+use Rattle.store_table.proofs.TextLemmas.{places_text, places_asks}
 use Rattle.store_table.proofs.statements.places.Goals as goal
 
 pub returns-clause-rows : goal.returns-clause-rows

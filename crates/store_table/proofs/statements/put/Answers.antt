@@ -4,7 +4,7 @@ use Rattle.sqlite.specs.Held.{state}
 use Rattle.store_table.specs.Rows.{TableRow}
 use Rattle.store_table.proofs.InsertLemmas.{put_added, put_spared, put_refused}
 use Rattle.store_table.proofs.KeyLemmas.{still_committed, still_inside}
-use Rattle.store_table.proofs.Texts.{insert_text}
+use Rattle.store_table.proofs.TextLemmas.{insert_text}
 use Rattle.store_table.proofs.statements.put.Goals as goal
 
 pub returns-clause-added : goal.returns-clause-added

@@ -4,7 +4,7 @@ use Rattle.sqlite.specs.Held.{state}
 use Rattle.store_table.proofs.InsertLemmas.{put_refused}
 use Rattle.store_table.proofs.KeyLemmas.{rekey_done, rekey_spared, still_committed, still_inside}
 use Rattle.store_table.proofs.PutLemmas.{puts_done}
-use Rattle.store_table.proofs.Texts.{rekey_text}
+use Rattle.store_table.proofs.TextLemmas.{rekey_text}
 use Rattle.store_table.specs.Rows.{TableRow}
 use Rattle.store_table.proofs.statements.rekey.Goals as goal
 

@@ -6,7 +6,7 @@ use Rattle.sqlite.specs.State.{HasCleanDisk, Executes, CommitsBy}
 use Rattle.store_table.specs.Rows.{without_place}
 use Rattle.store_table.proofs.ChangeLemmas.{removes, remove_commits}
 use Rattle.store_table.proofs.WrittenLemmas.{not_prepared, not_prepared_others, written_by, written_err, crash_before, crash_after}
-use Rattle.store_table.proofs.Texts.{delete_text}
+use Rattle.store_table.proofs.TextLemmas.{delete_text}
 use Rattle.store_table.proofs.statements.remove_at.Goals as goal
 
 pub returns-clause-written : goal.returns-clause-written

@@ -6,7 +6,7 @@ use Rattle.sqlite.specs.State.{HasCleanDisk, Executes, CommitsBy}
 use Rattle.store_table.specs.Rows.{with_body_at}
 use Rattle.store_table.proofs.ChangeLemmas.{rewrites, rewrite_commits}
 use Rattle.store_table.proofs.WrittenLemmas.{not_prepared, not_prepared_others, written_by, written_err, crash_before, crash_after}
-use Rattle.store_table.proofs.Texts.{update_text}
+use Rattle.store_table.proofs.TextLemmas.{update_text}
 use Rattle.store_table.proofs.statements.rewrite_at.Goals as goal
 
 pub returns-clause-written : goal.returns-clause-written

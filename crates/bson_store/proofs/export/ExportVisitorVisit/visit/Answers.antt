@@ -1,7 +1,7 @@
 use Rattle.std.proofs.Common.{◌++◌, ◌∷◌, [], sym, subst}
 use Rattle.bson_base.specs.Device.{Tally}
 use Rattle.bson_store.specs.Export.{Sent}
-use Rattle.bson_store.proofs.Exporting.{sent_no_more, sent_some}
+use Rattle.bson_store.proofs.ExportLemmas.{sent_no_more, sent_some}
 use Rattle.bson_store.proofs.export.ExportVisitorVisit.visit.Goals as goal
 
 pub returns-then-self-clause-took : goal.returns-then-self-clause-took

@@ -1,5 +1,5 @@
 use Rattle.store_filter.specs.Filters.{filter_of}
-use Rattle.bson_store.proofs.Selecting.{gave_more, gave_fault}
+use Rattle.bson_store.proofs.SelectLemmas.{gave_more, gave_fault}
 use Rattle.bson_store.proofs.picking.FilterVisitorVisit.visit.Goals as goal
 
 pub returns-in-Ok-clause-took : goal.returns-in-Ok-clause-took

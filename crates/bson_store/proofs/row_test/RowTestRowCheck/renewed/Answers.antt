@@ -1,4 +1,4 @@
-use Rattle.bson_store.proofs.Renewed.{old_told, none_told}
+use Rattle.bson_store.proofs.RenewalLemmas.{old_told, none_told}
 use Rattle.bson_store.proofs.row_test.RowTestRowCheck.renewed.Goals as goal
 
 pub returns-in-Before : goal.returns-in-Before

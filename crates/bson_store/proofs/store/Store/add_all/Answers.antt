@@ -8,9 +8,9 @@ use Rattle.bson_store.specs.Calls.{store_state, store_connection, Does}
 use Rattle.bson_store.specs.Many.{AddsAll, FindsTaken}
 use Rattle.bson_store.specs.Refusals.{kind_of_fault}
 use Rattle.store_model.specs.Refusal.{refusal}
-use Rattle.bson_store.proofs.Adding.{rows_make, unadded, add_refused, add_wants, not_added, added}
-use Rattle.bson_store.proofs.Leaving.{accepted_leaves, denied_leaves}
-use Rattle.bson_store.proofs.Moving.{moved, moved_twice}
+use Rattle.bson_store.proofs.ManyLemmas.{rows_make, unadded, add_refused, add_wants, not_added, added}
+use Rattle.bson_store.proofs.CrashLemmas.{accepted_leaves, denied_leaves}
+use Rattle.bson_store.proofs.MoveLemmas.{moved, moved_twice}
 use Rattle.bson_store.proofs.store.Store.add_all.Goals as goal
 use Rattle.sqlite.specs.State.{HasCleanDisk}
 

@@ -1,12 +1,12 @@
 use Rattle.std.proofs.Common.{None, Ok, Err}
 use Rattle.store_table.specs.Moves.{Lists}
-use Rattle.store_table.specs.Table.{table_state}
+use Rattle.store_indexed.specs.Table.{indexed_state as table_state}
 use Rattle.store_model.specs.State as model
 use Rattle.bson_store.specs.Calls.{Does, store_state}
 use Rattle.bson_store.specs.Questions.{as_names}
 use Rattle.bson_store.specs.Refusals.{kind_of_fault, reply_by}
-use Rattle.bson_store.proofs.Moving.{moved}
-use Rattle.bson_store.proofs.Naming.{told, unlisted}
+use Rattle.bson_store.proofs.MoveLemmas.{moved}
+use Rattle.bson_store.proofs.NameLemmas.{told, unlisted}
 use Rattle.bson_store.proofs.store.Store.collections.Goals as goal
 
 pub returns-in-Err-clause-moves : goal.returns-in-Err-clause-moves

@@ -1,6 +1,6 @@
 use Rattle.std.proofs.Common.{rules}
 use Rattle.bson_store.specs.Calls.{store_state}
-use Rattle.bson_store.proofs.Dumping.{dumped_moves, undumped_moves}
+use Rattle.bson_store.proofs.DumpLemmas.{dumped_moves, undumped_moves}
 use Rattle.bson_store.proofs.store.Store.dump_json.Goals as goal
 
 pub returns-clause-moves : goal.returns-clause-moves

@@ -1,7 +1,7 @@
 use Rattle.std.proofs.Common.{Ok, Err}
 use Rattle.bson_store.specs.Calls.{store_state}
 use Rattle.bson_store.specs.Dump.{HandsTrees}
-use Rattle.bson_store.proofs.Moving.{moved}
+use Rattle.bson_store.proofs.MoveLemmas.{moved}
 use Rattle.bson_store.proofs.store.Store.each_json.Goals as goal
 
 pub returns-in-Ok-clause-moves : goal.returns-in-Ok-clause-moves

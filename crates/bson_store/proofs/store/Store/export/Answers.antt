@@ -6,10 +6,10 @@ use Rattle.bson_store.specs.Calls.{store_state}
 use Rattle.bson_store.specs.Export.{SendsCollection}
 use Rattle.store_model.specs.Refusal.{refusal}
 use Rattle.bson_store.specs.declared.export.ExportVisitor.{ExportVisitor}
-use Rattle.store_table.specs.Table.{table_state}
-use Rattle.bson_store.proofs.Moving.{rests, moved}
-use Rattle.bson_store.proofs.Devices.{of_failed, of_fault, of_sent}
-use Rattle.bson_store.proofs.Exporting.{sends_none, all_sent, table_failed, writer_failed}
+use Rattle.store_indexed.specs.Table.{indexed_state as table_state}
+use Rattle.bson_store.proofs.MoveLemmas.{rests, moved}
+use Rattle.bson_store.proofs.DeviceLemmas.{of_failed, of_fault, of_sent}
+use Rattle.bson_store.proofs.ExportLemmas.{sends_none, all_sent, table_failed, writer_failed}
 use Rattle.bson_store.proofs.store.Store.export.Goals as goal
 
 pub returns-in_err-name-clause-moves : goal.returns-in_err-name-clause-moves

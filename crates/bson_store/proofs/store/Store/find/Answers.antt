@@ -5,8 +5,8 @@ use Rattle.store_documents.specs.Names.{name_bytes}
 use Rattle.store_model.specs.State as model
 use Rattle.bson_store.specs.Calls.{store_state}
 use Rattle.bson_store.specs.Questions.{as_list}
-use Rattle.bson_store.proofs.Exits.{bad_moves}
-use Rattle.bson_store.proofs.Selecting.{HasCopies, picked_moves, unpicked_moves}
+use Rattle.bson_store.proofs.ExitLemmas.{bad_moves}
+use Rattle.bson_store.proofs.SelectLemmas.{HasCopies, picked_moves, unpicked_moves}
 use Rattle.bson_store.proofs.store.Store.find.Goals as goal
 
 pub returns-in_err-name-clause-moves : goal.returns-in_err-name-clause-moves

@@ -2,10 +2,10 @@ use Rattle.std.proofs.Common.{◌<◌, ◌+◌, length, Some, None, Ok, Err, ari
 use Rattle.std.proofs.lemmas.Result.{err_from_is_err_and}
 use Rattle.bson_store.specs.Calls.{store_state}
 use Rattle.bson_store.specs.Many.{FindsTaken, Meets}
-use Rattle.bson_store.proofs.Keyed.{ComesTo, comes_first, comes_more, taken_here, taken_denied, none_taken}
+use Rattle.bson_store.proofs.KeyLemmas.{ComesTo, comes_first, comes_more, taken_here, taken_denied, none_taken}
 use Rattle.sqlite.proofs.StateLemmas.{survives_then}
-use Rattle.bson_store.proofs.Leaving.{survives_itself}
-use Rattle.bson_store.proofs.Moving.{rests, moved, moved_twice}
+use Rattle.bson_store.proofs.CrashLemmas.{survives_itself}
+use Rattle.bson_store.proofs.MoveLemmas.{rests, moved, moved_twice}
 use Rattle.bson_store.proofs.store.Store.first_looked_up.Goals as goal
 use Rattle.sqlite.specs.State.{HasCleanDisk}
 

@@ -3,7 +3,7 @@ use Rattle.sqlite.specs.State.{HasCleanDisk, Survives}
 use Rattle.store_table.specs.Moves.{Moves, Stands}
 use Rattle.store_table.specs.Rows.{TableRow}
 use Rattle.bson_store.specs.Calls.{store_state}
-use Rattle.bson_store.proofs.Keyed.{ComesTo}
+use Rattle.bson_store.proofs.KeyLemmas.{ComesTo}
 use Rattle.bson_store.proofs.store.Store.first_looked_up.Given as goal
 
 abbrev pub invariant-loop-at : goal.invariant-loop-at

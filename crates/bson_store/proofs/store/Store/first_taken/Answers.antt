@@ -3,14 +3,14 @@ use Rattle.std.proofs.lemmas.Result.{err_from_is_err_and}
 use Rattle.std.proofs.lemmas.Result.{IfOk-weaker}
 use Rattle.sqlite.specs.State.{HasCleanDisk}
 use Rattle.store_table.specs.Moves.{FindsNone}
-use Rattle.store_table.specs.Table.{table_state}
+use Rattle.store_indexed.specs.Table.{indexed_state as table_state}
 use Rattle.store_model.specs.declared.error.ErrorKind.TheVariants as kind
 use Rattle.bson_store.specs.Calls.{store_state}
 use Rattle.bson_store.specs.Many.{FindsTaken}
 use Rattle.bson_store.specs.Refusals.{kind_of_fault}
 use Rattle.store_model.specs.Refusal.{refusal}
-use Rattle.bson_store.proofs.Keyed.{taken_unknown, repeats_unknown, taken_of_none, taken_later}
-use Rattle.bson_store.proofs.Moving.{moved, moved_twice}
+use Rattle.bson_store.proofs.KeyLemmas.{taken_unknown, repeats_unknown, taken_of_none, taken_later}
+use Rattle.bson_store.proofs.MoveLemmas.{moved, moved_twice}
 use Rattle.bson_store.proofs.store.Store.first_taken.Goals as goal
 
 pub returns-in-Err-clause-moves : goal.returns-in-Err-clause-moves

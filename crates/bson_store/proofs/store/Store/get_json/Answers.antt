@@ -4,9 +4,9 @@ use Rattle.bson_store.specs.Calls.{store_state}
 use Rattle.store_documents.specs.Names.{name_bytes}
 use Rattle.bson_model.specs.View.{view}
 use Rattle.store_model.specs.State as model
-use Rattle.bson_store.proofs.Exits.{bad_moves, unlooked_moves, none_moves, there_moves}
+use Rattle.bson_store.proofs.ExitLemmas.{bad_moves, unlooked_moves, none_moves, there_moves}
 use Rattle.serde_json.specs.View.{view as data_of}
-use Rattle.bson_store.proofs.Finding.{got_json, no_json}
+use Rattle.bson_store.proofs.FindLemmas.{got_json, no_json}
 use Rattle.bson_store.proofs.store.Store.get_json.Goals as goal
 
 pub returns-in_err-name-clause-moves : goal.returns-in_err-name-clause-moves
@@ -21,11 +21,11 @@ returns-in_default-clause-moves g c =
 pub returns-in_err-json-clause-moves : goal.returns-in_err-json-clause-moves
 returns-in_err-json-clause-moves g c =
     let p = err_from_is_err_and c.from_residual-in_err-json.result c.from_residual-in_err-json.ensures.1 in
-    rw (p.1, p.2) (there_moves (store_state g.S.Store c.args.self.now) (store_state g.S.Store c.row_of.new.self) c.args.name.now (name_bytes c.in_ok-name.name) (view c.args.id.now) c.in_ok-found.field-0 c.in-Some.found (model.get_json c.args.mode (view c.args.id.now)) (model.refused c.in_err-json.field-0.0 None) c.in_ok-name.ensures.0 c.in-Some.is c.in_ok-name.ensures.1 (λ x. x) (no_json (view c.args.id.now) c.args.mode c.in-Some.found c.in_err-json.field-0.0 (λ d kept was. c.in_err-json.ensures d kept (c.as_slice-body.ensures.value ∙ was))) c.in_ok-found.ensures.moves)
+    rw (p.1, p.2) (there_moves (store_state g.S.Store c.args.self.now) (store_state g.S.Store c.row_of.new.self) c.args.name.now (name_bytes c.in_ok-name.name) (view c.args.id.now) c.in_ok-found.field-0 c.in-Some.found (model.get_json c.args.mode (view c.args.id.now)) (model.refused c.in_err-json.field-0.0 None) c.in_ok-name.ensures.0 c.in-Some.is c.in_ok-name.ensures.1 (λ x. x) (no_json (view c.args.id.now) c.args.mode c.in-Some.found c.in_err-json.field-0.0 (λ d kept was. c.in_err-json.ensures.tree d kept (c.as_slice-body.ensures.value ∙ was))) c.in_ok-found.ensures.moves)
 
 pub returns-clause-moves : goal.returns-clause-moves
 returns-clause-moves g c =
-    there_moves (store_state g.S.Store c.args.self.now) (store_state g.S.Store c.row_of.new.self) c.args.name.now (name_bytes c.in_ok-name.name) (view c.args.id.now) c.in_ok-found.field-0 c.in-Some.found (model.get_json c.args.mode (view c.args.id.now)) (model.json (data_of c.in_ok-json.json)) c.in_ok-name.ensures.0 c.in-Some.is c.in_ok-name.ensures.1 (λ x. x) (got_json (view c.args.id.now) c.args.mode c.in-Some.found c.in_ok-json.json (λ d kept was. c.in_ok-json.ensures d kept (c.as_slice-body.ensures.value ∙ was))) c.in_ok-found.ensures.moves
+    there_moves (store_state g.S.Store c.args.self.now) (store_state g.S.Store c.row_of.new.self) c.args.name.now (name_bytes c.in_ok-name.name) (view c.args.id.now) c.in_ok-found.field-0 c.in-Some.found (model.get_json c.args.mode (view c.args.id.now)) (model.json (data_of c.in_ok-json.json)) c.in_ok-name.ensures.0 c.in-Some.is c.in_ok-name.ensures.1 (λ x. x) (got_json (view c.args.id.now) c.args.mode c.in-Some.found c.in_ok-json.json (λ d kept was. c.in_ok-json.ensures.tree d kept (c.as_slice-body.ensures.value ∙ was))) c.in_ok-found.ensures.moves
 
 pub returns-in_err-found-clause-moves : goal.returns-in_err-found-clause-moves
 returns-in_err-found-clause-moves g c =

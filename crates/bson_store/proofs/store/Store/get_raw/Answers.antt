@@ -4,8 +4,8 @@ use Rattle.bson_store.specs.Calls.{store_state}
 use Rattle.store_documents.specs.Names.{name_bytes}
 use Rattle.bson_model.specs.View.{view}
 use Rattle.store_model.specs.State as model
-use Rattle.bson_store.proofs.Exits.{bad_moves, unlooked_moves, none_moves, there_moves}
-use Rattle.bson_store.proofs.Finding.{got}
+use Rattle.bson_store.proofs.ExitLemmas.{bad_moves, unlooked_moves, none_moves, there_moves}
+use Rattle.bson_store.proofs.FindLemmas.{got}
 use Rattle.bson_store.proofs.store.Store.get_raw.Goals as goal
 
 pub returns-in_err-name-clause-moves : goal.returns-in_err-name-clause-moves

@@ -8,10 +8,10 @@ use Rattle.store_documents.specs.Judging.{Judges}
 use Rattle.bson_store.specs.Calls.{store_state}
 use Rattle.bson_store.specs.Many.{AddsAll, Imports}
 use Rattle.store_model.specs.Refusal.{kind_of_reading, refusal}
-use Rattle.bson_store.proofs.Devices.{of_adding, of_judging, of_reading}
-use Rattle.bson_store.proofs.Importing.{import_unnamed, import_unread, import_refused, import_added}
-use Rattle.bson_store.proofs.Leaving.{fed_leave}
-use Rattle.bson_store.proofs.Moving.{rests, moved}
+use Rattle.bson_store.proofs.DeviceLemmas.{of_adding, of_judging, of_reading}
+use Rattle.bson_store.proofs.ImportLemmas.{import_unnamed, import_unread, import_refused, import_added}
+use Rattle.bson_store.proofs.CrashLemmas.{fed_leave}
+use Rattle.bson_store.proofs.MoveLemmas.{rests, moved}
 use Rattle.bson_store.proofs.store.Store.import.Goals as goal
 
 pub returns-in_err-name-clause-moves : goal.returns-in_err-name-clause-moves

@@ -7,11 +7,11 @@ use Rattle.store_model.specs.declared.error.ErrorKind.TheVariants as kind
 use Rattle.bson_store.specs.Calls.{store_state}
 use Rattle.bson_store.specs.Many.{AddsAll, DoesMany}
 use Rattle.bson_store.specs.Refusals.{as_number, reply_by}
-use Rattle.bson_store.proofs.Importing.{many_added, many_bad_name, many_refused}
-use Rattle.bson_store.proofs.Leaving.{many_leave}
-use Rattle.store_model.proofs.OneMany.{streams_alike}
-use Rattle.store_documents.proofs.Streams.{any_stream}
-use Rattle.bson_store.proofs.Moving.{rests, moved}
+use Rattle.bson_store.proofs.ImportLemmas.{many_added, many_bad_name, many_refused}
+use Rattle.bson_store.proofs.CrashLemmas.{many_leave}
+use Rattle.store_model.proofs.ManyLemmas.{streams_alike}
+use Rattle.store_documents.proofs.StreamLemmas.{any_stream}
+use Rattle.bson_store.proofs.MoveLemmas.{rests, moved}
 use Rattle.bson_store.proofs.store.Store.import_bytes.Goals as goal
 
 pub returns-in_err-name-clause-moves : goal.returns-in_err-name-clause-moves

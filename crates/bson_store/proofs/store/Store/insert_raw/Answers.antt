@@ -2,10 +2,10 @@ use Rattle.std.proofs.lemmas.Result.{err_from_is_err_and}
 use Rattle.bson_store.specs.Calls.{store_state}
 use Rattle.store_documents.specs.Names.{name_bytes}
 use Rattle.store_model.specs.State as model
-use Rattle.bson_store.proofs.Exits.{bad_bytes, read_bytes, unkept_bytes, unwritten_insert}
+use Rattle.bson_store.proofs.ExitLemmas.{bad_bytes, read_bytes, unkept_bytes, unwritten_insert}
 use Rattle.bson_store.specs.Refusals.{reply_by, as_done}
-use Rattle.bson_store.proofs.Reading.{inserts}
-use Rattle.bson_store.proofs.Leaving.{bytes_leave}
+use Rattle.bson_store.proofs.ReadLemmas.{inserts}
+use Rattle.bson_store.proofs.CrashLemmas.{bytes_leave}
 use Rattle.bson_store.proofs.store.Store.insert_raw.Goals as goal
 
 pub returns-in_err-name-clause-moves : goal.returns-in_err-name-clause-moves

@@ -4,12 +4,12 @@ use Rattle.store_table.specs.Moves.{FindsPlace, with_row}
 use Rattle.store_model.specs.Reading.{readable}
 use Rattle.store_model.specs.State.{insert, on, done}
 use Rattle.bson_store.specs.Calls.{store_state, store_connection, Does, DoesRead}
-use Rattle.bson_store.proofs.Moving.{moved}
-use Rattle.bson_store.proofs.Serving.{row_makes, written_fits}
-use Rattle.bson_store.proofs.Leaving.{denied_leaves, accepted_leaves}
-use Rattle.store_table.specs.Table.{table_state}
+use Rattle.bson_store.proofs.MoveLemmas.{moved}
+use Rattle.bson_store.proofs.ServeLemmas.{row_makes, written_fits}
+use Rattle.bson_store.proofs.CrashLemmas.{denied_leaves, accepted_leaves}
+use Rattle.store_indexed.specs.Table.{indexed_state as table_state}
 use Rattle.store_documents.specs.Names.{name_bytes}
-use Rattle.bson_store.proofs.Exits.{unfound_insert, duplicate_insert, put_moves, not_put_moves}
+use Rattle.bson_store.proofs.ExitLemmas.{unfound_insert, duplicate_insert, put_moves, not_put_moves}
 use Rattle.bson_store.proofs.store.Store.insert_row.Goals as goal
 use Rattle.sqlite.specs.State.{HasCleanDisk}
 

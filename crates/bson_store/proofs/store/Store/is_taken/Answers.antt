@@ -1,14 +1,14 @@
 use Rattle.std.proofs.Common.{true, not, Ok, Err}
 use Rattle.std.proofs.lemmas.Result.{err_from_is_err_and}
 use Rattle.store_table.specs.Moves.{FindsPlace}
-use Rattle.store_table.specs.Table.{table_state}
+use Rattle.store_indexed.specs.Table.{indexed_state as table_state}
 use Rattle.store_model.specs.declared.error.ErrorKind.TheVariants as kind
 use Rattle.bson_store.specs.Calls.{store_state}
 use Rattle.bson_store.specs.Many.{Meets}
 use Rattle.bson_store.specs.Refusals.{kind_of_fault}
 use Rattle.store_model.specs.Refusal.{refusal}
-use Rattle.bson_store.proofs.Keyed.{meets_unfound, meets_found, meets_memory, meets_new}
-use Rattle.bson_store.proofs.Moving.{moved}
+use Rattle.bson_store.proofs.KeyLemmas.{meets_unfound, meets_found, meets_memory, meets_new}
+use Rattle.bson_store.proofs.MoveLemmas.{moved}
 use Rattle.bson_store.proofs.store.Store.is_taken.Goals as goal
 
 pub returns-in-Err-clause-moves : goal.returns-in-Err-clause-moves

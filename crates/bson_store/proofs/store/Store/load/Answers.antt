@@ -4,14 +4,14 @@ use Rattle.store_documents.specs.Names.{name_bytes}
 use Rattle.store_model.specs.Reading.{ReadsTrees}
 use Rattle.store_model.specs.State.{refused}
 use Rattle.store_model.specs.declared.error.ErrorKind.TheVariants as kind
-use Rattle.store_model.proofs.OneMany.{trees_alike}
-use Rattle.store_documents.proofs.Streams.{any_trees}
+use Rattle.store_model.proofs.ManyLemmas.{trees_alike}
+use Rattle.store_documents.proofs.StreamLemmas.{any_trees}
 use Rattle.bson_store.specs.Calls.{store_state}
 use Rattle.bson_store.specs.Many.{AddsAll, DoesMany}
 use Rattle.bson_store.specs.Refusals.{as_number, reply_by}
-use Rattle.bson_store.proofs.Importing.{many_added, many_bad_name, many_refused}
-use Rattle.bson_store.proofs.Leaving.{many_leave}
-use Rattle.bson_store.proofs.Moving.{rests, moved}
+use Rattle.bson_store.proofs.ImportLemmas.{many_added, many_bad_name, many_refused}
+use Rattle.bson_store.proofs.CrashLemmas.{many_leave}
+use Rattle.bson_store.proofs.MoveLemmas.{rests, moved}
 use Rattle.bson_store.proofs.store.Store.load.Goals as goal
 
 pub returns-in_err-name-clause-moves : goal.returns-in_err-name-clause-moves

@@ -1,11 +1,11 @@
 use Rattle.std.proofs.Common.{ap, ◌∙◌}
 use Rattle.sqlite.specs.Held.{state}
-use Rattle.store_table.specs.Table.{connection_of as table_connection, table_state}
+use Rattle.store_indexed.specs.Table.{connection_of as table_connection, indexed_state as table_state}
 use Rattle.store_table.specs.declared.opening.OpenError.{OpenError}
 use Rattle.bson_store.specs.Refusals.{kind_of_opening}
 use Rattle.store_model.specs.Refusal.{refusal}
-use Rattle.bson_store.proofs.Again.{keeps_found, keeps_refused, keeps_refused_old}
-use Rattle.bson_store.proofs.Opening.{opened}
+use Rattle.bson_store.proofs.ReopenLemmas.{keeps_found, keeps_refused, keeps_refused_old}
+use Rattle.bson_store.proofs.OpenLemmas.{opened}
 use Rattle.bson_store.proofs.store.Store.open.Goals as goal
 
 pub returns-in-Ok-clause-opened : goal.returns-in-Ok-clause-opened

@@ -3,11 +3,11 @@ use Rattle.std.proofs.lemmas.Result.{err_from_is_err_and}
 use Rattle.bson_store.specs.Calls.{store_state}
 use Rattle.store_documents.specs.Names.{name_bytes}
 use Rattle.store_model.specs.State as model
-use Rattle.bson_store.proofs.Exits.{bad_tree, read_tree, unkept_tree, unwritten_replace}
+use Rattle.bson_store.proofs.ExitLemmas.{bad_tree, read_tree, unkept_tree, unwritten_replace}
 use Rattle.serde_json.specs.View.{view as data_of}
 use Rattle.bson_store.specs.Refusals.{reply_by, as_done}
-use Rattle.bson_store.proofs.Reading.{replaces}
-use Rattle.bson_store.proofs.Leaving.{tree_leaves}
+use Rattle.bson_store.proofs.ReadLemmas.{replaces}
+use Rattle.bson_store.proofs.CrashLemmas.{tree_leaves}
 use Rattle.bson_store.proofs.store.Store.replace_json.Goals as goal
 
 pub returns-in_err-name-clause-moves : goal.returns-in_err-name-clause-moves

@@ -5,12 +5,12 @@ use Rattle.store_table.specs.Moves.{FindsRow}
 use Rattle.store_model.specs.Reading.{readable}
 use Rattle.store_model.specs.State.{replace, on, done}
 use Rattle.bson_store.specs.Calls.{store_state, store_connection, Does, DoesRead}
-use Rattle.bson_store.proofs.Moving.{moved}
-use Rattle.bson_store.proofs.Serving.{written_fits}
-use Rattle.bson_store.proofs.Leaving.{accepted_leaves, changed_leaves, row_replaces}
-use Rattle.store_table.specs.Table.{table_state}
+use Rattle.bson_store.proofs.MoveLemmas.{moved}
+use Rattle.bson_store.proofs.ServeLemmas.{written_fits}
+use Rattle.bson_store.proofs.CrashLemmas.{accepted_leaves, changed_leaves, row_replaces}
+use Rattle.store_indexed.specs.Table.{indexed_state as table_state}
 use Rattle.store_documents.specs.Names.{name_bytes}
-use Rattle.bson_store.proofs.Exits.{unfound_replace, none_replace, place_moves, not_place_moves}
+use Rattle.bson_store.proofs.ExitLemmas.{unfound_replace, none_replace, place_moves, not_place_moves}
 use Rattle.bson_store.proofs.store.Store.replace_row.Goals as goal
 use Rattle.sqlite.specs.State.{HasCleanDisk}
 

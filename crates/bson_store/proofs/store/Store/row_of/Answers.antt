@@ -1,11 +1,11 @@
 use Rattle.std.proofs.Common.{Ok, Err, None, ap}
 use Rattle.bson_store.specs.Calls.{store_state}
-use Rattle.store_table.specs.Table.{table_state}
+use Rattle.store_indexed.specs.Table.{indexed_state as table_state}
 use Rattle.store_documents.specs.Names.{name_bytes}
 use Rattle.bson_model.specs.View.{view}
 use Rattle.bson_store.specs.Calls.{Looks}
-use Rattle.bson_store.proofs.Moving.{rests, moved}
-use Rattle.bson_store.proofs.Finding.{unplain_looks, long_looks, found_looks}
+use Rattle.bson_store.proofs.MoveLemmas.{rests, moved}
+use Rattle.bson_store.proofs.FindLemmas.{unplain_looks, long_looks, found_looks}
 use Rattle.bson_store.proofs.store.Store.row_of.Goals as goal
 
 pub returns-in-Err-NotPlain-clause-moves : goal.returns-in-Err-NotPlain-clause-moves

@@ -3,12 +3,12 @@ use Rattle.std.proofs.lemmas.Result.{err_from_is_err_and}
 use Rattle.bson_store.specs.Calls.{store_state}
 use Rattle.bson_model.specs.View.{view}
 use Rattle.store_model.specs.State as model
-use Rattle.bson_store.proofs.Exits.{bad_moves, stays_moves}
+use Rattle.bson_store.proofs.ExitLemmas.{bad_moves, stays_moves}
 use Rattle.serde_json.specs.View.{view as data_of}
 use Rattle.store_model.specs.Reading.{read_value}
-use Rattle.bson_store.proofs.Setting.{set_bad_key, set_unread}
+use Rattle.bson_store.proofs.SetLemmas.{set_bad_key, set_unread}
 use Rattle.bson_store.proofs.store.Store.set.Goals as goal
-use Rattle.bson_raw.proofs.Progress.{untrue}
+use Rattle.bson_raw.proofs.ProgressLemmas.{untrue}
 
 pub returns-in_err-good_name-clause-moves : goal.returns-in_err-good_name-clause-moves
 returns-in_err-good_name-clause-moves g c =

@@ -1,15 +1,15 @@
 use Rattle.std.proofs.Common.{inl, inr, Some, None, refl, ◌∙◌, Ok, arith}
 use Rattle.std.proofs.lemmas.Result.{err_from_is_err_and}
 use Rattle.bson_store.specs.Calls.{store_state, store_connection, Looks}
-use Rattle.bson_store.proofs.Leaving.{accepted_leaves, changed_leaves, id_rewrites}
+use Rattle.bson_store.proofs.CrashLemmas.{accepted_leaves, changed_leaves, id_rewrites}
 use Rattle.store_documents.specs.Names.{name_bytes}
 use Rattle.bson_model.specs.View.{view}
 use Rattle.store_model.specs.State as model
-use Rattle.bson_store.proofs.Exits.{bad_moves, stays_moves, unlooked_moves, none_moves, there_moves, rewritten_moves, unchanged_moves}
+use Rattle.bson_store.proofs.ExitLemmas.{bad_moves, stays_moves, unlooked_moves, none_moves, there_moves, rewritten_moves, unchanged_moves}
 use Rattle.store_table.specs.Rows.{with_body_at}
-use Rattle.bson_store.proofs.Setting.{set_bad_key, set_refused, set_remakes}
+use Rattle.bson_store.proofs.SetLemmas.{set_bad_key, set_refused, set_remakes}
 use Rattle.bson_store.proofs.store.Store.set_value.Goals as goal
-use Rattle.bson_raw.proofs.Progress.{untrue}
+use Rattle.bson_raw.proofs.ProgressLemmas.{untrue}
 use Rattle.sqlite.specs.State.{HasCleanDisk}
 
 pub returns-in_err-name-clause-moves : goal.returns-in_err-name-clause-moves

@@ -1,15 +1,15 @@
 use Rattle.std.proofs.Common.{inl, inr, None, refl, ◌∙◌, true, false, Ok, arith}
 use Rattle.std.proofs.lemmas.Result.{err_from_is_err_and}
 use Rattle.bson_store.specs.Calls.{store_state, store_connection, Looks}
-use Rattle.bson_store.proofs.Leaving.{accepted_leaves, changed_leaves, id_rewrites}
+use Rattle.bson_store.proofs.CrashLemmas.{accepted_leaves, changed_leaves, id_rewrites}
 use Rattle.store_documents.specs.Names.{name_bytes}
 use Rattle.bson_model.specs.View.{view}
 use Rattle.store_model.specs.State as model
-use Rattle.bson_store.proofs.Exits.{bad_moves, stays_moves, unlooked_moves, none_moves, there_moves, rewritten_moves, unchanged_moves}
+use Rattle.bson_store.proofs.ExitLemmas.{bad_moves, stays_moves, unlooked_moves, none_moves, there_moves, rewritten_moves, unchanged_moves}
 use Rattle.store_table.specs.Rows.{with_body_at}
-use Rattle.bson_store.proofs.Setting.{unset_bad_key, unset_refused, unset_stays, unset_remakes}
+use Rattle.bson_store.proofs.SetLemmas.{unset_bad_key, unset_refused, unset_stays, unset_remakes}
 use Rattle.bson_store.proofs.store.Store.unset.Goals as goal
-use Rattle.bson_raw.proofs.Progress.{untrue}
+use Rattle.bson_raw.proofs.ProgressLemmas.{untrue}
 use Rattle.sqlite.specs.State.{HasCleanDisk}
 
 pub returns-in_err-name-clause-moves : goal.returns-in_err-name-clause-moves
@@ -28,11 +28,11 @@ returns-in_default-clause-moves g c =
 pub returns-in_err-unset-clause-moves : goal.returns-in_err-unset-clause-moves
 returns-in_err-unset-clause-moves g c =
     let p = err_from_is_err_and c.from_residual-in_err-unset.result c.from_residual-in_err-unset.ensures.1 in
-    rw (p.1, p.2) (there_moves (store_state g.S.Store c.args.self.now) (store_state g.S.Store c.row_of.new.self) c.args.name.now (name_bytes c.in_ok-name.name) (view c.args.id.now) c.in_ok-found.field-0 c.in-Some.found (model.unset (view c.args.id.now) c.args.key.now) (model.refused c.in_err-unset.field-0.0 None) c.in_ok-name.ensures.0 c.in-Some.is c.in_ok-name.ensures.1 (λ bad. bad (c.is_free.ensures.0 c.if-not-is_free.false)) (unset_refused (view c.args.id.now) c.args.key.now c.in-Some.found c.in_err-unset.field-0.0 (λ d kept was. c.in_err-unset.ensures d kept (c.as_slice-old.ensures.value ∙ was))) c.in_ok-found.ensures.moves)
+    rw (p.1, p.2) (there_moves (store_state g.S.Store c.args.self.now) (store_state g.S.Store c.row_of.new.self) c.args.name.now (name_bytes c.in_ok-name.name) (view c.args.id.now) c.in_ok-found.field-0 c.in-Some.found (model.unset (view c.args.id.now) c.args.key.now) (model.refused c.in_err-unset.field-0.0 None) c.in_ok-name.ensures.0 c.in-Some.is c.in_ok-name.ensures.1 (λ bad. bad (c.is_free.ensures.0 c.if-not-is_free.false)) (unset_refused (view c.args.id.now) c.args.key.now c.in-Some.found c.in_err-unset.field-0.0 (λ d kept was. c.in_err-unset.ensures.unset d kept (c.as_slice-old.ensures.value ∙ was))) c.in_ok-found.ensures.moves)
 
 pub returns-then-not-unset-clause-moves : goal.returns-then-not-unset-clause-moves
 returns-then-not-unset-clause-moves g c =
-    there_moves (store_state g.S.Store c.args.self.now) (store_state g.S.Store c.row_of.new.self) c.args.name.now (name_bytes c.in_ok-name.name) (view c.args.id.now) c.in_ok-found.field-0 c.in-Some.found (model.unset (view c.args.id.now) c.args.key.now) (model.flag false) c.in_ok-name.ensures.0 c.in-Some.is c.in_ok-name.ensures.1 (λ bad. bad (c.is_free.ensures.0 c.if-not-is_free.false)) (unset_stays (view c.args.id.now) c.args.key.now c.in-Some.found c.in_ok-unset.unset (c.is_free.ensures.0 c.if-not-is_free.false) c.if-not-unset.true (λ d kept was. c.in_ok-unset.ensures d kept (c.as_slice-old.ensures.value ∙ was))) c.in_ok-found.ensures.moves
+    there_moves (store_state g.S.Store c.args.self.now) (store_state g.S.Store c.row_of.new.self) c.args.name.now (name_bytes c.in_ok-name.name) (view c.args.id.now) c.in_ok-found.field-0 c.in-Some.found (model.unset (view c.args.id.now) c.args.key.now) (model.flag false) c.in_ok-name.ensures.0 c.in-Some.is c.in_ok-name.ensures.1 (λ bad. bad (c.is_free.ensures.0 c.if-not-is_free.false)) (unset_stays (view c.args.id.now) c.args.key.now c.in-Some.found c.in_ok-unset.unset (c.is_free.ensures.0 c.if-not-is_free.false) c.if-not-unset.true (λ d kept was. c.in_ok-unset.ensures.unset d kept (c.as_slice-old.ensures.value ∙ was))) c.in_ok-found.ensures.moves
 
 pub returns-clause-moves : goal.returns-clause-moves
 returns-clause-moves g c =
@@ -40,7 +40,7 @@ returns-clause-moves g c =
 
 pub returns-in-Ok-clause-moves : goal.returns-in-Ok-clause-moves
 returns-in-Ok-clause-moves g c =
-    rewritten_moves (store_state g.S.Store c.args.self.now) (store_state g.S.Store c.row_of.new.self) (store_state g.S.Store c.put_back.new.self) c.args.name.now (name_bytes c.in_ok-name.name) (view c.args.id.now) c.in_ok-found.field-0 c.in-Some.found (model.unset (view c.args.id.now) c.args.key.now) (model.flag true) c.in_ok-unset.unset.body.items c.in_ok-name.ensures.0 c.in-Some.is c.in_ok-name.ensures.1 (λ sound. sound) (unset_remakes (view c.args.id.now) c.args.key.now c.in-Some.found c.in_ok-unset.unset (c.is_free.ensures.0 c.if-not-is_free.false) c.if-not-unset.false (λ d kept was. c.in_ok-unset.ensures d kept (c.as_slice-old.ensures.value ∙ was))) c.in_ok-found.ensures.moves (rw c.as_slice-body.ensures.value at c.in-Ok.ensures.moves)
+    rewritten_moves (store_state g.S.Store c.args.self.now) (store_state g.S.Store c.row_of.new.self) (store_state g.S.Store c.put_back.new.self) c.args.name.now (name_bytes c.in_ok-name.name) (view c.args.id.now) c.in_ok-found.field-0 c.in-Some.found (model.unset (view c.args.id.now) c.args.key.now) (model.flag true) c.in_ok-unset.unset.body.items c.in_ok-name.ensures.0 c.in-Some.is c.in_ok-name.ensures.1 (λ sound. sound) (unset_remakes (view c.args.id.now) c.args.key.now c.in-Some.found c.in_ok-unset.unset (c.is_free.ensures.0 c.if-not-is_free.false) c.if-not-unset.false (λ d kept was. c.in_ok-unset.ensures.unset d kept (c.as_slice-old.ensures.value ∙ was))) c.in_ok-found.ensures.moves (rw c.as_slice-body.ensures.value at c.in-Ok.ensures.moves)
 
 pub returns-in_err-found-clause-moves : goal.returns-in_err-found-clause-moves
 returns-in_err-found-clause-moves g c =
@@ -60,7 +60,7 @@ returns-clause-crash g c =
     rw c.fault_refusal.ensures
     (changed_leaves s m t (model.on n call) (with_body_at x.place c.in_ok-unset.unset.body.items) (Looks nb id (Ok c.in_ok-found.field-0)) c.in_ok-found.ensures.moves
     (λ docs after h. h.same) c.in_ok-found.ensures.crash
-    (λ docs after h. id_rewrites docs after n nb id c.in_ok-found.field-0 x call (model.flag true) c.in_ok-unset.unset.body.items c.in_ok-name.ensures.1 (λ e. e) (λ sound. sound) c.in_ok-name.ensures.0 c.in-Some.is h (unset_remakes (view c.args.id.now) c.args.key.now c.in-Some.found c.in_ok-unset.unset (c.is_free.ensures.0 c.if-not-is_free.false) c.if-not-unset.false (λ d kept was. c.in_ok-unset.ensures d kept (c.as_slice-old.ensures.value ∙ was))))
+    (λ docs after h. id_rewrites docs after n nb id c.in_ok-found.field-0 x call (model.flag true) c.in_ok-unset.unset.body.items c.in_ok-name.ensures.1 (λ e. e) (λ sound. sound) c.in_ok-name.ensures.0 c.in-Some.is h (unset_remakes (view c.args.id.now) c.args.key.now c.in-Some.found c.in_ok-unset.unset (c.is_free.ensures.0 c.if-not-is_free.false) c.if-not-unset.false (λ d kept was. c.in_ok-unset.ensures.unset d kept (c.as_slice-old.ensures.value ∙ was))))
     c.in-Err.fault (rw c.as_slice-body.ensures.value at c.in-Err.ensures.crash) (rw c.as_slice-body.ensures.value at c.in-Err.ensures.moves))
 
 pub returns-in-Ok-clause-crash : goal.returns-in-Ok-clause-crash

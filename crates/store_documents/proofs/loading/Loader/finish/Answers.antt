@@ -1,4 +1,4 @@
-use Rattle.store_documents.proofs.Loads.{refusal_told}
+use Rattle.store_documents.proofs.LoadLemmas.{refusal_told}
 use Rattle.store_documents.proofs.loading.Loader.finish.Goals as goal
 
 pub returns : goal.returns

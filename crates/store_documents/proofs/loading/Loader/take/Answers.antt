@@ -1,6 +1,6 @@
 use Rattle.std.proofs.Common.{sym, ◌∙◌}
 use Rattle.serde_json.specs.View.{view as data_of}
-use Rattle.store_documents.proofs.Loads.{refusal_stays}
+use Rattle.store_documents.proofs.LoadLemmas.{refusal_stays}
 use Rattle.store_documents.proofs.loading.Loader.take.Goals as goal
 
 pub returns-then-is_some : goal.returns-then-is_some

@@ -1,5 +1,5 @@
 use Rattle.std.proofs.Common.{sym, ◌∙◌}
-use Rattle.store_documents.proofs.Loads.{no_refusal, refusal_stays}
+use Rattle.store_documents.proofs.LoadLemmas.{no_refusal, refusal_stays}
 use Rattle.store_documents.proofs.loading.Loader.take_row.Goals as goal
 
 pub returns-then-is_some : goal.returns-then-is_some

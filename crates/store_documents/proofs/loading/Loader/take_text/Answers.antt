@@ -2,8 +2,8 @@ use Rattle.std.proofs.Common.{refl}
 use Rattle.serde_json.specs.Data.{object}
 use Rattle.bson_model.specs.View.{content}
 use Rattle.store_model.specs.Reading.{ReadsTree}
-use Rattle.store_documents.proofs.Going.{input_row}
-use Rattle.store_documents.proofs.OfOrder.{from_tree}
+use Rattle.store_documents.proofs.ManyLemmas.{input_row}
+use Rattle.store_documents.proofs.OrderLemmas.{from_tree}
 use Rattle.store_documents.proofs.loading.Loader.take_text.Goals as goal
 
 pub returns-clause-taken : goal.returns-clause-taken

@@ -1,0 +1,40 @@
+use Rattle.std.proofs.Common.{Ok, Err, refl, sym, subst}
+use Rattle.std.proofs.lemmas.Result.{err_from_is_err_and}
+use Rattle.sqlite.specs.Held.{Held, state}
+use Rattle.sqlite.specs.State.{Survives}
+use Rattle.store_indexed.specs.Table.{indexed_state as table_state}
+use Rattle.store_table.specs.Moves.{FindsNone, Moves, WasOpen}
+use Rattle.store_model.specs.Refusal.{refusal}
+use Rattle.store_model.specs.declared.error.ErrorKind.TheVariants.{BadName}
+use Rattle.store_model.specs.declared.error.StoreError.{StoreError}
+use Rattle.bson_store.specs.Calls.{store_state}
+use Rattle.bson_store.specs.Questions.{Indexed}
+use Rattle.bson_store.specs.Refusals.{kind_of_fault}
+use Rattle.bson_store.proofs.MoveLemmas.{rests, moved}
+use Rattle.bson_store.proofs.store.Store.drop_index.Goals as goal
+
+pub returns-in_err-name-clause-moves : goal.returns-in_err-name-clause-moves
+returns-in_err-name-clause-moves g c =
+    let p = err_from_is_err_and c.from_residual.result c.from_residual.ensures.1 in
+    rw (p.1, p.2, c.in_err-name.ensures.0) (rests (store_state g.S.Store c.args.self.now) (Indexed {A = Unit {0}} c.args.name.now (Err (refusal BadName))) (λ docs. record { same = refl; bad = λ _. refl; denied = λ good. absurd (c.in_err-name.ensures.1 good) }))
+
+pub returns-clause-moves : goal.returns-clause-moves
+returns-clause-moves g c =
+    subst (λ (held : Held g.row.S.Denot). Moves (store_state g.S.Store c.args.self.now) (state g.S.Store held) (Indexed {A = Unit {0}} c.args.name.now (Ok tt))) (sym c.drop_index.ensures.same)
+    (moved (store_state g.S.Store c.args.self.now) (table_state g.S.Store c.is_empty.new.self) (FindsNone (Ok _)) (Indexed {A = Unit {0}} c.args.name.now (Ok tt)) c.in-Ok.ensures.moves
+    (λ docs after h. record { same = h.same; bad = λ nameless. absurd (nameless c.in_ok-name.ensures.1); denied = λ _. tt }))
+
+pub returns-clause-open : goal.returns-clause-open
+returns-clause-open g c =
+    subst (λ (held : Held g.row.S.Denot). WasOpen {A = Unit {0}} {E = StoreError} (store_state g.S.Store c.args.self.now) (state g.S.Store held) (Ok tt)) (sym c.drop_index.ensures.same) c.in-Ok.ensures.open
+
+pub returns-clause-crash : goal.returns-clause-crash
+returns-clause-crash g c =
+    subst (λ (held : Held g.row.S.Denot). Survives (store_state g.S.Store c.args.self.now) (state g.S.Store held) (λ _. ⊥)) (sym c.drop_index.ensures.same) c.is_empty.ensures.crash
+
+pub returns-in-Err-clause-moves : goal.returns-in-Err-clause-moves
+returns-in-Err-clause-moves g c =
+    let x = c.in-Err.fault in
+    rw c.fault_refusal.ensures
+    (moved (store_state g.S.Store c.args.self.now) (table_state g.S.Store c.is_empty.new.self) (FindsNone (Err x)) (Indexed {A = Unit {0}} c.args.name.now (Err (refusal (kind_of_fault x)))) c.in-Err.ensures.moves
+    (λ docs after h. record { same = h.same; bad = λ nameless. absurd (nameless c.in_ok-name.ensures.1); denied = λ _. (x, h.faults, refl) }))

@@ -1,0 +1,64 @@
+//! Indexes of collections on paths. They change no answer: a question that asks for a value at such a path reads fewer
+//! documents.
+
+ghost use Rattle.std.specs.Prelude.{◌↔◌, IsTrue, OnOk};
+ghost use Rattle.store_filter.specs.Filters.{path_of};
+ghost use Rattle.store_table.specs.Moves.{WasOpen};
+ghost use Rattle.store_table.specs.Crash.{AddsNothing};
+ghost use Rattle.bson_store.specs.Calls.{HasIndex, store_state, Relates};
+ghost use Rattle.bson_store.specs.Questions.{Indexed};
+
+use crate::error::fault_refusal;
+use crate::store::{Store, good_name};
+use sqlite::Alter;
+use store_model::StoreError;
+
+impl<S: Alter + Drop> Store<S> {
+    /// Makes an index of the collection `name` on a path, if there is none, by two readings of the documents. It lasts
+    /// until `drop_index` or until the store is closed: every change of the store is noted in it, except that a refusal
+    /// of memory in the noting drops all indexes. A database that has other tables gets none.
+    ///
+    /// `find`, `count` and `project` read by it if the filter holds an equality at the path: the filter itself, one of
+    /// an `And`, or each of an `Or`. Of several indexes that serve they go by the one with the fewest documents.
+    ///
+    /// Refused by BadName, Memory and Database.
+    pub fn index(&mut self, name: &str, path: Vec<String>) -> Result<(), StoreError>
+        ensures moves { Relates S.Store self.old self.new (Indexed name.now result) }
+        ensures open { WasOpen (store_state S.Store self.old)
+            (store_state S.Store self.new) result }
+        ensures crash { AddsNothing (store_state S.Store self.old) (store_state S.Store self.new) }
+    {
+        let name = good_name(name)?;
+        match self.table.index(name.as_str(), path) {
+            Ok(()) => Ok(()),
+            Err(fault) => Err(fault_refusal(fault)),
+        }
+    }
+
+    /// Drops the index of the collection `name` on a path, if there is one.
+    ///
+    /// Refused by BadName, Memory and Database.
+    pub fn drop_index(&mut self, name: &str, path: &[String]) -> Result<(), StoreError>
+        ensures moves { Relates S.Store self.old self.new (Indexed name.now result) }
+        ensures gone { OnOk result (HasIndex self.new name.now (path_of path.now) → ⊥) }
+        ensures open { WasOpen (store_state S.Store self.old)
+            (store_state S.Store self.new) result }
+        ensures crash { AddsNothing (store_state S.Store self.old) (store_state S.Store self.new) }
+    {
+        let name = good_name(name)?;
+        // It reads nothing, and is refused all the same once the connection is shut.
+        match self.table.is_empty() {
+            Ok(_) => {}
+            Err(fault) => return Err(fault_refusal(fault)),
+        }
+        self.table.drop_index(name.as_str(), path);
+        Ok(())
+    }
+
+    /// Whether there is an index of the collection `name` on a path.
+    pub fn has_index(&self, name: &str, path: &[String]) -> bool
+        ensures { IsTrue result ↔ HasIndex self.now name.now (path_of path.now) }
+    {
+        self.table.has_index(name, path)
+    }
+}

@@ -1,0 +1,98 @@
+-- Documents that an index finds.
+use Rattle.std.proofs.Common.{◌≡◌, ◌⊎◌, inl, inr, drop, ◌++◌, ◌∷◌, [], ℕ, ℤ, List, Option, Some, None, Result, Ok, Err, string_bytes, sym, ap, ◌∙◌, subst}
+use Rattle.std.specs.Prelude.{IsSomeAnd, OnOk}
+use Rattle.std.specs.declared.alloc.AllocError.{AllocError}
+use Rattle.bson_base.specs.Value.{Value, document, Members}
+use Rattle.bson_bytes.specs.Encode.{encode}
+use Rattle.bson_meaning.specs.Meaning.{norm_members_in_order, Same}
+use Rattle.bson_meaning.proofs.NowLemmas.{in_order_same}
+use Rattle.bson_meaning.proofs.PlainLemmas.{only_same}
+use Rattle.store_model.specs.Filter.{Path, at}
+use Rattle.store_model.specs.State.{id_key}
+use Rattle.store_model.specs.Table.{only_id}
+use Rattle.store_index.specs.Find.{FindsIn, FindsOf, FindEach, IsAsBefore, IsOn, HasOn}
+use Rattle.store_index.specs.Keys.{KeyAt, value_key}
+use Rattle.store_index.specs.Under.{HasPlace}
+use Rattle.store_index.specs.declared.index.Index.{Index}
+use Rattle.store_index.specs.declared.places.Places.{Places}
+
+one_of : (o : Option Value) (a b : List ℕ) → IsSomeAnd o (λ v. a ≡ value_key v) → IsSomeAnd o (λ v. b ≡ value_key v) → a ≡ b
+one_of None a b h k = absurd h
+one_of (Some v) a b h k = h ∙ sym k
+
+-- a value has one key
+pub one_key : (d : Members) (p : Path) (a b : List ℕ) → KeyAt d p (Some a) → KeyAt d p (Some b) → a ≡ b
+one_key d p a b h k = one_of (at (document d) p) a b h k
+
+none_of : (o : Option Value) (a : List ℕ) → o ≡ None → IsSomeAnd o (λ v. a ≡ value_key v) → ⊥
+none_of None a e h = h
+none_of (Some v) a e h = absurd (cc)
+
+pub no_key : (d : Members) (p : Path) (a : List ℕ) → KeyAt d p None → KeyAt d p (Some a) → ⊥
+no_key d p a h k = none_of (at (document d) p) a h k
+
+pub under_its_key : (ps : Places) (d : Members) (p : Path) (a b : List ℕ) (place : ℤ) → KeyAt d p (Some a) → HasPlace ps a place → KeyAt d p (Some b) → HasPlace ps b place
+under_its_key ps d p a b place h there k = subst (λ x. HasPlace ps x place) (one_key d p a b h k) there
+
+-- ---- several indexes
+
+pub each_more : (c : List ℕ) (p : ℤ) (b : List ℕ) (ixs : List Index) (ix : Index) → FindEach ixs c p b → FindsOf ix c p b → FindEach (ixs ++ ix ∷ []) c p b
+each_more c p b [] ix h one = (one, tt)
+each_more c p b (x ∷ ixs) ix h one = (h.0, each_more c p b ixs ix h.1 one)
+
+pub note_of : (old new : Index) (c : List ℕ) (p : ℤ) (b : List ℕ) (r : Result (Unit {0}) AllocError) → IsAsBefore old new → (FindsIn old p b → OnOk r (FindsIn new p b)) → FindsOf old c p b → OnOk r (FindsOf new c p b)
+note_of old new c p b (Ok x) same kept h = λ e. kept (h (sym (ap (λ s. string_bytes s) same.0) ∙ e))
+note_of old new c p b (Err x) same kept h = tt
+
+-- the first of the indexes, which was changed, comes behind those that were
+pub each_first : (c : List ℕ) (p : ℤ) (b : List ℕ) (rest all new after : List Index) (ix jx : Index) → all ≡ ix ∷ rest → after ≡ new ++ jx ∷ [] → (FindsOf ix c p b → FindsOf jx c p b) → FindEach all c p b × FindEach new c p b → FindEach rest c p b × FindEach after c p b
+each_first c p b rest all new after ix jx split put goes h =
+    let one = subst (λ xs. FindEach xs c p b) split h.0 in
+    (one.1, subst (λ xs. FindEach xs c p b) (sym put) (each_more c p b new jx h.1 (goes one.0)))
+
+-- ---- values that mean the same have one key
+
+same_values : (v w : Value) → Same v w → value_key v ≡ value_key w
+same_values v w same =
+    let i : document (norm_members_in_order (only_id v)) ≡ document (norm_members_in_order (only_id w)) = in_order_same (document (only_id v)) (document (only_id w)) (only_same id_key v w same) in
+    let j : norm_members_in_order (only_id v) ≡ norm_members_in_order (only_id w) = cc in
+    ap (λ (ms : Members). drop 9 (encode ms)) j
+
+asked : (o : Option Value) (w : Value) (k : List ℕ) → k ≡ value_key w → IsSomeAnd o (λ v. Same v w) → IsSomeAnd o (λ v. k ≡ value_key v)
+asked None w k e h = h
+asked (Some v) w k e h = e ∙ sym (same_values v w h)
+
+-- the key of a value is that of each value that means the same
+pub asked_key : (d : Members) (p : Path) (w : Value) (k : List ℕ) → k ≡ value_key w → IsSomeAnd (at (document d) p) (λ v. Same v w) → KeyAt d p (Some k)
+asked_key d p w k e h = asked (at (document d) p) w k e h
+
+-- ---- whether one is on a path
+
+pub not_first : (c : List ℕ) (p : Path) (here rest : List Index) (ix : Index) (all : Type 0) → here ≡ ix ∷ rest → (IsOn ix c p → ⊥) → (HasOn here c p → all) × (all → HasOn here c p) → (HasOn rest c p → all) × (all → HasOn rest c p)
+not_first c p here rest ix all split other h = (λ r. h.0 (subst (λ xs. HasOn xs c p) (sym split) (inr r)), λ a. behind (subst (λ xs. HasOn xs c p) split (h.1 a)))
+  where
+    behind : IsOn ix c p ⊎ HasOn rest c p → HasOn rest c p
+    behind (inl one) = absurd (other one)
+    behind (inr r) = r
+
+pub has_more : (c : List ℕ) (p : Path) (ixs : List Index) (ix : Index) → HasOn (ixs ++ ix ∷ []) c p → HasOn ixs c p ⊎ IsOn ix c p
+has_more c p [] ix (inl one) = inr one
+has_more c p [] ix (inr none) = absurd none
+has_more c p (x ∷ ixs) ix (inl one) = inl (inl one)
+has_more c p (x ∷ ixs) ix (inr h) = by (has_more c p ixs ix h)
+  where
+    by : HasOn ixs c p ⊎ IsOn ix c p → HasOn (x ∷ ixs) c p ⊎ IsOn ix c p
+    by (inl r) = inl (inr r)
+    by (inr one) = inr one
+
+pub has_last : (c : List ℕ) (p : Path) (ixs : List Index) (ix : Index) → IsOn ix c p → HasOn (ixs ++ ix ∷ []) c p
+has_last c p [] ix one = inl one
+has_last c p (x ∷ ixs) ix one = inr (has_last c p ixs ix one)
+
+-- an index that isn't on the path comes last
+pub none_more : (c : List ℕ) (p : Path) (ixs all : List Index) (ix : Index) → all ≡ ixs ++ ix ∷ [] → (IsOn ix c p → ⊥) → (HasOn ixs c p → ⊥) → HasOn all c p → ⊥
+none_more c p ixs all ix put other none h = by (has_more c p ixs ix (subst (λ xs. HasOn xs c p) put h))
+  where
+    by : HasOn ixs c p ⊎ IsOn ix c p → ⊥
+    by (inl r) = none r
+    by (inr one) = other one

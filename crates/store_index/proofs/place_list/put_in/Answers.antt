@@ -1,0 +1,22 @@
+use Rattle.std.proofs.Common.{◌≡◌, ℤ, sym, ap, ◌∙◌, w64, to_z, of_z}
+use Rattle.std.proofs.lemmas.Int.{to_z-of_z}
+use Rattle.std.specs.List.{insert}
+use Rattle.store_index.specs.Lists.{is_among}
+use Rattle.store_index.proofs.AmongLemmas.{found_among, put_there, put_kept}
+use Rattle.store_index.proofs.place_list.put_in.Goals as goal
+
+pub returns-in-Ok-clause-there : goal.returns-in-Ok-clause-there
+returns-in-Ok-clause-there c =
+    let p = c.args.place in
+    let same : to_z w64 (of_z w64 p) ≡ p = to_z-of_z w64 p c.ranges.place in
+    ap (is_among p) (sym c.deref.ensures.value) ∙ found_among p c.deref.result.now c.in-Ok.field-0 c.in-Ok.ensures.bound (rw same at c.in-Ok.ensures.ok)
+
+pub returns-in_ok-insert-in-Err-clause-there : goal.returns-in_ok-insert-in-Err-clause-there
+returns-in_ok-insert-in-Err-clause-there c =
+    let p = c.args.place in
+    let same : to_z w64 (of_z w64 p) ≡ p = to_z-of_z w64 p c.ranges.place in
+    let is = c.in_ok-insert-in-Err.ensures.items ∙ ap (λ (q : ℤ). insert c.args.places.now.items c.in-Err.at q) same in
+    ap (is_among p) is ∙ put_there p c.args.places.now.items c.in-Err.at
+
+pub returns-in_ok-insert-in-Err-clause-kept : goal.returns-in_ok-insert-in-Err-clause-kept
+returns-in_ok-insert-in-Err-clause-kept c p h = ap (is_among p) c.in_ok-insert-in-Err.ensures.items ∙ put_kept _ p c.args.places.now.items c.in-Err.at h

@@ -1,0 +1,26 @@
+use Rattle.std.proofs.Common.{◌≡◌, ◌∙◌, cond, is_eq, None, Some, ap, rules, Option, w64}
+use Rattle.std.proofs.lemmas.Int.{to_z-of_z}
+use Rattle.std.specs.Cmp.Lexicographic.{slice_cmp}
+use Rattle.std.specs.Ordering.{nat_cmp}
+use Rattle.std.specs.BTreeMap.{get_by}
+use Rattle.store_index.specs.declared.place_list.PlaceList.{PlaceList}
+use Rattle.store_index.proofs.MovedLemmas.{at_key, moved_list, twice}
+use Rattle.store_index.proofs.places.Places.take.Goals as goal
+
+pub returns-in-None : goal.returns-in-None
+returns-in-None c = record {
+  kept = λ k p other h.
+      let out : get_by (at_key k.items) c.remove-old.new.self ≡ cond (is_eq (slice_cmp nat_cmp c.args.key.items k.items)) None (get_by (at_key k.items) c.args.self.now.lists) = (let u = c.remove-old.ensures.updates.0 k in let s = c.as_slice.ensures.value in search rules) in
+      moved_list c.args.self.now.lists c.remove-old.new.self c.args.key k c.remove-old.result None p
+      (let v = c.remove-old.ensures.value in let s = c.as_slice.ensures.value in search rules) (c.in-None.ensures.kept p (λ e. other (e ∙ to_z-of_z w64 c.args.place c.ranges.place))) out h;
+}
+
+pub returns-in_ok-insert-in-Some : goal.returns-in_ok-insert-in-Some
+returns-in_ok-insert-in-Some c = record {
+  kept = λ k p other h.
+      let b = is_eq (slice_cmp nat_cmp c.args.key.items k.items) in
+      let out : get_by (at_key k.items) c.remove-old.new.self ≡ cond b None (get_by (at_key k.items) c.args.self.now.lists) = (let u = c.remove-old.ensures.updates.0 k in let s = c.as_slice.ensures.value in search rules) in
+      moved_list c.args.self.now.lists c.insert.new.self c.args.key k c.remove-old.result (Some c.in-Some.rest) p
+      (let v = c.remove-old.ensures.value in let s = c.as_slice.ensures.value in search rules) (c.in-Some.ensures.kept p (λ e. other (e ∙ to_z-of_z w64 c.args.place c.ranges.place)))
+      (c.in_ok-insert-in-Some.ensures.updates.0 k ∙ ap (λ (x : Option PlaceList). cond b (Some c.in-Some.rest) x) out ∙ twice b (Some c.in-Some.rest) None (get_by (at_key k.items) c.args.self.now.lists)) h;
+}

@@ -1,0 +1,5 @@
+pub mod Lists
+pub mod Under
+pub mod Keys
+pub mod Find
+pub mod Serving

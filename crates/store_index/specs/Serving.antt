@@ -1,0 +1,23 @@
+-- What an index says of a question.
+use Rattle.std.specs.Prelude.{◌≡◌, ℕ, ℤ, List, Option, Vec, IfSome, IsTrue, string_bytes}
+use Rattle.std.specs.declared.alloc.Global.{Global}
+use Rattle.bson_base.specs.Value.{document, Members}
+use Rattle.bson_bytes.specs.Encode.{encode}
+use Rattle.store_model.specs.Filter.{Filter, Selects}
+use Rattle.store_model.specs.State.{IsKept}
+use Rattle.store_index.specs.Find.{FindsIn, Finds}
+use Rattle.store_index.specs.Lists.{Ascends, is_among}
+use Rattle.store_index.specs.declared.index.Index.{Index}
+use Rattle.store_index.specs.declared.indexes.Indexes.{Indexes}
+
+-- the place of each document that the index finds and the filter selects is among these
+abbrev pub HoldsAll : Index → Filter → List ℤ → Type 0
+HoldsAll ix f places = (place : ℤ) (body : List ℕ) (d : Members) → FindsIn ix place body → IsKept d → body ≡ encode d → Selects f (document d) → IsTrue (is_among place places)
+
+-- the same of the documents of a collection that each of its indexes finds
+abbrev pub Covers : Indexes → List ℕ → Filter → List ℤ → Type 0
+Covers ixs coll f places = (place : ℤ) (body : List ℕ) (d : Members) → Finds ixs coll place body → IsKept d → body ≡ encode d → Selects f (document d) → IsTrue (is_among place places)
+
+-- the places are those by an index of the collection, if there are any
+abbrev pub IsBy : Index → List ℕ → Filter → Option (Vec ℤ Global) → Type 0
+IsBy ix coll f o = (string_bytes ix.coll ≡ coll) × IfSome o (λ v. Ascends v.items × HoldsAll ix f v.items)

@@ -1,0 +1,19 @@
+-- The places under a key.
+use Rattle.std.specs.Prelude.{ℕ, ℤ, List, Vec, IsTrue}
+use Rattle.std.specs.Cmp.Lexicographic.{slice_cmp}
+use Rattle.std.specs.Ordering.{nat_cmp}
+use Rattle.std.specs.declared.alloc.Global.{Global}
+use Rattle.std.specs.BTreeMap.{BTreeMap, get_by}
+use Rattle.store_index.specs.Lists.{is_among, places_of}
+use Rattle.store_index.specs.declared.place_list.PlaceList.{PlaceList}
+use Rattle.store_index.specs.declared.places.Places.{Places}
+
+abbrev pub list_under : BTreeMap (Vec ℕ Global) PlaceList → List ℕ → List ℤ
+list_under m k = places_of (get_by (λ (v : Vec ℕ Global). slice_cmp nat_cmp k v.items) m)
+
+abbrev pub places_under : Places → List ℕ → List ℤ
+places_under ps k = list_under ps.lists k
+
+-- the place is under the key
+abbrev pub HasPlace : Places → List ℕ → ℤ → Type 0
+HasPlace ps k p = IsTrue (is_among p (places_under ps k))

@@ -1,0 +1,263 @@
+//! The indexes of a store: several collections, and several paths of one.
+
+ghost use Rattle.std.specs.Prelude.{◌≡◌, ◌≢◌, ◌⊎◌, ◌↔◌, ℕ, ℤ, List, [], IfOk, IfSome, IsTrue, OnOk, OnErr, string_bytes};
+ghost use Rattle.store_filter.specs.Filters.{filter_of, path_of};
+ghost use Rattle.store_index.specs.Find.{FindsOf, FindEach, Finds, Has, HasOn};
+ghost use Rattle.store_index.specs.Lists.{Ascends};
+ghost use Rattle.store_index.specs.Serving.{Covers, IsBy};
+
+use crate::index::Index;
+use crate::keys::is_same_path;
+use crate::serving::places_by;
+use std::alloc::{AllocError, Global};
+use store_filter::Filter;
+
+/// Indexes, which all find each document that was noted since they came.
+#[derive(Drop)]
+pub struct Indexes {
+    list: Vec<Index>,
+    alloc: Global,
+}
+
+/// The indexes, after those of the collection have noted a document.
+fn noting(
+    alloc: Global,
+    list: Vec<Index>,
+    coll: &[u8],
+    place: i64,
+    body: &[u8],
+) -> Result<Vec<Index>, AllocError>
+    ensures noted { IfOk result (λ new. FindEach new.items coll.now place body.now) }
+    ensures kept { (c : List ℕ) (p : ℤ) (b : List ℕ) → FindEach list.items c p b
+        → IfOk result (λ new. FindEach new.items c p b) }
+{
+    let mut new = Vec::with_capacity(alloc, list.len())?;
+    for mut index in list {
+        index.note_in(alloc, coll, place, body)?;
+        new.push(index)?;
+    }
+    Ok(new)
+}
+
+/// The indexes, after all have forgotten the document at a place.
+fn forgetting(
+    alloc: Global,
+    list: Vec<Index>,
+    place: i64,
+    body: &[u8],
+) -> Result<Vec<Index>, AllocError>
+    ensures kept { (c : List ℕ) (p : ℤ) (b : List ℕ) → p ≢ place → FindEach list.items c p b
+        → IfOk result (λ new. FindEach new.items c p b) }
+{
+    let mut new = Vec::with_capacity(alloc, list.len())?;
+    for mut index in list {
+        index.forget(alloc, place, body)?;
+        new.push(index)?;
+    }
+    Ok(new)
+}
+
+/// Puts an index last, if it isn't one of the collection on the path.
+fn keep_other(
+    list: &mut Vec<Index>,
+    index: Index,
+    coll: &[u8],
+    path: &[String],
+) -> Result<(), AllocError>
+    ensures kept { (c : List ℕ) (p : ℤ) (b : List ℕ) → FindsOf index c p b
+        → FindEach list.old.items c p b → OnOk result (FindEach list.new.items c p b) }
+    ensures none { (HasOn list.old.items coll.now (path_of path.now) → ⊥)
+        → OnOk result (HasOn list.new.items coll.now (path_of path.now) → ⊥) }
+{
+    if index.is_on(coll, path) {
+        return Ok(());
+    }
+    list.push(index)?;
+    Ok(())
+}
+
+/// The indexes but those of a collection on a path.
+fn without(
+    alloc: Global,
+    list: Vec<Index>,
+    coll: &[u8],
+    path: &[String],
+) -> Result<Vec<Index>, AllocError>
+    ensures kept { (c : List ℕ) (p : ℤ) (b : List ℕ) → FindEach list.items c p b
+        → IfOk result (λ new. FindEach new.items c p b) }
+    ensures none { IfOk result (λ new. HasOn new.items coll.now (path_of path.now) → ⊥) }
+{
+    let mut new = Vec::with_capacity(alloc, list.len())?;
+    for index in list {
+        keep_other(&mut new, index, coll, path)?;
+    }
+    Ok(new)
+}
+
+impl Indexes {
+    /// None.
+    pub fn new(alloc: Global) -> Indexes
+        ensures { result.list.items ≡ [] }
+    {
+        Indexes {
+            list: Vec::new(alloc),
+            alloc,
+        }
+    }
+
+    /// Whether there are none.
+    pub fn is_empty(&self) -> bool
+        ensures { IsTrue result ↔ (self.now.list.items ≡ []) }
+    {
+        self.list.is_empty()
+    }
+
+    /// Whether there is one of the collection on the path.
+    pub fn has(&self, coll: &[u8], path: &[String]) -> bool
+        ensures { IsTrue result ↔ Has self.now coll.now (path_of path.now) }
+    {
+        for index in self.list.as_slice() {
+            if index.is_on(coll, path) {
+                return true;
+            }
+        }
+        false
+    }
+
+    /// Drops all.
+    pub fn clear(&mut self)
+        ensures { self.new.list.items ≡ [] }
+    {
+        self.list.clear();
+    }
+
+    /// Takes the indexes out, and leaves none.
+    fn take(&mut self) -> Vec<Index>
+        ensures taken { result ≡ self.old.list }
+        ensures left { (c : List ℕ) (p : ℤ) (b : List ℕ) → Finds self.new c p b }
+        ensures none { self.new.list.items ≡ [] }
+    {
+        std::mem::replace(&mut self.list, Vec::new(self.alloc))
+    }
+
+    /// Adds one.
+    pub fn add(&mut self, index: Index) -> Result<(), AllocError>
+        ensures added { (c : List ℕ) (p : ℤ) (b : List ℕ) → Finds self.old c p b
+            → OnOk result (FindsOf index c p b → Finds self.new c p b) }
+        ensures there { OnOk result (Has self.new (string_bytes index.coll)
+            (path_of index.path.items)) }
+        ensures refused { OnErr result (self.new.list.items ≡ self.old.list.items) }
+    {
+        self.list.push(index)?;
+        Ok(())
+    }
+
+    /// Drops those of a collection on a path, and all if memory is refused.
+    pub fn remove(&mut self, coll: &[u8], path: &[String])
+        ensures gone { Has self.new coll.now (path_of path.now) → ⊥ }
+        ensures kept { (c : List ℕ) (p : ℤ) (b : List ℕ) → Finds self.old c p b
+            → Finds self.new c p b }
+        ensures none { self.old.list.items ≡ [] → self.new.list.items ≡ [] }
+    {
+        if self.list.is_empty() {
+            return;
+        }
+        let list = self.take();
+        match without(self.alloc, list, coll, path) {
+            Ok(list) => {
+                self.list = list;
+            }
+            Err(_) => {}
+        }
+    }
+
+    /// Notes a document of a collection. All are dropped if memory is refused.
+    pub fn note(&mut self, coll: &[u8], place: i64, body: &[u8])
+        ensures noted { Finds self.new coll.now place body.now }
+        ensures kept { (c : List ℕ) (p : ℤ) (b : List ℕ) → Finds self.old c p b
+            → Finds self.new c p b }
+        ensures none { self.old.list.items ≡ [] → self.new.list.items ≡ [] }
+    {
+        if self.list.is_empty() {
+            return;
+        }
+        let list = self.take();
+        match noting(self.alloc, list, coll, place, body) {
+            Ok(list) => {
+                self.list = list;
+            }
+            Err(_) => {}
+        }
+    }
+
+    /// Forgets the document at a place, whose body this was. All are dropped if memory is refused.
+    pub fn forget(&mut self, place: i64, body: &[u8])
+        ensures kept { (c : List ℕ) (p : ℤ) (b : List ℕ) → p ≢ place → Finds self.old c p b
+            → Finds self.new c p b }
+        ensures none { self.old.list.items ≡ [] → self.new.list.items ≡ [] }
+    {
+        if self.list.is_empty() {
+            return;
+        }
+        let list = self.take();
+        match forgetting(self.alloc, list, place, body) {
+            Ok(list) => {
+                self.list = list;
+            }
+            Err(_) => {}
+        }
+    }
+
+    /// Notes another body for the document at a place of a collection. All are dropped if memory is refused.
+    pub fn renew(&mut self, coll: &[u8], place: i64, old: &[u8], body: &[u8])
+        ensures noted { Finds self.new coll.now place body.now }
+        ensures kept { (c : List ℕ) (p : ℤ) (b : List ℕ) → p ≢ place → Finds self.old c p b
+            → Finds self.new c p b }
+        ensures none { self.old.list.items ≡ [] → self.new.list.items ≡ [] }
+    {
+        self.forget(place, old);
+        self.note(coll, place, body);
+    }
+
+    /// The places, ascending, of all documents of a collection that a filter selects, and maybe of more: the fewest
+    /// that an index gives. None: no index serves it.
+    pub fn places_for(&self, coll: &[u8], filter: &Filter) -> Result<Option<Vec<i64>>, AllocError>
+        ensures ascending { IfOk result (λ o. IfSome o (λ v. Ascends v.items)) }
+        ensures all { IfOk result (λ o. IfSome o (λ v. Covers self.now coll.now
+            (filter_of filter.now) v.items)) }
+    {
+        let mut best = None;
+        for index in self.list.as_slice() {
+            best = better(self.alloc, index, coll, filter, best)?;
+        }
+        Ok(best)
+    }
+}
+
+/// The places by an index, if it is one of the collection that serves the filter, and they are fewer than others.
+fn better(
+    alloc: Global,
+    index: &Index,
+    coll: &[u8],
+    filter: &Filter,
+    best: Option<Vec<i64>>,
+) -> Result<Option<Vec<i64>>, AllocError>
+    ensures { IfOk result (λ o. (o ≡ best) ⊎ IsBy index.now coll.now (filter_of filter.now) o) }
+{
+    if !index.is_of(coll) {
+        return Ok(best);
+    }
+    let places = places_by(alloc, index, filter)?;
+    Ok(fewer(best, places))
+}
+
+/// The one with fewer places.
+fn fewer(a: Option<Vec<i64>>, b: Option<Vec<i64>>) -> Option<Vec<i64>>
+    ensures { (result ≡ a) ⊎ (result ≡ b) }
+{
+    match (a, b) {
+        (None, b) => b,
+        (a, None) => a,
+        (Some(a), Some(b)) => { if b.len() < a.len() { Some(b) } else { Some(a) } }
+    }
+}

@@ -1,0 +1,14 @@
+//! Indexes of collections on paths: the places of the documents by the meaning of what is at the path.
+#![tactic(auto)]
+
+mod index;
+mod indexes;
+mod keys;
+mod place_list;
+mod places;
+mod rising;
+mod serving;
+
+pub use index::Index;
+pub use indexes::Indexes;
+pub use places::Places;

@@ -1,0 +1,9 @@
+pub mod MoveLemmas
+pub mod KeepLemmas
+pub mod PlaceLemmas
+pub mod PlaceVisitLemmas
+pub mod AskLemmas
+pub mod GatherLemmas
+pub mod AddLemmas
+pub mod RewriteLemmas
+pub mod ChangeLemmas

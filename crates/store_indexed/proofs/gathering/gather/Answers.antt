@@ -1,0 +1,19 @@
+use Rattle.std.proofs.Common.{◌≡◌, ◌∙◌, Ok, true, false, ap, string_bytes, String, Global, rules}
+use Rattle.store_table.specs.Moves.{VisitsPlaced}
+use Rattle.store_table.specs.Table.{table_state}
+use Rattle.store_indexed.specs.Gathering.{MakesIndex}
+use Rattle.store_indexed.specs.declared.gathering.Gatherer.{Gatherer}
+use Rattle.store_indexed.proofs.GatherLemmas.{TookRows, made}
+use Rattle.store_indexed.proofs.MoveLemmas.{moved}
+use Rattle.store_indexed.proofs.gathering.gather.Goals as goal
+
+pub returns-clause-moves : goal.returns-clause-moves
+returns-clause-moves g c =
+    let first : Gatherer = record { index = c.new.result; failed = false; alloc = c.args.alloc } in
+    let last = c.visit_placed.new.visitor in
+    let coll = c.args.coll.now in
+    let all : c.in_ok-all.all ≡ true = (let f = c.if-not-all.false in search rules) in
+    let named = ap (λ (s : String Global). string_bytes s) c.new.ensures.coll ∙ c.in_ok-owned.ensures in
+    moved (table_state g.S.Store c.args.table.now) (table_state g.S.Store c.visit_placed.new.self) (VisitsPlaced (TookRows first) first last coll (Ok true)) (MakesIndex coll (Ok last.index))
+    (rw all at c.in_ok-all.ensures.moves)
+    (λ docs after h. made coll first last docs after named c.if-gatherer.false h)

@@ -1,0 +1,52 @@
+//! Changes of rows that are noted in the indexes.
+
+ghost use Rattle.std.specs.Prelude.{◌≡◌, ◌+ℤ◌, ℕ, ℤ, pos, List, []};
+ghost use Rattle.sqlite.specs.State.{Survives};
+ghost use Rattle.store_index.specs.Find.{Finds};
+ghost use Rattle.store_table.specs.Rows.{docs_from, with_body_at};
+ghost use Rattle.store_table.specs.Moves.{MayLeave, Moves, Settles, WasOpen};
+ghost use Rattle.store_table.specs.Table.{table_state};
+ghost use Rattle.store_indexed.specs.Changing.{Rewrites};
+ghost use Rattle.store_indexed.specs.Kept.{FindsRows};
+
+use sqlite::Alter;
+use store_index::Indexes;
+use store_table::{Fault, Found, NewRow, Table};
+
+/// Notes rows of a collection at the places after `last`.
+pub(crate) fn note_rows(indexes: &mut Indexes, coll: &str, last: i64, rows: &[NewRow<'_>])
+    ensures noted { FindsRows indexes.new (docs_from (last +ℤ pos 1) coll.now rows.now) }
+    ensures kept { (c : List ℕ) (p : ℤ) (b : List ℕ) → Finds indexes.old c p b
+        → Finds indexes.new c p b }
+    ensures none { indexes.old.list.items ≡ [] → indexes.new.list.items ≡ [] }
+{
+    let mut place = last;
+    for row in rows {
+        let Some(next) = place.checked_add(1) else {
+            // No row can have such a place.
+            indexes.clear();
+            return;
+        };
+        indexes.note(coll.as_bytes(), next, row.body);
+        place = next;
+    }
+}
+
+/// Puts another body in the place of a row's, and returns the collection of the row. None: there is no such row.
+pub(crate) fn rewrite_placed<S: Alter + Drop>(
+    table: &mut Table<S>,
+    found: &Found,
+    body: &[u8],
+) -> Result<Option<Vec<u8>>, Fault>
+    ensures moves { Moves (table_state S.Store table.old) (table_state S.Store table.new)
+        (Rewrites found.now.place body.now result) }
+    ensures open { WasOpen (table_state S.Store table.old) (table_state S.Store table.new) result }
+    ensures crash { Survives (table_state S.Store table.old) (table_state S.Store table.new)
+        (MayLeave (with_body_at found.now.place body.now) (table_state S.Store table.old)) }
+    ensures settled { Settles (with_body_at found.now.place body.now)
+        (table_state S.Store table.old) (table_state S.Store table.new) result }
+{
+    let coll = table.collection_at(found.place)?;
+    table.rewrite_at(found, body)?;
+    Ok(coll)
+}
