@@ -72,7 +72,8 @@ fn import_of<I: Source>(
     input: &mut I,
 ) -> Result<Asked<'static>, Ended>
     requires { CanFail (I.feed input.old) }
-    ensures { AsksToImport words.now (I.feed input.old) (I.feed input.new) maker.old maker.new result }
+    ensures { AsksToImport words.now (I.feed input.old)
+        (I.feed input.new) maker.old maker.new result }
 {
     if Name::new(words.coll).is_none() {
         return Err(Ended::Refused(Refusal::from(ErrorKind::BadName)));
@@ -95,7 +96,8 @@ pub fn asked_of<'w, I: Source>(
     input: &mut I,
 ) -> Result<Asked<'w>, Ended>
     requires { CanFail (I.feed input.old) }
-    ensures { Asks words.now.command words.now (I.feed input.old) (I.feed input.new) maker.old maker.new result }
+    ensures { Asks words.now.command words.now (I.feed input.old)
+        (I.feed input.new) maker.old maker.new result }
 {
     match words.command {
         Command::Export => Ok(without_lines(alloc, None)),

@@ -41,11 +41,12 @@ fn over<S: Alter + Drop, I: Source, O: Sink, F: Sink>(
 /// database held a state, under current or older keys, what is committed then holds it under current keys. So do the
 /// bytes that `write_whole` writes of it, and an open over these finds that state by the clause `finds` of
 /// `Store::open`.
-fn judged(
+pub(crate) fn judged(
     alloc: Global,
     connection: Connection<FileStore<Loaded>>,
 ) -> Result<Connection<FileStore<Loaded>>, ErrorKind>
-    ensures { (x : Lists) → FindsState HoldsOnce (file_state connection) x → IfOk result (λ c. Holds (file_state c).now (file_state c).committed.trees x) }
+    ensures { (x : Lists) → FindsState HoldsOnce (file_state connection) x
+        → IfOk result (λ c. Holds (file_state c).now (file_state c).committed.trees x) }
 {
     match Store::open(alloc, connection) {
         Ok(store) => Ok(store.close()),

@@ -94,7 +94,8 @@ fn put_line<F: Sink>(faults: &mut F, line: &str)
 /// Writes a line, or the one that reports out of memory.
 fn tell_line<F: Sink>(faults: &mut F, line: Result<String, AllocError>)
     requires { CanRefuse (F.tally faults.old) }
-    ensures line { IfOk line (λ line. TakesText (F.tally faults.old) (F.tally faults.new) (string_bytes line)) }
+    ensures line { IfOk line (λ line. TakesText (F.tally faults.old) (F.tally faults.new)
+        (string_bytes line)) }
     ensures memory { OnErr line (TakesText (F.tally faults.old) (F.tally faults.new) memory_line) }
 {
     match line {

@@ -1,7 +1,7 @@
 //! The program `fallowtime`: one command over a database file, or a session of requests.
 
 ghost use Rattle.std.specs.Prelude.{◌≡◌, None, Result, Some};
-ghost use Rattle.sqlite.specs.State.{Survives};
+ghost use Rattle.store_table.specs.Crash.{AddsNothing};
 ghost use Rattle.bson_base.specs.Device.{CanFail, CanRefuse};
 ghost use Rattle.bson_store.specs.Calls.{Relates, store_state};
 ghost use Rattle.bson_store.specs.Export.{SendsCollection};
@@ -15,14 +15,15 @@ ghost use Rattle.bson_store_cli.specs.Ending.{ended_by};
 ghost use Rattle.bson_store_cli.specs.Serving.{form_by, plainly};
 
 use crate::asking::{Asked, asked_of};
+use crate::commands::judged;
 use crate::ending::{Ended, tell};
 use bson_store::extjson::Mode;
 use bson_store::{Sink, Source, Store};
-use cli_files::{FileError, Loaded, close, copy, open_within, read};
+use cli_files::{FileError, close, copy, open_within, read};
 use fallowtime_commands::{Form, Refusal, Unread, execute};
 use fallowtime_texts::IdMaker;
 use fallowtime_words::{Command, Options, Task, Words, read_words};
-use sqlite::{Alter, Connection, FileStore};
+use sqlite::{Alter, Connection};
 use std::alloc::Global;
 use std::hash::{BuildHasher, RandomState};
 use std::time::SystemTime;
@@ -61,8 +62,9 @@ fn export<S: Alter + Drop, O: Sink>(
 ) -> Result<(), Refusal>
     requires { CanRefuse (O.tally output.old) }
     ensures { (sent : Result (Unit {0}) StoreRefusal) × (result ≡ plainly sent)
-        × Relates S.Store store.old store.new (SendsCollection coll.now (O.tally output.old) (O.tally output.new) sent)
-        × Survives (store_state S.Store store.old) (store_state S.Store store.new) (λ _. ⊥) }
+        × Relates S.Store store.old store.new (SendsCollection coll.now (O.tally output.old)
+        (O.tally output.new) sent) × AddsNothing (store_state S.Store store.old)
+        (store_state S.Store store.new) }
 {
     match store.export(coll, output) {
         Ok(()) => Ok(()),
@@ -90,15 +92,17 @@ fn serve_store<S: Alter + Drop, O: Sink>(
 ) -> Result<(), Ended>
     requires { CanRefuse (O.tally output.old) }
     // A request is performed, and what it returns is printed in the form of the options.
-    ensures request { (r : Requested) → asked.old.request ≡ Some r → (done : Result (Unit {0}) Refused) × (outcome : Result Answered StoreRefusal)
-        × (result ≡ ended_by asked.old.lines.items done)
+    ensures request { (r : Requested) → asked.old.request ≡ Some r → (done : Result (Unit {0}) Refused)
+        × (outcome : Result Answered StoreRefusal) × (result ≡ ended_by asked.old.lines.items done)
         × Tells (form_by words.now.options.bytes words.now.options.canonical) outcome (O.tally output.old) (O.tally output.new) done
         × Relates S.Store store.old store.new (Performs words.now.coll.now r (reply_of outcome))
         × LeavesRequest words.now.coll.now r (reply_of outcome) (store_state S.Store store.old) (store_state S.Store store.new) }
     // Without one the collection is written as BSON.
-    ensures export { asked.old.request ≡ None → (sent : Result (Unit {0}) StoreRefusal) × (result ≡ ended_by asked.old.lines.items (plainly sent))
-        × Relates S.Store store.old store.new (SendsCollection words.now.coll.now (O.tally output.old) (O.tally output.new) sent)
-        × Survives (store_state S.Store store.old) (store_state S.Store store.new) (λ _. ⊥) }
+    ensures export { asked.old.request ≡ None → (sent : Result (Unit {0}) StoreRefusal)
+        × (result ≡ ended_by asked.old.lines.items (plainly sent))
+        × Relates S.Store store.old store.new (SendsCollection words.now.coll.now
+        (O.tally output.old) (O.tally output.new) sent)
+        × AddsNothing (store_state S.Store store.old) (store_state S.Store store.new) }
 {
     match &mut asked.request {
         None => {
@@ -187,20 +191,6 @@ fn change<O: Sink>(
     }
 }
 
-/// The connection, if its database is a store or can become one.
-fn judged(
-    alloc: Global,
-    connection: Connection<FileStore<Loaded>>,
-) -> Result<Connection<FileStore<Loaded>>, Ended> {
-    match Store::open(alloc, connection) {
-        Ok(store) => Ok(store.close()),
-        Err((error, connection)) => {
-            drop(connection);
-            Err(Ended::Refused(Refusal::from(error)))
-        }
-    }
-}
-
 /// Writes what the files hold at this moment into a new file, if that is a store.
 fn back_up(rt: &HostRuntime, words: &Words<'_>) -> Result<(), Ended> {
     let Some(path) = words.places.first() else {
@@ -211,7 +201,10 @@ fn back_up(rt: &HostRuntime, words: &Words<'_>) -> Result<(), Ended> {
         Ok(connection) => connection,
         Err(error) => return Err(Ended::File(error)),
     };
-    let connection = judged(rt.alloc(), connection)?;
+    let connection = match judged(rt.alloc(), connection) {
+        Ok(connection) => connection,
+        Err(kind) => return Err(Ended::Refused(Refusal::from(kind))),
+    };
     match copy(rt, connection, path.as_str()) {
         Ok(()) => Ok(()),
         Err(error) => Err(Ended::File(error)),

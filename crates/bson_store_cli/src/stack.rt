@@ -14,7 +14,7 @@ const NEED: usize = 2 << 20;
 /// How many of them are taken by one call.
 const PART: usize = 1 << 16;
 
-/// Takes so many parts of the stack. Something is read into each, so that no compiler can do without it.
+/// Takes `parts` parts of the stack. Something is read into each, so that no compiler can do without it.
 fn take(zeros: &mut fs::File, parts: usize) -> u8 {
     let mut room = [0u8; PART];
     let _ = zeros.read(&mut room[..1]);

@@ -22,7 +22,8 @@ pub enum Program {
 /// The program of the name under which it was started: the last part of that path. Every name except those of the
 /// others is bson_store's.
 pub fn program_of(name: &str) -> Program
-    ensures fallowtime { (result ≡ Fallowtime) ↔ (path_file_name name.now ≡ Some (codes "fallowtime")) }
+    ensures fallowtime { (result ≡ Fallowtime) ↔ (path_file_name name.now ≡ Some
+        (codes "fallowtime")) }
     ensures json { (result ≡ Json) ↔ (path_file_name name.now ≡ Some (codes "bson_json")) }
 {
     match Path::new(name).file_name() {
@@ -44,8 +45,8 @@ pub fn words_of(rt: &HostRuntime) -> io::Result<Vec<String>> {
 /// How many seconds to wait for a file that another process has, and the words after that. `--wait SECONDS` before the
 /// others says so; none if there is no number after it, or another word at the front.
 pub fn patience_of(words: &[String]) -> Option<(u64, &[String])>
-    ensures { MatchOption result
-        ((seconds : ℕ) (behind : List (List ℕ)) → AsksToWait (map string_bytes words.now) seconds behind → ⊥)
+    ensures { MatchOption result ((seconds : ℕ) (behind : List (List ℕ))
+        → AsksToWait (map string_bytes words.now) seconds behind → ⊥)
         (λ r. AsksToWait (map string_bytes words.now) r.0 (map string_bytes r.1.now)) }
 {
     let (first, behind) = words.split_first()?;

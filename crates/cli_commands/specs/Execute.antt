@@ -51,16 +51,17 @@ abbrev pub Fails : ErrorKind → Result (Unit {0}) Failure → ℕ → ℕ → T
 Fails kind (Err (Refused e)) old new = When (e.kind ≡ kind) (new ≡ old + 1) (new ≡ old)
 Fails kind _ old new = new ≡ old
 
--- where a call of a device failed, it was one, and its kind is reported
+-- at most one call of a device failed, and if one did, its kind is reported
 abbrev pub IsReported : {A : Type 0} → ErrorKind → Result A Failure → ℕ → ℕ → Type 0
 IsReported kind (Err (Refused e)) old new = (new ≡ old) ⊎ ((e.kind ≡ kind) × (new ≡ old + 1))
 IsReported kind _ old new = new ≡ old
 
--- So of the input and the output, whatever the disk does: `Reader` of an import and `Writer` of an export only if a call failed.
+-- So of the input and the output, whatever the disk does: `Reader` of an import, and `Writer` of an export and a dump, only if a
+-- call failed.
 abbrev pub ReportsFailures : Call → Result (Unit {0}) Failure → ℕ → ℕ → ℕ → ℕ → Type 0
 ReportsFailures Import outcome fed left old new = Fails Reader outcome fed left × IsReported Writer outcome old new
 ReportsFailures Export outcome fed left old new = IsReported Reader outcome fed left × Fails Writer outcome old new
-ReportsFailures Dump outcome fed left old new = IsReported Reader outcome fed left
+ReportsFailures Dump outcome fed left old new = IsReported Reader outcome fed left × Fails Writer outcome old new
 ReportsFailures _ outcome fed left old new = IsReported Reader outcome fed left × IsReported Writer outcome old new
 
 -- ---- one command of the store

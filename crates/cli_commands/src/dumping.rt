@@ -24,6 +24,12 @@ impl<'w, O: Sink> TakeText for Printer<'w, O> {
     ghost refused = { λ first p _ e. (first.output.ghost_name ≡ p.output.ghost_name)
         × IsFault Writer (O.tally first.output.now).failures (O.tally p.output.now).failures e };
 
+    ghost stands = { λ first p. (first.output.ghost_name ≡ p.output.ghost_name) × (p.failed ≡ false)
+        × ((O.tally p.output.now).failures ≡ (O.tally first.output.now).failures) };
+
+    ghost stopped = { λ first p e. (first.output.ghost_name ≡ p.output.ghost_name)
+        × IsFault Writer (O.tally first.output.now).failures (O.tally p.output.now).failures e };
+
     fn take_text(&mut self, text: &str) -> Result<(), StoreError> {
         if self.failed {
             return Err(StoreError::from(ErrorKind::Writer));

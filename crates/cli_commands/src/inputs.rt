@@ -27,11 +27,15 @@ pub fn load<S: Alter + Drop, I: Source>(
     input: &mut I,
 ) -> Result<Answer, Failure>
     requires { CanFail (I.feed input.old) }
-    ensures moves { Relates S.Store store.old store.new (Performs (AsksFor Load name.now [] (I.feed input.old) (I.feed input.new))
-        (IsUnasked Load name.now [] (I.feed input.old) (I.feed input.new)) (Complains Load [] (I.feed input.old) (I.feed input.new)) result) }
+    ensures moves { Relates S.Store store.old store.new
+        (Performs (AsksFor Load name.now [] (I.feed input.old) (I.feed input.new))
+        (IsUnasked Load name.now [] (I.feed input.old) (I.feed input.new))
+        (Complains Load [] (I.feed input.old) (I.feed input.new)) result) }
     ensures open { WasOpen (store_state S.Store store.old) (store_state S.Store store.new) result }
-    ensures device { IsReported Reader result (I.feed input.old).failures (I.feed input.new).failures }
-    ensures crash { LeavesBy (AsksFor Load name.now [] (I.feed input.old) (I.feed input.new)) (λ _. ⊥) result (store_state S.Store store.old) (store_state S.Store store.new) }
+    ensures device { IsReported Reader result (I.feed input.old).failures
+        (I.feed input.new).failures }
+    ensures crash { LeavesBy (AsksFor Load name.now [] (I.feed input.old) (I.feed input.new))
+        (λ _. ⊥) result (store_state S.Store store.old) (store_state S.Store store.new) }
     ensures number { IfOk result (λ answer. (count : ℕ) × (answer ≡ Number count)) }
 {
     let loader = judged_input(alloc, input)?;

@@ -15,7 +15,9 @@ use std::alloc::Global;
 /// Writes a tree on one line.
 pub fn print_tree<O: Sink>(alloc: Global, tree: &Value, output: &mut O) -> Result<(), StoreError>
     requires { CanRefuse (O.tally output.old) }
-    ensures { MatchResult result (λ _. (O.tally output.new).failures ≡ (O.tally output.old).failures) (IsFault Writer (O.tally output.old).failures (O.tally output.new).failures) }
+    ensures { MatchResult result (λ _. (O.tally output.new).failures ≡ (O.tally
+        output.old).failures) (IsFault Writer (O.tally output.old).failures
+        (O.tally output.new).failures) }
 {
     let text = tree.to_string(alloc)?;
     write_line(output, text.as_str())?;
@@ -25,7 +27,9 @@ pub fn print_tree<O: Sink>(alloc: Global, tree: &Value, output: &mut O) -> Resul
 /// Writes documents, one after the other.
 fn print_documents<O: Sink>(documents: &[Vec<u8>], output: &mut O) -> Result<(), StoreError>
     requires { CanRefuse (O.tally output.old) }
-    ensures { MatchResult result (λ _. (O.tally output.new).failures ≡ (O.tally output.old).failures) (IsFailure Writer (O.tally output.old).failures (O.tally output.new).failures) }
+    ensures { MatchResult result (λ _. (O.tally output.new).failures ≡ (O.tally
+        output.old).failures) (IsFailure Writer (O.tally output.old).failures
+        (O.tally output.new).failures) }
 {
     for document in documents {
         write_all(output, document.as_slice())?;
@@ -36,7 +40,9 @@ fn print_documents<O: Sink>(documents: &[Vec<u8>], output: &mut O) -> Result<(),
 /// Writes names, one a line.
 fn print_names<O: Sink>(names: &[String], output: &mut O) -> Result<(), StoreError>
     requires { CanRefuse (O.tally output.old) }
-    ensures { MatchResult result (λ _. (O.tally output.new).failures ≡ (O.tally output.old).failures) (IsFailure Writer (O.tally output.old).failures (O.tally output.new).failures) }
+    ensures { MatchResult result (λ _. (O.tally output.new).failures ≡ (O.tally
+        output.old).failures) (IsFailure Writer (O.tally output.old).failures
+        (O.tally output.new).failures) }
 {
     for name in names {
         write_line(output, name.as_str())?;
@@ -47,7 +53,9 @@ fn print_names<O: Sink>(names: &[String], output: &mut O) -> Result<(), StoreErr
 /// Writes an answer. Refused by Writer if a write failed, and by Memory if there is none for the text of a tree.
 pub fn print<O: Sink>(alloc: Global, answer: &Answer, output: &mut O) -> Result<(), StoreError>
     requires { CanRefuse (O.tally output.old) }
-    ensures { MatchResult result (λ _. (O.tally output.new).failures ≡ (O.tally output.old).failures) (IsUnprinted answer.now (O.tally output.old).failures (O.tally output.new).failures) }
+    ensures { MatchResult result (λ _. (O.tally output.new).failures ≡ (O.tally
+        output.old).failures) (IsUnprinted answer.now (O.tally output.old).failures
+        (O.tally output.new).failures) }
 {
     match answer {
         Answer::Nothing => Ok(()),

@@ -33,7 +33,8 @@ fn print_outcome<O: Sink>(
     output: &mut O,
 ) -> Result<(), Failure>
     requires { CanRefuse (O.tally output.old) }
-    ensures told { Tells outcome result (O.tally output.old).failures (O.tally output.new).failures }
+    ensures told { Tells outcome result (O.tally output.old).failures
+        (O.tally output.new).failures }
     ensures unread { SilentUnread result output.old output.new }
 {
     match outcome {
@@ -47,9 +48,11 @@ fn print_outcome<O: Sink>(
 
 /// Puts a document in. It is separate from `perform`, so that a wrong body is refused in seconds.
 fn insert<S: Alter + Drop>(store: &mut Store<S>, name: &str, json: Value) -> Result<(), StoreError>
-    ensures moves { Relates S.Store store.old store.new (DoesTree name.now (inserted in_json) (data_of json) (reply_by as_done result)) }
+    ensures moves { Relates S.Store store.old store.new
+        (DoesTree name.now (inserted in_json) (data_of json) (reply_by as_done result)) }
     ensures open { WasOpen (store_state S.Store store.old) (store_state S.Store store.new) result }
-    ensures crash { LeavesTree name.now (inserted in_json) (data_of json) (reply_by as_done result) (store_state S.Store store.old) (store_state S.Store store.new) }
+    ensures crash { LeavesTree name.now (inserted in_json) (data_of json) (reply_by as_done result)
+        (store_state S.Store store.old) (store_state S.Store store.new) }
 {
     store.insert_json(name, json)
 }
@@ -66,13 +69,15 @@ fn perform<S: Alter + Drop, I: Source, O: Sink>(
     requires request { IsRequestOf words.now request.old }
     requires input { CanFail (I.feed input.old) }
     requires output { CanRefuse (O.tally output.old) }
-    ensures step { Relates S.Store store.old store.new (Executes words.now (I.feed input.old) (I.feed input.new)
-        (O.tally output.old) (O.tally output.new) result) }
+    ensures step { Relates S.Store store.old store.new
+        (Executes words.now (I.feed input.old) (I.feed input.new) (O.tally output.old)
+        (O.tally output.new) result) }
     ensures open { WasOpen (store_state S.Store store.old) (store_state S.Store store.new) result }
-    ensures crash { LeavesAsked words.now (I.feed input.old) (I.feed input.new) (O.tally output.old) (O.tally output.new) result
-        (store_state S.Store store.old) (store_state S.Store store.new) }
-    ensures devices { ReportsFailures words.now.call result (I.feed input.old).failures (I.feed input.new).failures
-        (O.tally output.old).failures (O.tally output.new).failures }
+    ensures crash { LeavesAsked words.now (I.feed input.old) (I.feed input.new) (O.tally output.old)
+        (O.tally output.new) result (store_state S.Store store.old)
+        (store_state S.Store store.new) }
+    ensures devices { ReportsFailures words.now.call result (I.feed input.old).failures
+        (I.feed input.new).failures (O.tally output.old).failures (O.tally output.new).failures }
     ensures unread { SilentUnread result output.old output.new }
     ensures spared { Spares words.now.call input.old input.new }
 {
@@ -115,13 +120,15 @@ fn obey<S: Alter + Drop, I: Source, O: Sink>(
 ) -> Result<(), Failure>
     requires input { CanFail (I.feed input.old) }
     requires output { CanRefuse (O.tally output.old) }
-    ensures step { Relates S.Store store.old store.new (Executes words.now (I.feed input.old) (I.feed input.new)
-        (O.tally output.old) (O.tally output.new) result) }
+    ensures step { Relates S.Store store.old store.new
+        (Executes words.now (I.feed input.old) (I.feed input.new) (O.tally output.old)
+        (O.tally output.new) result) }
     ensures open { WasOpen (store_state S.Store store.old) (store_state S.Store store.new) result }
-    ensures crash { LeavesAsked words.now (I.feed input.old) (I.feed input.new) (O.tally output.old) (O.tally output.new) result
-        (store_state S.Store store.old) (store_state S.Store store.new) }
-    ensures devices { ReportsFailures words.now.call result (I.feed input.old).failures (I.feed input.new).failures
-        (O.tally output.old).failures (O.tally output.new).failures }
+    ensures crash { LeavesAsked words.now (I.feed input.old) (I.feed input.new) (O.tally output.old)
+        (O.tally output.new) result (store_state S.Store store.old)
+        (store_state S.Store store.new) }
+    ensures devices { ReportsFailures words.now.call result (I.feed input.old).failures
+        (I.feed input.new).failures (O.tally output.old).failures (O.tally output.new).failures }
     ensures unread { SilentUnread result output.old output.new }
     ensures spared { Spares words.now.call input.old input.new }
 {
@@ -153,20 +160,25 @@ pub fn execute<S: Alter + Drop, I: Source, O: Sink, F: Sink>(
     // Only `import` and `load` read the input.
     ensures spared { Spares words.now.call input.old input.new }
     // What was done, and that just this is reported: the refusal of the command's own step, or of a device exactly if that failed.
-    ensures step { (outcome : Result (Unit {0}) Outcome) × Reports outcome result (F.tally faults.old) (F.tally faults.new)
-        × Relates S.Store store.old store.new (Executes words.now (I.feed input.old) (I.feed input.new)
-        (O.tally output.old) (O.tally output.new) outcome) }
-    // Whatever the disk does, a failed read or write is reported, except a write of `dump`.
-    ensures devices { (outcome : Result (Unit {0}) Outcome) × Reports outcome result (F.tally faults.old) (F.tally faults.new)
-        × ReportsFailures words.now.call outcome (I.feed input.old).failures (I.feed input.new).failures
-        (O.tally output.old).failures (O.tally output.new).failures }
+    ensures step { (outcome : Result (Unit {0}) Outcome)
+        × Reports outcome result (F.tally faults.old) (F.tally faults.new)
+        × Relates S.Store store.old store.new (Executes words.now (I.feed input.old)
+        (I.feed input.new) (O.tally output.old) (O.tally output.new) outcome) }
+    // Whatever the disk does, a failed read or write is reported.
+    ensures devices { (outcome : Result (Unit {0}) Outcome)
+        × Reports outcome result (F.tally faults.old) (F.tally faults.new)
+        × ReportsFailures words.now.call outcome (I.feed input.old).failures
+        (I.feed input.new).failures (O.tally output.old).failures (O.tally output.new).failures }
     // A command is accepted only on an open connection, which stays open.
-    ensures open { result ≡ 0 → StaysOpen (store_state S.Store store.old) (store_state S.Store store.new) }
+    ensures open { result ≡ 0 → StaysOpen (store_state S.Store store.old)
+        (store_state S.Store store.new) }
     // What a crash leaves of it: after an accepted command what it leaves of that; otherwise what it could leave
     // before, or what it leaves of a refused one.
-    ensures crash { (outcome : Result (Unit {0}) Outcome) × Reports outcome result (F.tally faults.old) (F.tally faults.new)
-        × LeavesAsked words.now (I.feed input.old) (I.feed input.new) (O.tally output.old) (O.tally output.new) outcome
-        (store_state S.Store store.old) (store_state S.Store store.new) }
+    ensures crash { (outcome : Result (Unit {0}) Outcome)
+        × Reports outcome result (F.tally faults.old) (F.tally faults.new)
+        × LeavesAsked words.now (I.feed input.old) (I.feed input.new) (O.tally output.old)
+        (O.tally output.new) outcome (store_state S.Store store.old)
+        (store_state S.Store store.new) }
 {
     match obey(alloc, store, words, input, output) {
         Ok(()) => 0,

@@ -1,7 +1,7 @@
 //! The commands that print while they read.
 
 ghost use Rattle.std.specs.Prelude.{[]};
-ghost use Rattle.sqlite.specs.State.{Survives};
+ghost use Rattle.store_table.specs.Crash.{AddsNothing};
 ghost use Rattle.bson_store.specs.Calls.{Relates, store_state};
 ghost use Rattle.cli_words.specs.declared.call.Call.TheVariants.{Export, Dump};
 ghost use Rattle.store_table.specs.Moves.{WasOpen};
@@ -21,10 +21,12 @@ pub fn export<S: Alter + Drop, O: Sink>(
     output: &mut O,
 ) -> Result<(), Failure>
     requires { CanRefuse (O.tally output.old) }
-    ensures step { (f : Feed) → Relates S.Store store.old store.new (Comes (Executed Export name.now [] f f (O.tally output.old) (O.tally output.new) result)) }
+    ensures step { (f : Feed) → Relates S.Store store.old store.new
+        (Comes (Executed Export name.now [] f f (O.tally output.old) (O.tally output.new) result)) }
     ensures open { WasOpen (store_state S.Store store.old) (store_state S.Store store.new) result }
-    ensures crash { Survives (store_state S.Store store.old) (store_state S.Store store.new) (λ _. ⊥) }
-    ensures device { Fails Writer result (O.tally output.old).failures (O.tally output.new).failures }
+    ensures crash { AddsNothing (store_state S.Store store.old) (store_state S.Store store.new) }
+    ensures device { Fails Writer result (O.tally output.old).failures
+        (O.tally output.new).failures }
     ensures unread { SilentUnread result output.old output.new }
 {
     match store.export(name, output) {
@@ -41,9 +43,12 @@ pub fn dump<S: Alter + Drop, O: Sink>(
     output: &mut O,
 ) -> Result<(), Failure>
     requires { CanRefuse (O.tally output.old) }
-    ensures step { (f : Feed) → Relates S.Store store.old store.new (Comes (Executed Dump name.now [] f f (O.tally output.old) (O.tally output.new) result)) }
+    ensures step { (f : Feed) → Relates S.Store store.old store.new
+        (Comes (Executed Dump name.now [] f f (O.tally output.old) (O.tally output.new) result)) }
     ensures open { WasOpen (store_state S.Store store.old) (store_state S.Store store.new) result }
-    ensures crash { Survives (store_state S.Store store.old) (store_state S.Store store.new) (λ _. ⊥) }
+    ensures crash { AddsNothing (store_state S.Store store.old) (store_state S.Store store.new) }
+    ensures device { Fails Writer result (O.tally output.old).failures
+        (O.tally output.new).failures }
     ensures unread { SilentUnread result output.old output.new }
 {
     if let Err(error) = store.check_json(name) {

@@ -38,7 +38,8 @@ pub fn text_at(words: &[String], place: usize) -> &str
 
 /// The tree of a JSON text.
 pub fn json_of_text(alloc: Global, text: &str) -> Result<Value, Failure>
-    ensures { MatchResult result (λ j. data_of_text text.now ≡ Some (data_of j)) (StopsFor UsageError.Json (AnswersText text.now (Err Unreadable))) }
+    ensures { MatchResult result (λ j. data_of_text text.now ≡ Some (data_of j))
+        (StopsFor UsageError.Json (AnswersText text.now (Err Unreadable))) }
 {
     match parse_json(alloc, text) {
         Ok(json) => Ok(json),
@@ -49,7 +50,8 @@ pub fn json_of_text(alloc: Global, text: &str) -> Result<Value, Failure>
 
 /// The value of an id's text, which is Extended JSON.
 pub fn id_of(alloc: Global, text: &str) -> Result<Bson, Failure>
-    ensures { MatchResult result (λ id. IsIdText text.now (view id)) (StopsFor UsageError.Id (AnswersId text.now (Err Unreadable))) }
+    ensures { MatchResult result (λ id. IsIdText text.now (view id))
+        (StopsFor UsageError.Id (AnswersId text.now (Err Unreadable))) }
 {
     match read_id(alloc, text) {
         Ok(id) => Ok(id),
@@ -70,7 +72,8 @@ pub fn mode_of(words: &[String]) -> Mode
 
 /// The filter of a text.
 pub fn filter_of_text(alloc: Global, text: &str) -> Result<Filter, Failure>
-    ensures { MatchResult result (λ f. IsFilterText text.now (filter_of f)) (StopsFor UsageError.Filter (AnswersFilter text.now (Err Unreadable))) }
+    ensures { MatchResult result (λ f. IsFilterText text.now (filter_of f))
+        (StopsFor UsageError.Filter (AnswersFilter text.now (Err Unreadable))) }
 {
     match read_filter(alloc, text) {
         Ok(filter) => Ok(filter),
@@ -79,11 +82,13 @@ pub fn filter_of_text(alloc: Global, text: &str) -> Result<Filter, Failure>
     }
 }
 
-/// Takes a line's tree, which isn't made, or nothing of a line of no bytes. False, and nothing was taken, where the line
+/// Takes a line's tree, which isn't made, or nothing of a line of no bytes. False, and nothing was taken, if the line
 /// has to be read by its tree.
 fn take_seen(loader: &mut Loader, line: &[u8]) -> bool
-    ensures taken { IsTrue result → (js : List Data) → HasTaken loader.old js → TakesLine line.now js (HasTaken loader.new) }
-    ensures untaken { result ≡ false → (js : List Data) → HasTaken loader.old js → HasTaken loader.new js }
+    ensures taken { IsTrue result → (js : List Data) → HasTaken loader.old js
+        → TakesLine line.now js (HasTaken loader.new) }
+    ensures untaken { result ≡ false → (js : List Data) → HasTaken loader.old js
+        → HasTaken loader.new js }
 {
     if line.is_empty() {
         return true;
@@ -96,7 +101,8 @@ fn take_seen(loader: &mut Loader, line: &[u8]) -> bool
 
 /// Takes the tree of a line, if it has one.
 fn take_line(alloc: Global, loader: &mut Loader, line: &[u8], number: u64) -> Result<(), Failure>
-    ensures ok { OnOk result ((js : List Data) → HasTaken loader.old js → TakesLine line.now js (HasTaken loader.new)) }
+    ensures ok { OnOk result ((js : List Data) → HasTaken loader.old js
+        → TakesLine line.now js (HasTaken loader.new)) }
     ensures err { IfErr result (StopsFor (UsageError.Line number) (IsBadLine line.now)) }
 {
     if take_seen(loader, line) {
@@ -115,7 +121,8 @@ fn take_line(alloc: Global, loader: &mut Loader, line: &[u8], number: u64) -> Re
 
 /// Judges the trees of lines, one after the other: one tree is held at a time.
 fn judged_lines(alloc: Global, bytes: &[u8]) -> Result<Loader, Failure>
-    ensures { MatchResult result (λ l. (js : List Data) × HaveTrees (lines_in bytes.now) js × HasTaken l js) (StopsAtLine (lines_in bytes.now)) }
+    ensures { MatchResult result (λ l. (js : List Data) × HaveTrees (lines_in bytes.now) js
+        × HasTaken l js) (StopsAtLine (lines_in bytes.now)) }
 {
     let mut loader = Loader::new(alloc);
     let mut number = 0u64;
@@ -133,7 +140,8 @@ fn judged_lines(alloc: Global, bytes: &[u8]) -> Result<Loader, Failure>
 /// The trees of the input's lines, judged. The input is read to its end.
 pub fn judged_input<I: Source>(alloc: Global, input: &mut I) -> Result<Loader, Failure>
     requires { CanFail (I.feed input.old) }
-    ensures { MatchResult result (TakesLines (I.feed input.old) (I.feed input.new)) (StopsLines (I.feed input.old) (I.feed input.new)) }
+    ensures { MatchResult result (TakesLines (I.feed input.old) (I.feed input.new))
+        (StopsLines (I.feed input.old) (I.feed input.new)) }
 {
     let bytes = match read_all(alloc, input) {
         Ok(bytes) => bytes,

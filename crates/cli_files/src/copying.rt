@@ -18,7 +18,8 @@ use std::fs::OpenOptions;
 
 /// The bytes of a database file that holds, without a log, what the connection last committed.
 pub fn whole(connection: Connection<FileStore<Loaded>>) -> Result<Vec<u8>, FileError>
-    ensures { IfOk result (λ bytes. ∥ HoldsDatabase (record { log = []; db = bytes.items }) (file_state connection).committed.trees ∥₁) }
+    ensures { IfOk result (λ bytes. ∥ HoldsDatabase (record { log = []; db = bytes.items })
+        (file_state connection).committed.trees ∥₁) }
 {
     match connection.close_files() {
         Ok(files) => Ok(files.db.into_bytes()),
@@ -35,8 +36,9 @@ pub fn write_whole<F: Sink>(
     copy: &mut F,
 ) -> Result<(), FileError>
     requires { CanRefuse (F.tally copy.old) }
-    ensures { IfOk result (λ _. (bytes : List ℕ) × Appends (F.tally copy.old).taken (F.tally copy.new).taken bytes
-        × ∥ HoldsDatabase (record { log = []; db = bytes }) (file_state connection).committed.trees ∥₁) }
+    ensures { IfOk result (λ _. (bytes : List ℕ) × Appends (F.tally copy.old).taken
+        (F.tally copy.new).taken bytes × ∥ HoldsDatabase (record { log = []; db = bytes })
+        (file_state connection).committed.trees ∥₁) }
 {
     let bytes = whole(connection)?;
     match write_all(copy, bytes.as_slice()) {
@@ -52,7 +54,8 @@ pub fn reopened(
     options: Options,
 ) -> Result<Connection<FileStore<Loaded>>, FileError>
     ensures opened { IfOk result (λ c. IsOpened c) }
-    ensures found { IfOk result (λ c. ∥ (file_state c).committed.trees ≡ (file_state connection).committed.trees ∥₁) }
+    ensures found { IfOk result (λ c. ∥ (file_state c).committed.trees ≡ (file_state
+        connection).committed.trees ∥₁) }
 {
     let bytes = whole(connection)?;
     let files = Files {

@@ -23,8 +23,8 @@ pub(crate) const PAUSE: u64 = 50;
 pub(crate) const TRIES_A_SECOND: u64 = 1000 / PAUSE;
 
 /// How many pages are kept in memory: those that the file has, and some more, as a page has one slot that it can be in.
-/// The kit's own number is too large for small files, whose slots are zeroed at each start, and too small for large ones,
-/// whose pages are then read and digested again at each walk.
+/// The kit's own number is too large for small files, whose slots are zeroed at each start, and too small for large
+/// ones, whose pages are then read and digested again at each walk.
 fn cache_pages(rt: &HostRuntime, path: &str) -> usize {
     let pages = match fs::metadata(rt, path) {
         Ok(found) => found.len() / PAGE,
@@ -34,7 +34,7 @@ fn cache_pages(rt: &HostRuntime, path: &str) -> usize {
     (pages + pages / 8 + 64).clamp(LEAST_PAGES, MOST_PAGES)
 }
 
-/// The options of a connection with so many pages in memory.
+/// The options of a connection with `pages` pages in memory.
 pub(crate) fn options_for(rt: &HostRuntime, pages: usize) -> io::Result<Options> {
     let mut options = Options::new(RandomState::new(rt)?.hash_one(&0u8));
     options.cache_pages = pages;
@@ -64,7 +64,7 @@ pub fn open(rt: &HostRuntime, path: &str) -> Result<Connection<FileStore<File>>,
     }
 }
 
-/// As `open`, but if another process has the file, it is tried again for so many seconds, 20 times in each.
+/// As `open`, but if another process has the file, it is tried again for `seconds` seconds, 20 times in each.
 pub fn open_within(
     rt: &HostRuntime,
     path: &str,

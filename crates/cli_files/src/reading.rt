@@ -1,5 +1,5 @@
-//! Database files, read into memory: nothing is made, written, locked or synced, so any number of processes may do it at
-//! once, also while one has the file open.
+//! Database files, read into memory: nothing is made, written, locked or synced, so any number of processes may do it
+//! at once, also while one has the file open.
 
 ghost use Rattle.std.specs.Prelude.{IfOk};
 ghost use Rattle.sqlite.specs.State.{HasCleanDisk};
@@ -111,7 +111,7 @@ fn read_once(rt: &HostRuntime, paths: &Paths<'_>) -> io::Result<Option<Files<Loa
     }))
 }
 
-/// Reads the files until they are found as they were at one moment, for so many seconds.
+/// Reads the files until they are found as they were at one moment, for `seconds` seconds.
 fn read_calmly(
     rt: &HostRuntime,
     paths: &Paths<'_>,
@@ -173,7 +173,7 @@ pub(crate) fn over(
 
 /// Opens the database that the files at a path hold at this moment: what is changed of it stays in memory. A file that
 /// isn't there is refused by `NoFile`, one beside a rollback journal by `Journal`, and by `Busy` one that was written
-/// again and again for so many seconds, at least five. Memory returns what was written to it, so what is stated of
+/// again and again for `seconds` seconds, at least five. Memory returns what was written to it, so what is stated of
 /// the connection needs no premise on a disk.
 pub fn read(
     rt: &HostRuntime,

@@ -22,7 +22,7 @@ const REFUSED: u8 = 1;
 const MISUSED: u8 = 2;
 
 /// Reports a refusal, and returns the status of one.
-#[tactic(auto, using(crate::proofs::Telling::writes))]
+#[tactic(auto, using(crate::proofs::ReportLemmas::writes))]
 pub fn refuse<F: Sink>(faults: &mut F, kind: ErrorKind) -> u8
     requires { CanRefuse (F.tally faults.old) }
     ensures status { result ≡ 1 }
@@ -36,7 +36,8 @@ pub fn refuse<F: Sink>(faults: &mut F, kind: ErrorKind) -> u8
 pub fn refuse_file<F: Sink>(rt: &HostRuntime, faults: &mut F, error: FileError) -> u8
     requires { CanRefuse (F.tally faults.old) }
     ensures status { result ≡ 1 }
-    ensures line { TakesText (F.tally faults.old) (F.tally faults.new) (refusal_line (kind_of error) None) }
+    ensures line { TakesText (F.tally faults.old) (F.tally faults.new)
+        (refusal_line (kind_of error) None) }
 {
     let status = refuse(faults, error.kind());
     if rt.stderr().is_terminal() {
@@ -47,7 +48,7 @@ pub fn refuse_file<F: Sink>(rt: &HostRuntime, faults: &mut F, error: FileError) 
 
 /// Reports why a file can't be used, as `fallowtime` does, and returns the status of that. At a terminal a second line
 /// says it in words.
-#[tactic(auto, using(crate::proofs::Telling::writes))]
+#[tactic(auto, using(crate::proofs::ReportLemmas::writes))]
 pub fn report_file<F: Sink>(rt: &HostRuntime, faults: &mut F, error: FileError) -> u8
     requires { CanRefuse (F.tally faults.old) }
     ensures status { result ≡ 1 }
@@ -61,7 +62,7 @@ pub fn report_file<F: Sink>(rt: &HostRuntime, faults: &mut F, error: FileError) 
 }
 
 /// Reports that the words are no line of the program's, and returns the status of that.
-#[tactic(auto, using(crate::proofs::Telling::writes))]
+#[tactic(auto, using(crate::proofs::ReportLemmas::writes))]
 pub fn misuse<F: Sink>(faults: &mut F) -> u8
     requires { CanRefuse (F.tally faults.old) }
     ensures status { result ≡ 2 }
@@ -74,8 +75,10 @@ pub fn misuse<F: Sink>(faults: &mut F) -> u8
 /// Reports that the words can't be read as texts, or out of memory, and returns the status of that.
 pub fn unread<F: Sink>(error: io::Error, faults: &mut F) -> u8
     requires { CanRefuse (F.tally faults.old) }
-    ensures memory { error_kind error ≡ OutOfMemory → (result ≡ 1) × TakesText (F.tally faults.old) (F.tally faults.new) (refusal_line Memory None) }
-    ensures words { error_kind error ≢ OutOfMemory → (result ≡ 2) × TakesText (F.tally faults.old) (F.tally faults.new) (complaint_line Usage) }
+    ensures memory { error_kind error ≡ OutOfMemory → (result ≡ 1)
+        × TakesText (F.tally faults.old) (F.tally faults.new) (refusal_line Memory None) }
+    ensures words { error_kind error ≢ OutOfMemory → (result ≡ 2)
+        × TakesText (F.tally faults.old) (F.tally faults.new) (complaint_line Usage) }
 {
     match error.kind() {
         io::ErrorKind::OutOfMemory => refuse(faults, ErrorKind::Memory),

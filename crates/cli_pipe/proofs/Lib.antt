@@ -1,4 +1,4 @@
-mod Opening
-mod Refusing
-mod Keeping
-mod Sending
+mod OpenLemmas
+mod RefusalLemmas
+mod KeepLemmas
+mod SendLemmas

@@ -85,7 +85,7 @@ fn write_collision<S: Sink>(
 
 /// Writes the line that reports a refusal: `refused: KIND`, followed by ` document N` if the refusal is one of
 /// several documents, or by the place of a bad row, or by those of two documents that collide. After a failure a
-/// beginning of the line was written.
+/// prefix of the line was written.
 pub fn write_refusal<S: Sink>(
     sink: &mut S,
     kind: ErrorKind,

@@ -1,7 +1,8 @@
-mod Owning
-mod Printed
-mod Keeping
-mod Putting
-mod Changing
-mod Returned
-pub mod Leaving
+mod IdLemmas
+mod PrintLemmas
+mod KeepLemmas
+mod PutLemmas
+mod SetLemmas
+mod IndexLemmas
+mod ReturnLemmas
+pub mod CrashLemmas

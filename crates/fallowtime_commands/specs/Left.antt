@@ -1,4 +1,4 @@
--- Which databases a crash may leave behind a request, for each by what it might leave before.
+-- Which databases a crash may leave after a request, by what it might leave before it.
 use Rattle.std.specs.Prelude.{◌⊎◌, List, ℕ, Option, Some}
 use Rattle.sqlite.specs.Effect.{Database}
 use Rattle.sqlite_trees.specs.Tree.{Trees}
@@ -26,7 +26,7 @@ module _ (first : Database) (Before : Trees → Type 0) (n : List ℕ) (a : Docu
   abbrev pub LeftStored : (Reading → model.Call) → Members → model.Reply → Trees → Type 0
   LeftStored call e r db = (IsStopped n e r × Before db) ⊎ ((x : Reading) → ReadsBytes (encode e) x → LeftByCall (call x) r db)
 
-  -- a replacement, or an insertion behind one that found nothing
+  -- a replacement, or an insertion after one that found nothing
   abbrev pub LeftPut : Members → model.Reply → Trees → Type 0
   LeftPut e r db =
       (IsStopped n e r × Before db)
@@ -46,7 +46,7 @@ module _ (first : Database) (Before : Trees → Type 0) (n : List ℕ) (a : Docu
   abbrev pub LeftMany : List ℕ → model.Reply → Trees → Type 0
   LeftMany stream r db = (ds : Documents) (stop : Option ErrorKind) → ReadsStream stream ds stop → LeftByCall (model.import ds stop) r db
 
-  -- a request; a question leaves no more than before
+  -- a request; a question or an index leaves no more than before
   abbrev pub LeftByRequest : Request → model.Reply → Trees → Type 0
   LeftByRequest (request.Insert id d) r db = LeftStored (model.insert model.in_bytes) (content d) r db
   LeftByRequest (request.Put d) r db = LeftPut (content d) r db

@@ -4,14 +4,17 @@ use Rattle.sqlite.specs.State.{State, Survives}
 use Rattle.bson_model.specs.View.{content, view}
 use Rattle.bson_model.specs.declared.bson.Bson.{Bson}
 use Rattle.store_table.specs.Rows.{TableRow}
-use Rattle.store_filter.specs.Filters.{filter_of}
+use Rattle.store_filter.specs.Filters.{filter_of, path_of}
 use Rattle.store_model.specs.Reading.{ReadsStream}
 use Rattle.store_model.specs.State as model
 use Rattle.store_model.specs.declared.error.StoreError.{StoreError}
-use Rattle.bson_store.specs.Calls.{Does}
+use Rattle.bson_store.specs.Calls.{Does, HasIndex}
 use Rattle.bson_store.specs.Export.{bytes_of_each}
 use Rattle.bson_store.specs.Left.{Leaves, LeavesMany}
 use Rattle.bson_store.specs.Many.{DoesMany}
+use Rattle.bson_store.specs.Questions.{Indexed}
+use Rattle.bson_store.specs.Refusals.{as_done, reply_by}
+use Rattle.bson_store.specs.declared.store.Store.{Store}
 use Rattle.fallowtime_commands.specs.declared.answer.Answer.{Answer}
 use Rattle.fallowtime_commands.specs.declared.answer.Answer.TheVariants as answer
 use Rattle.fallowtime_commands.specs.Setting.{LeavesSet, Sets}
@@ -64,9 +67,21 @@ IsAnswerTo (request.Remove id) a = a ≡ answer.Nothing
 IsAnswerTo (request.Find f) a = AreDocuments a
 IsAnswerTo (request.Count f) a = IsNumber a
 IsAnswerTo (request.Import stream) a = IsNumber a
+IsAnswerTo (request.Index path) a = a ≡ answer.Nothing
+IsAnswerTo (request.DropIndex path) a = a ≡ answer.Nothing
 IsAnswerTo request.Collections a = AreNames a
 
 -- ---- rows
+
+-- An index is made or dropped: the rows stay. A name that is none is refused as one, and another refusal is for memory or by the
+-- database.
+abbrev pub Indexes : List ℕ → model.Reply → List TableRow → List TableRow → Type 0
+Indexes n r old new = (outcome : Result (Unit {0}) StoreError) × (r ≡ reply_by as_done outcome) × Indexed n outcome old new
+
+-- an index that is to be dropped isn't there any more
+abbrev pub Drops : {S : Type 0} {h : _} → Store S h → List ℕ → Request → Type 0
+Drops s n (request.DropIndex path) = HasIndex s n (path_of path.items) → ⊥
+Drops s n _ = Unit {0}
 
 -- on the collection n, the request does what the store's command does that it stands for
 abbrev pub Performs : List ℕ → Request → model.Reply → List TableRow → List TableRow → Type 0
@@ -80,10 +95,12 @@ Performs n (request.Remove id) r old new = Does (model.on n (model.remove (view 
 Performs n (request.Find f) r old new = Does (model.on n (model.find (filter_of f))) r old new
 Performs n (request.Count f) r old new = Does (model.on n (model.count (filter_of f))) r old new
 Performs n (request.Import stream) r old new = DoesMany n (ReadsStream stream.items) r old new
+Performs n (request.Index path) r old new = Indexes n r old new
+Performs n (request.DropIndex path) r old new = Indexes n r old new
 Performs n request.Collections r old new = Does model.collections r old new
 
--- what a crash leaves of a request: of a change, what it leaves of the store's command; of a question, only what it
--- could leave before
+-- what a crash leaves of a request: of a change, what it leaves of the store's command; of a question or an index,
+-- only what it could leave before
 abbrev pub LeavesRequest : List ℕ → Request → model.Reply → State → State → Type 0
 LeavesRequest n (request.Insert id d) r old new = LeavesStored n (model.insert model.in_bytes) (content d) r old new
 LeavesRequest n (request.Put d) r old new = LeavesPut n (content d) r old new

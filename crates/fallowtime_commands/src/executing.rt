@@ -59,11 +59,14 @@ pub fn execute<S: Alter + Drop, O: Sink>(
     output: &mut O,
 ) -> Result<(), Refusal>
     requires { CanRefuse (O.tally output.old) }
-    ensures step { (outcome : Result Answered StoreRefusal) × Tells form outcome (O.tally output.old) (O.tally output.new) result
+    ensures step { (outcome : Result Answered StoreRefusal)
+        × Tells form outcome (O.tally output.old) (O.tally output.new) result
         × Relates S.Store store.old store.new (Performs name.now request.old (reply_of outcome))
-        × LeavesRequest name.now request.old (reply_of outcome) (store_state S.Store store.old) (store_state S.Store store.new) }
+        × LeavesRequest name.now request.old (reply_of outcome) (store_state S.Store store.old)
+        (store_state S.Store store.new) }
     // What was accepted was done on an open connection, which stays open.
-    ensures open { (outcome : Result Answered StoreRefusal) × Tells form outcome (O.tally output.old) (O.tally output.new) result
+    ensures open { (outcome : Result Answered StoreRefusal)
+        × Tells form outcome (O.tally output.old) (O.tally output.new) result
         × WasOpen (store_state S.Store store.old) (store_state S.Store store.new) outcome }
 {
     let outcome = perform(alloc, store, name, request);

@@ -22,9 +22,12 @@ use bson_json_laws::canonical_texts_read_back;
 /// is read by `import --json` as that document, settled, with its own `_id`, if it has no more levels of JSON than the
 /// reader takes; or it is out of memory.
 pub fn printed_documents_are_read()
-    ensures read { (d e : Members) (text : List ℕ) (maker : IdMaker) → IsKept d → has_reserved d ≡ false → json_levels (document d) ≤ 125
-        → IsPrinted (Lines Canonical) d (line text) → Reads text e → identified maker e ≡ settle_members Canonical d }
-    ensures refused { (d : Members) (text : List ℕ) (error : Error) → IsKept d → has_reserved d ≡ false → json_levels (document d) ≤ 125
+    ensures read { (d e : Members) (text : List ℕ) (maker : IdMaker) → IsKept d
+        → has_reserved d ≡ false → json_levels (document d) ≤ 125
+        → IsPrinted (Lines Canonical) d (line text) → Reads text e
+        → identified maker e ≡ settle_members Canonical d }
+    ensures refused { (d : Members) (text : List ℕ) (error : Error) → IsKept d
+        → has_reserved d ≡ false → json_levels (document d) ≤ 125
         → IsPrinted (Lines Canonical) d (line text) → ReadsText text (Err error) → error ≡ Memory }
 {
     canonical_texts_read_back();

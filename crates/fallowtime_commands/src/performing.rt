@@ -1,9 +1,9 @@
 //! A request, done over a store.
 
-ghost use Rattle.std.specs.Prelude.{IfOk};
+ghost use Rattle.std.specs.Prelude.{IfOk, OnOk};
 ghost use Rattle.store_table.specs.Moves.{WasOpen};
 ghost use Rattle.bson_store.specs.Calls.{store_state, Relates};
-ghost use Rattle.fallowtime_commands.specs.Performing.{IsAnswerTo, LeavesRequest, Performs, reply_of};
+ghost use Rattle.fallowtime_commands.specs.Performing.{Drops, IsAnswerTo, LeavesRequest, Performs, reply_of};
 
 use crate::answer::{Answer, document, documents, flag, inserted, names, nothing, number};
 use crate::request::Request;
@@ -14,22 +14,25 @@ use sqlite::Alter;
 use std::alloc::Global;
 use std::mem::replace as take;
 
-/// Does what is requested of the collection `name`: the call of the store for it. A value that is set is taken out of the
-/// request.
+/// Does what is requested of the collection `name`: the call of the store for it. A value that is set, and the path of an
+/// index that is made, are taken out of the request.
 ///
 /// Refused as that call is: for `Insert` and `Replace`, in this order, by BadName; TooDeep, Nul, NoId and TooLong; and
 /// then by DuplicateId and Places, or by NotFound; `Put` by neither DuplicateId nor NotFound; `Set` as `set`, whose
-/// value keeps the order of its keys; `Import` as `import_bytes`.
+/// value keeps the order of its keys; `Import` as `import_bytes`; `Index` and `DropIndex` as `index` and `drop_index`.
 pub fn perform<S: Alter + Drop>(
     alloc: Global,
     store: &mut Store<S>,
     name: &str,
     request: &mut Request<'_>,
 ) -> Result<Answer, StoreError>
-    ensures moves { Relates S.Store store.old store.new (Performs name.now request.old (reply_of result)) }
+    ensures moves { Relates S.Store store.old store.new
+        (Performs name.now request.old (reply_of result)) }
     ensures open { WasOpen (store_state S.Store store.old) (store_state S.Store store.new) result }
-    ensures crash { LeavesRequest name.now request.old (reply_of result) (store_state S.Store store.old) (store_state S.Store store.new) }
+    ensures crash { LeavesRequest name.now request.old (reply_of result)
+        (store_state S.Store store.old) (store_state S.Store store.new) }
     ensures shape { IfOk result (IsAnswerTo request.old) }
+    ensures gone { OnOk result (Drops store.new name.now request.old) }
 {
     match request {
         Request::Insert(id, given) => inserted(id, insert(alloc, store, name, given)),
@@ -45,6 +48,11 @@ pub fn perform<S: Alter + Drop>(
         Request::Find(filter) => documents(store.find(name, filter)),
         Request::Count(filter) => number(store.count(name, filter)),
         Request::Import(stream) => number(store.import_bytes(name, stream.as_slice())),
+        Request::Index(path) => {
+            let path = take(path, Vec::new(alloc));
+            nothing(store.index(name, path))
+        }
+        Request::DropIndex(path) => nothing(store.drop_index(name, path.as_slice())),
         Request::Collections => names(store.collections()),
     }
 }

@@ -52,7 +52,8 @@ fn print_text<O: Sink>(
     output: &mut O,
 ) -> Result<(), Refusal>
     requires { CanRefuse (O.tally output.old) }
-    ensures { PrintsBody (Form.Lines mode) body.now (O.tally output.old) (O.tally output.new) result }
+    ensures { PrintsBody (Form.Lines mode) body.now (O.tally output.old)
+        (O.tally output.new) result }
 {
     if let Err(fault) = text_of_body(alloc, body, mode, text) {
         return Err(unprinted(alloc, body, fault));
@@ -88,7 +89,8 @@ fn print_bodies<O: Sink>(
     output: &mut O,
 ) -> Result<(), Refusal>
     requires { CanRefuse (O.tally output.old) }
-    ensures { PrintsBodies form (bytes_of_each bodies.now) (O.tally output.old) (O.tally output.new) result }
+    ensures { PrintsBodies form (bytes_of_each bodies.now) (O.tally output.old)
+        (O.tally output.new) result }
 {
     let mut text = String::new(alloc);
     for body in bodies {
@@ -139,7 +141,8 @@ fn print_name<O: Sink>(alloc: Global, name: &str, output: &mut O) -> Result<(), 
 /// Writes names, one a line.
 fn print_names<O: Sink>(alloc: Global, names: &[String], output: &mut O) -> Result<(), Refusal>
     requires { CanRefuse (O.tally output.old) }
-    ensures { PrintsNames (map string_bytes names.now) (O.tally output.old) (O.tally output.new) result }
+    ensures { PrintsNames (map string_bytes names.now) (O.tally output.old)
+        (O.tally output.new) result }
 {
     for name in names {
         print_name(alloc, name.as_str(), output)?;

@@ -37,7 +37,8 @@ impl From<AllocError> for Stop {
 
 /// The document of a text.
 fn document_of(alloc: Global, text: &str, scratch: &mut Scratch) -> Result<Document, Stop>
-    ensures { MatchResult result (λ d. IsDocumentText text.now (content d)) (StopsDocument text.now) }
+    ensures { MatchResult result (λ d. IsDocumentText text.now (content d))
+        (StopsDocument text.now) }
 {
     match document_of_text(alloc, text, scratch) {
         Ok(document) => Ok(document),
@@ -86,7 +87,8 @@ fn insertion_of(
     maker: &mut IdMaker,
     scratch: &mut Scratch,
 ) -> Result<Request<'static>, Stop>
-    ensures { MatchResult result (IsRequest maker.old Insert (text.now ∷ [])) (StopsDocument text.now) }
+    ensures { MatchResult result (IsRequest maker.old Insert (text.now ∷ []))
+        (StopsDocument text.now) }
 {
     let document = document_of(alloc, text, scratch)?;
     let document = with_id(alloc, document, maker)?;
@@ -102,7 +104,9 @@ fn setting_of<'w>(
     places: &'w [String],
     scratch: &mut Scratch,
 ) -> Result<Request<'w>, Stop>
-    ensures { (maker : Maker) → MatchResult result (IsRequest maker Set (map string_bytes places.now)) (IsUnread Set (map string_bytes places.now)) }
+    ensures { (maker : Maker) → MatchResult result
+        (IsRequest maker Set (map string_bytes places.now))
+        (IsUnread Set (map string_bytes places.now)) }
 {
     match places {
         [id, key, text] => {
@@ -120,7 +124,9 @@ fn unsetting_of<'w>(
     places: &'w [String],
     scratch: &mut Scratch,
 ) -> Result<Request<'w>, Stop>
-    ensures { (maker : Maker) → MatchResult result (IsRequest maker Unset (map string_bytes places.now)) (IsUnread Unset (map string_bytes places.now)) }
+    ensures { (maker : Maker) → MatchResult result
+        (IsRequest maker Unset (map string_bytes places.now))
+        (IsUnread Unset (map string_bytes places.now)) }
 {
     match places {
         [id, key] => Ok(Request::Unset(id_of(alloc, id.as_str(), scratch)?, key.as_str())),
@@ -130,7 +136,8 @@ fn unsetting_of<'w>(
 
 /// The filter of the words after a collection: for one, that of the query that it is; for none, that of every document.
 fn filter_of(alloc: Global, places: &[String], scratch: &mut Scratch) -> Result<Filter, Stop>
-    ensures { MatchResult result (λ f. IsFilterOf (map string_bytes places.now) (filter_of f)) (WithOneAtMost StopsQuery (map string_bytes places.now)) }
+    ensures { MatchResult result (λ f. IsFilterOf (map string_bytes places.now) (filter_of f))
+        (WithOneAtMost StopsQuery (map string_bytes places.now)) }
 {
     match places {
         [] => Ok(Filter::And(Vec::new(alloc))),
@@ -141,7 +148,8 @@ fn filter_of(alloc: Global, places: &[String], scratch: &mut Scratch) -> Result<
 
 /// The document of the only place.
 fn document_in(alloc: Global, places: &[String], scratch: &mut Scratch) -> Result<Document, Stop>
-    ensures { MatchResult result (λ d. (t : List ℕ) × (map string_bytes places.now ≡ t ∷ []) × IsDocumentText t (content d)) (WithOne StopsDocument (map string_bytes places.now)) }
+    ensures { MatchResult result (λ d. (t : List ℕ) × (map string_bytes places.now ≡ t ∷ [])
+        × IsDocumentText t (content d)) (WithOne StopsDocument (map string_bytes places.now)) }
 {
     match places {
         [text] => document_of(alloc, text.as_str(), scratch),
@@ -151,7 +159,8 @@ fn document_in(alloc: Global, places: &[String], scratch: &mut Scratch) -> Resul
 
 /// The id of the only place.
 fn id_in(alloc: Global, places: &[String], scratch: &mut Scratch) -> Result<Bson, Stop>
-    ensures { MatchResult result (λ id. (t : List ℕ) × (map string_bytes places.now ≡ t ∷ []) × IsIdText t (view id)) (WithOne StopsId (map string_bytes places.now)) }
+    ensures { MatchResult result (λ id. (t : List ℕ) × (map string_bytes places.now ≡ t ∷ [])
+        × IsIdText t (view id)) (WithOne StopsId (map string_bytes places.now)) }
 {
     match places {
         [text] => id_of(alloc, text.as_str(), scratch),
@@ -166,7 +175,8 @@ fn insertion_in(
     maker: &mut IdMaker,
     scratch: &mut Scratch,
 ) -> Result<Request<'static>, Stop>
-    ensures { MatchResult result (IsRequest maker.old Insert (map string_bytes places.now)) (WithOne StopsDocument (map string_bytes places.now)) }
+    ensures { MatchResult result (IsRequest maker.old Insert (map string_bytes places.now))
+        (WithOne StopsDocument (map string_bytes places.now)) }
 {
     match places {
         [text] => insertion_of(alloc, text.as_str(), maker, scratch),
@@ -176,7 +186,9 @@ fn insertion_in(
 
 /// The request that has no place.
 fn collections_in(places: &[String]) -> Result<Request<'static>, Stop>
-    ensures { (maker : Maker) → MatchResult result (IsRequest maker Collections (map string_bytes places.now)) (WithNone (map string_bytes places.now)) }
+    ensures { (maker : Maker) → MatchResult result
+        (IsRequest maker Collections (map string_bytes places.now))
+        (WithNone (map string_bytes places.now)) }
 {
     match places {
         [] => Ok(Request::Collections),

@@ -59,7 +59,8 @@ impl From<AllocError> for Refusal {
 
 /// Appends a word and a number to a line.
 fn push_number(line: &mut String, word: &str, number: &str) -> Result<(), AllocError>
-    ensures { OnOk result (string_bytes line.new ≡ string_bytes line.old ++ (word.now ++ number.now)) }
+    ensures { OnOk result (string_bytes line.new ≡ string_bytes line.old
+        ++ (word.now ++ number.now)) }
 {
     line.push_str(word)?;
     line.push_str(number)
@@ -67,7 +68,8 @@ fn push_number(line: &mut String, word: &str, number: &str) -> Result<(), AllocE
 
 /// Appends a word and a text to a line, if there is a text.
 fn push_named(line: &mut String, word: &str, text: &Option<String>) -> Result<(), AllocError>
-    ensures { OnOk result (string_bytes line.new ≡ string_bytes line.old ++ named_text word.now text.now) }
+    ensures { OnOk result (string_bytes line.new ≡ string_bytes line.old ++ named_text word.now
+        text.now) }
 {
     match text {
         Some(text) => push_number(line, word, text.as_str()),
@@ -78,7 +80,8 @@ fn push_named(line: &mut String, word: &str, text: &Option<String>) -> Result<()
 /// Appends the place of what is refused to a line: the line of the input, the number of the document, or the places of
 /// rows.
 fn push_place(line: &mut String, refusal: &Refusal) -> Result<(), AllocError>
-    ensures { OnOk result (string_bytes line.new ≡ string_bytes line.old ++ place_text refusal.now) }
+    ensures { OnOk result (string_bytes line.new ≡ string_bytes line.old ++ place_text
+        refusal.now) }
 {
     let mut digits = Buffer::new();
     if let Some(number) = refusal.line {

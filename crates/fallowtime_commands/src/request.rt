@@ -25,6 +25,10 @@ pub enum Request<'w> {
     Count(Filter),
     /// To put in the documents of a stream of BSON, all or none.
     Import(Vec<u8>),
+    /// To make an index on a path.
+    Index(Vec<String>),
+    /// To drop the index on a path.
+    DropIndex(Vec<String>),
     /// The names of the collections.
     Collections,
 }

@@ -28,7 +28,8 @@ fn can_be_set(key: &str) -> bool
 
 /// Puts a value under a key: in the key's place if it is there, else last.
 fn put_owned(document: &mut Document, key: String, value: Bson) -> Result<(), AllocError>
-    ensures { OnOk result (pairs_of document.new ≡ put_pair (string_bytes key) (view value) (pairs_of document.old)) }
+    ensures { OnOk result (pairs_of document.new ≡ put_pair (string_bytes key) (view value)
+        (pairs_of document.old)) }
 {
     document.put(key, value)
 }
@@ -48,7 +49,8 @@ fn put_value(
 
 /// The document of a body, with a value under a key.
 fn with_value(alloc: Global, body: &[u8], key: &str, value: Bson) -> Result<Document, ErrorKind>
-    ensures { (d : Members) → IsKept d → body.now ≡ encode d → MatchResult result (λ e. content e ≡ put key.now (view value) d) (λ k. k ≡ Memory) }
+    ensures { (d : Members) → IsKept d → body.now ≡ encode d
+        → MatchResult result (λ e. content e ≡ put key.now (view value) d) (λ k. k ≡ Memory) }
 {
     let mut document = document_of_body(alloc, body)?;
     match put_value(alloc, &mut document, key, value) {
@@ -70,9 +72,11 @@ pub(crate) fn set<S: Alter + Drop>(
     key: &str,
     value: Bson,
 ) -> Result<(), StoreError>
-    ensures moves { Relates S.Store store.old store.new (Sets name.now (view id.now) key.now (view value) (reply_by as_done result)) }
+    ensures moves { Relates S.Store store.old store.new
+        (Sets name.now (view id.now) key.now (view value) (reply_by as_done result)) }
     ensures open { WasOpen (store_state S.Store store.old) (store_state S.Store store.new) result }
-    ensures crash { LeavesSet name.now (view id.now) key.now (view value) (reply_by as_done result) (store_state S.Store store.old) (store_state S.Store store.new) }
+    ensures crash { LeavesSet name.now (view id.now) key.now (view value) (reply_by as_done result)
+        (store_state S.Store store.old) (store_state S.Store store.new) }
 {
     if !can_be_set(key) {
         return store.set_value(name, id, key, value);

@@ -21,7 +21,8 @@ use store_documents::{ID_KEY, Name, body_of};
 
 /// Why a document without an `_id` isn't kept.
 fn unidentified(document: &Document) -> ErrorKind
-    ensures { ((result ≡ Nul) × (IsPlain (tree (content document.now)) → ⊥)) ⊎ ((result ≡ NoId) × IsPlain (tree (content document.now))) }
+    ensures { ((result ≡ Nul) × (IsPlain (tree (content document.now)) → ⊥))
+        ⊎ ((result ≡ NoId) × IsPlain (tree (content document.now))) }
 {
     if is_plain_document(document) {
         ErrorKind::NoId
@@ -32,7 +33,8 @@ fn unidentified(document: &Document) -> ErrorKind
 
 /// The bytes of a document that a store can keep.
 fn kept_bytes(alloc: Global, document: &Document) -> Result<Vec<u8>, ErrorKind>
-    ensures { MatchResult result (λ bytes. bytes.items ≡ encode (content document.now)) (λ k. IsUnkept (content document.now) k ⊎ (k ≡ Memory)) }
+    ensures { MatchResult result (λ bytes. bytes.items ≡ encode (content document.now))
+        (λ k. IsUnkept (content document.now) k ⊎ (k ≡ Memory)) }
 {
     if depth_of_document(document) > LEVEL_LIMIT {
         return Err(ErrorKind::TooDeep);
@@ -45,7 +47,8 @@ fn kept_bytes(alloc: Global, document: &Document) -> Result<Vec<u8>, ErrorKind>
 
 /// The bytes of a document that is to go into the collection `name`.
 fn written(alloc: Global, name: &str, document: &Document) -> Result<Vec<u8>, ErrorKind>
-    ensures { MatchResult result (λ bytes. bytes.items ≡ encode (content document.now)) (IsUnasked name.now (content document.now)) }
+    ensures { MatchResult result (λ bytes. bytes.items ≡ encode (content document.now))
+        (IsUnasked name.now (content document.now)) }
 {
     if Name::new(name).is_none() {
         return Err(ErrorKind::BadName);
@@ -60,9 +63,11 @@ pub(crate) fn insert<S: Alter + Drop>(
     name: &str,
     document: &Document,
 ) -> Result<(), StoreError>
-    ensures moves { Relates S.Store store.old store.new (Stores name.now (inserts in_bytes) (content document.now) (reply_by as_done result)) }
+    ensures moves { Relates S.Store store.old store.new
+        (Stores name.now (inserts in_bytes) (content document.now) (reply_by as_done result)) }
     ensures open { WasOpen (store_state S.Store store.old) (store_state S.Store store.new) result }
-    ensures crash { LeavesStored name.now (inserts in_bytes) (content document.now) (reply_by as_done result) (store_state S.Store store.old) (store_state S.Store store.new) }
+    ensures crash { LeavesStored name.now (inserts in_bytes) (content document.now)
+        (reply_by as_done result) (store_state S.Store store.old) (store_state S.Store store.new) }
 {
     let bytes = written(alloc, name, document)?;
     store.insert_raw(name, bytes.as_slice())
@@ -75,9 +80,11 @@ pub(crate) fn replace<S: Alter + Drop>(
     name: &str,
     document: &Document,
 ) -> Result<(), StoreError>
-    ensures moves { Relates S.Store store.old store.new (Stores name.now (replaces in_bytes) (content document.now) (reply_by as_done result)) }
+    ensures moves { Relates S.Store store.old store.new
+        (Stores name.now (replaces in_bytes) (content document.now) (reply_by as_done result)) }
     ensures open { WasOpen (store_state S.Store store.old) (store_state S.Store store.new) result }
-    ensures crash { LeavesStored name.now (replaces in_bytes) (content document.now) (reply_by as_done result) (store_state S.Store store.old) (store_state S.Store store.new) }
+    ensures crash { LeavesStored name.now (replaces in_bytes) (content document.now)
+        (reply_by as_done result) (store_state S.Store store.old) (store_state S.Store store.new) }
 {
     let bytes = written(alloc, name, document)?;
     store.replace_raw(name, bytes.as_slice())
@@ -90,9 +97,11 @@ pub(crate) fn put<S: Alter + Drop>(
     name: &str,
     document: &Document,
 ) -> Result<(), StoreError>
-    ensures moves { Relates S.Store store.old store.new (Puts name.now (content document.now) (reply_by as_done result)) }
+    ensures moves { Relates S.Store store.old store.new
+        (Puts name.now (content document.now) (reply_by as_done result)) }
     ensures open { WasOpen (store_state S.Store store.old) (store_state S.Store store.new) result }
-    ensures crash { LeavesPut name.now (content document.now) (reply_by as_done result) (store_state S.Store store.old) (store_state S.Store store.new) }
+    ensures crash { LeavesPut name.now (content document.now) (reply_by as_done result)
+        (store_state S.Store store.old) (store_state S.Store store.new) }
 {
     let kept = written(alloc, name, document)?;
     let bytes = kept.as_slice();

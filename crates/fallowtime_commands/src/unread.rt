@@ -49,7 +49,8 @@ fn push_error(line: &mut String, error: Error) -> Result<(), AllocError>
 
 /// Appends a text between two others to a line.
 fn push_between(line: &mut String, front: &str, text: &str, back: &str) -> Result<(), AllocError>
-    ensures { OnOk result (string_bytes line.new ≡ string_bytes line.old ++ (front.now ++ (text.now ++ back.now))) }
+    ensures { OnOk result (string_bytes line.new ≡ string_bytes line.old
+        ++ (front.now ++ (text.now ++ back.now))) }
 {
     line.push_str(front)?;
     line.push_str(text)?;

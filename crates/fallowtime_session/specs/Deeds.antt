@@ -19,12 +19,12 @@ pub record Deed : Type 0 where
   pub request : Request
   pub outcome : Result Answer StoreError
 
--- what it did to the rows; where there is none, they are as they were
+-- what it did to the rows; if there is none, they are as they were
 abbrev pub Changes : Option Deed → List TableRow → List TableRow → Type 0
 Changes None docs after = after ≡ docs
 Changes (Some d) docs after = Performs d.name d.request (reply_of d.outcome) docs after
 
--- where it was accepted, the connection is open
+-- if it was accepted, the connection is open
 abbrev pub IsOpenFor : Option Deed → Bool → Type 0
 IsOpenFor None is_open = Unit {0}
 IsOpenFor (Some d) is_open = OnOk d.outcome (IsTrue is_open)

@@ -28,6 +28,7 @@ place_text place.Document = codes "document"
 place_text (place.DocumentAt n) = document_place n
 place_text place.Id = codes "id"
 place_text place.Key = codes "key"
+place_text place.Path = codes "path"
 place_text place.Value = codes "value"
 place_text place.Query = codes "query is no object"
 place_text (place.Operator name) = operator_place (string_bytes name)

@@ -10,7 +10,7 @@ use Rattle.bson_base.specs.declared.spec.BinarySubtype.TheVariants.{Generic}
 use Rattle.bson_json_read.specs.Reading.{read, read_top}
 use Rattle.bson_json_read.specs.declared.error.Error.{Error}
 use Rattle.store_model.specs.Filter.{Filter, all_of, no_filters}
-use Rattle.store_query.specs.Query.{Fault, no_query, no_operator, no_operand, query}
+use Rattle.store_query.specs.Query.{Fault, no_query, no_operator, no_operand, keys, query}
 use Rattle.fallowtime_session.specs.Places.{operand_place, operator_place}
 use Rattle.fallowtime_session.specs.declared.commands.Command.{Command}
 use Rattle.fallowtime_session.specs.declared.commands.Command.TheVariants as command
@@ -31,6 +31,8 @@ pub data Asked : Type 0 where
   -- trees of JSON that stand for documents
   import_trees : Items → Asked
   export : Asked
+  index : List (List ℕ) → Asked
+  drop_index : List (List ℕ) → Asked
   collections : Asked
 
 -- ---- the id and the command
@@ -68,7 +70,7 @@ command_of name =
     first_named ((codes "insert", command.Insert) ∷ (codes "put", command.Put) ∷ (codes "replace", command.Replace) ∷ (codes "get", command.Get)
     ∷ (codes "set", command.Set) ∷ (codes "unset", command.Unset) ∷ (codes "remove", command.Remove) ∷ (codes "find", command.Find)
     ∷ (codes "count", command.Count) ∷ (codes "import", command.Import) ∷ (codes "export", command.Export)
-    ∷ (codes "collections", command.Collections) ∷ []) name
+    ∷ (codes "index", command.Index) ∷ (codes "drop_index", command.DropIndex) ∷ (codes "collections", command.Collections) ∷ []) name
 
 -- ---- what follows the name
 
@@ -87,6 +89,10 @@ collection_in j = text_at (codes "collection") j
 
 abbrev pub key_in : Json → Result (List ℕ) (List ℕ)
 key_in j = text_at (codes "key") j
+
+-- a text is the path of its keys, as under a query's path
+abbrev pub path_in : Json → Result (List (List ℕ)) (List ℕ)
+path_in j = text_at (codes "path") j >>= λ text. Ok (keys text)
 
 abbrev pub id_in : Json → Result Value (List ℕ)
 id_in j = read_at (codes "id") (read j)
@@ -138,6 +144,10 @@ abbrev pub name_and_id : Items → Result (List ℕ × Value) (List ℕ)
 name_and_id (item n (item i no_items)) = collection_in n >>= λ name. id_in i >>= λ id. Ok (name, id)
 name_and_id _ = Err (codes "command")
 
+abbrev pub name_and_path : Items → Result (List ℕ × List (List ℕ)) (List ℕ)
+name_and_path (item n (item p no_items)) = collection_in n >>= λ name. path_in p >>= λ path. Ok (name, path)
+name_and_path _ = Err (codes "command")
+
 abbrev pub name_id_and_key : Items → Result (List ℕ × Value × List ℕ) (List ℕ)
 name_id_and_key (item n (item i (item k no_items))) = collection_in n >>= λ name. id_in i >>= λ id. key_in k >>= λ key. Ok (name, id, key)
 name_id_and_key _ = Err (codes "command")
@@ -176,6 +186,8 @@ asked command.Find js = name_and_filter js >>= λ p. Ok (p.0, find p.1)
 asked command.Count js = name_and_filter js >>= λ p. Ok (p.0, count p.1)
 asked command.Import js = name_and_stream js
 asked command.Export js = name_alone js >>= λ name. Ok (name, export)
+asked command.Index js = name_and_path js >>= λ p. Ok (p.0, index p.1)
+asked command.DropIndex js = name_and_path js >>= λ p. Ok (p.0, drop_index p.1)
 asked command.Collections no_items = Ok ([], collections)
 asked command.Collections js = Err (codes "command")
 

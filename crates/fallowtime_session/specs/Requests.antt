@@ -12,10 +12,10 @@ use Rattle.fallowtime_commands.specs.declared.request.Request.{Request}
 use Rattle.fallowtime_commands.specs.declared.request.Request.TheVariants as request
 use Rattle.fallowtime_texts.specs.Made.{identified, maker_after}
 use Rattle.fallowtime_texts.specs.declared.made.IdMaker.{IdMaker}
-use Rattle.store_filter.specs.Filters.{filter_of}
+use Rattle.store_filter.specs.Filters.{filter_of, path_of}
 use Rattle.store_model.specs.State.{id_key}
 use Rattle.fallowtime_session.specs.Places.{document_place, place_text}
-use Rattle.fallowtime_session.specs.Questions.{Asked, insert, put, replace, get, set, unset, remove, find, count, import_bytes, import_trees, export, collections, everything, stream_in}
+use Rattle.fallowtime_session.specs.Questions.{Asked, insert, put, replace, get, set, unset, remove, find, count, import_bytes, import_trees, export, index, drop_index, collections, everything, stream_in}
 use Rattle.fallowtime_session.specs.declared.places.Fault.{Fault}
 use Rattle.fallowtime_session.specs.declared.places.Fault.TheVariants.{At, Memory}
 use Rattle.fallowtime_session.specs.declared.questions.Layout.{Layout}
@@ -75,6 +75,8 @@ IsRequest m n (count f) (request.Count g) = (filter_of g ≡ f) × (n ≡ m)
 IsRequest m n (import_bytes bytes) (request.Import stream) = (stream.items ≡ bytes) × (n ≡ m)
 IsRequest m n (import_trees js) (request.Import stream) = AreWritten m js stream.items n
 IsRequest m n export (request.Find g) = (filter_of g ≡ everything) × (n ≡ m)
+IsRequest m n (index p) (request.Index path) = (path_of path.items ≡ p) × (n ≡ m)
+IsRequest m n (drop_index p) (request.DropIndex path) = (path_of path.items ≡ p) × (n ≡ m)
 IsRequest m n collections request.Collections = n ≡ m
 IsRequest m n _ _ = ⊥
 

@@ -43,17 +43,17 @@ ReadsSome turns old new =
     (bytes : List ℕ) × (left : List ℕ) × (new.failures ≡ old.failures) × Gives old.supply new.supply bytes
     × ((bytes ≡ lines_of turns ++ left) ⊎ ((bytes ++ 10 ∷ [] ≡ lines_of turns) × IsExhausted new.supply))
 
--- an answer went out, or a write failed and a beginning of it did
+-- an answer was written, or a write failed after a prefix of it
 abbrev pub Sends : Result (Unit {0}) ErrorKind → List ℕ → Tally → Tally → Type 0
 Sends (Ok x) answer old new = (new.failures ≡ old.failures) × Appends old.taken new.taken answer
 Sends (Err Writer) answer old new = (new.failures ≡ old.failures + 1) × TakesBeginning old.taken new.taken answer
 Sends (Err kind) answer old new = ⊥
 
--- every answer went out
+-- every answer was written
 abbrev pub WritesAll : List Turn → Tally → Tally → Type 0
 WritesAll turns old new = (new.failures ≡ old.failures) × Appends old.taken new.taken (answers_of turns)
 
--- every answer but the last went out, and a beginning of that
+-- every answer except the last was written, and a prefix of that one
 abbrev pub WritesSome : List Turn → Tally → Tally → Type 0
 WritesSome turns old new =
     (done : List Turn) × (last : Turn) × (turns ≡ done ++ last ∷ [])

@@ -32,7 +32,8 @@ fn refusal_line(
     path: Option<&str>,
 ) -> Result<Vec<u8>, AllocError>
     requires { IsWritable id }
-    ensures { MakesLine (id_tree id.entry) (refusal kind.now index (option_map (λ t. t.now) path.entry)) result }
+    ensures { MakesLine (id_tree id.entry) (refusal kind.now index
+        (option_map (λ t. t.now) path.entry)) result }
 {
     let mut out = begin(alloc, id)?;
     put_text(&mut out, "refused", kind)?;
@@ -108,7 +109,8 @@ fn flag_line(alloc: Global, id: Option<&Value<'_>>, flag: bool) -> Result<Vec<u8
 /// The line of a number.
 fn number_line(alloc: Global, id: Option<&Value<'_>>, number: u64) -> Result<Vec<u8>, AllocError>
     requires { IsWritable id }
-    ensures { MakesLine (id_tree id.entry) (one (codes "count") (number_form (decimal number))) result }
+    ensures { MakesLine (id_tree id.entry) (one (codes "count") (number_form (decimal number)))
+        result }
 {
     let mut out = begin(alloc, id)?;
     put_number(&mut out, "count", number)?;
@@ -122,7 +124,8 @@ fn names_line(
     names: &[String],
 ) -> Result<Vec<u8>, AllocError>
     requires { IsWritable id }
-    ensures { MakesLine (id_tree id.entry) (one (codes "names") (array (texts (map string_bytes names.now)))) result }
+    ensures { MakesLine (id_tree id.entry) (one (codes "names")
+        (array (texts (map string_bytes names.now)))) result }
 {
     let mut out = begin(alloc, id)?;
     out.key("names")?;
@@ -141,7 +144,8 @@ fn stream_line(
     bodies: &[Vec<u8>],
 ) -> Result<Vec<u8>, AllocError>
     requires { IsWritable id }
-    ensures { Makes (ShowsBodies Layout.Stream (id_tree id.entry) (bytes_of_each bodies.now)) result }
+    ensures { Makes (ShowsBodies Layout.Stream (id_tree id.entry) (bytes_of_each bodies.now))
+        result }
 {
     let bytes = joined(alloc, bodies)?;
     let value = Bson::Binary(Binary {

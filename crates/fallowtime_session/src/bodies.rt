@@ -69,7 +69,8 @@ pub(crate) fn push_bodies(
 
 /// The bytes of stored documents, one after the other.
 pub(crate) fn joined(alloc: Global, bodies: &[Vec<u8>]) -> Result<Vec<u8>, AllocError>
-    ensures { IfOk result (λ stream. stream.items ≡ flat_map (λ (b : List ℕ). b) (bytes_of_each bodies.now)) }
+    ensures { IfOk result (λ stream. stream.items ≡ flat_map (λ (b : List ℕ). b)
+        (bytes_of_each bodies.now)) }
 {
     let mut stream = Vec::new(alloc);
     for body in bodies {

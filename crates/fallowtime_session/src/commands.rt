@@ -17,6 +17,8 @@ pub(crate) enum Command {
     Count,
     Import,
     Export,
+    Index,
+    DropIndex,
     Collections,
 }
 
@@ -37,6 +39,8 @@ pub(crate) fn command_named(name: &str) -> Option<Command>
         "count" => Some(Command::Count),
         "import" => Some(Command::Import),
         "export" => Some(Command::Export),
+        "index" => Some(Command::Index),
+        "drop_index" => Some(Command::DropIndex),
         "collections" => Some(Command::Collections),
         _ => None,
     }

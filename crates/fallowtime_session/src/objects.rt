@@ -48,7 +48,8 @@ pub(crate) fn end_with(out: Writer, text: &str) -> Result<Vec<u8>, AllocError>
 
 /// A member that is a number.
 pub(crate) fn put_number(out: &mut Writer, key: &str, number: u64) -> Result<(), AllocError>
-    ensures { OnOk result (Adds (key_token key.now ∷ number_token (decimal number) ∷ []) out.old out.new) }
+    ensures { OnOk result (Adds (key_token key.now ∷ number_token (decimal number) ∷ []) out.old
+        out.new) }
 {
     out.key(key)?;
     out.u64(number)

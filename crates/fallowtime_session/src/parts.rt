@@ -6,9 +6,9 @@ ghost use Rattle.json.specs.Find.{as_array};
 ghost use Rattle.json.specs.Value.{items_view, value_view as data_of};
 ghost use Rattle.bson_json_read.specs.Reading.{read, read_top};
 ghost use Rattle.bson_model.specs.View.{content, view};
-ghost use Rattle.store_filter.specs.Filters.{filter_of as filter_view};
+ghost use Rattle.store_filter.specs.Filters.{filter_of as filter_view, path_of as path_view};
 ghost use Rattle.fallowtime_session.specs.Places.{Gives, place_text};
-ghost use Rattle.fallowtime_session.specs.Questions.{bytes_in, collection_in, document_in, filter_in, generic_bytes, id_in, key_in, read_at, value_in};
+ghost use Rattle.fallowtime_session.specs.Questions.{bytes_in, collection_in, document_in, filter_in, generic_bytes, id_in, key_in, path_in, read_at, value_in};
 ghost use Rattle.fallowtime_session.specs.Requests.{PutsAll, PutsBehind};
 
 use crate::places::{Fault, Place};
@@ -53,6 +53,19 @@ pub(crate) fn key_of<'w>(tree: &Value<'w>) -> Result<&'w str, Fault>
     }
 }
 
+/// The keys of a path.
+pub(crate) fn path_of(alloc: Global, tree: &Value<'_>) -> Result<Vec<String>, Fault>
+    ensures { Gives (λ p. path_view p.items) result (path_in (data_of tree.now)) }
+{
+    let Value::String(path) = tree else {
+        return Err(Fault::At(Place::Path));
+    };
+    match store_query::keys_of(alloc, *path) {
+        Ok(keys) => Ok(keys),
+        Err(_) => Err(Fault::Memory),
+    }
+}
+
 /// The value of a tree, or the place of what is none.
 fn value_at(alloc: Global, tree: &Value<'_>, place: Place) -> Result<Bson, Fault>
     ensures { Gives view result (read_at (place_text place) (read (data_of tree.now))) }
@@ -66,7 +79,8 @@ fn value_at(alloc: Global, tree: &Value<'_>, place: Place) -> Result<Bson, Fault
 
 /// The document of a tree, or the place of what is none.
 fn document_at(alloc: Global, tree: &Value<'_>, place: Place) -> Result<Document, Fault>
-    ensures { Gives (λ d. content d) result (read_at (place_text place) (read_top (data_of tree.now))) }
+    ensures { Gives (λ d. content d) result (read_at (place_text place)
+        (read_top (data_of tree.now))) }
 {
     match bson_json_read::document_of(alloc, tree) {
         Ok(document) => Ok(document),
@@ -138,7 +152,8 @@ fn put_behind(
     maker: &mut IdMaker,
     stream: &mut Vec<u8>,
 ) -> Result<(), Fault>
-    ensures { PutsBehind maker.old maker.new index (data_of tree.now) stream.old.items stream.new.items result }
+    ensures { PutsBehind maker.old maker.new index
+        (data_of tree.now) stream.old.items stream.new.items result }
 {
     let document = document_at(alloc, tree, Place::DocumentAt(index))?;
     let document = with_id(alloc, document, maker)?;

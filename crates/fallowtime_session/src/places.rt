@@ -15,7 +15,7 @@ pub(crate) enum Place {
     Byte(usize),
     /// An object has a key twice.
     RepeatedKey,
-    /// There is no command of this name with so many places, or no array that begins with a name.
+    /// There is no command of this name with this number of places, or no array that begins with a name.
     Command,
     /// The name of a collection is no text.
     Collection,
@@ -27,6 +27,8 @@ pub(crate) enum Place {
     Id,
     /// The name of a key is no text.
     Key,
+    /// The path of an index is no text.
+    Path,
     /// It is no value of Extended JSON.
     Value,
     /// A query, or what `$and`, `$or` and `$nor` join, is no object.
@@ -107,6 +109,7 @@ impl Place {
             Place::DocumentAt(index) => with_number(alloc, "document ", *index),
             Place::Id => String::from_str(alloc, "id"),
             Place::Key => String::from_str(alloc, "key"),
+            Place::Path => String::from_str(alloc, "path"),
             Place::Value => String::from_str(alloc, "value"),
             Place::Query => String::from_str(alloc, "query is no object"),
             Place::Operator(name) => with_name(alloc, "query no operator ", name.as_str()),

@@ -4,17 +4,18 @@ ghost use Rattle.std.specs.Prelude.{◌≡◌, IfOk, Some, true};
 ghost use Rattle.json.specs.Value.{items_view, value_view as data_of};
 ghost use Rattle.bson_base.specs.Value.{has_key, look_up};
 ghost use Rattle.bson_model.specs.View.{content, view};
-ghost use Rattle.store_filter.specs.Filters.{filter_of as filter_view};
+ghost use Rattle.store_filter.specs.Filters.{filter_of as filter_view, path_of as path_view};
 ghost use Rattle.store_model.specs.State.{id_key};
 ghost use Rattle.fallowtime_texts.specs.declared.made.IdMaker.{IdMaker};
 ghost use Rattle.fallowtime_session.specs.Places.{Gives};
-ghost use Rattle.fallowtime_session.specs.Questions.{asked, asked_of, command_at, everything, name_alone, name_and_document, name_and_filter, name_and_id, name_id_and_key, name_id_key_and_value};
+ghost use Rattle.fallowtime_session.specs.Questions.{asked, asked_of, command_at, everything, name_alone, name_and_document, name_and_filter, name_and_id, name_and_path, name_id_and_key, name_id_key_and_value};
 ghost use Rattle.fallowtime_session.specs.Requests.{GivesQuestion, GivesStream};
 ghost use Rattle.fallowtime_session.specs.declared.commands.Command.TheVariants as command;
 
 use crate::commands::{Command, command_named};
 use crate::parts::{
-    bytes_of, collection_of, document_of, filter_of, id_of, items_of, key_of, stream_of, value_of,
+    bytes_of, collection_of, document_of, filter_of, id_of, items_of, key_of, path_of, stream_of,
+    value_of,
 };
 use crate::places::{Fault, Place};
 use bson_model::{Bson, Document};
@@ -46,7 +47,8 @@ pub(crate) struct Question<'w> {
 
 /// A question to which documents are returned each by itself.
 fn plain<'w>(collection: &'w str, request: Request<'w>) -> Question<'w>
-    ensures { (result.collection ≡ collection.entry) × (result.request ≡ request.entry) × (result.layout ≡ Layout.Each) }
+    ensures { (result.collection ≡ collection.entry) × (result.request ≡ request.entry)
+        × (result.layout ≡ Layout.Each) }
 {
     Question {
         collection,
@@ -67,7 +69,8 @@ fn name_of<'w>(places: &[Value<'w>]) -> Result<&'w str, Fault>
 
 /// A collection, and a document.
 fn with_document<'w>(alloc: Global, places: &[Value<'w>]) -> Result<(&'w str, Document), Fault>
-    ensures { Gives (λ p. (p.0.now, content p.1)) result (name_and_document (items_view places.now)) }
+    ensures { Gives (λ p. (p.0.now, content p.1)) result
+        (name_and_document (items_view places.now)) }
 {
     match places {
         [name, tree] => Ok((collection_of(name)?, document_of(alloc, tree)?)),
@@ -85,9 +88,21 @@ fn with_own_id<'w>(alloc: Global, places: &[Value<'w>]) -> Result<(&'w str, Bson
     }
 }
 
+/// A collection, and a path.
+fn with_path<'w>(alloc: Global, places: &[Value<'w>]) -> Result<(&'w str, Vec<String>), Fault>
+    ensures { Gives (λ p. (p.0.now, path_view p.1.items)) result
+        (name_and_path (items_view places.now)) }
+{
+    match places {
+        [name, path] => Ok((collection_of(name)?, path_of(alloc, path)?)),
+        _ => Err(Fault::At(Place::Command)),
+    }
+}
+
 /// A collection, an `_id` and a key.
 fn with_key<'w>(alloc: Global, places: &[Value<'w>]) -> Result<(&'w str, Bson, &'w str), Fault>
-    ensures { Gives (λ p. (p.0.now, view p.1, p.2.now)) result (name_id_and_key (items_view places.now)) }
+    ensures { Gives (λ p. (p.0.now, view p.1, p.2.now)) result
+        (name_id_and_key (items_view places.now)) }
 {
     match places {
         [name, id, key] => Ok((collection_of(name)?, id_of(alloc, id)?, key_of(key)?)),
@@ -100,7 +115,8 @@ fn with_value<'w>(
     alloc: Global,
     places: &[Value<'w>],
 ) -> Result<(&'w str, Bson, &'w str, Bson), Fault>
-    ensures { Gives (λ p. (p.0.now, view p.1, p.2.now, view p.3)) result (name_id_key_and_value (items_view places.now)) }
+    ensures { Gives (λ p. (p.0.now, view p.1, p.2.now, view p.3)) result
+        (name_id_key_and_value (items_view places.now)) }
 {
     match places {
         [name, id, key, value] => Ok((
@@ -122,7 +138,8 @@ fn select_all(alloc: Global) -> Filter
 
 /// A collection, and the filter of the query, if there is one.
 fn with_filter<'w>(alloc: Global, places: &[Value<'w>]) -> Result<(&'w str, Filter), Fault>
-    ensures { Gives (λ p. (p.0.now, filter_view p.1)) result (name_and_filter (items_view places.now)) }
+    ensures { Gives (λ p. (p.0.now, filter_view p.1)) result
+        (name_and_filter (items_view places.now)) }
 {
     match places {
         [name] => Ok((collection_of(name)?, select_all(alloc))),
@@ -157,7 +174,8 @@ fn insert<'w>(
     places: &[Value<'w>],
     maker: &mut IdMaker,
 ) -> Result<Question<'w>, Fault>
-    ensures { GivesQuestion maker.old maker.new (asked command.Insert (items_view places.now)) result }
+    ensures { GivesQuestion maker.old maker.new (asked command.Insert (items_view places.now))
+        result }
 {
     let (collection, document) = with_document(alloc, places)?;
     let document = with_id(alloc, document, maker)?;
@@ -173,7 +191,8 @@ fn put<'w>(alloc: Global, places: &[Value<'w>]) -> Result<Question<'w>, Fault>
 }
 
 fn replace<'w>(alloc: Global, places: &[Value<'w>]) -> Result<Question<'w>, Fault>
-    ensures { (m : IdMaker) → GivesQuestion m m (asked command.Replace (items_view places.now)) result }
+    ensures { (m : IdMaker) → GivesQuestion m m (asked command.Replace (items_view places.now))
+        result }
 {
     let (collection, document) = with_document(alloc, places)?;
     Ok(plain(collection, Request::Replace(document)))
@@ -194,28 +213,32 @@ fn set<'w>(alloc: Global, places: &[Value<'w>]) -> Result<Question<'w>, Fault>
 }
 
 fn unset<'w>(alloc: Global, places: &[Value<'w>]) -> Result<Question<'w>, Fault>
-    ensures { (m : IdMaker) → GivesQuestion m m (asked command.Unset (items_view places.now)) result }
+    ensures { (m : IdMaker) → GivesQuestion m m (asked command.Unset (items_view places.now))
+        result }
 {
     let (collection, id, key) = with_key(alloc, places)?;
     Ok(plain(collection, Request::Unset(id, key)))
 }
 
 fn remove<'w>(alloc: Global, places: &[Value<'w>]) -> Result<Question<'w>, Fault>
-    ensures { (m : IdMaker) → GivesQuestion m m (asked command.Remove (items_view places.now)) result }
+    ensures { (m : IdMaker) → GivesQuestion m m (asked command.Remove (items_view places.now))
+        result }
 {
     let (collection, id) = with_own_id(alloc, places)?;
     Ok(plain(collection, Request::Remove(id)))
 }
 
 fn find<'w>(alloc: Global, places: &[Value<'w>]) -> Result<Question<'w>, Fault>
-    ensures { (m : IdMaker) → GivesQuestion m m (asked command.Find (items_view places.now)) result }
+    ensures { (m : IdMaker) → GivesQuestion m m (asked command.Find (items_view places.now))
+        result }
 {
     let (collection, filter) = with_filter(alloc, places)?;
     Ok(plain(collection, Request::Find(filter)))
 }
 
 fn count<'w>(alloc: Global, places: &[Value<'w>]) -> Result<Question<'w>, Fault>
-    ensures { (m : IdMaker) → GivesQuestion m m (asked command.Count (items_view places.now)) result }
+    ensures { (m : IdMaker) → GivesQuestion m m (asked command.Count (items_view places.now))
+        result }
 {
     let (collection, filter) = with_filter(alloc, places)?;
     Ok(plain(collection, Request::Count(filter)))
@@ -226,7 +249,8 @@ fn import<'w>(
     places: &[Value<'w>],
     maker: &mut IdMaker,
 ) -> Result<Question<'w>, Fault>
-    ensures { GivesQuestion maker.old maker.new (asked command.Import (items_view places.now)) result }
+    ensures { GivesQuestion maker.old maker.new (asked command.Import (items_view places.now))
+        result }
 {
     match places {
         [name, tree] => {
@@ -239,7 +263,8 @@ fn import<'w>(
 }
 
 fn export<'w>(alloc: Global, places: &[Value<'w>]) -> Result<Question<'w>, Fault>
-    ensures { (m : IdMaker) → GivesQuestion m m (asked command.Export (items_view places.now)) result }
+    ensures { (m : IdMaker) → GivesQuestion m m (asked command.Export (items_view places.now))
+        result }
 {
     let collection = name_of(places)?;
     Ok(Question {
@@ -249,8 +274,25 @@ fn export<'w>(alloc: Global, places: &[Value<'w>]) -> Result<Question<'w>, Fault
     })
 }
 
+fn index<'w>(alloc: Global, places: &[Value<'w>]) -> Result<Question<'w>, Fault>
+    ensures { (m : IdMaker) → GivesQuestion m m (asked command.Index (items_view places.now))
+        result }
+{
+    let (collection, path) = with_path(alloc, places)?;
+    Ok(plain(collection, Request::Index(path)))
+}
+
+fn drop_index<'w>(alloc: Global, places: &[Value<'w>]) -> Result<Question<'w>, Fault>
+    ensures { (m : IdMaker) → GivesQuestion m m (asked command.DropIndex (items_view places.now))
+        result }
+{
+    let (collection, path) = with_path(alloc, places)?;
+    Ok(plain(collection, Request::DropIndex(path)))
+}
+
 fn collections<'w>(places: &[Value<'w>]) -> Result<Question<'w>, Fault>
-    ensures { (m : IdMaker) → GivesQuestion m m (asked command.Collections (items_view places.now)) result }
+    ensures { (m : IdMaker) → GivesQuestion m m (asked command.Collections (items_view places.now))
+        result }
 {
     match places {
         [] => Ok(plain("", Request::Collections)),
@@ -279,6 +321,8 @@ fn asked_by<'w>(
         Command::Count => count(alloc, places),
         Command::Import => import(alloc, places, maker),
         Command::Export => export(alloc, places),
+        Command::Index => index(alloc, places),
+        Command::DropIndex => drop_index(alloc, places),
         Command::Collections => collections(places),
     }
 }

@@ -45,8 +45,9 @@ fn reply<S: Alter + Drop, O: Sink>(
 ) -> Result<(), ErrorKind>
     requires { CanRefuse (O.tally output.old) }
     ensures { (answer : List ℕ) × Sends result answer (O.tally output.old) (O.tally output.new)
-        × ((text : List ℕ) → Keeps line.now text → DoesOne (AnswersLine maker.old maker.new text answer)
-        (store_state S.Store store.old) (store_state S.Store store.new)) }
+        × ((text : List ℕ) → Keeps line.now text → DoesOne
+        (AnswersLine maker.old maker.new text answer) (store_state S.Store store.old)
+        (store_state S.Store store.new)) }
 {
     if line.kept == Kept::Whole && line.bytes.is_empty() {
         return Ok(());
@@ -72,13 +73,15 @@ pub fn serve<S: Alter + Drop, I: Source, O: Sink>(
 ) -> Result<(), ErrorKind>
     requires input { CanFail (I.feed input.old) }
     requires output { CanRefuse (O.tally output.old) }
-    ensures step { (turns : List Turn) × Ends result turns (I.feed input.old) (I.feed input.new) (O.tally output.old) (O.tally output.new)
-        × Relates S.Store store.old store.new (Holds maker.old maker.new turns) }
-    // What a crash leaves now is left along the lines, from what it might leave before: behind a request that was accepted what that
-    // leaves; and behind a fault that shut the connection none is accepted.
-    ensures crash { (turns : List Turn) × Ends result turns (I.feed input.old) (I.feed input.new) (O.tally output.old) (O.tally output.new)
-        × Moves (store_state S.Store store.old) (store_state S.Store store.new)
-        (LeavesTurns maker.old maker.new turns (store_state S.Store store.old) (store_state S.Store store.new)) }
+    ensures step { (turns : List Turn) × Ends result turns (I.feed input.old) (I.feed input.new)
+        (O.tally output.old) (O.tally output.new) × Relates S.Store store.old store.new
+        (Holds maker.old maker.new turns) }
+    // What a crash leaves now is left along the lines, from what it might leave before: after a request that was accepted what that
+    // leaves; and after a fault that shut the connection none is accepted.
+    ensures crash { (turns : List Turn) × Ends result turns (I.feed input.old) (I.feed input.new)
+        (O.tally output.old) (O.tally output.new) × Moves (store_state S.Store store.old)
+        (store_state S.Store store.new) (LeavesTurns maker.old maker.new turns
+        (store_state S.Store store.old) (store_state S.Store store.new)) }
 {
     let Ok(mut lines) = Lines::new(alloc) else {
         return Err(ErrorKind::Memory);

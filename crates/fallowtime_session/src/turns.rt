@@ -36,7 +36,8 @@ struct Parts<'t, 'w> {
 /// The values under `id` and under `do`, if an object has these two keys alone.
 fn id_and_do<'t, 'w>(members: &'t [(&'w str, Value<'w>)]) -> Option<(&'t Value<'w>, &'t Value<'w>)>
     requires { MembersHaveNumbers (members_view members.now) }
-    ensures parts { option_map (λ p. (data_of p.0.now, data_of p.1.now)) result ≡ id_and_do (members_view members.now) }
+    ensures parts { option_map (λ p. (data_of p.0.now, data_of p.1.now)) result ≡ id_and_do
+        (members_view members.now) }
     ensures writable { ForSome result (λ p. HasNumbers (data_of p.0.now)) }
 {
     match members {
@@ -103,8 +104,9 @@ fn answer_command<S: Alter + Drop>(
     command: &Value<'_>,
 ) -> Result<Vec<u8>, AllocError>
     requires { IsWritable id }
-    ensures { DoesOne (Replies maker.old maker.new (id_tree id.entry) (asked_of (data_of command.now)) result)
-        (store_state S.Store store.old) (store_state S.Store store.new) }
+    ensures { DoesOne (Replies maker.old maker.new (id_tree id.entry)
+        (asked_of (data_of command.now)) result) (store_state S.Store store.old)
+        (store_state S.Store store.new) }
 {
     let mut trial = maker.copy();
     match question_of(alloc, command, &mut trial) {
@@ -197,7 +199,8 @@ pub(crate) fn answer_of<S: Alter + Drop>(
     scratch: &mut Scratch,
     line: &Line,
 ) -> Result<Vec<u8>, AllocError>
-    ensures { (text : List ℕ) → Keeps line.now text → DoesOne (AnswersBytes maker.old maker.new text (made_line result))
+    ensures { (text : List ℕ) → Keeps line.now text
+        → DoesOne (AnswersBytes maker.old maker.new text (made_line result))
         (store_state S.Store store.old) (store_state S.Store store.new) }
 {
     match line.kept {

@@ -1,4 +1,4 @@
-pub mod Gathering
-pub mod Following
-pub mod Single
-pub mod Asking
+pub mod GatherLemmas
+pub mod OptionLemmas
+pub mod SingleLemmas
+pub mod NoTaskLemmas

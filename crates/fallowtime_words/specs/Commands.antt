@@ -40,7 +40,7 @@ HasName command words coll rest = words ≡ coll ∷ rest
 abbrev pub IsQuery : List (List ℕ) → Type 0
 IsQuery places = (places ≡ []) ⊎ ((query : List ℕ) × (places ≡ query ∷ []) × ¬ BeginsWith (codes "--") query)
 
--- the places of a command: so many words
+-- the places of a command: how many words there are
 abbrev pub HasPlaces : Command → List (List ℕ) → Type 0
 HasPlaces Insert doc = length doc ≡ 1
 HasPlaces Put doc = length doc ≡ 1

@@ -29,7 +29,7 @@ fn bytes_of_lines(alloc: Global, text: &str) -> Result<Vec<u8>, AllocError> {
     Vec::from_slice(alloc, lines.as_bytes())
 }
 
-/// The bytes of an empty document with so many others around it, each with one empty key; itself counted.
+/// The bytes of `levels` documents inside each other, each with one empty key, and the innermost empty.
 fn bytes_of_levels(alloc: Global, levels: u32) -> Result<Vec<u8>, AllocError> {
     let mut bytes = Vec::new(alloc);
     for inside in (1..levels).rev() {

@@ -32,7 +32,7 @@ fn imported<S: Alter + Drop>(
 }
 
 /// The answer to a collection, a number of calls and bytes with bars between them: what comes of an import from a
-/// reader that is interrupted after so many calls.
+/// reader that is interrupted after a number of calls.
 pub fn import_interrupted<S: Alter + Drop>(
     alloc: Global,
     store: &mut Store<S>,

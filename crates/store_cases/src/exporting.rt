@@ -96,7 +96,7 @@ fn exported<S: Alter + Drop>(store: &mut Store<S>) -> &'static str {
     }
 }
 
-/// A refusal after so many bytes.
+/// A refusal after `bytes` bytes.
 fn refused(kind: ErrorKind, bytes: u64) -> &'static str {
     match kind {
         ErrorKind::Memory => {

@@ -28,18 +28,18 @@
 //!   bytes that came in, and of other output there are the hexadecimal digits.
 //! - `run` and commands with `;` between them, done by `run`. The answer has their replies. A command is a word and its
 //!   parts with bars between them, as `insert_raw|c|0500000000`; `\0` in a name stands for a 00, and `levels:N` instead
-//!   of a JSON text for so many objects inside each other, each as the `_id` of the one around it.
+//!   of a JSON text for N objects inside each other, each as the `_id` of the one around it.
 //! - `move FROM TO`: loads what `dump_json` gives of a collection into another.
-//! - `import_interrupted NAME|CALLS|BYTES`: what `import` replies to a reader of std that gives one byte a call and of
-//!   which the call after so many is interrupted. `export_nowhere NAME`: what `export` replies to a writer of std that
-//!   takes no bytes. Both end with how many calls of the device failed.
+//! - `import_interrupted NAME|CALLS|BYTES`: what `import` replies to a reader of std that gives one byte a call and
+//!   of which the call after CALLS others is interrupted. `export_nowhere NAME`: what `export` replies to a writer of
+//!   std that takes no bytes. Both end with how many calls of the device failed.
 //!
 //! Before the program's words, and before `pipe`, there may be `input=BYTES`; `calls=N`, `room=N` and `faults_room=N`,
-//! by which the input fails after so many calls, and the output or the faults after so many bytes: the answer then ends
+//! by which the input fails after N calls, and the output or the faults after N bytes: the answer then ends
 //! with how often the input, the output and the faults failed.
 //!
 //! BYTES are hexadecimal digits, as often as a number and a star before them say, with `+` between what comes one after
-//! the other; or `lines:A|B`, the text of lines; or `levels:N`, documents of so many levels with empty keys. The
+//! the other; or `lines:A|B`, the text of lines; or `levels:N`, documents of N levels with empty keys. The
 //! longest of these cases take a second or two as they are built for the gate, and minutes under `rt try`.
 #![tactic(auto)]
 

@@ -79,8 +79,8 @@ impl Stop {
     }
 }
 
-/// The rows of all stops of a file, `log` or `database`, at its first call, its second, and so on until a run has no stop. A row
-/// that is that of the stop before it is left out.
+/// The rows of all stops of a file, `log` or `database`, at its first call, its second, and so on until a run has no
+/// stop. A row that is that of the stop before it is left out.
 pub fn answer(alloc: Global, file: &str, has_commands: bool) -> Result<String, AllocError> {
     let mut rows = String::new(alloc);
     let mut last = String::new(alloc);
@@ -148,7 +148,7 @@ fn begun(alloc: Global, stop: &mut Stop) -> Files<Memory> {
     files
 }
 
-/// The files, which stop after so many calls.
+/// The files, which stop after these numbers of calls.
 fn fused(files: Files<Memory>, log_calls: u64, database_calls: u64) -> Files<Fuse<Memory>> {
     Files {
         log: Fuse::new(files.log, log_calls),
@@ -156,8 +156,8 @@ fn fused(files: Files<Memory>, log_calls: u64, database_calls: u64) -> Files<Fus
     }
 }
 
-/// Does over files what the phase says. One function does all, as its proof takes some twenty seconds: it owns a database in
-/// files.
+/// Does over files what the phase says. One function does all, as its proof takes some twenty seconds: it owns a
+/// database in files.
 fn run_over<D: Disk + Drop>(alloc: Global, files: Files<D>, stop: &mut Stop) -> Files<D> {
     match reopened(alloc, files) {
         Ok(connection) => closed(worked(alloc, connection, stop)),
@@ -165,8 +165,8 @@ fn run_over<D: Disk + Drop>(alloc: Global, files: Files<D>, stop: &mut Stop) -> 
     }
 }
 
-/// The same over any database, and the store of files that its connection then leaves. There is no clause: over files those of
-/// `into_store` would take minutes.
+/// The same over any database, and the store of files that its connection then leaves. There is no clause: over files
+/// those of `into_store` would take minutes.
 fn worked<S: Alter + Drop>(alloc: Global, mut connection: Connection<S>, stop: &mut Stop) -> S {
     if stop.phase == Phase::Fill {
         old_rows::fill(&mut connection);

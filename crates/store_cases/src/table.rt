@@ -16,7 +16,7 @@
 //! - `rewrite PLACE` puts a body of five nines at a place, and `remove PLACE` removes the row there.
 //! - `find COLLECTION KEY` reports a row's place and body.
 //! - `names` reports the collections in their order.
-//! - `take COLLECTION MOST` visits bodies until it has so many: how many it took, their bytes, and whether the visit
+//! - `take COLLECTION MOST` visits bodies until it has MOST: how many it took, their bytes, and whether the visit
 //!   says that all were taken.
 //!
 //! The answer to a step or a call is `ok`, what it reports, or the error's name, with `; ` between the answers.

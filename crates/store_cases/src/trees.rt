@@ -4,8 +4,8 @@ use cli_words::parse_json;
 use serde_json::{Map, Value};
 use std::alloc::{AllocError, Global};
 
-/// The tree that a text gives: of JSON, or so many objects inside each other. None if it gives none, or if memory runs
-/// out.
+/// The tree that a text gives: of JSON, or a number of objects inside each other. None if it gives none, or if memory
+/// runs out.
 pub fn told_by(alloc: Global, text: &str) -> Option<Value> {
     match text.strip_prefix("levels:") {
         Some(levels) => tree_of_levels(alloc, levels.parse::<u32>().ok()?).ok(),
@@ -13,9 +13,10 @@ pub fn told_by(alloc: Global, text: &str) -> Option<Value> {
     }
 }
 
-/// An empty object with so many others around it, each with the one key `_id`; itself counted.
+/// `levels` objects inside each other, each with the one key `_id`, and the innermost empty.
 ///
-/// What reads a tree takes it and drops it, and the drop of the kit's type calls itself once a level: the cases go to 10000.
+/// What reads a tree takes it and drops it, and the drop of the kit's type calls itself once a level: the cases go to
+/// 10000.
 fn tree_of_levels(alloc: Global, levels: u32) -> Result<Value, AllocError> {
     let mut tree = Value::Object(Map::new(alloc));
     for _ in 1..levels {

@@ -1,3 +1,3 @@
-mod Keys
-mod Putting
-mod Copying
+mod KeyLemmas
+mod PutLemmas
+mod CopyLemmas

@@ -1,7 +1,7 @@
 //! Statements that may take few steps only.
 //!
-//! The bound goes from 1 upwards, until nothing is refused any more. Which bound a call needs is the database's own matter; that a
-//! refused call changes nothing is the table's.
+//! The bound goes from 1 upwards, until nothing is refused any more. Which bound a call needs is the database's own
+//! matter; that a refused call changes nothing is the table's.
 
 use super::calls::{self, HasBody};
 use super::sessions::rows;
@@ -24,8 +24,8 @@ const CALLS: [&str; 8] = [
     "remove 1",
 ];
 
-/// What calls under bounds came to: how many were accepted under one bound, the number that the rows have to have then, and whether
-/// anything was wrong.
+/// What calls under bounds came to: how many were accepted under one bound, the number that the rows have to have then,
+/// and whether anything was wrong.
 #[derive(Clone, Copy)]
 struct Sum {
     accepted: u64,
@@ -44,7 +44,7 @@ const NOTHING: Sum = Sum {
 };
 
 impl Sum {
-    /// One more row, with a body of so many bytes.
+    /// One more row, with a body of `bytes` bytes.
     fn and_row(self, bytes: i64) -> Sum {
         let rows = self.rows.wrapping_add(1);
         let row = rows.wrapping_mul(100).wrapping_add(10000);
@@ -91,8 +91,8 @@ impl Sum {
     }
 }
 
-/// The least number of calls that were accepted under one bound, the number under the last bound, and whether the rows were those
-/// of the accepted calls each time.
+/// The least number of calls that were accepted under one bound, the number under the last bound, and whether the rows
+/// were those of the accepted calls each time.
 pub fn calls(alloc: Global) -> Result<String, AllocError> {
     let mut least = 8;
     let mut last = 0;
@@ -155,7 +155,8 @@ fn all<S: Alter + Drop>(alloc: Global, table: &mut Table<S>) -> Sum {
     sum
 }
 
-/// What came of opens under bounds: how many were refused, whether the last one was accepted, and whether anything was wrong.
+/// What came of opens under bounds: how many were refused, whether the last one was accepted, and whether anything was
+/// wrong.
 #[derive(Clone, Copy)]
 struct Tries {
     refused: u64,

@@ -34,7 +34,7 @@ impl RowCheck for HasBody {
     }
 }
 
-/// Takes bodies until it has so many.
+/// Takes bodies until it has as many as it is to take.
 #[derive(Drop)]
 struct Taker {
     taken: u64,
@@ -101,7 +101,8 @@ pub fn change<S: Alter + Drop>(
 fn put<S: Alter + Drop>(table: &mut Table<S>, rest: &str) -> Result<(), Fault> {
     let (coll, key) = rest.split_once(' ').unwrap_or((rest, ""));
     let key = byte_of(key);
-    table.append(coll, &[key], &[key, key])
+    table.append(coll, &[key], &[key, key])?;
+    Ok(())
 }
 
 fn put_two<S: Alter + Drop>(table: &mut Table<S>, rest: &str) -> Result<(), Fault> {
@@ -109,7 +110,8 @@ fn put_two<S: Alter + Drop>(table: &mut Table<S>, rest: &str) -> Result<(), Faul
     let (first, second) = keys.split_once(' ').unwrap_or((keys, ""));
     let first = [byte_of(first); 3];
     let second = [byte_of(second); 3];
-    table.append_all(coll, &[row_of(&first), row_of(&second)])
+    table.append_all(coll, &[row_of(&first), row_of(&second)])?;
+    Ok(())
 }
 
 /// Place and body of a row.
@@ -149,7 +151,7 @@ fn joined(alloc: Global, names: &BTreeSet<Vec<u8>>) -> Result<String, AllocError
     Ok(line)
 }
 
-/// How many bodies and bytes a visit takes, if at most so many are asked for, and whether all were.
+/// How many bodies and bytes a visit takes, if at most a given number is asked for, and whether all were.
 fn take<S: Alter + Drop>(
     alloc: Global,
     table: &mut Table<S>,

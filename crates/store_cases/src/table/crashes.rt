@@ -54,7 +54,8 @@ impl Outcome {
     }
 }
 
-/// How many of the stops went well. The words are the file, the first call at which it stops, and the call up to which it does.
+/// How many of the stops went well. The words are the file, the first call at which it stops, and the call up to which
+/// it does.
 pub fn stops(alloc: Global, words: &str) -> Result<String, AllocError> {
     let (file, calls) = words.split_once(' ').unwrap_or((words, ""));
     let (from, to) = calls.split_once(' ').unwrap_or((calls, ""));
@@ -106,7 +107,7 @@ fn stop_at(alloc: Global, file: &str, calls: u64) -> Outcome {
     stop
 }
 
-/// Empty files that stop after so many calls.
+/// Empty files that stop after these numbers of calls.
 fn fused(alloc: Global, log_calls: u64, db_calls: u64) -> Files<Fuse<Memory>> {
     Files {
         log: Fuse::new(Memory::new(alloc), log_calls),
@@ -123,8 +124,8 @@ fn run_over<D: Disk + Drop>(alloc: Global, files: Files<D>, stop: &mut Outcome) 
     }
 }
 
-/// The same over any database, and the store that its connection then leaves. There is no clause: over a store in files those of
-/// `into_store` would take minutes.
+/// The same over any database, and the store that its connection then leaves. There is no clause: over a store in files
+/// those of `into_store` would take minutes.
 fn worked<S: Alter + Drop>(alloc: Global, conn: Connection<S>, stop: &mut Outcome) -> S {
     let conn = if stop.has_come {
         go_on(alloc, conn, stop)

@@ -5,11 +5,11 @@ use Rattle.store_model.specs.Reading.{ReadsTrees}
 use Rattle.cli_words.specs.declared.call.Call.TheVariants as words
 use Rattle.cli_commands.specs.Commands.{AsksFor}
 use Rattle.std.proofs.lemmas.Result.{err_from_is_err_and}
-use Rattle.bson_store.proofs.Leaving.{survives_itself}
+use Rattle.bson_store.proofs.CrashLemmas.{survives_itself}
 use Rattle.cli_commands.specs.Answers as answers
-use Rattle.cli_commands.proofs.Devices.{lines_stop, lines_taken}
-use Rattle.cli_commands.proofs.Leaving.{answered_open, not_done, trees_leave}
-use Rattle.cli_commands.proofs.Taking.{load_performs, unlined}
+use Rattle.cli_commands.proofs.DeviceLemmas.{lines_stop, lines_taken}
+use Rattle.cli_commands.proofs.CrashLemmas.{answered_open, not_done, trees_leave}
+use Rattle.cli_commands.proofs.TakeLemmas.{load_performs, unlined}
 use Rattle.cli_commands.proofs.inputs.load.Goals as goal
 
 pub returns-clause-moves : goal.returns-clause-moves

@@ -8,7 +8,7 @@ use Rattle.cli_commands.specs.Execute.{Executes, ReportsFailures}
 use Rattle.cli_commands.specs.Leaving.{LeavesAsked}
 use Rattle.cli_commands.specs.declared.stop.Failure.{Failure}
 use Rattle.cli_commands.specs.declared.stop.Failure.TheVariants.{Refused, Words}
-use Rattle.cli_commands.proofs.Telling.{writes}
+use Rattle.cli_commands.proofs.ReportLemmas.{writes}
 use Rattle.cli_commands.proofs.program.execute.Goals as goal
 
 pub returns-in-Ok-clause-step : goal.returns-in-Ok-clause-step

@@ -2,10 +2,10 @@ use Rattle.std.proofs.Common.{map, string_bytes}
 use Rattle.std.proofs.lemmas.Result.{err_from_is_err_and}
 use Rattle.bson_base.specs.Device.{Feed, Tally}
 use Rattle.bson_store.specs.Calls.{store_state}
-use Rattle.cli_commands.proofs.Devices.{none_reports}
-use Rattle.cli_commands.proofs.Ending.{not_asked}
-use Rattle.cli_commands.proofs.Leaving.{of_none}
-use Rattle.cli_commands.proofs.Sparing.{spares_same}
+use Rattle.cli_commands.proofs.DeviceLemmas.{none_reports}
+use Rattle.cli_commands.proofs.EndLemmas.{not_asked}
+use Rattle.cli_commands.proofs.CrashLemmas.{of_none}
+use Rattle.cli_commands.proofs.InputLemmas.{spares_same}
 use Rattle.cli_commands.proofs.program.obey.Goals as goal
 
 pub returns-in_err-request-clause-step : goal.returns-in_err-request-clause-step

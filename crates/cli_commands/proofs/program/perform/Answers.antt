@@ -16,12 +16,12 @@ use Rattle.cli_commands.specs.Commands.{AsksFor, IsCommandOf, IsIdText, IsOfStre
 use Rattle.cli_commands.specs.Execute.{IsFailure}
 use Rattle.cli_commands.specs.Leaving.{LeavesCall}
 use Rattle.cli_commands.specs.Requests.{IsRequestOf, IsTreeText, text_at}
-use Rattle.cli_commands.proofs.Ending.{as_asked, failed_write, got_prints, imported_asked, loaded_asked, number_unprinted, plain, planted}
-use Rattle.cli_commands.proofs.Devices.{dump_reports, export_reports, import_reports, reports, still}
-use Rattle.cli_commands.proofs.Leaving.{answered_open, call_leaves, of_change, printed, printed_open, stream_leaves, tree_leaves, with_line}
-use Rattle.cli_commands.proofs.Sparing.{spares_import, spares_load, spares_same}
-use Rattle.cli_commands.proofs.Taking.{import_performs}
-use Rattle.cli_commands.proofs.Wording.{of_filter, of_tree, of_id, of_get, of_set, of_unset, some_texts}
+use Rattle.cli_commands.proofs.EndLemmas.{as_asked, failed_write, got_prints, imported_asked, loaded_asked, number_unprinted, plain, planted}
+use Rattle.cli_commands.proofs.DeviceLemmas.{dump_reports, export_reports, import_reports, reports, still}
+use Rattle.cli_commands.proofs.CrashLemmas.{answered_open, call_leaves, of_change, printed, printed_open, stream_leaves, tree_leaves, with_line}
+use Rattle.cli_commands.proofs.InputLemmas.{spares_import, spares_load, spares_same}
+use Rattle.cli_commands.proofs.TakeLemmas.{import_performs}
+use Rattle.cli_commands.proofs.WordLemmas.{of_filter, of_tree, of_id, of_get, of_set, of_unset, some_texts}
 use Rattle.cli_commands.proofs.program.perform.Goals as goal
 
 pub returns-in-Insert-clause-step : goal.returns-in-Insert-clause-step
@@ -578,4 +578,4 @@ returns-in-Export-clause-devices g c =
 pub returns-in-Dump-clause-devices : goal.returns-in-Dump-clause-devices
 returns-in-Dump-clause-devices g c =
     dump_reports c.args.words.now.call c.dump.result (g.I.Source.feed c.args.input.now).failures (g.O.Sink.tally c.args.output.now).failures (g.O.Sink.tally c.dump.new.output).failures
-    (subst (IsRequestOf c.args.words.now) c.in-Dump.is c.requires.request).0
+    (subst (IsRequestOf c.args.words.now) c.in-Dump.is c.requires.request).0 c.dump.ensures.device

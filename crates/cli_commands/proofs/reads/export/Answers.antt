@@ -1,6 +1,6 @@
 use Rattle.bson_base.specs.Device.{Tally}
 use Rattle.bson_store.specs.Calls.{store_state}
-use Rattle.cli_commands.proofs.Sending.{sent_all, not_sent}
+use Rattle.cli_commands.proofs.SendLemmas.{sent_all, not_sent}
 use Rattle.cli_commands.proofs.reads.export.Goals as goal
 
 pub returns-in-Ok-clause-step : goal.returns-in-Ok-clause-step

@@ -5,7 +5,7 @@ use Rattle.cli_words.specs.Texts.{AnswersId, AnswersText}
 use Rattle.cli_words.specs.declared.call.Call.TheVariants as words
 use Rattle.cli_words.specs.declared.lines.UsageError.TheVariants as complaints
 use Rattle.cli_words.specs.declared.texts.TextError.TheVariants.{Unreadable}
-use Rattle.cli_commands.proofs.Wording.{get_texts, has_id, no_filter, no_id, no_json, no_json_last, some_texts, stops}
+use Rattle.cli_commands.proofs.WordLemmas.{get_texts, has_id, no_filter, no_id, no_json, no_json_last, some_texts, stops}
 use Rattle.cli_commands.proofs.request.request_of.Goals as goal
 
 pub returns-in_err-json_of_text-in-Insert : goal.returns-in_err-json_of_text-in-Insert

@@ -5,7 +5,7 @@ use Rattle.std.proofs.lemmas.Result.{err_from_is_err_and}
 use Rattle.std.specs.Slice.Iter.{split_done, split_rest}
 use Rattle.store_documents.specs.Loading.{HasTaken}
 use Rattle.cli_words.specs.Inputs.{HaveTrees, lines_in}
-use Rattle.cli_commands.proofs.Lines.{cut_at, front_more, length-shown, shown, stops_here, trees_more}
+use Rattle.cli_commands.proofs.LineLemmas.{cut_at, front_more, length-shown, shown, stops_here, trees_more}
 use Rattle.cli_commands.proofs.texts.judged_lines.Goals as goal
 
 pub loop-line-init : goal.loop-line-init

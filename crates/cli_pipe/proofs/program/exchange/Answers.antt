@@ -3,7 +3,7 @@ use Rattle.sqlite.specs.Steps.{over_memory}
 use Rattle.sqlite.proofs.Callers.{memory_is_clean}
 use Rattle.bson_base.specs.Device.{Feed, Tally}
 use Rattle.bson_store.specs.Calls.{store_connection, store_state}
-use Rattle.cli_pipe.proofs.Sending.{nothing_out, all_out, some_out}
+use Rattle.cli_pipe.proofs.SendLemmas.{nothing_out, all_out, some_out}
 use Rattle.cli_pipe.proofs.program.exchange.Goals as goal
 
 pub returns-in_err-store : goal.returns-in_err-store

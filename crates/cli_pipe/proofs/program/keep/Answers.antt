@@ -5,7 +5,7 @@ use Rattle.store_table.specs.Moves.{Moves}
 use Rattle.store_model.specs.State.{in_bytes, insert, done, refused}
 use Rattle.bson_base.specs.Device.{Feed}
 use Rattle.bson_store.specs.Calls.{store_connection, store_state, DoesBytes}
-use Rattle.cli_pipe.proofs.Keeping.{name, input_kept, input_not_kept}
+use Rattle.cli_pipe.proofs.KeepLemmas.{name, input_kept, input_not_kept}
 use Rattle.cli_pipe.proofs.program.keep.Goals as goal
 
 pub returns-in-Ok-insert_raw-clause-ok : goal.returns-in-Ok-insert_raw-clause-ok

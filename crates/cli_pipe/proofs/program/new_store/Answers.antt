@@ -2,7 +2,7 @@ use Rattle.sqlite.specs.Held.{state}
 use Rattle.sqlite.specs.Steps.{over_memory}
 use Rattle.sqlite.proofs.Callers.{memory_is_clean}
 use Rattle.bson_store.specs.Calls.{store_connection, store_state}
-use Rattle.cli_pipe.proofs.Opening.{opened_empty, not_opened}
+use Rattle.cli_pipe.proofs.OpenLemmas.{opened_empty, not_opened}
 use Rattle.cli_pipe.proofs.program.new_store.Goals as goal
 
 pub returns-in-Ok-open-clause-empty : goal.returns-in-Ok-open-clause-empty

@@ -6,7 +6,7 @@ use Rattle.serde_json.specs.Data.{array}
 use Rattle.serde_json.specs.View.{view as data_of, items_view}
 use Rattle.serde_json.specs.declared.value.Value.{Value}
 use Rattle.cli_words.specs.Filters.{AreFilters}
-use Rattle.cli_words.proofs.Filtering.{no_filters_of, one_filter}
+use Rattle.cli_words.proofs.FilterLemmas.{no_filters_of, one_filter}
 use Rattle.cli_words.proofs.filter.+filter.Goals as goal
 
 pub filters_of-returns-in_err-filter_of_json : goal.filters_of-returns-in_err-filter_of_json

@@ -4,7 +4,7 @@ use Rattle.serde_json.specs.Data.{array}
 use Rattle.serde_json.specs.View.{items_view}
 use Rattle.serde_json.specs.declared.value.Value.{Value}
 use Rattle.store_filter.specs.Filters.{path_of}
-use Rattle.cli_words.proofs.Filtering.{no_key_among, one_more}
+use Rattle.cli_words.proofs.FilterLemmas.{no_key_among, one_more}
 use Rattle.cli_words.proofs.filter.path_of.Goals as goal
 
 pub returns-in_default-text_of : goal.returns-in_default-text_of

@@ -1,4 +1,4 @@
-use Rattle.fallowtime_commands.proofs.Returned.{read_again, refused_again}
+use Rattle.fallowtime_commands.proofs.ReturnLemmas.{read_again, refused_again}
 use Rattle.fallowtime_commands.proofs.laws.printed_documents_are_read.Goals as goal
 
 pub returns : goal.returns

@@ -1,3 +1,5 @@
+use Rattle.bson_store.specs.Calls.{store_state}
+use Rattle.fallowtime_commands.proofs.IndexLemmas.{indexed}
 use Rattle.fallowtime_commands.proofs.performing.perform.Goals as goal
 
 pub returns-in-Insert-clause-moves : goal.returns-in-Insert-clause-moves
@@ -50,6 +52,14 @@ returns-in-Import-clause-moves g c = rw (c.in-Import.is, c.number-in-Import.ensu
 
 pub returns-in-Import-clause-crash : goal.returns-in-Import-clause-crash
 returns-in-Import-clause-crash g c = rw (c.in-Import.is, c.number-in-Import.ensures.reply) (rw c.as_slice.ensures.value at c.import_bytes.ensures.crash)
+
+pub returns-in-Index-clause-moves : goal.returns-in-Index-clause-moves
+returns-in-Index-clause-moves g c =
+    rw (c.in-Index.is, c.nothing-in-Index.ensures.reply) (indexed c.args.name.now (store_state g.S.Store c.args.store.now) (store_state g.S.Store c.index.new.self) c.index.result c.index.ensures.moves)
+
+pub returns-in-DropIndex-clause-moves : goal.returns-in-DropIndex-clause-moves
+returns-in-DropIndex-clause-moves g c =
+    rw (c.in-DropIndex.is, c.nothing-in-DropIndex.ensures.reply) (indexed c.args.name.now (store_state g.S.Store c.args.store.now) (store_state g.S.Store c.drop_index.new.self) c.drop_index.result c.drop_index.ensures.moves)
 
 pub returns-in-Collections-clause-moves : goal.returns-in-Collections-clause-moves
 returns-in-Collections-clause-moves g c = rw (c.in-Collections.is, c.names.ensures.reply) c.collections.ensures.moves

@@ -4,7 +4,7 @@ use Rattle.bson_base.specs.Value.{Members}
 use Rattle.bson_bytes.specs.Encode.{encode}
 use Rattle.store_model.specs.State.{IsKept}
 use Rattle.fallowtime_commands.specs.Printing.{IsPrinted}
-use Rattle.fallowtime_commands.proofs.Printed.{between, more}
+use Rattle.fallowtime_commands.proofs.PrintLemmas.{between, more}
 use Rattle.fallowtime_commands.proofs.printing.print_bodies.Goals as goal
 
 pub returns-in_err-print_body : goal.returns-in_err-print_body

@@ -1,7 +1,7 @@
 use Rattle.std.proofs.Common.{◌∙◌, ap, arith}
 use Rattle.std.specs.Prelude.{string_bytes}
 use Rattle.fallowtime_commands.specs.Printing.{IsNameLine}
-use Rattle.fallowtime_commands.proofs.Printed.{more}
+use Rattle.fallowtime_commands.proofs.PrintLemmas.{more}
 use Rattle.fallowtime_commands.proofs.printing.print_names.Goals as goal
 
 pub loop-name-preserved : goal.loop-name-preserved

@@ -1,5 +1,5 @@
 use Rattle.std.specs.Prelude.{string_bytes}
-use Rattle.fallowtime_commands.proofs.Printed.{without_text}
+use Rattle.fallowtime_commands.proofs.PrintLemmas.{without_text}
 use Rattle.fallowtime_commands.proofs.printing.print_text.Goals as goal
 
 pub returns-in-Err : goal.returns-in-Err

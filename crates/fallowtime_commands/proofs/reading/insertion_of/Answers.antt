@@ -3,7 +3,7 @@ use Rattle.bson_base.specs.Value.{Members, look_up}
 use Rattle.bson_model.specs.View.{content, pairs_of}
 use Rattle.bson_model.proofs.EqualLemmas.{look_up-members_of}
 use Rattle.store_model.specs.State.{id_key}
-use Rattle.fallowtime_commands.proofs.Owning.{is_identified}
+use Rattle.fallowtime_commands.proofs.IdLemmas.{is_identified}
 use Rattle.fallowtime_commands.proofs.reading.insertion_of.Goals as goal
 
 pub unreachable-requires : goal.unreachable-requires

@@ -1,7 +1,7 @@
 use Rattle.std.proofs.Common.{refl, string_bytes}
 use Rattle.std.proofs.lemmas.Result.{on_ok_weaker}
 use Rattle.bson_model.specs.View.{view, pairs_of}
-use Rattle.store_documents.proofs.OfChanges.{value_put}
+use Rattle.store_documents.proofs.ChangeLemmas.{value_put}
 use Rattle.fallowtime_commands.proofs.setting.put_value.Goals as goal
 
 pub returns : goal.returns

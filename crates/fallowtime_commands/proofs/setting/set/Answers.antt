@@ -3,7 +3,7 @@ use Rattle.std.proofs.lemmas.Result.{err_from_is_err_and}
 use Rattle.bson_model.specs.View.{content, view}
 use Rattle.bson_store.specs.Calls.{store_state}
 use Rattle.bson_store.specs.Refusals.{as_done, reply_by}
-use Rattle.fallowtime_commands.proofs.Changing.{replaced_leaves, replaced_moves, ungot_moves, unmade_moves}
+use Rattle.fallowtime_commands.proofs.SetLemmas.{replaced_leaves, replaced_moves, ungot_moves, unmade_moves}
 use Rattle.fallowtime_commands.proofs.setting.set.Goals as goal
 
 pub returns-in_err-body-clause-moves : goal.returns-in_err-body-clause-moves

@@ -2,7 +2,7 @@ use Rattle.std.proofs.Common.{sym, ◌∙◌, arith}
 use Rattle.bson_model.specs.View.{content, pairs_of, view}
 use Rattle.bson_model.proofs.EqualLemmas.{look_up-members_of}
 use Rattle.store_model.specs.State.{id_key}
-use Rattle.fallowtime_commands.proofs.Keeping.{has_id, no_id}
+use Rattle.fallowtime_commands.proofs.KeepLemmas.{has_id, no_id}
 use Rattle.fallowtime_commands.proofs.storing.kept_bytes.Goals as goal
 
 pub returns-in_default : goal.returns-in_default

@@ -4,7 +4,7 @@ use Rattle.bson_model.specs.View.{content}
 use Rattle.store_model.specs.State.{done}
 use Rattle.bson_store.specs.Calls.{store_state}
 use Rattle.bson_store.specs.Refusals.{as_done, reply_by}
-use Rattle.fallowtime_commands.proofs.Putting.{inserted, inserted_leaves, other_kind, put_stopped, put_stopped_leaves, replaced}
+use Rattle.fallowtime_commands.proofs.PutLemmas.{inserted, inserted_leaves, other_kind, put_stopped, put_stopped_leaves, replaced}
 use Rattle.fallowtime_commands.proofs.storing.put.Goals as goal
 
 pub returns-in_err-kept-clause-moves : goal.returns-in_err-kept-clause-moves

@@ -4,7 +4,7 @@ use Rattle.store_model.specs.State.{in_bytes}
 use Rattle.store_model.specs.State as model
 use Rattle.bson_store.specs.Calls.{store_state}
 use Rattle.bson_store.specs.Refusals.{as_done, reply_by}
-use Rattle.fallowtime_commands.proofs.Putting.{stopped, stored}
+use Rattle.fallowtime_commands.proofs.PutLemmas.{stopped, stored}
 use Rattle.fallowtime_commands.proofs.storing.replace.Goals as goal
 
 pub returns-in_err-bytes-clause-moves : goal.returns-in_err-bytes-clause-moves

@@ -3,7 +3,7 @@ use Rattle.json.specs.Token.{key}
 use Rattle.bson_model.specs.declared.extjson.ser.Mode.TheVariants.{Canonical}
 use Rattle.fallowtime_texts.specs.Printed.{PrintsDocument}
 use Rattle.fallowtime_session.specs.Objects.{begun, id_tree}
-use Rattle.fallowtime_session.proofs.Writing.{document_made}
+use Rattle.fallowtime_session.proofs.WriteLemmas.{document_made}
 use Rattle.fallowtime_session.proofs.answers.document_line.Goals as goal
 
 pub returns-in-Ok : goal.returns-in-Ok

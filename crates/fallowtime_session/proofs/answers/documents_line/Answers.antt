@@ -3,7 +3,7 @@ use Rattle.json.specs.Print.{print}
 use Rattle.json.specs.Token.{key}
 use Rattle.bson_store.specs.Export.{bytes_of_each}
 use Rattle.fallowtime_session.specs.Objects.{begun, id_tree}
-use Rattle.fallowtime_session.proofs.Writing.{documents_made}
+use Rattle.fallowtime_session.proofs.WriteLemmas.{documents_made}
 use Rattle.fallowtime_session.proofs.answers.documents_line.Goals as goal
 
 pub returns-in_ok-extend_from_slice-in-Ok : goal.returns-in_ok-extend_from_slice-in-Ok

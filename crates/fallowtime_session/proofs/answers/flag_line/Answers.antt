@@ -3,7 +3,7 @@ use Rattle.json.specs.Json.{boolean as truth}
 use Rattle.json.specs.Token.{boolean, key}
 use Rattle.fallowtime_session.specs.Answers.{one}
 use Rattle.fallowtime_session.specs.Objects.{begun, id_tree}
-use Rattle.fallowtime_session.proofs.Writing.{makes_line}
+use Rattle.fallowtime_session.proofs.WriteLemmas.{makes_line}
 use Rattle.fallowtime_session.proofs.answers.flag_line.Goals as goal
 
 pub returns : goal.returns

@@ -2,7 +2,7 @@ use Rattle.std.proofs.Common.{◌≡◌, [], ◌∷◌, ◌++◌, take}
 use Rattle.std.proofs.lemmas.List.{take_all}
 use Rattle.json.specs.Token.{end_array}
 use Rattle.fallowtime_session.specs.Objects.{id_tree}
-use Rattle.fallowtime_session.proofs.Writing.{names_done}
+use Rattle.fallowtime_session.proofs.WriteLemmas.{names_done}
 use Rattle.fallowtime_session.proofs.answers.names_line.Goals as goal
 
 pub returns : goal.returns

@@ -1,7 +1,7 @@
 use Rattle.std.proofs.Common.{◌≡◌, [], ◌∷◌, ◌++◌, codes, take}
 use Rattle.json.specs.Token.{begin_array, key}
 use Rattle.fallowtime_session.specs.Objects.{begun, id_tree}
-use Rattle.fallowtime_session.proofs.Writing.{name_tokens}
+use Rattle.fallowtime_session.proofs.WriteLemmas.{name_tokens}
 use Rattle.fallowtime_session.proofs.answers.names_line.Given as goal
 
 abbrev pub invariant-loop-name : goal.invariant-loop-name

@@ -4,7 +4,7 @@ use Rattle.bson_json.specs.Prints.{IsTextOf}
 use Rattle.bson_model.specs.View.{view}
 use Rattle.bson_model.specs.declared.extjson.ser.Mode.TheVariants.{Canonical}
 use Rattle.fallowtime_session.specs.Objects.{begun, id_tree}
-use Rattle.fallowtime_session.proofs.Writing.{value_made}
+use Rattle.fallowtime_session.proofs.WriteLemmas.{value_made}
 use Rattle.fallowtime_session.proofs.answers.value_line.Goals as goal
 
 pub returns : goal.returns

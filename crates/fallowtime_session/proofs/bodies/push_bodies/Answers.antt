@@ -1,5 +1,5 @@
 use Rattle.std.proofs.Common.{add-one, sym}
-use Rattle.fallowtime_session.proofs.Texts.{all_put, at_fault, none_yet, one_more}
+use Rattle.fallowtime_session.proofs.TextLemmas.{all_put, at_fault, none_yet, one_more}
 use Rattle.fallowtime_session.proofs.bodies.push_bodies.Goals as goal
 
 pub loop-index-init : goal.loop-index-init

@@ -1,4 +1,4 @@
-use Rattle.fallowtime_session.proofs.Texts.{SoFar}
+use Rattle.fallowtime_session.proofs.TextLemmas.{SoFar}
 use Rattle.fallowtime_session.proofs.bodies.push_bodies.Given as goal
 
 abbrev pub invariant-loop-index : goal.invariant-loop-index

@@ -1,4 +1,4 @@
-use Rattle.fallowtime_session.proofs.Trees.{items_seen}
+use Rattle.fallowtime_session.proofs.TreeLemmas.{items_seen}
 use Rattle.fallowtime_session.proofs.parts.items_of.Goals as goal
 
 pub returns-in-Array : goal.returns-in-Array

@@ -1,6 +1,6 @@
 use Rattle.std.proofs.lemmas.Result.{err_from_is_err_and}
 use Rattle.json.specs.Value.{value_view}
-use Rattle.fallowtime_session.proofs.Streams.{unread}
+use Rattle.fallowtime_session.proofs.StreamLemmas.{unread}
 use Rattle.fallowtime_session.proofs.parts.put_behind.Goals as goal
 
 pub returns-in_err-document : goal.returns-in_err-document

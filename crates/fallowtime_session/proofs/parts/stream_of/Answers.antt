@@ -1,6 +1,6 @@
 use Rattle.std.proofs.Common.{add-one, sym}
 use Rattle.std.proofs.lemmas.Result.{err_from_is_err_and}
-use Rattle.fallowtime_session.proofs.Streams.{all_put, none_yet, one_more, unfit}
+use Rattle.fallowtime_session.proofs.StreamLemmas.{all_put, none_yet, one_more, unfit}
 use Rattle.fallowtime_session.proofs.parts.stream_of.Goals as goal
 
 pub loop-index-init : goal.loop-index-init

@@ -1,4 +1,4 @@
-use Rattle.fallowtime_session.proofs.Streams.{SoFar}
+use Rattle.fallowtime_session.proofs.StreamLemmas.{SoFar}
 use Rattle.fallowtime_session.proofs.parts.stream_of.Given as goal
 
 abbrev pub invariant-loop-index : goal.invariant-loop-index

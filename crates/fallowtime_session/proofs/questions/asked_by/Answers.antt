@@ -1,5 +1,5 @@
 use Rattle.json.specs.Value.{items_view}
-use Rattle.fallowtime_session.proofs.Asking.{by_command}
+use Rattle.fallowtime_session.proofs.QuestionLemmas.{by_command}
 use Rattle.fallowtime_session.specs.declared.commands.Command.TheVariants as command
 use Rattle.fallowtime_session.proofs.questions.asked_by.Goals as goal
 
@@ -29,6 +29,12 @@ returns-in-Count c = by_command c.args.maker.now c.args.command command.Count (i
 
 pub returns-in-Export : goal.returns-in-Export
 returns-in-Export c = by_command c.args.maker.now c.args.command command.Export (items_view c.args.places.now) c.export.result c.in-Export.is c.export.ensures
+
+pub returns-in-Index : goal.returns-in-Index
+returns-in-Index c = by_command c.args.maker.now c.args.command command.Index (items_view c.args.places.now) c.index.result c.in-Index.is c.index.ensures
+
+pub returns-in-DropIndex : goal.returns-in-DropIndex
+returns-in-DropIndex c = by_command c.args.maker.now c.args.command command.DropIndex (items_view c.args.places.now) c.drop_index.result c.in-DropIndex.is c.drop_index.ensures
 
 pub returns-in-Collections : goal.returns-in-Collections
 returns-in-Collections c = by_command c.args.maker.now c.args.command command.Collections (items_view c.args.places.now) c.collections.result c.in-Collections.is c.collections.ensures

@@ -1,5 +1,5 @@
 use Rattle.std.proofs.Common.{arith, inl, refl}
-use Rattle.fallowtime_session.proofs.Asking.{none_behind, some_behind}
+use Rattle.fallowtime_session.proofs.QuestionLemmas.{none_behind, some_behind}
 use Rattle.fallowtime_session.proofs.questions.collections.Goals as goal
 
 pub returns-in-empty : goal.returns-in-empty

@@ -1,5 +1,5 @@
 use Rattle.json.specs.Value.{items_view}
-use Rattle.fallowtime_session.proofs.Asking.{count_asked}
+use Rattle.fallowtime_session.proofs.QuestionLemmas.{count_asked}
 use Rattle.fallowtime_session.proofs.questions.count.Goals as goal
 
 pub returns : goal.returns

@@ -1,5 +1,5 @@
 use Rattle.json.specs.Value.{items_view}
-use Rattle.fallowtime_session.proofs.Asking.{find_asked}
+use Rattle.fallowtime_session.proofs.QuestionLemmas.{find_asked}
 use Rattle.fallowtime_session.proofs.questions.find.Goals as goal
 
 pub returns : goal.returns

@@ -1,5 +1,5 @@
 use Rattle.json.specs.Value.{items_view}
-use Rattle.fallowtime_session.proofs.Asking.{get_asked}
+use Rattle.fallowtime_session.proofs.QuestionLemmas.{get_asked}
 use Rattle.fallowtime_session.proofs.questions.get.Goals as goal
 
 pub returns : goal.returns

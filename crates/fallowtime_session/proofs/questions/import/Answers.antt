@@ -1,5 +1,5 @@
 use Rattle.std.proofs.Common.{arith, inl}
-use Rattle.fallowtime_session.proofs.Counting.{no_stream}
+use Rattle.fallowtime_session.proofs.CountLemmas.{no_stream}
 use Rattle.fallowtime_session.proofs.questions.import.Goals as goal
 use Rattle.fallowtime_session.proofs.questions.import.Goals.{in_default-via-then-places-lt2, in_default-via-else-places-lt2+else-places-lt3}
 

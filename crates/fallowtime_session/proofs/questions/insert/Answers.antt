@@ -1,6 +1,6 @@
 use Rattle.json.specs.Value.{items_view}
 use Rattle.bson_model.specs.View.{content}
-use Rattle.fallowtime_session.proofs.Asking.{insert_asked}
+use Rattle.fallowtime_session.proofs.QuestionLemmas.{insert_asked}
 use Rattle.fallowtime_session.proofs.questions.insert.Goals as goal
 
 pub returns : goal.returns

@@ -1,5 +1,5 @@
 use Rattle.std.proofs.Common.{arith}
-use Rattle.fallowtime_session.proofs.Counting.{not_alone}
+use Rattle.fallowtime_session.proofs.CountLemmas.{not_alone}
 use Rattle.fallowtime_session.proofs.questions.name_of.Goals as goal
 use Rattle.fallowtime_session.proofs.questions.name_of.Goals.{in_default-via-then-places-lt1, in_default-via-else-places-lt1+else-places-lt2}
 

@@ -1,5 +1,5 @@
 use Rattle.bson_model.specs.View.{view}
-use Rattle.fallowtime_session.proofs.Identity.{not_absent, own}
+use Rattle.fallowtime_session.proofs.IdLemmas.{not_absent, own}
 use Rattle.fallowtime_session.proofs.questions.own_id.Goals as goal
 
 pub unreachable-requires : goal.unreachable-requires

@@ -1,5 +1,5 @@
 use Rattle.json.specs.Value.{items_view}
-use Rattle.fallowtime_session.proofs.Asking.{put_asked}
+use Rattle.fallowtime_session.proofs.QuestionLemmas.{put_asked}
 use Rattle.fallowtime_session.proofs.questions.put.Goals as goal
 
 pub returns : goal.returns

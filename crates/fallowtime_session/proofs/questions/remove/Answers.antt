@@ -1,5 +1,5 @@
 use Rattle.json.specs.Value.{items_view}
-use Rattle.fallowtime_session.proofs.Asking.{remove_asked}
+use Rattle.fallowtime_session.proofs.QuestionLemmas.{remove_asked}
 use Rattle.fallowtime_session.proofs.questions.remove.Goals as goal
 
 pub returns : goal.returns

@@ -1,5 +1,5 @@
 use Rattle.json.specs.Value.{items_view}
-use Rattle.fallowtime_session.proofs.Asking.{replace_asked}
+use Rattle.fallowtime_session.proofs.QuestionLemmas.{replace_asked}
 use Rattle.fallowtime_session.proofs.questions.replace.Goals as goal
 
 pub returns : goal.returns

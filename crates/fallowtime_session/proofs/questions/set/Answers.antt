@@ -1,5 +1,5 @@
 use Rattle.json.specs.Value.{items_view}
-use Rattle.fallowtime_session.proofs.Asking.{set_asked}
+use Rattle.fallowtime_session.proofs.QuestionLemmas.{set_asked}
 use Rattle.fallowtime_session.proofs.questions.set.Goals as goal
 
 pub returns : goal.returns

@@ -1,5 +1,5 @@
 use Rattle.json.specs.Value.{items_view, value_view}
-use Rattle.fallowtime_session.proofs.Trees.{of_bytes, of_trees}
+use Rattle.fallowtime_session.proofs.TreeLemmas.{of_bytes, of_trees}
 use Rattle.fallowtime_session.proofs.questions.stream_at.Goals as goal
 
 pub returns-in-Some : goal.returns-in-Some

@@ -1,5 +1,5 @@
 use Rattle.json.specs.Value.{items_view}
-use Rattle.fallowtime_session.proofs.Asking.{unset_asked}
+use Rattle.fallowtime_session.proofs.QuestionLemmas.{unset_asked}
 use Rattle.fallowtime_session.proofs.questions.unset.Goals as goal
 
 pub returns : goal.returns

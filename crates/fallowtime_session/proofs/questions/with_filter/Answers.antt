@@ -1,5 +1,5 @@
 use Rattle.std.proofs.Common.{arith}
-use Rattle.fallowtime_session.proofs.Counting.{no_filter}
+use Rattle.fallowtime_session.proofs.CountLemmas.{no_filter}
 use Rattle.fallowtime_session.proofs.questions.with_filter.Goals as goal
 use Rattle.fallowtime_session.proofs.questions.with_filter.Goals.{in_default-via-then-places-lt1, in_default-via-else-places-lt1+else-places-lt2+else-places-lt3}
 

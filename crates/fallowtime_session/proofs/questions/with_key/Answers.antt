@@ -1,5 +1,5 @@
 use Rattle.std.proofs.Common.{arith}
-use Rattle.fallowtime_session.proofs.Counting.{no_key}
+use Rattle.fallowtime_session.proofs.CountLemmas.{no_key}
 use Rattle.fallowtime_session.proofs.questions.with_key.Goals as goal
 use Rattle.fallowtime_session.proofs.questions.with_key.Goals.{in_default-via-then-places-lt3, in_default-via-else-places-lt3+else-places-lt4}
 

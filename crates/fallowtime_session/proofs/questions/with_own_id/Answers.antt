@@ -1,5 +1,5 @@
 use Rattle.std.proofs.Common.{arith}
-use Rattle.fallowtime_session.proofs.Counting.{no_id}
+use Rattle.fallowtime_session.proofs.CountLemmas.{no_id}
 use Rattle.fallowtime_session.proofs.questions.with_own_id.Goals as goal
 use Rattle.fallowtime_session.proofs.questions.with_own_id.Goals.{in_default-via-then-places-lt2, in_default-via-else-places-lt2+else-places-lt3}
 

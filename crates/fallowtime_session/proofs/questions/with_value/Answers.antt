@@ -1,5 +1,5 @@
 use Rattle.std.proofs.Common.{arith}
-use Rattle.fallowtime_session.proofs.Counting.{no_value}
+use Rattle.fallowtime_session.proofs.CountLemmas.{no_value}
 use Rattle.fallowtime_session.proofs.questions.with_value.Goals as goal
 use Rattle.fallowtime_session.proofs.questions.with_value.Goals.{in_default-via-then-places-lt4, in_default-via-else-places-lt4+else-places-lt5}
 

@@ -2,7 +2,7 @@ use Rattle.std.proofs.Common.{None, rules, subst}
 use Rattle.bson_store.specs.Calls.{store_state}
 use Rattle.fallowtime_session.specs.Answers.{line_of, memory}
 use Rattle.fallowtime_session.specs.Sessions.{Sends}
-use Rattle.fallowtime_session.proofs.Replying.{line_answered, memory_line}
+use Rattle.fallowtime_session.proofs.ReplyLemmas.{line_answered, memory_line}
 use Rattle.fallowtime_session.proofs.serving.reply.Goals as goal
 
 pub returns-in-Ok : goal.returns-in-Ok

@@ -5,7 +5,7 @@ use Rattle.bson_store.specs.Calls.{store_state}
 use Rattle.bson_base.specs.Device.{Gives}
 use Rattle.cli_lines.specs.Lines.{waiting}
 use Rattle.store_model.specs.declared.error.ErrorKind.TheVariants.{Reader}
-use Rattle.fallowtime_session.proofs.Holding.{begin, on_whole, on_last, on_end, on_unsent, cannot_read, endless, held}
+use Rattle.fallowtime_session.proofs.SessionLemmas.{begin, on_whole, on_last, on_end, on_unsent, cannot_read, endless, held}
 use Rattle.fallowtime_session.proofs.serving.serve.Goals as goal
 
 pub loop-turn-init : goal.loop-turn-init

@@ -1,6 +1,6 @@
 use Rattle.bson_store.specs.Calls.{store_state}
 use Rattle.cli_lines.specs.Lines.{waiting}
-use Rattle.fallowtime_session.proofs.Holding.{SoFar}
+use Rattle.fallowtime_session.proofs.SessionLemmas.{SoFar}
 use Rattle.fallowtime_session.proofs.serving.serve.Given as goal
 
 abbrev pub invariant-loop-turn : goal.invariant-loop-turn

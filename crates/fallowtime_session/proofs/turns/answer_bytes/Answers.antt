@@ -2,7 +2,7 @@ use Rattle.std.proofs.Common.{subst}
 use Rattle.bson_store.specs.Calls.{store_state}
 use Rattle.fallowtime_session.specs.Deeds.{DoesOne}
 use Rattle.fallowtime_session.specs.Turns.{AnswersText, made_line}
-use Rattle.fallowtime_session.proofs.Answering.{no_text}
+use Rattle.fallowtime_session.proofs.AnswerLemmas.{no_text}
 use Rattle.fallowtime_session.proofs.turns.answer_bytes.Goals as goal
 
 pub returns-in-Ok : goal.returns-in-Ok

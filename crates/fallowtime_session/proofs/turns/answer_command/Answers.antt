@@ -6,7 +6,7 @@ use Rattle.fallowtime_session.specs.Objects.{MakesLine, id_tree}
 use Rattle.fallowtime_session.specs.Places.{place_text}
 use Rattle.fallowtime_session.specs.Questions.{asked_of}
 use Rattle.fallowtime_session.specs.Requests.{Asks, AsksNothing, GivesQuestion}
-use Rattle.fallowtime_session.proofs.Answering.{no_question, nothing_done, replied}
+use Rattle.fallowtime_session.proofs.AnswerLemmas.{no_question, nothing_done, replied}
 use Rattle.fallowtime_session.proofs.turns.answer_command.Goals as goal
 
 pub returns-in-Ok : goal.returns-in-Ok

@@ -2,7 +2,7 @@ use Rattle.std.proofs.Common.{◌≡◌, ◌∙◌, subst}
 use Rattle.bson_store.specs.Calls.{store_state}
 use Rattle.fallowtime_session.specs.Deeds.{DoesOne}
 use Rattle.fallowtime_session.specs.Turns.{AnswersText, made_line}
-use Rattle.fallowtime_session.proofs.Answering.{kept_whole, long_is, no_memory, too_long, whole_is}
+use Rattle.fallowtime_session.proofs.AnswerLemmas.{kept_whole, long_is, no_memory, too_long, whole_is}
 use Rattle.fallowtime_session.proofs.turns.answer_of.Goals as goal
 
 pub returns-in-Whole : goal.returns-in-Whole

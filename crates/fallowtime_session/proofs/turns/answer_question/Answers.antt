@@ -1,6 +1,6 @@
 use Rattle.bson_store.specs.Calls.{store_state}
 use Rattle.fallowtime_session.specs.Objects.{id_tree}
-use Rattle.fallowtime_session.proofs.Answering.{carried}
+use Rattle.fallowtime_session.proofs.AnswerLemmas.{carried}
 use Rattle.fallowtime_session.proofs.turns.answer_question.Goals as goal
 
 pub returns : goal.returns

@@ -2,7 +2,7 @@ use Rattle.std.proofs.Common.{rules, ◌≡◌, None, IsUtf8, codes}
 use Rattle.json.specs.Json.{document as tree_of}
 use Rattle.bson_store.specs.Calls.{store_state}
 use Rattle.fallowtime_session.specs.Turns.{HasNoTree}
-use Rattle.fallowtime_session.proofs.Answering.{no_json, no_tree}
+use Rattle.fallowtime_session.proofs.AnswerLemmas.{no_json, no_tree}
 use Rattle.fallowtime_session.proofs.turns.answer_text.Goals as goal
 
 pub returns-in-Err-DuplicateKey : goal.returns-in-Err-DuplicateKey

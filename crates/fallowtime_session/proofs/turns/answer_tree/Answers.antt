@@ -6,7 +6,7 @@ use Rattle.fallowtime_session.specs.Answers.{line_of, memory}
 use Rattle.fallowtime_session.specs.Deeds.{DoesOne}
 use Rattle.fallowtime_session.specs.Objects.{id_tree}
 use Rattle.fallowtime_session.specs.Turns.{AnswersTree, made_line}
-use Rattle.fallowtime_session.proofs.Answering.{answered, idle, ran_out}
+use Rattle.fallowtime_session.proofs.AnswerLemmas.{answered, idle, ran_out}
 use Rattle.fallowtime_session.proofs.turns.answer_tree.Goals as goal
 
 pub returns-in_err-spare : goal.returns-in_err-spare

@@ -1,5 +1,5 @@
 use Rattle.std.proofs.Common.{arith}
-use Rattle.fallowtime_session.proofs.Counting.{no_parts}
+use Rattle.fallowtime_session.proofs.CountLemmas.{no_parts}
 use Rattle.fallowtime_session.proofs.turns.id_and_do.Goals as goal
 use Rattle.fallowtime_session.proofs.turns.id_and_do.Goals.{in_default-via-then-members-lt2, in_default-via-else-members-lt2+else-members-lt3}
 

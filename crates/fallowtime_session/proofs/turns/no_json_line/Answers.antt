@@ -1,4 +1,4 @@
-use Rattle.fallowtime_session.proofs.Answering.{byte_line}
+use Rattle.fallowtime_session.proofs.AnswerLemmas.{byte_line}
 use Rattle.fallowtime_session.proofs.turns.no_json_line.Goals as goal
 
 pub returns : goal.returns

@@ -1,5 +1,5 @@
 use Rattle.json.specs.Value.{value_view}
-use Rattle.fallowtime_session.proofs.Trees.{command_found, id_found, no_command, no_id}
+use Rattle.fallowtime_session.proofs.TreeLemmas.{command_found, id_found, no_command, no_id}
 use Rattle.fallowtime_session.proofs.turns.parts_of.Goals as goal
 
 pub returns-in-Some-clause-id : goal.returns-in-Some-clause-id

@@ -1,6 +1,6 @@
 use Rattle.std.proofs.Common.{map, string_bytes, sym}
 use Rattle.fallowtime_words.specs.Options.{AreOptions}
-use Rattle.fallowtime_words.proofs.Gathering.{Left, goes_on, no_option, no_more, nothing, everything, no_words, some_words}
+use Rattle.fallowtime_words.proofs.GatherLemmas.{Left, goes_on, no_option, no_more, nothing, everything, no_words, some_words}
 use Rattle.fallowtime_words.proofs.options.read_options.Goals as goal
 
 pub returns-in_err-given : goal.returns-in_err-given

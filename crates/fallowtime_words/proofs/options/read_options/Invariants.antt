@@ -1,7 +1,7 @@
 use Rattle.std.proofs.Common.{◌↔◌, length, map, string_bytes}
 use Rattle.fallowtime_words.specs.Options.{AreOptions}
 use Rattle.fallowtime_words.specs.declared.options.Options.{Options}
-use Rattle.fallowtime_words.proofs.Gathering.{Left}
+use Rattle.fallowtime_words.proofs.GatherLemmas.{Left}
 use Rattle.fallowtime_words.proofs.options.read_options.Given as goal
 
 abbrev pub invariant-loop-rest : goal.invariant-loop-rest

@@ -1,5 +1,5 @@
 use Rattle.std.proofs.Common.{refl}
-use Rattle.fallowtime_words.proofs.Following.{none_is, too_few, no_options, not_taken, read_so}
+use Rattle.fallowtime_words.proofs.OptionLemmas.{none_is, too_few, no_options, not_taken, read_so}
 use Rattle.fallowtime_words.proofs.places.read_rest.Goals as goal
 
 pub returns-in_err-places : goal.returns-in_err-places

@@ -1,5 +1,5 @@
-use Rattle.fallowtime_words.proofs.Following.{none_is}
-use Rattle.fallowtime_words.proofs.Asking.{no_line, no_session_either}
+use Rattle.fallowtime_words.proofs.OptionLemmas.{none_is}
+use Rattle.fallowtime_words.proofs.NoTaskLemmas.{no_line, no_session_either}
 use Rattle.fallowtime_words.proofs.words.read_behind.Goals as goal
 
 pub returns-in_err-read_line-in-Some : goal.returns-in_err-read_line-in-Some

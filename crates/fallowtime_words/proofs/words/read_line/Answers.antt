@@ -1,5 +1,5 @@
-use Rattle.fallowtime_words.proofs.Following.{none_is}
-use Rattle.fallowtime_words.proofs.Asking.{no_rest}
+use Rattle.fallowtime_words.proofs.OptionLemmas.{none_is}
+use Rattle.fallowtime_words.proofs.NoTaskLemmas.{no_rest}
 use Rattle.fallowtime_words.proofs.words.read_line.Goals as goal
 
 pub returns-in_err-places : goal.returns-in_err-places

@@ -1,6 +1,6 @@
 use Rattle.std.proofs.Common.{refl}
-use Rattle.fallowtime_words.proofs.Following.{none_is}
-use Rattle.fallowtime_words.proofs.Asking.{no_wait, more_than_wait}
+use Rattle.fallowtime_words.proofs.OptionLemmas.{none_is}
+use Rattle.fallowtime_words.proofs.NoTaskLemmas.{no_wait, more_than_wait}
 use Rattle.fallowtime_words.proofs.words.read_patience.Goals as goal
 
 pub returns-in_err-options : goal.returns-in_err-options

@@ -1,4 +1,4 @@
-use Rattle.fallowtime_words.proofs.Asking.{only_one, told_of_strings}
+use Rattle.fallowtime_words.proofs.NoTaskLemmas.{only_one, told_of_strings}
 use Rattle.fallowtime_words.proofs.words.read_words.Goals as goal
 
 pub returns-clause-task : goal.returns-clause-task

@@ -1,7 +1,7 @@
 use Rattle.std.proofs.Common.{codes, string_bytes}
 use Rattle.bson_base.specs.Value.{scalar, string}
 use Rattle.bson_model.specs.View.{pairs_of, view}
-use Rattle.usage_callers.proofs.Keys.{found_under}
+use Rattle.usage_callers.proofs.KeyLemmas.{found_under}
 use Rattle.usage_callers.proofs.documents.move_to.Goals as goal
 
 pub returns-clause-found : goal.returns-clause-found

@@ -1,7 +1,7 @@
 use Rattle.std.proofs.Common.{Some, take, drop, refl, ap, ◌∙◌}
 use Rattle.bson_base.specs.Device.{Feed}
 use Rattle.bson_store.specs.Calls.{store_state}
-use Rattle.usage_callers.proofs.Copying.{copied, rows_stay}
+use Rattle.usage_callers.proofs.CopyLemmas.{copied, rows_stay}
 use Rattle.usage_callers.proofs.stores.copy_collection.Goals as goal
 
 pub returns-in_err-export-clause-stays : goal.returns-in_err-export-clause-stays

@@ -1,6 +1,6 @@
 use Rattle.bson_model.specs.View.{view}
 use Rattle.bson_store.specs.Calls.{store_state}
-use Rattle.usage_callers.proofs.Putting.{put_and_got}
+use Rattle.usage_callers.proofs.PutLemmas.{put_and_got}
 use Rattle.usage_callers.proofs.stores.put_and_get.Goals as goal
 
 pub returns : goal.returns
