@@ -33,7 +33,7 @@ try /usr/bin/python3 tests/edits.py
 try /usr/bin/python3 tests/program.py "$work/bson_store"
 try /usr/bin/python3 tests/scripts.py "$work/bson_store"
 try /usr/bin/python3 tests/front.py "$work/fallowtime"
-for test in files.py:bson_store extended_json.py:bson_json fallowtime.py:fallowtime fallowtime_lines.py:fallowtime fallowtime_files.py:fallowtime; do
+for test in files.py:bson_store extended_json.py:bson_json fallowtime.py:fallowtime fallowtime_lines.py:fallowtime indexes.py:fallowtime fallowtime_files.py:fallowtime; do
     [ ! -e "tests/${test%:*}" ] || try /usr/bin/python3 "tests/${test%:*}" "$work/${test#*:}"
 done
 try /usr/bin/python3 tests/python.py "$work/fallowtime"

@@ -7,7 +7,7 @@
                              named
 
 What is wrong: a line over 120 columns outside of blocks of code and tables; a cell of a table over 240, which is a paragraph; a
-table whose rows have different numbers of cells; a page of docs/ over 150 lines without a table of contents; a link to a file or a
+table whose rows have different numbers of cells; a page over 150 lines without a table of contents; a link to a file or a
 heading that isn't there, or to anything outside the repository; a row that stands in two tables; a crate without a page or without
 its line in ARCHITECTURE; a refusal without its line in REFUSALS; a decision that is cited anywhere by a name that it hasn't, or has
 no reason; a page that a script, a test or a page names by a path where it isn't; a command that only one of COMMANDS and `--help`
@@ -246,10 +246,10 @@ def wrong_calls():
 
 
 def wrong_contents(all_pages):
-    """Pages of docs/ over 150 lines that don't link to each of their sections in front of the first one."""
+    """Pages over 150 lines that don't link to each of their sections in front of the first one."""
     for page in all_pages:
         text = page.read_text()
-        if ROOT / "docs" not in page.parents or text.count("\n") <= LONG:
+        if text.count("\n") <= LONG:
             continue
         front = text.partition("\n## ")[0]
         for heading in re.findall(r"^## (.*)$", "\n".join(line for _, line in prose(page)), re.M):

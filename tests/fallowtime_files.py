@@ -8,6 +8,7 @@ PROGRAM is fallowtime, under whatever name. INSERTS is how many a session does b
 step, and ends with status 1 at the first that isn't as it should be. Wants sqlite3.
 """
 import atexit
+import itertools
 import json
 import os
 import pathlib
@@ -124,10 +125,14 @@ def answers(file):
     return found
 
 
+def line_of(one):
+    return json.dumps(one, separators=(",", ":")).encode() + b"\n"
+
+
 def answers_of(numbers):
-    lines = [json.dumps(document(number), separators=(",", ":")) + "\n" for number in numbers]
-    texts = [lines[0], "".join(lines), f"{len(lines)}\n"]
-    return [(0, out, "") for out in [*map(str.encode, texts), stream(numbers), b"c\n", b"", stream(numbers)]]
+    lines = [line_of(document(number)) for number in numbers]
+    texts = [lines[0], b"".join(lines), b"%d\n" % len(lines)]
+    return [(0, out, "") for out in [*texts, stream(numbers), b"c\n", b"", stream(numbers)]]
 
 
 def by_sqlite(file, *statements):
@@ -403,30 +408,34 @@ shop = Session("race.db")
 acknowledged, asked, reads, wrong, ends = 1, 1, 0, [], threading.Event()
 
 
-def count_lines(out):
-    ids = [json.loads(line)["_id"] for line in out.splitlines()]
-    return len(ids) if ids == list(range(len(ids))) else None
+def counter(pieces):
+    """What says how many documents an answer has, of which there is one for each of these pieces; None if it is no state. It
+    compares bytes, since 20 threads that read documents would keep the session's own from its turn."""
+    whole = b"".join(pieces)
+    numbers = {end: number for number, end in enumerate(itertools.accumulate(map(len, pieces), initial=0))}
+    return lambda out: numbers.get(len(out)) if whole.startswith(out) else None
 
 
-def count_bodies(out):
-    number = len(bson.decode_all(out))
-    return number if out == stream(range(number)) else None
-
-
-# How many documents an answer has; None if it is no state.
+EVERY = [document(number) for number in range(INSERTS + 1)]
+count_bodies = counter(list(map(bson.encode, EVERY)))
+count_lines = counter([line_of(each) for each in EVERY])
 COUNTS = [(["export", "c"], count_bodies), (["count", "c"], int), (["find", "c"], count_lines), (["count", "c", '{"_id":{"$ne":-1}}'], int)]
+# How many times as long as a read took its reader waits before the next one. So some seven of the 20 read at a time, and the
+# session, which has to wait for its turn on the processors as often as it answers, isn't kept from it.
+REST = 2
 
 
 def read(number):
     global reads
     while not ends.is_set():
         words, count = COUNTS[(number + reads) % len(COUNTS)]
-        least = acknowledged
+        least, at = acknowledged, time.time()
         status, out, told = run("race.db", *words)
-        most = asked
+        most, took = asked, time.time() - at
         if (status, told) != (0, "") or not least <= (count(out) or 0) <= most:
             wrong.append((words, least, most, status, out[:100], told))
         reads += 1
+        ends.wait(REST * took)
 
 
 readers = [threading.Thread(target=read, args=(number,)) for number in range(20)]

@@ -118,6 +118,17 @@ TABLE = [
     ('{"id":1,"do":["remove","c",1]}', '{"id":1}'),
     ('{"id":1,"do":["insert","c",{"_id":1}]}', '{"id":1,"_id":%s}' % int32(1)),
     (' [ "count" , "c" ] ', '{"count":2}'),
+    ('["index","d","a"]', "{}"),
+    ('["index","d","a"]', "{}"),
+    ('["index","none","a.b.0"]', "{}"),
+    ('["index","",""]', '{"refused":"BadName"}'),
+    ('["find","d",{"a":1.5}]', '{"documents":[{"_id":%s,"a":{"$numberDouble":"1.5"}}]}' % int32(2)),
+    ('["set","d",4,"a",1.5]', "{}"),
+    ('["count","d",{"a":{"$in":[1.5,7]}}]', '{"count":2}'),
+    ('{"id":1,"do":["drop_index","d","a"]}', '{"id":1}'),
+    ('["drop_index","d","a"]', "{}"),
+    ('["drop_index","","a"]', '{"refused":"BadName"}'),
+    ('["count","d",{"a":1.5}]', '{"count":2}'),
 ]
 # Lines that ask for nothing, and where they are wrong.
 WRONG = [
@@ -130,7 +141,8 @@ WRONG = [
     ('["insert","c",1]', "document"), ('["put","c",{"_id":{"$oid":"x"}}]', "document"), ('["insert","c",{"a":{"$oid":1}}]', "document"),
     ('["import","c",[{"_id":1},2]]', "document 1"), ('["import","c",[{"_id":1},{"a":{"$numberInt":"x"}}]]', "document 1"),
     ('["get","c",{"$oid":"x"}]', "id"), ('["set","c",{"$date":1.5},"k",1]', "id"), ('["set","c",1,2,3]', "key"), ('["unset","c",1,null]', "key"),
-    ('["set","c",1,"k",{"$numberInt":"x"}]', "value"),
+    ('["set","c",1,"k",{"$numberInt":"x"}]', "value"), ('["index","c",["a"]]', "path"), ('["drop_index","c",1]', "path"),
+    ('["index","c"]', "command"), ('["index",1,1]', "collection"), ('["drop_index","c","a",1]', "command"),
     ('["find","c",1]', "query is no object"), ('["find","c",{"a":{"$gt":1}}]', "query no operator $gt"),
     ('["count","c",{"a.b":{"$exists":2.5}}]', "query $exists takes no such value"),
     ('["import","c","x"]', "stream"), ('["import","c",%s]' % binary(ONE, "05"), "stream"), ('["import","c",1]', "stream"),

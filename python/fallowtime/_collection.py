@@ -6,13 +6,14 @@ import builtins
 import json
 import os
 from collections.abc import Mapping, MutableMapping
-from typing import IO, TYPE_CHECKING, Any, Dict, Iterable, List, Optional, Tuple, Union
+from typing import IO, TYPE_CHECKING, Any, Dict, Iterable, List, Optional, Sequence, Tuple, Union
 
 from ._absent import OF_COLLECTION, WithAbsent, refuse, test_options
 from ._cursor import Cursor
 from ._decode import Tree
 from ._encode import encode_document, encode_text, encode_value, test_document
 from ._errors import Refused
+from ._index import name_of, path_to_drop, path_to_make
 from ._query import are_operators, asks_for_id, encode_query, ids_of, is_number, is_regex
 from ._results import DeleteResult, InsertManyResult, InsertOneResult, UpdateResult
 from ._update import Update, read_update
@@ -23,6 +24,7 @@ if TYPE_CHECKING:
 
 Document = Mapping[str, Any]
 File = Union[str, "os.PathLike[str]", IO[bytes]]
+Keys = Union[str, Sequence[Any], Mapping[str, Any]]
 
 
 class Collection(WithAbsent):
@@ -80,7 +82,7 @@ class Collection(WithAbsent):
         return InsertManyResult([own for _, own in written])
 
     def import_(self, file: File) -> int:
-        """Puts the documents of a file in, all or none: BSON, one behind the other, each with its `_id`. The file is
+        """Puts the documents of a file in, all or none: BSON, one after the other, each with its `_id`. The file is
         named, or is open for bytes. Returns how many there are.
 
         `DuplicateKeyError` as in `insert_many`. ValueError if the file has more than some 48 MiB; the program takes
@@ -125,7 +127,7 @@ class Collection(WithAbsent):
         return int(self._ask("count")["count"])
 
     def export(self, file: File) -> int:
-        """Writes all documents as BSON, one behind the other, to a file that is named, or is open for bytes. Returns
+        """Writes all documents as BSON, one after the other, to a file that is named, or is open for bytes. Returns
         how many there are. A file that is there is written over."""
         stream = binascii.a2b_base64(self._ask("export")["bytes"]["$binary"]["base64"])
         if isinstance(file, (str, os.PathLike)):
@@ -196,6 +198,23 @@ class Collection(WithAbsent):
                 if self._answer_if_found("remove", own) is not None:
                     return DeleteResult(1)
             return DeleteResult(0)
+
+    # ---- indexes
+
+    def create_index(self, keys: Keys, **options: Any) -> str:
+        """Makes an index on a path, if there is none, and returns its name: ``customer.city_1``. `keys` is the path, or
+        a list of it and 1. It is kept in memory, and gone when the store is closed.
+
+        Of what a query selects nothing changes. One that asks for a value at the path looks at the documents that have
+        it; any other looks at all of them.
+        """
+        path = path_to_make(keys, options)
+        self._ask("index", encode_text(path))
+        return name_of(path)
+
+    def drop_index(self, index_or_name: Keys, **options: Any) -> None:
+        """Drops the index with a name, or on the path of such a list as `create_index` takes. There may be none."""
+        self._ask("drop_index", encode_text(path_to_drop(index_or_name, options)))
 
     # ---- parts
 
@@ -303,7 +322,7 @@ def _give_id(document: Document, own: Any) -> None:
 
 
 def _number_of_documents(stream: bytes) -> int:
-    """How many documents lie one behind the other. Each begins with its length."""
+    """How many documents lie one after the other. Each begins with its length."""
     number = at = 0
     while at < len(stream):
         at += int.from_bytes(stream[at:at + 4], "little")

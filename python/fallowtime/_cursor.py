@@ -9,7 +9,7 @@ from ._decode import Decoder, Tree
 
 class Cursor(WithAbsent):
     """The documents that `find` returned, in the order in which they came into the collection. They are as they were
-    when `find` was called, whatever is changed behind it."""
+    when `find` was called, whatever is changed after it."""
 
     __slots__ = ("_trees", "_decoder")
     _absent = OF_CURSOR
@@ -29,7 +29,7 @@ class Cursor(WithAbsent):
         return self._decoder.document(tree)
 
     def next(self) -> Dict[str, Any]:
-        """The next document. StopIteration behind the last one."""
+        """The next document. StopIteration after the last one."""
         return next(self)
 
     def to_list(self) -> List[Dict[str, Any]]:

@@ -15,7 +15,7 @@ class FallowtimeError(Exception):
 class Refused(FallowtimeError):
     """A request was refused, and nothing was changed. The store goes on.
 
-    Only behind the kinds ``"Memory"`` and ``"Database"``, for which the machine is at fault, the change may be there.
+    Only after the kinds ``"Memory"`` and ``"Database"``, for which the machine is at fault, the change may be there.
     `kind` is the name of the refusal, such as ``"NotFound"``; ``fallowtime --explain KIND`` says what each means, and
     what to do. `document` is the place, from 0, of the document at fault of several, `key` the path of the key at
     fault, and `at` what of a request can't be read if `kind` is ``"Words"``. Each is None if there is none.

@@ -148,7 +148,7 @@ def refused_of(text: str) -> Optional[Refused]:
 
 
 def _places(rest: str) -> Tuple[Optional[int], Optional[str]]:
-    """The document and the key that are named behind a kind."""
+    """The document and the key that are named after a kind."""
     name, _, value = rest.partition(" ")
     if name == "document" and value.isdigit():
         return int(value), None

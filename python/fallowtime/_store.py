@@ -64,7 +64,7 @@ class Store(WithAbsent):
         run(self._program, [self._path, "backup", absolute(path), *self._waiting])
 
     def close(self) -> None:
-        """Closes the file. Requests behind that are `Ended`. It may be called again."""
+        """Closes the file. Requests after that are `Ended`. It may be called again."""
         self._session.close()
 
     def __enter__(self) -> "Store":

@@ -23,14 +23,14 @@ class Update:
         self.texts = {key: encode_value(value) for key, value in given.items()}
 
     def changes(self, tree: Tree, decoder: Decoder) -> bool:
-        """Whether a document, as a tree, is another one behind the update."""
+        """Whether a document, as a tree, is another one after the update."""
         for key, text in self.texts.items():
             if key not in tree or encode_value(decoder.value(tree[key])) != text:
                 return True
         return any(key in tree for key in self.taken)
 
     def text_behind(self, tree: Tree) -> str:
-        """The JSON of a document behind the update."""
+        """The JSON of a document after the update."""
         changed = {key: value for key, value in tree.items() if key not in self.taken}
         changed.update((key, json.loads(text)) for key, text in self.texts.items())
         return json.dumps(changed, ensure_ascii=False, separators=(",", ":"))

@@ -321,6 +321,82 @@ class Changing(WithFolder):
         self.assertEqual(self.orders.delete_one({"c": 1}).deleted_count, 1)
 
 
+class Indexes(WithFolder):
+    def setUp(self):
+        super().setUp()
+        self.store = self.open()
+        self.orders = self.store["orders"]
+        self.documents = [{"_id": number, "customer": {"city": city}, "price": number % 3}
+                          for number, city in enumerate(["Ulm", "Bonn", "Ulm", None, "Rome", "Bonn"])]
+        self.orders.insert_many(self.documents)
+
+    def ids(self, query):
+        return [found["_id"] for found in self.orders.find(query)]
+
+    def test_what_is_found_stays(self):
+        queries = [{"customer.city": "Ulm"}, {"customer.city": None}, {"customer.city": {"$in": ["Bonn", "Rome", 7]}},
+                   {"price": 1, "customer.city": "Bonn"}, {"$or": [{"price": 0}, {"price": 2.0}]}, {"price": Int64(1)},
+                   {"customer.city": {"$ne": "Ulm"}}, {"customer": {"city": "Rome"}}, {}]
+
+        def answers():
+            return [(self.ids(query), self.orders.count_documents(query)) for query in queries]
+
+        before = answers()
+        self.assertEqual(self.orders.create_index("customer.city"), "customer.city_1")
+        self.assertEqual(self.orders.create_index([("price", 1)]), "price_1")
+        self.assertEqual(answers(), before)
+        self.orders.insert_one({"_id": 9, "customer": {"city": "Ulm"}})
+        self.assertEqual(self.ids(queries[0]), [0, 2, 9])
+        self.orders.delete_one({"_id": 0})
+        self.orders.update_one({"_id": 1}, {"$set": {"customer": {"city": "Ulm"}}})
+        self.orders.replace_one({"_id": 2}, {"customer": {"city": "Bonn"}})
+        self.assertEqual((self.ids(queries[0]), self.ids({"customer.city": "Bonn"})), ([1, 9], [2, 5]))
+        changed = answers()
+        self.orders.drop_index("customer.city_1")
+        self.orders.drop_index({"price": 1})
+        self.orders.drop_index([("none", 1)])
+        self.assertEqual(answers(), changed)
+        self.store.close()
+        self.store = self.open()
+        self.orders = self.store["orders"]
+        self.assertEqual(answers(), changed)
+
+    def test_forms_of_keys(self):
+        for keys in "a.b", ["a.b"], [("a.b", 1)], (["a.b", 1],), {"a.b": 1}, [("a.b", 1.0)]:
+            self.assertEqual(self.orders.create_index(keys), "a.b_1")
+        for keys in "a.b_1", ["a.b"], [("a.b", 1)], {"a.b": 1}:
+            self.assertIsNone(self.orders.drop_index(keys))
+        self.assertEqual(self.orders.create_index("a_1"), "a_1_1")
+        self.assertEqual(self.orders.create_index("", unique=False, session=None), "_1")
+        self.assertEqual(self.store["none"].create_index("ü\"\n"), "ü\"\n_1")
+        self.assert_refused("BadName", self.store[""].create_index, "a")
+        self.assert_refused("BadName", self.store[""].drop_index, "a_1")
+        self.assertEqual(self.store.list_collection_names(), ["orders"])
+
+    def test_what_cannot_be_had(self):
+        self.store.close()
+        for keys, name in [([("a", 1), ("b", 1)], "several keys"), (["a", "b"], "several keys"),
+                           ({"a": 1, "b": 1}, "several keys"), ([("a", -1)], "-1"), ({"a": "text"}, "text"),
+                           ([("a", "hashed")], "hashed"), ([("a", True)], "True"),
+                           ("$**", r"\$\*\*"), ([("a.$**", 1)], r"a\.\$\*\*")]:
+            with self.assertRaisesRegex(NotImplementedError, name):
+                self.orders.create_index(keys)
+            if not isinstance(keys, str):
+                with self.assertRaisesRegex(NotImplementedError, name):
+                    self.orders.drop_index(keys)
+        for option in [{"unique": True}, {"name": "x"}, {"sparse": True}, {"expireAfterSeconds": 0},
+                       {"background": True}, {"partialFilterExpression": {}}, {"collation": {}}, {"session": 1}]:
+            with self.assertRaisesRegex(NotImplementedError, next(iter(option))):
+                self.orders.create_index("a", **option)
+        for keys, error in [(None, TypeError), (5, TypeError), ([], ValueError), ([("a",)], TypeError),
+                            ([5], TypeError), ([(5, 1)], TypeError)]:
+            self.assertRaises(error, self.orders.create_index, keys)
+            self.assertRaises(error, self.orders.drop_index, keys)
+        self.assertRaises(TypeError, self.orders.create_index, "a", uniqe=True)
+        for name in "a", "a_-1", "":
+            self.assertRaises(ValueError, self.orders.drop_index, name)
+
+
 class Files(WithFolder):
     def test_export_and_import(self):
         with self.open() as store:
@@ -396,7 +472,7 @@ class Absent(WithFolder):
         collection, cursor = store["c"], store["c"].find()
         store.close()
         for name in ("update_many", "delete_many", "bulk_write", "aggregate", "distinct", "drop", "rename",
-                     "create_index", "find_one_and_update",
+                     "create_indexes", "drop_indexes", "index_information", "find_one_and_update",
                      "find_one_and_replace", "find_one_and_delete", "watch", "list_indexes"):
             with self.assertRaisesRegex(NotImplementedError, name):
                 getattr(collection, name)({}, x=1)
