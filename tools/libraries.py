@@ -3,17 +3,19 @@
 
 tools/libraries.py [--at-once N] [CRATE ..]
 
-N is how many crates are proved at once, 4 if it isn't given; each takes one processor and up to 4 GB. All libraries are built if
-no CRATE is named; of a program only the proofs are checked. `rt` locks the folders of all crates below the one that it works in, so
-its runs in one checkout wait for each other, and it sums the sources of these crates once for each way that leads to them: minutes,
-in a crate of many layers. So it runs here without its locks, each crate after those below it, and with its sums kept. Nobody else
-may work in the checkout meanwhile. What each crate's run said is in target/libraries/CRATE.log.
+N is how many crates are proved at once: one for each processor, as far as memory goes, if it isn't given, as each takes one
+processor and up to 5 GB. All libraries are built if no CRATE is named; of a program only the proofs are checked. `rt` locks the
+folders of all crates below the one that it works in, so its runs in one checkout wait for each other, and it sums the sources of these
+crates once for each way that leads to them: minutes, in a crate of many layers. So it runs here without its locks, each crate after
+those below it, and with its sums kept. A second run in the checkout waits for the first; `rt` itself may not work there meanwhile.
+What each crate's run said is in target/libraries/CRATE.log.
 """
 import argparse
 import fcntl
 import importlib.machinery
 import os
 import pathlib
+import re
 import runpy
 import shutil
 import subprocess
@@ -23,6 +25,8 @@ import time
 
 ROOT = pathlib.Path(__file__).resolve().parent.parent
 LOGS = ROOT / "target" / "libraries"
+# What the proof of a crate may take of memory, in bytes.
+ROOM = 5 << 30
 
 
 def run_rt(words):
@@ -56,6 +60,12 @@ def with_below(below, names):
             wanted.add(name)
             left += below[name]
     return wanted
+
+
+def at_once():
+    """How many crates can be proved at once: as many as there are processors and rooms in the free memory, and one at least."""
+    free = re.search(r"^MemAvailable: +([0-9]+) kB", pathlib.Path("/proc/meminfo").read_text(encoding="utf-8"), re.MULTILINE)
+    return max(1, min(len(os.sched_getaffinity(0)), int(free[1]) * 1024 // ROOM))
 
 
 class Builds:
@@ -99,7 +109,7 @@ def main():
     if sys.argv[1:2] == ["--rt"]:
         return run_rt(sys.argv[2:])
     reader = argparse.ArgumentParser(description=__doc__, formatter_class=argparse.RawDescriptionHelpFormatter)
-    reader.add_argument("--at-once", type=int, default=4)
+    reader.add_argument("--at-once", type=int, default=at_once())
     reader.add_argument("crates", nargs="*", metavar="CRATE")
     words, below = reader.parse_args(), crates()
     unknown = [name for name in words.crates if name not in below]
@@ -107,6 +117,9 @@ def main():
         reader.error(f"crates.txt has no {unknown[0]}")
     libraries = [name for name in below if (ROOT / "crates" / name / "src" / "lib.rt").exists()]
     LOGS.mkdir(parents=True, exist_ok=True)
+    # It is held until this process ends.
+    lock = open(LOGS / "lock", "w", encoding="utf-8")
+    fcntl.flock(lock, fcntl.LOCK_EX)
     builds = Builds(below, with_below(below, words.crates or libraries), max(1, words.at_once))
     builds.run()
     return 1 if builds.failed or builds.left else 0
