@@ -17,6 +17,7 @@ mod visiting;
 pub use check::RowCheck;
 pub use fault::Fault;
 pub use opening::OpenError;
+pub use own::is_own;
 pub use row::{Found, NewKey, NewRow};
 pub use table::Table;
 pub use visiting::{Visit, VisitPlaced};

@@ -104,8 +104,8 @@ fn is_ours(alloc: Global, table: &Table) -> Result<bool, AllocError>
     has_no_rules(alloc, table)
 }
 
-/// Whether ours is the only table of a schema.
-pub(crate) fn is_own(alloc: Global, schema: &Schema) -> Result<bool, AllocError>
+/// Whether ours is the only table of a schema. Refused if memory is.
+pub fn is_own(alloc: Global, schema: &Schema) -> Result<bool, AllocError>
     ensures { IfOk result (λ own. IsTrue own → HasStoreTable schema.now) }
 {
     match schema.tables.as_slice() {
