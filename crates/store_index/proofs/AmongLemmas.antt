@@ -102,7 +102,7 @@ ascends_more (x ∷ xs) p b h = (all_behind x p xs b.0 h.0, ascends_more xs p b.
 
 -- ---- all of a beginning
 
-or_cases : (a b : Bool) → (a || b) ≡ true → (a ≡ true) ⊎ (b ≡ true)
+pub or_cases : (a b : Bool) → (a || b) ≡ true → (a ≡ true) ⊎ (b ≡ true)
 or_cases true b h = inl refl
 or_cases false b h = inr h
 

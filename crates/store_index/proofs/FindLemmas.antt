@@ -1,16 +1,19 @@
 -- Documents that an index finds.
-use Rattle.std.proofs.Common.{◌≡◌, ◌⊎◌, inl, inr, drop, ◌++◌, ◌∷◌, [], ℕ, ℤ, List, Option, Some, None, Result, Ok, Err, string_bytes, sym, ap, ◌∙◌, subst}
+use Rattle.std.proofs.Common.{◌≡◌, ◌⊎◌, inl, inr, drop, ◌++◌, ◌∷◌, [], ℕ, ℤ, List, Option, Some, None, Result, Ok, Err, string_bytes, sym, ap, ap₂, ◌∙◌, subst}
+use Rattle.std.specs.List.{AllByRecursion}
 use Rattle.std.specs.Prelude.{IsSomeAnd, OnOk}
+use Rattle.std.proofs.lemmas.List.{append-nil}
 use Rattle.std.specs.declared.alloc.AllocError.{AllocError}
 use Rattle.bson_base.specs.Value.{Value, document, Members}
 use Rattle.bson_bytes.specs.Encode.{encode}
 use Rattle.bson_meaning.specs.Meaning.{norm_members_in_order, Same}
 use Rattle.bson_meaning.proofs.NowLemmas.{in_order_same}
 use Rattle.bson_meaning.proofs.PlainLemmas.{only_same}
+use Rattle.store_filter.specs.Filters.{path_of}
 use Rattle.store_model.specs.Filter.{Path, at}
 use Rattle.store_model.specs.State.{id_key}
 use Rattle.store_model.specs.Table.{only_id}
-use Rattle.store_index.specs.Find.{FindsIn, FindsOf, FindEach, IsAsBefore, IsOn, HasOn}
+use Rattle.store_index.specs.Find.{FindsIn, FindsOf, FindEach, IsAsBefore, IsOn, HasOn, kinds_of}
 use Rattle.store_index.specs.Keys.{KeyAt, value_key}
 use Rattle.store_index.specs.Under.{HasPlace}
 use Rattle.store_index.specs.declared.index.Index.{Index}
@@ -36,9 +39,12 @@ under_its_key ps d p a b place h there k = subst (λ x. HasPlace ps x place) (on
 
 -- ---- several indexes
 
+pub all_more : (P : Index → Type 0) (ixs : List Index) (ix : Index) → AllByRecursion P ixs → P ix → AllByRecursion P (ixs ++ ix ∷ [])
+all_more P [] ix h one = (one, tt)
+all_more P (x ∷ ixs) ix h one = (h.0, all_more P ixs ix h.1 one)
+
 pub each_more : (c : List ℕ) (p : ℤ) (b : List ℕ) (ixs : List Index) (ix : Index) → FindEach ixs c p b → FindsOf ix c p b → FindEach (ixs ++ ix ∷ []) c p b
-each_more c p b [] ix h one = (one, tt)
-each_more c p b (x ∷ ixs) ix h one = (h.0, each_more c p b ixs ix h.1 one)
+each_more c p b ixs ix h one = all_more (λ (jx : Index). FindsOf jx c p b) ixs ix h one
 
 pub note_of : (old new : Index) (c : List ℕ) (p : ℤ) (b : List ℕ) (r : Result (Unit {0}) AllocError) → IsAsBefore old new → (FindsIn old p b → OnOk r (FindsIn new p b)) → FindsOf old c p b → OnOk r (FindsOf new c p b)
 note_of old new c p b (Ok x) same kept h = λ e. kept (h (sym (ap (λ s. string_bytes s) same.0) ∙ e))
@@ -75,24 +81,24 @@ not_first c p here rest ix all split other h = (λ r. h.0 (subst (λ xs. HasOn x
     behind (inl one) = absurd (other one)
     behind (inr r) = r
 
-pub has_more : (c : List ℕ) (p : Path) (ixs : List Index) (ix : Index) → HasOn (ixs ++ ix ∷ []) c p → HasOn ixs c p ⊎ IsOn ix c p
-has_more c p [] ix (inl one) = inr one
-has_more c p [] ix (inr none) = absurd none
-has_more c p (x ∷ ixs) ix (inl one) = inl (inl one)
-has_more c p (x ∷ ixs) ix (inr h) = by (has_more c p ixs ix h)
-  where
-    by : HasOn ixs c p ⊎ IsOn ix c p → HasOn (x ∷ ixs) c p ⊎ IsOn ix c p
-    by (inl r) = inl (inr r)
-    by (inr one) = inr one
+pub has_still : (c : List ℕ) (p : Path) (ixs : List Index) (ix : Index) → HasOn ixs c p → HasOn (ixs ++ ix ∷ []) c p
+has_still c p [] ix h = absurd h
+has_still c p (x ∷ ixs) ix (inl one) = inl one
+has_still c p (x ∷ ixs) ix (inr h) = inr (has_still c p ixs ix h)
 
 pub has_last : (c : List ℕ) (p : Path) (ixs : List Index) (ix : Index) → IsOn ix c p → HasOn (ixs ++ ix ∷ []) c p
 has_last c p [] ix one = inl one
 has_last c p (x ∷ ixs) ix one = inr (has_last c p ixs ix one)
 
--- an index that isn't on the path comes last
-pub none_more : (c : List ℕ) (p : Path) (ixs all : List Index) (ix : Index) → all ≡ ixs ++ ix ∷ [] → (IsOn ix c p → ⊥) → (HasOn ixs c p → ⊥) → HasOn all c p → ⊥
-none_more c p ixs all ix put other none h = by (has_more c p ixs ix (subst (λ xs. HasOn xs c p) put h))
-  where
-    by : HasOn ixs c p ⊎ IsOn ix c p → ⊥
-    by (inl r) = none r
-    by (inr one) = other one
+-- ---- which indexes there are
+
+in_place_of : (new rest : List Index) (ix jx : Index) → IsAsBefore ix jx → kinds_of ((new ++ jx ∷ []) ++ rest) ≡ kinds_of (new ++ ix ∷ rest)
+in_place_of [] rest ix jx same = ap₂ (λ k l. (string_bytes k, path_of l.items) ∷ kinds_of rest) same.0 same.1
+in_place_of (x ∷ new) rest ix jx same = ap (λ ks. (string_bytes x.coll, path_of x.path.items) ∷ ks) (in_place_of new rest ix jx same)
+
+-- the first of the indexes, which was changed, comes behind those that were
+pub kinds_first : (list rest all new after : List Index) (ix jx : Index) → all ≡ ix ∷ rest → after ≡ new ++ jx ∷ [] → IsAsBefore ix jx → kinds_of (new ++ all) ≡ kinds_of list → kinds_of (after ++ rest) ≡ kinds_of list
+kinds_first list rest all new after ix jx split put same h = ap (λ xs. kinds_of (xs ++ rest)) put ∙ in_place_of new rest ix jx same ∙ sym (ap (λ xs. kinds_of (new ++ xs)) split) ∙ h
+
+pub kinds_all : (list new left : List Index) → left ≡ [] → kinds_of (new ++ left) ≡ kinds_of list → kinds_of new ≡ kinds_of list
+kinds_all list new left none h = ap kinds_of (sym (append-nil new)) ∙ sym (ap (λ xs. kinds_of (new ++ xs)) none) ∙ h

@@ -1,5 +1,5 @@
 -- Which documents an index finds.
-use Rattle.std.specs.Prelude.{◌≡◌, ◌⊎◌, ◌∷◌, [], ℕ, ℤ, List, Some, Vec, string_bytes}
+use Rattle.std.specs.Prelude.{◌≡◌, ◌⊎◌, ◌∷◌, [], ℕ, ℤ, List, map, Some, Vec, string_bytes}
 use Rattle.std.specs.List.{AllByRecursion}
 use Rattle.std.specs.declared.alloc.Global.{Global}
 use Rattle.bson_base.specs.Value.{Members}
@@ -27,6 +27,28 @@ FindEach ixs coll place body = AllByRecursion (λ (ix : Index). FindsOf ix coll 
 abbrev pub Finds : Indexes → List ℕ → ℤ → List ℕ → Type 0
 Finds ixs coll place body = FindEach ixs.list.items coll place body
 
+-- the place of no document of this body is under the key of the value at the path
+abbrev pub MissesIn : Index → ℤ → List ℕ → Type 0
+MissesIn ix place body = (d : Members) → IsKept d → body ≡ encode d → (k : Vec ℕ Global) → KeyAt d (path_of ix.path.items) (Some k.items) → HasPlace ix.places k.items place → ⊥
+
+-- each index misses it
+abbrev pub MissEach : List Index → ℤ → List ℕ → Type 0
+MissEach ixs place body = AllByRecursion (λ (ix : Index). MissesIn ix place body) ixs
+
+abbrev pub Misses : Indexes → ℤ → List ℕ → Type 0
+Misses ixs place body = MissEach ixs.list.items place body
+
+-- the place is under the key of an old body only if that is the key of the new one, too
+abbrev pub RenewsIn : Index → ℤ → List ℕ → List ℕ → Type 0
+RenewsIn ix place old body = (d e : Members) → IsKept d → IsKept e → old ≡ encode d → body ≡ encode e → (k : Vec ℕ Global) → KeyAt d (path_of ix.path.items) (Some k.items) → HasPlace ix.places k.items place → (KeyAt e (path_of ix.path.items) (Some k.items) → ⊥) → ⊥
+
+-- the same of each index
+abbrev pub RenewEach : List Index → ℤ → List ℕ → List ℕ → Type 0
+RenewEach ixs place old body = AllByRecursion (λ (ix : Index). RenewsIn ix place old body) ixs
+
+abbrev pub Renews : Indexes → ℤ → List ℕ → List ℕ → Type 0
+Renews ixs place old body = RenewEach ixs.list.items place old body
+
 -- one index for another of the same collection on the same path
 abbrev pub IsAsBefore : Index → Index → Type 0
 IsAsBefore old new = (new.coll ≡ old.coll) × (new.path ≡ old.path)
@@ -42,3 +64,11 @@ HasOn (ix ∷ ixs) coll path = IsOn ix coll path ⊎ HasOn ixs coll path
 
 abbrev pub Has : Indexes → List ℕ → Path → Type 0
 Has ixs coll path = HasOn ixs.list.items coll path
+
+-- which indexes there are, each by its collection and its path
+abbrev pub kinds_of : List Index → List (List ℕ × Path)
+kinds_of ixs = map (λ (ix : Index). (string_bytes ix.coll, path_of ix.path.items)) ixs
+
+-- the same are there as before
+abbrev pub AreAsBefore : Indexes → Indexes → Type 0
+AreAsBefore old new = kinds_of new.list.items ≡ kinds_of old.list.items

@@ -1,4 +1,5 @@
 pub mod Lists
+pub mod Propositions
 pub mod Under
 pub mod Keys
 pub mod Find

@@ -2,7 +2,7 @@
 
 ghost use Rattle.std.specs.Prelude.{◌≡◌, ◌≢◌, ◌↔◌, ℕ, ℤ, List, IsTrue, OnOk, string_bytes};
 ghost use Rattle.store_filter.specs.Filters.{path_of};
-ghost use Rattle.store_index.specs.Find.{FindsIn, FindsOf, IsAsBefore, IsOn};
+ghost use Rattle.store_index.specs.Find.{FindsIn, FindsOf, IsAsBefore, IsOn, MissesIn, RenewsIn};
 
 use crate::keys::{is_same_path, key_at};
 use crate::places::Places;
@@ -33,6 +33,8 @@ impl Index {
         ensures noted { OnOk result (FindsIn self.new place body.now) }
         ensures kept { (p : ℤ) (b : List ℕ) → FindsIn self.old p b
             → OnOk result (FindsIn self.new p b) }
+        ensures renewed { (p : ℤ) (b : List ℕ) → MissesIn self.old p b
+            → OnOk result (RenewsIn self.new p b body.now) }
         ensures same { IsAsBefore self.old self.new }
     {
         match key_at(alloc, body, self.path.as_slice())? {
@@ -55,6 +57,9 @@ impl Index {
         ensures noted { OnOk result (FindsOf self.new coll.now place body.now) }
         ensures kept { (c : List ℕ) (p : ℤ) (b : List ℕ) → FindsOf self.old c p b
             → OnOk result (FindsOf self.new c p b) }
+        ensures renewed { (p : ℤ) (b : List ℕ) → MissesIn self.old p b
+            → OnOk result (RenewsIn self.new p b body.now) }
+        ensures same { IsAsBefore self.old self.new }
     {
         if !self.is_of(coll) {
             return Ok(());
@@ -79,8 +84,10 @@ impl Index {
     /// Forgets the document at a place, whose body this was. A refusal may leave less than it found, so it is to be
     /// dropped.
     pub fn forget(&mut self, alloc: Global, place: i64, body: &[u8]) -> Result<(), AllocError>
+        ensures gone { OnOk result (MissesIn self.new place body.now) }
         ensures kept { (c : List ℕ) (p : ℤ) (b : List ℕ) → p ≢ place → FindsOf self.old c p b
             → OnOk result (FindsOf self.new c p b) }
+        ensures same { IsAsBefore self.old self.new }
     {
         match key_at(alloc, body, self.path.as_slice())? {
             None => Ok(()),

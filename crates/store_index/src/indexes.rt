@@ -2,12 +2,12 @@
 
 ghost use Rattle.std.specs.Prelude.{◌≡◌, ◌≢◌, ◌⊎◌, ◌↔◌, ℕ, ℤ, List, [], IfOk, IfSome, IsTrue, OnOk, OnErr, string_bytes};
 ghost use Rattle.store_filter.specs.Filters.{filter_of, path_of};
-ghost use Rattle.store_index.specs.Find.{FindsOf, FindEach, Finds, Has, HasOn};
+ghost use Rattle.store_model.specs.Filter.{Path};
+ghost use Rattle.store_index.specs.Find.{AreAsBefore, FindsOf, FindEach, Finds, Has, MissEach, Misses, RenewEach, Renews, kinds_of};
 ghost use Rattle.store_index.specs.Lists.{Ascends};
 ghost use Rattle.store_index.specs.Serving.{Covers, IsBy};
 
 use crate::index::Index;
-use crate::keys::is_same_path;
 use crate::serving::places_by;
 use std::alloc::{AllocError, Global};
 use store_filter::Filter;
@@ -30,6 +30,9 @@ fn noting(
     ensures noted { IfOk result (λ new. FindEach new.items coll.now place body.now) }
     ensures kept { (c : List ℕ) (p : ℤ) (b : List ℕ) → FindEach list.items c p b
         → IfOk result (λ new. FindEach new.items c p b) }
+    ensures renewed { (p : ℤ) (b : List ℕ) → MissEach list.items p b
+        → IfOk result (λ new. RenewEach new.items p b body.now) }
+    ensures same { IfOk result (λ new. kinds_of new.items ≡ kinds_of list.items) }
 {
     let mut new = Vec::with_capacity(alloc, list.len())?;
     for mut index in list {
@@ -46,50 +49,15 @@ fn forgetting(
     place: i64,
     body: &[u8],
 ) -> Result<Vec<Index>, AllocError>
+    ensures gone { IfOk result (λ new. MissEach new.items place body.now) }
     ensures kept { (c : List ℕ) (p : ℤ) (b : List ℕ) → p ≢ place → FindEach list.items c p b
         → IfOk result (λ new. FindEach new.items c p b) }
+    ensures same { IfOk result (λ new. kinds_of new.items ≡ kinds_of list.items) }
 {
     let mut new = Vec::with_capacity(alloc, list.len())?;
     for mut index in list {
         index.forget(alloc, place, body)?;
         new.push(index)?;
-    }
-    Ok(new)
-}
-
-/// Puts an index last, if it isn't one of the collection on the path.
-fn keep_other(
-    list: &mut Vec<Index>,
-    index: Index,
-    coll: &[u8],
-    path: &[String],
-) -> Result<(), AllocError>
-    ensures kept { (c : List ℕ) (p : ℤ) (b : List ℕ) → FindsOf index c p b
-        → FindEach list.old.items c p b → OnOk result (FindEach list.new.items c p b) }
-    ensures none { (HasOn list.old.items coll.now (path_of path.now) → ⊥)
-        → OnOk result (HasOn list.new.items coll.now (path_of path.now) → ⊥) }
-{
-    if index.is_on(coll, path) {
-        return Ok(());
-    }
-    list.push(index)?;
-    Ok(())
-}
-
-/// The indexes but those of a collection on a path.
-fn without(
-    alloc: Global,
-    list: Vec<Index>,
-    coll: &[u8],
-    path: &[String],
-) -> Result<Vec<Index>, AllocError>
-    ensures kept { (c : List ℕ) (p : ℤ) (b : List ℕ) → FindEach list.items c p b
-        → IfOk result (λ new. FindEach new.items c p b) }
-    ensures none { IfOk result (λ new. HasOn new.items coll.now (path_of path.now) → ⊥) }
-{
-    let mut new = Vec::with_capacity(alloc, list.len())?;
-    for index in list {
-        keep_other(&mut new, index, coll, path)?;
     }
     Ok(new)
 }
@@ -146,77 +114,79 @@ impl Indexes {
             → OnOk result (FindsOf index c p b → Finds self.new c p b) }
         ensures there { OnOk result (Has self.new (string_bytes index.coll)
             (path_of index.path.items)) }
+        ensures others { (c : List ℕ) (p : Path) → Has self.old c p → Has self.new c p }
         ensures refused { OnErr result (self.new.list.items ≡ self.old.list.items) }
     {
         self.list.push(index)?;
         Ok(())
     }
 
-    /// Drops those of a collection on a path, and all if memory is refused.
+    /// Drops those of a collection on a path.
     pub fn remove(&mut self, coll: &[u8], path: &[String])
         ensures gone { Has self.new coll.now (path_of path.now) → ⊥ }
+        ensures others { (c : List ℕ) (p : Path) → ((c ≡ coll.now) × (p ≡ path_of path.now) → ⊥)
+            → Has self.old c p ↔ Has self.new c p }
         ensures kept { (c : List ℕ) (p : ℤ) (b : List ℕ) → Finds self.old c p b
             → Finds self.new c p b }
         ensures none { self.old.list.items ≡ [] → self.new.list.items ≡ [] }
     {
-        if self.list.is_empty() {
-            return;
-        }
-        let list = self.take();
-        match without(self.alloc, list, coll, path) {
-            Ok(list) => {
-                self.list = list;
-            }
-            Err(_) => {}
-        }
+        self.list.retain(|index| !index.is_on(coll, path));
     }
 
-    /// Notes a document of a collection. All are dropped if memory is refused.
-    pub fn note(&mut self, coll: &[u8], place: i64, body: &[u8])
+    /// Notes a document of a collection. A refusal of memory drops all.
+    pub fn note(&mut self, coll: &[u8], place: i64, body: &[u8]) -> Result<(), AllocError>
         ensures noted { Finds self.new coll.now place body.now }
         ensures kept { (c : List ℕ) (p : ℤ) (b : List ℕ) → Finds self.old c p b
             → Finds self.new c p b }
+        ensures renewed { (p : ℤ) (b : List ℕ) → Misses self.old p b
+            → Renews self.new p b body.now }
+        ensures same { OnOk result (AreAsBefore self.old self.new) }
+        ensures dropped { OnErr result (self.new.list.items ≡ []) }
         ensures none { self.old.list.items ≡ [] → self.new.list.items ≡ [] }
     {
         if self.list.is_empty() {
-            return;
+            return Ok(());
         }
         let list = self.take();
-        match noting(self.alloc, list, coll, place, body) {
-            Ok(list) => {
-                self.list = list;
-            }
-            Err(_) => {}
-        }
+        self.list = noting(self.alloc, list, coll, place, body)?;
+        Ok(())
     }
 
-    /// Forgets the document at a place, whose body this was. All are dropped if memory is refused.
-    pub fn forget(&mut self, place: i64, body: &[u8])
+    /// Forgets the document at a place, whose body this was. A refusal of memory drops all.
+    pub fn forget(&mut self, place: i64, body: &[u8]) -> Result<(), AllocError>
+        ensures gone { Misses self.new place body.now }
         ensures kept { (c : List ℕ) (p : ℤ) (b : List ℕ) → p ≢ place → Finds self.old c p b
             → Finds self.new c p b }
+        ensures same { OnOk result (AreAsBefore self.old self.new) }
+        ensures dropped { OnErr result (self.new.list.items ≡ []) }
         ensures none { self.old.list.items ≡ [] → self.new.list.items ≡ [] }
     {
         if self.list.is_empty() {
-            return;
+            return Ok(());
         }
         let list = self.take();
-        match forgetting(self.alloc, list, place, body) {
-            Ok(list) => {
-                self.list = list;
-            }
-            Err(_) => {}
-        }
+        self.list = forgetting(self.alloc, list, place, body)?;
+        Ok(())
     }
 
-    /// Notes another body for the document at a place of a collection. All are dropped if memory is refused.
-    pub fn renew(&mut self, coll: &[u8], place: i64, old: &[u8], body: &[u8])
+    /// Notes another body for the document at a place of a collection. A refusal of memory drops all.
+    pub fn renew(
+        &mut self,
+        coll: &[u8],
+        place: i64,
+        old: &[u8],
+        body: &[u8],
+    ) -> Result<(), AllocError>
+        ensures gone { Renews self.new place old.now body.now }
         ensures noted { Finds self.new coll.now place body.now }
         ensures kept { (c : List ℕ) (p : ℤ) (b : List ℕ) → p ≢ place → Finds self.old c p b
             → Finds self.new c p b }
+        ensures same { OnOk result (AreAsBefore self.old self.new) }
+        ensures dropped { OnErr result (self.new.list.items ≡ []) }
         ensures none { self.old.list.items ≡ [] → self.new.list.items ≡ [] }
     {
-        self.forget(place, old);
-        self.note(coll, place, body);
+        self.forget(place, old)?;
+        self.note(coll, place, body)
     }
 
     /// The places, ascending, of all documents of a collection that a filter selects, and maybe of more: the fewest

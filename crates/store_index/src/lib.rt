@@ -1,6 +1,7 @@
 //! Indexes of collections on paths: the places of the documents by the meaning of what is at the path.
 #![tactic(auto)]
 
+mod ascending;
 mod index;
 mod indexes;
 mod keys;

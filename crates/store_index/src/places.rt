@@ -45,6 +45,8 @@ impl Places {
         ensures there { OnOk result (HasPlace self.new key.items place) }
         ensures kept { (k : Vec ℕ AnyGlobal) (p : ℤ) → HasPlace self.old k.items p
             → OnOk result (HasPlace self.new k.items p) }
+        ensures others { (k : Vec ℕ AnyGlobal) (p : ℤ) → k.items ≢ key.items
+            → OnOk result (HasPlace self.new k.items p → HasPlace self.old k.items p) }
     {
         let copy = Vec::from_slice(self.alloc, key.as_slice())?;
         // Most keys are new, so that one look-up does.
@@ -58,6 +60,7 @@ impl Places {
 
     /// Takes a place from under a key. A refusal may leave less than was there.
     pub fn take(&mut self, key: Vec<u8>, place: i64) -> Result<(), AllocError>
+        ensures gone { OnOk result (HasPlace self.new key.items place → ⊥) }
         ensures kept { (k : Vec ℕ AnyGlobal) (p : ℤ) → p ≢ place → HasPlace self.old k.items p
             → OnOk result (HasPlace self.new k.items p) }
     {

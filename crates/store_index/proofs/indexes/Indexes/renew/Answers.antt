@@ -1,8 +1,14 @@
-use Rattle.std.proofs.Common.{◌≡◌, ◌∙◌, w64, to_z, of_z}
+use Rattle.std.proofs.Common.{◌≡◌, ◌∙◌, ℤ, subst, w64, to_z, of_z}
 use Rattle.std.proofs.lemmas.Int.{to_z-of_z}
+use Rattle.store_index.specs.Find.{Renews}
 use Rattle.store_index.proofs.indexes.Indexes.renew.Goals as goal
 
 pub returns-clause-kept : goal.returns-clause-kept
 returns-clause-kept c k p b other h =
     let same : to_z w64 (of_z w64 c.args.place) ≡ c.args.place = to_z-of_z w64 c.args.place c.ranges.place in
     c.note.ensures.kept k p b (c.forget.ensures.kept k p b (λ e. other (e ∙ same)) h)
+
+pub returns-clause-gone : goal.returns-clause-gone
+returns-clause-gone c =
+    let same : to_z w64 (of_z w64 c.args.place) ≡ c.args.place = to_z-of_z w64 c.args.place c.ranges.place in
+    subst (λ (p : ℤ). Renews c.note.new.self p c.args.old.now c.args.body.now) same (c.note.ensures.renewed _ c.args.old.now c.forget.ensures.gone)
