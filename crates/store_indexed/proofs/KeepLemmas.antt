@@ -1,15 +1,17 @@
 -- Indexes are kept through a call of the table.
-use Rattle.std.proofs.Common.{◌≡◌, ◌⊎◌, inl, inr, ◌+ℤ◌, ◌++◌, ◌∷◌, [], ℕ, ℤ, pos, List, Bool, true, false, not, cond, Err, refl, sym, subst, ◌∙◌}
+use Rattle.std.proofs.Common.{◌≡◌, ◌⊎◌, inl, inr, ◌+ℤ◌, ◌++◌, ◌∷◌, [], ℕ, ℤ, pos, List, Bool, true, false, not, cond, Result, Ok, Err, refl, sym, ap, subst, ◌∙◌}
+use Rattle.std.specs.Prelude.{OnOk, OnErr}
+use Rattle.std.specs.declared.alloc.AllocError.{AllocError}
 use Rattle.std.proofs.lemmas.Bool.Decides.{Decides-int_eq}
 use Rattle.sqlite.specs.State.{State, HasCleanDisk}
-use Rattle.store_index.specs.Find.{Finds, FindEach}
+use Rattle.store_index.specs.Find.{AreAsBefore, Finds, FindEach, kinds_of}
 use Rattle.store_index.specs.declared.index.Index.{Index}
 use Rattle.store_index.specs.declared.indexes.Indexes.{Indexes}
 use Rattle.store_table.specs.Moves.{Moves, Stands, AddsBehind, Changes, with_row, with_rows}
 use Rattle.store_table.specs.Rows.{TableRow, docs_from, is_at, last_place, without_place}
 use Rattle.store_table.specs.declared.fault.Fault.{Fault}
 use Rattle.store_table.specs.declared.row.NewRow.{NewRow}
-use Rattle.store_indexed.specs.Kept.{FindsRow, FindsRows, HasKept}
+use Rattle.store_indexed.specs.Kept.{FindsRow, FindsRows, HasKept, StayOrGo}
 
 -- the indexes find the documents of the rows that a call makes of those that they found
 pub keeps : (old new : State) (ixs jxs : Indexes) (P : List TableRow → List TableRow → Type 0) → Moves old new P → (ixs.list.items ≡ [] → jxs.list.items ≡ [])
@@ -93,3 +95,19 @@ noted_more ixs jxs made all d is kept one h = subst (FindsRows jxs) (sym is) (fi
 pub none_find : (ixs : Indexes) (docs : List TableRow) → ixs.list.items ≡ [] → FindsRows ixs docs
 none_find ixs [] e = tt
 none_find ixs (d ∷ docs) e = (finds_none ixs d.coll d.place d.body e, none_find ixs docs e)
+
+-- ---- which indexes there are
+
+no_kinds : (xs : List Index) → kinds_of xs ≡ [] → xs ≡ []
+no_kinds [] e = refl
+no_kinds (x ∷ xs) e = absurd (cc)
+
+-- one change after the other
+pub stay_then : (ixs jxs kxs : Indexes) → StayOrGo ixs jxs → StayOrGo jxs kxs → StayOrGo ixs kxs
+stay_then ixs jxs kxs h (inr none) = inr none
+stay_then ixs jxs kxs (inl e) (inl f) = inl (f ∙ e)
+stay_then ixs jxs kxs (inr none) (inl f) = inr (no_kinds kxs.list.items (f ∙ ap kinds_of none))
+
+pub told : (ixs jxs : Indexes) (r : Result (Unit {0}) AllocError) → OnOk r (AreAsBefore ixs jxs) → OnErr r (jxs.list.items ≡ []) → StayOrGo ixs jxs
+told ixs jxs (Ok x) same dropped = inl same
+told ixs jxs (Err x) same dropped = inr dropped

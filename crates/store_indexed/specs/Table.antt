@@ -1,11 +1,12 @@
 -- The state of the connection of a table with indexes, and which it has.
-use Rattle.std.specs.Prelude.{ℕ, List}
+use Rattle.std.specs.Prelude.{ℕ, ℤ, List}
 use Rattle.sqlite_trees.specs.declared.store.Store.{Ghosts}
 use Rattle.sqlite.specs.State.{State}
 use Rattle.sqlite.specs.Held.{Held}
 use Rattle.store_table.specs.Table.{connection_of as table_connection, table_state}
-use Rattle.store_index.specs.Find.{Has}
+use Rattle.store_index.specs.Find.{Has, Misses, Renews}
 use Rattle.store_model.specs.Filter.{Path}
+use Rattle.store_indexed.specs.Kept.{StayOrGo}
 use Rattle.store_indexed.specs.declared.table.IndexedTable.{IndexedTable}
 
 abbrev pub connection_of : {S : Type 0} {h : _} → IndexedTable S h → Held S
@@ -17,3 +18,15 @@ indexed_state g t = table_state g t.table
 -- there is an index of a collection on a path
 abbrev pub HasIndex : {S : Type 0} {h : _} → IndexedTable S h → List ℕ → Path → Type 0
 HasIndex t coll path = Has t.indexes coll path
+
+-- a change leaves the indexes of before, by collection and path, or none
+abbrev pub LeavesIndexes : {S : Type 0} {h : _} → IndexedTable S h → IndexedTable S h → Type 0
+LeavesIndexes old new = StayOrGo old.indexes new.indexes
+
+-- no index has the place of a row under the key of a body that was removed
+abbrev pub ForgetsRow : {S : Type 0} {h : _} → IndexedTable S h → ℤ → List ℕ → Type 0
+ForgetsRow t place body = Misses t.indexes place body
+
+-- no index has it under the key of the body of before, unless that is the key of the new one, too
+abbrev pub RenewsRow : {S : Type 0} {h : _} → IndexedTable S h → ℤ → List ℕ → List ℕ → Type 0
+RenewsRow t place old body = Renews t.indexes place old body

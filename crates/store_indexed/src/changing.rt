@@ -7,7 +7,7 @@ ghost use Rattle.store_table.specs.Rows.{docs_from, with_body_at};
 ghost use Rattle.store_table.specs.Moves.{MayLeave, Moves, Settles, WasOpen};
 ghost use Rattle.store_table.specs.Table.{table_state};
 ghost use Rattle.store_indexed.specs.Changing.{Rewrites};
-ghost use Rattle.store_indexed.specs.Kept.{FindsRows};
+ghost use Rattle.store_indexed.specs.Kept.{FindsRows, StayOrGo};
 
 use sqlite::Alter;
 use store_index::Indexes;
@@ -19,6 +19,7 @@ pub(crate) fn note_rows(indexes: &mut Indexes, coll: &str, last: i64, rows: &[Ne
     ensures kept { (c : List ℕ) (p : ℤ) (b : List ℕ) → Finds indexes.old c p b
         → Finds indexes.new c p b }
     ensures none { indexes.old.list.items ≡ [] → indexes.new.list.items ≡ [] }
+    ensures same { StayOrGo indexes.old indexes.new }
 {
     let mut place = last;
     for row in rows {
@@ -27,7 +28,8 @@ pub(crate) fn note_rows(indexes: &mut Indexes, coll: &str, last: i64, rows: &[Ne
             indexes.clear();
             return;
         };
-        indexes.note(coll.as_bytes(), next, row.body);
+        // A refusal leaves no indexes, and none is what the rows that follow are noted in.
+        let _ = indexes.note(coll.as_bytes(), next, row.body);
         place = next;
     }
 }

@@ -1,10 +1,11 @@
 //! The table with indexes: calls are those of the table, with the same promises.
 
-ghost use Rattle.std.specs.Prelude.{◌≡◌, ◌↔◌, ℕ, List, [], length, false, IsTrue, IfOk, IfErr, IsErrAnd, IsErrOf};
+ghost use Rattle.std.specs.Prelude.{◌≡◌, ◌↔◌, ℕ, List, [], length, false, IsTrue, IfOk, IfErr, IsErrAnd, IsErrOf, OnOk};
 ghost use Rattle.sqlite.specs.Held.{state};
 ghost use Rattle.sqlite.specs.State.{HasCleanDisk, Survives};
 ghost use Rattle.store_table.specs.Crash.{AddsNothing};
 ghost use Rattle.store_filter.specs.Filters.{filter_of, path_of};
+ghost use Rattle.store_model.specs.Filter.{Path};
 ghost use Rattle.store_table.specs.Rows.{without_place, with_body_at};
 ghost use Rattle.store_table.specs.Moves.{Moves, WasOpen, MayLeave, Settles, FindsNone, FindsRow, FindsPlace, Changes, AddsRows, Keeps, Lists, Visits, with_row, with_rows};
 ghost use Rattle.store_table.specs.Renewal.{Opened, Unopened, Makes};
@@ -34,7 +35,7 @@ pub struct IndexedTable<S: Alter> {
 }
 
 impl<S: Alter + Drop> IndexedTable<S> {
-    ghost use Rattle.store_indexed.specs.Table.{HasIndex, connection_of, indexed_state};
+    ghost use Rattle.store_indexed.specs.Table.{ForgetsRow, HasIndex, LeavesIndexes, RenewsRow, connection_of, indexed_state};
 
     /// Opens the table, which is made if the database has none. Keys that `check` replaces by others are replaced in
     /// one transaction; a table that has none is not written to. A refusal gives the connection back, with its rows as
@@ -95,6 +96,7 @@ impl<S: Alter + Drop> IndexedTable<S> {
             (indexed_state S.Store self.new) result }
         ensures crash { AddsNothing (indexed_state S.Store self.old)
             (indexed_state S.Store self.new) }
+        ensures indexes { self.new.indexes ≡ self.old.indexes }
     {
         self.table.named(coll, idkey)
     }
@@ -107,6 +109,7 @@ impl<S: Alter + Drop> IndexedTable<S> {
             (indexed_state S.Store self.new) result }
         ensures crash { AddsNothing (indexed_state S.Store self.old)
             (indexed_state S.Store self.new) }
+        ensures indexes { self.new.indexes ≡ self.old.indexes }
     {
         self.table.place_of(coll, idkey)
     }
@@ -119,6 +122,7 @@ impl<S: Alter + Drop> IndexedTable<S> {
             (indexed_state S.Store self.new) result }
         ensures crash { AddsNothing (indexed_state S.Store self.old)
             (indexed_state S.Store self.new) }
+        ensures indexes { self.new.indexes ≡ self.old.indexes }
     {
         self.table.is_empty()
     }
@@ -135,9 +139,10 @@ impl<S: Alter + Drop> IndexedTable<S> {
             (indexed_state S.Store self.old) (indexed_state S.Store self.new) result }
         ensures full { IsErrOf result Fault.Places
             → AddsNothing (indexed_state S.Store self.old) (indexed_state S.Store self.new) }
+        ensures indexes { LeavesIndexes self.old self.new }
     {
         let place = self.table.append(coll, idkey, body)?;
-        self.indexes.note(coll.as_bytes(), place, body);
+        let _ = self.indexes.note(coll.as_bytes(), place, body);
         Ok(())
     }
 
@@ -154,6 +159,7 @@ impl<S: Alter + Drop> IndexedTable<S> {
             (indexed_state S.Store self.new) result }
         ensures full { IsErrOf result Fault.Places
             → AddsNothing (indexed_state S.Store self.old) (indexed_state S.Store self.new) }
+        ensures indexes { LeavesIndexes self.old self.new }
     {
         let last = self.table.append_all(coll, rows)?;
         note_rows(&mut self.indexes, coll, last, rows);
@@ -170,13 +176,17 @@ impl<S: Alter + Drop> IndexedTable<S> {
             (MayLeave (with_body_at found.now.place body.now) (indexed_state S.Store self.old)) }
         ensures settled { Settles (with_body_at found.now.place body.now)
             (indexed_state S.Store self.old) (indexed_state S.Store self.new) result }
+        ensures renewed { OnOk result (RenewsRow self.new found.now.place found.now.body.items
+            body.now) }
+        ensures indexes { LeavesIndexes self.old self.new }
     {
         if self.indexes.is_empty() {
             return self.table.rewrite_at(found, body);
         }
         match rewrite_placed(&mut self.table, found, body)? {
             Some(coll) => {
-                self.indexes
+                let _ = self
+                    .indexes
                     .renew(coll.as_slice(), found.place, found.body.as_slice(), body);
             }
             // The row is gone, and nothing was changed.
@@ -195,9 +205,11 @@ impl<S: Alter + Drop> IndexedTable<S> {
             (MayLeave (without_place found.now.place) (indexed_state S.Store self.old)) }
         ensures settled { Settles (without_place found.now.place) (indexed_state S.Store self.old)
             (indexed_state S.Store self.new) result }
+        ensures gone { OnOk result (ForgetsRow self.new found.now.place found.now.body.items) }
+        ensures indexes { LeavesIndexes self.old self.new }
     {
         self.table.remove_at(found)?;
-        self.indexes.forget(found.place, found.body.as_slice());
+        let _ = self.indexes.forget(found.place, found.body.as_slice());
         Ok(())
     }
 
@@ -209,6 +221,7 @@ impl<S: Alter + Drop> IndexedTable<S> {
             (indexed_state S.Store self.new) result }
         ensures crash { AddsNothing (indexed_state S.Store self.old)
             (indexed_state S.Store self.new) }
+        ensures indexes { self.new.indexes ≡ self.old.indexes }
     {
         self.table.collections()
     }
@@ -226,6 +239,7 @@ impl<S: Alter + Drop> IndexedTable<S> {
             (indexed_state S.Store self.new) result }
         ensures crash { AddsNothing (indexed_state S.Store self.old)
             (indexed_state S.Store self.new) }
+        ensures indexes { self.new.indexes ≡ self.old.indexes }
     {
         self.table.visit_bodies(coll, visitor)
     }
@@ -239,6 +253,8 @@ impl<S: Alter + Drop> IndexedTable<S> {
             (indexed_state S.Store self.new) result }
         ensures crash { AddsNothing (indexed_state S.Store self.old)
             (indexed_state S.Store self.new) }
+        ensures indexes { (c : List ℕ) (p : Path) → HasIndex self.old c p
+            → HasIndex self.new c p }
     {
         if !self.table.shows_rows()? {
             return Ok(());
@@ -255,6 +271,8 @@ impl<S: Alter + Drop> IndexedTable<S> {
     pub fn drop_index(&mut self, coll: &str, path: &[String])
         ensures same { connection_of self.new ≡ connection_of self.old }
         ensures gone { HasIndex self.new coll.now (path_of path.now) → ⊥ }
+        ensures others { (c : List ℕ) (p : Path) → ((c ≡ coll.now) × (p ≡ path_of path.now) → ⊥)
+            → HasIndex self.old c p ↔ HasIndex self.new c p }
     {
         self.indexes.remove(coll.as_bytes(), path);
     }
@@ -282,6 +300,7 @@ impl<S: Alter + Drop> IndexedTable<S> {
             (indexed_state S.Store self.new) result }
         ensures crash { AddsNothing (indexed_state S.Store self.old)
             (indexed_state S.Store self.new) }
+        ensures indexes { self.new.indexes ≡ self.old.indexes }
     {
         match self.indexes.places_for(coll.as_bytes(), filter)? {
             Some(places) => visit_places(&mut self.table, coll, places.as_slice(), visitor),

@@ -5,7 +5,7 @@ use Rattle.store_table.specs.Rows.{docs_from}
 use Rattle.store_table.specs.declared.row.NewRow.{NewRow}
 use Rattle.store_table.proofs.ManyLemmas.{next_rows, doc_at}
 use Rattle.store_indexed.specs.Kept.{FindsRows}
-use Rattle.store_indexed.proofs.KeepLemmas.{noted_more, none_find, finds_none}
+use Rattle.store_indexed.proofs.KeepLemmas.{noted_more, none_find, finds_none, stay_then, told}
 use Rattle.store_indexed.proofs.changing.note_rows.Goals as goal
 
 pub loop-row-preserved : goal.loop-row-preserved
@@ -28,6 +28,7 @@ loop-row-preserved c =
       at = omega (arith, ints, sum.0, sum.1, h.at);
       noted = on _ (rw c.as_bytes.ensures.value at c.note.ensures.noted);
       kept = λ k p b f. c.note.ensures.kept k p b (h.kept k p b f);
+      same = stay_then c.args.indexes.now ixs jxs h.same (told ixs jxs c.note.result c.note.ensures.same c.note.ensures.dropped);
       none = λ e. c.note.ensures.none (h.none e);
     }
 
