@@ -1,14 +1,17 @@
 #!/bin/sh
 # Holds a built program against all tests of programs and scripts, and the commands of README, USING and FILES against it.
 #
-#     tests/all.sh PROGRAM
+#     tests/all.sh PROGRAM [TEST ..]
+#
+# With names of tests, as program.py, against these alone.
 #
 # The program acts by its name, so it is tried under its three names, as links in a folder that is deleted. What the tests print is
 # printed only if one fails. They call sqlite3, jq and Python's bson; without these, and without the program, it fails.
 set -u
 fail() { echo "all.sh: $1"; exit 1; }
-[ -x "${1-}" ] || fail "there is no program ${1-}: tests/all.sh PROGRAM"
+[ -x "${1-}" ] || fail "there is no program ${1-}: tests/all.sh PROGRAM [TEST ..]"
 program=$(readlink -f -- "$1")
+shift
 for tool in sqlite3 jq; do command -v "$tool" >/dev/null || fail "$tool isn't here: apt-get install sqlite3 jq python3-pymongo"; done
 /usr/bin/python3 -c 'import bson.json_util' 2>/dev/null || fail "Python's bson isn't here: apt-get install python3-pymongo"
 cd -- "$(dirname -- "$(readlink -f -- "$0")")/.." || exit 1
@@ -29,12 +32,17 @@ try() {
     echo "all.sh: $program: as $(echo "$*" | sed "s|$work/||g; s|/usr/bin/python3 ||") asks, in $(($(date +%s) - began)) s"
 }
 
-try /usr/bin/python3 tests/edits.py
-try /usr/bin/python3 tests/program.py "$work/bson_store"
-try /usr/bin/python3 tests/scripts.py "$work/bson_store"
-try /usr/bin/python3 tests/front.py "$work/fallowtime"
-for test in files.py:bson_store extended_json.py:bson_json fallowtime.py:fallowtime fallowtime_lines.py:fallowtime indexes.py:fallowtime fallowtime_files.py:fallowtime; do
-    [ ! -e "tests/${test%:*}" ] || try /usr/bin/python3 "tests/${test%:*}" "$work/${test#*:}"
+for test in ${*:-edits.py program.py scripts.py front.py files.py extended_json.py fallowtime.py fallowtime_lines.py indexes.py \
+    fallowtime_files.py python.py readme.sh}; do
+    case $test in
+    edits.py) set -- ;;
+    program.py | scripts.py | files.py | readme.sh) set -- "$work/bson_store" ;;
+    extended_json.py) set -- "$work/bson_json" ;;
+    front.py | fallowtime.py | fallowtime_lines.py | indexes.py | fallowtime_files.py | python.py) set -- "$work/fallowtime" ;;
+    *) fail "there is no test $test" ;;
+    esac
+    case $test in
+    *.py) try /usr/bin/python3 "tests/$test" "$@" ;;
+    *) try "tests/$test" "$@" ;;
+    esac
 done
-try /usr/bin/python3 tests/python.py "$work/fallowtime"
-try tests/readme.sh "$work/bson_store"

@@ -4,8 +4,7 @@
 //! left, and into a tree, as the page of `growing_trees` says; and the buffers are made of the document in every other
 //! way that takes memory. A call that is out of memory has to return just that, and to leave the buffer as it was;
 //! called again it has to do what it is for. In the end each buffer has to have the bytes of the document, so its keys
-//! are the places. Before that, memory is taken as often as the line says: under `rt try --fail-alloc N` that number
-//! decides which allocation is refused, so that all can be tried with one build (`.ci/refused_memory`).
+//! are the places. `tests/refused_memory.py` refuses one allocation after the other.
 
 use crate::{bytes_of, growing_trees};
 use bson_base::{SliceSource, VecSink};
@@ -313,23 +312,8 @@ fn of_all(alloc: Global, document: RawDocument<'_>) -> Result<Outcome, AllocErro
     Ok(outcome)
 }
 
-/// Takes memory so often. Whether it was there.
-fn is_taken(alloc: Global, times: usize) -> bool {
-    for _ in 0..times {
-        let room: Result<Vec<u8>, AllocError> = Vec::with_capacity(alloc, 1);
-        if room.is_err() {
-            return false;
-        }
-    }
-    true
-}
-
-/// The answer to a case of how often memory is taken, and of the bytes of a document.
-pub fn answer(alloc: Global, rest: &str) -> &'static str {
-    let (times, digits) = rest.split_once(' ').unwrap_or((rest, ""));
-    if !is_taken(alloc, times.parse::<usize>().unwrap_or(0)) {
-        return "refused before the list";
-    }
+/// The answer to a case of the bytes of a document.
+pub fn answer(alloc: Global, digits: &str) -> &'static str {
     match RawDocument::from_bytes(&bytes_of(alloc, digits)) {
         Ok(document) => told(of_all(alloc, document)),
         Err(_) => "refused before the list",

@@ -28,8 +28,7 @@
 //!   gives one byte a call and fails once it has given as many, and how many calls failed. `read_interrupted CALLS`:
 //!   the same of a reader of std of which one call is interrupted, once as many went well, and which gives a byte a
 //!   call before and after that.
-//! - `growing TIMES`: what comes of calls that grow buffers, after memory was taken so often, as the page of `growing`
-//!   says.
+//! - `growing`: what comes of calls that grow buffers when memory is refused, as the page of `growing` says.
 //!
 //! With the name of a type: `errors`: the texts of its errors.
 //!

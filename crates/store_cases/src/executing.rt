@@ -2,12 +2,10 @@
 //!
 //! Some lines of words, each over a store of its own with two documents, and `pipe`. One that is out of memory has to
 //! have status 1, to print at most a prefix of what it prints otherwise, to say `refused: Memory`, and to leave the
-//! documents as they were; once more it has to do what it is for. Before that, memory is taken as often as the line
-//! says: under `rt try --fail-alloc N` that number decides which allocation is refused, so that all can be tried with
-//! one build (`.ci/refused_memory`).
+//! documents as they were; once more it has to do what it is for. `tests/refused_memory.py` refuses one allocation after
+//! the other.
 
-use crate::exporting::is_allocated;
-use crate::memory::{ELSEWHERE, SOME, TOO_EARLY};
+use crate::memory::{ELSEWHERE, SOME};
 use crate::{lists, words};
 use bson_store::Store;
 use sqlite::{Alter, Connection};
@@ -88,11 +86,8 @@ enum Outcome {
     Wrong,
 }
 
-/// What came of the lines, after memory was taken so often. A text that is no number counts as 0.
-pub fn answer(alloc: Global, times: &str) -> &'static str {
-    if !is_allocated(alloc, times.parse::<usize>().unwrap_or(0)) {
-        return TOO_EARLY;
-    }
+/// What came of the lines.
+pub fn answer(alloc: Global) -> &'static str {
     match of_all(alloc) {
         Ok(told) => told,
         Err(_) => ELSEWHERE,

@@ -1,9 +1,7 @@
 //! How far an export gets when memory is refused.
 //!
-//! A store in memory is filled, memory is taken as often as the line says, and then the store is exported to a writer
-//! that takes no memory. Under `rt try --fail-alloc N` that number decides which allocation of the export is refused,
-//! so that all of them can be tried with one build; `.ci/refused_memory` does so. So no memory is taken here after the
-//! export.
+//! A store in memory is filled and exported to a writer that takes no memory. `tests/refused_memory.py` refuses one
+//! allocation after the other. No memory is taken here after the export.
 
 use crate::counting::Counting;
 use bson_store::{ErrorKind, SliceSource, Store};
@@ -25,31 +23,25 @@ const ALL: u64 = BODY * DOCUMENTS as u64;
 /// What is reported if memory was refused before the export.
 const TOO_EARLY: &str = "refused before the export";
 
-/// How far the export gets, if memory was taken so often after the store was filled. A text that is no number counts as
-/// 0.
-pub fn answer(alloc: Global, times: &str) -> &'static str {
-    let times = times.parse::<usize>().unwrap_or(0);
+/// How far the export gets.
+pub fn answer(alloc: Global) -> &'static str {
     match Connection::open_in_memory(alloc) {
-        Ok(connection) => told_over(alloc, connection, times),
+        Ok(connection) => told_over(alloc, connection),
         Err(_) => TOO_EARLY,
     }
 }
 
 /// The same, over any database: what a database in memory drops is then proved no second time.
-fn told_over<S: Alter + Drop>(
-    alloc: Global,
-    connection: Connection<S>,
-    times: usize,
-) -> &'static str {
+fn told_over<S: Alter + Drop>(alloc: Global, connection: Connection<S>) -> &'static str {
     match Store::open(alloc, connection) {
-        Ok(mut store) => told_of(alloc, &mut store, times),
+        Ok(mut store) => told_of(alloc, &mut store),
         Err(_) => TOO_EARLY,
     }
 }
 
 /// The same, of an open store, which is filled first.
-fn told_of<S: Alter + Drop>(alloc: Global, store: &mut Store<S>, times: usize) -> &'static str {
-    if is_filled(alloc, store) && is_allocated(alloc, times) {
+fn told_of<S: Alter + Drop>(alloc: Global, store: &mut Store<S>) -> &'static str {
+    if is_filled(alloc, store) {
         exported(store)
     } else {
         TOO_EARLY
@@ -73,17 +65,6 @@ fn is_filled<S: Alter + Drop>(alloc: Global, store: &mut Store<S>) -> bool {
         Ok(bytes) => store.import("c", &mut SliceSource::new(&bytes)).is_ok(),
         Err(_) => false,
     }
-}
-
-/// Takes memory so often. Whether it was there.
-pub fn is_allocated(alloc: Global, times: usize) -> bool {
-    for _ in 0..times {
-        let room: Result<Vec<u8>, AllocError> = Vec::with_capacity(alloc, 1);
-        if room.is_err() {
-            return false;
-        }
-    }
-    true
 }
 
 /// What an export returns, and how many bytes were written before.

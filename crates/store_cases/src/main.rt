@@ -2,15 +2,15 @@
 //! answers: the answer to each line of standard input is one line of standard output, except in a block whose store
 //! isn't opened: it ends there, or goes on at `close`.
 //!
-//! Before the first title each line is by itself: `export_memory TIMES` reports how far an export gets when memory is
+//! Before the first title each line is by itself: `export_memory` reports how far an export gets when memory is
 //! refused, as the page of `exporting` says, `usage` is the example of docs/USING.md on stores, and the others are
 //! cases of store_table, as the page of `table` says. `stopped log` and `stopped database` stop a file under the store
 //! at each of its calls, one after the other; the answer has a row for each that went otherwise than the one before it,
 //! as the page of `stopping` says; so have those to `stopped_opening log` and `stopped_opening database`, with an
 //! opening that replaces keys from before. `limited` does the like with a limit on the steps of a statement, and
-//! `limited_opening` with an opening that replaces keys from before, as the page of `limiting` says. `memory TIMES`
-//! runs a list of commands, `opening_memory TIMES` opens a store and `words_memory TIMES` does the program's words when
-//! memory is refused, as the pages of `memory`, `opening` and `executing` say.
+//! `limited_opening` with an opening that replaces keys from before, as the page of `limiting` says. `memory` runs
+//! a list of commands, `opening_memory` opens a store and `words_memory` does the program's words when memory is
+//! refused, as the pages of `memory`, `opening` and `executing` say.
 //!
 //! A line that begins with `# ` is a title, and begins a block of lines over a new database in memory. A block has
 //!
@@ -71,10 +71,10 @@ fn answer_alone(rt: &HostRuntime, line: &str) -> io::Result<()> {
     match word {
         "limited" => rt.print(limiting::answer(rt.alloc(), true)?),
         "limited_opening" => rt.print(limiting::answer(rt.alloc(), false)?),
-        "memory" => rt.println(memory::answer(rt.alloc(), rest)),
-        "export_memory" => rt.println(exporting::answer(rt.alloc(), rest)),
-        "opening_memory" => rt.println(opening::answer(rt.alloc(), rest)),
-        "words_memory" => rt.println(executing::answer(rt.alloc(), rest)),
+        "memory" => rt.println(memory::answer(rt.alloc())),
+        "export_memory" => rt.println(exporting::answer(rt.alloc())),
+        "opening_memory" => rt.println(opening::answer(rt.alloc())),
+        "words_memory" => rt.println(executing::answer(rt.alloc())),
         "stopped" => rt.print(stopping::answer(rt.alloc(), rest, true)?),
         "stopped_opening" => rt.print(stopping::answer(rt.alloc(), rest, false)?),
         "usage" => rt.println(usage::answer(rt.alloc())),

@@ -2,12 +2,10 @@
 //!
 //! The list has every command of `run`. It is run over a new store in memory, and then, over another one, without the
 //! commands that replied `Memory`: the other replies and the documents in the end have to be the same. If `run` itself
-//! returns that it is out of memory, nothing may have changed. Before that, memory is taken as often as the line says:
-//! under `rt try --fail-alloc N` that number decides which allocation is refused, so that all can be tried with one
-//! build (`.ci/refused_memory`).
+//! returns that it is out of memory, nothing may have changed. `tests/refused_memory.py` refuses one allocation after the
+//! other.
 
 use crate::commands::command_of;
-use crate::exporting::is_allocated;
 use crate::replies::tell;
 use bson_store::{Command, Reply, Store, run};
 use sqlite::{Alter, Connection};
@@ -39,9 +37,7 @@ const COMMANDS: [&str; 22] = [
     "remove|c|1",
 ];
 
-/// What is reported if memory was refused before the line's own calls, and if it was refused to what is around them.
-pub const TOO_EARLY: &str = "refused before the list";
-
+/// What is reported if memory was refused to what is around the line's own calls.
 pub const ELSEWHERE: &str = "well: memory was refused elsewhere";
 
 /// What is reported if a command was out of memory, and nothing else.
@@ -50,11 +46,8 @@ pub const SOME: &str = "well: some command was out of memory";
 /// What the documents in the end are asked by.
 const STATE: [&str; 3] = ["collections", "export|c", "export|d"];
 
-/// What came of the list, after memory was taken so often. A text that is no number counts as 0.
-pub fn answer(alloc: Global, times: &str) -> &'static str {
-    if !is_allocated(alloc, times.parse::<usize>().unwrap_or(0)) {
-        return TOO_EARLY;
-    }
+/// What came of the list.
+pub fn answer(alloc: Global) -> &'static str {
     match compared(alloc) {
         Ok(outcome) => outcome,
         Err(_) => ELSEWHERE,

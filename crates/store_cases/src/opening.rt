@@ -1,22 +1,17 @@
 //! A store that is opened over rows under keys from before, when memory is refused at one allocation.
 //!
 //! An opening that is out of memory has to return just that and to leave both rows under their old keys, and the next
-//! one has to succeed. Both rows are under their new keys then. Before that, memory is taken as often as the line says:
-//! under `rt try --fail-alloc N` that number decides which allocation is refused, so that all can be tried with one
-//! build (`.ci/refused_memory`).
+//! one has to succeed. Both rows are under their new keys then. `tests/refused_memory.py` refuses one allocation after the
+//! other.
 
-use crate::exporting::is_allocated;
-use crate::memory::{ELSEWHERE, TOO_EARLY};
+use crate::memory::ELSEWHERE;
 use crate::old_rows::{Keys, fill, found_keys};
 use bson_store::{ErrorKind, Store};
 use sqlite::{Alter, Connection};
 use std::alloc::Global;
 
-/// What came of the opening, after memory was taken so often. A text that is no number counts as 0.
-pub fn answer(alloc: Global, times: &str) -> &'static str {
-    if !is_allocated(alloc, times.parse::<usize>().unwrap_or(0)) {
-        return TOO_EARLY;
-    }
+/// What came of the opening.
+pub fn answer(alloc: Global) -> &'static str {
     match Connection::open_in_memory(alloc) {
         Ok(connection) => over(alloc, connection),
         Err(_) => ELSEWHERE,
