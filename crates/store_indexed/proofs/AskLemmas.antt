@@ -35,11 +35,11 @@ covered ixs coll f places (d ∷ docs) covers h = by (is_in coll d) refl (covere
     by true e rest = (λ m kept is selected. covers d.place d.body m (subst (λ c. Finds ixs c d.place d.body) (equal_keys d.coll coll e) h.0) kept is selected, rest)
     by false e rest = rest
 
-pub found_rows : (s : State) (ixs : Indexes) (docs : List TableRow) → HasCleanDisk s → HoldsRows s docs → HasKept s ixs → FindsRows ixs docs
-found_rows s ixs docs clean holds k = by (k clean)
+pub found_rows : {shown : Bool} (s : State) (ixs : Indexes) (docs : List TableRow) → HasCleanDisk s → HoldsRows s docs → HasKept s shown ixs → FindsRows ixs docs
+found_rows {shown} s ixs docs clean holds k = by (k clean)
   where
-    by : (ixs.list.items ≡ []) ⊎ ((them : List TableRow) × Stands s them × FindsRows ixs them) → FindsRows ixs docs
-    by (inl e) = none_find ixs docs e
+    by : ((shown ≡ false) × (ixs.list.items ≡ [])) ⊎ ((them : List TableRow) × Stands s them × FindsRows ixs them) → FindsRows ixs docs
+    by (inl (not_shown, e)) = none_find ixs docs e
     by (inr (them, stands, h)) = subst (FindsRows ixs) (one_list s.now them docs (stands holds.is_open).table holds.table) h
 
 -- the test of one row has one proof at most
@@ -50,7 +50,7 @@ spares_prop : (test : TableRow → Bool) (f : Filter) (rows : List TableRow) →
 spares_prop test f [] = Unit-prop
 spares_prop test f (d ∷ rows) = ×_prop (spared_row test f d) (spares_prop test f rows)
 
-spared : (s : State) (ixs : Indexes) (coll : List ℕ) (f : Filter) (places : List ℤ) (docs : List TableRow) → ∥ HasKept s ixs ∥₁ → HasCleanDisk s → HoldsRows s docs → Covers ixs coll f places
+spared : {shown : Bool} (s : State) (ixs : Indexes) (coll : List ℕ) (f : Filter) (places : List ℤ) (docs : List TableRow) → ∥ HasKept s shown ixs ∥₁ → HasCleanDisk s → HoldsRows s docs → Covers ixs coll f places
     → Spares (λ (d : TableRow). is_among d.place places) f (filter (is_in coll) docs)
 spared s ixs coll f places docs k clean holds covers =
     ∥∥₁_elim k (spares_prop (λ (d : TableRow). is_among d.place places) f (filter (is_in coll) docs)) (λ h. covered ixs coll f places docs covers (found_rows s ixs docs clean holds h))
@@ -58,9 +58,9 @@ spared s ixs coll f places docs k clean holds covers =
 -- ---- by an index
 
 module _ {V : Type 0} (took : V → List (List ℕ) → Type 0) (first last : V) (coll : List ℕ) (f : Filter) where
-  pub asked_moves : (old new : State) (ixs : Indexes) (places : List ℤ) (r : Result Bool Fault) → ∥ HasKept old ixs ∥₁ → Covers ixs coll f places → Ascends places → WasOpen old new r
+  pub asked_moves : {shown : Bool} (old new : State) (ixs : Indexes) (places : List ℤ) (r : Result Bool Fault) → ∥ HasKept old shown ixs ∥₁ → Covers ixs coll f places → Ascends places → WasOpen old new r
       → Moves old new (VisitsPlaces took first last coll places r) → Moves old new (VisitsAsked took first last coll f r)
-  asked_moves old new ixs places r k covers up was moves clean =
+  asked_moves {shown} old new ixs places r k covers up was moves clean =
       let m = moves clean in (
         m.0,
         λ docs stands. let x = m.1 docs stands in (x.0, x.1, go docs x.0 stands m.0 r (was clean docs stands) x.2, x.3),

@@ -14,25 +14,29 @@ use Rattle.store_table.specs.declared.row.NewRow.{NewRow}
 use Rattle.store_indexed.specs.Kept.{FindsRow, FindsRows, HasKept, StayOrGo}
 
 -- the indexes find the documents of the rows that a call makes of those that they found
-pub keeps : (old new : State) (ixs jxs : Indexes) (P : List TableRow → List TableRow → Type 0) → Moves old new P → (ixs.list.items ≡ [] → jxs.list.items ≡ [])
-    → (HasCleanDisk new → (docs after : List TableRow) → Stands old docs → P docs after → FindsRows ixs docs → FindsRows jxs after) → HasKept old ixs → HasKept new jxs
-keeps old new ixs jxs P moves none on h clean = by (h (moves clean).0)
+pub keeps : {shown : Bool} (old new : State) (ixs jxs : Indexes) (P : List TableRow → List TableRow → Type 0) → Moves old new P → (ixs.list.items ≡ [] → jxs.list.items ≡ [])
+    → (HasCleanDisk new → (docs after : List TableRow) → Stands old docs → P docs after → FindsRows ixs docs → FindsRows jxs after) → HasKept old shown ixs → HasKept new shown jxs
+keeps {shown} old new ixs jxs P moves none on h clean = by (h (moves clean).0)
   where
-    by : (ixs.list.items ≡ []) ⊎ ((docs : List TableRow) × Stands old docs × FindsRows ixs docs) → (jxs.list.items ≡ []) ⊎ ((docs : List TableRow) × Stands new docs × FindsRows jxs docs)
-    by (inl e) = inl (none e)
+    by : ((shown ≡ false) × (ixs.list.items ≡ [])) ⊎ ((docs : List TableRow) × Stands old docs × FindsRows ixs docs) → ((shown ≡ false) × (jxs.list.items ≡ [])) ⊎ ((docs : List TableRow) × Stands new docs × FindsRows jxs docs)
+    by (inl (not_shown, e)) = inl (not_shown, none e)
     by (inr (docs, stands, finds)) = let r = (moves clean).1 docs stands in inr (r.0, r.1, on clean docs r.0 stands r.2 finds)
 
 -- a read
-pub read_keeps : (old new : State) (ixs : Indexes) (P : List TableRow → List TableRow → Type 0) → Moves old new P → ((docs after : List TableRow) → P docs after → after ≡ docs) → HasKept old ixs → HasKept new ixs
+pub read_keeps : {shown : Bool} (old new : State) (ixs : Indexes) (P : List TableRow → List TableRow → Type 0) → Moves old new P → ((docs after : List TableRow) → P docs after → after ≡ docs) → HasKept old shown ixs → HasKept new shown ixs
 read_keeps old new ixs P moves same = keeps old new ixs ixs P moves (λ e. e) (λ clean docs after stands p f. subst (FindsRows ixs) (sym (same docs after p)) f)
-
--- there are none
-pub none_kept : (s : State) (ixs : Indexes) → ixs.list.items ≡ [] → HasKept s ixs
-none_kept s ixs e clean = inl e
 
 -- every index finds, if there are none
 pub finds_none : (ixs : Indexes) (c : List ℕ) (p : ℤ) (b : List ℕ) → ixs.list.items ≡ [] → Finds ixs c p b
 finds_none ixs c p b e = subst (λ (xs : List Index). FindEach xs c p b) (sym e) tt
+
+pub none_find : (ixs : Indexes) (docs : List TableRow) → ixs.list.items ≡ [] → FindsRows ixs docs
+none_find ixs [] e = tt
+none_find ixs (d ∷ docs) e = (finds_none ixs d.coll d.place d.body e, none_find ixs docs e)
+
+-- there are none after a call
+pub emptied : {shown : Bool} (old new : State) (ixs jxs : Indexes) (P : List TableRow → List TableRow → Type 0) → Moves old new P → jxs.list.items ≡ [] → HasKept old shown ixs → HasKept new shown jxs
+emptied old new ixs jxs P moves none = keeps old new ixs jxs P moves (λ _. none) (λ clean docs after stands p f. none_find jxs after none)
 
 -- ---- changes
 
@@ -55,10 +59,10 @@ removed ixs jxs place (d ∷ docs) kept h = by (is_at place d) refl (removed ixs
 
 -- ---- refusals
 
-pub adds_refused : {A : Type 0} (old new : State) (ixs : Indexes) (n : ℕ) (change : List TableRow → List TableRow) (x : Fault) → Moves old new (AddsBehind {A = A} n change (Err x)) → HasKept old ixs → HasKept new ixs
-adds_refused {A} old new ixs n change x moves = read_keeps old new ixs (AddsBehind {A = A} n change (Err x)) moves (λ docs after p. p.refused)
+pub adds_refused : {A : Type 0} {shown : Bool} (old new : State) (ixs : Indexes) (n : ℕ) (change : List TableRow → List TableRow) (x : Fault) → Moves old new (AddsBehind {A = A} n change (Err x)) → HasKept old shown ixs → HasKept new shown ixs
+adds_refused {A} {shown} old new ixs n change x moves = read_keeps old new ixs (AddsBehind {A = A} n change (Err x)) moves (λ docs after p. p.refused)
 
-pub change_refused : (old new : State) (ixs : Indexes) (change : List TableRow → List TableRow) (x : Fault) → Moves old new (Changes change (Err x)) → HasKept old ixs → HasKept new ixs
+pub change_refused : {shown : Bool} (old new : State) (ixs : Indexes) (change : List TableRow → List TableRow) (x : Fault) → Moves old new (Changes change (Err x)) → HasKept old shown ixs → HasKept new shown ixs
 change_refused old new ixs change x moves = read_keeps old new ixs (Changes change (Err x)) moves (λ docs after p. p.refused)
 
 -- ---- other indexes, while the rows stay
@@ -67,14 +71,14 @@ kept_rows : (ixs jxs : Indexes) (docs : List TableRow) → ((c : List ℕ) (p : 
 kept_rows ixs jxs [] kept h = tt
 kept_rows ixs jxs (d ∷ docs) kept h = (kept d.coll d.place d.body h.0, kept_rows ixs jxs docs kept h.1)
 
-pub others_kept : (s : State) (ixs jxs : Indexes) → (ixs.list.items ≡ [] → jxs.list.items ≡ []) → ((c : List ℕ) (p : ℤ) (b : List ℕ) → Finds ixs c p b → Finds jxs c p b) → HasKept s ixs → HasKept s jxs
-others_kept s ixs jxs none kept h clean = by (h clean)
+pub others_kept : {shown : Bool} (s : State) (ixs jxs : Indexes) → (ixs.list.items ≡ [] → jxs.list.items ≡ []) → ((c : List ℕ) (p : ℤ) (b : List ℕ) → Finds ixs c p b → Finds jxs c p b) → HasKept s shown ixs → HasKept s shown jxs
+others_kept {shown} s ixs jxs none kept h clean = by (h clean)
   where
-    by : (ixs.list.items ≡ []) ⊎ ((docs : List TableRow) × Stands s docs × FindsRows ixs docs) → (jxs.list.items ≡ []) ⊎ ((docs : List TableRow) × Stands s docs × FindsRows jxs docs)
-    by (inl e) = inl (none e)
+    by : ((shown ≡ false) × (ixs.list.items ≡ [])) ⊎ ((docs : List TableRow) × Stands s docs × FindsRows ixs docs) → ((shown ≡ false) × (jxs.list.items ≡ [])) ⊎ ((docs : List TableRow) × Stands s docs × FindsRows jxs docs)
+    by (inl (not_shown, e)) = inl (not_shown, none e)
     by (inr (docs, stands, finds)) = inr (docs, stands, kept_rows ixs jxs docs kept finds)
 
-pub same_kept : (s : State) (ixs jxs : Indexes) → jxs.list.items ≡ ixs.list.items → HasKept s ixs → HasKept s jxs
+pub same_kept : {shown : Bool} (s : State) (ixs jxs : Indexes) → jxs.list.items ≡ ixs.list.items → HasKept s shown ixs → HasKept s shown jxs
 same_kept s ixs jxs e = others_kept s ixs jxs (λ none. e ∙ none) (λ c p b h. subst (λ (xs : List Index). FindEach xs c p b) (sym e) h)
 
 -- ---- rows behind the others
@@ -91,10 +95,6 @@ rows_added ixs jxs coll rows last docs after at is kept new h =
 -- one row after the others of the call
 pub noted_more : (ixs jxs : Indexes) (made all : List TableRow) (d : TableRow) → all ≡ made ++ d ∷ [] → ((c : List ℕ) (p : ℤ) (b : List ℕ) → Finds ixs c p b → Finds jxs c p b) → FindsRow jxs d → FindsRows ixs made → FindsRows jxs all
 noted_more ixs jxs made all d is kept one h = subst (FindsRows jxs) (sym is) (finds_more ixs jxs made d kept one h)
-
-pub none_find : (ixs : Indexes) (docs : List TableRow) → ixs.list.items ≡ [] → FindsRows ixs docs
-none_find ixs [] e = tt
-none_find ixs (d ∷ docs) e = (finds_none ixs d.coll d.place d.body e, none_find ixs docs e)
 
 -- ---- which indexes there are
 

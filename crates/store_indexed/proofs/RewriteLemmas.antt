@@ -37,13 +37,13 @@ module _ (ixs jxs : Indexes) (place : ℤ) (kept : (c : List ℕ) (p : ℤ) (b :
           )
       by false e c rest = (kept d.coll d.place d.body (λ same. let x : true ≡ false = sym (at_same place d same) ∙ e in absurd (cc)) h.0, rest c)
 
-pub rewrite_kept : (old new : State) (ixs jxs : Indexes) (place : ℤ) (body : List ℕ) (coll : Vec ℕ Global) → Moves old new (Rewrites place body (Ok (Some coll))) → WasOpen {A = Option (Vec ℕ Global)} {E = Fault} old new (Ok (Some coll))
-    → (ixs.list.items ≡ [] → jxs.list.items ≡ []) → ((c : List ℕ) (p : ℤ) (b : List ℕ) → (p ≡ place → ⊥) → Finds ixs c p b → Finds jxs c p b) → Finds jxs coll.items place body → HasKept old ixs → HasKept new jxs
+pub rewrite_kept : {shown : Bool} (old new : State) (ixs jxs : Indexes) (place : ℤ) (body : List ℕ) (coll : Vec ℕ Global) → Moves old new (Rewrites place body (Ok (Some coll))) → WasOpen {A = Option (Vec ℕ Global)} {E = Fault} old new (Ok (Some coll))
+    → (ixs.list.items ≡ [] → jxs.list.items ≡ []) → ((c : List ℕ) (p : ℤ) (b : List ℕ) → (p ≡ place → ⊥) → Finds ixs c p b → Finds jxs c p b) → Finds jxs coll.items place body → HasKept old shown ixs → HasKept new shown jxs
 rewrite_kept old new ixs jxs place body coll moves was none kept noted =
     keeps old new ixs jxs (Rewrites place body (Ok (Some coll))) moves none
     (λ clean docs after stands p finds.
     let holds = stands (was clean docs stands).0 in
     subst (FindsRows jxs) (sym p.done) (rewritten ixs jxs place kept coll.items body docs (seen holds.table).rising p.found noted finds))
 
-pub rewrite_refused : (old new : State) (ixs : Indexes) (place : ℤ) (body : List ℕ) (x : Fault) → Moves old new (Rewrites place body (Err x)) → HasKept old ixs → HasKept new ixs
+pub rewrite_refused : {shown : Bool} (old new : State) (ixs : Indexes) (place : ℤ) (body : List ℕ) (x : Fault) → Moves old new (Rewrites place body (Err x)) → HasKept old shown ixs → HasKept new shown ixs
 rewrite_refused old new ixs place body x moves = read_keeps old new ixs (Rewrites place body (Err x)) moves (λ docs after p. p.refused)

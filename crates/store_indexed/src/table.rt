@@ -22,7 +22,7 @@ use std::alloc::Global;
 use std::collections::BTreeSet;
 use store_filter::Filter;
 use store_index::Indexes;
-use store_table::{Fault, Found, NewRow, OpenError, RowCheck, Table, Visit};
+use store_table::{Fault, Found, NewRow, OpenError, RowCheck, Table, Visit, is_own};
 
 /// A table with indexes, which find the documents of its rows, whatever is done to them. A refusal of memory while a
 /// change is noted drops them, and a question is then answered by all rows of the collection.
@@ -30,8 +30,10 @@ use store_table::{Fault, Found, NewRow, OpenError, RowCheck, Table, Visit};
 pub struct IndexedTable<S: Alter> {
     table: Table<S>,
     indexes: Indexes,
+    // Whether it is known that the table is the store's own, with rows.
+    shown: bool,
     alloc: Global,
-    ghost kept: { ∥ HasKept (table_state S.Store table) indexes ∥₁ },
+    ghost kept: { ∥ HasKept (table_state S.Store table) shown indexes ∥₁ },
 }
 
 impl<S: Alter + Drop> IndexedTable<S> {
@@ -66,10 +68,12 @@ impl<S: Alter + Drop> IndexedTable<S> {
         ensures crash_refused { IfErr result (λ e. Survives (state S.Store connection)
             (state S.Store e.1) (Makes (C.renews check.now) (state S.Store connection))) }
     {
+        let shown = is_own(alloc, connection.schema()).unwrap_or(false);
         match Table::open(alloc, connection, check) {
             Ok(table) => Ok(IndexedTable {
                 table,
                 indexes: Indexes::new(alloc),
+                shown,
                 alloc,
             }),
             Err(refused) => Err(refused),
@@ -83,6 +87,7 @@ impl<S: Alter + Drop> IndexedTable<S> {
         let IndexedTable {
             table,
             indexes: _,
+            shown: _,
             alloc: _,
         } = self;
         table.close()
@@ -244,6 +249,26 @@ impl<S: Alter + Drop> IndexedTable<S> {
         self.table.visit_bodies(coll, visitor)
     }
 
+    /// Whether the table is the store's own, with rows. If that isn't known, each row is looked at.
+    fn shows_rows(&mut self) -> Result<bool, Fault>
+        ensures moves { Moves (indexed_state S.Store self.old) (indexed_state S.Store self.new)
+            (Keeps result) }
+        ensures shown { IfOk result (λ shows. IsTrue shows → IsTrue self.new.shown) }
+        ensures open { WasOpen (indexed_state S.Store self.old)
+            (indexed_state S.Store self.new) result }
+        ensures crash { AddsNothing (indexed_state S.Store self.old)
+            (indexed_state S.Store self.new) }
+        ensures indexes { self.new.indexes ≡ self.old.indexes }
+    {
+        if self.shown {
+            // Even if nothing is to be read, it is refused once the connection is shut.
+            self.table.is_empty()?;
+            return Ok(true);
+        }
+        self.shown = self.table.shows_rows()?;
+        Ok(self.shown)
+    }
+
     /// Makes an index of a collection on a path, if there is none. A table that a store can't have made, or not alone
     /// in its database, gets none.
     pub fn index(&mut self, coll: &str, path: Vec<String>) -> Result<(), Fault>
@@ -256,7 +281,7 @@ impl<S: Alter + Drop> IndexedTable<S> {
         ensures indexes { (c : List ℕ) (p : Path) → HasIndex self.old c p
             → HasIndex self.new c p }
     {
-        if !self.table.shows_rows()? {
+        if !self.shows_rows()? {
             return Ok(());
         }
         if self.indexes.has(coll.as_bytes(), path.as_slice()) {

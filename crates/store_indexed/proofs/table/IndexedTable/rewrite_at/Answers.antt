@@ -2,6 +2,7 @@ use Rattle.std.proofs.Common.{◌≡◌, ◌∙◌, rules, w64, to_z, of_z}
 use Rattle.std.proofs.Math.Logic.{∥∥₁_map}
 use Rattle.store_index.specs.Find.{Finds}
 use Rattle.store_table.specs.Table.{table_state}
+use Rattle.store_indexed.proofs.KeepLemmas.{emptied}
 use Rattle.store_indexed.proofs.RewriteLemmas.{rewrite_kept, rewrite_refused}
 use Rattle.store_indexed.proofs.table.IndexedTable.rewrite_at.Goals as goal
 
@@ -19,3 +20,9 @@ invariant_of-self-in-Some g c =
           (rewrite_kept (table_state g.S.Store c.args.self.now.table) (table_state g.S.Store c.rewrite_placed.new.table) c.args.self.now.indexes c.renew.new.self place c.args.body.now coll (rw c.in-Some.is at c.in_ok-coll.ensures.moves) c.in_ok-coll.ensures.open c.renew.ensures.none
           (λ k p b other h. c.renew.ensures.kept k p b (λ e. other (e ∙ same)) h) noted);
     }
+
+pub invariant_of-self : goal.invariant_of-self
+invariant_of-self g c = record { kept = ∥∥₁_map c.args.self.now.kept (emptied (table_state g.S.Store c.args.self.now.table) (table_state g.S.Store c.rewrite_at.new.self) c.args.self.now.indexes c.args.self.now.indexes _ c.rewrite_at.ensures.moves (search rules)) }
+
+pub invariant_of-self-in-None : goal.invariant_of-self-in-None
+invariant_of-self-in-None g c = record { kept = ∥∥₁_map c.args.self.now.kept (emptied (table_state g.S.Store c.args.self.now.table) (table_state g.S.Store c.rewrite_placed.new.table) c.args.self.now.indexes c.clear.new.self _ c.in_ok-coll.ensures.moves (search rules)) }
