@@ -10,7 +10,6 @@ use Rattle.store_table.specs.Moves.{Moves, Stands}
 use Rattle.store_table.specs.Renewal.{Opened}
 use Rattle.store_table.specs.Rows.{TableRow, HoldsRows}
 use Rattle.store_table.specs.Schema.{HasStoreTable}
-use Rattle.store_table.specs.declared.fault.Fault.{Fault}
 use Rattle.store_indexed.specs.Gathering.{MakesIndex}
 use Rattle.store_indexed.specs.Kept.{FindsRows, HasKept}
 use Rattle.store_indexed.proofs.AskLemmas.{found_rows}

@@ -1,4 +1,3 @@
-use Rattle.std.proofs.Common.{◌≡◌, rules}
 use Rattle.sqlite.specs.Held.{state}
 use Rattle.store_table.specs.Schema.{HasStoreTable}
 use Rattle.store_table.specs.Table.{table_state}

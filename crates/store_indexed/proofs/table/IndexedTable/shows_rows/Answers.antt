@@ -1,4 +1,3 @@
-use Rattle.std.proofs.Common.{◌≡◌, rules}
 use Rattle.std.proofs.Math.Logic.{∥∥₁_map}
 use Rattle.store_table.specs.Table.{table_state}
 use Rattle.store_indexed.proofs.AddLemmas.{looked_kept}
