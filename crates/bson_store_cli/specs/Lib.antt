@@ -1,4 +1,1 @@
-pub mod Asking
-pub mod Ending
 pub mod Serving
-pub mod Words

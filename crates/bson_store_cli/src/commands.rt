@@ -6,11 +6,11 @@ ghost use Rattle.bson_base.specs.Device.{CanFail, CanRefuse};
 ghost use Rattle.store_model.specs.State.{State as Lists};
 ghost use Rattle.bson_store.specs.Left.{FindsState, Holds, HoldsOnce};
 
-use crate::words::{copy_of, patience_of};
 use bson_store::{ErrorKind, Sink, Source, Store};
 use cli_commands::execute;
 use cli_files::{Loaded, close, copy, misuse, open_within, read, refuse, refuse_file};
 use cli_words::{Words, read_words};
+use fallowtime_front::{copy_of, patience_of};
 use sqlite::{Alter, Connection, FileStore};
 use std::alloc::Global;
 

@@ -11,18 +11,17 @@ ghost use Rattle.fallowtime_commands.specs.declared.answer.Answer.{Answer as Ans
 ghost use Rattle.fallowtime_commands.specs.declared.refusal.Refusal.{Refusal as Refused};
 ghost use Rattle.fallowtime_commands.specs.declared.request.Request.{Request as Requested};
 ghost use Rattle.store_model.specs.declared.error.StoreError.{StoreError as StoreRefusal};
-ghost use Rattle.bson_store_cli.specs.Ending.{ended_by};
-ghost use Rattle.bson_store_cli.specs.Serving.{form_by, plainly};
+ghost use Rattle.fallowtime_front.specs.Asking.{form_by};
+ghost use Rattle.fallowtime_front.specs.Ending.{ended_by};
+ghost use Rattle.bson_store_cli.specs.Serving.{plainly};
 
-use crate::asking::{Asked, asked_of};
 use crate::commands::judged;
-use crate::ending::{Ended, tell};
-use bson_store::extjson::Mode;
 use bson_store::{Sink, Source, Store};
 use cli_files::{FileError, close, copy, open_within, read};
-use fallowtime_commands::{Form, Refusal, Unread, execute};
+use fallowtime_commands::{Refusal, Unread, execute};
+use fallowtime_front::{Asked, Ended, asked_of, ended_of, form_of, tell};
 use fallowtime_texts::IdMaker;
-use fallowtime_words::{Command, Options, Task, Words, read_words};
+use fallowtime_words::{Command, Task, Words, read_words};
 use sqlite::{Alter, Connection};
 use std::alloc::Global;
 use std::hash::{BuildHasher, RandomState};
@@ -31,19 +30,6 @@ use std::{fs, io};
 
 /// How many seconds to wait for a file that another process has, if the words don't say.
 const PATIENCE: u64 = 5;
-
-/// How a command prints documents.
-fn form_of(options: &Options) -> Form
-    ensures { result ≡ form_by options.now.bytes options.now.canonical }
-{
-    if options.bytes {
-        Form::Bytes
-    } else if options.canonical {
-        Form::Lines(Mode::Canonical)
-    } else {
-        Form::Lines(Mode::Relaxed)
-    }
-}
 
 /// What makes the ids of this run: the seconds of the clock, and a number that no other run has, except by chance.
 fn maker_of(rt: &HostRuntime) -> io::Result<IdMaker> {
@@ -69,16 +55,6 @@ fn export<S: Alter + Drop, O: Sink>(
     match store.export(coll, output) {
         Ok(()) => Ok(()),
         Err(error) => Err(Refusal::from(error)),
-    }
-}
-
-/// The end that a result is, of documents that came from these lines.
-fn ended_of(done: Result<(), Refusal>, lines: &[u64]) -> Result<(), Ended>
-    ensures { result ≡ ended_by lines.now done }
-{
-    match done {
-        Ok(()) => Ok(()),
-        Err(refusal) => Err(Ended::of_line(refusal, lines)),
     }
 }
 

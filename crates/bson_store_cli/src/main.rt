@@ -6,20 +6,17 @@
 
 ghost use Rattle.std.specs.Prelude.{◌≡◌};
 
-mod asking;
 mod commands;
-mod ending;
 mod fallowtime;
 mod stack;
-mod words;
 
 use bson_store::{Counted, ErrorKind};
 use cli_convert::convert;
 use cli_files::{misuse, refuse, unread};
 use cli_pipe::pipe;
+use fallowtime_front::{Program, program_of, words_of};
 use std::io::{BufWriter, Write};
 use std::process::ExitCode;
-use words::{Program, program_of, words_of};
 
 /// How many bytes of output are gathered before they are written.
 const OUTPUT_ROOM: usize = 65536;

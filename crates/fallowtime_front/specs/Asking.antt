@@ -1,12 +1,15 @@
 -- What a command of `fallowtime` asks for, by its words and the input.
-use Rattle.std.specs.Prelude.{◌≡◌, ℕ, List, [], true, Result, Ok, Err, Vec, Option, Some, None}
+use Rattle.std.specs.Prelude.{◌≡◌, ℕ, [], Bool, true, false, Result, Ok, Err, Vec, Some, None}
 use Rattle.std.specs.declared.alloc.Global.{Global}
 use Rattle.bson_base.specs.Device.{Feed, StopsReading, TookAll}
 use Rattle.bson_base.specs.declared.whole.ReadAllError.{ReadAllError}
 use Rattle.bson_base.specs.declared.whole.ReadAllError.TheVariants as reading
+use Rattle.bson_model.specs.declared.extjson.ser.Mode.TheVariants.{Canonical, Relaxed}
 use Rattle.cli_convert.specs.declared.stop.Stop.{Stop as LineStop}
 use Rattle.fallowtime_commands.specs.Reading.{IsRequestOf, StopsWords}
 use Rattle.fallowtime_commands.specs.Reports.{plain}
+use Rattle.fallowtime_commands.specs.declared.printing.Form.{Form}
+use Rattle.fallowtime_commands.specs.declared.printing.Form.TheVariants.{Lines, Bytes}
 use Rattle.fallowtime_commands.specs.declared.reading.Stop.{Stop}
 use Rattle.fallowtime_commands.specs.declared.reading.Stop.TheVariants as stop
 use Rattle.fallowtime_commands.specs.declared.request.Request.{Request}
@@ -21,9 +24,15 @@ use Rattle.store_model.specs.Refusal.{refusal}
 use Rattle.store_model.specs.State.{IsName, When}
 use Rattle.store_model.specs.declared.error.ErrorKind.{ErrorKind}
 use Rattle.store_model.specs.declared.error.ErrorKind.TheVariants.{BadName, Memory, Reader}
-use Rattle.bson_store_cli.specs.declared.asking.Asked.{Asked}
-use Rattle.bson_store_cli.specs.declared.ending.Ended.{Ended}
-use Rattle.bson_store_cli.specs.declared.ending.Ended.TheVariants as ended
+use Rattle.fallowtime_front.specs.declared.asking.Asked.{Asked}
+use Rattle.fallowtime_front.specs.declared.ending.Ended.{Ended}
+use Rattle.fallowtime_front.specs.declared.ending.Ended.TheVariants as ended
+
+-- lines of relaxed Extended JSON, if neither BSON nor canonical form is asked for
+abbrev pub form_by : Bool → Bool → Form
+form_by true canonical = Bytes
+form_by false true = Lines Canonical
+form_by false false = Lines Relaxed
 
 -- a refusal of this kind, without further details
 abbrev pub refused : ErrorKind → Ended

@@ -2,17 +2,31 @@
 
 ghost use Rattle.std.specs.Prelude.{◌≡◌, []};
 ghost use Rattle.bson_base.specs.Device.{CanFail};
-ghost use Rattle.bson_store_cli.specs.Asking.{Asks, AsksForLines, AsksForStream, AsksToImport};
+ghost use Rattle.fallowtime_front.specs.Asking.{Asks, AsksForLines, AsksForStream, AsksToImport, form_by};
 
 use crate::ending::Ended;
-use bson_base::{ReadAllError, read_all};
-use bson_store::{ErrorKind, Source};
-use fallowtime_commands::{Refusal, Request, request_of};
+use bson_base::{ReadAllError, Source, read_all};
+use bson_model::extjson::Mode;
+use fallowtime_commands::{Form, Refusal, Request, request_of};
 use fallowtime_texts::{IdMaker, read_lines};
-use fallowtime_words::{Command, Words};
+use fallowtime_words::{Command, Options, Words};
 use json::Scratch;
 use std::alloc::Global;
 use store_documents::Name;
+use store_model::ErrorKind;
+
+/// The form in which a command prints documents: lines of relaxed Extended JSON, except if its options say otherwise.
+pub fn form_of(options: &Options) -> Form
+    ensures { result ≡ form_by options.now.bytes options.now.canonical }
+{
+    if options.bytes {
+        Form::Bytes
+    } else if options.canonical {
+        Form::Lines(Mode::Canonical)
+    } else {
+        Form::Lines(Mode::Relaxed)
+    }
+}
 
 /// What a command asks of a store.
 #[derive(Drop)]

@@ -3,15 +3,15 @@
 ghost use Rattle.std.specs.Prelude.{◌≡◌, IfOk, OnErr, string_bytes};
 ghost use Rattle.bson_base.specs.Device.{CanRefuse, TakesText};
 ghost use Rattle.cli_convert.specs.Reports.{memory_line};
-ghost use Rattle.bson_store_cli.specs.Ending.{TellsEnd, kind_of_line as line_kind, place_of as line_of};
+ghost use Rattle.fallowtime_front.specs.Ending.{TellsEnd, ended_by, kind_of_line as line_kind, place_of as line_of};
 
-use bson_base::write_all;
-use bson_store::{ErrorKind, Sink};
+use bson_base::{Sink, write_all};
 use cli_convert::{Stop as LineStop, report_end};
 use cli_files::{FileError, report_file};
 use fallowtime_commands::{Refusal, Stop, Unread};
 use std::alloc::AllocError;
 use std::io;
+use store_model::ErrorKind;
 
 /// Why the program ends before its work is done.
 #[derive(Drop)]
@@ -45,11 +45,11 @@ fn place_of(lines: &[u64], document: Option<u64>) -> Option<u64>
 
 impl Ended {
     ghost use Rattle.std.specs.Prelude.{◌≡◌};
-    ghost use Rattle.bson_store_cli.specs.Ending.{place_of as line_of, placed};
-    ghost use Rattle.bson_store_cli.specs.declared.ending.Ended.TheVariants.{Refused};
+    ghost use Rattle.fallowtime_front.specs.Ending.{place_of as line_of, placed};
+    ghost use Rattle.fallowtime_front.specs.declared.ending.Ended.TheVariants.{Refused};
 
     /// A refusal, of a document that came from one of these lines.
-    pub fn of_line(mut refusal: Refusal, lines: &[u64]) -> Ended
+    fn of_line(mut refusal: Refusal, lines: &[u64]) -> Ended
         ensures { result ≡ Refused (placed (line_of lines.now refusal.error.document) refusal) }
     {
         refusal.line = place_of(lines, refusal.error.document);
@@ -60,9 +60,20 @@ impl Ended {
     }
 }
 
+/// How a result ends a command whose documents came from these lines: a refusal names the line of its document. With no
+/// lines it stays as it is.
+pub fn ended_of(done: Result<(), Refusal>, lines: &[u64]) -> Result<(), Ended>
+    ensures { result ≡ ended_by lines.now done }
+{
+    match done {
+        Ok(()) => Ok(()),
+        Err(refusal) => Err(Ended::of_line(refusal, lines)),
+    }
+}
+
 impl From<Stop> for Ended {
     ghost use Rattle.std.specs.Prelude.{◌≡◌};
-    ghost use Rattle.bson_store_cli.specs.Asking.{ended_of_stop};
+    ghost use Rattle.fallowtime_front.specs.Asking.{ended_of_stop};
 
     ghost from_gives = { λ s e. e ≡ ended_of_stop s };
 
@@ -104,7 +115,8 @@ fn tell_line<F: Sink>(faults: &mut F, line: Result<String, AllocError>)
     }
 }
 
-/// Reports why the program ends, and returns its status.
+/// Reports why the program ends by a line, and returns its status. If there is no memory for that line, it is
+/// `refused: Memory`. A write that fails is ignored.
 pub fn tell<F: Sink>(rt: &HostRuntime, faults: &mut F, ended: Ended) -> u8
     requires { CanRefuse (F.tally faults.old) }
     ensures { TellsEnd ended (F.tally faults.old) (F.tally faults.new) result }

@@ -1,5 +1,5 @@
 -- How a command of `fallowtime` ends, and what is reported of it.
-use Rattle.std.specs.Prelude.{◌≡◌, ◌⊎◌, ℕ, List, Option, Some, None, Result, Ok, Err, codes}
+use Rattle.std.specs.Prelude.{◌≡◌, ◌⊎◌, ℕ, List, Option, Some, None, Result, Ok, Err}
 use Rattle.std.specs.List.{slice_get}
 use Rattle.bson_base.specs.Device.{Tally, TakesText}
 use Rattle.cli_convert.specs.Reports.{Reports, memory_line}
@@ -9,8 +9,8 @@ use Rattle.fallowtime_commands.specs.Reports.{refusal_text, unread_text}
 use Rattle.fallowtime_commands.specs.declared.refusal.Refusal.{Refusal}
 use Rattle.store_model.specs.declared.error.ErrorKind.{ErrorKind}
 use Rattle.store_model.specs.declared.error.ErrorKind.TheVariants.{BadLength, TooLong}
-use Rattle.bson_store_cli.specs.declared.ending.Ended.{Ended}
-use Rattle.bson_store_cli.specs.declared.ending.Ended.TheVariants as ended
+use Rattle.fallowtime_front.specs.declared.ending.Ended.{Ended}
+use Rattle.fallowtime_front.specs.declared.ending.Ended.TheVariants as ended
 
 -- the line that the document with this number came from, if there are lines
 abbrev pub place_of : List ℕ → Option ℕ → Option ℕ

@@ -2,8 +2,8 @@
 
 ghost use Rattle.std.specs.Prelude.{◌≡◌, ◌↔◌, ℕ, List, [], ◌∷◌, MatchOption, Some, codes, map, string_bytes};
 ghost use Rattle.std.specs.Path.{path_file_name};
-ghost use Rattle.bson_store_cli.specs.Words.{AsksForCopy, AsksToWait};
-ghost use Rattle.bson_store_cli.specs.declared.words.Program.TheVariants.{Fallowtime, Json};
+ghost use Rattle.fallowtime_front.specs.Words.{AsksForCopy, AsksToWait};
+ghost use Rattle.fallowtime_front.specs.declared.words.Program.TheVariants.{Fallowtime, Json};
 
 use std::path::Path;
 use std::{env, io};
@@ -33,7 +33,7 @@ pub fn program_of(name: &str) -> Program
     }
 }
 
-/// The name of the program, and the words after it.
+/// The name of the program, and the words after it. An error if a word isn't UTF-8, or if out of memory.
 pub fn words_of(rt: &HostRuntime) -> io::Result<Vec<String>> {
     let mut words = Vec::new(rt.alloc());
     for word in env::args(rt)? {
@@ -59,7 +59,7 @@ pub fn patience_of(words: &[String]) -> Option<(u64, &[String])>
 }
 
 /// The one word that there is; none if there are more or none.
-pub fn only_word(words: &[String]) -> Option<&str>
+fn only_word(words: &[String]) -> Option<&str>
     ensures { MatchOption result
         ((word : List ℕ) → map string_bytes words.now ≡ word ∷ [] → ⊥)
         (λ word. map string_bytes words.now ≡ word.now ∷ []) }
@@ -70,7 +70,7 @@ pub fn only_word(words: &[String]) -> Option<&str>
     }
 }
 
-/// The file and the path of its back-up; none if the words don't ask for one.
+/// The file and the path of its back-up, if the words are `FILE backup PATH`; none if they don't ask for one.
 pub fn copy_of(words: &[String]) -> Option<(&str, &str)>
     ensures { MatchOption result
         ((file path : List ℕ) → AsksForCopy (map string_bytes words.now) file path → ⊥)
