@@ -1,8 +1,9 @@
 //! Indexes of collections on paths. They change no answer: a question that asks for a value at such a path reads fewer
 //! documents.
 
-ghost use Rattle.std.specs.Prelude.{◌↔◌, IsTrue, OnOk};
+ghost use Rattle.std.specs.Prelude.{◌≡◌, ◌↔◌, ℕ, List, IsTrue, OnOk};
 ghost use Rattle.store_filter.specs.Filters.{path_of};
+ghost use Rattle.store_model.specs.Filter.{Path};
 ghost use Rattle.store_table.specs.Moves.{WasOpen};
 ghost use Rattle.store_table.specs.Crash.{AddsNothing};
 ghost use Rattle.bson_store.specs.Calls.{HasIndex, store_state, Relates};
@@ -41,6 +42,8 @@ impl<S: Alter + Drop> Store<S> {
     pub fn drop_index(&mut self, name: &str, path: &[String]) -> Result<(), StoreError>
         ensures moves { Relates S.Store self.old self.new (Indexed name.now result) }
         ensures gone { OnOk result (HasIndex self.new name.now (path_of path.now) → ⊥) }
+        ensures others { (n : List ℕ) (p : Path) → ((n ≡ name.now) × (p ≡ path_of path.now) → ⊥)
+            → HasIndex self.old n p ↔ HasIndex self.new n p }
         ensures open { WasOpen (store_state S.Store self.old)
             (store_state S.Store self.new) result }
         ensures crash { AddsNothing (store_state S.Store self.old) (store_state S.Store self.new) }

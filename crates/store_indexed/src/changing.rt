@@ -28,7 +28,7 @@ pub(crate) fn note_rows(indexes: &mut Indexes, coll: &str, last: i64, rows: &[Ne
             indexes.clear();
             return;
         };
-        // A refusal leaves no indexes, and none is what the rows that follow are noted in.
+        // If it is refused, no index is left that could miss the row.
         let _ = indexes.note(coll.as_bytes(), next, row.body);
         place = next;
     }
