@@ -30,7 +30,11 @@ ROOM = 5 << 30
 
 
 def run_rt(words):
-    """Runs `rt` with these words in the folder of a crate, without locks and with sums kept."""
+    """Runs `rt` with these words in the folder of a crate: without locks and with sums kept, if it is a program of Python."""
+    program = os.path.realpath(shutil.which("rt"))
+    with open(program, "rb") as file:
+        if b"python" not in file.readline():
+            os.execv(program, [program, *words])
     fcntl.flock = lambda *_: None
     load = importlib.machinery.SourceFileLoader.exec_module
 
@@ -41,8 +45,8 @@ def run_rt(words):
             module.Crate.stamp = lambda crate: sums[crate.folder] if crate.folder in sums else sums.setdefault(crate.folder, raw(crate))
 
     importlib.machinery.SourceFileLoader.exec_module = load_and_keep
-    sys.argv = [os.path.realpath(shutil.which("rt")), *words]
-    runpy.run_path(sys.argv[0], run_name="__main__")
+    sys.argv = [program, *words]
+    runpy.run_path(program, run_name="__main__")
 
 
 def crates():
