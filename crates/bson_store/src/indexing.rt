@@ -15,9 +15,10 @@ use sqlite::Alter;
 use store_model::StoreError;
 
 impl<S: Alter + Drop> Store<S> {
-    /// Makes an index of the collection `name` on a path, if there is none, by two readings of the documents. It lasts
-    /// until `drop_index` or until the store is closed: every change of the store is noted in it, except that a refusal
-    /// of memory in the noting drops all indexes. A database that has other tables gets none.
+    /// Makes an index of the collection `name` on a path, if there is none. It reads the collection; and before that,
+    /// once, all rows, if the file was new as it was opened. The index lasts until `drop_index` or until the store is
+    /// closed: every change of the store is noted in it, except that a refusal of memory in the noting drops all
+    /// indexes. A database that has other tables gets none.
     ///
     /// `find`, `count` and `project` read by it if the filter holds an equality at the path: the filter itself, one of
     /// an `And`, or each of an `Or`. Of several indexes that serve they go by the one with the fewest documents.
