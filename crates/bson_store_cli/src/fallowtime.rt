@@ -187,6 +187,39 @@ fn back_up(rt: &HostRuntime, words: &Words<'_>) -> Result<(), Ended> {
     }
 }
 
+/// Does what is asked, over the file of the words.
+fn do_asked<O: Sink>(
+    rt: &HostRuntime,
+    words: &Words<'_>,
+    asked: &mut Asked<'_>,
+    output: &mut O,
+) -> Result<(), Ended>
+    requires { CanRefuse (O.tally output.old) }
+{
+    if words.command.only_reads() {
+        look(rt, words, asked, output)
+    } else {
+        change(rt, words, asked, output)
+    }
+}
+
+/// Reads what the words ask for, and does that.
+fn ask_and_do<I: Source, O: Sink>(
+    rt: &HostRuntime,
+    words: &Words<'_>,
+    maker: &mut IdMaker,
+    input: &mut I,
+    output: &mut O,
+) -> Result<(), Ended>
+    requires input { CanFail (I.feed input.old) }
+    requires output { CanRefuse (O.tally output.old) }
+{
+    match asked_of(rt.alloc(), words, maker, input) {
+        Ok(mut asked) => do_asked(rt, words, &mut asked, output),
+        Err(ended) => Err(ended),
+    }
+}
+
 /// Does the command of the words.
 fn command<I: Source, O: Sink>(
     rt: &HostRuntime,
@@ -201,12 +234,7 @@ fn command<I: Source, O: Sink>(
         return back_up(rt, words);
     }
     let mut maker = maker_of(rt)?;
-    let mut asked = asked_of(rt.alloc(), words, &mut maker, input)?;
-    if words.command.only_reads() {
-        look(rt, words, &mut asked, output)
-    } else {
-        change(rt, words, &mut asked, output)
-    }
+    ask_and_do(rt, words, &mut maker, input, output)
 }
 
 /// The session over a connection, which it gives back. It is over any store, for the reason that `over` is.
