@@ -20,6 +20,7 @@ impl Index {
     /// Finds no document yet.
     pub fn new(alloc: Global, coll: String, path: Vec<String>) -> Index
         ensures coll { result.coll ≡ coll }
+        ensures path { result.path ≡ path }
     {
         Index {
             coll,
