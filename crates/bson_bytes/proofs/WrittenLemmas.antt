@@ -3,14 +3,14 @@ use Rattle.std.proofs.Common.{◌≡◌, ℕ, zero, suc, ◌+◌, ◌^◌, ◌<�
 use Rattle.std.specs.Prelude.{decimal}
 use Rattle.std.proofs.Math.Seq.{drop-cons}
 use Rattle.std.proofs.lemmas.Result.{on_ok_weaker, on_err_weaker, IfErr-weaker}
-use Rattle.bson_base.specs.Kinds.{IsPlain}
+use Rattle.bson_base.specs.Kinds.{IsPlain, HasNo00}
 use Rattle.bson_base.specs.Tags.{tag_byte}
-use Rattle.bson_base.specs.Value.{Value, value_kind, array, Items, item, no_items}
-use Rattle.bson_bytes.specs.Encode.{le32, cstring_of, frame_of, scope_frame_of, text_bytes, value_bytes, value_size, items_bytes}
+use Rattle.bson_base.specs.Value.{Value, value_kind, array, Items, item, no_items, Members, member}
+use Rattle.bson_bytes.specs.Encode.{le32, cstring_of, frame_of, scope_frame_of, text_bytes, value_bytes, value_size, items_bytes, members_bytes}
 use Rattle.bson_bytes.specs.Writing.{CanBeWritten, IsWriteRefusal, RefusesWriting, StartsWith}
 use Rattle.bson_bytes.proofs.ExtentLemmas.{framed_envelope}
 use Rattle.bson_frame.specs.Payload.{IsEnvelope}
-use Rattle.bson_bytes.proofs.WritingLemmas.{ItemsTo}
+use Rattle.bson_bytes.proofs.WritingLemmas.{ItemsTo, MembersTo}
 use Rattle.bson_frame.specs.declared.error.Error.{Error}
 use Rattle.bson_frame.specs.declared.error.ErrorKind.{ErrorKind}
 use Rattle.bson_frame.specs.declared.error.ErrorKind.TheVariants.{MalformedValue, Utf8EncodingError, OutOfMemory}
@@ -103,5 +103,21 @@ item_written whole rest i v begun out after_place now to place is plain =
       forth = λ h. to.forth (plain, h);
       back = λ h. (to.back h).1;
       smaller = rw add-one (omega (arith, to.smaller));
+      behind = (to.behind.0 ++ (front ++ value_bytes v), is ∙ ap (λ (x : List ℕ). x ++ value_bytes v) (place ∙ ap (λ (x : List ℕ). x ++ front) to.behind.1 ∙ append_assoc begun to.behind.0 front) ∙ append_assoc begun (to.behind.0 ++ front) (value_bytes v) ∙ ap (λ (x : List ℕ). begun ++ x) (append_assoc to.behind.0 front (value_bytes v)));
+    }
+
+-- a member is written behind its front: the first of those that are left
+pub member_written : (whole left rest : Members) (k : List ℕ) (v : Value) (begun out front_out now : List ℕ) → MembersTo whole left begun out → left ≡ member k v rest → front_out ≡ out ++ tag_byte (value_kind v) ∷ cstring_of k → now ≡ front_out ++ value_bytes v → HasNo00 k → IsPlain v
+    → MembersTo whole rest begun now
+member_written whole left rest k v begun out front_out now before first place is named plain =
+    let to : MembersTo whole (member k v rest) begun out = subst (λ (ms : Members). MembersTo whole ms begun out) first before in
+    let front = tag_byte (value_kind v) ∷ cstring_of k in
+    let one : now ++ members_bytes rest ≡ out ++ (front ++ (value_bytes v ++ members_bytes rest)) =
+    ap (λ (x : List ℕ). x ++ members_bytes rest) (is ∙ ap (λ (x : List ℕ). x ++ value_bytes v) place) ∙ append_assoc (out ++ front) (value_bytes v) (members_bytes rest) ∙ append_assoc out front (value_bytes v ++ members_bytes rest) in
+    record {
+      written = one ∙ to.written;
+      forth = λ h. to.forth (named, plain, h);
+      back = λ h. (to.back h).2;
+      smaller = omega (arith, to.smaller);
       behind = (to.behind.0 ++ (front ++ value_bytes v), is ∙ ap (λ (x : List ℕ). x ++ value_bytes v) (place ∙ ap (λ (x : List ℕ). x ++ front) to.behind.1 ∙ append_assoc begun to.behind.0 front) ∙ append_assoc begun (to.behind.0 ++ front) (value_bytes v) ∙ ap (λ (x : List ℕ). begun ++ x) (append_assoc to.behind.0 front (value_bytes v)));
     }

@@ -12,6 +12,7 @@ use std::mem::replace;
 pub fn writer_over(alloc: Global, text: &mut String) -> Writer
     ensures before { result.before ≡ [] }
     ensures tokens { result.tokens ≡ [] }
+    ensures taken { string_bytes text.new ≡ [] }
 {
     let mut room = replace(text, String::new(alloc));
     room.clear();

@@ -65,7 +65,7 @@ scalar_deep m max_key j w = subst (λ i. depth i ≤ 3) (sym w) (omega arith)
 scalar_deep m min_key j w = subst (λ i. depth i ≤ 3) (sym w) (omega arith)
 
 mutual
-  deep : (m : Mode) (v : Value) (j : Json) → Writes m v j → depth j ≤ json_levels v + 3
+  pub deep : (m : Mode) (v : Value) (j : Json) → Writes m v j → depth j ≤ json_levels v + 3
   deep m (scalar s) j w = scalar_deep m s j w
   deep m (array vs) j w = subst (λ i. depth i ≤ suc (json_items_levels vs) + 3) (sym w.2) (omega (arith, items_deep m vs w.0 w.1))
   deep m (document ms) j w = subst (λ i. depth i ≤ suc (json_members_levels ms) + 3) (sym w.2) (omega (arith, members_deep m ms w.0 w.1))

@@ -1,12 +1,11 @@
 -- Which documents' texts are written straight from their bytes.
 use Rattle.std.specs.Prelude.{◌≡◌, ◌<◌, ◌-◌, ℕ, false}
-use Rattle.bson_base.specs.Value.{Scalar, regex, Value, scalar, array, document, scoped_code, Items, no_items, item, Members, no_members, member}
+use Rattle.bson_base.specs.Value.{Scalar, Value, scalar, array, document, scoped_code, Items, no_items, item, Members, no_members, member}
 use Rattle.bson_meaning.specs.JsonReserved.{some_reserved}
 use Rattle.bson_raw.specs.Raw as raw
 use Rattle.bson_raw.specs.Raw.{RawValue}
 
 abbrev pub IsStraightScalar : Scalar → Type 0
-IsStraightScalar (regex p o) = ⊥
 IsStraightScalar s = Unit {0}
 
 -- a scalar that is written straight from its view

@@ -17,7 +17,7 @@ use Rattle.store_model.specs.declared.error.StoreError.{StoreError}
 use Rattle.sqlite_trees.specs.declared.store.Store.{Ghosts}
 use Rattle.sqlite.specs.State.{State}
 use Rattle.sqlite.specs.Held.{Held}
-use Rattle.store_indexed.specs.Table.{HasIndex as TableHasIndex, connection_of as table_connection, indexed_state as table_state}
+use Rattle.store_indexed.specs.Table.{HasIndex as TableHasIndex, LeavesIndexes, connection_of as table_connection, indexed_state as table_state}
 use Rattle.bson_store.specs.declared.store.Store.{Store}
 
 -- a store's connection, and its state
@@ -30,6 +30,14 @@ store_state g s = table_state g s.table
 -- a store has an index of a collection on a path
 abbrev pub HasIndex : {S : Type 0} {h : _} → Store S h → List ℕ → Path → Type 0
 HasIndex s n path = TableHasIndex s.table n path
+
+-- a call leaves the indexes as they are
+abbrev pub KeepsIndexes : {S : Type 0} {h : _} → Store S h → Store S h → Type 0
+KeepsIndexes old new = new.table.indexes ≡ old.table.indexes
+
+-- a change leaves the indexes of before, by collection and path, or none
+abbrev pub MayDropIndexes : {S : Type 0} {h : _} → Store S h → Store S h → Type 0
+MayDropIndexes old new = LeavesIndexes old.table new.table
 
 -- the rows of a store before a call and after it are related by P
 abbrev pub Relates : {S : Type 0} {h : _} → Ghosts S → Store S h → Store S h → (List TableRow → List TableRow → Type 0) → Type 0

@@ -139,8 +139,17 @@ fn execute<S: Alter + Drop>(store: &mut Store<S>, command: Command) -> Reply
             value,
         } => done(store.set(name.as_str(), &id, key.as_str(), value)),
         Command::LoadJson { name, trees } => counted(store.load_json(name.as_str(), trees)),
-        lent => execute_lent(store, &lent),
+        lent => {
+            let reply = execute_lent(store, &lent);
+            discard(lent);
+            reply
+        }
     }
+}
+
+/// Lets a command go. What a function that is generic over the database lets go is far dearer to prove.
+fn discard(command: Command) {
+    drop(command);
 }
 
 /// One command that hands no JSON over. It is lent, as what it holds would else be dropped anew in each of the cases.

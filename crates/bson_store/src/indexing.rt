@@ -26,6 +26,7 @@ impl<S: Alter + Drop> Store<S> {
     /// Refused by BadName, Memory and Database.
     pub fn index(&mut self, name: &str, path: Vec<String>) -> Result<(), StoreError>
         ensures moves { Relates S.Store self.old self.new (Indexed name.now result) }
+        ensures others { (n : List ℕ) (p : Path) → HasIndex self.old n p → HasIndex self.new n p }
         ensures open { WasOpen (store_state S.Store self.old)
             (store_state S.Store self.new) result }
         ensures crash { AddsNothing (store_state S.Store self.old) (store_state S.Store self.new) }

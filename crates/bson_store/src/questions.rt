@@ -6,7 +6,7 @@ ghost use Rattle.store_table.specs.Moves.{WasOpen};
 ghost use Rattle.store_documents.specs.Names.{name_bytes};
 ghost use Rattle.store_model.specs.State.{collections, count, find, on, project};
 ghost use Rattle.store_table.specs.Crash.{AddsNothing};
-ghost use Rattle.bson_store.specs.Calls.{Does, store_state, Relates};
+ghost use Rattle.bson_store.specs.Calls.{Does, KeepsIndexes, store_state, Relates};
 ghost use Rattle.bson_store.specs.Questions.{Picked, as_list, as_names};
 ghost use Rattle.bson_store.specs.Refusals.{as_number, reply_by};
 
@@ -28,6 +28,7 @@ impl<S: Alter + Drop> Store<S> {
             (Does collections (reply_by as_names result)) }
         ensures open { WasOpen (store_state S.Store self.old)
             (store_state S.Store self.new) result }
+        ensures indexes { KeepsIndexes self.old self.new }
         ensures crash { AddsNothing (store_state S.Store self.old) (store_state S.Store self.new) }
     {
         match self.table.collections() {
@@ -48,6 +49,7 @@ impl<S: Alter + Drop> Store<S> {
             (Picked (T.took taker) (name_bytes name.entry) (filter_of filter.now) result) }
         ensures open { WasOpen (store_state S.Store self.old)
             (store_state S.Store self.new) result }
+        ensures indexes { KeepsIndexes self.old self.new }
         ensures crash { AddsNothing (store_state S.Store self.old) (store_state S.Store self.new) }
     {
         let mut visitor = FilterVisitor {
@@ -79,6 +81,7 @@ impl<S: Alter + Drop> Store<S> {
             (Does (on name.now (find (filter_of filter.now))) (reply_by as_list result)) }
         ensures open { WasOpen (store_state S.Store self.old)
             (store_state S.Store self.new) result }
+        ensures indexes { KeepsIndexes self.old self.new }
         ensures crash { AddsNothing (store_state S.Store self.old) (store_state S.Store self.new) }
     {
         let name = good_name(name)?;
@@ -96,6 +99,7 @@ impl<S: Alter + Drop> Store<S> {
             (Does (on name.now (count (filter_of filter.now))) (reply_by as_number result)) }
         ensures open { WasOpen (store_state S.Store self.old)
             (store_state S.Store self.new) result }
+        ensures indexes { KeepsIndexes self.old self.new }
         ensures crash { AddsNothing (store_state S.Store self.old) (store_state S.Store self.new) }
     {
         let name = good_name(name)?;
@@ -118,6 +122,7 @@ impl<S: Alter + Drop> Store<S> {
             (reply_by as_list result)) }
         ensures open { WasOpen (store_state S.Store self.old)
             (store_state S.Store self.new) result }
+        ensures indexes { KeepsIndexes self.old self.new }
         ensures crash { AddsNothing (store_state S.Store self.old) (store_state S.Store self.new) }
     {
         let name = good_name(name)?;

@@ -15,7 +15,7 @@ ghost use Rattle.store_table.specs.Moves.{AddsRows, Changes, MayLeave, Stands, W
 ghost use Rattle.store_model.specs.State.{State as Lists};
 ghost use Rattle.bson_store.specs.Left.{FindsState, Holds, HoldsOnce, Keeps, Leaves, LeavesBytes, LeavesOnly, LeavesRead, LeavesTree};
 ghost use Rattle.store_table.specs.Rows.{TableRow, with_body_at};
-ghost use Rattle.bson_store.specs.Calls.{store_connection, store_state, Does, DoesBytes, DoesTree, DoesRead, Looks, Relates};
+ghost use Rattle.bson_store.specs.Calls.{store_connection, store_state, Does, DoesBytes, DoesTree, DoesRead, KeepsIndexes, Looks, MayDropIndexes, Relates};
 ghost use Rattle.bson_store.specs.Export.{SendsCollection};
 ghost use Rattle.bson_store.specs.Refusals.{ReportsFailure, reply_by, as_done, as_flag, as_bytes, as_json};
 ghost use Rattle.store_model.specs.Refusal.{refusal};
@@ -131,6 +131,7 @@ impl<S: Alter + Drop> Store<S> {
             (AddsRows 1 (with_row collection.now key.now body.now) result) }
         ensures open { WasOpen (store_state S.Store self.old)
             (store_state S.Store self.new) result }
+        ensures indexes { MayDropIndexes self.old self.new }
         ensures crash { Survives (store_state S.Store self.old) (store_state S.Store self.new)
             (MayLeave (with_row collection.now key.now body.now) (store_state S.Store self.old)) }
         ensures full { IsErrOf result Fault.Places
@@ -145,6 +146,7 @@ impl<S: Alter + Drop> Store<S> {
             (Changes (with_body_at found.now.place body.now) result) }
         ensures open { WasOpen (store_state S.Store self.old)
             (store_state S.Store self.new) result }
+        ensures indexes { MayDropIndexes self.old self.new }
         ensures crash { Survives (store_state S.Store self.old) (store_state S.Store self.new)
             (MayLeave (with_body_at found.now.place body.now) (store_state S.Store self.old)) }
     {
@@ -158,6 +160,7 @@ impl<S: Alter + Drop> Store<S> {
             (reply_by as_done result)) }
         ensures open { WasOpen (store_state S.Store self.old)
             (store_state S.Store self.new) result }
+        ensures indexes { MayDropIndexes self.old self.new }
         ensures crash { (d : Members) → IsRead d → AnswersWritten d (Ok row.now)
             → LeavesRead (name_bytes name.entry) insert d (reply_by as_done result)
             (store_state S.Store self.old) (store_state S.Store self.new) }
@@ -185,6 +188,7 @@ impl<S: Alter + Drop> Store<S> {
             (reply_by as_done result)) }
         ensures open { WasOpen (store_state S.Store self.old)
             (store_state S.Store self.new) result }
+        ensures indexes { MayDropIndexes self.old self.new }
         ensures crash { (d : Members) → IsRead d → AnswersWritten d (Ok row.now)
             → LeavesRead (name_bytes name.entry) replace d (reply_by as_done result)
             (store_state S.Store self.old) (store_state S.Store self.new) }
@@ -213,6 +217,7 @@ impl<S: Alter + Drop> Store<S> {
             → Stands (store_state S.Store self.old) docs
             → IfOk result (λ found. IsSome found → IsTrue (store_state S.Store self.old).is_open
             × IsTrue (store_state S.Store self.new).is_open) }
+        ensures indexes { KeepsIndexes self.old self.new }
         ensures crash { AddsNothing (store_state S.Store self.old) (store_state S.Store self.new) }
     {
         let key = match key_of_id(self.alloc, id) {
@@ -241,6 +246,7 @@ impl<S: Alter + Drop> Store<S> {
             (DoesBytes name.now (insert in_bytes) bytes.now (reply_by as_done result)) }
         ensures open { WasOpen (store_state S.Store self.old)
             (store_state S.Store self.new) result }
+        ensures indexes { MayDropIndexes self.old self.new }
         ensures crash { LeavesBytes name.now (insert in_bytes) bytes.now (reply_by as_done result)
             (store_state S.Store self.old) (store_state S.Store self.new) }
     {
@@ -258,6 +264,7 @@ impl<S: Alter + Drop> Store<S> {
             (DoesTree name.now (insert in_json) (data_of json) (reply_by as_done result)) }
         ensures open { WasOpen (store_state S.Store self.old)
             (store_state S.Store self.new) result }
+        ensures indexes { MayDropIndexes self.old self.new }
         ensures crash { LeavesTree name.now (insert in_json) (data_of json)
             (reply_by as_done result) (store_state S.Store self.old)
             (store_state S.Store self.new) }
@@ -275,6 +282,7 @@ impl<S: Alter + Drop> Store<S> {
             (DoesBytes name.now (replace in_bytes) bytes.now (reply_by as_done result)) }
         ensures open { WasOpen (store_state S.Store self.old)
             (store_state S.Store self.new) result }
+        ensures indexes { MayDropIndexes self.old self.new }
         ensures crash { LeavesBytes name.now (replace in_bytes) bytes.now (reply_by as_done result)
             (store_state S.Store self.old) (store_state S.Store self.new) }
     {
@@ -292,6 +300,7 @@ impl<S: Alter + Drop> Store<S> {
             (DoesTree name.now (replace in_json) (data_of json) (reply_by as_done result)) }
         ensures open { WasOpen (store_state S.Store self.old)
             (store_state S.Store self.new) result }
+        ensures indexes { MayDropIndexes self.old self.new }
         ensures crash { LeavesTree name.now (replace in_json) (data_of json)
             (reply_by as_done result) (store_state S.Store self.old)
             (store_state S.Store self.new) }
@@ -313,6 +322,7 @@ impl<S: Alter + Drop> Store<S> {
             (reply_by as_done result)) }
         ensures open { WasOpen (store_state S.Store self.old)
             (store_state S.Store self.new) result }
+        ensures indexes { MayDropIndexes self.old self.new }
         ensures crash { Leaves (store_state S.Store self.old) (store_state S.Store self.new)
             (on name.now (set (view id.now) key.now (read_value (data_of value))))
             (reply_by as_done result) }
@@ -341,6 +351,7 @@ impl<S: Alter + Drop> Store<S> {
             (reply_by as_done result)) }
         ensures open { WasOpen (store_state S.Store self.old)
             (store_state S.Store self.new) result }
+        ensures indexes { MayDropIndexes self.old self.new }
         ensures crash { Leaves (store_state S.Store self.old) (store_state S.Store self.new)
             (on name.now (set (view id.now) key.now (Some (view value))))
             (reply_by as_done result) }
@@ -371,6 +382,7 @@ impl<S: Alter + Drop> Store<S> {
             (Does (on name.now (unset (view id.now) key.now)) (reply_by as_flag result)) }
         ensures open { WasOpen (store_state S.Store self.old)
             (store_state S.Store self.new) result }
+        ensures indexes { MayDropIndexes self.old self.new }
         ensures crash { Leaves (store_state S.Store self.old) (store_state S.Store self.new)
             (on name.now (unset (view id.now) key.now)) (reply_by as_flag result) }
     {
@@ -401,6 +413,7 @@ impl<S: Alter + Drop> Store<S> {
             (Does (on name.now (remove (view id.now))) (reply_by as_done result)) }
         ensures open { WasOpen (store_state S.Store self.old)
             (store_state S.Store self.new) result }
+        ensures indexes { MayDropIndexes self.old self.new }
         ensures crash { Leaves (store_state S.Store self.old) (store_state S.Store self.new)
             (on name.now (remove (view id.now))) (reply_by as_done result) }
     {
@@ -422,6 +435,7 @@ impl<S: Alter + Drop> Store<S> {
             (Does (on name.now (get_raw (view id.now))) (reply_by as_bytes result)) }
         ensures open { WasOpen (store_state S.Store self.old)
             (store_state S.Store self.new) result }
+        ensures indexes { KeepsIndexes self.old self.new }
         ensures crash { AddsNothing (store_state S.Store self.old) (store_state S.Store self.new) }
     {
         let name = good_name(name)?;
@@ -440,6 +454,7 @@ impl<S: Alter + Drop> Store<S> {
             (Does (on name.now (get_json mode (view id.now))) (reply_by as_json result)) }
         ensures open { WasOpen (store_state S.Store self.old)
             (store_state S.Store self.new) result }
+        ensures indexes { KeepsIndexes self.old self.new }
         ensures crash { AddsNothing (store_state S.Store self.old) (store_state S.Store self.new) }
     {
         let name = good_name(name)?;
@@ -464,6 +479,7 @@ impl<S: Alter + Drop> Store<S> {
         // `Writer` is reported exactly if a write failed, whatever the disk does.
         ensures device { ReportsFailure Writer result (W.tally writer.old).failures
             (W.tally writer.new).failures }
+        ensures indexes { KeepsIndexes self.old self.new }
         ensures crash { AddsNothing (store_state S.Store self.old) (store_state S.Store self.new) }
     {
         let name = good_name(name)?;

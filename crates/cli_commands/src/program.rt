@@ -133,7 +133,14 @@ fn obey<S: Alter + Drop, I: Source, O: Sink>(
     ensures spared { Spares words.now.call input.old input.new }
 {
     let mut request = request_of(alloc, words)?;
-    perform(alloc, store, words, &mut request, input, output)
+    let told = perform(alloc, store, words, &mut request, input, output);
+    discard(request);
+    told
+}
+
+/// Lets a request go.
+fn discard(request: Request) {
+    drop(request);
 }
 
 /// Does the command that the words ask for on `store`, and returns the program's status. Only the texts of the words

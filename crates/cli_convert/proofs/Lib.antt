@@ -3,3 +3,4 @@ mod ToLinesLemmas
 pub mod TakeLemmas
 mod ToBsonLemmas
 mod SpoiledLemmas
+mod PipedLemmas

@@ -4,3 +4,4 @@ pub mod Lines
 pub mod ToBson
 pub mod Reports
 pub mod Program
+pub mod Piped

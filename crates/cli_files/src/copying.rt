@@ -1,9 +1,10 @@
 //! A whole database file, made of one that was read into memory.
 
-ghost use Rattle.std.specs.Prelude.{ℕ, List, IfOk, [], ◌≡◌};
+ghost use Rattle.std.specs.Prelude.{ℕ, List, IfErr, IfOk, [], ◌≡◌, ◌⊎◌, ◌+◌};
 ghost use Rattle.std.specs.Io.KnownBytes.{Appends};
 ghost use Rattle.sqlite.specs.Files.{file_state, HoldsDatabase, IsOpened};
-ghost use Rattle.bson_base.specs.Device.{CanRefuse};
+ghost use Rattle.bson_base.specs.Device.{CanRefuse, TakesBeginning};
+ghost use Rattle.cli_files.specs.declared.fault.FileError.TheVariants.{Disk};
 
 use crate::fault::FileError;
 use crate::loaded::Loaded;
@@ -36,9 +37,15 @@ pub fn write_whole<F: Sink>(
     copy: &mut F,
 ) -> Result<(), FileError>
     requires { CanRefuse (F.tally copy.old) }
-    ensures { IfOk result (λ _. (bytes : List ℕ) × Appends (F.tally copy.old).taken
+    ensures whole { IfOk result (λ _. (bytes : List ℕ) × Appends (F.tally copy.old).taken
         (F.tally copy.new).taken bytes × ∥ HoldsDatabase (record { log = []; db = bytes })
         (file_state connection).committed.trees ∥₁) }
+    // After an error nothing was written; or a write failed, which is `Disk`, and a beginning of such a file was.
+    ensures failed { IfErr result (λ e. (copy.new ≡ copy.old) ⊎ ((e ≡ Disk)
+        × ((F.tally copy.new).failures ≡ (F.tally copy.old).failures + 1) × ((bytes : List ℕ)
+        × TakesBeginning (F.tally copy.old).taken (F.tally copy.new).taken bytes
+        × ∥ HoldsDatabase (record { log = []; db = bytes })
+        (file_state connection).committed.trees ∥₁))) }
 {
     let bytes = whole(connection)?;
     match write_all(copy, bytes.as_slice()) {

@@ -1,5 +1,6 @@
 mod IdLemmas
 mod PrintLemmas
+mod EarlyLemmas
 mod KeepLemmas
 mod PutLemmas
 mod SetLemmas

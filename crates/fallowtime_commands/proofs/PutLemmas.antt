@@ -17,7 +17,7 @@ use Rattle.bson_store.specs.Left.{Holds, LeavesBytes}
 use Rattle.bson_store.specs.Shown.{Represents}
 use Rattle.bson_store.proofs.CrashLemmas.{survives_itself}
 use Rattle.bson_store.proofs.MoveLemmas.{moved, moved_twice, rests}
-use Rattle.fallowtime_commands.specs.Storing.{HasReplaced, IsUnasked, LeavesPut, Puts, Stores}
+use Rattle.fallowtime_commands.specs.Storing.{HasReplaced, IsFit, IsUnasked, LeavesPut, Puts, Stores}
 
 -- a refusal of a kind other than NotFound doesn't come from a missing document
 pub other_kind : (k : ErrorKind) (i : Option ℕ) → (k ≡ NotFound → ⊥) → HasReplaced (refused k i)
@@ -29,8 +29,8 @@ module _ (n : List ℕ) (e : Members) where
   pub stopped : (s : State) (call : Reading → Call) (k : ErrorKind) → IsUnasked n e k → Moves s s (Stores n call e (refused k None))
   stopped s call k why = rests s (Stores n call e (refused k None)) (λ docs. inl ((k, why, refl), refl))
 
-  pub stored : (s t : State) (call : Reading → Call) (r : Reply) → Moves s t (DoesBytes n call (encode e) r) → Moves s t (Stores n call e r)
-  stored s t call r m = moved s t (DoesBytes n call (encode e) r) (Stores n call e r) m (λ docs after does. inr does)
+  pub stored : (s t : State) (call : Reading → Call) (r : Reply) → IsFit e → Moves s t (DoesBytes n call (encode e) r) → Moves s t (Stores n call e r)
+  stored s t call r fit m = moved s t (DoesBytes n call (encode e) r) (Stores n call e r) m (λ docs after does. inr (fit, does))
 
   pub put_stopped : (s : State) (k : ErrorKind) → IsUnasked n e k → Moves s s (Puts n e (refused k None))
   put_stopped s k why = rests s (Puts n e (refused k None)) (λ docs. inl ((k, why, refl), refl))
@@ -39,17 +39,20 @@ module _ (n : List ℕ) (e : Members) where
   put_stopped_leaves s k why = inl ((k, why, refl), survives_itself s)
 
   -- there was one to replace, or it is refused otherwise
-  pub replaced : (s t : State) (r : Reply) → HasReplaced r → Moves s t (DoesBytes n (replace in_bytes) (encode e) r) → Moves s t (Puts n e r)
-  replaced s t r had m = moved s t (DoesBytes n (replace in_bytes) (encode e) r) (Puts n e r) m (λ docs after does. inr (λ a shown. let c = does.2 a shown in (c.0, c.1, inl (had, (does.0, does.1, c.2)))))
+  pub replaced : (s t : State) (r : Reply) → HasReplaced r → IsFit e → Moves s t (DoesBytes n (replace in_bytes) (encode e) r) → Moves s t (Puts n e r)
+  replaced s t r had fit m = moved s t (DoesBytes n (replace in_bytes) (encode e) r) (Puts n e r) m (λ docs after does. inr (fit, λ a shown. let c = does.2 a shown in (c.0, c.1, inl (had, (does.0, does.1, c.2)))))
 
   -- there was none
-  pub inserted : (s m t : State) (i : Option ℕ) (r : Reply) → Moves s m (DoesBytes n (replace in_bytes) (encode e) (refused NotFound i)) → Moves m t (DoesBytes n (insert in_bytes) (encode e) r) → Moves s t (Puts n e r)
-  inserted s m t i r first second =
+  pub inserted : (s m t : State) (i : Option ℕ) (r : Reply) → IsFit e → Moves s m (DoesBytes n (replace in_bytes) (encode e) (refused NotFound i)) → Moves m t (DoesBytes n (insert in_bytes) (encode e) r) → Moves s t (Puts n e r)
+  inserted s m t i r fit first second =
       moved_twice s m t (DoesBytes n (replace in_bytes) (encode e) (refused NotFound i)) (DoesBytes n (insert in_bytes) (encode e) r) (Puts n e r) first second
-      (λ docs mid after none does. inr (λ a shown.
-      let b = none.2 a shown in
-      let c = does.2 b.0 b.1 in
-      (c.0, c.1, inr (b.0, (i, none.0, none.1, b.2), (does.0, does.1, c.2)))))
+      (λ docs mid after none does. inr (
+        fit,
+        λ a shown.
+            let b = none.2 a shown in
+            let c = does.2 b.0 b.1 in
+            (c.0, c.1, inr (b.0, (i, none.0, none.1, b.2), (does.0, does.1, c.2))),
+      ))
 
   pub inserted_leaves : (s m t : State) (i : Option ℕ) (r : Reply) → Moves s m (DoesBytes n (replace in_bytes) (encode e) (refused NotFound i)) → LeavesBytes n (replace in_bytes) (encode e) (refused NotFound i) s m
       → Moves m t (DoesBytes n (insert in_bytes) (encode e) r) → LeavesBytes n (insert in_bytes) (encode e) r m t → LeavesPut n e r s t

@@ -25,7 +25,7 @@ use Rattle.bson_store.proofs.CrashLemmas.{step_of}
 use Rattle.bson_store.proofs.MoveLemmas.{moved, moved_twice}
 use Rattle.store_documents.proofs.StreamLemmas.{any_bytes}
 use Rattle.fallowtime_commands.specs.Setting.{Gets, LeavesSet, Sets}
-use Rattle.fallowtime_commands.specs.Storing.{IsStopped, IsUnasked, LeavesStored, Stores}
+use Rattle.fallowtime_commands.specs.Storing.{IsFit, IsStopped, IsUnasked, LeavesStored, Stores}
 
 kept_at : (front : Documents) (d : Members) (back : Documents) → AreKept (front ++ d ∷ back) → IsKept d
 kept_at [] d back h = h.0
@@ -82,7 +82,7 @@ module _ (n : List ℕ) (id : Value) (k : List ℕ) (v : Value) where
       let same = with_value w.0 w.2.0 w.1 in
       elim stores [
         | inl stopped ↦ (d.0, subst (λ (rows : List TableRow). Represents rows d.0) (sym stopped.1) d.1, inr (inr (w.0, d.0, w.2, inl (subst (λ x. IsStopped n x r) same stopped.0, refl))))
-        | inr does_bytes ↦ let c = does_bytes.2 d.0 d.1 in (c.0, c.1, inr (inr (w.0, d.0, w.2, inr (does_bytes.0, subst (λ x. ReadsBytes (encode x) does_bytes.0) same does_bytes.1, c.2))))
+        | inr fit_does ↦ let does_bytes = fit_does.1 in let c = does_bytes.2 d.0 d.1 in (c.0, c.1, inr (inr (w.0, d.0, w.2, inr (subst (λ x. IsFit x) same fit_does.0, does_bytes.0, subst (λ x. ReadsBytes (encode x) does_bytes.0) same does_bytes.1, c.2))))
       ])
 
   -- ---- what a crash leaves
@@ -110,7 +110,7 @@ module _ (n : List ℕ) (id : Value) (k : List ℕ) (v : Value) where
       let was : (db : Trees) → m.may_leave db → s.may_leave db = λ db mid. elim (survives.crash early db mid) [ inl was ↦ was | inr none ↦ absurd none ] in
       elim z.2 [
         | inl stopped ↦ inr (inr (w.0, d.0, w.2, reading (any_bytes (encode e)) w.0 same (λ x reads. left_more (Holds first) m.may_leave s.may_leave was (state_of d.0) (on n (replace in_bytes x)) r db (leaves x reads clean first y.0 (shows_then first s m beside y.3) y.1 d.0 d.1 db may))))
-        | inr does ↦ inr (inr (w.0, d.0, w.2, reading (does.0, does.1) w.0 same (λ x reads. left_more (Holds first) m.may_leave s.may_leave was (state_of d.0) (on n (replace in_bytes x)) r db (leaves x reads clean first y.0 (shows_then first s m beside y.3) y.1 d.0 d.1 db may))))
+        | inr fit_does ↦ inr (inr (w.0, d.0, w.2, reading (fit_does.1.0, fit_does.1.1) w.0 same (λ x reads. left_more (Holds first) m.may_leave s.may_leave was (state_of d.0) (on n (replace in_bytes x)) r db (leaves x reads clean first y.0 (shows_then first s m beside y.3) y.1 d.0 d.1 db may))))
       ]
     where
       reading : {P : Reading → Type 0} → (x : Reading) × ReadsBytes (encode e) x → (d : Members) → e ≡ put k v d → ((x : Reading) → ReadsBytes (encode e) x → P x) → (x : Reading) × ReadsBytes (encode (put k v d)) x × P x

@@ -7,6 +7,7 @@ use Rattle.store_table.specs.Rows.{TableRow}
 use Rattle.store_filter.specs.Filters.{filter_of, path_of}
 use Rattle.store_model.specs.Reading.{ReadsStream}
 use Rattle.store_model.specs.State as model
+use Rattle.store_model.specs.declared.error.ErrorKind.{ErrorKind}
 use Rattle.store_model.specs.declared.error.StoreError.{StoreError}
 use Rattle.bson_store.specs.Calls.{Does, HasIndex}
 use Rattle.bson_store.specs.Export.{bytes_of_each}
@@ -18,7 +19,7 @@ use Rattle.bson_store.specs.declared.store.Store.{Store}
 use Rattle.fallowtime_commands.specs.declared.answer.Answer.{Answer}
 use Rattle.fallowtime_commands.specs.declared.answer.Answer.TheVariants as answer
 use Rattle.fallowtime_commands.specs.Setting.{LeavesSet, Sets}
-use Rattle.fallowtime_commands.specs.Storing.{LeavesPut, LeavesStored, Puts, Stores}
+use Rattle.fallowtime_commands.specs.Storing.{IsUnasked, LeavesPut, LeavesStored, Puts, Stores}
 use Rattle.fallowtime_commands.specs.declared.request.Request.{Request}
 use Rattle.fallowtime_commands.specs.declared.request.Request.TheVariants as request
 
@@ -82,6 +83,11 @@ Indexes n r old new = (outcome : Result (Unit {0}) StoreError) × (r ≡ reply_b
 abbrev pub Drops : {S : Type 0} {h : _} → Store S h → List ℕ → Request → Type 0
 Drops s n (request.DropIndex path) = HasIndex s n (path_of path.items) → ⊥
 Drops s n _ = Unit {0}
+
+-- an insertion is refused before the store is asked
+abbrev pub IsStoppedEarly : List ℕ → Request → ErrorKind → Type 0
+IsStoppedEarly n (request.Insert id d) k = IsUnasked n (content d) k
+IsStoppedEarly n _ k = ⊥
 
 -- on the collection n, the request does what the store's command does that it stands for
 abbrev pub Performs : List ℕ → Request → model.Reply → List TableRow → List TableRow → Type 0

@@ -24,6 +24,8 @@ use Rattle.fallowtime_commands.specs.declared.answer.Answer.TheVariants as answe
 use Rattle.fallowtime_commands.specs.declared.printing.Form.{Form}
 use Rattle.fallowtime_commands.specs.declared.printing.Form.TheVariants.{Lines, Bytes}
 use Rattle.fallowtime_commands.specs.declared.refusal.Refusal.{Refusal}
+use Rattle.fallowtime_commands.specs.declared.request.Request.{Request}
+use Rattle.fallowtime_commands.specs.declared.request.Request.TheVariants as request
 
 -- ---- one document
 
@@ -78,6 +80,11 @@ abbrev pub PrintsId : Mode → Value → Tally → Tally → Result (Unit {0}) R
 PrintsId m id before after (Ok x) = (text : List ℕ) × IsTextOf m id text × Passed before after (line text)
 PrintsId m id before after (Err r) = IsOutOfMemory before after r.error ⊎ IsUnwritten before after r.error
 
+-- the same with a text that was made before: memory can't run out
+abbrev pub PrintsMadeId : Mode → Value → Tally → Tally → Result (Unit {0}) Refusal → Type 0
+PrintsMadeId m id before after (Ok x) = (text : List ℕ) × IsTextOf m id text × Passed before after (line text)
+PrintsMadeId m id before after (Err r) = IsUnwritten before after r.error
+
 -- ---- names
 
 abbrev pub has_line_feed : List ℕ → Bool
@@ -100,7 +107,9 @@ PrintsName name before after (Err r) = IsUnnamed before after r.error
 -- all names are printed, one a line; or the first ones are, and the next one isn't
 abbrev pub PrintsNames : List (List ℕ) → Tally → Tally → Result (Unit {0}) Refusal → Type 0
 PrintsNames names before after (Ok x) = (out : List ℕ) × Passed before after out × InParts IsNameLine out names
-PrintsNames names before after (Err r) = (front : List (List ℕ)) × (out : List ℕ) × (mid : Tally) × Passed before mid out × InParts IsNameLine out front × IsUnnamed mid after r.error
+PrintsNames names before after (Err r) =
+    (front : List (List ℕ)) × (name : List ℕ) × (back : List (List ℕ)) × (out : List ℕ) × (mid : Tally) × (names ≡ front ++ name ∷ back)
+    × Passed before mid out × InParts IsNameLine out front × PrintsName name mid after (Err r)
 
 -- ---- answers
 
@@ -112,14 +121,28 @@ abbrev pub flag_text : Bool → List ℕ
 flag_text true = codes "true"
 flag_text false = codes "false"
 
+-- the text is that of the id that is returned, if one is
+abbrev pub IsIdText : Form → Answer → List ℕ → Type 0
+IsIdText f (answer.Id v) text = IsTextOf (mode_of f) (view v) text
+IsIdText f _ text = Unit {0}
+
 abbrev pub Prints : Form → Answer → Tally → Tally → Result (Unit {0}) Refusal → Type 0
 Prints f answer.Nothing before after result = (result ≡ Ok tt) × (after ≡ before)
-Prints f (answer.Id v) before after result = PrintsId (mode_of f) (view v) before after result
+Prints f (answer.Id v) before after result = PrintsMadeId (mode_of f) (view v) before after result
 Prints f (answer.Flag b) before after result = PrintsLine (flag_text b) before after result
 Prints f (answer.Number n) before after result = PrintsLine (decimal n) before after result
 Prints f (answer.Document body) before after result = PrintsBody f body.items before after result
 Prints f (answer.Documents bodies) before after result = PrintsBodies f (bytes_of_each bodies.items) before after result
 Prints f (answer.Names names) before after result = PrintsNames (map string_bytes names.items) before after result
+
+-- the text is that of the id of the document that is to go in, if one is
+abbrev pub IsInsertText : Form → Request → List ℕ → Type 0
+IsInsertText f (request.Insert id d) text = IsTextOf (mode_of f) (view id) text
+IsInsertText f _ text = Unit {0}
+
+abbrev pub IsOutcomeText : Form → Result Answer StoreError → List ℕ → Type 0
+IsOutcomeText f (Ok a) text = IsIdText f a text
+IsOutcomeText f (Err e) text = Unit {0}
 
 -- what a request returned is printed, or why it was refused is returned, and nothing printed
 abbrev pub Tells : Form → Result Answer StoreError → Tally → Tally → Result (Unit {0}) Refusal → Type 0

@@ -15,7 +15,7 @@ use Rattle.store_model.specs.State as model
 use Rattle.store_model.specs.Table.{DocumentTable, IsRefusal, Serves, state_of}
 use Rattle.bson_store.specs.Left.{Holds}
 use Rattle.bson_store.specs.Shown.{Represents}
-use Rattle.fallowtime_commands.specs.Storing.{IsStopped}
+use Rattle.fallowtime_commands.specs.Storing.{IsFit, IsStopped}
 
 -- d is the document with the id
 abbrev pub Gets : List ℕ → Value → DocumentTable → Members → DocumentTable → Type 0
@@ -28,7 +28,7 @@ SetsIn n id k v r a c =
     ((IsFreeKey k → ⊥) × Serves a (on n (set id k (Some v))) r c)
     ⊎ ((IsRefusal r × Serves a (on n (get_raw id)) r c)
     ⊎ ((d : Members) × (b : DocumentTable) × Gets n id a d b
-    × ((IsStopped n (put k v d) r × (c ≡ b)) ⊎ ((x : Reading) × ReadsBytes (encode (put k v d)) x × Serves b (on n (replace in_bytes x)) r c))))
+    × ((IsStopped n (put k v d) r × (c ≡ b)) ⊎ (IsFit (put k v d) × (x : Reading) × ReadsBytes (encode (put k v d)) x × Serves b (on n (replace in_bytes x)) r c))))
 
 -- the same of whatever table the rows showed
 abbrev pub Sets : List ℕ → Value → List ℕ → Value → Reply → List TableRow → List TableRow → Type 0

@@ -12,7 +12,7 @@ use Rattle.store_table.specs.Beside.{ShowsOthers}
 use Rattle.store_table.specs.Moves.{Stands}
 use Rattle.store_table.specs.Rows.{TableRow}
 use Rattle.store_model.specs.Left.{LeftBy}
-use Rattle.store_model.specs.Reading.{Reading, ReadsBytes}
+use Rattle.store_model.specs.Reading.{IsKeepable, Reading, ReadsBytes}
 use Rattle.store_model.specs.State.{Call, id_key, in_bytes, insert, IsName, on, refused, replace, Reply}
 use Rattle.store_model.specs.Table.{DocumentTable, Serves, state_of}
 use Rattle.store_model.specs.declared.error.ErrorKind.{ErrorKind}
@@ -31,6 +31,10 @@ IsUnkept e NoId = (levels (document e) ≤ level_limit) × IsPlain (document e) 
 IsUnkept e TooLong = (levels (document e) ≤ level_limit) × IsPlain (document e) × (has_key id_key e ≡ true) × (size_limit < size e)
 IsUnkept e _ = ⊥
 
+-- a document that passes all these tests
+abbrev pub IsFit : Members → Type 0
+IsFit e = IsKeepable e × (has_key id_key e ≡ true)
+
 -- a document is refused for the name, by a test of its own, or, under a good name, because memory ran out
 abbrev pub IsUnasked : List ℕ → Members → ErrorKind → Type 0
 IsUnasked n e k = ((IsName n → ⊥) × (k ≡ BadName)) ⊎ (IsName n × (IsUnkept e k ⊎ (k ≡ Memory)))
@@ -40,9 +44,9 @@ IsStopped n e r = (k : ErrorKind) × IsUnasked n e k × (r ≡ refused k None)
 
 -- ---- insertions and replacements
 
--- the command is done with what the document's bytes read as; or it is refused before that
+-- the command is done with what the bytes of a fit document read as; or it is refused before that
 abbrev pub Stores : List ℕ → (Reading → Call) → Members → Reply → List TableRow → List TableRow → Type 0
-Stores n call e r old new = (IsStopped n e r × (new ≡ old)) ⊎ DoesBytes n call (encode e) r old new
+Stores n call e r old new = (IsStopped n e r × (new ≡ old)) ⊎ (IsFit e × DoesBytes n call (encode e) r old new)
 
 -- what a crash leaves of that
 abbrev pub LeavesStored : List ℕ → (Reading → Call) → Members → Reply → State → State → Type 0
@@ -65,7 +69,7 @@ PutsIn n bytes r a c =
     ⊎ ((b : DocumentTable) × FindsNone n bytes a b × ((y : Reading) × ReadsBytes bytes y × Serves b (on n (insert in_bytes y)) r c))
 
 abbrev pub Puts : List ℕ → Members → Reply → List TableRow → List TableRow → Type 0
-Puts n e r old new = (IsStopped n e r × (new ≡ old)) ⊎ ((a : DocumentTable) → Represents old a → (c : DocumentTable) × Represents new c × PutsIn n (encode e) r a c)
+Puts n e r old new = (IsStopped n e r × (new ≡ old)) ⊎ (IsFit e × ((a : DocumentTable) → Represents old a → (c : DocumentTable) × Represents new c × PutsIn n (encode e) r a c))
 
 -- what a crash leaves of that: what it leaves of a replacement, or of an insertion after one that found nothing
 abbrev pub LeavesPut : List ℕ → Members → Reply → State → State → Type 0

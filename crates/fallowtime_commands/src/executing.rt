@@ -1,24 +1,26 @@
 //! A request over a store, and what is printed of it.
 
-ghost use Rattle.std.specs.Prelude.{◌≡◌, Result};
+ghost use Rattle.std.specs.Prelude.{◌≡◌, string_bytes, MatchResult, Result};
 ghost use Rattle.bson_base.specs.Device.{CanRefuse};
 ghost use Rattle.store_table.specs.Moves.{WasOpen};
 ghost use Rattle.bson_store.specs.Calls.{store_state, Relates};
 ghost use Rattle.store_model.specs.declared.error.StoreError.{StoreError as StoreRefusal};
-ghost use Rattle.fallowtime_commands.specs.Performing.{LeavesRequest, Performs, reply_of};
-ghost use Rattle.fallowtime_commands.specs.Printing.{Tells};
+ghost use Rattle.fallowtime_commands.specs.Performing.{IsStoppedEarly, LeavesRequest, Performs, reply_of};
+ghost use Rattle.fallowtime_commands.specs.Printing.{IsInsertText, IsOutcomeText, Tells};
 ghost use Rattle.fallowtime_commands.specs.declared.answer.Answer.{Answer as Answered};
 
 use crate::answer::Answer;
 use crate::ids::id_of_refusal;
 use crate::performing::perform;
-use crate::printing::{Form, print};
+use crate::printing::{Form, mode_of, print};
 use crate::refusal::Refusal;
 use crate::request::Request;
 use bson_base::Sink;
-use bson_store::{Store, StoreError};
+use bson_json::write_value;
+use bson_store::{ErrorKind, Store, StoreError};
 use sqlite::Alter;
 use std::alloc::Global;
+use store_documents::Name;
 
 /// A refusal of a request, with the `_id` that it is about, if it is about one.
 fn refusal_with(alloc: Global, request: &Request<'_>, error: StoreError) -> Refusal
@@ -30,26 +32,53 @@ fn refusal_with(alloc: Global, request: &Request<'_>, error: StoreError) -> Refu
     }
 }
 
-/// Prints what a request returned. Nothing is printed of one that was refused.
+/// The text of the `_id` of a document that is to go into the collection `name`, made before it goes in, so that it is
+/// there to be printed whatever memory there is then. Empty for another request.
+fn insert_text(
+    alloc: Global,
+    name: &str,
+    request: &Request<'_>,
+    form: Form,
+) -> Result<String, ErrorKind>
+    ensures { MatchResult result (λ text. IsInsertText form request.now (string_bytes text))
+        (IsStoppedEarly name.now request.now) }
+{
+    let mut text = String::new(alloc);
+    if let Request::Insert(id, _) = request {
+        if Name::new(name).is_none() {
+            return Err(ErrorKind::BadName);
+        }
+        if write_value(alloc, id, mode_of(form), &mut text).is_err() {
+            return Err(ErrorKind::Memory);
+        }
+    }
+    Ok(text)
+}
+
+/// Prints what a request returned, with the text `id` of the `_id` of what went in. Nothing is printed of one that was
+/// refused.
 fn print_outcome<O: Sink>(
     alloc: Global,
     request: &Request<'_>,
     outcome: Result<Answer, StoreError>,
+    id: &str,
     form: Form,
     output: &mut O,
 ) -> Result<(), Refusal>
-    requires { CanRefuse (O.tally output.old) }
+    requires sink { CanRefuse (O.tally output.old) }
+    requires text { IsOutcomeText form outcome id.now }
     ensures { Tells form outcome (O.tally output.old) (O.tally output.new) result }
 {
     match outcome {
-        Ok(answer) => print(alloc, &answer, form, output),
+        Ok(answer) => print(alloc, &answer, id, form, output),
         Err(error) => Err(refusal_with(alloc, request, error)),
     }
 }
 
 /// Does what is requested of the collection `name`, and prints what that returns.
 ///
-/// Refused as `perform` is, and then nothing is printed; or as `print` is, and then what was requested is done.
+/// Refused as `perform` is, and then nothing is printed; or as `print` is, and then what was requested is done: after a
+/// change by Writer alone.
 pub fn execute<S: Alter + Drop, O: Sink>(
     alloc: Global,
     store: &mut Store<S>,
@@ -69,6 +98,10 @@ pub fn execute<S: Alter + Drop, O: Sink>(
         × Tells form outcome (O.tally output.old) (O.tally output.new) result
         × WasOpen (store_state S.Store store.old) (store_state S.Store store.new) outcome }
 {
+    let id = match insert_text(alloc, name, request, form) {
+        Ok(text) => text,
+        Err(kind) => return Err(Refusal::from(kind)),
+    };
     let outcome = perform(alloc, store, name, request);
-    print_outcome(alloc, request, outcome, form, output)
+    print_outcome(alloc, request, outcome, id.as_str(), form, output)
 }

@@ -5,7 +5,7 @@ ghost use Rattle.bson_base.specs.Device.{CanRefuse};
 ghost use Rattle.bson_model.specs.View.{view};
 ghost use Rattle.bson_store.specs.Export.{bytes_of_each};
 ghost use Rattle.store_model.specs.Refusal.{refusal};
-ghost use Rattle.fallowtime_commands.specs.Printing.{Prints, PrintsBodies, PrintsBody, PrintsId, PrintsLine, PrintsName, PrintsNames, has_line_feed, kind_of_fault, mode_of};
+ghost use Rattle.fallowtime_commands.specs.Printing.{IsIdText, Prints, PrintsBodies, PrintsBody, PrintsId, PrintsLine, PrintsName, PrintsNames, has_line_feed, kind_of_fault, mode_of};
 
 use crate::answer::Answer;
 use crate::ids::id_of_body;
@@ -151,7 +151,7 @@ fn print_names<O: Sink>(alloc: Global, names: &[String], output: &mut O) -> Resu
 }
 
 /// The form of Extended JSON for what is no document.
-fn mode_of(form: Form) -> Mode
+pub(crate) fn mode_of(form: Form) -> Mode
     ensures { result ≡ mode_of form }
 {
     match form {
@@ -160,22 +160,26 @@ fn mode_of(form: Form) -> Mode
     }
 }
 
-/// Writes an answer: an id, a number, `true` or `false` on a line, documents in their form, names one a line.
+/// Writes an answer: an id, a number, `true` or `false` on a line, documents in their form, names one a line. Of an id
+/// it is handed the text, which is made before the change is.
 ///
 /// Refused by ReservedKey if a document has a key below its top that Extended JSON reserves, and then the documents
-/// before it are written; by Writer if a write failed, and by Memory. A prefix may be written then.
+/// before it are written; by Writer if a write failed, and by Memory, but not after a change. A prefix may be written
+/// then.
 pub fn print<O: Sink>(
     alloc: Global,
     answer: &Answer,
+    id: &str,
     form: Form,
     output: &mut O,
 ) -> Result<(), Refusal>
-    requires { CanRefuse (O.tally output.old) }
+    requires sink { CanRefuse (O.tally output.old) }
+    requires text { IsIdText form answer.now id.now }
     ensures { Prints form answer.now (O.tally output.old) (O.tally output.new) result }
 {
     match answer {
         Answer::Nothing => Ok(()),
-        Answer::Id(id) => print_id(alloc, id, mode_of(form), output),
+        Answer::Id(_) => print_line(id, output),
         Answer::Flag(flag) => print_line(if *flag { "true" } else { "false" }, output),
         Answer::Number(number) => {
             let mut digits = Buffer::new();

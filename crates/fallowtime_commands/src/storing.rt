@@ -10,7 +10,7 @@ ghost use Rattle.store_model.specs.declared.error.ErrorKind.TheVariants.{Memory,
 ghost use Rattle.store_table.specs.Moves.{WasOpen};
 ghost use Rattle.bson_store.specs.Calls.{store_state, Relates};
 ghost use Rattle.bson_store.specs.Refusals.{as_done, reply_by};
-ghost use Rattle.fallowtime_commands.specs.Storing.{IsUnasked, IsUnkept, LeavesPut, LeavesStored, Puts, Stores};
+ghost use Rattle.fallowtime_commands.specs.Storing.{IsFit, IsUnasked, IsUnkept, LeavesPut, LeavesStored, Puts, Stores};
 
 use bson_frame::LEVEL_LIMIT;
 use bson_meaning::{depth_of_document, is_plain_document};
@@ -33,8 +33,8 @@ fn unidentified(document: &Document) -> ErrorKind
 
 /// The bytes of a document that a store can keep.
 fn kept_bytes(alloc: Global, document: &Document) -> Result<Vec<u8>, ErrorKind>
-    ensures { MatchResult result (λ bytes. bytes.items ≡ encode (content document.now))
-        (λ k. IsUnkept (content document.now) k ⊎ (k ≡ Memory)) }
+    ensures { MatchResult result (λ bytes. (bytes.items ≡ encode (content document.now))
+        × IsFit (content document.now)) (λ k. IsUnkept (content document.now) k ⊎ (k ≡ Memory)) }
 {
     if depth_of_document(document) > LEVEL_LIMIT {
         return Err(ErrorKind::TooDeep);
@@ -47,8 +47,8 @@ fn kept_bytes(alloc: Global, document: &Document) -> Result<Vec<u8>, ErrorKind>
 
 /// The bytes of a document that is to go into the collection `name`.
 fn written(alloc: Global, name: &str, document: &Document) -> Result<Vec<u8>, ErrorKind>
-    ensures { MatchResult result (λ bytes. bytes.items ≡ encode (content document.now))
-        (IsUnasked name.now (content document.now)) }
+    ensures { MatchResult result (λ bytes. (bytes.items ≡ encode (content document.now))
+        × IsFit (content document.now)) (IsUnasked name.now (content document.now)) }
 {
     if Name::new(name).is_none() {
         return Err(ErrorKind::BadName);

@@ -92,7 +92,14 @@ fn answer_question<S: Alter + Drop>(
 {
     let mut question = question;
     let outcome = perform(alloc, store, question.collection, &mut question.request);
-    answer_line(alloc, id, question.layout, &outcome)
+    let line = answer_line(alloc, id, question.layout, &outcome);
+    discard(question);
+    line
+}
+
+/// Lets a question go. What a function that is generic over the database lets go is far dearer to prove.
+fn discard(question: Question<'_>) {
+    drop(question);
 }
 
 /// Does what a tree asks for, and returns the line of its answer.

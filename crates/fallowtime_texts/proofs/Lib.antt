@@ -1,3 +1,4 @@
 mod IdLemmas
 mod ReadLemmas
+mod StraightLemmas
 mod AddLemmas

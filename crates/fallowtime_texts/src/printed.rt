@@ -1,15 +1,15 @@
 //! Stored documents as texts.
 
-ghost use Rattle.std.specs.Prelude.{◌≡◌, string_bytes, MatchResult};
+ghost use Rattle.std.specs.Prelude.{◌≡◌, ℕ, true, List, Err, string_bytes, MatchResult};
 ghost use Rattle.bson_base.specs.Value.{Members};
 ghost use Rattle.bson_bytes.specs.Encode.{encode};
 ghost use Rattle.bson_bytes.specs.Spells.{Means};
+ghost use Rattle.bson_meaning.specs.JsonReserved.{has_reserved};
 ghost use Rattle.bson_model.specs.View.{content};
 ghost use Rattle.store_model.specs.State.{IsKept};
 ghost use Rattle.fallowtime_texts.specs.Printed.{PrintsDocument};
 ghost use Rattle.fallowtime_texts.specs.declared.printed.PrintFault.TheVariants.{Memory};
 
-use bson_json::write;
 use bson_meaning::reserved_path_below;
 use bson_model::Document;
 use bson_model::extjson::Mode;
@@ -45,37 +45,33 @@ fn document_of(alloc: Global, bytes: &[u8]) -> Result<Document, PrintFault>
     }
 }
 
-fn text_of_document(
-    alloc: Global,
-    document: &Document,
-    mode: Mode,
-    text: &mut String,
-) -> Result<(), PrintFault>
-    ensures { PrintsDocument mode (content document.now) (string_bytes text.new) result }
+/// Why a document with a reserved key below its top has no text.
+fn fault_of_document(alloc: Global, document: &Document) -> PrintFault
+    ensures { (m : Mode) (text : List ℕ) → has_reserved (content document.now) ≡ true
+        → PrintsDocument m (content document.now) text (Err result) }
 {
     match reserved_path_below(alloc, document) {
-        Ok(None) => match write(alloc, document, mode, text) {
-            Ok(()) => Ok(()),
-            Err(_) => Err(PrintFault::Memory),
-        },
-        Ok(Some(path)) => Err(PrintFault::ReservedKey(path)),
-        Err(_) => Err(PrintFault::Memory),
+        Ok(Some(path)) => PrintFault::ReservedKey(path),
+        Ok(None) => PrintFault::Damaged,
+        Err(_) => PrintFault::Memory,
     }
 }
 
-/// The text, by way of the document's tree.
-fn text_by_tree(alloc: Global, body: &[u8], mode: Mode, text: &mut String) -> Result<(), PrintFault>
-    ensures { (d : Members) → IsKept d → body.now ≡ encode d
-        → PrintsDocument mode d (string_bytes text.new) result }
+/// Why the document that a store keeps as `body` has no text, by way of its tree.
+fn fault_of(alloc: Global, body: &[u8]) -> PrintFault
+    ensures { (d : Members) → IsKept d → body.now ≡ encode d → has_reserved d ≡ true
+        → (m : Mode) (text : List ℕ) → PrintsDocument m d text (Err result) }
 {
-    let document = document_of(alloc, body)?;
-    text_of_document(alloc, &document, mode, text)
+    match document_of(alloc, body) {
+        Ok(document) => fault_of_document(alloc, &document),
+        Err(fault) => fault,
+    }
 }
 
 /// Replaces what `text` held by the text of the document that a store keeps as `body`, in Extended JSON, and uses its
 /// room again. After an error `text` may hold anything.
 ///
-/// Most documents are written straight from their bytes; of the others the tree is made.
+/// It is written straight from the bytes; only of a document that has none the tree is made, to say why.
 ///
 /// `ReservedKey` if a document below the top has a key such as `$oid`, with the path to the first one, `Memory` if a
 /// growth was refused. `Damaged` only for bytes that no store keeps.
@@ -91,6 +87,6 @@ pub fn text_of_body(
     match write_raw(alloc, body, mode, text) {
         Ok(()) => Ok(()),
         Err(Unwritten::Memory) => Err(PrintFault::Memory),
-        Err(Unwritten::Unseen) => text_by_tree(alloc, body, mode, text),
+        Err(Unwritten::Unseen) => Err(fault_of(alloc, body)),
     }
 }

@@ -72,11 +72,9 @@ pub(crate) fn not(alloc: Global, filter: Filter) -> Result<Filter, QueryError>
 pub(crate) fn is_absent_or_null(alloc: Global, path: &str) -> Result<Filter, QueryError>
     ensures { Gives filter_of result (Ok (absent_or_null (keys path.now))) }
 {
-    let null = equals(alloc, path, Bson::Null)?;
-    let absent = not(alloc, exists(alloc, path)?)?;
     let mut either = Vec::new(alloc);
-    either.push(null)?;
-    either.push(absent)?;
+    either.push(equals(alloc, path, Bson::Null)?)?;
+    either.push(not(alloc, exists(alloc, path)?)?)?;
     Ok(Filter::Or(either))
 }
 

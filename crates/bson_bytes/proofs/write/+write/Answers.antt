@@ -1,9 +1,9 @@
 use Rattle.std.proofs.Common.{◌≡◌, ◌∙◌, ◌+◌, ◌++◌, ◌∷◌, [], List, ℕ, ap, sym, refl, arith, rules, length, length-append, map, drop, string_bytes}
 use Rattle.std.proofs.lemmas.Result.{err_from_is_err_and}
-use Rattle.bson_base.specs.Value.{array}
+use Rattle.bson_base.specs.Value.{array, member}
 use Rattle.bson_bytes.specs.Encode.{members_bytes, items_bytes, text_bytes, value_bytes, value_size}
 use Rattle.bson_bytes.proofs.LengthLemmas.{members_length, items_length, text_length, framed_length}
-use Rattle.bson_bytes.proofs.WrittenLemmas.{room, written_in, framed_ok, scoped_in, scoped_ok, short_ok, long_refused, begun_kept, no_items_left, next_item, item_refused, item_written}
+use Rattle.bson_bytes.proofs.WrittenLemmas.{room, written_in, framed_ok, scoped_in, scoped_ok, short_ok, long_refused, begun_kept, no_items_left, next_item, item_refused, item_written, member_written}
 use Rattle.bson_model.specs.Rest.{iter_rest}
 use Rattle.bson_model.specs.Trees.{document_tree, scoped_code_tree}
 use Rattle.bson_model.specs.View.{view, pairs_of, items_of, members_of}
@@ -82,3 +82,11 @@ write_items-loop-i-preserved t c =
     let begun = c.write_bytes.new.out.items in
     let to = next_item (items_of (map view xs)) xs i b begun c.loop-i.out.items c.loop-i-test.true c.index-items-i.is c.loop-i.invariant in
     item_written (items_of (map view xs)) (items_of (map view (drop (i + 1) xs))) i (view b) begun c.loop-i.out.items c.write_place.new.out.items c.put_value.new.out.items to (search (rules, c.in_ok-write_place.ensures.ok)) c.in_ok-put_value.ensures.ok c.in_ok-put_value.ensures.plain
+
+pub write_document-loop-key-preserved : goal.write_document-loop-key-preserved
+write_document-loop-key-preserved t c =
+    let whole = members_of (pairs_of c.args.document.now) in
+    let left = members_of (iter_rest c.loop-key.key-iterator) in
+    let rest = members_of (iter_rest c.next.new.self) in
+    let first : left ≡ member (string_bytes c.in-Some.key.now) (view c.in-Some.value.now) rest = search (rules, c.in-Some.ensures.steps) in
+    (member_written whole left rest (string_bytes c.in-Some.key.now) (view c.in-Some.value.now) c.write_bytes.new.out.items c.loop-key.out.items c.write_front.new.out.items c.put_value.new.out.items c.loop-key.invariant.0 first (search (rules, c.in_ok-write_front.ensures.ok)) c.in_ok-put_value.ensures.ok (search (rules, c.in_ok-write_front.ensures.plain)) c.in_ok-put_value.ensures.plain, tt, tt)

@@ -54,3 +54,6 @@ returns-in_ok-print_bound-in-MinKey-clause-form c = one_form c.args.mode c.args.
 
 pub returns-in_ok-print_pointer-in-DbPointer-clause-form : goal.returns-in_ok-print_pointer-in-DbPointer-clause-form
 returns-in_ok-print_pointer-in-DbPointer-clause-form c = one_form c.args.mode c.args.value (value.db_pointer c.in-DbPointer.pointer.namespace.now (id_bytes c.in-DbPointer.pointer.id)) (form.pointer_form c.in-DbPointer.pointer.namespace.now (id_bytes c.in-DbPointer.pointer.id)) c.args.out.now c.print_pointer.new.out (ap ref_value c.in-DbPointer.is) refl c.in_ok-print_pointer-in-DbPointer.ensures
+
+pub returns-in_ok-print_raw_regex-in-RegularExpression-clause-form : goal.returns-in_ok-print_raw_regex-in-RegularExpression-clause-form
+returns-in_ok-print_raw_regex-in-RegularExpression-clause-form c = one_form c.args.mode c.args.value (value.regex c.in-RegularExpression.regex.pattern.now c.in-RegularExpression.regex.options.now) (form.regex_form c.in-RegularExpression.regex.pattern.now c.in-RegularExpression.regex.options.now) c.args.out.now c.print_raw_regex.new.out (ap ref_value c.in-RegularExpression.is) refl c.in_ok-print_raw_regex-in-RegularExpression.ensures

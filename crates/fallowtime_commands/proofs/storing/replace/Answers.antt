@@ -15,4 +15,4 @@ returns-in_err-bytes-clause-moves g c =
 pub returns-clause-moves : goal.returns-clause-moves
 returns-clause-moves g c =
     stored c.args.name.now (content c.args.document.now) (store_state g.S.Store c.args.store.now) (store_state g.S.Store c.replace_raw.new.self) (model.replace in_bytes) (reply_by as_done c.replace_raw.result)
-    (rw (c.as_slice.ensures.value, c.in_ok-bytes.ensures) at c.replace_raw.ensures.moves)
+    c.in_ok-bytes.ensures.1 (rw (c.as_slice.ensures.value, c.in_ok-bytes.ensures.0) at c.replace_raw.ensures.moves)
