@@ -1,5 +1,5 @@
 #!/usr/bin/env python3
-"""Tests that every wrong body, crates/NAME/must-fail/*.edit, can still be made: each text behind `old: ` is in its file exactly once, as
+"""Tests that every wrong body, crates/NAME/wrong/*.edit, can still be made: each text behind `old: ` is in its file exactly once, as
 the pairs before it leave that file, and the pairs change something. An edit that can't be applied is refused by no check, and says
 nothing any more.
 
@@ -17,10 +17,12 @@ def fault_of(edit):
     """Why an edit can't be applied, or None."""
     crate = edit.parent.parent
     texts, before = {}, {}
-    path = old = None
+    path = old = function = None
     for line in edit.read_text().split("\n"):
         word, _, text = line.partition(" ")
-        if word == "file:":
+        if word == "function:":
+            function = text.strip()
+        elif word == "file:":
             path, old = text.strip(), None
             if not (crate / path).is_file():
                 return f"there is no {path}"
@@ -39,10 +41,12 @@ def fault_of(edit):
             return f"a line that isn't read: {line}"
     if old is not None:
         return "a line `old:` without a line `new:` behind it"
+    if not function:
+        return "no line `function:`"
     return None if texts != before else "it changes nothing"
 
 
-edits = sorted(ROOT.glob("crates/*/must-fail/*.edit"))
+edits = sorted(ROOT.glob("crates/*/wrong/*.edit"))
 faults = [(edit, fault) for edit in edits if (fault := fault_of(edit))]
 for edit, fault in faults:
     print(f"{edit.relative_to(ROOT)}: {fault}")

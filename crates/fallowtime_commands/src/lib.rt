@@ -18,7 +18,7 @@ mod unread;
 pub use answer::Answer;
 pub use executing::execute;
 pub use performing::perform;
-pub use printing::{Form, print};
+pub use printing::Form;
 pub use reading::{Stop, request_of};
 pub use refusal::Refusal;
 pub use request::Request;

@@ -166,7 +166,7 @@ pub(crate) fn mode_of(form: Form) -> Mode
 /// Refused by ReservedKey if a document has a key below its top that Extended JSON reserves, and then the documents
 /// before it are written; by Writer if a write failed, and by Memory, but not after a change. A prefix may be written
 /// then.
-pub fn print<O: Sink>(
+pub(crate) fn print<O: Sink>(
     alloc: Global,
     answer: &Answer,
     id: &str,
