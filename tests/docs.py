@@ -32,7 +32,7 @@ BEGINS = re.compile(r"([-+*>#]|\d+[.)])$|#+$|\|")
 
 
 def pages():
-    return [page for folder in ("", "docs/", "docs/development/", "crates/*/", "bench/", "python/") for page in sorted(ROOT.glob(folder + "*.md"))]
+    return [page for folder in ("", "docs/", "docs/development/", "crates/*/", "cases/", "bench/", "python/") for page in sorted(ROOT.glob(folder + "*.md"))]
 
 
 def fill(text, first, rest):

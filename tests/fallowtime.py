@@ -472,7 +472,7 @@ done('insert r {"$oid":"at-the-top","_id":4}', "4")
 done("get r 4", '{"$oid":"at-the-top","_id":4}')
 
 # ---- Queries: the cases of store_query, each by `count`, and by `find` whether it prints the document.
-CASES = ROOT / "crates/store_query_cases"
+CASES = ROOT / "cases/query"
 FAULTS_OF_QUERIES = {"a key comes twice": "RepeatedKey", "a query is an object": "is no object"}
 collections = {}
 for case, answer in zip((CASES / "stdin").read_text().splitlines(), (CASES / "stdout").read_text().splitlines()):
