@@ -1,34 +1,10 @@
-//! Tests of bson_base, bson_model and bson_raw: what no line of a program of cases can show. Cases whose answers are
-//! texts are lines of bson_tree_cases and bson_raw_cases.
+//! Tests of bson_base over devices that give or take little, fail or are interrupted. Cases whose answers are texts are
+//! lines of the program in `cases/`.
 #![tactic(auto)]
 
 #[cfg(test)]
-mod binaries;
-#[cfg(test)]
-mod builders;
-#[cfg(test)]
-mod conversions;
-#[cfg(test)]
-mod copies;
-#[cfg(test)]
-mod decimals;
-#[cfg(test)]
 mod devices;
-#[cfg(test)]
-mod doubles;
 #[cfg(test)]
 mod interrupted;
 #[cfg(test)]
-mod moments;
-#[cfg(test)]
-mod object_ids;
-#[cfg(test)]
-mod patterns;
-#[cfg(test)]
-mod tags;
-#[cfg(test)]
-mod unequal;
-#[cfg(test)]
-mod uuids;
-#[cfg(test)]
-mod vectors;
+mod readers;

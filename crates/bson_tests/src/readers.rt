@@ -1,9 +1,7 @@
-//! Readers that go slowly or fail.
+//! Readers that go slowly or fail, read to their end.
 
-use crate::long::nulls;
 use bson_base::faulty::FaultySource;
-use bson_base::{ReadAllError, SliceSource, read_all};
-use std::test::Fail;
+use bson_base::{ReadAllError, read_all};
 
 /// {_id: 1, hello: "world"}
 const HELLO: &[u8] = b"\x1F\0\0\0\x10_id\0\x01\0\0\0\x02hello\0\x06\0\0\0world\0\0";
@@ -29,12 +27,4 @@ fn a_reader_that_fails(rt: HostRuntime) {
         let found = read_all(rt.alloc(), &mut source).err();
         assert!(rt; found == Some(ReadAllError::Reader), "{calls}");
     }
-}
-
-#[test]
-fn more_bytes_than_one_read_takes(rt: HostRuntime) -> Result<(), Fail> {
-    let all = nulls(rt.alloc(), 100000)?;
-    let mut source = SliceSource::new(&all);
-    assert!(rt; are(read_all(rt.alloc(), &mut source), &all));
-    Ok(())
 }
