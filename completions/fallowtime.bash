@@ -4,13 +4,13 @@
 # The names of the collections that a file has and that begin so, as they are written in a shell. A file isn't made for it, and not
 # waited for. $1 is the program, $2 the file as it was typed, $3 the beginning.
 _fallowtime_collections() {
-    local file=$2 name
+    local file=$2 begin=${3//\\/} name
     # shellcheck disable=SC2088
     case $file in "~/"*) file=$HOME/${file#"~/"} ;; esac
     case $file in \'*\' | \"*\") file=${file:1:${#file}-2} ;; *) file=${file//\\/} ;; esac
     [ -f "$file" ] || return 0
     while IFS= read -r name; do
-        case $name in "${3//\\/}"*) COMPREPLY+=("$(printf %q "$name")") ;; esac
+        case $name in "$begin"*) COMPREPLY+=("$(printf %q "$name")") ;; esac
     done < <("$1" "$file" collections --wait 0 2>/dev/null </dev/null)
 }
 

@@ -229,6 +229,7 @@ refused("a text that isn't UTF-8", document((0x02, "a", struct.pack("<i", 2) + b
 refused("a key that isn't UTF-8", b"\x08\0\0\0\x0a\xff\0\0", "Utf8EncodingError document 2")
 inner = document((0x03, "$x", document((0x04, "b", document((0x03, "0", document((0x02, "$oid", text("x")))))))))
 refused("a reserved key below the top", document((0x03, "a", inner)), "ReservedKey document 2 a.$x.b.0.$oid")
+refused("behind a key that a terminal obeys", document((0x03, "a\x1b[2J\nrefused: x\r", inner)), r'ReservedKey document 2 "a\u001b[2J\nrefused: x\r.$x.b.0.$oid"')
 holds("a reserved key at the top is a key", run(given=document((0x02, "$oid", text("x")))), (0, b'{"$oid":"x"}\n', ""))
 
 

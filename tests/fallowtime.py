@@ -221,11 +221,13 @@ unread("find --canonical -", "query byte 1 NotJson")
 check("find --canonical --", USAGE)
 done("remove --canonical --bson")
 
-# Names of collections are in the order of their bytes; one with a line feed is JSON.
-for name in ["b", "a b", "é", "B\nb", '"', "-"]:
+# Names of collections are in the order of their bytes; one with a control character, or that begins with a quote, is JSON.
+NAMES = {"\x1b[2J\r": r'"\u001b[2J\r"', '"': r'"\""', r'"B\nb"': r'"\"B\\nb\""', "-": "-", "B\nb": r'"B\nb"', "a b": "a b", 'a"': 'a"', "a\x7f": r'"a\u007f"',
+         "b": "b", "orders": "orders", "\x9b31m": r'"\u009b31m"', "\xa0": "\xa0", "é": "é"}
+for name in NAMES.keys() - {"orders"}:
     done(["insert", name, '{"_id":1}'], "1")
-done("collections", '"', "-", '"B\\nb"', "a b", "b", "orders", "é")
-for name in ["b", "a b", "é", "B\nb", '"', "-"]:
+done("collections", *NAMES.values())
+for name in NAMES.keys() - {"orders"}:
     done(["remove", name, "1"])
 done("collections", "orders")
 
@@ -466,6 +468,8 @@ done("import r", "3", given=b"".join(map(body_of, RESERVED)))
 refused("find r", 'ReservedKey _id "x" key a.0.b.$oid', out=b'{"_id":1}\n')
 refused("get r x --canonical", 'ReservedKey _id "x" key a.0.b.$oid')
 check("find r --bson", (0, b"".join(map(body_of, RESERVED)), ""))
+done("import odd", "1", given=body_of({"_id": 1, "a\x1b[2J\nrefused: x\r\x9b": {"$oid": "x"}}))
+refused("find odd", r'ReservedKey _id 1 key "a\u001b[2J\nrefused: x\r\u009b.$oid"')
 check("get r x --bson", (0, body_of(RESERVED[1]), ""))
 done('find r {"_id":3}', '{"_id":3}')
 done('insert r {"$oid":"at-the-top","_id":4}', "4")

@@ -8,6 +8,7 @@ PROGRAM is fallowtime, under whatever name. INSERTS is how many a session does b
 step, and ends with status 1 at the first that isn't as it should be. Wants sqlite3.
 """
 import atexit
+import fcntl
 import itertools
 import json
 import os
@@ -215,6 +216,105 @@ by_sqlite("rule.db", "CREATE TABLE documents (place INTEGER PRIMARY KEY, coll TE
 holds("a rule of somebody else", run("rule.db", "insert", "c", '{"_id":1}'), (0, b"1\n", ""))
 holds("a row that breaks it", run("rule.db", "insert", "d", '{"_id":1}'), refusal("Database"))
 
+# ---- Sound files with a table of somebody else's that isn't understood: what FILES says of them, and what helps.
+for made, helps in [
+    ("CREATE VIRTUAL TABLE t USING fts5(a)", "DROP TABLE t"),
+    ("CREATE TABLE t (a); INSERT INTO t VALUES (1); ALTER TABLE t ADD COLUMN z DEFAULT 5", "UPDATE t SET z = z"),
+    ("PRAGMA auto_vacuum = 1; CREATE TABLE t (a)", "PRAGMA auto_vacuum = 0; VACUUM"),
+    ("PRAGMA auto_vacuum = 2; CREATE TABLE t (a)", "PRAGMA auto_vacuum = 0; VACUUM"),
+    ("CREATE TABLE t (a INTEGER, b, PRIMARY KEY (a DESC)) WITHOUT ROWID; INSERT INTO t VALUES (1, 1), (2, 2)",
+     "CREATE TABLE u (a INTEGER PRIMARY KEY, b); INSERT INTO u SELECT * FROM t; DROP TABLE t"),
+    ("CREATE TABLE t (a TEXT PRIMARY KEY COLLATE NOCASE, b) WITHOUT ROWID; INSERT INTO t VALUES ('a', 1), ('B', 2)",
+     "CREATE TABLE u (a TEXT PRIMARY KEY COLLATE NOCASE, b); INSERT INTO u SELECT * FROM t; DROP TABLE t"),
+    ("CREATE TABLE t (a, b, c); INSERT INTO t VALUES (1, 'x', 1), (2, 'x', 2); CREATE INDEX i ON t(b, a DESC) WHERE c > 0", "DROP INDEX i"),
+    ("CREATE TABLE t (a); INSERT INTO t VALUES (1), (2); CREATE INDEX i ON t(abs(a) DESC)", "DROP INDEX i"),
+]:
+    subprocess.run(["sqlite3", "sound.db", made], check=True)
+    before = pathlib.Path("sound.db").read_bytes()
+    holds(made, [run("sound.db", *words) for words in (["insert", "c", '{"_id":1}'], ["count", "c"])], [refusal("NoDatabase")] * 2)
+    holds("it is as it was", (pathlib.Path("sound.db").read_bytes() == before, by_sqlite("sound.db", "PRAGMA integrity_check")), (True, [("ok",)]))
+    subprocess.run(["sqlite3", "sound.db", helps], check=True, stdout=subprocess.DEVNULL)
+    holds(helps, run("sound.db", "insert", "c", '{"_id":1}'), (0, b"1\n", ""))
+    for path in SHOP.glob("sound.db*"):
+        path.unlink()
+
+# ---- A log or a journal that is no plain file with one name is refused before it is opened: a pipe has no end, and no beginning either.
+def with_second_name(path):
+    pathlib.Path("named").write_bytes(pathlib.Path("log").read_bytes())
+    os.link("named", path)
+
+
+shutil.copy("shop.db", "beside.db")
+shop = Session("beside.db")
+shop("insert", "c", document(300))
+shop.process.kill()
+shop.process.wait()
+shutil.move("beside.db-wal", "log")
+KINDS = {"a pipe": os.mkfifo, "a link to a device": lambda path: os.symlink("/dev/zero", path), "a link to a log": lambda path: os.symlink("log", path),
+         "a link to nothing": lambda path: os.symlink("nowhere", path), "a folder": os.mkdir, "a log with a second name": with_second_name}
+for beside, (kind, put) in itertools.product(["beside.db-wal", "beside.db-journal"], KINDS.items()):
+    put(beside)
+    before = files()
+    for words in READS + CHANGES:
+        began = time.time()
+        holds(f"{words[0]} where {beside} is {kind}", run("beside.db", *words, preexec_fn=lambda: resource.setrlimit(resource.RLIMIT_AS, (1 << 30, 1 << 30))),
+              refusal("NotPlain"))
+        holds("at once", time.time() - began < 4, True)
+    stay(kind, before)
+    os.rmdir(beside) if kind == "a folder" else os.remove(beside)
+    pathlib.Path("named").unlink(missing_ok=True)
+holds("with no log", run("beside.db", "count", "c"), (0, b"300\n", ""))
+shutil.move("log", "beside.db-wal")
+holds("with its log", run("beside.db", "count", "c"), (0, b"301\n", ""))
+
+# ---- A back-up has the mode of the file, and is there when it is whole.
+for mode in 0o600, 0o640, 0o644, 0o444:
+    os.chmod("beside.db", mode)
+    old = os.umask(0o022 if mode < 0o644 else 0o077)
+    holds(f"a back-up of a file of mode {mode:o}", run("beside.db", "backup", "mode.db"), (0, b"", ""))
+    os.umask(old)
+    holds("has its mode", f"{os.stat('mode.db').st_mode & 0o7777:o}", f"{mode:o}")
+    os.remove("mode.db")
+os.chmod("beside.db", 0o644)
+large = b"".join(bson.encode({"_id": number, "text": "x" * 4000000}) for number in range(10))
+holds("a large store", run("large.db", "import", "c", given=large), (0, b"10\n", ""))
+before = set(os.listdir())
+for turn in range(8):
+    copying = subprocess.Popen([PROGRAM, "large.db", "backup", "large copy.db"])
+    while "large copy.db-copying" not in os.listdir() and copying.poll() is None:
+        time.sleep(0.0005)
+    time.sleep(turn * 0.002)
+    copying.kill()
+    made = set(os.listdir()) - before
+    holds(f"killed, {copying.wait()}: a part under the name of the copy", "large copy.db" in made and run("large copy.db", "export", "c") != (0, large, ""), False)
+    if turn < 7:
+        pathlib.Path("large copy.db").unlink(missing_ok=True)
+pathlib.Path("large copy.db").unlink(missing_ok=True)
+pathlib.Path("large copy.db-copying").write_bytes(b"left over")
+holds("the next back-up", run("large.db", "backup", "large copy.db"), (0, b"", ""))
+holds("is whole", run("large copy.db", "export", "c") == (0, large, ""), True)
+holds("and alone", set(os.listdir()) - before, {"large copy.db"})
+# One that was killed when it had both names.
+os.link("large copy.db", "large copy.db-copying")
+holds("with a second name", run("large copy.db", "count", "c"), refusal("NotPlain"))
+holds("the next back-up", run("large.db", "backup", "large copy.db"), refusal("Exists"))
+holds("has taken that away", run("large copy.db", "count", "c"), (0, b"10\n", ""))
+# While a process is at it, another one keeps away from its part.
+os.remove("large copy.db")
+with open("large copy.db-copying", "wb") as part:
+    fcntl.flock(part, fcntl.LOCK_EX)
+    holds("a second back-up", run("large.db", "backup", "large copy.db"), refusal("Busy"))
+os.remove("large copy.db-copying")
+backups = [subprocess.Popen([PROGRAM, "large.db", "backup", "large copy.db"], stderr=subprocess.PIPE) for _ in range(4)]
+told = [backup.communicate()[1] for backup in backups]
+holds("four at once", sorted(told)[0], b"")
+holds("the others", {one for one in told if one} <= {b"refused: Busy\n", b"refused: Exists\n"}, True)
+holds("one that is whole", run("large copy.db", "export", "c") == (0, large, ""), True)
+holds("and alone", set(os.listdir()) - before, {"large copy.db"})
+os.mkdir("b.db-copying")
+holds("where its part would be is a folder", run("shop.db", "backup", "b.db"), refusal("Exists"))
+os.rmdir("b.db-copying")
+
 # ---- Back-ups: a name that is there, or that SQLite has another use for.
 for path, told in [("text", "Exists"), ("shop.db", "Exists"), ("dangling.db", "Exists"), (".", "Exists"), ("none/b.db", "NoFolder"), ("text/b.db", "NoFolder"),
                    ("b.db-wal", "NoName"), ("b.db-journal", "NoName"), ("b.db-shm", "NoName"), (":memory:", "NoName"), ("file:b.db", "NoName")]:
@@ -283,6 +383,28 @@ holds("is read", run("shop.db", "count", "c"), (0, b"360\n", ""))
 stay("a log that was left", before)
 holds("and played back by a change", run("shop.db", "put", "c", json.dumps(document(350))), (0, b"", ""))
 holds("by SQLite itself", by_sqlite("shop.db", "SELECT count(*) FROM documents"), [(361,)])
+
+# A back-up that is put back, as FILES says, where SQLite was killed in a transaction of a file with a rollback journal.
+holds("a back-up", run("shop.db", "backup", "restored.db"), (0, b"", ""))
+by_sqlite("restored.db", "PRAGMA journal_mode=delete")
+killed = """import os, sqlite3, sys
+connection = sqlite3.connect("restored.db", isolation_level=None)
+connection.execute("PRAGMA cache_size=5")
+connection.execute("BEGIN")
+connection.execute("DELETE FROM documents WHERE place % 2 = 0")
+os.kill(os.getpid(), 9)"""
+subprocess.run(["/usr/bin/python3", "-c", killed])
+holds("a journal that was left", os.path.getsize("restored.db-journal") > 0, True)
+for words in READS[:-1] + CHANGES:
+    holds(f"{words[0]} beside it", run("restored.db", *words, "--wait", "0"), refusal("Journal"))
+holds("a back-up of what was there before", run("shop.db", "backup", "before.db"), (0, b"", ""))
+subprocess.run("rm -f restored.db-wal restored.db-journal restored.db-shm && cp before.db restored.db", shell=True, check=True)
+holds("put back", run("restored.db", "export", "c") == run("shop.db", "export", "c"), True)
+holds("and for SQLite", by_sqlite("restored.db", "PRAGMA integrity_check", "SELECT count(*) FROM documents"), [(361,)])
+holds("what cp has behind a command that changes", (run("shop.db", "import", "c"), shutil.copy("shop.db", "copied.db"), run("copied.db", "count", "c"))[2], (0, b"361\n", ""))
+for name in "restored.db", "before.db", "copied.db":
+    for path in SHOP.glob(f"{name}*"):
+        path.unlink()
 
 # SQLite itself in the middle of a change.
 connection = sqlite3.connect("shop.db", isolation_level=None)

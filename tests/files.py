@@ -270,11 +270,15 @@ holds("it is done", run("shop.db", "get", "c", "-1")[0], 0)
 changes = [subprocess.Popen([STORE, "--wait", "60", "shop.db", "insert", "c", document(-10 - i)]) for i in range(10)]
 holds("ten changes at once", [change.wait() for change in changes], [0] * 10)
 
-# A file of the name --wait, where no number stands behind it.
-holds("no number", run("--wait", "x", "shop.db", "count", "c", ALL), (2, b"", "words: usage\n"))
-holds("a file of this name", run("--wait", "insert", "c", '{"_id":1}'), DONE)
-holds("waiting for it", run("--wait", "1", "--wait", "count", "c", ALL), (0, b"1\n", ""))
-holds("its back-up", run("--wait", "backup", "waited.db"), DONE)
+# A word in front that begins with a hyphen is no file, whatever stands behind it.
+before = sorted(os.listdir())
+for words in ["--wait", "x", "shop.db", "count", "c", ALL], ["--wait", "get", "c", "1"], ["--wait", "1", "--wait", "count", "c", ALL], ["-", "collections"], \
+        ["-x.db", "insert", "c", '{"_id":1}'], ["--wait", "backup", "waited.db"], ["--wait", "1", "-x.db", "backup", "waited.db"]:
+    holds(f"no file: {words}", run(*words), (2, b"", "words: usage\n"))
+holds("nothing is made", sorted(os.listdir()), before)
+holds("a file of this name", run("./--wait", "insert", "c", '{"_id":1}'), DONE)
+holds("waiting for it", run("--wait", "1", "./--wait", "count", "c", ALL), (0, b"1\n", ""))
+holds("its back-up", run("./--wait", "backup", "waited.db"), DONE)
 holds("a session over it", Session("./--wait")("count", "c"), {"count": 1})
 
 # ---- At a terminal a second line says why, and only there.
@@ -286,15 +290,15 @@ os.link("copy8.db", "linked.db")
 os.symlink("nowhere", "dangling.db")
 for words, why in [
     (["shop.db", "count", "c", ALL], "another process has it; --wait SECONDS in front of the words waits for it"),
-    (["text", "collections"], "it is no SQLite database, or one that is damaged"),
+    (["text", "collections"], "it is no SQLite database or a damaged one, or another table of it isn't understood here"),
     (["none/a.db", "collections"], "its folder isn't there"),
     (["copy8.db/a.db", "collections"], "its folder isn't there"),
     (["hot.db", "collections"], "a rollback journal is beside it: open it with sqlite3 first, which plays that back"),
-    (["copy8.db", "collections"], "it or the log beside it is no plain file: a folder, a device, or one with a second hard link"),
-    (["dangling.db", "collections"], "it or the log beside it is no plain file: a folder, a device, or one with a second hard link"),
-    ([".", "collections"], "it or the log beside it is no plain file: a folder, a device, or one with a second hard link"),
+    (["copy8.db", "collections"], "it, or the log or journal beside it, is no plain file: a folder, a pipe, a link, or one with a second name"),
+    (["dangling.db", "collections"], "it, or the log or journal beside it, is no plain file: a folder, a pipe, a link, or one with a second name"),
+    ([".", "collections"], "it, or the log or journal beside it, is no plain file: a folder, a pipe, a link, or one with a second name"),
     ([":memory:", "collections"], "SQLite has another use for this name"),
-    (["copy8.db", "backup", "b.db-journal"], "it or the log beside it is no plain file: a folder, a device, or one with a second hard link"),
+    (["copy8.db", "backup", "b.db-journal"], "it, or the log or journal beside it, is no plain file: a folder, a pipe, a link, or one with a second name"),
     (["copy500.db", "backup", "b.db-journal"], "SQLite has another use for this name"),
     (["none.db", "backup", "b.db"], "it isn't there"),
     (["shop.db", "backup", "text"], "there is a file of this name, or a log or journal of one, which is left as it is"),

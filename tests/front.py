@@ -366,6 +366,7 @@ for line, wanted in [
     (["shop.db", ""], list(COMMANDS)),
     (["shop.db", "re"], ["replace", "remove"]),
     (["shop.db", "--"], ["--wait", "--help"]),
+    (["shop.db", "get", ""], ["orders", "old\\ orders", "more"]),
     (["shop.db", "get", "o"], ["orders", "old\\ orders"]),
     (["shop.db", "get", "old\\ "], ["old\\ orders"]),
     (["my\\ shop.db", "find", "m"], ["more"]),

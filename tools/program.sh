@@ -108,6 +108,16 @@ guard() {
     return "$status"
 }
 
+# Ends the process `child` when the process that started this script is gone, if that one asked for it and is still there: the
+# package for Python does, since nobody waits for what is built for it when it has ended.
+stay_with_parent() {
+    while [ "$(sed -n 's/^PPid:[[:space:]]*//p' "/proc/$$/status")" = "$PPID" ]; do
+        sleep 1 &
+        wait "$!"
+    done
+    kill -TERM "$child"
+}
+
 # Sets `program` to the program that runs, and `change` to a source that changed since it was built: the installed one; the proved
 # one, except where its sources were edited since and the quick one is younger; the quick one. There may be none.
 find_program() {
@@ -134,7 +144,12 @@ choose() {
         keep_signals
         "$root/quick" </dev/null >/dev/null &
         child=$!
+        if [ "${FALLOWTIME_PARENT-}" = "$PPID" ] && [ -r "/proc/$$/status" ]; then
+            stay_with_parent </dev/null >/dev/null 2>&1 &
+            watcher=$!
+        fi
         guard || exit 125
+        watcher=
         find_program || exit 125
         say "it tests itself as it runs, but isn't proved on this machine: ./prove does that, in an hour or two"
     }

@@ -75,7 +75,12 @@ class Collection(WithAbsent):
         listed = list(documents)
         if not listed:
             raise TypeError("insert_many takes one document at least")
-        written = [_with_id(document) for document in listed]
+        # One that is in the list twice is a document that gets one `_id`, and then another with the same.
+        texts: Dict[int, Tuple[str, Any]] = {}
+        for document in listed:
+            if id(document) not in texts:
+                texts[id(document)] = _with_id(document)
+        written = [texts[id(document)] for document in listed]
         for document, (_, own) in zip(listed, written):
             _give_id(document, own)
         self._ask("import", "[" + ",".join([text for text, _ in written]) + "]")

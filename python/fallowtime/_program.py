@@ -16,6 +16,8 @@ from ._errors import REFUSED, WORDS, Ended, Refused, refusal
 NAME = "fallowtime"
 # The variable of the environment that names the program, if it is set.
 VARIABLE = "FALLOWTIME"
+# What the script that builds a program, if there is none, reads from the environment: the process with which that build ends.
+PARENT = "FALLOWTIME_PARENT"
 # How much of what the program reports is kept, in bytes.
 LONGEST_REPORT = 1 << 16
 
@@ -108,10 +110,11 @@ def start(program: str, words: List[str], pipes: Optional[int], report: Report) 
     It gets a session of its own, so that the signals of a terminal reach it by this process alone. What this process
     ignores it ignores, too: by SIGXFSZ a file that would outgrow `ulimit -f` would else end it.
     """
+    environment = {**os.environ, PARENT: str(os.getpid())}
     try:
         with starting:
             return subprocess.Popen([program, *words], stdin=pipes, stdout=pipes, stderr=report.file, bufsize=0,
-                                    start_new_session=True, restore_signals=False)
+                                    env=environment, start_new_session=True, restore_signals=False)
     except OSError as error:
         raise Ended(f"the program {program} can't be started: {error}") from error
 

@@ -55,6 +55,8 @@ class Inserting(WithFolder):
                                           [{"_id": 7}, {"_id": 8}, {"_id": 1}, {"_id": 9}], document=2)
             self.assertIsInstance(refused, fallowtime.DuplicateKeyError)
             self.assert_refused("DuplicateId", orders.insert_many, [{"_id": 7}, {"_id": 8}, {"_id": 7}], document=2)
+            twice = {"x": 1}
+            self.assert_refused("DuplicateId", orders.insert_many, [twice, {"x": 1}, twice], document=2)
             self.assertEqual(orders.count_documents({}), 4)
             for wrong in [], {}, {"_id": 1}, "ab", b"ab", 5, None, [1], [[("a", 1)]], ["a"]:
                 self.assertRaises(TypeError, orders.insert_many, wrong)

@@ -1,4 +1,4 @@
--- A canonical form is read as the value, settled.
+-- Each form is read as the value, settled.
 use Rattle.std.proofs.Common.{◌≡◌, ℕ, ◌<◌, ◌^◌, ℤ, pos, List, Bool, true, false, cond, if◌then◌else◌, Option, Some, None, Result, Ok, refl, ap, ◌∙◌, sym, subst, arith}
 use Rattle.std.specs.Prelude.{◌||◌, bytes_eq, decimal as decimal_text_of, IsUtf8}
 use Rattle.std.specs.Fmt.{signed_decimal}
@@ -10,6 +10,8 @@ use Rattle.json.specs.Json.{Json, number, object}
 use Rattle.double_text.specs.DoubleText.{IsDoubleText, is_finite, settled}
 use Rattle.double_text.proofs.DoubleLemmas.{read_again}
 use Rattle.bson_base.specs.Answer.{◌>>=◌}
+use Rattle.bson_base.specs.DateText.{valid}
+use Rattle.bson_base.specs.Dates.{date_text}
 use Rattle.bson_base.specs.Decimal.{number_of, sixteen_bytes, unpack, decimal_text}
 use Rattle.bson_base.specs.Kinds.{AreBytes, IsRangedScalar, IsSound}
 use Rattle.bson_base.specs.Options.{sorted_text}
@@ -17,9 +19,10 @@ use Rattle.bson_base.specs.Tags.{subtype_of, subtype_byte}
 use Rattle.bson_base.specs.Value.{Scalar, double, string, binary, undefined, object_id, boolean, date_time, null, regex, db_pointer, code, symbol, int32, timestamp, int64, decimal, max_key, min_key, Value, scalar, array, document, scoped_code, Items, no_items, item, Members, no_members, member, look_up, put, EachPart, EachItem, EachMember, HasDistinctKeys, ItemsHaveDistinctKeys, MembersHaveDistinctKeys}
 use Rattle.bson_base.proofs.DecimalBitsLemmas.{unpack_is}
 use Rattle.bson_base.proofs.MemberLemmas.{equal_keys, headed, later, not_first, look_up-put}
-use Rattle.bson_model.specs.JsonKeys.{is_reserved, reserved_of, of_code, of_decimal, of_double, of_int, of_long, of_max, of_min, of_symbol, of_undefined}
+use Rattle.bson_model.specs.JsonKeys.{is_reserved, reserved_of, of_code, of_date, of_decimal, of_double, of_int, of_long, of_max, of_min, of_symbol, of_undefined}
 use Rattle.bson_model.specs.JsonRead.{code_and_scope, integer}
 use Rattle.bson_model.specs.JsonTexts.{fits_32, long_of}
+use Rattle.bson_model.specs.JsonWrite.{is_relaxed_date}
 use Rattle.bson_model.specs.declared.extjson.ser.Mode.{Mode}
 use Rattle.bson_model.specs.declared.extjson.ser.Mode.TheVariants.{Canonical, Relaxed}
 use Rattle.bson_model.proofs.JsonTextsLemmas.{fits_32_so}
@@ -32,8 +35,9 @@ use Rattle.bson_json.specs.Form.{Writes, WritesScalar, WritesItems, WritesMember
 use Rattle.bson_json_read.specs.Outcome.{scalar_of, some_or_error, ok_or_error, id_or_error, constant}
 use Rattle.bson_json_read.specs.Reading.{add, any_reserved, base64_body, below_32, is_one, nearest, read, read_items, read_members, read_top, read_typed, u32_body, whole}
 use Rattle.bson_json_read.specs.declared.error.Error.{Error}
+use Rattle.bson_json_laws.proofs.DateBackLemmas.{relaxed_back}
 use Rattle.bson_json_laws.proofs.WholeNumberLemmas.{numeral_is_marked, long_is_whole}
-use Rattle.bson_json_laws.specs.Settled.{dated, dated_items, dated_members, is_date_as_text, settled_long, settled_scalar, settle, settle_items, settle_members}
+use Rattle.bson_json_laws.specs.Settled.{settled_long, settled_scalar, settle, settle_items, settle_members}
 
 -- ---- scalars
 
@@ -146,29 +150,35 @@ form_long : (m : Mode) (z : ℤ) → IsRangedScalar (int64 z) → read (form.int
 form_long Canonical z h = read_long z h
 form_long Relaxed z h = plain_long z h ∙ ap Ok (narrowed z (fits_32 z))
 
-form_date : (m : Mode) (z : ℤ) → IsRangedScalar (date_time z) → is_date_as_text m (date_time z) ≡ false → read (form.date_form m z) ≡ Ok (scalar (date_time z))
-form_date Canonical z h n = read_date z h
-form_date Relaxed z h n = rw n (read_date z h)
+-- a moment from 1970 to 9999 is written as its date text
+text_date : (z : ℤ) (b : Bool) → IsRangedScalar (date_time z) → is_relaxed_date z ≡ b → read (form.wrapper_of of_date (if b then json.string (date_text z) else form.millis_form z)) ≡ Ok (scalar (date_time z))
+unfolding reserved_of
+text_date z true h e = ap (λ r. scalar_of (ok_or_error (valid r) >>= λ x. Ok (date_time x))) (relaxed_back z e)
+text_date z false h e = read_date z h
 
-scalar_back : (m : Mode) (s : Scalar) → IsRangedScalar s → is_date_as_text m s ≡ false → (j : Json) → WritesScalar m s j → read j ≡ Ok (scalar (settled_scalar m s))
-scalar_back m (double x) h n j w = ap read w.2 ∙ form_double m x w.0 h w.1
-scalar_back m (string t) h n j w = ap read w
-scalar_back m (binary s bs) h n j w = ap read w ∙ read_binary (subtype_byte s) bs h.0 h.1
-scalar_back m undefined h n j w = ap read w ∙ read_undefined
-scalar_back m (object_id bs) h n j w = ap read w ∙ read_id bs h
-scalar_back m (boolean b) h n j w = ap read w
-scalar_back m (date_time z) h n j w = ap read w ∙ form_date m z h n
-scalar_back m null h n j w = ap read w
-scalar_back m (regex p o) h n j w = ap read w ∙ read_regex p o h.1
-scalar_back m (db_pointer t bs) h n j w = ap read w ∙ read_pointer t bs h
-scalar_back m (code t) h n j w = ap read w ∙ read_code t
-scalar_back m (symbol t) h n j w = ap read w ∙ read_symbol t
-scalar_back m (int32 z) h n j w = ap read w ∙ form_int m z h
-scalar_back m (timestamp t i) h n j w = ap read w ∙ read_timestamp t i h
-scalar_back m (int64 z) h n j w = ap read w ∙ form_long m z h
-scalar_back m (decimal bs) h n j w = ap read w ∙ read_decimal bs
-scalar_back m max_key h n j w = ap read w ∙ read_max
-scalar_back m min_key h n j w = ap read w ∙ read_min
+form_date : (m : Mode) (z : ℤ) → IsRangedScalar (date_time z) → read (form.date_form m z) ≡ Ok (scalar (date_time z))
+form_date Canonical z h = read_date z h
+form_date Relaxed z h = text_date z (is_relaxed_date z) h refl
+
+scalar_back : (m : Mode) (s : Scalar) → IsRangedScalar s → (j : Json) → WritesScalar m s j → read j ≡ Ok (scalar (settled_scalar m s))
+scalar_back m (double x) h j w = ap read w.2 ∙ form_double m x w.0 h w.1
+scalar_back m (string t) h j w = ap read w
+scalar_back m (binary s bs) h j w = ap read w ∙ read_binary (subtype_byte s) bs h.0 h.1
+scalar_back m undefined h j w = ap read w ∙ read_undefined
+scalar_back m (object_id bs) h j w = ap read w ∙ read_id bs h
+scalar_back m (boolean b) h j w = ap read w
+scalar_back m (date_time z) h j w = ap read w ∙ form_date m z h
+scalar_back m null h j w = ap read w
+scalar_back m (regex p o) h j w = ap read w ∙ read_regex p o h.1
+scalar_back m (db_pointer t bs) h j w = ap read w ∙ read_pointer t bs h
+scalar_back m (code t) h j w = ap read w ∙ read_code t
+scalar_back m (symbol t) h j w = ap read w ∙ read_symbol t
+scalar_back m (int32 z) h j w = ap read w ∙ form_int m z h
+scalar_back m (timestamp t i) h j w = ap read w ∙ read_timestamp t i h
+scalar_back m (int64 z) h j w = ap read w ∙ form_long m z h
+scalar_back m (decimal bs) h j w = ap read w ∙ read_decimal bs
+scalar_back m max_key h j w = ap read w ∙ read_max
+scalar_back m min_key h j w = ap read w ∙ read_min
 
 -- ---- members, one after the other
 
@@ -224,59 +234,37 @@ added : (k : List ℕ) (v : Value) (found : Members) → look_up k found ≡ Non
 added k v found h = rw h refl
 
 mutual
-  pub value_back : (m : Mode) (K : List ℕ → Type 0) (v : Value) → EachPart K IsRangedScalar v → HasDistinctKeys v → reserved_in v ≡ false → dated m v ≡ false → (j : Json) → Writes m v j → read j ≡ Ok (settle m v)
-  value_back m K (scalar s) h d r n j w = scalar_back m s h n j w
-  value_back m K (array vs) h d r n j w = ap read w.2 ∙ ap (λ (q : Result Items Error). q >>= λ us. Ok (array us)) (items_back m K vs h d r n w.0 w.1)
-  value_back m K (document ms) h d r n j w =
+  pub value_back : (m : Mode) (K : List ℕ → Type 0) (v : Value) → EachPart K IsRangedScalar v → HasDistinctKeys v → reserved_in v ≡ false → (j : Json) → Writes m v j → read j ≡ Ok (settle m v)
+  value_back m K (scalar s) h d r j w = scalar_back m s h j w
+  value_back m K (array vs) h d r j w = ap read w.2 ∙ ap (λ (q : Result Items Error). q >>= λ us. Ok (array us)) (items_back m K vs h d r w.0 w.1)
+  value_back m K (document ms) h d r j w =
       let o = or_parts (some_reserved ms) (has_reserved ms) r in
-      ap read w.2 ∙ document_reads w.0 (settle_members m ms) (any_written m ms w.0 w.1 ∙ o.0) (members_back m K ms h d o.1 n no_members (λ q u e. refl) w.0 w.1)
-  value_back m K (scoped_code t ms) h d r n j w = ap read w.2 ∙ scope_reads t w.0 (settle_members m ms) (members_back m K ms h.1 d r n no_members (λ q u e. refl) w.0 w.1)
+      ap read w.2 ∙ document_reads w.0 (settle_members m ms) (any_written m ms w.0 w.1 ∙ o.0) (members_back m K ms h d o.1 no_members (λ q u e. refl) w.0 w.1)
+  value_back m K (scoped_code t ms) h d r j w = ap read w.2 ∙ scope_reads t w.0 (settle_members m ms) (members_back m K ms h.1 d r no_members (λ q u e. refl) w.0 w.1)
 
-  items_back : (m : Mode) (K : List ℕ → Type 0) (vs : Items) → EachItem K IsRangedScalar vs → ItemsHaveDistinctKeys vs → reserved_in_items vs ≡ false → dated_items m vs ≡ false → (js : json.Items) → WritesItems m vs js → read_items js ≡ Ok (settle_items m vs)
-  items_back m K no_items h d r n json.no_items w = refl
-  items_back m K no_items h d r n (json.item j js) w = absurd w
-  items_back m K (item v vs) h d r n json.no_items w = absurd w
-  items_back m K (item v vs) h d r n (json.item j js) w =
+  items_back : (m : Mode) (K : List ℕ → Type 0) (vs : Items) → EachItem K IsRangedScalar vs → ItemsHaveDistinctKeys vs → reserved_in_items vs ≡ false → (js : json.Items) → WritesItems m vs js → read_items js ≡ Ok (settle_items m vs)
+  items_back m K no_items h d r json.no_items w = refl
+  items_back m K no_items h d r (json.item j js) w = absurd w
+  items_back m K (item v vs) h d r json.no_items w = absurd w
+  items_back m K (item v vs) h d r (json.item j js) w =
       let o = or_parts (reserved_in v) (reserved_in_items vs) r in
-      let p = or_parts (dated m v) (dated_items m vs) n in
-      ap (λ (q : Result Value Error). q >>= λ u. read_items js >>= λ us. Ok (item u us)) (value_back m K v h.0 d.0 o.0 p.0 j w.0)
-      ∙ ap (λ (q : Result Items Error). q >>= λ us. Ok (item (settle m v) us)) (items_back m K vs h.1 d.1 o.1 p.1 js w.1)
+      ap (λ (q : Result Value Error). q >>= λ u. read_items js >>= λ us. Ok (item u us)) (value_back m K v h.0 d.0 o.0 j w.0)
+      ∙ ap (λ (q : Result Items Error). q >>= λ us. Ok (item (settle m v) us)) (items_back m K vs h.1 d.1 o.1 js w.1)
 
-  pub members_back : (m : Mode) (K : List ℕ → Type 0) (ms : Members) → EachMember K IsRangedScalar ms → MembersHaveDistinctKeys ms → has_reserved ms ≡ false → dated_members m ms ≡ false
+  pub members_back : (m : Mode) (K : List ℕ → Type 0) (ms : Members) → EachMember K IsRangedScalar ms → MembersHaveDistinctKeys ms → has_reserved ms ≡ false
       → (found : Members) → AreNew ms found → (js : json.Members) → WritesMembers m ms js → read_members js found ≡ Ok (join found (settle_members m ms))
-  members_back m K no_members h d r n found new json.no_members w = ap Ok (sym (join_none found))
-  members_back m K no_members h d r n found new (json.member l j js) w = absurd w
-  members_back m K (member k v ms) h d r n found new json.no_members w = absurd w
-  members_back m K (member k v ms) h d r n found new (json.member l j js) w =
+  members_back m K no_members h d r found new json.no_members w = ap Ok (sym (join_none found))
+  members_back m K no_members h d r found new (json.member l j js) w = absurd w
+  members_back m K (member k v ms) h d r found new json.no_members w = absurd w
+  members_back m K (member k v ms) h d r found new (json.member l j js) w =
       let o = or_parts (reserved_in v) (has_reserved ms) r in
-      let p = or_parts (dated m v) (dated_members m ms) n in
       let free = new k v (headed k v ms) in
-      ap (λ (q : Result Value Error). q >>= λ u. add l u found >>= λ more. read_members js more) (value_back m K v h.1 d.1 o.0 p.0 j w.1)
+      ap (λ (q : Result Value Error). q >>= λ u. add l u found >>= λ more. read_members js more) (value_back m K v h.1 d.1 o.0 j w.1)
       ∙ ap (λ i. add i (settle m v) found >>= λ more. read_members js more) (sym w.0)
       ∙ ap (λ (q : Result Members Error). q >>= λ more. read_members js more) (added k (settle m v) found free)
-      ∙ members_back m K ms h.2 d.2 o.1 p.1 (put k (settle m v) found) (still_new k v (settle m v) ms found d.0 new) js w.2
+      ∙ members_back m K ms h.2 d.2 o.1 (put k (settle m v) found) (still_new k v (settle m v) ms found d.0 new) js w.2
       ∙ ap (λ (a : Members). Ok (join a (settle_members m ms))) (put_new k (settle m v) found free)
       ∙ ap Ok (join_more found k (settle m v) (settle_members m ms))
 
-pub top_back : (m : Mode) (ms : Members) (j : Json) → IsSound (document ms) → has_reserved ms ≡ false → dated m (document ms) ≡ false → Writes m (document ms) j → read_top j ≡ Ok (settle_members m ms)
-top_back m ms j s r n w = ap read_top w.2 ∙ members_back m _ ms s.ranged s.distinct r n no_members (λ q u e. refl) w.0 w.1
-
--- ---- canonical form has no date texts
-
-undated_scalar : (s : Scalar) → is_date_as_text Canonical s ≡ false
-undated_scalar s = refl
-
-mutual
-  pub undated : (v : Value) → dated Canonical v ≡ false
-  undated (scalar s) = undated_scalar s
-  undated (array vs) = undated_items vs
-  undated (document ms) = undated_members ms
-  undated (scoped_code t ms) = undated_members ms
-
-  undated_items : (vs : Items) → dated_items Canonical vs ≡ false
-  undated_items no_items = refl
-  undated_items (item v vs) = rw (undated v) (undated_items vs)
-
-  pub undated_members : (ms : Members) → dated_members Canonical ms ≡ false
-  undated_members no_members = refl
-  undated_members (member k v ms) = rw (undated v) (undated_members ms)
+pub top_back : (m : Mode) (ms : Members) (j : Json) → IsSound (document ms) → has_reserved ms ≡ false → Writes m (document ms) j → read_top j ≡ Ok (settle_members m ms)
+top_back m ms j s r w = ap read_top w.2 ∙ members_back m _ ms s.ranged s.distinct r no_members (λ q u e. refl) w.0 w.1

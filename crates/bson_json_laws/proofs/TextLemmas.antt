@@ -19,7 +19,7 @@ use Rattle.bson_json.specs.Prints.{IsTextOf}
 use Rattle.bson_json_read.specs.Reading.{read_top, ReadsText, RefusesTree}
 use Rattle.bson_json_read.specs.declared.error.Error.{Error}
 use Rattle.bson_json_read.specs.declared.error.Error.TheVariants.{NotJson, RepeatedKey, InvalidObjectId, NumberOutOfRange, NotExtendedJson, Memory}
-use Rattle.bson_json_laws.specs.Settled.{dated, settle_members, ComesBack, json_levels, json_items_levels, json_members_levels}
+use Rattle.bson_json_laws.specs.Settled.{settle_members, ComesBack, json_levels, json_items_levels, json_members_levels}
 use Rattle.bson_json_laws.proofs.ReadBackLemmas.{top_back}
 
 -- ---- how deep the tree is
@@ -110,8 +110,7 @@ by_tree m ms t j tree ok (Err (InvalidObjectId e)) reads = refused_not (InvalidO
 by_tree m ms t j tree ok (Err NumberOutOfRange) reads = refused_not (NumberOutOfRange ≡ Memory) (settle_members m ms) t j NumberOutOfRange tree ok reads
 by_tree m ms t j tree ok (Err NotExtendedJson) reads = refused_not (NotExtendedJson ≡ Memory) (settle_members m ms) t j NotExtendedJson tree ok reads
 
-pub comes_back : (m : Mode) (ms : Members) (t : List ℕ) (r : Result Document Error) → IsSound (document ms) → has_reserved ms ≡ false → dated m (document ms) ≡ false
-    → json_levels (document ms) ≤ 125 → IsTextOf m (document ms) t → ReadsText t r → ComesBack m ms r
-comes_back m ms t r s free plain low text reads =
+pub comes_back : (m : Mode) (ms : Members) (t : List ℕ) (r : Result Document Error) → IsSound (document ms) → has_reserved ms ≡ false → json_levels (document ms) ≤ 125 → IsTextOf m (document ms) t → ReadsText t r → ComesBack m ms r
+comes_back m ms t r s free low text reads =
     let j = text.0 in
-    by_tree m ms t j (text.3 (omega (arith, low, deep m (document ms) j text.1))) (top_back m ms j s free plain text.1) r reads
+    by_tree m ms t j (text.3 (omega (arith, low, deep m (document ms) j text.1))) (top_back m ms j s free text.1) r reads

@@ -80,6 +80,16 @@ module _ (old new : State) (x : model.State) where
           (kept [] k ([], none_shown, blank.1), λ db may. inr (record { free = blank.0.free; left = inr (left db may) }, blank.1))
     ]
 
+  -- what it committed, beside the other tables that were found
+  pub held_found : FindsState HoldsOnce old x → OpensStore old new → Holds old.now new.committed.trees x
+  held_found finds opened = elim (shows_found ShowOnce (none_once x) finds) [
+    | inl rows ↦ let k = opened.found rows.0 rows.1 in inl (k.0, left_rows old.now new k.0 new.committed.trees k.1 k.3 refl, (rows.2.0, k.2.1 rows.2.0 rows.2.1, rows.2.2))
+    | inr blank ↦
+        let k = opened.made blank.0 in
+        let made = opened.beside blank.0.free.unnamed in
+        inr (record { free = blank.0.free; left = inr (new.now, made.1, sym (ap (λ (d : Database). d.trees) k.settled)) }, blank.1)
+  ]
+
   -- what a refused one may have made
   made_held : ShowsFound ShowOnce → IsLive old → (db : Trees) → Makes IsRowUnder old db → Holds old.now db x
   made_held (inl rows) live db made = elim made [

@@ -17,7 +17,7 @@ use Rattle.store_model.specs.declared.error.StoreError.{StoreError}
 use Rattle.sqlite_trees.specs.declared.store.Store.{Ghosts}
 use Rattle.sqlite.specs.State.{State}
 use Rattle.sqlite.specs.Held.{Held}
-use Rattle.store_indexed.specs.Table.{HasIndex as TableHasIndex, LeavesIndexes, connection_of as table_connection, indexed_state as table_state}
+use Rattle.store_indexed.specs.Table.{AddsIndex as AddsTableIndex, HasIndex as TableHasIndex, KeepsIndexes as KeepsTableIndexes, LeavesIndexes, connection_of as table_connection, indexed_state as table_state}
 use Rattle.bson_store.specs.declared.store.Store.{Store}
 
 -- a store's connection, and its state
@@ -31,9 +31,13 @@ store_state g s = table_state g s.table
 abbrev pub HasIndex : {S : Type 0} {h : _} → Store S h → List ℕ → Path → Type 0
 HasIndex s n path = TableHasIndex s.table n path
 
+-- there are no indexes but those of before, and maybe one of the collection on the path
+abbrev pub AddsIndex : {S : Type 0} {h : _} → Store S h → Store S h → List ℕ → Path → Type 0
+AddsIndex old new n path = AddsTableIndex old.table new.table n path
+
 -- a call leaves the indexes as they are
 abbrev pub KeepsIndexes : {S : Type 0} {h : _} → Store S h → Store S h → Type 0
-KeepsIndexes old new = new.table.indexes ≡ old.table.indexes
+KeepsIndexes old new = KeepsTableIndexes old.table new.table
 
 -- a change leaves the indexes of before, by collection and path, or none
 abbrev pub MayDropIndexes : {S : Type 0} {h : _} → Store S h → Store S h → Type 0

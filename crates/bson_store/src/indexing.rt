@@ -2,11 +2,13 @@
 //! documents.
 
 ghost use Rattle.std.specs.Prelude.{◌≡◌, ◌↔◌, ℕ, List, IsTrue, OnOk};
+ghost use Rattle.sqlite.specs.State.{HasCleanDisk};
 ghost use Rattle.store_filter.specs.Filters.{path_of};
 ghost use Rattle.store_model.specs.Filter.{Path};
-ghost use Rattle.store_table.specs.Moves.{WasOpen};
+ghost use Rattle.store_table.specs.Moves.{Stands, WasOpen};
+ghost use Rattle.store_table.specs.Rows.{TableRow};
 ghost use Rattle.store_table.specs.Crash.{AddsNothing};
-ghost use Rattle.bson_store.specs.Calls.{HasIndex, store_state, Relates};
+ghost use Rattle.bson_store.specs.Calls.{AddsIndex, HasIndex, store_state, Relates};
 ghost use Rattle.bson_store.specs.Questions.{Indexed};
 
 use crate::error::fault_refusal;
@@ -27,6 +29,9 @@ impl<S: Alter + Drop> Store<S> {
     pub fn index(&mut self, name: &str, path: Vec<String>) -> Result<(), StoreError>
         ensures moves { Relates S.Store self.old self.new (Indexed name.now result) }
         ensures others { (n : List ℕ) (p : Path) → HasIndex self.old n p → HasIndex self.new n p }
+        ensures only { HasCleanDisk (store_state S.Store self.new) → (docs : List TableRow)
+            → Stands (store_state S.Store self.old) docs
+            → AddsIndex self.old self.new name.now (path_of path.items) }
         ensures open { WasOpen (store_state S.Store self.old)
             (store_state S.Store self.new) result }
         ensures crash { AddsNothing (store_state S.Store self.old) (store_state S.Store self.new) }

@@ -1,6 +1,6 @@
 //! The store.
 
-ghost use Rattle.std.specs.Prelude.{◌≡◌, ◌↔◌, false, IsTrue, IfOk, IfErr, IsErrAnd, IsErrOf, IsSome, List, MatchResult, Ok, Some};
+ghost use Rattle.std.specs.Prelude.{◌≡◌, ◌↔◌, false, IsTrue, IfOk, IfErr, IsErrAnd, IsErrOf, IsSome, ℕ, List, MatchResult, Ok, Some};
 ghost use Rattle.bson_base.specs.Device.{CanRefuse};
 ghost use Rattle.sqlite.specs.Held.{state};
 ghost use Rattle.sqlite.specs.State.{HasCleanDisk, Survives};
@@ -15,9 +15,10 @@ ghost use Rattle.store_table.specs.Moves.{AddsRows, Changes, MayLeave, Stands, W
 ghost use Rattle.store_model.specs.State.{State as Lists};
 ghost use Rattle.bson_store.specs.Left.{FindsState, Holds, HoldsOnce, Keeps, Leaves, LeavesBytes, LeavesOnly, LeavesRead, LeavesTree};
 ghost use Rattle.store_table.specs.Rows.{TableRow, with_body_at};
-ghost use Rattle.bson_store.specs.Calls.{store_connection, store_state, Does, DoesBytes, DoesTree, DoesRead, KeepsIndexes, Looks, MayDropIndexes, Relates};
+ghost use Rattle.bson_store.specs.Calls.{store_connection, store_state, Does, DoesBytes, DoesTree, DoesRead, HasIndex, KeepsIndexes, Looks, MayDropIndexes, Relates};
 ghost use Rattle.bson_store.specs.Export.{SendsCollection};
 ghost use Rattle.bson_store.specs.Refusals.{ReportsFailure, reply_by, as_done, as_flag, as_bytes, as_json};
+ghost use Rattle.store_model.specs.Filter.{Path};
 ghost use Rattle.store_model.specs.Refusal.{refusal};
 ghost use Rattle.store_documents.specs.Bodies.{AnswersWritten};
 ghost use Rattle.store_documents.specs.Names.{name_bytes};
@@ -92,6 +93,7 @@ impl<S: Alter + Drop> Store<S> {
             → IsErrAnd result (λ e. (e.0 ≡ refusal NotAStore) × (e.1 ≡ connection)) }
         ensures busy { IsTrue (state S.Store connection).in_transaction
             → IsErrAnd result (λ e. (e.0 ≡ refusal Database) × (e.1 ≡ connection)) }
+        ensures none { IfOk result (λ s. (n : List ℕ) (p : Path) → HasIndex s n p → ⊥) }
         // A crash leaves what it could leave before, or what the open makes: the empty table, or rows under their current keys.
         ensures crash { IfOk result (λ s. Survives (state S.Store connection)
             (store_state S.Store s) (Makes IsRowUnder (state S.Store connection))) }

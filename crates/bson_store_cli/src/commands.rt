@@ -5,6 +5,8 @@ ghost use Rattle.sqlite.specs.Files.{file_state};
 ghost use Rattle.bson_base.specs.Device.{CanFail, CanRefuse};
 ghost use Rattle.store_model.specs.State.{State as Lists};
 ghost use Rattle.bson_store.specs.Left.{FindsState, Holds, HoldsOnce};
+ghost use Rattle.bson_store_cli.specs.Serving.{IsSoundCopy};
+ghost use Rattle.store_table.specs.Schema.{HasStoreTable};
 
 use bson_store::{ErrorKind, Sink, Source, Store};
 use cli_commands::execute;
@@ -13,6 +15,9 @@ use cli_words::{Words, read_words};
 use fallowtime_front::{copy_of, patience_of};
 use sqlite::{Alter, Connection, FileStore};
 use std::alloc::Global;
+
+/// For how many seconds the files of a back-up are read again, if another process writes them and the words don't say.
+const BACK_UP_PATIENCE: u64 = 5;
 
 /// Does the command of the words over a connection, and gives it back with the program's status. It is over any store,
 /// since what closing one of files does would otherwise be gone through at each of its ends.
@@ -38,15 +43,21 @@ fn over<S: Alter + Drop, I: Source, O: Sink, F: Sink>(
 }
 
 /// Opens the store of a connection, and gives the connection back: what a back-up is made of is a sound store. If the
-/// database held a state, under current or older keys, what is committed then holds it under current keys. So do the
-/// bytes that `write_whole` writes of it, and an open over these finds that state by the clause `finds` of
-/// `Store::open`.
+/// database held a state, under current or older keys, what is committed then holds it under current keys, beside the
+/// other tables as they were. So do the bytes that `write_whole` writes of it, and an open over these finds that state
+/// by the clause `finds` of `Store::open`.
 pub(crate) fn judged(
     alloc: Global,
     connection: Connection<FileStore<Loaded>>,
 ) -> Result<Connection<FileStore<Loaded>>, ErrorKind>
-    ensures { (x : Lists) → FindsState HoldsOnce (file_state connection) x
+    ensures holds { (x : Lists) → FindsState HoldsOnce (file_state connection) x
         → IfOk result (λ c. Holds (file_state c).now (file_state c).committed.trees x) }
+    // And it does so beside the other tables that the file had.
+    ensures beside { (x : Lists) → FindsState HoldsOnce (file_state connection) x
+        → IfOk result (λ c. Holds (file_state connection).now (file_state c).committed.trees x) }
+    // A store that isn't sound isn't copied: what is committed of the store's own table are rows of documents.
+    ensures sound { HasStoreTable (file_state connection).now.schema
+        → IfOk result (λ c. IsSoundCopy (file_state connection) (file_state c)) }
 {
     match Store::open(alloc, connection) {
         Ok(store) => Ok(store.close()),
@@ -70,7 +81,7 @@ fn back_up<F: Sink>(rt: &HostRuntime, file: &str, path: &str, seconds: u64, faul
         Ok(connection) => connection,
         Err(kind) => return refuse(faults, kind),
     };
-    match copy(rt, connection, path) {
+    match copy(rt, connection, file, path) {
         Ok(()) => 0,
         Err(error) => refuse_file(rt, faults, error),
     }
@@ -113,8 +124,14 @@ pub fn serve<I: Source, O: Sink, F: Sink>(
     requires output { CanRefuse (O.tally output.old) }
     requires faults { CanRefuse (F.tally faults.old) }
 {
-    let (seconds, words) = patience_of(words).unwrap_or((0, words));
+    let patience = patience_of(words);
+    let (seconds, words) = patience.unwrap_or((0, words));
     if let Some((file, path)) = copy_of(words) {
+        let seconds = if patience.is_some() {
+            seconds
+        } else {
+            BACK_UP_PATIENCE
+        };
         return back_up(rt, file, path, seconds, faults);
     }
     match read_words(words) {

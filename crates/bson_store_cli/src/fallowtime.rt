@@ -1,18 +1,20 @@
 //! The program `fallowtime`: one command over a database file, or a session of requests.
 
-ghost use Rattle.std.specs.Prelude.{◌≡◌, None, Result, Some};
+ghost use Rattle.std.specs.Prelude.{◌≡◌, None, Result, Some, map, string_bytes};
 ghost use Rattle.store_table.specs.Crash.{AddsNothing};
+ghost use Rattle.store_table.specs.Moves.{WasOpen};
 ghost use Rattle.bson_base.specs.Device.{CanFail, CanRefuse};
 ghost use Rattle.bson_store.specs.Calls.{Relates, store_state};
 ghost use Rattle.bson_store.specs.Export.{SendsCollection};
-ghost use Rattle.fallowtime_commands.specs.Performing.{LeavesRequest, Performs, reply_of};
-ghost use Rattle.fallowtime_commands.specs.Printing.{Tells};
-ghost use Rattle.fallowtime_commands.specs.declared.answer.Answer.{Answer as Answered};
+ghost use Rattle.fallowtime_commands.specs.Executing.{Executes};
 ghost use Rattle.fallowtime_commands.specs.declared.refusal.Refusal.{Refusal as Refused};
 ghost use Rattle.fallowtime_commands.specs.declared.request.Request.{Request as Requested};
 ghost use Rattle.store_model.specs.declared.error.StoreError.{StoreError as StoreRefusal};
 ghost use Rattle.fallowtime_front.specs.Asking.{form_by};
-ghost use Rattle.fallowtime_front.specs.Ending.{ended_by};
+ghost use Rattle.fallowtime_front.specs.Ending.{TellsEnd, ended_by};
+ghost use Rattle.fallowtime_front.specs.declared.ending.Ended.TheVariants.{Words as BadWords};
+ghost use Rattle.fallowtime_commands.specs.declared.unread.Unread.TheVariants.{Usage};
+ghost use Rattle.fallowtime_words.specs.Words.{Asked as Asking, IsTask};
 ghost use Rattle.bson_store_cli.specs.Serving.{plainly};
 
 use crate::commands::judged;
@@ -50,7 +52,8 @@ fn export<S: Alter + Drop, O: Sink>(
     ensures { (sent : Result (Unit {0}) StoreRefusal) × (result ≡ plainly sent)
         × Relates S.Store store.old store.new (SendsCollection coll.now (O.tally output.old)
         (O.tally output.new) sent) × AddsNothing (store_state S.Store store.old)
-        (store_state S.Store store.new) }
+        (store_state S.Store store.new)
+        × WasOpen (store_state S.Store store.old) (store_state S.Store store.new) sent }
 {
     match store.export(coll, output) {
         Ok(()) => Ok(()),
@@ -68,17 +71,18 @@ fn serve_store<S: Alter + Drop, O: Sink>(
 ) -> Result<(), Ended>
     requires { CanRefuse (O.tally output.old) }
     // A request is performed, and what it returns is printed in the form of the options.
-    ensures request { (r : Requested) → asked.old.request ≡ Some r → (done : Result (Unit {0}) Refused)
-        × (outcome : Result Answered StoreRefusal) × (result ≡ ended_by asked.old.lines.items done)
-        × Tells (form_by words.now.options.bytes words.now.options.canonical) outcome (O.tally output.old) (O.tally output.new) done
-        × Relates S.Store store.old store.new (Performs words.now.coll.now r (reply_of outcome))
-        × LeavesRequest words.now.coll.now r (reply_of outcome) (store_state S.Store store.old) (store_state S.Store store.new) }
+    ensures request { (r : Requested) → asked.old.request ≡ Some r
+        → (done : Result (Unit {0}) Refused) × (result ≡ ended_by asked.old.lines.items done)
+        × Executes words.now.coll.now r (form_by words.now.options.bytes words.now.options.canonical)
+        (O.tally output.old) (O.tally output.new) done (store_state S.Store store.old)
+        (store_state S.Store store.new) }
     // Without one the collection is written as BSON.
     ensures export { asked.old.request ≡ None → (sent : Result (Unit {0}) StoreRefusal)
         × (result ≡ ended_by asked.old.lines.items (plainly sent))
         × Relates S.Store store.old store.new (SendsCollection words.now.coll.now
         (O.tally output.old) (O.tally output.new) sent)
-        × AddsNothing (store_state S.Store store.old) (store_state S.Store store.new) }
+        × AddsNothing (store_state S.Store store.old) (store_state S.Store store.new)
+        × WasOpen (store_state S.Store store.old) (store_state S.Store store.new) sent }
 {
     match &mut asked.request {
         None => {
@@ -181,7 +185,7 @@ fn back_up(rt: &HostRuntime, words: &Words<'_>) -> Result<(), Ended> {
         Ok(connection) => connection,
         Err(kind) => return Err(Ended::Refused(Refusal::from(kind))),
     };
-    match copy(rt, connection, path.as_str()) {
+    match copy(rt, connection, words.file, path.as_str()) {
         Ok(()) => Ok(()),
         Err(error) => Err(Ended::File(error)),
     }
@@ -305,13 +309,19 @@ pub fn serve<I: Source, O: Sink, F: Sink>(
     requires input { CanFail (I.feed input.old) }
     requires output { CanRefuse (O.tally output.old) }
     requires faults { CanRefuse (F.tally faults.old) }
+    // Words that ask for nothing touch nothing, and the usage is reported.
+    ensures misuse { ((asked : Asking) → IsTask (map string_bytes words.now) asked → ⊥)
+        → TellsEnd (BadWords Usage) (F.tally faults.old) (F.tally faults.new) result
+        × (input.new ≡ input.old) × (output.new ≡ output.old) }
 {
-    let ended = match read_words(words) {
-        Some(Task::Command(words)) => command(rt, &words, input, output),
-        Some(Task::Session { file, seconds }) => {
+    let Some(task) = read_words(words) else {
+        return tell(rt, faults, Ended::Words(Unread::Usage));
+    };
+    let ended = match task {
+        Task::Command(words) => command(rt, &words, input, output),
+        Task::Session { file, seconds } => {
             session(rt, file, seconds.unwrap_or(PATIENCE), input, output)
         }
-        None => Err(Ended::Words(Unread::Usage)),
     };
     match ended {
         Ok(()) => 0,

@@ -1,5 +1,6 @@
 -- Lines of Extended JSON, and what becomes of their documents.
 use Rattle.std.specs.Prelude.{◌≡◌, ◌≢◌, ◌⊎◌, ℕ, ◌+◌, ◌-◌, ◌<◌, ◌≤◌, ◌^◌, List, [], ◌∷◌, ◌++◌, length, IsUtf8, Bool, true, false, Option, Some, None, Result, Ok, Err}
+use Rattle.std.specs.Str.{IsValidUpTo}
 use Rattle.bson_base.specs.Device.{Feed, Took, TookAll, Gives}
 use Rattle.bson_base.specs.Value.{Members}
 use Rattle.bson_json_read.specs.Reading.{ReadsText}
@@ -35,10 +36,10 @@ pub record GivesLines (os : List (Option Members)) (old new : Feed) (held waitin
   pub whole : held ++ given ≡ bytes ++ waiting
   pub lines : InParts IsLine bytes os
 
--- why a line has no document
+-- why a line has no document; one that isn't UTF-8 is so up to that byte
 abbrev pub RefusesText : List ℕ → LineFault → Type 0
 RefusesText text TooLong = MOST < length text
-RefusesText text (NotUtf8 n) = IsUtf8 text → ⊥
+RefusesText text (NotUtf8 n) = (IsUtf8 text → ⊥) × IsValidUpTo text n
 RefusesText text (Text e) = (0 < length text) × (e ≢ reading.Memory) × ReadsText text (Err e)
 RefusesText text (Raw e) = ⊥
 

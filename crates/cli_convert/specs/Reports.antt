@@ -6,6 +6,7 @@ use Rattle.bson_frame.specs.declared.error.ErrorKind.{ErrorKind}
 use Rattle.bson_frame.specs.declared.error.ErrorKind.TheVariants as kinds
 use Rattle.bson_json_read.specs.declared.error.Error.{Error}
 use Rattle.bson_json_read.specs.declared.error.Error.TheVariants.{NotJson, RepeatedKey, InvalidObjectId, NumberOutOfRange, NotExtendedJson, Memory}
+use Rattle.shown_text.specs.Shown.{shown}
 use Rattle.cli_convert.specs.declared.stop.Fault.{Fault}
 use Rattle.cli_convert.specs.declared.stop.Fault.TheVariants as fault
 use Rattle.cli_convert.specs.declared.stop.LineFault.{LineFault}
@@ -26,7 +27,7 @@ abbrev pub fault_text : ℕ → Fault → List ℕ
 fault_text n fault.EndInside = refusal (codes "EndInside") n []
 fault_text n fault.BadLength = refusal (codes "BadLength") n []
 fault_text n (fault.Raw e) = refusal (kind_name e.kind) n []
-fault_text n (fault.ReservedKey path) = refusal (codes "ReservedKey") n (codes " " ++ string_bytes path)
+fault_text n (fault.ReservedKey path) = refusal (codes "ReservedKey") n (codes " " ++ shown (string_bytes path))
 
 -- a byte's place from 1
 abbrev pub byte_text : ℕ → List ℕ

@@ -2,6 +2,7 @@
 
 ghost use Rattle.std.specs.Prelude.{◌≡◌, ◌⊎◌, ◌++◌, codes, IfOk, string_bytes};
 ghost use Rattle.bson_base.specs.Device.{CanRefuse, TakesText};
+ghost use Rattle.shown_text.specs.Shown.{shown};
 ghost use Rattle.cli_convert.specs.Reports.{byte_text as text_of_byte, fault_text, kind_name as name_of_kind, line_text, memory_line, misuse as misuse_of, refusal as refusal_of, stop_status, stop_text, text_fault, Reports};
 
 use crate::stop::{Fault, LineFault, Stop};
@@ -9,6 +10,7 @@ use bson_base::{Sink, write_all};
 use bson_json_read::Error;
 use bson_raw::ErrorKind;
 use itoa::Buffer;
+use shown_text::shown;
 use std::alloc::{AllocError, Global};
 
 /// The status of a program whose input or output is at fault.
@@ -42,11 +44,14 @@ fn refusal(alloc: Global, kind: &str, place: u64, more: &str) -> Result<String, 
     Ok(line)
 }
 
-/// A path after a space.
+/// A path after a space, as a line may show it.
 fn path_text(alloc: Global, path: &str) -> Result<String, AllocError>
-    ensures { IfOk result (λ t. string_bytes t ≡ codes " " ++ path.now) }
+    ensures { IfOk result (λ t. string_bytes t ≡ codes " " ++ shown path.now) }
 {
-    format!(in alloc; " {path}")
+    let path = shown(alloc, path)?;
+    let mut text = String::from_str(alloc, " ")?;
+    text.push_str(path.as_str())?;
+    Ok(text)
 }
 
 /// The line of a document that is refused.

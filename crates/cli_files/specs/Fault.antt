@@ -1,5 +1,13 @@
 -- What the program reports of a file that can't be used.
 use Rattle.std.specs.Prelude.{ℕ, List, codes}
+use Rattle.std.specs.IoError.{error_kind}
+use Rattle.std.specs.declared.io.ErrorKind.{ErrorKind as IoErrorKind}
+use Rattle.std.specs.declared.io.ErrorKind.TheVariants as io
+use Rattle.sqlite.specs.declared.error.Error.{Error as SqlError}
+use Rattle.sqlite.specs.declared.error.Error.TheVariants.{SqliteFailure}
+use Rattle.sqlite.specs.declared.error.ErrorCode.TheVariants as code
+use Rattle.sqlite_std_file.specs.declared.pair.OpenError.{OpenError}
+use Rattle.sqlite_std_file.specs.declared.pair.OpenError.TheVariants as opening
 use Rattle.store_model.specs.declared.error.ErrorKind.{ErrorKind}
 use Rattle.store_model.specs.declared.error.ErrorKind.TheVariants as kind
 use Rattle.cli_files.specs.declared.fault.FileError.{FileError}
@@ -22,3 +30,31 @@ fault_line NotPlain = codes "refused: NotPlain"
 fault_line NoName = codes "refused: NoName"
 fault_line Exists = codes "refused: Exists"
 fault_line Disk = codes "refused: Disk"
+
+-- ---- where they come from
+
+-- by why a call of the system failed
+abbrev pub fault_of_io : IoErrorKind → FileError
+fault_of_io io.OutOfMemory = Memory
+fault_of_io io.NotFound = NoFolder
+fault_of_io io.NotADirectory = NoFolder
+fault_of_io io.PermissionDenied = Denied
+fault_of_io io.ReadOnlyFilesystem = Denied
+fault_of_io io.AlreadyExists = Exists
+fault_of_io io.Unsupported = NotPlain
+fault_of_io io.IsADirectory = NotPlain
+fault_of_io _ = Disk
+
+-- by why the files at a path can't be used
+abbrev pub fault_of_opening : OpenError → FileError
+fault_of_opening opening.OutOfMemory = Memory
+fault_of_opening opening.Busy = Busy
+fault_of_opening opening.HotJournal = Journal
+fault_of_opening (opening.Io e) = fault_of_io (error_kind e)
+
+-- by why files aren't opened as a database
+abbrev pub fault_of_sql : SqlError → FileError
+fault_of_sql (SqliteFailure code.OutOfMemory) = Memory
+fault_of_sql (SqliteFailure code.NotADatabase) = NoDatabase
+fault_of_sql (SqliteFailure code.DatabaseCorrupt) = NoDatabase
+fault_of_sql _ = Disk

@@ -22,20 +22,20 @@ pub enum FileError {
     /// The folder that it is to be in isn't there.
     #[error("its folder isn't there")]
     NoFolder,
-    /// Another process has it, or writes it without a pause that is long enough to read it.
+    /// Another process has it, or writes it without a pause that is long enough to read it, or makes the same back-up.
     #[error("another process has it; --wait SECONDS in front of the words waits for it")]
     Busy,
     /// It, its log or its folder may not be read, or not be written.
     #[error("it, the log beside it or its folder can't be read or written by this user")]
     Denied,
-    /// It is no database, or one that isn't sound.
-    #[error("it is no SQLite database, or one that is damaged")]
+    /// It is no database, one that isn't sound, or one with a table that the kit's SQL doesn't understand.
+    #[error("it is no SQLite database or a damaged one, or another table of it isn't understood here")]
     NoDatabase,
     /// Another program left a rollback journal beside it, or is writing one.
     #[error("a rollback journal is beside it: open it with sqlite3 first, which plays that back")]
     Journal,
-    /// It or its log isn't a plain file with one name.
-    #[error("it or the log beside it is no plain file: a folder, a device, or one with a second hard link")]
+    /// It, its log or its journal isn't a plain file with one name.
+    #[error("it, or the log or journal beside it, is no plain file: a folder, a pipe, a link, or one with a second name")]
     NotPlain,
     /// The name stands for something else to SQLite.
     #[error("SQLite has another use for this name")]
@@ -80,6 +80,11 @@ impl FileError {
 }
 
 impl From<AllocError> for FileError {
+    ghost use Rattle.std.specs.Prelude.{◌≡◌};
+    ghost use Rattle.cli_files.specs.declared.fault.FileError.TheVariants.{Memory};
+
+    ghost from_gives = { λ _ e. e ≡ Memory };
+
     fn from(_: AllocError) -> FileError {
         FileError::Memory
     }
@@ -87,6 +92,12 @@ impl From<AllocError> for FileError {
 
 /// Why a call of the system failed.
 impl From<io::Error> for FileError {
+    ghost use Rattle.std.specs.IoError.{error_kind};
+    ghost use Rattle.std.specs.Prelude.{◌≡◌};
+    ghost use Rattle.cli_files.specs.Fault.{fault_of_io};
+
+    ghost from_gives = { λ e f. f ≡ fault_of_io (error_kind e) };
+
     fn from(error: io::Error) -> FileError {
         match error.kind() {
             io::ErrorKind::OutOfMemory => FileError::Memory,
@@ -103,6 +114,11 @@ impl From<io::Error> for FileError {
 
 /// Why the files at a path can't be used.
 impl From<OpenError> for FileError {
+    ghost use Rattle.std.specs.Prelude.{◌≡◌};
+    ghost use Rattle.cli_files.specs.Fault.{fault_of_opening};
+
+    ghost from_gives = { λ e f. f ≡ fault_of_opening e };
+
     fn from(error: OpenError) -> FileError {
         match error {
             OpenError::OutOfMemory => FileError::Memory,
@@ -115,6 +131,11 @@ impl From<OpenError> for FileError {
 
 /// Why files aren't opened as a database.
 impl From<sqlite::Error> for FileError {
+    ghost use Rattle.std.specs.Prelude.{◌≡◌};
+    ghost use Rattle.cli_files.specs.Fault.{fault_of_sql};
+
+    ghost from_gives = { λ e f. f ≡ fault_of_sql e };
+
     fn from(error: sqlite::Error) -> FileError {
         match error {
             sqlite::Error::SqliteFailure(ErrorCode::OutOfMemory) => FileError::Memory,

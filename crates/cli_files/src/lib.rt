@@ -4,6 +4,7 @@
 mod copying;
 mod fault;
 mod loaded;
+mod looking;
 mod opening;
 mod reading;
 mod reporting;

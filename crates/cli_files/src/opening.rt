@@ -1,6 +1,7 @@
 //! Database files, opened with room in memory for their pages.
 
 use crate::fault::FileError;
+use crate::looking::plain;
 use sqlite::{Connection, File, FileStore, Options, Unknown};
 use std::hash::{BuildHasher, RandomState};
 use std::time::Duration;
@@ -17,10 +18,10 @@ const LEAST_PAGES: usize = 256;
 const MOST_PAGES: usize = 16384;
 
 /// How many thousandths of a second pass between two tries to open a file.
-pub(crate) const PAUSE: u64 = 50;
+const PAUSE: u64 = 50;
 
 /// How many tries there are in a second.
-pub(crate) const TRIES_A_SECOND: u64 = 1000 / PAUSE;
+const TRIES_A_SECOND: u64 = 1000 / PAUSE;
 
 /// How many pages are kept in memory: those that the file has, and some more, as a page has one slot that it can be in.
 /// The kit's own number is too large for small files, whose slots are zeroed at each start, and too small for large
@@ -49,10 +50,21 @@ pub(crate) fn judge_name(path: &str) -> Result<(), FileError> {
     Ok(())
 }
 
+/// Refuses a log or a journal beside a file that is no plain file with one name, before one is opened.
+fn judge_beside(rt: &HostRuntime, file: &str) -> Result<(), FileError> {
+    let _ = plain(rt, format!(in rt.alloc(); "{file}-wal")?.as_str())?;
+    let _ = plain(rt, format!(in rt.alloc(); "{file}-journal")?.as_str())?;
+    Ok(())
+}
+
 /// Opens the database file at a path, which is made if it isn't there, and which no other process may have. A refused
 /// one is left as it is; an error says why.
 pub fn open(rt: &HostRuntime, path: &str) -> Result<Connection<FileStore<File>>, FileError> {
     judge_name(path)?;
+    match fs::canonicalize(rt, path) {
+        Ok(file) => judge_beside(rt, file.as_str())?,
+        Err(_) => judge_beside(rt, path)?,
+    }
     let options = options_for(rt, cache_pages(rt, path))?;
     let files = sqlite_std_file::open(rt, path, Unknown)?;
     match Connection::open_files(rt.alloc(), files, options) {

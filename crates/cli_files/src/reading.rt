@@ -7,65 +7,26 @@ ghost use Rattle.sqlite.specs.Files.{file_state, Finds, IsOpened};
 
 use crate::fault::FileError;
 use crate::loaded::Loaded;
-use crate::opening::{PAUSE, TRIES_A_SECOND, judge_name, options_for};
+use crate::looking::{Look, Paths, is_one_state};
+use crate::opening::{judge_name, options_for};
 use sqlite::{Connection, FileStore, Options};
 use sqlite_disk::Files;
-use std::alloc::Global;
+use std::alloc::{AllocError, Global};
 use std::io::{self, Read};
-use std::os::unix::fs::MetadataExt;
-use std::time::Duration;
+use std::time::{Duration, Instant};
 use std::{fs, thread};
 
 /// How many pages are kept in memory beside the file that is there already.
 const PAGES: usize = 1024;
 
-/// For how many seconds at least the files are read again, if they were written meanwhile.
-const LEAST_SECONDS: u64 = 5;
+/// How many thousandths of a second pass before the files are read again.
+const PAUSE: u64 = 10;
 
-/// How many bytes the header of a log has.
-const LOG_HEADER: usize = 32;
+/// How many times the files are read in a second at most.
+const READS_A_SECOND: u64 = 1000 / PAUSE;
 
-/// How many bytes the header of a file has.
-const FILE_HEADER: usize = 100;
-
-/// What the files at a path begin with, zeros for what isn't there. That of a log changes whenever the log begins anew,
-/// that of a file with a change by a program that keeps no log.
-#[derive(Clone, Copy, PartialEq, Eq)]
-struct Stamp {
-    log: [u8; LOG_HEADER],
-    file: [u8; FILE_HEADER],
-}
-
-/// Where the files of a database are.
-#[derive(Clone, Copy)]
-struct Paths<'a> {
-    file: &'a str,
-    log: &'a str,
-    journal: &'a str,
-}
-
-/// The bytes that the file at a path begins with. Those that it doesn't have stay as they are.
-fn read_front(rt: &HostRuntime, path: &str, front: &mut [u8]) -> io::Result<()> {
-    match fs::File::open(rt, path) {
-        Ok(mut file) => {
-            let _ = file.read(front)?;
-            Ok(())
-        }
-        Err(error) if error.kind() == io::ErrorKind::NotFound => Ok(()),
-        Err(error) => Err(error),
-    }
-}
-
-/// What the files begin with now.
-fn read_stamp(rt: &HostRuntime, paths: &Paths<'_>) -> io::Result<Stamp> {
-    let mut now = Stamp {
-        log: [0; LOG_HEADER],
-        file: [0; FILE_HEADER],
-    };
-    read_front(rt, paths.log, &mut now.log)?;
-    read_front(rt, paths.file, &mut now.file)?;
-    Ok(now)
-}
+/// How many bytes are read at once where a file is read a second time.
+const PIECE: usize = 1 << 16;
 
 /// All bytes of a file, none if it isn't there.
 fn bytes_of(rt: &HostRuntime, path: &str) -> io::Result<Vec<u8>> {
@@ -81,28 +42,45 @@ fn bytes_of(rt: &HostRuntime, path: &str) -> io::Result<Vec<u8>> {
     }
 }
 
-/// Whether a rollback journal has something to play back: it isn't empty, and doesn't begin with a zero.
-fn is_hot(rt: &HostRuntime, journal: &str) -> io::Result<bool> {
-    let mut first = [0];
-    read_front(rt, journal, &mut first)?;
-    Ok(first[0] != 0)
+/// Room for a piece of a file.
+fn piece_room(alloc: Global) -> Result<Vec<u8>, AllocError> {
+    vec![in alloc; 0; PIECE]
 }
 
-/// The file and its log as they were at one moment; none if a log began anew meanwhile, or another program wrote the
-/// file.
-///
-/// The file is read before its log. A process that has the file writes a page of it only if the log has that page, and
-/// only the log's beginning anew, under another header, drops it from there. So if the header is the same before and
-/// after, what the file has of pages that were being written is in the log too, and the log is what counts, as after a
-/// crash. No clause says so. A program that keeps a rollback journal has it beside the file while it writes, or else
-/// leaves another header in the file.
-fn read_once(rt: &HostRuntime, paths: &Paths<'_>) -> io::Result<Option<Files<Loaded>>> {
-    let before = read_stamp(rt, paths)?;
+/// Whether a file has these bytes still.
+fn has_still(rt: &HostRuntime, path: &str, bytes: &[u8]) -> io::Result<bool> {
+    let mut file = fs::File::open(rt, path)?;
+    let mut piece = piece_room(rt.alloc())?;
+    let mut rest = bytes;
+    for _piece in 0..=bytes.len() {
+        let read = file.read(piece.as_mut_slice())?;
+        if read == 0 {
+            return Ok(rest.is_empty());
+        }
+        match rest.strip_prefix(&piece[..read]) {
+            Some(behind) => rest = behind,
+            None => return Ok(false),
+        }
+    }
+    Ok(false)
+}
+
+/// The file and its log in a state that was committed, whoever writes them; none if they may have changed between two
+/// states meanwhile. The file is read before its log, between two looks: `is_one_state` says why that is enough.
+/// No clause says so.
+fn read_once(rt: &HostRuntime, paths: &Paths<'_>) -> Result<Option<Files<Loaded>>, FileError> {
+    let before = Look::new(rt, paths)?;
+    if before.lacks_file() {
+        return Err(FileError::NoFile);
+    }
+    if before.is_hot() {
+        return Ok(None);
+    }
     let db = bytes_of(rt, paths.file)?;
     let frames = bytes_of(rt, paths.log)?;
-    let after = read_stamp(rt, paths)?;
-    let read = frames.len().min(LOG_HEADER);
-    if before != after || frames[..read] != before.log[..read] || is_hot(rt, paths.journal)? {
+    let stayed = before.tells_changes() || has_still(rt, paths.file, db.as_slice())?;
+    let after = Look::new(rt, paths)?;
+    if !stayed || !before.begins(frames.as_slice()) || !is_one_state(&before, &after) {
         return Ok(None);
     }
     Ok(Some(Files {
@@ -111,19 +89,24 @@ fn read_once(rt: &HostRuntime, paths: &Paths<'_>) -> io::Result<Option<Files<Loa
     }))
 }
 
-/// Reads the files until they are found as they were at one moment, for `seconds` seconds.
+/// Reads the files until they are found in one state, for `seconds` seconds; once, if these are 0.
 fn read_calmly(
     rt: &HostRuntime,
     paths: &Paths<'_>,
     seconds: u64,
 ) -> Result<Files<Loaded>, FileError> {
-    for _ in 0..seconds.saturating_mul(TRIES_A_SECOND) {
+    let patience = Duration::from_secs(seconds);
+    let began = Instant::now(rt)?;
+    for _ in 0..=seconds.saturating_mul(READS_A_SECOND) {
         if let Some(files) = read_once(rt, paths)? {
             return Ok(files);
         }
+        if began.elapsed(rt)? >= patience {
+            break;
+        }
         thread::sleep(rt, Duration::from_millis(PAUSE));
     }
-    if is_hot(rt, paths.journal)? {
+    if Look::new(rt, paths)?.is_hot() {
         return Err(FileError::Journal);
     }
     Err(FileError::Busy)
@@ -137,10 +120,6 @@ fn load(rt: &HostRuntime, path: &str, seconds: u64) -> Result<Files<Loaded>, Fil
         Err(error) if error.kind() == io::ErrorKind::NotFound => return Err(FileError::NoFile),
         Err(error) => return Err(FileError::from(error)),
     };
-    let found = fs::metadata(rt, file.as_str())?;
-    if !found.is_file() || found.nlink() != 1 {
-        return Err(FileError::NotPlain);
-    }
     let file = file.as_str();
     let log = format!(in rt.alloc(); "{file}-wal")?;
     let journal = format!(in rt.alloc(); "{file}-journal")?;
@@ -149,7 +128,7 @@ fn load(rt: &HostRuntime, path: &str, seconds: u64) -> Result<Files<Loaded>, Fil
         log: log.as_str(),
         journal: journal.as_str(),
     };
-    read_calmly(rt, &paths, seconds.max(LEAST_SECONDS))
+    read_calmly(rt, &paths, seconds)
 }
 
 /// Opens files in memory. What is found is what they hold.
@@ -172,9 +151,10 @@ pub(crate) fn over(
 }
 
 /// Opens the database that the files at a path hold at this moment: what is changed of it stays in memory. A file that
-/// isn't there is refused by `NoFile`, one beside a rollback journal by `Journal`, and by `Busy` one that was written
-/// again and again for `seconds` seconds, at least five. Memory returns what was written to it, so what is stated of
-/// the connection needs no premise on a disk.
+/// isn't there is refused by `NoFile`, and by `NotPlain` if it, its log or its journal is no plain file with one name.
+/// One beside a rollback journal is refused by `Journal`, and by `Busy` one that was written again and again, after
+/// `seconds` seconds; with 0 the files are read once. Memory returns what was written to it, so what is stated of the
+/// connection needs no premise on a disk.
 pub fn read(
     rt: &HostRuntime,
     path: &str,

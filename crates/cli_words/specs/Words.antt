@@ -1,5 +1,5 @@
 -- The program's table: which words are a command.
-use Rattle.std.specs.Prelude.{◌≡◌, ◌⊎◌, ℕ, List, [], ◌∷◌, length, codes}
+use Rattle.std.specs.Prelude.{◌≡◌, ◌⊎◌, ◌++◌, ℕ, List, [], ◌∷◌, length, codes}
 use Rattle.cli_words.specs.declared.call.Call.{Call}
 use Rattle.cli_words.specs.declared.call.Call.TheVariants.{Insert, Replace, Get, Set, Unset, Remove, Find, Count, Import, Export, Dump, Load, Collections}
 
@@ -38,6 +38,10 @@ abbrev pub HasName : Call → List (List ℕ) → List ℕ → List (List ℕ) �
 HasName Collections words coll rest = (coll ≡ []) × (rest ≡ words)
 HasName call words coll rest = words ≡ coll ∷ rest
 
+-- the file of a store: a word in front that begins with a hyphen is none, and is written ./-
+abbrev pub IsFile : List ℕ → Type 0
+IsFile word = ¬ ((rest : List ℕ) × (word ≡ codes "-" ++ rest))
+
 -- the file, the command, the name and what may follow
 abbrev pub IsLine : List (List ℕ) → List ℕ → Call → List ℕ → List (List ℕ) → Type 0
-IsLine words file call coll rest = (behind : List (List ℕ)) × (words ≡ file ∷ command_name call ∷ behind) × HasName call behind coll rest × Takes call rest
+IsLine words file call coll rest = IsFile file × (behind : List (List ℕ)) × (words ≡ file ∷ command_name call ∷ behind) × HasName call behind coll rest × Takes call rest

@@ -14,4 +14,4 @@ pub use filter::read_filter;
 pub use input::read_line;
 pub use lines::{UsageError, write_complaint, write_flag, write_line, write_number, write_refusal};
 pub use texts::{TextError, parse_json, read_id};
-pub use words::{Words, read_words};
+pub use words::{Words, is_file, read_words};

@@ -1,13 +1,13 @@
 //! The words that the program is started with.
 
-ghost use Rattle.std.specs.Prelude.{◌≡◌, ◌≢◌, ℕ, List, [], map, MatchOption, string_bytes};
+ghost use Rattle.std.specs.Prelude.{◌≡◌, ◌≢◌, ◌↔◌, ℕ, List, [], IsTrue, map, MatchOption, string_bytes};
 ghost use Rattle.cli_words.specs.declared.call.Call.TheVariants.{Collections};
-ghost use Rattle.cli_words.specs.Words.{HasName, IsLine};
+ghost use Rattle.cli_words.specs.Words.{HasName, IsFile, IsLine};
 ghost use Rattle.cli_words.specs.declared.call.Call.{Call};
 
 use crate::call::Call;
 
-/// A line of the program's table: each word is taken by its place, also if it begins with a hyphen.
+/// A line of the program's table: each word behind the file is taken by its place, also if it begins with a hyphen.
 #[derive(Clone, Copy, Debug)]
 pub struct Words<'a> {
     /// The file of the store.
@@ -18,6 +18,13 @@ pub struct Words<'a> {
     pub coll: &'a str,
     /// The words after the name.
     pub rest: &'a [String],
+}
+
+/// Whether a word can be a file: one that begins with a hyphen is written `./-x`.
+pub fn is_file(word: &str) -> bool
+    ensures { IsTrue result ↔ IsFile word.now }
+{
+    !matches!(word.as_bytes(), [b'-', ..])
 }
 
 /// The name of the collection, empty for `collections`, and the words after it.
@@ -41,6 +48,9 @@ pub fn read_words(words: &[String]) -> Option<Words<'_>>
         (λ w. IsLine (map string_bytes words.now) w.file.now w.call w.coll.now (map string_bytes w.rest.now)) }
 {
     let (file, behind) = words.split_first()?;
+    if !is_file(file.as_str()) {
+        return None;
+    }
     let (command, behind) = behind.split_first()?;
     let call = Call::from_word(command.as_str())?;
     let (coll, rest) = collection(call, behind)?;

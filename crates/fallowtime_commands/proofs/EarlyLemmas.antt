@@ -6,7 +6,8 @@ use Rattle.bson_store.proofs.CrashLemmas.{survives_itself}
 use Rattle.store_model.specs.State.{in_bytes, insert, refused}
 use Rattle.store_model.specs.declared.error.ErrorKind.{ErrorKind}
 use Rattle.store_table.specs.Moves.{Moves}
-use Rattle.fallowtime_commands.specs.Performing.{IsStoppedEarly, LeavesRequest, Performs}
+use Rattle.fallowtime_commands.specs.Left.{LeavesRequest}
+use Rattle.fallowtime_commands.specs.Performing.{IsStoppedEarly, Performs}
 use Rattle.fallowtime_commands.specs.declared.request.Request.{Request}
 use Rattle.fallowtime_commands.specs.declared.request.Request.TheVariants as request
 use Rattle.fallowtime_commands.proofs.PutLemmas.{stopped}

@@ -8,17 +8,17 @@ use Rattle.bson_model.specs.declared.extjson.ser.Mode.{Mode}
 use Rattle.cli_convert.specs.Parts.{InParts, Passed}
 use Rattle.cli_convert.proofs.PartLemmas.{more_parts, one_part, passed_both}
 use Rattle.store_model.specs.Refusal.{refusal}
-use Rattle.store_model.specs.declared.error.StoreError.{StoreError}
 use Rattle.fallowtime_texts.specs.Printed.{PrintsDocument}
 use Rattle.fallowtime_texts.specs.declared.printed.PrintFault.{PrintFault}
 use Rattle.fallowtime_texts.specs.declared.printed.PrintFault.TheVariants as faults
-use Rattle.fallowtime_commands.specs.Printing.{IsUnprinted, kind_of_fault}
+use Rattle.fallowtime_commands.specs.Printing.{IsUnprinted, key_of_fault, kind_of_fault}
+use Rattle.fallowtime_commands.specs.declared.refusal.Refusal.{Refusal}
 
 -- a document without a text
-pub without_text : (m : Mode) (d : Members) (text : List ℕ) (fault : PrintFault) (tally : Tally) (e : StoreError) → PrintsDocument m d text (Err fault) → e ≡ refusal (kind_of_fault fault) → IsUnprinted d tally tally e
-without_text m d text (faults.ReservedKey path) tally e there is = inl (is, (_, there), refl)
-without_text m d text faults.Damaged tally e there is = absurd there
-without_text m d text faults.Memory tally e there is = inr (inl (is, refl))
+pub without_text : (m : Mode) (d : Members) (text : List ℕ) (fault : PrintFault) (tally : Tally) (r : Refusal) → PrintsDocument m d text (Err fault) → r.error ≡ refusal (kind_of_fault fault) → r.key ≡ key_of_fault fault → IsUnprinted d tally tally r
+without_text m d text (faults.ReservedKey path) tally r there is key = inl ((is, (path, there, key)), refl)
+without_text m d text faults.Damaged tally r there is key = absurd there
+without_text m d text faults.Memory tally r there is key = inr (inl (is, refl))
 
 module _ {X : Type 0} (seen : X → List ℕ) (P : List ℕ → List ℕ → Type 0) (xs : List X) where
   -- the parts of the first ones were printed

@@ -24,8 +24,9 @@ use Rattle.bson_store.proofs.ManyLemmas.{kept_there}
 use Rattle.bson_store.proofs.CrashLemmas.{step_of}
 use Rattle.bson_store.proofs.MoveLemmas.{moved, moved_twice}
 use Rattle.store_documents.proofs.StreamLemmas.{any_bytes}
-use Rattle.fallowtime_commands.specs.Setting.{Gets, LeavesSet, Sets}
-use Rattle.fallowtime_commands.specs.Storing.{IsFit, IsStopped, IsUnasked, LeavesStored, Stores}
+use Rattle.fallowtime_commands.specs.Left.{LeavesSet, LeavesStored}
+use Rattle.fallowtime_commands.specs.Setting.{Gets, Sets}
+use Rattle.fallowtime_commands.specs.Storing.{IsFit, IsStopped, IsUnasked, Stores}
 
 kept_at : (front : Documents) (d : Members) (back : Documents) → AreKept (front ++ d ∷ back) → IsKept d
 kept_at [] d back h = h.0

@@ -1,6 +1,7 @@
--- Which databases a crash may leave after a request, by what it might leave before it.
+-- Which databases a crash may leave after a request.
 use Rattle.std.specs.Prelude.{◌⊎◌, List, ℕ, Option, Some}
 use Rattle.sqlite.specs.Effect.{Database}
+use Rattle.sqlite.specs.State.{State, Survives}
 use Rattle.sqlite_trees.specs.Tree.{Trees}
 use Rattle.bson_base.specs.Value.{Members, Value, put}
 use Rattle.bson_bytes.specs.Encode.{encode}
@@ -10,49 +11,75 @@ use Rattle.store_model.specs.Reading.{Documents, Reading, ReadsBytes, ReadsStrea
 use Rattle.store_model.specs.State as model
 use Rattle.store_model.specs.Table.{DocumentTable, IsRefusal, state_of}
 use Rattle.store_model.specs.declared.error.ErrorKind.{ErrorKind}
-use Rattle.bson_store.specs.Left.{Holds}
+use Rattle.bson_store.specs.Left.{Along, Holds}
 use Rattle.fallowtime_commands.specs.Setting.{Gets}
 use Rattle.fallowtime_commands.specs.Storing.{FindsNone, HasReplaced, IsStopped}
 use Rattle.fallowtime_commands.specs.declared.request.Request.{Request}
 use Rattle.fallowtime_commands.specs.declared.request.Request.TheVariants as request
 
--- beside the other tables of the first database, of a table, on the collection n
-module _ (first : Database) (Before : Trees → Type 0) (n : List ℕ) (a : DocumentTable) where
-  -- what one command leaves
-  abbrev pub LeftByCall : model.Call → model.Reply → Trees → Type 0
-  LeftByCall call r db = LeftBy (Holds first) Before (state_of a) (model.on n call) r db
+-- What holds of what is left, by the table a that the rows showed: `From b call`, that it is what the store's call leaves
+-- of a table b, and `Was`, that it could be left before.
+abbrev pub Ways : Type 1
+Ways = (DocumentTable → model.Call → Type 0) → Type 0 → DocumentTable → Type 0
 
-  -- an insertion or a replacement
-  abbrev pub LeftStored : (Reading → model.Call) → Members → model.Reply → Trees → Type 0
-  LeftStored call e r db = (IsStopped n e r × Before db) ⊎ ((x : Reading) → ReadsBytes (encode e) x → LeftByCall (call x) r db)
+-- Of a request on the collection n with this reply: `Same`, no more than what could be left before, or `Of` such a way.
+module _ (Same : Type 0) (Of : Ways → Type 0) (n : List ℕ) (r : model.Reply) where
+  abbrev pub OfCall : model.Call → Type 0
+  OfCall call = Of (λ From Was a. From a call)
+
+  -- an insertion or a replacement, by what the bytes read as
+  abbrev pub OfStored : (Reading → model.Call) → Members → Type 0
+  OfStored call e = (IsStopped n e r × Same) ⊎ ((x : Reading) → ReadsBytes (encode e) x → OfCall (call x))
 
   -- a replacement, or an insertion after one that found nothing
-  abbrev pub LeftPut : Members → model.Reply → Trees → Type 0
-  LeftPut e r db =
-      (IsStopped n e r × Before db)
-      ⊎ ((HasReplaced r × ((x : Reading) → ReadsBytes (encode e) x → LeftByCall (model.replace model.in_bytes x) r db))
-      ⊎ ((b : DocumentTable) × FindsNone n (encode e) a b
-      × ((y : Reading) × ReadsBytes (encode e) y × LeftBy (Holds first) Before (state_of b) (model.on n (model.insert model.in_bytes y)) r db)))
+  abbrev pub OfPut : Members → Type 0
+  OfPut e =
+      (IsStopped n e r × Same)
+      ⊎ ((HasReplaced r × ((x : Reading) → ReadsBytes (encode e) x → OfCall (model.replace model.in_bytes x)))
+      ⊎ Of (λ From Was a. (b : DocumentTable) × FindsNone n (encode e) a b × ((y : Reading) × ReadsBytes (encode e) y × From b (model.insert model.in_bytes y))))
 
   -- a value that is set: no more than before, or what the replacement leaves
-  abbrev pub LeftSet : Value → List ℕ → Value → model.Reply → Trees → Type 0
-  LeftSet id k v r db =
-      ((model.IsFreeKey k → ⊥) × LeftByCall (model.set id k (Some v)) r db)
-      ⊎ ((IsRefusal r × Before db)
-      ⊎ ((d : Members) × (b : DocumentTable) × Gets n id a d b
-      × ((x : Reading) × ReadsBytes (encode (put k v d)) x × LeftBy (Holds first) Before (state_of b) (model.on n (model.replace model.in_bytes x)) r db)))
+  abbrev pub OfSet : Value → List ℕ → Value → Type 0
+  OfSet id k v = Of (λ From Was a.
+      ((model.IsFreeKey k → ⊥) × From a (model.set id k (Some v)))
+      ⊎ ((IsRefusal r × Was)
+      ⊎ ((d : Members) × (b : DocumentTable) × Gets n id a d b × ((x : Reading) × ReadsBytes (encode (put k v d)) x × From b (model.replace model.in_bytes x)))))
 
-  -- the documents of a stream
-  abbrev pub LeftMany : List ℕ → model.Reply → Trees → Type 0
-  LeftMany stream r db = (ds : Documents) (stop : Option ErrorKind) → ReadsStream stream ds stop → LeftByCall (model.import ds stop) r db
+  -- a question or an index leaves no more than before
+  abbrev pub OfRequest : Request → Type 0
+  OfRequest (request.Insert id d) = OfStored (model.insert model.in_bytes) (content d)
+  OfRequest (request.Put d) = OfPut (content d)
+  OfRequest (request.Replace d) = OfStored (model.replace model.in_bytes) (content d)
+  OfRequest (request.Set id key v) = OfSet (view id) key.now (view v)
+  OfRequest (request.Unset id key) = OfCall (model.unset (view id) key.now)
+  OfRequest (request.Remove id) = OfCall (model.remove (view id))
+  OfRequest (request.Import stream) = (ds : Documents) (stop : Option ErrorKind) → ReadsStream stream.items ds stop → OfCall (model.import ds stop)
+  OfRequest _ = Same
 
-  -- a request; a question or an index leaves no more than before
-  abbrev pub LeftByRequest : Request → model.Reply → Trees → Type 0
-  LeftByRequest (request.Insert id d) r db = LeftStored (model.insert model.in_bytes) (content d) r db
-  LeftByRequest (request.Put d) r db = LeftPut (content d) r db
-  LeftByRequest (request.Replace d) r db = LeftStored (model.replace model.in_bytes) (content d) r db
-  LeftByRequest (request.Set id key v) r db = LeftSet (view id) key.now (view v) r db
-  LeftByRequest (request.Unset id key) r db = LeftByCall (model.unset (view id) key.now) r db
-  LeftByRequest (request.Remove id) r db = LeftByCall (model.remove (view id)) r db
-  LeftByRequest (request.Import stream) r db = LeftMany stream.items r db
-  LeftByRequest _ r db = Before db
+-- ---- of one database, which a crash may leave now; before it they were those of Before, beside the other tables of the first
+
+abbrev pub LeftIn : Database → (Trees → Type 0) → List ℕ → DocumentTable → model.Reply → Trees → Ways → Type 0
+LeftIn first Before n a r db P = P (λ b call. LeftBy (Holds first) Before (state_of b) (model.on n call) r db) (Before db) a
+
+abbrev pub LeftByRequest : Database → (Trees → Type 0) → List ℕ → DocumentTable → Request → model.Reply → Trees → Type 0
+LeftByRequest first Before n a q r db = OfRequest (Before db) (LeftIn first Before n a r db) n r q
+
+-- ---- of each, by the connection before and now
+
+abbrev pub Unmoved : State → State → Type 0
+Unmoved old new = Survives old new (λ _. ⊥)
+
+abbrev pub LeavesIn : State → State → List ℕ → model.Reply → Ways → Type 0
+LeavesIn old new n r P = Along old new (λ first a db. LeftIn first old.may_leave n a r db P)
+
+abbrev pub LeavesStored : List ℕ → (Reading → model.Call) → Members → model.Reply → State → State → Type 0
+LeavesStored n call e r old new = OfStored (Unmoved old new) (LeavesIn old new n r) n r call e
+
+abbrev pub LeavesPut : List ℕ → Members → model.Reply → State → State → Type 0
+LeavesPut n e r old new = OfPut (Unmoved old new) (LeavesIn old new n r) n r e
+
+abbrev pub LeavesSet : List ℕ → Value → List ℕ → Value → model.Reply → State → State → Type 0
+LeavesSet n id k v r old new = OfSet (Unmoved old new) (LeavesIn old new n r) n r id k v
+
+abbrev pub LeavesRequest : List ℕ → Request → model.Reply → State → State → Type 0
+LeavesRequest n q r old new = OfRequest (Unmoved old new) (LeavesIn old new n r) n r q

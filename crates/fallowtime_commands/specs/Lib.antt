@@ -1,3 +1,4 @@
+pub mod Executing
 pub mod Left
 pub mod Performing
 pub mod Printing

@@ -1,6 +1,5 @@
 -- What a request does to the rows of a store.
 use Rattle.std.specs.Prelude.{◌≡◌, ℕ, List, map, Result, Ok, Err, string_bytes}
-use Rattle.sqlite.specs.State.{State, Survives}
 use Rattle.bson_model.specs.View.{content, view}
 use Rattle.bson_model.specs.declared.bson.Bson.{Bson}
 use Rattle.store_table.specs.Rows.{TableRow}
@@ -11,15 +10,14 @@ use Rattle.store_model.specs.declared.error.ErrorKind.{ErrorKind}
 use Rattle.store_model.specs.declared.error.StoreError.{StoreError}
 use Rattle.bson_store.specs.Calls.{Does, HasIndex}
 use Rattle.bson_store.specs.Export.{bytes_of_each}
-use Rattle.bson_store.specs.Left.{Leaves, LeavesMany}
 use Rattle.bson_store.specs.Many.{DoesMany}
 use Rattle.bson_store.specs.Questions.{Indexed}
 use Rattle.bson_store.specs.Refusals.{as_done, reply_by}
 use Rattle.bson_store.specs.declared.store.Store.{Store}
 use Rattle.fallowtime_commands.specs.declared.answer.Answer.{Answer}
 use Rattle.fallowtime_commands.specs.declared.answer.Answer.TheVariants as answer
-use Rattle.fallowtime_commands.specs.Setting.{LeavesSet, Sets}
-use Rattle.fallowtime_commands.specs.Storing.{IsUnasked, LeavesPut, LeavesStored, Puts, Stores}
+use Rattle.fallowtime_commands.specs.Setting.{Sets}
+use Rattle.fallowtime_commands.specs.Storing.{IsUnasked, Puts, Stores}
 use Rattle.fallowtime_commands.specs.declared.request.Request.{Request}
 use Rattle.fallowtime_commands.specs.declared.request.Request.TheVariants as request
 
@@ -104,15 +102,3 @@ Performs n (request.Import stream) r old new = DoesMany n (ReadsStream stream.it
 Performs n (request.Index path) r old new = Indexes n r old new
 Performs n (request.DropIndex path) r old new = Indexes n r old new
 Performs n request.Collections r old new = Does model.collections r old new
-
--- what a crash leaves of a request: of a change, what it leaves of the store's command; of a question or an index,
--- only what it could leave before
-abbrev pub LeavesRequest : List ℕ → Request → model.Reply → State → State → Type 0
-LeavesRequest n (request.Insert id d) r old new = LeavesStored n (model.insert model.in_bytes) (content d) r old new
-LeavesRequest n (request.Put d) r old new = LeavesPut n (content d) r old new
-LeavesRequest n (request.Replace d) r old new = LeavesStored n (model.replace model.in_bytes) (content d) r old new
-LeavesRequest n (request.Set id key v) r old new = LeavesSet n (view id) key.now (view v) r old new
-LeavesRequest n (request.Unset id key) r old new = Leaves old new (model.on n (model.unset (view id) key.now)) r
-LeavesRequest n (request.Remove id) r old new = Leaves old new (model.on n (model.remove (view id))) r
-LeavesRequest n (request.Import stream) r old new = LeavesMany n (ReadsStream stream.items) r old new
-LeavesRequest n _ r old new = Survives old new (λ _. ⊥)

@@ -1,8 +1,8 @@
 -- What is printed of answers.
-use Rattle.std.specs.Prelude.{◌≡◌, ◌⊎◌, ℕ, ◌+◌, List, [], ◌∷◌, ◌++◌, ◌==◌, map, Bool, true, false, Some, Result, Ok, Err, codes, decimal, string_bytes}
-use Rattle.std.specs.List.{list_any}
+use Rattle.std.specs.Prelude.{◌≡◌, ◌⊎◌, ℕ, ◌+◌, List, [], ◌∷◌, ◌++◌, map, Bool, true, false, Option, None, Some, Result, Ok, Err, String, codes, decimal, string_bytes}
+use Rattle.std.specs.declared.alloc.Global.{Global}
 use Rattle.bson_base.specs.Device.{Tally}
-use Rattle.bson_base.specs.Value.{Value, Members, document, scalar, string}
+use Rattle.bson_base.specs.Value.{Value, Members, document}
 use Rattle.bson_bytes.specs.Encode.{encode}
 use Rattle.bson_json.specs.Prints.{IsTextOf}
 use Rattle.bson_meaning.specs.JsonReserved.{reserved_path_below}
@@ -12,6 +12,7 @@ use Rattle.bson_model.specs.declared.extjson.ser.Mode.TheVariants.{Relaxed}
 use Rattle.bson_store.specs.Export.{bytes_of_each}
 use Rattle.cli_convert.specs.Parts.{InParts, Passed}
 use Rattle.cli_words.specs.Lines.{line}
+use Rattle.shown_text.specs.Shown.{shown}
 use Rattle.store_model.specs.Refusal.{refusal}
 use Rattle.store_model.specs.State.{IsKept}
 use Rattle.store_model.specs.declared.error.ErrorKind.{ErrorKind}
@@ -48,14 +49,23 @@ kind_of_fault (faults.ReservedKey path) = ReservedKey
 kind_of_fault faults.Damaged = Database
 kind_of_fault faults.Memory = Memory
 
--- why the document isn't printed: it has a reserved key below its top, and so no text, or one of these
-abbrev pub IsUnprinted : Members → Tally → Tally → StoreError → Type 0
-IsUnprinted d before after e = ((e ≡ refusal ReservedKey) × ((path : List ℕ) × (reserved_path_below d ≡ Some path)) × (after ≡ before)) ⊎ (IsOutOfMemory before after e ⊎ IsUnwritten before after e)
+-- the path that is reported of it
+abbrev pub key_of_fault : PrintFault → Option (String Global)
+key_of_fault (faults.ReservedKey path) = Some path
+key_of_fault _ = None
+
+-- it has a reserved key below its top, and the path to the first one is reported
+abbrev pub IsReserved : Members → Refusal → Type 0
+IsReserved d r = (r.error ≡ refusal ReservedKey) × ((path : String Global) × (reserved_path_below d ≡ Some (string_bytes path)) × (r.key ≡ Some path))
+
+-- why the document isn't printed: it has such a key, and so no text, or one of these
+abbrev pub IsUnprinted : Members → Tally → Tally → Refusal → Type 0
+IsUnprinted d before after r = (IsReserved d r × (after ≡ before)) ⊎ (IsOutOfMemory before after r.error ⊎ IsUnwritten before after r.error)
 
 -- the same of the document whose written form is kept as the body
 abbrev pub PrintsBody : Form → List ℕ → Tally → Tally → Result (Unit {0}) Refusal → Type 0
 PrintsBody f body before after (Ok x) = (part : List ℕ) × Passed before after part × ((d : Members) → IsKept d → body ≡ encode d → IsPrinted f d part)
-PrintsBody f body before after (Err r) = (d : Members) → IsKept d → body ≡ encode d → IsUnprinted d before after r.error
+PrintsBody f body before after (Err r) = (d : Members) → IsKept d → body ≡ encode d → IsUnprinted d before after r
 
 -- ---- many
 
@@ -76,25 +86,16 @@ abbrev pub PrintsLine : List ℕ → Tally → Tally → Result (Unit {0}) Refus
 PrintsLine text before after (Ok x) = Passed before after (line text)
 PrintsLine text before after (Err r) = IsUnwritten before after r.error
 
-abbrev pub PrintsId : Mode → Value → Tally → Tally → Result (Unit {0}) Refusal → Type 0
-PrintsId m id before after (Ok x) = (text : List ℕ) × IsTextOf m id text × Passed before after (line text)
-PrintsId m id before after (Err r) = IsOutOfMemory before after r.error ⊎ IsUnwritten before after r.error
-
--- the same with a text that was made before: memory can't run out
+-- the text of an id, which was made before: memory can't run out
 abbrev pub PrintsMadeId : Mode → Value → Tally → Tally → Result (Unit {0}) Refusal → Type 0
 PrintsMadeId m id before after (Ok x) = (text : List ℕ) × IsTextOf m id text × Passed before after (line text)
 PrintsMadeId m id before after (Err r) = IsUnwritten before after r.error
 
 -- ---- names
 
-abbrev pub has_line_feed : List ℕ → Bool
-has_line_feed name = list_any (λ b. b == 10) name
-
--- a name as it is, or, if it has a line feed, as the JSON of a text
+-- a name as a line may show it
 abbrev pub IsNameLine : List ℕ → List ℕ → Type 0
-IsNameLine part name =
-    ((has_line_feed name ≡ true) × (text : List ℕ) × IsTextOf Relaxed (scalar (string name)) text × (part ≡ line text))
-    ⊎ ((has_line_feed name ≡ false) × (part ≡ line name))
+IsNameLine part name = part ≡ line (shown name)
 
 -- it is out of memory, or a write failed
 abbrev pub IsUnnamed : Tally → Tally → StoreError → Type 0

@@ -9,7 +9,7 @@ use Rattle.bson_json_read.specs.declared.error.Error.{Error}
 use Rattle.bson_json_read.specs.declared.error.Error.TheVariants as reading
 use Rattle.bson_model.specs.View.{content, view}
 use Rattle.fallowtime_texts.specs.Ids.{id_of}
-use Rattle.fallowtime_texts.specs.Made.{identified}
+use Rattle.fallowtime_texts.specs.Made.{identified, maker_after}
 use Rattle.fallowtime_texts.specs.declared.made.IdMaker.{IdMaker}
 use Rattle.fallowtime_words.specs.declared.command.Command.{Command}
 use Rattle.fallowtime_words.specs.declared.command.Command.TheVariants as command
@@ -69,22 +69,28 @@ IsFilterOf [] f = f ≡ all_of no_filters
 IsFilterOf (t ∷ []) f = IsQueryText t f
 IsFilterOf _ f = ⊥
 
--- what a command with these words in its places asks for; a document without an `_id` gets the next one of the maker
-abbrev pub IsRequest : IdMaker → Command → List (List ℕ) → Request → Type 0
-IsRequest maker command.Insert (t ∷ []) (request.Insert id d) = ((e : Members) × IsDocumentText t e × (content d ≡ identified maker e)) × (look_up id_key (content d) ≡ Some (view id))
-IsRequest maker command.Put (t ∷ []) (request.Put d) = IsDocumentText t (content d)
-IsRequest maker command.Replace (t ∷ []) (request.Replace d) = IsDocumentText t (content d)
-IsRequest maker command.Get (t ∷ []) (request.Get id) = IsIdText t (view id)
-IsRequest maker command.Remove (t ∷ []) (request.Remove id) = IsIdText t (view id)
-IsRequest maker command.Unset (t ∷ k ∷ []) (request.Unset id key) = IsIdText t (view id) × (key.now ≡ k)
-IsRequest maker command.Set (t ∷ k ∷ v ∷ []) (request.Set id key value) = IsIdText t (view id) × (key.now ≡ k) × IsValueText v (view value)
-IsRequest maker command.Find ts (request.Find f) = IsFilterOf ts (filter_of f)
-IsRequest maker command.Count ts (request.Count f) = IsFilterOf ts (filter_of f)
-IsRequest maker command.Collections [] request.Collections = Unit {0}
-IsRequest maker _ _ _ = ⊥
+-- What a command with these words in its places asks for, and the maker afterwards: a document without an `_id` gets
+-- its next one, and no other command takes one.
+abbrev pub IsRequest : IdMaker → IdMaker → Command → List (List ℕ) → Request → Type 0
+IsRequest m n command.Insert (t ∷ []) (request.Insert id d) = ((e : Members) × IsDocumentText t e × (content d ≡ identified m e) × (n ≡ maker_after m e)) × (look_up id_key (content d) ≡ Some (view id))
+IsRequest m n command.Put (t ∷ []) (request.Put d) = IsDocumentText t (content d) × (n ≡ m)
+IsRequest m n command.Replace (t ∷ []) (request.Replace d) = IsDocumentText t (content d) × (n ≡ m)
+IsRequest m n command.Get (t ∷ []) (request.Get id) = IsIdText t (view id) × (n ≡ m)
+IsRequest m n command.Remove (t ∷ []) (request.Remove id) = IsIdText t (view id) × (n ≡ m)
+IsRequest m n command.Unset (t ∷ k ∷ []) (request.Unset id key) = IsIdText t (view id) × (key.now ≡ k) × (n ≡ m)
+IsRequest m n command.Set (t ∷ k ∷ v ∷ []) (request.Set id key value) = IsIdText t (view id) × (key.now ≡ k) × IsValueText v (view value) × (n ≡ m)
+IsRequest m n command.Find ts (request.Find f) = IsFilterOf ts (filter_of f) × (n ≡ m)
+IsRequest m n command.Count ts (request.Count f) = IsFilterOf ts (filter_of f) × (n ≡ m)
+IsRequest m n command.Collections [] request.Collections = n ≡ m
+IsRequest m n _ _ _ = ⊥
 
-abbrev pub IsRequestOf : IdMaker → Wording → Request → Type 0
-IsRequestOf maker w r = IsRequest maker w.command (map string_bytes w.places.now) r
+abbrev pub IsRequestOf : IdMaker → IdMaker → Wording → Request → Type 0
+IsRequestOf m n w r = IsRequest m n w.command (map string_bytes w.places.now) r
+
+-- words that can't be read leave the maker as it is
+abbrev pub KeepsMaker : IdMaker → IdMaker → Stop → Type 0
+KeepsMaker m n (Words u) = n ≡ m
+KeepsMaker m n Memory = Unit {0}
 
 -- ---- what can't be read
 

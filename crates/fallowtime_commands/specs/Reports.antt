@@ -5,6 +5,7 @@ use Rattle.std.specs.declared.alloc.Global.{Global}
 use Rattle.bson_base.specs.Device.{Tally, TakesText}
 use Rattle.bson_json_read.specs.declared.error.Error.{Error}
 use Rattle.bson_json_read.specs.declared.error.Error.TheVariants as reading
+use Rattle.shown_text.specs.Shown.{shown}
 use Rattle.store_model.specs.Refusal.{kind_name}
 use Rattle.store_model.specs.declared.error.ErrorKind.{ErrorKind}
 use Rattle.store_model.specs.declared.error.ErrorKind.TheVariants.{BadRow, IdsCollide}
@@ -26,6 +27,11 @@ abbrev pub named_text : List ℕ → Option (String Global) → List ℕ
 named_text word None = []
 named_text word (Some text) = word ++ string_bytes text
 
+-- a path to a key after its word, as a line may show it, if there is one
+abbrev pub key_text : Option (String Global) → List ℕ
+key_text None = []
+key_text (Some path) = codes " key " ++ shown (string_bytes path)
+
 -- the places of the rows that a kind names
 abbrev pub rows_text : ErrorKind → List ℕ
 rows_text (BadRow place) = codes " " ++ signed_decimal place
@@ -45,7 +51,7 @@ abbrev pub place_text : Refusal → List ℕ
 place_text r = line_text r.line r
 
 abbrev pub refusal_text : Refusal → List ℕ
-refusal_text r = ((((codes "refused: " ++ kind_name r.error.kind) ++ place_text r) ++ named_text (codes " _id ") r.id) ++ named_text (codes " key ") r.key) ++ codes "\n"
+refusal_text r = ((((codes "refused: " ++ kind_name r.error.kind) ++ place_text r) ++ named_text (codes " _id ") r.id) ++ key_text r.key) ++ codes "\n"
 
 -- ---- words
 

@@ -1,19 +1,12 @@
 -- A value that is set, and keeps the order of its keys.
 use Rattle.std.specs.Prelude.{◌≡◌, ◌⊎◌, ℕ, List, Some}
-use Rattle.sqlite.specs.Effect.{Database}
-use Rattle.sqlite.specs.State.{State, HasCleanDisk}
-use Rattle.sqlite_trees.specs.Tree.{Trees}
 use Rattle.bson_base.specs.Value.{Value, Members, put}
 use Rattle.bson_bytes.specs.Encode.{encode}
-use Rattle.store_table.specs.Beside.{ShowsOthers}
-use Rattle.store_table.specs.Moves.{Stands}
 use Rattle.store_table.specs.Rows.{TableRow}
-use Rattle.store_model.specs.Left.{LeftBy}
 use Rattle.store_model.specs.Reading.{Reading, ReadsBytes}
 use Rattle.store_model.specs.State.{Reply, get_raw, in_bytes, IsFreeKey, IsKept, on, replace, set}
 use Rattle.store_model.specs.State as model
-use Rattle.store_model.specs.Table.{DocumentTable, IsRefusal, Serves, state_of}
-use Rattle.bson_store.specs.Left.{Holds}
+use Rattle.store_model.specs.Table.{DocumentTable, IsRefusal, Serves}
 use Rattle.bson_store.specs.Shown.{Represents}
 use Rattle.fallowtime_commands.specs.Storing.{IsFit, IsStopped}
 
@@ -33,12 +26,3 @@ SetsIn n id k v r a c =
 -- the same of whatever table the rows showed
 abbrev pub Sets : List ℕ → Value → List ℕ → Value → Reply → List TableRow → List TableRow → Type 0
 Sets n id k v r old new = (a : DocumentTable) → Represents old a → (c : DocumentTable) × Represents new c × SetsIn n id k v r a c
-
--- what a crash leaves of that: only what it could leave before, or what it leaves of the replacement
-abbrev pub LeavesSet : List ℕ → Value → List ℕ → Value → Reply → State → State → Type 0
-LeavesSet n id k v r old new =
-    HasCleanDisk new → (first : Database) (docs : List TableRow) → ShowsOthers first old → Stands old docs → (a : DocumentTable) → Represents docs a
-    → (db : Trees) → new.may_leave db
-    → ((IsFreeKey k → ⊥) × LeftBy (Holds first) old.may_leave (state_of a) (on n (set id k (Some v))) r db)
-    ⊎ ((IsRefusal r × old.may_leave db)
-    ⊎ ((d : Members) × (b : DocumentTable) × Gets n id a d b × ((x : Reading) × ReadsBytes (encode (put k v d)) x × LeftBy (Holds first) old.may_leave (state_of b) (on n (replace in_bytes x)) r db)))

@@ -1,24 +1,17 @@
 -- Documents that go into a store as they are: by their written bytes, which keep each double and the order of keys.
 use Rattle.std.specs.Prelude.{◌≡◌, ◌⊎◌, ◌<◌, ◌≤◌, ℕ, List, Option, None, Bool, true, false}
-use Rattle.sqlite.specs.Effect.{Database}
-use Rattle.sqlite.specs.State.{State, HasCleanDisk, Survives}
-use Rattle.sqlite_trees.specs.Tree.{Trees}
 use Rattle.bson_base.specs.Kinds.{IsPlain}
 use Rattle.bson_base.specs.Value.{Members, document, has_key, levels}
 use Rattle.bson_bytes.specs.Encode.{encode, size}
 use Rattle.bson_frame.specs.Frame.{size_limit}
 use Rattle.bson_meaning.specs.Gate.{level_limit}
-use Rattle.store_table.specs.Beside.{ShowsOthers}
-use Rattle.store_table.specs.Moves.{Stands}
 use Rattle.store_table.specs.Rows.{TableRow}
-use Rattle.store_model.specs.Left.{LeftBy}
 use Rattle.store_model.specs.Reading.{IsKeepable, Reading, ReadsBytes}
 use Rattle.store_model.specs.State.{Call, id_key, in_bytes, insert, IsName, on, refused, replace, Reply}
-use Rattle.store_model.specs.Table.{DocumentTable, Serves, state_of}
+use Rattle.store_model.specs.Table.{DocumentTable, Serves}
 use Rattle.store_model.specs.declared.error.ErrorKind.{ErrorKind}
 use Rattle.store_model.specs.declared.error.ErrorKind.TheVariants.{BadName, Memory, NoId, NotFound, Nul, TooDeep, TooLong}
 use Rattle.bson_store.specs.Calls.{DoesBytes}
-use Rattle.bson_store.specs.Left.{Holds, LeavesBytes}
 use Rattle.bson_store.specs.Shown.{Represents}
 
 -- ---- before the store is asked
@@ -48,10 +41,6 @@ IsStopped n e r = (k : ErrorKind) × IsUnasked n e k × (r ≡ refused k None)
 abbrev pub Stores : List ℕ → (Reading → Call) → Members → Reply → List TableRow → List TableRow → Type 0
 Stores n call e r old new = (IsStopped n e r × (new ≡ old)) ⊎ (IsFit e × DoesBytes n call (encode e) r old new)
 
--- what a crash leaves of that
-abbrev pub LeavesStored : List ℕ → (Reading → Call) → Members → Reply → State → State → Type 0
-LeavesStored n call e r old new = (IsStopped n e r × Survives old new (λ _. ⊥)) ⊎ LeavesBytes n call (encode e) r old new
-
 -- ---- a replacement, or an insertion if there is nothing to replace
 
 -- there was a document to replace
@@ -70,12 +59,3 @@ PutsIn n bytes r a c =
 
 abbrev pub Puts : List ℕ → Members → Reply → List TableRow → List TableRow → Type 0
 Puts n e r old new = (IsStopped n e r × (new ≡ old)) ⊎ (IsFit e × ((a : DocumentTable) → Represents old a → (c : DocumentTable) × Represents new c × PutsIn n (encode e) r a c))
-
--- what a crash leaves of that: what it leaves of a replacement, or of an insertion after one that found nothing
-abbrev pub LeavesPut : List ℕ → Members → Reply → State → State → Type 0
-LeavesPut n e r old new =
-    (IsStopped n e r × Survives old new (λ _. ⊥))
-    ⊎ ((HasReplaced r × LeavesBytes n (replace in_bytes) (encode e) r old new)
-    ⊎ (HasCleanDisk new → (first : Database) (docs : List TableRow) → ShowsOthers first old → Stands old docs → (a : DocumentTable) → Represents docs a
-    → (db : Trees) → new.may_leave db
-    → (b : DocumentTable) × FindsNone n (encode e) a b × ((y : Reading) × ReadsBytes (encode e) y × LeftBy (Holds first) old.may_leave (state_of b) (on n (insert in_bytes y)) r db)))

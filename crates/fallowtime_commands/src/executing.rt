@@ -1,13 +1,11 @@
 //! A request over a store, and what is printed of it.
 
-ghost use Rattle.std.specs.Prelude.{◌≡◌, string_bytes, MatchResult, Result};
+ghost use Rattle.std.specs.Prelude.{◌≡◌, string_bytes, MatchResult};
 ghost use Rattle.bson_base.specs.Device.{CanRefuse};
-ghost use Rattle.store_table.specs.Moves.{WasOpen};
-ghost use Rattle.bson_store.specs.Calls.{store_state, Relates};
-ghost use Rattle.store_model.specs.declared.error.StoreError.{StoreError as StoreRefusal};
-ghost use Rattle.fallowtime_commands.specs.Performing.{IsStoppedEarly, LeavesRequest, Performs, reply_of};
+ghost use Rattle.bson_store.specs.Calls.{store_state};
+ghost use Rattle.fallowtime_commands.specs.Executing.{Executes};
+ghost use Rattle.fallowtime_commands.specs.Performing.{IsStoppedEarly};
 ghost use Rattle.fallowtime_commands.specs.Printing.{IsInsertText, IsOutcomeText, Tells};
-ghost use Rattle.fallowtime_commands.specs.declared.answer.Answer.{Answer as Answered};
 
 use crate::answer::Answer;
 use crate::ids::id_of_refusal;
@@ -88,15 +86,8 @@ pub fn execute<S: Alter + Drop, O: Sink>(
     output: &mut O,
 ) -> Result<(), Refusal>
     requires { CanRefuse (O.tally output.old) }
-    ensures step { (outcome : Result Answered StoreRefusal)
-        × Tells form outcome (O.tally output.old) (O.tally output.new) result
-        × Relates S.Store store.old store.new (Performs name.now request.old (reply_of outcome))
-        × LeavesRequest name.now request.old (reply_of outcome) (store_state S.Store store.old)
-        (store_state S.Store store.new) }
-    // What was accepted was done on an open connection, which stays open.
-    ensures open { (outcome : Result Answered StoreRefusal)
-        × Tells form outcome (O.tally output.old) (O.tally output.new) result
-        × WasOpen (store_state S.Store store.old) (store_state S.Store store.new) outcome }
+    ensures { Executes name.now request.old form (O.tally output.old) (O.tally output.new) result
+        (store_state S.Store store.old) (store_state S.Store store.new) }
 {
     let id = match insert_text(alloc, name, request, form) {
         Ok(text) => text,

@@ -3,7 +3,8 @@
 ghost use Rattle.std.specs.Prelude.{IfOk, OnOk};
 ghost use Rattle.store_table.specs.Moves.{WasOpen};
 ghost use Rattle.bson_store.specs.Calls.{store_state, Relates};
-ghost use Rattle.fallowtime_commands.specs.Performing.{Drops, IsAnswerTo, LeavesRequest, Performs, reply_of};
+ghost use Rattle.fallowtime_commands.specs.Left.{LeavesRequest};
+ghost use Rattle.fallowtime_commands.specs.Performing.{Drops, IsAnswerTo, Performs, reply_of};
 
 use crate::answer::{Answer, document, documents, flag, inserted, names, nothing, number};
 use crate::request::Request;

@@ -2,21 +2,20 @@
 
 ghost use Rattle.std.specs.Prelude.{◌≡◌, map, string_bytes};
 ghost use Rattle.bson_base.specs.Device.{CanRefuse};
-ghost use Rattle.bson_model.specs.View.{view};
 ghost use Rattle.bson_store.specs.Export.{bytes_of_each};
 ghost use Rattle.store_model.specs.Refusal.{refusal};
-ghost use Rattle.fallowtime_commands.specs.Printing.{IsIdText, Prints, PrintsBodies, PrintsBody, PrintsId, PrintsLine, PrintsName, PrintsNames, has_line_feed, kind_of_fault, mode_of};
+ghost use Rattle.fallowtime_commands.specs.Printing.{IsIdText, Prints, PrintsBodies, PrintsBody, PrintsLine, PrintsName, PrintsNames, key_of_fault, kind_of_fault, mode_of};
 
 use crate::answer::Answer;
 use crate::ids::id_of_body;
 use crate::refusal::Refusal;
 use bson_base::{Sink, write_all};
-use bson_json::write_value;
+use bson_store::ErrorKind;
 use bson_store::extjson::Mode;
-use bson_store::{Bson, ErrorKind};
 use cli_words::write_line;
 use fallowtime_texts::{PrintFault, text_of_body};
 use itoa::Buffer;
+use shown_text::shown;
 use std::alloc::Global;
 
 /// How documents are printed.
@@ -30,7 +29,8 @@ pub enum Form {
 
 /// Why the document that a store keeps as `body` has no text.
 fn unprinted(alloc: Global, body: &[u8], fault: PrintFault) -> Refusal
-    ensures { result.error ≡ refusal (kind_of_fault fault) }
+    ensures error { result.error ≡ refusal (kind_of_fault fault) }
+    ensures key { result.key ≡ key_of_fault fault }
 {
     match fault {
         PrintFault::ReservedKey(path) => Refusal {
@@ -99,16 +99,6 @@ fn print_bodies<O: Sink>(
     Ok(())
 }
 
-/// Writes an id as a line of Extended JSON.
-fn print_id<O: Sink>(alloc: Global, id: &Bson, mode: Mode, output: &mut O) -> Result<(), Refusal>
-    requires { CanRefuse (O.tally output.old) }
-    ensures { PrintsId mode (view id.now) (O.tally output.old) (O.tally output.new) result }
-{
-    let mut text = String::new(alloc);
-    write_value(alloc, id, mode, &mut text)?;
-    print_line(text.as_str(), output)
-}
-
 /// Writes a line.
 fn print_line<O: Sink>(text: &str, output: &mut O) -> Result<(), Refusal>
     requires { CanRefuse (O.tally output.old) }
@@ -120,22 +110,13 @@ fn print_line<O: Sink>(text: &str, output: &mut O) -> Result<(), Refusal>
     }
 }
 
-fn has_line_feed(name: &str) -> bool
-    ensures { result ≡ has_line_feed name.now }
-{
-    name.as_bytes().contains(&b'\n')
-}
-
-/// Writes a name on a line: as it is, or, if it has a line feed, as the JSON of a text.
+/// Writes a name on a line: as it is, or, if it has a control character or begins with a quote, as JSON.
 fn print_name<O: Sink>(alloc: Global, name: &str, output: &mut O) -> Result<(), Refusal>
     requires { CanRefuse (O.tally output.old) }
     ensures { PrintsName name.now (O.tally output.old) (O.tally output.new) result }
 {
-    if !has_line_feed(name) {
-        return print_line(name, output);
-    }
-    let name = Bson::String(String::from_str(alloc, name)?);
-    print_id(alloc, &name, Mode::Relaxed, output)
+    let name = shown(alloc, name)?;
+    print_line(name.as_str(), output)
 }
 
 /// Writes names, one a line.

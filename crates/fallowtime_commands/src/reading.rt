@@ -1,11 +1,11 @@
 //! What the words of a command ask for.
 
-ghost use Rattle.std.specs.Prelude.{◌≡◌, ◌∷◌, [], ℕ, List, MatchResult, Some, map, string_bytes};
+ghost use Rattle.std.specs.Prelude.{◌≡◌, ◌∷◌, [], ℕ, List, IfErr, MatchResult, Some, map, string_bytes};
 ghost use Rattle.bson_model.specs.View.{content, view};
 ghost use Rattle.fallowtime_texts.specs.declared.made.IdMaker.{IdMaker as Maker};
 ghost use Rattle.fallowtime_words.specs.declared.command.Command.TheVariants.{Collections, Insert, Set, Unset};
 ghost use Rattle.store_filter.specs.Filters.{filter_of};
-ghost use Rattle.fallowtime_commands.specs.Reading.{IsDocumentText, IsFilterOf, IsIdText, IsQueryText, IsRequest, IsRequestOf, IsUnread, IsValueText, StopsDocument, StopsId, StopsQuery, StopsValue, StopsWords, WithNone, WithOne, WithOneAtMost};
+ghost use Rattle.fallowtime_commands.specs.Reading.{IsDocumentText, IsFilterOf, IsIdText, IsQueryText, IsRequest, IsRequestOf, IsUnread, IsValueText, KeepsMaker, StopsDocument, StopsId, StopsQuery, StopsValue, StopsWords, WithNone, WithOne, WithOneAtMost};
 
 use crate::request::Request;
 use crate::unread::Unread;
@@ -87,8 +87,9 @@ fn insertion_of(
     maker: &mut IdMaker,
     scratch: &mut Scratch,
 ) -> Result<Request<'static>, Stop>
-    ensures { MatchResult result (IsRequest maker.old Insert (text.now ∷ []))
+    ensures request { MatchResult result (IsRequest maker.old maker.new Insert (text.now ∷ []))
         (StopsDocument text.now) }
+    ensures maker { IfErr result (KeepsMaker maker.old maker.new) }
 {
     let document = document_of(alloc, text, scratch)?;
     let document = with_id(alloc, document, maker)?;
@@ -105,7 +106,7 @@ fn setting_of<'w>(
     scratch: &mut Scratch,
 ) -> Result<Request<'w>, Stop>
     ensures { (maker : Maker) → MatchResult result
-        (IsRequest maker Set (map string_bytes places.now))
+        (IsRequest maker maker Set (map string_bytes places.now))
         (IsUnread Set (map string_bytes places.now)) }
 {
     match places {
@@ -125,7 +126,7 @@ fn unsetting_of<'w>(
     scratch: &mut Scratch,
 ) -> Result<Request<'w>, Stop>
     ensures { (maker : Maker) → MatchResult result
-        (IsRequest maker Unset (map string_bytes places.now))
+        (IsRequest maker maker Unset (map string_bytes places.now))
         (IsUnread Unset (map string_bytes places.now)) }
 {
     match places {
@@ -175,8 +176,10 @@ fn insertion_in(
     maker: &mut IdMaker,
     scratch: &mut Scratch,
 ) -> Result<Request<'static>, Stop>
-    ensures { MatchResult result (IsRequest maker.old Insert (map string_bytes places.now))
+    ensures request { MatchResult result
+        (IsRequest maker.old maker.new Insert (map string_bytes places.now))
         (WithOne StopsDocument (map string_bytes places.now)) }
+    ensures maker { IfErr result (KeepsMaker maker.old maker.new) }
 {
     match places {
         [text] => insertion_of(alloc, text.as_str(), maker, scratch),
@@ -187,7 +190,7 @@ fn insertion_in(
 /// The request that has no place.
 fn collections_in(places: &[String]) -> Result<Request<'static>, Stop>
     ensures { (maker : Maker) → MatchResult result
-        (IsRequest maker Collections (map string_bytes places.now))
+        (IsRequest maker maker Collections (map string_bytes places.now))
         (WithNone (map string_bytes places.now)) }
 {
     match places {
@@ -208,7 +211,9 @@ pub fn request_of<'w>(
     maker: &mut IdMaker,
     scratch: &mut Scratch,
 ) -> Result<Request<'w>, Stop>
-    ensures { MatchResult result (IsRequestOf maker.old words.now) (StopsWords words.now) }
+    ensures request { MatchResult result (IsRequestOf maker.old maker.new words.now)
+        (StopsWords words.now) }
+    ensures maker { IfErr result (KeepsMaker maker.old maker.new) }
 {
     let places = words.places;
     match words.command {

@@ -3,10 +3,11 @@
 ghost use Rattle.std.specs.Prelude.{◌≡◌, ◌++◌, None, OnOk, IfOk, codes, string_bytes};
 ghost use Rattle.store_model.specs.Refusal.{refusal};
 ghost use Rattle.store_model.specs.declared.error.ErrorKind.TheVariants.{Memory};
-ghost use Rattle.fallowtime_commands.specs.Reports.{named_text, place_text, refusal_text};
+ghost use Rattle.fallowtime_commands.specs.Reports.{key_text, named_text, place_text, refusal_text};
 
 use bson_store::{ErrorKind, StoreError};
 use itoa::Buffer;
+use shown_text::shown;
 use std::alloc::{AllocError, Global};
 
 /// A refusal, and what helps to find its cause.
@@ -77,6 +78,19 @@ fn push_named(line: &mut String, word: &str, text: &Option<String>) -> Result<()
     }
 }
 
+/// Appends the path to a key to a line, as a line may show it, if there is one.
+fn push_key(alloc: Global, line: &mut String, key: &Option<String>) -> Result<(), AllocError>
+    ensures { OnOk result (string_bytes line.new ≡ string_bytes line.old ++ key_text key.now) }
+{
+    match key {
+        Some(path) => {
+            let path = shown(alloc, path.as_str())?;
+            push_number(line, " key ", path.as_str())
+        }
+        None => Ok(()),
+    }
+}
+
 /// Appends the place of what is refused to a line: the line of the input, the number of the document, or the places of
 /// rows.
 fn push_place(line: &mut String, refusal: &Refusal) -> Result<(), AllocError>
@@ -112,7 +126,7 @@ impl Refusal {
         line.push_str(self.error.kind.name())?;
         push_place(&mut line, self)?;
         push_named(&mut line, " _id ", &self.id)?;
-        push_named(&mut line, " key ", &self.key)?;
+        push_key(alloc, &mut line, &self.key)?;
         line.push_str("\n")?;
         Ok(line)
     }

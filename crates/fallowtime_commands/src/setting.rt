@@ -10,7 +10,8 @@ ghost use Rattle.store_model.specs.declared.error.ErrorKind.TheVariants.{Memory}
 ghost use Rattle.store_table.specs.Moves.{WasOpen};
 ghost use Rattle.bson_store.specs.Calls.{store_state, Relates};
 ghost use Rattle.bson_store.specs.Refusals.{as_done, reply_by};
-ghost use Rattle.fallowtime_commands.specs.Setting.{LeavesSet, Sets};
+ghost use Rattle.fallowtime_commands.specs.Left.{LeavesSet};
+ghost use Rattle.fallowtime_commands.specs.Setting.{Sets};
 
 use crate::storing::replace;
 use bson_bytes::put::has_no_zero;

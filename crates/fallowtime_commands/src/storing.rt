@@ -10,7 +10,8 @@ ghost use Rattle.store_model.specs.declared.error.ErrorKind.TheVariants.{Memory,
 ghost use Rattle.store_table.specs.Moves.{WasOpen};
 ghost use Rattle.bson_store.specs.Calls.{store_state, Relates};
 ghost use Rattle.bson_store.specs.Refusals.{as_done, reply_by};
-ghost use Rattle.fallowtime_commands.specs.Storing.{IsFit, IsUnasked, IsUnkept, LeavesPut, LeavesStored, Puts, Stores};
+ghost use Rattle.fallowtime_commands.specs.Left.{LeavesPut, LeavesStored};
+ghost use Rattle.fallowtime_commands.specs.Storing.{IsFit, IsUnasked, IsUnkept, Puts, Stores};
 
 use bson_frame::LEVEL_LIMIT;
 use bson_meaning::{depth_of_document, is_plain_document};

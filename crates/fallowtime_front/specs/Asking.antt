@@ -6,7 +6,7 @@ use Rattle.bson_base.specs.declared.whole.ReadAllError.{ReadAllError}
 use Rattle.bson_base.specs.declared.whole.ReadAllError.TheVariants as reading
 use Rattle.bson_model.specs.declared.extjson.ser.Mode.TheVariants.{Canonical, Relaxed}
 use Rattle.cli_convert.specs.declared.stop.Stop.{Stop as LineStop}
-use Rattle.fallowtime_commands.specs.Reading.{IsRequestOf, StopsWords}
+use Rattle.fallowtime_commands.specs.Reading.{IsRequestOf, KeepsMaker, StopsWords}
 use Rattle.fallowtime_commands.specs.Reports.{plain}
 use Rattle.fallowtime_commands.specs.declared.printing.Form.{Form}
 use Rattle.fallowtime_commands.specs.declared.printing.Form.TheVariants.{Lines, Bytes}
@@ -60,16 +60,16 @@ AsksForLines old new before after (Err e) = (line : LineStop) × ReadsLines old 
 abbrev pub AsksToImport : Wording → Feed → Feed → IdMaker → IdMaker → Result Asked Ended → Type 0
 AsksToImport w old new before after result =
     When (IsName w.coll.now)
-    (When (w.options.lines ≡ true) (AsksForLines old new before after result) (AsksForStream old new result))
-    ((result ≡ Err (refused BadName)) × (new ≡ old))
+    (When (w.options.lines ≡ true) (AsksForLines old new before after result) (AsksForStream old new result × (after ≡ before)))
+    ((result ≡ Err (refused BadName)) × (new ≡ old) × (after ≡ before))
 
--- the request that the words stand for, by the ids of the maker
-abbrev pub AsksByWords : Wording → IdMaker → Result Asked Ended → Type 0
-AsksByWords w maker (Ok a) = (r : Request) × (a.request ≡ Some r) × (a.lines.items ≡ []) × IsRequestOf maker w r
-AsksByWords w maker (Err e) = (s : Stop) × StopsWords w s × (e ≡ ended_of_stop s)
+-- the request that the words stand for, by the ids of the maker, which is the one behind those that were taken
+abbrev pub AsksByWords : Wording → IdMaker → IdMaker → Result Asked Ended → Type 0
+AsksByWords w before after (Ok a) = (r : Request) × (a.request ≡ Some r) × (a.lines.items ≡ []) × IsRequestOf before after w r
+AsksByWords w before after (Err e) = (s : Stop) × StopsWords w s × (e ≡ ended_of_stop s) × KeepsMaker before after s
 
 -- Only `import` reads the input, and only `export` asks for no request.
 abbrev pub Asks : Command → Wording → Feed → Feed → IdMaker → IdMaker → Result Asked Ended → Type 0
 Asks command.Import w old new before after result = AsksToImport w old new before after result
-Asks command.Export w old new before after result = ((a : Asked) × (result ≡ Ok a) × (a.request ≡ None) × (a.lines.items ≡ [])) × (new ≡ old)
-Asks _ w old new before after result = AsksByWords w before result × (new ≡ old)
+Asks command.Export w old new before after result = ((a : Asked) × (result ≡ Ok a) × (a.request ≡ None) × (a.lines.items ≡ [])) × (new ≡ old) × (after ≡ before)
+Asks _ w old new before after result = AsksByWords w before after result × (new ≡ old)

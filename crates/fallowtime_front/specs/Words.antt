@@ -1,5 +1,6 @@
 -- The words that aren't in the program's table of commands.
 use Rattle.std.specs.Prelude.{◌≡◌, ◌<◌, ◌^◌, ℕ, List, [], ◌∷◌, codes}
+use Rattle.cli_words.specs.Words.{IsFile}
 use Rattle.std.specs.Str.Parse.{IsNumeral, digits_value, without_leading_plus}
 
 -- the words begin with `--wait` and a number of seconds
@@ -9,4 +10,4 @@ AsksToWait words seconds behind = (text : List ℕ) × (words ≡ codes "--wait"
 
 -- the words are `FILE backup PATH`
 abbrev pub AsksForCopy : List (List ℕ) → List ℕ → List ℕ → Type 0
-AsksForCopy words file path = words ≡ file ∷ codes "backup" ∷ path ∷ []
+AsksForCopy words file path = IsFile file × (words ≡ file ∷ codes "backup" ∷ path ∷ [])

@@ -86,6 +86,13 @@ impl From<Stop> for Ended {
 }
 
 impl From<io::Error> for Ended {
+    ghost use Rattle.std.specs.IoError.{error_kind};
+    ghost use Rattle.std.specs.Prelude.{◌≡◌};
+    ghost use Rattle.cli_files.specs.Fault.{fault_of_io};
+    ghost use Rattle.fallowtime_front.specs.declared.ending.Ended.TheVariants.{File};
+
+    ghost from_gives = { λ e f. f ≡ File (fault_of_io (error_kind e)) };
+
     fn from(error: io::Error) -> Ended {
         Ended::File(FileError::from(error))
     }

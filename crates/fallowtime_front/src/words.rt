@@ -5,6 +5,7 @@ ghost use Rattle.std.specs.Path.{path_file_name};
 ghost use Rattle.fallowtime_front.specs.Words.{AsksForCopy, AsksToWait};
 ghost use Rattle.fallowtime_front.specs.declared.words.Program.TheVariants.{Fallowtime, Json};
 
+use cli_words::is_file;
 use std::path::Path;
 use std::{env, io};
 
@@ -70,7 +71,8 @@ fn only_word(words: &[String]) -> Option<&str>
     }
 }
 
-/// The file and the path of its back-up, if the words are `FILE backup PATH`; none if they don't ask for one.
+/// The file and the path of its back-up, if the words are `FILE backup PATH`; none if they don't ask for one, or if FILE
+/// begins with a hyphen.
 pub fn copy_of(words: &[String]) -> Option<(&str, &str)>
     ensures { MatchOption result
         ((file path : List ℕ) → AsksForCopy (map string_bytes words.now) file path → ⊥)
@@ -82,5 +84,8 @@ pub fn copy_of(words: &[String]) -> Option<(&str, &str)>
         return None;
     }
     let path = only_word(behind)?;
+    if !is_file(file.as_str()) {
+        return None;
+    }
     Some((file.as_str(), path))
 }

@@ -1,6 +1,6 @@
 -- What comes of a line.
-use Rattle.std.proofs.Common.{◌≡◌, ◌⊎◌, ◌<◌, ◌≤◌, ℕ, List, length, inl, inr, Option, None, Some, Result, Ok, Err, IfOk, IsUtf8, codes, Vec, refl, ap, ◌∙◌, subst, arith}
-use Rattle.std.proofs.lemmas.Bool.{cases_lt}
+use Rattle.std.proofs.Common.{◌≡◌, ◌<◌, ◌≤◌, ℕ, List, length, inl, inr, Option, None, Some, Result, Ok, Err, IfOk, IsUtf8, codes, Vec, refl, subst}
+use Rattle.std.specs.Str.{IsValidUpTo}
 use Rattle.std.specs.declared.alloc.AllocError.{AllocError}
 use Rattle.std.specs.declared.alloc.Global.{Global}
 use Rattle.json.specs.Json.{Json, document as tree_of}
@@ -13,7 +13,8 @@ use Rattle.cli_lines.specs.Line.{Keeps, KeepsSo}
 use Rattle.cli_lines.specs.declared.line.Kept.TheVariants.{TooLong, Whole}
 use Rattle.cli_lines.specs.declared.line.Line.{Line}
 use Rattle.cli_lines.specs.declared.line.TheConstants.{MOST}
-use Rattle.fallowtime_commands.specs.Performing.{IsAnswerTo, LeavesRequest, Performs, reply_of}
+use Rattle.fallowtime_commands.specs.Left.{LeavesRequest}
+use Rattle.fallowtime_commands.specs.Performing.{IsAnswerTo, Performs, reply_of}
 use Rattle.fallowtime_commands.specs.declared.answer.Answer.{Answer}
 use Rattle.fallowtime_texts.specs.declared.made.IdMaker.{IdMaker}
 use Rattle.fallowtime_session.specs.Answers.{Shows, line_of, memory, words}
@@ -22,7 +23,7 @@ use Rattle.fallowtime_session.specs.Objects.{Makes, MakesLine}
 use Rattle.fallowtime_session.specs.Places.{byte_place}
 use Rattle.fallowtime_session.specs.Questions.{Asked, asked_of, command_in, id_of}
 use Rattle.fallowtime_session.specs.Requests.{Asks, AsksNothing}
-use Rattle.fallowtime_session.specs.Turns.{AnswersBytes, AnswersText, AnswersTree, Carries, HasNoTree, Replies, RunsOut, deed_of, made_line}
+use Rattle.fallowtime_session.specs.Turns.{Carries, Comes, HasNoTree, HasTree, IsOfBytes, IsOfText, IsOfTree, Outcome, empty, too_long, no_tree, no_question, done, no_memory, Writes, deed_by, made_line}
 use Rattle.fallowtime_session.specs.declared.questions.Question.{Question}
 
 abbrev pub Made : Type 0
@@ -50,78 +51,96 @@ module _ (s t : State) where
   carried id q r made moves stays crash shape shows = (r, record { moves = moves; stays = stays; crash = crash }, shape, shows)
 
   -- and so was what asked for it
-  pub replied : (m n : IdMaker) (id : Option Json) (reading : Reading) (q : Question) (made : Made) → Asks m n reading q.collection.now q.request q.layout → Carries id q made s t → DoesOne (Replies m n id reading made) s t
-  replied m n id reading q made asks (r, did, shape, shows) = (Some (deed_of q r), by made shows, did)
+  pub replied : (m n : IdMaker) (id : Option Json) (reading : Reading) (q : Question) (made : Made) → Asks m n reading q.collection.now q.request q.layout → Carries id q made s t → DoesOne (Comes (IsOfTree m n id reading) (made_line id made)) s t
+  replied m n id reading q made asks (r, did, shape, shows) = (Some (deed_by q r), (done id q.layout (deed_by q r), (refl, asks, shape), by made shows, refl), did)
     where
-      by : (made : Made) → Makes (Shows q.layout id r) made → Replies m n id reading made (Some (deed_of q r))
-      by (Ok line) shows = inr (q.layout, r, (q.collection.now, q.request, asks, refl, shape), shows)
-      by (Err e) shows = inr (q.layout, r, (q.collection.now, q.request, asks, refl, shape))
+      by : (made : Made) → Makes (Shows q.layout id r) made → Writes (done id q.layout (deed_by q r)) (made_line id made)
+      by (Ok line) shows = inl shows
+      by (Err e) shows = inr refl
 
   -- the answer to the tree of a line
-  pub answered : (m n : IdMaker) (id : Option Json) (command j : Json) (made : Made) (line : Vec ℕ Global) → id ≡ id_of j → command ≡ command_in j → made ≡ Ok line → DoesOne (Replies m n id (asked_of command) made) s t → DoesOne (AnswersTree m n j line.items) s t
+  pub answered : (m n : IdMaker) (id : Option Json) (command j : Json) (made line : List ℕ) → id ≡ id_of j → command ≡ command_in j → made ≡ line → DoesOne (Comes (IsOfTree m n id (asked_of command)) made) s t
+      → DoesOne (Comes (IsOfTree m n (id_of j) (asked_of (command_in j))) line) s t
   answered m n id command j made line same does is h =
-      so (Replies m n id (asked_of command) (Ok line)) (AnswersTree m n j line.items)
-      (λ deed h. inl (subst (λ i. Replies m n i (asked_of (command_in j)) (Ok line) deed) same (subst (λ c. Replies m n id (asked_of c) (Ok line) deed) does h)))
-      (subst (λ r. DoesOne (Replies m n id (asked_of command) r) s t) is h)
+      subst (λ i. DoesOne (Comes (IsOfTree m n i (asked_of (command_in j))) line) s t) same
+      (subst (λ c. DoesOne (Comes (IsOfTree m n id (asked_of c)) line) s t) does (subst (λ l. DoesOne (Comes (IsOfTree m n id (asked_of command)) l) s t) is h))
 
-  -- there was no memory for it
-  pub ran_out : (m n : IdMaker) (id : Option Json) (command j : Json) (made : Made) (e : AllocError) (line : List ℕ) → id ≡ id_of j → command ≡ command_in j → made ≡ Err e → line ≡ line_of id memory → DoesOne (Replies m n id (asked_of command) made) s t
-      → DoesOne (AnswersTree m n j line) s t
-  ran_out m n id command j made e line same does is spare h =
-      so (Replies m n id (asked_of command) (Err e)) (AnswersTree m n j line)
-      (λ deed h. inr (inl (subst (λ c. RunsOut m n (asked_of c) deed) does h, spare ∙ ap (λ i. line_of i memory) same)))
-      (subst (λ r. DoesOne (Replies m n id (asked_of command) r) s t) is h)
+  -- and to its text
+  pub of_text : (m n : IdMaker) (text line : List ℕ) (j : Json) → HasTree text j → DoesOne (Comes (IsOfTree m n (id_of j) (asked_of (command_in j))) line) s t → DoesOne (Comes (IsOfText m n text) line) s t
+  of_text m n text line j tree h =
+      so (Comes (IsOfTree m n (id_of j) (asked_of (command_in j))) line) (Comes (IsOfText m n text) line) (λ deed (o, is, writes, e). (o, by o is, writes, e)) h
+    where
+      by : (o : Outcome) → IsOfTree m n (id_of j) (asked_of (command_in j)) o → IsOfText m n text o
+      by empty is = absurd is
+      by too_long is = absurd is
+      by (no_tree place) is = absurd is
+      by (no_question id place) is = (j, tree, is)
+      by (done id l d) is = (j, tree, is)
+      by (no_memory None) is = is.1
+      by (no_memory (Some i)) is = (j, tree, is)
 
 -- it is no question, and nothing was done
-pub no_question : (s : State) (m : IdMaker) (id : Option Json) (reading : Reading) (place : List ℕ) (made : Made) → AsksNothing m reading place → MakesLine id (words place) made → DoesOne (Replies m m id reading made) s s
-no_question s m id reading place made asks line = idle s (Replies m m id reading made) (by made line)
+pub unasked : (s : State) (m : IdMaker) (id : Option Json) (reading : Reading) (place : List ℕ) (made : Made) → AsksNothing m reading place → MakesLine id (words place) made → DoesOne (Comes (IsOfTree m m id reading) (made_line id made)) s s
+unasked s m id reading place made asks line = idle s (Comes (IsOfTree m m id reading) (made_line id made)) (by made line)
   where
-    by : (made : Made) → MakesLine id (words place) made → Replies m m id reading made None
-    by (Ok l) is = inl (place, asks, is, (refl, refl))
-    by (Err e) is = inl (refl, refl)
+    by : (made : Made) → MakesLine id (words place) made → Comes (IsOfTree m m id reading) (made_line id made) None
+    by (Ok l) is = (no_question id place, (refl, asks, refl), is, refl)
+    by (Err e) is = (no_memory id, (inr refl, refl), refl, refl)
 
-pub nothing_done : (s : State) (m : IdMaker) (id : Option Json) (reading : Reading) (e : AllocError) → DoesOne (Replies m m id reading (Err e)) s s
-nothing_done s m id reading e = idle s (Replies m m id reading (Err e)) (inl (refl, refl))
+-- memory ran out first
+pub nothing_done : (s : State) (m : IdMaker) (id : Option Json) (reading : Reading) (e : AllocError) → DoesOne (Comes (IsOfTree m m id reading) (made_line id (Err e))) s s
+nothing_done s m id reading e = idle s (Comes (IsOfTree m m id reading) (line_of id memory)) (no_memory id, (inr refl, refl), refl, refl)
+
+pub nothing_read : (s : State) (m : IdMaker) (id : Option Json) (reading : Reading) → DoesOne (Comes (IsOfTree m m id reading) (line_of None memory)) s s
+nothing_read s m id reading = idle s (Comes (IsOfTree m m id reading) (line_of None memory)) (no_memory None, (inl refl, refl), refl, refl)
+
+pub no_room : (s : State) (m : IdMaker) (text : List ℕ) → DoesOne (Comes (IsOfText m m text) (line_of None memory)) s s
+no_room s m text = idle s (Comes (IsOfText m m text) (line_of None memory)) (no_memory None, refl, refl, refl)
 
 -- a line that has no tree
-pub no_tree : (s : State) (m : IdMaker) (text place : List ℕ) (made : Made) → HasNoTree text place → MakesLine None (words place) made → DoesOne (AnswersText m m text (made_line made)) s s
-no_tree s m text place made none line = idle s (AnswersText m m text (made_line made)) (by made line)
+pub treeless : (s : State) (m : IdMaker) (text place : List ℕ) (made : Made) → HasNoTree text place → MakesLine None (words place) made → DoesOne (Comes (IsOfText m m text) (made_line None made)) s s
+treeless s m text place made none line = idle s (Comes (IsOfText m m text) (made_line None made)) (by made line)
   where
-    by : (made : Made) → MakesLine None (words place) made → AnswersText m m text (made_line made) None
-    by (Ok l) is = inr (inl (place, none, is, (refl, refl)))
-    by (Err e) is = inr (inr (refl, (refl, refl)))
+    by : (made : Made) → MakesLine None (words place) made → Comes (IsOfText m m text) (made_line None made) None
+    by (Ok l) is = (no_tree place, (none, refl), is, refl)
+    by (Err e) is = (no_memory None, refl, refl, refl)
 
 -- as it is no UTF-8
-pub no_text : (s : State) (m : IdMaker) (text : List ℕ) → (IsUtf8 text → ⊥) → (i : ℕ) (made : Made) → MakesLine None (words (byte_place i)) made → DoesOne (AnswersText m m text (made_line made)) s s
-no_text s m text broken i made line = no_tree s m text (byte_place i) made (inl ((λ u. absurd (broken u)), (i, refl))) line
+pub no_text : (s : State) (m : IdMaker) (text : List ℕ) (i : ℕ) → IsValidUpTo text i → (made : Made) → MakesLine None (words (byte_place i)) made → DoesOne (Comes (IsOfText m m text) (made_line None made)) s s
+no_text s m text i broken made line = treeless s m text (byte_place i) made (inl (i, broken, refl)) line
 
 -- or no JSON
-pub no_json : (s : State) (m : IdMaker) (text : List ℕ) (made : Made) → (IsUtf8 text → tree_of text ≡ None) → Makes (λ line. (i : ℕ) × (line ≡ line_of None (words (byte_place i)))) made → DoesOne (AnswersText m m text (made_line made)) s s
-no_json s m text made none line = idle s (AnswersText m m text (made_line made)) (by made line)
+pub no_json : (s : State) (m : IdMaker) (text : List ℕ) (made : Made) → IsUtf8 text → tree_of text ≡ None → Makes (λ line. (i : ℕ) × (line ≡ line_of None (words (byte_place i)))) made → DoesOne (Comes (IsOfText m m text) (made_line None made)) s s
+no_json s m text made is none line = idle s (Comes (IsOfText m m text) (made_line None made)) (by made line)
   where
-    by : (made : Made) → Makes (λ line. (i : ℕ) × (line ≡ line_of None (words (byte_place i)))) made → AnswersText m m text (made_line made) None
-    by (Ok l) (i, is) = inr (inl (byte_place i, inl (none, (i, refl)), is, (refl, refl)))
-    by (Err e) is = inr (inr (refl, (refl, refl)))
+    by : (made : Made) → Makes (λ line. (i : ℕ) × (line ≡ line_of None (words (byte_place i)))) made → Comes (IsOfText m m text) (made_line None made) None
+    by (Ok l) (i, e) = (no_tree (byte_place i), (inr (inl (is, none, (i, refl))), refl), e, refl)
+    by (Err e) h = (no_memory None, refl, refl, refl)
 
 -- what comes of a line whose bytes were kept
-pub kept_whole : (s t : State) (m n : IdMaker) (text line : List ℕ) → length text ≤ MOST → DoesOne (AnswersText m n text line) s t → DoesOne (AnswersBytes m n text line) s t
-kept_whole s t m n text line short h = so s t (AnswersText m n text line) (AnswersBytes m n text line) (λ deed h. inr ((λ long. omega (arith, short, long)), h)) h
+pub kept_whole : (s t : State) (m n : IdMaker) (text line : List ℕ) → length text ≤ MOST → DoesOne (Comes (IsOfText m n text) line) s t → DoesOne (Comes (IsOfBytes m n text) line) s t
+kept_whole s t m n text line short h = so s t (Comes (IsOfText m n text) line) (Comes (IsOfBytes m n text) line) (λ deed (o, is, writes, e). (o, by o is, writes, e)) h
+  where
+    by : (o : Outcome) → IsOfText m n text o → IsOfBytes m n text o
+    by empty is = (short, is)
+    by too_long is = absurd is.2
+    by (no_tree place) is = (short, is)
+    by (no_question id place) is = (short, is)
+    by (done id l d) is = (short, is)
+    by (no_memory None) is = is
+    by (no_memory (Some i)) is = (short, is)
 
 -- and of one that is too long
-pub too_long : (s : State) (m : IdMaker) (text : List ℕ) → MOST < length text → (made : Made) → MakesLine None (words (codes "64 MiB")) made → DoesOne (AnswersBytes m m text (made_line made)) s s
-too_long s m text long made line = idle s (AnswersBytes m m text (made_line made)) (inl (long, (by made line, (refl, refl))))
+pub overlong : (s : State) (m : IdMaker) (text : List ℕ) → MOST < length text → (made : Made) → MakesLine None (words (codes "64 MiB")) made → DoesOne (Comes (IsOfBytes m m text) (made_line None made)) s s
+overlong s m text long made line = idle s (Comes (IsOfBytes m m text) (made_line None made)) (by made line)
   where
-    by : (made : Made) → MakesLine None (words (codes "64 MiB")) made → (made_line made ≡ line_of None (words (codes "64 MiB"))) ⊎ (made_line made ≡ line_of None memory)
-    by (Ok l) is = inl is
-    by (Err e) is = inr refl
+    by : (made : Made) → MakesLine None (words (codes "64 MiB")) made → Comes (IsOfBytes m m text) (made_line None made) None
+    by (Ok l) is = (too_long, (long, refl), is, refl)
+    by (Err e) is = (no_memory None, refl, refl, refl)
 
 -- and of one for which there was no memory
-pub no_memory : (s : State) (m : IdMaker) (text : List ℕ) → DoesOne (AnswersBytes m m text (line_of None memory)) s s
-no_memory s m text = idle s (AnswersBytes m m text (line_of None memory)) (by (cases_lt MOST (length text)))
-  where
-    by : (MOST < length text) ⊎ (length text ≤ MOST) → AnswersBytes m m text (line_of None memory) None
-    by (inl long) = inl (long, (inr refl, (refl, refl)))
-    by (inr short) = inr ((λ long. omega (arith, short, long)), inr (inr (refl, (refl, refl))))
+pub unkept : (s : State) (m : IdMaker) (text : List ℕ) → DoesOne (Comes (IsOfBytes m m text) (line_of None memory)) s s
+unkept s m text = idle s (Comes (IsOfBytes m m text) (line_of None memory)) (no_memory None, refl, refl, refl)
 
 -- ---- what is kept of a line
 

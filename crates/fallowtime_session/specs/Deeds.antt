@@ -8,8 +8,8 @@ use Rattle.store_table.specs.Rows.{TableRow}
 use Rattle.store_model.specs.Table.{DocumentTable}
 use Rattle.store_model.specs.declared.error.StoreError.{StoreError}
 use Rattle.bson_store.specs.Shown.{Represents}
-use Rattle.fallowtime_commands.specs.Left.{LeftByRequest}
-use Rattle.fallowtime_commands.specs.Performing.{LeavesRequest, Performs, reply_of}
+use Rattle.fallowtime_commands.specs.Left.{LeavesRequest, LeftByRequest}
+use Rattle.fallowtime_commands.specs.Performing.{Performs, reply_of}
 use Rattle.fallowtime_commands.specs.declared.answer.Answer.{Answer}
 use Rattle.fallowtime_commands.specs.declared.request.Request.{Request}
 

@@ -11,7 +11,7 @@ ghost use Rattle.fallowtime_session.specs.Deeds.{DoesOne};
 ghost use Rattle.fallowtime_session.specs.Objects.{IsWritable, Makes, id_tree};
 ghost use Rattle.fallowtime_session.specs.Places.{byte_place};
 ghost use Rattle.fallowtime_session.specs.Questions.{asked_of, command_in, id_and_do, id_of};
-ghost use Rattle.fallowtime_session.specs.Turns.{AnswersBytes, AnswersText, AnswersTree, Carries, Replies, made_line};
+ghost use Rattle.fallowtime_session.specs.Turns.{Carries, Comes, IsOfBytes, IsOfText, IsOfTree, made_line};
 
 use crate::answers::{answer_line, memory_line, words_line};
 use crate::places::{Fault, Place};
@@ -111,9 +111,9 @@ fn answer_command<S: Alter + Drop>(
     command: &Value<'_>,
 ) -> Result<Vec<u8>, AllocError>
     requires { IsWritable id }
-    ensures { DoesOne (Replies maker.old maker.new (id_tree id.entry)
-        (asked_of (data_of command.now)) result) (store_state S.Store store.old)
-        (store_state S.Store store.new) }
+    ensures { DoesOne (Comes (IsOfTree maker.old maker.new (id_tree id.entry)
+        (asked_of (data_of command.now))) (made_line (id_tree id.entry) result))
+        (store_state S.Store store.old) (store_state S.Store store.new) }
 {
     let mut trial = maker.copy();
     match question_of(alloc, command, &mut trial) {
@@ -135,7 +135,8 @@ fn answer_tree<S: Alter + Drop>(
     tree: &Value<'_>,
 ) -> Result<Vec<u8>, AllocError>
     requires { HasNumbers (data_of tree.now) }
-    ensures { DoesOne (AnswersTree maker.old maker.new (data_of tree.now) (made_line result))
+    ensures { DoesOne (Comes (IsOfTree maker.old maker.new (id_of (data_of tree.now))
+        (asked_of (command_in (data_of tree.now)))) (made_line None result))
         (store_state S.Store store.old) (store_state S.Store store.new) }
 {
     let Parts { id, command } = parts_of(tree);
@@ -169,7 +170,7 @@ fn answer_text<S: Alter + Drop>(
     scratch: &mut Scratch,
     text: &str,
 ) -> Result<Vec<u8>, AllocError>
-    ensures { DoesOne (AnswersText maker.old maker.new text.now (made_line result))
+    ensures { DoesOne (Comes (IsOfText maker.old maker.new text.now) (made_line None result))
         (store_state S.Store store.old) (store_state S.Store store.new) }
 {
     match Value::parse_strict(alloc, text, scratch) {
@@ -189,7 +190,7 @@ fn answer_bytes<S: Alter + Drop>(
     scratch: &mut Scratch,
     bytes: &[u8],
 ) -> Result<Vec<u8>, AllocError>
-    ensures { DoesOne (AnswersText maker.old maker.new bytes.now (made_line result))
+    ensures { DoesOne (Comes (IsOfText maker.old maker.new bytes.now) (made_line None result))
         (store_state S.Store store.old) (store_state S.Store store.new) }
 {
     match str::from_utf8(bytes) {
@@ -207,7 +208,7 @@ pub(crate) fn answer_of<S: Alter + Drop>(
     line: &Line,
 ) -> Result<Vec<u8>, AllocError>
     ensures { (text : List ℕ) → Keeps line.now text
-        → DoesOne (AnswersBytes maker.old maker.new text (made_line result))
+        → DoesOne (Comes (IsOfBytes maker.old maker.new text) (made_line None result))
         (store_state S.Store store.old) (store_state S.Store store.new) }
 {
     match line.kept {

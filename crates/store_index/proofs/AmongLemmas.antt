@@ -1,5 +1,5 @@
 -- Places that are put in and taken out.
-use Rattle.std.proofs.Common.{◌≡◌, ◌≢◌, ◌<◌, ◌≤◌, ◌<ℤ◌, ◌-◌, ℕ, ℤ, List, [], ◌∷◌, ◌++◌, ◌||◌, Bool, true, false, length, get_or, slice_index_or, is_eq, ◌⊎◌, inl, inr, take, ◌+◌, refl, sym, ap, subst, ◌∙◌, arith}
+use Rattle.std.proofs.Common.{◌≡◌, ◌≢◌, ◌<◌, ◌≤◌, ◌<ℤ◌, ◌-◌, ℕ, ℤ, List, [], ◌∷◌, ◌++◌, ◌||◌, Bool, true, false, if◌then◌else◌, length, get_or, slice_index_or, is_eq, ◌⊎◌, inl, inr, take, ◌+◌, refl, sym, ap, subst, ◌∙◌, arith}
 use Rattle.std.specs.List.{AllByRecursion, insert, remove}
 use Rattle.std.specs.Ordering.{int_eq, int_cmp}
 use Rattle.std.specs.declared.cmp.Ordering.{Ordering}
@@ -56,6 +56,28 @@ pub taken_kept : (p q : ℤ) (xs : List ℤ) (i : ℕ) → i < length xs → ((d
 taken_kept p q xs i lt at n h =
     let x = slice_index_or xs i p in
     rest_of (int_eq x q) (is_among q (remove xs i)) (other x p q (at p) n) (sym (list_any-IsPermutation (λ z. int_eq z q) xs (x ∷ remove xs i) (IsPermutation-remove xs i x lt (get_or_default xs i p x lt))) ∙ h)
+
+-- nothing but that one is put in
+pub put_only : (p q : ℤ) (xs : List ℤ) (i : ℕ) → q ≢ p → is_among q (insert xs i p) ≡ true → is_among q xs ≡ true
+put_only p q xs i n h =
+    rest_of (int_eq p q) (is_among q xs) (by (int_eq p q) refl) (list_any-IsPermutation (λ z. int_eq z q) (p ∷ xs) (insert xs i p) (IsPermutation-insert xs i p) ∙ h)
+  where
+    by : (b : Bool) → int_eq p q ≡ b → b ≡ false
+    by true e = absurd (n (sym ((Decides-int_eq p q).0 e)))
+    by false e = refl
+
+-- a refusal puts in nothing
+pub put_or_not_only : (p q : ℤ) (xs ys : List ℤ) (i : ℕ) (b : Bool) → ys ≡ (if b then insert xs i p else xs) → q ≢ p → is_among q ys ≡ true → is_among q xs ≡ true
+put_or_not_only p q xs ys i true is n h = put_only p q xs i n (sym (ap (is_among q) is) ∙ h)
+put_or_not_only p q xs ys i false is n h = sym (ap (is_among q) is) ∙ h
+
+pub taken_only : (p q : ℤ) (xs : List ℤ) (i : ℕ) → i < length xs → is_among q (remove xs i) ≡ true → is_among q xs ≡ true
+taken_only p q xs i lt h =
+    let x = slice_index_or xs i p in
+    list_any-IsPermutation (λ z. int_eq z q) xs (x ∷ remove xs i) (IsPermutation-remove xs i x lt (get_or_default xs i p x lt)) ∙ or_right (int_eq x q) (is_among q (remove xs i)) h
+
+pub not_alone : (p q : ℤ) → q ≢ p → is_among q (p ∷ []) ≡ true → ⊥
+not_alone p q n h = absurd (let x : false ≡ true = put_only p q [] 0 n h in cc)
 
 pub behind_there : (p : ℤ) (xs : List ℤ) → is_among p (xs ++ p ∷ []) ≡ true
 behind_there p xs = list_any-append (λ q. int_eq q p) xs (p ∷ []) ∙ or_right (is_among p xs) (is_among p (p ∷ [])) (alone p)

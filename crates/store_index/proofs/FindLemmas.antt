@@ -13,7 +13,7 @@ use Rattle.store_filter.specs.Filters.{path_of}
 use Rattle.store_model.specs.Filter.{Path, at}
 use Rattle.store_model.specs.State.{id_key}
 use Rattle.store_model.specs.Table.{only_id}
-use Rattle.store_index.specs.Find.{FindsIn, FindsOf, FindEach, IsAsBefore, IsOn, HasOn, kinds_of}
+use Rattle.store_index.specs.Find.{FindsIn, FindsOf, FindEach, IsAsBefore, IsOn, HasOn, MissEach, RenewEach, kinds_of}
 use Rattle.store_index.specs.Keys.{KeyAt, value_key}
 use Rattle.store_index.specs.Under.{HasPlace}
 use Rattle.store_index.specs.declared.index.Index.{Index}
@@ -72,6 +72,11 @@ asked (Some v) w k e h = e ∙ sym (same_values v w h)
 pub asked_key : (d : Members) (p : Path) (w : Value) (k : List ℕ) → k ≡ value_key w → IsSomeAnd (at (document d) p) (λ v. Same v w) → KeyAt d p (Some k)
 asked_key d p w k e h = asked (at (document d) p) w k e h
 
+-- what is missed is missed whatever body comes
+pub renewed_too : (p : ℤ) (old body : List ℕ) (ixs : List Index) → MissEach ixs p old → RenewEach ixs p old body
+renewed_too p old body [] h = tt
+renewed_too p old body (ix ∷ ixs) h = (λ d e kd ke is _ k at there _. h.0 d kd is k at there, renewed_too p old body ixs h.1)
+
 -- ---- whether one is on a path
 
 pub not_first : (c : List ℕ) (p : Path) (here rest : List Index) (ix : Index) (all : Type 0) → here ≡ ix ∷ rest → (IsOn ix c p → ⊥) → (HasOn here c p → all) × (all → HasOn here c p) → (HasOn rest c p → all) × (all → HasOn rest c p)
@@ -89,6 +94,12 @@ has_still c p (x ∷ ixs) ix (inr h) = inr (has_still c p ixs ix h)
 pub has_last : (c : List ℕ) (p : Path) (ixs : List Index) (ix : Index) → IsOn ix c p → HasOn (ixs ++ ix ∷ []) c p
 has_last c p [] ix one = inl one
 has_last c p (x ∷ ixs) ix one = inr (has_last c p ixs ix one)
+
+pub has_only : (c : List ℕ) (p : Path) (ixs : List Index) (ix : Index) → HasOn (ixs ++ ix ∷ []) c p → HasOn ixs c p ⊎ ((c ≡ string_bytes ix.coll) × (p ≡ path_of ix.path.items))
+has_only c p [] ix (inl one) = inr (sym one.0, sym one.1)
+has_only c p [] ix (inr h) = absurd h
+has_only c p (x ∷ ixs) ix (inl one) = inl (inl one)
+has_only c p (x ∷ ixs) ix (inr h) = elim (has_only c p ixs ix h) [ inl there ↦ inl (inr there) | inr last ↦ inr last ]
 
 -- ---- which indexes there are
 

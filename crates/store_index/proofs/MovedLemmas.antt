@@ -35,6 +35,23 @@ moved_list old new key k o rest q was on is h = by (bytes_eq key.items k.items) 
         let t : is_eq (slice_cmp nat_cmp key.items k.items) ≡ false = is_eq-slice_cmp key.items k.items ∙ e in
         ap (λ (x : Option PlaceList). is_among q (places_of x)) (is ∙ ap (λ (c : Bool). cond c rest (get_by (at_key k.items) old)) t) ∙ h
 
+-- what is under a key now was under it before
+pub back_list : (old new : BTreeMap (Vec ℕ Global) PlaceList) (key k : Vec ℕ Global) (o rest : Option PlaceList) (q : ℤ) → o ≡ get_by (at_key key.items) old
+    → (is_among q (places_of rest) ≡ true → is_among q (places_of o) ≡ true)
+    → get_by (at_key k.items) new ≡ cond (is_eq (slice_cmp nat_cmp key.items k.items)) rest (get_by (at_key k.items) old)
+    → is_among q (list_under new k.items) ≡ true → is_among q (list_under old k.items) ≡ true
+back_list old new key k o rest q was back is h = by (bytes_eq key.items k.items) refl
+  where
+    by : (b : Bool) → bytes_eq key.items k.items ≡ b → is_among q (list_under old k.items) ≡ true
+    by true e =
+        let t : is_eq (slice_cmp nat_cmp key.items k.items) ≡ true = is_eq-slice_cmp key.items k.items ∙ e in
+        let same : key.items ≡ k.items = (bytes_eq-Decides key.items k.items).0 e in
+        let there : is_among q (places_of rest) ≡ true = sym (ap (λ (x : Option PlaceList). is_among q (places_of x)) (is ∙ ap (λ (c : Bool). cond c rest (get_by (at_key k.items) old)) t)) ∙ h in
+        sym (ap (λ (x : Option PlaceList). is_among q (places_of x)) (was ∙ ap (λ (x : List ℕ). get_by (at_key x) old) same)) ∙ back there
+    by false e =
+        let t : is_eq (slice_cmp nat_cmp key.items k.items) ≡ false = is_eq-slice_cmp key.items k.items ∙ e in
+        sym (ap (λ (x : Option PlaceList). is_among q (places_of x)) (is ∙ ap (λ (c : Bool). cond c rest (get_by (at_key k.items) old)) t)) ∙ h
+
 -- what is no longer in the list is no longer under its key
 pub gone_list : (new : BTreeMap (Vec ℕ Global) PlaceList) (key : Vec ℕ Global) (rest other : Option PlaceList) (p : ℤ) → (is_among p (places_of rest) ≡ true → ⊥) → get_by (at_key key.items) new ≡ cond (is_eq (slice_cmp nat_cmp key.items key.items)) rest other
     → is_among p (list_under new key.items) ≡ true → ⊥

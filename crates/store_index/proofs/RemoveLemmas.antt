@@ -3,17 +3,18 @@ use Rattle.std.proofs.Common.{◌≡◌, inl, inr, ◌↔◌, ◌∷◌, [], ℕ
 use Rattle.std.specs.List.{items_where_true}
 use Rattle.std.specs.List.Retain.{IsFiltered, ReturnsInTurn}
 use Rattle.store_model.specs.Filter.{Path}
-use Rattle.store_index.specs.Find.{FindEach, HasOn, IsOn}
+use Rattle.store_index.specs.Find.{FindEach, HasOn, IsOn, MissEach}
 use Rattle.store_index.specs.declared.index.Index.{Index}
 
 pub record IsWithout (coll : List ℕ) (path : Path) (old new : List Index) : Type 0 where
   pub gone : HasOn new coll path → ⊥
   pub others : (c : List ℕ) (p : Path) → ((c ≡ coll) × (p ≡ path) → ⊥) → HasOn old c p ↔ HasOn new c p
   pub kept : (c : List ℕ) (p : ℤ) (b : List ℕ) → FindEach old c p b → FindEach new c p b
+  pub missed : (p : ℤ) (b : List ℕ) → MissEach old p b → MissEach new p b
   pub none : old ≡ [] → new ≡ []
 
 none_left : (coll : List ℕ) (path : Path) → IsWithout coll path [] []
-none_left coll path = record { gone = λ h. h; others = λ c p other. (λ h. h, λ h. h); kept = λ c p b h. h; none = λ e. e }
+none_left coll path = record { gone = λ h. h; others = λ c p other. (λ h. h, λ h. h); kept = λ c p b h. h; missed = λ p b h. h; none = λ e. e }
 
 -- the first is another, and stays
 first_stays : (coll : List ℕ) (path : Path) (ix : Index) (old new : List Index) → (IsOn ix coll path → ⊥) → IsWithout coll path old new → IsWithout coll path (ix ∷ old) (ix ∷ new)
@@ -24,6 +25,7 @@ first_stays coll path ix old new other rest = record {
     λ h. elim h as (λ _. HasOn (ix ∷ old) c p) [ inl one ↦ inl one | inr r ↦ inr ((rest.others c p e).1 r) ],
   );
   kept = λ c p b h. (h.0, rest.kept c p b h.1);
+  missed = λ p b h. (h.0, rest.missed p b h.1);
   none = λ e. absurd (cc);
 }
 
@@ -33,6 +35,7 @@ first_goes coll path ix old new on rest = record {
   gone = rest.gone;
   others = λ c p e. (λ h. elim h [ inl one ↦ absurd (e (sym one.0 ∙ on.0, sym one.1 ∙ on.1)) | inr r ↦ (rest.others c p e).0 r ], λ h. inr ((rest.others c p e).1 h));
   kept = λ c p b h. rest.kept c p b h.1;
+  missed = λ p b h. rest.missed p b h.1;
   none = λ e. absurd (cc);
 }
 

@@ -1,5 +1,5 @@
 -- Which documents an index finds.
-use Rattle.std.specs.Prelude.{◌≡◌, ◌⊎◌, ◌∷◌, [], ℕ, ℤ, List, map, Some, Vec, string_bytes}
+use Rattle.std.specs.Prelude.{◌≡◌, ◌⊎◌, ◌∷◌, [], ℕ, ℤ, List, map, Some, String, Vec, string_bytes}
 use Rattle.std.specs.List.{AllByRecursion}
 use Rattle.std.specs.declared.alloc.Global.{Global}
 use Rattle.bson_base.specs.Value.{Members}
@@ -11,6 +11,21 @@ use Rattle.store_index.specs.Keys.{KeyAt}
 use Rattle.store_index.specs.Under.{HasPlace}
 use Rattle.store_index.specs.declared.index.Index.{Index}
 use Rattle.store_index.specs.declared.indexes.Indexes.{Indexes}
+
+-- the collection of an index, and the keys of its path, as it has them
+abbrev pub coll_of : Index → String Global
+coll_of ix = ix.coll
+
+abbrev pub keys_of : Index → Vec (String Global) Global
+keys_of ix = ix.path
+
+-- there are no indexes
+abbrev pub HasNone : Indexes → Type 0
+HasNone ixs = ixs.list.items ≡ []
+
+-- the indexes are the same, with all that they find
+abbrev pub AreSame : Indexes → Indexes → Type 0
+AreSame old new = new.list.items ≡ old.list.items
 
 -- the place of the document is under the key of the value at the path, if one is there
 abbrev pub FindsIn : Index → ℤ → List ℕ → Type 0
@@ -52,6 +67,10 @@ Renews ixs place old body = RenewEach ixs.list.items place old body
 -- one index for another of the same collection on the same path
 abbrev pub IsAsBefore : Index → Index → Type 0
 IsAsBefore old new = (new.coll ≡ old.coll) × (new.path ≡ old.path)
+
+-- an index is one of the collection
+abbrev pub IsOf : Index → List ℕ → Type 0
+IsOf ix coll = string_bytes ix.coll ≡ coll
 
 -- an index is one of the collection, on the path
 abbrev pub IsOn : Index → List ℕ → Path → Type 0

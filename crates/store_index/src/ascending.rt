@@ -16,8 +16,10 @@ pub struct Ascending {
 impl Ascending {
     /// Two places. There is no room for more.
     pub fn two(alloc: Global, a: i64, b: i64) -> Result<Ascending, AllocError>
-        ensures { IfOk result (λ l. IsTrue (is_among a l.places.items)
+        ensures there { IfOk result (λ l. IsTrue (is_among a l.places.items)
             × IsTrue (is_among b l.places.items)) }
+        ensures only { (p : ℤ) → p ≢ a → p ≢ b
+            → IfOk result (λ l. IsTrue (is_among p l.places.items) → ⊥) }
     {
         let mut places = Vec::with_capacity(alloc, 2)?;
         places.push(a)?;
@@ -31,6 +33,8 @@ impl Ascending {
         ensures there { OnOk result (IsTrue (is_among place self.new.places.items)) }
         ensures kept { (p : ℤ) → IsTrue (is_among p self.old.places.items)
             → OnOk result (IsTrue (is_among p self.new.places.items)) }
+        ensures only { (p : ℤ) → p ≢ place → IsTrue (is_among p self.new.places.items)
+            → IsTrue (is_among p self.old.places.items) }
     {
         match self.places.binary_search(&place) {
             Ok(_) => Ok(()),
@@ -46,6 +50,8 @@ impl Ascending {
         ensures gone { IsTrue (is_among place self.new.places.items) → ⊥ }
         ensures kept { (p : ℤ) → p ≢ place → IsTrue (is_among p self.old.places.items)
             → IsTrue (is_among p self.new.places.items) }
+        ensures only { (p : ℤ) → IsTrue (is_among p self.new.places.items)
+            → IsTrue (is_among p self.old.places.items) }
     {
         if let Ok(at) = self.places.binary_search(&place) {
             self.places.remove(at);

@@ -1,8 +1,8 @@
 //! An index of a collection on a path.
 
-ghost use Rattle.std.specs.Prelude.{◌≡◌, ◌≢◌, ◌↔◌, ℕ, ℤ, List, IsTrue, OnOk, string_bytes};
+ghost use Rattle.std.specs.Prelude.{◌≡◌, ◌≢◌, ◌↔◌, ℕ, ℤ, List, IsTrue, OnOk};
 ghost use Rattle.store_filter.specs.Filters.{path_of};
-ghost use Rattle.store_index.specs.Find.{FindsIn, FindsOf, IsAsBefore, IsOn, MissesIn, RenewsIn};
+ghost use Rattle.store_index.specs.Find.{FindsIn, FindsOf, IsAsBefore, IsOf, IsOn, MissesIn, RenewsIn, coll_of, keys_of};
 
 use crate::keys::{is_same_path, key_at};
 use crate::places::Places;
@@ -19,8 +19,9 @@ pub struct Index {
 impl Index {
     /// Finds no document yet.
     pub fn new(alloc: Global, coll: String, path: Vec<String>) -> Index
-        ensures coll { result.coll ≡ coll }
-        ensures path { result.path ≡ path }
+        ensures coll { coll_of result ≡ coll }
+        ensures path { keys_of result ≡ path }
+        ensures none { (p : ℤ) (b : List ℕ) → MissesIn result p b }
     {
         Index {
             coll,
@@ -36,6 +37,8 @@ impl Index {
             → OnOk result (FindsIn self.new p b) }
         ensures renewed { (p : ℤ) (b : List ℕ) → MissesIn self.old p b
             → OnOk result (RenewsIn self.new p b body.now) }
+        ensures others { (p : ℤ) (b : List ℕ) → p ≢ place → MissesIn self.old p b
+            → OnOk result (MissesIn self.new p b) }
         ensures same { IsAsBefore self.old self.new }
     {
         match key_at(alloc, body, self.path.as_slice())? {
@@ -60,6 +63,8 @@ impl Index {
             → OnOk result (FindsOf self.new c p b) }
         ensures renewed { (p : ℤ) (b : List ℕ) → MissesIn self.old p b
             → OnOk result (RenewsIn self.new p b body.now) }
+        ensures others { (p : ℤ) (b : List ℕ) → p ≢ place → MissesIn self.old p b
+            → OnOk result (MissesIn self.new p b) }
         ensures same { IsAsBefore self.old self.new }
     {
         if !self.is_of(coll) {
@@ -70,7 +75,7 @@ impl Index {
 
     /// Whether it is one of the collection.
     pub fn is_of(&self, coll: &[u8]) -> bool
-        ensures { IsTrue result ↔ (string_bytes self.now.coll ≡ coll.now) }
+        ensures { IsTrue result ↔ IsOf self.now coll.now }
     {
         self.coll.as_bytes() == coll
     }
@@ -88,6 +93,8 @@ impl Index {
         ensures gone { OnOk result (MissesIn self.new place body.now) }
         ensures kept { (c : List ℕ) (p : ℤ) (b : List ℕ) → p ≢ place → FindsOf self.old c p b
             → OnOk result (FindsOf self.new c p b) }
+        ensures missed { (p : ℤ) (b : List ℕ) → MissesIn self.old p b
+            → OnOk result (MissesIn self.new p b) }
         ensures same { IsAsBefore self.old self.new }
     {
         match key_at(alloc, body, self.path.as_slice())? {

@@ -1,9 +1,9 @@
 //! The indexes of a store: several collections, and several paths of one.
 
-ghost use Rattle.std.specs.Prelude.{◌≡◌, ◌≢◌, ◌⊎◌, ◌↔◌, ℕ, ℤ, List, [], IfOk, IfSome, IsTrue, OnOk, OnErr, string_bytes};
+ghost use Rattle.std.specs.Prelude.{◌≡◌, ◌≢◌, ◌⊎◌, ◌↔◌, ℕ, ℤ, List, IfOk, IfSome, IsTrue, OnOk, OnErr, string_bytes};
 ghost use Rattle.store_filter.specs.Filters.{filter_of, path_of};
 ghost use Rattle.store_model.specs.Filter.{Path};
-ghost use Rattle.store_index.specs.Find.{AreAsBefore, FindsOf, FindEach, Finds, Has, MissEach, Misses, RenewEach, Renews, kinds_of};
+ghost use Rattle.store_index.specs.Find.{AreAsBefore, AreSame, FindsOf, FindEach, Finds, Has, HasNone, MissEach, Misses, MissesIn, RenewEach, Renews, coll_of, keys_of, kinds_of};
 ghost use Rattle.store_index.specs.Lists.{Ascends};
 ghost use Rattle.store_index.specs.Serving.{Covers, IsBy};
 
@@ -32,6 +32,8 @@ fn noting(
         → IfOk result (λ new. FindEach new.items c p b) }
     ensures renewed { (p : ℤ) (b : List ℕ) → MissEach list.items p b
         → IfOk result (λ new. RenewEach new.items p b body.now) }
+    ensures others { (p : ℤ) (b : List ℕ) → p ≢ place → MissEach list.items p b
+        → IfOk result (λ new. MissEach new.items p b) }
     ensures same { IfOk result (λ new. kinds_of new.items ≡ kinds_of list.items) }
 {
     let mut new = Vec::with_capacity(alloc, list.len())?;
@@ -52,6 +54,8 @@ fn forgetting(
     ensures gone { IfOk result (λ new. MissEach new.items place body.now) }
     ensures kept { (c : List ℕ) (p : ℤ) (b : List ℕ) → p ≢ place → FindEach list.items c p b
         → IfOk result (λ new. FindEach new.items c p b) }
+    ensures missed { (p : ℤ) (b : List ℕ) → MissEach list.items p b
+        → IfOk result (λ new. MissEach new.items p b) }
     ensures same { IfOk result (λ new. kinds_of new.items ≡ kinds_of list.items) }
 {
     let mut new = Vec::with_capacity(alloc, list.len())?;
@@ -65,7 +69,7 @@ fn forgetting(
 impl Indexes {
     /// None.
     pub fn new(alloc: Global) -> Indexes
-        ensures { result.list.items ≡ [] }
+        ensures { HasNone result }
     {
         Indexes {
             list: Vec::new(alloc),
@@ -75,7 +79,7 @@ impl Indexes {
 
     /// Whether there are none.
     pub fn is_empty(&self) -> bool
-        ensures { IsTrue result ↔ (self.now.list.items ≡ []) }
+        ensures { IsTrue result ↔ HasNone self.now }
     {
         self.list.is_empty()
     }
@@ -94,7 +98,7 @@ impl Indexes {
 
     /// Drops all.
     pub fn clear(&mut self)
-        ensures { self.new.list.items ≡ [] }
+        ensures { HasNone self.new }
     {
         self.list.clear();
     }
@@ -103,7 +107,7 @@ impl Indexes {
     fn take(&mut self) -> Vec<Index>
         ensures taken { result ≡ self.old.list }
         ensures left { (c : List ℕ) (p : ℤ) (b : List ℕ) → Finds self.new c p b }
-        ensures none { self.new.list.items ≡ [] }
+        ensures none { HasNone self.new }
     {
         std::mem::replace(&mut self.list, Vec::new(self.alloc))
     }
@@ -112,10 +116,14 @@ impl Indexes {
     pub fn add(&mut self, index: Index) -> Result<(), AllocError>
         ensures added { (c : List ℕ) (p : ℤ) (b : List ℕ) → Finds self.old c p b
             → OnOk result (FindsOf index c p b → Finds self.new c p b) }
-        ensures there { OnOk result (Has self.new (string_bytes index.coll)
-            (path_of index.path.items)) }
+        ensures there { OnOk result (Has self.new (string_bytes (coll_of index))
+            (path_of (keys_of index).items)) }
         ensures others { (c : List ℕ) (p : Path) → Has self.old c p → Has self.new c p }
-        ensures refused { OnErr result (self.new.list.items ≡ self.old.list.items) }
+        ensures only { (c : List ℕ) (p : Path) → Has self.new c p → Has self.old c p
+            ⊎ ((c ≡ string_bytes (coll_of index)) × (p ≡ path_of (keys_of index).items)) }
+        ensures missed { (p : ℤ) (b : List ℕ) → Misses self.old p b → MissesIn index p b
+            → Misses self.new p b }
+        ensures refused { OnErr result (AreSame self.old self.new) }
     {
         self.list.push(index)?;
         Ok(())
@@ -128,7 +136,8 @@ impl Indexes {
             → Has self.old c p ↔ Has self.new c p }
         ensures kept { (c : List ℕ) (p : ℤ) (b : List ℕ) → Finds self.old c p b
             → Finds self.new c p b }
-        ensures none { self.old.list.items ≡ [] → self.new.list.items ≡ [] }
+        ensures missed { (p : ℤ) (b : List ℕ) → Misses self.old p b → Misses self.new p b }
+        ensures none { HasNone self.old → HasNone self.new }
     {
         self.list.retain(|index| !index.is_on(coll, path));
     }
@@ -140,9 +149,11 @@ impl Indexes {
             → Finds self.new c p b }
         ensures renewed { (p : ℤ) (b : List ℕ) → Misses self.old p b
             → Renews self.new p b body.now }
+        ensures others { (p : ℤ) (b : List ℕ) → p ≢ place → Misses self.old p b
+            → Misses self.new p b }
         ensures same { OnOk result (AreAsBefore self.old self.new) }
-        ensures dropped { OnErr result (self.new.list.items ≡ []) }
-        ensures none { self.old.list.items ≡ [] → self.new.list.items ≡ [] }
+        ensures dropped { OnErr result (HasNone self.new) }
+        ensures none { HasNone self.old → HasNone self.new }
     {
         if self.list.is_empty() {
             return Ok(());
@@ -157,9 +168,10 @@ impl Indexes {
         ensures gone { Misses self.new place body.now }
         ensures kept { (c : List ℕ) (p : ℤ) (b : List ℕ) → p ≢ place → Finds self.old c p b
             → Finds self.new c p b }
+        ensures missed { (p : ℤ) (b : List ℕ) → Misses self.old p b → Misses self.new p b }
         ensures same { OnOk result (AreAsBefore self.old self.new) }
-        ensures dropped { OnErr result (self.new.list.items ≡ []) }
-        ensures none { self.old.list.items ≡ [] → self.new.list.items ≡ [] }
+        ensures dropped { OnErr result (HasNone self.new) }
+        ensures none { HasNone self.old → HasNone self.new }
     {
         if self.list.is_empty() {
             return Ok(());
@@ -181,9 +193,13 @@ impl Indexes {
         ensures noted { Finds self.new coll.now place body.now }
         ensures kept { (c : List ℕ) (p : ℤ) (b : List ℕ) → p ≢ place → Finds self.old c p b
             → Finds self.new c p b }
+        ensures renewed { (p : ℤ) (b : List ℕ) → Misses self.old p b
+            → Renews self.new p b body.now }
+        ensures others { (p : ℤ) (b : List ℕ) → p ≢ place → Misses self.old p b
+            → Misses self.new p b }
         ensures same { OnOk result (AreAsBefore self.old self.new) }
-        ensures dropped { OnErr result (self.new.list.items ≡ []) }
-        ensures none { self.old.list.items ≡ [] → self.new.list.items ≡ [] }
+        ensures dropped { OnErr result (HasNone self.new) }
+        ensures none { HasNone self.old → HasNone self.new }
     {
         self.forget(place, old)?;
         self.note(coll, place, body)

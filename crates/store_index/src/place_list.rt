@@ -19,6 +19,9 @@ pub(crate) fn more(alloc: Global, list: PlaceList, place: i64) -> Result<PlaceLi
     ensures there { IfOk result (λ l. IsTrue (is_among place (places_of (Some l)))) }
     ensures kept { (p : ℤ) → IsTrue (is_among p (places_of (Some list)))
         → IfOk result (λ l. IsTrue (is_among p (places_of (Some l)))) }
+    ensures only { (p : ℤ) → p ≢ place
+        → IfOk result (λ l. IsTrue (is_among p (places_of (Some l)))
+        → IsTrue (is_among p (places_of (Some list)))) }
 {
     match list {
         PlaceList::One(first) => {
@@ -39,6 +42,8 @@ fn fewer(list: PlaceList, place: i64) -> Option<PlaceList>
     ensures gone { IsTrue (is_among place (places_of result)) → ⊥ }
     ensures kept { (p : ℤ) → p ≢ place → IsTrue (is_among p (places_of (Some list)))
         → IsTrue (is_among p (places_of result)) }
+    ensures only { (p : ℤ) → IsTrue (is_among p (places_of result))
+        → IsTrue (is_among p (places_of (Some list))) }
 {
     match list {
         PlaceList::One(first) => {
@@ -62,6 +67,8 @@ pub(crate) fn without_place(list: Option<PlaceList>, place: i64) -> Option<Place
     ensures gone { IsTrue (is_among place (places_of result)) → ⊥ }
     ensures kept { (p : ℤ) → p ≢ place → IsTrue (is_among p (places_of list))
         → IsTrue (is_among p (places_of result)) }
+    ensures only { (p : ℤ) → IsTrue (is_among p (places_of result))
+        → IsTrue (is_among p (places_of list)) }
 {
     match list {
         None => None,

@@ -1,6 +1,6 @@
 //! The places under each key.
 
-ghost use Rattle.std.specs.Prelude.{◌≡◌, ◌≢◌, ◌++◌, ℤ, List, ℕ, Vec, OnOk};
+ghost use Rattle.std.specs.Prelude.{◌≡◌, ◌≢◌, ◌++◌, ℤ, ℕ, Vec, OnOk};
 ghost use Rattle.std.specs.declared.alloc.Global.{Global as AnyGlobal};
 ghost use Rattle.store_index.specs.Under.{HasPlace, places_under};
 
@@ -17,7 +17,9 @@ pub struct Places {
 
 impl Places {
     /// Of no keys.
-    pub fn new(alloc: Global) -> Places {
+    pub fn new(alloc: Global) -> Places
+        ensures { (k : Vec ℕ AnyGlobal) (p : ℤ) → HasPlace result k.items p → ⊥ }
+    {
         Places {
             lists: BTreeMap::new(alloc),
             alloc,
@@ -47,6 +49,8 @@ impl Places {
             → OnOk result (HasPlace self.new k.items p) }
         ensures others { (k : Vec ℕ AnyGlobal) (p : ℤ) → k.items ≢ key.items
             → OnOk result (HasPlace self.new k.items p → HasPlace self.old k.items p) }
+        ensures only { (k : Vec ℕ AnyGlobal) (p : ℤ) → p ≢ place
+            → OnOk result (HasPlace self.new k.items p → HasPlace self.old k.items p) }
     {
         let copy = Vec::from_slice(self.alloc, key.as_slice())?;
         // Most keys are new, so that one look-up does.
@@ -63,6 +67,8 @@ impl Places {
         ensures gone { OnOk result (HasPlace self.new key.items place → ⊥) }
         ensures kept { (k : Vec ℕ AnyGlobal) (p : ℤ) → p ≢ place → HasPlace self.old k.items p
             → OnOk result (HasPlace self.new k.items p) }
+        ensures only { (k : Vec ℕ AnyGlobal) (p : ℤ) → OnOk result (HasPlace self.new k.items p
+            → HasPlace self.old k.items p) }
     {
         let old = self.lists.remove(key.as_slice());
         match without_place(old, place) {

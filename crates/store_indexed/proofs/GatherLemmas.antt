@@ -1,13 +1,15 @@
 -- An index is made of rows, one after the other.
-use Rattle.std.proofs.Common.{◌≡◌, ◌++◌, ◌∷◌, [], ℕ, ℤ, List, map, filter, Bool, true, false, cond, bytes_eq, Ok, String, Global, string_bytes, refl, sym, ap, ◌∙◌}
+use Rattle.std.proofs.Common.{◌≡◌, ◌≢◌, ◌++◌, ◌∷◌, [], ℕ, ℤ, List, map, filter, Bool, true, false, cond, bytes_eq, Ok, String, Global, Vec, string_bytes, refl, sym, ap, ◌∙◌}
 use Rattle.std.specs.List.{AllByRecursion}
 use Rattle.bson_base.proofs.MemberLemmas.{same_key}
-use Rattle.store_index.specs.Find.{FindsIn, FindsOf, Finds}
+use Rattle.store_filter.specs.Filters.{path_of}
+use Rattle.store_model.specs.Filter.{Path}
+use Rattle.store_index.specs.Find.{FindsIn, FindsOf, Finds, IsAsBefore, IsOn, MissesIn}
 use Rattle.store_index.specs.declared.index.Index.{Index}
 use Rattle.store_index.specs.declared.indexes.Indexes.{Indexes}
 use Rattle.store_table.specs.Moves.{VisitsPlaced, parts_of_row}
 use Rattle.store_table.specs.Rows.{TableRow, is_in}
-use Rattle.store_indexed.specs.Gathering.{Gathers, MakesIndex}
+use Rattle.store_indexed.specs.Gathering.{Gathers, HasNoneAt, MakesIndex, NotesOnly}
 use Rattle.store_indexed.specs.Kept.{FindsRows}
 use Rattle.store_indexed.specs.declared.gathering.Gatherer.{Gatherer}
 
@@ -16,6 +18,15 @@ all_more : (old new : Index) (rows : List (ℤ × List ℕ)) (p : ℤ) (b : List
 all_more old new [] p b kept one h = (one, tt)
 all_more old new (r ∷ rows) p b kept one h = (kept r.0 r.1 h.0, all_more old new rows p b kept one h.1)
 
+pub only_more : (first old new : Index) (rows : List (ℤ × List ℕ)) (p : ℤ) (b : List ℕ) (failed : Bool) → ((q : ℤ) (c : List ℕ) → q ≢ p → MissesIn old q c → MissesIn new q c) → NotesOnly first old rows failed → NotesOnly first new (rows ++ (p, b) ∷ []) failed
+only_more first old new rows p b failed others h well q c far missed =
+    let parts = split rows far in
+    others q c (λ e. parts.1 (sym e)) (h well q c parts.0 missed)
+  where
+    split : (xs : List (ℤ × List ℕ)) → AllByRecursion (λ (r : ℤ × List ℕ). r.0 ≢ q) (xs ++ (p, b) ∷ []) → AllByRecursion (λ (r : ℤ × List ℕ). r.0 ≢ q) xs × (p ≢ q)
+    split [] k = (tt, k.0)
+    split (x ∷ xs) k = let r = split xs k.1 in ((k.0, r.0), r.1)
+
 pub gathers_more : (old new : Index) (rows : List (ℤ × List ℕ)) (p : ℤ) (b : List ℕ) (failed : Bool) → ((q : ℤ) (c : List ℕ) → FindsIn old q c → FindsIn new q c) → FindsIn new p b → Gathers old rows failed → Gathers new (rows ++ (p, b) ∷ []) failed
 gathers_more old new rows p b failed kept one h well = all_more old new rows p b kept one (h well)
 
@@ -23,17 +34,27 @@ of_rows : (ix : Index) (rows : List TableRow) → AllByRecursion (λ (r : ℤ ×
 of_rows ix [] h = tt
 of_rows ix (d ∷ rows) h = (h.0, of_rows ix rows h.1)
 
-abbrev pub TookRows : Gatherer → Gatherer → List (ℤ × List ℕ) → Type 0
-TookRows first v rows = (v.index.coll ≡ first.index.coll) × Gathers v.index rows v.failed
+no_rows_at : (p : ℤ) (rows : List TableRow) → HasNoneAt p rows → AllByRecursion (λ (r : ℤ × List ℕ). r.0 ≢ p) (map parts_of_row rows)
+no_rows_at p [] h = tt
+no_rows_at p (d ∷ rows) h = (h.0, no_rows_at p rows h.1)
 
-pub made : (coll : List ℕ) (first last : Gatherer) (docs after : List TableRow) → string_bytes first.index.coll ≡ coll → last.failed ≡ false → VisitsPlaced (TookRows first) first last coll (Ok true) docs after → MakesIndex coll (Ok last.index) docs after
-made coll first last docs after named well h = record {
+abbrev pub TookRows : Gatherer → Gatherer → List (ℤ × List ℕ) → Type 0
+TookRows first v rows = IsAsBefore first.index v.index × Gathers v.index rows v.failed × NotesOnly first.index v.index rows v.failed
+
+pub made : (coll : List ℕ) (path : Path) (first last : Gatherer) (docs after : List TableRow) → IsOn first.index coll path → ((p : ℤ) (b : List ℕ) → MissesIn first.index p b) → last.failed ≡ false → VisitsPlaced (TookRows first) first last coll (Ok true) docs after
+    → MakesIndex coll path (Ok last.index) docs after
+made coll path first last docs after on none well h = record {
   same = h.same;
-  made =
-      let w = h.whole (refl, λ _. tt) refl in
-      (ap (λ (s : String Global). string_bytes s) w.0 ∙ named, of_rows last.index (filter (is_in coll) docs) (w.1 well));
+  on =
+      let w = h.whole begun refl in
+      (ap (λ (s : String Global). string_bytes s) w.0.0 ∙ on.0, ap (λ (k : Vec (String Global) Global). path_of k.items) w.0.1 ∙ on.1);
+  made = (let w = h.whole begun refl in of_rows last.index (filter (is_in coll) docs) (w.1 well));
+  only = (let w = h.whole begun refl in λ p b far. w.2 well p b (no_rows_at p (filter (is_in coll) docs) far) (none p b));
   faults = tt;
 }
+  where
+    begun : TookRows first first []
+    begun = ((refl, refl), λ _. tt, λ w p b far missed. missed)
 
 -- the index finds each row, if it is one of its collection
 found_all : (ix : Index) (coll : List ℕ) (docs : List TableRow) → string_bytes ix.coll ≡ coll → AllByRecursion (λ (d : TableRow). FindsIn ix d.place d.body) (filter (is_in coll) docs) → AllByRecursion (λ (d : TableRow). FindsOf ix d.coll d.place d.body) docs

@@ -1,16 +1,18 @@
 -- Indexes are kept through a call of the table.
-use Rattle.std.proofs.Common.{◌≡◌, ◌⊎◌, inl, inr, ◌+ℤ◌, ◌++◌, ◌∷◌, [], ℕ, ℤ, pos, List, Bool, true, false, not, cond, Result, Ok, Err, refl, sym, ap, subst, ◌∙◌}
+use Rattle.std.proofs.Common.{◌≡◌, ◌⊎◌, inl, inr, ◌+ℤ◌, ◌+◌, ◌<◌, ◌++◌, ◌∷◌, [], ℕ, ℤ, pos, List, length, take, get_or, Bool, true, false, not, cond, Result, Ok, Err, refl, sym, ap, subst, ◌∙◌, arith}
 use Rattle.std.specs.Prelude.{OnOk, OnErr}
 use Rattle.std.specs.declared.alloc.AllocError.{AllocError}
 use Rattle.std.proofs.lemmas.Bool.Decides.{Decides-int_eq}
 use Rattle.sqlite.specs.State.{State, HasCleanDisk}
-use Rattle.store_index.specs.Find.{AreAsBefore, Finds, FindEach, kinds_of}
+use Rattle.store_index.specs.Find.{AreAsBefore, Finds, FindEach, Misses, MissEach, kinds_of}
 use Rattle.store_index.specs.declared.index.Index.{Index}
 use Rattle.store_index.specs.declared.indexes.Indexes.{Indexes}
 use Rattle.store_table.specs.Moves.{Moves, Stands, AddsBehind, Changes, with_row, with_rows}
 use Rattle.store_table.specs.Rows.{TableRow, docs_from, is_at, last_place, without_place}
 use Rattle.store_table.specs.declared.fault.Fault.{Fault}
 use Rattle.store_table.specs.declared.row.NewRow.{NewRow}
+use Rattle.store_table.proofs.ManyLemmas.{next_rows, doc_at}
+use Rattle.store_indexed.specs.Gathering.{HasNoneAt}
 use Rattle.store_indexed.specs.Kept.{FindsRow, FindsRows, HasKept, StayOrGo}
 
 -- the indexes find the documents of the rows that a call makes of those that they found
@@ -56,6 +58,19 @@ removed ixs jxs place (d ∷ docs) kept h = by (is_at place d) refl (removed ixs
     by : (b : Bool) → is_at place d ≡ b → FindsRows jxs (without_place place docs) → FindsRows jxs (cond (not b) (d ∷ without_place place docs) (without_place place docs))
     by true e rest = rest
     by false e rest = (kept d.coll d.place d.body (λ same. let t = (Decides-int_eq d.place place).1 same in let x : true ≡ false = sym t ∙ e in absurd (cc)) h.0, rest)
+
+-- no place is under a key, if there are none
+pub misses_none : (ixs : Indexes) (p : ℤ) (b : List ℕ) → ixs.list.items ≡ [] → Misses ixs p b
+misses_none ixs p b e = subst (λ (xs : List Index). MissEach xs p b) (sym e) tt
+
+-- one more row, which has another place
+parted : (p : ℤ) (docs : List TableRow) (d : TableRow) → HasNoneAt p (docs ++ d ∷ []) → HasNoneAt p docs × (d.place ≡ p → ⊥)
+parted p [] d h = (tt, h.0)
+parted p (x ∷ docs) d h = let r = parted p docs d h.1 in ((h.0, r.0), r.1)
+
+pub none_before : (q : ℤ) (coll : List ℕ) (rows : List NewRow) (i : ℕ) (p : ℤ) → i < length rows → HasNoneAt p (docs_from q coll (take (i + 1) rows)) → HasNoneAt p (docs_from q coll (take i rows)) × ((q +ℤ pos i) ≡ p → ⊥)
+none_before q coll [] i p low h = absurd (omega (arith, low))
+none_before q coll (x ∷ rows) i p low h = parted p (docs_from q coll (take i (x ∷ rows))) (doc_at (q +ℤ pos i) coll (get_or (x ∷ rows) i x)) (subst (HasNoneAt p) (next_rows q coll (x ∷ rows) i x low) h)
 
 -- ---- refusals
 

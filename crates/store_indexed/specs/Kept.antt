@@ -1,8 +1,8 @@
 -- What is kept of indexes, whatever is done to the rows.
-use Rattle.std.specs.Prelude.{◌≡◌, ◌⊎◌, List, [], Bool, false}
+use Rattle.std.specs.Prelude.{◌≡◌, ◌⊎◌, List, Bool, false}
 use Rattle.std.specs.List.{AllByRecursion}
 use Rattle.sqlite.specs.State.{State, HasCleanDisk}
-use Rattle.store_index.specs.Find.{AreAsBefore, Finds}
+use Rattle.store_index.specs.Find.{AreAsBefore, Finds, HasNone}
 use Rattle.store_index.specs.declared.indexes.Indexes.{Indexes}
 use Rattle.store_table.specs.Moves.{Stands}
 use Rattle.store_table.specs.Rows.{TableRow}
@@ -17,8 +17,8 @@ FindsRows ixs = AllByRecursion (λ (d : TableRow). FindsRow ixs d)
 -- On a disk that returns what was written rows stand whose documents the indexes find; or there are no indexes, and it
 -- isn't known that rows stand.
 abbrev pub HasKept : State → Bool → Indexes → Type 0
-HasKept s shown ixs = HasCleanDisk s → ((shown ≡ false) × (ixs.list.items ≡ [])) ⊎ ((docs : List TableRow) × Stands s docs × FindsRows ixs docs)
+HasKept s shown ixs = HasCleanDisk s → ((shown ≡ false) × HasNone ixs) ⊎ ((docs : List TableRow) × Stands s docs × FindsRows ixs docs)
 
 -- the indexes are those of before, by collection and path, or there are none
 abbrev pub StayOrGo : Indexes → Indexes → Type 0
-StayOrGo old new = AreAsBefore old new ⊎ (new.list.items ≡ [])
+StayOrGo old new = AreAsBefore old new ⊎ HasNone new

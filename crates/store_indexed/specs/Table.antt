@@ -1,5 +1,5 @@
 -- The state of the connection of a table with indexes, and which it has.
-use Rattle.std.specs.Prelude.{ℕ, ℤ, List}
+use Rattle.std.specs.Prelude.{◌≡◌, ◌⊎◌, ℕ, ℤ, List}
 use Rattle.sqlite_trees.specs.declared.store.Store.{Ghosts}
 use Rattle.sqlite.specs.State.{State}
 use Rattle.sqlite.specs.Held.{Held}
@@ -19,6 +19,14 @@ indexed_state g t = table_state g t.table
 abbrev pub HasIndex : {S : Type 0} {h : _} → IndexedTable S h → List ℕ → Path → Type 0
 HasIndex t coll path = Has t.indexes coll path
 
+-- there are no indexes but those of before, and maybe one of the collection on the path
+abbrev pub AddsIndex : {S : Type 0} {h : _} → IndexedTable S h → IndexedTable S h → List ℕ → Path → Type 0
+AddsIndex old new coll path = (c : List ℕ) (p : Path) → HasIndex new c p → HasIndex old c p ⊎ ((c ≡ coll) × (p ≡ path))
+
+-- the indexes are the same, with all that they find
+abbrev pub KeepsIndexes : {S : Type 0} {h : _} → IndexedTable S h → IndexedTable S h → Type 0
+KeepsIndexes old new = new.indexes ≡ old.indexes
+
 -- a change leaves the indexes of before, by collection and path, or none
 abbrev pub LeavesIndexes : {S : Type 0} {h : _} → IndexedTable S h → IndexedTable S h → Type 0
 LeavesIndexes old new = StayOrGo old.indexes new.indexes
@@ -26,6 +34,10 @@ LeavesIndexes old new = StayOrGo old.indexes new.indexes
 -- no index has the place of a row under the key of a body that was removed
 abbrev pub ForgetsRow : {S : Type 0} {h : _} → IndexedTable S h → ℤ → List ℕ → Type 0
 ForgetsRow t place body = Misses t.indexes place body
+
+-- what no index has under the key of a removed body stays so, at these places
+abbrev pub StaysForgotten : {S : Type 0} {h : _} → IndexedTable S h → IndexedTable S h → (ℤ → Type 0) → Type 0
+StaysForgotten old new at = (place : ℤ) (body : List ℕ) → at place → ForgetsRow old place body → ForgetsRow new place body
 
 -- no index has it under the key of the body of before, unless that is the key of the new one, too
 abbrev pub RenewsRow : {S : Type 0} {h : _} → IndexedTable S h → ℤ → List ℕ → List ℕ → Type 0

@@ -1,12 +1,13 @@
 //! Changes of rows that are noted in the indexes.
 
-ghost use Rattle.std.specs.Prelude.{◌≡◌, ◌+ℤ◌, ℕ, ℤ, pos, List, []};
+ghost use Rattle.std.specs.Prelude.{◌+ℤ◌, ℕ, ℤ, pos, List};
 ghost use Rattle.sqlite.specs.State.{Survives};
-ghost use Rattle.store_index.specs.Find.{Finds};
+ghost use Rattle.store_index.specs.Find.{Finds, HasNone, Misses};
 ghost use Rattle.store_table.specs.Rows.{docs_from, with_body_at};
 ghost use Rattle.store_table.specs.Moves.{MayLeave, Moves, Settles, WasOpen};
 ghost use Rattle.store_table.specs.Table.{table_state};
 ghost use Rattle.store_indexed.specs.Changing.{Rewrites};
+ghost use Rattle.store_indexed.specs.Gathering.{HasNoneAt};
 ghost use Rattle.store_indexed.specs.Kept.{FindsRows, StayOrGo};
 
 use sqlite::Alter;
@@ -18,7 +19,10 @@ pub(crate) fn note_rows(indexes: &mut Indexes, coll: &str, last: i64, rows: &[Ne
     ensures noted { FindsRows indexes.new (docs_from (last +ℤ pos 1) coll.now rows.now) }
     ensures kept { (c : List ℕ) (p : ℤ) (b : List ℕ) → Finds indexes.old c p b
         → Finds indexes.new c p b }
-    ensures none { indexes.old.list.items ≡ [] → indexes.new.list.items ≡ [] }
+    ensures others { (p : ℤ) (b : List ℕ)
+        → HasNoneAt p (docs_from (last +ℤ pos 1) coll.now rows.now) → Misses indexes.old p b
+        → Misses indexes.new p b }
+    ensures none { HasNone indexes.old → HasNone indexes.new }
     ensures same { StayOrGo indexes.old indexes.new }
 {
     let mut place = last;

@@ -1,6 +1,7 @@
 //! An index is made of the rows of a collection, one after the other.
 
 ghost use Rattle.std.specs.Prelude.{◌≡◌, IfOk, string_bytes};
+ghost use Rattle.store_filter.specs.Filters.{path_of};
 ghost use Rattle.store_table.specs.Crash.{AddsNothing};
 ghost use Rattle.store_table.specs.Moves.{Moves, WasOpen};
 ghost use Rattle.store_table.specs.Table.{table_state};
@@ -20,10 +21,12 @@ pub struct Gatherer {
 }
 
 impl VisitPlaced for Gatherer {
-    ghost use Rattle.std.specs.Prelude.{◌≡◌, IsTrue};
-    ghost use Rattle.store_indexed.specs.Gathering.{Gathers};
+    ghost use Rattle.std.specs.Prelude.{IsTrue};
+    ghost use Rattle.store_index.specs.Find.{IsAsBefore};
+    ghost use Rattle.store_indexed.specs.Gathering.{Gathers, NotesOnly};
 
-    ghost took = { λ first v rows. (v.index.coll ≡ first.index.coll) × Gathers v.index rows v.failed };
+    ghost took = { λ first v rows. IsAsBefore first.index v.index × Gathers v.index rows v.failed
+        × NotesOnly first.index v.index rows v.failed };
 
     ghost is_done = { λ v. IsTrue v.failed };
 
@@ -53,7 +56,7 @@ pub(crate) fn gather<S: Alter + Drop>(
     path: Vec<String>,
 ) -> Result<Index, Fault>
     ensures moves { Moves (table_state S.Store table.old) (table_state S.Store table.new)
-        (MakesIndex coll.now result) }
+        (MakesIndex coll.now (path_of path.items) result) }
     ensures open { WasOpen (table_state S.Store table.old) (table_state S.Store table.new) result }
     ensures crash { AddsNothing (table_state S.Store table.old) (table_state S.Store table.new) }
 {

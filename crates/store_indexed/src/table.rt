@@ -1,17 +1,18 @@
 //! The table with indexes: calls are those of the table, with the same promises.
 
-ghost use Rattle.std.specs.Prelude.{◌≡◌, ◌↔◌, ℕ, List, [], length, false, IsTrue, IfOk, IfErr, IsErrAnd, IsErrOf, OnOk};
+ghost use Rattle.std.specs.Prelude.{◌≡◌, ◌≢◌, ◌↔◌, ◌+ℤ◌, ℕ, ℤ, pos, List, [], filter, length, false, IsTrue, IfOk, IfErr, IsErrAnd, IsErrOf, OnOk};
 ghost use Rattle.sqlite.specs.Held.{state};
 ghost use Rattle.sqlite.specs.State.{HasCleanDisk, Survives};
 ghost use Rattle.store_table.specs.Crash.{AddsNothing};
 ghost use Rattle.store_filter.specs.Filters.{filter_of, path_of};
 ghost use Rattle.store_model.specs.Filter.{Path};
-ghost use Rattle.store_table.specs.Rows.{without_place, with_body_at};
-ghost use Rattle.store_table.specs.Moves.{Moves, WasOpen, MayLeave, Settles, FindsNone, FindsRow, FindsPlace, Changes, AddsRows, Keeps, Lists, Visits, with_row, with_rows};
+ghost use Rattle.store_table.specs.Rows.{TableRow, docs_from, is_in, last_place, without_place, with_body_at};
+ghost use Rattle.store_table.specs.Moves.{Moves, Stands, WasOpen, MayLeave, Settles, FindsNone, FindsRow, FindsPlace, Changes, AddsRows, Keeps, Lists, Visits, with_row, with_rows};
 ghost use Rattle.store_table.specs.Renewal.{Opened, Unopened, Makes};
 ghost use Rattle.store_table.specs.Open.{KeepsAll, HasNoTable, IsNameTaken};
 ghost use Rattle.store_table.specs.Table.{table_state};
 ghost use Rattle.store_indexed.specs.Asking.{VisitsAsked};
+ghost use Rattle.store_indexed.specs.Gathering.{HasNoneAt};
 ghost use Rattle.store_indexed.specs.Kept.{HasKept};
 
 use crate::changing::{note_rows, rewrite_placed};
@@ -37,7 +38,7 @@ pub struct IndexedTable<S: Alter> {
 }
 
 impl<S: Alter + Drop> IndexedTable<S> {
-    ghost use Rattle.store_indexed.specs.Table.{ForgetsRow, HasIndex, LeavesIndexes, RenewsRow, connection_of, indexed_state};
+    ghost use Rattle.store_indexed.specs.Table.{AddsIndex, ForgetsRow, HasIndex, KeepsIndexes, LeavesIndexes, RenewsRow, StaysForgotten, connection_of, indexed_state};
 
     /// Opens the table, which is made if the database has none. Keys that `check` replaces by others are replaced in
     /// one transaction; a table that has none is not written to. A refusal gives the connection back, with its rows as
@@ -63,6 +64,7 @@ impl<S: Alter + Drop> IndexedTable<S> {
             → IsErrAnd result (λ e. (e.0 ≡ OpenError.NotAStore) × (e.1 ≡ connection)) }
         ensures busy { IsTrue (state S.Store connection).in_transaction
             → IsErrAnd result (λ e. (e.0 ≡ OpenError.Database) × (e.1 ≡ connection)) }
+        ensures none { IfOk result (λ t. (c : List ℕ) (p : Path) → HasIndex t c p → ⊥) }
         ensures crash { IfOk result (λ t. Survives (state S.Store connection)
             (indexed_state S.Store t) (Makes (C.renews check.now) (state S.Store connection))) }
         ensures crash_refused { IfErr result (λ e. Survives (state S.Store connection)
@@ -101,7 +103,7 @@ impl<S: Alter + Drop> IndexedTable<S> {
             (indexed_state S.Store self.new) result }
         ensures crash { AddsNothing (indexed_state S.Store self.old)
             (indexed_state S.Store self.new) }
-        ensures indexes { self.new.indexes ≡ self.old.indexes }
+        ensures indexes { KeepsIndexes self.old self.new }
     {
         self.table.named(coll, idkey)
     }
@@ -114,7 +116,7 @@ impl<S: Alter + Drop> IndexedTable<S> {
             (indexed_state S.Store self.new) result }
         ensures crash { AddsNothing (indexed_state S.Store self.old)
             (indexed_state S.Store self.new) }
-        ensures indexes { self.new.indexes ≡ self.old.indexes }
+        ensures indexes { KeepsIndexes self.old self.new }
     {
         self.table.place_of(coll, idkey)
     }
@@ -127,7 +129,7 @@ impl<S: Alter + Drop> IndexedTable<S> {
             (indexed_state S.Store self.new) result }
         ensures crash { AddsNothing (indexed_state S.Store self.old)
             (indexed_state S.Store self.new) }
-        ensures indexes { self.new.indexes ≡ self.old.indexes }
+        ensures indexes { KeepsIndexes self.old self.new }
     {
         self.table.is_empty()
     }
@@ -145,6 +147,11 @@ impl<S: Alter + Drop> IndexedTable<S> {
         ensures full { IsErrOf result Fault.Places
             → AddsNothing (indexed_state S.Store self.old) (indexed_state S.Store self.new) }
         ensures indexes { LeavesIndexes self.old self.new }
+        ensures forgotten { HasCleanDisk (indexed_state S.Store self.new) → (docs : List TableRow)
+            → Stands (indexed_state S.Store self.old) docs
+            → StaysForgotten self.old self.new (λ p. p ≢ (last_place docs +ℤ pos 1)) }
+        ensures renewed { (p : ℤ) (b : List ℕ) → ForgetsRow self.old p b
+            → RenewsRow self.new p b body.now }
     {
         let place = self.table.append(coll, idkey, body)?;
         let _ = self.indexes.note(coll.as_bytes(), place, body);
@@ -165,6 +172,9 @@ impl<S: Alter + Drop> IndexedTable<S> {
         ensures full { IsErrOf result Fault.Places
             → AddsNothing (indexed_state S.Store self.old) (indexed_state S.Store self.new) }
         ensures indexes { LeavesIndexes self.old self.new }
+        ensures forgotten { HasCleanDisk (indexed_state S.Store self.new) → (docs : List TableRow)
+            → Stands (indexed_state S.Store self.old) docs → StaysForgotten self.old self.new
+            (λ p. HasNoneAt p (docs_from (last_place docs +ℤ pos 1) coll.now rows.now)) }
     {
         let last = self.table.append_all(coll, rows)?;
         note_rows(&mut self.indexes, coll, last, rows);
@@ -184,6 +194,9 @@ impl<S: Alter + Drop> IndexedTable<S> {
         ensures renewed { OnOk result (RenewsRow self.new found.now.place found.now.body.items
             body.now) }
         ensures indexes { LeavesIndexes self.old self.new }
+        ensures forgotten { StaysForgotten self.old self.new (λ p. p ≢ found.now.place) }
+        ensures still { (p : ℤ) (b : List ℕ) → ForgetsRow self.old p b
+            → RenewsRow self.new p b body.now }
     {
         if self.indexes.is_empty() {
             return self.table.rewrite_at(found, body);
@@ -212,6 +225,8 @@ impl<S: Alter + Drop> IndexedTable<S> {
             (indexed_state S.Store self.new) result }
         ensures gone { OnOk result (ForgetsRow self.new found.now.place found.now.body.items) }
         ensures indexes { LeavesIndexes self.old self.new }
+        ensures forgotten { (p : ℤ) (b : List ℕ) → ForgetsRow self.old p b
+            → ForgetsRow self.new p b }
     {
         self.table.remove_at(found)?;
         let _ = self.indexes.forget(found.place, found.body.as_slice());
@@ -226,7 +241,7 @@ impl<S: Alter + Drop> IndexedTable<S> {
             (indexed_state S.Store self.new) result }
         ensures crash { AddsNothing (indexed_state S.Store self.old)
             (indexed_state S.Store self.new) }
-        ensures indexes { self.new.indexes ≡ self.old.indexes }
+        ensures indexes { KeepsIndexes self.old self.new }
     {
         self.table.collections()
     }
@@ -244,7 +259,7 @@ impl<S: Alter + Drop> IndexedTable<S> {
             (indexed_state S.Store self.new) result }
         ensures crash { AddsNothing (indexed_state S.Store self.old)
             (indexed_state S.Store self.new) }
-        ensures indexes { self.new.indexes ≡ self.old.indexes }
+        ensures indexes { KeepsIndexes self.old self.new }
     {
         self.table.visit_bodies(coll, visitor)
     }
@@ -258,7 +273,7 @@ impl<S: Alter + Drop> IndexedTable<S> {
             (indexed_state S.Store self.new) result }
         ensures crash { AddsNothing (indexed_state S.Store self.old)
             (indexed_state S.Store self.new) }
-        ensures indexes { self.new.indexes ≡ self.old.indexes }
+        ensures indexes { KeepsIndexes self.old self.new }
     {
         if self.shown {
             // Even if nothing is to be read, it is refused once the connection is shut.
@@ -280,6 +295,12 @@ impl<S: Alter + Drop> IndexedTable<S> {
             (indexed_state S.Store self.new) }
         ensures indexes { (c : List ℕ) (p : Path) → HasIndex self.old c p
             → HasIndex self.new c p }
+        ensures only { HasCleanDisk (indexed_state S.Store self.new) → (docs : List TableRow)
+            → Stands (indexed_state S.Store self.old) docs
+            → AddsIndex self.old self.new coll.now (path_of path.items) }
+        ensures forgotten { HasCleanDisk (indexed_state S.Store self.new) → (docs : List TableRow)
+            → Stands (indexed_state S.Store self.old) docs → StaysForgotten self.old self.new
+            (λ p. HasNoneAt p (filter (is_in coll.now) docs)) }
     {
         if !self.shows_rows()? {
             return Ok(());
@@ -298,6 +319,8 @@ impl<S: Alter + Drop> IndexedTable<S> {
         ensures gone { HasIndex self.new coll.now (path_of path.now) → ⊥ }
         ensures others { (c : List ℕ) (p : Path) → ((c ≡ coll.now) × (p ≡ path_of path.now) → ⊥)
             → HasIndex self.old c p ↔ HasIndex self.new c p }
+        ensures forgotten { (p : ℤ) (b : List ℕ) → ForgetsRow self.old p b
+            → ForgetsRow self.new p b }
     {
         self.indexes.remove(coll.as_bytes(), path);
     }
@@ -325,7 +348,7 @@ impl<S: Alter + Drop> IndexedTable<S> {
             (indexed_state S.Store self.new) result }
         ensures crash { AddsNothing (indexed_state S.Store self.old)
             (indexed_state S.Store self.new) }
-        ensures indexes { self.new.indexes ≡ self.old.indexes }
+        ensures indexes { KeepsIndexes self.old self.new }
     {
         match self.indexes.places_for(coll.as_bytes(), filter)? {
             Some(places) => visit_places(&mut self.table, coll, places.as_slice(), visitor),

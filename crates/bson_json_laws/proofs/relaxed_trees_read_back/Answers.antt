@@ -4,6 +4,6 @@ use Rattle.bson_json_laws.proofs.relaxed_trees_read_back.Goals as goal
 
 pub returns : goal.returns
 returns c = record {
-  value = λ v j s r n w. value_back Relaxed _ v s.ranged s.distinct r n j w;
+  value = λ v j s r w. value_back Relaxed _ v s.ranged s.distinct r j w;
   top = top_back Relaxed;
 }

@@ -5,16 +5,23 @@ use Rattle.fallowtime_commands.specs.declared.refusal.Refusal.{Refusal}
 use Rattle.fallowtime_commands.proofs.EarlyLemmas.{leaves, stays}
 use Rattle.fallowtime_commands.proofs.executing.execute.Goals as goal
 
-pub returns-in-Err-clause-step : goal.returns-in-Err-clause-step
-returns-in-Err-clause-step g c =
+pub returns-in-Err : goal.returns-in-Err
+returns-in-Err g c =
     let s = store_state g.S.Store c.args.store.now in
-    let q = c.args.request.now in (
-      Err (refusal c.in-Err.kind),
-      ((c.from.result, refl, ap (λ (r : Refusal). r.error) c.from.ensures), refl),
-      stays c.args.name.now s c.in-Err.kind q c.in-Err.ensures,
-      leaves c.args.name.now s c.in-Err.kind q c.in-Err.ensures,
-    )
+    let q = c.args.request.now in
+    record {
+      outcome = Err (refusal c.in-Err.kind);
+      told = ((c.from.result, refl, ap (λ (r : Refusal). r.error) c.from.ensures), refl);
+      moves = stays c.args.name.now s c.in-Err.kind q c.in-Err.ensures;
+      crash = leaves c.args.name.now s c.in-Err.kind q c.in-Err.ensures;
+      stays = λ clean docs stands. tt;
+    }
 
-pub returns-in-Err-clause-open : goal.returns-in-Err-clause-open
-returns-in-Err-clause-open g c =
-    (Err (refusal c.in-Err.kind), ((c.from.result, refl, ap (λ (r : Refusal). r.error) c.from.ensures), refl), λ clean docs stands. tt)
+pub returns : goal.returns
+returns g c = record {
+  outcome = c.perform-outcome.result;
+  told = c.print_outcome.ensures;
+  moves = c.perform-outcome.ensures.moves;
+  crash = c.perform-outcome.ensures.crash;
+  stays = c.perform-outcome.ensures.open;
+}

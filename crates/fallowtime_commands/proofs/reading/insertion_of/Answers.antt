@@ -11,8 +11,8 @@ unreachable-requires c =
     is_identified c.args.maker.now (content c.in_ok-document.document)
     (subst (λ (m : Members). look_up id_key m ≡ None) c.in_ok-document-2.ensures.document (look_up-members_of id_key (pairs_of c.in_ok-document-2.document) ∙ sym c.in-None.ensures))
 
-pub returns : goal.returns
-returns c = (
-  (content c.in_ok-document.document, c.in_ok-document.ensures, c.in_ok-document-2.ensures.document),
+pub returns-clause-request : goal.returns-clause-request
+returns-clause-request c = (
+  (content c.in_ok-document.document, c.in_ok-document.ensures, c.in_ok-document-2.ensures.document, c.with_id.ensures.maker),
   look_up-members_of id_key (pairs_of c.in_ok-document-2.document) ∙ sym c.in-Some.ensures ∙ ap Some (sym c.in_ok-try_clone-in-Some.ensures),
 )

@@ -1,7 +1,8 @@
-use Rattle.std.proofs.Common.{subst}
+use Rattle.std.proofs.Common.{None, subst, sym}
+use Rattle.std.specs.Str.{IsValidUpTo}
 use Rattle.bson_store.specs.Calls.{store_state}
 use Rattle.fallowtime_session.specs.Deeds.{DoesOne}
-use Rattle.fallowtime_session.specs.Turns.{AnswersText, made_line}
+use Rattle.fallowtime_session.specs.Turns.{Comes, IsOfText, made_line}
 use Rattle.fallowtime_session.proofs.AnswerLemmas.{no_text}
 use Rattle.fallowtime_session.proofs.turns.answer_bytes.Goals as goal
 
@@ -9,7 +10,8 @@ pub returns-in-Ok : goal.returns-in-Ok
 returns-in-Ok g c =
     let s = store_state g.S.Store c.args.store.now in
     let t = store_state g.S.Store c.answer_text.new.store in
-    subst (λ bytes. DoesOne (AnswersText c.args.maker.now c.answer_text.new.maker bytes (made_line c.answer_text.result)) s t) c.in-Ok.ensures.cases.0 c.answer_text.ensures
+    subst (λ bytes. DoesOne (Comes (IsOfText c.args.maker.now c.answer_text.new.maker bytes) (made_line None c.answer_text.result)) s t) c.in-Ok.ensures.cases.0 c.answer_text.ensures
 
 pub returns-in-Err : goal.returns-in-Err
-returns-in-Err g c = no_text (store_state g.S.Store c.args.store.now) c.args.maker.now c.args.bytes.now c.in-Err.ensures.cases.0 c.valid_up_to.result c.words_line.result c.words_line.ensures
+returns-in-Err g c =
+    no_text (store_state g.S.Store c.args.store.now) c.args.maker.now c.args.bytes.now c.valid_up_to.result (subst (IsValidUpTo c.args.bytes.now) (sym c.valid_up_to.ensures) c.in-Err.ensures.cases.1) c.words_line.result c.words_line.ensures

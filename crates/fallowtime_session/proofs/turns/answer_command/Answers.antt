@@ -6,7 +6,7 @@ use Rattle.fallowtime_session.specs.Objects.{MakesLine, id_tree}
 use Rattle.fallowtime_session.specs.Places.{place_text}
 use Rattle.fallowtime_session.specs.Questions.{asked_of}
 use Rattle.fallowtime_session.specs.Requests.{Asks, AsksNothing, GivesQuestion}
-use Rattle.fallowtime_session.proofs.AnswerLemmas.{no_question, nothing_done, replied}
+use Rattle.fallowtime_session.proofs.AnswerLemmas.{nothing_done, replied, unasked}
 use Rattle.fallowtime_session.proofs.turns.answer_command.Goals as goal
 
 pub returns-in-Ok : goal.returns-in-Ok
@@ -19,7 +19,7 @@ returns-in-Ok g c =
 pub returns-in-Err-At : goal.returns-in-Err-At
 returns-in-Err-At g c =
     let reading = asked_of (value_view c.args.command.now) in
-    no_question (store_state g.S.Store c.args.store.now) c.args.maker.now (id_tree c.args.id) reading (place_text c.in-Err-At.place) c.words_line.result
+    unasked (store_state g.S.Store c.args.store.now) c.args.maker.now (id_tree c.args.id) reading (place_text c.in-Err-At.place) c.words_line.result
     (subst (λ m. AsksNothing m reading (place_text c.in-Err-At.place)) c.copy-trial.ensures
     (subst (λ f. GivesQuestion c.copy-trial.result c.question_of.new.maker reading (Err f)) c.in-Err-At.field-0-is c.in-Err-At.ensures)) (subst (λ p. MakesLine (id_tree c.args.id) (words (place_text p)) c.words_line.result) c.in-Err-At.place-is c.words_line.ensures)
 

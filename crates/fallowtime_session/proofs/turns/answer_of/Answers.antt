@@ -1,8 +1,8 @@
-use Rattle.std.proofs.Common.{◌≡◌, ◌∙◌, subst}
+use Rattle.std.proofs.Common.{◌≡◌, ◌∙◌, None, subst}
 use Rattle.bson_store.specs.Calls.{store_state}
 use Rattle.fallowtime_session.specs.Deeds.{DoesOne}
-use Rattle.fallowtime_session.specs.Turns.{AnswersText, made_line}
-use Rattle.fallowtime_session.proofs.AnswerLemmas.{kept_whole, long_is, no_memory, too_long, whole_is}
+use Rattle.fallowtime_session.specs.Turns.{Comes, IsOfText, made_line}
+use Rattle.fallowtime_session.proofs.AnswerLemmas.{kept_whole, long_is, overlong, unkept, whole_is}
 use Rattle.fallowtime_session.proofs.turns.answer_of.Goals as goal
 
 pub returns-in-Whole : goal.returns-in-Whole
@@ -11,12 +11,12 @@ returns-in-Whole g c = λ text keeps.
     let t = store_state g.S.Store c.answer_bytes.new.store in
     let kept = whole_is c.args.line.now text keeps c.in-Whole.is in
     let same : c.as_slice.result.now ≡ text = c.as_slice.ensures.value ∙ kept.0 in
-    let line = made_line c.answer_bytes.result in
-    kept_whole s t c.args.maker.now c.answer_bytes.new.maker text line kept.1 (subst (λ bytes. DoesOne (AnswersText c.args.maker.now c.answer_bytes.new.maker bytes line) s t) same c.answer_bytes.ensures)
+    let line = made_line None c.answer_bytes.result in
+    kept_whole s t c.args.maker.now c.answer_bytes.new.maker text line kept.1 (subst (λ bytes. DoesOne (Comes (IsOfText c.args.maker.now c.answer_bytes.new.maker bytes) line) s t) same c.answer_bytes.ensures)
 
 pub returns-in-TooLong : goal.returns-in-TooLong
 returns-in-TooLong g c = λ text keeps.
-    too_long (store_state g.S.Store c.args.store.now) c.args.maker.now text (long_is c.args.line.now text keeps c.in-TooLong.is) c.words_line.result c.words_line.ensures
+    overlong (store_state g.S.Store c.args.store.now) c.args.maker.now text (long_is c.args.line.now text keeps c.in-TooLong.is) c.words_line.result c.words_line.ensures
 
 pub returns-in-Memory : goal.returns-in-Memory
-returns-in-Memory g c = λ text keeps. no_memory (store_state g.S.Store c.args.store.now) c.args.maker.now text
+returns-in-Memory g c = λ text keeps. unkept (store_state g.S.Store c.args.store.now) c.args.maker.now text

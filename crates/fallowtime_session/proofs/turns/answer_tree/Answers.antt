@@ -1,12 +1,12 @@
-use Rattle.std.proofs.Common.{None, inr, refl, subst, sym}
+use Rattle.std.proofs.Common.{◌∙◌, None, ap, subst, sym}
 use Rattle.std.proofs.lemmas.Result.{err_from_is_err_and}
 use Rattle.json.specs.Value.{value_view}
 use Rattle.bson_store.specs.Calls.{store_state}
-use Rattle.fallowtime_session.specs.Answers.{line_of, memory}
 use Rattle.fallowtime_session.specs.Deeds.{DoesOne}
 use Rattle.fallowtime_session.specs.Objects.{id_tree}
-use Rattle.fallowtime_session.specs.Turns.{AnswersTree, made_line}
-use Rattle.fallowtime_session.proofs.AnswerLemmas.{answered, idle, ran_out}
+use Rattle.fallowtime_session.specs.Questions.{asked_of, command_in, id_of}
+use Rattle.fallowtime_session.specs.Turns.{Comes, IsOfTree, made_line}
+use Rattle.fallowtime_session.proofs.AnswerLemmas.{answered, nothing_read}
 use Rattle.fallowtime_session.proofs.turns.answer_tree.Goals as goal
 
 pub returns-in_err-spare : goal.returns-in_err-spare
@@ -15,14 +15,16 @@ returns-in_err-spare g c =
     let s = store_state g.S.Store c.args.store.now in
     let m = c.args.maker.now in
     let tree = value_view c.args.tree.now in
-    subst (λ r. DoesOne (AnswersTree m m tree (made_line r)) s s) (sym p.1) (idle s (AnswersTree m m tree (line_of None memory)) (inr (inr ((refl, refl), refl))))
+    subst (λ r. DoesOne (Comes (IsOfTree m m (id_of tree) (asked_of (command_in tree))) (made_line None r)) s s) (sym p.1) (nothing_read s m (id_of tree) (asked_of (command_in tree)))
 
 pub returns-in-Ok : goal.returns-in-Ok
 returns-in-Ok g c =
-    answered (store_state g.S.Store c.args.store.now) (store_state g.S.Store c.answer_command.new.store) c.args.maker.now c.answer_command.new.maker (id_tree c.parts_of.result.id) (value_view c.parts_of.result.command.now) (value_view c.args.tree.now) c.answer_command.result c.in-Ok.line
-    c.parts_of.ensures.id c.parts_of.ensures.command c.in-Ok.is c.answer_command.ensures
+    let id = id_tree c.parts_of.result.id in
+    answered (store_state g.S.Store c.args.store.now) (store_state g.S.Store c.answer_command.new.store) c.args.maker.now c.answer_command.new.maker id (value_view c.parts_of.result.command.now) (value_view c.args.tree.now) (made_line id c.answer_command.result) c.in-Ok.line.items
+    c.parts_of.ensures.id c.parts_of.ensures.command (ap (made_line id) c.in-Ok.is) c.answer_command.ensures
 
 pub returns-in-Err : goal.returns-in-Err
 returns-in-Err g c =
-    ran_out (store_state g.S.Store c.args.store.now) (store_state g.S.Store c.answer_command.new.store) c.args.maker.now c.answer_command.new.maker (id_tree c.parts_of.result.id) (value_view c.parts_of.result.command.now) (value_view c.args.tree.now) c.answer_command.result c.in-Err.field-0
-    c.in_ok-spare.spare.items c.parts_of.ensures.id c.parts_of.ensures.command c.in-Err.is c.in_ok-spare.ensures c.answer_command.ensures
+    let id = id_tree c.parts_of.result.id in
+    answered (store_state g.S.Store c.args.store.now) (store_state g.S.Store c.answer_command.new.store) c.args.maker.now c.answer_command.new.maker id (value_view c.parts_of.result.command.now) (value_view c.args.tree.now) (made_line id c.answer_command.result) c.in_ok-spare.spare.items
+    c.parts_of.ensures.id c.parts_of.ensures.command (ap (made_line id) c.in-Err.is ∙ sym c.in_ok-spare.ensures) c.answer_command.ensures

@@ -1,4 +1,6 @@
-use Rattle.std.proofs.Common.{◌≡◌, ◌∙◌, Ok, true, false, ap, string_bytes, String, Global, rules}
+use Rattle.std.proofs.Common.{◌≡◌, ◌∙◌, Ok, true, false, ap, string_bytes, String, Global, Vec, rules}
+use Rattle.store_filter.specs.Filters.{path_of}
+use Rattle.store_index.specs.Find.{IsOn}
 use Rattle.store_table.specs.Moves.{VisitsPlaced}
 use Rattle.store_table.specs.Table.{table_state}
 use Rattle.store_indexed.specs.Gathering.{MakesIndex}
@@ -13,7 +15,8 @@ returns-clause-moves g c =
     let last = c.visit_placed.new.visitor in
     let coll = c.args.coll.now in
     let all : c.in_ok-all.all ≡ true = (let f = c.if-not-all.false in search rules) in
-    let named = ap (λ (s : String Global). string_bytes s) c.new.ensures.coll ∙ c.in_ok-owned.ensures in
-    moved (table_state g.S.Store c.args.table.now) (table_state g.S.Store c.visit_placed.new.self) (VisitsPlaced (TookRows first) first last coll (Ok true)) (MakesIndex coll (Ok last.index))
+    let path = path_of c.args.path.items in
+    let on : IsOn c.new.result coll path = (ap (λ (s : String Global). string_bytes s) c.new.ensures.coll ∙ c.in_ok-owned.ensures, ap (λ (k : Vec (String Global) Global). path_of k.items) c.new.ensures.path) in
+    moved (table_state g.S.Store c.args.table.now) (table_state g.S.Store c.visit_placed.new.self) (VisitsPlaced (TookRows first) first last coll (Ok true)) (MakesIndex coll path (Ok last.index))
     (rw all at c.in_ok-all.ensures.moves)
-    (λ docs after h. made coll first last docs after named c.if-gatherer.false h)
+    (λ docs after h. made coll path first last docs after on c.new.ensures.none c.if-gatherer.false h)

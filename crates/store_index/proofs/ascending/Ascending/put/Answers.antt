@@ -2,7 +2,7 @@ use Rattle.std.proofs.Common.{◌≡◌, ℤ, sym, ap, ◌∙◌, w64, to_z, of_
 use Rattle.std.proofs.lemmas.Int.{to_z-of_z}
 use Rattle.std.specs.List.{insert}
 use Rattle.store_index.specs.Lists.{is_among}
-use Rattle.store_index.proofs.AmongLemmas.{found_among, put_there, put_kept}
+use Rattle.store_index.proofs.AmongLemmas.{found_among, put_there, put_kept, put_or_not_only}
 use Rattle.store_index.proofs.AscendLemmas.{between, put_or_not}
 use Rattle.store_index.proofs.ascending.Ascending.put.Goals as goal
 
@@ -28,3 +28,6 @@ returns-in_ok-insert-in-Err-clause-there c =
 
 pub returns-in_ok-insert-in-Err-clause-kept : goal.returns-in_ok-insert-in-Err-clause-kept
 returns-in_ok-insert-in-Err-clause-kept c p h = ap (is_among p) c.in_ok-insert-in-Err.ensures.items ∙ put_kept _ p c.args.self.now.places.items c.in-Err.at h
+
+pub returns-in_ok-insert-in-Err-clause-only : goal.returns-in_ok-insert-in-Err-clause-only
+returns-in_ok-insert-in-Err-clause-only c q n h = put_or_not_only _ q c.args.self.now.places.items c.insert.new.self.items c.in-Err.at _ c.insert.ensures.items (λ e. n (e ∙ to_z-of_z w64 c.args.place c.ranges.place)) h

@@ -1,7 +1,7 @@
 use Rattle.std.proofs.Common.{◌≡◌, subst, ap, sym, ◌∙◌, w64, to_z, of_z}
 use Rattle.std.proofs.lemmas.Int.{to_z-of_z}
 use Rattle.store_index.specs.Lists.{is_among, Ascends}
-use Rattle.store_index.proofs.AmongLemmas.{taken_kept}
+use Rattle.store_index.proofs.AmongLemmas.{taken_kept, taken_only}
 use Rattle.store_index.proofs.AscendLemmas.{between, not_there, taken_ascends, taken_gone}
 use Rattle.store_index.proofs.ascending.Ascending.take.Goals as goal
 
@@ -28,3 +28,6 @@ returns-in_default-clause-gone c h =
     let xs = c.args.self.now.places.items in
     let same : to_z w64 (of_z w64 place) ≡ place = to_z-of_z w64 place c.ranges.place in
     not_there place xs c.in_default.field-0 (between place xs c.in_default.field-0 c.args.self.now.ascends (rw (c.deref.ensures.value, same) at c.in_default.ensures.position)) h
+
+pub returns-in-Ok-clause-only : goal.returns-in-Ok-clause-only
+returns-in-Ok-clause-only c p h = taken_only p p c.args.self.now.places.items c.in-Ok.at (rw c.deref.ensures.value at c.in-Ok.ensures.bound) (sym (ap (is_among p) c.remove.ensures.items) ∙ h)

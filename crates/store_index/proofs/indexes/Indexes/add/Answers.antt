@@ -1,8 +1,8 @@
 use Rattle.std.proofs.Common.{List, refl, subst, sym, string_bytes}
 use Rattle.store_filter.specs.Filters.{path_of}
-use Rattle.store_index.specs.Find.{HasOn}
+use Rattle.store_index.specs.Find.{HasOn, MissEach, MissesIn}
 use Rattle.store_index.specs.declared.index.Index.{Index}
-use Rattle.store_index.proofs.FindLemmas.{has_last, has_still}
+use Rattle.store_index.proofs.FindLemmas.{all_more, has_last, has_only, has_still}
 use Rattle.store_index.proofs.indexes.Indexes.add.Goals as goal
 
 pub returns-clause-there : goal.returns-clause-there
@@ -14,3 +14,9 @@ returns-clause-there c =
 
 pub returns-clause-others : goal.returns-clause-others
 returns-clause-others c k p h = subst (λ (xs : List Index). HasOn xs k p) (sym c.in_ok-push.ensures.items) (has_still k p c.args.self.now.list.items c.args.index h)
+
+pub returns-clause-only : goal.returns-clause-only
+returns-clause-only c k p h = has_only k p c.args.self.now.list.items c.args.index (subst (λ (xs : List Index). HasOn xs k p) c.in_ok-push.ensures.items h)
+
+pub returns-clause-missed : goal.returns-clause-missed
+returns-clause-missed c p b h one = subst (λ (xs : List Index). MissEach xs p b) (sym c.in_ok-push.ensures.items) (all_more (λ (ix : Index). MissesIn ix p b) c.args.self.now.list.items c.args.index h one)

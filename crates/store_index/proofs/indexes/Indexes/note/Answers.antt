@@ -1,4 +1,5 @@
-use Rattle.std.proofs.Common.{Vec, Global, sym, subst}
+use Rattle.std.proofs.Common.{Vec, Global, sym, subst, ◌∙◌, w64}
+use Rattle.std.proofs.lemmas.Int.{to_z-of_z}
 use Rattle.store_index.specs.Find.{FindEach, MissEach}
 use Rattle.store_index.specs.declared.index.Index.{Index}
 use Rattle.store_index.proofs.indexes.Indexes.note.Goals as goal
@@ -8,3 +9,6 @@ returns-clause-kept c k p b h = c.in_ok-self.ensures.kept k p b (subst (λ (v : 
 
 pub returns-clause-renewed : goal.returns-clause-renewed
 returns-clause-renewed c p b h = c.in_ok-self.ensures.renewed p b (subst (λ (v : Vec Index Global). MissEach v.items p b) (sym c.take-list.ensures.taken) h)
+
+pub returns-clause-others : goal.returns-clause-others
+returns-clause-others c p b n h = c.in_ok-self.ensures.others p b (λ e. n (e ∙ to_z-of_z w64 c.args.place c.ranges.place)) (subst (λ (v : Vec Index Global). MissEach v.items p b) (sym c.take-list.ensures.taken) h)

@@ -12,3 +12,9 @@ pub returns-clause-gone : goal.returns-clause-gone
 returns-clause-gone c =
     let same : to_z w64 (of_z w64 c.args.place) ≡ c.args.place = to_z-of_z w64 c.args.place c.ranges.place in
     subst (λ (p : ℤ). Renews c.note.new.self p c.args.old.now c.args.body.now) same (c.note.ensures.renewed _ c.args.old.now c.forget.ensures.gone)
+
+pub returns-clause-renewed : goal.returns-clause-renewed
+returns-clause-renewed c p b h = c.note.ensures.renewed p b (c.forget.ensures.missed p b h)
+
+pub returns-clause-others : goal.returns-clause-others
+returns-clause-others c p b n h = c.note.ensures.others p b (λ e. n (e ∙ to_z-of_z w64 c.args.place c.ranges.place)) (c.forget.ensures.missed p b h)

@@ -4,7 +4,7 @@ use Rattle.std.specs.Cmp.Lexicographic.{slice_cmp}
 use Rattle.std.specs.Ordering.{nat_cmp}
 use Rattle.std.specs.BTreeMap.{get_by}
 use Rattle.store_index.specs.declared.place_list.PlaceList.{PlaceList}
-use Rattle.store_index.proofs.MovedLemmas.{at_key, gone_list, moved_list, twice}
+use Rattle.store_index.proofs.MovedLemmas.{at_key, back_list, gone_list, moved_list, twice}
 use Rattle.store_index.proofs.places.Places.take.Goals as goal
 
 pub returns-in-None : goal.returns-in-None
@@ -16,6 +16,10 @@ returns-in-None c = record {
       let out : get_by (at_key k.items) c.remove-old.new.self ≡ cond (is_eq (slice_cmp nat_cmp c.args.key.items k.items)) None (get_by (at_key k.items) c.args.self.now.lists) = (let u = c.remove-old.ensures.updates.0 k in let s = c.as_slice.ensures.value in search rules) in
       moved_list c.args.self.now.lists c.remove-old.new.self c.args.key k c.remove-old.result None p
       (let v = c.remove-old.ensures.value in let s = c.as_slice.ensures.value in search rules) (c.in-None.ensures.kept p (λ e. other (e ∙ to_z-of_z w64 c.args.place c.ranges.place))) out h;
+  only = λ k p h.
+      let out : get_by (at_key k.items) c.remove-old.new.self ≡ cond (is_eq (slice_cmp nat_cmp c.args.key.items k.items)) None (get_by (at_key k.items) c.args.self.now.lists) = (let u = c.remove-old.ensures.updates.0 k in let s = c.as_slice.ensures.value in search rules) in
+      back_list c.args.self.now.lists c.remove-old.new.self c.args.key k c.remove-old.result None p
+      (let v = c.remove-old.ensures.value in let s = c.as_slice.ensures.value in search rules) (c.in-None.ensures.only p) out h;
 }
 
 pub returns-in_ok-insert-in-Some : goal.returns-in_ok-insert-in-Some
@@ -28,5 +32,11 @@ returns-in_ok-insert-in-Some c = record {
       let out : get_by (at_key k.items) c.remove-old.new.self ≡ cond b None (get_by (at_key k.items) c.args.self.now.lists) = (let u = c.remove-old.ensures.updates.0 k in let s = c.as_slice.ensures.value in search rules) in
       moved_list c.args.self.now.lists c.insert.new.self c.args.key k c.remove-old.result (Some c.in-Some.rest) p
       (let v = c.remove-old.ensures.value in let s = c.as_slice.ensures.value in search rules) (c.in-Some.ensures.kept p (λ e. other (e ∙ to_z-of_z w64 c.args.place c.ranges.place)))
+      (c.in_ok-insert-in-Some.ensures.updates.0 k ∙ ap (λ (x : Option PlaceList). cond b (Some c.in-Some.rest) x) out ∙ twice b (Some c.in-Some.rest) None (get_by (at_key k.items) c.args.self.now.lists)) h;
+  only = λ k p h.
+      let b = is_eq (slice_cmp nat_cmp c.args.key.items k.items) in
+      let out : get_by (at_key k.items) c.remove-old.new.self ≡ cond b None (get_by (at_key k.items) c.args.self.now.lists) = (let u = c.remove-old.ensures.updates.0 k in let s = c.as_slice.ensures.value in search rules) in
+      back_list c.args.self.now.lists c.insert.new.self c.args.key k c.remove-old.result (Some c.in-Some.rest) p
+      (let v = c.remove-old.ensures.value in let s = c.as_slice.ensures.value in search rules) (c.in-Some.ensures.only p)
       (c.in_ok-insert-in-Some.ensures.updates.0 k ∙ ap (λ (x : Option PlaceList). cond b (Some c.in-Some.rest) x) out ∙ twice b (Some c.in-Some.rest) None (get_by (at_key k.items) c.args.self.now.lists)) h;
 }

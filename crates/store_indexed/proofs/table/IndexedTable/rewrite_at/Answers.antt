@@ -26,3 +26,8 @@ invariant_of-self g c = record { kept = ∥∥₁_map c.args.self.now.kept (empt
 
 pub invariant_of-self-in-None : goal.invariant_of-self-in-None
 invariant_of-self-in-None g c = record { kept = ∥∥₁_map c.args.self.now.kept (emptied (table_state g.S.Store c.args.self.now.table) (table_state g.S.Store c.rewrite_placed.new.table) c.args.self.now.indexes c.clear.new.self _ c.in_ok-coll.ensures.moves (search rules)) }
+
+pub returns-in-Some-clause-forgotten : goal.returns-in-Some-clause-forgotten
+returns-in-Some-clause-forgotten g c p b other h =
+    let same : to_z w64 (of_z w64 c.args.found.now.place) ≡ c.args.found.now.place = search rules in
+    c.renew.ensures.others p b (λ e. other (e ∙ same)) h
