@@ -1,0 +1,4 @@
+pub mod SizeLemmas
+pub mod DigitLemmas
+pub mod WholeLemmas
+pub mod DoubleLemmas

@@ -1,0 +1,4 @@
+pub mod Line
+pub mod Digits
+pub mod Sizes
+pub mod Wholes

@@ -1,0 +1,5 @@
+pub mod KeyLemmas
+pub mod ApartLemmas
+pub mod TurnLemmas
+pub mod MeaningLemmas
+pub mod TextLemmas

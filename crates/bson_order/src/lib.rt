@@ -1,0 +1,12 @@
+//! The order of values across their kinds, as MongoDB's documentation defines it (Comparison/Sort Order), from their
+//! bytes. Numbers are compared by value, whatever their kinds, and exactly.
+#![tactic(auto)]
+
+pub mod laws;
+mod ranks;
+mod scalars;
+mod values;
+
+pub use ranks::rank_of;
+pub use scalars::{is_not_a_number, whole_part_of};
+pub use values::{LEVEL_LIMIT, compare};

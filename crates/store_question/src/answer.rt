@@ -1,0 +1,310 @@
+//! Whether a document answers a question.
+
+ghost use Rattle.std.specs.Prelude.{◌≡◌, ◌↔◌, ◌≤◌, IsTrue, map, Some, true, Option as Maybe};
+ghost use Rattle.bson_base.specs.Value.{Members, Value, array as array_value, document as tree, levels, look_up, Items};
+ghost use Rattle.bson_bytes.specs.Encode.{encode};
+ghost use Rattle.bson_raw.specs.View.{bytes_of, parts_of};
+ghost use Rattle.store_filter.specs.Filters.{path_of};
+ghost use Rattle.store_filter.specs.Views.{ComeBack, ComesBack, Encodes, Finds, FindsElement, HoldsPairs, IsWrittenFor, OfWritten};
+ghost use Rattle.store_model.specs.Filter.{pairs, under_places};
+ghost use Rattle.store_question.specs.Asked.{Asked, Askeds, Answers, AnswersAll, AnswersAny, AnyMember, HasItem, IntoDocument, AtEnd, AtMember, AtPlace, Along, Through, Under};
+ghost use Rattle.store_question.specs.Reads.{Found, FindsMember, OfElement, OfMembers, ReadEach, Reads, Shows, form_of, forms_of};
+
+use crate::leaf::{has_kind, has_size, items_in, leaves, lies};
+use crate::question::Question;
+use bson_raw::{RawBsonRef, RawDocument, RawElement};
+
+/// Whether a document answers a question. Takes no memory, and has a result for any bytes.
+pub fn answers(document: RawDocument<'_>, question: &Question) -> bool
+    ensures { (t : Asked) → Reads (form_of question.now) t → OfWritten (bytes_of document.entry)
+        (λ d. levels (tree d) ≤ 200 → IsTrue result ↔ Answers t (Some (tree d))) }
+{
+    fits(Some(RawBsonRef::Document(document)), question)
+}
+
+/// Whether a value, or nothing, answers a question.
+#[cycle(asking)]
+fn fits(value: Option<RawBsonRef<'_>>, question: &Question) -> bool
+    ensures { (t : Asked) → Reads (form_of question.now) t → (o : Maybe Value) → Shows value.entry o
+        → IsTrue result ↔ Answers t o }
+{
+    match question {
+        Question::At(path, inner) => along(value, path.as_slice(), inner, true),
+        Question::Whole(path, inner) => along(value, path.as_slice(), inner, false),
+        Question::Exists => value.is_some(),
+        Question::Kind(kind) => has_kind(value, *kind),
+        Question::Compare(comparison, other) => lies(value, *comparison, other.as_raw_bson_ref()),
+        Question::Size(size) => has_size(value, *size),
+        Question::Remainder(divisor, remainder) => leaves(value, *divisor, *remainder),
+        Question::Item(inner) => any_item(value, inner),
+        Question::Not(inner) => !fits(value, inner),
+        Question::All(list) => fits_all(value, list),
+        Question::Any(list) => fits_any(value, list),
+    }
+}
+
+#[cycle(asking)]
+fn fits_all(value: Option<RawBsonRef<'_>>, list: &[Question]) -> bool
+    ensures { (ts : Askeds) → ReadEach (forms_of (map form_of list.now)) ts → (o : Maybe Value) → Shows value.entry o
+        → IsTrue result ↔ AnswersAll ts o }
+{
+    for question in list {
+        if !fits(value, question) {
+            return false;
+        }
+    }
+    true
+}
+
+#[cycle(asking)]
+fn fits_any(value: Option<RawBsonRef<'_>>, list: &[Question]) -> bool
+    ensures { (ts : Askeds) → ReadEach (forms_of (map form_of list.now)) ts → (o : Maybe Value) → Shows value.entry o
+        → IsTrue result ↔ AnswersAny ts o }
+{
+    for question in list {
+        if fits(value, question) {
+            return true;
+        }
+    }
+    false
+}
+
+/// Whether the value is an array, and one of its items answers.
+#[cycle(asking)]
+fn any_item(value: Option<RawBsonRef<'_>>, question: &Question) -> bool
+    ensures { (t : Asked) → Reads (form_of question.now) t → (o : Maybe Value) → Shows value.entry o
+        → IsTrue result ↔ HasItem (λ v. Answers t (Some v)) o }
+{
+    match items_in(value) {
+        Some(items) => any_member(items, question),
+        None => false,
+    }
+}
+
+/// Whether one of the members answers.
+#[cycle(asking)]
+fn any_member(items: RawDocument<'_>, question: &Question) -> bool
+    ensures { (t : Asked) → Reads (form_of question.now) t → OfMembers (bytes_of items.entry)
+        (λ ms. IsTrue result ↔ AnyMember (λ k v. Answers t (Some v)) ms) }
+{
+    for item in items.iter_elements() {
+        let Ok(element) = item else {
+            return false;
+        };
+        if member_fits(&element, question) {
+            return true;
+        }
+    }
+    false
+}
+
+#[cycle(asking)]
+fn member_fits(element: &RawElement<'_>, question: &Question) -> bool
+    ensures { (t : Asked) → Reads (form_of question.now) t → OfElement (parts_of element.now)
+        (λ k v. IsTrue result ↔ Answers t (Some v)) }
+{
+    match value_of(element) {
+        Some(found) => fits(Some(found), question),
+        None => false,
+    }
+}
+
+/// Along a path from a value. If `opens`, an array at the end also answers by its items.
+#[cycle(asking)]
+fn along(value: Option<RawBsonRef<'_>>, path: &[String], question: &Question, opens: bool) -> bool
+    ensures { (t : Asked) → Reads (form_of question.now) t → (o : Maybe Value) → Shows value.entry o
+        → IsTrue result ↔ Along opens (Answers t) (path_of path.now) o }
+{
+    let Some((key, rest)) = path.split_first() else {
+        return fits(value, question);
+    };
+    match value {
+        Some(found) => under(found, key.as_str(), rest, question, opens),
+        None => fits(None, question),
+    }
+}
+
+/// What is under a key of a document, or under the key of an array's place, and on along the path.
+#[cycle(asking)]
+fn under(
+    value: RawBsonRef<'_>,
+    key: &str,
+    rest: &[String],
+    question: &Question,
+    opens: bool,
+) -> bool
+    ensures { (t : Asked) → Reads (form_of question.now) t → (v : Value) → Found value.entry v
+        → IsTrue result ↔ Under opens (Answers t) key.now (AtMember opens (Answers t) (path_of rest.now)) (pairs v) }
+{
+    match look_in(value, key) {
+        Some(found) => at_member(found, rest, question, opens),
+        None => fits(None, question),
+    }
+}
+
+/// On from what a document has under a key.
+#[cycle(asking)]
+fn at_member(value: RawBsonRef<'_>, path: &[String], question: &Question, opens: bool) -> bool
+    ensures { (t : Asked) → Reads (form_of question.now) t → (v : Value) → Found value.entry v
+        → IsTrue result ↔ AtMember opens (Answers t) (path_of path.now) v }
+{
+    let Some((key, rest)) = path.split_first() else {
+        return at_end(value, question, opens);
+    };
+    if value.as_document().is_some() {
+        return under(value, key.as_str(), rest, question, opens);
+    }
+    match items_in(Some(value)) {
+        Some(items) => through(items, key.as_str(), rest, question, opens),
+        None => fits(None, question),
+    }
+}
+
+#[cycle(asking)]
+fn at_end(value: RawBsonRef<'_>, question: &Question, opens: bool) -> bool
+    ensures { (t : Asked) → Reads (form_of question.now) t → (v : Value) → Found value.entry v
+        → IsTrue result ↔ AtEnd opens (Answers t) v }
+{
+    if !opens {
+        return fits(Some(value), question);
+    }
+    if any_item(Some(value), question) {
+        return true;
+    }
+    fits(Some(value), question)
+}
+
+/// Through the items of an array.
+#[cycle(asking)]
+fn through(
+    items: RawDocument<'_>,
+    key: &str,
+    rest: &[String],
+    question: &Question,
+    opens: bool,
+) -> bool
+    ensures { (t : Asked) → Reads (form_of question.now) t → OfMembers (bytes_of items.entry)
+        (λ ms. IsTrue result ↔ AnyMember (Through opens (Answers t) key.now (AtMember opens (Answers t) (path_of rest.now))
+        (AtPlace opens (Answers t) (path_of rest.now))) ms) }
+{
+    for item in items.iter_elements() {
+        let Ok(element) = item else {
+            return false;
+        };
+        if goes_through(&element, key, rest, question, opens) {
+            return true;
+        }
+    }
+    false
+}
+
+/// Into a document, and into the item whose place is the key.
+#[cycle(asking)]
+fn goes_through(
+    element: &RawElement<'_>,
+    key: &str,
+    rest: &[String],
+    question: &Question,
+    opens: bool,
+) -> bool
+    ensures { (t : Asked) → Reads (form_of question.now) t → OfElement (parts_of element.now)
+        (λ k v. IsTrue result ↔ Through opens (Answers t) key.now (AtMember opens (Answers t) (path_of rest.now))
+        (AtPlace opens (Answers t) (path_of rest.now)) k v) }
+{
+    let Some(found) = value_of(element) else {
+        return false;
+    };
+    if into_document(found, key, rest, question, opens) {
+        return true;
+    }
+    if element.key() == key {
+        return at_place(found, rest, question, opens);
+    }
+    false
+}
+
+/// Into a value that is a document.
+#[cycle(asking)]
+fn into_document(
+    value: RawBsonRef<'_>,
+    key: &str,
+    rest: &[String],
+    question: &Question,
+    opens: bool,
+) -> bool
+    ensures { (t : Asked) → Reads (form_of question.now) t → (v : Value) → Found value.entry v
+        → IsTrue result ↔ IntoDocument opens (Answers t) key.now (AtMember opens (Answers t) (path_of rest.now)) v }
+{
+    if value.as_document().is_some() {
+        under(value, key, rest, question, opens)
+    } else {
+        false
+    }
+}
+
+/// On from an item that was reached by its place. Such an item at the end of the path isn't opened.
+#[cycle(asking)]
+fn at_place(value: RawBsonRef<'_>, path: &[String], question: &Question, opens: bool) -> bool
+    ensures { (t : Asked) → Reads (form_of question.now) t → (v : Value) → Found value.entry v
+        → IsTrue result ↔ AtPlace opens (Answers t) (path_of path.now) v }
+{
+    let Some((key, rest)) = path.split_first() else {
+        return fits(Some(value), question);
+    };
+    if value.as_document().is_some() {
+        return under(value, key.as_str(), rest, question, opens);
+    }
+    match items_in(Some(value)) {
+        Some(items) => through(items, key.as_str(), rest, question, opens),
+        None => false,
+    }
+}
+
+/// What a value has under a key.
+fn look_in<'a>(value: RawBsonRef<'a>, key: &str) -> Option<RawBsonRef<'a>>
+    ensures { (v : Value) → Found value.entry v → FindsMember result (look_up key.now (pairs v)) }
+{
+    let document = elements_of(value)?;
+    match find(document, key) {
+        Some(element) => value_of(&element),
+        None => None,
+    }
+}
+
+/// The document whose elements a step looks through, if the value has any.
+fn elements_of(value: RawBsonRef<'_>) -> Option<RawDocument<'_>>
+    ensures { (v : Value) → Encodes value.entry v → HoldsPairs result v }
+{
+    if let Some(document) = value.as_document() {
+        return Some(document);
+    }
+    let array = value.as_array()?;
+    RawDocument::from_bytes(array.as_bytes()).ok()
+}
+
+/// The first element with the key.
+fn find<'a>(document: RawDocument<'a>, key: &str) -> Option<RawElement<'a>>
+    ensures { (ms : Members) → bytes_of document.entry ≡ encode ms → ComeBack ms
+        → FindsElement result (look_up key.now ms) }
+{
+    for item in document.iter_elements() {
+        let Ok(element) = item else {
+            return None;
+        };
+        if key == element.key() {
+            return Some(element);
+        }
+    }
+    None
+}
+
+/// The value of an element, unless its payload has a fault.
+fn value_of<'a>(element: &RawElement<'a>) -> Option<RawBsonRef<'a>>
+    ensures { (v : Value) → IsWrittenFor (parts_of element.now) v → ComesBack v → Finds result (Some v) }
+{
+    bson_raw::laws::payload_of_an_element(element);
+    match element.value_or_kind() {
+        Ok(value) => Some(value),
+        Err(_) => None,
+    }
+}

@@ -1,0 +1,136 @@
+//! What is asked of one value.
+
+ghost use Rattle.std.specs.Prelude.{◌≡◌, ◌↔◌, ◌≤◌, IsTrue, IsSomeAnd, option_and_then, unwrap_or};
+ghost use Rattle.bson_base.specs.Value.{Value, scalar, null, value_kind, levels};
+ghost use Rattle.bson_numbers.specs.Wholes.{part_of};
+ghost use Rattle.bson_raw.specs.Convert.{SpellsRawValue};
+ghost use Rattle.bson_raw.specs.Raw.{ref_value};
+ghost use Rattle.bson_raw.specs.View.{bytes_of};
+ghost use Rattle.std.specs.Prelude.{Option as Maybe};
+ghost use Rattle.store_question.specs.Asked.{lies_to, lies_apart, holds as holds_so, HasSize, count as count_of, leaves_so};
+ghost use Rattle.store_question.specs.Reads.{Shows, HoldsItems, OfMembers};
+
+use crate::question::Comparison;
+use bson_base::ElementType;
+use bson_order::{compare, is_not_a_number, rank_of, whole_part_of};
+use bson_raw::{RawBsonRef, RawDocument};
+use std::cmp::Ordering;
+
+/// Whether a value lies so to another. What is absent lies as null does. Only what has one rank is compared, but every
+/// value lies above the least key and below the greatest. What is no number is equal to what is none, and neither less
+/// nor greater.
+pub(crate) fn lies(
+    value: Option<RawBsonRef<'_>>,
+    comparison: Comparison,
+    other: RawBsonRef<'_>,
+) -> bool
+    ensures { (o : Maybe Value) (w : Value) → Shows value.entry o → SpellsRawValue (ref_value other.entry) w
+        → result ≡ lies_to comparison (unwrap_or o (scalar null)) w }
+{
+    match value {
+        Some(found) => lies_so(found, comparison, other),
+        None => lies_so(RawBsonRef::Null, comparison, other),
+    }
+}
+
+fn lies_so(here: RawBsonRef<'_>, comparison: Comparison, other: RawBsonRef<'_>) -> bool
+    ensures { (v w : Value) → SpellsRawValue (ref_value here.entry) v → SpellsRawValue (ref_value other.entry) w
+        → levels v ≤ 200 → result ≡ lies_to comparison v w }
+{
+    if rank_of(here) == rank_of(other) {
+        if is_not_a_number(here) == is_not_a_number(other) {
+            holds(comparison, compare(here, other))
+        } else {
+            false
+        }
+    } else {
+        apart(comparison, other)
+    }
+}
+
+/// How a value of another rank lies.
+fn apart(comparison: Comparison, other: RawBsonRef<'_>) -> bool
+    ensures { (w : Value) → SpellsRawValue (ref_value other.entry) w → result ≡ lies_apart comparison w }
+{
+    match other {
+        RawBsonRef::MinKey => holds(comparison, Ordering::Greater),
+        RawBsonRef::MaxKey => holds(comparison, Ordering::Less),
+        _ => false,
+    }
+}
+
+fn holds(comparison: Comparison, order: Ordering) -> bool
+    ensures { result ≡ holds_so comparison order }
+{
+    match comparison {
+        Comparison::Less => order.is_lt(),
+        Comparison::AtMost => order.is_le(),
+        Comparison::Equal => order.is_eq(),
+        Comparison::AtLeast => order.is_ge(),
+        Comparison::Greater => order.is_gt(),
+    }
+}
+
+pub(crate) fn has_kind(value: Option<RawBsonRef<'_>>, kind: ElementType) -> bool
+    ensures { (o : Maybe Value) → Shows value.entry o → IsTrue result ↔ IsSomeAnd o (λ v. value_kind v ≡ kind) }
+{
+    match value {
+        Some(found) => found.element_type() == kind,
+        None => false,
+    }
+}
+
+/// Whether a value is a number that leaves this remainder: of its whole part, with the sign of the number. MongoDB's
+/// `$mod` cuts a number off toward zero, and has no match for one beyond 64 bits, an infinity and NaN.
+pub(crate) fn leaves(value: Option<RawBsonRef<'_>>, divisor: i64, remainder: i64) -> bool
+    ensures { (o : Maybe Value) → Shows value.entry o
+        → result ≡ leaves_so divisor remainder (option_and_then part_of o) }
+{
+    match value {
+        Some(found) => leaves_by(whole_part_of(found), divisor, remainder),
+        None => false,
+    }
+}
+
+fn leaves_by(part: Option<i64>, divisor: i64, remainder: i64) -> bool
+    ensures { result ≡ leaves_so divisor remainder part }
+{
+    match part {
+        Some(part) => divisor != 0 && part.wrapping_rem(divisor) == remainder,
+        None => false,
+    }
+}
+
+/// The document of an array's elements.
+pub(crate) fn items_in(value: Option<RawBsonRef<'_>>) -> Option<RawDocument<'_>>
+    ensures { (o : Maybe Value) → Shows value.entry o → HoldsItems result o }
+{
+    let found = value?;
+    let array = found.as_array()?;
+    RawDocument::from_bytes(array.as_bytes()).ok()
+}
+
+pub(crate) fn has_size(value: Option<RawBsonRef<'_>>, size: u64) -> bool
+    ensures { (o : Maybe Value) → Shows value.entry o → IsTrue result ↔ HasSize size o }
+{
+    match items_in(value) {
+        Some(items) => has_so_many(items, size),
+        None => false,
+    }
+}
+
+fn has_so_many(items: RawDocument<'_>, size: u64) -> bool
+    ensures { OfMembers (bytes_of items.entry) (λ ms. IsTrue result ↔ (count_of ms ≡ size)) }
+{
+    let mut left = size;
+    for item in items.iter_elements() {
+        let Ok(_element) = item else {
+            return false;
+        };
+        if left == 0 {
+            return false;
+        }
+        left -= 1;
+    }
+    left == 0
+}

@@ -1,0 +1,11 @@
+//! Questions to documents with the meaning of MongoDB's queries: by range, into arrays, by count. They are answered from
+//! the documents' bytes, without memory.
+#![tactic(auto)]
+
+mod answer;
+pub mod laws;
+mod leaf;
+mod question;
+
+pub use answer::answers;
+pub use question::{Comparison, Question};
