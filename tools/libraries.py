@@ -76,7 +76,7 @@ class Builds:
     """The crates that are wanted, and how far each is."""
 
     def __init__(self, below, wanted, at_once):
-        self.below, self.at_once = below, at_once
+        self.below, self.at_once, self.count = below, at_once, len(wanted)
         self.left, self.running, self.built, self.failed = set(wanted), set(), set(), set()
         self.changed = threading.Condition()
 
@@ -93,7 +93,8 @@ class Builds:
         with self.changed:
             self.running.remove(name)
             (self.failed if done.returncode else self.built).add(name)
-            print(f"{name}: {'FAILED' if done.returncode else 'proved'}, {time.time() - began:.0f} s", flush=True)
+            done_now = len(self.built) + len(self.failed)
+            print(f"{name}: {'FAILED' if done.returncode else 'proved'}, {done_now} of {self.count}, {time.time() - began:.0f} s", flush=True)
             self.changed.notify()
 
     def run(self):

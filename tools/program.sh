@@ -43,13 +43,13 @@ sources() {
             }' "$root/crates.txt" -
 }
 
-# Prints one source that was edited, came or went since a program was built, if there is one. Of a program without a record only
-# what is newer is known. Where there are no sources nothing is newer.
+# Prints one source that was edited, came or went since a program was built, if there is one: this repository's, or that of a crate
+# that is named. Of a program without a record only what is newer is known. Where there are no sources nothing is newer.
 changed() {
     [ -e "$root/crates.txt" ] || return 0
-    record=${1%/*}/bson_store.build
+    record=${1%/*}/${2:-bson_store}.build
     [ -e "$record" ] || record=/dev/null
-    sources "$crate" "$1" | awk -v record="$record" '
+    sources "${2:-$crate}" "$1" | awk -v record="$record" '
         BEGIN { while ((getline line < record) > 0) if (is_listed) { listed[line]; count++ } else is_listed = line == "sources" }
         function report(line) { print line ~ /\// ? line : "crates.txt"; is_done = 1; exit }
         sub(/ newer$/, "") || count && !($0 in listed) { report($0) }
@@ -57,15 +57,15 @@ changed() {
         END { if (!is_done) for (line in listed) report(line) }'
 }
 
-# The record of a program that is about to be built, in the way that is given.
+# The record of a program that is about to be built, in the way that is given: this repository's, or that of a crate that is named.
 describe() {
     commit=
     if [ -e "$root/.git" ]; then commit=$(git -C "$root" rev-parse --short HEAD 2>/dev/null); fi
     if [ -n "$commit" ] && [ -n "$(git -C "$root" status --porcelain -- crates.txt 'crates/*/src' 2>/dev/null)" ]; then
         commit="$commit with edits"
     fi
-    printf '%s\n' "version $(cat "$root/VERSION")" "commit ${commit:-unknown}" "built $1" sources
-    sources "$crate"
+    printf '%s\n' "version $(cat "$root/VERSION" 2>/dev/null)" "commit ${commit:-unknown}" "built $1" sources
+    sources "${2:-$crate}"
 }
 
 # Gives the program that lies in a folder its names, beside it.
@@ -109,9 +109,11 @@ guard() {
 }
 
 # Ends the process `child` when the process that started this script is gone, if that one asked for it and is still there: the
-# package for Python does, since nobody waits for what is built for it when it has ended.
+# package for Python does, since nobody waits for what is built for it when it has ended. It ends with the process `child`, too: the
+# signal by which `guard` ends it may come before it can see one.
 stay_with_parent() {
     while [ "$(sed -n 's/^PPid:[[:space:]]*//p' "/proc/$$/status")" = "$PPID" ]; do
+        kill -0 "$child" 2>/dev/null || return 0
         sleep 1 &
         wait "$!"
     done
