@@ -5,7 +5,5 @@
 mod elements;
 mod form;
 mod keys;
-#[cfg(test)]
-mod tests;
 
 pub use form::{is_written_form, written_element};

@@ -23,9 +23,8 @@ use Rattle.bson_model.specs.Keyed.{Key}
 use Rattle.bson_model.specs.declared.bson.Bson.{Bson}
 use Rattle.bson_model.specs.declared.extjson.ser.Mode.{Mode}
 use Rattle.bson_model.specs.declared.extjson.ser.Mode.TheVariants.{Canonical, Relaxed}
-use Rattle.bson_text.specs.Prints.{Adds}
 use Rattle.bson_json.specs.Form.{Writes, WritesScalar, WritesItems, WritesMembers, scope_form, text_wrapper}
-use Rattle.bson_json.specs.Prints.{AddsSome, PrintsForm, IsTextOf}
+use Rattle.bson_json.specs.Prints.{Adds, AddsSome, PrintsForm, IsTextOf}
 
 -- tokens after those that were added
 pub behind : (a b : List Token) (old now end : Written) → Adds a old now → Adds b now end → Adds (a ++ b) old end

@@ -126,7 +126,8 @@ of_found P (p ∷ ps) k v h e = by (of_found P ps k v (λ i d below. h (suc i) d
         subst (λ l. P (l, v)) key (subst (λ w. P (p.0, w)) value (h 0 p (omega arith)))
     by more false f g = more g
 
-found_alike : (ps qs : Pairs) → IsPermutation ps qs → KeysOnce ps → KeysOnce qs → (k : Key) → get k qs ≡ get k ps
+-- pairs in another order have the same under each key
+pub found_alike : (ps qs : Pairs) → IsPermutation ps qs → KeysOnce ps → KeysOnce qs → (k : Key) → get k qs ≡ get k ps
 found_alike ps qs moved once once' k = by (get k ps) (get k qs) refl refl
   where
     there : All (λ p. get p.0 qs ≡ Some p.1) ps

@@ -3,3 +3,4 @@ pub mod ApartLemmas
 pub mod TurnLemmas
 pub mod MeaningLemmas
 pub mod TextLemmas
+pub mod TreeLemmas

@@ -45,6 +45,6 @@ pub use element::RawElement;
 pub use iter::Iter;
 pub use raw_iter::RawIter;
 pub use read_error::ReadError;
-pub use reader::{from_reader, next_document};
+pub use reader::{from_reader, next_document, read_bytes};
 pub use write_error::WriteError;
 pub use writer::to_writer;

@@ -76,8 +76,15 @@ fn read_rest<R: Source>(
     }
 }
 
-/// Replaces what was in `room` by the bytes of the next document; false if nothing was left.
-fn read_bytes<R: Source>(reader: &mut R, room: &mut Vec<u8>) -> Result<bool, ReadError>
+/// Replaces what was in `room` by the bytes of the next document of a reader that gives one after the other, and returns
+/// whether there was one: false if the reader had nothing left. Exactly the bytes that the document declares are taken
+/// from the reader, and nothing of them is looked at except the declared length. The caller makes sure that fewer than
+/// 2⁶⁴ - 1 calls of the reader have failed.
+///
+/// `Reader` if a read failed; `EndInside` if the reader ended after at least one byte of the document; `BadLength` if the
+/// declared length is under 5 or over 16777216, which took four bytes; `Memory` if a growth was refused. After an error
+/// nothing is promised of what `room` holds.
+pub fn read_bytes<R: Source>(reader: &mut R, room: &mut Vec<u8>) -> Result<bool, ReadError>
     requires { CanFail (R.feed reader.old) }
     ensures { TakesDeclared (R.feed reader.old)
         (R.feed reader.new) room.new.items result }

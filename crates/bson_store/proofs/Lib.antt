@@ -10,6 +10,7 @@ pub mod ReadLemmas
 pub mod ExitLemmas
 pub mod RunLemmas
 pub mod ExportLemmas
+pub mod DecideLemmas
 pub mod SelectLemmas
 pub mod NameLemmas
 pub mod KeyLemmas
@@ -25,3 +26,6 @@ pub mod CrashLemmas
 pub mod ReopenLemmas
 pub mod RestoreLemmas
 pub mod StandLemmas
+pub mod DraftedLemmas
+pub mod EditLemmas
+pub mod WholeLemmas

@@ -1,5 +1,5 @@
 -- What a filter selects of the documents of a collection, taken one after the other.
-use Rattle.std.proofs.Common.{◌≡◌, ◌≢◌, inl, inr, ℕ, List, [], ◌∷◌, ◌++◌, map, filter, Bool, true, false, cond, Option, Some, None, Result, Ok, Err, append-nil, String, Global, length, refl, ap, ap₂, ◌∙◌, sym, subst}
+use Rattle.std.proofs.Common.{◌≡◌, ◌≢◌, ◌⊎◌, inl, inr, ℕ, List, [], ◌∷◌, ◌++◌, map, filter, Bool, true, false, cond, Option, Some, None, Result, Ok, Err, append-nil, String, Global, length, refl, ap, ap₂, ◌∙◌, sym, subst}
 use Rattle.std.specs.Prelude.{MatchOption}
 use Rattle.sqlite.specs.State.{State}
 use Rattle.bson_base.specs.Value.{Members, document}
@@ -16,7 +16,7 @@ use Rattle.store_model.specs.State.{Answers, AreKept, Call, IsKept, IsName, Pick
 use Rattle.store_model.specs.Table.{DocumentTable, documents_of}
 use Rattle.bson_store.specs.Calls.{Does}
 use Rattle.bson_store.specs.Export.{bytes_of_each}
-use Rattle.bson_store.specs.Questions.{GivesPicked, Picked, Turns}
+use Rattle.bson_store.specs.Questions.{GivesPicked, IsSettled, Picked, PickedFrom, Turns}
 use Rattle.bson_store.specs.Refusals.{IsDenied, kind_of_fault}
 use Rattle.store_model.specs.Refusal.{refusal}
 use Rattle.bson_store.specs.Shown.{Represents}
@@ -28,6 +28,7 @@ use Rattle.bson_store.specs.declared.picking.Projections.{Projections}
 use Rattle.bson_store.proofs.ExportLemmas.{bodies_are}
 use Rattle.bson_store.proofs.MoveLemmas.{moved}
 use Rattle.bson_store.proofs.ServeLemmas.{answers_stay, denied, undecided}
+use Rattle.bson_store.proofs.DecideLemmas.{picked_both, selection}
 use Rattle.bson_store.proofs.DumpLemmas.{front_kept}
 use Rattle.store_model.proofs.KeyLemmas.{rows_kept}
 
@@ -122,6 +123,36 @@ front_of (x ∷ xs) ys (d ∷ ds) h =
     let tail : xs ++ ys ≡ map encode ds = cc in
     front_behind d x xs ds head (front_of xs ys ds tail)
 
+-- if the first bodies are all, no document is behind theirs
+none_behind : (xs : List (List ℕ)) (ds : Documents) (p : IsFront xs ds) → xs ≡ map encode ds → p.back ≡ []
+none_behind xs ds p all = same_front p.front p.back (sym p.bodies_are ∙ all ∙ ap (map encode) p.split)
+  where
+    same_front : (front back : Documents) → map encode front ≡ map encode (front ++ back) → back ≡ []
+    same_front [] [] h = refl
+    same_front [] (d ∷ back) h = absurd (cc)
+    same_front (d ∷ front) back h = same_front front back (cc)
+
+back_kept : (front back : Documents) → AreKept (front ++ back) → AreKept back
+back_kept [] back h = h
+back_kept (d ∷ front) back h = back_kept front back h.1
+
+-- none is left, or nothing that may come changes what was taken
+abbrev Ends : (Documents → Type 0) → Documents → Type 0
+Ends took back = (back ≡ []) ⊎ IsSettled took
+
+rest_taken : (took : Documents → Type 0) (f : Filter) (front back : Documents) → AreKept back → Ends took back → Taken took f front → Taken took f (front ++ back)
+rest_taken took f front back kept (inl none) h = subst (Taken took f) (sym (ap (λ l. front ++ l) none ∙ append-nil front)) h
+rest_taken took f front back kept (inr settled) h =
+    let s = selection f back kept in
+    (h.0 ++ s.out, picked_both f front back h.0 s.out h.1 s.picks, settled h.0 s.out s.kept h.2)
+
+-- what was taken of the first bodies is what there is to take of all
+all_taken : (took : Documents → Type 0) (f g : Filter) (fault : Option StoreError) (bodies : List (List ℕ)) (ds : Documents) (p : IsFront bodies ds) → AreKept ds → f ≡ g → fault ≡ None → Ends took p.back → GivesPicked took f bodies fault → Taken took g ds
+all_taken took f g fault bodies ds p kept same whole ends gave =
+    let k = subst AreKept p.split kept in
+    let got : Taken took f p.front = subst (λ o. MatchOption o (Taken took f p.front) IsDenied) whole (gave p.front (front_kept p.front p.back k) p.bodies_are) in
+    subst (Taken took g) (sym p.split) (rest_taken took g p.front p.back (back_kept p.front p.back k) ends (subst (λ h. Taken took h p.front) same got))
+
 -- ---- rows that a filter may select
 
 not_both : (b : Bool) → b ≡ true → b ≡ false → ⊥
@@ -174,24 +205,30 @@ module _ {T : Type 0} (took : T → T → Documents → Type 0) (first last : Fi
   thinned : (all : Bool) (a : DocumentTable) → Represents docs a → (w : TookAsked (Took took first) last n (filter_of first.filter.now) docs all) → Thinned (filter_of first.filter.now) (documents_of a n) (bodies_by w.test n docs)
   thinned all a s w = thin (filter_of first.filter.now) w.test (filter (is_in n) docs) (documents_of a n) (bodies_are n a docs s.each) (rows_kept a n s.good) w.spares
 
+  -- nothing is behind the bodies that were taken, or the taker was done
+  ends : (all : Bool) → last.fault ≡ None → (all ≡ false → (last.fault ≢ None) ⊎ ((t : T) → IsSettled (took t last.taker))) → (w : TookAsked (Took took first) last n (filter_of first.filter.now) docs all) (ds : Documents) (bodies_are : bodies_by w.test n docs ≡ map encode ds) (p : IsFront w.taken ds) → Ends (took first.taker last.taker) p.back
+  ends true whole stopped w ds bodies_are p = inl (none_behind w.taken ds p (sym (append-nil w.taken) ∙ ap (λ rest. w.taken ++ rest) (sym (w.whole refl)) ∙ w.split ∙ bodies_are))
+  ends false whole stopped w ds bodies_are p = by (stopped refl)
+    where
+      by : (last.fault ≢ None) ⊎ ((t : T) → IsSettled (took t last.taker)) → Ends (took first.taker last.taker) p.back
+      by (inl fault) = absurd (fault whole)
+      by (inr settled) = inr (settled first.taker)
+
   -- the table refused
   pub untaken : (x : Fault) → Asked (Err x) → Picked (took first.taker) n (filter_of first.filter.now) (Err (refusal (kind_of_fault x))) docs after
   untaken x h = record { same = h.same; taken = λ a s. tt; denied = λ a s. (x, h.faults, refl) }
 
-  -- all were taken
-  pub taken : (all : Bool) → last.fault ≡ None → (all ≡ false → last.fault ≢ None) → Asked (Ok all) → Picked (took first.taker) n (filter_of first.filter.now) (Ok last.taker) docs after
-  taken false whole stopped h = absurd (stopped refl whole)
-  taken true whole stopped h =
+  -- all were taken, or the taker was done
+  pub taken : (all : Bool) → last.fault ≡ None → (all ≡ false → (last.fault ≢ None) ⊎ ((t : T) → IsSettled (took t last.taker))) → Asked (Ok all) → Picked (took first.taker) n (filter_of first.filter.now) (Ok last.taker) docs after
+  taken all whole stopped h =
       let w = h.taken starts in
       record {
         same = h.same;
         taken = λ a s.
-            let t = thinned true a s w in
-            let all : w.taken ≡ bodies_by w.test n docs = sym (append-nil w.taken) ∙ ap (λ rest. w.taken ++ rest) (sym (w.whole refl)) ∙ w.split in
-            let got = w.given.1 t.documents t.kept (all ∙ t.bodies_are) in
-            let u : Taken (took first.taker last.taker) (filter_of last.filter.now) t.documents = subst (λ o. MatchOption o (Taken (took first.taker last.taker) (filter_of last.filter.now) t.documents) IsDenied) whole got in
-            let v = subst (λ g. Taken (took first.taker last.taker) (filter_of g) t.documents) w.given.0 u in
-            (v.0, t.picks v.0 v.1, v.2);
+            let t = thinned all a s w in
+            let p = front_of w.taken w.rest t.documents (w.split ∙ t.bodies_are) in
+            let y = all_taken (took first.taker last.taker) (filter_of last.filter.now) (filter_of first.filter.now) last.fault w.taken t.documents p t.kept (ap filter_of w.given.0) whole (ends all whole stopped w t.documents t.bodies_are p) w.given.1 in
+            (y.0, t.picks y.0 y.1, y.2);
         denied = λ a s. tt;
       }
 
@@ -229,6 +266,10 @@ pub unpicked_moves : {T : Type 0} (took : T → Documents → Type 0) (s u : Sta
 unpicked_moves took s u n nb f e c is good open_call m =
     moved s u (Picked took nb f (Err e)) (Does (on n c) (refused e.kind e.document)) m
     (λ docs after h. let k = subst (λ x. Picked took x f (Err e) docs after) is h in rw k.same (denied_as docs n e c good open_call k.denied))
+
+-- the same said of any name
+pub picked_from : {T : Type 0} (took : T → Documents → Type 0) (s u : State) (n nb : List ℕ) (f : Filter) (r : Result T StoreError) → nb ≡ n → IsName n → Moves s u (Picked took nb f r) → Moves s u (PickedFrom took n f r)
+picked_from took s u n nb f r is good m = moved s u (Picked took nb f r) (PickedFrom took n f r) m (λ docs after h. inl (good, subst (λ x. Picked took x f r docs after) is h))
 
 -- ---- what each question keeps
 

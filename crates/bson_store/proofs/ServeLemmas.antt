@@ -138,7 +138,7 @@ pub insert_unwritten : (docs : List TableRow) (n : List ℕ) (d : Members) (k : 
 insert_unwritten docs n d k good (inl is) f = answers_stay docs n (insert f (readable d)) (refused k None) good (λ a s. unfit_answers f d k (documents_of a n) is)
 insert_unwritten docs n d k good (inr is) f = rw is (denied docs (on n (insert f (readable d))) faults.Memory memory_other (undecided n (insert f (readable d)) good (read_open f d)))
 
-insert_denied : (docs : List TableRow) (n : List ℕ) (d : Members) (x : Fault) → IsName n → x ≢ faults.Places → DoesRead n insert d (refused (kind_of_fault x) None) docs docs
+pub insert_denied : (docs : List TableRow) (n : List ℕ) (d : Members) (x : Fault) → IsName n → x ≢ faults.Places → DoesRead n insert d (refused (kind_of_fault x) None) docs docs
 insert_denied docs n d x good other f = denied docs (on n (insert f (readable d))) x other (undecided n (insert f (readable d)) good (read_open f d))
 
 pub insert_unfound : (docs after : List TableRow) (n k : List ℕ) (d : Members) (x : Fault) → IsName n → FindsPlace n k (Err x) docs after → DoesRead n insert d (refused (kind_of_fault x) None) docs after
@@ -155,7 +155,7 @@ pub none_is : (o : Option TableRow) → None ≡ option_map (λ (d : TableRow). 
 none_is None h = refl
 none_is (Some e) h = cc
 
-duplicate_of : (docs : List TableRow) (n k b : List ℕ) (d : Members) (e : TableRow) → IsName n → Fits d k b → find (is_row_named n k) docs ≡ Some e → DoesRead n insert d (refused DuplicateId None) docs docs
+pub duplicate_of : (docs : List TableRow) (n k b : List ℕ) (d : Members) (e : TableRow) → IsName n → Fits d k b → find (is_row_named n k) docs ≡ Some e → DoesRead n insert d (refused DuplicateId None) docs docs
 duplicate_of docs n k b d e good fits is f =
     answers_stay docs n (insert f (readable d)) (refused DuplicateId None) good
     (λ a s. let p = found n k fits.id docs a e fits.key s.each s.good is in
@@ -170,7 +170,7 @@ duplicate docs after n k b d x good fits h =
 insert_answers : (f : Form) (d : Members) (id : Value) (l : Documents) → look_up id_key d ≡ Some id → size d ≤ size_limit → (SomeHasId id l → ⊥) → Answers (insert f (readable d)) l done (l ++ d ∷ [])
 insert_answers f d id l has short free = rw (has, le-ltb size_limit (size d) short) (inr (free, (refl, refl)))
 
-step_in : (f : Form) (docs : List TableRow) (n k b : List ℕ) (d : Members) (a : DocumentTable) (r : DocumentRow) → IsName n → Fits d k b → find (is_row_named n k) docs ≡ None → Represents docs a → r.name ≡ n → r.document ≡ d
+pub step_in : (f : Form) (docs : List TableRow) (n k b : List ℕ) (d : Members) (a : DocumentTable) (r : DocumentRow) → IsName n → Fits d k b → find (is_row_named n k) docs ≡ None → Represents docs a → r.name ≡ n → r.document ≡ d
     → Step (state_of a) (on n (insert f (readable d))) done (state_of (a ++ r ∷ []))
 step_in f docs n k b d a r good h free s name is =
     let l = list_of (state_of a) n in

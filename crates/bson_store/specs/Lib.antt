@@ -8,3 +8,5 @@ pub mod Many
 pub mod Dump
 pub mod Runs
 pub mod Left
+pub mod Drafting
+pub mod Whole

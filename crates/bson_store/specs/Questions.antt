@@ -1,5 +1,5 @@
 -- Questions to collections: which there are, and what a filter selects of one.
-use Rattle.std.specs.Prelude.{◌≡◌, ℕ, List, [], ◌∷◌, ◌++◌, map, Option, Some, None, Result, Ok, Err, MatchOption, IfOk, IfErr, String, Vec, string_bytes}
+use Rattle.std.specs.Prelude.{◌≡◌, ◌⊎◌, ℕ, List, [], ◌∷◌, ◌++◌, map, Option, Some, None, Result, Ok, Err, MatchOption, IfOk, IfErr, String, Vec, string_bytes}
 use Rattle.std.specs.declared.alloc.Global.{Global}
 use Rattle.bson_base.specs.Value.{document, Members}
 use Rattle.bson_bytes.specs.Encode.{encode}
@@ -33,6 +33,10 @@ IsPick f d bytes (Err e) = ⊥
 abbrev pub Turns : (Documents → Type 0) → Filter → Documents → Members → Type 0
 Turns took f out d = When (Selects f (document d)) (took (out ++ d ∷ [])) (took out)
 
+-- what was taken is what there is to take, whatever kept documents may come
+abbrev pub IsSettled : (Documents → Type 0) → Type 0
+IsSettled took = (out more : Documents) → AreKept more → took out → took (out ++ more)
+
 -- Whatever documents the bodies were written for, those that the filter selects were taken, unless there was a fault.
 abbrev pub GivesPicked : (Documents → Type 0) → Filter → List (List ℕ) → Option StoreError → Type 0
 GivesPicked took f bodies fault = (ds : Documents) → AreKept ds → bodies ≡ map encode ds → MatchOption fault ((out : Documents) × Picks f ds out × took out) IsDenied
@@ -42,6 +46,10 @@ pub record Picked {T : Type 0} (took : T → Documents → Type 0) (n : List ℕ
   pub same : after ≡ docs
   pub taken : (a : DocumentTable) → Represents docs a → IfOk result (λ t. (out : Documents) × Picks f (documents_of a n) out × took t out)
   pub denied : (a : DocumentTable) → Represents docs a → IfErr result IsDenied
+
+-- the same of any name: one that is bad is refused
+abbrev pub PickedFrom : {T : Type 0} → (T → Documents → Type 0) → List ℕ → Filter → Result T StoreError → List TableRow → List TableRow → Type 0
+PickedFrom took n f result docs after = (IsName n × Picked took n f result docs after) ⊎ ((IsName n → ⊥) × (result ≡ Err (refusal BadName)) × (after ≡ docs))
 
 -- an index was made or dropped, or not: the rows stay
 pub record Indexed {A : Type 0} (n : List ℕ) (result : Result A StoreError) (docs after : List TableRow) : Type 0 where

@@ -4,7 +4,9 @@
 mod batch;
 mod checking;
 mod command;
+mod drafting;
 mod dump;
+mod edit;
 mod error;
 mod export;
 mod import;
@@ -17,6 +19,7 @@ mod row_test;
 mod store;
 mod texts;
 mod walk;
+mod whole;
 
 pub use batch::run;
 pub use bson_model::{
@@ -33,8 +36,11 @@ pub use bson_raw::{
 };
 pub use command::{Command, Reply};
 pub use dump::TakeJson;
+pub use edit::{Edit, ListRefusal};
+pub use picking::{Copies, Count, Take, selected};
 pub use store::Store;
 pub use store_documents::Loader;
 pub use store_filter::{Filter, look_up, selects};
 pub use store_model::{ErrorKind, StoreError, laws};
 pub use texts::TakeText;
+pub use whole::apply_all;

@@ -1,6 +1,6 @@
 //! What a filter selects of a collection, taken while the rows come: one body is held at a time.
 
-ghost use Rattle.std.specs.Prelude.{◌≡◌, ◌++◌, ◌∷◌, [], IfErr, OnOk};
+ghost use Rattle.std.specs.Prelude.{◌≡◌, ◌++◌, ◌∷◌, [], IfErr, IsTrue, OnOk};
 ghost use Rattle.bson_base.specs.Value.{Members};
 ghost use Rattle.bson_bytes.specs.Encode.{encode};
 ghost use Rattle.store_filter.specs.Filters.{filter_of, path_of};
@@ -9,7 +9,7 @@ ghost use Rattle.bson_raw.specs.View.{bytes_of as view_bytes};
 ghost use Rattle.store_model.specs.Reading.{Documents};
 ghost use Rattle.store_model.specs.State.{IsKept, only};
 ghost use Rattle.bson_store.specs.Export.{bytes_of_each};
-ghost use Rattle.bson_store.specs.Questions.{IsPick, Turns};
+ghost use Rattle.bson_store.specs.Questions.{IsPick, IsSettled, Turns};
 ghost use Rattle.bson_store.specs.Refusals.{IsDenied};
 
 use crate::export::push_copy;
@@ -20,16 +20,22 @@ use store_model::{ErrorKind, StoreError};
 use store_table::Visit;
 
 /// What is kept of the documents that a filter selects.
+///
+/// `took` says what a taker has taken since it was another one: it holds of the two and the documents, in their order,
+/// that were taken between them.
 pub trait Take {
-    /// Between the first state and the second, the taker took these documents, in this order.
     ghost took: { Self → Self → Documents → Type 0 };
 
-    /// Takes a document from its written form.
+    /// Takes a document from its written form. A refusal ends the reading, and is handed on.
     fn take(&mut self, document: RawDocument<'_>) -> Result<(), StoreError>
         ensures took { (first : Self) (out : Documents) (d : Members) → IsKept d
             → view_bytes document.entry ≡ encode d → took first self.old out
             → OnOk result (took first self.new (out ++ d ∷ [])) }
         ensures denied { IfErr result IsDenied };
+
+    /// Whether whatever document may come changes nothing of what was taken: then the reading ends early.
+    fn is_done(&self) -> bool
+        ensures { IsTrue result → (first : Self) → IsSettled (took first self.now) };
 }
 
 /// The written forms.
@@ -49,6 +55,10 @@ impl Take for Copies {
     fn take(&mut self, document: RawDocument<'_>) -> Result<(), StoreError> {
         push_copy(&mut self.bodies, self.alloc, document.as_bytes())?;
         Ok(())
+    }
+
+    fn is_done(&self) -> bool {
+        false
     }
 }
 
@@ -72,6 +82,10 @@ impl Take for Count {
             // There are fewer places for rows than numbers.
             None => Err(StoreError::from(ErrorKind::Database)),
         }
+    }
+
+    fn is_done(&self) -> bool {
+        false
     }
 }
 
@@ -97,6 +111,10 @@ impl<'a> Take for Projections<'a> {
         add_projection(&mut self.bodies, self.alloc, document, self.keys)?;
         Ok(())
     }
+
+    fn is_done(&self) -> bool {
+        false
+    }
 }
 
 /// Puts the elements of a document under listed keys last, as a document.
@@ -115,8 +133,8 @@ fn add_projection(
     Ok(())
 }
 
-/// The document of a body, if the filter selects it.
-fn selected<'a>(filter: &Filter, body: &'a [u8]) -> Result<Option<RawDocument<'a>>, StoreError>
+/// The document of a body, if the filter selects it. A body that isn't framed as a document is refused by Database.
+pub fn selected<'a>(filter: &Filter, body: &'a [u8]) -> Result<Option<RawDocument<'a>>, StoreError>
     ensures { (d : Members) → IsKept d → body.now ≡ encode d
         → IsPick (filter_of filter.now) d body.now result }
 {
@@ -144,7 +162,7 @@ fn pick_row<T: Take>(taker: &mut T, filter: &Filter, body: &[u8]) -> Result<(), 
     Ok(())
 }
 
-/// Passes on the documents that a filter selects, until a refusal.
+/// Passes on the documents that a filter selects, until the taker is done, or a refusal.
 #[derive(Drop)]
 pub struct FilterVisitor<'a, T> {
     pub filter: &'a Filter,
@@ -153,18 +171,18 @@ pub struct FilterVisitor<'a, T> {
 }
 
 impl<'a, T: Take> Visit for FilterVisitor<'a, T> {
-    ghost use Rattle.std.specs.Prelude.{◌≡◌, ◌≢◌, None};
+    ghost use Rattle.std.specs.Prelude.{◌≡◌, ◌≢◌, ◌⊎◌, None};
     ghost use Rattle.store_filter.specs.Filters.{filter_of};
-    ghost use Rattle.bson_store.specs.Questions.{GivesPicked};
+    ghost use Rattle.bson_store.specs.Questions.{GivesPicked, IsSettled};
 
     ghost took = { λ first v bodies. (v.filter.now ≡ first.filter.now)
         × GivesPicked (T.took first.taker v.taker) (filter_of v.filter.now) bodies v.fault };
 
-    ghost is_done = { λ v. v.fault ≢ None };
+    ghost is_done = { λ v. (v.fault ≢ None) ⊎ ((first : T) → IsSettled (T.took first v.taker)) };
 
     fn visit(&mut self, body: &[u8]) -> bool {
         match pick_row(&mut self.taker, self.filter, body) {
-            Ok(()) => true,
+            Ok(()) => !self.taker.is_done(),
             Err(error) => {
                 self.fault = Some(error);
                 false

@@ -7,7 +7,7 @@ ghost use Rattle.store_documents.specs.Names.{name_bytes};
 ghost use Rattle.store_model.specs.State.{collections, count, find, on, project};
 ghost use Rattle.store_table.specs.Crash.{AddsNothing};
 ghost use Rattle.bson_store.specs.Calls.{Does, KeepsIndexes, store_state, Relates};
-ghost use Rattle.bson_store.specs.Questions.{Picked, as_list, as_names};
+ghost use Rattle.bson_store.specs.Questions.{Picked, PickedFrom, as_list, as_names};
 ghost use Rattle.bson_store.specs.Refusals.{as_number, reply_by};
 
 use crate::error::fault_refusal;
@@ -70,6 +70,28 @@ impl<S: Alter + Drop> Store<S> {
             None => Ok(taker),
             Some(error) => Err(error),
         }
+    }
+
+    /// Hands the documents of the collection `name` that a filter selects to a taker, in the collection's order, and gives
+    /// it back. One document is held at a time.
+    ///
+    /// Refused by BadName, Memory and Database, and as the taker refuses a document.
+    pub fn take_selected<T: Take + Drop>(
+        &mut self,
+        name: &str,
+        filter: &Filter,
+        taker: T,
+    ) -> Result<T, StoreError>
+        requires { T.took taker taker [] }
+        ensures moves { Relates S.Store self.old self.new
+            (PickedFrom (T.took taker) name.now (filter_of filter.now) result) }
+        ensures open { WasOpen (store_state S.Store self.old)
+            (store_state S.Store self.new) result }
+        ensures indexes { KeepsIndexes self.old self.new }
+        ensures crash { AddsNothing (store_state S.Store self.old) (store_state S.Store self.new) }
+    {
+        let name = good_name(name)?;
+        self.pick(name, filter, taker)
     }
 
     /// The written forms of the documents of the collection `name` that a filter selects, in the collection's order. A

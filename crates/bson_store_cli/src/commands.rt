@@ -1,11 +1,13 @@
 //! The program `bson_store`: commands over a database file, and its back-up.
 
-ghost use Rattle.std.specs.Prelude.{IfOk};
+ghost use Rattle.std.specs.Prelude.{◌≡◌, IfOk, map, string_bytes};
 ghost use Rattle.sqlite.specs.Files.{file_state};
-ghost use Rattle.bson_base.specs.Device.{CanFail, CanRefuse};
+ghost use Rattle.bson_base.specs.Device.{CanFail, CanRefuse, TakesText};
 ghost use Rattle.store_model.specs.State.{State as Lists};
 ghost use Rattle.bson_store.specs.Left.{FindsState, Holds, HoldsOnce};
-ghost use Rattle.bson_store_cli.specs.Serving.{IsSoundCopy};
+ghost use Rattle.cli_words.specs.Lines.{complaint_line};
+ghost use Rattle.cli_words.specs.declared.lines.UsageError.TheVariants.{Usage};
+ghost use Rattle.bson_store_cli.specs.Serving.{AreNoLine, AskNothing, IsSoundCopy};
 ghost use Rattle.store_table.specs.Schema.{HasStoreTable};
 
 use bson_store::{ErrorKind, Sink, Source, Store};
@@ -111,6 +113,31 @@ fn command<I: Source, O: Sink, F: Sink>(
     }
 }
 
+/// Does what the words behind those on waiting ask for, as `serve` does.
+fn serve_words<I: Source, O: Sink, F: Sink>(
+    rt: &HostRuntime,
+    words: &[String],
+    patience: Option<u64>,
+    input: &mut I,
+    output: &mut O,
+    faults: &mut F,
+) -> u8
+    requires input { CanFail (I.feed input.old) }
+    requires output { CanRefuse (O.tally output.old) }
+    requires faults { CanRefuse (F.tally faults.old) }
+    ensures { AskNothing (map string_bytes words.now) → (result ≡ 2)
+        × TakesText (F.tally faults.old) (F.tally faults.new) (complaint_line Usage)
+        × (input.new ≡ input.old) × (output.new ≡ output.old) }
+{
+    if let Some((file, path)) = copy_of(words) {
+        return back_up(rt, file, path, patience.unwrap_or(BACK_UP_PATIENCE), faults);
+    }
+    match read_words(words) {
+        Some(words) => command(rt, &words, patience.unwrap_or(0), input, output, faults),
+        None => misuse(faults),
+    }
+}
+
 /// Reads the words, does what they ask for, and returns the program's status. Words that are no line of the table are
 /// reported before any file is opened.
 pub fn serve<I: Source, O: Sink, F: Sink>(
@@ -123,19 +150,13 @@ pub fn serve<I: Source, O: Sink, F: Sink>(
     requires input { CanFail (I.feed input.old) }
     requires output { CanRefuse (O.tally output.old) }
     requires faults { CanRefuse (F.tally faults.old) }
+    // Words that ask for nothing touch nothing, and the usage is reported.
+    ensures misuse { AreNoLine (map string_bytes words.now) → (result ≡ 2)
+        × TakesText (F.tally faults.old) (F.tally faults.new) (complaint_line Usage)
+        × (input.new ≡ input.old) × (output.new ≡ output.old) }
 {
-    let patience = patience_of(words);
-    let (seconds, words) = patience.unwrap_or((0, words));
-    if let Some((file, path)) = copy_of(words) {
-        let seconds = if patience.is_some() {
-            seconds
-        } else {
-            BACK_UP_PATIENCE
-        };
-        return back_up(rt, file, path, seconds, faults);
-    }
-    match read_words(words) {
-        Some(words) => command(rt, &words, seconds, input, output, faults),
-        None => misuse(faults),
+    match patience_of(words) {
+        Some((seconds, words)) => serve_words(rt, words, Some(seconds), input, output, faults),
+        None => serve_words(rt, words, None, input, output, faults),
     }
 }

@@ -1,6 +1,6 @@
 //! The program `fallowtime`: one command over a database file, or a session of requests.
 
-ghost use Rattle.std.specs.Prelude.{◌≡◌, None, Result, Some, map, string_bytes};
+ghost use Rattle.std.specs.Prelude.{◌≡◌, ◌⊎◌, None, Result, Some, map, string_bytes};
 ghost use Rattle.store_table.specs.Crash.{AddsNothing};
 ghost use Rattle.store_table.specs.Moves.{WasOpen};
 ghost use Rattle.bson_base.specs.Device.{CanFail, CanRefuse};
@@ -8,23 +8,31 @@ ghost use Rattle.bson_store.specs.Calls.{Relates, store_state};
 ghost use Rattle.bson_store.specs.Export.{SendsCollection};
 ghost use Rattle.fallowtime_commands.specs.Executing.{Executes};
 ghost use Rattle.fallowtime_commands.specs.declared.refusal.Refusal.{Refusal as Refused};
-ghost use Rattle.fallowtime_commands.specs.declared.request.Request.{Request as Requested};
+ghost use Rattle.fallowtime_requests.specs.declared.request.Request.{Request as Requested};
 ghost use Rattle.store_model.specs.declared.error.StoreError.{StoreError as StoreRefusal};
 ghost use Rattle.fallowtime_front.specs.Asking.{form_by};
 ghost use Rattle.fallowtime_front.specs.Ending.{TellsEnd, ended_by};
+ghost use Rattle.fallowtime_front.specs.declared.ending.Ended.{Ended as WhyEnded};
 ghost use Rattle.fallowtime_front.specs.declared.ending.Ended.TheVariants.{Words as BadWords};
-ghost use Rattle.fallowtime_commands.specs.declared.unread.Unread.TheVariants.{Usage};
+ghost use Rattle.fallowtime_requests.specs.declared.unread.Unread.TheVariants.{Command as Usage};
 ghost use Rattle.fallowtime_words.specs.Words.{Asked as Asking, IsTask};
+ghost use Rattle.fallowtime_help.specs.Topics.{IsTopic};
+ghost use Rattle.fallowtime_help.specs.declared.topic.Topic.{Topic as About};
 ghost use Rattle.bson_store_cli.specs.Serving.{plainly};
 
 use crate::commands::judged;
-use bson_store::{Sink, Source, Store};
-use cli_files::{FileError, close, copy, open_within, read};
-use fallowtime_commands::{Refusal, Unread, execute};
+use crate::help;
+use bson_base::write_all;
+use bson_store::{ErrorKind, Sink, Source, Store};
+use cli_files::{FileError, close, copy, open_parts, open_within, read};
+use fallowtime_commands::{Refusal, execute, export_all, look_up, print_found};
 use fallowtime_front::{Asked, Ended, asked_of, ended_of, form_of, tell};
+use fallowtime_help::topic_of;
+use fallowtime_requests::Unread;
 use fallowtime_texts::IdMaker;
 use fallowtime_words::{Command, Task, Words, read_words};
 use sqlite::{Alter, Connection};
+use sqlite_disk::{Start, Unknown};
 use std::alloc::Global;
 use std::hash::{BuildHasher, RandomState};
 use std::time::SystemTime;
@@ -73,25 +81,25 @@ fn serve_store<S: Alter + Drop, O: Sink>(
     // A request is performed, and what it returns is printed in the form of the options.
     ensures request { (r : Requested) → asked.old.request ≡ Some r
         → (done : Result (Unit {0}) Refused) × (result ≡ ended_by asked.old.lines.items done)
-        × Executes words.now.coll.now r (form_by words.now.options.bytes words.now.options.canonical)
+        × Executes asked.old.collection.now r (form_by words.now.options.bytes words.now.options.canonical)
         (O.tally output.old) (O.tally output.new) done (store_state S.Store store.old)
         (store_state S.Store store.new) }
     // Without one the collection is written as BSON.
     ensures export { asked.old.request ≡ None → (sent : Result (Unit {0}) StoreRefusal)
         × (result ≡ ended_by asked.old.lines.items (plainly sent))
-        × Relates S.Store store.old store.new (SendsCollection words.now.coll.now
+        × Relates S.Store store.old store.new (SendsCollection asked.old.collection.now
         (O.tally output.old) (O.tally output.new) sent)
         × AddsNothing (store_state S.Store store.old) (store_state S.Store store.new)
         × WasOpen (store_state S.Store store.old) (store_state S.Store store.new) sent }
 {
     match &mut asked.request {
         None => {
-            let done = export(store, words.coll, output);
+            let done = export(store, asked.collection, output);
             ended_of(done, asked.lines.as_slice())
         }
         Some(request) => {
             let form = form_of(&words.options);
-            let done = execute(alloc, store, words.coll, request, form, output);
+            let done = execute(alloc, store, asked.collection, request, form, output);
             ended_of(done, asked.lines.as_slice())
         }
     }
@@ -117,7 +125,45 @@ fn over<S: Alter + Drop, O: Sink>(
     }
 }
 
-/// Does a command that only reads: over what the files hold at this moment, in memory.
+/// Writes what a command that only reads finds in the pages that it needs; nothing, and none, if they don't tell. It
+/// begins to write once it is seen that what was read is what the files held at one moment.
+fn look_in_pages<S: Start, O: Sink>(
+    rt: &HostRuntime,
+    start: S,
+    words: &Words<'_>,
+    asked: &Asked<'_>,
+    output: &mut O,
+) -> Option<Result<(), Ended>>
+    requires { CanRefuse (O.tally output.old) }
+    // Nothing is written if they don't tell.
+    ensures { result ≡ None → output.new ≡ output.old }
+{
+    let (files, moment) = open_parts(rt, words.file, start).ok()??;
+    let alloc = rt.alloc();
+    let done = match &asked.request {
+        None => {
+            let (documents, pages) = export_all(alloc, files, asked.collection)?;
+            if !moment.is_still(rt, &pages).ok()? {
+                return None;
+            }
+            match write_all(output, documents.as_slice()) {
+                Ok(()) => Ok(()),
+                Err(_) => Err(Refusal::from(ErrorKind::Writer)),
+            }
+        }
+        Some(request) => {
+            let (outcome, pages) = look_up(alloc, files, asked.collection, request)?;
+            if !moment.is_still(rt, &pages).ok()? {
+                return None;
+            }
+            print_found(alloc, request, outcome, form_of(&words.options), output)
+        }
+    };
+    Some(ended_of(done, asked.lines.as_slice()))
+}
+
+/// Does a command that only reads: from the pages that it needs, or else over all that the files hold at this moment, in
+/// memory.
 fn look<O: Sink>(
     rt: &HostRuntime,
     words: &Words<'_>,
@@ -126,6 +172,9 @@ fn look<O: Sink>(
 ) -> Result<(), Ended>
     requires { CanRefuse (O.tally output.old) }
 {
+    if let Some(ended) = look_in_pages(rt, Unknown, words, asked, output) {
+        return ended;
+    }
     let seconds = words.options.seconds.unwrap_or(PATIENCE);
     match read(rt, words.file, seconds) {
         Ok(connection) => {
@@ -173,8 +222,8 @@ fn change<O: Sink>(
 
 /// Writes what the files hold at this moment into a new file, if that is a store.
 fn back_up(rt: &HostRuntime, words: &Words<'_>) -> Result<(), Ended> {
-    let Some(path) = words.places.first() else {
-        return Err(Ended::Words(Unread::Usage));
+    let Some(path) = words.arguments.first() else {
+        return Err(Ended::Words(Unread::Command));
     };
     let seconds = words.options.seconds.unwrap_or(PATIENCE);
     let connection = match read(rt, words.file, seconds) {
@@ -292,13 +341,45 @@ fn session<I: Source, O: Sink>(
     }
 }
 
-/// Whether the words ask for a session, whose answers are written at once.
-pub fn is_session(words: &[String]) -> bool {
-    matches!(read_words(words), Some(Task::Session { .. }))
+/// Does what the words ask of a store, as `serve` does.
+fn serve_task<I: Source, O: Sink, F: Sink>(
+    rt: &HostRuntime,
+    words: &[String],
+    input: &mut I,
+    output: &mut O,
+    faults: &mut F,
+) -> u8
+    requires input { CanFail (I.feed input.old) }
+    requires output { CanRefuse (O.tally output.old) }
+    requires faults { CanRefuse (F.tally faults.old) }
+    ensures told { ((result ≡ 0) × (faults.new ≡ faults.old)) ⊎ ((ended : WhyEnded)
+        × TellsEnd ended (F.tally faults.old) (F.tally faults.new) result) }
+    ensures misuse { ((asked : Asking) → IsTask (map string_bytes words.now) asked → ⊥)
+        → TellsEnd (BadWords Usage) (F.tally faults.old) (F.tally faults.new) result
+        × (input.new ≡ input.old) × (output.new ≡ output.old) }
+{
+    let Some(task) = read_words(words) else {
+        return tell(rt, faults, Ended::Words(Unread::Command));
+    };
+    let ended = match task {
+        Task::Command(words) => command(rt, &words, input, output),
+        Task::Session { file, seconds } => {
+            session(rt, file, seconds.unwrap_or(PATIENCE), input, output)
+        }
+    };
+    match ended {
+        Ok(()) => 0,
+        Err(ended) => {
+            let kind = ended.kind();
+            let status = tell(rt, faults, ended);
+            help::advise(rt, kind, words);
+            status
+        }
+    }
 }
 
-/// Reads the words, does what they ask for, and returns the program's status. Words that can't be read are reported
-/// before any file is opened.
+/// Reads the words, does what they ask for, of the program or of a store, and returns the program's status. Words that
+/// can't be read are reported before any file is opened.
 pub fn serve<I: Source, O: Sink, F: Sink>(
     rt: &HostRuntime,
     words: &[String],
@@ -309,22 +390,17 @@ pub fn serve<I: Source, O: Sink, F: Sink>(
     requires input { CanFail (I.feed input.old) }
     requires output { CanRefuse (O.tally output.old) }
     requires faults { CanRefuse (F.tally faults.old) }
-    // Words that ask for nothing touch nothing, and the usage is reported.
+    // Status 0, and nothing is reported; or it is reported why the program ended, with the status of that.
+    ensures told { ((result ≡ 0) × (faults.new ≡ faults.old)) ⊎ ((ended : WhyEnded)
+        × TellsEnd ended (F.tally faults.old) (F.tally faults.new) result) }
+    // Words with no task and no topic touch nothing, and the usage is reported.
     ensures misuse { ((asked : Asking) → IsTask (map string_bytes words.now) asked → ⊥)
+        → ((topic : About) → IsTopic (map string_bytes words.now) topic → ⊥)
         → TellsEnd (BadWords Usage) (F.tally faults.old) (F.tally faults.new) result
         × (input.new ≡ input.old) × (output.new ≡ output.old) }
 {
-    let Some(task) = read_words(words) else {
-        return tell(rt, faults, Ended::Words(Unread::Usage));
-    };
-    let ended = match task {
-        Task::Command(words) => command(rt, &words, input, output),
-        Task::Session { file, seconds } => {
-            session(rt, file, seconds.unwrap_or(PATIENCE), input, output)
-        }
-    };
-    match ended {
-        Ok(()) => 0,
-        Err(ended) => tell(rt, faults, ended),
+    match topic_of(words) {
+        Some(topic) => help::serve(rt, topic, output, faults),
+        None => serve_task(rt, words, input, output, faults),
     }
 }

@@ -4,10 +4,12 @@
 //! answers the requests of lines. `bson_json` turns BSON documents into lines of Extended JSON, and such lines into BSON.
 #![tactic(auto)]
 
-ghost use Rattle.std.specs.Prelude.{◌≡◌};
+ghost use Rattle.std.specs.Prelude.{◌≡◌, Bool};
+ghost use Rattle.terminal_text.specs.Writing.{Begins};
 
 mod commands;
 mod fallowtime;
+mod help;
 mod stack;
 
 use bson_store::{Counted, ErrorKind};
@@ -15,11 +17,16 @@ use cli_convert::convert;
 use cli_files::{misuse, refuse, unread};
 use cli_pipe::pipe;
 use fallowtime_front::{Program, program_of, words_of};
-use std::io::{BufWriter, Write};
+use fallowtime_words::is_session;
+use std::io::{BufWriter, IsTerminal, Write};
 use std::process::ExitCode;
+use terminal_text::Output;
 
 /// How many bytes of output are gathered before they are written.
 const OUTPUT_ROOM: usize = 65536;
+
+/// The status for words that can't be read.
+const MISUSE: u8 = 2;
 
 /// Does what the words ask of bson_store, and returns the program's status.
 fn run_words<O: Write>(rt: &HostRuntime, words: &[String], output: &mut Counted<O>) -> u8
@@ -49,9 +56,17 @@ fn run_conversion<O: Write>(rt: &HostRuntime, words: &[String], output: &mut Cou
     convert(rt.alloc(), words, &mut input, output, &mut faults)
 }
 
+/// What is printed on: a writer to standard output. A terminal is given no character from U+007F to U+009F, which it may
+/// obey, but what JSON has for it.
+fn printed_on<W: Write>(rt: &HostRuntime, writer: W) -> Output<W>
+    ensures { (is_terminal : Bool) × Begins W.contents result is_terminal (W.contents writer) }
+{
+    Output::new(writer, rt.stdout().is_terminal())
+}
+
 /// Writes the gathered output, and returns the program's status: a failure here is one of the output, like that of any
 /// write before it.
-fn let_out<W: Write + Drop>(rt: &HostRuntime, mut output: Counted<BufWriter<W>>, status: u8) -> u8 {
+fn let_out<W: Write + Drop>(rt: &HostRuntime, mut output: Counted<W>, status: u8) -> u8 {
     match output.device.flush() {
         Err(_) if status == 0 => report(rt, ErrorKind::Writer),
         _ => status,
@@ -63,7 +78,7 @@ fn run_store(rt: &HostRuntime, words: &[String]) -> u8 {
     let Ok(writer) = BufWriter::with_capacity(rt.alloc(), OUTPUT_ROOM, rt.stdout()) else {
         return report(rt, ErrorKind::Memory);
     };
-    let mut output = Counted::new(writer);
+    let mut output = Counted::new(printed_on(rt, writer));
     let status = run_words(rt, words, &mut output);
     let_out(rt, output, status)
 }
@@ -73,7 +88,7 @@ fn run_json(rt: &HostRuntime, words: &[String]) -> u8 {
     let Ok(writer) = BufWriter::with_capacity(rt.alloc(), OUTPUT_ROOM, rt.stdout()) else {
         return report(rt, ErrorKind::Memory);
     };
-    let mut output = Counted::new(writer);
+    let mut output = Counted::new(printed_on(rt, writer));
     let status = run_conversion(rt, words, &mut output);
     let_out(rt, output, status)
 }
@@ -92,24 +107,28 @@ fn run_gathered(rt: &HostRuntime, words: &[String]) -> u8 {
     let Ok(writer) = BufWriter::with_capacity(rt.alloc(), OUTPUT_ROOM, rt.stdout()) else {
         return report(rt, ErrorKind::Memory);
     };
-    let mut output = Counted::new(writer);
+    let mut output = Counted::new(printed_on(rt, writer));
     let status = run_fallowtime(rt, words, &mut output);
     let_out(rt, output, status)
 }
 
 /// The program fallowtime over many requests, by the words after its name; every answer is written at once.
 fn run_at_once(rt: &HostRuntime, words: &[String]) -> u8 {
-    let mut output = Counted::new(rt.stdout());
+    let mut output = Counted::new(printed_on(rt, rt.stdout()));
     run_fallowtime(rt, words, &mut output)
 }
 
 /// The program fallowtime, over the words after its name.
 fn run_by_words(rt: &HostRuntime, words: &[String]) -> u8 {
-    if fallowtime::is_session(words) {
+    let status = if is_session(words) {
         run_at_once(rt, words)
     } else {
         run_gathered(rt, words)
+    };
+    if status == MISUSE {
+        help::hint(rt, words);
     }
+    status
 }
 
 /// Runs the program of the name under which this one was started, and returns its status. Without a name and words it

@@ -23,6 +23,7 @@ use Rattle.store_model.specs.declared.error.StoreError.{StoreError}
 use Rattle.bson_store.proofs.MoveLemmas.{moved}
 use Rattle.cli_commands.specs.Answers.{answer_by}
 use Rattle.cli_commands.specs.Execute.{IsRefusedBy, Performs}
+use Rattle.cli_commands.specs.Printing.{reply_of}
 use Rattle.cli_commands.specs.declared.answer.Answer.{Answer}
 use Rattle.cli_commands.specs.declared.stop.Failure.{Failure}
 use Rattle.cli_commands.specs.declared.stop.Failure.TheVariants.{Refused}
@@ -118,25 +119,25 @@ pub served_same : (docs : List TableRow) (a : DocumentTable) (c : Command) (k : 
 served_same docs a c k i (b, shown, h) = subst (λ t. Serves a c (refused k i) t) (rows_stay a b c k i h) h
 
 -- a call of the store, and what it returned
-asked : {A : Type 0} (s t : Connected) (Meant : Command → Type 0) (Fault : StoreError → Type 0) (Unread : UsageError → Type 0) (c : Command) (f : A → Reply) (g : A → Answer) (outcome : Result A StoreError) → Meant c → ((x : A) → IsRefusal (f x) → ⊥)
+asked : {A : Type 0} (s t : Connected) (Meant : Command → Type 0) (Fault : StoreError → Type 0) (Unread : UsageError → Type 0) (c : Command) (f : A → Reply) (g : A → Answer) (outcome : Result A StoreError) → Meant c → ((x : A) → IsRefusal (f x) → ⊥) → ((x : A) → f x ≡ reply_of (g x))
     → Moves s t (Does c (reply_by f outcome)) → Moves s t (Performs Meant Fault Unread (answer_by g outcome))
-asked s t Meant Fault Unread c f g (Ok x) meant accepts m = moved s t (Does c (f x)) (Performs Meant Fault Unread (Ok (g x))) m (λ docs after h a shown. let y = h a shown in (y.0, y.1, (c, meant, f x, accepts x, y.2)))
-asked s t Meant Fault Unread c f g (Err e) meant accepts m =
-    moved s t (Does c (refused e.kind e.document)) (Performs Meant Fault Unread (Err (Refused e))) m (λ docs after h a shown. let y = h a shown in let same = refused_same Meant e a y.0 c meant y.2 in (y.0, y.1, (same.0, inl same.1)))
+asked s t Meant Fault Unread c f g (Ok x) meant accepts same m = moved s t (Does c (f x)) (Performs Meant Fault Unread (Ok (g x))) m (λ docs after h a shown. let y = h a shown in (y.0, y.1, (c, meant, f x, same x, accepts x, y.2)))
+asked s t Meant Fault Unread c f g (Err e) meant accepts same m =
+    moved s t (Does c (refused e.kind e.document)) (Performs Meant Fault Unread (Err (Refused e))) m (λ docs after h a shown. let y = h a shown in let stays = refused_same Meant e a y.0 c meant y.2 in (y.0, y.1, (stays.0, inl stays.1)))
 
 pub performs : {A : Type 0} (s t : Connected) (Meant : Command → Type 0) (Fault : StoreError → Type 0) (Unread : UsageError → Type 0) (c : Command) (f : A → Reply) (g : A → Answer) (outcome : Result A StoreError) (result : Result Answer Failure) → Meant c
-    → ((x : A) → IsRefusal (f x) → ⊥) → result ≡ answer_by g outcome → Moves s t (Does c (reply_by f outcome)) → Moves s t (Performs Meant Fault Unread result)
-performs s t Meant Fault Unread c f g outcome result meant accepts is m = subst (λ p. Moves s t (Performs Meant Fault Unread p)) (sym is) (asked s t Meant Fault Unread c f g outcome meant accepts m)
+    → ((x : A) → IsRefusal (f x) → ⊥) → ((x : A) → f x ≡ reply_of (g x)) → result ≡ answer_by g outcome → Moves s t (Does c (reply_by f outcome)) → Moves s t (Performs Meant Fault Unread result)
+performs s t Meant Fault Unread c f g outcome result meant accepts same is m = subst (λ p. Moves s t (Performs Meant Fault Unread p)) (sym is) (asked s t Meant Fault Unread c f g outcome meant accepts same m)
 
 -- the same of a call with a tree
 tree_asked : {A : Type 0} (s t : Connected) (Meant : Command → Type 0) (Fault : StoreError → Type 0) (Unread : UsageError → Type 0) (n : List ℕ) (call : Reading → Call) (j : Data) (f : A → Reply) (g : A → Answer) (outcome : Result A StoreError)
-    → ((x : Reading) → ReadsTree j x → Meant (on n (call x))) → ((x : A) → IsRefusal (f x) → ⊥) → Moves s t (DoesTree n call j (reply_by f outcome)) → Moves s t (Performs Meant Fault Unread (answer_by g outcome))
-tree_asked s t Meant Fault Unread n call j f g (Ok x) meant accepts m =
-    moved s t (DoesTree n call j (f x)) (Performs Meant Fault Unread (Ok (g x))) m (λ docs after h a shown. let y = h.2 a shown in (y.0, y.1, (on n (call h.0), meant h.0 h.1, f x, accepts x, y.2)))
-tree_asked s t Meant Fault Unread n call j f g (Err e) meant accepts m =
+    → ((x : Reading) → ReadsTree j x → Meant (on n (call x))) → ((x : A) → IsRefusal (f x) → ⊥) → ((x : A) → f x ≡ reply_of (g x)) → Moves s t (DoesTree n call j (reply_by f outcome)) → Moves s t (Performs Meant Fault Unread (answer_by g outcome))
+tree_asked s t Meant Fault Unread n call j f g (Ok x) meant accepts same m =
+    moved s t (DoesTree n call j (f x)) (Performs Meant Fault Unread (Ok (g x))) m (λ docs after h a shown. let y = h.2 a shown in (y.0, y.1, (on n (call h.0), meant h.0 h.1, f x, same x, accepts x, y.2)))
+tree_asked s t Meant Fault Unread n call j f g (Err e) meant accepts same m =
     moved s t (DoesTree n call j (refused e.kind e.document)) (Performs Meant Fault Unread (Err (Refused e))) m
-    (λ docs after h a shown. let y = h.2 a shown in let same = refused_same Meant e a y.0 (on n (call h.0)) (meant h.0 h.1) y.2 in (y.0, y.1, (same.0, inl same.1)))
+    (λ docs after h a shown. let y = h.2 a shown in let stays = refused_same Meant e a y.0 (on n (call h.0)) (meant h.0 h.1) y.2 in (y.0, y.1, (stays.0, inl stays.1)))
 
 pub tree_performs : {A : Type 0} (s t : Connected) (Meant : Command → Type 0) (Fault : StoreError → Type 0) (Unread : UsageError → Type 0) (n : List ℕ) (call : Reading → Call) (j : Data) (f : A → Reply) (g : A → Answer) (outcome : Result A StoreError) (result : Result Answer Failure)
-    → ((x : Reading) → ReadsTree j x → Meant (on n (call x))) → ((x : A) → IsRefusal (f x) → ⊥) → result ≡ answer_by g outcome → Moves s t (DoesTree n call j (reply_by f outcome)) → Moves s t (Performs Meant Fault Unread result)
-tree_performs s t Meant Fault Unread n call j f g outcome result meant accepts is m = subst (λ p. Moves s t (Performs Meant Fault Unread p)) (sym is) (tree_asked s t Meant Fault Unread n call j f g outcome meant accepts m)
+    → ((x : Reading) → ReadsTree j x → Meant (on n (call x))) → ((x : A) → IsRefusal (f x) → ⊥) → ((x : A) → f x ≡ reply_of (g x)) → result ≡ answer_by g outcome → Moves s t (DoesTree n call j (reply_by f outcome)) → Moves s t (Performs Meant Fault Unread result)
+tree_performs s t Meant Fault Unread n call j f g outcome result meant accepts same is m = subst (λ p. Moves s t (Performs Meant Fault Unread p)) (sym is) (tree_asked s t Meant Fault Unread n call j f g outcome meant accepts same m)

@@ -169,12 +169,16 @@ open_twice s m t P first moves later second clean docs stands =
 
 -- ---- the call that was asked for
 
-pub of_change : (s t : State) (call asked : Asked) (n : List ℕ) (texts : List (List ℕ)) (fed left : Feed) (before behind : Tally) (outcome : Result (Unit {0}) Failure) → asked ≡ call → LeavesCall call n texts fed left before behind outcome s t
-    → LeavesCall asked n texts fed left before behind outcome s t
-of_change s t call asked n texts fed left before behind outcome is h = subst (λ (x : Asked). LeavesCall x n texts fed left before behind outcome s t) (sym is) h
+-- what a crash leaves of it, with the line and the streams by their parts
+abbrev pub LeavesLine : Asked → List ℕ → List (List ℕ) → Feed → Feed → Tally → Tally → Result (Unit {0}) Failure → State → State → Type 0
+LeavesLine call n texts fed left before behind = LeavesCall (record { call = call; name = n; texts = texts }) (record { fed = fed; left = left; before = before; behind = behind })
+
+pub of_change : (s t : State) (call asked : Asked) (n : List ℕ) (texts : List (List ℕ)) (fed left : Feed) (before behind : Tally) (outcome : Result (Unit {0}) Failure) → asked ≡ call → LeavesLine call n texts fed left before behind outcome s t
+    → LeavesLine asked n texts fed left before behind outcome s t
+of_change s t call asked n texts fed left before behind outcome is h = subst (λ (x : Asked). LeavesLine x n texts fed left before behind outcome s t) (sym is) h
 
 -- none was
-pub of_none : (s : State) (call : Asked) (n : List ℕ) (texts : List (List ℕ)) (fed left : Feed) (before behind : Tally) (stop : Failure) → LeavesCall call n texts fed left before behind (Err stop) s s
+pub of_none : (s : State) (call : Asked) (n : List ℕ) (texts : List (List ℕ)) (fed left : Feed) (before behind : Tally) (stop : Failure) → LeavesLine call n texts fed left before behind (Err stop) s s
 of_none s call n texts fed left before behind stop = by (is_change call)
   where
     by : (b : Bool) → MatchBool b (LeavesBy {A = Unit {0}} (AsksFor call n texts fed left) (IsFailure Writer before.failures behind.failures) (Err stop) s s) (Survives s s (λ _. ⊥))

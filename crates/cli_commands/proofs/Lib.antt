@@ -11,3 +11,4 @@ pub mod KindLemmas
 pub mod WordLemmas
 pub mod CrashLemmas
 pub mod LineLemmas
+pub mod PrintLemmas

@@ -33,8 +33,8 @@ use Rattle.cli_commands.proofs.AcceptLemmas.{refused_same, served_same}
 abbrev pub Allows : (Command → Type 0) → List ℕ → (Documents → Option ErrorKind → Type 0) → Type 0
 Allows Meant n Reads = (ds : Documents) (stop : Option ErrorKind) → Reads ds stop → Meant (on n (import ds stop))
 
-many_taken : (Meant : Command → Type 0) (n : List ℕ) (Reads : Documents → Option ErrorKind → Type 0) (i : ℕ) (docs after : List TableRow) → Allows Meant n Reads → DoesMany n Reads (number i) docs after → Comes (Accepts Meant) docs after
-many_taken Meant n Reads i docs after allows (ds, stop, reads, does) a shown = let y = does a shown in (y.0, y.1, (on n (import ds stop), allows ds stop reads, number i, (λ no. no), y.2))
+many_taken : (Meant : Command → Type 0) (n : List ℕ) (Reads : Documents → Option ErrorKind → Type 0) (i : ℕ) (docs after : List TableRow) → Allows Meant n Reads → DoesMany n Reads (number i) docs after → Comes (Accepts Meant (λ r. r ≡ number i)) docs after
+many_taken Meant n Reads i docs after allows (ds, stop, reads, does) a shown = let y = does a shown in (y.0, y.1, (on n (import ds stop), allows ds stop reads, number i, refl, (λ no. no), y.2))
 
 -- what a refused command leaves
 abbrev Refuse : (Command → Type 0) → StoreError → DocumentTable → DocumentTable → Type 0

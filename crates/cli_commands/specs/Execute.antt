@@ -1,5 +1,5 @@
 -- What a command of the program does to the rows and the devices, and what is reported of it.
-use Rattle.std.specs.Prelude.{◌≡◌, ◌≢◌, ◌⊎◌, ℕ, ◌+◌, List, [], Result, Ok, Err, map, string_bytes}
+use Rattle.std.specs.Prelude.{◌≡◌, ◌≢◌, ◌⊎◌, ℕ, ◌+◌, List, [], Result, Ok, Err, IfOk, map, string_bytes}
 use Rattle.bson_base.specs.Device.{Feed, Tally, TakesText}
 use Rattle.store_table.specs.Rows.{TableRow}
 use Rattle.store_model.specs.State.{Command, Reply, refused, When, IsName}
@@ -17,6 +17,7 @@ use Rattle.store_model.specs.Refusal.{refusal}
 use Rattle.bson_store.specs.Shown.{Represents}
 use Rattle.store_model.specs.declared.error.StoreError.{StoreError}
 use Rattle.cli_commands.specs.Commands.{AsksFor, Complains}
+use Rattle.cli_commands.specs.Printing.{Prints, reply_of}
 use Rattle.cli_commands.specs.declared.answer.Answer.{Answer}
 use Rattle.cli_commands.specs.declared.answer.Answer.TheVariants.{Tree}
 use Rattle.cli_commands.specs.declared.stop.Failure.{Failure}
@@ -24,9 +25,13 @@ use Rattle.cli_commands.specs.declared.stop.Failure.TheVariants.{Words, Refused}
 
 -- ---- the table
 
--- an accepted command of those that are meant takes the table a to b
-abbrev pub Accepts : (Command → Type 0) → DocumentTable → DocumentTable → Type 0
-Accepts Meant a b = (c : Command) × Meant c × (r : Reply) × (IsRefusal r → ⊥) × Serves a c r b
+-- an accepted command of those that are meant takes the table a to b, with a reply of which this is so
+abbrev pub Accepts : (Command → Type 0) → (Reply → Type 0) → DocumentTable → DocumentTable → Type 0
+Accepts Meant Told a b = (c : Command) × Meant c × (r : Reply) × Told r × (IsRefusal r → ⊥) × Serves a c r b
+
+-- of its reply nothing is said
+abbrev pub Any : Reply → Type 0
+Any r = Unit {0}
 
 -- such a command is refused with this error: by its own step, or because memory, places or the database is denied
 abbrev pub IsRefusedBy : (Command → Type 0) → StoreError → DocumentTable → Type 0
@@ -71,10 +76,10 @@ abbrev pub StopsFor : UsageError → Type 0 → Failure → Type 0
 StopsFor w Unread (Words c) = (c ≡ w) × Unread
 StopsFor w Unread (Refused e) = e ≡ refusal Memory
 
--- A command was accepted. Or it was refused, and the table is the same; or the store wasn't asked because of this
+-- A command was accepted with this answer. Or it was refused, and the table is the same; or the store wasn't asked because of this
 -- fault; or a text can't be read, as is reported.
 abbrev pub Performed : (Command → Type 0) → (StoreError → Type 0) → (UsageError → Type 0) → Result Answer Failure → DocumentTable → DocumentTable → Type 0
-Performed Meant Fault Unread (Ok x) a b = Accepts Meant a b
+Performed Meant Fault Unread (Ok x) a b = Accepts Meant (λ r. r ≡ reply_of x) a b
 Performed Meant Fault Unread (Err (Refused e)) a b = (b ≡ a) × (IsRefusedBy Meant e a ⊎ Fault e)
 Performed Meant Fault Unread (Err (Words w)) a b = (b ≡ a) × Unread w
 
@@ -92,6 +97,10 @@ abbrev pub Tells : Result Answer Failure → Result (Unit {0}) Failure → ℕ �
 Tells (Ok x) result old new = ((result ≡ Ok tt) × (new ≡ old)) ⊎ ((e : StoreError) × (result ≡ Err (Refused e)) × IsUnprinted x old new e)
 Tells (Err e) result old new = (result ≡ Err e) × (new ≡ old)
 
+-- if it is done, what was returned was printed
+abbrev pub ShowsAnswer : Result Answer Failure → Result (Unit {0}) Failure → Tally → Tally → Type 0
+ShowsAnswer returned result old new = IfOk result (λ _. IfOk returned (λ x. Prints (reply_of x) old new))
+
 -- ---- a command and its printing
 
 -- before the store is asked, memory runs out for a text of the words, or a read fails, or memory runs out for what was
@@ -108,13 +117,25 @@ IsUnasked call n texts fed left e = Takes call texts × Starves call n texts fed
 abbrev pub Misprints : ℕ → ℕ → StoreError → DocumentTable → DocumentTable → Type 0
 Misprints old new e a b = IsFailure Writer old new e ⊎ ((e ≡ refusal Memory) × (new ≡ old) × (b ≡ a))
 
--- A command was accepted, and what it returned was printed. Or the table is the same, and the refusal is the command's
--- own, or that of the input; or a command was accepted, and the refusal is that of the output. Or a text can't be read,
--- and the table is the same.
-abbrev pub Ended : (Command → Type 0) → (StoreError → Type 0) → (StoreError → DocumentTable → DocumentTable → Type 0) → (UsageError → Type 0) → Result (Unit {0}) Failure → DocumentTable → DocumentTable → Type 0
-Ended Meant Unasked Unprinted Unread (Ok x) a b = Accepts Meant a b
-Ended Meant Unasked Unprinted Unread (Err (Refused e)) a b = ((b ≡ a) × (IsRefusedBy Meant e a ⊎ Unasked e)) ⊎ (Unprinted e a b × Accepts Meant a b)
-Ended Meant Unasked Unprinted Unread (Err (Words w)) a b = (b ≡ a) × Unread w
+-- the call on the collection, with these texts
+pub record CommandLine : Type 0 where
+  pub call : Call
+  pub name : List ℕ
+  pub texts : List (List ℕ)
+
+-- what is known of the input and of the output, before a command and after it
+pub record Streams : Type 0 where
+  pub fed : Feed
+  pub left : Feed
+  pub before : Tally
+  pub behind : Tally
+
+abbrev pub streams : Feed → Feed → Tally → Tally → Streams
+streams fed left before behind = record { fed = fed; left = left; before = before; behind = behind }
+
+-- one without texts
+abbrev pub line_on : Call → List ℕ → CommandLine
+line_on call n = record { call = call; name = n; texts = [] }
 
 -- all documents of an export were written, or a prefix of them
 abbrev pub Sends : Call → List ℕ → Tally → Tally → Result (Unit {0}) Failure → DocumentTable → Type 0
@@ -122,16 +143,33 @@ Sends Export n old new (Ok x) a = Exports (state_of a) n old new (Ok x)
 Sends Export n old new (Err (Refused e)) a = Exports (state_of a) n old new (Err e)
 Sends _ n old new _ a = Unit {0}
 
--- all of this for the call on the collection n, with these texts
-pub record Executed (call : Call) (n : List ℕ) (texts : List (List ℕ)) (fed left : Feed) (old new : Tally) (outcome : Result (Unit {0}) Failure) (a b : DocumentTable) : Type 0 where
-  pub ended : Ended (AsksFor call n texts fed left) (IsUnasked call n texts fed left) (Misprints old.failures new.failures) (Complains call texts fed left) outcome a b
-  pub reader : Fails Reader outcome fed.failures left.failures
-  pub writer : Fails Writer outcome old.failures new.failures
-  pub sent : Sends call n old new outcome a
+module _ (l : CommandLine) (d : Streams) where
+  -- the commands that the line may ask for
+  abbrev pub Asked : Command → Type 0
+  Asked = AsksFor l.call l.name l.texts d.fed d.left
+
+  -- A command was accepted, and its reply was printed. Or the table is the same, and the refusal is the command's own, or
+  -- that of the input; or a command was accepted, and the refusal is that of the output. Or a text can't be read, and the
+  -- table is the same.
+  abbrev pub Ended : Result (Unit {0}) Failure → DocumentTable → DocumentTable → Type 0
+  Ended (Ok x) a b = Accepts Asked (λ r. Prints r d.before d.behind) a b
+  Ended (Err (Refused e)) a b =
+      ((b ≡ a) × (IsRefusedBy Asked e a ⊎ IsUnasked l.call l.name l.texts d.fed d.left e)) ⊎ (Misprints d.before.failures d.behind.failures e a b × Accepts Asked Any a b)
+  Ended (Err (Words w)) a b = (b ≡ a) × Complains l.call l.texts d.fed d.left w
+
+  -- and a device is reported exactly if it failed
+  pub record Executed (outcome : Result (Unit {0}) Failure) (a b : DocumentTable) : Type 0 where
+    pub ended : Ended outcome a b
+    pub reader : Fails Reader outcome d.fed.failures d.left.failures
+    pub writer : Fails Writer outcome d.before.failures d.behind.failures
+    pub sent : Sends l.call l.name d.before d.behind outcome a
+
+abbrev pub line_of : Wording → CommandLine
+line_of w = record { call = w.call; name = w.coll.now; texts = map string_bytes w.rest.now }
 
 -- the same of whatever table the rows showed
-abbrev pub Executes : Wording → Feed → Feed → Tally → Tally → Result (Unit {0}) Failure → List TableRow → List TableRow → Type 0
-Executes w fed left old new outcome = Comes (Executed w.call w.coll.now (map string_bytes w.rest.now) fed left old new outcome)
+abbrev pub Executes : Wording → Streams → Result (Unit {0}) Failure → List TableRow → List TableRow → Type 0
+Executes w d outcome = Comes (Executed (line_of w) d outcome)
 
 -- ---- what is reported
 

@@ -1,6 +1,5 @@
 -- What a crash leaves of a command of the program.
-use Rattle.std.specs.Prelude.{◌≡◌, ◌⊎◌, ℕ, Bool, true, false, List, Result, Ok, Err, IsTrue, MatchBool, map, string_bytes}
-use Rattle.bson_base.specs.Device.{Feed, Tally}
+use Rattle.std.specs.Prelude.{◌⊎◌, Bool, true, false, List, Result, Ok, Err, IsTrue, MatchBool}
 use Rattle.sqlite.specs.State.{State, HasCleanDisk, Survives}
 use Rattle.store_table.specs.Moves.{Moves, Stands}
 use Rattle.store_table.specs.Rows.{TableRow}
@@ -12,9 +11,7 @@ use Rattle.bson_store.specs.Calls.{Does}
 use Rattle.bson_store.specs.Left.{Leaves}
 use Rattle.cli_words.specs.declared.call.Call.{Call}
 use Rattle.cli_words.specs.declared.call.Call.TheVariants.{Insert, Replace, Set, Unset, Remove, Import, Load}
-use Rattle.cli_words.specs.declared.words.Words.{Words as Wording}
-use Rattle.cli_commands.specs.Commands.{AsksFor}
-use Rattle.cli_commands.specs.Execute.{IsFailure}
+use Rattle.cli_commands.specs.Execute.{Asked, CommandLine, IsFailure, Streams}
 use Rattle.cli_commands.specs.declared.stop.Failure.{Failure}
 use Rattle.cli_commands.specs.declared.stop.Failure.TheVariants.{Words, Refused}
 
@@ -57,9 +54,5 @@ LeavesBy Meant Unprinted (Err (Refused e)) old new = Survives old new (λ _. ⊥
 LeavesBy Meant Unprinted (Err (Words w)) old new = Survives old new (λ _. ⊥)
 
 -- after a call that changes nothing, a crash leaves only what it could leave before
-abbrev pub LeavesCall : Call → List ℕ → List (List ℕ) → Feed → Feed → Tally → Tally → Result (Unit {0}) Failure → State → State → Type 0
-LeavesCall call n texts fed left before behind outcome old new =
-    MatchBool (is_change call) (LeavesBy (AsksFor call n texts fed left) (IsFailure Writer before.failures behind.failures) outcome old new) (Survives old new (λ _. ⊥))
-
-abbrev pub LeavesAsked : Wording → Feed → Feed → Tally → Tally → Result (Unit {0}) Failure → State → State → Type 0
-LeavesAsked w = LeavesCall w.call w.coll.now (map string_bytes w.rest.now)
+abbrev pub LeavesCall : CommandLine → Streams → Result (Unit {0}) Failure → State → State → Type 0
+LeavesCall l d outcome old new = MatchBool (is_change l.call) (LeavesBy (Asked l d) (IsFailure Writer d.before.failures d.behind.failures) outcome old new) (Survives old new (λ _. ⊥))

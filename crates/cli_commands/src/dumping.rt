@@ -16,10 +16,12 @@ pub struct Printer<'w, O: Sink> {
 
 impl<'w, O: Sink> TakeText for Printer<'w, O> {
     ghost use Rattle.store_model.specs.declared.error.ErrorKind.TheVariants.{Writer};
+    ghost use Rattle.store_model.specs.State.{json_list};
     ghost use Rattle.cli_commands.specs.Execute.{IsFault};
+    ghost use Rattle.cli_commands.specs.Printing.{Prints};
 
-    ghost took = { λ first p _. (first.output.ghost_name ≡ p.output.ghost_name) × (p.failed ≡ false)
-        × ((O.tally p.output.now).failures ≡ (O.tally first.output.now).failures) };
+    ghost took = { λ first p js. (first.output.ghost_name ≡ p.output.ghost_name) × (p.failed ≡ false)
+        × Prints (json_list js) (O.tally first.output.now) (O.tally p.output.now) };
 
     ghost refused = { λ first p _ e. (first.output.ghost_name ≡ p.output.ghost_name)
         × IsFault Writer (O.tally first.output.now).failures (O.tally p.output.now).failures e };

@@ -1,9 +1,13 @@
 //! What is printed of an answer.
 
-ghost use Rattle.std.specs.Prelude.{◌≡◌, MatchResult};
+ghost use Rattle.std.specs.Prelude.{MatchResult, map, string_bytes};
 ghost use Rattle.bson_base.specs.Device.{CanRefuse};
 ghost use Rattle.store_model.specs.declared.error.ErrorKind.TheVariants.{Writer};
+ghost use Rattle.serde_json.specs.View.{view as data_of};
+ghost use Rattle.store_model.specs.State.{bytes_list, json, names as name_list};
+ghost use Rattle.bson_store.specs.Export.{bytes_of_each};
 ghost use Rattle.cli_commands.specs.Execute.{IsFailure, IsFault, IsUnprinted};
+ghost use Rattle.cli_commands.specs.Printing.{Prints, reply_of};
 
 use crate::answer::Answer;
 use bson_base::write_all;
@@ -15,8 +19,8 @@ use std::alloc::Global;
 /// Writes a tree on one line.
 pub fn print_tree<O: Sink>(alloc: Global, tree: &Value, output: &mut O) -> Result<(), StoreError>
     requires { CanRefuse (O.tally output.old) }
-    ensures { MatchResult result (λ _. (O.tally output.new).failures ≡ (O.tally
-        output.old).failures) (IsFault Writer (O.tally output.old).failures
+    ensures { MatchResult result (λ _. Prints (json (data_of tree.now)) (O.tally output.old)
+        (O.tally output.new)) (IsFault Writer (O.tally output.old).failures
         (O.tally output.new).failures) }
 {
     let text = tree.to_string(alloc)?;
@@ -27,8 +31,8 @@ pub fn print_tree<O: Sink>(alloc: Global, tree: &Value, output: &mut O) -> Resul
 /// Writes documents, one after the other.
 fn print_documents<O: Sink>(documents: &[Vec<u8>], output: &mut O) -> Result<(), StoreError>
     requires { CanRefuse (O.tally output.old) }
-    ensures { MatchResult result (λ _. (O.tally output.new).failures ≡ (O.tally
-        output.old).failures) (IsFailure Writer (O.tally output.old).failures
+    ensures { MatchResult result (λ _. Prints (bytes_list (bytes_of_each documents.now)) (O.tally output.old)
+        (O.tally output.new)) (IsFailure Writer (O.tally output.old).failures
         (O.tally output.new).failures) }
 {
     for document in documents {
@@ -40,8 +44,8 @@ fn print_documents<O: Sink>(documents: &[Vec<u8>], output: &mut O) -> Result<(),
 /// Writes names, one a line.
 fn print_names<O: Sink>(names: &[String], output: &mut O) -> Result<(), StoreError>
     requires { CanRefuse (O.tally output.old) }
-    ensures { MatchResult result (λ _. (O.tally output.new).failures ≡ (O.tally
-        output.old).failures) (IsFailure Writer (O.tally output.old).failures
+    ensures { MatchResult result (λ _. Prints (name_list (map string_bytes names.now)) (O.tally output.old)
+        (O.tally output.new)) (IsFailure Writer (O.tally output.old).failures
         (O.tally output.new).failures) }
 {
     for name in names {
@@ -53,8 +57,8 @@ fn print_names<O: Sink>(names: &[String], output: &mut O) -> Result<(), StoreErr
 /// Writes an answer. Refused by Writer if a write failed, and by Memory if there is none for the text of a tree.
 pub fn print<O: Sink>(alloc: Global, answer: &Answer, output: &mut O) -> Result<(), StoreError>
     requires { CanRefuse (O.tally output.old) }
-    ensures { MatchResult result (λ _. (O.tally output.new).failures ≡ (O.tally
-        output.old).failures) (IsUnprinted answer.now (O.tally output.old).failures
+    ensures { MatchResult result (λ _. Prints (reply_of answer.now) (O.tally output.old)
+        (O.tally output.new)) (IsUnprinted answer.now (O.tally output.old).failures
         (O.tally output.new).failures) }
 {
     match answer {

@@ -9,8 +9,8 @@ ghost use Rattle.bson_store.specs.Left.{LeavesTree};
 ghost use Rattle.bson_store.specs.Refusals.{as_done, reply_by};
 ghost use Rattle.cli_commands.specs.Commands.{Spares};
 ghost use Rattle.store_table.specs.Moves.{WasOpen};
-ghost use Rattle.cli_commands.specs.Execute.{Executes, Reports, ReportsFailures, SilentUnread, Tells};
-ghost use Rattle.cli_commands.specs.Leaving.{LeavesAsked, StaysOpen};
+ghost use Rattle.cli_commands.specs.Execute.{Executes, Reports, ReportsFailures, ShowsAnswer, SilentUnread, Tells, line_of, streams};
+ghost use Rattle.cli_commands.specs.Leaving.{LeavesCall, StaysOpen};
 ghost use Rattle.cli_commands.specs.Requests.{IsRequestOf};
 ghost use Rattle.cli_commands.specs.declared.stop.Failure.{Failure as Outcome};
 
@@ -35,6 +35,7 @@ fn print_outcome<O: Sink>(
     requires { CanRefuse (O.tally output.old) }
     ensures told { Tells outcome result (O.tally output.old).failures
         (O.tally output.new).failures }
+    ensures printed { ShowsAnswer outcome result (O.tally output.old) (O.tally output.new) }
     ensures unread { SilentUnread result output.old output.new }
 {
     match outcome {
@@ -70,11 +71,11 @@ fn perform<S: Alter + Drop, I: Source, O: Sink>(
     requires input { CanFail (I.feed input.old) }
     requires output { CanRefuse (O.tally output.old) }
     ensures step { Relates S.Store store.old store.new
-        (Executes words.now (I.feed input.old) (I.feed input.new) (O.tally output.old)
-        (O.tally output.new) result) }
+        (Executes words.now (streams (I.feed input.old)
+        (I.feed input.new) (O.tally output.old) (O.tally output.new)) result) }
     ensures open { WasOpen (store_state S.Store store.old) (store_state S.Store store.new) result }
-    ensures crash { LeavesAsked words.now (I.feed input.old) (I.feed input.new) (O.tally output.old)
-        (O.tally output.new) result (store_state S.Store store.old)
+    ensures crash { LeavesCall (line_of words.now) (streams (I.feed input.old)
+        (I.feed input.new) (O.tally output.old) (O.tally output.new)) result (store_state S.Store store.old)
         (store_state S.Store store.new) }
     ensures devices { ReportsFailures words.now.call result (I.feed input.old).failures
         (I.feed input.new).failures (O.tally output.old).failures (O.tally output.new).failures }
@@ -121,11 +122,11 @@ fn obey<S: Alter + Drop, I: Source, O: Sink>(
     requires input { CanFail (I.feed input.old) }
     requires output { CanRefuse (O.tally output.old) }
     ensures step { Relates S.Store store.old store.new
-        (Executes words.now (I.feed input.old) (I.feed input.new) (O.tally output.old)
-        (O.tally output.new) result) }
+        (Executes words.now (streams (I.feed input.old)
+        (I.feed input.new) (O.tally output.old) (O.tally output.new)) result) }
     ensures open { WasOpen (store_state S.Store store.old) (store_state S.Store store.new) result }
-    ensures crash { LeavesAsked words.now (I.feed input.old) (I.feed input.new) (O.tally output.old)
-        (O.tally output.new) result (store_state S.Store store.old)
+    ensures crash { LeavesCall (line_of words.now) (streams (I.feed input.old)
+        (I.feed input.new) (O.tally output.old) (O.tally output.new)) result (store_state S.Store store.old)
         (store_state S.Store store.new) }
     ensures devices { ReportsFailures words.now.call result (I.feed input.old).failures
         (I.feed input.new).failures (O.tally output.old).failures (O.tally output.new).failures }
@@ -169,8 +170,8 @@ pub fn execute<S: Alter + Drop, I: Source, O: Sink, F: Sink>(
     // What was done, and that just this is reported: the refusal of the command's own step, or of a device exactly if that failed.
     ensures step { (outcome : Result (Unit {0}) Outcome)
         × Reports outcome result (F.tally faults.old) (F.tally faults.new)
-        × Relates S.Store store.old store.new (Executes words.now (I.feed input.old)
-        (I.feed input.new) (O.tally output.old) (O.tally output.new) outcome) }
+        × Relates S.Store store.old store.new (Executes words.now (streams (I.feed input.old)
+        (I.feed input.new) (O.tally output.old) (O.tally output.new)) outcome) }
     // Whatever the disk does, a failed read or write is reported.
     ensures devices { (outcome : Result (Unit {0}) Outcome)
         × Reports outcome result (F.tally faults.old) (F.tally faults.new)
@@ -183,8 +184,8 @@ pub fn execute<S: Alter + Drop, I: Source, O: Sink, F: Sink>(
     // before, or what it leaves of a refused one.
     ensures crash { (outcome : Result (Unit {0}) Outcome)
         × Reports outcome result (F.tally faults.old) (F.tally faults.new)
-        × LeavesAsked words.now (I.feed input.old) (I.feed input.new) (O.tally output.old)
-        (O.tally output.new) outcome (store_state S.Store store.old)
+        × LeavesCall (line_of words.now) (streams (I.feed input.old)
+        (I.feed input.new) (O.tally output.old) (O.tally output.new)) outcome (store_state S.Store store.old)
         (store_state S.Store store.new) }
 {
     match obey(alloc, store, words, input, output) {

@@ -1,12 +1,11 @@
 //! The commands that print while they read.
 
-ghost use Rattle.std.specs.Prelude.{[]};
 ghost use Rattle.store_table.specs.Crash.{AddsNothing};
 ghost use Rattle.bson_store.specs.Calls.{Relates, store_state};
 ghost use Rattle.cli_words.specs.declared.call.Call.TheVariants.{Export, Dump};
 ghost use Rattle.store_table.specs.Moves.{WasOpen};
 ghost use Rattle.store_model.specs.declared.error.ErrorKind.TheVariants.{Writer};
-ghost use Rattle.cli_commands.specs.Execute.{Comes, Executed, Fails, SilentUnread};
+ghost use Rattle.cli_commands.specs.Execute.{Comes, Executed, Fails, SilentUnread, line_on, streams};
 ghost use Rattle.bson_base.specs.Device.{Feed, CanRefuse};
 
 use crate::dumping::Printer;
@@ -22,7 +21,8 @@ pub fn export<S: Alter + Drop, O: Sink>(
 ) -> Result<(), Failure>
     requires { CanRefuse (O.tally output.old) }
     ensures step { (f : Feed) → Relates S.Store store.old store.new
-        (Comes (Executed Export name.now [] f f (O.tally output.old) (O.tally output.new) result)) }
+        (Comes (Executed (line_on Export name.now) (streams f f (O.tally output.old)
+        (O.tally output.new)) result)) }
     ensures open { WasOpen (store_state S.Store store.old) (store_state S.Store store.new) result }
     ensures crash { AddsNothing (store_state S.Store store.old) (store_state S.Store store.new) }
     ensures device { Fails Writer result (O.tally output.old).failures
@@ -44,7 +44,8 @@ pub fn dump<S: Alter + Drop, O: Sink>(
 ) -> Result<(), Failure>
     requires { CanRefuse (O.tally output.old) }
     ensures step { (f : Feed) → Relates S.Store store.old store.new
-        (Comes (Executed Dump name.now [] f f (O.tally output.old) (O.tally output.new) result)) }
+        (Comes (Executed (line_on Dump name.now) (streams f f (O.tally output.old)
+        (O.tally output.new)) result)) }
     ensures open { WasOpen (store_state S.Store store.old) (store_state S.Store store.new) result }
     ensures crash { AddsNothing (store_state S.Store store.old) (store_state S.Store store.new) }
     ensures device { Fails Writer result (O.tally output.old).failures

@@ -1,27 +1,53 @@
 -- Documents that become lines, one after the other.
-use Rattle.std.proofs.Common.{◌≡◌, ℕ, ◌+◌, ◌-◌, ◌<◌, ◌^◌, List, [], ◌∷◌, ◌++◌, length, true, Some, Ok, refl, sym, ap, subst, ◌∙◌}
+use Rattle.std.proofs.Common.{◌≡◌, ℕ, ◌+◌, ◌-◌, ◌<◌, ◌≤◌, ◌^◌, List, [], ◌∷◌, ◌++◌, length, true, false, drop, Ok, Err, refl, sym, ap, subst, ◌∙◌}
 use Rattle.std.proofs.lemmas.List.{length-append}
-use Rattle.bson_base.specs.Device.{Feed, Tally, CanFail, CanRefuse}
-use Rattle.bson_base.specs.Value.{Members}
-use Rattle.bson_model.specs.View.{content}
-use Rattle.bson_model.specs.declared.document.Document.{Document}
+use Rattle.bson_base.specs.Device.{Feed, Tally, Took, CanFail, CanRefuse}
+use Rattle.bson_base.specs.Value.{Members, document, levels}
+use Rattle.bson_bytes.specs.Spells.{SpellsMembers, settle}
+use Rattle.bson_frame.specs.Payload.{IsEnvelope}
+use Rattle.bson_json.specs.Prints.{IsTextOf}
+use Rattle.bson_meaning.specs.JsonReserved.{has_reserved}
 use Rattle.bson_model.specs.declared.extjson.ser.Mode.{Mode}
-use Rattle.cli_convert.specs.ToLines.{IsFree, IsLineOf, Wrote, TurnsLine, ReadsFree, SendsLine}
+use Rattle.bson_raw.specs.Input.{AreDeclared}
+use Rattle.cli_convert.specs.Reports.{SendsWhole}
+use Rattle.cli_convert.specs.ToLines.{EndsLines, IsFree, IsFreeLine, IsFreeText, IsLineOf, Wrote, TurnsLine}
+use Rattle.cli_convert.specs.declared.stop.Stop.{Stop}
+use Rattle.cli_convert.specs.declared.stop.Stop.TheVariants as stop
 use Rattle.cli_convert.proofs.PartLemmas.{one_part, more_parts, took_both, passed_both, took_none, passed_none}
 
--- one document that became a line
-pub line_sent : (m : Mode) (n : ℕ) (old new : Feed) (before after : Tally) (d : Document) → ReadsFree n old new (Ok (Some d)) → SendsLine m (content d) before after (Ok tt) → TurnsLine m n old new before after (Ok true)
-line_sent m n old new before after d (bytes, took, free) (line, is, passed) = (
-  content d,
-  record {
-    bytes = bytes;
-    took = took;
-    documents = one_part IsFree bytes (content d) free;
-    sent = line;
-    passed = passed;
-    lines = one_part (IsLineOf m) line (content d) is;
-  },
-)
+module _ (m : Mode) (n : ℕ) (old new : Feed) (before : Tally) (bytes : List ℕ) (took : Took old new bytes) (declares : AreDeclared bytes) where
+  -- one document that became a line
+  pub line_sent : (line : List ℕ) (after : Tally) → IsFreeLine m bytes line → SendsWhole line before after (Ok tt) → TurnsLine m n old new before after (Ok true)
+  line_sent line after (d, means, free, is) passed = (
+    d,
+    record {
+      bytes = bytes;
+      took = took;
+      documents = one_part IsFree bytes d ((declares, means), free);
+      sent = line;
+      passed = passed;
+      lines = one_part (IsLineOf m) line d is;
+    },
+  )
+
+  -- one whose line was refused by the sink
+  pub line_unsent : (line : List ℕ) (after : Tally) (e : Stop) → IsFreeLine m bytes line → SendsWhole line before after (Err e) → EndsLines m n old new before after (Err e)
+  line_unsent line after (stop.Document i fault) h sends = absurd sends
+  line_unsent line after (stop.Line i fault) h sends = absurd sends
+  line_unsent line after stop.Reader h sends = absurd sends
+  line_unsent line after stop.Writer (d, means, free, is) (failed, begun) = (bytes, line, d, took, ((declares, means), free), is, failed, begun)
+  line_unsent line after stop.Memory h sends = absurd sends
+
+-- bytes that are the written form of what they mean, and their text
+pub straight : (m : Mode) (bytes text : List ℕ) → IsEnvelope bytes → ((ms : Members) → SpellsMembers (drop 4 bytes) ms → settle ms ≡ ms) → ((ms : Members) × SpellsMembers (drop 4 bytes) ms × (levels (document ms) ≤ 100))
+    → ((ms : Members) → SpellsMembers (drop 4 bytes) ms → (has_reserved ms ≡ false) × IsTextOf m (document ms) text) → IsFreeText m bytes text
+straight m bytes text whole settled (ms, spells, low) written =
+    let (free, is) = written ms spells in
+    (ms, (ms, whole, spells, sym (settled ms spells)), free, is)
+
+-- the text with a line feed is a line
+pub line_of : (m : Mode) (bytes text line : List ℕ) → IsFreeText m bytes text → line ≡ text ++ 10 ∷ [] → IsFreeLine m bytes line
+line_of m bytes text line (d, means, free, is) fed = (d, means, free, (text, is, fed))
 
 pub none_written : (m : Mode) (feed : Feed) (tally : Tally) → Wrote m [] feed feed tally tally
 none_written m feed tally = record { bytes = []; took = took_none feed; documents = refl; sent = []; passed = passed_none tally; lines = refl }

@@ -1,14 +1,14 @@
 -- Documents of BSON that become lines of Extended JSON.
-use Rattle.std.specs.Prelude.{◌≡◌, ℕ, ◌+◌, false, List, [], ◌∷◌, ◌++◌, length, Some, None, Option, Bool, true, Result, Ok, Err, string_bytes}
+use Rattle.std.specs.Prelude.{◌≡◌, ◌≢◌, ◌⊎◌, ℕ, ◌+◌, false, List, [], ◌∷◌, ◌++◌, length, Some, Bool, true, Result, Ok, Err, string_bytes}
 use Rattle.bson_base.specs.Device.{Feed, Tally, Took, TookAll, TakesBeginning}
 use Rattle.bson_base.specs.Value.{Members, document}
 use Rattle.bson_bytes.specs.Spells.{Means}
+use Rattle.bson_frame.specs.declared.error.Error.{Error}
+use Rattle.bson_frame.specs.declared.error.ErrorKind.TheVariants.{OutOfMemory}
 use Rattle.bson_json.specs.Prints.{IsTextOf}
 use Rattle.bson_meaning.specs.JsonReserved.{has_reserved, reserved_path_below}
-use Rattle.bson_model.specs.View.{content}
-use Rattle.bson_model.specs.declared.document.Document.{Document}
 use Rattle.bson_model.specs.declared.extjson.ser.Mode.{Mode}
-use Rattle.bson_raw.specs.Input.{AreDeclared, ReadsNextDocument}
+use Rattle.bson_raw.specs.Input.{AreDeclared, IsRawFault, ReadsNextDocument}
 use Rattle.bson_raw.specs.declared.read_error.ReadError.TheVariants as reading
 use Rattle.cli_convert.specs.Parts.{InParts, Passed}
 use Rattle.cli_convert.specs.declared.stop.Fault.{Fault}
@@ -64,24 +64,38 @@ pub record WritesLines (m : Mode) (old new : Feed) (before after : Tally) (resul
 
 -- ---- its parts
 
--- the next document of the source, if there is one
-abbrev pub ReadsFree : ℕ → Feed → Feed → Result (Option Document) Stop → Type 0
-ReadsFree n old new (Ok None) = TookAll old new []
-ReadsFree n old new (Ok (Some d)) = (bytes : List ℕ) × Took old new bytes × IsFree bytes (content d)
-ReadsFree n old new (Err (stop.Document i fault)) = (i ≡ n) × RefusesNext old new fault
-ReadsFree n old new (Err (stop.Line i fault)) = ⊥
-ReadsFree n old new (Err stop.Reader) = new.failures ≡ old.failures + 1
-ReadsFree n old new (Err stop.Writer) = ⊥
-ReadsFree n old new (Err stop.Memory) = new.failures ≡ old.failures
+-- the bytes of the next document, if there is one
+abbrev pub TakesBytes : ℕ → Feed → Feed → List ℕ → Result Bool Stop → Type 0
+TakesBytes n old new bytes (Ok true) = Took old new bytes × AreDeclared bytes
+TakesBytes n old new bytes (Ok false) = TookAll old new []
+TakesBytes n old new bytes (Err (stop.Document i fault)) = (i ≡ n) × RefusesNext old new fault
+TakesBytes n old new bytes (Err (stop.Line i fault)) = ⊥
+TakesBytes n old new bytes (Err stop.Reader) = new.failures ≡ old.failures + 1
+TakesBytes n old new bytes (Err stop.Writer) = ⊥
+TakesBytes n old new bytes (Err stop.Memory) = new.failures ≡ old.failures
 
--- the line of a document was written
-abbrev pub SendsLine : Mode → Members → Tally → Tally → Result (Unit {0}) Stop → Type 0
-SendsLine m d before after (Ok x) = (line : List ℕ) × IsLineOf m line d × Passed before after line
-SendsLine m d before after (Err (stop.Document i fault)) = ⊥
-SendsLine m d before after (Err (stop.Line i fault)) = ⊥
-SendsLine m d before after (Err stop.Reader) = ⊥
-SendsLine m d before after (Err stop.Writer) = (line : List ℕ) × IsLineOf m line d × (after.failures ≡ before.failures + 1) × TakesBeginning before.taken after.taken line
-SendsLine m d before after (Err stop.Memory) = after ≡ before
+-- a refused conversion of the document at the place n
+abbrev pub IsRefusalOf : ℕ → Error → Stop → Type 0
+IsRefusalOf n e told = ((e.kind ≡ OutOfMemory) × (told ≡ stop.Memory)) ⊎ ((e.kind ≢ OutOfMemory) × (told ≡ stop.Document n (Raw e)))
+
+-- bytes mean a document without a reserved key below its top, which has this text
+abbrev pub IsFreeText : Mode → List ℕ → List ℕ → Type 0
+IsFreeText m bytes text = (d : Members) × Means bytes d × (has_reserved d ≡ false) × IsTextOf m (document d) text
+
+-- the same, which has this line
+abbrev pub IsFreeLine : Mode → List ℕ → List ℕ → Type 0
+IsFreeLine m bytes line = (d : Members) × Means bytes d × (has_reserved d ≡ false) × IsLineOf m line d
+
+-- bytes mean no document, or one with a reserved key below its top, to which the path leads
+abbrev pub HasNoLine : ℕ → List ℕ → Stop → Type 0
+HasNoLine n bytes (stop.Document i EndInside) = ⊥
+HasNoLine n bytes (stop.Document i BadLength) = ⊥
+HasNoLine n bytes (stop.Document i (Raw e)) = (i ≡ n) × IsRawFault bytes e
+HasNoLine n bytes (stop.Document i (ReservedKey path)) = (i ≡ n) × ((d : Members) × Means bytes d × (reserved_path_below d ≡ Some (string_bytes path)))
+HasNoLine n bytes (stop.Line i fault) = ⊥
+HasNoLine n bytes stop.Reader = ⊥
+HasNoLine n bytes stop.Writer = ⊥
+HasNoLine n bytes stop.Memory = Unit {0}
 
 -- one more document became a line, or it was the end
 abbrev pub TurnsLine : Mode → ℕ → Feed → Feed → Tally → Tally → Result Bool Stop → Type 0

@@ -7,9 +7,9 @@ ghost use Rattle.cli_convert.specs.Reports.{SendsWhole};
 
 use crate::documents::write_lines;
 use crate::lines::write_documents;
-use crate::report::{MISUSED, put, report_end};
+use crate::report::{MISUSED, put, report_end, send};
 use crate::stop::Stop;
-use bson_base::{Sink, Source, write_all};
+use bson_base::{Sink, Source};
 use bson_model::extjson::Mode;
 use std::alloc::Global;
 
@@ -59,10 +59,7 @@ fn help<O: Sink>(output: &mut O) -> Result<(), Stop>
     requires { CanRefuse (O.tally output.old) }
     ensures { SendsWhole HELP.now (O.tally output.old) (O.tally output.new) result }
 {
-    match write_all(output, HELP.as_bytes()) {
-        Ok(()) => Ok(()),
-        Err(_) => Err(Stop::Writer),
-    }
+    send(output, HELP.as_bytes())
 }
 
 /// Does what the words after the program's name ask for, and returns its status. Without a word the documents of the

@@ -3,7 +3,7 @@
 ghost use Rattle.std.specs.Prelude.{◌≡◌, ◌⊎◌, ◌++◌, codes, IfOk, string_bytes};
 ghost use Rattle.bson_base.specs.Device.{CanRefuse, TakesText};
 ghost use Rattle.shown_text.specs.Shown.{shown};
-ghost use Rattle.cli_convert.specs.Reports.{byte_text as text_of_byte, fault_text, kind_name as name_of_kind, line_text, memory_line, misuse as misuse_of, refusal as refusal_of, stop_status, stop_text, text_fault, Reports};
+ghost use Rattle.cli_convert.specs.Reports.{byte_text as text_of_byte, fault_text, kind_name as name_of_kind, line_text, memory_line, misuse as misuse_of, refusal as refusal_of, stop_status, stop_text, text_fault, Reports, SendsWhole};
 
 use crate::stop::{Fault, LineFault, Stop};
 use bson_base::{Sink, write_all};
@@ -154,6 +154,17 @@ pub(crate) fn put<S: Sink>(sink: &mut S, bytes: &[u8])
     ensures { TakesText (S.tally sink.old) (S.tally sink.new) bytes.now }
 {
     let _ = write_all(sink, bytes);
+}
+
+/// Writes bytes. `Writer` if a write failed, and a prefix of them was written.
+pub(crate) fn send<O: Sink>(output: &mut O, bytes: &[u8]) -> Result<(), Stop>
+    requires { CanRefuse (O.tally output.old) }
+    ensures { SendsWhole bytes.now (O.tally output.old) (O.tally output.new) result }
+{
+    match write_all(output, bytes) {
+        Ok(()) => Ok(()),
+        Err(_) => Err(Stop::Writer),
+    }
 }
 
 /// Writes the line of what is refused.

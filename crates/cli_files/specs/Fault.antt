@@ -58,3 +58,9 @@ fault_of_sql (SqliteFailure code.OutOfMemory) = Memory
 fault_of_sql (SqliteFailure code.NotADatabase) = NoDatabase
 fault_of_sql (SqliteFailure code.DatabaseCorrupt) = NoDatabase
 fault_of_sql _ = Disk
+
+-- by why files in memory aren't opened as a database, or can't be taken in: there is no disk whose fault it could be
+abbrev pub fault_in_memory : SqlError → FileError
+fault_in_memory (SqliteFailure code.NotADatabase) = NoDatabase
+fault_in_memory (SqliteFailure code.DatabaseCorrupt) = NoDatabase
+fault_in_memory _ = Memory

@@ -6,7 +6,7 @@ ghost use Rattle.sqlite.specs.Files.{file_state, HoldsDatabase, IsOpened};
 ghost use Rattle.bson_base.specs.Device.{CanRefuse, TakesBeginning};
 ghost use Rattle.cli_files.specs.declared.fault.FileError.TheVariants.{Disk};
 
-use crate::fault::FileError;
+use crate::fault::{FileError, fault_in_memory};
 use crate::loaded::Loaded;
 use crate::opening::judge_name;
 use crate::reading::over;
@@ -18,7 +18,8 @@ use std::fs::{OpenOptions, Permissions, TryLockError};
 use std::os::unix::fs::{MetadataExt, OpenOptionsExt, PermissionsExt};
 use std::{fs, io};
 
-/// The bytes of a database file that holds, without a log, what the connection last committed.
+/// The bytes of a database file that holds, without a log, what the connection last committed. A write to the file in
+/// memory that fails is `Memory`.
 pub fn whole(connection: Connection<FileStore<Loaded>>) -> Result<Vec<u8>, FileError>
     ensures { IfOk result (λ bytes. ∥ HoldsDatabase (record { log = []; db = bytes.items })
         (file_state connection).committed.trees ∥₁) }
@@ -27,7 +28,7 @@ pub fn whole(connection: Connection<FileStore<Loaded>>) -> Result<Vec<u8>, FileE
         Ok(files) => Ok(files.db.into_bytes()),
         Err((error, store)) => {
             drop(store);
-            Err(FileError::from(error))
+            Err(fault_in_memory(error))
         }
     }
 }

@@ -1,7 +1,7 @@
 //! Why a file can't be used.
 
 ghost use Rattle.std.specs.Prelude.{◌≡◌};
-ghost use Rattle.cli_files.specs.Fault.{fault_line, kind_of};
+ghost use Rattle.cli_files.specs.Fault.{fault_in_memory, fault_line, kind_of};
 
 use sqlite::ErrorCode;
 use sqlite_std_file::OpenError;
@@ -144,5 +144,18 @@ impl From<sqlite::Error> for FileError {
             }
             _ => FileError::Disk,
         }
+    }
+}
+
+/// Why files in memory (`Loaded`) aren't opened as a database, or can't be taken in: they are none, or there is no
+/// memory. There is no disk whose fault it could be: a write to them fails for lack of memory alone.
+pub(crate) fn fault_in_memory(error: sqlite::Error) -> FileError
+    ensures { result ≡ fault_in_memory error }
+{
+    match error {
+        sqlite::Error::SqliteFailure(ErrorCode::NotADatabase | ErrorCode::DatabaseCorrupt) => {
+            FileError::NoDatabase
+        }
+        _ => FileError::Memory,
     }
 }

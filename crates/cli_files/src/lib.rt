@@ -1,6 +1,7 @@
 //! What the programs do with a database file, and what they report if they can't use it.
 #![tactic(auto)]
 
+mod by_parts;
 mod copying;
 mod fault;
 mod loaded;
@@ -9,6 +10,7 @@ mod opening;
 mod reading;
 mod reporting;
 
+pub use by_parts::{Moment, open_parts};
 pub use copying::{copy, reopened, whole, write_whole};
 pub use fault::FileError;
 pub use loaded::Loaded;

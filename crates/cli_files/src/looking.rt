@@ -120,6 +120,8 @@ fn seconds_now(rt: &HostRuntime) -> io::Result<i64> {
 /// it is opened: a pipe would be waited for, and a device read without an end.
 pub(crate) fn plain(rt: &HostRuntime, path: &str) -> Result<Option<Metadata>, FileError> {
     match fs::symlink_metadata(rt, path) {
+        // Its last name went as it was looked at: SQLite deletes its journal and its log.
+        Ok(found) if found.nlink() == 0 => Ok(None),
         Ok(found) if found.is_file() && found.nlink() == 1 => Ok(Some(found)),
         Ok(_) => Err(FileError::NotPlain),
         Err(error) if error.kind() == io::ErrorKind::NotFound => Ok(None),
@@ -180,6 +182,13 @@ impl Look {
     /// Whether a rollback journal had something to play back.
     pub(crate) fn is_hot(&self) -> bool {
         self.is_hot
+    }
+
+    /// Whether there was a log with a header.
+    pub(crate) fn has_log(&self) -> bool
+        ensures { result ≡ self.now.has_log }
+    {
+        self.has_log
     }
 
     /// Whether there was no file.

@@ -1,11 +1,12 @@
 //! Database files, read into memory: nothing is made, written, locked or synced, so any number of processes may do it
 //! at once, also while one has the file open.
 
-ghost use Rattle.std.specs.Prelude.{IfOk};
+ghost use Rattle.std.specs.Prelude.{IfErr, IfOk};
 ghost use Rattle.sqlite.specs.State.{HasCleanDisk};
 ghost use Rattle.sqlite.specs.Files.{file_state, Finds, IsOpened};
+ghost use Rattle.cli_files.specs.Loaded.{IsUnopened};
 
-use crate::fault::FileError;
+use crate::fault::{FileError, fault_in_memory};
 use crate::loaded::Loaded;
 use crate::looking::{Look, Paths, is_one_state};
 use crate::opening::{judge_name, options_for};
@@ -131,7 +132,8 @@ fn load(rt: &HostRuntime, path: &str, seconds: u64) -> Result<Files<Loaded>, Fil
     read_calmly(rt, &paths, seconds)
 }
 
-/// Opens files in memory. What is found is what they hold.
+/// Opens files in memory. What is found is what they hold. Refused by `NoDatabase`, if they hold none, and else by
+/// `Memory`.
 pub(crate) fn over(
     alloc: Global,
     files: Files<Loaded>,
@@ -140,12 +142,13 @@ pub(crate) fn over(
     ensures clean { IfOk result (λ c. HasCleanDisk (file_state c)) }
     ensures opened { IfOk result (λ c. HasCleanDisk (file_state c) → IsOpened c) }
     ensures found { IfOk result (λ c. HasCleanDisk (file_state c) → Finds files c) }
+    ensures refused { IfErr result (IsUnopened files) }
 {
     match Connection::open_files(alloc, files, options) {
         Ok(connection) => Ok(connection),
         Err((error, left)) => {
             drop(left);
-            Err(FileError::from(error))
+            Err(fault_in_memory(error))
         }
     }
 }

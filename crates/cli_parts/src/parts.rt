@@ -105,6 +105,13 @@ fn are_apart(parts: &[Part], at: usize, len: usize) -> bool
     true
 }
 
+/// Whether a file has a part still, as it was read.
+fn has_part(alloc: Global, file: &fs::File, part: &Part) -> io::Result<bool> {
+    let mut now = vec![in alloc; 0; part.bytes.len()]?;
+    file.read_exact_at(now.as_mut_slice(), part.at as u64)?;
+    Ok(now.as_slice() == part.bytes.as_slice())
+}
+
 /// Counts a call that failed.
 fn count(outcome: io::Result<()>, faults: &mut u64) -> io::Result<()>
     ensures same { result ≡ outcome }
@@ -169,6 +176,23 @@ impl<S: Start> FileParts<S> {
         ensures { IsTrue result → HasNothingOf self.now at len }
     {
         !self.has_forgotten && are_apart(self.parts.as_slice(), at, len)
+    }
+
+    /// Whether the file has still all that was read of it: each part is read once more. It may say that it hasn't, though
+    /// it has. No clause says more: what a file holds later is nobody's promise.
+    pub fn has_still(&self) -> io::Result<bool> {
+        let Some(file) = &self.file else {
+            return Ok(true);
+        };
+        if self.has_forgotten {
+            return Ok(false);
+        }
+        for part in &self.parts {
+            if !has_part(self.alloc, file, part)? {
+                return Ok(false);
+            }
+        }
+        Ok(true)
     }
 
     /// Keeps a part that was read, unless enough is kept.

@@ -1,10 +1,9 @@
 -- Which databases a crash may leave after a request.
-use Rattle.std.proofs.Common.{List, ℕ, Some, inl, inr}
+use Rattle.std.proofs.Common.{Bool, List, ℕ, Some, inl, inr}
 use Rattle.sqlite.specs.Effect.{Database}
 use Rattle.sqlite.specs.State.{State, HasCleanDisk}
 use Rattle.sqlite_trees.specs.Tree.{Trees}
-use Rattle.bson_base.specs.Value.{Members, Value, put}
-use Rattle.bson_bytes.specs.Encode.{encode}
+use Rattle.bson_base.specs.Value.{Members, Value}
 use Rattle.bson_model.specs.View.{content, view}
 use Rattle.store_table.specs.Beside.{ShowsOthers}
 use Rattle.store_table.specs.Moves.{Stands}
@@ -13,20 +12,24 @@ use Rattle.store_model.proofs.LeftLemmas.{left_more}
 use Rattle.store_model.specs.Reading.{Reading}
 use Rattle.store_model.specs.State as model
 use Rattle.store_model.specs.Table.{DocumentTable, state_of}
+use Rattle.store_question.specs.Reads.{Form, form_of}
 use Rattle.bson_store.specs.Left.{Holds}
+use Rattle.bson_store.specs.Whole.{HoldsDone}
+use Rattle.bson_store.specs.declared.edit.Edit.{Edit}
 use Rattle.bson_store.specs.Shown.{Represents}
-use Rattle.fallowtime_commands.specs.Left.{LeavesIn, LeavesRequest, LeftByRequest, LeftIn, OfCall, OfPut, OfRequest, OfSet, OfStored, Unmoved, Ways}
-use Rattle.fallowtime_commands.specs.declared.request.Request.{Request}
-use Rattle.fallowtime_commands.specs.declared.request.Request.TheVariants as request
+use Rattle.fallowtime_commands.specs.Left.{LeavesIn, LeavesRequest, LeftByRequest, LeftIn, OfCall, OfPut, OfRequest, OfSet, OfStored, OfChange, Unmoved, Ways}
+use Rattle.fallowtime_requests.specs.declared.request.Request.{Request}
+use Rattle.fallowtime_requests.specs.declared.request.Request.TheVariants as request
+use Rattle.fallowtime_requests.specs.declared.request.Work.{Work}
 
 -- where more is left of each call, more is left in this way
 abbrev Grows : Ways → Type 1
-Grows P = (From Into : DocumentTable → model.Call → Type 0) (Was Is : Type 0) → ((b : DocumentTable) (call : model.Call) → From b call → Into b call) → (Was → Is) → (a : DocumentTable) → P From Was a → P Into Is a
+Grows P = (From Into : DocumentTable → model.Call → Type 0) (Done : DocumentTable → List Edit → Type 0) (Was Is : Type 0) → ((b : DocumentTable) (call : model.Call) → From b call → Into b call) → (Was → Is) → (a : DocumentTable) → P From Done Was a → P Into Done Is a
 
 -- so more is left of a request
 module _ (Same More : Type 0) (same : Same → More) (Of Then : Ways → Type 0) (goes : (P : Ways) → Grows P → Of P → Then P) (n : List ℕ) (r : model.Reply) where
   of_call : (call : model.Call) → OfCall Same Of n r call → OfCall More Then n r call
-  of_call call = goes (λ From Was a. From a call) (λ From Into Was Is each was a h. each a call h)
+  of_call call = goes (λ From Done Was a. From a call) (λ From Into Done Was Is each was a h. each a call h)
 
   of_stored : (call : Reading → model.Call) (e : Members) → OfStored Same Of n r call e → OfStored More Then n r call e
   of_stored call e (inl h) = inl (h.0, same h.1)
@@ -35,10 +38,10 @@ module _ (Same More : Type 0) (same : Same → More) (Of Then : Ways → Type 0)
   of_put : (e : Members) → OfPut Same Of n r e → OfPut More Then n r e
   of_put e (inl h) = inl (h.0, same h.1)
   of_put e (inr (inl h)) = inr (inl (h.0, λ x reads. of_call (model.replace model.in_bytes x) (h.1 x reads)))
-  of_put e (inr (inr h)) = inr (inr (goes _ (λ From Into Was Is each was a (b, none, (y, reads, k)). (b, none, (y, reads, each b (model.insert model.in_bytes y) k))) h))
+  of_put e (inr (inr h)) = inr (inr (goes _ (λ From Into Done Was Is each was a (b, none, (y, reads, k)). (b, none, (y, reads, each b (model.insert model.in_bytes y) k))) h))
 
   of_set : (id : Value) (k : List ℕ) (v : Value) → OfSet Same Of n r id k v → OfSet More Then n r id k v
-  of_set id k v h = goes _ (λ From Into Was Is each was a h. elim h [
+  of_set id k v h = goes _ (λ From Into Done Was Is each was a h. elim h [
     | inl bad ↦ inl (bad.0, each a (model.set id k (Some v)) bad.1)
     | inr rest ↦ elim rest [
       | inl refused ↦ inr (inl (refused.0, was refused.1))
@@ -46,12 +49,16 @@ module _ (Same More : Type 0) (same : Same → More) (Of Then : Ways → Type 0)
     ]
   ]) h
 
+  of_change : (form : Form) (w : Work) (many : Bool) → OfChange Same Of n r form w many → OfChange More Then n r form w many
+  of_change form w many h = goes _ (λ From Into Done Was Is each was a h q reads. elim (h q reads) [ inl refused ↦ inl (refused.0, was refused.1) | inr done ↦ inr done ]) h
+
   of_request : (q : Request) → OfRequest Same Of n r q → OfRequest More Then n r q
   of_request (request.Insert id d) h = of_stored (model.insert model.in_bytes) (content d) h
   of_request (request.Put d) h = of_put (content d) h
   of_request (request.Replace d) h = of_stored (model.replace model.in_bytes) (content d) h
   of_request (request.Set id key v) h = of_set (view id) key.now (view v) h
   of_request (request.Unset id key) h = of_call (model.unset (view id) key.now) h
+  of_request (request.Change q w many) h = of_change (form_of q) w many h
   of_request (request.Remove id) h = of_call (model.remove (view id)) h
   of_request (request.Import stream) h = λ ds stop reads. of_call (model.import ds stop) (h ds stop reads)
   of_request (request.Get id) h = same h
@@ -73,4 +80,4 @@ module _ (s t : State) (clean : HasCleanDisk t) (first : Database) (docs : List 
 module _ (first : Database) (Before More : Trees → Type 0) (more : (db : Trees) → Before db → More db) (n : List ℕ) (a : DocumentTable) (db : Trees) where
   pub more_by_request : (q : Request) (r : model.Reply) → LeftByRequest first Before n a q r db → LeftByRequest first More n a q r db
   more_by_request q r h =
-      of_request (Before db) (More db) (more db) (LeftIn first Before n a r db) (LeftIn first More n a r db) (λ P grows k. grows _ _ _ _ (λ b call l. left_more (Holds first) Before More more (state_of b) (model.on n call) r db l) (more db) a k) n r q h
+      of_request (Before db) (More db) (more db) (LeftIn first Before n a r db) (LeftIn first More n a r db) (λ P grows k. grows _ _ (λ b xs. HoldsDone first b xs db) _ _ (λ b call l. left_more (Holds first) Before More more (state_of b) (model.on n call) r db l) (more db) a k) n r q h

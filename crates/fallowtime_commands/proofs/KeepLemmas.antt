@@ -1,5 +1,5 @@
 -- Why documents aren't kept.
-use Rattle.std.proofs.Common.{◌≡◌, ◌⊎◌, ◌≤◌, inl, inr, ℕ, List, Some, None, Result, Ok, Err, Vec, Global, refl}
+use Rattle.std.proofs.Common.{◌≡◌, ◌⊎◌, ◌≤◌, inl, inr, ℕ, Some, None, Result, Ok, Err, Vec, Global, refl}
 use Rattle.std.specs.Prelude.{MatchResult}
 use Rattle.bson_base.specs.Kinds.{IsPlain}
 use Rattle.bson_base.specs.Value.{Value, Members, document, levels, look_up}

@@ -1,17 +1,18 @@
--- What is printed of documents and of names, one after the other.
-use Rattle.std.proofs.Common.{◌≡◌, inl, inr, ℕ, suc, ◌+◌, ◌<◌, List, [], ◌∷◌, ◌++◌, length, map, take, drop, get_or, add-one, Err, refl, sym, ap, ◌∙◌, subst}
+-- What is printed of documents and of names, one after the other, and of an update.
+use Rattle.std.proofs.Common.{◌≡◌, inl, inr, ℕ, suc, ◌+◌, ◌<◌, List, [], ◌∷◌, ◌++◌, length, map, take, drop, get_or, add-one, append_assoc, codes, decimal, Err, refl, sym, ap, ◌∙◌, subst}
 use Rattle.std.proofs.Math.Seq.{take-suc, drop-cons}
 use Rattle.std.proofs.lemmas.List.{map-append, take-append-drop}
 use Rattle.bson_base.specs.Device.{Tally}
 use Rattle.bson_base.specs.Value.{Members}
 use Rattle.bson_model.specs.declared.extjson.ser.Mode.{Mode}
 use Rattle.cli_convert.specs.Parts.{InParts, Passed}
+use Rattle.cli_words.specs.Lines.{line}
 use Rattle.cli_convert.proofs.PartLemmas.{more_parts, one_part, passed_both}
 use Rattle.store_model.specs.Refusal.{refusal}
 use Rattle.fallowtime_texts.specs.Printed.{PrintsDocument}
 use Rattle.fallowtime_texts.specs.declared.printed.PrintFault.{PrintFault}
 use Rattle.fallowtime_texts.specs.declared.printed.PrintFault.TheVariants as faults
-use Rattle.fallowtime_commands.specs.Printing.{IsUnprinted, key_of_fault, kind_of_fault}
+use Rattle.fallowtime_commands.specs.Printing.{IsUnprinted, key_of_fault, kind_of_fault, update_text}
 use Rattle.fallowtime_commands.specs.declared.refusal.Refusal.{Refusal}
 
 -- a document without a text
@@ -36,3 +37,7 @@ module _ {X : Type 0} (seen : X → List ℕ) (P : List ℕ → List ℕ → Typ
   between i d x below is =
       ap (map seen) (sym (take-append-drop i xs) ∙ ap (λ l. take i xs ++ l) (drop-cons xs i d below)) ∙ map-append seen (take i xs) (get_or xs i d ∷ drop (suc i) xs)
       ∙ ap (λ y. map seen (take i xs) ++ y ∷ map seen (drop (suc i) xs)) (sym is)
+
+-- the line of an update, by its parts
+pub of_update : (m c : ℕ) (a b : List ℕ) → a ≡ decimal m → b ≡ decimal c → codes "{\"matched\":" ++ (a ++ (codes ",\"changed\":" ++ (b ++ codes "}\n"))) ≡ line (update_text m c)
+of_update m c a b is same = rw (is, same) (simp append_assoc)

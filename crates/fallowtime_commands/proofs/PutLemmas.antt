@@ -1,20 +1,18 @@
 -- A replacement that finds no document, and the insertion that follows it.
 use Rattle.std.proofs.Common.{◌≡◌, inl, inr, ℕ, List, Option, None, refl}
-use Rattle.sqlite.specs.State.{State, HasCleanDisk}
+use Rattle.sqlite.specs.State.{State}
 use Rattle.bson_base.specs.Value.{Members}
 use Rattle.bson_bytes.specs.Encode.{encode}
 use Rattle.store_table.specs.Moves.{Moves}
-use Rattle.store_table.specs.Rows.{TableRow}
 use Rattle.store_table.proofs.OthersLemmas.{shows_then}
 use Rattle.store_model.proofs.LeftLemmas.{left_more}
-use Rattle.store_model.specs.Reading.{Reading, ReadsBytes}
+use Rattle.store_model.specs.Reading.{Reading}
 use Rattle.store_model.specs.State.{Call, in_bytes, insert, on, refused, replace, Reply}
-use Rattle.store_model.specs.Table.{DocumentTable, state_of}
+use Rattle.store_model.specs.Table.{state_of}
 use Rattle.store_model.specs.declared.error.ErrorKind.{ErrorKind}
 use Rattle.store_model.specs.declared.error.ErrorKind.TheVariants.{NotFound}
 use Rattle.bson_store.specs.Calls.{DoesBytes}
 use Rattle.bson_store.specs.Left.{Holds, LeavesBytes}
-use Rattle.bson_store.specs.Shown.{Represents}
 use Rattle.bson_store.proofs.CrashLemmas.{survives_itself}
 use Rattle.bson_store.proofs.MoveLemmas.{moved, moved_twice, rests}
 use Rattle.fallowtime_commands.specs.Left.{LeavesPut}

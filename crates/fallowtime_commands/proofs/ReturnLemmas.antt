@@ -2,9 +2,9 @@
 use Rattle.std.proofs.Common.{arith, refl, sym, subst, ◌≡◌, ◌≤◌, ℕ, List, [], ◌∷◌, false, Result, Ok, Err}
 use Rattle.std.proofs.lemmas.List.{append_cancel_right}
 use Rattle.bson_base.specs.Kinds.{IsSound}
-use Rattle.bson_base.specs.Value.{document, has_key, look_up, Members, no_members, member}
+use Rattle.bson_base.specs.Value.{document, has_key, Members, no_members, member}
 use Rattle.bson_json.specs.Prints.{IsTextOf}
-use Rattle.bson_json_laws.specs.Settled.{ComesBack, json_levels, settle, settle_members}
+use Rattle.bson_json_laws.specs.Settled.{ComesBack, json_levels, settle_members}
 use Rattle.bson_json_read.specs.Reading.{ReadsText}
 use Rattle.bson_json_read.specs.declared.error.Error.{Error}
 use Rattle.bson_json_read.specs.declared.error.Error.TheVariants.{Memory}

@@ -1,6 +1,5 @@
 -- A value that is set, by a read and a replacement.
-use Rattle.std.proofs.Common.{◌≡◌, ◌⊎◌, inl, inr, ℕ, List, [], ◌∷◌, ◌++◌, Some, None, refl, sym, subst, ◌∙◌, Option, arith}
-use Rattle.sqlite.specs.Effect.{Database}
+use Rattle.std.proofs.Common.{◌≡◌, inl, inr, ℕ, List, [], ◌∷◌, ◌++◌, Some, None, refl, sym, subst, ◌∙◌, Option, arith}
 use Rattle.sqlite.specs.State.{State, HasCleanDisk, Survives}
 use Rattle.sqlite_trees.specs.Tree.{Trees}
 use Rattle.bson_base.specs.Value.{Value, Members, put}
@@ -8,17 +7,16 @@ use Rattle.bson_bytes.specs.Encode.{encode}
 use Rattle.store_table.specs.Moves.{Moves}
 use Rattle.store_table.specs.Rows.{TableRow}
 use Rattle.store_table.proofs.OthersLemmas.{shows_then}
-use Rattle.store_model.specs.Left.{LeftBy}
 use Rattle.store_model.proofs.LeftLemmas.{left_more}
 use Rattle.store_model.proofs.RowLemmas.{list_of-state_of}
 use Rattle.store_model.specs.Reading.{Documents, Reading, ReadsBytes}
 use Rattle.store_model.specs.State.{Answers, AreKept, Command, get_raw, in_bytes, IsFreeKey, IsKept, IsName, list_of, on, refused, replace, Reply, set, StandsAt, Step}
 use Rattle.store_model.specs.State as model
-use Rattle.store_model.specs.Table.{DocumentTable, documents_of, IsRefusal, Serves, state_of}
+use Rattle.store_model.specs.Table.{DocumentTable, IsRefusal, Serves, state_of}
 use Rattle.store_model.specs.declared.error.ErrorKind.{ErrorKind}
 use Rattle.store_model.specs.declared.error.ErrorKind.TheVariants.{Memory}
-use Rattle.bson_store.specs.Calls.{Does, DoesBytes}
-use Rattle.bson_store.specs.Left.{Holds, Leaves, LeavesBytes}
+use Rattle.bson_store.specs.Calls.{Does}
+use Rattle.bson_store.specs.Left.{Holds, Leaves}
 use Rattle.bson_store.specs.Shown.{Represents}
 use Rattle.bson_store.proofs.ManyLemmas.{kept_there}
 use Rattle.bson_store.proofs.CrashLemmas.{step_of}
@@ -26,7 +24,7 @@ use Rattle.bson_store.proofs.MoveLemmas.{moved, moved_twice}
 use Rattle.store_documents.proofs.StreamLemmas.{any_bytes}
 use Rattle.fallowtime_commands.specs.Left.{LeavesSet, LeavesStored}
 use Rattle.fallowtime_commands.specs.Setting.{Gets, Sets}
-use Rattle.fallowtime_commands.specs.Storing.{IsFit, IsStopped, IsUnasked, Stores}
+use Rattle.fallowtime_commands.specs.Storing.{IsFit, IsStopped, Stores}
 
 kept_at : (front : Documents) (d : Members) (back : Documents) → AreKept (front ++ d ∷ back) → IsKept d
 kept_at [] d back h = h.0

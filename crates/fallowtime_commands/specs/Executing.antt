@@ -10,13 +10,13 @@ use Rattle.fallowtime_commands.specs.Printing.{Tells}
 use Rattle.fallowtime_commands.specs.declared.answer.Answer.{Answer}
 use Rattle.fallowtime_commands.specs.declared.printing.Form.{Form}
 use Rattle.fallowtime_commands.specs.declared.refusal.Refusal.{Refusal}
-use Rattle.fallowtime_commands.specs.declared.request.Request.{Request}
+use Rattle.fallowtime_requests.specs.declared.request.Request.{Request}
 
 -- The request was done on the collection n, with one outcome: that is what is printed or refused, what the rows show,
 -- and what a crash leaves. One that was accepted was done on an open connection, which stays open.
 pub record Executes (n : List ℕ) (q : Request) (f : Form) (before after : Tally) (result : Result (Unit {0}) Refusal) (old new : State) : Type 0 where
   pub outcome : Result Answer StoreError
   pub told : Tells f outcome before after result
-  pub moves : Moves old new (Performs n q (reply_of outcome))
+  pub moves : Moves old new (Performs n q outcome)
   pub crash : LeavesRequest n q (reply_of outcome) old new
   pub stays : WasOpen old new outcome

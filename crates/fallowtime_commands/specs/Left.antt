@@ -1,5 +1,5 @@
 -- Which databases a crash may leave after a request.
-use Rattle.std.specs.Prelude.{◌⊎◌, List, ℕ, Option, Some}
+use Rattle.std.specs.Prelude.{◌⊎◌, List, ℕ, Bool, Option, Some, Result, Ok, Err}
 use Rattle.sqlite.specs.Effect.{Database}
 use Rattle.sqlite.specs.State.{State, Survives}
 use Rattle.sqlite_trees.specs.Tree.{Trees}
@@ -11,21 +11,31 @@ use Rattle.store_model.specs.Reading.{Documents, Reading, ReadsBytes, ReadsStrea
 use Rattle.store_model.specs.State as model
 use Rattle.store_model.specs.Table.{DocumentTable, IsRefusal, state_of}
 use Rattle.store_model.specs.declared.error.ErrorKind.{ErrorKind}
+use Rattle.store_question.specs.Asked.{Asked}
+use Rattle.store_question.specs.Reads.{Form, Reads, form_of}
+use Rattle.store_model.specs.declared.error.StoreError.{StoreError}
 use Rattle.bson_store.specs.Left.{Along, Holds}
+use Rattle.bson_store.specs.Whole.{HoldsDone, LeavesWhole}
+use Rattle.bson_store.specs.declared.edit.Edit.{Edit}
+use Rattle.bson_store.specs.declared.edit.ListRefusal.{ListRefusal}
+use Rattle.fallowtime_commands.specs.Changing.{AreEdits, AreMeant}
+use Rattle.fallowtime_commands.specs.declared.answer.Answer.{Answer}
 use Rattle.fallowtime_commands.specs.Setting.{Gets}
 use Rattle.fallowtime_commands.specs.Storing.{FindsNone, HasReplaced, IsStopped}
-use Rattle.fallowtime_commands.specs.declared.request.Request.{Request}
-use Rattle.fallowtime_commands.specs.declared.request.Request.TheVariants as request
+use Rattle.fallowtime_requests.specs.declared.request.Request.{Request}
+use Rattle.fallowtime_requests.specs.declared.request.Work.{Work}
+use Rattle.fallowtime_requests.specs.declared.request.Request.TheVariants as request
 
 -- What holds of what is left, by the table a that the rows showed: `From b call`, that it is what the store's call leaves
--- of a table b, and `Was`, that it could be left before.
+-- of a table b; `Done b xs`, that it holds the state at the end of all these changes of b; and `Was`, that it could be
+-- left before.
 abbrev pub Ways : Type 1
-Ways = (DocumentTable → model.Call → Type 0) → Type 0 → DocumentTable → Type 0
+Ways = (DocumentTable → model.Call → Type 0) → (DocumentTable → List Edit → Type 0) → Type 0 → DocumentTable → Type 0
 
 -- Of a request on the collection n with this reply: `Same`, no more than what could be left before, or `Of` such a way.
 module _ (Same : Type 0) (Of : Ways → Type 0) (n : List ℕ) (r : model.Reply) where
   abbrev pub OfCall : model.Call → Type 0
-  OfCall call = Of (λ From Was a. From a call)
+  OfCall call = Of (λ From Done Was a. From a call)
 
   -- an insertion or a replacement, by what the bytes read as
   abbrev pub OfStored : (Reading → model.Call) → Members → Type 0
@@ -36,14 +46,20 @@ module _ (Same : Type 0) (Of : Ways → Type 0) (n : List ℕ) (r : model.Reply)
   OfPut e =
       (IsStopped n e r × Same)
       ⊎ ((HasReplaced r × ((x : Reading) → ReadsBytes (encode e) x → OfCall (model.replace model.in_bytes x)))
-      ⊎ Of (λ From Was a. (b : DocumentTable) × FindsNone n (encode e) a b × ((y : Reading) × ReadsBytes (encode e) y × From b (model.insert model.in_bytes y))))
+      ⊎ Of (λ From Done Was a. (b : DocumentTable) × FindsNone n (encode e) a b × ((y : Reading) × ReadsBytes (encode e) y × From b (model.insert model.in_bytes y))))
 
   -- a value that is set: no more than before, or what the replacement leaves
   abbrev pub OfSet : Value → List ℕ → Value → Type 0
-  OfSet id k v = Of (λ From Was a.
+  OfSet id k v = Of (λ From Done Was a.
       ((model.IsFreeKey k → ⊥) × From a (model.set id k (Some v)))
       ⊎ ((IsRefusal r × Was)
       ⊎ ((d : Members) × (b : DocumentTable) × Gets n id a d b × ((x : Reading) × ReadsBytes (encode (put k v d)) x × From b (model.replace model.in_bytes x)))))
+
+  -- a change by query: no more than before, and never if it was accepted; or the state at the end of all changes
+  abbrev pub OfChange : Form → Work → Bool → Type 0
+  OfChange form w many = Of (λ From Done Was a.
+      (q : Asked) → Reads form q
+      → (IsRefusal r × Was) ⊎ ((ds : Documents) × (xs : List Edit) × AreMeant n q many a ds × AreEdits n w ds xs × Done a xs))
 
   -- a question or an index leaves no more than before
   abbrev pub OfRequest : Request → Type 0
@@ -52,6 +68,7 @@ module _ (Same : Type 0) (Of : Ways → Type 0) (n : List ℕ) (r : model.Reply)
   OfRequest (request.Replace d) = OfStored (model.replace model.in_bytes) (content d)
   OfRequest (request.Set id key v) = OfSet (view id) key.now (view v)
   OfRequest (request.Unset id key) = OfCall (model.unset (view id) key.now)
+  OfRequest (request.Change q w many) = OfChange (form_of q) w many
   OfRequest (request.Remove id) = OfCall (model.remove (view id))
   OfRequest (request.Import stream) = (ds : Documents) (stop : Option ErrorKind) → ReadsStream stream.items ds stop → OfCall (model.import ds stop)
   OfRequest _ = Same
@@ -59,7 +76,7 @@ module _ (Same : Type 0) (Of : Ways → Type 0) (n : List ℕ) (r : model.Reply)
 -- ---- of one database, which a crash may leave now; before it they were those of Before, beside the other tables of the first
 
 abbrev pub LeftIn : Database → (Trees → Type 0) → List ℕ → DocumentTable → model.Reply → Trees → Ways → Type 0
-LeftIn first Before n a r db P = P (λ b call. LeftBy (Holds first) Before (state_of b) (model.on n call) r db) (Before db) a
+LeftIn first Before n a r db P = P (λ b call. LeftBy (Holds first) Before (state_of b) (model.on n call) r db) (λ b xs. HoldsDone first b xs db) (Before db) a
 
 abbrev pub LeftByRequest : Database → (Trees → Type 0) → List ℕ → DocumentTable → Request → model.Reply → Trees → Type 0
 LeftByRequest first Before n a q r db = OfRequest (Before db) (LeftIn first Before n a r db) n r q
@@ -80,6 +97,14 @@ LeavesPut n e r old new = OfPut (Unmoved old new) (LeavesIn old new n r) n r e
 
 abbrev pub LeavesSet : List ℕ → Value → List ℕ → Value → model.Reply → State → State → Type 0
 LeavesSet n id k v r old new = OfSet (Unmoved old new) (LeavesIn old new n r) n r id k v
+
+abbrev pub LeavesChange : List ℕ → Form → Work → Bool → model.Reply → State → State → Type 0
+LeavesChange n form w many r old new = OfChange (Unmoved old new) (LeavesIn old new n r) n r form w many
+
+-- what a crash leaves of a list of changes with this outcome
+abbrev pub LeavesApplied : List Edit → Result Answer StoreError → State → State → Type 0
+LeavesApplied xs (Ok a) old new = LeavesWhole xs (Ok tt) old new
+LeavesApplied xs (Err e) old new = (r : ListRefusal) × LeavesWhole xs (Err r) old new
 
 abbrev pub LeavesRequest : List ℕ → Request → model.Reply → State → State → Type 0
 LeavesRequest n q r old new = OfRequest (Unmoved old new) (LeavesIn old new n r) n r q

@@ -1,5 +1,5 @@
 -- What is printed of answers.
-use Rattle.std.specs.Prelude.{◌≡◌, ◌⊎◌, ℕ, ◌+◌, List, [], ◌∷◌, ◌++◌, map, Bool, true, false, Option, None, Some, Result, Ok, Err, String, codes, decimal, string_bytes}
+use Rattle.std.specs.Prelude.{◌≡◌, ◌⊎◌, ℕ, ◌+◌, List, ◌∷◌, ◌++◌, map, Bool, true, false, Option, None, Some, Result, Ok, Err, String, codes, decimal, string_bytes}
 use Rattle.std.specs.declared.alloc.Global.{Global}
 use Rattle.bson_base.specs.Device.{Tally}
 use Rattle.bson_base.specs.Value.{Value, Members, document}
@@ -13,11 +13,12 @@ use Rattle.bson_store.specs.Export.{bytes_of_each}
 use Rattle.cli_convert.specs.Parts.{InParts, Passed}
 use Rattle.cli_words.specs.Lines.{line}
 use Rattle.shown_text.specs.Shown.{shown}
-use Rattle.store_model.specs.Refusal.{refusal}
+use Rattle.store_model.specs.Refusal.{refusal, refusal_at}
 use Rattle.store_model.specs.State.{IsKept}
 use Rattle.store_model.specs.declared.error.ErrorKind.{ErrorKind}
-use Rattle.store_model.specs.declared.error.ErrorKind.TheVariants.{Database, Memory, ReservedKey, Writer}
+use Rattle.store_model.specs.declared.error.ErrorKind.TheVariants.{BadKey, Database, Memory, ReservedKey, Writer}
 use Rattle.store_model.specs.declared.error.StoreError.{StoreError}
+use Rattle.store_update.specs.declared.error.UpdateError.{UpdateError}
 use Rattle.fallowtime_texts.specs.declared.printed.PrintFault.{PrintFault}
 use Rattle.fallowtime_texts.specs.declared.printed.PrintFault.TheVariants as faults
 use Rattle.fallowtime_commands.specs.declared.answer.Answer.{Answer}
@@ -25,8 +26,8 @@ use Rattle.fallowtime_commands.specs.declared.answer.Answer.TheVariants as answe
 use Rattle.fallowtime_commands.specs.declared.printing.Form.{Form}
 use Rattle.fallowtime_commands.specs.declared.printing.Form.TheVariants.{Lines, Bytes}
 use Rattle.fallowtime_commands.specs.declared.refusal.Refusal.{Refusal}
-use Rattle.fallowtime_commands.specs.declared.request.Request.{Request}
-use Rattle.fallowtime_commands.specs.declared.request.Request.TheVariants as request
+use Rattle.fallowtime_requests.specs.declared.request.Request.{Request}
+use Rattle.fallowtime_requests.specs.declared.request.Request.TheVariants as request
 
 -- ---- one document
 
@@ -127,6 +128,14 @@ abbrev pub IsIdText : Form → Answer → List ℕ → Type 0
 IsIdText f (answer.Id v) text = IsTextOf (mode_of f) (view v) text
 IsIdText f _ text = Unit {0}
 
+-- how many documents were selected, and how many of them became other ones
+abbrev pub update_text : ℕ → ℕ → List ℕ
+update_text m c = codes "{\"matched\":" ++ (decimal m ++ (codes ",\"changed\":" ++ (decimal c ++ codes "}")))
+
+-- an update isn't made of the document at a place: that is refused, by its name
+abbrev pub RefusesUpdate : ℕ → UpdateError → Tally → Tally → Result (Unit {0}) Refusal → Type 0
+RefusesUpdate i e before after result = ((r : Refusal) × (result ≡ Err r) × (r.error ≡ refusal_at BadKey i) × (r.update ≡ Some e)) × (after ≡ before)
+
 abbrev pub Prints : Form → Answer → Tally → Tally → Result (Unit {0}) Refusal → Type 0
 Prints f answer.Nothing before after result = (result ≡ Ok tt) × (after ≡ before)
 Prints f (answer.Id v) before after result = PrintsMadeId (mode_of f) (view v) before after result
@@ -135,6 +144,16 @@ Prints f (answer.Number n) before after result = PrintsLine (decimal n) before a
 Prints f (answer.Document body) before after result = PrintsBody f body.items before after result
 Prints f (answer.Documents bodies) before after result = PrintsBodies f (bytes_of_each bodies.items) before after result
 Prints f (answer.Names names) before after result = PrintsNames (map string_bytes names.items) before after result
+Prints f (answer.Updated m c) before after result = PrintsLine (update_text m c) before after result
+Prints f (answer.NotUpdated i e) before after result = RefusesUpdate i e before after result
+
+-- what a request returns that only reads
+abbrev pub IsRead : Answer → Type 0
+IsRead (answer.Number n) = Unit {0}
+IsRead (answer.Document body) = Unit {0}
+IsRead (answer.Documents bodies) = Unit {0}
+IsRead (answer.Names names) = Unit {0}
+IsRead _ = ⊥
 
 -- the text is that of the id of the document that is to go in, if one is
 abbrev pub IsInsertText : Form → Request → List ℕ → Type 0

@@ -1,5 +1,5 @@
 -- Documents that go into a store as they are: by their written bytes, which keep each double and the order of keys.
-use Rattle.std.specs.Prelude.{◌≡◌, ◌⊎◌, ◌<◌, ◌≤◌, ℕ, List, Option, None, Bool, true, false}
+use Rattle.std.specs.Prelude.{◌≡◌, ◌⊎◌, ◌<◌, ◌≤◌, ℕ, List, Option, None, true, false}
 use Rattle.bson_base.specs.Kinds.{IsPlain}
 use Rattle.bson_base.specs.Value.{Members, document, has_key, levels}
 use Rattle.bson_bytes.specs.Encode.{encode, size}

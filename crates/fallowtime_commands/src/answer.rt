@@ -8,6 +8,7 @@ ghost use Rattle.fallowtime_commands.specs.declared.answer.Answer.TheVariants.{I
 
 use bson_store::{Bson, StoreError};
 use std::mem::replace;
+use store_update::UpdateError;
 
 /// What a command that is done returns.
 #[derive(Drop)]
@@ -26,6 +27,10 @@ pub enum Answer {
     Documents(Vec<Vec<u8>>),
     /// Names of collections.
     Names(Vec<String>),
+    /// How many documents answered the query of an update, and of how many it made other ones.
+    Updated(u64, u64),
+    /// Nothing was updated: why the update isn't made of this one of the documents that answered, counted from 0.
+    NotUpdated(u64, UpdateError),
 }
 
 /// A change returns nothing.

@@ -12,10 +12,10 @@ use crate::ids::id_of_refusal;
 use crate::performing::perform;
 use crate::printing::{Form, mode_of, print};
 use crate::refusal::Refusal;
-use crate::request::Request;
 use bson_base::Sink;
 use bson_json::write_value;
 use bson_store::{ErrorKind, Store, StoreError};
+use fallowtime_requests::Request;
 use sqlite::Alter;
 use std::alloc::Global;
 use store_documents::Name;
@@ -55,7 +55,7 @@ fn insert_text(
 
 /// Prints what a request returned, with the text `id` of the `_id` of what went in. Nothing is printed of one that was
 /// refused.
-fn print_outcome<O: Sink>(
+pub(crate) fn print_outcome<O: Sink>(
     alloc: Global,
     request: &Request<'_>,
     outcome: Result<Answer, StoreError>,

@@ -1,10 +1,10 @@
 //! The `_id` that a refusal is about, as it is reported.
 
-use crate::request::Request;
 use bson_json::write_value;
 use bson_raw::RawDocument;
 use bson_store::extjson::Mode;
 use bson_store::{Bson, ErrorKind, StoreError};
+use fallowtime_requests::Request;
 use std::alloc::Global;
 
 /// An `_id` as relaxed Extended JSON. None if there is no memory for it.

@@ -3,23 +3,22 @@
 #![tactic(auto)]
 
 mod answer;
+mod asking;
+mod changing;
 mod executing;
 mod ids;
 pub mod laws;
+mod looking;
+mod meant;
 mod performing;
 mod printing;
-mod reading;
 mod refusal;
-mod request;
 mod setting;
 mod storing;
-mod unread;
 
 pub use answer::Answer;
 pub use executing::execute;
+pub use looking::{export_all, look_up, print_found};
 pub use performing::perform;
 pub use printing::Form;
-pub use reading::{Stop, request_of};
-pub use refusal::Refusal;
-pub use request::Request;
-pub use unread::Unread;
+pub use refusal::{Refusal, update_name};

@@ -7,10 +7,12 @@ ghost use Rattle.fallowtime_commands.specs.Left.{LeavesRequest};
 ghost use Rattle.fallowtime_commands.specs.Performing.{Drops, IsAnswerTo, Performs, reply_of};
 
 use crate::answer::{Answer, document, documents, flag, inserted, names, nothing, number};
-use crate::request::Request;
+use crate::asking::{count, find};
+use crate::changing::change;
 use crate::setting::set;
 use crate::storing::{insert, put, replace};
 use bson_store::{Bson, Store, StoreError};
+use fallowtime_requests::Request;
 use sqlite::Alter;
 use std::alloc::Global;
 use std::mem::replace as take;
@@ -20,7 +22,8 @@ use std::mem::replace as take;
 ///
 /// Refused as that call is: for `Insert` and `Replace`, in this order, by BadName; TooDeep, Nul, NoId and TooLong; and
 /// then by DuplicateId and Places, or by NotFound; `Put` by neither DuplicateId nor NotFound; `Set` as `set`, whose
-/// value keeps the order of its keys; `Import` as `import_bytes`; `Index` and `DropIndex` as `index` and `drop_index`.
+/// value keeps the order of its keys; `Change` as `change`; `Import` as `import_bytes`; `Index` and `DropIndex` as
+/// `index` and `drop_index`.
 pub fn perform<S: Alter + Drop>(
     alloc: Global,
     store: &mut Store<S>,
@@ -28,7 +31,7 @@ pub fn perform<S: Alter + Drop>(
     request: &mut Request<'_>,
 ) -> Result<Answer, StoreError>
     ensures moves { Relates S.Store store.old store.new
-        (Performs name.now request.old (reply_of result)) }
+        (Performs name.now request.old result) }
     ensures open { WasOpen (store_state S.Store store.old) (store_state S.Store store.new) result }
     ensures crash { LeavesRequest name.now request.old (reply_of result)
         (store_state S.Store store.old) (store_state S.Store store.new) }
@@ -45,9 +48,12 @@ pub fn perform<S: Alter + Drop>(
             nothing(set(alloc, store, name, id, key, value))
         }
         Request::Unset(id, key) => flag(store.unset(name, id, key)),
+        Request::Change(question, work, many) => {
+            change(alloc, store, name, question, work, *many)
+        }
         Request::Remove(id) => nothing(store.remove(name, id)),
-        Request::Find(filter) => documents(store.find(name, filter)),
-        Request::Count(filter) => number(store.count(name, filter)),
+        Request::Find(question) => documents(find(alloc, store, name, question)),
+        Request::Count(question) => number(count(alloc, store, name, question)),
         Request::Import(stream) => number(store.import_bytes(name, stream.as_slice())),
         Request::Index(path) => {
             let path = take(path, Vec::new(alloc));

@@ -1,22 +1,26 @@
 //! What is printed of an answer.
 
-ghost use Rattle.std.specs.Prelude.{◌≡◌, map, string_bytes};
-ghost use Rattle.bson_base.specs.Device.{CanRefuse};
+ghost use Rattle.std.specs.Prelude.{◌≡◌, OnErr, OnOk, Some, map, string_bytes};
+ghost use Rattle.std.specs.Io.KnownBytes.{Appends};
+ghost use Rattle.bson_base.specs.Device.{CanRefuse, Counts, TakesBeginning};
+ghost use Rattle.cli_words.specs.Lines.{concatenation};
 ghost use Rattle.bson_store.specs.Export.{bytes_of_each};
-ghost use Rattle.store_model.specs.Refusal.{refusal};
-ghost use Rattle.fallowtime_commands.specs.Printing.{IsIdText, Prints, PrintsBodies, PrintsBody, PrintsLine, PrintsName, PrintsNames, key_of_fault, kind_of_fault, mode_of};
+ghost use Rattle.store_model.specs.Refusal.{refusal, refusal_at};
+ghost use Rattle.store_model.specs.declared.error.ErrorKind.TheVariants.{BadKey};
+ghost use Rattle.fallowtime_commands.specs.Printing.{IsIdText, Prints, PrintsBodies, PrintsBody, PrintsLine, PrintsName, PrintsNames, key_of_fault, kind_of_fault, mode_of, update_text};
 
 use crate::answer::Answer;
 use crate::ids::id_of_body;
 use crate::refusal::Refusal;
-use bson_base::{Sink, write_all};
-use bson_store::ErrorKind;
+use bson_base::{DeviceFault, Sink, write_all};
 use bson_store::extjson::Mode;
+use bson_store::{ErrorKind, StoreError};
 use cli_words::write_line;
 use fallowtime_texts::{PrintFault, text_of_body};
 use itoa::Buffer;
 use shown_text::shown;
 use std::alloc::Global;
+use store_update::UpdateError;
 
 /// How documents are printed.
 #[derive(Clone, Copy, Debug, PartialEq, Eq)]
@@ -131,6 +135,54 @@ fn print_names<O: Sink>(alloc: Global, names: &[String], output: &mut O) -> Resu
     Ok(())
 }
 
+/// Writes texts, one after the other, as `write_parts` of cli_words does, which it keeps to itself.
+fn write_parts<O: Sink>(output: &mut O, parts: &[&str]) -> Result<(), DeviceFault>
+    requires { CanRefuse (O.tally output.old) }
+    ensures counts { Counts (O.tally output.old).failures (O.tally output.new).failures result }
+    ensures ok { OnOk result (Appends (O.tally output.old).taken (O.tally output.new).taken
+        (concatenation parts.now)) }
+    ensures err { OnErr result (TakesBeginning (O.tally output.old).taken
+        (O.tally output.new).taken (concatenation parts.now)) }
+{
+    for part in parts {
+        write_all(output, part.as_bytes())?;
+    }
+    Ok(())
+}
+
+/// Writes how many documents were selected for an update, and of how many it made other ones, as JSON on a line. It
+/// takes no memory, as the change is made.
+fn print_update<O: Sink>(matched: u64, changed: u64, output: &mut O) -> Result<(), Refusal>
+    requires { CanRefuse (O.tally output.old) }
+    ensures { PrintsLine (update_text matched changed) (O.tally output.old) (O.tally output.new)
+        result }
+{
+    let mut first = Buffer::new();
+    let mut second = Buffer::new();
+    let parts = [
+        "{\"matched\":",
+        first.format(matched),
+        ",\"changed\":",
+        second.format(changed),
+        "}\n",
+    ];
+    match write_parts(output, &parts) {
+        Ok(()) => Ok(()),
+        Err(_) => Err(Refusal::from(ErrorKind::Writer)),
+    }
+}
+
+/// The refusal of an update of the document at a place.
+fn refused_update(at: u64, error: UpdateError) -> Refusal
+    ensures error { result.error ≡ refusal_at BadKey at }
+    ensures update { result.update ≡ Some error }
+{
+    Refusal {
+        update: Some(error),
+        ..Refusal::from(StoreError::at(ErrorKind::BadKey, at))
+    }
+}
+
 /// The form of Extended JSON for what is no document.
 pub(crate) fn mode_of(form: Form) -> Mode
     ensures { result ≡ mode_of form }
@@ -141,9 +193,10 @@ pub(crate) fn mode_of(form: Form) -> Mode
     }
 }
 
-/// Writes an answer: an id, a number, `true` or `false` on a line, documents in their form, names one a line. Of an id
-/// it is handed the text, which is made before the change is.
+/// Writes an answer: an id, a number, the numbers of an update, `true` or `false` on a line, documents in their form,
+/// names one a line. Of an id it is handed the text, which is made before the change is.
 ///
+/// Refused, with nothing written, as the update is that isn't made of a document.
 /// Refused by ReservedKey if a document has a key below its top that Extended JSON reserves, and then the documents
 /// before it are written; by Writer if a write failed, and by Memory, but not after a change. A prefix may be written
 /// then.
@@ -172,5 +225,7 @@ pub(crate) fn print<O: Sink>(
         }
         Answer::Documents(bodies) => print_bodies(alloc, bodies.as_slice(), form, output),
         Answer::Names(names) => print_names(alloc, names.as_slice(), output),
+        Answer::Updated(matched, changed) => print_update(*matched, *changed, output),
+        Answer::NotUpdated(at, error) => Err(refused_update(*at, *error)),
     }
 }

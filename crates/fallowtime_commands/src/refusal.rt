@@ -3,18 +3,22 @@
 ghost use Rattle.std.specs.Prelude.{◌≡◌, ◌++◌, None, OnOk, IfOk, codes, string_bytes};
 ghost use Rattle.store_model.specs.Refusal.{refusal};
 ghost use Rattle.store_model.specs.declared.error.ErrorKind.TheVariants.{Memory};
-ghost use Rattle.fallowtime_commands.specs.Reports.{key_text, named_text, place_text, refusal_text};
+ghost use Rattle.fallowtime_commands.specs.Reports.{key_text, named_text, place_text, refusal_text, update_name};
 
 use bson_store::{ErrorKind, StoreError};
 use itoa::Buffer;
 use shown_text::shown;
 use std::alloc::{AllocError, Global};
+use store_update::UpdateError;
 
 /// A refusal, and what helps to find its cause.
 #[derive(Debug, Drop)]
 pub struct Refusal {
     /// The refusal of the store, of a device, or out of memory.
     pub error: StoreError,
+    /// Why an update isn't made of a document: then `error` has its place, and is BadKey, which the store has for a key
+    /// that can't be set.
+    pub update: Option<UpdateError>,
     /// The line of the input, counted from 1, whose document is refused.
     pub line: Option<u64>,
     /// The `_id` in question, as JSON.
@@ -31,6 +35,7 @@ impl From<StoreError> for Refusal {
     fn from(error: StoreError) -> Refusal {
         Refusal {
             error,
+            update: None,
             line: None,
             id: None,
             key: None,
@@ -55,6 +60,21 @@ impl From<AllocError> for Refusal {
 
     fn from(_error: AllocError) -> Refusal {
         Refusal::from(ErrorKind::Memory)
+    }
+}
+
+/// The name under which the refusal of an update is reported.
+pub fn update_name(error: UpdateError) -> &'static str
+    ensures { result.now ≡ update_name error }
+{
+    match error {
+        UpdateError::Memory => "Memory",
+        UpdateError::Id => "Id",
+        UpdateError::Through => "Through",
+        UpdateError::NotANumber => "NotANumber",
+        UpdateError::Decimal => "Decimal",
+        UpdateError::Overflow => "Overflow",
+        UpdateError::NotAnArray => "NotAnArray",
     }
 }
 
@@ -116,14 +136,24 @@ fn push_place(line: &mut String, refusal: &Refusal) -> Result<(), AllocError>
 
 impl Refusal {
     ghost use Rattle.std.specs.Prelude.{◌≡◌, IfOk, string_bytes};
-    ghost use Rattle.fallowtime_commands.specs.Reports.{refusal_text};
+    ghost use Rattle.fallowtime_commands.specs.Reports.{name_of, refusal_text};
+
+    /// The name under which it is reported.
+    pub fn name(&self) -> &'static str
+        ensures { result.now ≡ name_of self.now }
+    {
+        match self.update {
+            Some(error) => update_name(error),
+            None => self.error.kind.name(),
+        }
+    }
 
     /// The line that reports it: `refused: KIND`, followed by what helps.
     pub fn line(&self, alloc: Global) -> Result<String, AllocError>
         ensures { IfOk result (λ line. string_bytes line ≡ refusal_text self.now) }
     {
         let mut line = String::from_str(alloc, "refused: ")?;
-        line.push_str(self.error.kind.name())?;
+        line.push_str(self.name())?;
         push_place(&mut line, self)?;
         push_named(&mut line, " _id ", &self.id)?;
         push_key(alloc, &mut line, &self.key)?;

@@ -1,19 +1,22 @@
 -- What a command of `fallowtime` asks for, by its words and the input.
-use Rattle.std.specs.Prelude.{◌≡◌, ℕ, [], Bool, true, false, Result, Ok, Err, Vec, Some, None}
+use Rattle.std.specs.Prelude.{◌≡◌, ℕ, List, [], ◌∷◌, map, string_bytes, Bool, true, false, Result, Ok, Err, Vec, Some, None}
 use Rattle.std.specs.declared.alloc.Global.{Global}
 use Rattle.bson_base.specs.Device.{Feed, StopsReading, TookAll}
 use Rattle.bson_base.specs.declared.whole.ReadAllError.{ReadAllError}
 use Rattle.bson_base.specs.declared.whole.ReadAllError.TheVariants as reading
 use Rattle.bson_model.specs.declared.extjson.ser.Mode.TheVariants.{Canonical, Relaxed}
 use Rattle.cli_convert.specs.declared.stop.Stop.{Stop as LineStop}
-use Rattle.fallowtime_commands.specs.Reading.{IsRequestOf, KeepsMaker, StopsWords}
 use Rattle.fallowtime_commands.specs.Reports.{plain}
 use Rattle.fallowtime_commands.specs.declared.printing.Form.{Form}
 use Rattle.fallowtime_commands.specs.declared.printing.Form.TheVariants.{Lines, Bytes}
-use Rattle.fallowtime_commands.specs.declared.reading.Stop.{Stop}
-use Rattle.fallowtime_commands.specs.declared.reading.Stop.TheVariants as stop
-use Rattle.fallowtime_commands.specs.declared.request.Request.{Request}
-use Rattle.fallowtime_commands.specs.declared.request.Request.TheVariants as request
+use Rattle.fallowtime_requests.specs.Inputs.{Given, texts}
+use Rattle.fallowtime_requests.specs.Reading.{KeepsMaker, Reads}
+use Rattle.fallowtime_requests.specs.Requests as requests
+use Rattle.fallowtime_requests.specs.declared.reading.Layout.{Layout}
+use Rattle.fallowtime_requests.specs.declared.request.Request.{Request}
+use Rattle.fallowtime_requests.specs.declared.request.Request.TheVariants as request
+use Rattle.fallowtime_requests.specs.declared.stop.Stop.{Stop}
+use Rattle.fallowtime_requests.specs.declared.stop.Stop.TheVariants as stop
 use Rattle.fallowtime_texts.specs.Lines.{ReadsLines}
 use Rattle.fallowtime_texts.specs.declared.lines.Taken.{Taken}
 use Rattle.fallowtime_texts.specs.declared.made.IdMaker.{IdMaker}
@@ -46,30 +49,45 @@ abbrev pub kind_of_read : ReadAllError → ErrorKind
 kind_of_read reading.Reader = Reader
 kind_of_read reading.Memory = Memory
 
+-- the name of the collection, if the first word is one
+abbrev pub first_word : List (List ℕ) → List ℕ
+first_word [] = []
+first_word (w ∷ ws) = w
+
+abbrev pub name_of : Wording → List ℕ
+name_of w = first_word (map string_bytes w.arguments.now)
+
+-- the arguments of the command
+abbrev pub given_of : Wording → List Given
+given_of w = texts w.arguments.now
+
 -- the documents of the input as BSON, taken to its end
-abbrev pub AsksForStream : Feed → Feed → Result Asked Ended → Type 0
-AsksForStream old new (Ok a) = (stream : Vec ℕ Global) × (a.request ≡ Some (request.Import stream)) × (a.lines.items ≡ []) × TookAll old new stream.items
-AsksForStream old new (Err e) = (error : ReadAllError) × (e ≡ refused (kind_of_read error)) × StopsReading error old new
+abbrev pub AsksForStream : List ℕ → Feed → Feed → Result Asked Ended → Type 0
+AsksForStream name old new (Ok a) = (stream : Vec ℕ Global) × (a.collection.now ≡ name) × (a.request ≡ Some (request.Import stream)) × (a.lines.items ≡ []) × TookAll old new stream.items
+AsksForStream name old new (Err e) = (error : ReadAllError) × (e ≡ refused (kind_of_read error)) × StopsReading error old new
 
 -- the documents of the lines of the input, each with its `_id`, and the line of each
-abbrev pub AsksForLines : Feed → Feed → IdMaker → IdMaker → Result Asked Ended → Type 0
-AsksForLines old new before after (Ok a) = (taken : Taken) × ReadsLines old new before after (Ok taken) × (a.request ≡ Some (request.Import taken.stream)) × (a.lines ≡ taken.lines)
-AsksForLines old new before after (Err e) = (line : LineStop) × ReadsLines old new before after (Err line) × (e ≡ ended.Lines line)
+abbrev pub AsksForLines : List ℕ → Feed → Feed → IdMaker → IdMaker → Result Asked Ended → Type 0
+AsksForLines name old new before after (Ok a) = (taken : Taken) × (a.collection.now ≡ name) × ReadsLines old new before after (Ok taken) × (a.request ≡ Some (request.Import taken.stream)) × (a.lines ≡ taken.lines)
+AsksForLines name old new before after (Err e) = (line : LineStop) × ReadsLines old new before after (Err line) × (e ≡ ended.Lines line)
 
 -- under a bad name nothing is read
 abbrev pub AsksToImport : Wording → Feed → Feed → IdMaker → IdMaker → Result Asked Ended → Type 0
 AsksToImport w old new before after result =
-    When (IsName w.coll.now)
-    (When (w.options.lines ≡ true) (AsksForLines old new before after result) (AsksForStream old new result × (after ≡ before)))
+    When (IsName (name_of w))
+    (When (w.options.lines ≡ true) (AsksForLines (name_of w) old new before after result) (AsksForStream (name_of w) old new result × (after ≡ before)))
     ((result ≡ Err (refused BadName)) × (new ≡ old) × (after ≡ before))
 
--- the request that the words stand for, by the ids of the maker, which is the one behind those that were taken
+-- what the command with its words and the option `--many` asks for, by the ids of the maker, which is the one behind those
+-- that were taken
 abbrev pub AsksByWords : Wording → IdMaker → IdMaker → Result Asked Ended → Type 0
-AsksByWords w before after (Ok a) = (r : Request) × (a.request ≡ Some r) × (a.lines.items ≡ []) × IsRequestOf before after w r
-AsksByWords w before after (Err e) = (s : Stop) × StopsWords w s × (e ≡ ended_of_stop s) × KeepsMaker before after s
+AsksByWords w before after (Ok a) =
+    (r : Request) × (l : Layout) × (a.request ≡ Some (requests.with_many w.options.many r)) × (a.lines.items ≡ []) × requests.Asks before after w.command (given_of w) a.collection.now r l
+AsksByWords w before after (Err e) = (s : Stop) × Reads before after w.command (given_of w) (Err s) × (e ≡ ended_of_stop s) × KeepsMaker before after s
 
 -- Only `import` reads the input, and only `export` asks for no request.
 abbrev pub Asks : Command → Wording → Feed → Feed → IdMaker → IdMaker → Result Asked Ended → Type 0
 Asks command.Import w old new before after result = AsksToImport w old new before after result
-Asks command.Export w old new before after result = ((a : Asked) × (result ≡ Ok a) × (a.request ≡ None) × (a.lines.items ≡ [])) × (new ≡ old) × (after ≡ before)
+Asks command.Export w old new before after result =
+    ((a : Asked) × (result ≡ Ok a) × (a.collection.now ≡ name_of w) × (a.request ≡ None) × (a.lines.items ≡ [])) × (new ≡ old) × (after ≡ before)
 Asks _ w old new before after result = AsksByWords w before after result × (new ≡ old)

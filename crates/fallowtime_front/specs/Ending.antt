@@ -1,16 +1,32 @@
 -- How a command of `fallowtime` ends, and what is reported of it.
-use Rattle.std.specs.Prelude.{◌≡◌, ◌⊎◌, ℕ, List, Option, Some, None, Result, Ok, Err}
+use Rattle.std.specs.Prelude.{◌≡◌, ◌⊎◌, ℕ, List, [], codes, Option, Some, None, Result, Ok, Err}
 use Rattle.std.specs.List.{slice_get}
 use Rattle.bson_base.specs.Device.{Tally, TakesText}
 use Rattle.cli_convert.specs.Reports.{Reports, memory_line}
+use Rattle.cli_convert.specs.declared.stop.Stop.TheVariants as stop
 use Rattle.cli_files.specs.Fault.{fault_line}
 use Rattle.cli_words.specs.Lines.{line}
-use Rattle.fallowtime_commands.specs.Reports.{refusal_text, unread_text}
+use Rattle.fallowtime_commands.specs.Reports.{name_of, refusal_text}
 use Rattle.fallowtime_commands.specs.declared.refusal.Refusal.{Refusal}
+use Rattle.fallowtime_requests.specs.Reports.{unread_text}
+use Rattle.fallowtime_requests.specs.declared.unread.Unread.TheVariants as unread
 use Rattle.store_model.specs.declared.error.ErrorKind.{ErrorKind}
 use Rattle.store_model.specs.declared.error.ErrorKind.TheVariants.{BadLength, TooLong}
 use Rattle.fallowtime_front.specs.declared.ending.Ended.{Ended}
 use Rattle.fallowtime_front.specs.declared.ending.Ended.TheVariants as ended
+
+-- the name of its kind, as `--explain` takes it; none of a file that can't be had, which says itself what helps
+abbrev pub name_of_kind : Ended → List ℕ
+name_of_kind (ended.Words (unread.Document e)) = codes "JSON"
+name_of_kind (ended.Words (unread.Value e)) = codes "JSON"
+name_of_kind (ended.Words (unread.Id e)) = codes "id"
+name_of_kind (ended.Words (unread.Query e)) = codes "query"
+name_of_kind (ended.Words (unread.Update e)) = codes "update"
+name_of_kind (ended.Words _) = codes "usage"
+name_of_kind (ended.Lines (stop.Line n fault)) = codes "line"
+name_of_kind (ended.Lines _) = []
+name_of_kind (ended.Refused r) = name_of r
+name_of_kind (ended.File error) = []
 
 -- the line that the document with this number came from, if there are lines
 abbrev pub place_of : List ℕ → Option ℕ → Option ℕ

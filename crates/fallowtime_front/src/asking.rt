@@ -1,13 +1,15 @@
 //! What a command of `fallowtime` asks for, read from its words and from the input.
 
-ghost use Rattle.std.specs.Prelude.{◌≡◌, []};
+ghost use Rattle.std.specs.Prelude.{◌≡◌, ◌≢◌, [], map, string_bytes};
 ghost use Rattle.bson_base.specs.Device.{CanFail};
-ghost use Rattle.fallowtime_front.specs.Asking.{Asks, AsksForLines, AsksForStream, AsksToImport, form_by};
+ghost use Rattle.fallowtime_front.specs.Asking.{Asks, AsksByWords, AsksForLines, AsksForStream, AsksToImport, first_word, form_by};
+ghost use Rattle.fallowtime_words.specs.declared.command.Command.TheVariants.{Import};
 
 use crate::ending::Ended;
 use bson_base::{ReadAllError, Source, read_all};
 use bson_model::extjson::Mode;
-use fallowtime_commands::{Form, Refusal, Request, request_of};
+use fallowtime_commands::{Form, Refusal};
+use fallowtime_requests::{Request, question_of_words};
 use fallowtime_texts::{IdMaker, read_lines};
 use fallowtime_words::{Command, Options, Words};
 use json::Scratch;
@@ -31,34 +33,51 @@ pub fn form_of(options: &Options) -> Form
 /// What a command asks of a store.
 #[derive(Drop)]
 pub struct Asked<'w> {
+    /// The collection; an empty text if the command has none.
+    pub collection: &'w str,
     /// The request; none to write all documents of the collection as BSON, one after the other.
     pub request: Option<Request<'w>>,
     /// For documents that came from lines, the line of each, counted from 1.
     pub lines: Vec<u64>,
 }
 
+/// The name of the collection: the first argument, if there is one.
+fn collection_of<'w>(words: &Words<'w>) -> &'w str
+    ensures { result.now ≡ first_word (map string_bytes words.now.arguments.now) }
+{
+    match words.arguments {
+        [name, ..] => name.as_str(),
+        _ => "",
+    }
+}
+
 /// A request of no lines.
-fn without_lines(alloc: Global, request: Option<Request<'_>>) -> Asked<'_>
+fn without_lines<'w>(alloc: Global, collection: &'w str, request: Option<Request<'w>>) -> Asked<'w>
+    ensures collection { result.collection ≡ collection.entry }
     ensures request { result.request ≡ request.entry }
     ensures lines { result.lines.items ≡ [] }
 {
     Asked {
+        collection,
         request,
         lines: Vec::new(alloc),
     }
 }
 
 /// The documents of the input as lines of Extended JSON.
-fn import_of_lines<I: Source>(
+fn import_of_lines<'w, I: Source>(
     alloc: Global,
+    collection: &'w str,
     maker: &mut IdMaker,
     input: &mut I,
-) -> Result<Asked<'static>, Ended>
+) -> Result<Asked<'w>, Ended>
     requires { CanFail (I.feed input.old) }
-    ensures { AsksForLines (I.feed input.old) (I.feed input.new) maker.old maker.new result }
+    ensures { AsksForLines collection.now (I.feed input.old) (I.feed input.new) maker.old maker.new
+        result }
 {
     match read_lines(alloc, input, maker) {
         Ok(taken) => Ok(Asked {
+            collection,
             request: Some(Request::Import(taken.stream)),
             lines: taken.lines,
         }),
@@ -67,36 +86,56 @@ fn import_of_lines<I: Source>(
 }
 
 /// The documents of the input as BSON.
-fn import_of_stream<I: Source>(alloc: Global, input: &mut I) -> Result<Asked<'static>, Ended>
+fn import_of_stream<'w, I: Source>(
+    alloc: Global,
+    collection: &'w str,
+    input: &mut I,
+) -> Result<Asked<'w>, Ended>
     requires { CanFail (I.feed input.old) }
-    ensures { AsksForStream (I.feed input.old) (I.feed input.new) result }
+    ensures { AsksForStream collection.now (I.feed input.old) (I.feed input.new) result }
 {
     match read_all(alloc, input) {
-        Ok(stream) => Ok(without_lines(alloc, Some(Request::Import(stream)))),
+        Ok(stream) => Ok(without_lines(alloc, collection, Some(Request::Import(stream)))),
         Err(ReadAllError::Reader) => Err(Ended::Refused(Refusal::from(ErrorKind::Reader))),
         Err(ReadAllError::Memory) => Err(Ended::Refused(Refusal::from(ErrorKind::Memory))),
     }
 }
 
 /// The documents of the input, as BSON or as lines of Extended JSON. Under a bad name nothing is read.
-fn import_of<I: Source>(
+fn import_of<'w, I: Source>(
     alloc: Global,
-    words: &Words<'_>,
+    words: &Words<'w>,
     maker: &mut IdMaker,
     input: &mut I,
-) -> Result<Asked<'static>, Ended>
+) -> Result<Asked<'w>, Ended>
     requires { CanFail (I.feed input.old) }
     ensures { AsksToImport words.now (I.feed input.old)
         (I.feed input.new) maker.old maker.new result }
 {
-    if Name::new(words.coll).is_none() {
+    let collection = collection_of(words);
+    if Name::new(collection).is_none() {
         return Err(Ended::Refused(Refusal::from(ErrorKind::BadName)));
     }
     if words.options.lines {
-        import_of_lines(alloc, maker, input)
+        import_of_lines(alloc, collection, maker, input)
     } else {
-        import_of_stream(alloc, input)
+        import_of_stream(alloc, collection, input)
     }
+}
+
+/// What a command asks for by its words alone.
+fn ask_by_words<'w>(
+    alloc: Global,
+    words: &Words<'w>,
+    maker: &mut IdMaker,
+) -> Result<Asked<'w>, Ended>
+    requires { words.now.command ≢ Import }
+    ensures { AsksByWords words.now maker.old maker.new result }
+{
+    let mut scratch = Scratch::new(alloc);
+    let question = question_of_words(alloc, words.command, words.arguments, maker, &mut scratch)?;
+    let request = question.request.with_many(words.options.many);
+    Ok(without_lines(alloc, question.collection, Some(request)))
 }
 
 /// What the words and the input ask for: only `import` reads the input, to its end.
@@ -114,12 +153,8 @@ pub fn asked_of<'w, I: Source>(
         (I.feed input.new) maker.old maker.new result }
 {
     match words.command {
-        Command::Export => Ok(without_lines(alloc, None)),
+        Command::Export => Ok(without_lines(alloc, collection_of(words), None)),
         Command::Import => import_of(alloc, words, maker, input),
-        _ => {
-            let mut scratch = Scratch::new(alloc);
-            let request = request_of(alloc, words, maker, &mut scratch)?;
-            Ok(without_lines(alloc, Some(request)))
-        }
+        _ => ask_by_words(alloc, words, maker),
     }
 }

@@ -8,7 +8,8 @@ ghost use Rattle.fallowtime_front.specs.Ending.{TellsEnd, ended_by, kind_of_line
 use bson_base::{Sink, write_all};
 use cli_convert::{Stop as LineStop, report_end};
 use cli_files::{FileError, report_file};
-use fallowtime_commands::{Refusal, Stop, Unread};
+use fallowtime_commands::Refusal;
+use fallowtime_requests::{Stop, Unread};
 use std::alloc::AllocError;
 use std::io;
 use store_model::ErrorKind;
@@ -45,8 +46,24 @@ fn place_of(lines: &[u64], document: Option<u64>) -> Option<u64>
 
 impl Ended {
     ghost use Rattle.std.specs.Prelude.{◌≡◌};
-    ghost use Rattle.fallowtime_front.specs.Ending.{place_of as line_of, placed};
+    ghost use Rattle.fallowtime_front.specs.Ending.{name_of_kind, place_of as line_of, placed};
     ghost use Rattle.fallowtime_front.specs.declared.ending.Ended.TheVariants.{Refused};
+
+    /// The name of its kind, as `--explain` takes it; empty of a file that can't be had, which says itself what helps.
+    pub fn kind(&self) -> &'static str
+        ensures { result.now ≡ name_of_kind self.now }
+    {
+        match self {
+            Ended::Words(Unread::Document(_) | Unread::Value(_)) => "JSON",
+            Ended::Words(Unread::Id(_)) => "id",
+            Ended::Words(Unread::Query(_)) => "query",
+            Ended::Words(Unread::Update(_)) => "update",
+            Ended::Words(_) => "usage",
+            Ended::Lines(LineStop::Line(_, _)) => "line",
+            Ended::Refused(refusal) => refusal.name(),
+            Ended::Lines(_) | Ended::File(_) => "",
+        }
+    }
 
     /// A refusal, of a document that came from one of these lines.
     fn of_line(mut refusal: Refusal, lines: &[u64]) -> Ended

@@ -1,9 +1,10 @@
 -- What comes of a line.
-use Rattle.std.proofs.Common.{◌≡◌, ◌<◌, ◌≤◌, ℕ, List, length, inl, inr, Option, None, Some, Result, Ok, Err, IfOk, IsUtf8, codes, Vec, refl, subst}
+use Rattle.std.proofs.Common.{◌≡◌, ◌<◌, ◌≤◌, ℕ, List, length, inl, inr, Option, None, Some, Result, Ok, Err, IfOk, IsSomeAnd, IsUtf8, codes, Vec, refl, subst, sym}
 use Rattle.std.specs.Str.{IsValidUpTo}
 use Rattle.std.specs.declared.alloc.AllocError.{AllocError}
 use Rattle.std.specs.declared.alloc.Global.{Global}
 use Rattle.json.specs.Json.{Json, document as tree_of}
+use Rattle.json.specs.Strict.{HasUniqueKeys}
 use Rattle.sqlite.specs.State.{State}
 use Rattle.store_table.specs.Moves.{Moves, WasOpen}
 use Rattle.store_model.specs.declared.error.StoreError.{StoreError}
@@ -21,16 +22,12 @@ use Rattle.fallowtime_session.specs.Answers.{Shows, line_of, memory, words}
 use Rattle.fallowtime_session.specs.Deeds.{Changes, Deed, DoesOne}
 use Rattle.fallowtime_session.specs.Objects.{Makes, MakesLine}
 use Rattle.fallowtime_session.specs.Places.{byte_place}
-use Rattle.fallowtime_session.specs.Questions.{Asked, asked_of, command_in, id_of}
-use Rattle.fallowtime_session.specs.Requests.{Asks, AsksNothing}
-use Rattle.fallowtime_session.specs.Turns.{Carries, Comes, HasNoTree, HasTree, IsOfBytes, IsOfText, IsOfTree, Outcome, empty, too_long, no_tree, no_question, done, no_memory, Writes, deed_by, made_line}
-use Rattle.fallowtime_session.specs.declared.questions.Question.{Question}
+use Rattle.fallowtime_session.specs.Questions.{Asks, command_in, id_of}
+use Rattle.fallowtime_session.specs.Turns.{AsksNothing, Carries, Comes, HasNoTree, HasTree, IsOfBytes, IsOfText, IsOfTree, Outcome, RepeatsKey, empty, too_long, no_tree, no_question, done, no_memory, Writes, deed_by, made_line}
+use Rattle.fallowtime_requests.specs.declared.reading.Question.{Question}
 
 abbrev pub Made : Type 0
 Made = Result (Vec ℕ Global) AllocError
-
-abbrev pub Reading : Type 0
-Reading = Result (List ℕ × Asked) (List ℕ)
 
 -- the line for a text that is no JSON
 pub byte_line : (i : ℕ) (r : Made) → MakesLine None (words (byte_place i)) r → Makes (λ line. (x : ℕ) × (line ≡ line_of None (words (byte_place x)))) r
@@ -46,75 +43,91 @@ module _ (s t : State) where
   so P Q f (deed, h, did) = (deed, f deed h, did)
 
   -- a question was done
-  pub carried : (id : Option Json) (q : Question) (r : Result Answer StoreError) (made : Made) → Moves s t (Performs q.collection.now q.request (reply_of r)) → WasOpen s t r → LeavesRequest q.collection.now q.request (reply_of r) s t → IfOk r (IsAnswerTo q.request)
+  pub carried : (id : Option Json) (q : Question) (r : Result Answer StoreError) (made : Made) → Moves s t (Performs q.collection.now q.request r) → WasOpen s t r → LeavesRequest q.collection.now q.request (reply_of r) s t → IfOk r (IsAnswerTo q.request)
       → Makes (Shows q.layout id r) made → Carries id q made s t
   carried id q r made moves stays crash shape shows = (r, record { moves = moves; stays = stays; crash = crash }, shape, shows)
 
   -- and so was what asked for it
-  pub replied : (m n : IdMaker) (id : Option Json) (reading : Reading) (q : Question) (made : Made) → Asks m n reading q.collection.now q.request q.layout → Carries id q made s t → DoesOne (Comes (IsOfTree m n id reading) (made_line id made)) s t
-  replied m n id reading q made asks (r, did, shape, shows) = (Some (deed_by q r), (done id q.layout (deed_by q r), (refl, asks, shape), by made shows, refl), did)
+  pub replied : (m n : IdMaker) (id : Option Json) (command : Json) (q : Question) (made : Made) → Asks m n command q.collection.now q.request q.layout → Carries id q made s t → DoesOne (Comes (IsOfTree m n id command) (made_line id made)) s t
+  replied m n id command q made asks (r, did, shape, shows) = (Some (deed_by q r), (done id q.layout (deed_by q r), (refl, asks, shape), by made shows, refl), did)
     where
       by : (made : Made) → Makes (Shows q.layout id r) made → Writes (done id q.layout (deed_by q r)) (made_line id made)
       by (Ok line) shows = inl shows
       by (Err e) shows = inr refl
 
   -- the answer to the tree of a line
-  pub answered : (m n : IdMaker) (id : Option Json) (command j : Json) (made line : List ℕ) → id ≡ id_of j → command ≡ command_in j → made ≡ line → DoesOne (Comes (IsOfTree m n id (asked_of command)) made) s t
-      → DoesOne (Comes (IsOfTree m n (id_of j) (asked_of (command_in j))) line) s t
+  pub answered : (m n : IdMaker) (id : Option Json) (command j : Json) (made line : List ℕ) → id ≡ id_of j → command ≡ command_in j → made ≡ line → DoesOne (Comes (IsOfTree m n id command) made) s t
+      → DoesOne (Comes (IsOfTree m n (id_of j) (command_in j)) line) s t
   answered m n id command j made line same does is h =
-      subst (λ i. DoesOne (Comes (IsOfTree m n i (asked_of (command_in j))) line) s t) same
-      (subst (λ c. DoesOne (Comes (IsOfTree m n id (asked_of c)) line) s t) does (subst (λ l. DoesOne (Comes (IsOfTree m n id (asked_of command)) l) s t) is h))
+      subst (λ i. DoesOne (Comes (IsOfTree m n i (command_in j)) line) s t) same
+      (subst (λ c. DoesOne (Comes (IsOfTree m n id c) line) s t) does (subst (λ l. DoesOne (Comes (IsOfTree m n id command) l) s t) is h))
 
   -- and to its text
-  pub of_text : (m n : IdMaker) (text line : List ℕ) (j : Json) → HasTree text j → DoesOne (Comes (IsOfTree m n (id_of j) (asked_of (command_in j))) line) s t → DoesOne (Comes (IsOfText m n text) line) s t
+  pub of_text : (m n : IdMaker) (text line : List ℕ) (j : Json) → HasTree text j → DoesOne (Comes (IsOfTree m n (id_of j) (command_in j)) line) s t → DoesOne (Comes (IsOfText m n text) line) s t
   of_text m n text line j tree h =
-      so (Comes (IsOfTree m n (id_of j) (asked_of (command_in j))) line) (Comes (IsOfText m n text) line) (λ deed (o, is, writes, e). (o, by o is, writes, e)) h
+      so (Comes (IsOfTree m n (id_of j) (command_in j)) line) (Comes (IsOfText m n text) line) (λ deed (o, is, writes, e). (o, by o is, writes, e)) h
     where
-      by : (o : Outcome) → IsOfTree m n (id_of j) (asked_of (command_in j)) o → IsOfText m n text o
+      by : (o : Outcome) → IsOfTree m n (id_of j) (command_in j) o → IsOfText m n text o
       by empty is = absurd is
       by too_long is = absurd is
-      by (no_tree place) is = absurd is
+      by (no_tree id place) is = absurd is
       by (no_question id place) is = (j, tree, is)
       by (done id l d) is = (j, tree, is)
       by (no_memory None) is = is.1
       by (no_memory (Some i)) is = (j, tree, is)
 
 -- it is no question, and nothing was done
-pub unasked : (s : State) (m : IdMaker) (id : Option Json) (reading : Reading) (place : List ℕ) (made : Made) → AsksNothing m reading place → MakesLine id (words place) made → DoesOne (Comes (IsOfTree m m id reading) (made_line id made)) s s
-unasked s m id reading place made asks line = idle s (Comes (IsOfTree m m id reading) (made_line id made)) (by made line)
+pub unasked : (s : State) (m : IdMaker) (id : Option Json) (command : Json) (place : List ℕ) (made : Made) → AsksNothing m command place → MakesLine id (words place) made → DoesOne (Comes (IsOfTree m m id command) (made_line id made)) s s
+unasked s m id command place made asks line = idle s (Comes (IsOfTree m m id command) (made_line id made)) (by made line)
   where
-    by : (made : Made) → MakesLine id (words place) made → Comes (IsOfTree m m id reading) (made_line id made) None
+    by : (made : Made) → MakesLine id (words place) made → Comes (IsOfTree m m id command) (made_line id made) None
     by (Ok l) is = (no_question id place, (refl, asks, refl), is, refl)
     by (Err e) is = (no_memory id, (inr refl, refl), refl, refl)
 
 -- memory ran out first
-pub nothing_done : (s : State) (m : IdMaker) (id : Option Json) (reading : Reading) (e : AllocError) → DoesOne (Comes (IsOfTree m m id reading) (made_line id (Err e))) s s
-nothing_done s m id reading e = idle s (Comes (IsOfTree m m id reading) (line_of id memory)) (no_memory id, (inr refl, refl), refl, refl)
+pub nothing_done : (s : State) (m : IdMaker) (id : Option Json) (command : Json) (e : AllocError) → DoesOne (Comes (IsOfTree m m id command) (made_line id (Err e))) s s
+nothing_done s m id command e = idle s (Comes (IsOfTree m m id command) (line_of id memory)) (no_memory id, (inr refl, refl), refl, refl)
 
-pub nothing_read : (s : State) (m : IdMaker) (id : Option Json) (reading : Reading) → DoesOne (Comes (IsOfTree m m id reading) (line_of None memory)) s s
-nothing_read s m id reading = idle s (Comes (IsOfTree m m id reading) (line_of None memory)) (no_memory None, (inl refl, refl), refl, refl)
+pub nothing_read : (s : State) (m : IdMaker) (id : Option Json) (command : Json) → DoesOne (Comes (IsOfTree m m id command) (line_of None memory)) s s
+nothing_read s m id command = idle s (Comes (IsOfTree m m id command) (line_of None memory)) (no_memory None, (inl refl, refl), refl, refl)
 
 pub no_room : (s : State) (m : IdMaker) (text : List ℕ) → DoesOne (Comes (IsOfText m m text) (line_of None memory)) s s
 no_room s m text = idle s (Comes (IsOfText m m text) (line_of None memory)) (no_memory None, refl, refl, refl)
 
 -- a line that has no tree
-pub treeless : (s : State) (m : IdMaker) (text place : List ℕ) (made : Made) → HasNoTree text place → MakesLine None (words place) made → DoesOne (Comes (IsOfText m m text) (made_line None made)) s s
+pub treeless : (s : State) (m : IdMaker) (text place : List ℕ) (made : Made) → HasNoTree text None place → MakesLine None (words place) made → DoesOne (Comes (IsOfText m m text) (made_line None made)) s s
 treeless s m text place made none line = idle s (Comes (IsOfText m m text) (made_line None made)) (by made line)
   where
     by : (made : Made) → MakesLine None (words place) made → Comes (IsOfText m m text) (made_line None made) None
-    by (Ok l) is = (no_tree place, (none, refl), is, refl)
+    by (Ok l) is = (no_tree None place, (none, refl), is, refl)
     by (Err e) is = (no_memory None, refl, refl, refl)
 
 -- as it is no UTF-8
 pub no_text : (s : State) (m : IdMaker) (text : List ℕ) (i : ℕ) → IsValidUpTo text i → (made : Made) → MakesLine None (words (byte_place i)) made → DoesOne (Comes (IsOfText m m text) (made_line None made)) s s
-no_text s m text i broken made line = treeless s m text (byte_place i) made (inl (i, broken, refl)) line
+no_text s m text i broken made line = treeless s m text (byte_place i) made (inl (i, broken, refl, refl)) line
 
 -- or no JSON
 pub no_json : (s : State) (m : IdMaker) (text : List ℕ) (made : Made) → IsUtf8 text → tree_of text ≡ None → Makes (λ line. (i : ℕ) × (line ≡ line_of None (words (byte_place i)))) made → DoesOne (Comes (IsOfText m m text) (made_line None made)) s s
 no_json s m text made is none line = idle s (Comes (IsOfText m m text) (made_line None made)) (by made line)
   where
     by : (made : Made) → Makes (λ line. (i : ℕ) × (line ≡ line_of None (words (byte_place i)))) made → Comes (IsOfText m m text) (made_line None made) None
-    by (Ok l) (i, e) = (no_tree (byte_place i), (inr (inl (is, none, (i, refl))), refl), e, refl)
+    by (Ok l) (i, e) = (no_tree None (byte_place i), (inr (inl (is, none, (i, refl, refl))), refl), e, refl)
+    by (Err e) h = (no_memory None, refl, refl, refl)
+
+-- the line says that a key comes twice, with the id that the text has
+pub repeats : (text : List ℕ) (id : Option Json) (j : Json) (r : Made) → IsUtf8 text → tree_of text ≡ Some j → IsSomeAnd (tree_of text) (λ k. HasUniqueKeys k → ⊥) → id ≡ id_of j
+    → MakesLine id (words (codes "repeated key")) r → Makes (RepeatsKey text) r
+repeats text id j (Err e) utf8 is twice own line = tt
+repeats text id j (Ok line) utf8 is twice own made =
+    let here : HasUniqueKeys j → ⊥ = subst (λ o. IsSomeAnd o (λ k. HasUniqueKeys k → ⊥)) is twice in
+    (id, inr (inr (utf8, subst (λ o. IsSomeAnd o (λ k. (HasUniqueKeys k → ⊥) × (id ≡ id_of k))) (sym is) (here, own), refl)), made)
+
+-- or an object in it has a key twice, and then its answer has the id that can be read
+pub repeated : (s : State) (m : IdMaker) (text : List ℕ) (made : Made) → Makes (RepeatsKey text) made → DoesOne (Comes (IsOfText m m text) (made_line None made)) s s
+repeated s m text made line = idle s (Comes (IsOfText m m text) (made_line None made)) (by made line)
+  where
+    by : (made : Made) → Makes (RepeatsKey text) made → Comes (IsOfText m m text) (made_line None made) None
+    by (Ok l) (id, none, e) = (no_tree id (codes "repeated key"), (none, refl), e, refl)
     by (Err e) h = (no_memory None, refl, refl, refl)
 
 -- what comes of a line whose bytes were kept
@@ -124,7 +137,7 @@ kept_whole s t m n text line short h = so s t (Comes (IsOfText m n text) line) (
     by : (o : Outcome) → IsOfText m n text o → IsOfBytes m n text o
     by empty is = (short, is)
     by too_long is = absurd is.2
-    by (no_tree place) is = (short, is)
+    by (no_tree id place) is = (short, is)
     by (no_question id place) is = (short, is)
     by (done id l d) is = (short, is)
     by (no_memory None) is = is

@@ -1,9 +1,7 @@
+pub mod BeginLemmas
 pub mod AnswerLemmas
-pub mod QuestionLemmas
 pub mod CountLemmas
 pub mod SessionLemmas
-pub mod IdLemmas
-pub mod StreamLemmas
 pub mod TextLemmas
 pub mod WriteLemmas
 pub mod TreeLemmas

@@ -16,7 +16,7 @@ use Rattle.fallowtime_texts.specs.Printed.{PrintsDocument}
 use Rattle.store_model.specs.State.{IsKept}
 use Rattle.fallowtime_session.specs.Answers.{IsLineOf, IsMember, ShowsBodies, ShowsBody, behind_id, line_of, one, texts}
 use Rattle.fallowtime_session.specs.Objects.{Makes, MakesLine, PutsBodies, begun, comma_before, items_text}
-use Rattle.fallowtime_session.specs.declared.questions.Layout.TheVariants.{Each}
+use Rattle.fallowtime_requests.specs.declared.reading.Layout.TheVariants.{Each}
 
 -- the tokens of the object: those that it is begun with, and those of the members
 pub object_tokens : (id : Option Json) (js : Members) → json_tokens (object (behind_id id js)) ≡ begun id ++ members_tokens js

@@ -14,11 +14,12 @@ use Rattle.bson_model.specs.declared.extjson.ser.Mode.TheVariants.{Canonical}
 use Rattle.bson_store.specs.Export.{bytes_of_each}
 use Rattle.fallowtime_commands.specs.declared.answer.Answer.{Answer}
 use Rattle.fallowtime_commands.specs.declared.answer.Answer.TheVariants as answer
+use Rattle.fallowtime_commands.specs.Reports.{update_name}
 use Rattle.store_model.specs.Refusal.{kind_name}
 use Rattle.store_model.specs.State.{IsKept, AreKept}
 use Rattle.store_model.specs.declared.error.StoreError.{StoreError}
-use Rattle.fallowtime_session.specs.declared.questions.Layout.{Layout}
-use Rattle.fallowtime_session.specs.declared.questions.Layout.TheVariants.{Each, Stream}
+use Rattle.fallowtime_requests.specs.declared.reading.Layout.{Layout}
+use Rattle.fallowtime_requests.specs.declared.reading.Layout.TheVariants.{Each, Stream}
 
 -- ---- lines
 
@@ -46,15 +47,19 @@ with_text key (Some t) js = member key (string t) js
 
 -- a refusal: its kind, the place of the document of several, the path of the key
 abbrev pub refusal : List ℕ → Option ℕ → Option (List ℕ) → Members
-refusal kind index path = member (codes "refused") (string kind) (with_number (codes "document") index (with_text (codes "key") path no_members))
+refusal kind index path = member (codes "error") (string kind) (with_number (codes "document") index (with_text (codes "key") path no_members))
 
 -- the answer to what is no question
 abbrev pub words : List ℕ → Members
-words place = member (codes "refused") (string (codes "Words")) (one (codes "at") (string place))
+words place = member (codes "error") (string (codes "Usage")) (one (codes "at") (string place))
 
 -- the answer if memory ran out
 abbrev pub memory : Members
 memory = refusal (codes "Memory") None None
+
+-- how many documents were selected for an update, and of how many it made other ones
+abbrev pub update : ℕ → ℕ → Members
+update m c = member (codes "matched") (number (decimal m)) (one (codes "changed") (number (decimal c)))
 
 -- ---- what the store returned
 
@@ -116,4 +121,6 @@ Shows l id (Ok (answer.Number n)) line = line ≡ line_of id (one (codes "count"
 Shows l id (Ok (answer.Document body)) line = ShowsBody id body.items line
 Shows l id (Ok (answer.Documents bodies)) line = ShowsBodies l id (bytes_of_each bodies.items) line
 Shows l id (Ok (answer.Names names)) line = line ≡ line_of id (one (codes "names") (json_array (texts (map string_bytes names.items))))
+Shows l id (Ok (answer.Updated m c)) line = line ≡ line_of id (update m c)
+Shows l id (Ok (answer.NotUpdated i e)) line = line ≡ line_of id (refusal (update_name e) (Some i) None)
 Shows l id (Err e) line = line ≡ line_of id (refusal (kind_name e.kind) e.document None)

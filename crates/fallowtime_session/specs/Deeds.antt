@@ -11,7 +11,7 @@ use Rattle.bson_store.specs.Shown.{Represents}
 use Rattle.fallowtime_commands.specs.Left.{LeavesRequest, LeftByRequest}
 use Rattle.fallowtime_commands.specs.Performing.{Performs, reply_of}
 use Rattle.fallowtime_commands.specs.declared.answer.Answer.{Answer}
-use Rattle.fallowtime_commands.specs.declared.request.Request.{Request}
+use Rattle.fallowtime_requests.specs.declared.request.Request.{Request}
 
 -- a request that was done on the collection of this name, and its outcome
 pub record Deed : Type 0 where
@@ -22,7 +22,7 @@ pub record Deed : Type 0 where
 -- what it did to the rows; if there is none, they are as they were
 abbrev pub Changes : Option Deed → List TableRow → List TableRow → Type 0
 Changes None docs after = after ≡ docs
-Changes (Some d) docs after = Performs d.name d.request (reply_of d.outcome) docs after
+Changes (Some d) docs after = Performs d.name d.request d.outcome docs after
 
 -- if it was accepted, the connection is open
 abbrev pub IsOpenFor : Option Deed → Bool → Type 0

@@ -1,6 +1,6 @@
 pub mod Places
 pub mod Questions
-pub mod Requests
+pub mod Reading
 pub mod Answers
 pub mod Objects
 pub mod Deeds

@@ -1,5 +1,5 @@
 -- What comes of a line.
-use Rattle.std.specs.Prelude.{◌≡◌, ◌≢◌, ◌⊎◌, ◌<◌, ◌≤◌, ℕ, List, [], length, Option, None, Some, Result, Ok, Err, IfOk, IsSomeAnd, IsUtf8, codes, Vec}
+use Rattle.std.specs.Prelude.{◌≡◌, ◌≢◌, ◌⊎◌, ◌<◌, ◌≤◌, ℕ, List, [], ◌∷◌, length, Option, None, Some, Result, Ok, Err, IfOk, IsSomeAnd, IsUtf8, codes, Vec}
 use Rattle.std.specs.Str.{IsValidUpTo}
 use Rattle.std.specs.declared.alloc.AllocError.{AllocError}
 use Rattle.std.specs.declared.alloc.Global.{Global}
@@ -10,21 +10,23 @@ use Rattle.store_model.specs.declared.error.StoreError.{StoreError}
 use Rattle.cli_lines.specs.declared.line.TheConstants.{MOST}
 use Rattle.fallowtime_commands.specs.Performing.{IsAnswerTo}
 use Rattle.fallowtime_commands.specs.declared.answer.Answer.{Answer}
+use Rattle.fallowtime_requests.specs.Reports.{at_text}
+use Rattle.fallowtime_requests.specs.declared.reading.Layout.{Layout}
+use Rattle.fallowtime_requests.specs.declared.reading.Question.{Question}
+use Rattle.fallowtime_requests.specs.declared.stop.Stop.TheVariants.{Words as BadWords}
+use Rattle.fallowtime_requests.specs.declared.unread.Unread.{Unread}
 use Rattle.fallowtime_texts.specs.declared.made.IdMaker.{IdMaker}
 use Rattle.fallowtime_session.specs.Answers.{Shows, line_of, memory, words}
 use Rattle.fallowtime_session.specs.Deeds.{Deed, Did}
 use Rattle.fallowtime_session.specs.Places.{byte_place}
-use Rattle.fallowtime_session.specs.Questions.{Asked, asked_of, command_in, id_of}
-use Rattle.fallowtime_session.specs.Requests.{Asks, AsksNothing}
-use Rattle.fallowtime_session.specs.declared.questions.Layout.{Layout}
-use Rattle.fallowtime_session.specs.declared.questions.Question.{Question}
+use Rattle.fallowtime_session.specs.Questions.{Asks, Stops, command_in, id_of}
 
--- what comes of a line: it has no byte; it is too long; it has no tree, or its tree is no question, as is seen at a place;
+-- what comes of a line: it is empty; it is too long; it has no tree, or its tree is no question, as is seen at a place;
 -- what it asks for was done; or memory ran out before that. With the id of the question, if that was read.
 pub data Outcome : Type 0 where
   empty : Outcome
   too_long : Outcome
-  no_tree : (place : List ℕ) → Outcome
+  no_tree : (id : Option Json) (place : List ℕ) → Outcome
   no_question : (id : Option Json) (place : List ℕ) → Outcome
   done : (id : Option Json) (layout : Layout) (deed : Deed) → Outcome
   no_memory : (id : Option Json) → Outcome
@@ -33,25 +35,34 @@ pub data Outcome : Type 0 where
 abbrev pub HasTree : List ℕ → Json → Type 0
 HasTree text j = IsUtf8 text × (tree_of text ≡ Some j) × HasUniqueKeys j
 
--- a text has none: it is UTF-8 up to this byte; it is no JSON, as is seen at some byte; or an object in it has a key twice
-abbrev pub HasNoTree : List ℕ → List ℕ → Type 0
-HasNoTree text place =
-    ((i : ℕ) × IsValidUpTo text i × (place ≡ byte_place i))
-    ⊎ (IsUtf8 text × (tree_of text ≡ None) × ((i : ℕ) × (place ≡ byte_place i)))
-    ⊎ (IsUtf8 text × IsSomeAnd (tree_of text) (λ j. HasUniqueKeys j → ⊥) × (place ≡ codes "repeated key"))
+-- a text has none: it is UTF-8 up to this byte; it is no JSON, as is seen at some byte; or an object in it has a key twice,
+-- and then it may have an id
+abbrev pub HasNoTree : List ℕ → Option Json → List ℕ → Type 0
+HasNoTree text id place =
+    ((i : ℕ) × IsValidUpTo text i × (id ≡ None) × (place ≡ byte_place i))
+    ⊎ (IsUtf8 text × (tree_of text ≡ None) × ((i : ℕ) × (id ≡ None) × (place ≡ byte_place i)))
+    ⊎ (IsUtf8 text × IsSomeAnd (tree_of text) (λ j. (HasUniqueKeys j → ⊥) × (id ≡ id_of j)) × (place ≡ codes "repeated key"))
 
--- of a question with this id, and what was read of what states its command; the ids that it takes come of the maker
-abbrev pub IsOfTree : IdMaker → IdMaker → Option Json → Result (List ℕ × Asked) (List ℕ) → Outcome → Type 0
-IsOfTree m n id reading (no_question i place) = (i ≡ id) × AsksNothing m reading place × (n ≡ m)
-IsOfTree m n id reading (done i l d) = (i ≡ id) × Asks m n reading d.name d.request l × IfOk d.outcome (IsAnswerTo d.request)
-IsOfTree m n id reading (no_memory i) = ((i ≡ None) ⊎ (i ≡ id)) × (n ≡ m)
-IsOfTree m n id reading _ = ⊥
+-- the line says that an object in the text has a key twice, with the id
+abbrev pub RepeatsKey : List ℕ → List ℕ → Type 0
+RepeatsKey text line = (id : Option Json) × HasNoTree text id (codes "repeated key") × (line ≡ line_of id (words (codes "repeated key")))
+
+-- it asks for nothing, as is seen at this place
+abbrev pub AsksNothing : IdMaker → Json → List ℕ → Type 0
+AsksNothing m j place = (u : Unread) × Stops m j (BadWords u) × (place ≡ at_text u)
+
+-- of a question with this id, and of what states its command; the ids that it takes come of the maker
+abbrev pub IsOfTree : IdMaker → IdMaker → Option Json → Json → Outcome → Type 0
+IsOfTree m n id command (no_question i place) = (i ≡ id) × AsksNothing m command place × (n ≡ m)
+IsOfTree m n id command (done i l d) = (i ≡ id) × Asks m n command d.name d.request l × IfOk d.outcome (IsAnswerTo d.request)
+IsOfTree m n id command (no_memory i) = ((i ≡ None) ⊎ (i ≡ id)) × (n ≡ m)
+IsOfTree m n id command _ = ⊥
 
 -- of a text
 abbrev pub IsOfText : IdMaker → IdMaker → List ℕ → Outcome → Type 0
-IsOfText m n text (no_tree place) = HasNoTree text place × (n ≡ m)
+IsOfText m n text (no_tree id place) = HasNoTree text id place × (n ≡ m)
 IsOfText m n text (no_memory None) = n ≡ m
-IsOfText m n text o = (j : Json) × HasTree text j × IsOfTree m n (id_of j) (asked_of (command_in j)) o
+IsOfText m n text o = (j : Json) × HasTree text j × IsOfTree m n (id_of j) (command_in j) o
 
 -- of bytes, of which there may be over 64 MiB
 abbrev pub IsOfBytes : IdMaker → IdMaker → List ℕ → Outcome → Type 0
@@ -59,10 +70,15 @@ IsOfBytes m n text too_long = (MOST < length text) × (n ≡ m)
 IsOfBytes m n text (no_memory None) = n ≡ m
 IsOfBytes m n text o = (length text ≤ MOST) × IsOfText m n text o
 
--- of a line
+-- it has no byte except for a carriage return
+abbrev pub IsEmptyLine : List ℕ → Type 0
+IsEmptyLine text = (text ≡ []) ⊎ (text ≡ 13 ∷ [])
+
+-- of a line; there may be no memory for a carriage return, but for no byte there always is
 abbrev pub IsOf : IdMaker → IdMaker → List ℕ → Outcome → Type 0
-IsOf m n text empty = (text ≡ []) × (n ≡ m)
-IsOf m n text o = (text ≢ []) × IsOfBytes m n text o
+IsOf m n text empty = IsEmptyLine text × (n ≡ m)
+IsOf m n text (no_memory None) = (text ≢ []) × IsOfBytes m n text (no_memory None)
+IsOf m n text o = ¬ IsEmptyLine text × IsOfBytes m n text o
 
 abbrev pub deed_of : Outcome → Option Deed
 deed_of (done id l d) = Some d
@@ -72,7 +88,7 @@ deed_of _ = None
 abbrev pub Writes : Outcome → List ℕ → Type 0
 Writes empty line = line ≡ []
 Writes too_long line = line ≡ line_of None (words (codes "64 MiB"))
-Writes (no_tree place) line = line ≡ line_of None (words place)
+Writes (no_tree id place) line = line ≡ line_of id (words place)
 Writes (no_question id place) line = line ≡ line_of id (words place)
 Writes (done id l d) line = Shows l id d.outcome line ⊎ (line ≡ line_of id memory)
 Writes (no_memory id) line = line ≡ line_of id memory

@@ -5,20 +5,20 @@ ghost use Rattle.std.specs.Option.{option_map};
 ghost use Rattle.json.specs.Json.{array, boolean, no_members, number as number_form};
 ghost use Rattle.bson_model.specs.View.{view};
 ghost use Rattle.bson_store.specs.Export.{bytes_of_each};
-ghost use Rattle.fallowtime_session.specs.Answers.{IsLineOf, IsMember, Shows, ShowsBodies, ShowsBody, memory, one, refusal, texts, words};
+ghost use Rattle.fallowtime_session.specs.Answers.{IsLineOf, IsMember, Shows, ShowsBodies, ShowsBody, memory, one, refusal, texts, update, words};
 ghost use Rattle.fallowtime_session.specs.Objects.{IsWritable, Makes, MakesLine, ShowsFault, id_tree};
 ghost use Rattle.fallowtime_session.specs.Places.{place_text};
 
 use crate::bodies::{BodyFault, joined, push_bodies};
 use crate::objects::{begin, end, end_with, put_number};
 use crate::places::Place;
-use crate::questions::Layout;
+use bson_json::parts::put_text;
 use bson_json::write_value;
 use bson_model::extjson::Mode;
 use bson_model::{Binary, BinarySubtype, Bson};
 use bson_store::StoreError;
-use bson_text::parts::put_text;
-use fallowtime_commands::Answer;
+use fallowtime_commands::{Answer, update_name};
+use fallowtime_requests::Layout;
 use fallowtime_texts::{PrintFault, text_of_body};
 use json::Value;
 use std::alloc::{AllocError, Global};
@@ -36,7 +36,7 @@ fn refusal_line(
         (option_map (λ t. t.now) path.entry)) result }
 {
     let mut out = begin(alloc, id)?;
-    put_text(&mut out, "refused", kind)?;
+    put_text(&mut out, "error", kind)?;
     if let Some(index) = index {
         put_number(&mut out, "document", index)?;
     }
@@ -65,7 +65,7 @@ pub(crate) fn words_line(
 {
     let text = place.text(alloc)?;
     let mut out = begin(alloc, id)?;
-    put_text(&mut out, "refused", "Words")?;
+    put_text(&mut out, "error", "Usage")?;
     put_text(&mut out, "at", text.as_str())?;
     end(out)
 }
@@ -114,6 +114,22 @@ fn number_line(alloc: Global, id: Option<&Value<'_>>, number: u64) -> Result<Vec
 {
     let mut out = begin(alloc, id)?;
     put_number(&mut out, "count", number)?;
+    end(out)
+}
+
+/// The line of an update: how many documents were selected, and of how many it made other ones.
+fn update_line(
+    alloc: Global,
+    id: Option<&Value<'_>>,
+    matched: u64,
+    changed: u64,
+) -> Result<Vec<u8>, AllocError>
+    requires { IsWritable id }
+    ensures { MakesLine (id_tree id.entry) (update matched changed) result }
+{
+    let mut out = begin(alloc, id)?;
+    put_number(&mut out, "matched", matched)?;
+    put_number(&mut out, "changed", changed)?;
     end(out)
 }
 
@@ -233,6 +249,10 @@ pub(crate) fn answer_line(
             Layout::Stream => stream_line(alloc, id, bodies.as_slice()),
         },
         Ok(Answer::Names(names)) => names_line(alloc, id, names.as_slice()),
+        Ok(Answer::Updated(matched, changed)) => update_line(alloc, id, *matched, *changed),
+        Ok(Answer::NotUpdated(at, error)) => {
+            refusal_line(alloc, id, update_name(*error), Some(*at), None)
+        }
         Err(error) => refusal_line(alloc, id, error.kind.name(), error.document, None),
     }
 }

@@ -4,9 +4,7 @@
 
 mod answers;
 mod bodies;
-mod commands;
 mod objects;
-mod parts;
 mod places;
 mod questions;
 mod serving;

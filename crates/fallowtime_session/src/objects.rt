@@ -1,7 +1,7 @@
 //! The objects of answers.
 
 ghost use Rattle.std.specs.Prelude.{◌≡◌, ◌++◌, ◌∷◌, [], IfOk, OnOk, codes, decimal};
-ghost use Rattle.bson_text.specs.Prints.{Adds};
+ghost use Rattle.bson_json.specs.Prints.{Adds};
 ghost use Rattle.json.specs.Print.{print};
 ghost use Rattle.json.specs.Token.{end_object, key as key_token, number as number_token};
 ghost use Rattle.fallowtime_session.specs.Objects.{IsWritable, begun, id_tree};

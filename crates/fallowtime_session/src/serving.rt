@@ -1,6 +1,6 @@
 //! The session, over any devices.
 
-ghost use Rattle.std.specs.Prelude.{ℕ, List};
+ghost use Rattle.std.specs.Prelude.{◌≡◌, ◌↔◌, ℕ, IsTrue, List};
 ghost use Rattle.bson_base.specs.Device.{CanFail, CanRefuse};
 ghost use Rattle.store_table.specs.Moves.{Moves};
 ghost use Rattle.bson_store.specs.Calls.{Relates, store_state};
@@ -8,7 +8,8 @@ ghost use Rattle.cli_lines.specs.Line.{Keeps};
 ghost use Rattle.fallowtime_session.specs.Deeds.{DoesOne};
 ghost use Rattle.fallowtime_session.specs.Leaving.{LeavesTurns};
 ghost use Rattle.fallowtime_session.specs.Sessions.{Ends, Holds, Sends, Turn};
-ghost use Rattle.fallowtime_session.specs.Turns.{AnswersLine};
+ghost use Rattle.fallowtime_session.specs.Turns.{AnswersLine, IsEmptyLine};
+ghost use Rattle.cli_lines.specs.declared.line.Kept.TheVariants.{Whole};
 
 use crate::turns::answer_of;
 use bson_base::{Sink, Source, write_all};
@@ -20,7 +21,7 @@ use sqlite::Alter;
 use std::alloc::Global;
 
 /// The answer if there is no memory for another one.
-const OUT_OF_MEMORY: &[u8; 21] = b"{\"refused\":\"Memory\"}\n";
+const OUT_OF_MEMORY: &[u8; 19] = b"{\"error\":\"Memory\"}\n";
 
 /// Writes the line of an answer.
 fn send<O: Sink>(output: &mut O, line: &[u8]) -> Result<(), ErrorKind>
@@ -33,8 +34,14 @@ fn send<O: Sink>(output: &mut O, line: &[u8]) -> Result<(), ErrorKind>
     }
 }
 
-/// Does what a line asks for, and writes its answer. A line without a byte is passed over. `Writer` if the write
-/// failed.
+/// Whether a line is empty: it has no byte, or a carriage return alone.
+fn is_empty(line: &Line) -> bool
+    ensures { IsTrue result ↔ ((line.now.kept ≡ Whole) × IsEmptyLine line.now.bytes.items) }
+{
+    line.kept == Kept::Whole && matches!(line.bytes.as_slice(), [] | [b'\r'])
+}
+
+/// Does what a line asks for, and writes its answer. An empty line is passed over. `Writer` if the write failed.
 fn reply<S: Alter + Drop, O: Sink>(
     alloc: Global,
     store: &mut Store<S>,
@@ -49,7 +56,10 @@ fn reply<S: Alter + Drop, O: Sink>(
         (AnswersLine maker.old maker.new text answer) (store_state S.Store store.old)
         (store_state S.Store store.new)) }
 {
-    if line.kept == Kept::Whole && line.bytes.is_empty() {
+    if line.kept == Kept::Memory {
+        return send(output, OUT_OF_MEMORY);
+    }
+    if is_empty(line) {
         return Ok(());
     }
     match answer_of(alloc, store, maker, scratch, line) {
@@ -59,7 +69,7 @@ fn reply<S: Alter + Drop, O: Sink>(
 }
 
 /// Does what the lines of `input` ask for on `store`, one after the other, and answers each on a line of `output`,
-/// until the input ends. A line without a byte is passed over. `maker` makes the `_id`s of documents that come without
+/// until the input ends. An empty line is passed over. `maker` makes the `_id`s of documents that come without
 /// one.
 ///
 /// `Reader` if a read failed, or a line or the input has 2⁶⁴ - 2 bytes or more; `Writer` if a write failed, after which

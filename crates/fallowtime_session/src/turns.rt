@@ -1,7 +1,9 @@
 //! A line, from its bytes to its answer.
 
-ghost use Rattle.std.specs.Prelude.{◌≡◌, ℕ, List, None};
-ghost use Rattle.std.specs.Option.{ForSome, option_map};
+ghost use Rattle.std.specs.Prelude.{◌≡◌, ℕ, IsSomeAnd, List, None};
+ghost use Rattle.std.specs.Option.{option_map};
+ghost use Rattle.json.specs.Json.{document as tree_of};
+ghost use Rattle.json.specs.Strict.{HasUniqueKeys};
 ghost use Rattle.json.specs.Tree.{HasNumbers, MembersHaveNumbers};
 ghost use Rattle.json.specs.Value.{members_view, value_view as data_of};
 ghost use Rattle.bson_store.specs.Calls.{store_state};
@@ -10,42 +12,61 @@ ghost use Rattle.fallowtime_session.specs.Answers.{line_of, words};
 ghost use Rattle.fallowtime_session.specs.Deeds.{DoesOne};
 ghost use Rattle.fallowtime_session.specs.Objects.{IsWritable, Makes, id_tree};
 ghost use Rattle.fallowtime_session.specs.Places.{byte_place};
-ghost use Rattle.fallowtime_session.specs.Questions.{asked_of, command_in, id_and_do, id_of};
-ghost use Rattle.fallowtime_session.specs.Turns.{Carries, Comes, IsOfBytes, IsOfText, IsOfTree, made_line};
+ghost use Rattle.fallowtime_session.specs.Questions.{command_in, command_or, do_beside_id, id_after, id_of};
+ghost use Rattle.fallowtime_session.specs.Turns.{Carries, Comes, IsOfBytes, IsOfText, IsOfTree, RepeatsKey, made_line};
 
 use crate::answers::{answer_line, memory_line, words_line};
-use crate::places::{Fault, Place};
-use crate::questions::{Question, question_of};
+use crate::places::Place;
+use crate::questions::question_in;
 use bson_store::Store;
 use cli_lines::{Kept, Line};
 use fallowtime_commands::perform;
+use fallowtime_requests::{Question, Stop};
 use fallowtime_texts::IdMaker;
 use json::{MAX_DEPTH, Reader, Scratch, Value};
 use sqlite::Alter;
 use std::alloc::{AllocError, Global};
 
-/// The parts of a question.
-#[derive(Drop)]
-struct Parts<'t, 'w> {
-    /// Its id, if it has one.
-    id: Option<&'t Value<'w>>,
-    /// What states its command.
-    command: &'t Value<'w>,
+/// The id among the members of an object: the value under `id`, if that key is there once.
+fn id_among<'t, 'w>(members: &'t [(&'w str, Value<'w>)]) -> Option<&'t Value<'w>>
+    requires { MembersHaveNumbers (members_view members.now) }
+    ensures id { id_tree result ≡ id_after None (members_view members.now) }
+    ensures writable { IsWritable result }
+{
+    let mut found = None;
+    for (key, value) in members {
+        if *key == "id" {
+            if found.is_some() {
+                return None;
+            }
+            found = Some(value);
+        }
+    }
+    found
 }
 
-/// The values under `id` and under `do`, if an object has these two keys alone.
-fn id_and_do<'t, 'w>(members: &'t [(&'w str, Value<'w>)]) -> Option<(&'t Value<'w>, &'t Value<'w>)>
-    requires { MembersHaveNumbers (members_view members.now) }
-    ensures parts { option_map (λ p. (data_of p.0.now, data_of p.1.now)) result ≡ id_and_do
-        (members_view members.now) }
-    ensures writable { ForSome result (λ p. HasNumbers (data_of p.0.now)) }
+/// The id of a question, if it has one.
+fn id_in<'t, 'w>(tree: &'t Value<'w>) -> Option<&'t Value<'w>>
+    requires { HasNumbers (data_of tree.now) }
+    ensures id { id_tree result ≡ id_of (data_of tree.now) }
+    ensures writable { IsWritable result }
+{
+    match tree {
+        Value::Object(members) => id_among(members.as_slice()),
+        _ => None,
+    }
+}
+
+/// The value under `do`, if an object has this key and `id` alone.
+fn do_among<'t, 'w>(members: &'t [(&'w str, Value<'w>)]) -> Option<&'t Value<'w>>
+    ensures { option_map (λ v. data_of v.now) result ≡ do_beside_id (members_view members.now) }
 {
     match members {
         [(key, first), (other_key, other)] => {
             if *key == "id" && *other_key == "do" {
-                Some((first, other))
+                Some(other)
             } else if *key == "do" && *other_key == "id" {
-                Some((other, first))
+                Some(first)
             } else {
                 None
             }
@@ -54,29 +75,22 @@ fn id_and_do<'t, 'w>(members: &'t [(&'w str, Value<'w>)]) -> Option<(&'t Value<'
     }
 }
 
-/// The id of a question, if it has one, and what states its command.
-fn parts_of<'t, 'w>(tree: &'t Value<'w>) -> Parts<'t, 'w>
-    requires { HasNumbers (data_of tree.now) }
-    ensures id { id_tree result.id ≡ id_of (data_of tree.now) }
-    ensures writable { IsWritable result.id }
-    ensures command { data_of result.command.now ≡ command_in (data_of tree.now) }
+/// The value under `do` of a question with an id.
+fn do_in<'t, 'w>(tree: &'t Value<'w>) -> Option<&'t Value<'w>>
+    ensures { command_or (data_of tree.now) (option_map (λ v. data_of v.now) result)
+        ≡ command_in (data_of tree.now) }
 {
     match tree {
-        Value::Object(members) => match id_and_do(members.as_slice()) {
-            Some((id, command)) => Parts {
-                id: Some(id),
-                command,
-            },
-            None => Parts {
-                id: None,
-                command: tree,
-            },
-        },
-        _ => Parts {
-            id: None,
-            command: tree,
-        },
+        Value::Object(members) => do_among(members.as_slice()),
+        _ => None,
     }
+}
+
+/// What states the command of a question.
+fn command_of<'t, 'w>(tree: &'t Value<'w>) -> &'t Value<'w>
+    ensures { data_of result.now ≡ command_in (data_of tree.now) }
+{
+    do_in(tree).unwrap_or(tree)
 }
 
 /// Does what a question asks for, and returns the line of its answer.
@@ -112,17 +126,17 @@ fn answer_command<S: Alter + Drop>(
 ) -> Result<Vec<u8>, AllocError>
     requires { IsWritable id }
     ensures { DoesOne (Comes (IsOfTree maker.old maker.new (id_tree id.entry)
-        (asked_of (data_of command.now))) (made_line (id_tree id.entry) result))
+        (data_of command.now)) (made_line (id_tree id.entry) result))
         (store_state S.Store store.old) (store_state S.Store store.new) }
 {
     let mut trial = maker.copy();
-    match question_of(alloc, command, &mut trial) {
+    match question_in(alloc, command, &mut trial) {
         Ok(question) => {
             *maker = trial;
             answer_question(alloc, store, id, question)
         }
-        Err(Fault::At(place)) => words_line(alloc, id, &place),
-        Err(Fault::Memory) => Err(AllocError),
+        Err(Stop::Words(unread)) => words_line(alloc, id, &Place::Request(unread)),
+        Err(Stop::Memory) => Err(AllocError),
     }
 }
 
@@ -136,12 +150,12 @@ fn answer_tree<S: Alter + Drop>(
 ) -> Result<Vec<u8>, AllocError>
     requires { HasNumbers (data_of tree.now) }
     ensures { DoesOne (Comes (IsOfTree maker.old maker.new (id_of (data_of tree.now))
-        (asked_of (command_in (data_of tree.now)))) (made_line None result))
+        (command_in (data_of tree.now))) (made_line None result))
         (store_state S.Store store.old) (store_state S.Store store.new) }
 {
-    let Parts { id, command } = parts_of(tree);
+    let id = id_in(tree);
     let spare = memory_line(alloc, id)?;
-    match answer_command(alloc, store, maker, id, command) {
+    match answer_command(alloc, store, maker, id, command_of(tree)) {
         Ok(line) => Ok(line),
         Err(_) => Ok(spare),
     }
@@ -162,6 +176,17 @@ fn no_json_line(alloc: Global, text: &str, scratch: &mut Scratch) -> Result<Vec<
     words_line(alloc, None, &Place::Byte(index))
 }
 
+/// The line for a text in which an object has a key twice, with the id, if that can be read.
+fn repeated_line(alloc: Global, text: &str, scratch: &mut Scratch) -> Result<Vec<u8>, AllocError>
+    requires { IsSomeAnd (tree_of text.now) (λ j. HasUniqueKeys j → ⊥) }
+    ensures { Makes (RepeatsKey text.now) result }
+{
+    match Value::parse(alloc, text, scratch) {
+        Ok(tree) => words_line(alloc, id_in(&tree), &Place::RepeatedKey),
+        Err(_) => Err(AllocError),
+    }
+}
+
 /// Does what a text asks for, and returns its answer.
 fn answer_text<S: Alter + Drop>(
     alloc: Global,
@@ -173,13 +198,15 @@ fn answer_text<S: Alter + Drop>(
     ensures { DoesOne (Comes (IsOfText maker.old maker.new text.now) (made_line None result))
         (store_state S.Store store.old) (store_state S.Store store.new) }
 {
-    match Value::parse_strict(alloc, text, scratch) {
+    let error = match Value::parse_strict(alloc, text, scratch) {
         Ok(tree) => return answer_tree(alloc, store, maker, &tree),
-        Err(json::Error::OutOfMemory) => return Err(AllocError),
-        Err(json::Error::DuplicateKey) => return words_line(alloc, None, &Place::RepeatedKey),
-        Err(_) => {}
+        Err(error) => error,
+    };
+    match error {
+        json::Error::OutOfMemory => Err(AllocError),
+        json::Error::DuplicateKey => repeated_line(alloc, text, scratch),
+        _ => no_json_line(alloc, text, scratch),
     }
-    no_json_line(alloc, text, scratch)
 }
 
 /// Does what some bytes ask for, and returns their answer.

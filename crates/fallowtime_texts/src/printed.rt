@@ -10,11 +10,11 @@ ghost use Rattle.store_model.specs.State.{IsKept};
 ghost use Rattle.fallowtime_texts.specs.Printed.{PrintsDocument};
 ghost use Rattle.fallowtime_texts.specs.declared.printed.PrintFault.TheVariants.{Memory};
 
+use bson_json::{Style, Unwritten, write_raw};
 use bson_meaning::reserved_path_below;
 use bson_model::Document;
 use bson_model::extjson::Mode;
 use bson_raw::{ErrorKind, RawDocument};
-use bson_raw_json::{Unwritten, write_raw};
 use std::alloc::Global;
 
 /// Why a stored document has no text.
@@ -84,7 +84,7 @@ pub fn text_of_body(
     ensures { (d : Members) → IsKept d → body.now ≡ encode d
         → PrintsDocument mode d (string_bytes text.new) result }
 {
-    match write_raw(alloc, body, mode, text) {
+    match write_raw(alloc, body, Style::Full(mode), text) {
         Ok(()) => Ok(()),
         Err(Unwritten::Memory) => Err(PrintFault::Memory),
         Err(Unwritten::Unseen) => Err(fault_of(alloc, body)),

@@ -4,10 +4,10 @@ use Rattle.std.proofs.lemmas.List.{append-nil}
 use Rattle.std.proofs.lemmas.List.Sums.{sum_by-cons}
 use Rattle.std.specs.List.{filter_map}
 use Rattle.std.specs.Str.Parse.{digits_value}
-use Rattle.fallowtime_words.specs.Options.{Lead, Spell, Gathers, AreOptions, times, listed, is_canonical, is_bytes, is_lines, seconds_of}
+use Rattle.fallowtime_words.specs.Options.{Lead, Spell, Gathers, AreOptions, times, listed, is_canonical, is_bytes, is_lines, is_many, seconds_of}
 use Rattle.fallowtime_words.specs.Reading.{added}
 use Rattle.fallowtime_words.specs.declared.options.Given.{Given}
-use Rattle.fallowtime_words.specs.declared.options.Given.TheVariants.{Canonical, Bytes, Lines, Wait}
+use Rattle.fallowtime_words.specs.declared.options.Given.TheVariants.{Canonical, Bytes, Lines, Many, Wait}
 use Rattle.fallowtime_words.specs.declared.options.Options.{Options}
 
 -- what the options become with those that are given after them
@@ -15,6 +15,7 @@ pub record Grows (o : Options) (gs : List Given) (all : Options) : Type 0 where
   pub canonical : times o.canonical + count_by is_canonical gs ≡ times all.canonical
   pub bytes : times o.bytes + count_by is_bytes gs ≡ times all.bytes
   pub lines : times o.lines + count_by is_lines gs ≡ times all.lines
+  pub many : times o.many + count_by is_many gs ≡ times all.many
   pub seconds : listed o.seconds ++ filter_map seconds_of gs ≡ listed all.seconds
 
 -- what they become with those of the words
@@ -22,16 +23,16 @@ abbrev pub Left : Options → List (List ℕ) → Options → Type 0
 Left o words all = (gs : List Given) × Spell words gs × Grows o gs all
 
 abbrev pub none : Options
-none = record { canonical = false; bytes = false; lines = false; seconds = None }
+none = record { canonical = false; bytes = false; lines = false; many = false; seconds = None }
 
 pub from_none : (words : List (List ℕ)) (all : Options) → AreOptions words all ↔ Left none words all
 from_none words all = (λ (gs, s, h). (gs, s, forth gs h), λ (gs, s, h). (gs, s, back gs h))
   where
     forth : (gs : List Given) → Gathers gs all → Grows none gs all
-    forth gs h = record { canonical = omega (arith, h.canonical); bytes = omega (arith, h.bytes); lines = omega (arith, h.lines); seconds = h.seconds }
+    forth gs h = record { canonical = omega (arith, h.canonical); bytes = omega (arith, h.bytes); lines = omega (arith, h.lines); many = omega (arith, h.many); seconds = h.seconds }
 
     back : (gs : List Given) → Grows none gs all → Gathers gs all
-    back gs h = record { canonical = omega (arith, h.canonical); bytes = omega (arith, h.bytes); lines = omega (arith, h.lines); seconds = h.seconds }
+    back gs h = record { canonical = omega (arith, h.canonical); bytes = omega (arith, h.bytes); lines = omega (arith, h.lines); many = omega (arith, h.many); seconds = h.seconds }
 
 same_times : (a b : Bool) → times a + 0 ≡ times b → a ≡ b
 same_times true true e = refl
@@ -45,22 +46,24 @@ same_listed None (Some n) e = cc
 same_listed (Some m) None e = cc
 same_listed (Some m) (Some n) e = cc
 
-make : Bool → Bool → Bool → Option ℕ → Options
-make c b l s = record { canonical = c; bytes = b; lines = l; seconds = s }
+make : Bool → Bool → Bool → Bool → Option ℕ → Options
+make c b l m s = record { canonical = c; bytes = b; lines = l; many = m; seconds = s }
 
-same_options : (o all : Options) → o.canonical ≡ all.canonical → o.bytes ≡ all.bytes → o.lines ≡ all.lines → o.seconds ≡ all.seconds → o ≡ all
+same_options : (o all : Options) → o.canonical ≡ all.canonical → o.bytes ≡ all.bytes → o.lines ≡ all.lines → o.many ≡ all.many → o.seconds ≡ all.seconds → o ≡ all
 unfolding make
-same_options o all c b l s =
-    ap (λ x. make x o.bytes o.lines o.seconds) c ∙ (ap (λ x. make all.canonical x o.lines o.seconds) b
-    ∙ (ap (λ x. make all.canonical all.bytes x o.seconds) l ∙ ap (λ x. make all.canonical all.bytes all.lines x) s))
+same_options o all c b l m s =
+    ap (λ x. make x o.bytes o.lines o.many o.seconds) c ∙ (ap (λ x. make all.canonical x o.lines o.many o.seconds) b
+    ∙ (ap (λ x. make all.canonical all.bytes x o.many o.seconds) l ∙ (ap (λ x. make all.canonical all.bytes all.lines x o.seconds) m
+    ∙ ap (λ x. make all.canonical all.bytes all.lines all.many x) s)))
 
 grown : (o : Options) → Grows o [] o
-grown o = record { canonical = add-zero _; bytes = add-zero _; lines = add-zero _; seconds = append-nil _ }
+grown o = record { canonical = add-zero _; bytes = add-zero _; lines = add-zero _; many = add-zero _; seconds = append-nil _ }
 
 pub not_empty : (words : List (List ℕ)) (g : Given) (b : List (List ℕ)) → Lead words g b → words ≡ [] → ⊥
 not_empty words Canonical b l e = cc
 not_empty words Bytes b l e = cc
 not_empty words Lines b l e = cc
+not_empty words Many b l e = cc
 not_empty words (Wait n) b (t, l, i) e = cc
 
 -- with no word after them they are all
@@ -68,7 +71,7 @@ pub at_end : (o all : Options) → Left o [] all ↔ (o ≡ all)
 at_end o all = (forth, λ e. ([], refl, subst (Grows o []) e (grown o)))
   where
     forth : Left o [] all → o ≡ all
-    forth ([], s, h) = same_options o all (same_times _ _ h.canonical) (same_times _ _ h.bytes) (same_times _ _ h.lines) (same_listed _ _ h.seconds)
+    forth ([], s, h) = same_options o all (same_times _ _ h.canonical) (same_times _ _ h.bytes) (same_times _ _ h.lines) (same_times _ _ h.many) (same_listed _ _ h.seconds)
     forth (g ∷ gs, (b, l, s), h) = absurd (not_empty [] g b l refl)
 
 -- the third byte of the first word distinguishes the options
@@ -80,6 +83,7 @@ third_of : Given → ℕ
 third_of Canonical = 99
 third_of Bytes = 98
 third_of Lines = 106
+third_of Many = 109
 third_of (Wait n) = 119
 
 lead_third : (words : List (List ℕ)) (g : Given) (b : List (List ℕ)) → Lead words g b → third words ≡ third_of g
@@ -87,6 +91,7 @@ unfolding third third_of
 lead_third words Canonical b l = ap third l
 lead_third words Bytes b l = ap third l
 lead_third words Lines b l = ap third l
+lead_third words Many b l = ap third l
 lead_third words (Wait n) b (t, l, i) = ap third l
 
 same_lead : (words : List (List ℕ)) (g g' : Given) (b b' : List (List ℕ)) → third_of g ≡ third_of g' → Lead words g b → Lead words g' b' → (g ≡ g') × (b ≡ b')
@@ -94,21 +99,30 @@ unfolding third_of
 same_lead words Canonical Canonical b b' e l m = (refl, cc)
 same_lead words Bytes Bytes b b' e l m = (refl, cc)
 same_lead words Lines Lines b b' e l m = (refl, cc)
+same_lead words Many Many b b' e l m = (refl, cc)
 same_lead words (Wait n) (Wait m) b b' e (t, l, (i, v, f)) (t', l', (i', v', f')) =
     let same : t ≡ t' = cc in
     (ap Wait (sym v ∙ (ap (digits_value 10) same ∙ v')), cc)
 same_lead words Canonical Bytes b b' e l m = absurd (omega (arith, e))
 same_lead words Canonical Lines b b' e l m = absurd (omega (arith, e))
+same_lead words Canonical Many b b' e l m = absurd (omega (arith, e))
 same_lead words Canonical (Wait n) b b' e l m = absurd (omega (arith, e))
 same_lead words Bytes Canonical b b' e l m = absurd (omega (arith, e))
 same_lead words Bytes Lines b b' e l m = absurd (omega (arith, e))
+same_lead words Bytes Many b b' e l m = absurd (omega (arith, e))
 same_lead words Bytes (Wait n) b b' e l m = absurd (omega (arith, e))
 same_lead words Lines Canonical b b' e l m = absurd (omega (arith, e))
 same_lead words Lines Bytes b b' e l m = absurd (omega (arith, e))
+same_lead words Lines Many b b' e l m = absurd (omega (arith, e))
 same_lead words Lines (Wait n) b b' e l m = absurd (omega (arith, e))
+same_lead words Many Canonical b b' e l m = absurd (omega (arith, e))
+same_lead words Many Bytes b b' e l m = absurd (omega (arith, e))
+same_lead words Many Lines b b' e l m = absurd (omega (arith, e))
+same_lead words Many (Wait n) b b' e l m = absurd (omega (arith, e))
 same_lead words (Wait n) Canonical b b' e l m = absurd (omega (arith, e))
 same_lead words (Wait n) Bytes b b' e l m = absurd (omega (arith, e))
 same_lead words (Wait n) Lines b b' e l m = absurd (omega (arith, e))
+same_lead words (Wait n) Many b b' e l m = absurd (omega (arith, e))
 
 -- the words begin with one option at the most
 pub one_lead : (words : List (List ℕ)) (g g' : Given) (b b' : List (List ℕ)) → Lead words g b → Lead words g' b' → (g ≡ g') × (b ≡ b')
@@ -147,37 +161,46 @@ taken Canonical gs o o1 all e =
     subst (λ x. Grows o (Canonical ∷ gs) all ↔ Grows x gs all) p.1 (forth p.0, back p.0)
   where
     forth : o.canonical ≡ false → Grows o (Canonical ∷ gs) all → Grows (record o { canonical = true }) gs all
-    forth not h = record { canonical = (one is_canonical Canonical gs o.canonical _ refl not).0 h.canonical; bytes = (other is_bytes Canonical gs _ _ refl).0 h.bytes; lines = (other is_lines Canonical gs _ _ refl).0 h.lines; seconds = h.seconds }
+    forth not h = record { canonical = (one is_canonical Canonical gs o.canonical _ refl not).0 h.canonical; bytes = (other is_bytes Canonical gs _ _ refl).0 h.bytes; lines = (other is_lines Canonical gs _ _ refl).0 h.lines; many = (other is_many Canonical gs _ _ refl).0 h.many; seconds = h.seconds }
 
     back : o.canonical ≡ false → Grows (record o { canonical = true }) gs all → Grows o (Canonical ∷ gs) all
-    back not h = record { canonical = (one is_canonical Canonical gs o.canonical _ refl not).1 h.canonical; bytes = (other is_bytes Canonical gs _ _ refl).1 h.bytes; lines = (other is_lines Canonical gs _ _ refl).1 h.lines; seconds = h.seconds }
+    back not h = record { canonical = (one is_canonical Canonical gs o.canonical _ refl not).1 h.canonical; bytes = (other is_bytes Canonical gs _ _ refl).1 h.bytes; lines = (other is_lines Canonical gs _ _ refl).1 h.lines; many = (other is_many Canonical gs _ _ refl).1 h.many; seconds = h.seconds }
 taken Bytes gs o o1 all e =
     let p = chosen o.bytes (record o { bytes = true }) o1 e in
     subst (λ x. Grows o (Bytes ∷ gs) all ↔ Grows x gs all) p.1 (forth p.0, back p.0)
   where
     forth : o.bytes ≡ false → Grows o (Bytes ∷ gs) all → Grows (record o { bytes = true }) gs all
-    forth not h = record { canonical = (other is_canonical Bytes gs _ _ refl).0 h.canonical; bytes = (one is_bytes Bytes gs o.bytes _ refl not).0 h.bytes; lines = (other is_lines Bytes gs _ _ refl).0 h.lines; seconds = h.seconds }
+    forth not h = record { canonical = (other is_canonical Bytes gs _ _ refl).0 h.canonical; bytes = (one is_bytes Bytes gs o.bytes _ refl not).0 h.bytes; lines = (other is_lines Bytes gs _ _ refl).0 h.lines; many = (other is_many Bytes gs _ _ refl).0 h.many; seconds = h.seconds }
 
     back : o.bytes ≡ false → Grows (record o { bytes = true }) gs all → Grows o (Bytes ∷ gs) all
-    back not h = record { canonical = (other is_canonical Bytes gs _ _ refl).1 h.canonical; bytes = (one is_bytes Bytes gs o.bytes _ refl not).1 h.bytes; lines = (other is_lines Bytes gs _ _ refl).1 h.lines; seconds = h.seconds }
+    back not h = record { canonical = (other is_canonical Bytes gs _ _ refl).1 h.canonical; bytes = (one is_bytes Bytes gs o.bytes _ refl not).1 h.bytes; lines = (other is_lines Bytes gs _ _ refl).1 h.lines; many = (other is_many Bytes gs _ _ refl).1 h.many; seconds = h.seconds }
 taken Lines gs o o1 all e =
     let p = chosen o.lines (record o { lines = true }) o1 e in
     subst (λ x. Grows o (Lines ∷ gs) all ↔ Grows x gs all) p.1 (forth p.0, back p.0)
   where
     forth : o.lines ≡ false → Grows o (Lines ∷ gs) all → Grows (record o { lines = true }) gs all
-    forth not h = record { canonical = (other is_canonical Lines gs _ _ refl).0 h.canonical; bytes = (other is_bytes Lines gs _ _ refl).0 h.bytes; lines = (one is_lines Lines gs o.lines _ refl not).0 h.lines; seconds = h.seconds }
+    forth not h = record { canonical = (other is_canonical Lines gs _ _ refl).0 h.canonical; bytes = (other is_bytes Lines gs _ _ refl).0 h.bytes; lines = (one is_lines Lines gs o.lines _ refl not).0 h.lines; many = (other is_many Lines gs _ _ refl).0 h.many; seconds = h.seconds }
 
     back : o.lines ≡ false → Grows (record o { lines = true }) gs all → Grows o (Lines ∷ gs) all
-    back not h = record { canonical = (other is_canonical Lines gs _ _ refl).1 h.canonical; bytes = (other is_bytes Lines gs _ _ refl).1 h.bytes; lines = (one is_lines Lines gs o.lines _ refl not).1 h.lines; seconds = h.seconds }
+    back not h = record { canonical = (other is_canonical Lines gs _ _ refl).1 h.canonical; bytes = (other is_bytes Lines gs _ _ refl).1 h.bytes; lines = (one is_lines Lines gs o.lines _ refl not).1 h.lines; many = (other is_many Lines gs _ _ refl).1 h.many; seconds = h.seconds }
+taken Many gs o o1 all e =
+    let p = chosen o.many (record o { many = true }) o1 e in
+    subst (λ x. Grows o (Many ∷ gs) all ↔ Grows x gs all) p.1 (forth p.0, back p.0)
+  where
+    forth : o.many ≡ false → Grows o (Many ∷ gs) all → Grows (record o { many = true }) gs all
+    forth not h = record { canonical = (other is_canonical Many gs _ _ refl).0 h.canonical; bytes = (other is_bytes Many gs _ _ refl).0 h.bytes; lines = (other is_lines Many gs _ _ refl).0 h.lines; many = (one is_many Many gs o.many _ refl not).0 h.many; seconds = h.seconds }
+
+    back : o.many ≡ false → Grows (record o { many = true }) gs all → Grows o (Many ∷ gs) all
+    back not h = record { canonical = (other is_canonical Many gs _ _ refl).1 h.canonical; bytes = (other is_bytes Many gs _ _ refl).1 h.bytes; lines = (other is_lines Many gs _ _ refl).1 h.lines; many = (one is_many Many gs o.many _ refl not).1 h.many; seconds = h.seconds }
 taken (Wait n) gs o o1 all e =
     let p = chosen (is_some o.seconds) (record o { seconds = Some n }) o1 e in
     subst (λ x. Grows o (Wait n ∷ gs) all ↔ Grows x gs all) p.1 (forth p.0, back p.0)
   where
     forth : is_some o.seconds ≡ false → Grows o (Wait n ∷ gs) all → Grows (record o { seconds = Some n }) gs all
-    forth not h = record { canonical = (other is_canonical (Wait n) gs _ _ refl).0 h.canonical; bytes = (other is_bytes (Wait n) gs _ _ refl).0 h.bytes; lines = (other is_lines (Wait n) gs _ _ refl).0 h.lines; seconds = ap (λ x. x ++ (n ∷ filter_map seconds_of gs)) (sym (no_seconds o.seconds not)) ∙ h.seconds }
+    forth not h = record { canonical = (other is_canonical (Wait n) gs _ _ refl).0 h.canonical; bytes = (other is_bytes (Wait n) gs _ _ refl).0 h.bytes; lines = (other is_lines (Wait n) gs _ _ refl).0 h.lines; many = (other is_many (Wait n) gs _ _ refl).0 h.many; seconds = ap (λ x. x ++ (n ∷ filter_map seconds_of gs)) (sym (no_seconds o.seconds not)) ∙ h.seconds }
 
     back : is_some o.seconds ≡ false → Grows (record o { seconds = Some n }) gs all → Grows o (Wait n ∷ gs) all
-    back not h = record { canonical = (other is_canonical (Wait n) gs _ _ refl).1 h.canonical; bytes = (other is_bytes (Wait n) gs _ _ refl).1 h.bytes; lines = (other is_lines (Wait n) gs _ _ refl).1 h.lines; seconds = ap (λ x. x ++ (n ∷ filter_map seconds_of gs)) (no_seconds o.seconds not) ∙ h.seconds }
+    back not h = record { canonical = (other is_canonical (Wait n) gs _ _ refl).1 h.canonical; bytes = (other is_bytes (Wait n) gs _ _ refl).1 h.bytes; lines = (other is_lines (Wait n) gs _ _ refl).1 h.lines; many = (other is_many (Wait n) gs _ _ refl).1 h.many; seconds = ap (λ x. x ++ (n ∷ filter_map seconds_of gs)) (no_seconds o.seconds not) ∙ h.seconds }
 
 most : (b : Bool) → times b ≤ 1
 most true = lit≤ tt
@@ -196,6 +219,7 @@ twice : (g : Given) (gs : List Given) (o all : Options) → added g o ≡ None �
 twice Canonical gs o all e h = twice_counted is_canonical Canonical gs o.canonical all.canonical refl (unchosen o.canonical _ e) h.canonical
 twice Bytes gs o all e h = twice_counted is_bytes Bytes gs o.bytes all.bytes refl (unchosen o.bytes _ e) h.bytes
 twice Lines gs o all e h = twice_counted is_lines Lines gs o.lines all.lines refl (unchosen o.lines _ e) h.lines
+twice Many gs o all e h = twice_counted is_many Many gs o.many all.many refl (unchosen o.many _ e) h.many
 twice (Wait n) gs o all e h = two_seconds n (filter_map seconds_of gs) o.seconds all.seconds (unchosen (is_some o.seconds) _ e) h.seconds
 
 -- what the words make of the options, turn by turn
@@ -245,4 +269,4 @@ everything P o words e same all = (forth, back)
 -- what is given makes one set of options
 pub same_gathered : (gs : List Given) (o all : Options) → Gathers gs o → Gathers gs all → o ≡ all
 same_gathered gs o all h k = same_options o all (same_times _ _ (add-zero _ ∙ (sym h.canonical ∙ k.canonical))) (same_times _ _ (add-zero _ ∙ (sym h.bytes ∙ k.bytes)))
-    (same_times _ _ (add-zero _ ∙ (sym h.lines ∙ k.lines))) (same_listed _ _ (append-nil _ ∙ (sym h.seconds ∙ k.seconds)))
+    (same_times _ _ (add-zero _ ∙ (sym h.lines ∙ k.lines))) (same_times _ _ (add-zero _ ∙ (sym h.many ∙ k.many))) (same_listed _ _ (append-nil _ ∙ (sym h.seconds ∙ k.seconds)))

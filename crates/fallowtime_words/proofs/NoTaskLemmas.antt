@@ -1,12 +1,12 @@
 -- What there is no task for, at each exit.
 use Rattle.std.proofs.Common.{◌≡◌, ◌↔◌, ℕ, List, ◌∷◌, Option, Some, None, MatchOption, option_map, map, String, Global, string_bytes, sym, ◌∙◌, ap, subst}
-use Rattle.fallowtime_words.specs.Commands.{command_name, HasName}
+use Rattle.fallowtime_words.specs.Commands.{command_name}
 use Rattle.fallowtime_words.specs.Options.{AreOptions, OnlyWait}
-use Rattle.fallowtime_words.specs.Words.{Asked, line, session, HasRest, HasAll, Wait, IsTask, asked_of}
+use Rattle.fallowtime_words.specs.Words.{Asked, line, session, HasRest, Wait, IsTask, asked_of}
 use Rattle.fallowtime_words.specs.declared.command.Command.{Command}
 use Rattle.fallowtime_words.specs.declared.options.Options.{Options}
 use Rattle.fallowtime_words.specs.declared.words.Task.{Task}
-use Rattle.fallowtime_words.proofs.SingleLemmas.{one_name, no_option_name, one_collection, one_task}
+use Rattle.fallowtime_words.proofs.SingleLemmas.{one_name, no_option_name, one_task}
 use Rattle.fallowtime_words.proofs.OptionLemmas.{options_follow}
 
 pub no_wait : (words : List (List ℕ)) → ((o : Options) → AreOptions words o ↔ (None ≡ Some o)) → (seconds : Option ℕ) → Wait words seconds → ⊥
@@ -19,24 +19,19 @@ more_than_wait words read same more seconds (o, a, w, is) =
     let here : o ≡ read = cc in
     more (subst OnlyWait here w)
 
-pub no_rest : (c : Command) (words rest : List (List ℕ)) (coll : List ℕ) → HasName c words coll rest → ((places : List (List ℕ)) (o : Options) → HasRest c rest places o → ⊥)
-    → (coll' : List ℕ) (places : List (List ℕ)) (o : Options) → HasAll c words coll' places o → ⊥
-no_rest c words rest coll name never coll' places o (rest', n, r) =
-    never places o (subst (λ x. HasRest c x places o) (sym (one_collection c words rest rest' coll coll' name n).1) r)
-
 pub no_line : (file : List ℕ) (words : List (List ℕ)) (c : Command) (behind : List (List ℕ)) → words ≡ command_name c ∷ behind
-    → ((coll : List ℕ) (places : List (List ℕ)) (o : Options) → HasAll c behind coll places o → ⊥) → (asked : Asked) → IsTask (file ∷ words) asked → ⊥
-no_line file words c behind e never (line f c' coll places o) (is, (b, e', h)) =
+    → ((taken : List (List ℕ)) (o : Options) → HasRest c behind taken o → ⊥) → (asked : Asked) → IsTask (file ∷ words) asked → ⊥
+no_line file words c behind e never (line f c' taken o) (is, (b, e', h)) =
     let named : command_name c' ≡ command_name c = cc in
     let rest : b ≡ behind = cc in
-    never coll places o (subst (λ x. HasAll x behind coll places o) (one_name c' c named) (subst (λ x. HasAll c' x coll places o) rest h))
+    never taken o (subst (λ x. HasRest x behind taken o) (one_name c' c named) (subst (λ x. HasRest c' x taken o) rest h))
 no_line file words c behind e never (session f seconds) (is, (given, e', (o, a, w, s))) =
     let same : given ≡ command_name c ∷ behind = cc in
     no_option_name c (options_follow given o a (command_name c) behind same)
 
 pub no_session_either : (file : List ℕ) (words : List (List ℕ)) → ((c : Command) (behind : List (List ℕ)) → words ≡ command_name c ∷ behind → ⊥)
     → ((seconds : Option ℕ) → Wait words seconds → ⊥) → (asked : Asked) → IsTask (file ∷ words) asked → ⊥
-no_session_either file words no_command never (line f c coll places o) (is, (b, e, h)) = let same : words ≡ command_name c ∷ b = cc in no_command c b same
+no_session_either file words no_command never (line f c taken o) (is, (b, e, h)) = let same : words ≡ command_name c ∷ b = cc in no_command c b same
 no_session_either file words no_command never (session f seconds) (is, (given, e, w)) =
     let same : given ≡ words = cc in never seconds (subst (λ x. Wait x seconds) same w)
 

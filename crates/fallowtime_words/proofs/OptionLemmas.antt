@@ -3,13 +3,13 @@ use Rattle.std.proofs.Common.{◌≡◌, ◌≤◌, ◌<◌, ◌↔◌, ℕ, Lis
 use Rattle.std.proofs.Math.Seq.{take-append_seam, drop-append_seam}
 use Rattle.std.proofs.lemmas.List.{take-append-drop, take-map, drop-map, length-map}
 use Rattle.std.specs.List.{IsSplitAt}
-use Rattle.fallowtime_words.specs.Commands.{HasPlaces}
+use Rattle.fallowtime_words.specs.Commands.{arguments, AreWords}
 use Rattle.fallowtime_words.specs.Options.{Lead, AreOptions, Takes}
 use Rattle.fallowtime_words.specs.Reading.{MayFollow}
 use Rattle.fallowtime_words.specs.Words.{HasRest}
 use Rattle.fallowtime_words.specs.declared.command.Command.{Command}
 use Rattle.fallowtime_words.specs.declared.options.Given.{Given}
-use Rattle.fallowtime_words.specs.declared.options.Given.TheVariants.{Canonical, Bytes, Lines, Wait}
+use Rattle.fallowtime_words.specs.declared.options.Given.TheVariants.{Canonical, Bytes, Lines, Many, Wait}
 use Rattle.fallowtime_words.specs.declared.options.Options.{Options}
 
 -- an option begins with two hyphens
@@ -17,6 +17,7 @@ lead_follows : (words : List (List ℕ)) (g : Given) (b : List (List ℕ)) → L
 lead_follows words Canonical b l word more e = let same : word ≡ codes "--canonical" = cc in (codes "canonical", same)
 lead_follows words Bytes b l word more e = let same : word ≡ codes "--bson" = cc in (codes "bson", same)
 lead_follows words Lines b l word more e = let same : word ≡ codes "--json" = cc in (codes "json", same)
+lead_follows words Many b l word more e = let same : word ≡ codes "--many" = cc in (codes "many", same)
 lead_follows words (Wait n) b (t, l, i) word more e = let same : word ≡ codes "--wait" = cc in (codes "wait", same)
 
 pub options_follow : (words : List (List ℕ)) (o : Options) → AreOptions words o → MayFollow words
@@ -25,7 +26,7 @@ options_follow words o (g ∷ gs, (b, l, s), h) word more e = lead_follows words
 
 -- n is the only number of words that can be places
 abbrev pub Only : Command → List (List ℕ) → ℕ → Type 0
-Only command words n = (places given : List (List ℕ)) → words ≡ places ++ given → HasPlaces command places → MayFollow given → length places ≡ n
+Only command words n = (places given : List (List ℕ)) → words ≡ places ++ given → AreWords (arguments command) places → MayFollow given → length places ≡ n
 
 -- so there is one way to cut the words
 pub cut : (words places given : List (List ℕ)) (n : ℕ) → words ≡ places ++ given → length places ≡ n → (n ≤ length words) × (places ≡ take n words) × (given ≡ drop n words)
@@ -81,13 +82,13 @@ not_taken command ws p g n read only split same without places o h =
     without (subst (Takes command) is w.3)
 
 pub read_so : (command : Command) (ws p g : List (String Global)) (n : ℕ) (read : Options) → IsSplitAt ws n p g
-    → (n ≤ length ws → HasPlaces command (take n (map string_bytes ws))) → ((o : Options) → AreOptions (map string_bytes g) o ↔ (Some read ≡ Some o))
+    → (n ≤ length ws → AreWords (arguments command) (take n (map string_bytes ws))) → ((o : Options) → AreOptions (map string_bytes g) o ↔ (Some read ≡ Some o))
     → Takes command read → HasRest command (map string_bytes ws) (map string_bytes p) read
 read_so command ws p g n read split fits same has = (
   map string_bytes g,
   sym (ap (λ x. x ++ map string_bytes g) (seen_front ws p g n split) ∙ (ap (λ x. take n (map string_bytes ws) ++ x) (seen_back ws p g n split)
       ∙ take-append-drop n (map string_bytes ws))),
-  subst (HasPlaces command) (sym (seen_front ws p g n split)) (fits split.0),
+  subst (AreWords (arguments command)) (sym (seen_front ws p g n split)) (fits split.0),
   (same read).1 refl,
   has,
 )

@@ -1,7 +1,19 @@
 -- The program's table of commands.
-use Rattle.std.specs.Prelude.{◌≡◌, ◌⊎◌, ℕ, List, [], ◌∷◌, ◌++◌, length, codes}
+use Rattle.std.specs.Prelude.{◌≡◌, ◌⊎◌, ℕ, List, [], ◌∷◌, ◌++◌, length, codes, if◌then◌else◌, true, false, Option, Some, None}
+use Rattle.std.specs.Str.{bytes_eq}
 use Rattle.fallowtime_words.specs.declared.command.Command.{Command}
-use Rattle.fallowtime_words.specs.declared.command.Command.TheVariants.{Insert, Put, Replace, Get, Set, Unset, Remove, Find, Count, Import, Export, Collections, Backup}
+use Rattle.fallowtime_words.specs.declared.command.Command.TheVariants.{Insert, Put, Replace, Get, Set, Unset, Update, Delete, Remove, Find, Count, Import, Export, Collections, Backup, Index, DropIndex, Version}
+use Rattle.fallowtime_words.specs.declared.table.Allowed.{Allowed}
+use Rattle.fallowtime_words.specs.declared.table.Argument.{Argument}
+use Rattle.fallowtime_words.specs.declared.table.Argument.TheVariants.{Collection, Document, Id, Key, Value, Query, Selection, Update as Change, Options, Documents, IndexPath, File}
+use Rattle.fallowtime_words.specs.declared.table.Effect.{Effect}
+use Rattle.fallowtime_words.specs.declared.table.Effect.TheVariants.{Reads, Changes, Makes}
+use Rattle.fallowtime_words.specs.declared.table.Place.{Place}
+use Rattle.fallowtime_words.specs.declared.table.Place.TheVariants.{Both, CommandLine, Session, Alone}
+
+-- in the order of the help
+abbrev pub commands : List Command
+commands = Insert ∷ Put ∷ Replace ∷ Get ∷ Set ∷ Unset ∷ Update ∷ Delete ∷ Remove ∷ Find ∷ Count ∷ Import ∷ Export ∷ Collections ∷ Backup ∷ Index ∷ DropIndex ∷ Version ∷ []
 
 abbrev pub command_name : Command → List ℕ
 command_name Insert = codes "insert"
@@ -10,6 +22,8 @@ command_name Replace = codes "replace"
 command_name Get = codes "get"
 command_name Set = codes "set"
 command_name Unset = codes "unset"
+command_name Update = codes "update"
+command_name Delete = codes "delete"
 command_name Remove = codes "remove"
 command_name Find = codes "find"
 command_name Count = codes "count"
@@ -17,41 +31,87 @@ command_name Import = codes "import"
 command_name Export = codes "export"
 command_name Collections = codes "collections"
 command_name Backup = codes "backup"
+command_name Index = codes "index"
+command_name DropIndex = codes "drop_index"
+command_name Version = codes "version"
 
--- those that leave FILE as it is
-abbrev pub readers : List Command
-readers = Get ∷ Find ∷ Count ∷ Export ∷ Collections ∷ Backup ∷ []
+-- the first of the commands that has this name
+abbrev pub first_named : List Command → List ℕ → Option Command
+first_named [] name = None
+first_named (c ∷ cs) name = if bytes_eq (command_name c) name then Some c else first_named cs name
 
--- those that make a FILE that isn't there
-abbrev pub makers : List Command
-makers = Insert ∷ Put ∷ Import ∷ []
+unfoldable pub command_of : List ℕ → Option Command
+command_of name = first_named commands name
+
+-- what follows the name
+abbrev pub arguments : Command → List Argument
+arguments Insert = Collection ∷ Document ∷ []
+arguments Put = Collection ∷ Document ∷ []
+arguments Replace = Collection ∷ Document ∷ []
+arguments Get = Collection ∷ Id ∷ []
+arguments Set = Collection ∷ Id ∷ Key ∷ Value ∷ []
+arguments Unset = Collection ∷ Id ∷ Key ∷ []
+arguments Update = Collection ∷ Selection ∷ Change ∷ Options ∷ []
+arguments Delete = Collection ∷ Selection ∷ Options ∷ []
+arguments Remove = Collection ∷ Id ∷ []
+arguments Find = Collection ∷ Query ∷ []
+arguments Count = Collection ∷ Query ∷ []
+arguments Import = Collection ∷ Documents ∷ []
+arguments Export = Collection ∷ []
+arguments Collections = []
+arguments Backup = File ∷ []
+arguments Index = Collection ∷ IndexPath ∷ []
+arguments DropIndex = Collection ∷ IndexPath ∷ []
+arguments Version = []
+
+-- the options beside `--wait`
+abbrev pub allowed : Command → Allowed
+allowed Insert = record { canonical = true; bytes = false; lines = false; many = false }
+allowed Get = record { canonical = true; bytes = true; lines = false; many = false }
+allowed Find = record { canonical = true; bytes = true; lines = false; many = false }
+allowed Import = record { canonical = false; bytes = false; lines = true; many = false }
+allowed Update = record { canonical = false; bytes = false; lines = false; many = true }
+allowed Delete = record { canonical = false; bytes = false; lines = false; many = true }
+allowed _ = record { canonical = false; bytes = false; lines = false; many = false }
+
+-- what becomes of FILE
+abbrev pub effect : Command → Effect
+effect Insert = Makes
+effect Put = Makes
+effect Import = Makes
+effect Replace = Changes
+effect Set = Changes
+effect Unset = Changes
+effect Update = Changes
+effect Delete = Changes
+effect Remove = Changes
+effect _ = Reads
+
+-- where it is a command
+abbrev pub place : Command → Place
+place Backup = CommandLine
+place Index = Session
+place DropIndex = Session
+place Version = Alone
+place _ = Both
 
 -- the word begins with these bytes
 abbrev pub BeginsWith : List ℕ → List ℕ → Type 0
 BeginsWith front word = (rest : List ℕ) × (word ≡ front ++ rest)
 
--- the words after the command begin with the name of a collection, except those of two commands
-abbrev pub HasName : Command → List (List ℕ) → List ℕ → List (List ℕ) → Type 0
-HasName Collections words coll rest = (coll ≡ []) × (rest ≡ words)
-HasName Backup words coll rest = (coll ≡ []) × (rest ≡ words)
-HasName command words coll rest = words ≡ coll ∷ rest
-
 -- no word, or one that doesn't begin with two hyphens
 abbrev pub IsQuery : List (List ℕ) → Type 0
-IsQuery places = (places ≡ []) ⊎ ((query : List ℕ) × (places ≡ query ∷ []) × ¬ BeginsWith (codes "--") query)
+IsQuery words = (words ≡ []) ⊎ ((query : List ℕ) × (words ≡ query ∷ []) × ¬ BeginsWith (codes "--") query)
 
--- the places of a command: how many words there are
-abbrev pub HasPlaces : Command → List (List ℕ) → Type 0
-HasPlaces Insert doc = length doc ≡ 1
-HasPlaces Put doc = length doc ≡ 1
-HasPlaces Replace doc = length doc ≡ 1
-HasPlaces Get id = length id ≡ 1
-HasPlaces Set id_key_value = length id_key_value ≡ 3
-HasPlaces Unset id_key = length id_key ≡ 2
-HasPlaces Remove id = length id ≡ 1
-HasPlaces Find query = IsQuery query
-HasPlaces Count query = IsQuery query
-HasPlaces Import places = places ≡ []
-HasPlaces Export places = places ≡ []
-HasPlaces Collections places = places ≡ []
-HasPlaces Backup path = length path ≡ 1
+-- the words for a last argument: a QUERY may be left out, and neither options nor the documents of `import` are among them
+abbrev pub IsLast : Argument → List (List ℕ) → Type 0
+IsLast Query words = IsQuery words
+IsLast Options words = words ≡ []
+IsLast Documents words = words ≡ []
+IsLast _ words = length words ≡ 1
+
+-- the words for arguments
+abbrev pub AreWords : List Argument → List (List ℕ) → Type 0
+AreWords [] words = words ≡ []
+AreWords (a ∷ []) words = IsLast a words
+AreWords (a ∷ b ∷ more) words = (word : List ℕ) × (rest : List (List ℕ)) × (words ≡ word ∷ rest) × AreWords (b ∷ more) rest

@@ -1,6 +1,6 @@
 -- The words after the program's name, and what they ask for.
 use Rattle.std.specs.Prelude.{◌≡◌, ℕ, List, ◌∷◌, ◌++◌, codes, map, string_bytes, Option}
-use Rattle.fallowtime_words.specs.Commands.{command_name, BeginsWith, HasName, HasPlaces}
+use Rattle.fallowtime_words.specs.Commands.{arguments, command_name, AreWords, BeginsWith}
 use Rattle.fallowtime_words.specs.Options.{AreOptions, OnlyWait, Takes}
 use Rattle.fallowtime_words.specs.declared.command.Command.{Command}
 use Rattle.fallowtime_words.specs.declared.options.Options.{Options}
@@ -9,24 +9,20 @@ use Rattle.fallowtime_words.specs.declared.words.Task.TheVariants as task
 
 -- a command, or a session, over a file
 pub data Asked : Type 0 where
-  line : (file : List ℕ) (command : Command) (coll : List ℕ) (places : List (List ℕ)) (options : Options) → Asked
+  line : (file : List ℕ) (command : Command) (words : List (List ℕ)) (options : Options) → Asked
   session : (file : List ℕ) (seconds : Option ℕ) → Asked
 
 abbrev pub asked_of : Task → Asked
-asked_of (task.Command w) = line w.file.now w.command w.coll.now (map string_bytes w.places.now) w.options
+asked_of (task.Command w) = line w.file.now w.command (map string_bytes w.arguments.now) w.options
 asked_of (task.Session file seconds) = session file.now seconds
 
 -- the file of a store; one that begins with a hyphen is written ./-
 abbrev pub IsFile : List ℕ → Type 0
 IsFile word = ¬ BeginsWith (codes "-") word
 
--- after the name: the places, and then the options
+-- after the command: the words of its arguments, and then the options
 abbrev pub HasRest : Command → List (List ℕ) → List (List ℕ) → Options → Type 0
-HasRest command words places o = (given : List (List ℕ)) × (words ≡ places ++ given) × HasPlaces command places × AreOptions given o × Takes command o
-
--- after the command: the name, the places and the options
-abbrev pub HasAll : Command → List (List ℕ) → List ℕ → List (List ℕ) → Options → Type 0
-HasAll command words coll places o = (rest : List (List ℕ)) × HasName command words coll rest × HasRest command rest places o
+HasRest command words taken o = (given : List (List ℕ)) × (words ≡ taken ++ given) × AreWords (arguments command) taken × AreOptions given o × Takes command o
 
 -- no option, or only this one: for how many seconds a file is waited for
 abbrev pub Wait : List (List ℕ) → Option ℕ → Type 0
@@ -34,5 +30,5 @@ Wait words seconds = (o : Options) × AreOptions words o × OnlyWait o × (o.sec
 
 -- the words ask for this
 abbrev pub IsTask : List (List ℕ) → Asked → Type 0
-IsTask words (line file command coll places o) = IsFile file × ((behind : List (List ℕ)) × (words ≡ file ∷ command_name command ∷ behind) × HasAll command behind coll places o)
+IsTask words (line file command taken o) = IsFile file × ((behind : List (List ℕ)) × (words ≡ file ∷ command_name command ∷ behind) × HasRest command behind taken o)
 IsTask words (session file seconds) = IsFile file × ((given : List (List ℕ)) × (words ≡ file ∷ given) × Wait given seconds)

@@ -1,6 +1,10 @@
 //! The commands of the program.
 
+ghost use Rattle.std.specs.Prelude.{◌≡◌};
+ghost use Rattle.fallowtime_words.specs.Reading.{command_in};
+
 use crate::options::Options;
+use crate::table::{Effect, Place, Signature, TABLE};
 
 /// What the program is to do over a file.
 #[derive(Clone, Copy, Debug, PartialEq, Eq)]
@@ -17,6 +21,12 @@ pub enum Command {
     Set,
     /// `unset COLL ID KEY`: takes a key away, and prints whether it was there.
     Unset,
+    /// `update COLL QUERY UPDATE`: updates the first of the selected documents, or with `--many` all of them, and
+    /// prints how many were selected and changed.
+    Update,
+    /// `delete COLL QUERY`: removes the first of the selected documents, or with `--many` all of them, and prints how
+    /// many.
+    Delete,
     /// `remove COLL ID`: removes a document.
     Remove,
     /// `find COLL [QUERY]`: prints the selected documents.
@@ -31,68 +41,79 @@ pub enum Command {
     Collections,
     /// `backup PATH`: writes a whole copy of the store.
     Backup,
+    /// `index COLL PATH`: makes an index until the session ends.
+    Index,
+    /// `drop_index COLL PATH`: drops an index.
+    DropIndex,
+    /// `version`: prints which version this is. It has no FILE.
+    Version,
+}
+
+/// The command of the first of the rows that has this name.
+fn command_in(rows: &[Signature], name: &str) -> Option<Command>
+    ensures { result ≡ command_in rows.now name.now }
+{
+    for row in rows {
+        if row.name == name {
+            return Some(row.command);
+        }
+    }
+    None
 }
 
 impl Command {
-    ghost use Rattle.std.specs.Prelude.{◌≡◌, ◌↔◌, IsTrue, Some, Contains};
-    ghost use Rattle.fallowtime_words.specs.Commands.{command_name, readers, makers};
+    ghost use Rattle.std.specs.Prelude.{◌≡◌, ◌↔◌, IsTrue, Some};
+    ghost use Rattle.fallowtime_words.specs.Commands.{allowed, arguments, command_name, command_of, effect, place};
     ghost use Rattle.fallowtime_words.specs.Options.{Takes};
     ghost use Rattle.fallowtime_words.specs.declared.command.Command.{Command};
+    ghost use Rattle.fallowtime_words.specs.declared.table.Effect.TheVariants.{Reads, Makes};
+
+    /// The row of the command.
+    pub fn signature(self) -> &'static Signature
+        ensures command { result.now.command ≡ self }
+        ensures name { result.now.name.now ≡ command_name self }
+        ensures arguments { result.now.arguments.now ≡ arguments self }
+        ensures options { result.now.options ≡ allowed self }
+        ensures effect { result.now.effect ≡ effect self }
+        ensures place { result.now.place ≡ place self }
+    {
+        &TABLE[self as usize]
+    }
 
     /// The command that a word names.
     pub fn from_word(word: &str) -> Option<Command>
-        ensures { (command : Command) → (command_name command ≡ word.now) ↔ (result ≡ Some command) }
+        ensures named { (command : Command) → (command_name command ≡ word.now) ↔ (result ≡ Some command) }
+        ensures is { result ≡ command_of word.now }
     {
-        match word {
-            "insert" => Some(Command::Insert),
-            "put" => Some(Command::Put),
-            "replace" => Some(Command::Replace),
-            "get" => Some(Command::Get),
-            "set" => Some(Command::Set),
-            "unset" => Some(Command::Unset),
-            "remove" => Some(Command::Remove),
-            "find" => Some(Command::Find),
-            "count" => Some(Command::Count),
-            "import" => Some(Command::Import),
-            "export" => Some(Command::Export),
-            "collections" => Some(Command::Collections),
-            "backup" => Some(Command::Backup),
-            _ => None,
-        }
+        command_in(&TABLE, word)
     }
 
     /// Whether the command leaves FILE as it is.
     pub fn only_reads(self) -> bool
-        ensures { IsTrue result ↔ Contains readers self }
+        ensures { IsTrue result ↔ (effect self ≡ Reads) }
     {
-        match self {
-            Command::Get | Command::Find | Command::Count => true,
-            Command::Export | Command::Collections | Command::Backup => true,
-            _ => false,
-        }
+        self.signature().effect == Effect::Reads
     }
 
     /// Whether the command makes a FILE that isn't there.
     pub fn makes_file(self) -> bool
-        ensures { IsTrue result ↔ Contains makers self }
+        ensures { IsTrue result ↔ (effect self ≡ Makes) }
     {
-        match self {
-            Command::Insert | Command::Put | Command::Import => true,
-            _ => false,
-        }
+        self.signature().effect == Effect::Makes
     }
 
-    /// Whether the command has these options.
+    /// Whether the command has these options on a command line.
     pub(crate) fn takes(self, options: Options) -> bool
         ensures { IsTrue result ↔ Takes self options }
     {
-        match self {
-            Command::Insert => !options.bytes && !options.lines,
-            Command::Get | Command::Find => {
-                !options.lines && !(options.canonical && options.bytes)
-            }
-            Command::Import => !options.canonical && !options.bytes,
-            _ => options.only_wait(),
-        }
+        let row = self.signature();
+        let allowed = row.options;
+        row.place != Place::Session
+            && row.place != Place::Alone
+            && (!options.canonical || allowed.canonical)
+            && (!options.bytes || allowed.bytes)
+            && (!options.lines || allowed.lines)
+            && (!options.many || allowed.many)
+            && !(options.canonical && options.bytes)
     }
 }

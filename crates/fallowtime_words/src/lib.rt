@@ -2,14 +2,13 @@
 //! for.
 #![tactic(auto)]
 
+mod arguments;
 mod command;
 mod options;
-mod places;
+mod table;
 mod words;
 
 pub use command::Command;
 pub use options::Options;
-pub use words::{Task, Words, read_words};
-
-#[cfg(test)]
-mod tests;
+pub use table::{Allowed, Argument, Effect, Place, Signature, TABLE};
+pub use words::{Task, Words, is_session, read_words};

@@ -14,6 +14,8 @@ pub struct Options {
     pub bytes: bool,
     /// `--json`: documents are read from lines of Extended JSON; else from BSON.
     pub lines: bool,
+    /// `--many`: all selected documents are updated; else the first of them.
+    pub many: bool,
     /// `--wait SECONDS`: how many seconds to wait for a file that another process has, if that is given.
     pub seconds: Option<u64>,
 }
@@ -24,6 +26,7 @@ enum Given {
     Canonical,
     Bytes,
     Lines,
+    Many,
     Wait(u64),
 }
 
@@ -59,6 +62,7 @@ fn split_option(words: &[String]) -> Option<(Given, &[String])>
         "--canonical" => Some((Given::Canonical, behind)),
         "--bson" => Some((Given::Bytes, behind)),
         "--json" => Some((Given::Lines, behind)),
+        "--many" => Some((Given::Many, behind)),
         "--wait" => split_wait(behind),
         _ => None,
     }
@@ -74,6 +78,7 @@ impl Options {
         canonical: false,
         bytes: false,
         lines: false,
+        many: false,
         seconds: None,
     };
 
@@ -81,7 +86,7 @@ impl Options {
     pub(crate) fn only_wait(self) -> bool
         ensures { IsTrue result ↔ OnlyWait self }
     {
-        !self.canonical && !self.bytes && !self.lines
+        !self.canonical && !self.bytes && !self.lines && !self.many
     }
 
     /// These options and one more; none if it is among them.
@@ -101,6 +106,7 @@ impl Options {
                 lines: true,
                 ..self
             }),
+            Given::Many if !self.many => Some(Options { many: true, ..self }),
             Given::Wait(seconds) if self.seconds.is_none() => Some(Options {
                 seconds: Some(seconds),
                 ..self

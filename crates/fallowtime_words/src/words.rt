@@ -1,14 +1,14 @@
 //! The words that the program is started with.
 
 ghost use Rattle.std.specs.Prelude.{◌≡◌, ◌↔◌, ◌∷◌, ℕ, List, Option, Some, IsTrue, MatchOption, map, option_map, string_bytes};
-ghost use Rattle.fallowtime_words.specs.Commands.{command_name, HasName};
-ghost use Rattle.fallowtime_words.specs.Words.{Asked, HasAll, IsFile, IsTask, Wait, asked_of};
+ghost use Rattle.fallowtime_words.specs.Commands.{command_name};
+ghost use Rattle.fallowtime_words.specs.Words.{Asked, session, HasRest, IsFile, IsTask, Wait, asked_of};
 ghost use Rattle.fallowtime_words.specs.declared.command.Command.{Command};
 ghost use Rattle.fallowtime_words.specs.declared.options.Options.{Options};
 
+use crate::arguments::read_rest;
 use crate::command::Command;
 use crate::options::{Options, read_options};
-use crate::places::read_rest;
 
 /// A line of the program's table.
 #[derive(Clone, Copy, Debug)]
@@ -17,11 +17,9 @@ pub struct Words<'a> {
     pub file: &'a str,
     /// The command.
     pub command: Command,
-    /// The name of the collection; empty for `collections` and `backup`.
-    pub coll: &'a str,
-    /// The words after the name that are no options: DOC, ID KEY VALUE, QUERY, PATH. Each is taken by its place, also
-    /// if it begins with a hyphen, except a QUERY.
-    pub places: &'a [String],
+    /// The words after the command that are no options. Each is taken by its position, also if it begins with a hyphen,
+    /// except a QUERY.
+    pub arguments: &'a [String],
     /// The options.
     pub options: Options,
 }
@@ -58,33 +56,18 @@ fn split_command(words: &[String]) -> Option<(Command, &[String])>
     Some((command, behind))
 }
 
-/// The name of the collection, empty for a command that has none, and the words after it.
-fn split_name(command: Command, words: &[String]) -> Option<(&str, &[String])>
-    ensures { MatchOption result
-        ((coll : List ℕ) (rest : List (List ℕ)) → HasName command (map string_bytes words.now) coll rest → ⊥)
-        (λ r. HasName command (map string_bytes words.now) r.0.now (map string_bytes r.1.now)) }
-{
-    if command == Command::Collections || command == Command::Backup {
-        return Some(("", words));
-    }
-    let (name, rest) = words.split_first()?;
-    Some((name.as_str(), rest))
-}
-
 /// The line of a command over a file, by the words after the command.
 fn read_line<'a>(file: &'a str, command: Command, words: &'a [String]) -> Option<Words<'a>>
     ensures { MatchOption result
-        ((coll : List ℕ) (places : List (List ℕ)) (options : Options) → HasAll command (map string_bytes words.now) coll places options → ⊥)
+        ((taken : List (List ℕ)) (options : Options) → HasRest command (map string_bytes words.now) taken options → ⊥)
         (λ w. (w.file.now ≡ file.now) × (w.command ≡ command)
-        × HasAll command (map string_bytes words.now) w.coll.now (map string_bytes w.places.now) w.options) }
+        × HasRest command (map string_bytes words.now) (map string_bytes w.arguments.now) w.options) }
 {
-    let (coll, rest) = split_name(command, words)?;
-    let (places, options) = read_rest(command, rest)?;
+    let (arguments, options) = read_rest(command, words)?;
     Some(Words {
         file,
         command,
-        coll,
-        places,
+        arguments,
         options,
     })
 }
@@ -132,4 +115,16 @@ pub fn read_words(words: &[String]) -> Option<Task<'_>>
         return None;
     }
     read_behind(file.as_str(), behind)
+}
+
+/// Whether the words ask for a session, whose answers are written at once.
+pub fn is_session(words: &[String]) -> bool
+    ensures { IsTrue result ↔ ((file : List ℕ) × (seconds : Option ℕ)
+        × IsTask (map string_bytes words.now) (session file seconds)) }
+{
+    match read_words(words) {
+        Some(Task::Session { .. }) => true,
+        Some(Task::Command(_)) => false,
+        None => false,
+    }
 }

@@ -3,9 +3,6 @@
 
 ghost use Rattle.std.specs.Prelude.{◌≡◌, ◌≤◌, ◌↔◌, ◌⊎◌, false, length, IfNone, IfOk, IfSome, IsTrue, OnErr};
 ghost use Rattle.std.specs.Bool.{OnFalse};
-ghost use Rattle.std.specs.Cmp.Lexicographic.{slice_cmp};
-ghost use Rattle.std.specs.List.Sorted.{IsPermutation, IsSortedByKey};
-ghost use Rattle.std.specs.Ordering.{nat_cmp};
 ghost use Rattle.key_order.specs.Order.{Ascends, GoesAt, HasKey, IsPutInOrder};
 
 use std::alloc::AllocError;
@@ -56,12 +53,4 @@ pub fn put<'a, T: Copy>(
         Ok(()) => Ok(true),
         Err(_) => Err(AllocError),
     }
-}
-
-/// Puts pairs in the order of their keys.
-pub fn sort<'a, T: Copy>(pairs: &mut Vec<(&'a str, T)>)
-    ensures permutation { IsPermutation pairs.old.items pairs.new.items }
-    ensures sorted { IsSortedByKey (λ p. p.0.now) (slice_cmp nat_cmp) pairs.new.items }
-{
-    pairs.sort_unstable_by(|a, b| a.0.cmp(b.0));
 }

@@ -109,6 +109,3 @@ pub fn shown(alloc: Global, text: &str) -> Result<String, AllocError>
         String::from_str(alloc, text)
     }
 }
-
-#[cfg(test)]
-mod tests;

@@ -1,5 +1,5 @@
 -- No refusal of a body is one of a device.
-use Rattle.std.proofs.Common.{◌≡◌, inl, inr, Bool, true, false, cond, Option, Some, None, List, ℕ, Result, Ok, Err, IfErr, sym, subst}
+use Rattle.std.proofs.Common.{◌≡◌, inl, inr, Bool, true, false, cond, Option, Some, None, ℕ, Result, Ok, Err, IfErr, sym, subst}
 use Rattle.std.specs.declared.alloc.Global.{Global}
 use Rattle.std.specs.Prelude.{Vec}
 use Rattle.serde_json.specs.Data.{Data}
@@ -12,7 +12,7 @@ use Rattle.store_model.specs.Reading.{IsUnkeepable}
 use Rattle.store_model.specs.State.{json_of, or_finite}
 use Rattle.store_model.specs.declared.error.ErrorKind.{ErrorKind}
 use Rattle.store_model.specs.declared.error.ErrorKind.TheVariants as kind
-use Rattle.store_documents.specs.Answers.{AnswersJson, AnswersText, IsOfStore}
+use Rattle.store_documents.specs.Answers.{AnswersJson, IsOfStore}
 use Rattle.store_documents.specs.Bodies.{AnswersChanged, IsUnwritten}
 
 is_one : (x k : ErrorKind) → k ≡ x → IsOfStore x → IsOfStore k
@@ -33,11 +33,6 @@ pub of_json : (m : Mode) (d : Members) (r : Result Json ErrorKind) → AnswersJs
 of_json m d (Ok j) h = tt
 of_json m d (Err k) (inl h) = tree_kind m d k h
 of_json m d (Err k) (inr h) = is_one kind.Memory k h tt
-
-pub of_text : (m : Mode) (d : Members) (t : List ℕ) (r : Result (Unit {0}) ErrorKind) → AnswersText (json_of m d) t r → IfErr r IsOfStore
-of_text m d t (Ok x) h = tt
-of_text m d t (Err k) (inl h) = tree_kind m d k h
-of_text m d t (Err k) (inr h) = is_one kind.Memory k h tt
 
 pub of_unwritten : (d : Members) (k : ErrorKind) → IsUnwritten d k → IsOfStore k
 of_unwritten d k (inl h) = is_one kind.Nul k h.0 tt

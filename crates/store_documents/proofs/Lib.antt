@@ -5,6 +5,7 @@ pub mod RowLemmas
 mod StoredLemmas
 mod TreeLemmas
 mod OrderLemmas
+mod PrintedLemmas
 pub mod KeyLemmas
 pub mod TakenLemmas
 pub mod GateLemmas

@@ -18,7 +18,6 @@ use Rattle.bson_meaning.specs.JsonReserved.{has_reserved, reserved_in, reserved_
 use Rattle.bson_model.specs.JsonKeys.{is_reserved, reserved_of}
 use Rattle.bson_model.specs.JsonWrite.{holds_finite, items_hold_finite, members_hold_finite, scalar_is_finite, write}
 use Rattle.bson_model.specs.declared.extjson.ser.Mode.{Mode}
-use Rattle.bson_model.specs.declared.extjson.ser.Mode.TheVariants.{Canonical}
 use Rattle.bson_model.proofs.FiniteLemmas.{is_written}
 use Rattle.store_model.specs.State.{IsKept, or_finite, json_of}
 use Rattle.store_model.specs.declared.error.ErrorKind.TheVariants.{ReservedKey}
@@ -136,11 +135,3 @@ pub told_tree : (b : List ℕ) (d : Members) → IsKept d → b ≡ encode d →
 told_tree b d kept is told m =
     let seen = told.0 d (spelled b d kept is) in
     subst (λ (r : Bool). HasTree (if r then Err ReservedKey else or_finite (write m (document d)))) (sym seen.0) (there (write m (document d)) (is_written m (document d) ∙ ap not seen.1))
-
--- a document that has a tree has no reserved key, and its tree is the written one
-pub its_tree : (d : Members) (j : Data) → HasTree (json_of Canonical d) → write Canonical (document d) ≡ Some j → json_of Canonical d ≡ Ok j
-its_tree d j there is = by (has_reserved d) there
-  where
-    by : (r : Bool) → HasTree (if r then Err ReservedKey else or_finite (write Canonical (document d))) → (if r then Err ReservedKey else or_finite (write Canonical (document d))) ≡ Ok j
-    by false h = ap or_finite is
-    by true h = let bad = h.1 in absurd cc

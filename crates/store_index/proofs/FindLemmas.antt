@@ -15,9 +15,7 @@ use Rattle.store_model.specs.State.{id_key}
 use Rattle.store_model.specs.Table.{only_id}
 use Rattle.store_index.specs.Find.{FindsIn, FindsOf, FindEach, IsAsBefore, IsOn, HasOn, MissEach, RenewEach, kinds_of}
 use Rattle.store_index.specs.Keys.{KeyAt, value_key}
-use Rattle.store_index.specs.Under.{HasPlace}
 use Rattle.store_index.specs.declared.index.Index.{Index}
-use Rattle.store_index.specs.declared.places.Places.{Places}
 
 one_of : (o : Option Value) (a b : List ℕ) → IsSomeAnd o (λ v. a ≡ value_key v) → IsSomeAnd o (λ v. b ≡ value_key v) → a ≡ b
 one_of None a b h k = absurd h
@@ -33,9 +31,6 @@ none_of (Some v) a e h = absurd (cc)
 
 pub no_key : (d : Members) (p : Path) (a : List ℕ) → KeyAt d p None → KeyAt d p (Some a) → ⊥
 no_key d p a h k = none_of (at (document d) p) a h k
-
-pub under_its_key : (ps : Places) (d : Members) (p : Path) (a b : List ℕ) (place : ℤ) → KeyAt d p (Some a) → HasPlace ps a place → KeyAt d p (Some b) → HasPlace ps b place
-under_its_key ps d p a b place h there k = subst (λ x. HasPlace ps x place) (one_key d p a b h k) there
 
 -- ---- several indexes
 
@@ -113,3 +108,7 @@ kinds_first list rest all new after ix jx split put same h = ap (λ xs. kinds_of
 
 pub kinds_all : (list new left : List Index) → left ≡ [] → kinds_of (new ++ left) ≡ kinds_of list → kinds_of new ≡ kinds_of list
 kinds_all list new left none h = ap kinds_of (sym (append-nil new)) ∙ sym (ap (λ xs. kinds_of (new ++ xs)) none) ∙ h
+
+pub find_of : (ix : Index) (p : ℤ) (b : List ℕ) (r : Result (Unit {0}) AllocError) → OnOk r (FindsIn ix p b) → (c : List ℕ) → OnOk r (FindsOf ix c p b)
+find_of ix p b (Ok x) h c = λ _. h
+find_of ix p b (Err x) h c = tt

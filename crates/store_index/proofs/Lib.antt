@@ -4,5 +4,6 @@ pub mod MovedLemmas
 pub mod PathLemmas
 pub mod KeyLemmas
 pub mod FindLemmas
+pub mod MarkLemmas
 pub mod ServingLemmas
 pub mod RemoveLemmas

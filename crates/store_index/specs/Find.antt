@@ -1,5 +1,5 @@
 -- Which documents an index finds.
-use Rattle.std.specs.Prelude.{◌≡◌, ◌⊎◌, ◌∷◌, [], ℕ, ℤ, List, map, Some, String, Vec, string_bytes}
+use Rattle.std.specs.Prelude.{◌≡◌, ◌⊎◌, ◌∷◌, [], ℕ, ℤ, List, map, IsTrue, String, Vec, string_bytes}
 use Rattle.std.specs.List.{AllByRecursion}
 use Rattle.std.specs.declared.alloc.Global.{Global}
 use Rattle.bson_base.specs.Value.{Members}
@@ -7,7 +7,8 @@ use Rattle.bson_bytes.specs.Encode.{encode}
 use Rattle.store_filter.specs.Filters.{path_of}
 use Rattle.store_model.specs.Filter.{Path}
 use Rattle.store_model.specs.State.{IsKept}
-use Rattle.store_index.specs.Keys.{KeyAt}
+use Rattle.store_index.specs.Lists.{is_among}
+use Rattle.store_index.specs.Marks.{HasMark, Mark, under, wide}
 use Rattle.store_index.specs.Under.{HasPlace}
 use Rattle.store_index.specs.declared.index.Index.{Index}
 use Rattle.store_index.specs.declared.indexes.Indexes.{Indexes}
@@ -27,9 +28,14 @@ HasNone ixs = ixs.list.items ≡ []
 abbrev pub AreSame : Indexes → Indexes → Type 0
 AreSame old new = new.list.items ≡ old.list.items
 
--- the place of the document is under the key of the value at the path, if one is there
+-- the index has the place under a mark: under a key, or in its list of wide documents
+abbrev pub HasUnder : Index → Mark → ℤ → Type 0
+HasUnder ix (under k) place = HasPlace ix.places k.items place
+HasUnder ix wide place = IsTrue (is_among place ix.wide.places.items)
+
+-- the place of the document is under each mark that the document has
 abbrev pub FindsIn : Index → ℤ → List ℕ → Type 0
-FindsIn ix place body = (d : Members) → IsKept d → body ≡ encode d → (k : Vec ℕ Global) → KeyAt d (path_of ix.path.items) (Some k.items) → HasPlace ix.places k.items place
+FindsIn ix place body = (d : Members) → IsKept d → body ≡ encode d → (m : Mark) → HasMark d (path_of ix.path.items) m → HasUnder ix m place
 
 -- the index finds the document, if it is one of the collection
 abbrev pub FindsOf : Index → List ℕ → ℤ → List ℕ → Type 0
@@ -42,9 +48,9 @@ FindEach ixs coll place body = AllByRecursion (λ (ix : Index). FindsOf ix coll 
 abbrev pub Finds : Indexes → List ℕ → ℤ → List ℕ → Type 0
 Finds ixs coll place body = FindEach ixs.list.items coll place body
 
--- the place of no document of this body is under the key of the value at the path
+-- the place of no document of this body is under a mark that the document has
 abbrev pub MissesIn : Index → ℤ → List ℕ → Type 0
-MissesIn ix place body = (d : Members) → IsKept d → body ≡ encode d → (k : Vec ℕ Global) → KeyAt d (path_of ix.path.items) (Some k.items) → HasPlace ix.places k.items place → ⊥
+MissesIn ix place body = (d : Members) → IsKept d → body ≡ encode d → (m : Mark) → HasMark d (path_of ix.path.items) m → HasUnder ix m place → ⊥
 
 -- each index misses it
 abbrev pub MissEach : List Index → ℤ → List ℕ → Type 0
@@ -53,9 +59,9 @@ MissEach ixs place body = AllByRecursion (λ (ix : Index). MissesIn ix place bod
 abbrev pub Misses : Indexes → ℤ → List ℕ → Type 0
 Misses ixs place body = MissEach ixs.list.items place body
 
--- the place is under the key of an old body only if that is the key of the new one, too
+-- the place is under a mark of an old body only if that is a mark of the new one, too
 abbrev pub RenewsIn : Index → ℤ → List ℕ → List ℕ → Type 0
-RenewsIn ix place old body = (d e : Members) → IsKept d → IsKept e → old ≡ encode d → body ≡ encode e → (k : Vec ℕ Global) → KeyAt d (path_of ix.path.items) (Some k.items) → HasPlace ix.places k.items place → (KeyAt e (path_of ix.path.items) (Some k.items) → ⊥) → ⊥
+RenewsIn ix place old body = (d e : Members) → IsKept d → IsKept e → old ≡ encode d → body ≡ encode e → (m : Mark) → HasMark d (path_of ix.path.items) m → HasUnder ix m place → (HasMark e (path_of ix.path.items) m → ⊥) → ⊥
 
 -- the same of each index
 abbrev pub RenewEach : List Index → ℤ → List ℕ → List ℕ → Type 0

@@ -18,6 +18,10 @@ HoldsAll ix f places = (place : ℤ) (body : List ℕ) (d : Members) → FindsIn
 abbrev pub Covers : Indexes → List ℕ → Filter → List ℤ → Type 0
 Covers ixs coll f places = (place : ℤ) (body : List ℕ) (d : Members) → Finds ixs coll place body → IsKept d → body ≡ encode d → Selects f (document d) → IsTrue (is_among place places)
 
--- the places are those by an index of the collection, if there are any
+-- if there are places, they ascend, and are all of these
+abbrev pub IsServed : Index → Filter → Option (Vec ℤ Global) → Type 0
+IsServed ix f o = IfSome o (λ v. Ascends v.items × HoldsAll ix f v.items)
+
+-- they are so by an index of the collection
 abbrev pub IsBy : Index → List ℕ → Filter → Option (Vec ℤ Global) → Type 0
-IsBy ix coll f o = (string_bytes ix.coll ≡ coll) × IfSome o (λ v. Ascends v.items × HoldsAll ix f v.items)
+IsBy ix coll f o = (string_bytes ix.coll ≡ coll) × IsServed ix f o

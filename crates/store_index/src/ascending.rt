@@ -14,6 +14,15 @@ pub struct Ascending {
 }
 
 impl Ascending {
+    /// No places.
+    pub fn new(alloc: Global) -> Ascending
+        ensures { result.places.items ≡ [] }
+    {
+        Ascending {
+            places: Vec::new(alloc),
+        }
+    }
+
     /// Two places. There is no room for more.
     pub fn two(alloc: Global, a: i64, b: i64) -> Result<Ascending, AllocError>
         ensures there { IfOk result (λ l. IsTrue (is_among a l.places.items)

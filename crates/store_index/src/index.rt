@@ -1,19 +1,96 @@
 //! An index of a collection on a path.
 
-ghost use Rattle.std.specs.Prelude.{◌≡◌, ◌≢◌, ◌↔◌, ℕ, ℤ, List, IsTrue, OnOk};
+ghost use Rattle.std.specs.Prelude.{◌≡◌, ◌≢◌, ◌↔◌, ℕ, ℤ, List, Vec, IsSomeAnd, IsTrue, OnOk};
+ghost use Rattle.std.specs.declared.alloc.Global.{Global as AnyGlobal};
 ghost use Rattle.store_filter.specs.Filters.{path_of};
-ghost use Rattle.store_index.specs.Find.{FindsIn, FindsOf, IsAsBefore, IsOf, IsOn, MissesIn, RenewsIn, coll_of, keys_of};
+ghost use Rattle.store_index.specs.Find.{FindsIn, FindsOf, HasUnder, IsAsBefore, IsOf, IsOn, MissesIn, RenewsIn, coll_of, keys_of};
+ghost use Rattle.store_index.specs.Lists.{is_among};
+ghost use Rattle.store_index.specs.Marks.{IsOneOf, Mark};
+ghost use Rattle.store_index.specs.Under.{HasPlace};
 
-use crate::keys::{is_same_path, key_at};
+use crate::ascending::Ascending;
+use crate::keys::is_same_path;
+use crate::marks::{Marks, marks_on};
 use crate::places::Places;
 use std::alloc::{AllocError, Global};
 
-/// The places of a collection's documents by the meaning of the value at a path.
+/// The places of a collection's documents by the meaning of the value at a path, and of those in which the way along the
+/// path meets an array or a decimal: such a value can be equal to those of other keys.
 #[derive(Drop)]
 pub struct Index {
     pub(crate) coll: String,
     pub(crate) path: Vec<String>,
     pub(crate) places: Places,
+    pub(crate) wide: Ascending,
+}
+
+/// Puts a place under a key, if there is one.
+fn put_key(places: &mut Places, key: Option<Vec<u8>>, place: i64) -> Result<(), AllocError>
+    ensures there { (k : Vec ℕ AnyGlobal) → IsSomeAnd key (λ own. own.items ≡ k.items)
+        → OnOk result (HasPlace places.new k.items place) }
+    ensures kept { (k : Vec ℕ AnyGlobal) (p : ℤ) → HasPlace places.old k.items p
+        → OnOk result (HasPlace places.new k.items p) }
+    ensures others { (k : Vec ℕ AnyGlobal) (p : ℤ)
+        → (IsSomeAnd key (λ own. own.items ≡ k.items) → ⊥)
+        → OnOk result (HasPlace places.new k.items p → HasPlace places.old k.items p) }
+    ensures only { (k : Vec ℕ AnyGlobal) (p : ℤ) → p ≢ place
+        → OnOk result (HasPlace places.new k.items p → HasPlace places.old k.items p) }
+{
+    match key {
+        None => Ok(()),
+        Some(key) => {
+            places.put(key, place)?;
+            Ok(())
+        }
+    }
+}
+
+/// Takes a place from under a key, if there is one.
+fn take_key(places: &mut Places, key: Option<Vec<u8>>, place: i64) -> Result<(), AllocError>
+    ensures gone { (k : Vec ℕ AnyGlobal) → IsSomeAnd key (λ own. own.items ≡ k.items)
+        → OnOk result (HasPlace places.new k.items place → ⊥) }
+    ensures kept { (k : Vec ℕ AnyGlobal) (p : ℤ) → p ≢ place → HasPlace places.old k.items p
+        → OnOk result (HasPlace places.new k.items p) }
+    ensures only { (k : Vec ℕ AnyGlobal) (p : ℤ) → OnOk result (HasPlace places.new k.items p
+        → HasPlace places.old k.items p) }
+{
+    match key {
+        None => Ok(()),
+        Some(key) => {
+            places.take(key, place)?;
+            Ok(())
+        }
+    }
+}
+
+/// Puts a place among those of wide documents, if this one is wide.
+fn put_wide(list: &mut Ascending, wide: bool, place: i64) -> Result<(), AllocError>
+    ensures there { IsTrue wide → OnOk result (IsTrue (is_among place list.new.places.items)) }
+    ensures kept { (p : ℤ) → IsTrue (is_among p list.old.places.items)
+        → OnOk result (IsTrue (is_among p list.new.places.items)) }
+    ensures others { (IsTrue wide → ⊥) → (p : ℤ) → IsTrue (is_among p list.new.places.items)
+        → IsTrue (is_among p list.old.places.items) }
+    ensures only { (p : ℤ) → p ≢ place → IsTrue (is_among p list.new.places.items)
+        → IsTrue (is_among p list.old.places.items) }
+{
+    if !wide {
+        return Ok(());
+    }
+    list.put(place)?;
+    Ok(())
+}
+
+/// Takes a place from those of wide documents, if this one was wide.
+fn take_wide(list: &mut Ascending, wide: bool, place: i64)
+    ensures gone { IsTrue wide → IsTrue (is_among place list.new.places.items) → ⊥ }
+    ensures kept { (p : ℤ) → p ≢ place → IsTrue (is_among p list.old.places.items)
+        → IsTrue (is_among p list.new.places.items) }
+    ensures only { (p : ℤ) → IsTrue (is_among p list.new.places.items)
+        → IsTrue (is_among p list.old.places.items) }
+{
+    if wide {
+        list.take(place);
+    }
 }
 
 impl Index {
@@ -27,7 +104,40 @@ impl Index {
             coll,
             path,
             places: Places::new(alloc),
+            wide: Ascending::new(alloc),
         }
+    }
+
+    /// Puts a place under marks. A refusal may leave less than was there.
+    fn put(&mut self, marks: Marks, place: i64) -> Result<(), AllocError>
+        ensures there { (m : Mark) → IsOneOf marks m → OnOk result (HasUnder self.new m place) }
+        ensures kept { (m : Mark) (p : ℤ) → HasUnder self.old m p
+            → OnOk result (HasUnder self.new m p) }
+        ensures others { (m : Mark) (p : ℤ) → (IsOneOf marks m → ⊥)
+            → OnOk result (HasUnder self.new m p → HasUnder self.old m p) }
+        ensures only { (m : Mark) (p : ℤ) → p ≢ place
+            → OnOk result (HasUnder self.new m p → HasUnder self.old m p) }
+        ensures same { IsAsBefore self.old self.new }
+    {
+        let Marks { key, wide } = marks;
+        put_wide(&mut self.wide, wide, place)?;
+        put_key(&mut self.places, key, place)?;
+        Ok(())
+    }
+
+    /// Takes a place from under marks. A refusal may leave less than was there.
+    fn take(&mut self, marks: Marks, place: i64) -> Result<(), AllocError>
+        ensures gone { (m : Mark) → IsOneOf marks m → OnOk result (HasUnder self.new m place → ⊥) }
+        ensures kept { (m : Mark) (p : ℤ) → p ≢ place → HasUnder self.old m p
+            → OnOk result (HasUnder self.new m p) }
+        ensures only { (m : Mark) (p : ℤ) → OnOk result (HasUnder self.new m p
+            → HasUnder self.old m p) }
+        ensures same { IsAsBefore self.old self.new }
+    {
+        let Marks { key, wide } = marks;
+        take_wide(&mut self.wide, wide, place);
+        take_key(&mut self.places, key, place)?;
+        Ok(())
     }
 
     /// Notes a document, which it finds from now on. A refusal may leave less than it found, so it is to be dropped.
@@ -41,13 +151,9 @@ impl Index {
             → OnOk result (MissesIn self.new p b) }
         ensures same { IsAsBefore self.old self.new }
     {
-        match key_at(alloc, body, self.path.as_slice())? {
-            None => Ok(()),
-            Some(key) => {
-                self.places.put(key, place)?;
-                Ok(())
-            }
-        }
+        let marks = marks_on(alloc, body, self.path.as_slice())?;
+        self.put(marks, place)?;
+        Ok(())
     }
 
     /// Notes a document, if it is one of its collection.
@@ -70,6 +176,20 @@ impl Index {
         if !self.is_of(coll) {
             return Ok(());
         }
+        self.note(alloc, place, body)
+    }
+
+    /// Notes a document, whatever its collection.
+    pub fn note_any(&mut self, alloc: Global, place: i64, body: &[u8]) -> Result<(), AllocError>
+        ensures noted { (c : List ℕ) → OnOk result (FindsOf self.new c place body.now) }
+        ensures kept { (c : List ℕ) (p : ℤ) (b : List ℕ) → FindsOf self.old c p b
+            → OnOk result (FindsOf self.new c p b) }
+        ensures renewed { (p : ℤ) (b : List ℕ) → MissesIn self.old p b
+            → OnOk result (RenewsIn self.new p b body.now) }
+        ensures others { (p : ℤ) (b : List ℕ) → p ≢ place → MissesIn self.old p b
+            → OnOk result (MissesIn self.new p b) }
+        ensures same { IsAsBefore self.old self.new }
+    {
         self.note(alloc, place, body)
     }
 
@@ -97,12 +217,8 @@ impl Index {
             → OnOk result (MissesIn self.new p b) }
         ensures same { IsAsBefore self.old self.new }
     {
-        match key_at(alloc, body, self.path.as_slice())? {
-            None => Ok(()),
-            Some(key) => {
-                self.places.take(key, place)?;
-                Ok(())
-            }
-        }
+        let marks = marks_on(alloc, body, self.path.as_slice())?;
+        self.take(marks, place)?;
+        Ok(())
     }
 }

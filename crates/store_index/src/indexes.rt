@@ -8,7 +8,7 @@ ghost use Rattle.store_index.specs.Lists.{Ascends};
 ghost use Rattle.store_index.specs.Serving.{Covers, IsBy};
 
 use crate::index::Index;
-use crate::serving::places_by;
+use crate::serving::{fewer, places_by};
 use std::alloc::{AllocError, Global};
 use store_filter::Filter;
 
@@ -39,6 +39,30 @@ fn noting(
     let mut new = Vec::with_capacity(alloc, list.len())?;
     for mut index in list {
         index.note_in(alloc, coll, place, body)?;
+        new.push(index)?;
+    }
+    Ok(new)
+}
+
+/// The indexes, after all have noted a document, whatever its collection.
+fn noting_all(
+    alloc: Global,
+    list: Vec<Index>,
+    place: i64,
+    body: &[u8],
+) -> Result<Vec<Index>, AllocError>
+    ensures noted { (c : List ℕ) → IfOk result (λ new. FindEach new.items c place body.now) }
+    ensures kept { (c : List ℕ) (p : ℤ) (b : List ℕ) → FindEach list.items c p b
+        → IfOk result (λ new. FindEach new.items c p b) }
+    ensures renewed { (p : ℤ) (b : List ℕ) → MissEach list.items p b
+        → IfOk result (λ new. RenewEach new.items p b body.now) }
+    ensures others { (p : ℤ) (b : List ℕ) → p ≢ place → MissEach list.items p b
+        → IfOk result (λ new. MissEach new.items p b) }
+    ensures same { IfOk result (λ new. kinds_of new.items ≡ kinds_of list.items) }
+{
+    let mut new = Vec::with_capacity(alloc, list.len())?;
+    for mut index in list {
+        index.note_any(alloc, place, body)?;
         new.push(index)?;
     }
     Ok(new)
@@ -205,6 +229,47 @@ impl Indexes {
         self.note(coll, place, body)
     }
 
+    /// Notes another body for the document at a place, whatever its collection. A refusal of memory drops all.
+    ///
+    /// An index of another collection has the place then as well, though the document is none of that collection.
+    pub fn renew_all(&mut self, place: i64, old: &[u8], body: &[u8]) -> Result<(), AllocError>
+        ensures gone { Renews self.new place old.now body.now }
+        ensures noted { (c : List ℕ) → Finds self.new c place body.now }
+        ensures kept { (c : List ℕ) (p : ℤ) (b : List ℕ) → p ≢ place → Finds self.old c p b
+            → Finds self.new c p b }
+        ensures renewed { (p : ℤ) (b : List ℕ) → Misses self.old p b
+            → Renews self.new p b body.now }
+        ensures others { (p : ℤ) (b : List ℕ) → p ≢ place → Misses self.old p b
+            → Misses self.new p b }
+        ensures same { OnOk result (AreAsBefore self.old self.new) }
+        ensures dropped { OnErr result (HasNone self.new) }
+        ensures none { HasNone self.old → HasNone self.new }
+    {
+        self.forget(place, old)?;
+        self.note_all(place, body)
+    }
+
+    /// Notes a document, whatever its collection. A refusal of memory drops all.
+    fn note_all(&mut self, place: i64, body: &[u8]) -> Result<(), AllocError>
+        ensures noted { (c : List ℕ) → Finds self.new c place body.now }
+        ensures kept { (c : List ℕ) (p : ℤ) (b : List ℕ) → Finds self.old c p b
+            → Finds self.new c p b }
+        ensures renewed { (p : ℤ) (b : List ℕ) → Misses self.old p b
+            → Renews self.new p b body.now }
+        ensures others { (p : ℤ) (b : List ℕ) → p ≢ place → Misses self.old p b
+            → Misses self.new p b }
+        ensures same { OnOk result (AreAsBefore self.old self.new) }
+        ensures dropped { OnErr result (HasNone self.new) }
+        ensures none { HasNone self.old → HasNone self.new }
+    {
+        if self.list.is_empty() {
+            return Ok(());
+        }
+        let list = self.take();
+        self.list = noting_all(self.alloc, list, place, body)?;
+        Ok(())
+    }
+
     /// The places, ascending, of all documents of a collection that a filter selects, and maybe of more: the fewest
     /// that an index gives. None: no index serves it.
     pub fn places_for(&self, coll: &[u8], filter: &Filter) -> Result<Option<Vec<i64>>, AllocError>
@@ -235,15 +300,4 @@ fn better(
     }
     let places = places_by(alloc, index, filter)?;
     Ok(fewer(best, places))
-}
-
-/// The one with fewer places.
-fn fewer(a: Option<Vec<i64>>, b: Option<Vec<i64>>) -> Option<Vec<i64>>
-    ensures { (result ≡ a) ⊎ (result ≡ b) }
-{
-    match (a, b) {
-        (None, b) => b,
-        (a, None) => a,
-        (Some(a), Some(b)) => { if b.len() < a.len() { Some(b) } else { Some(a) } }
-    }
 }

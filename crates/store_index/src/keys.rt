@@ -1,6 +1,6 @@
 //! The keys of an index: values that mean the same have one.
 
-ghost use Rattle.std.specs.Prelude.{◌≡◌, ◌↔◌, drop, None, Some, IfOk, IfSome, IsTrue, MatchOption};
+ghost use Rattle.std.specs.Prelude.{◌≡◌, ◌↔◌, drop, length, take, None, Some, IfOk, IfSome, IsTrue, MatchOption};
 ghost use Rattle.bson_base.specs.Value.{Members};
 ghost use Rattle.bson_bytes.specs.Encode.{encode};
 ghost use Rattle.bson_model.specs.View.{view};
@@ -43,6 +43,16 @@ pub(crate) fn is_same_path(a: &[String], b: &[String]) -> bool
     ensures { IsTrue result ↔ (path_of a.now ≡ path_of b.now) }
 {
     a == b
+}
+
+/// Whether a path is a beginning of another one.
+pub(crate) fn is_beginning(a: &[String], path: &[String]) -> bool
+    ensures { IsTrue result ↔ (path_of a.now ≡ take (length a.now) (path_of path.now)) }
+{
+    if path.len() < a.len() {
+        return false;
+    }
+    is_same_path(a, &path[..a.len()])
 }
 
 /// The key of the value at a path of a body's document, if one is there. Bytes that are no document have none.

@@ -5,6 +5,7 @@ mod ascending;
 mod index;
 mod indexes;
 mod keys;
+mod marks;
 mod place_list;
 mod places;
 mod rising;

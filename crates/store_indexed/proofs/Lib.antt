@@ -7,3 +7,4 @@ pub mod GatherLemmas
 pub mod AddLemmas
 pub mod RewriteLemmas
 pub mod ChangeLemmas
+pub mod WholeLemmas

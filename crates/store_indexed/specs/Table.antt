@@ -6,6 +6,8 @@ use Rattle.sqlite.specs.Held.{Held}
 use Rattle.store_table.specs.Table.{connection_of as table_connection, table_state}
 use Rattle.store_index.specs.Find.{Has, Misses, Renews}
 use Rattle.store_model.specs.Filter.{Path}
+use Rattle.store_table.specs.declared.change.Change.{Change}
+use Rattle.store_indexed.specs.Changing.{ForgetsRemoved}
 use Rattle.store_indexed.specs.Kept.{StayOrGo}
 use Rattle.store_indexed.specs.declared.table.IndexedTable.{IndexedTable}
 
@@ -31,14 +33,18 @@ KeepsIndexes old new = new.indexes ≡ old.indexes
 abbrev pub LeavesIndexes : {S : Type 0} {h : _} → IndexedTable S h → IndexedTable S h → Type 0
 LeavesIndexes old new = StayOrGo old.indexes new.indexes
 
--- no index has the place of a row under the key of a body that was removed
+-- no index has the place of a row under a mark of a body that was removed
 abbrev pub ForgetsRow : {S : Type 0} {h : _} → IndexedTable S h → ℤ → List ℕ → Type 0
 ForgetsRow t place body = Misses t.indexes place body
 
--- what no index has under the key of a removed body stays so, at these places
+-- nor that of a row that one of the changes removes, and to whose place no later one gives a body
+abbrev pub ForgetsGone : {S : Type 0} {h : _} → IndexedTable S h → List Change → Type 0
+ForgetsGone t changes = ForgetsRemoved changes t.indexes
+
+-- what no index has under a mark of a removed body stays so, at these places
 abbrev pub StaysForgotten : {S : Type 0} {h : _} → IndexedTable S h → IndexedTable S h → (ℤ → Type 0) → Type 0
 StaysForgotten old new at = (place : ℤ) (body : List ℕ) → at place → ForgetsRow old place body → ForgetsRow new place body
 
--- no index has it under the key of the body of before, unless that is the key of the new one, too
+-- no index has it under a mark of the body of before, unless that is one of the new one, too
 abbrev pub RenewsRow : {S : Type 0} {h : _} → IndexedTable S h → ℤ → List ℕ → List ℕ → Type 0
 RenewsRow t place old body = Renews t.indexes place old body

@@ -3,16 +3,17 @@
 ghost use Rattle.std.specs.Prelude.{◌+ℤ◌, ℕ, ℤ, pos, List};
 ghost use Rattle.sqlite.specs.State.{Survives};
 ghost use Rattle.store_index.specs.Find.{Finds, HasNone, Misses};
-ghost use Rattle.store_table.specs.Rows.{docs_from, with_body_at};
+ghost use Rattle.store_table.specs.Rows.{TableRow, docs_from, with_body_at};
+ghost use Rattle.store_table.specs.Change.{with_change, with_changes};
 ghost use Rattle.store_table.specs.Moves.{MayLeave, Moves, Settles, WasOpen};
 ghost use Rattle.store_table.specs.Table.{table_state};
-ghost use Rattle.store_indexed.specs.Changing.{Rewrites};
+ghost use Rattle.store_indexed.specs.Changing.{Forgets, ForgetsRemoved, GivesBody, NoneGives, Rewrites};
 ghost use Rattle.store_indexed.specs.Gathering.{HasNoneAt};
 ghost use Rattle.store_indexed.specs.Kept.{FindsRows, StayOrGo};
 
 use sqlite::Alter;
 use store_index::Indexes;
-use store_table::{Fault, Found, NewRow, Table};
+use store_table::{Change, Fault, Found, NewRow, Table};
 
 /// Notes rows of a collection at the places after `last`.
 pub(crate) fn note_rows(indexes: &mut Indexes, coll: &str, last: i64, rows: &[NewRow<'_>])
@@ -35,6 +36,50 @@ pub(crate) fn note_rows(indexes: &mut Indexes, coll: &str, last: i64, rows: &[Ne
         // If it is refused, no index is left that could miss the row.
         let _ = indexes.note(coll.as_bytes(), next, row.body);
         place = next;
+    }
+}
+
+/// Notes a change of the rows.
+fn note_change(indexes: &mut Indexes, change: &Change)
+    ensures noted { (docs : List TableRow) → FindsRows indexes.old docs
+        → FindsRows indexes.new (with_change change.now docs) }
+    ensures gone { Forgets change.now indexes.new }
+    ensures others { (p : ℤ) (b : List ℕ) → (GivesBody p change.now → ⊥) → Misses indexes.old p b
+        → Misses indexes.new p b }
+    ensures none { HasNone indexes.old → HasNone indexes.new }
+    ensures same { StayOrGo indexes.old indexes.new }
+{
+    // If one is refused, no index is left that could miss a row.
+    match change {
+        Change::Add {
+            place,
+            coll,
+            idkey: _,
+            body,
+        } => {
+            let _ = indexes.note(coll.as_bytes(), *place, body.as_slice());
+        }
+        Change::Rewrite { place, old, body } => {
+            let _ = indexes.renew_all(*place, old.as_slice(), body.as_slice());
+        }
+        Change::Remove { place, old } => {
+            let _ = indexes.forget(*place, old.as_slice());
+        }
+    }
+}
+
+/// Notes changes of the rows, one after the other.
+pub(crate) fn note_changes(indexes: &mut Indexes, changes: &[Change])
+    ensures noted { (docs : List TableRow) → FindsRows indexes.old docs
+        → FindsRows indexes.new (with_changes changes.now docs) }
+    ensures gone { ForgetsRemoved changes.now indexes.new }
+    ensures others { (p : ℤ) (b : List ℕ) → NoneGives p changes.now → Misses indexes.old p b
+        → Misses indexes.new p b }
+    ensures none { HasNone indexes.old → HasNone indexes.new }
+    ensures same { StayOrGo indexes.old indexes.new }
+{
+    for change in changes {
+        note_change(indexes, change);
     }
 }
 

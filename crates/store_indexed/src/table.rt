@@ -8,14 +8,16 @@ ghost use Rattle.store_filter.specs.Filters.{filter_of, path_of};
 ghost use Rattle.store_model.specs.Filter.{Path};
 ghost use Rattle.store_table.specs.Rows.{TableRow, docs_from, is_in, last_place, without_place, with_body_at};
 ghost use Rattle.store_table.specs.Moves.{Moves, Stands, WasOpen, MayLeave, Settles, FindsNone, FindsRow, FindsPlace, Changes, AddsRows, Keeps, Lists, Visits, with_row, with_rows};
+ghost use Rattle.store_table.specs.Change.{FindsLast, with_changes};
 ghost use Rattle.store_table.specs.Renewal.{Opened, Unopened, Makes};
 ghost use Rattle.store_table.specs.Open.{KeepsAll, HasNoTable, IsNameTaken};
 ghost use Rattle.store_table.specs.Table.{table_state};
 ghost use Rattle.store_indexed.specs.Asking.{VisitsAsked};
+ghost use Rattle.store_indexed.specs.Changing.{NoneGives};
 ghost use Rattle.store_indexed.specs.Gathering.{HasNoneAt};
 ghost use Rattle.store_indexed.specs.Kept.{HasKept};
 
-use crate::changing::{note_rows, rewrite_placed};
+use crate::changing::{note_changes, note_rows, rewrite_placed};
 use crate::gathering::gather;
 use crate::reading::visit_places;
 use sqlite::{Alter, Connection};
@@ -23,7 +25,7 @@ use std::alloc::Global;
 use std::collections::BTreeSet;
 use store_filter::Filter;
 use store_index::Indexes;
-use store_table::{Fault, Found, NewRow, OpenError, RowCheck, Table, Visit, is_own};
+use store_table::{Change, Fault, Found, NewRow, OpenError, RowCheck, Table, Visit, is_own};
 
 /// A table with indexes, which find the documents of its rows, whatever is done to them. A refusal of memory while a
 /// change is noted drops them, and a question is then answered by all rows of the collection.
@@ -38,7 +40,7 @@ pub struct IndexedTable<S: Alter> {
 }
 
 impl<S: Alter + Drop> IndexedTable<S> {
-    ghost use Rattle.store_indexed.specs.Table.{AddsIndex, ForgetsRow, HasIndex, KeepsIndexes, LeavesIndexes, RenewsRow, StaysForgotten, connection_of, indexed_state};
+    ghost use Rattle.store_indexed.specs.Table.{AddsIndex, ForgetsGone, ForgetsRow, HasIndex, KeepsIndexes, LeavesIndexes, RenewsRow, StaysForgotten, connection_of, indexed_state};
 
     /// Opens the table, which is made if the database has none. Keys that `check` replaces by others are replaced in
     /// one transaction; a table that has none is not written to. A refusal gives the connection back, with its rows as
@@ -230,6 +232,38 @@ impl<S: Alter + Drop> IndexedTable<S> {
     {
         self.table.remove_at(found)?;
         let _ = self.indexes.forget(found.place, found.body.as_slice());
+        Ok(())
+    }
+
+    /// The greatest place, or 0 if there is no row.
+    pub fn last_place(&mut self) -> Result<i64, Fault>
+        ensures moves { Moves (indexed_state S.Store self.old) (indexed_state S.Store self.new)
+            (FindsLast result) }
+        ensures open { WasOpen (indexed_state S.Store self.old)
+            (indexed_state S.Store self.new) result }
+        ensures crash { AddsNothing (indexed_state S.Store self.old)
+            (indexed_state S.Store self.new) }
+        ensures indexes { KeepsIndexes self.old self.new }
+    {
+        self.table.last_place()
+    }
+
+    /// Makes changes of the rows, one after the other: all of them or, if the call is refused, none.
+    pub fn change_all(&mut self, changes: &[Change]) -> Result<(), Fault>
+        ensures moves { Moves (indexed_state S.Store self.old) (indexed_state S.Store self.new)
+            (Changes (with_changes changes.now) result) }
+        ensures open { WasOpen (indexed_state S.Store self.old)
+            (indexed_state S.Store self.new) result }
+        ensures crash { Survives (indexed_state S.Store self.old) (indexed_state S.Store self.new)
+            (MayLeave (with_changes changes.now) (indexed_state S.Store self.old)) }
+        ensures settled { Settles (with_changes changes.now) (indexed_state S.Store self.old)
+            (indexed_state S.Store self.new) result }
+        ensures gone { OnOk result (ForgetsGone self.new changes.now) }
+        ensures indexes { LeavesIndexes self.old self.new }
+        ensures forgotten { StaysForgotten self.old self.new (λ p. NoneGives p changes.now) }
+    {
+        self.table.change_all(changes)?;
+        note_changes(&mut self.indexes, changes);
         Ok(())
     }
 

@@ -260,8 +260,9 @@ fn at_place(value: RawBsonRef<'_>, path: &[String], question: &Question, opens: 
     }
 }
 
-/// What a value has under a key.
-fn look_in<'a>(value: RawBsonRef<'a>, key: &str) -> Option<RawBsonRef<'a>>
+/// What a value has under a key: a document under its key, an array under the key of a place ("0", "1" and so on), any
+/// other value nothing. Takes no memory. In bytes with a fault it looks up to the fault.
+pub fn look_in<'a>(value: RawBsonRef<'a>, key: &str) -> Option<RawBsonRef<'a>>
     ensures { (v : Value) → Found value.entry v → FindsMember result (look_up key.now (pairs v)) }
 {
     let document = elements_of(value)?;
@@ -298,8 +299,8 @@ fn find<'a>(document: RawDocument<'a>, key: &str) -> Option<RawElement<'a>>
     None
 }
 
-/// The value of an element, unless its payload has a fault.
-fn value_of<'a>(element: &RawElement<'a>) -> Option<RawBsonRef<'a>>
+/// The value of an element, unless its payload has a fault. Takes no memory.
+pub fn value_of<'a>(element: &RawElement<'a>) -> Option<RawBsonRef<'a>>
     ensures { (v : Value) → IsWrittenFor (parts_of element.now) v → ComesBack v → Finds result (Some v) }
 {
     bson_raw::laws::payload_of_an_element(element);

@@ -101,8 +101,8 @@ fn leaves_by(part: Option<i64>, divisor: i64, remainder: i64) -> bool
     }
 }
 
-/// The document of an array's elements.
-pub(crate) fn items_in(value: Option<RawBsonRef<'_>>) -> Option<RawDocument<'_>>
+/// The document of an array's elements, each under the key of its place. None of what is no array. Takes no memory.
+pub fn items_in(value: Option<RawBsonRef<'_>>) -> Option<RawDocument<'_>>
     ensures { (o : Maybe Value) → Shows value.entry o → HoldsItems result o }
 {
     let found = value?;

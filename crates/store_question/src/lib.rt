@@ -7,5 +7,6 @@ pub mod laws;
 mod leaf;
 mod question;
 
-pub use answer::answers;
+pub use answer::{answers, look_in, value_of};
+pub use leaf::items_in;
 pub use question::{Comparison, Question};

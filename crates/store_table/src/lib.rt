@@ -1,6 +1,7 @@
 //! A table of rows over `sqlite`, seen as a list: each call is a change of that list.
 #![tactic(auto)]
 
+mod change;
 mod check;
 mod fault;
 pub mod laws;
@@ -13,7 +14,9 @@ mod sql;
 mod statements;
 mod table;
 mod visiting;
+mod whole;
 
+pub use change::Change;
 pub use check::RowCheck;
 pub use fault::Fault;
 pub use opening::OpenError;

@@ -207,7 +207,7 @@ pub(crate) fn greatest<S: Alter>(conn: &mut Connection<S>) -> Result<i64, Error>
 }
 
 /// Adds a row after all others, in a transaction.
-fn put<'a, 't, S: Alter>(
+pub(crate) fn put<'a, 't, S: Alter>(
     tx: &mut Transaction<'t, S>,
     place: i64,
     coll: &'a str,

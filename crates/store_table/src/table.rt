@@ -6,11 +6,13 @@ ghost use Rattle.sqlite.specs.State.{HasCleanDisk, Survives};
 ghost use Rattle.store_table.specs.Crash.{AddsNothing};
 ghost use Rattle.store_table.specs.Rows.{TableRow, HoldsRows, last_place, without_place, with_body_at};
 ghost use Rattle.store_table.specs.Moves.{Moves, Stands, WasOpen, MayLeave, Settles, FindsNone, FindsRow, FindsPlace, FindsCollection, Changes, AddsBehind, Keeps, Lists, Visits, VisitsAt, VisitsPlaced, with_row, with_rows};
+ghost use Rattle.store_table.specs.Change.{FindsLast, with_changes};
 ghost use Rattle.store_table.specs.Renewal.{Opened, Unopened, Makes};
 ghost use Rattle.store_table.specs.Open.{KeepsAll, HasNoTable, IsNameTaken};
 ghost use Rattle.sqlite_value.specs.Order.{column};
 ghost use Rattle.store_table.specs.Cells.{int_in, bytes_in};
 
+use crate::change::Change;
 use crate::check::{RowCheck, survey};
 use crate::fault::Fault;
 use crate::names::Names;
@@ -18,7 +20,7 @@ use crate::opening::{OpenError, bytes_at, place_in, prepare};
 use crate::own::{EveryRow, is_own};
 use crate::row::{Found, NewRow};
 use crate::visiting::{Visit, VisitPlaced, visit_placed, visit_values};
-use crate::{sql, statements};
+use crate::{sql, statements, whole};
 use sqlite::types::ValueRef;
 use sqlite::{Alter, Connection, Row};
 use std::alloc::{AllocError, Global};
@@ -264,6 +266,37 @@ impl<S: Alter + Drop> Table<S> {
             (table_state S.Store self.new) result }
     {
         statements::remove_at(&mut self.conn, found.place)?;
+        Ok(())
+    }
+
+    /// The greatest place, or 0 if there is no row.
+    pub fn last_place(&mut self) -> Result<i64, Fault>
+        ensures moves { Moves (table_state S.Store self.old) (table_state S.Store self.new)
+            (FindsLast result) }
+        ensures open { WasOpen (table_state S.Store self.old)
+            (table_state S.Store self.new) result }
+        ensures crash { AddsNothing (table_state S.Store self.old) (table_state S.Store self.new) }
+    {
+        let place = statements::greatest(&mut self.conn)?;
+        Ok(place)
+    }
+
+    /// Makes changes of the rows, one after the other, in one transaction: all of them or, if the call is refused, none.
+    ///
+    /// A row is added behind all others: at a place that isn't greater than those of the rows and of what the list added
+    /// before, the call is refused by Database.
+    pub fn change_all(&mut self, changes: &[Change]) -> Result<(), Fault>
+        ensures moves { Moves (table_state S.Store self.old) (table_state S.Store self.new)
+            (Changes (with_changes changes.now) result) }
+        ensures open { WasOpen (table_state S.Store self.old)
+            (table_state S.Store self.new) result }
+        ensures crash { Survives (table_state S.Store self.old) (table_state S.Store self.new)
+            (MayLeave (with_changes changes.now) (table_state S.Store self.old)) }
+        ensures settled { Settles (with_changes changes.now) (table_state S.Store self.old)
+            (table_state S.Store self.new) result }
+    {
+        let last = statements::greatest(&mut self.conn)?;
+        whole::change_all(&mut self.conn, last, changes)?;
         Ok(())
     }
 

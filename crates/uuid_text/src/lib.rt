@@ -33,6 +33,3 @@ pub fn write_hyphenated<W: fmt::Write>(f: &mut fmt::Formatter<W>, bytes: [u8; 16
         .encode_lower(&mut buffer);
     f.write_str(text)
 }
-
-#[cfg(test)]
-mod tests;

@@ -1,6 +1,9 @@
-use Rattle.std.proofs.Common.{◌≡◌}
+use Rattle.std.specs.Prelude.{ℕ, List}
+use Rattle.std.proofs.Common.{take}
+use Rattle.bson_store.specs.Export.{bytes_of_each}
+use Rattle.cli_commands.proofs.PrintLemmas.{FirstPassed}
 use Rattle.cli_commands.proofs.printing.print_documents.Given as goal
 
--- no write has failed
+-- the first ones were written, and no write has failed
 abbrev pub invariant-loop-document : goal.invariant-loop-document
-invariant-loop-document g l = (g.O.Sink.tally l.output).failures ≡ (g.O.Sink.tally l.initial.output).failures
+invariant-loop-document g l = FirstPassed (λ (b : List ℕ). b) (bytes_of_each (take l.document-index l.documents)) (g.O.Sink.tally l.fn.output) (g.O.Sink.tally l.output)

@@ -1,6 +1,9 @@
-use Rattle.std.proofs.Common.{◌≡◌}
+use Rattle.std.specs.Prelude.{string_bytes}
+use Rattle.std.proofs.Common.{take, map}
+use Rattle.cli_words.specs.Lines.{line}
+use Rattle.cli_commands.proofs.PrintLemmas.{FirstPassed}
 use Rattle.cli_commands.proofs.printing.print_names.Given as goal
 
--- no write has failed
+-- the first ones were written, and no write has failed
 abbrev pub invariant-loop-name : goal.invariant-loop-name
-invariant-loop-name g l = (g.O.Sink.tally l.output).failures ≡ (g.O.Sink.tally l.initial.output).failures
+invariant-loop-name g l = FirstPassed line (map string_bytes (take l.name-index l.names)) (g.O.Sink.tally l.fn.output) (g.O.Sink.tally l.output)

@@ -4,8 +4,8 @@ use Rattle.bson_base.specs.Device.{Feed, Tally}
 use Rattle.store_table.specs.Moves.{Moves}
 use Rattle.bson_store.specs.Calls.{store_state}
 use Rattle.cli_words.specs.Lines.{complaint_line, refusal_line}
-use Rattle.cli_commands.specs.Execute.{Executes, ReportsFailures}
-use Rattle.cli_commands.specs.Leaving.{LeavesAsked}
+use Rattle.cli_commands.specs.Execute.{Executes, ReportsFailures, line_of}
+use Rattle.cli_commands.specs.Leaving.{LeavesCall}
 use Rattle.cli_commands.specs.declared.stop.Failure.{Failure}
 use Rattle.cli_commands.specs.declared.stop.Failure.TheVariants.{Refused, Words}
 use Rattle.cli_commands.proofs.ReportLemmas.{writes}
@@ -26,7 +26,7 @@ returns-in-Err-Refused-clause-step g c =
     let new : Tally = g.O.Sink.tally c.obey.new.output in (
       Err (Refused e),
       (refl, writes line.result (g.F.Sink.tally c.args.faults.now) (g.F.Sink.tally line.new.sink) (refusal_line e.kind e.document) line.ensures.counts line.ensures.ok line.ensures.err),
-      subst (λ (x : Failure). Moves s t (Executes c.args.words.now fed left old new (Err x))) c.in-Err-Refused.field-0-is c.in-Err-Refused.ensures.step,
+      subst (λ (x : Failure). Moves s t (Executes c.args.words.now (record { fed = fed; left = left; before = old; behind = new }) (Err x))) c.in-Err-Refused.field-0-is c.in-Err-Refused.ensures.step,
     )
 
 pub returns-in-Err-Words-clause-step : goal.returns-in-Err-Words-clause-step
@@ -41,7 +41,7 @@ returns-in-Err-Words-clause-step g c =
     let new : Tally = g.O.Sink.tally c.obey.new.output in (
       Err (Words w),
       (refl, writes line.result (g.F.Sink.tally c.args.faults.now) (g.F.Sink.tally line.new.sink) (complaint_line w) line.ensures.counts line.ensures.ok line.ensures.err),
-      subst (λ (x : Failure). Moves s t (Executes c.args.words.now fed left old new (Err x))) c.in-Err-Words.field-0-is c.in-Err-Words.ensures.step,
+      subst (λ (x : Failure). Moves s t (Executes c.args.words.now (record { fed = fed; left = left; before = old; behind = new }) (Err x))) c.in-Err-Words.field-0-is c.in-Err-Words.ensures.step,
     )
 
 pub returns-in-Ok-clause-crash : goal.returns-in-Ok-clause-crash
@@ -59,7 +59,7 @@ returns-in-Err-Refused-clause-crash g c =
     let new : Tally = g.O.Sink.tally c.obey.new.output in (
       Err (Refused e),
       (refl, writes line.result (g.F.Sink.tally c.args.faults.now) (g.F.Sink.tally line.new.sink) (refusal_line e.kind e.document) line.ensures.counts line.ensures.ok line.ensures.err),
-      subst (λ (x : Failure). LeavesAsked c.args.words.now fed left old new (Err x) s t) c.in-Err-Refused.field-0-is c.in-Err-Refused.ensures.crash,
+      subst (λ (x : Failure). LeavesCall (line_of c.args.words.now) (record { fed = fed; left = left; before = old; behind = new }) (Err x) s t) c.in-Err-Refused.field-0-is c.in-Err-Refused.ensures.crash,
     )
 
 pub returns-in-Err-Words-clause-crash : goal.returns-in-Err-Words-clause-crash
@@ -74,7 +74,7 @@ returns-in-Err-Words-clause-crash g c =
     let new : Tally = g.O.Sink.tally c.obey.new.output in (
       Err (Words w),
       (refl, writes line.result (g.F.Sink.tally c.args.faults.now) (g.F.Sink.tally line.new.sink) (complaint_line w) line.ensures.counts line.ensures.ok line.ensures.err),
-      subst (λ (x : Failure). LeavesAsked c.args.words.now fed left old new (Err x) s t) c.in-Err-Words.field-0-is c.in-Err-Words.ensures.crash,
+      subst (λ (x : Failure). LeavesCall (line_of c.args.words.now) (record { fed = fed; left = left; before = old; behind = new }) (Err x) s t) c.in-Err-Words.field-0-is c.in-Err-Words.ensures.crash,
     )
 
 pub returns-in-Ok-clause-devices : goal.returns-in-Ok-clause-devices

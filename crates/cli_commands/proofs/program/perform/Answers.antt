@@ -14,11 +14,10 @@ use Rattle.cli_words.specs.declared.call.Call.TheVariants as words
 use Rattle.cli_commands.specs.Answers as answers
 use Rattle.cli_commands.specs.Commands.{AsksFor, IsCommandOf, IsIdText, IsOfStream}
 use Rattle.cli_commands.specs.Execute.{IsFailure}
-use Rattle.cli_commands.specs.Leaving.{LeavesCall}
 use Rattle.cli_commands.specs.Requests.{IsRequestOf, IsTreeText, text_at}
 use Rattle.cli_commands.proofs.EndLemmas.{as_asked, failed_write, got_prints, imported_asked, loaded_asked, number_unprinted, plain, planted}
 use Rattle.cli_commands.proofs.DeviceLemmas.{dump_reports, export_reports, import_reports, reports, still}
-use Rattle.cli_commands.proofs.CrashLemmas.{answered_open, call_leaves, of_change, printed, printed_open, stream_leaves, tree_leaves, with_line}
+use Rattle.cli_commands.proofs.CrashLemmas.{LeavesLine, answered_open, call_leaves, of_change, printed, printed_open, stream_leaves, tree_leaves, with_line}
 use Rattle.cli_commands.proofs.InputLemmas.{spares_import, spares_load, spares_same}
 use Rattle.cli_commands.proofs.TakeLemmas.{import_performs}
 use Rattle.cli_commands.proofs.WordLemmas.{of_filter, of_tree, of_id, of_get, of_set, of_unset, some_texts}
@@ -35,7 +34,7 @@ returns-in-Insert-clause-step g c =
     let asked = subst (IsRequestOf w) c.in-Insert.is c.requires.request in
     let takes = subst (λ x. Takes x texts) asked.0 asked.1 in
     planted (store_state g.S.Store c.args.store.now) (store_state g.S.Store c.insert.new.store) words.Insert w.call n texts fed old new (model.insert model.in_json) (data_of c.take.result) store.as_done answers.as_nothing c.insert.result c.nothing-outcome.result c.print_outcome.result
-    asked.0 takes (λ x h. h) (λ y e a b done why. inl why) (λ a. tt) (of_tree (model.insert model.in_json) n texts c.take.result takes (subst (IsTreeText (text_at texts 0)) (sym c.take.ensures.taken) asked.2)) (λ x no. no) c.nothing-outcome.ensures c.print_outcome.ensures.told c.insert.ensures.moves
+    asked.0 takes (λ x h. h) (λ y e a b done why. inl why) (λ a. tt) (of_tree (model.insert model.in_json) n texts c.take.result takes (subst (IsTreeText (text_at texts 0)) (sym c.take.ensures.taken) asked.2)) (λ x no. no) (λ x. refl) c.nothing-outcome.ensures c.print_outcome.ensures.told c.print_outcome.ensures.printed c.insert.ensures.moves
 
 pub returns-in-Replace-clause-step : goal.returns-in-Replace-clause-step
 returns-in-Replace-clause-step g c =
@@ -48,7 +47,7 @@ returns-in-Replace-clause-step g c =
     let asked = subst (IsRequestOf w) c.in-Replace.is c.requires.request in
     let takes = subst (λ x. Takes x texts) asked.0 asked.1 in
     planted (store_state g.S.Store c.args.store.now) (store_state g.S.Store c.replace_json.new.self) words.Replace w.call n texts fed old new (model.replace model.in_json) (data_of c.take-in-Replace.result) store.as_done answers.as_nothing c.replace_json.result c.nothing-outcome-in-Replace.result c.print_outcome-in-Replace.result
-    asked.0 takes (λ x h. h) (λ y e a b done why. inl why) (λ a. tt) (of_tree (model.replace model.in_json) n texts c.take-in-Replace.result takes (subst (IsTreeText (text_at texts 0)) (sym c.take-in-Replace.ensures.taken) asked.2)) (λ x no. no) c.nothing-outcome-in-Replace.ensures c.print_outcome-in-Replace.ensures.told c.replace_json.ensures.moves
+    asked.0 takes (λ x h. h) (λ y e a b done why. inl why) (λ a. tt) (of_tree (model.replace model.in_json) n texts c.take-in-Replace.result takes (subst (IsTreeText (text_at texts 0)) (sym c.take-in-Replace.ensures.taken) asked.2)) (λ x no. no) (λ x. refl) c.nothing-outcome-in-Replace.ensures c.print_outcome-in-Replace.ensures.told c.print_outcome-in-Replace.ensures.printed c.replace_json.ensures.moves
 
 pub returns-in-Get-clause-step : goal.returns-in-Get-clause-step
 returns-in-Get-clause-step g c =
@@ -61,7 +60,7 @@ returns-in-Get-clause-step g c =
     let asked = subst (IsRequestOf w) c.in-Get.is c.requires.request in
     let takes = subst (λ x. Takes x texts) asked.0 asked.1 in
     plain (store_state g.S.Store c.args.store.now) (store_state g.S.Store c.get_json.new.self) words.Get w.call n texts fed old new (model.on n (model.get_json c.in-Get.mode (view c.in-Get.id))) store.as_json answers.as_tree c.get_json.result c.tree.result c.print_outcome-in-Get.result
-    asked.0 takes (λ x h. h) (λ y e a b done why. got_prints n texts old.failures new.failures e a b done why) (λ a. tt) (of_get n texts (view c.in-Get.id) c.in-Get.mode takes asked.2) (λ x no. no) c.tree.ensures c.print_outcome-in-Get.ensures.told c.get_json.ensures.moves
+    asked.0 takes (λ x h. h) (λ y e a b done why. got_prints n texts old.failures new.failures e a b done why) (λ a. tt) (of_get n texts (view c.in-Get.id) c.in-Get.mode takes asked.2) (λ x no. no) (λ x. refl) c.tree.ensures c.print_outcome-in-Get.ensures.told c.print_outcome-in-Get.ensures.printed c.get_json.ensures.moves
 
 pub returns-in-Set-clause-step : goal.returns-in-Set-clause-step
 returns-in-Set-clause-step g c =
@@ -75,7 +74,7 @@ returns-in-Set-clause-step g c =
     let takes = subst (λ x. Takes x texts) asked.0 asked.1 in
     let read = subst (λ j. IsIdText (text_at texts 0) (view c.in-Set.id) × (c.in-Set.key.now ≡ text_at texts 1) × IsTreeText (text_at texts 2) j) (sym c.take-in-Set.ensures.taken) asked.2 in
     plain (store_state g.S.Store c.args.store.now) (store_state g.S.Store c.set.new.self) words.Set w.call n texts fed old new (model.on n (model.set (view c.in-Set.id) c.in-Set.key.now (model_reading.read_value (data_of c.take-in-Set.result)))) store.as_done answers.as_nothing c.set.result c.nothing-outcome-in-Set.result c.print_outcome-in-Set.result
-    asked.0 takes (λ x h. h) (λ y e a b done why. inl why) (λ a. tt) (of_set n texts (view c.in-Set.id) c.in-Set.key.now c.take-in-Set.result takes read) (λ x no. no) c.nothing-outcome-in-Set.ensures c.print_outcome-in-Set.ensures.told c.set.ensures.moves
+    asked.0 takes (λ x h. h) (λ y e a b done why. inl why) (λ a. tt) (of_set n texts (view c.in-Set.id) c.in-Set.key.now c.take-in-Set.result takes read) (λ x no. no) (λ x. refl) c.nothing-outcome-in-Set.ensures c.print_outcome-in-Set.ensures.told c.print_outcome-in-Set.ensures.printed c.set.ensures.moves
 
 pub returns-in-Unset-clause-step : goal.returns-in-Unset-clause-step
 returns-in-Unset-clause-step g c =
@@ -88,7 +87,7 @@ returns-in-Unset-clause-step g c =
     let asked = subst (IsRequestOf w) c.in-Unset.is c.requires.request in
     let takes = subst (λ x. Takes x texts) asked.0 asked.1 in
     plain (store_state g.S.Store c.args.store.now) (store_state g.S.Store c.unset.new.self) words.Unset w.call n texts fed old new (model.on n (model.unset (view c.in-Unset.id) c.in-Unset.key.now)) store.as_flag answers.flag_answer c.unset.result c.flag.result c.print_outcome-in-Unset.result
-    asked.0 takes (λ x h. h) (λ y e a b done why. inl why) (λ a. tt) (of_unset n texts (view c.in-Unset.id) c.in-Unset.key.now takes asked.2) (λ x no. no) c.flag.ensures c.print_outcome-in-Unset.ensures.told c.unset.ensures.moves
+    asked.0 takes (λ x h. h) (λ y e a b done why. inl why) (λ a. tt) (of_unset n texts (view c.in-Unset.id) c.in-Unset.key.now takes asked.2) (λ x no. no) (λ x. refl) c.flag.ensures c.print_outcome-in-Unset.ensures.told c.print_outcome-in-Unset.ensures.printed c.unset.ensures.moves
 
 pub returns-in-Remove-clause-step : goal.returns-in-Remove-clause-step
 returns-in-Remove-clause-step g c =
@@ -101,7 +100,7 @@ returns-in-Remove-clause-step g c =
     let asked = subst (IsRequestOf w) c.in-Remove.is c.requires.request in
     let takes = subst (λ x. Takes x texts) asked.0 asked.1 in
     plain (store_state g.S.Store c.args.store.now) (store_state g.S.Store c.remove.new.self) words.Remove w.call n texts fed old new (model.on n (model.remove (view c.in-Remove.id))) store.as_done answers.as_nothing c.remove.result c.nothing.result c.print_outcome-in-Remove.result
-    asked.0 takes (λ x h. h) (λ y e a b done why. inl why) (λ a. tt) (of_id (λ id more. model.remove id) n texts (view c.in-Remove.id) (some_texts 0 texts takes) asked.2) (λ x no. no) c.nothing.ensures c.print_outcome-in-Remove.ensures.told c.remove.ensures.moves
+    asked.0 takes (λ x h. h) (λ y e a b done why. inl why) (λ a. tt) (of_id (λ id more. model.remove id) n texts (view c.in-Remove.id) (some_texts 0 texts takes) asked.2) (λ x no. no) (λ x. refl) c.nothing.ensures c.print_outcome-in-Remove.ensures.told c.print_outcome-in-Remove.ensures.printed c.remove.ensures.moves
 
 pub returns-in-Find-clause-step : goal.returns-in-Find-clause-step
 returns-in-Find-clause-step g c =
@@ -114,7 +113,7 @@ returns-in-Find-clause-step g c =
     let asked = subst (IsRequestOf w) c.in-Find.is c.requires.request in
     let takes = subst (λ x. Takes x texts) asked.0 asked.1 in
     plain (store_state g.S.Store c.args.store.now) (store_state g.S.Store c.find.new.self) words.Find w.call n texts fed old new (model.on n (model.find (filter_of c.in-Find.filter))) as_list answers.as_documents c.find.result c.documents.result c.print_outcome-in-Find.result
-    asked.0 takes (λ x h. h) (λ y e a b done why. inl why) (λ a. tt) (of_filter model.find n texts (filter_of c.in-Find.filter) takes asked.2) (λ x no. no) c.documents.ensures c.print_outcome-in-Find.ensures.told c.find.ensures.moves
+    asked.0 takes (λ x h. h) (λ y e a b done why. inl why) (λ a. tt) (of_filter model.find n texts (filter_of c.in-Find.filter) takes asked.2) (λ x no. no) (λ x. refl) c.documents.ensures c.print_outcome-in-Find.ensures.told c.print_outcome-in-Find.ensures.printed c.find.ensures.moves
 
 pub returns-in-Count-clause-step : goal.returns-in-Count-clause-step
 returns-in-Count-clause-step g c =
@@ -127,7 +126,7 @@ returns-in-Count-clause-step g c =
     let asked = subst (IsRequestOf w) c.in-Count.is c.requires.request in
     let takes = subst (λ x. Takes x texts) asked.0 asked.1 in
     plain (store_state g.S.Store c.args.store.now) (store_state g.S.Store c.count.new.self) words.Count w.call n texts fed old new (model.on n (model.count (filter_of c.in-Count.filter))) store.as_number answers.number_answer c.count.result c.number.result c.print_outcome-in-Count.result
-    asked.0 takes (λ x h. h) (λ y e a b done why. inl why) (λ a. tt) (of_filter model.count n texts (filter_of c.in-Count.filter) takes asked.2) (λ x no. no) c.number.ensures c.print_outcome-in-Count.ensures.told c.count.ensures.moves
+    asked.0 takes (λ x h. h) (λ y e a b done why. inl why) (λ a. tt) (of_filter model.count n texts (filter_of c.in-Count.filter) takes asked.2) (λ x no. no) (λ x. refl) c.number.ensures c.print_outcome-in-Count.ensures.told c.print_outcome-in-Count.ensures.printed c.count.ensures.moves
 
 pub returns-in-Collections-clause-step : goal.returns-in-Collections-clause-step
 returns-in-Collections-clause-step g c =
@@ -140,7 +139,7 @@ returns-in-Collections-clause-step g c =
     let asked = subst (IsRequestOf w) c.in-Collections.is c.requires.request in
     let takes = subst (λ x. Takes x texts) asked.0 asked.1 in
     plain (store_state g.S.Store c.args.store.now) (store_state g.S.Store c.collections.new.self) words.Collections w.call n texts fed old new model.collections as_names answers.names_answer c.collections.result c.names.result c.print_outcome-in-Collections.result
-    asked.0 takes (λ x h. h) (λ y e a b done why. inl why) (λ a. tt) (refl) (λ x no. no) c.names.ensures c.print_outcome-in-Collections.ensures.told c.collections.ensures.moves
+    asked.0 takes (λ x h. h) (λ y e a b done why. inl why) (λ a. tt) (refl) (λ x no. no) (λ x. refl) c.names.ensures c.print_outcome-in-Collections.ensures.told c.print_outcome-in-Collections.ensures.printed c.collections.ensures.moves
 
 pub returns-in-Export-clause-step : goal.returns-in-Export-clause-step
 returns-in-Export-clause-step g c =
@@ -174,7 +173,7 @@ returns-in-Import-clause-step g c =
     let asked = subst (IsRequestOf w) c.in-Import.is c.requires.request in
     let s = store_state g.S.Store c.args.store.now in
     let t = store_state g.S.Store c.import.new.self in
-    imported_asked s t w.call n texts fed left old new c.import.result c.number-in-Import.result c.print_outcome-in-Import.result asked.0 (subst (λ x. Takes x texts) asked.0 asked.1) c.number-in-Import.ensures c.print_outcome-in-Import.ensures.told
+    imported_asked s t w.call n texts fed left old new c.import.result c.number-in-Import.result c.print_outcome-in-Import.result asked.0 (subst (λ x. Takes x texts) asked.0 asked.1) c.number-in-Import.ensures c.print_outcome-in-Import.ensures.told c.print_outcome-in-Import.ensures.printed
     (import_performs s t n fed left c.import.result c.number-in-Import.result c.number-in-Import.ensures c.import.ensures.moves)
 
 pub returns-in-Load-clause-step : goal.returns-in-Load-clause-step
@@ -188,7 +187,7 @@ returns-in-Load-clause-step g c =
     let new : Tally = g.O.Sink.tally c.print_outcome-in-Load.new.output in
     let asked = subst (IsRequestOf w) c.in-Load.is c.requires.request in
     loaded_asked (store_state g.S.Store c.args.store.now) (store_state g.S.Store c.load.new.store) w.call n texts fed left old new c.load.result c.print_outcome-in-Load.result asked.0 (subst (λ x. Takes x texts) asked.0 asked.1)
-    c.load.ensures.number c.print_outcome-in-Load.ensures.told c.load.ensures.moves
+    c.load.ensures.number c.print_outcome-in-Load.ensures.told c.print_outcome-in-Load.ensures.printed c.load.ensures.moves
 
 pub returns-in-Insert-clause-crash : goal.returns-in-Insert-clause-crash
 returns-in-Insert-clause-crash g c =
@@ -389,7 +388,7 @@ returns-in-Load-clause-crash g c =
     let asked = subst (IsRequestOf w) c.in-Load.is c.requires.request in
     let left : Feed = g.I.Source.feed c.load.new.input in
     of_change s t words.Load w.call n texts fed left old new c.print_outcome-in-Load.result asked.0
-    (subst (λ ts. LeavesCall words.Load n ts fed left old new c.print_outcome-in-Load.result s t) (sym (subst (λ y. Takes y texts) asked.0 asked.1))
+    (subst (λ ts. LeavesLine words.Load n ts fed left old new c.print_outcome-in-Load.result s t) (sym (subst (λ y. Takes y texts) asked.0 asked.1))
     (printed s t (AsksFor words.Load n [] fed left) old.failures new.failures c.load.result c.print_outcome-in-Load.result (number_unprinted old.failures new.failures c.load.result c.load.ensures.number) c.print_outcome-in-Load.ensures.told c.load.ensures.crash))
 
 pub returns-in-Insert-clause-spared : goal.returns-in-Insert-clause-spared

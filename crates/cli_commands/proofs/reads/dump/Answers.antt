@@ -5,6 +5,7 @@ use Rattle.bson_store.specs.Calls.{store_state}
 use Rattle.cli_commands.specs.declared.dumping.Printer.{Printer}
 use Rattle.cli_commands.proofs.CrashLemmas.{open_twice}
 use Rattle.cli_commands.proofs.DeviceLemmas.{dump_done, dump_stopped, store_refused}
+use Rattle.cli_commands.proofs.PrintLemmas.{no_lines}
 use Rattle.cli_commands.proofs.SendLemmas.{dumped, not_dumped, unchecked}
 use Rattle.cli_commands.proofs.reads.dump.Goals as goal
 
@@ -16,16 +17,16 @@ returns-in-Err-clause-step g c f =
 pub returns-in-Ok-clause-step : goal.returns-in-Ok-clause-step
 returns-in-Ok-clause-step g c f =
     let of_output : g.row.O.Denot → Tally = λ o. g.O.Sink.tally o in
-    let count : Printer g.row.O.Denot g.O.Sink → ℕ = λ p. (of_output p.output.now).failures in
-    dumped c.args.name.now f (of_output c.args.output.now) _ (store_state g.S.Store c.args.store.now) (store_state g.S.Store c.check_json.new.self) (store_state g.S.Store c.each_text.new.self) (λ p. p.output.ghost_name) (λ p. p.failed) count _ c.in-Ok.printer
-    c.in_default.ensures.moves (c.in-Ok.ensures.moves (refl, refl, refl)) (λ e. ap (λ o. (of_output o).failures) (search rules))
+    let tally : Printer g.row.O.Denot g.O.Sink → Tally = λ p. of_output p.output.now in
+    dumped c.args.name.now f (of_output c.args.output.now) _ (store_state g.S.Store c.args.store.now) (store_state g.S.Store c.check_json.new.self) (store_state g.S.Store c.each_text.new.self) (λ p. p.output.ghost_name) (λ p. p.failed) tally _ c.in-Ok.printer
+    c.in_default.ensures.moves (c.in-Ok.ensures.moves (refl, refl, no_lines (of_output c.args.output.now))) (λ e. ap of_output (search rules))
 
 pub returns-in-Err-each_text-clause-step : goal.returns-in-Err-each_text-clause-step
 returns-in-Err-each_text-clause-step g c f =
     let of_output : g.row.O.Denot → Tally = λ o. g.O.Sink.tally o in
-    let count : Printer g.row.O.Denot g.O.Sink → ℕ = λ p. (of_output p.output.now).failures in
-    not_dumped c.args.name.now f (of_output c.args.output.now) _ (store_state g.S.Store c.args.store.now) (store_state g.S.Store c.check_json.new.self) (store_state g.S.Store c.each_text.new.self) (λ p. p.output.ghost_name) (λ p. p.failed) count _ c.in-Err-each_text.printer c.in-Err-each_text.error
-    c.in_default.ensures.moves (c.in-Err-each_text.ensures.moves (refl, refl, refl)) (λ e. ap (λ o. (of_output o).failures) (search rules))
+    let tally : Printer g.row.O.Denot g.O.Sink → Tally = λ p. of_output p.output.now in
+    not_dumped c.args.name.now f (of_output c.args.output.now) _ (store_state g.S.Store c.args.store.now) (store_state g.S.Store c.check_json.new.self) (store_state g.S.Store c.each_text.new.self) (λ p. p.output.ghost_name) (λ p. p.failed) tally _ c.in-Err-each_text.printer c.in-Err-each_text.error
+    c.in_default.ensures.moves (c.in-Err-each_text.ensures.moves (refl, refl, no_lines (of_output c.args.output.now))) (λ e. ap of_output (search rules))
 
 pub returns-in-Ok-clause-crash : goal.returns-in-Ok-clause-crash
 returns-in-Ok-clause-crash g c = survives_then (store_state g.S.Store c.args.store.now) (store_state g.S.Store c.check_json.new.self) (store_state g.S.Store c.each_text.new.self) _ _ (λ _. ⊥) (λ _ db none. none) (λ _ db none. none) c.check_json.ensures.crash c.each_text.ensures.crash

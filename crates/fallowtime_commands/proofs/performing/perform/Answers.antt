@@ -1,4 +1,6 @@
 use Rattle.bson_store.specs.Calls.{store_state}
+use Rattle.store_question.specs.Reads.{form_of}
+use Rattle.fallowtime_commands.proofs.AskLemmas.{counted, found}
 use Rattle.fallowtime_commands.proofs.IndexLemmas.{indexed}
 use Rattle.fallowtime_commands.proofs.performing.perform.Goals as goal
 
@@ -35,6 +37,12 @@ returns-in-Unset-clause-moves g c = rw (c.in-Unset.is, c.flag.ensures.reply) c.u
 pub returns-in-Unset-clause-crash : goal.returns-in-Unset-clause-crash
 returns-in-Unset-clause-crash g c = rw (c.in-Unset.is, c.flag.ensures.reply) c.unset.ensures.crash
 
+pub returns-in-Change-clause-moves : goal.returns-in-Change-clause-moves
+returns-in-Change-clause-moves g c = rw c.in-Change.is c.change.ensures.moves
+
+pub returns-in-Change-clause-crash : goal.returns-in-Change-clause-crash
+returns-in-Change-clause-crash g c = rw c.in-Change.is c.change.ensures.crash
+
 pub returns-in-Remove-clause-moves : goal.returns-in-Remove-clause-moves
 returns-in-Remove-clause-moves g c = rw (c.in-Remove.is, c.nothing-in-Remove.ensures.reply) c.remove.ensures.moves
 
@@ -42,10 +50,12 @@ pub returns-in-Remove-clause-crash : goal.returns-in-Remove-clause-crash
 returns-in-Remove-clause-crash g c = rw (c.in-Remove.is, c.nothing-in-Remove.ensures.reply) c.remove.ensures.crash
 
 pub returns-in-Find-clause-moves : goal.returns-in-Find-clause-moves
-returns-in-Find-clause-moves g c = rw (c.in-Find.is, c.documents.ensures.reply) c.find.ensures.moves
+returns-in-Find-clause-moves g c =
+    rw (c.in-Find.is, c.documents.ensures.reply) (found c.args.name.now (form_of c.in-Find.question) (store_state g.S.Store c.args.store.now) (store_state g.S.Store c.find.new.store) c.find.result c.find.ensures.moves)
 
 pub returns-in-Count-clause-moves : goal.returns-in-Count-clause-moves
-returns-in-Count-clause-moves g c = rw (c.in-Count.is, c.number.ensures.reply) c.count.ensures.moves
+returns-in-Count-clause-moves g c =
+    rw (c.in-Count.is, c.number.ensures.reply) (counted c.args.name.now (form_of c.in-Count.question) (store_state g.S.Store c.args.store.now) (store_state g.S.Store c.count.new.store) c.count.result c.count.ensures.moves)
 
 pub returns-in-Import-clause-moves : goal.returns-in-Import-clause-moves
 returns-in-Import-clause-moves g c = rw (c.in-Import.is, c.number-in-Import.ensures.reply) (rw c.as_slice.ensures.value at c.import_bytes.ensures.moves)

@@ -1,4 +1,4 @@
-use Rattle.std.proofs.Common.{◌≡◌, ◌∙◌, ap, ℕ, suc, List, map, take, drop, Vec, Global, arith}
+use Rattle.std.proofs.Common.{◌≡◌, ◌∙◌, ap, ℕ, suc, map, take, drop, Vec, Global, arith}
 use Rattle.std.proofs.lemmas.Result.{err_from_is_err_and}
 use Rattle.bson_base.specs.Value.{Members}
 use Rattle.bson_bytes.specs.Encode.{encode}

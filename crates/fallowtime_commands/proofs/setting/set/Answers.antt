@@ -1,4 +1,3 @@
-use Rattle.std.proofs.Common.{subst}
 use Rattle.std.proofs.lemmas.Result.{err_from_is_err_and}
 use Rattle.bson_model.specs.View.{content, view}
 use Rattle.bson_store.specs.Calls.{store_state}

@@ -1,5 +1,5 @@
 use Rattle.std.proofs.Common.{sym, ◌∙◌, arith}
-use Rattle.bson_model.specs.View.{content, pairs_of, view}
+use Rattle.bson_model.specs.View.{content, pairs_of}
 use Rattle.bson_model.proofs.EqualLemmas.{look_up-members_of}
 use Rattle.store_model.specs.State.{id_key}
 use Rattle.fallowtime_commands.proofs.KeepLemmas.{has_id, no_id}

@@ -1,7 +1,8 @@
 use Rattle.std.proofs.Common.{string_bytes}
 use Rattle.bson_meaning.specs.JsonReserved.{has_reserved}
 use Rattle.fallowtime_texts.proofs.ReadLemmas.{spelled}
-use Rattle.fallowtime_texts.proofs.StraightLemmas.{at_unseen, left, straight_at_top, whole}
+use Rattle.bson_json.proofs.TextLemmas.{at_unseen}
+use Rattle.fallowtime_texts.proofs.StraightLemmas.{left, straight_at_top, whole}
 use Rattle.fallowtime_texts.proofs.printed.text_of_body.Goals as goal
 
 pub returns-in-Ok : goal.returns-in-Ok
@@ -10,4 +11,4 @@ returns-in-Ok c = λ d kept is. c.in-Ok.ensures.text d (spelled d c.args.body.no
 pub returns-in-Err-Unseen : goal.returns-in-Err-Unseen
 returns-in-Err-Unseen c = λ d kept is.
     left (has_reserved d) (λ reserved. c.fault_of.ensures d kept is reserved c.args.mode (string_bytes c.write_raw.new.text))
-    (λ free. at_unseen c.in-Err-Unseen.field-0 c.in-Err-Unseen.field-0-is c.in-Err-Unseen.ensures.seen (whole d c.args.body.now kept is) d (spelled d c.args.body.now kept is) (straight_at_top d c.args.body.now kept is free))
+    (λ free. at_unseen c.in-Err-Unseen.field-0 c.in-Err-Unseen.field-0-is c.in-Err-Unseen.ensures.seen (whole d c.args.body.now kept is) d (spelled d c.args.body.now kept is) (straight_at_top d c.args.body.now kept is c.args.mode free))

@@ -2,21 +2,21 @@ use Rattle.std.proofs.Common.{◌≡◌, ◌⊎◌, ℕ, ℤ, List, IsTrue, map,
 use Rattle.bson_base.specs.Value.{Value, document, Members}
 use Rattle.bson_bytes.specs.Encode.{encode}
 use Rattle.store_filter.specs.Filters.{filter_of, tests_of}
-use Rattle.store_model.specs.Filter.{SelectsAll, SelectsAny}
+use Rattle.store_model.specs.Filter.{SelectsAll, SelectsAny, all_of}
 use Rattle.store_model.specs.State.{IsKept}
 use Rattle.store_index.specs.Find.{FindsIn}
 use Rattle.store_index.specs.Lists.{is_among}
+use Rattle.store_index.specs.Serving.{IsServed}
 use Rattle.store_index.proofs.serving.+gathering.Given as goal
 
-abbrev pub invariant-gather_one-loop-filter : goal.invariant-gather_one-loop-filter
-invariant-gather_one-loop-filter l = record {
-  kept : (p : ℤ) → IsTrue (is_among p l.fn.out.items) → IsTrue (is_among p l.out.items);
+abbrev pub invariant-places_of_least-loop-filter : goal.invariant-places_of_least-loop-filter
+invariant-places_of_least-loop-filter l = record {
+  served : IsServed l.index (all_of (tests_of (map filter_of l.filters))) l.least;
   narrow : (d : Value) → SelectsAll (tests_of (map filter_of l.filters)) d → SelectsAll (tests_of (map filter_of (drop l.filter-index l.filters))) d;
 }
 
-abbrev pub invariant-gather_each-loop-filter : goal.invariant-gather_each-loop-filter
-invariant-gather_each-loop-filter l = record {
-  kept : (p : ℤ) → IsTrue (is_among p l.fn.out.items) → IsTrue (is_among p l.out.items);
+abbrev pub invariant-places_of_each-loop-filter : goal.invariant-places_of_each-loop-filter
+invariant-places_of_each-loop-filter l = record {
   so_far : (place : ℤ) (body : List ℕ) (d : Members) → FindsIn l.index place body → IsKept d → body ≡ encode d → SelectsAny (tests_of (map filter_of l.filters)) (document d)
-      → IsTrue (is_among place l.out.items) ⊎ SelectsAny (tests_of (map filter_of (drop l.filter-index l.filters))) (document d);
+      → IsTrue (is_among place l.all.items) ⊎ SelectsAny (tests_of (map filter_of (drop l.filter-index l.filters))) (document d);
 }

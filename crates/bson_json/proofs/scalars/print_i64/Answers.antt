@@ -1,0 +1,11 @@
+use Rattle.std.proofs.Common.{◌≡◌, [], ◌∷◌, OnOk, codes, subst, to_z, of_z, w64}
+use Rattle.std.proofs.lemmas.Int.{to_z-of_z}
+use Rattle.std.specs.Fmt.{signed_decimal}
+use Rattle.json.specs.Token.{begin_object, end_object, key, string}
+use Rattle.bson_json.specs.Prints.{Adds}
+use Rattle.bson_json.proofs.scalars.print_i64.Goals as goal
+
+pub returns : goal.returns
+returns c =
+    let same : to_z w64 (of_z w64 c.args.number) ≡ c.args.number = to_z-of_z w64 c.args.number c.ranges.number in
+    subst (λ z. OnOk c.wrap_digits.result (Adds (begin_object ∷ key (codes "$numberLong") ∷ string (signed_decimal z) ∷ end_object ∷ []) c.args.out.now c.wrap_digits.new.out)) same c.wrap_digits.ensures

@@ -1,3 +1,0 @@
-mod WalkLemmas
-mod StepLemmas
-mod StraightLemmas

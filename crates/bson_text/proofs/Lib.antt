@@ -1,2 +1,0 @@
-pub mod SortLemmas
-mod StepLemmas

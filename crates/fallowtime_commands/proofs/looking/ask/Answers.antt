@@ -1,0 +1,21 @@
+use Rattle.std.proofs.Common.{refl}
+use Rattle.store_lookup.specs.Reads.{Reads}
+use Rattle.fallowtime_commands.specs.Performing.{Performs}
+use Rattle.fallowtime_commands.proofs.LookLemmas.{if_told}
+use Rattle.fallowtime_commands.proofs.looking.ask.Goals as goal
+
+pub returns-in-Get-clause-reads : goal.returns-in-Get-clause-reads
+returns-in-Get-clause-reads g c =
+    if_told c.told.result c.document.result (λ o. Reads g.P.Pages c.args.store.now c.get_raw.new.self (Performs c.args.name.now c.args.request.now o)) c.told.ensures (rw (c.in-Get.is, c.document.ensures.reply) c.get_raw.ensures.reads)
+
+pub returns-in-Find-clause-reads : goal.returns-in-Find-clause-reads
+returns-in-Find-clause-reads g c =
+    if_told c.told-in-Find.result c.documents.result (λ o. Reads g.P.Pages c.args.store.now c.find_in_pages.new.store (Performs c.args.name.now c.args.request.now o)) c.told-in-Find.ensures (rw (c.in-Find.is, c.documents.ensures.reply) (λ clean docs are. (c.find_in_pages.result, refl, c.find_in_pages.ensures.reads clean docs are)))
+
+pub returns-in-Count-clause-reads : goal.returns-in-Count-clause-reads
+returns-in-Count-clause-reads g c =
+    if_told c.told-in-Count.result c.number.result (λ o. Reads g.P.Pages c.args.store.now c.count_in_pages.new.store (Performs c.args.name.now c.args.request.now o)) c.told-in-Count.ensures (rw (c.in-Count.is, c.number.ensures.reply) (λ clean docs are. (c.count_in_pages.result, refl, c.count_in_pages.ensures.reads clean docs are)))
+
+pub returns-in-Collections-clause-reads : goal.returns-in-Collections-clause-reads
+returns-in-Collections-clause-reads g c =
+    if_told c.told-in-Collections.result c.names.result (λ o. Reads g.P.Pages c.args.store.now c.collections.new.self (Performs c.args.name.now c.args.request.now o)) c.told-in-Collections.ensures (rw (c.in-Collections.is, c.names.ensures.reply) c.collections.ensures.reads)

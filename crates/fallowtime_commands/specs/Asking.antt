@@ -1,0 +1,42 @@
+-- What is replied to a question about a collection.
+use Rattle.std.specs.Prelude.{◌≡◌, ℕ, List, [], ◌∷◌, map, length, Bool, true, false, Result, Vec}
+use Rattle.std.specs.declared.alloc.Global.{Global}
+use Rattle.bson_bytes.specs.Encode.{encode}
+use Rattle.store_asked.specs.Asking.{AskedFrom}
+use Rattle.store_model.specs.Reading.{Documents}
+use Rattle.store_model.specs.State as model
+use Rattle.store_model.specs.declared.error.StoreError.{StoreError}
+use Rattle.store_question.specs.Reads.{Form}
+use Rattle.store_table.specs.Rows.{TableRow}
+use Rattle.bson_store.specs.Export.{bytes_of_each}
+use Rattle.bson_store.specs.Questions.{as_list}
+use Rattle.bson_store.specs.Refusals.{as_number, reply_by}
+use Rattle.fallowtime_commands.specs.declared.meant.Meant.{Meant}
+
+-- the bodies are the written forms of the documents
+abbrev pub AreBodies : Vec (Vec ℕ Global) Global → Documents → Type 0
+AreBodies bodies ds = bytes_of_each bodies.items ≡ map encode ds
+
+-- all of them, or the first
+abbrev pub chosen : {A : Type 0} → Bool → List A → List A
+chosen true xs = xs
+chosen false [] = []
+chosen false (x ∷ xs) = x ∷ []
+
+-- the bodies are the written forms of all documents, or of the first
+abbrev pub AreChosen : Bool → Vec (Vec ℕ Global) Global → Documents → Type 0
+AreChosen many bodies ds = bytes_of_each bodies.items ≡ map encode (chosen many ds)
+
+abbrev pub MeansOf : Meant → Meant → Documents → Type 0
+MeansOf first t out = (t.many ≡ first.many) × AreChosen first.many t.copies.bodies out
+
+abbrev pub IsNumberOf : ℕ → Documents → Type 0
+IsNumberOf n ds = n ≡ length ds
+
+-- those of the collection n that answer the question, in their order
+abbrev pub Finds : List ℕ → Form → model.Reply → List TableRow → List TableRow → Type 0
+Finds n form r old new = (outcome : Result (Vec (Vec ℕ Global) Global) StoreError) × (r ≡ reply_by as_list outcome) × AskedFrom AreBodies n form outcome old new
+
+-- how many they are
+abbrev pub Counts : List ℕ → Form → model.Reply → List TableRow → List TableRow → Type 0
+Counts n form r old new = (outcome : Result ℕ StoreError) × (r ≡ reply_by as_number outcome) × AskedFrom IsNumberOf n form outcome old new

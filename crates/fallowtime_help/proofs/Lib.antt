@@ -1,0 +1,6 @@
+mod DistanceLemmas
+mod NearLemmas
+mod OverviewLemmas
+mod PadLemmas
+mod TopicLemmas
+mod WordLemmas

@@ -1,0 +1,47 @@
+-- What is said of words that are no line of the table.
+use Rattle.std.specs.Prelude.{◌≡◌, ◌⊎◌, ◌==◌, ◌&&◌, ◌||◌, ℕ, List, [], ◌∷◌, ◌++◌, leb, codes, take, Bool, if◌then◌else◌, Option, Some, None}
+use Rattle.std.specs.List.{filter}
+use Rattle.std.specs.Str.{bytes_eq, str_to_ascii_lowercase}
+use Rattle.fallowtime_words.specs.Commands.{command_name, BeginsWith}
+use Rattle.fallowtime_words.specs.declared.command.Command.{Command}
+use Rattle.fallowtime_words.specs.declared.command.Command.TheVariants.{Insert, Put, Remove, Find, Import, Export, Collections}
+use Rattle.fallowtime_help.specs.Nearest.{IsNearest}
+use Rattle.fallowtime_help.specs.Usage.{line_text}
+use Rattle.fallowtime_help.specs.declared.hint.TheConstants.{OPTIONS}
+use Rattle.fallowtime_help.specs.declared.hint.OtherName.{OtherName}
+
+-- how commands are called elsewhere
+abbrev pub other_names : List (List ℕ × Command)
+other_names = (codes "delete", Remove) ∷ (codes "rm", Remove) ∷ (codes "upsert", Put) ∷ (codes "save", Put) ∷ (codes "add", Insert)
+    ∷ (codes "select", Find) ∷ (codes "query", Find) ∷ (codes "show", Collections) ∷ (codes "ls", Collections) ∷ (codes "load", Import) ∷ (codes "dump", Export) ∷ []
+
+-- the command of the first that is a word
+abbrev pub named_in : List (List ℕ × Command) → List ℕ → Option Command
+named_in [] word = None
+named_in (other ∷ others) word = if bytes_eq other.0 word then Some other.1 else named_in others word
+
+abbrev pub called_in : List OtherName → List ℕ → Option Command
+called_in [] word = None
+called_in (other ∷ others) word = if bytes_eq other.name.now word then Some other.command else called_in others word
+
+-- the command that is meant by a word: the one that is called so elsewhere, else the nearest of the table
+abbrev pub IsMeant : List ℕ → Option Command → Type 0
+IsMeant word meant = ((c : Command) × (named_in other_names word ≡ Some c) × (meant ≡ Some c)) ⊎ ((named_in other_names word ≡ None) × IsNearest 2 word meant)
+
+-- a letter, a digit, or one of _ . -
+abbrev pub is_shown : ℕ → Bool
+is_shown b = (leb 48 b && leb b 57) || (leb 65 b && leb b 90) || (leb 97 b && leb b 122) || (b == 95) || (b == 46) || (b == 45)
+
+abbrev pub meant_text : Option Command → List ℕ
+meant_text None = []
+meant_text (Some c) = codes ", but there is " ++ command_name c
+
+-- there is no such command, but the one that is meant; of the word only what a terminal may show
+abbrev pub unknown_text : List ℕ → Option Command → List ℕ
+unknown_text word meant = codes "there is no command '" ++ filter is_shown (take 40 word) ++ codes "'" ++ meant_text meant ++ codes "; fallowtime help lists the commands"
+
+-- the hint at a word in the place of a command, which it names or not
+abbrev pub HintsAt : List ℕ → Option Command → List ℕ → Type 0
+HintsAt word (Some c) text = text ≡ codes "the words are " ++ line_text c
+HintsAt word None text = (BeginsWith (codes "-") word × (text ≡ OPTIONS.now))
+    ⊎ (¬ BeginsWith (codes "-") word × ((meant : Option Command) × IsMeant (str_to_ascii_lowercase word) meant × (text ≡ unknown_text word meant)))

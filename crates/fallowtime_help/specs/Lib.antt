@@ -1,0 +1,7 @@
+pub mod Advice
+pub mod Explaining
+pub mod Hints
+pub mod Nearest
+pub mod Overview
+pub mod Topics
+pub mod Usage

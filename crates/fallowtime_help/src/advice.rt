@@ -1,0 +1,145 @@
+//! What mostly helps after a refusal.
+
+ghost use Rattle.std.specs.Prelude.{◌≡◌, ◌↔◌, IsTrue, Some, codes, map, option_map, string_bytes};
+ghost use Rattle.std.specs.List.{list_all};
+ghost use Rattle.fallowtime_help.specs.Advice.{HasObjectId, IsObjectId, is_hex, text_of_kind};
+
+/// What helps after a refusal of a kind.
+#[derive(Clone, Copy)]
+pub(crate) struct Advice {
+    /// The kind.
+    pub(crate) kind: &'static str,
+    /// What helps.
+    pub(crate) text: &'static str,
+}
+
+/// The kind of a refusal of an `_id` that no document has.
+const NOT_FOUND: &str = "NotFound";
+
+/// What helps if an ID that is a text looks like an ObjectId.
+pub(crate) const OBJECT_ID: &str = "this ID is a text; an ObjectId is written '{\"$oid\":\"..\"}'";
+
+/// What helps after the commonest refusals; those of a FILE that can't be had say it themselves.
+pub(crate) const ADVICE: [Advice; 12] = [
+    Advice {
+        kind: NOT_FOUND,
+        text: "an ID is 42 for the number and '\"42\"' for the text; fallowtime FILE find COLL shows those that there are",
+    },
+    Advice {
+        kind: "DuplicateId",
+        text: "put replaces the document that is there",
+    },
+    Advice {
+        kind: "NoId",
+        text: "insert and import --json make an _id",
+    },
+    Advice {
+        kind: "EndInside",
+        text: STREAM,
+    },
+    Advice {
+        kind: "BadLength",
+        text: STREAM,
+    },
+    Advice {
+        kind: "NotTerminated",
+        text: STREAM,
+    },
+    Advice {
+        kind: "Faulty",
+        text: STREAM,
+    },
+    Advice {
+        kind: "JSON",
+        text: "a text has quotes of its own inside those of the shell: '\"new\"'; an ObjectId is '{\"$oid\":\"..\"}'",
+    },
+    Advice {
+        kind: "id",
+        text: "an ObjectId is '{\"$oid\":\"..\"}', of 24 hexadecimal digits; what is no JSON is the text itself",
+    },
+    Advice {
+        kind: "query",
+        text: "a query is an object, in quotes of the shell: '{\"price\":{\"$in\":[1,1.5]}}'",
+    },
+    Advice {
+        kind: "line",
+        text: "each line is a document, {..}; jq -c '.[]' makes lines of an array",
+    },
+    Advice {
+        kind: "ReservedKey",
+        text: "--bson and export write such a document as BSON",
+    },
+];
+
+/// What helps if the bytes that `import` reads are no BSON.
+const STREAM: &str =
+    "import reads BSON: for lines of JSON say --json; what gzip or mongodump --archive packed is unpacked first";
+
+/// Whether a byte is a hexadecimal digit.
+fn is_digit(byte: u8) -> bool
+    ensures { result ≡ is_hex byte }
+{
+    matches!(byte, b'0'..=b'9' | b'A'..=b'F' | b'a'..=b'f')
+}
+
+/// Whether all of the bytes are hexadecimal digits.
+fn are_digits(bytes: &[u8]) -> bool
+    ensures { result ≡ list_all is_hex bytes.now }
+{
+    for byte in bytes {
+        if !is_digit(*byte) {
+            return false;
+        }
+    }
+    true
+}
+
+/// Whether a word has the digits of an ObjectId.
+fn is_object_id(word: &str) -> bool
+    ensures { IsTrue result ↔ IsObjectId word.now }
+{
+    word.len() == 24 && are_digits(word.as_bytes())
+}
+
+/// Whether the second of the words has the digits of an ObjectId.
+fn has_object_id(words: &[String]) -> bool
+    ensures { IsTrue result ↔ HasObjectId (map string_bytes words.now) }
+{
+    match words {
+        [_, id, ..] => is_object_id(id.as_str()),
+        _ => false,
+    }
+}
+
+/// What helps after a refusal of this kind, if it is one of the table.
+fn advice_in(rows: &'static [Advice], kind: &str) -> Option<&'static str>
+    ensures { option_map (λ t. t.now) result ≡ text_of_kind rows.now kind.now }
+{
+    for row in rows {
+        if row.kind == kind {
+            return Some(row.text);
+        }
+    }
+    None
+}
+
+/// What mostly helps if no document has the `_id` of the words.
+fn advice_on_id(words: &[String]) -> Option<&'static str>
+    ensures { HasObjectId (map string_bytes words.now) → option_map (λ t. t.now) result ≡ Some OBJECT_ID.now }
+{
+    if has_object_id(words) {
+        return Some(OBJECT_ID);
+    }
+    advice_in(&ADVICE, NOT_FOUND)
+}
+
+/// What mostly helps after a refusal of this kind, in a line, if anything does. The words are those behind the command.
+pub fn advice_for(kind: &str, words: &[String]) -> Option<&'static str>
+    ensures { kind.now ≡ codes "NotFound" → HasObjectId (map string_bytes words.now)
+        → option_map (λ t. t.now) result ≡ Some OBJECT_ID.now }
+{
+    if kind == NOT_FOUND {
+        return advice_on_id(words);
+    }
+    advice_in(&ADVICE, kind)
+}

@@ -1,0 +1,251 @@
+//! What is wrong with words that are no line of the table.
+
+ghost use Rattle.std.specs.Prelude.{◌≡◌, ◌↔◌, ◌∷◌, ◌++◌, [], ℕ, List, IfOk, IsTrue, None, OnOk, Option, Some, codes, map, string_bytes, take};
+ghost use Rattle.std.specs.List.{filter};
+ghost use Rattle.std.specs.Str.{str_to_ascii_lowercase};
+ghost use Rattle.fallowtime_words.specs.Commands.{BeginsWith, command_of};
+ghost use Rattle.fallowtime_words.specs.Words.{IsFile};
+ghost use Rattle.fallowtime_words.specs.declared.command.Command.{Command as Named};
+ghost use Rattle.fallowtime_help.specs.Hints.{HintsAt, IsMeant, called_in, is_shown, meant_text, unknown_text};
+ghost use Rattle.fallowtime_help.specs.Usage.{line_text};
+
+use crate::nearest::nearest;
+use crate::usage::line_of;
+use fallowtime_words::Command;
+use std::alloc::{AllocError, Global};
+
+/// A word that other programs have for a command.
+#[derive(Clone, Copy)]
+pub(crate) struct OtherName {
+    /// The word.
+    pub(crate) name: &'static str,
+    /// The command.
+    pub(crate) command: Command,
+}
+
+/// How a command is called elsewhere.
+pub(crate) const OTHER_NAMES: [OtherName; 11] = [
+    OtherName {
+        name: "delete",
+        command: Command::Remove,
+    },
+    OtherName {
+        name: "rm",
+        command: Command::Remove,
+    },
+    OtherName {
+        name: "upsert",
+        command: Command::Put,
+    },
+    OtherName {
+        name: "save",
+        command: Command::Put,
+    },
+    OtherName {
+        name: "add",
+        command: Command::Insert,
+    },
+    OtherName {
+        name: "select",
+        command: Command::Find,
+    },
+    OtherName {
+        name: "query",
+        command: Command::Find,
+    },
+    OtherName {
+        name: "show",
+        command: Command::Collections,
+    },
+    OtherName {
+        name: "ls",
+        command: Command::Collections,
+    },
+    OtherName {
+        name: "load",
+        command: Command::Import,
+    },
+    OtherName {
+        name: "dump",
+        command: Command::Export,
+    },
+];
+
+/// What is wrong with words that begin with an option.
+pub(crate) const DASHED: &str =
+    "a FILE that begins with - is written ./-x.db; --help, --version and --explain KIND stand alone";
+
+/// What is wrong with other options of a session.
+pub(crate) const OPTIONS: &str =
+    "the words are fallowtime FILE [--wait SECONDS]; fallowtime help COMMAND says what a command takes";
+
+/// What is wrong with other words.
+pub(crate) const GENERAL: &str =
+    "the words are FILE COMMAND ..; fallowtime help lists the commands";
+
+/// How many bytes of a word are shown.
+const SHOWN: usize = 40;
+
+/// Whether a terminal may show a byte.
+fn is_plain(byte: u8) -> bool
+    ensures { result ≡ is_shown byte }
+{
+    matches!(byte, b'0'..=b'9' | b'A'..=b'Z' | b'a'..=b'z' | b'_' | b'.' | b'-')
+}
+
+/// Appends those of the bytes that a terminal may show.
+fn push_plain(text: &mut String, bytes: &[u8]) -> Result<(), AllocError>
+    ensures { OnOk result (string_bytes text.new ≡ string_bytes text.old ++ filter is_shown bytes.now) }
+{
+    for byte in bytes {
+        if is_plain(*byte) {
+            text.push(char::from(*byte))?;
+        }
+    }
+    Ok(())
+}
+
+/// The first bytes of a word.
+fn front_of(word: &str) -> &[u8]
+    ensures { result.now ≡ take 40 word.now }
+{
+    let bytes = word.as_bytes();
+    match bytes.get(..SHOWN) {
+        Some(front) => front,
+        None => bytes,
+    }
+}
+
+/// The command that is called so elsewhere.
+fn called(names: &[OtherName], word: &str) -> Option<Command>
+    ensures { result ≡ called_in names.now word.now }
+{
+    for other in names {
+        if other.name == word {
+            return Some(other.command);
+        }
+    }
+    None
+}
+
+/// The command that is meant by a word in small letters, if there is one: the one that is called so elsewhere, or else the
+/// one that is called most like it.
+fn meant(word: &str) -> Option<Command>
+    ensures { IsMeant word.now result }
+{
+    match called(&OTHER_NAMES, word) {
+        Some(command) => Some(command),
+        None => nearest(word),
+    }
+}
+
+/// Appends which command is meant, if one is.
+fn push_meant(text: &mut String, meant: Option<Command>) -> Result<(), AllocError>
+    ensures { OnOk result (string_bytes text.new ≡ string_bytes text.old ++ meant_text meant) }
+{
+    match meant {
+        Some(command) => {
+            text.push_str(", but there is ")?;
+            text.push_str(command.signature().name)
+        }
+        None => Ok(()),
+    }
+}
+
+/// That there is no such command, and which one is meant.
+fn told(alloc: Global, word: &str, meant: Option<Command>) -> Result<String, AllocError>
+    ensures { IfOk result (λ t. string_bytes t ≡ unknown_text word.now meant) }
+{
+    let mut text = String::from_str(alloc, "there is no command '")?;
+    push_plain(&mut text, front_of(word))?;
+    text.push_str("'")?;
+    push_meant(&mut text, meant)?;
+    text.push_str("; fallowtime help lists the commands")?;
+    Ok(text)
+}
+
+/// That a word is no command, and which one is meant, by its small letters.
+fn unknown(alloc: Global, word: &str) -> Result<String, AllocError>
+    ensures { IfOk result (λ t. (meant : Option Named) × IsMeant (str_to_ascii_lowercase word.now) meant
+        × (string_bytes t ≡ unknown_text word.now meant)) }
+{
+    let small = word.to_ascii_lowercase(alloc)?;
+    told(alloc, word, meant(small.as_str()))
+}
+
+/// The words of a command, behind what stands in front of them.
+fn words_of(alloc: Global, front: &str, command: Command) -> Result<String, AllocError>
+    ensures { IfOk result (λ t. string_bytes t ≡ front.now ++ line_text command) }
+{
+    let line = line_of(alloc, command)?;
+    let mut text = String::from_str(alloc, front)?;
+    text.push_str(line.as_str())?;
+    Ok(text)
+}
+
+/// Whether a word begins with a hyphen.
+fn is_option(word: &str) -> bool
+    ensures { IsTrue result ↔ BeginsWith (codes "-") word.now }
+{
+    matches!(word.as_bytes(), [b'-', ..])
+}
+
+/// What is wrong with a word that is no command.
+fn no_command(alloc: Global, word: &str) -> Result<String, AllocError>
+    ensures { IfOk result (λ t. HintsAt word.now None (string_bytes t)) }
+{
+    if is_option(word) {
+        return String::from_str(alloc, OPTIONS);
+    }
+    unknown(alloc, word)
+}
+
+/// What is wrong with the words over a file, by the one after it.
+fn behind_file(alloc: Global, word: &str) -> Result<String, AllocError>
+    ensures { IfOk result (λ t. HintsAt word.now (command_of word.now) (string_bytes t)) }
+{
+    match Command::from_word(word) {
+        Some(command) => words_of(alloc, "the words are ", command),
+        None => no_command(alloc, word),
+    }
+}
+
+/// What is wrong with words that have no FILE, by the first.
+fn without_file(alloc: Global, word: &str) -> Result<String, AllocError>
+    ensures { (c : Named) → command_of word.now ≡ Some c
+        → IfOk result (λ t. string_bytes t ≡ codes "FILE comes first: " ++ line_text c) }
+{
+    match Command::from_word(word) {
+        Some(command) => words_of(alloc, "FILE comes first: ", command),
+        None => String::from_str(alloc, GENERAL),
+    }
+}
+
+/// What is wrong with two words, of which the second is the command if the first isn't called like one.
+fn behind_either(alloc: Global, file: &str, word: &str) -> Result<String, AllocError>
+    ensures { command_of file.now ≡ None → IfOk result (λ t. HintsAt word.now (command_of word.now) (string_bytes t)) }
+{
+    if Command::from_word(file).is_some() && Command::from_word(word).is_none() {
+        return without_file(alloc, file);
+    }
+    behind_file(alloc, word)
+}
+
+/// What is wrong with words that are no line of the table and ask nothing about the program, in a line.
+pub fn hint_of(alloc: Global, words: &[String]) -> Result<String, AllocError>
+    // Behind a FILE, which no command is called like, stands the command.
+    ensures { (file word : List ℕ) (more : List (List ℕ)) → map string_bytes words.now ≡ file ∷ word ∷ more
+        → IsFile file → command_of file ≡ None
+        → IfOk result (λ t. HintsAt word (command_of word) (string_bytes t)) }
+{
+    let Some((file, behind)) = words.split_first() else {
+        return String::from_str(alloc, GENERAL);
+    };
+    if is_option(file.as_str()) {
+        return String::from_str(alloc, DASHED);
+    }
+    let Some((word, _)) = behind.split_first() else {
+        return without_file(alloc, file.as_str());
+    };
+    behind_either(alloc, file.as_str(), word.as_str())
+}

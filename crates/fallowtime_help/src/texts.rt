@@ -1,0 +1,312 @@
+//! The texts of the help.
+
+use fallowtime_words::Command;
+
+/// What stands in front of the list of commands.
+pub(crate) const FRONT: &str =
+    "fallowtime keeps documents in named collections, in one file, which is an SQLite
+database. Documents go in and out as MongoDB Extended JSON v2 or as BSON, every
+double bit for bit and the keys in their order.
+
+    fallowtime FILE COMMAND .. [OPTIONS]   does one command
+    fallowtime FILE [--wait SECONDS]       keeps FILE open, and answers each line
+                                           of standard input by a line
+    fallowtime help [COMMAND]              this, or what a command takes
+    fallowtime --explain KIND              what a refusal means, and what to do
+    fallowtime version                     which version this is
+    fallowtime --version                   which program runs, and how it was built
+
+Commands:
+";
+
+/// What stands behind it.
+pub(crate) const BACK: &str = "
+Options come last, in any order:
+  --canonical      prints canonical Extended JSON, with the kind of each number;
+                   else it is relaxed (insert, get, find)
+  --bson           writes documents as BSON (get, find)
+  --json           reads lines of Extended JSON, a document each (import)
+  --many           all selected documents, and not only the first (update, delete)
+  --wait SECONDS   waits so long for a FILE that another process has; else 5
+
+DOC and VALUE are Extended JSON, and so is ID; an ID that is no JSON is the text
+itself. QUERY is in MongoDB's language: '{\"price\":{\"$gte\":1,\"$lt\":5}}'. A name,
+an ID or a text may begin with -, a FILE that does is written ./-x.db.
+
+A line of a session is a JSON array with the words of a command, where documents,
+ids, queries and values are JSON themselves, and so is its answer:
+
+    [\"insert\",\"orders\",{\"_id\":\"A\",\"price\":1.5}]  {\"_id\":\"A\"}
+    [\"get\",\"orders\",9]                           {\"error\":\"NotFound\"}
+    [\"index\",\"orders\",\"customer.city\"]           {}
+
+The last one, in sessions alone, makes an index until the input ends, by which
+queries for a value there are quick; drop_index drops it.
+
+Status 0: done. 1: `refused: KIND`. 2: words that can't be read, `words: ..`.
+125: there is no program, and none can be built.
+";
+
+/// What stands behind the text of each command.
+pub(crate) const EVERY: &str = "
+Each command may be refused for what is at fault with FILE, too: Busy, Denied,
+NoDatabase, Journal, NotPlain, NoFolder, NoName, Disk, Database, NotAStore,
+BadRow, IdsCollide; and by Memory and Writer. fallowtime --explain KIND says what
+each means, and what to do.
+";
+
+const INSERT: &str = "
+Puts the document DOC into the collection COLL, and prints its _id on a line.
+DOC is Extended JSON. Without an _id it gets an ObjectId, put first. A FILE that
+isn't there is made.
+
+  --canonical      prints the _id as canonical Extended JSON
+  --wait SECONDS   waits so long if another process has FILE; else 5
+
+    fallowtime shop.db insert orders '{\"_id\":1,\"price\":1.5,\"city\":\"Ulm\"}'
+    fallowtime shop.db insert orders '{\"price\":{\"$numberDecimal\":\"9.90\"}}'
+
+May be refused: DuplicateId, BadName, TooDeep, TooLong, Nul, Places; words: JSON.
+";
+
+const PUT: &str = "
+Puts the document DOC into the collection COLL: in the place of the one with its
+_id, or last if there is none. DOC has to have an _id. A FILE that isn't there is
+made.
+
+  --wait SECONDS   waits so long if another process has FILE; else 5
+
+    fallowtime shop.db put orders '{\"_id\":1,\"price\":2.5}'
+    fallowtime shop.db put orders '{\"_id\":\"A-4\",\"lines\":[]}' --wait 60
+
+May be refused: NoId, BadName, TooDeep, TooLong, Nul, Places; words: JSON.
+";
+
+const REPLACE: &str = "
+Puts the document DOC in the place of the one of the collection COLL that has its
+_id.
+
+  --wait SECONDS   waits so long if another process has FILE; else 5
+
+    fallowtime shop.db replace orders '{\"_id\":1,\"price\":2.5,\"city\":\"Ulm\"}'
+    fallowtime shop.db replace orders \"$(cat order.json)\"
+
+May be refused: NotFound, NoId, NoFile, BadName, TooDeep, TooLong, Nul;
+words: JSON.
+";
+
+const GET: &str = "
+Prints the document of the collection COLL with this _id, on a line, as relaxed
+Extended JSON. ID is Extended JSON; a word that is no JSON is the text itself, so
+42 is a number, and '\"42\"' is a text.
+
+  --canonical      prints canonical Extended JSON, with the kind of each number
+  --bson           writes the document as BSON
+  --wait SECONDS   waits so long if another process has FILE; else 5
+
+    fallowtime shop.db get orders A-4
+    fallowtime shop.db get orders '{\"$oid\":\"650000000000000000000002\"}' --canonical
+
+May be refused: NotFound, NoFile, BadName, ReservedKey; words: id.
+";
+
+const SET: &str = "
+Gives a key of the document with this _id a value: in the place of the one that
+it has, or last. KEY is a key at the top of the document, as it is. VALUE is
+Extended JSON, so a text has quotes of its own inside those of the shell.
+
+  --wait SECONDS   waits so long if another process has FILE; else 5
+
+    fallowtime shop.db set orders 1 status '\"paid\"'
+    fallowtime shop.db set orders A-4 price 2.5
+
+May be refused: NotFound, NoFile, BadName, BadKey, TooDeep, TooLong, Nul;
+words: id, words: JSON.
+";
+
+const UNSET: &str = "
+Takes a key away from the document with this _id, and prints `true` if it was
+there, else `false`. KEY is a key at the top of the document, as it is.
+
+  --wait SECONDS   waits so long if another process has FILE; else 5
+
+    fallowtime shop.db unset orders 1 status
+    fallowtime shop.db unset orders '\"42\"' note
+
+May be refused: NotFound, NoFile, BadName, BadKey; words: id.
+";
+
+const UPDATE: &str = "
+Updates the first document of the collection COLL that QUERY selects, or with
+--many all of them, in one step: all or, if one of them can't be updated, none.
+Prints how many were selected, and how many of these are other ones now:
+{\"matched\":3,\"changed\":2}. QUERY is that of find, {} for every document; UPDATE is
+in MongoDB's language: $set, $unset, $inc, $mul, $min, $max, $push, $addToSet,
+$pull, $pullAll, $pop and $rename at paths.
+
+  --many           updates all documents that are selected; else the first
+  --wait SECONDS   waits so long if another process has FILE; else 5
+
+    fallowtime shop.db update orders '{\"_id\":1}' '{\"$set\":{\"customer.city\":\"Ulm\"}}'
+    fallowtime shop.db update orders '{}' '{\"$inc\":{\"price\":-5}}' --many
+
+May be refused: NoFile, BadName, Through, NotANumber, NotAnArray, Decimal,
+Overflow, TooDeep, TooLong, Nul; words: query, words: update.
+";
+
+const DELETE: &str = "
+Removes the first document of the collection COLL that QUERY selects, or with
+--many all of them, in one step, and prints how many: 0 if there is none. QUERY
+is that of find, {} for every document.
+
+  --many           removes all documents that are selected; else the first
+  --wait SECONDS   waits so long if another process has FILE; else 5
+
+    fallowtime shop.db delete orders '{\"status\":\"void\"}' --many
+    fallowtime shop.db delete orders '{\"total\":{\"$lte\":0}}'
+
+May be refused: NoFile, BadName; words: query.
+";
+
+const REMOVE: &str = "
+Removes the document of the collection COLL with this _id.
+
+  --wait SECONDS   waits so long if another process has FILE; else 5
+
+    fallowtime shop.db remove orders 1
+    fallowtime shop.db remove orders '{\"$oid\":\"650000000000000000000002\"}'
+
+May be refused: NotFound, NoFile, BadName; words: id.
+";
+
+const FIND: &str = "
+Prints the documents of the collection COLL that QUERY selects, or all of them, a
+line of relaxed Extended JSON each. QUERY is in MongoDB's language: paths with
+values, $eq, $ne, $gt, $gte, $lt, $lte, $in, $nin, $all, $elemMatch, $size,
+$exists, $type, $mod and $not, joined by $and, $or and $nor; an array is also its
+items.
+
+  --canonical      prints canonical Extended JSON, with the kind of each number
+  --bson           writes the documents as BSON, one after the other
+  --wait SECONDS   waits so long if another process has FILE; else 5
+
+    fallowtime shop.db find orders '{\"customer.city\":\"Ulm\",\"price\":{\"$gt\":10}}'
+    fallowtime shop.db find orders --bson > orders.bson
+
+May be refused: NoFile, BadName, ReservedKey; words: query.
+";
+
+const COUNT: &str = "
+Prints how many documents of the collection COLL the QUERY selects, or how many
+there are. QUERY is that of find.
+
+  --wait SECONDS   waits so long if another process has FILE; else 5
+
+    fallowtime shop.db count orders
+    fallowtime shop.db count orders '{\"$or\":[{\"price\":0},{\"gift\":true}]}'
+
+May be refused: NoFile, BadName; words: query.
+";
+
+const IMPORT: &str = "
+Puts the documents of standard input into the collection COLL, all or none, and
+prints their number. They are BSON, one after the other, each with its _id. A
+FILE that isn't there is made.
+
+  --json           reads lines of Extended JSON, a document each, which without
+                   an _id gets an ObjectId; a line of no bytes is left out
+  --wait SECONDS   waits so long if another process has FILE; else 5
+
+    fallowtime shop.db import orders < orders.bson
+    fallowtime shop.db import orders --json < orders.jsonl
+
+May be refused: DuplicateId, NoId, EndInside, BadLength, NotTerminated, Faulty,
+TooDeep, TooLong, BadName, Places, Reader; words: line.
+";
+
+const EXPORT: &str = "
+Writes all documents of the collection COLL as BSON, one after the other, in
+the order in which they came.
+
+  --wait SECONDS   waits so long if another process has FILE; else 5
+
+    fallowtime shop.db export orders > orders.bson
+    fallowtime shop.db export orders | fallowtime copy.db import orders
+
+May be refused: NoFile, BadName, Writer.
+";
+
+const COLLECTIONS: &str = "
+Prints the names of the collections that have a document, one a line; as texts of
+JSON if one of them has a line feed in it.
+
+  --wait SECONDS   waits so long if another process has FILE; else 5
+
+    fallowtime shop.db collections
+    fallowtime ./-x.db collections --wait 0
+
+May be refused: NoFile.
+";
+
+const BACKUP: &str = "
+Writes all that FILE holds into the new file PATH, also while another process has
+FILE. PATH must not be there.
+
+  --wait SECONDS   waits so long if another process writes FILE without a pause;
+                   else 5
+
+    fallowtime shop.db backup shop-monday.db
+    fallowtime shop.db backup \"shop-$(date +%F).db\"
+
+May be refused: Exists, NoFile.
+";
+
+const INDEX: &str = "
+Makes an index of the collection COLL on a path, the keys between its dots as in
+a QUERY. No answer changes, and queries for a value there come sooner. It is kept
+in memory until the input ends.
+
+    [\"index\",\"orders\",\"customer.city\"]
+
+May be refused: BadName, Database; Words: collection, path.
+";
+
+const DROP_INDEX: &str = "
+Drops the index of the collection COLL on a path, if there is one.
+
+    [\"drop_index\",\"orders\",\"customer.city\"]
+
+May be refused: BadName; Words: collection, path.
+";
+
+const ABOUT_VERSION: &str = "
+Prints `fallowtime` and the number of this version. fallowtime --version says, too,
+from which commit the program was built, and how.
+";
+
+/// The version, as the file VERSION has it.
+pub(crate) const VERSION: &str = "fallowtime 0.1.0\n";
+
+/// What a command does, its options, examples and refusals.
+pub(crate) fn text_of(command: Command) -> &'static str {
+    match command {
+        Command::Insert => INSERT,
+        Command::Put => PUT,
+        Command::Replace => REPLACE,
+        Command::Get => GET,
+        Command::Set => SET,
+        Command::Unset => UNSET,
+        Command::Update => UPDATE,
+        Command::Delete => DELETE,
+        Command::Remove => REMOVE,
+        Command::Find => FIND,
+        Command::Count => COUNT,
+        Command::Import => IMPORT,
+        Command::Export => EXPORT,
+        Command::Collections => COLLECTIONS,
+        Command::Backup => BACKUP,
+        Command::Index => INDEX,
+        Command::DropIndex => DROP_INDEX,
+        Command::Version => ABOUT_VERSION,
+    }
+}

@@ -1,0 +1,10 @@
+mod AskLemmas
+mod CountLemmas
+mod FirstLemmas
+mod InputLemmas
+mod OptionLemmas
+mod OwnIdLemmas
+mod QueryLemmas
+mod StreamLemmas
+mod TreeLemmas
+mod UpdateLemmas

@@ -1,0 +1,6 @@
+pub mod Inputs
+pub mod Reading
+pub mod Reports
+pub mod Requests
+pub mod Streams
+pub mod Updates

@@ -1,0 +1,19 @@
+//! The requests of the program `fallowtime`: what a command with its arguments asks of a store, where the arguments are
+//! words of a command line or the JSON of a line of a session.
+#![tactic(auto)]
+
+mod input;
+mod options;
+mod parts;
+mod reading;
+mod request;
+mod stop;
+mod stream;
+mod unread;
+mod updates;
+
+pub use reading::{Layout, Question, question_of_items, question_of_words};
+pub use request::{Request, Work};
+pub use stop::Stop;
+pub use stream::items_of;
+pub use unread::Unread;

@@ -1,0 +1,63 @@
+//! What is asked of a store.
+
+use bson_model::{Bson, Document};
+use store_question::Question;
+use store_update::Step;
+
+/// What becomes of each document that a change by query means.
+#[derive(Drop)]
+pub enum Work {
+    /// What these steps make of it.
+    Update(Vec<Step>),
+    /// It is removed.
+    Remove,
+}
+
+/// What is asked of one collection, or, with `Collections`, of all, with every text of it read.
+#[derive(Drop)]
+pub enum Request<'w> {
+    /// To put a document in, which has this `_id`.
+    Insert(Bson, Document),
+    /// To put a document in, or to replace the one with its `_id`.
+    Put(Document),
+    /// To replace the document with the `_id` of this one.
+    Replace(Document),
+    /// The document with an `_id`.
+    Get(Bson),
+    /// To put a value under a key of the document with an `_id`.
+    Set(Bson, &'w str, Bson),
+    /// To take a key out of the document with an `_id`.
+    Unset(Bson, &'w str),
+    /// To change the documents that answer a question: all of them, if so, or else the first.
+    Change(Question, Work, bool),
+    /// To remove the document with an `_id`.
+    Remove(Bson),
+    /// The documents that answer a question.
+    Find(Question),
+    /// How many documents answer a question.
+    Count(Question),
+    /// To put in the documents of a stream of BSON, all or none.
+    Import(Vec<u8>),
+    /// To make an index on a path.
+    Index(Vec<String>),
+    /// To drop the index on a path.
+    DropIndex(Vec<String>),
+    /// The names of the collections.
+    Collections,
+}
+
+impl<'w> Request<'w> {
+    ghost use Rattle.std.specs.Prelude.{◌≡◌};
+    ghost use Rattle.fallowtime_requests.specs.Requests.{with_many};
+
+    /// The request with the option `--many`, if that is given: a change by query is then one of all documents that
+    /// answer.
+    pub fn with_many(self, many: bool) -> Request<'w>
+        ensures { result ≡ with_many many self.entry }
+    {
+        match self {
+            Request::Change(question, work, all) => Request::Change(question, work, many || all),
+            other => other,
+        }
+    }
+}

@@ -1,5 +1,0 @@
-use Rattle.fallowtime_session.proofs.StreamLemmas.{SoFar}
-use Rattle.fallowtime_session.proofs.parts.stream_of.Given as goal
-
-abbrev pub invariant-loop-index : goal.invariant-loop-index
-invariant-loop-index l = SoFar l.items l.fn.maker l.maker l.stream.items l.index

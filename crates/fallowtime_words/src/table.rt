@@ -1,0 +1,299 @@
+//! The table of the program's commands: a row each.
+
+use crate::command::Command;
+
+/// What follows a command, by the name that pages and the help have for it.
+#[derive(Clone, Copy, Debug, PartialEq, Eq)]
+pub enum Argument {
+    /// COLL: the name of a collection.
+    Collection,
+    /// DOC: a document of Extended JSON.
+    Document,
+    /// ID: an `_id` of Extended JSON; what is no JSON is the text itself.
+    Id,
+    /// KEY: a key at the top of a document, as it is.
+    Key,
+    /// VALUE: a value of Extended JSON.
+    Value,
+    /// QUERY: a query of the query language. It may be left out.
+    Query,
+    /// QUERY, which may not be left out.
+    Selection,
+    /// UPDATE: an update of the update language.
+    Update,
+    /// OPTIONS: an object of options, which may be left out. On a command line the options are words of their own.
+    Options,
+    /// DOCS: bytes of BSON, or an array of documents. On a command line it is the standard input.
+    Documents,
+    /// PATH of an index: keys with dots between them.
+    IndexPath,
+    /// PATH: a file that isn't there.
+    File,
+}
+
+/// What a command does to FILE.
+#[derive(Clone, Copy, Debug, PartialEq, Eq)]
+pub enum Effect {
+    /// It leaves FILE as it is.
+    Reads,
+    /// It changes a FILE that is there.
+    Changes,
+    /// It changes FILE, and makes one that isn't there.
+    Makes,
+}
+
+/// Where a command is one.
+#[derive(Clone, Copy, Debug, PartialEq, Eq)]
+pub enum Place {
+    /// On a command line, and on a line of a session.
+    Both,
+    /// On a command line alone.
+    CommandLine,
+    /// On a line of a session alone.
+    Session,
+    /// On a command line, alone: it has no FILE.
+    Alone,
+}
+
+/// Which options a command has beside `--wait`.
+#[derive(Clone, Copy, Debug, PartialEq, Eq)]
+pub struct Allowed {
+    /// `--canonical`.
+    pub canonical: bool,
+    /// `--bson`.
+    pub bytes: bool,
+    /// `--json`.
+    pub lines: bool,
+    /// `--many`.
+    pub many: bool,
+}
+
+/// A row of the table.
+#[derive(Clone, Copy, Debug)]
+pub struct Signature {
+    /// The command.
+    pub command: Command,
+    /// Its name.
+    pub name: &'static str,
+    /// What follows the name.
+    pub arguments: &'static [Argument],
+    /// The options that may follow that.
+    pub options: Allowed,
+    /// What it does to FILE.
+    pub effect: Effect,
+    /// Where it is one.
+    pub place: Place,
+    /// What it does, in a line of the help.
+    pub about: &'static str,
+}
+
+const NO_OPTION: Allowed = Allowed {
+    canonical: false,
+    bytes: false,
+    lines: false,
+    many: false,
+};
+
+const CANONICAL: Allowed = Allowed {
+    canonical: true,
+    bytes: false,
+    lines: false,
+    many: false,
+};
+
+const PRINTED: Allowed = Allowed {
+    canonical: true,
+    bytes: true,
+    lines: false,
+    many: false,
+};
+
+const LINES: Allowed = Allowed {
+    canonical: false,
+    bytes: false,
+    lines: true,
+    many: false,
+};
+
+const MANY: Allowed = Allowed {
+    canonical: false,
+    bytes: false,
+    lines: false,
+    many: true,
+};
+
+/// The commands, in the order of the help.
+pub const TABLE: [Signature; 18] = [
+    Signature {
+        command: Command::Insert,
+        name: "insert",
+        arguments: &[Argument::Collection, Argument::Document],
+        options: CANONICAL,
+        effect: Effect::Makes,
+        place: Place::Both,
+        about: "puts a document in, and prints its _id",
+    },
+    Signature {
+        command: Command::Put,
+        name: "put",
+        arguments: &[Argument::Collection, Argument::Document],
+        options: NO_OPTION,
+        effect: Effect::Makes,
+        place: Place::Both,
+        about: "puts a document in, or replaces the one with its _id",
+    },
+    Signature {
+        command: Command::Replace,
+        name: "replace",
+        arguments: &[Argument::Collection, Argument::Document],
+        options: NO_OPTION,
+        effect: Effect::Changes,
+        place: Place::Both,
+        about: "puts a document in the place of the one with its _id",
+    },
+    Signature {
+        command: Command::Get,
+        name: "get",
+        arguments: &[Argument::Collection, Argument::Id],
+        options: PRINTED,
+        effect: Effect::Reads,
+        place: Place::Both,
+        about: "prints the document with this _id",
+    },
+    Signature {
+        command: Command::Set,
+        name: "set",
+        arguments: &[
+            Argument::Collection,
+            Argument::Id,
+            Argument::Key,
+            Argument::Value,
+        ],
+        options: NO_OPTION,
+        effect: Effect::Changes,
+        place: Place::Both,
+        about: "gives a key of a document a value",
+    },
+    Signature {
+        command: Command::Unset,
+        name: "unset",
+        arguments: &[Argument::Collection, Argument::Id, Argument::Key],
+        options: NO_OPTION,
+        effect: Effect::Changes,
+        place: Place::Both,
+        about: "takes a key away, and prints whether it was there",
+    },
+    Signature {
+        command: Command::Update,
+        name: "update",
+        arguments: &[
+            Argument::Collection,
+            Argument::Selection,
+            Argument::Update,
+            Argument::Options,
+        ],
+        options: MANY,
+        effect: Effect::Changes,
+        place: Place::Both,
+        about: "updates the selected documents, and prints how many",
+    },
+    Signature {
+        command: Command::Delete,
+        name: "delete",
+        arguments: &[Argument::Collection, Argument::Selection, Argument::Options],
+        options: MANY,
+        effect: Effect::Changes,
+        place: Place::Both,
+        about: "removes the first selected document, with --many all",
+    },
+    Signature {
+        command: Command::Remove,
+        name: "remove",
+        arguments: &[Argument::Collection, Argument::Id],
+        options: NO_OPTION,
+        effect: Effect::Changes,
+        place: Place::Both,
+        about: "removes the document with this _id",
+    },
+    Signature {
+        command: Command::Find,
+        name: "find",
+        arguments: &[Argument::Collection, Argument::Query],
+        options: PRINTED,
+        effect: Effect::Reads,
+        place: Place::Both,
+        about: "prints the documents that are selected, or all",
+    },
+    Signature {
+        command: Command::Count,
+        name: "count",
+        arguments: &[Argument::Collection, Argument::Query],
+        options: NO_OPTION,
+        effect: Effect::Reads,
+        place: Place::Both,
+        about: "prints how many are selected, or are there",
+    },
+    Signature {
+        command: Command::Import,
+        name: "import",
+        arguments: &[Argument::Collection, Argument::Documents],
+        options: LINES,
+        effect: Effect::Makes,
+        place: Place::Both,
+        about: "puts the documents of standard input in, all or none",
+    },
+    Signature {
+        command: Command::Export,
+        name: "export",
+        arguments: &[Argument::Collection],
+        options: NO_OPTION,
+        effect: Effect::Reads,
+        place: Place::Both,
+        about: "writes all documents as BSON",
+    },
+    Signature {
+        command: Command::Collections,
+        name: "collections",
+        arguments: &[],
+        options: NO_OPTION,
+        effect: Effect::Reads,
+        place: Place::Both,
+        about: "prints the names of the collections",
+    },
+    Signature {
+        command: Command::Backup,
+        name: "backup",
+        arguments: &[Argument::File],
+        options: NO_OPTION,
+        effect: Effect::Reads,
+        place: Place::CommandLine,
+        about: "writes all that FILE holds into the new file PATH",
+    },
+    Signature {
+        command: Command::Index,
+        name: "index",
+        arguments: &[Argument::Collection, Argument::IndexPath],
+        options: NO_OPTION,
+        effect: Effect::Reads,
+        place: Place::Session,
+        about: "makes an index on a path, until the input ends",
+    },
+    Signature {
+        command: Command::DropIndex,
+        name: "drop_index",
+        arguments: &[Argument::Collection, Argument::IndexPath],
+        options: NO_OPTION,
+        effect: Effect::Reads,
+        place: Place::Session,
+        about: "drops an index",
+    },
+    Signature {
+        command: Command::Version,
+        name: "version",
+        arguments: &[],
+        options: NO_OPTION,
+        effect: Effect::Reads,
+        place: Place::Alone,
+        about: "prints which version this is",
+    },
+];

@@ -1,0 +1,24 @@
+-- Documents of a store behind a filter in front of a question.
+use Rattle.std.proofs.Common.{◌≡◌, [], ◌∷◌, Some, sym, subst, arith}
+use Rattle.std.specs.List.{AllByRecursion}
+use Rattle.bson_base.specs.Value.{Members, document}
+use Rattle.store_filter.specs.Views.{ComesBack}
+use Rattle.store_model.specs.Filter.{Filter, Selects, all_of, no_filters}
+use Rattle.store_model.specs.Reading.{Documents}
+use Rattle.store_model.specs.State.{AreKept, IsKept}
+use Rattle.store_question.specs.Asked.{Answers, Asked}
+use Rattle.store_question.specs.Reads.{Form}
+use Rattle.store_question_front.specs.Front.{Passes}
+use Rattle.store_asked.specs.Fronts.{Fronts}
+
+-- the filter that selects everything
+pub all_front : (form : Form) (f : Filter) → f ≡ all_of no_filters → Fronts form f
+all_front form f is q reads v back answers = subst (λ x. Selects x v) (sym is) tt
+
+kept_back : (d : Members) → IsKept d → ComesBack (document d)
+kept_back d kept = record { clean = kept.read.clean; sound = kept.read.sound; short = omega (arith, kept.small) }
+
+-- of documents that a store keeps
+pub kept_pass : (q : Asked) (f : Filter) (ds : Documents) → Passes q f → AreKept ds → AllByRecursion (λ (d : Members). Answers q (Some (document d)) → Selects f (document d)) ds
+kept_pass q f [] passes kept = tt
+kept_pass q f (d ∷ ds) passes kept = ((λ answers. passes (document d) (kept_back d kept.0) answers), kept_pass q f ds passes kept.1)

@@ -1,0 +1,5 @@
+mod AnswerLemmas
+mod GatherLemmas
+mod KeepLemmas
+mod FrontLemmas
+pub mod AskLemmas

@@ -1,0 +1,4 @@
+pub mod Arranged
+pub mod Keeps
+pub mod Asking
+pub mod Fronts

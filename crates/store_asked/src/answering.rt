@@ -1,0 +1,36 @@
+//! The documents that answer a question.
+
+use bson_raw::RawDocument;
+use bson_store::{StoreError, Take};
+use store_lookup::Choose;
+use store_question::{Question, answers};
+
+/// Hands on the documents that answer a question, and none of the others, to another taker.
+#[derive(Drop)]
+pub struct Answering<'a, T> {
+    pub question: &'a Question,
+    pub taker: T,
+}
+
+impl<'a, T: Take> Take for Answering<'a, T> {
+    ghost use Rattle.store_asked.specs.Keeps.{TookAnswers};
+
+    ghost took = { λ first t out. TookAnswers T.took first t out };
+
+    fn take(&mut self, document: RawDocument<'_>) -> Result<(), StoreError> {
+        if answers(document, self.question) {
+            self.taker.take(document)?;
+        }
+        Ok(())
+    }
+
+    fn is_done(&self) -> bool {
+        self.taker.is_done()
+    }
+}
+
+impl<'a, T: Choose> Choose for Answering<'a, T> {
+    fn chooses(&self, document: RawDocument<'_>) -> bool {
+        answers(document, self.question)
+    }
+}

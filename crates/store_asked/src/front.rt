@@ -1,0 +1,63 @@
+//! The filter by which a store is read for a question.
+
+ghost use Rattle.std.specs.Prelude.{◌≡◌};
+ghost use Rattle.store_filter.specs.Filters.{filter_of};
+ghost use Rattle.store_model.specs.Filter.{all_of, no_filters};
+ghost use Rattle.store_question.specs.Reads.{form_of};
+ghost use Rattle.store_asked.specs.Fronts.{Fronts};
+
+use bson_store::Store;
+use sqlite::Alter;
+use std::alloc::Global;
+use store_filter::Filter;
+use store_question::Question;
+use store_question_front::prefilter;
+
+/// The filter that selects everything.
+pub(crate) fn select_all(alloc: Global) -> Filter
+    ensures { filter_of result ≡ all_of no_filters }
+{
+    Filter::And(Vec::new(alloc))
+}
+
+/// Whether the collection `name` has an index on a path that the question names. If it has none, no index serves the
+/// question, and a filter in front of it would only cost time.
+#[cycle(indexed)]
+fn is_indexed<S: Alter + Drop>(store: &Store<S>, name: &str, question: &Question) -> bool {
+    match question {
+        Question::At(path, _) => store.has_index(name, path.as_slice()),
+        Question::Whole(path, _) => store.has_index(name, path.as_slice()),
+        Question::All(list) => has_indexed(store, name, list.as_slice()),
+        Question::Any(list) => has_indexed(store, name, list.as_slice()),
+        _ => false,
+    }
+}
+
+#[cycle(indexed)]
+fn has_indexed<S: Alter + Drop>(store: &Store<S>, name: &str, list: &[Question]) -> bool {
+    for question in list {
+        if is_indexed(store, name, question) {
+            return true;
+        }
+    }
+    false
+}
+
+/// A filter that selects each document which answers the question, so that an index can serve it: that of everything, if
+/// no index is on a path of the question, or if there is no memory for a better one.
+pub(crate) fn filter_in_front<S: Alter + Drop>(
+    alloc: Global,
+    store: &Store<S>,
+    name: &str,
+    question: &Question,
+) -> Filter
+    ensures { Fronts (form_of question.now) (filter_of result) }
+{
+    if !is_indexed(store, name, question) {
+        return select_all(alloc);
+    }
+    match prefilter(alloc, question) {
+        Ok(filter) => filter,
+        Err(_) => select_all(alloc),
+    }
+}

@@ -1,0 +1,5 @@
+mod FrontLemmas
+mod ArmLemmas
+mod FilterLemmas
+mod PathLemmas
+mod AnswerLemmas

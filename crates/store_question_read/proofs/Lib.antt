@@ -1,0 +1,8 @@
+mod ReadableLemmas
+mod SpelledLemmas
+mod HeldLemmas
+mod OnwardLemmas
+mod LoopLemmas
+mod LeafLemmas
+mod MadeLemmas
+mod QueryLemmas

@@ -1,0 +1,4 @@
+pub mod Values
+pub mod Kinds
+pub mod Query
+pub mod Outcome

@@ -1,0 +1,14 @@
+//! Queries in MongoDB's language as questions to documents.
+#![tactic(auto)]
+
+mod conditions;
+mod error;
+mod kinds;
+mod made;
+mod query;
+mod values;
+mod words;
+
+pub use error::QueryError;
+pub use made::keys_of;
+pub use query::{query_of, read_query};

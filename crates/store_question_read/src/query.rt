@@ -1,0 +1,367 @@
+//! Queries.
+
+ghost use Rattle.std.specs.Prelude.{◌≡◌, map, []};
+ghost use Rattle.json.specs.Json.{object};
+ghost use Rattle.json.specs.Value.{items_view, members_view, value_view as data_of};
+ghost use Rattle.store_question_read.specs.Outcome.{AskEach, Asks, Gives, IsQuery};
+ghost use Rattle.store_question_read.specs.Query.{condition as condition_at, each as each_at, entries as entries_at, entry as entry_at, items as items_at, joining_of, kind_or_kinds, listed as listed_at, match_alone as match_alone_at, matching as matching_at, one_at_least, operator_of, operators as operators_at, query, test as test_at, tests as tests_at};
+
+use crate::conditions::{differs, divided, equals, exactly, filled, lies, of_kind, sized, there};
+use crate::error::{QueryError, operand, operator};
+use crate::made;
+use crate::words::{
+    Joining, Listed, Operator, are_of_items, are_operators, begins_with_dollar, has_operators,
+    joining_named, operator_named,
+};
+use json::{MAX_DEPTH, Reader, Scratch, Value};
+use std::alloc::{AllocError, Global};
+use store_question::Question;
+
+/// The question of a query, an object of MongoDB's query language: `{"customer.city":"Ulm","price":{"$gte":10}}`. All of
+/// its entries are asked, both if a tree has two of one key. `Query` if it, or what `$and`, `$or` or `$nor` joins, is no
+/// object, `Operator` for a key that is no operator at its place, `Operand` for a value that doesn't belong under its
+/// path or operator, which is named, and `Memory` if a growth was refused, or a value has more than 1000 levels. It is
+/// the first of these faults in the order of the text.
+#[cycle(query)]
+pub fn query_of(alloc: Global, tree: &Value<'_>) -> Result<Question, QueryError>
+    ensures { Gives Asks result (query (data_of tree.now)) }
+{
+    match tree {
+        Value::Object(members) => all_entries(alloc, members.as_slice()),
+        _ => Err(QueryError::Query),
+    }
+}
+
+#[cycle(query)]
+fn all_entries(alloc: Global, members: &[(&str, Value<'_>)]) -> Result<Question, QueryError>
+    ensures { Gives Asks result (query (object (members_view members.now))) }
+{
+    let list = entries(alloc, members)?;
+    Ok(made::all(list))
+}
+
+#[cycle(query)]
+fn entries(alloc: Global, members: &[(&str, Value<'_>)]) -> Result<Vec<Question>, QueryError>
+    ensures { Gives AskEach result (entries_at (members_view members.now)) }
+{
+    let mut questions = Vec::new(alloc);
+    for (key, body) in members {
+        let question = entry(alloc, *key, body)?;
+        questions.push(question)?;
+    }
+    Ok(questions)
+}
+
+#[cycle(query)]
+fn entry(alloc: Global, key: &str, body: &Value<'_>) -> Result<Question, QueryError>
+    ensures { Gives Asks result (entry_at key.now (joining_of key.now) (items_at [] key.now Listed.Queries (data_of body.now)) (condition_at key.now (data_of body.now))) }
+{
+    match joining_named(key) {
+        Some(Joining::And) => {
+            let list = queries(alloc, key, body)?;
+            Ok(made::all(list))
+        }
+        Some(Joining::Or) => {
+            let list = queries(alloc, key, body)?;
+            Ok(made::any(list))
+        }
+        Some(Joining::Nor) => {
+            let list = queries(alloc, key, body)?;
+            Ok(made::none(alloc, list)?)
+        }
+        Some(Joining::Comment) => Ok(made::all(Vec::new(alloc))),
+        None => {
+            if begins_with_dollar(key) {
+                Err(operator(alloc, key))
+            } else {
+                condition(alloc, key, body)
+            }
+        }
+    }
+}
+
+/// The queries that a key joins, one at least.
+#[cycle(query)]
+fn queries(alloc: Global, key: &str, body: &Value<'_>) -> Result<Vec<Question>, QueryError>
+    ensures { Gives AskEach result (one_at_least key.now (items_at [] key.now Listed.Queries (data_of body.now))) }
+{
+    let list = items(alloc, &[], key, Listed::Queries, body)?;
+    filled(alloc, key, list)
+}
+
+/// What is asked of a path: operators, or that it has a value.
+#[cycle(query)]
+fn condition(alloc: Global, key: &str, body: &Value<'_>) -> Result<Question, QueryError>
+    ensures { Gives Asks result (condition_at key.now (data_of body.now)) }
+{
+    let pieces = made::pieces(alloc, key)?;
+    if has_operators(body) {
+        operators(alloc, pieces.as_slice(), key, body)
+    } else {
+        equals(alloc, pieces.as_slice(), key, body)
+    }
+}
+
+/// All operators of an object.
+#[cycle(query)]
+fn operators(
+    alloc: Global,
+    path: &[&str],
+    key: &str,
+    body: &Value<'_>,
+) -> Result<Question, QueryError>
+    ensures { Gives Asks result (operators_at (map (λ x. x.now) path.now) key.now (data_of body.now)) }
+{
+    match body {
+        Value::Object(members) => all_tests(alloc, path, key, members.as_slice()),
+        _ => Err(operand(alloc, key)),
+    }
+}
+
+#[cycle(query)]
+fn all_tests(
+    alloc: Global,
+    path: &[&str],
+    key: &str,
+    members: &[(&str, Value<'_>)],
+) -> Result<Question, QueryError>
+    ensures { Gives Asks result
+        (operators_at (map (λ x. x.now) path.now) key.now (object (members_view members.now))) }
+{
+    if are_operators(members) {
+        let list = tests(alloc, path, members)?;
+        Ok(made::all(list))
+    } else {
+        Err(operand(alloc, key))
+    }
+}
+
+#[cycle(query)]
+fn tests(
+    alloc: Global,
+    path: &[&str],
+    members: &[(&str, Value<'_>)],
+) -> Result<Vec<Question>, QueryError>
+    ensures { Gives AskEach result (tests_at (map (λ x. x.now) path.now) (members_view members.now)) }
+{
+    let mut questions = Vec::new(alloc);
+    for (key, body) in members {
+        let question = test(alloc, path, *key, body)?;
+        questions.push(question)?;
+    }
+    Ok(questions)
+}
+
+#[cycle(query)]
+fn test(alloc: Global, path: &[&str], key: &str, body: &Value<'_>) -> Result<Question, QueryError>
+    ensures { Gives Asks result (test_at (map (λ x. x.now) path.now) key.now (operator_of key.now) (data_of body.now) (λ l. items_at (map (λ x. x.now) path.now) key.now l (data_of body.now)) (operators_at (map (λ x. x.now) path.now) key.now (data_of body.now)) (matching_at (map (λ x. x.now) path.now) key.now (data_of body.now))) }
+{
+    match operator_named(key) {
+        Some(Operator::Eq) => exactly(alloc, path, key, body),
+        Some(Operator::Ne) => differs(alloc, path, key, body),
+        Some(Operator::Lies(comparison)) => lies(alloc, path, key, comparison, body),
+        Some(Operator::Size) => sized(alloc, path, key, body),
+        Some(Operator::Exists) => there(alloc, path, key, body),
+        Some(Operator::Mod) => divided(alloc, path, key, body),
+        Some(Operator::ElementMatch) => matching(alloc, path, key, body),
+        Some(Operator::Not) => {
+            let inner = operators(alloc, path, key, body)?;
+            Ok(made::not(alloc, inner)?)
+        }
+        Some(Operator::In) => {
+            let list = items(alloc, path, key, Listed::Values, body)?;
+            Ok(made::any(list))
+        }
+        Some(Operator::Nin) => {
+            let list = items(alloc, path, key, Listed::Values, body)?;
+            Ok(made::none(alloc, list)?)
+        }
+        Some(Operator::All) => {
+            let list = items(alloc, path, key, Listed::Parts, body)?;
+            Ok(made::every(list))
+        }
+        Some(Operator::Kind) => of_kinds(alloc, path, key, body),
+        None => Err(operator(alloc, key)),
+    }
+}
+
+/// The value at the path is of a kind, or of one of several.
+#[cycle(query)]
+fn of_kinds(
+    alloc: Global,
+    path: &[&str],
+    key: &str,
+    body: &Value<'_>,
+) -> Result<Question, QueryError>
+    ensures { Gives Asks result (kind_or_kinds (map (λ x. x.now) path.now) key.now (data_of body.now)
+        (items_at (map (λ x. x.now) path.now) key.now Listed.Kinds (data_of body.now))) }
+{
+    match body {
+        Value::Array(_) => {
+            let list = items(alloc, path, key, Listed::Kinds, body)?;
+            let kinds = filled(alloc, key, list)?;
+            Ok(made::any(kinds))
+        }
+        _ => of_kind(alloc, path, key, body),
+    }
+}
+
+/// What an item of the array at the path has to match: operators, or a query.
+#[cycle(query)]
+fn matching(
+    alloc: Global,
+    path: &[&str],
+    key: &str,
+    body: &Value<'_>,
+) -> Result<Question, QueryError>
+    ensures { Gives Asks result (matching_at (map (λ x. x.now) path.now) key.now (data_of body.now)) }
+{
+    match body {
+        Value::Object(members) => item_matching(alloc, path, key, members.as_slice()),
+        _ => Err(operand(alloc, key)),
+    }
+}
+
+#[cycle(query)]
+fn item_matching(
+    alloc: Global,
+    path: &[&str],
+    key: &str,
+    members: &[(&str, Value<'_>)],
+) -> Result<Question, QueryError>
+    ensures { Gives Asks result
+        (matching_at (map (λ x. x.now) path.now) key.now (object (members_view members.now))) }
+{
+    if are_of_items(members) {
+        let list = tests(alloc, &[], members)?;
+        Ok(made::item(alloc, path, made::all(list))?)
+    } else {
+        let list = entries(alloc, members)?;
+        Ok(made::item(alloc, path, made::holds(alloc, list)?)?)
+    }
+}
+
+/// `$elemMatch` alone, as an item of `$all`.
+#[cycle(query)]
+fn match_alone(
+    alloc: Global,
+    path: &[&str],
+    key: &str,
+    body: &Value<'_>,
+) -> Result<Question, QueryError>
+    ensures { Gives Asks result (match_alone_at (map (λ x. x.now) path.now) key.now (data_of body.now)) }
+{
+    match body {
+        Value::Object(members) => only_match(alloc, path, key, members.as_slice()),
+        _ => Err(operand(alloc, key)),
+    }
+}
+
+#[cycle(query)]
+fn only_match(
+    alloc: Global,
+    path: &[&str],
+    key: &str,
+    members: &[(&str, Value<'_>)],
+) -> Result<Question, QueryError>
+    ensures { Gives Asks result
+        (match_alone_at (map (λ x. x.now) path.now) key.now (object (members_view members.now))) }
+{
+    match members {
+        [(name, wanted)] => {
+            if *name == "$elemMatch" {
+                matching(alloc, path, *name, wanted)
+            } else {
+                Err(operand(alloc, key))
+            }
+        }
+        _ => Err(operand(alloc, key)),
+    }
+}
+
+/// What each item of an array asks.
+#[cycle(query)]
+fn items(
+    alloc: Global,
+    path: &[&str],
+    key: &str,
+    listed: Listed,
+    body: &Value<'_>,
+) -> Result<Vec<Question>, QueryError>
+    ensures { Gives AskEach result (items_at (map (λ x. x.now) path.now) key.now listed (data_of body.now)) }
+{
+    match body {
+        Value::Array(items) => each(alloc, path, key, listed, items.as_slice()),
+        _ => Err(operand(alloc, key)),
+    }
+}
+
+#[cycle(query)]
+fn each(
+    alloc: Global,
+    path: &[&str],
+    key: &str,
+    listed: Listed,
+    items: &[Value<'_>],
+) -> Result<Vec<Question>, QueryError>
+    ensures { Gives AskEach result (each_at (map (λ x. x.now) path.now) key.now listed (items_view items.now)) }
+{
+    let mut questions = Vec::new(alloc);
+    for item in items {
+        let question = one(alloc, path, key, listed, item)?;
+        questions.push(question)?;
+    }
+    Ok(questions)
+}
+
+#[cycle(query)]
+fn one(
+    alloc: Global,
+    path: &[&str],
+    key: &str,
+    listed: Listed,
+    item: &Value<'_>,
+) -> Result<Question, QueryError>
+    ensures { Gives Asks result (listed_at (map (λ x. x.now) path.now) key.now listed (data_of item.now) (query (data_of item.now)) (match_alone_at (map (λ x. x.now) path.now) key.now (data_of item.now))) }
+{
+    match listed {
+        Listed::Queries => query_of(alloc, item),
+        Listed::Values => {
+            if has_operators(item) {
+                Err(operand(alloc, key))
+            } else {
+                equals(alloc, path, key, item)
+            }
+        }
+        Listed::Parts => {
+            if has_operators(item) {
+                match_alone(alloc, path, key, item)
+            } else {
+                equals(alloc, path, key, item)
+            }
+        }
+        Listed::Kinds => of_kind(alloc, path, key, item),
+    }
+}
+
+/// The byte at which a text is seen to be no JSON.
+fn fault_in(text: &str, scratch: &mut Scratch) -> Result<usize, AllocError> {
+    let mut reader = Reader::new(text, scratch)?;
+    let _passed = reader.skip_value(MAX_DEPTH);
+    Ok(reader.offset())
+}
+
+/// The question of a text of JSON (RFC 8259). `scratch` is room that is kept from text to text. `Json` if the text is no
+/// JSON or nests deeper than 128 levels, with the byte, `RepeatedKey` if an object in it has a key twice; else the
+/// errors are those of `query_of`.
+pub fn read_query(alloc: Global, text: &str, scratch: &mut Scratch) -> Result<Question, QueryError>
+    ensures { IsQuery text.now result }
+{
+    match Value::parse_strict(alloc, text, scratch) {
+        Ok(tree) => return query_of(alloc, &tree),
+        Err(json::Error::OutOfMemory) => return Err(QueryError::Memory),
+        Err(json::Error::DuplicateKey) => return Err(QueryError::RepeatedKey),
+        Err(_) => {}
+    }
+    Err(QueryError::Json(fault_in(text, scratch)?))
+}

@@ -1,0 +1,128 @@
+//! The words of the language.
+
+ghost use Rattle.std.specs.Prelude.{◌≡◌};
+ghost use Rattle.json.specs.Value.{members_view, value_view as data_of};
+ghost use Rattle.store_question_read.specs.Query.{are_of_items as of_items_in, are_operators as operators_in, begins_with_dollar as dollar_in, has_operators as operators_inside, joining_of, names_operator as operator_named_by, operator_of};
+
+use bson_model::extjson::de::is_reserved_key;
+use json::Value;
+use store_question::Comparison;
+
+/// What a key that begins with `$` is at the top of a query.
+#[derive(Clone, Copy, Drop)]
+pub(crate) enum Joining {
+    And,
+    Or,
+    Nor,
+    Comment,
+}
+
+/// The operators under a path.
+#[derive(Clone, Copy, Drop)]
+pub(crate) enum Operator {
+    Eq,
+    Ne,
+    Lies(Comparison),
+    In,
+    Nin,
+    All,
+    ElementMatch,
+    Size,
+    Exists,
+    Kind,
+    Mod,
+    Not,
+}
+
+/// What the items of an array under an operator are.
+#[derive(Clone, Copy, Drop)]
+pub(crate) enum Listed {
+    Queries,
+    Values,
+    /// Under `$all`: a value, or `$elemMatch` alone.
+    Parts,
+    Kinds,
+}
+
+#[tactic(auto, unfolding(crate::specs::Query::joining_of))]
+pub(crate) fn joining_named(key: &str) -> Option<Joining>
+    ensures { result ≡ joining_of key.now }
+{
+    match key {
+        "$and" => Some(Joining::And),
+        "$or" => Some(Joining::Or),
+        "$nor" => Some(Joining::Nor),
+        "$comment" => Some(Joining::Comment),
+        _ => None,
+    }
+}
+
+#[tactic(auto, unfolding(crate::specs::Query::operator_of))]
+pub(crate) fn operator_named(key: &str) -> Option<Operator>
+    ensures { result ≡ operator_of key.now }
+{
+    match key {
+        "$eq" => Some(Operator::Eq),
+        "$ne" => Some(Operator::Ne),
+        "$gt" => Some(Operator::Lies(Comparison::Greater)),
+        "$gte" => Some(Operator::Lies(Comparison::AtLeast)),
+        "$lt" => Some(Operator::Lies(Comparison::Less)),
+        "$lte" => Some(Operator::Lies(Comparison::AtMost)),
+        "$in" => Some(Operator::In),
+        "$nin" => Some(Operator::Nin),
+        "$all" => Some(Operator::All),
+        "$elemMatch" => Some(Operator::ElementMatch),
+        "$size" => Some(Operator::Size),
+        "$exists" => Some(Operator::Exists),
+        "$type" => Some(Operator::Kind),
+        "$mod" => Some(Operator::Mod),
+        "$not" => Some(Operator::Not),
+        _ => None,
+    }
+}
+
+pub(crate) fn begins_with_dollar(key: &str) -> bool
+    ensures { result ≡ dollar_in key.now }
+{
+    match key.as_bytes() {
+        [] => false,
+        [first, ..] => *first == b'$',
+    }
+}
+
+/// Whether a key makes the object that begins with it one of operators.
+fn names_operator(key: &str) -> bool
+    ensures { result ≡ operator_named_by key.now }
+{
+    begins_with_dollar(key) && !is_reserved_key(key) && key != "$ref"
+}
+
+/// Whether an object with these members is one of operators: its first key is for an operator.
+pub(crate) fn are_operators(members: &[(&str, Value<'_>)]) -> bool
+    ensures { result ≡ operators_in (members_view members.now) }
+{
+    match members {
+        [] => false,
+        [(key, _), ..] => names_operator(*key),
+    }
+}
+
+/// Whether a tree is an object of operators.
+pub(crate) fn has_operators(tree: &Value<'_>) -> bool
+    ensures { result ≡ operators_inside (data_of tree.now) }
+{
+    match tree {
+        Value::Object(members) => are_operators(members.as_slice()),
+        _ => false,
+    }
+}
+
+/// Whether these members are operators that are asked of each item itself.
+pub(crate) fn are_of_items(members: &[(&str, Value<'_>)]) -> bool
+    ensures { result ≡ of_items_in (members_view members.now) }
+{
+    match members {
+        [] => false,
+        [(key, _), ..] => operator_named(*key).is_some(),
+    }
+}

@@ -1,0 +1,4 @@
+pub mod Order
+pub mod Bodies
+pub mod Held
+pub mod Texts

@@ -1,0 +1,44 @@
+//! Places in a sorted list.
+
+ghost use Rattle.std.specs.Prelude.{◌≡◌, ◌≤◌, length, List, IsTrue};
+ghost use Rattle.std.specs.List.Sorted.{IsSortedBy};
+ghost use Rattle.store_sorted.specs.Bodies.{AreBodies, GoesLast, IsPlaceFor, keys_of, OfBody};
+ghost use Rattle.bson_base.specs.Value.{Members};
+ghost use Rattle.store_sorted.specs.Order.{goes_before};
+
+use crate::compare::is_before;
+use crate::keys::SortKey;
+
+/// The place behind the bodies that this one doesn't go before.
+pub(crate) fn place_for(bodies: &[Vec<u8>], body: &[u8], keys: &[SortKey]) -> usize
+    ensures within { result ≤ length bodies.now }
+    ensures place { (es : List Members) → AreBodies bodies.now es → IsSortedBy (goes_before (keys_of keys.now)) es
+        → OfBody body.now (λ d. IsPlaceFor (keys_of keys.now) d es result) }
+{
+    if goes_last(bodies, body, keys) {
+        return bodies.len();
+    }
+    let mut low = 0;
+    let mut high = bodies.len();
+    while low < high {
+        let middle = low + (high - low) / 2;
+        if is_before(body, bodies[middle].as_slice(), keys) {
+            high = middle;
+        } else {
+            low = middle + 1;
+        }
+    }
+    low
+}
+
+/// Whether it doesn't go before the last one, which is so of most documents if few are held.
+fn goes_last(bodies: &[Vec<u8>], body: &[u8], keys: &[SortKey]) -> bool
+    ensures { (es : List Members) → AreBodies bodies.now es → OfBody body.now
+        (λ d. IsTrue result → GoesLast (keys_of keys.now) d es) }
+{
+    if bodies.is_empty() {
+        return true;
+    }
+    let last = bodies[bodies.len() - 1].as_slice();
+    !is_before(body, last, keys)
+}

@@ -1,0 +1,5 @@
+pub mod DoubleLemmas
+pub mod NumberLemmas
+pub mod UpdateLemmas
+pub mod IdLemmas
+pub mod SetLemmas

@@ -1,0 +1,5 @@
+pub mod Number
+pub mod Arrays
+pub mod Plan
+pub mod Update
+pub mod Answer

@@ -1,0 +1,12 @@
+//! Updates in MongoDB's language as steps of store_update.
+#![tactic(auto)]
+
+mod error;
+mod operands;
+mod paths;
+mod update;
+mod values;
+mod words;
+
+pub use error::{ReadError, Reason};
+pub use update::{read_update, update_of};

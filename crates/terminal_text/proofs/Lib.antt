@@ -1,0 +1,2 @@
+mod HarmlessLemmas
+mod WritingLemmas
