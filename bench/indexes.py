@@ -54,7 +54,7 @@ class Session:
             self.process.stdin.flush()
             for _ in lines[first:first + 100]:
                 answer = self.process.stdout.readline()
-                assert answer and b"refused" not in answer, answer
+                assert answer and b"error" not in answer, answer
         return json.loads(answer), self.busy() - began
 
     def close(self):

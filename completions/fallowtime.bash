@@ -33,11 +33,11 @@ _fallowtime_files() {
 
 _fallowtime() {
     local word=${COMP_WORDS[COMP_CWORD]} before=${COMP_WORDS[COMP_CWORD - 1]} options=--wait front
-    local commands=(insert put replace get set unset remove find count import export collections backup)
+    local commands=(insert put replace get set unset update delete remove find count import export collections backup)
     COMPREPLY=()
     if [ "$COMP_CWORD" -eq 1 ]; then
         case $word in -*) _fallowtime_among "$word" --help --version --explain ;; *) _fallowtime_files "$word" ;; esac
-        [ ${#COMPREPLY[@]} -gt 0 ] || _fallowtime_among "$word" "${commands[@]}"
+        [ ${#COMPREPLY[@]} -gt 0 ] || _fallowtime_among "$word" help version "${commands[@]}"
         return
     fi
     case ${COMP_WORDS[1]} in
@@ -46,7 +46,11 @@ _fallowtime() {
         _fallowtime_among "$word" $("$1" --explain 2>&1 </dev/null | sed -n 's/.*the kinds are: //p')
         return
         ;;
-    -*) return ;;
+    help)
+        [ "$COMP_CWORD" -gt 2 ] || _fallowtime_among "$word" "${commands[@]}" version
+        return
+        ;;
+    version | -*) return ;;
     esac
     if [ "$COMP_CWORD" -eq 2 ]; then
         case $word in -*) _fallowtime_among "$word" --wait --help ;; *) _fallowtime_among "$word" "${commands[@]}" ;; esac
@@ -58,6 +62,8 @@ _fallowtime() {
     get) front=5 options="--canonical --bson --wait" ;;
     set) front=7 ;;
     unset) front=6 ;;
+    update) front=6 options="--many --wait" ;;
+    delete) front=5 options="--many --wait" ;;
     find) front=4 options="--canonical --bson --wait" ;;
     count) front=4 ;;
     import) front=4 options="--json --wait" ;;

@@ -18,6 +18,8 @@ import re
 import subprocess
 import sys
 
+import command_table
+
 # The columns of a line, and of a cell of a table without the targets of its links.
 WIDTH, CELL = 120, 240
 # The lines of a page that needs no table of contents.
@@ -205,17 +207,22 @@ def wrong_decisions():
 
 
 def wrong_commands():
-    """Commands that COMMANDS and the help of a program don't both have."""
+    """Commands that COMMANDS and a program don't both have: fallowtime by its table, and bson_store by its help."""
     page = ROOT / "docs/COMMANDS.md"
-    for program in ("fallowtime", "bson_store"):
+    helped = subprocess.run([ROOT / "bson_store", "--help"], capture_output=True, text=True).stdout
+    told = {"fallowtime": {" ".join(filter(None, row[:2])) for row in command_table.rows("Both", "CommandLine", "Alone")},
+            "bson_store": set(re.findall(r"^  ([a-z]+)(?: |$)", helped, re.M))}
+    for program, names in told.items():
         table = re.search(rf"^### Commands of `{program}`\n(.*?)^#", page.read_text(), re.M | re.S)[1]
-        shown = set(re.findall(r"^\| `([a-z]+)[ `]", table, re.M))
-        helped = subprocess.run([ROOT / program, "--help"], capture_output=True, text=True).stdout
-        told = set(re.findall(r"^  ([a-z]+)(?: |$)", helped, re.M))
-        for name in sorted(shown - told):
-            yield page, 1, f"the command {name}, which {program} --help hasn't"
-        for name in sorted(told - shown):
-            yield page, 1, f"no command {name}, which {program} --help has"
+        shown = set(re.findall(r"^\| `(.*?)` " if program == "fallowtime" else r"^\| `([a-z]+)[ `]", table, re.M))
+        for name in sorted(shown - names):
+            yield page, 1, f"the command {name}, which {program} hasn't"
+        for name in sorted(names - shown):
+            yield page, 1, f"no command {name}, which {program} has"
+    lines = re.search(r"^### Lines over one opening\n(.*?)^#", page.read_text(), re.M | re.S)[1]
+    for name, _, _ in command_table.rows("Both", "Session"):
+        if f'["{name}"' not in lines:
+            yield page, 1, f"no line of {name}, which a session takes"
 
 
 def signatures(crate):
@@ -233,7 +240,7 @@ def signatures(crate):
 def wrong_calls():
     """Signatures of CALLS that no source has, and calls of a store that it hasn't."""
     page = ROOT / "docs/CALLS.md"
-    crates = "bson_store bson_model bson_raw bson_json bson_json_read bson_meaning".split()
+    crates = "bson_store store_question_read store_asked store_question bson_model bson_raw bson_json bson_json_read bson_meaning".split()
     known = {crate: set(signatures(crate)) for crate in crates}
     anywhere = {text for found in known.values() for _, text in found}
     shown = re.findall(r"^fn .*$", page.read_text(), re.M)

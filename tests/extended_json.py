@@ -207,6 +207,36 @@ status, back, told = run("--to-bson", given=relaxed)
 holds("back", (status, told), (0, ""))
 same("relaxed once more it is the same text", run(given=back), (0, relaxed, ""))
 
+# ---- documents that aren't written as they mean, or have too many levels to be written straight from their bytes
+
+
+def levels(count):
+    out = document()
+    for _ in range(count - 1):
+        out = document((3, "a", out))
+    return out
+
+
+def number(value):
+    return struct.pack("<i", value)
+
+
+FIRST = document((0x10, "_id", number(0)))
+for step, given, line in [
+    ("a key twice", document((0x10, "a", number(1)), (10, "b", b""), (0x10, "a", number(2))), '{"a":2,"b":null}'),
+    ("a key twice below", document((3, "x", document((8, "a", b"\0"), (10, "b", b""), (8, "a", b"\1")))), '{"x":{"a":true,"b":null}}'),
+    ("an array with other keys", document((4, "a", document((10, "x", b""), (8, "", b"\1"), (8, "x", b"\0")))), '{"a":[null,true,false]}'),
+    ("options that don't ascend", document((11, "a", b"b\0xi\0")), '{"a":{"$regularExpression":{"pattern":"b","options":"ix"}}}'),
+    ("an old binary", document((5, "a", struct.pack("<iBi", 5, 2, 1) + b"\7")), '{"a":{"$binary":{"base64":"Bw==","subType":"02"}}}'),
+    ("keys that don't ascend", document(*[(10, f"k{n:03}", b"") for n in range(300, 0, -1)]),
+     "{" + ",".join(f'"k{n:03}":null' for n in range(300, 0, -1)) + "}"),
+    ("100 levels", levels(100), '{"a":' * 99 + "{}" + "}" * 99),
+    ("101 levels", levels(101), '{"a":' * 100 + "{}" + "}" * 100),
+    ("1000 levels", levels(1000), '{"a":' * 999 + "{}" + "}" * 999),
+]:
+    same(step, run(given=FIRST + given + FIRST), (0, ('{"_id":0}\n' + line + '\n{"_id":0}\n').encode(), ""))
+holds("1001 levels", run(given=FIRST + levels(1001)), (1, b'{"_id":0}\n', "refused: Memory\n"))
+
 # ---- faults
 
 GOOD = [document((0x10, "_id", struct.pack("<i", i))) for i in range(3)]
@@ -230,6 +260,10 @@ refused("a key that isn't UTF-8", b"\x08\0\0\0\x0a\xff\0\0", "Utf8EncodingError 
 inner = document((0x03, "$x", document((0x04, "b", document((0x03, "0", document((0x02, "$oid", text("x")))))))))
 refused("a reserved key below the top", document((0x03, "a", inner)), "ReservedKey document 2 a.$x.b.0.$oid")
 refused("behind a key that a terminal obeys", document((0x03, "a\x1b[2J\nrefused: x\r", inner)), r'ReservedKey document 2 "a\u001b[2J\nrefused: x\r.$x.b.0.$oid"')
+twice = document((4, "a", document((0x10, "7", number(1)), (3, "x", document((2, "$oid", text("x")))))))
+refused("a path that counts the places of an array", twice, "ReservedKey document 2 a.1.$oid")
+refused("a reserved key under a key twice, whose last value has none", document((3, "a", inner), (10, "a", b""), (3, "b", inner)), "ReservedKey document 2 b.$x.b.0.$oid")
+refused("a fault behind a reserved key", document((3, "a", inner), (8, "b", b"\2")), "MalformedValue document 2")
 holds("a reserved key at the top is a key", run(given=document((0x02, "$oid", text("x")))), (0, b'{"$oid":"x"}\n', ""))
 
 

@@ -32,6 +32,7 @@ except ImportError:
     sys.exit("fallowtime.py: needs sqlite3 and Python's bson, of Debian: apt-get install sqlite3 python3-pymongo")
 
 sys.path.insert(0, str(pathlib.Path(__file__).resolve().parent))
+from customers import ASKED, CUSTOMERS  # noqa: E402
 from page_reader import (ARRAY, BINARY, BOOLEAN, CODE, DATE, DECIMAL, DOCUMENT, DOUBLE, INT32, INT64, MAX_KEY, MIN_KEY, NULL,  # noqa: E402
                          OBJECT_ID, OLD_BINARY, POINTER, REGEX, SCOPED, STRING, SYMBOL, TIMESTAMP, UNDEFINED)
 from random_documents import settle, whole, written  # noqa: E402
@@ -53,6 +54,8 @@ COMMANDS = {
     "get": (["c", "1"], ["--canonical", "--bson"]),
     "set": (["c", "1", "k", "1"], []),
     "unset": (["c", "1", "k"], []),
+    "update": (["c", "{}", '{"$set":{"a":1}}'], ["--many"]),
+    "delete": (["c", "{}"], ["--many"]),
     "remove": (["c", "1"], []),
     "find": (["c"], ["--canonical", "--bson"]),
     "count": (["c"], []),
@@ -200,6 +203,27 @@ for line in ["set orders 8 a 1", "unset orders 8 a", "remove orders 8", "get ord
     refused(line, "NotFound _id 8")
 for line in "set orders 9 _id 1", "unset orders 9 _id", "set orders 8 _id 1":
     refused(line, "BadKey")
+for line in 'put ups {"_id":1,"n":1}', 'put ups {"_id":2,"n":9223372036854775807}', 'put ups {"_id":3,"n":"x"}':
+    done(line)
+for line, counts in [("update none {} $", (0, 0)), ("update ups {} $", (1, 1)), ("update ups {} $", (1, 0)), ("update ups {} $ --many", (3, 2)),
+                     ("update ups {} $ --many", (3, 0)), ('update ups {"_id":{"$ne":2}} $ --many', (2, 0)), ('update ups {"n":7} $', (0, 0))]:
+    done([word.replace("$", '{"$set":{"a.b":1.5},"$unset":{"c":1}}') if word == "$" else word for word in line.split(" ")], '{"matched":%d,"changed":%d}' % counts)
+done("find ups", '{"_id":1,"n":1,"a":{"b":1.5}}', '{"_id":2,"n":9223372036854775807,"a":{"b":1.5}}', '{"_id":3,"n":"x","a":{"b":1.5}}')
+# One that is refused refuses all, by its place among those that are selected; and nothing is changed.
+for line, kind in [('update ups {} {"$inc":{"n":1}} --many', "Overflow document 1"), ('update ups {"_id":{"$ne":2}} {"$inc":{"n":1}} --many', "NotANumber document 1"),
+                   ('update ups {"_id":3} {"$mul":{"n":2}}', "NotANumber document 0"), ('update ups {} {"$set":{"m":1,"n.x":1}} --many', "Through document 0"),
+                   ('update ups {"_id":1} {"$push":{"n":1}} --many', "NotAnArray document 0"), ('update ups {} {"$inc":{"n":{"$numberDecimal":"1"}}}', "Decimal document 0"),
+                   (["update", "", "{}", "{}"], "BadName"), (["update", "ups", "{}", '{"$set":{"a\\u0000":1}}', "--many"], "Nul document 0")]:
+    refused(line, kind)
+done("find ups", '{"_id":1,"n":1,"a":{"b":1.5}}', '{"_id":2,"n":9223372036854775807,"a":{"b":1.5}}', '{"_id":3,"n":"x","a":{"b":1.5}}')
+done('update ups {"_id":1} {"$inc":{"n":1},"$push":{"l":{"$each":[2,1]}},"$rename":{"a.b":"b"},"$min":{"m":-1}}', '{"matched":1,"changed":1}')
+done("get ups 1", '{"_id":1,"n":2,"a":{},"l":[2,1],"b":1.5,"m":-1}')
+for line, count in [('delete ups {"n":7}', 0), ("delete none {} --many", 0), ('delete ups {"_id":{"$gt":1}}', 1), ("delete ups {} --many", 2), ("delete ups {} --many", 0)]:
+    done(line, str(count))
+    if count == 1:
+        done("find ups", '{"_id":1,"n":2,"a":{},"l":[2,1],"b":1.5,"m":-1}', '{"_id":3,"n":"x","a":{"b":1.5}}')
+done("find ups")
+refused(["delete", "", "{}"], "BadName")
 done("remove orders 9")
 refused("remove orders 9", "NotFound _id 9")
 for line in ['put orders {"a":1}', 'replace orders {"a":1}', "put orders {}"]:
@@ -475,8 +499,8 @@ done('find r {"_id":3}', '{"_id":3}')
 done('insert r {"$oid":"at-the-top","_id":4}', "4")
 done("get r 4", '{"$oid":"at-the-top","_id":4}')
 
-# ---- Queries: the cases of store_query, each by `count`, and by `find` whether it prints the document.
-CASES = ROOT / "cases/query"
+# ---- Queries: the cases of the table `question`, each by `count`, and by `find` whether it prints the document.
+CASES = ROOT / "cases/question"
 FAULTS_OF_QUERIES = {"a key comes twice": "RepeatedKey", "a query is an object": "is no object"}
 collections = {}
 for case, answer in zip((CASES / "stdin").read_text().splitlines(), (CASES / "stdout").read_text().splitlines()):
@@ -493,6 +517,13 @@ for case, answer in zip((CASES / "stdin").read_text().splitlines(), (CASES / "st
         answer = f"byte {int(answer.split()[-1]) + 1} NotJson"
     for command in "count", "find":
         unread([command, name, query], f"query {FAULTS_OF_QUERIES.get(answer, answer)}")
+
+# What is asked of arrays, of ranges and of items, of several documents at once. CUSTOMERS and ASKED are those of fallowtime_lines.py, too.
+done("import customers --json", str(len(CUSTOMERS)), given="".join(f"{json.dumps(customer)}\n" for customer in CUSTOMERS).encode())
+for query, wanted in ASKED:
+    done(["count", "customers", query], str(len(wanted)))
+    status, printed, told = run("find", "customers", query)
+    holds(f"find customers {query}", (status, [json.loads(line)["_id"] for line in printed.splitlines()], told), (0, wanted, ""))
 
 # ---- The same file by bson_store and by sqlite3.
 

@@ -183,11 +183,18 @@ by_sqlite("collide.db", f"INSERT INTO documents VALUES (2, 'c', x'{MINUS.replace
 shutil.copy("shop.db", "last.db")
 by_sqlite("last.db", "UPDATE documents SET place = 9223372036854775807 WHERE place = 7")
 before = files()
+PAIR = bytes.fromhex(MINUS * 2)
+UNMET = {("bad.db", "get"): (0, line_of(document(0)), ""), ("bad.db", "count"): (0, b"300\n", ""), ("bad.db", "collections"): (0, b"c\n", ""),
+         ("bad.db", "export"): (0, stream(range(6)) + bytes.fromhex("0500000000") + stream(range(7, 300)), ""),
+         ("collide.db", "get"): (1, b"", "refused: NotFound _id 0\n"), ("collide.db", "count"): (0, b"2\n", ""), ("collide.db", "export"): (0, PAIR, ""),
+         ("collide.db", "collections"): (0, b"c\n", "")}
 for file, told in [("text", "NoDatabase"), ("damaged.db", "NoDatabase"), ("cut.db", "NoDatabase"), (".", "NotPlain"), ("linked.db", "NotPlain"),
                    ("pipe", "NotPlain"), ("/dev/null", "NotPlain"), ("shop.db/x.db", "NoFolder"), ("other.db", "NotAStore"), ("bad.db", "BadRow 7"),
                    ("collide.db", "IdsCollide 1 2")]:
     for words in READS:
-        holds(f"{words[0]} over {file}", run(file, *words), refusal(told))
+        # What reads meets such a row only if it prints the document.
+        met = UNMET.get((file, words[0]), refusal(told))
+        holds(f"{words[0]} over {file}", run(file, *words), met)
     stay("what is refused", before)
     for words in CHANGES:
         holds(f"{words[0]} over {file}", run(file, *words), refusal(told))
@@ -195,6 +202,9 @@ for file, told in [("text", "NoDatabase"), ("damaged.db", "NoDatabase"), ("cut.d
     holds("what is refused", [name for name in changed(before) if name != f"{file}-wal" or os.path.getsize(name) > 41], [])
     for name in changed(before):
         os.remove(name)
+# A query that a row doesn't answer doesn't test it, and one that it answers does.
+holds("a bad row that isn't selected", run("bad.db", "find", "c", '{"_id":{"$lt":3}}'), (0, b"".join(line_of(document(i)) for i in range(3)), ""))
+holds("a bad row that is", run("bad.db", "find", "c", '{"_id":{"$exists":false}}'), refusal("BadRow 7"))
 for file, told, missed in ("dangling.db", "NotPlain", "NoFile"), ("file:shop.db", "NoName", "NoName"), (":memory:", "NoName", "NoName"):
     for words in READS + CHANGES:
         makes = words[0] in MAKERS
@@ -345,8 +355,10 @@ def told_at_terminal(*words):
     return done.returncode, told.decode().replace("\r\n", "\n")
 
 
+ADVICE = "fallowtime: an ID is 42 for the number"
 holds("at a terminal", told_at_terminal("none.db", "count", "c"), (1, "refused: NoFile\nthe file: it isn't there\n"))
-holds("at a terminal", told_at_terminal("shop.db", "get", "c", "-5"), (1, "refused: NotFound _id -5\n"))
+status, told = told_at_terminal("shop.db", "get", "c", "-5")
+holds("at a terminal", (status, told.split("\n")[0], told.split("\n")[1][:len(ADVICE)]), (1, "refused: NotFound _id -5", ADVICE))
 
 # ---- Beside a process that has the file: it is read as it is, and no change gets in.
 shop = Session("shop.db")

@@ -26,6 +26,9 @@ try:
 except ImportError:
     sys.exit("fallowtime_lines.py: needs Python's bson, of Debian: apt-get install python3-pymongo")
 
+sys.path.insert(0, str(pathlib.Path(__file__).resolve().parent))
+from customers import ASKED, CUSTOMERS  # noqa: E402
+
 FOLDER = pathlib.Path(tempfile.mkdtemp(prefix="fallowtime-lines-"))
 atexit.register(shutil.rmtree, FOLDER, ignore_errors=True)
 PROGRAM = str(FOLDER / "fallowtime")
@@ -68,66 +71,83 @@ NESTED = "[" * 100 + "]" * 100
 # Each request, what it is answered, and what may stand at its places. They are done in their order over one file.
 TABLE = [
     ('["insert","c",{"_id":1}]', '{"_id":%s}' % int32(1)),
-    ('["insert","c",{"_id":1}]', '{"refused":"DuplicateId"}'),
+    ('["insert","c",{"_id":1}]', '{"error":"DuplicateId"}'),
     ('["insert","c",{"_id":"A-1","p":4.25}]', '{"_id":"A-1"}'),
-    ('["insert","",{"_id":1}]', '{"refused":"BadName"}'),
+    ('["insert","",{"_id":1}]', '{"error":"BadName"}'),
     ('["insert","c",{"_id":[1]}]', '{"_id":[%s]}' % int32(1)),
     ('["remove","c",[1]]', "{}"),
-    ('["insert","c",{"_id":2,"n":%s}]' % NESTED, '{"refused":"TooDeep"}'),
+    ('["insert","c",{"_id":2,"n":%s}]' % NESTED, '{"error":"TooDeep"}'),
     ('["put","c",{"_id":3,"b":1.5,"a":[null]}]', "{}"),
     ('["get","c",3]', '{"document":%s}' % NAMED),
     ('["get","c",{"$numberInt":"3"}]', '{"document":%s}' % NAMED),
-    ('["get","c",3.0]', '{"refused":"NotFound"}'),
-    ('["get","c","3"]', '{"refused":"NotFound"}'),
+    ('["get","c",3.0]', '{"error":"NotFound"}'),
+    ('["get","c","3"]', '{"error":"NotFound"}'),
     ('["put","c",{"_id":1,"x":true}]', "{}"),
-    ('["put","c",{"x":true}]', '{"refused":"NoId"}'),
+    ('["put","c",{"x":true}]', '{"error":"NoId"}'),
     ('["replace","c",{"_id":1,"x":{"$date":"2026-11-26T12:00:00Z"}}]', "{}"),
     ('["get","c",1]', '{"document":{"_id":%s,"x":{"$date":{"$numberLong":"1795694400000"}}}}' % int32(1)),
-    ('["replace","c",{"_id":9}]', '{"refused":"NotFound"}'),
+    ('["replace","c",{"_id":9}]', '{"error":"NotFound"}'),
     ('["set","c",1,"x",-0.0]', "{}"),
-    ('["set","c",1,"_id",2]', '{"refused":"BadKey"}'),
-    ('["set","c",9,"x",2]', '{"refused":"NotFound"}'),
+    ('["set","c",1,"_id",2]', '{"error":"BadKey"}'),
+    ('["set","c",9,"x",2]', '{"error":"NotFound"}'),
     ('["get","c",1]', '{"document":{"_id":%s,"x":{"$numberDouble":"-0.0"}}}' % int32(1)),
     ('["unset","c",1,"x"]', '{"was_there":true}'),
     ('["unset","c",1,"x"]', '{"was_there":false}'),
-    ('["unset","c",1,"_id"]', '{"refused":"BadKey"}'),
+    ('["unset","c",1,"_id"]', '{"error":"BadKey"}'),
+    ('["update","c",{"p":4.25},{"$inc":{"n":2}}]', '{"matched":1,"changed":1}'),
+    ('{"id":7,"do":["update","c",{},{"$inc":{"n":2}},{"many":true}]}', '{"id":7,"matched":3,"changed":3}'),
+    ('["update","c",{},{"$min":{"n":2}},{"many":true}]', '{"matched":3,"changed":1}'),
+    ('["update","c",{},{"$min":{"n":3}},{"many":false}]', '{"matched":1,"changed":0}'),
+    ('["update","c",{"_id":8},{"$min":{"n":3}},{}]', '{"matched":0,"changed":0}'),
+    ('["update","c",{},{"$inc":{"a":2}},{"many":true}]', '{"error":"NotANumber","document":2}'),
+    ('["update","c",{},{"$unset":{"n":1}},{"many":true}]', '{"matched":3,"changed":3}'),
+    ('["update","",{},{"$unset":{"n":1}}]', '{"error":"BadName"}'),
     ('["find","c",{"p":4.25}]', '{"documents":[{"_id":"A-1","p":{"$numberDouble":"4.25"}}]}'),
     ('["find","c"]', '{"documents":[{"_id":%s},{"_id":"A-1","p":{"$numberDouble":"4.25"}},%s]}' % (int32(1), NAMED)),
     ('["find","none"]', '{"documents":[]}'),
     ('["count","c"]', '{"count":3}'),
     ('["count","c",{"p":{"$exists":true}}]', '{"count":1}'),
     ('["count","c",{"$nor":[{"_id":{"$in":[1,"A-1"]}}]}]', '{"count":1}'),
+    ('["put","g",{"_id":1,"n":1}]', "{}"),
+    ('["put","g",{"_id":2,"n":2}]', "{}"),
+    ('["put","g",{"_id":3,"n":2}]', "{}"),
+    ('["delete","g",{"n":3}]', '{"count":0}'),
+    ('{"id":7,"do":["delete","g",{"n":2},{"many":false}]}', '{"id":7,"count":1}'),
+    ('["find","g"]', '{"documents":[{"_id":%s,"n":%s},{"_id":%s,"n":%s}]}' % tuple(map(int32, (1, 1, 3, 2)))),
+    ('["delete","g",{},{"many":true}]', '{"count":2}'),
+    ('["delete","g",{}]', '{"count":0}'),
+    ('["delete","",{}]', '{"error":"BadName"}'),
     ('["remove","c","A-1"]', "{}"),
-    ('["remove","c","A-1"]', '{"refused":"NotFound"}'),
+    ('["remove","c","A-1"]', '{"error":"NotFound"}'),
     ('["import","d",%s]' % binary(ONE + TWO), '{"count":2}'),
     ('["import","d",[{"_id":3},{"_id":4,"a":2.5}]]', '{"count":2}'),
-    ('["import","d",[{"_id":5},{"_id":4}]]', '{"refused":"DuplicateId","document":1}'),
-    ('["import","d",%s]' % binary(ONE[:-1]), '{"refused":"EndInside","document":0}'),
+    ('["import","d",[{"_id":5},{"_id":4}]]', '{"error":"DuplicateId","document":1}'),
+    ('["import","d",%s]' % binary(ONE[:-1]), '{"error":"EndInside","document":0}'),
     ('["import","d",[]]', '{"count":0}'),
     ('["export","d"]', '{"bytes":%s}' % binary(ONE + TWO + bson.encode({"_id": 3}) + bson.encode({"_id": 4, "a": 2.5}))),
     ('["export","none"]', '{"bytes":%s}' % binary(b"")),
-    ('["export",""]', '{"refused":"BadName"}'),
+    ('["export",""]', '{"error":"BadName"}'),
     ('["import","r",%s]' % binary(bson.encode({"_id": 1, "a": {"b": {"$oid": 1}}})), '{"count":1}'),
-    ('["get","r",1]', '{"refused":"ReservedKey","key":"a.b.$oid"}'),
-    ('["find","r"]', '{"refused":"ReservedKey","document":0,"key":"a.b.$oid"}'),
+    ('["get","r",1]', '{"error":"ReservedKey","key":"a.b.$oid"}'),
+    ('["find","r"]', '{"error":"ReservedKey","document":0,"key":"a.b.$oid"}'),
     ('["insert","\\"\\n",{"_id":1}]', '{"_id":%s}' % int32(1)),
     ('["collections"]', '{"names":["\\"\\n","c","d","r"]}'),
     ('{"id":7,"do":["count","c"]}', '{"id":7,"count":2}'),
     ('{"do":["count","c"],"id":{"a":[1.50,"\\u00fc"]}}', '{"id":{"a":[1.50,"\u00fc"]},"count":2}'),
-    ('{"id":null,"do":["get","c",9]}', '{"id":null,"refused":"NotFound"}'),
+    ('{"id":null,"do":["get","c",9]}', '{"id":null,"error":"NotFound"}'),
     ('{"id":1,"do":["remove","c",1]}', '{"id":1}'),
     ('{"id":1,"do":["insert","c",{"_id":1}]}', '{"id":1,"_id":%s}' % int32(1)),
     (' [ "count" , "c" ] ', '{"count":2}'),
     ('["index","d","a"]', "{}"),
     ('["index","d","a"]', "{}"),
     ('["index","none","a.b.0"]', "{}"),
-    ('["index","",""]', '{"refused":"BadName"}'),
+    ('["index","",""]', '{"error":"BadName"}'),
     ('["find","d",{"a":1.5}]', '{"documents":[{"_id":%s,"a":{"$numberDouble":"1.5"}}]}' % int32(2)),
     ('["set","d",4,"a",1.5]', "{}"),
     ('["count","d",{"a":{"$in":[1.5,7]}}]', '{"count":2}'),
     ('{"id":1,"do":["drop_index","d","a"]}', '{"id":1}'),
     ('["drop_index","d","a"]', "{}"),
-    ('["drop_index","","a"]', '{"refused":"BadName"}'),
+    ('["drop_index","","a"]', '{"error":"BadName"}'),
     ('["count","d",{"a":1.5}]', '{"count":2}'),
 ]
 # Lines that ask for nothing, and where they are wrong.
@@ -136,21 +156,30 @@ WRONG = [
     ('["insert","c",{"_id":1,"a":1,"a":2}]', "repeated key"), ('{"id":1,"id":2,"do":["collections"]}', "repeated key"),
     ("1", "command"), ("[]", "command"), ("{}", "command"), ('{"do":["collections"]}', "command"), ("[1]", "command"), ('["frob"]', "command"), ('["Count","c"]', "command"),
     ('["count"]', "command"), ('["count","c",{},1]', "command"), ('["insert","c"]', "command"), ('["collections","c"]', "command"),
-    ('["backup","b.db"]', "command"), ('{"id":1}', "command"), ('{"do":["collections"],"more":1}', "command"),
+    ('["backup","b.db"]', "command"), ('{"do":["collections"],"more":1}', "command"),
     ('["count",1]', "collection"), ('["export",null]', "collection"),
     ('["insert","c",1]', "document"), ('["put","c",{"_id":{"$oid":"x"}}]', "document"), ('["insert","c",{"a":{"$oid":1}}]', "document"),
     ('["import","c",[{"_id":1},2]]', "document 1"), ('["import","c",[{"_id":1},{"a":{"$numberInt":"x"}}]]', "document 1"),
     ('["get","c",{"$oid":"x"}]', "id"), ('["set","c",{"$date":1.5},"k",1]', "id"), ('["set","c",1,2,3]', "key"), ('["unset","c",1,null]', "key"),
     ('["set","c",1,"k",{"$numberInt":"x"}]', "value"), ('["index","c",["a"]]', "path"), ('["drop_index","c",1]', "path"),
     ('["index","c"]', "command"), ('["index",1,1]', "collection"), ('["drop_index","c","a",1]', "command"),
-    ('["find","c",1]', "query is no object"), ('["find","c",{"a":{"$gt":1}}]', "query no operator $gt"),
+    ('["find","c",1]', "query is no object"), ('["find","c",{"a":{"$regex":"x"}}]', "query no operator $regex"),
     ('["count","c",{"a.b":{"$exists":2.5}}]', "query $exists takes no such value"),
+    ('["update","c",{}]', "command"), ('["update","c",{},{},{},1]', "command"), ('["update","c",1,{}]', "query is no object"), ('["update","c",{},[]]', "update is no object"),
+    ('["update","c",{},{"a":1}]', "update no operator a"), ('["update","c",{},{"$currentDate":{"a":true}}]', "update no operator $currentDate"),
+    ('["update","c",{},{"$set":1}]', "update $set takes an object of paths"), ('["update","c",{},{"$set":{"a..b":1}}]', "update $set a..b is no path of keys"),
+    ('["update","c",{},{"$set":{"_id.a":1}}]', "update $set _id.a is of the _id, which is never changed"),
+    ('["update","c",{},{"$set":{"a":1},"$inc":{"a.b":1}}]', "update $inc a.b meets another path"), ('["update","c",{},{"$inc":{"a":"x"}}]', "update $inc a takes no such value"),
+    ('["update","c",{},{},1]', "options"), ('["update","c",{},{},{"many":1}]', "options"), ('["update","c",{},{},{"x":true}]', "options"),
+    ('["update","c",{},{},{"many":true,"x":true}]', "options"), ('["update","c",{},{"a":1},1]', "update no operator a"),
+    ('["delete","c"]', "command"), ('["delete","c",{},{},1]', "command"), ('["delete",1,{}]', "collection"), ('["delete","c",{"$x":1}]', "query no operator $x"),
+    ('["delete","c",{},{"many":2}]', "options"),
     ('["import","c","x"]', "stream"), ('["import","c",%s]' % binary(ONE, "05"), "stream"), ('["import","c",1]', "stream"),
 ]
 
 
 def words_of(place):
-    return '{"refused":"Words","at":%s}' % json.dumps(place)
+    return '{"error":"Usage","at":%s}' % json.dumps(place)
 
 
 def encoded(lines):
@@ -161,11 +190,18 @@ holds("each request", run(encoded(line for line, _ in TABLE), "table.db"), (0, [
 for (line, wanted), found in zip(WRONG, run(encoded(line for line, _ in WRONG), "wrong.db")[1]):
     holds(f"where {line[:60]!r} is wrong", found, words_of(wanted))
 holds("none of them did anything", run(line_of("collections"), "wrong.db"), (0, ['{"names":[]}'], ""))
-holds("a wrong question of an id", run(b'{"id":[7],"do":["frob"]}\n', "wrong.db"), (0, ['{"id":[7],"refused":"Words","at":"command"}'], ""))
+holds("a wrong question of an id", run(b'{"id":[7],"do":["frob"]}\n', "wrong.db"), (0, ['{"id":[7],"error":"Usage","at":"command"}'], ""))
+# The answer to a line that is no request has its id, if that can be read.
+for line, start, place in [
+    ('{"id":1}', '"id":1,', "command"), ('{"id":7,"do":["collections"],"more":1}', '"id":7,', "command"), ('{"more":[],"id":"a"}', '"id":"a",', "command"),
+    ('{"id":7,"do":["insert","c",{"a":1,"a":2}]}', '"id":7,', "repeated key"), ('{"do":1,"do":[],"id":{"x":[1.50]}}', '"id":{"x":[1.50]},', "repeated key"),
+    ('{"id":1,"do":["collections"],"id":1}', "", "repeated key"), ('[{"id":1,"id":2}]', "", "repeated key"), ('{"id":7,"do":[1 2]}', "", "byte 17"),
+]:
+    holds(f"the id of {line}", run(encoded([line]), "wrong.db")[1], ['{%s"error":"Usage","at":%s}' % (start, json.dumps(place))])
 DEEP = ["[" * 200 + "]" * 200, '["insert","c",{"_id":1,"a":%s}]' % ("[" * 150 + "]" * 150)]
 for line in DEEP:
     answers = run(encoded([line, '["count","c"]']), "wrong.db")[1]
-    holds("a line of many levels", (len(answers), answers[0].startswith('{"refused":'), answers[1]), (2, True, '{"count":0}'))
+    holds("a line of many levels", (len(answers), answers[0].startswith('{"error":'), answers[1]), (2, True, '{"count":0}'))
 
 # An `_id` that is made is new each time, the first key, and comes back.
 made = [json.loads(answer)["_id"]["$oid"] for answer in run(b'["insert","m",{"a":1}]\n' * 100, "made.db")[1]]
@@ -175,10 +211,22 @@ holds("the first document", run(line_of("get", "m", {"$oid": made[0]}), "made.db
 holds("of many", run(line_of("import", "n", [{"a": 1}] * 50), "made.db")[1], ['{"count":50}'])
 holds("by their seconds", all(abs(int(one[:8], 16) - time.time()) < 3600 for one in made), True)
 
+# What is asked of arrays, of ranges and of items, without an index and with some: the answers stay.
+LISTED = b"".join(b'["%s","customers",%s]\n' % (command, query.encode()) for query, _ in ASKED for command in (b"count", b"find"))
+MADE = [line_of("index", "customers", path) for path in ("tags", "age", "orders.article", "orders.0.article", "_id")]
+answers = [json.loads(line) for line in run(line_of("import", "customers", CUSTOMERS) + LISTED + b"".join(MADE) + LISTED, "customers.db")[1]]
+holds("customers", answers[0], {"count": len(CUSTOMERS)})
+holds("indexes of customers", answers[1 + 2 * len(ASKED):][:len(MADE)], [{}] * len(MADE))
+for counts in answers[1:], answers[1 + 2 * len(ASKED) + len(MADE):]:
+    for (query, wanted), count, found in zip(ASKED, counts[0::2], counts[1::2]):
+        ids = [int(document["_id"]["$numberInt"]) for document in found["documents"]]
+        holds(f"customers {query}", (count, ids), ({"count": len(wanted)}, wanted))
+
 # The ends of lines and of the input.
 INSERT, COUNT = b'["put","c",{"_id":1}]\n', line_of("count", "c")
 holds("nothing", run(b""), (0, [], ""))
 holds("empty lines", run(b"\n\n" + line_of("collections") + b"\n"), (0, ['{"names":[]}'], ""))
+holds("a carriage return alone", run(b"\r\n\n\r\n" + line_of("collections") + b"\r"), (0, ['{"names":[]}'], ""))
 holds("no line feed at the end", run(INSERT[:-1]), (0, ["{}"], ""))
 holds("it is kept", run(COUNT), (0, ['{"count":1}'], ""))
 holds("a carriage return", run(COUNT[:-1] + b"\r\n"), (0, ['{"count":1}'], ""))
@@ -190,7 +238,7 @@ holds("one byte more", run(padded + b" \n" + COUNT), (0, [words_of("64 MiB"), '{
 holds("the same at the end", run(padded + b" "), (0, [words_of("64 MiB")], ""))
 text = "x" * (20 << 20)
 holds("a line of 20 MB", run(line_of("count", text) + line_of("insert", "c", {"_id": 2, "text": text}) + COUNT),
-      (0, ['{"count":0}', '{"refused":"TooLong"}', '{"count":1}'], ""))
+      (0, ['{"count":0}', '{"error":"TooLong"}', '{"count":1}'], ""))
 stream = b"".join(bson.encode({"_id": 10 + i, "text": "x" * (1 << 20)}) for i in range(20))
 holds("20 MB of documents", [answer[:14] for answer in run(encoded(['["import","wide",%s]' % binary(stream), '["export","wide"]']))[1]], ['{"count":20}', '{"bytes":{"$bi'])
 holds("they come back", run(line_of("export", "wide"))[1], ['{"bytes":%s}' % binary(stream)])
@@ -211,7 +259,7 @@ holds("the end", (process.stdout.read(), process.wait()), (b"", 0))
 with open("/dev/full", "wb") as full:
     done = subprocess.run([PROGRAM, str(FOLDER / "test.db")], input=line_of("remove", "c", 1) + line_of("remove", "c", 2), stdout=full, stderr=subprocess.PIPE)
 holds("an output that fails", (done.returncode, done.stderr), (1, b"refused: Writer\n"))
-holds("what was done", run(line_of("get", "c", 1) + COUNT), (0, ['{"refused":"NotFound"}', '{"count":3}'], ""))
+holds("what was done", run(line_of("get", "c", 1) + COUNT), (0, ['{"error":"NotFound"}', '{"count":3}'], ""))
 PUTS = b"".join(line_of("put", "c", {"_id": number}) for number in range(3))
 ANSWER = b"{}\n"
 MOST = 1 << 24
@@ -276,7 +324,7 @@ for megabytes in [*range(400, 40, -20), *range(40, 2, -1)]:
     if status == 127:
         break  # with less the system can't load the program
     if status == 0:
-        known = [["memory" if answer == '{"refused":"Memory"}' else answer == whole for answer, whole in zip(answers, wanted[1])], len(answers)]
+        known = [["memory" if answer == '{"error":"Memory"}' else answer == whole for answer, whole in zip(answers, wanted[1])], len(answers)]
         found.add(("answers", len(answers), all(one in ("memory", True) for one in known[0]) or known[0][0] == "memory"))
     else:
         found.add((status, len(answers), told))

@@ -1,7 +1,7 @@
 #!/usr/bin/python3
 """Runs the script fallowtime and what ./install makes of it, in a checkout that is made up, with a program that is made up: which
-words it refuses, what it prints of commands and refusals, what is said on a terminal, what is put and taken away, and what bash
-completes.
+words it refuses, what it prints of commands and refusals, what is said on a terminal and what it is given of documents, what is put
+and taken away, and what bash completes.
 
     tests/front.py [FALLOWTIME]
 
@@ -10,6 +10,7 @@ at the first that isn't as it should be.
 """
 import atexit
 import itertools
+import json
 import os
 import pathlib
 import pty
@@ -21,7 +22,14 @@ import stat
 import subprocess
 import sys
 import tempfile
+import tty
 
+import command_table
+
+# Who starts this in the background may have these signals ignored, and what is started here would inherit that.
+signal.signal(signal.SIGINT, signal.default_int_handler)
+for number in signal.SIGQUIT, signal.SIGHUP:
+    signal.signal(number, signal.SIG_DFL)
 ROOT = pathlib.Path(__file__).resolve().parent.parent
 PROGRAM = os.path.abspath(sys.argv[1]) if len(sys.argv) > 1 else None
 FOLDER = pathlib.Path(tempfile.mkdtemp(prefix="front-"))
@@ -31,24 +39,11 @@ HERE.mkdir()
 NAMES = ["bson_store", "bson_json", "fallowtime"]
 USAGE = "words: usage\n"
 # For each command its places, and its options beside --wait.
-COMMANDS = {
-    "insert": ("COLL DOC", ["--canonical"]),
-    "put": ("COLL DOC", []),
-    "replace": ("COLL DOC", []),
-    "get": ("COLL ID", ["--canonical", "--bson"]),
-    "set": ("COLL ID KEY VALUE", []),
-    "unset": ("COLL ID KEY", []),
-    "remove": ("COLL ID", []),
-    "find": ("COLL [QUERY]", ["--canonical", "--bson"]),
-    "count": ("COLL [QUERY]", []),
-    "import": ("COLL", ["--json"]),
-    "export": ("COLL", []),
-    "collections": ("", []),
-    "backup": ("PATH", []),
-}
+COMMANDS = command_table.over_a_file()
 OPTIONS = ["--canonical", "--bson", "--json", "--wait 5"]
-# The program that is made up says how it was started, or which collections there are, or how many lines it read.
+# The program that is made up says how it was started, or which kinds or collections there are, or how many lines it read.
 STUB = """#!/bin/sh
+if [ "$1" = --explain ]; then echo "fallowtime: the kinds are: Busy NoFile NoFolder" >&2; exit 2; fi
 if [ "$2" = collections ]; then printf 'orders\\nold orders\\nmore\\n'; exit; fi
 if [ "$2$3" = importlines ]; then exec wc -l; fi
 if [ "$3" = long ]; then sleep 1.5; fi
@@ -83,7 +78,7 @@ def lines_of(text):
 def checkout():
     """A checkout with the scripts of this one, and nothing to build from."""
     there = pathlib.Path(tempfile.mkdtemp(dir=FOLDER))
-    for name in [*NAMES, "install"]:
+    for name in [*NAMES, "install", "LICENSE"]:
         shutil.copy(ROOT / name, there)
     for folder in "tools", "man", "completions":
         shutil.copytree(ROOT / folder, there / folder, ignore=shutil.ignore_patterns("__pycache__"))
@@ -173,24 +168,32 @@ def all_lines():
         yield chance.choices(words, k=chance.randrange(6))
 
 
-# Before anything is built, help is printed: of the program, and of each command its words, options, examples and refusals.
+# The help is the program's: of itself, and of each command its words, options, examples and refusals.
 there = checkout()
 script = there / "fallowtime"
-section = {}
-for part in (ROOT / "tools/fallowtime_help.txt").read_text().split("\n== ")[1:]:
-    title, _, text = part.partition("\n")
-    section[title] = text if text.endswith("\n") else text + "\n"
-holds("the sections of the help", sorted(section), sorted(["fallowtime", *COMMANDS, "every command"]))
 holds("--version", run(script, "--version"), (0, "fallowtime 1.2.3 (not built yet)\n", ""))
-for words in ["--help"], ["-h"]:
-    holds(f"{words}", run(script, *words), (0, section["fallowtime"], ""))
-listed = re.findall(r"^  ([a-z]+)((?: [A-Z\[\]]+)*)(?:  |$)", section["fallowtime"], re.M)
-holds("the commands of the help", listed, [(name, f" {places}" if places else "") for name, (places, _) in COMMANDS.items()])
-kinds = run(script, "--explain")[2].split("the kinds are: ")[1].split()
-for name, (places, forms) in COMMANDS.items():
-    out = section[name] + section["every command"]
-    for words in [name, "--help"], ["--help", name], [name, "-h"]:
-        holds(f"{words}", run(script, *words), (0, out, ""))
+holds("no program, and nothing to build one", run(script, "f", "collections"),
+      (125, "", f"fallowtime: there is no program in {there}/program: install it anew\n"))
+holds("nothing was built or made", ((there / "target").exists(), os.listdir(HERE)), (False, []))
+build(there, "target/quick", "quick")
+holds("the version", run(script, "--version")[1], "fallowtime 1.2.3 (commit abcdef0, quick)\n")
+section = {}
+if PROGRAM:
+    section = {"fallowtime": run(PROGRAM, "help")[1]}
+    for words in ["--help"], ["-h"], ["help"]:
+        holds(f"{words}", run(PROGRAM, *words), (0, section["fallowtime"], ""))
+    listed = re.findall(r"^  ([a-z_]+)((?: [A-Z\[\]]+)*)(?:  |$)", section["fallowtime"], re.M)
+    about = dict(re.findall(r'name: "(\w+)".*?about: "(.*?)",$', command_table.TABLE.read_text(), re.M | re.S))
+    holds("what the commands do", [line[28:] for line in re.findall(r"^  [a-z_]+ .*$", section["fallowtime"], re.M)], [about[name] for name in COMMANDS])
+    holds("the commands of the help", listed, [(name, f" {places}" if places else "") for name, (places, _) in COMMANDS.items()])
+    status, out, errors = run(PROGRAM, "--explain")
+    holds("--explain", (status, out, errors.split(": ")[:3]), (2, "", ["words", "usage\nfallowtime", "the kinds are"]))
+    kinds = errors.split("the kinds are: ")[1].split()
+    every = run(PROGRAM, "help", "export")[1].split("\n\nEach command may be refused")[1]
+for name, (places, forms) in COMMANDS.items() if PROGRAM else []:
+    out = section[name] = run(PROGRAM, "help", name)[1]
+    for words in [name, "--help"], ["--help", name], [name, "-h"], [name, "help"]:
+        holds(f"{words}", run(PROGRAM, *words), (0, out, ""))
     usage = " ".join(["fallowtime FILE", name, *places.split(), *([f"[{' | '.join(forms)}]"] if forms else []), "[--wait SECONDS]"])
     holds(f"{name}: its words", out.split("\n")[0], usage)
     holds(f"{name}: its options", re.findall(r"^  (--[a-z]+)", out, re.M), [*forms, "--wait"])
@@ -202,36 +205,39 @@ for name, (places, forms) in COMMANDS.items():
         holds(f"{name}: {example.strip()} is a line", is_line(words), True)
     named = re.findall(r"[A-Z][a-z]+[A-Za-z]+|words: [A-Za-z]+", re.search(r"^May be refused: ([^.]*)\.", out, re.M)[1])
     holds(f"{name}: refusals that aren't explained", [kind for kind in named if kind.removeprefix("words: ") not in kinds], [])
-named = re.findall(r"[A-Z]\w+", section["every command"].split(":", 1)[1].split(" fallowtime ")[0].replace("FILE", ""))
-holds("every command: refusals that aren't explained", [kind for kind in named if kind not in kinds], [])
-holds("the columns of the help", [line for text in section.values() for line in text.split("\n") if len(line) > 84], [])
+    holds(f"{name}: the text of every command", out.endswith("\n\nEach command may be refused" + every), True)
+if PROGRAM:
+    for name, places, _ in command_table.rows("Session"):
+        holds(f"{name}: a line", run(PROGRAM, "help", name)[1].split("\n")[0], f"a line of fallowtime FILE: {name} {places}")
+    for name, _, _ in command_table.rows("Alone"):
+        holds(f"{name}: alone", run(PROGRAM, "help", name)[1].split("\n")[0], f"fallowtime {name}")
+        holds(f"{name} isn't over a file", run(PROGRAM, "f", name), (2, "", USAGE))
+    holds("version", run(PROGRAM, "version"), (0, f"fallowtime {(ROOT / 'VERSION').read_text()}", ""))
+    named = re.findall(r"[A-Z]\w+", every.split(":", 1)[1].split(" fallowtime ")[0].replace("FILE", ""))
+    holds("every command: refusals that aren't explained", [kind for kind in named if kind not in kinds], [])
+    holds("the columns of the help", [line for text in section.values() for line in text.split("\n") if len(line) > 84], [])
 
-# Each kind of refusal is explained, in the words of the page.
+# Each kind of refusal is explained, in the words of the page, and each kind that the page names.
 page = re.sub(r"\[([^\][]*)\]\([^)]*\)", r"\1", (ROOT / "docs/REFUSALS.md").read_text())
 store = (ROOT / "crates/store_model/src/error.rt").read_text()
 fault = re.search(r"pub enum FileError \{(.*?)\n\}", (ROOT / "crates/cli_files/src/fault.rt").read_text(), re.S)[1]
-unread = ["JSON", "usage", "id", "query", "line", "Words", "NotJson", "RepeatedKey", "InvalidObjectId", "NumberOutOfRange", "NotExtendedJson",
+unread = ["JSON", "usage", "id", "query", "line", "Usage", "NotJson", "RepeatedKey", "InvalidObjectId", "NumberOutOfRange", "NotExtendedJson",
           "MalformedValue", "Utf8EncodingError"]
-for kind in [*re.findall(r'^            ErrorKind::.* => "(\w+)",$', store, re.M), *re.findall(r"^    ([A-Z]\w+),$", fault, re.M), *unread]:
-    holds(f"{kind} is a kind", kind in kinds, True)
-for kind in kinds:
-    status, out, errors = run(script, "--explain", kind)
-    items = [line[2:] for line in out.split("\n") if line.startswith("  ")]
-    holds(f"--explain {kind}", (status, bool(items), kind in out, [line for line in items if line not in page], errors), (0, True, True, [], ""))
-for words in ["refused: Busy document 7"], ["refused:", "Busy"], ["Busy"]:
-    holds(f"--explain {words}", run(script, "--explain", *words)[1].split()[:2], ["fallowtime:", "`Busy`:"])
-for words in ["frob"], [""], ["."], ["busy"], ["NoFil"], []:
-    status, out, errors = run(script, "--explain", *words)
-    holds(f"--explain {words}", (status, out, errors.split("\n")[0], errors.split(": ")[2:3]), (2, "", USAGE[:-1], ["the kinds are"]))
-
-# Words that are no line of the table are refused before anything is built, and all others reach the program.
-for words in [], ["--versoin"], ["--explain", "Busy", "x"], ["--help", "frob"], ["frob", "--help"], ["f", "get", "c"], ["f", "frob"], ["-x", "collections"]:
-    holds(f"{words}", run(script, *words)[::2], (2, USAGE))
-holds("no program, and nothing to build one", run(script, "f", "collections"),
-      (125, "", f"fallowtime: there is no program in {there}/program: install it anew\n"))
-holds("nothing was built or made", ((there / "target").exists(), os.listdir(HERE)), (False, []))
-build(there, "target/quick", "quick")
-holds("the version", run(script, "--version")[1], "fallowtime 1.2.3 (commit abcdef0, quick)\n")
+if PROGRAM:
+    for kind in [*re.findall(r'^            ErrorKind::.* => "(\w+)",$', store, re.M), *re.findall(r"^    ([A-Z]\w+),$", fault, re.M), *unread]:
+        holds(f"{kind} is a kind", kind in kinds, True)
+    for kind in kinds:
+        status, out, errors = run(PROGRAM, "--explain", kind)
+        items = [line[2:] for line in out.split("\n")[:-1]]
+        holds(f"--explain {kind}", (status, bool(items), kind in out, [line for line in items if line not in page], errors), (0, True, True, [], ""))
+    holds("--explain words: usage", run(PROGRAM, "--explain", "words:", "usage")[1].split()[:2], ["`words:", "usage`:"])
+    for words in ["refused: Busy document 7"], ["refused:", "Busy"], ["Busy"]:
+        holds(f"--explain {words}", run(PROGRAM, "--explain", *words)[1].split()[:1], ["`Busy`:"])
+    for words in ["frob"], [""], ["."], ["busy"], ["NoFil"], []:
+        status, out, errors = run(PROGRAM, "--explain", *words)
+        holds(f"--explain {words}", (status, out, errors.split("\n")[0], errors.split(": ")[2:3]), (2, "", USAGE[:-1], ["the kinds are"]))
+    for words in [], ["--versoin"], ["--explain", "Busy", "x", "y"], ["--help", "frob"], ["frob", "--help"], ["f", "get", "c"], ["f", "frob"], ["-x", "collections"]:
+        holds(f"{words}", run(PROGRAM, *words)[::2], (2, USAGE))
 
 
 def knows_its_name():
@@ -252,14 +258,12 @@ def in_no_folder(words):
 knows = knows_its_name()
 count = 0
 for words in all_lines():
-    wanted = (2, "", USAGE)
-    if is_line(words):
+    count += is_line(words)
+    if words and words[1:2] != ["collections"] and count % 20 == 0:
         told = "fallowtime" + "".join(f" <{word}>" for word in words) + "\n"
-        wanted = (0, "orders\nold orders\nmore\n" if words[1:2] == ["collections"] else told, "")
-        count += 1
-    found = run(script, *words)
-    if found != wanted:
-        holds(f"the line {words}", found, wanted)
+        found = run(script, *words)
+        if found != (0, told, ""):
+            holds(f"the script on {words}", found, told)
     if knows and words:
         done = subprocess.run([PROGRAM, *in_no_folder(words)], stdin=subprocess.DEVNULL, capture_output=True, cwd=HERE)
         if (done.stderr.decode() == USAGE) == is_line(words):
@@ -268,21 +272,99 @@ print(f"{count} lines of the table, {'also by the program' if knows else 'none o
 
 # On a terminal one line more names what is nearest.
 for words, hint in [
-    (["t.db", "isnert", "c", "{}"], "there is no command 'isnert', but there is insert; the commands are insert put replace get "),
-    (["t.db", "FIND", "c"], "there is no command 'FIND', but there is find; the commands are "),
-    (["t.db", "aggregate", "c"], "there is no command 'aggregate'; the commands are insert "),
-    (["t.db", "a\x1b[31mb\nc"], "there is no command 'a31mbc'; the commands are "),
+    (["t.db", "isnert", "c", "{}"], "there is no command 'isnert', but there is insert; fallowtime help lists the commands"),
+    (["t.db", "FIND", "c"], "there is no command 'FIND', but there is find; "),
+    (["t.db", "aggregate", "c"], "there is no command 'aggregate'; "),
+    (["t.db", "a\x1b[31mb\nc"], "there is no command 'a31mbc'; "),
+    (["t.db", "rm", "c", "1"], "there is no command 'rm', but there is remove; "),
+    (["t.db", "Delete", "c", "1"], "there is no command 'Delete', but there is remove; "),
+    (["t.db", "export"], "the words are fallowtime FILE export COLL "),
+    (["t.db", "Update", "c", "1"], "there is no command 'Update', but there is update; "),
+    (["t.db", "show"], "there is no command 'show', but there is collections; "),
+    (["t.db", "version"], "the words are fallowtime version"),
+    (["t.db", "index", "c", "a"], "the words are a line of fallowtime FILE: index COLL PATH"),
     (["t.db", "get", "c"], "the words are fallowtime FILE get COLL ID [--canonical | --bson] [--wait SECONDS]"),
     (["t.db", "import", "c", "--canonical"], "the words are fallowtime FILE import COLL [--json] [--wait SECONDS]"),
     (["insert", "orders", "{}"], "FILE comes first: fallowtime FILE insert COLL DOC [--canonical] [--wait SECONDS]"),
     (["-t.db", "collections"], "a FILE that begins with - is written ./-x.db; "),
     (["--versoin"], "a FILE that begins with - is written ./-x.db; --help, --version and "),
-    (["t.db", "--wait"], "the words are fallowtime FILE [--wait SECONDS]; fallowtime COMMAND --help says "),
+    (["t.db", "--wait"], "the words are fallowtime FILE [--wait SECONDS]; fallowtime help COMMAND says "),
 ]:
-    status, told = told_at_terminal(script, *words)
+    if not knows:
+        break
+    status, told = told_at_terminal(PROGRAM, *words)
     holds(f"a hint for {words}", (status, len(told), told[0], told[1].startswith(f"fallowtime: {hint}") or told[1]), (2, 2, USAGE[:-1], True))
-status, told = told_at_terminal(script)
-holds("no words at a terminal", (status, told[:2]), (2, [USAGE[:-1], section["fallowtime"].split("\n")[0]]))
+if knows:
+    status, told = told_at_terminal(PROGRAM)
+    holds("no words at a terminal", (status, told), (2, [USAGE[:-1], "fallowtime: the words are FILE COMMAND ..; fallowtime help lists the commands"]))
+
+# After a refusal of one of the commonest kinds one line more says what mostly helps.
+for words, status, advice in [
+    (["advice.db", "insert", "c", '{"_id":1}'], 0, None),
+    (["advice.db", "insert", "c", '{"_id":1}'], 1, "put replaces the document that is there"),
+    (["advice.db", "put", "c", "{}"], 1, "insert and import --json make an _id"),
+    (["advice.db", "get", "c", "2"], 1, "an ID is 42 for the number and "),
+    (["advice.db", "get", "c", "65000000000000000000000a"], 1, "this ID is a text; an ObjectId is written "),
+    (["advice.db", "get", "c", '{"$oid":"12"}'], 2, "an ObjectId is "),
+    (["advice.db", "set", "c", "1", "k", "new"], 2, "a text has quotes of its own "),
+    (["advice.db", "find", "c", "k"], 2, "a query is an object, "),
+]:
+    if knows:
+        found, told = told_at_terminal(PROGRAM, *words)
+        lines = [line.startswith(f"fallowtime: {advice}") or line for line in told[1:]]
+        holds(f"advice after {words}", (found, lines), (status, [True] if advice else []))
+for path in HERE.iterdir():
+    path.unlink()
+
+
+
+def printed(name, words, given=b"", at_terminal=False):
+    """What the program under a name prints on standard output, and whether that is a terminal, byte for byte."""
+    if not at_terminal:
+        return subprocess.run([name, *words], executable=PROGRAM, input=given, stdout=subprocess.PIPE, cwd=HERE).stdout
+    ours, theirs = pty.openpty()
+    tty.setraw(theirs)
+    process = subprocess.Popen([name, *words], executable=PROGRAM, stdin=subprocess.PIPE, stdout=theirs, cwd=HERE)
+    os.close(theirs)
+    process.stdin.write(given)
+    process.stdin.close()
+    told = b""
+    try:
+        while piece := os.read(ours, 4096):
+            told += piece
+    except OSError:
+        pass
+    os.close(ours)
+    process.wait()
+    return told
+
+
+# What a terminal may obey in a document it is given as JSON has it, whatever prints it, and nothing else is given so.
+OBEYED = "\x7f\x80\x85\x9b\x9f"
+document = {"_id": 1, f"\x9b31m{OBEYED}": f"\x9b2J{OBEYED}", "k": [f"\xa0 \xa3 \xe9 \xc2\x9b \u20ac ~ \\u009b {OBEYED * 8000}"]}
+if PROGRAM:
+    line = json.dumps(document, ensure_ascii=False).encode()
+    escaped = "".join(f"\\u{ord(one):04x}" if one in OBEYED else one for one in line.decode()).encode()
+    printed("fallowtime", ["obeyed.db", "import", "c", "--json"], line)
+    bson = printed("fallowtime", ["obeyed.db", "export", "c"])
+    for name, words, given in [
+        ("fallowtime", ["obeyed.db", "find", "c"], b""),
+        ("fallowtime", ["obeyed.db", "get", "c", "1"], b""),
+        ("fallowtime", ["obeyed.db"], b'["get","c",1]\n'),
+        ("bson_store", ["obeyed.db", "get", "c", "1", "--relaxed"], b""),
+        ("bson_store", ["obeyed.db", "dump", "c"], b""),
+        ("bson_json", [], bson),
+    ]:
+        told = [printed(name, words, given, at_terminal) for at_terminal in (False, True)]
+        step = " ".join([name, *words])
+        obeyed = [[text.decode().count(one) for one in OBEYED] for text in told]
+        holds(f"characters that a terminal may obey, of {step}", obeyed, [[8002 + (one == "\x9b") * 3 for one in OBEYED], [0] * len(OBEYED)])
+        holds(f"the same in JSON, of {step}", json.loads(told[0]) == json.loads(told[1]), True)
+        if words[1:2] == ["find"]:
+            holds("the bytes into a pipe", told[0].replace(b" ", b"") == line.replace(b" ", b"") + b"\n", True)
+            holds("the bytes at a terminal", told[1].replace(b" ", b"") == escaped.replace(b" ", b"") + b"\n", True)
+    for path in HERE.iterdir():
+        path.unlink()
 
 # There an import is watched, and a signal reaches the program.
 for number in None, signal.SIGINT, signal.SIGTERM:
@@ -339,9 +421,7 @@ for name, words in re.findall(r"^\.It Ic (\w+)(.*)$", man, re.M):
     places = re.sub(r"Oo Ar (\w+) Oc|Op Ar (\w+)$", lambda found: f"Ar [{found[1] or found[2]}]", words.split(" Op Fl")[0])
     shown.append((name, (" ".join(re.findall(r"[A-Z\[\]]{2,}", places)), [f"-{form}" for form in forms])))
 holds("the commands of the page", shown, list(COMMANDS.items()))
-holds("the options of the page", sorted(re.findall(r"^\.It Fl -([a-z]+)", man, re.M)), ["bson", "canonical", "explain", "help", "json", "version", "wait"])
-source = (ROOT / "crates/fallowtime_words/src/command.rt").read_text()
-holds("the commands of the crate", re.findall(r'^            "([a-z]+)" => Some\(Command::', source, re.M), list(COMMANDS))
+holds("the options of the page", sorted(re.findall(r"^\.It Fl -([a-z]+)", man, re.M)), ["bson", "canonical", "explain", "help", "json", "many", "version", "wait"])
 for tool, words in ("mandoc", ["-T", "lint", "-W", "warning"]), ("groff", ["-mdoc", "-Tutf8", "-z", "-ww"]):
     if shutil.which(tool):
         done = subprocess.run([tool, *words, ROOT / "man/fallowtime.1"], capture_output=True, text=True)
@@ -362,7 +442,10 @@ for line, wanted in [
     (["sh"], ["shop.db"]),
     (["--"], ["--help", "--version", "--explain"]),
     (["ins"], ["insert"]),
-    (["--explain", "No"], [kind for kind in kinds if kind.startswith("No")]),
+    (["hel"], ["help"]),
+    (["help", "re"], ["replace", "remove"]),
+    (["help", "v"], ["version"]),
+    (["--explain", "No"], ["NoFile", "NoFolder"]),
     (["shop.db", ""], list(COMMANDS)),
     (["shop.db", "re"], ["replace", "remove"]),
     (["shop.db", "--"], ["--wait", "--help"]),
@@ -423,9 +506,7 @@ for name in NAMES:
     holds(f"{name} --version", run(prefix / "bin" / name, "--version"), (0, f"{name} 1.2.3 (commit abcdef0, proved)\n", ""))
     status, out, errors = run(prefix / "bin" / name, "--help")
     holds(f"{name} --help", (status, out.split()[0], "README" in out, errors), (0, name, False, ""))
-holds("help", run(prefix / "bin/fallowtime", "insert", "--help")[1], section["insert"] + section["every command"])
-holds("an explanation", run(prefix / "bin/fallowtime", "--explain", "NoFile")[1].split()[:2], ["fallowtime:", "`NoFile`:"])
-holds("its words", run(prefix / "bin/fallowtime", "f", "get", "c"), (2, "", USAGE))
+holds("help is the program's", run(prefix / "bin/fallowtime", "help", "get"), (0, "fallowtime <help> <get>\n", ""))
 (HERE / "link").symlink_to(prefix / "bin/fallowtime")
 holds("by a link", run(HERE / "link", "f"), (0, "fallowtime <f>\n", ""))
 (HERE / "shop.db").touch()

@@ -7,8 +7,8 @@ tests/indexes.py PROGRAM [LISTS [SEED]]
 PROGRAM is the program under the name fallowtime. LISTS is how many lists there are, 2500 if it isn't given, and SEED the
 number of the first one. A list mixes changes of two collections with questions about paths that have an index or have
 none, and with indexes that are made and dropped between them. Of a list whose answers differ, the shortest one that is
-found is printed. Behind the lists it is measured that a question about an indexed path reads few documents. Ends with
-status 1 if something isn't as it should be.
+found is printed. Behind the lists questions are asked after each sort of change, and it is measured that those which an
+index serves read few documents. Ends with status 1 if something isn't as it should be.
 """
 import atexit
 import base64
@@ -47,6 +47,7 @@ LEAVES = NUMBERS + [
     {"$regularExpression": {"pattern": "a", "options": "i"}}, {"$binary": {"base64": "YQ==", "subType": "00"}},
     {"$binary": {"base64": "YQ==", "subType": "80"}}, {"$symbol": "a"}, {"$code": "a"}]
 KINDS = ["double", "string", "object", "array", "null", "int", "long", "number", "undefined"]
+RANGES = ["$gt", "$gte", "$lt", "$lte"]
 
 
 class Lists:
@@ -95,14 +96,18 @@ class Lists:
             value, lambda: {"$eq": value()}, lambda: {"$in": [value() for _ in range(self.chance.randrange(4))]},
             lambda: {"$ne": value()}, lambda: {"$nin": [value()]}, lambda: {"$exists": self.happens(0.5)},
             lambda: {"$type": self.one_of(KINDS)}, lambda: {"$not": {"$eq": value()}},
-            lambda: {"$eq": value(), "$exists": True}], [10, 2, 4, 1, 1, 1, 1, 1, 1])[0]()
+            lambda: {"$eq": value(), "$exists": True}, lambda: {self.one_of(RANGES): value()},
+            lambda: {"$gte": value(), "$lt": value()}, lambda: {"$all": [value() for _ in range(self.chance.randrange(3))]},
+            lambda: {"$size": self.chance.randrange(3)}, lambda: {"$mod": [2, self.chance.randrange(2)]},
+            lambda: {"$elemMatch": self.one_of([{self.one_of(RANGES): value()}, {"$eq": value()}, {"b": value()}])},
+        ], [10, 2, 4, 1, 1, 1, 1, 1, 1, 3, 2, 2, 1, 1, 2])[0]()
 
     def query(self, depth=0):
         if depth > 2 or self.happens(0.65):
             paths = [self.path() for _ in range(self.chance.choices([1, 2, 0], [10, 4, 1])[0])]
             return {path: self.asked(path) for path in paths}
         joining = self.chance.choices(["$and", "$or", "$nor"], [4, 4, 1])[0]
-        return {joining: [self.query(depth + 1) for _ in range(self.chance.randrange(4))]}
+        return {joining: [self.query(depth + 1) for _ in range(self.chance.choices([0, 1, 2, 3], [1, 10, 10, 10])[0])]}
 
     def stream(self):
         """Documents in BSON."""
@@ -114,8 +119,8 @@ class Lists:
         if self.happens(0.01):
             name = ""
         command = self.chance.choices(
-            ["insert", "put", "replace", "set", "unset", "remove", "import", "find", "count", "index", "drop_index"],
-            [14, 4, 4, 6, 2, 6, 3, 24, 10, 9, 2])[0]
+            ["insert", "put", "replace", "set", "unset", "remove", "import", "find", "count", "index", "drop_index", "update", "delete"],
+            [14, 4, 4, 6, 2, 6, 3, 24, 10, 9, 2, 6, 3])[0]
         if command in ("insert", "put", "replace"):
             return [command, name, self.document(own)]
         if command == "set":
@@ -124,6 +129,12 @@ class Lists:
             return [command, name, own, self.one_of(KEYS)]
         if command == "remove":
             return [command, name, own]
+        if command == "update":
+            key = self.one_of([key for key in KEYS if key])
+            update = {"$set": {key: self.value()}} if self.happens(0.7) else {"$inc": {key: 1}}
+            return [command, name, self.query(), update, *([{"many": True}] if self.happens(0.5) else [])]
+        if command == "delete":
+            return [command, name, self.query(), *([{"many": True}] if self.happens(0.3) else [])]
         if command == "import":
             documents = [self.document(one) for one in self.chance.sample(IDS, self.chance.randrange(3))]
             return [command, name, self.stream() if self.happens(0.3) else documents]
@@ -166,7 +177,7 @@ def difference(requests):
     """What differs with indexes and without, or None."""
     found = answers(requests, "with.db")
     for request, answer in zip(requests, found):
-        if request[0] in OF_INDEXES and answer != ("{}" if request[1] else '{"refused":"BadName"}'):
+        if request[0] in OF_INDEXES and answer != ("{}" if request[1] else '{"error":"BadName"}'):
             return f"{json.dumps(request)}: {answer}"
     plain = without_indexes(requests)
     found = [answer for request, answer in zip(requests, found) if request[0] not in OF_INDEXES]
@@ -218,25 +229,63 @@ def seconds(requests, file):
     return found, resource.getrusage(resource.RUSAGE_CHILDREN).ru_utime - began
 
 
-def measure():
-    """Questions by an index take a small part of the time that they take without it: it is there after each sort of change,
-    and after another index of the collection is dropped."""
+# Queries about a number that an index on a.b serves, and how many documents behind the changes below answer those about 100.
+SERVED = [
+    (lambda n: {"a.b": n}, 4),
+    (lambda n: {"a.b": {"$eq": float(n)}}, 4),
+    (lambda n: {"a.b": {"$in": [n, n + 1, "none"]}}, 5),
+    (lambda n: {"a.b": {"$all": [n, n + 1]}}, 2),
+    (lambda n: {"$or": [{"a.b": n}, {"a.b": {"$numberLong": str(n + 1)}, "text": {"$exists": True}}]}, 5),
+    (lambda n: {"$and": [{"text": {"$ne": 1}}, {"_id": {"$gte": 0}, "a.b": n}]}, 1),
+    (lambda n: {"a.b": {"$eq": n, "$type": "array"}}, 1),
+    (lambda n: {"$or": [{"a.b": n}, {"a.b": {"$type": ["array", "decimal"]}}, {"a": {"$type": "array"}}]}, 23),
+]
+# Queries that it doesn't serve.
+NOT_SERVED = [
+    (lambda n: {"a.b": {"$gte": n, "$lt": n + 3}}, 6),
+    (lambda n: {"a.b": {"$in": [n, None]}}, 5),
+    (lambda n: {"$or": [{"a.b": n}, {"text": "y"}]}, 5),
+]
+
+
+def asked(query, numbers):
+    return [["count", "c", query(n)] for n in numbers]
+
+
+def changes_beside_indexes():
+    """Requests that leave an index on a.b, over 2000 documents with a number there, 20 of which have it in an array too,
+    after each sort of change, and after another index of the collection is dropped."""
     documents = [{"_id": n, "a": {"b": n}, "text": "x" * 200} for n in range(2000)]
-    changes = [["import", "c", documents[:-9]], ["index", "c", "a.b"], ["index", "c", "text"], ["import", "c", documents[-9:-1]],
-               ["insert", "c", documents[-1]], ["remove", "c", 0], ["set", "c", 1, "a", {"b": 0}], ["unset", "c", 2, "text"],
-               ["replace", "c", documents[3]], ["put", "c", documents[4]], ["put", "c", {**documents[0], "_id": 2000}],
-               ["drop_index", "c", "text"]]
-    left_out = len(changes) - len(without_indexes(changes))
-    questions = [["count", "c", query] for n in range(0, 2000, 20) for query in (
-        {"a.b": n}, {"a.b": {"$in": [n, n + 1]}}, {"$or": [{"a.b": n}, {"a.b": float(n)}]}, {"$and": [{"text": {"$ne": 1}}, {"a.b": n}]})]
-    start = seconds(changes, "base.db")[1]
-    with_index, quick = seconds(changes + questions, "with.db")
-    plain, slow = seconds(without_indexes(changes) + questions, "without.db")
-    if with_index[len(changes):] != plain[len(changes) - left_out:]:
-        fail("the counts differ")
-    print(f"{len(questions)} questions: {quick - start:.2f} s of the processor, without the index {slow - start:.2f} s")
-    if quick - start > (slow - start) / 5:
-        fail("questions about an indexed path read many documents")
+    return [["import", "c", documents[:-9]], ["index", "c", "a.b"], ["index", "c", "text"], ["import", "c", documents[-9:-1]],
+            ["insert", "c", documents[-1]], ["remove", "c", 0], ["set", "c", 1, "a", {"b": 0}], ["unset", "c", 2, "text"],
+            ["replace", "c", documents[3]], ["put", "c", documents[4]], ["put", "c", {**documents[0], "_id": 2000}],
+            ["import", "c", [{"_id": f"array {n}", "a": {"b": [n, n + 1]}} for n in range(0, 2000, 100)]],
+            ["put", "c", {"_id": "documents", "a": [{"b": 100}, {"b": 101}]}],
+            ["put", "c", {"_id": "decimal", "a": {"b": {"$numberDecimal": "1E+2"}}}],
+            ["put", "c", {"_id": "last", "text": "y"}], ["drop_index", "c", "text"]]
+
+
+def measure():
+    """Questions are answered as without an index. Of those that it serves each sort takes a small part of the time."""
+    changes, numbers = changes_beside_indexes(), range(0, 2000, 20)
+    plain = without_indexes(changes)
+    start, times = seconds(changes, "base.db")[1], []
+    for query, wanted in SERVED + NOT_SERVED:
+        questions = asked(query, numbers)
+        found, by_index = seconds(changes + questions, "with.db")
+        scanned, by_all = seconds(plain + questions, "without.db")
+        if found[len(changes):] != scanned[len(plain):]:
+            fail(f"the counts by {query(100)} differ")
+        count = json.loads(found[len(changes) + numbers.index(100)])["count"]
+        if count != wanted:
+            fail(f"the count by {query(100)} is {count}, and not {wanted}")
+        times.append((by_index - start, by_all - start))
+    served = times[:len(SERVED)]
+    quick, slow = map(sum, zip(*served))
+    print(f"{len(served) * len(numbers)} questions: {quick:.2f} s of the processor, without the index {slow:.2f} s")
+    for (query, _), (by_index, by_all) in zip(SERVED, served):
+        if by_index > by_all / 4:
+            fail(f"{query(100)} reads many documents: {by_index:.3f} s, without the index {by_all:.3f} s")
 
 
 compare()

@@ -85,22 +85,24 @@ def traced(words, *options):
 
 def calls(words):
     """What a command asks of the system: each opening and reading, with the path and the bytes that were read of it so far."""
-    subprocess.run(traced(words, "-e", "trace=openat,read"), stdout=subprocess.DEVNULL, check=True, timeout=LONG)
+    subprocess.run(traced(words, "-e", "trace=openat,read,pread64"), stdout=subprocess.DEVNULL, check=True, timeout=LONG)
+    if words[1] == "backup":
+        os.remove(words[2])
     opened, found = {}, []
     for line in (FOLDER / "trace").read_text().splitlines():
         if match := re.match(r'openat\(\w+, "([^"]*)".* = (\d+)$', line):
             opened[match[2]] = [match[1], 0]
             found.append(("openat", match[1], 0))
-        elif match := re.match(r"read\((\d+), .* = (\d+)$", line):
-            about = opened.setdefault(match[1], ["", 0])
-            about[1] += int(match[2])
-            found.append(("read", *about))
+        elif match := re.match(r"(read|pread64)\((\d+), .* = (\d+)$", line):
+            about = opened.setdefault(match[2], ["", 0])
+            about[1] += int(match[3])
+            found.append((match[1], *about))
     return found
 
 
 def held(words, call, place, seconds):
     """The command, held for some seconds at one of its calls."""
-    when = "exit" if call == "read" else "enter"
+    when = "enter" if call == "openat" else "exit"
     return subprocess.Popen(traced(words, "-e", f"trace={call}", "-e", f"inject={call}:delay_{when}={int(seconds * 1e6)}:when={place}"),
                             stdout=subprocess.PIPE, stderr=subprocess.PIPE)
 
@@ -118,9 +120,13 @@ def found_by(words, process):
 
 
 def in_the_middle(words, size):
-    """The place among the readings of a command at which a third of the file was read."""
-    readings = [about for about in calls(words) if about[0] == "read"]
-    return 1 + next(place for place, (_, path, read) in enumerate(readings) if path == words[0] and read > size / 3)
+    """A reading of a command, by its call and its place among these, at which a third of the file was read: by parts, or as a whole."""
+    for call in "pread64", "read":
+        readings = [about for about in calls(words) if about[0] == call]
+        for place, (_, path, read) in enumerate(readings):
+            if path == words[0] and read > size / 3:
+                return call, 1 + place
+    raise LookupError(f"{words}: a third of the file isn't read")
 
 
 def behind_the_file(words):
@@ -150,9 +156,8 @@ for name, words in ("find", ["find", "c", QUERY]), ("backup", ["backup", str(FOL
     # SQLite makes a log, takes it into the file and deletes it, while the reader is in the middle of the file.
     file = make(FOLDER / f"wal-{name}.db", 300, 5)
     words = [file, *words]
-    place = in_the_middle(words, os.path.getsize(file))
-    (FOLDER / "copy.db").unlink(missing_ok=True)
-    reader = held(words, "read", place, 1.5)
+    call, place = in_the_middle(words, os.path.getsize(file))
+    reader = held(words, call, place, 1.5)
     time.sleep(0.7)
     move(file)
     in_one_state(f"{name} beside a log that comes and goes", found_by(words, reader))
@@ -181,7 +186,7 @@ pathlib.Path(file + "-journal").write_bytes(b"\xd9\xd5\x05\xf9\x20\xa1\x63\xd7" 
 for seconds in 0, 1, 5:
     began = time.time()
     holds("beside a journal", run(file, "count", "c", *(["--wait", str(seconds)] if seconds != 5 else [])), (1, b"", "refused: Journal\n"))
-    holds(f"it waited {seconds} seconds", seconds - 0.2 < time.time() - began < seconds + (0.9 if seconds == 0 else 20), True)
+    holds(f"it waited {seconds} seconds", seconds - 0.2 < time.time() - began < seconds + (4 if seconds == 0 else 20), True)
 
 
 # ---- By chance: all documents are changed in one transaction after the other.

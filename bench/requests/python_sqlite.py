@@ -44,17 +44,17 @@ def insert(name, document):
 def answer(command, name, first, *more):
     """What a request is answered."""
     if command == "insert":
-        return {"_id": first["_id"]} if insert(name, first) else {"refused": "DuplicateId"}
+        return {"_id": first["_id"]} if insert(name, first) else {"error": "DuplicateId"}
     if command == "put":
-        return {} if change(name, first["_id"], bson.encode(first)) or insert(name, first) else {"refused": "DuplicateId"}
+        return {} if change(name, first["_id"], bson.encode(first)) or insert(name, first) else {"error": "DuplicateId"}
     if command == "replace":
-        return {} if change(name, first["_id"], bson.encode(first)) else {"refused": "NotFound"}
+        return {} if change(name, first["_id"], bson.encode(first)) else {"error": "NotFound"}
     if command == "remove":
         gone = base.execute("DELETE FROM documents WHERE coll = ? AND idkey = ?", (name, key_of(first))).rowcount
-        return {} if gone else {"refused": "NotFound"}
+        return {} if gone else {"error": "NotFound"}
     found = body_of(name, first)
     if not found:
-        return {"refused": "NotFound"}
+        return {"error": "NotFound"}
     if command == "get":
         return {"document": bson.decode(found[0])}
     document = bson.decode(found[0])

@@ -13,22 +13,30 @@ of the environment, on the path, or in the checkout in which this package lies.
 from __future__ import annotations
 
 from ._collection import Collection
-from ._cursor import Cursor
-from ._errors import DuplicateKeyError, Ended, FallowtimeError, Refused
-from ._results import DeleteResult, InsertManyResult, InsertOneResult, UpdateResult
+from ._cursor import CommandCursor, Cursor
+from ._errors import (BulkWriteError, CollectionInvalid, ConnectionFailure, DuplicateKeyError, Ended, FallowtimeError,
+                      InsertManyError, InvalidOperation, InvalidWriteError, OperationFailure, Refused, RefusedWrite,
+                      WriteError)
+from ._index import ASCENDING, DESCENDING
+from ._results import BulkWriteResult, DeleteResult, InsertManyResult, InsertOneResult, ReturnDocument, UpdateResult
 from ._store import Store, open
 from ._values import (Binary, Code, DatetimeMS, DBPointer, Int64, MaxKey, MinKey, ObjectId, Regex, Symbol, Timestamp,
                       Undefined)
+from .operations import DeleteMany, DeleteOne, IndexModel, InsertOne, ReplaceOne, UpdateMany, UpdateOne
 
 __version__ = "0.1.0"
 
 __all__ = [
-    "Binary", "Code", "Collection", "Cursor", "DBPointer", "DatetimeMS", "DeleteResult", "DuplicateKeyError",
-    "Ended", "FallowtimeError", "InsertManyResult", "InsertOneResult", "Int64", "MaxKey", "MinKey", "ObjectId",
-    "Refused", "Regex", "Store", "Symbol", "Timestamp", "Undefined", "UpdateResult", "open",
+    "ASCENDING", "Binary", "BulkWriteError", "BulkWriteResult", "Code", "Collection", "CollectionInvalid",
+    "CommandCursor", "ConnectionFailure", "Cursor", "DBPointer", "DESCENDING", "DatetimeMS", "DeleteMany", "DeleteOne",
+    "DeleteResult", "DuplicateKeyError", "Ended", "FallowtimeError", "IndexModel", "InsertManyError",
+    "InsertManyResult", "InsertOne", "InsertOneResult", "Int64", "InvalidOperation", "InvalidWriteError", "MaxKey",
+    "MinKey", "ObjectId", "OperationFailure", "Refused", "RefusedWrite", "Regex", "ReplaceOne", "ReturnDocument",
+    "Store", "Symbol", "Timestamp", "Undefined", "UpdateMany", "UpdateOne", "UpdateResult", "WriteError", "open",
 ]
 
 # They are of this package, as tracebacks and pickle name them, wherever in it they are written.
 for _name in __all__:
-    globals()[_name].__module__ = __name__
+    if hasattr(globals()[_name], "__module__"):
+        globals()[_name].__module__ = __name__
 del _name

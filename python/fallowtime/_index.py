@@ -4,33 +4,49 @@ from __future__ import annotations
 from collections.abc import Mapping
 from typing import Any, List, Tuple
 
-from ._absent import OPTIONS_OF_INDEX, refuse, test_options
+from ._absent import IDLE_OF_INDEX, OPTIONS_OF_INDEX, refuse, test_options
 
-# pymongo's word for an index whose keys ascend, and what it puts behind a path in the name of an index.
-ASCENDING = 1
-ENDING = "_1"
-
-
-def name_of(path: str) -> str:
-    """The name of an index on a path."""
-    return path + ENDING
+# pymongo's words for the two directions of keys. An index has none here, and serves both.
+ASCENDING, DESCENDING = 1, -1
+# The index on _id that every collection has, by its name and its keys.
+ID_NAME, ID_KEYS = "_id_", [("_id", ASCENDING)]
+# The version of indexes that MongoDB reports.
+VERSION = 2
 
 
-def path_to_make(keys: Any, options: Mapping[str, Any]) -> str:
-    """The path of the index that `create_index` is to make."""
-    given = {name: value is not None and value is not False for name, value in options.items()}
-    test_options("create_index", given, OPTIONS_OF_INDEX)
-    return _only_path("create_index", [keys] if isinstance(keys, str) else keys)
+class Index:
+    """An index that was made: its name, its path, its direction, and options that mean nothing here."""
+
+    __slots__ = ("name", "path", "direction", "options")
+
+    def __init__(self, keys: Any, options: Mapping[str, Any]) -> None:
+        given = {name: value for name, value in options.items() if value is not None and value is not False}
+        name = given.pop("name", None)
+        test_options("create_index", dict.fromkeys(given, True), OPTIONS_OF_INDEX, IDLE_OF_INDEX)
+        self.path, self.direction = only_key("create_index", keys)
+        self.name: str = name_of(self.path, self.direction) if name is None else name
+        if not isinstance(self.name, str) or not self.name:
+            raise TypeError(f"the name of an index is a text, and not {name!r}")
+        self.options = {name: value for name, value in given.items() if name != "comment"}
+
+    @property
+    def keys(self) -> List[Tuple[str, int]]:
+        """Its keys, as pymongo has them."""
+        return [(self.path, self.direction)]
 
 
-def path_to_drop(name_or_keys: Any, options: Mapping[str, Any]) -> str:
-    """The path of the index that `drop_index` is to drop: a text is the name that `create_index` returned."""
-    test_options("drop_index", options, OPTIONS_OF_INDEX)
-    if not isinstance(name_or_keys, str):
-        return _only_path("drop_index", name_or_keys)
-    if not name_or_keys.endswith(ENDING):
-        raise ValueError(f"an index has the name that create_index returns, PATH{ENDING}, and not {name_or_keys!r}")
-    return name_or_keys[:-len(ENDING)]
+def name_of(path: str, direction: int = ASCENDING) -> str:
+    """The name of an index on a path, if it is given none."""
+    return f"{path}_{direction}"
+
+
+def path_of_name(name: str) -> str:
+    """The path in a name that an index was given as `create_index` names it."""
+    for direction in ASCENDING, DESCENDING:
+        ending = name_of("", direction)
+        if name.endswith(ending):
+            return name[:-len(ending)]
+    raise ValueError(f"an index has the name that create_index returns, and not {name!r}")
 
 
 def _pairs(keys: Any) -> List[Tuple[Any, Any]]:
@@ -48,20 +64,20 @@ def _pair(pair: Any) -> Tuple[Any, Any]:
     return pair[0], pair[1]
 
 
-def _only_path(method: str, keys: Any) -> str:
-    """The path of the only key."""
-    pairs = _pairs(keys)
+def only_key(method: str, keys: Any) -> Tuple[str, int]:
+    """The path and the direction of the only key."""
+    pairs = [(keys, ASCENDING)] if isinstance(keys, str) else _pairs(keys)
     if not pairs:
         raise ValueError("an index has a key")
     if len(pairs) > 1:
-        refuse(f"{method} on several keys", "an index is on one path; a query takes the best of several indexes")
+        refuse(f"{method} on several keys", "an index is on one path; there may be several")
     path, direction = pairs[0]
     if not isinstance(path, str):
         raise TypeError(f"a path is a text, and not {path!r}")
     _test_path(method, path)
-    if isinstance(direction, bool) or direction != ASCENDING:
-        refuse(f"{method} with {direction!r}", "an index serves equality alone, which 1 stands for")
-    return path
+    if isinstance(direction, bool) or direction not in (ASCENDING, DESCENDING):
+        refuse(f"{method} with {direction!r}", "an index is one of values, and 1 or -1 stands for that")
+    return path, int(direction)
 
 
 def _test_path(method: str, path: str) -> None:

@@ -18,6 +18,8 @@ NAME = "fallowtime"
 VARIABLE = "FALLOWTIME"
 # What the script that builds a program, if there is none, reads from the environment: the process with which that build ends.
 PARENT = "FALLOWTIME_PARENT"
+# The program that a package with one carries.
+CARRIED = pathlib.Path(__file__).resolve().parent / "program" / NAME
 # How much of what the program reports is kept, in bytes.
 LONGEST_REPORT = 1 << 16
 
@@ -45,19 +47,24 @@ def checkouts() -> Iterator[pathlib.Path]:
         yield pathlib.Path(urllib.parse.unquote(url.path)).parent
 
 
+def is_program(path: pathlib.Path) -> bool:
+    return path.is_file() and os.access(path, os.X_OK)
+
+
 def find_program() -> str:
-    """The program: what FALLOWTIME names, else `fallowtime` on the path, else that of the checkout from which this
-    package is."""
+    """The program: what FALLOWTIME names, else the one that this package carries, else `fallowtime` on the path, else that
+    of the checkout from which this package is."""
     named = os.environ.get(VARIABLE)
     if named:
         return os.path.abspath(named) if os.sep in named else named
+    if is_program(CARRIED):
+        return str(CARRIED)
     found = shutil.which(NAME)
     if found:
         return os.path.abspath(found)
     for checkout in checkouts():
-        program = checkout / NAME
-        if program.is_file() and os.access(program, os.X_OK):
-            return str(program)
+        if is_program(checkout / NAME):
+            return str(checkout / NAME)
     raise Ended(f"there is no program {NAME}: ./install of its checkout puts it on the path, or {VARIABLE} names it")
 
 
@@ -146,7 +153,7 @@ def refused_of(text: str) -> Optional[Refused]:
             document, key = _places(rest)
             return refusal(kind, document, key)
         if line.startswith(WORDS):
-            return refusal("Words", at=line[len(WORDS):])
+            return refusal("Usage", at=line[len(WORDS):])
     return None
 
 

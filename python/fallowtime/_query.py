@@ -2,20 +2,20 @@
 NotImplementedError before anything is sent."""
 from __future__ import annotations
 
-import math
+import decimal
 import re
 from collections.abc import Mapping
-from typing import Any, Callable, Dict, Iterator
+from typing import Any, Callable, Dict, Iterator, List
 
-from ._encode import GREATEST_INT32, LEAST_INT32, RESERVED, double_text, encode_text, encode_value, test_int64
-from ._values import Int64, Regex, is_foreign
+from ._encode import GREATEST_INT32, GREATEST_INT64, LEAST_INT32, LEAST_INT64, RESERVED, encode_text, encode_value
+from ._values import Code, Int64, Regex, Symbol, is_foreign
 
 JOINING = frozenset(["$and", "$or", "$nor"])
 
 
 def is_number(value: Any) -> bool:
-    """Whether a value is a number without a kind of its own, which stands for that number of any kind."""
-    return isinstance(value, (int, float)) and not isinstance(value, (bool, Int64)) and not is_foreign(value, "Int64")
+    """Whether a value is an integer or a double, whose number documents have in several kinds."""
+    return isinstance(value, (int, float)) and not isinstance(value, bool)
 
 
 def is_regex(value: Any) -> bool:
@@ -24,60 +24,75 @@ def is_regex(value: Any) -> bool:
 
 
 def are_operators(value: Any) -> bool:
-    """Whether a value under a path is one of operators: a document whose first key begins with `$`."""
+    """Whether a value under a path is one of operators: a document whose first key begins with `$`, and doesn't begin
+    a reference."""
     if not isinstance(value, Mapping):
         return False
     first = next(iter(value), None)
-    return isinstance(first, str) and first.startswith("$") and first not in RESERVED
-
-
-def _operand(value: Any) -> str:
-    """A value that is asked for under `$eq`."""
-    if is_number(value):
-        if not isinstance(value, float):
-            return "%d" % test_int64(value)
-        if math.isfinite(value):
-            return double_text(value)
-    return encode_value(value)
+    return isinstance(first, str) and first.startswith("$") and first not in RESERVED and first != "$ref"
 
 
 def _plain_operand(value: Any) -> str:
-    """A value that is asked for elsewhere, where a regular expression would search."""
+    """A value that is asked for elsewhere than under `$eq`, where a regular expression would search."""
     if is_regex(value):
         raise NotImplementedError("a search by a regular expression can't be had; under $eq it is a value")
-    return _operand(value)
+    return encode_value(value)
 
 
-def _operands(operator: str, value: Any) -> str:
+def _list_of(operator: str, value: Any) -> List[Any]:
     if not isinstance(value, (list, tuple)):
         raise TypeError(f"{operator} takes a list, and not {type(value).__name__}")
-    return "[" + ",".join([_plain_operand(item) for item in value]) + "]"
+    return list(value)
 
 
-def _among(value: Any) -> str:
-    return _operands("$in", value)
+def _bracketed(texts: List[str]) -> str:
+    return "[" + ",".join(texts) + "]"
 
 
-def _not_among(value: Any) -> str:
-    return _operands("$nin", value)
+def _in(value: Any) -> str:
+    return _bracketed([_plain_operand(item) for item in _list_of("$in", value)])
+
+
+def _nin(value: Any) -> str:
+    return _bracketed([_plain_operand(item) for item in _list_of("$nin", value)])
+
+
+def _all(value: Any) -> str:
+    items = _list_of("$all", value)
+    return _bracketed([_operators(item) if are_operators(item) else _plain_operand(item) for item in items])
+
+
+def _element_match(value: Any) -> str:
+    """Operators on an item, or a query of one that is a document."""
+    if not isinstance(value, Mapping):
+        raise TypeError(f"$elemMatch takes a dict, and not {type(value).__name__}")
+    return _operators(value) if next(iter(value), None) in _OPERATORS else encode_query(value)
+
+
+def _number(operator: str, value: Any) -> str:
+    if not is_number(value) and not isinstance(value, decimal.Decimal) and not is_foreign(value, "Decimal128"):
+        raise TypeError(f"{operator} takes a number, and not {value!r}")
+    return encode_value(value)
+
+
+def _size(value: Any) -> str:
+    return _number("$size", value)
+
+
+def _mod(value: Any) -> str:
+    return _bracketed([_number("$mod", item) for item in _list_of("$mod", value)])
 
 
 def _exists(value: Any) -> str:
-    if not isinstance(value, bool):
-        raise TypeError(f"$exists takes True or False, and not {value!r}")
-    return "true" if value else "false"
+    return encode_value(value) if isinstance(value, bool) else _number("$exists", value)
 
 
 def _kind(value: Any) -> str:
-    if isinstance(value, str):
-        return encode_text(value)
-    if isinstance(value, int) and not isinstance(value, bool):
-        return "%d" % value
-    raise TypeError(f"$type takes a name or a number of a kind, or a list of these, and not {value!r}")
+    return encode_text(value) if isinstance(value, str) else _number("$type", value)
 
 
 def _type(value: Any) -> str:
-    return "[" + ",".join([_kind(item) for item in value]) + "]" if isinstance(value, (list, tuple)) else _kind(value)
+    return _bracketed([_kind(item) for item in value]) if isinstance(value, (list, tuple)) else _kind(value)
 
 
 def _not(value: Any) -> str:
@@ -89,12 +104,20 @@ def _not(value: Any) -> str:
 
 
 _OPERATORS: Dict[str, Callable[[Any], str]] = {
-    "$eq": _operand,
+    "$eq": encode_value,
     "$ne": _plain_operand,
-    "$in": _among,
-    "$nin": _not_among,
+    "$gt": _plain_operand,
+    "$gte": _plain_operand,
+    "$lt": _plain_operand,
+    "$lte": _plain_operand,
+    "$in": _in,
+    "$nin": _nin,
+    "$all": _all,
+    "$elemMatch": _element_match,
+    "$size": _size,
     "$exists": _exists,
     "$type": _type,
+    "$mod": _mod,
     "$not": _not,
 }
 
@@ -120,6 +143,8 @@ def _entry(path: Any, value: Any) -> str:
         raise TypeError(f"a path in a query is a text, and not {path!r}")
     if path in JOINING:
         return encode_text(path) + ":" + _joined(path, value)
+    if path == "$comment":
+        return encode_text(path) + ":" + encode_value(value)
     if path.startswith("$"):
         raise NotImplementedError(f"the operator {path} can't be had at the top of a query")
     return encode_text(path) + ":" + (_operators(value) if are_operators(value) else _plain_operand(value))
@@ -133,28 +158,40 @@ def encode_query(query: Any) -> str:
 
 
 def asks_for_id(query: "Mapping[str, Any]") -> bool:
-    """Whether a query is one for an `_id` alone, so that the documents with the `ids_of` its value are what it
-    selects."""
+    """Whether a query is one for an `_id` alone."""
     return len(query) == 1 and "_id" in query and not are_operators(query["_id"]) and not is_regex(query["_id"])
+
+
+def is_one_look(query: "Mapping[str, Any]") -> bool:
+    """Whether a query is one for an `_id` alone whose documents are those with the `ids_of` its value. What is made of
+    several values, a decimal and a symbol are equal to `_id`s that are written in other ways, too."""
+    return asks_for_id(query) and not (
+        isinstance(query["_id"], (Mapping, list, tuple, decimal.Decimal, Symbol, Code))
+        or any(is_foreign(query["_id"], name) for name in ("Decimal128", "Code", "DBRef")))
 
 
 def ids_of(value: Any) -> Iterator[str]:
     """The `_id`s that a value stands for in a query, as JSON, its own one first: of a number those of each kind that
     has it. At most one document has each of them."""
-    yield encode_value(value)
+    own = encode_value(value)
+    yield own
     if not is_number(value):
         return
     if isinstance(value, float):
-        if value.is_integer() and -(2.0 ** 63) <= value < 2.0 ** 63:
-            yield from _whole_ids(int(value))
-        return
-    if LEAST_INT32 <= value <= GREATEST_INT32:
-        yield encode_value(Int64(value))
-    if float(value) == value:
+        kinds = _whole_ids(int(value)) if value.is_integer() and -(2.0 ** 63) <= value < 2.0 ** 63 else iter(())
+    else:
+        kinds = _ids_of_whole(int(value))
+    yield from (text for text in kinds if text != own)
+
+
+def _ids_of_whole(value: int) -> Iterator[str]:
+    yield from _whole_ids(value)
+    if int(float(value)) == value:
         yield encode_value(float(value))
 
 
 def _whole_ids(value: int) -> Iterator[str]:
     if LEAST_INT32 <= value <= GREATEST_INT32:
         yield encode_value(value)
-    yield encode_value(Int64(value))
+    if LEAST_INT64 <= value <= GREATEST_INT64:
+        yield encode_value(Int64(value))

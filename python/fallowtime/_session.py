@@ -65,7 +65,7 @@ class Session:
             except BaseException as error:
                 self._stop(f"opening was cut off by {error!r}")
                 raise
-            if answer.get("refused") != "Words":
+            if answer.get("error") != "Usage":
                 raise self._stop("this isn't the program fallowtime, or one of another time")
 
     def ask(self, question: str) -> Any:
@@ -80,7 +80,7 @@ class Session:
             raise ValueError(f"a request has at most {LONGEST} bytes, and this one has {len(line)}")
         with self.lock:
             answer = self._answer(line + b"\n", None)
-        kind = answer.get("refused")
+        kind = answer.get("error")
         if kind is not None:
             raise refusal(kind, answer.get("document"), answer.get("key"), answer.get("at"))
         return answer

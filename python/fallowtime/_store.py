@@ -3,11 +3,13 @@ from __future__ import annotations
 
 import os
 import weakref
-from typing import Any, List, Optional, Union
+from typing import TYPE_CHECKING, Any, Dict, List, NoReturn, Optional, Union
 
-from ._absent import OF_STORE, WithAbsent, test_options
+from ._absent import OF_STORE, WithAbsent, is_name, refuse, test_options
 from ._collection import Collection
 from ._decode import Decoder
+from ._errors import CollectionInvalid
+from ._index import Index
 from ._program import absolute, find_program, run
 from ._session import Session
 
@@ -15,7 +17,7 @@ Path = Union[str, "os.PathLike[str]"]
 
 
 class Store(WithAbsent):
-    """A store in a file, which `fallowtime.open` opens: ``store["orders"]`` is a collection.
+    """A store in a file, which `fallowtime.open` opens: ``store["orders"]`` or ``store.orders`` is a collection.
 
     Threads may share it: their requests are answered one after the other, each to the one who asked. It is closed by
     `close`, at the end of a `with`, or when nothing refers to it any more. A process that is forked has to open a file
@@ -30,6 +32,8 @@ class Store(WithAbsent):
         self._waiting = [] if wait is None else ["--wait", str(_seconds(wait))]
         self._decoder = Decoder(tz_aware)
         self._session = Session(self._program, [self._path, *self._waiting])
+        # The indexes of each collection that were made, by their names: they are in memory, until the store is closed.
+        self._indexes: Dict[str, Dict[str, Index]] = {}
         self._session.open()
         self._closing = weakref.finalize(self, self._session.close_quietly)
 
@@ -38,14 +42,57 @@ class Store(WithAbsent):
         """The file, from the root."""
         return self._path
 
+    @property
+    def name(self) -> str:
+        """The name of the file, without its folder and its ending."""
+        return os.path.splitext(os.path.basename(self._path))[0]
+
     def __getitem__(self, name: str) -> Collection:
         """The collection of a name, which may have no document yet."""
         if not isinstance(name, str):
             raise TypeError(f"the name of a collection is a text, and not {name!r}")
         return Collection(self, name)
 
+    def _other(self, name: str) -> Collection:
+        """What an attribute means that is none of a store: a collection."""
+        if not is_name(name):
+            raise AttributeError(f"{type(self).__name__} has no {name}")
+        return self[name]
+
+    if TYPE_CHECKING:
+
+        def __getattr__(self, name: str) -> Collection: ...
+
     # Without this, `in` and `for` would count through names.
     __iter__ = None
+
+    def __call__(self, *arguments: Any, **options: Any) -> NoReturn:
+        raise TypeError("a store isn't called, and has no such method")
+
+    def get_collection(self, name: str, **options: Any) -> Collection:
+        """The collection of a name. Options of reading and writing several servers mean nothing here."""
+        test_options("get_collection", options)
+        return self[name]
+
+    def create_collection(self, name: str, **options: Any) -> Collection:
+        """The collection of a name, which is listed once it has a document. CollectionInvalid if it has one."""
+        for option, value in options.items():
+            if value and option not in ("read_concern", "read_preference", "write_concern", "check_exists"):
+                refuse(f"{option} of create_collection", "a collection has no options")
+        if name in self.list_collection_names():
+            raise CollectionInvalid(f"collection {name} already exists")
+        return self[name]
+
+    def drop_collection(self, name_or_collection: Union[str, Collection], **options: Any) -> None:
+        """Removes all documents of a collection, one after the other, and drops its indexes."""
+        if not isinstance(name_or_collection, Collection):
+            name_or_collection = self[name_or_collection]
+        name_or_collection.drop(**options)
+
+    def with_options(self, **options: Any) -> "Store":
+        """The store itself: options of reading and writing several servers mean nothing here."""
+        test_options("with_options", options)
+        return self
 
     def list_collection_names(self, **options: Any) -> List[str]:
         """The names of the collections that have a document."""

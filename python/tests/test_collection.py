@@ -1,4 +1,5 @@
 """Each method of a store and of a collection."""
+import decimal
 import inspect
 import io
 import itertools
@@ -60,7 +61,6 @@ class Inserting(WithFolder):
             self.assertEqual(orders.count_documents({}), 4)
             for wrong in [], {}, {"_id": 1}, "ab", b"ab", 5, None, [1], [[("a", 1)]], ["a"]:
                 self.assertRaises(TypeError, orders.insert_many, wrong)
-            self.assertRaises(NotImplementedError, orders.insert_many, [{}], ordered=False)
             self.assertEqual(orders.count_documents({}), 4)
 
     def test_what_is_too_long(self):
@@ -111,11 +111,12 @@ class Looking(WithFolder):
 
     def test_a_cursor(self):
         cursor = self.orders.find()
-        self.orders.delete_one({"_id": 1})
-        self.orders.insert_one({"_id": 9})
         self.assertIs(iter(cursor), cursor)
         self.assertTrue(cursor.alive)
-        self.assertEqual([next(cursor), cursor.next()], self.documents[:2])
+        self.assertEqual(next(cursor), self.documents[0])
+        self.orders.delete_one({"_id": 1})
+        self.orders.insert_one({"_id": 9})
+        self.assertEqual(cursor.next(), self.documents[1])
         self.assertEqual(cursor.to_list(), self.documents[2:])
         self.assertFalse(cursor.alive)
         self.assertRaises(StopIteration, next, cursor)
@@ -123,8 +124,10 @@ class Looking(WithFolder):
             next(cursor)
         self.assertEqual(cursor.to_list(), [])
         cursor = self.orders.find()
+        self.assertEqual(next(cursor)["_id"], 0)
         self.store.close()
-        self.assertEqual(len([*cursor]), 4)
+        self.assertEqual(len([*cursor]), 3)
+        self.assertRaises(fallowtime.Ended, next, self.orders.find())
 
     def test_find_one(self):
         self.assertEqual(self.orders.find_one(), self.documents[0])
@@ -147,19 +150,22 @@ class Looking(WithFolder):
     def test_numbers_of_any_kind(self):
         for value in 1, 1.0, True and 1:
             self.assertEqual([found["_id"] for found in self.orders.find({"price": value})], [0, 2, 3])
-        self.assertEqual([found["_id"] for found in self.orders.find({"price": Int64(1)})], [3])
+        self.assertEqual([found["_id"] for found in self.orders.find({"price": Int64(1)})], [0, 2, 3])
         self.assertEqual([found["_id"] for found in self.orders.find({"price": {"$in": [1.5, 7]}})], [1])
         self.assertEqual(self.orders.count_documents({"price": True}), 0)
         kinds = self.store["kinds"]
         for own in 5, Int64(5), 5.0, 6.0, Int64(7), 1.5, 1 << 40, float(1 << 41):
             kinds.insert_one({"_id": own, "was": repr(own)})
-        self.assertEqual([found["was"] for found in kinds.find({"_id": 5})], ["5", "Int64(5)", "5.0"])
+        for asked in 5, Int64(5), 5.0, decimal.Decimal("5.0"):
+            self.assertEqual([found["was"] for found in kinds.find({"_id": asked})], ["5", "Int64(5)", "5.0"])
+            self.assertEqual(kinds.count_documents({"_id": asked}), 3)
         for asked, was in [(5, "5"), (5.0, "5.0"), (Int64(5), "Int64(5)"), (6, "6.0"), (7, "Int64(7)"),
                            (7.0, "Int64(7)"), (1.5, "1.5"),
                            (float(1 << 40), "1099511627776"), (1 << 41, "2199023255552.0")]:
             self.assertEqual(kinds.find_one(asked)["was"], was)
             self.assertEqual(kinds.find_one({"_id": asked})["was"], was)
-        self.assertIsNone(kinds.find_one(Int64(6)))
+        self.assertEqual(kinds.find_one(Int64(6))["was"], "6.0")
+        self.assertEqual(kinds.find_one(decimal.Decimal("6"))["was"], "6.0")
         self.assertIsNone(kinds.find_one((1 << 53) + 1))
         self.assertEqual(kinds.delete_one({"_id": 7}).deleted_count, 1)
         self.assertEqual(kinds.update_one({"_id": 6}, {"$set": {"was": "six"}}).modified_count, 1)
@@ -172,22 +178,39 @@ class Looking(WithFolder):
             {"_id": 0, "a": 1, "s": {"x": "deep", "list": [10, {"y": 5}]}}, {"_id": 1, "a": None}, {"_id": 2},
             {"_id": 3, "a": "1", "n": 1.5}, {"_id": 4, "a": [1, 2]}, {"_id": 5, "a": {"x": 1, "y": 2}},
             {"_id": 6, "a": Regex("U", "u")}, {"_id": 7, "a": float("nan")}, {"_id": 8, "a": float("inf")},
-            {"_id": 9, "a": True}, {"_id": 10, "a": 1e16}])
+            {"_id": 9, "a": True}, {"_id": 10, "a": 1e16}, {"_id": 11, "a": decimal.Decimal("0.1")},
+            {"_id": 12, "a": [{"x": 1, "y": 1}, {"x": 5, "y": 2}]}, {"_id": 13, "a": []}])
+        rest = [*range(3, 14)]
         for query, wanted in [
             ({"s.x": "deep"}, [0]), ({"s.list.0": 10}, [0]), ({"s.list.1.y": 5}, [0]), ({"a": None}, [1, 2]),
-            ({"a": {"$ne": None}}, [0, *range(3, 11)]), ({"a": {"$exists": True}}, [0, 1, *range(3, 11)]),
-            ({"a": {"$exists": False}}, [2]), ({"a": {"$in": [1, "1", None]}}, [0, 1, 2, 3]),
-            ({"a": {"$in": (1,)}}, [0]), ({"a": {"$nin": [1, "1", None]}}, [4, 5, 6, 7, 8, 9, 10]),
-            ({"a": {"$type": "string"}}, [3]), ({"a": {"$type": 2}}, [3]), ({"a": {"$type": ["string", 16]}}, [0, 3]),
-            ({"a": {"$type": "number"}}, [0, 7, 8, 10]), ({"a": [1, 2]}, [4]), ({"a": {"y": 2, "x": 1}}, [5]),
+            ({"a": {"$ne": None}}, [0, *rest]), ({"a": {"$exists": True}}, [0, 1, *rest]),
+            ({"a": {"$exists": False}}, [2]), ({"a": {"$exists": 0}}, [2]),
+            ({"a": {"$in": [1, "1", None]}}, [0, 1, 2, 3, 4]),
+            ({"a": {"$in": (1,)}}, [0, 4]), ({"a": {"$nin": [1, "1", None]}}, [*range(5, 14)]),
+            ({"a": {"$type": "string"}}, [3]), ({"a": {"$type": 2}}, [3]), ({"a": {"$type": 2.0}}, [3]),
+            ({"a": {"$type": ["string", 16]}}, [0, 3, 4]), ({"a": {"$type": "array"}}, [4, 12, 13]),
+            ({"a": {"$type": "number"}}, [0, 4, 7, 8, 10, 11]), ({"a": [1, 2]}, [4]), ({"a": {"y": 2, "x": 1}}, []),
+            ({"a": 1}, [0, 4]), ({"a": {"$ne": 1}}, [1, 2, 3, *range(5, 14)]), ({"a": []}, [13]),
+            ({"a": {"$gt": 1}}, [4, 8, 10]), ({"a": {"$gte": 1, "$lt": 2}}, [0, 4]), ({"a": {"$lte": 0.5}}, [11]),
+            ({"a": {"$gt": "0"}}, [3]), ({"a": {"$not": {"$gt": 1}}}, [0, 1, 2, 3, 5, 6, 7, 9, 11, 12, 13]),
+            ({"a": 0.1}, []), ({"a": decimal.Decimal("0.10")}, [11]), ({"a": Int64(1)}, [0, 4]),
+            ({"a": {"$all": [1, 2]}}, [4]), ({"a": {"$all": []}}, []), ({"a": {"$size": 2}}, [4, 12]),
+            ({"a": {"$size": 2.0}}, [4, 12]), ({"a": {"$mod": [2, 1]}}, [0, 4]), ({"a.x": 5}, [12]),
+            ({"a.x": 5, "a.y": 1}, [12]), ({"a": {"$elemMatch": {"x": 5, "y": 1}}}, []),
+            ({"a": {"$elemMatch": {"x": {"$gt": 4}, "y": 2}}}, [12]), ({"a": {"$elemMatch": {"$gt": 1, "$lt": 2}}}, []),
+            ({"a": {"$elemMatch": {"$gt": 1, "$lt": 3}}}, [4]),
+            ({"a": {"$elemMatch": {"$or": [{"x": 9}, {"y": 1}]}}}, [12]),
+            ({"a": {"$all": [{"$elemMatch": {"x": 1, "y": 1}}, {"$elemMatch": {"x": 5}}]}}, [12]),
+            ({"$comment": "why", "n": 1.5}, [3]), ({"a": {"$not": {"$size": 2}}, "_id": {"$gt": 10}}, [11, 13]),
+            ({"_id": {"$gte": 3, "$lt": 5}}, [3, 4]),
             ({"a": {"$eq": {"x": 1, "y": 2}}}, [5]), ({"a": {"$eq": re.compile("U")}}, [6]),
             ({"a": {"$eq": Regex("U", "u")}}, [6]), ({"a": float("nan")}, [7]), ({"a": float("inf")}, [8]),
             ({"a": -float("inf")}, []), ({"a": True}, [9]), ({"a": 10 ** 16}, [10]), ({"a": 1e16}, [10]),
             ({"a": {"$not": {"$type": "number"}}, "n": {"$exists": True}}, [3]),
-            ({"$or": [{"a": 1}, {"n": 1.5}]}, [0, 3]), ({"$and": [{"a": "1"}, {"n": 1.5}]}, [3]),
-            ({"$nor": [{"a": {"$exists": True}}]}, [2]), ({"$or": []}, []), ({"$and": ()}, [*range(11)]),
+            ({"$or": [{"a": 1}, {"n": 1.5}]}, [0, 3, 4]), ({"$and": [{"a": "1"}, {"n": 1.5}]}, [3]),
+            ({"$nor": [{"a": {"$exists": True}}]}, [2]), ({"$and": ({"a": 1},)}, [0, 4]),
             ({"_id": {"$in": [3, 9, 99]}}, [3, 9]), ({"_id": 3, "n": 1.5}, [3]), ({"_id": 3, "n": 1}, []),
-            ({"a": {"$ne": 1, "$exists": True}}, [1, *range(3, 11)]),
+            ({"a": {"$ne": 1, "$exists": True}}, [1, 3, *range(5, 14)]),
         ]:
             with self.subTest(query=query):
                 self.assertEqual([found["_id"] for found in many.find(query)], wanted)
@@ -197,8 +220,10 @@ class Looking(WithFolder):
 
     def test_what_no_query_is(self):
         for query, error in [
-            ({"a": {"$exists": 1}}, TypeError), ({"a": {"$in": 1}}, TypeError), ({"a": {"$in": "ab"}}, TypeError),
-            ({"a": {"$type": 1.0}}, TypeError), ({"a": {"$type": [["int"]]}}, TypeError),
+            ({"a": {"$exists": "x"}}, TypeError), ({"a": {"$in": 1}}, TypeError), ({"a": {"$in": "ab"}}, TypeError),
+            ({"a": {"$exists": None}}, TypeError), ({"a": {"$type": [["int"]]}}, TypeError),
+            ({"a": {"$size": "1"}}, TypeError), ({"a": {"$mod": 2}}, TypeError), ({"a": {"$mod": [2, "1"]}}, TypeError),
+            ({"a": {"$all": 1}}, TypeError), ({"a": {"$elemMatch": 1}}, TypeError),
             ({"a": {"$not": 1}}, TypeError), ({"a": {"$not": {"b": 1}}}, TypeError), ({"$or": {}}, TypeError),
             ({"$and": [1]}, TypeError), ({1: 2}, TypeError), ({"a": 1 << 64}, OverflowError),
             ({"a": {"$in": [1 << 64]}}, OverflowError),
@@ -206,7 +231,18 @@ class Looking(WithFolder):
             with self.subTest(query=query):
                 self.assertRaises(error, self.orders.find, query)
                 self.assertRaises(error, self.orders.count_documents, query)
-        self.assert_refused("Words", self.orders.find, {"a": {"$type": "text"}}, at="query $type takes no such value")
+        for query, at in [
+            ({"a": {"$type": "text"}}, "$type takes no such value"),
+            ({"a": {"$type": []}}, "$type takes no such value"),
+            ({"a": {"$size": -1}}, "$size takes no such value"), ({"a": {"$mod": [0, 1]}}, "$mod takes no such value"),
+            ({"$and": []}, "$and takes no such value"), ({"$or": ()}, "$or takes no such value"),
+            ({"a": {"$in": [{"$gt": 1}]}}, "$in takes no such value"),
+            ({"a": {"$all": [{"$gt": 1}]}}, "$all takes no such value"),
+            ({"a": {"$elemMatch": {"b": 1, "a": {"$size": 0.5}}}}, "$size takes no such value"),
+        ]:
+            with self.subTest(query=query):
+                self.assert_refused("Usage", next, self.orders.find(query), at=f"query {at}")
+                self.assert_refused("Usage", self.orders.count_documents, query, at=f"query {at}")
 
 
 class Changing(WithFolder):
@@ -250,7 +286,10 @@ class Changing(WithFolder):
         matched, modified, own = replace({"x": 1}, {"c": 4})
         self.assertEqual((matched, modified, type(own)), (0, 0, ObjectId))
         self.assertEqual(self.orders.find_one(own), {"_id": own, "c": 4})
-        self.assertEqual(type(replace({"_id": {"$in": [77]}}, {"c": 5})[2]), ObjectId)
+        self.assertEqual(type(replace({"_id": {"$in": [77, 78]}}, {"c": 5})[2]), ObjectId)
+        self.assertRaises(NotImplementedError, replace, {"_id": {"$in": [77]}}, {"c": 5})
+        self.assertEqual(replace({"_id": {"$eq": 79}, "x": 9}, {"c": 5}), (0, 0, 79))
+        self.assertEqual(self.orders.delete_one({"_id": 79}).deleted_count, 1)
         self.assertEqual(replace({"_id": None}, {"c": 6}), (0, 0, None))
         self.assertEqual(self.orders.find_one({"_id": None}), {"_id": None, "c": 6})
         self.assertRaises(ValueError, replace, {"_id": 11}, {"_id": 12})
@@ -276,17 +315,46 @@ class Changing(WithFolder):
         self.assertEqual(repr(self.orders.find_one(2)), "{'_id': 2, 'a': 7, 'b': {'y': 1, 'x': 2}}")
         self.assertEqual(counts(update({"a": 1}, {"$set": {"a": 7}})), (0, 0, None))
         self.assertEqual(counts(update({"_id": 1}, {"$set": {}, "$unset": {}})), (1, 0, None))
-        self.assertEqual(counts(update({"_id": 1}, {"$set": {"": 1, "-x": 2, "$k": 3}})), (1, 1, None))
-        self.assertEqual(self.orders.find_one(1), {"_id": 1, "": 1, "-x": 2, "$k": 3})
+        self.assertEqual(counts(update({"_id": 1}, {"$set": {"-x": 2, "y.z": 1}, "$inc": {"n": 3}})), (1, 1, None))
+        self.assertEqual(counts(update({"_id": 1}, {"$inc": {"n": 4}, "$push": {"y.l": {"$each": [1, 2]}}})), (1, 1, None))
+        self.assertEqual(repr(self.orders.find_one(1)), "{'_id': 1, '-x': 2, 'y': {'z': 1, 'l': [1, 2]}, 'n': 7}")
+        self.assert_refused("NotANumber", update, {"_id": 1}, {"$set": {"-x": 5}, "$inc": {"y.l": 1}}, document=0)
+        self.assert_refused("Through", update, {"_id": 1}, {"$set": {"n.m": 5}}, document=0)
+        self.assertEqual(self.orders.find_one(1)["-x"], 2)
+
+    def test_update_many(self):
+        update = self.orders.update_many
+        self.assertEqual(counts(update({}, {"$set": {"c": 1}})), (3, 3, None))
+        self.assertEqual(counts(update({"_id": {"$in": [1, 2]}}, {"$inc": {"c": 1}})), (2, 2, None))
+        self.assertEqual(counts(update({}, {"$set": {"c": 2}})), (3, 1, None))
+        self.orders.update_one({"_id": 2}, {"$set": {"c": "two"}})
+        self.assert_refused("NotANumber", update, {}, {"$inc": {"c": 1}}, document=1)
+        self.assertEqual([order["c"] for order in self.orders.find()], [2, "two", 2])
+        self.assertEqual(counts(update({"c": 3}, {"$inc": {"c": 1}})), (0, 0, None))
+        self.assertEqual(counts(update({"c": 9}, {"$set": {"a": 1}, "$inc": {"n": 2}}, upsert=True))[:2], (0, 0))
+        self.assertEqual(self.orders.find_one({"c": 9}, {"_id": 0}), {"c": 9, "a": 1, "n": 2})
+
+    def test_what_an_update_does_not_name_stays_bit_for_bit(self):
+        body = (b"\x10_id\0\x01\0\0\0" b"\x01nan\0\x01\x02\x03\x04\x05\x06\xf4\xff" b"\x10a\0\x01\0\0\0"
+                b"\x13decimal\0" + b"\xff" * 15 + b"\x6b" b"\x10b\0\x01\0\0\0")
+        body = struct.pack("<i", len(body) + 5) + body + b"\0"
+        (self.folder / "in.bson").write_bytes(body)
+        exact = self.store["exact"]
+        exact.import_(self.folder / "in.bson")
+        self.assertEqual(counts(exact.update_one({"_id": 1}, {"$set": {"a": 2, "b": 2}})), (1, 1, None))
+        exact.export(self.folder / "out.bson")
+        changed = body.replace(b"\x10a\0\x01", b"\x10a\0\x02").replace(b"\x10b\0\x01", b"\x10b\0\x02")
+        self.assertEqual((self.folder / "out.bson").read_bytes(), changed)
 
     def test_what_no_update_is(self):
         for update, error in [
             ({}, ValueError), ({"a": 1}, ValueError), ({"$set": {"a": 1}, "b": 2}, ValueError),
             ({"$set": 1}, TypeError), ({"$set": {1: 2}}, TypeError),
             ({"$set": {"a": 1}, "$unset": {"a": 1}}, ValueError), (None, TypeError), ("$set", TypeError),
-            ({"$unset": ["a"]}, TypeError), ({"$set": {"a.b": 1}}, NotImplementedError),
-            ({"$unset": {"a.b": 1}}, NotImplementedError), ({"$inc": {"a": 1}}, NotImplementedError),
-            ([{"$set": {"a": 1}}], NotImplementedError), ({"$set": {"a": 1}, "$push": {"b": 1}}, NotImplementedError),
+            ({"$unset": ["a"]}, TypeError), ({"$set": {"a.": 1}}, ValueError), ({"$set": {"": 1}}, ValueError),
+            ({"$unset": {"a.$b": 1}}, ValueError), ({"$inc": {"a": "1"}}, ValueError),
+            ({"$set": {"a": 1, "a.b": 2}}, ValueError), ({"$currentDate": {"a": True}}, NotImplementedError),
+            ([{"$set": {"a": 1}}], NotImplementedError), ({"$set": {"a": 1}, "$bit": {"b": 1}}, NotImplementedError),
         ]:
             with self.subTest(update=update):
                 self.assertRaises(error, self.orders.update_one, {"_id": 1}, update)
@@ -300,7 +368,33 @@ class Changing(WithFolder):
                          (0, 0, 8))
         self.assertEqual(repr(self.orders.find_one(8)), "{'_id': 8, 'b': 1, 'a': 2}")
         self.assertEqual(counts(update({"_id": 8}, {"$set": {"b": 2}}, upsert=True)), (1, 1, None))
-        self.assertRaises(NotImplementedError, update, {"a": 77}, {"$set": {"b": 1}}, upsert=True)
+        for query, changes, wanted in [
+            ({"_id": 10}, {"$inc": {"b": 1}}, {"_id": 10, "b": 1}),
+            ({"_id": 11}, {"$set": {"b.c": 1}, "$inc": {"b.d": 2.5}}, {"_id": 11, "b": {"c": 1, "d": 2.5}}),
+            ({"x.y": 1, "_id": 12, "z": {"$gt": 1}}, {"$set": {"x.z": 2}}, {"_id": 12, "x": {"y": 1, "z": 2}}),
+            ({"$and": [{"_id": 13}, {"x": {"$eq": [1]}}]}, {"$set": {"x": 2}, "$setOnInsert": {"y": 3}},
+             {"_id": 13, "x": 2, "y": 3}),
+            ({"_id": 14, "z": 1}, {"$push": {"a": 1, "b": {"$each": [1, 2]}}, "$addToSet": {"c": 3}, "$min": {"d": 4}},
+             {"_id": 14, "z": 1, "a": [1], "b": [1, 2], "c": [3], "d": 4}),
+            ({"_id": 15, "$or": [{"z": 5}, {"z": 6}]}, {"$pull": {"a": 1}, "$max": {"e": None}},
+             {"_id": 15, "e": None}),
+            ({"_id": 16, "z": {"a": 1}}, {"$set": {"z": 2}}, {"_id": 16, "z": 2}),
+        ]:
+            with self.subTest(query=query):
+                self.assertEqual(counts(update(query, changes, upsert=True)), (0, 0, wanted["_id"]))
+                self.assert_same(self.orders.find_one(wanted["_id"]), wanted)
+        own = update({"z": 99}, {"$set": {"b": 1}}, upsert=True).upserted_id
+        self.assertEqual(self.orders.find_one(own), {"_id": own, "z": 99, "b": 1})
+        for query, changes in [
+            ({"_id": 77}, {"$mul": {"b": 2}}), ({"_id": 77, "b": 1}, {"$inc": {"b": 1}}),
+            ({"_id": 77, "b": {"c": 1}}, {"$set": {"b.d": 1}}), ({"_id": 77, "b.c": 1}, {"$set": {"b": 1}}),
+            ({"_id": 77, "b": {"$in": [1]}}, {"$set": {"c": 1}}), ({"_id": 77, "b": {"$all": [1]}}, {"$set": {"c": 1}}),
+            ({"_id": 77, "$or": [{"b": 1}]}, {"$set": {"c": 1}}), ({"_id": 77, "b": 1}, {"$unset": {"b": 1}}),
+            ({"_id": 77}, {"$push": {"b": {"$each": [1], "$slice": 1}}}), ({"_id.a": 77}, {"$set": {"c": 1}}),
+        ]:
+            with self.subTest(query=query), self.assertRaises(NotImplementedError):
+                update(query, changes, upsert=True)
+        self.assertIsNone(self.orders.find_one(77))
 
     def test_delete_one(self):
         delete = self.orders.delete_one
@@ -316,7 +410,9 @@ class Changing(WithFolder):
     def test_an_id_that_is_no_scalar(self):
         own = {"b": 1, "a": [1, 2]}
         self.orders.insert_one({"_id": own, "a": 9})
-        self.assertEqual(self.orders.find_one({"_id": {"a": [1, 2], "b": 1}})["a"], 9)
+        self.assertEqual(self.orders.find_one({"_id": {"b": 1.0, "a": [1, 2]}})["a"], 9)
+        self.assertIsNone(self.orders.find_one({"_id": {"a": [1, 2], "b": 1}}))
+        self.assertEqual(self.orders.count_documents({"_id": {"a": [1, 2], "b": 1}}), 0)
         self.assertEqual(counts(self.orders.update_one({"a": 9}, {"$set": {"c": 1}})), (1, 1, None))
         self.assertEqual(counts(self.orders.replace_one({"a": 9}, {"c": 1})), (1, 1, None))
         self.assertEqual([*self.orders.find_one({"_id": own})["_id"]], ["b", "a"])
@@ -366,6 +462,8 @@ class Indexes(WithFolder):
     def test_forms_of_keys(self):
         for keys in "a.b", ["a.b"], [("a.b", 1)], (["a.b", 1],), {"a.b": 1}, [("a.b", 1.0)]:
             self.assertEqual(self.orders.create_index(keys), "a.b_1")
+        self.assertEqual(self.orders.create_index([("a.b", -1)]), "a.b_-1")
+        self.orders.drop_index("a.b_-1")
         for keys in "a.b_1", ["a.b"], [("a.b", 1)], {"a.b": 1}:
             self.assertIsNone(self.orders.drop_index(keys))
         self.assertEqual(self.orders.create_index("a_1"), "a_1_1")
@@ -378,7 +476,7 @@ class Indexes(WithFolder):
     def test_what_cannot_be_had(self):
         self.store.close()
         for keys, name in [([("a", 1), ("b", 1)], "several keys"), (["a", "b"], "several keys"),
-                           ({"a": 1, "b": 1}, "several keys"), ([("a", -1)], "-1"), ({"a": "text"}, "text"),
+                           ({"a": 1, "b": 1}, "several keys"), ([("a", 2)], "2"), ({"a": "text"}, "text"),
                            ([("a", "hashed")], "hashed"), ([("a", True)], "True"),
                            ("$**", r"\$\*\*"), ([("a.$**", 1)], r"a\.\$\*\*")]:
             with self.assertRaisesRegex(NotImplementedError, name):
@@ -386,8 +484,8 @@ class Indexes(WithFolder):
             if not isinstance(keys, str):
                 with self.assertRaisesRegex(NotImplementedError, name):
                     self.orders.drop_index(keys)
-        for option in [{"unique": True}, {"name": "x"}, {"sparse": True}, {"expireAfterSeconds": 0},
-                       {"background": True}, {"partialFilterExpression": {}}, {"collation": {}}, {"session": 1}]:
+        for option in [{"unique": True}, {"expireAfterSeconds": 1}, {"partialFilterExpression": {}}, {"collation": {}},
+                       {"expireAfterSeconds": 0}, {"session": 1}]:
             with self.assertRaisesRegex(NotImplementedError, next(iter(option))):
                 self.orders.create_index("a", **option)
         for keys, error in [(None, TypeError), (5, TypeError), ([], ValueError), ([("a",)], TypeError),
@@ -395,7 +493,7 @@ class Indexes(WithFolder):
             self.assertRaises(error, self.orders.create_index, keys)
             self.assertRaises(error, self.orders.drop_index, keys)
         self.assertRaises(TypeError, self.orders.create_index, "a", uniqe=True)
-        for name in "a", "a_-1", "":
+        for name in "a", "a_2", "":
             self.assertRaises(ValueError, self.orders.drop_index, name)
 
 
@@ -473,37 +571,39 @@ class Absent(WithFolder):
         store = self.open()
         collection, cursor = store["c"], store["c"].find()
         store.close()
-        for name in ("update_many", "delete_many", "bulk_write", "aggregate", "distinct", "drop", "rename",
-                     "create_indexes", "drop_indexes", "index_information", "find_one_and_update",
-                     "find_one_and_replace", "find_one_and_delete", "watch", "list_indexes"):
+        for name in "rename", "watch", "find_raw_batches", "create_search_index":
             with self.assertRaisesRegex(NotImplementedError, name):
                 getattr(collection, name)({}, x=1)
-        for name in "sort", "limit", "skip", "hint", "count", "distinct", "rewind", "batch_size", "max_time_ms":
+        for name in "explain", "where", "count", "collation", "max_time_ms", "min":
             with self.assertRaisesRegex(NotImplementedError, name):
                 getattr(cursor, name)(1)
-        for name in "command", "drop_collection", "create_collection", "aggregate", "start_session":
+        for name in "command", "aggregate", "start_session", "watch":
             with self.assertRaisesRegex(NotImplementedError, name):
                 getattr(store, name)("x")
         for method, words, option in itertools.chain(
-            [("find", ({},), {name: 1}) for name in ("projection", "sort", "limit", "skip", "collation", "hint",
-                                                     "session", "max_time_ms", "batch_size")],
-            [("find_one", ({},), {name: 1}) for name in ("projection", "sort", "skip")],
-            [("count_documents", ({},), {name: 1}) for name in ("limit", "skip", "hint")],
+            [("find", ({},), {name: 1}) for name in ("collation", "session", "max_time_ms", "cursor_type", "let")],
+            [("find_one", ({},), {name: 1}) for name in ("collation", "show_record_id")],
+            [("count_documents", ({},), {name: 1}) for name in ("collation", "session")],
             [("insert_one", ({},), {"session": 1}), ("insert_many", ([{}],), {"session": 1}),
-             ("delete_one", ({},), {"collation": 1}),
-             ("replace_one", ({}, {}), {"hint": 1}), ("update_one", ({}, {"$set": {"a": 1}}), {"array_filters": [1]})],
+             ("delete_one", ({},), {"collation": 1}), ("delete_many", ({},), {"let": {"a": 1}}),
+             ("replace_one", ({}, {}), {"collation": 1}), ("find_one_and_delete", ({},), {"collation": 1}),
+             ("find_one_and_update", ({}, {"$set": {"a": 1}}), {"array_filters": [1]}),
+             ("update_one", ({}, {"$set": {"a": 1}}), {"array_filters": [1]})],
         ):
             with self.assertRaisesRegex(NotImplementedError, next(iter(option))):
                 getattr(collection, method)(*words, **option)
-        for query, name in [({"a": {"$gt": 1}}, "$gt"), ({"a": {"$regex": "x"}}, "$regex"), ({"$where": "x"}, "$where"),
-                            ({"a": {"$elemMatch": {}}}, "$elemMatch"),
-                            ({"$expr": {}}, "$expr"), ({"$or": [{"a": {"$lt": 1}}]}, "$lt"),
-                            ({"a": {"$not": {"$size": 1}}}, "$size"), ({"a": re.compile("x")}, "regular"),
-                            ({"a": {"$in": [re.compile("x")]}}, "regular"),
-                            ({"a": {"$not": re.compile("x")}}, "regular"), ({"_id": {"$gte": 1}}, "$gte"),
-                            ({"_id": re.compile("x")}, "regular"), ({"a": {"$eq": 1, "$mod": [1, 2]}}, "$mod"),
+        for query, name in [({"a": {"$near": 1}}, "$near"), ({"a": {"$regex": "x"}}, "$regex"),
+                            ({"$where": "x"}, "$where"),
+                            ({"a": {"$elemMatch": {"$gt": 1, "$regex": "x"}}}, "$regex"),
+                            ({"a": {"$elemMatch": {"b": re.compile("x")}}}, "regular"),
+                            ({"$expr": {}}, "$expr"), ({"$or": [{"a": {"$bitsAllSet": 1}}]}, "$bitsAllSet"),
+                            ({"a": {"$not": {"$slice": 1}}}, "$slice"), ({"a": re.compile("x")}, "regular"),
+                            ({"a": {"$in": [re.compile("x")]}}, "regular"), ({"a": {"$all": [Regex("x")]}}, "regular"),
+                            ({"a": {"$not": re.compile("x")}}, "regular"), ({"_id": {"$text": 1}}, "$text"),
+                            ({"_id": re.compile("x")}, "regular"), ({"a": {"$eq": 1, "$options": "i"}}, "$options"),
                             ({"a": Regex("x")}, "regular")]:
             for call in (collection.find, collection.find_one, collection.count_documents, collection.delete_one,
+                         collection.delete_many, collection.find_one_and_delete,
                          lambda query: collection.update_one(query, {"$set": {"a": 1}}),
                          lambda query: collection.replace_one(query, {})):
                 with self.subTest(query=query), self.assertRaisesRegex(NotImplementedError, re.escape(name)):
@@ -521,9 +621,14 @@ class Absent(WithFolder):
 
     def test_names_that_nobody_has(self):
         with self.open() as store:
+            self.assertFalse(hasattr(store["c"].find(), "frobnicate"))
             for thing in store, store["c"], store["c"].find():
-                self.assertFalse(hasattr(thing, "frobnicate"))
+                self.assertRaises(AttributeError, getattr, thing, "_frobnicate")
                 self.assertRaises(AttributeError, getattr, thing, "__frobnicate__")
+            for thing in store, store["c"]:
+                self.assertRaises(TypeError, thing.frobnicate, {})
+                self.assertRaises(TypeError, thing)
+                self.assertRaises(TypeError, iter, thing)
 
     def test_each_method_has_a_text(self):
         for kind in (value for value in vars(fallowtime).values() if inspect.isclass(value)):

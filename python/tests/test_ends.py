@@ -20,7 +20,7 @@ import fallowtime
 from fallowtime import _program, _session
 
 # Programs that are made up, each a script of a shell. `answer` is what a session says to the greeting.
-ANSWER = 'read line; echo \'{"refused":"Words","at":"command"}\''
+ANSWER = 'read line; echo \'{"error":"Usage","at":"command"}\''
 
 
 def process_of(store):
@@ -132,7 +132,7 @@ class Ending(WithFolder):
             with self.assertRaises(fallowtime.Ended) as caught:
                 fallowtime.open(self.folder / "test.db", wait=0)
             self.assertEqual(caught.exception.kind, "Busy")
-            self.assertLess(time.monotonic() - began, 2)
+            self.assertLess(time.monotonic() - began, 4)
             threading.Timer(1, other.stdin.close).start()
             with self.open(wait=60) as store:
                 self.assertEqual([*store["c"].find()], [{"_id": 1}])
@@ -210,7 +210,7 @@ insert(int(sys.argv[1]))
         self.assertEqual(str(ended), "the program ended with status 7: first line; refused: Busy")
         with self.assertRaises(fallowtime.Ended) as caught:
             self.open_made_up("echo 'words: usage' >&2; exit 2")
-        self.assertEqual(caught.exception.kind, "Words")
+        self.assertEqual(caught.exception.kind, "Usage")
 
     def open_made_up(self, script):
         """A store over a program that is made up."""
@@ -224,7 +224,7 @@ insert(int(sys.argv[1]))
         for script, text in [("cat", "no object of JSON"), ("echo '{}'; exec cat", "isn't the program fallowtime"),
                              ("echo hello; exec cat", "no object of JSON"),
                              ("exit 0", "status 0"), ("exec 1>&-; sleep 60", "status -15"),
-                             (f"{ANSWER}; read line; printf '{{\"refused\"'", "status 0")]:
+                             (f"{ANSWER}; read line; printf '{{\"error\"'", "status 0")]:
             hurried = mock.patch.object(_session, "LAST_GRACE", 1)
             with self.subTest(script=script), hurried, self.assertRaisesRegex(fallowtime.Ended, text):
                 store = self.open_made_up(script)
@@ -299,8 +299,8 @@ class CutOff(WithFolder):
                 self.cut(store, lambda: store["c"].insert_one({"_id": number, "n": number}))
                 self.assertEqual(store["c"].count_documents({}), number + 1)
                 self.assertEqual(store["c"].find_one(number), {"_id": number, "n": number})
-            self.cut(store, store["c"].find)
-            self.cut(store, store["c"].find)
+            self.cut(store, store["c"].find().next)
+            self.cut(store, store["c"].find().next)
             self.assertEqual(store["c"].count_documents({}), 3)
 
     def test_a_long_line_that_is_cut_off(self):
@@ -308,12 +308,12 @@ class CutOff(WithFolder):
             documents = [{"_id": number, "t": "x" * 100000} for number in range(100)]
             self.cut(store, lambda: store["c"].insert_many(documents))
             self.assertEqual(store["c"].count_documents({}), 100)
-            self.cut(store, store["c"].find)
+            self.cut(store, store["c"].find().next)
             self.assertEqual(len([*store["c"].find()]), 100)
 
     def test_closing_behind_a_request_that_was_cut_off(self):
         documents = [{"_id": number, "t": "x" * 100000} for number in range(100)]
-        for call in (lambda store: store["c"].insert_many(documents)), (lambda store: store["c"].find()):
+        for call in (lambda store: store["c"].insert_many(documents)), (lambda store: store["c"].find_one()):
             with self.open() as store:
                 self.cut(store, lambda: call(store))
             self.assertIsNotNone(process_of(store).returncode)
@@ -358,10 +358,11 @@ class CutOff(WithFolder):
         cut = ended = number = 0
         began = time.monotonic()
         try:
-            while time.monotonic() - began < 3:
+            # A machine that is busy gets more time, until enough of them were answered.
+            while (spent := time.monotonic() - began) < 3 or number - cut <= 100 and spent < 60:
                 try:
                     try:
-                        signal.setitimer(signal.ITIMER_REAL, 0.0005 + number % 17 * 0.00003)
+                        signal.setitimer(signal.ITIMER_REAL, 0.0005 + number % 17 * 0.00003 + max(spent - 3, 0) * 0.001)
                         number += 1
                         found = store["c"].find_one(number % 100)
                         signal.setitimer(signal.ITIMER_REAL, 0)

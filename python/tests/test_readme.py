@@ -1,4 +1,5 @@
-"""The examples of python/README.md and of the package's own text, as they are printed there, and what pip installs."""
+"""The examples of python/README.md, of README.md and of the package's own text, as they are printed there, and what pip
+installs."""
 import doctest
 import os
 import re
@@ -25,10 +26,10 @@ class Examples(WithFolder):
         finally:
             os.chdir(here)
 
-    def test_the_page(self):
-        page = (PYTHON / "README.md").read_text()
-        blocks = re.findall(r"^```python\n(.*?)^```$", page, re.M | re.S)
-        self.assertGreater(self.run_examples("".join(blocks), "README.md"), 20)
+    def test_the_pages(self):
+        for page, count in (PYTHON / "README.md", 20), (ROOT / "README.md", 5):
+            blocks = re.findall(r"^```python\n(.*?)^```$", page.read_text(), re.M | re.S)
+            self.assertGreater(self.run_examples("".join(blocks), str(page)), count)
 
     def test_the_text_of_the_package(self):
         self.assertGreater(self.run_examples(fallowtime.__doc__, "__init__.py"), 1)

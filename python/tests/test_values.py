@@ -196,9 +196,9 @@ class Reserved(WithFolder):
         with self.open() as store:
             store["c"].insert_one(document)
             self.assert_same(store["c"].find_one(), document)
-            result = store["c"].update_one({}, {"$set": {"$oid": "y"}, "$unset": {"$numberInt": 1}})
-            self.assertEqual(result.modified_count, 1)
-            self.assert_same(store["c"].find_one(), {"_id": 1, "$oid": "y", "c": Code("f", {"$date": 1})})
+            self.assertRaises(ValueError, store["c"].update_one, {}, {"$set": {"$oid": "y"}})
+            self.assertEqual(store["c"].update_one({}, {"$set": {"d": 1}}).modified_count, 1)
+            self.assert_same(store["c"].find_one(), {**document, "d": 1})
 
     def test_what_came_as_bson_and_has_no_json(self):
         inner = b"\x02$oid\0\x02\0\0\0x\0\0"
@@ -210,8 +210,9 @@ class Reserved(WithFolder):
             collection = store["c"]
             self.assertEqual(collection.import_(self.folder / "in.bson"), 1)
             self.assert_refused("ReservedKey", collection.find_one, 1, key="a.$oid")
-            self.assert_refused("ReservedKey", collection.find, key="a.$oid", document=0)
-            self.assert_refused("ReservedKey", collection.update_one, {"_id": 1}, {"$set": {"b": 1}}, key="a.$oid")
+            self.assert_refused("ReservedKey", collection.find().next, key="a.$oid", document=0)
+            self.assertEqual(collection.update_one({"_id": 1}, {"$set": {"b": 1}}).modified_count, 1)
+            self.assertEqual(collection.update_one({"_id": 1}, {"$unset": {"b": 1}}).modified_count, 1)
             self.assertEqual(collection.count_documents({"_id": 1}), 1)
             self.assertEqual(collection.export(self.folder / "out.bson"), 1)
             self.assertEqual((self.folder / "out.bson").read_bytes(), body)

@@ -1,0 +1,333 @@
+"""Changing: the methods of a collection that put documents in, change them and remove them.
+
+Each of them is read first, and refused if it can't be had, before anything is sent: it makes a step, which is done
+then.
+"""
+from __future__ import annotations
+
+import builtins
+import os
+from collections.abc import Mapping
+from typing import Any, Callable, Dict, Iterable, List, Optional, Sequence, Tuple
+
+from ._absent import test_options
+from ._bulk import Bulk, insert_each
+from ._encode import encode_document, encode_value, test_document
+from ._errors import (IMMUTABLE, DuplicateKeyError, InsertManyError, InvalidOperation, InvalidWriteError,
+                      OperationFailure)
+from ._part import FIRST, Part
+from ._projection import projection_of
+from ._query import are_operators, encode_query, ids_of, is_number, is_one_look
+from ._reading import File, Reading
+from ._requests import Document, Found, give_id, test_id, with_id
+from ._results import BulkWriteResult, DeleteResult, InsertManyResult, InsertOneResult, UpdateResult
+from ._steps import step_of
+from ._update import encode_update
+from ._upsert import upserted_document, upserted_id
+from ._values import ObjectId
+
+Hint = Any
+
+
+class Changing(Reading):
+    """What changes a collection."""
+
+    __slots__ = ()
+
+    # ---- putting in
+
+    def insert_one(self, document: Document, **options: Any) -> InsertOneResult:
+        """Puts a document in. One without `_id` gets a new ObjectId, in `document` as well.
+
+        `DuplicateKeyError` if the collection has a document with its `_id`.
+        """
+        test_options("insert_one", options)
+        text, own = with_id(document)
+        give_id(document, own)
+        self._insert(text, own)
+        return InsertOneResult(own)
+
+    def insert_many(self, documents: Iterable[Document], ordered: bool = True, **options: Any) -> InsertManyResult:
+        """Puts documents in, all or none of them. Those without `_id` get new ObjectIds, as in `insert_one`.
+
+        `InsertManyError`, a `BulkWriteError` and a `DuplicateKeyError`, if the collection has the `_id` of one, or two
+        have the same one: its `document` is the place, from 0, of the one at fault. With `ordered=False` all others go
+        in, and a `BulkWriteError` says which didn't. ValueError if they don't fit into one request, of 64 MiB.
+        """
+        test_options("insert_many", options)
+        if isinstance(documents, (Mapping, str, bytes)):
+            raise TypeError(f"insert_many takes a list of documents, and not {type(documents).__name__}")
+        listed = list(documents)
+        if not listed:
+            raise TypeError("insert_many takes one document at least")
+        written = _written(listed)
+        if ordered:
+            self._insert_all(listed, written)
+        else:
+            bulk = Bulk(self.full_name)
+            bulk.insert(insert_each(self._import, [text for text, _ in written], is_ordered=False), 0, listed)
+            bulk.end()
+        return InsertManyResult([own for _, own in written])
+
+    def _insert_all(self, listed: List[Document], written: List[Tuple[str, Any]]) -> None:
+        try:
+            self._import([text for text, _ in written])
+        except DuplicateKeyError as error:
+            place = error.document or 0
+            bulk = Bulk(self.full_name)
+            bulk.fail(place, error._of_id(self.full_name, written[place][1]), listed[place])
+            raise InsertManyError(error.kind, error.document)._of_counts(bulk.counts) from None
+
+    def _import(self, texts: Sequence[str]) -> None:
+        self._ask("import", "[" + ",".join(texts) + "]")
+
+    def import_(self, file: File) -> int:
+        """Puts the documents of a file in, all or none: BSON, one after the other, each with its `_id`. The file is
+        named, or is open for bytes. Returns how many there are.
+
+        `DuplicateKeyError` as in `insert_many`. ValueError if the file has more than some 48 MiB; the program takes
+        more while no store has its file open: ``fallowtime FILE import NAME < file``.
+        """
+        if isinstance(file, (str, os.PathLike)):
+            with builtins.open(file, "rb") as opened:
+                stream = opened.read()
+        else:
+            stream = file.read()
+        if not isinstance(stream, bytes):
+            raise TypeError(f"a file of BSON has bytes, and this one {type(stream).__name__}")
+        return int(self._ask("import", encode_value(stream))["count"])
+
+    def bulk_write(self, requests: Sequence[Any], ordered: bool = True, **options: Any) -> BulkWriteResult:
+        """Does several requests one after the other: `InsertOne`, `UpdateOne`, `UpdateMany`, `ReplaceOne`, `DeleteOne`
+        and `DeleteMany`, each as the method of its name does it. It ends at the first one that is refused, or with
+        `ordered=False` goes on, and a `BulkWriteError` says which ones were. What was done before stays."""
+        test_options("bulk_write", options)
+        if not isinstance(requests, (list, tuple)):
+            raise TypeError(f"bulk_write takes a list of requests, and not {type(requests).__name__}")
+        if not requests:
+            raise InvalidOperation("No operations to execute")
+        steps = [step_of(self, request) for request in requests]
+        bulk = Bulk(self.full_name)
+        with self._session.lock:
+            bulk.run(steps, self._import, ordered)
+        return BulkWriteResult(bulk.end())
+
+    # ---- changing
+
+    def replace_one(self, filter: Document, replacement: Document, upsert: bool = False, *, hint: Hint = None,
+                    **options: Any) -> UpdateResult:
+        """Puts `replacement` in the place of the first document that a query selects. It gets the `_id` of that one,
+        and may not have another one.
+
+        With `upsert` it is put in if no document is selected: with its own `_id`, else with that of the query, else
+        with a new ObjectId.
+        """
+        return self._replacement("replace_one", filter, replacement, upsert, hint, options)()
+
+    def _replacement(self, method: str, filter: Document, replacement: Document, upsert: bool, hint: Hint,
+                     options: Document) -> Callable[[], UpdateResult]:
+        self._test_change(method, filter, hint, options)
+        _test_replacement(replacement)
+        if upsert:
+            _id_to_put_in(filter, replacement)
+
+        def step() -> UpdateResult:
+            with self._session.lock:
+                found = self._seek(filter, even_reserved=True)
+                if found is None:
+                    return self._put_in(filter, replacement) if upsert else UpdateResult(0, 0)
+                return self._replace(found, replacement)
+
+        return step
+
+    def update_one(self, filter: Document, update: Document, upsert: bool = False, *, hint: Hint = None,
+                   **options: Any) -> UpdateResult:
+        """Changes the first document that a query selects by MongoDB's operators, such as `$set`, `$unset`, `$inc` and
+        `$push`, at paths: all at once. What is under other keys stays as it is, bit for bit.
+
+        With `upsert` a document is put in if none is selected: with the values that the query asks to be equal, and
+        what the operators make of that, as far as nothing has to be calculated.
+        """
+        return self._change("update_one", filter, update, upsert, hint, options)()
+
+    def update_many(self, filter: Document, update: Document, upsert: bool = False, *, hint: Hint = None,
+                    **options: Any) -> UpdateResult:
+        """Changes all documents that a query selects, as `update_one` does the first one, in one step: if one of them
+        is refused, none is changed, and `document` of the `Refused` says which of those that `find` returns it is."""
+        return self._change("update_many", filter, update, upsert, hint, options, '{"many":true}')()
+
+    def _change(self, method: str, filter: Document, update: Document, upsert: bool, hint: Hint, options: Document,
+                *many: str) -> Callable[[], UpdateResult]:
+        self._test_change(method, filter, hint, options)
+        text, query = encode_update(method, update), encode_query(filter)
+        if not upsert:
+            return lambda: self._update(query, text, *many)
+        document = upserted_document(filter, update)
+
+        def step() -> UpdateResult:
+            with self._session.lock:
+                result = self._update(query, text, *many)
+                return result if result.matched_count else self._put_in(filter, document)
+
+        return step
+
+    # ---- removing
+
+    def delete_one(self, filter: Document, *, hint: Hint = None, **options: Any) -> DeleteResult:
+        """Removes the first document that a query selects."""
+        return self._removal("delete_one", filter, hint, options, is_many=False)()
+
+    def delete_many(self, filter: Document, *, hint: Hint = None, **options: Any) -> DeleteResult:
+        """Removes all documents that a query selects, in one step."""
+        return self._removal("delete_many", filter, hint, options, is_many=True)()
+
+    def _removal(self, method: str, filter: Document, hint: Hint, options: Document,
+                 is_many: bool) -> Callable[[], DeleteResult]:
+        self._test_change(method, filter, hint, options)
+        if is_one_look(filter) and not is_many:
+            ids = list(ids_of(filter["_id"]))
+            return lambda: self._remove(ids)
+        query, many = encode_query(filter), ['{"many":true}'] if is_many else []
+        return lambda: DeleteResult(int(self._ask("delete", query, *many)["count"]))
+
+    def _remove(self, ids: List[str]) -> DeleteResult:
+        """Removes the first document with one of these `_id`s that is there, which is found at once."""
+        with self._session.lock:
+            removed = (1 for own in ids if self._answer_if_found("remove", own) is not None)
+            return DeleteResult(next(removed, 0))
+
+    def drop(self, **options: Any) -> None:
+        """Removes all documents, in one step, and drops the indexes."""
+        test_options("drop", options)
+        with self._session.lock:
+            self.delete_many({})
+            self.drop_indexes()
+
+    # ---- finding and changing at once
+
+    def find_one_and_delete(self, filter: Document, projection: Any = None, sort: Any = None, hint: Hint = None,
+                            **options: Any) -> Optional[Dict[str, Any]]:
+        """Removes the first document that a query selects, and returns it, or None."""
+        self._test_change("find_one_and_delete", filter, hint, options)
+        project, part = projection_of(projection), Part(sort)
+        encode_query(filter)
+        with self._session.lock:
+            found = self._seek(filter, part)
+            if found is None:
+                return None
+            self._ask("remove", found[0])
+        return project(self._decoder.document(found[1]))
+
+    def find_one_and_replace(self, filter: Document, replacement: Document, projection: Any = None, sort: Any = None,
+                             upsert: bool = False, return_document: bool = False, hint: Hint = None,
+                             **options: Any) -> Optional[Dict[str, Any]]:
+        """Puts another document in the place of the first one that a query selects, and returns that one, or the other
+        one with `ReturnDocument.AFTER`. None if no document is selected, or was there before an `upsert`."""
+        self._test_change("find_one_and_replace", filter, hint, options)
+        _test_replacement(replacement)
+        if upsert:
+            _id_to_put_in(filter, replacement)
+
+        def change(found: Found) -> UpdateResult:
+            if found is None:
+                return self._put_in(filter, replacement) if upsert else UpdateResult(0, 0)
+            return self._replace(found, replacement)
+
+        return self._find_and_change(filter, projection, sort, return_document, change)
+
+    def find_one_and_update(self, filter: Document, update: Document, projection: Any = None, sort: Any = None,
+                            upsert: bool = False, return_document: bool = False, array_filters: Any = None,
+                            hint: Hint = None, **options: Any) -> Optional[Dict[str, Any]]:
+        """Changes the first document that a query selects, and returns it as it was, or as it is with
+        `ReturnDocument.AFTER`. None if no document is selected, or was there before an `upsert`."""
+        self._test_change("find_one_and_update", filter, hint, {**options, "array_filters": array_filters})
+        text = encode_update("find_one_and_update", update)
+        document = upserted_document(filter, update) if upsert and encode_query(filter) else None
+
+        def change(found: Found) -> UpdateResult:
+            if found is not None:
+                return self._update(self._query_of(found, filter, sort), text)
+            self._update(encode_query(filter), text)
+            return UpdateResult(0, 0) if document is None else self._put_in(filter, document)
+
+        return self._find_and_change(filter, projection, sort, return_document, change)
+
+    def _find_and_change(self, filter: Document, projection: Any, sort: Any, is_after: bool,
+                         change: Callable[[Found], UpdateResult]) -> Optional[Dict[str, Any]]:
+        if not isinstance(is_after, bool):
+            raise ValueError(f"return_document is ReturnDocument.BEFORE or AFTER, and not {is_after!r}")
+        project, part = projection_of(projection), Part(sort)
+        with self._session.lock:
+            found = self._seek(filter, part)
+            result = change(found)
+            if is_after and (found is not None or result.did_upsert):
+                own = encode_value(result.upserted_id) if found is None else found[0]
+                return project(self._decoder.document(self._got(own)[0]))
+        return None if is_after or found is None else project(self._decoder.document(found[1]))
+
+    # ---- parts
+
+    def _test_change(self, method: str, filter: Document, hint: Hint, options: Document) -> None:
+        test_options(method, options)
+        test_document(filter)
+        self._test_hint(hint)
+
+    def _query_of(self, found: Tuple[str, Any], filter: Document, sort: Any) -> str:
+        """A query whose first document is one that was found by another query: that itself, unless it was sorted, or
+        is one for a number as `_id`, which documents have in several kinds."""
+        if not sort and not (is_one_look(filter) and is_number(filter["_id"])):
+            return encode_query(filter)
+        query = '{"_id":{"$eq":%s}}' % found[0]
+        own = self._decoder.value(found[1]["_id"])
+        is_alone = is_one_look({"_id": own}) and not is_number(own)
+        if not is_alone and self._own_of(self._ask_part(query, FIRST)[0]) != self._own_of(found[1]):
+            raise OperationFailure("several documents have this number as _id, and this one isn't the first of them")
+        return query
+
+    def _replace(self, found: Tuple[str, Any], replacement: Document) -> UpdateResult:
+        own, tree = found
+        if "_id" in replacement and own not in ids_of(replacement["_id"]):
+            raise InvalidWriteError(
+                f"the document that is selected has the _id {own}; its replacement may have no other", IMMUTABLE)
+        text = self._text_with_id(replacement, own)
+        if tree is not None and encode_document(self._decoder.document(tree)) == text:
+            return UpdateResult(1, 0)
+        self._ask("replace", text)
+        return UpdateResult(1, 1)
+
+    def _put_in(self, query: Document, document: Document) -> UpdateResult:
+        """Puts a document in that no query selected, with the `_id` of one of both."""
+        own = _id_to_put_in(query, document)
+        self._insert(self._text_with_id(document, encode_value(own)), own)
+        return UpdateResult(0, 0, own, did_upsert=True)
+
+
+def _written(documents: Sequence[Document]) -> List[Tuple[str, Any]]:
+    """The texts of documents with their `_id`s, which the documents get as well. One that is in the list twice is a
+    document that gets one `_id`, and then another with the same."""
+    texts: Dict[int, Tuple[str, Any]] = {}
+    for document in documents:
+        if id(document) not in texts:
+            texts[id(document)] = with_id(document)
+    written = [texts[id(document)] for document in documents]
+    for document, (_, own) in zip(documents, written):
+        give_id(document, own)
+    return written
+
+
+def _test_replacement(replacement: Document) -> None:
+    test_document(replacement)
+    if are_operators(replacement):
+        raise ValueError("a replacement is a document, and has no operators")
+    encode_document(replacement)
+
+
+def _id_to_put_in(query: Document, document: Document) -> Any:
+    """The `_id` of a document that is put in as no query selected one."""
+    encode_query(query)
+    asked = list(upserted_id(query))
+    own = document["_id"] if "_id" in document else asked[0] if asked else ObjectId()
+    if any(encode_value(own) not in ids_of(value) for value in asked):
+        raise ValueError(f"the query asks for the _id {asked[0]!r}; the document may have no other")
+    test_id(own)
+    return own

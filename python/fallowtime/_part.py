@@ -1,0 +1,84 @@
+"""Which of the documents that a query selects are wanted, and in which order."""
+from __future__ import annotations
+
+from collections.abc import Mapping
+from typing import Any, Dict, List, Optional, Tuple
+
+from ._absent import refuse
+from ._decode import Tree
+from ._encode import encode_text
+
+# Whether the program takes an order and a part in `find`: ["find",COLL,QUERY,{"sort":{"a":1},"skip":1,"limit":1}]. As
+# long as it doesn't, a sort is refused, and of all documents that it returns the part is taken here.
+HAS_PARTS = False
+
+
+class Part:
+    """An order, how many documents are left out at the beginning, and how many are wanted at the most, 0 for all."""
+
+    __slots__ = ("keys", "skip", "limit")
+
+    def __init__(self, sort: Any = None, skip: int = 0, limit: int = 0) -> None:
+        self.keys = keys_of(sort)
+        self.skip, self.limit = _number("skip", skip), abs(_number("limit", limit))
+        if self.keys and not HAS_PARTS:
+            refuse("sort", "nothing is sorted here; sorted() does it with what find returns")
+
+    def first(self) -> "Part":
+        """The first document of the part."""
+        return FIRST if self is WHOLE else self.but(limit=1)
+
+    def but(self, **changed: Any) -> "Part":
+        """The same, except for what is named."""
+        options: Dict[str, Any] = {"sort": self.keys, "skip": self.skip, "limit": self.limit, **changed}
+        return Part(**options)
+
+    def text(self) -> str:
+        """It as the program reads it; empty if all documents are wanted as they came."""
+        parts = []
+        if self.keys:
+            parts.append('"sort":{%s}' % ",".join(f"{encode_text(path)}:{way}" for path, way in self.keys.items()))
+        parts.extend(f'"{name}":{number}' for name, number in (("skip", self.skip), ("limit", self.limit)) if number)
+        return "{%s}" % ",".join(parts) if parts else ""
+
+    def of(self, trees: List[Tree]) -> List[Tree]:
+        """The part of all documents, in their order."""
+        return trees[self.skip:self.skip + self.limit] if self.limit else trees[self.skip:]
+
+    def count(self, number: int) -> int:
+        """How many of so many documents are in the part."""
+        left = max(0, number - self.skip)
+        return min(left, self.limit) if self.limit else left
+
+
+def keys_of(sort: Any, direction: Optional[int] = 1) -> Dict[str, int]:
+    """The paths by which is sorted, each with 1, or with -1 if the greatest value comes first."""
+    if sort is None or sort == [] or sort == ():
+        return {}
+    if isinstance(sort, str):
+        return dict([_key(sort, 1 if direction is None else direction)])
+    if not isinstance(sort, (Mapping, list, tuple)):
+        raise TypeError(f"a sort is a path, or a list of paths with 1 or -1, and not {sort!r}")
+    pairs = sort.items() if isinstance(sort, Mapping) else [(key, 1) if isinstance(key, str) else key for key in sort]
+    return dict([_key(*pair) for pair in pairs])
+
+
+def _key(path: Any, direction: Any) -> Tuple[str, int]:
+    if not isinstance(path, str):
+        raise TypeError(f"a path is a text, and not {path!r}")
+    if path.startswith("$") or isinstance(direction, Mapping):
+        refuse(f"a sort by {path}", "documents are sorted by the values at paths")
+    if isinstance(direction, bool) or direction not in (1, -1):
+        raise ValueError(f"a direction is 1 or -1, and not {direction!r}")
+    return path, int(direction)
+
+
+def _number(name: str, value: Any) -> int:
+    if not isinstance(value, int) or isinstance(value, bool):
+        raise TypeError(f"{name} is a number of documents, and not {value!r}")
+    if value < 0 and name == "skip":
+        raise ValueError(f"{name} is a number of documents, and not {value}")
+    return value
+
+
+WHOLE, FIRST = Part(), Part(limit=1)

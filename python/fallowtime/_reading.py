@@ -1,0 +1,110 @@
+"""Looking: the methods of a collection that only read."""
+from __future__ import annotations
+
+import binascii
+import builtins
+import os
+from collections.abc import Mapping
+from typing import IO, Any, Dict, List, Optional, Sequence, Union
+
+from ._absent import test_options
+from ._cursor import CommandCursor, Cursor
+from ._distinct import distinct_values
+from ._indexing import Indexing
+from ._part import WHOLE, Part
+from ._pipeline import pipeline_of
+from ._projection import projection_of
+from ._query import encode_query
+from ._requests import Document
+
+File = Union[str, "os.PathLike[str]", IO[bytes]]
+
+
+class Reading(Indexing):
+    """What a collection is asked for."""
+
+    __slots__ = ()
+
+    def find_one(self, filter: Any = None, projection: Any = None, *, sort: Any = None, skip: int = 0, hint: Any = None,
+                 **options: Any) -> Optional[Dict[str, Any]]:
+        """The first document that a query selects, or None. What is no dict is the `_id` that is asked for.
+
+        By an `_id` it is one look into an index, unless it is a dict, a list or a decimal. By another query all
+        documents that are selected come from the program.
+        """
+        test_options("find_one", options)
+        self._test_hint(hint)
+        project, part = projection_of(projection), Part(sort, skip) if sort or skip else WHOLE
+        if not isinstance(filter, Mapping):
+            filter = {} if filter is None else {"_id": filter}
+        if skip:
+            trees = self._selection(filter)(part.first())
+            return project(self._decoder.document(trees[0])) if trees else None
+        found = self._seek(filter, part)
+        return None if found is None else project(self._decoder.document(found[1]))
+
+    def find(self, filter: Optional[Document] = None, projection: Any = None, skip: int = 0, limit: int = 0,
+             *, sort: Any = None, hint: Any = None, **options: Any) -> Cursor:
+        """The documents that a query selects, or all, as a cursor. They are asked for with the first one."""
+        test_options("find", options)
+        self._test_hint(hint)
+        select = self._selection({} if filter is None else filter)
+        return Cursor(self, select, projection_of(projection), Part(sort, skip, limit))
+
+    def count_documents(self, filter: Document, *, skip: int = 0, limit: int = 0, hint: Any = None,
+                        **options: Any) -> int:
+        """How many documents a query selects, or a part of them."""
+        test_options("count_documents", options)
+        self._test_hint(hint)
+        part = Part(None, skip, limit)
+        return part.count(int(self._ask("count", encode_query(filter))["count"]))
+
+    def estimated_document_count(self, **options: Any) -> int:
+        """How many documents there are: they are counted, and not estimated."""
+        test_options("estimated_document_count", options)
+        return int(self._ask("count")["count"])
+
+    def distinct(self, key: str, filter: Optional[Document] = None, **options: Any) -> List[Any]:
+        """The different values at a path of the documents that a query selects, each once, as they come first. An array
+        at its end counts as its items."""
+        test_options("distinct", options)
+        if not isinstance(key, str):
+            raise TypeError(f"a path is a text, and not {key!r}")
+        return distinct_values(self.find(filter), key)
+
+    def aggregate(self, pipeline: Sequence[Document], *, hint: Any = None, **options: Any) -> CommandCursor:
+        """What a pipeline makes of the documents: `$match`, `$sort`, `$skip`, `$limit`, `$project` and `$count`, in
+        this order and each once at the most, except that there may be several `$match`, also behind the `$sort`."""
+        test_options("aggregate", options)
+        self._test_hint(hint)
+        stages = pipeline_of(pipeline)
+        if stages.count is None:
+            cursor = self.find(stages.query, stages.projection)
+            return CommandCursor(self, lambda: cursor._fetched(stages.part))
+        query, name = encode_query(stages.query), stages.count
+
+        def counted() -> List[Dict[str, Any]]:
+            number = stages.part.count(int(self._ask("count", query)["count"]))
+            return [{name: number}] if number else []
+
+        return CommandCursor(self, counted)
+
+    def export(self, file: File) -> int:
+        """Writes all documents as BSON, one after the other, to a file that is named, or is open for bytes. Returns
+        how many there are. A file that is there is written over."""
+        stream = binascii.a2b_base64(self._ask("export")["bytes"]["$binary"]["base64"])
+        if isinstance(file, (str, os.PathLike)):
+            with builtins.open(file, "wb") as opened:
+                opened.write(stream)
+        else:
+            file.write(stream)
+        return _number_of_documents(stream)
+
+
+def _number_of_documents(stream: bytes) -> int:
+    """How many documents lie one after the other. Each begins with its length."""
+    number = at = 0
+    while at < len(stream):
+        at += int.from_bytes(stream[at:at + 4], "little")
+        number += 1
+    return number

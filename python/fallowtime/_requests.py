@@ -1,0 +1,152 @@
+"""What a collection asks the program."""
+from __future__ import annotations
+
+import json
+from collections.abc import Mapping, MutableMapping
+from typing import TYPE_CHECKING, Any, Callable, List, Optional, Tuple
+
+from . import _part
+from ._decode import Decoder, Tree
+from ._encode import encode_document, encode_text, encode_value, test_document
+from ._errors import CONFLICT, DOLLAR_KEY, NOT_PARSED, DuplicateKeyError, InvalidWriteError, Refused, WriteError
+from ._part import WHOLE, Part
+from ._query import encode_query, ids_of, is_number, is_one_look
+from ._results import UpdateResult
+from ._session import Session
+from ._values import ObjectId
+
+if TYPE_CHECKING:
+    from ._store import Store
+
+Document = Mapping[str, Any]
+# The first document that a query selects: its `_id`, as text, and its tree.
+Found = Optional[Tuple[str, Tree]]
+# How the program's words for an update end of which one path is the beginning of another.
+CONFLICTING = "meets another path"
+# Classes of `_id`s that are no documents, as most are.
+PLAIN = (int, str, ObjectId, float, bytes)
+# Keys of an `_id` that is a reference, which begin with `$` and may.
+OF_REFERENCES = frozenset(["$ref", "$id", "$db"])
+
+
+class Requests:
+    """The requests of one collection."""
+
+    __slots__ = ("_store", "_name", "_session", "_decoder", "_quoted")
+
+    def __init__(self, store: "Store", name: str) -> None:
+        self._store, self._name = store, name
+        self._session: Session = store._session
+        self._decoder: Decoder = store._decoder
+        self._quoted = encode_text(name)
+
+    @property
+    def full_name(self) -> str:
+        """The name of the store and its own, with a dot between them."""
+        return f"{self._store.name}.{self._name}"
+
+    def _ask(self, command: str, *places: str) -> Any:
+        """The answer to a command of this collection."""
+        return self._session.ask("[" + ",".join([f'"{command}"', self._quoted, *places]) + "]")
+
+    def _answer_if_found(self, command: str, *places: str) -> Any:
+        """The answer to a command of a document, or None if there is no such document."""
+        try:
+            return self._ask(command, *places)
+        except Refused as refused:
+            if refused.kind == "NotFound":
+                return None
+            raise
+
+    def _selection(self, query: Document) -> Callable[[Part], List[Tree]]:
+        """What asks for the trees of the documents that a query selects, or of a part of them. The query itself is read
+        here."""
+        test_document(query)
+        if is_one_look(query) and not is_number(query["_id"]):
+            own = encode_value(query["_id"])
+            return lambda part: part.of(self._got(own))
+        text = encode_query(query)
+        return lambda part: self._ask_part(text, part)
+
+    def _got(self, own: str) -> List[Tree]:
+        """The tree of the document with this `_id`, if there is one."""
+        answer = self._answer_if_found("get", own)
+        return [] if answer is None else [answer["document"]]
+
+    def _ask_part(self, query: str, part: Part) -> List[Tree]:
+        text = part.text()
+        if _part.HAS_PARTS and text:
+            return list(self._ask("find", query, text)["documents"])
+        answer = self._ask("find") if query == "{}" else self._ask("find", query)
+        return part.of(answer["documents"])
+
+    def _seek(self, query: Document, part: Part = WHOLE, even_reserved: bool = False) -> Found:
+        """The first document that a query selects. With `even_reserved` the tree is None of a document that has no
+        Extended JSON, and is asked for by its `_id`."""
+        test_document(query)
+        if not is_one_look(query):
+            trees = self._selection(query)(part.first())
+            return (self._own_of(trees[0]), trees[0]) if trees else None
+        with self._session.lock:
+            for own in ids_of(query["_id"]):
+                try:
+                    answer = self._answer_if_found("get", own)
+                except Refused as refused:
+                    if refused.kind == "ReservedKey" and even_reserved:
+                        return own, None
+                    raise
+                if answer is not None:
+                    return own, answer["document"]
+            return None
+
+    def _own_of(self, tree: Tree) -> str:
+        """The `_id` of a document, as text."""
+        return encode_value(self._decoder.value(tree["_id"]))
+
+    def _insert(self, text: str, own: Any) -> None:
+        try:
+            self._ask("insert", text)
+        except DuplicateKeyError as error:
+            raise error._of_id(self.full_name, own) from None
+
+    def _text_with_id(self, document: Document, own: str) -> str:
+        """The text of a document with this `_id`, at its place if it has one, else in front."""
+        value = self._decoder.value(json.loads(own))
+        return encode_document({**document, "_id": value} if "_id" in document else {"_id": value, **document})
+
+    def _update(self, query: str, update: str, *options: str) -> UpdateResult:
+        """How many documents an update found and changed. ValueError if it isn't one that the program takes."""
+        try:
+            answer = self._ask("update", query, update, *options)
+        except Refused as refused:
+            if refused.kind == "Usage" and refused.at is not None and refused.at.startswith("update "):
+                code = CONFLICT if refused.at.endswith(CONFLICTING) else NOT_PARSED
+                raise InvalidWriteError(refused.at, code) from None
+            raise
+        return UpdateResult(answer["matched"], answer["changed"])
+
+
+def with_id(document: Document) -> Tuple[str, Any]:
+    """The text of a document, with a new `_id` in front if it has none, and the `_id`."""
+    test_document(document)
+    if "_id" in document:
+        text, own = encode_document(document), document["_id"]
+        if not isinstance(own, PLAIN):
+            test_id(own)
+        return text, own
+    own = ObjectId()
+    return encode_document({"_id": own, **document}), own
+
+
+def test_id(own: Any) -> None:
+    """WriteError if an `_id` is one that MongoDB has not: a document with a key that begins with `$`."""
+    for key in own if isinstance(own, Mapping) else ():
+        if isinstance(key, str) and key.startswith("$") and key not in OF_REFERENCES:
+            raise WriteError(f"_id fields may not contain '$'-prefixed fields: {key} is not valid for storage.",
+                             DOLLAR_KEY, {"index": 0, "code": DOLLAR_KEY})
+
+
+def give_id(document: Document, own: Any) -> None:
+    """Puts the new `_id` of a document into that itself."""
+    if "_id" not in document and isinstance(document, MutableMapping):
+        document["_id"] = own

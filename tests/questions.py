@@ -1,0 +1,558 @@
+#!/usr/bin/env python3
+"""Holds queries against what MongoDB's manual says of them (version 8: Query Predicates, Query Arrays, Comparison/Sort Order), by an
+evaluation that is written from it, over values as Python has them.
+
+    tests/questions.py                     the rows of cases/question: each answer is that of the evaluation
+    tests/questions.py CASES [COUNT [SEED]]  random queries and documents too, as lines of the table `question` of CASES, the program
+                                           of cases/
+
+It ends with status 1 if an answer differs. Errors are compared by whether there is one; which one is held against by the table.
+"""
+import datetime
+import decimal
+import json
+import math
+import pathlib
+import random
+import struct
+import subprocess
+import sys
+from fractions import Fraction
+
+ROOT = pathlib.Path(__file__).resolve().parent.parent
+RANKS = ["minKey", "undefined", "null", "number", "text", "object", "array", "binData", "objectId", "bool", "date", "timestamp", "regex",
+         "dbPointer", "javascript", "javascriptWithScope", "maxKey"]
+NUMBERS = {"int": 16, "long": 18, "double": 1, "decimal": 19}
+TEXTS = {"string": 2, "symbol": 14}
+KINDS = {**NUMBERS, **TEXTS, "object": 3, "array": 4, "binData": 5, "undefined": 6, "objectId": 7, "bool": 8, "date": 9, "null": 10,
+         "regex": 11, "dbPointer": 12, "javascript": 13, "javascriptWithScope": 15, "timestamp": 17, "minKey": -1, "maxKey": 127}
+NOTHING = ("nothing", None)
+WRAPPERS = {"$oid", "$symbol", "$regularExpression", "$numberInt", "$numberLong", "$numberDouble", "$numberDecimal", "$binary", "$uuid",
+            "$code", "$timestamp", "$date", "$minKey", "$maxKey", "$dbPointer", "$undefined"}
+LOGICAL = {"$and", "$or", "$nor"}
+TESTS = {"$eq", "$ne", "$gt", "$gte", "$lt", "$lte", "$in", "$nin", "$all", "$elemMatch", "$size", "$exists", "$type", "$mod", "$not"}
+
+
+class Refused(Exception):
+    """The query is refused."""
+
+
+# ---- values: pairs of a kind and what it holds; numbers hold a Fraction, an infinity as a float, or None for NaN
+
+def number_of(text):
+    value = decimal.Decimal(text)
+    if value.is_nan():
+        return None
+    return math.copysign(math.inf, float(value)) if value.is_infinite() else Fraction(value)
+
+
+def nearest(text):
+    value = float(text)
+    return None if math.isnan(value) else value if math.isinf(value) else Fraction(value)
+
+
+# A decimal has 34 digits.
+DECIMALS = decimal.Context(prec=34, Emin=-6143, Emax=6144, clamp=1, traps=[decimal.Inexact, decimal.Overflow, decimal.InvalidOperation])
+
+
+def exact(text):
+    """The number that a numeral is, if it is a decimal."""
+    try:
+        return Fraction(DECIMALS.create_decimal(text))
+    except decimal.DecimalException:
+        return None
+
+
+def is_whole(text):
+    return set(text) <= set("-0123456789") and -2**63 <= int(text) < 2**63
+
+
+def of_numeral(text):
+    if set(text) <= set("-0123456789"):
+        whole = int(text)
+        if not -2**63 <= whole < 2**63:
+            raise Refused(text)
+        return ("int" if -2**31 <= whole < 2**31 else "long", Fraction(whole))
+    if math.isinf(float(text)):
+        raise Refused(text)
+    return ("double", nearest(text))
+
+
+def of_wrapper(key, body):
+    """The value of an object of Extended JSON with this key; only the wrappers that the rows have."""
+    if key in ("$numberInt", "$numberLong"):
+        if body[0] != "string":
+            raise Refused(key)
+        return ("int" if key == "$numberInt" else "long", Fraction(int(body[1])))
+    if key == "$numberDouble":
+        return ("double", nearest(body[1]))
+    if key == "$numberDecimal":
+        return ("decimal", number_of(body[1]))
+    if key == "$oid":
+        if len(body[1]) != 24 or set(body[1]) - set("0123456789abcdefABCDEF"):
+            raise Refused(key)
+        return ("objectId", bytes.fromhex(body[1]))
+    if key == "$symbol":
+        return ("symbol", body[1])
+    if key == "$date":
+        if body[0] == "string":
+            return ("date", int(datetime.datetime.fromisoformat(body[1]).timestamp() * 1000))
+        return ("date", int(body[1][0][1][1]))
+    if key == "$timestamp":
+        return ("timestamp", tuple(int(part[1]) for _, part in sorted(body[1], reverse=True)))
+    if key == "$regularExpression":
+        if body[0] != "object":
+            raise Refused(key)
+        parts = dict(body[1])
+        return ("regex", (parts["pattern"][1], "".join(sorted(parts["options"][1]))))
+    return ({"$minKey": "minKey", "$maxKey": "maxKey", "$undefined": "undefined"}[key], ())
+
+
+def value_of(tree):
+    """The value of a tree, whose objects are lists of pairs."""
+    kind, held = tree
+    if kind == "numeral":
+        return of_numeral(held)
+    if kind == "array":
+        return ("array", [value_of(item) for item in held])
+    if kind == "object":
+        wrappers = [key for key, _ in held if key in WRAPPERS]
+        if wrappers:
+            if len(held) != 1:
+                raise Refused(wrappers[0])
+            return of_wrapper(wrappers[0], held[0][1])
+        if any("\0" in key for key, _ in held):
+            raise Refused("a key with a 00")
+        return ("object", [(key, value_of(part)) for key, part in held])
+    return tree
+
+
+def tree_of(text):
+    def seen(value, levels=128):
+        if isinstance(value, (list, Pairs)) and not levels:
+            raise Refused("too deep")
+        if isinstance(value, bool):
+            return ("bool", value)
+        if isinstance(value, Numeral):
+            return ("numeral", str(value))
+        if isinstance(value, list):
+            return ("array", [seen(item, levels - 1) for item in value])
+        if isinstance(value, Pairs):
+            if len({key for key, _ in value.pairs}) < len(value.pairs):
+                raise Refused("a key comes twice")
+            return ("object", [(key, seen(item, levels - 1)) for key, item in value.pairs])
+        return ("null", ()) if value is None else ("string", value)
+
+    try:
+        return seen(json.loads(text, object_pairs_hook=Pairs, parse_int=Numeral, parse_float=Numeral))
+    except ValueError as error:
+        raise Refused(text) from error
+
+
+class Numeral(str):
+    """A numeral as it is written."""
+
+
+class Pairs:
+    """The members of an object in their order."""
+
+    def __init__(self, pairs):
+        self.pairs = pairs
+
+
+# ---- the order of values
+
+def rank(value):
+    kind = value[0]
+    return RANKS.index("number" if kind in NUMBERS else "text" if kind in TEXTS else kind)
+
+
+def sign(first, second):
+    return (first > second) - (first < second)
+
+
+def inside(first, second):
+    kind = first[0]
+    if kind in NUMBERS:
+        if first[1] is None or second[1] is None:
+            return sign(first[1] is not None, second[1] is not None)
+        return sign(first[1], second[1])
+    if kind == "object":
+        for (key, value), (other, counterpart) in zip(first[1], second[1]):
+            found = sign(rank(value), rank(counterpart)) or sign(key.encode(), other.encode()) or inside(value, counterpart)
+            if found:
+                return found
+        return sign(len(first[1]), len(second[1]))
+    if kind == "array":
+        for value, counterpart in zip(first[1], second[1]):
+            found = order(value, counterpart)
+            if found:
+                return found
+        return sign(len(first[1]), len(second[1]))
+    if kind in TEXTS:
+        return sign(first[1].encode(), second[1].encode())
+    return sign(first[1], second[1])
+
+
+def order(first, second):
+    return sign(rank(first), rank(second)) or inside(first, second)
+
+
+def compares(operator, found, wanted):
+    """Only what has one rank is compared, but all is above minKey and below maxKey. What is absent is as null. A numeral with a point,
+    an exponent or more than 64 bits is that number for all but doubles, for which it is the nearest of them."""
+    found = ("null", ()) if found == NOTHING else found
+    if wanted[0] == "numeral":
+        number = exact(wanted[1])
+        if found[0] == "double" or number is None:
+            if found[0] != "double" and operator == "$eq":
+                return False
+            wanted = ("double", nearest(wanted[1]))
+        else:
+            wanted = ("decimal", number)
+    if rank(found) != rank(wanted):
+        return operator in {"minKey": ("$gt", "$gte"), "maxKey": ("$lt", "$lte")}.get(wanted[0], ())
+    if found[0] in NUMBERS and (found[1] is None or wanted[1] is None):
+        return found[1] is None and wanted[1] is None and operator in ("$eq", "$gte", "$lte")
+    lies = order(found, wanted)
+    return {"$eq": lies == 0, "$gt": lies > 0, "$gte": lies >= 0, "$lt": lies < 0, "$lte": lies <= 0}[operator]
+
+
+# ---- along a path
+
+def members(value):
+    return value[1] if value[0] == "object" else [(str(place), item) for place, item in enumerate(value[1])]
+
+
+def under(pairs, path, opens):
+    """What a path leads to from a document: a list, with NOTHING where it ends before its last key."""
+    found = dict(reversed(pairs)).get(path[0], NOTHING)
+    if found == NOTHING:
+        return [NOTHING]
+    if len(path) == 1:
+        return [*found[1], found] if opens and found[0] == "array" else [found]
+    return on(found, path[1:], opens) if found[0] in ("object", "array") else [NOTHING]
+
+
+def on(value, path, opens):
+    if value[0] == "object":
+        return under(value[1], path, opens)
+    reached = []
+    for place, item in enumerate(value[1]):
+        if item[0] == "object":
+            reached += under(item[1], path, opens)
+        if str(place) == path[0]:
+            if len(path) == 1:
+                reached.append(item)
+            elif item[0] in ("object", "array"):
+                reached += on(item, path[1:], opens)
+    return reached
+
+
+# ---- queries: a tree as a function of what a path leads to
+
+def whole(value):
+    if value[0] not in NUMBERS or not isinstance(value[1], Fraction) or value[1].denominator != 1 or not -2**63 <= value[1] < 2**63:
+        raise Refused(value)
+    return int(value[1])
+
+
+def part(value):
+    if value[0] not in NUMBERS or not isinstance(value[1], Fraction) or not -2**63 <= math.trunc(value[1]) < 2**63:
+        raise Refused(value)
+    return math.trunc(value[1])
+
+
+def wanted_of(tree):
+    if tree[0] != "numeral" or is_whole(tree[1]):
+        return value_of(tree)
+    if math.isinf(float(tree[1])):
+        raise Refused(tree)
+    return tree
+
+
+def plain(tree):
+    value = wanted_of(tree)
+    if value[0] == "regex":
+        raise Refused(value)
+    return value
+
+
+def first_key(tree):
+    return tree[1][0][0] if tree[0] == "object" and tree[1] else ""
+
+
+def has_operators(tree):
+    key = first_key(tree)
+    return key.startswith("$") and key not in WRAPPERS and key != "$ref"
+
+
+def kinds_of(tree):
+    value = value_of(tree)
+    if value == ("string", "number"):
+        return set(NUMBERS)
+    if value[0] == "string":
+        if value[1] not in KINDS:
+            raise Refused(value)
+        return {value[1]}
+    found = {kind for kind, number in KINDS.items() if number == whole(value)}
+    if not found:
+        raise Refused(value)
+    return found
+
+
+def listed(tree):
+    if tree[0] != "array":
+        raise Refused(tree)
+    return tree[1]
+
+
+def remainders(tree):
+    if len(listed(tree)) != 2:
+        raise Refused(tree)
+    divisor, rest = (part(value_of(item)) for item in tree[1])
+    if divisor == 0:
+        raise Refused(tree)
+
+    def leaves(found):
+        if found[0] not in NUMBERS or not isinstance(found[1], Fraction) or not -2**63 <= math.trunc(found[1]) < 2**63:
+            return False
+        kept = math.trunc(found[1])
+        return kept - divisor * math.trunc(Fraction(kept, divisor)) == rest
+
+    return leaves
+
+
+def leaf(operator, tree):
+    """What an operator that isn't made of others asks of one value, and whether an array at a path's end is opened for it."""
+    if operator in ("$eq", "$gt", "$gte", "$lt", "$lte"):
+        wanted = wanted_of(tree) if operator == "$eq" else plain(tree)
+        return True, lambda found: compares(operator, found, wanted)
+    if operator == "$size":
+        size = whole(value_of(tree))
+        if size < 0:
+            raise Refused(tree)
+        return False, lambda found: found[0] == "array" and len(found[1]) == size
+    if operator == "$type":
+        trees = tree[1] if tree[0] == "array" else [tree]
+        if not trees:
+            raise Refused(tree)
+        kinds = set().union(*(kinds_of(item) for item in trees))
+        return True, lambda found: found[0] in kinds
+    if operator == "$mod":
+        return True, remainders(tree)
+    if operator == "$elemMatch":
+        return False, element_match(tree)
+    raise Refused(operator)
+
+
+def element_match(tree):
+    if tree[0] != "object":
+        raise Refused(tree)
+    if first_key(tree) in TESTS:
+        asked = tests(None, tree)
+        return lambda found: found[0] == "array" and any(asked(item) for item in found[1])
+    query = query_of(tree)
+    return lambda found: found[0] == "array" and any(item[0] in ("object", "array") and query(members(item)) for item in found[1])
+
+
+def truth(value):
+    return value[1] if value[0] == "bool" else whole(value) != 0
+
+
+def test(path, operator, tree):
+    """What an operator asks of a document's members under a path, or of one value if there is no path."""
+    if operator not in TESTS:
+        raise Refused(operator)
+
+    def reached(opens, asked):
+        if path is None:
+            return asked
+        return lambda pairs: any(asked(found) for found in under(pairs, path, opens))
+
+    if operator == "$ne":
+        wanted = plain(tree)
+        equal = reached(True, lambda found: compares("$eq", found, wanted))
+        return lambda given: not equal(given)
+    if operator in ("$in", "$nin"):
+        if any(has_operators(item) for item in listed(tree)):
+            raise Refused(tree)
+        values = [plain(item) for item in tree[1]]
+        among = reached(True, lambda found: any(compares("$eq", found, value) for value in values))
+        return among if operator == "$in" else lambda given: not among(given)
+    if operator == "$all":
+        parts = [one_of_all(path, item) for item in listed(tree)]
+        return lambda given: bool(parts) and all(asked(given) for asked in parts)
+    if operator == "$exists":
+        wanted = truth(value_of(tree))
+        there = reached(True, lambda found: found != NOTHING)
+        return lambda given: there(given) == wanted
+    if operator == "$not":
+        if not has_operators(tree):
+            raise Refused(tree)
+        asked = tests(path, tree)
+        return lambda given: not asked(given)
+    return reached(*leaf(operator, tree))
+
+
+def one_of_all(path, tree):
+    if not has_operators(tree):
+        plain(tree)
+        return test(path, "$eq", tree)
+    if len(tree[1]) != 1 or first_key(tree) != "$elemMatch":
+        raise Refused(tree)
+    return tests(path, tree)
+
+
+def tests(path, tree):
+    asked = [test(path, operator, body) for operator, body in tree[1]]
+    return lambda given: all(one(given) for one in asked)
+
+
+def entry(key, tree):
+    if key == "$comment":
+        return lambda pairs: True
+    if key in LOGICAL:
+        queries = [query_of(item) for item in listed(tree)]
+        if not queries:
+            raise Refused(key)
+        answers = {"$and": all, "$or": any, "$nor": lambda found: not any(found)}[key]
+        return lambda pairs: answers(query(pairs) for query in queries)
+    if key.startswith("$"):
+        raise Refused(key)
+    path = key.split(".")
+    if has_operators(tree):
+        return tests(path, tree)
+    plain(tree)
+    return test(path, "$eq", tree)
+
+
+def query_of(tree):
+    if tree[0] != "object":
+        raise Refused(tree)
+    entries = [entry(key, body) for key, body in tree[1]]
+    return lambda pairs: all(asked(pairs) for asked in entries)
+
+
+def answer(line):
+    """What the evaluation answers to a line of the table."""
+    query, document = line.split(" | ")
+    try:
+        asked, members = query_of(tree_of(query)), value_of(tree_of(document))[1]
+    except Refused:
+        return "refused"
+    return "true" if asked(members) else "false"
+
+
+# ---- random lines
+
+SCALARS = ["0", "1", "2", "-3", "7", '{"$numberLong":"1"}', '{"$numberLong":"3"}', "1.0", "2.5", "-2.5", '{"$numberDouble":"NaN"}',
+           '{"$numberDouble":"-0.0"}', '{"$numberDouble":"Infinity"}', '{"$numberDecimal":"1.0"}', '{"$numberDecimal":"2.5"}',
+           '{"$numberDecimal":"NaN"}', "9007199254740993", "9007199254740993.0", "18446744073709551617", "1e-400",
+           "0.1000000000000000055511151231257827021181583404541015625", '{"$numberDouble":"9007199254740992"}',
+           '{"$numberDecimal":"18446744073709551617"}', '{"$numberDecimal":"0.1"}', "0.1",
+           '"x"', '"y"', '{"$symbol":"x"}', "null", '{"$undefined":true}', "true", "false", '{"$minKey":1}', '{"$maxKey":1}',
+           '{"$date":{"$numberLong":"5"}}', '{"$oid":"650000000000000000000002"}', '{"$timestamp":{"t":1,"i":2}}',
+           '{"$regularExpression":{"pattern":"x","options":""}}']
+KEYS = ["a", "b", "0", "1"]
+OPERATORS = sorted(TESTS)
+
+
+class Lines:
+    """Random queries and documents, as texts."""
+
+    def __init__(self, seed):
+        self.random = random.Random(seed)
+
+    def some(self, *choices):
+        return self.random.choice(choices)
+
+    def value(self, depth=0):
+        sort = self.random.randrange(12 if depth < 4 else 7)
+        if sort < 7:
+            return self.random.choice(SCALARS)
+        if sort < 10:
+            return "[%s]" % ",".join(self.value(depth + 1) for _ in range(self.random.randrange(4)))
+        return self.document(depth + 1)
+
+    def document(self, depth=0):
+        keys = [key for key in KEYS if self.random.randrange(3) == 0] or ["a"]
+        self.random.shuffle(keys)
+        return "{%s}" % ",".join(f'"{key}":{self.value(depth)}' for key in keys)
+
+    def operand(self):
+        return self.random.choice(SCALARS) if self.random.randrange(4) else self.value(2)
+
+    def body(self, operator, depth):
+        if operator in ("$in", "$nin", "$all"):
+            items = [self.operand() for _ in range(self.random.randrange(4))]
+            if operator == "$all" and depth < 2 and self.random.randrange(4) == 0:
+                items.append('{"$elemMatch":%s}' % self.body("$elemMatch", depth + 1))
+            return "[%s]" % ",".join(items)
+        if operator == "$size":
+            return self.some("0", "1", "2", "2.0", '{"$numberDecimal":"1"}', "-1", "1.5")
+        if operator == "$exists":
+            return self.some("true", "false", "1", "0", "0.0")
+        if operator == "$type":
+            return self.some('"number"', '"array"', '"object"', "2", '["null",4]', '"string"', "-1", "1.0", '"regex"', "[]")
+        if operator == "$mod":
+            return self.some("[2,1]", "[3,0]", "[2,-1]", "[2.5,1]", "[0,1]", "[2]", '[{"$numberLong":"-3"},{"$numberDecimal":"1.9"}]')
+        if operator == "$not":
+            return self.operators(depth + 1)
+        if operator == "$elemMatch":
+            return self.operators(depth + 1) if self.random.randrange(2) else self.query(depth + 1)
+        return self.operand()
+
+    def operators(self, depth=0):
+        names = self.random.sample(OPERATORS, self.some(1, 1, 1, 2))
+        if depth > 2:
+            names = [name for name in names if name not in ("$not", "$elemMatch")] or ["$gte"]
+        return "{%s}" % ",".join(f'"{name}":{self.body(name, depth)}' for name in names)
+
+    def path(self):
+        return ".".join(self.some("a", "b", "a", "0", "1") for _ in range(self.some(1, 1, 2, 2, 3)))
+
+    def query(self, depth=0):
+        entries = {}
+        for _ in range(self.some(0, 1, 1, 1, 2)):
+            sort = self.random.randrange(10)
+            if sort == 0 and depth < 2:
+                entries[self.random.choice(sorted(LOGICAL))] = "[%s]" % ",".join(self.query(depth + 1) for _ in range(self.some(1, 2)))
+            elif sort < 5:
+                entries[self.path()] = self.operand()
+            else:
+                entries[self.path()] = self.operators(depth)
+        return "{%s}" % ",".join(f'"{key}":{body}' for key, body in entries.items())
+
+    def line(self):
+        return f"{self.query()} | {self.document()}"
+
+
+def compare(lines, answers, name):
+    """Says which answers differ, and ends with status 1 if one does."""
+    differing = 0
+    for line, got in zip(lines, answers, strict=True):
+        wanted = answer(line)
+        if wanted != (got if got in ("true", "false") else "refused"):
+            differing += 1
+            if differing <= 10:
+                print(f"questions.py: {name}: {line}: {got}, and the evaluation: {wanted}")
+    if differing:
+        sys.exit(f"questions.py: {name}: {differing} of {len(lines)} differ")
+    print(f"questions.py: {name}: {len(lines)} lines")
+
+
+def main(program=None, count="4000", seed="67"):
+    table = ROOT / "cases" / "question"
+    lines = (table / "stdin").read_text().splitlines()
+    compare([line for line in lines if line.count(" | ") == 1], [
+        given for line, given in zip(lines, (table / "stdout").read_text().splitlines(), strict=True) if line.count(" | ") == 1], "rows")
+    if program:
+        made = Lines(int(seed))
+        lines = [made.line() for _ in range(int(count))]
+        done = subprocess.run([program, "question"], input="".join(line + "\n" for line in lines), capture_output=True, text=True, check=True)
+        compare(lines, done.stdout.splitlines(), "random lines")
+
+
+if __name__ == "__main__":
+    main(*sys.argv[1:])
