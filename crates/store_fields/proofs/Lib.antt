@@ -1,0 +1,5 @@
+pub mod TextLemmas
+pub mod PlaceLemmas
+pub mod CopyLemmas
+pub mod InsideLemmas
+pub mod TreeLemmas

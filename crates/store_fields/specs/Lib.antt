@@ -1,0 +1,3 @@
+pub mod Fields
+pub mod Views
+pub mod Texts
