@@ -1,13 +1,18 @@
 //! The program `bson_store`: commands over a database file, and its back-up.
 
-ghost use Rattle.std.specs.Prelude.{◌≡◌, IfOk, map, string_bytes};
+ghost use Rattle.std.specs.Prelude.{◌≡◌, IfOk, None, Result, map, string_bytes};
 ghost use Rattle.sqlite.specs.Files.{file_state};
+ghost use Rattle.sqlite.specs.Held.{state};
 ghost use Rattle.bson_base.specs.Device.{CanFail, CanRefuse, TakesText};
 ghost use Rattle.store_model.specs.State.{State as Lists};
 ghost use Rattle.bson_store.specs.Left.{FindsState, Holds, HoldsOnce};
-ghost use Rattle.cli_words.specs.Lines.{complaint_line};
+ghost use Rattle.cli_commands.specs.Execute.{Reports, streams};
+ghost use Rattle.cli_commands.specs.Outcome.{HasOutcome};
+ghost use Rattle.cli_commands.specs.declared.stop.Failure.{Failure as Failed};
+ghost use Rattle.cli_words.specs.Lines.{complaint_line, refusal_line};
 ghost use Rattle.cli_words.specs.declared.lines.UsageError.TheVariants.{Usage};
-ghost use Rattle.bson_store_cli.specs.Serving.{AreNoLine, AskNothing, IsSoundCopy};
+ghost use Rattle.bson_store_cli.specs.Over.{OpensFor};
+ghost use Rattle.bson_store_cli.specs.Serving.{AreNoLine, AskNothing, IsSoundCopy, ReportsSome};
 ghost use Rattle.store_table.specs.Schema.{HasStoreTable};
 
 use bson_store::{ErrorKind, Sink, Source, Store};
@@ -34,6 +39,16 @@ fn over<S: Alter + Drop, I: Source, O: Sink, F: Sink>(
     requires input { CanFail (I.feed input.old) }
     requires output { CanRefuse (O.tally output.old) }
     requires faults { CanRefuse (F.tally faults.old) }
+    // The outcome of the command is reported. A store that is refused is asked nothing: that is reported, and nothing is read or
+    // printed.
+    ensures done { OpensFor S.Store connection result.1 (λ opened. (outcome : Result (Unit {0}) Failed)
+        × Reports outcome result.0 (F.tally faults.old) (F.tally faults.new)
+        × HasOutcome words.now (streams (I.feed input.old) (I.feed input.new) (O.tally output.old)
+        (O.tally output.new)) outcome (state S.Store opened) (state S.Store result.1))
+        (λ e. (result.0 ≡ 1) × TakesText (F.tally faults.old) (F.tally faults.new)
+        (refusal_line e.kind None) × (input.new ≡ input.old) × (output.new ≡ output.old)) }
+    ensures told { ReportsSome (F.tally faults.old) (F.tally faults.new) result.0 }
+    ensures silent { result.0 ≡ 0 → faults.new ≡ faults.old }
 {
     match Store::open(alloc, connection) {
         Ok(mut store) => {
@@ -74,6 +89,8 @@ pub(crate) fn judged(
 /// stay as they are.
 fn back_up<F: Sink>(rt: &HostRuntime, file: &str, path: &str, seconds: u64, faults: &mut F) -> u8
     requires { CanRefuse (F.tally faults.old) }
+    ensures told { ReportsSome (F.tally faults.old) (F.tally faults.new) result }
+    ensures silent { result ≡ 0 → faults.new ≡ faults.old }
 {
     let connection = match read(rt, file, seconds) {
         Ok(connection) => connection,
@@ -102,6 +119,8 @@ fn command<I: Source, O: Sink, F: Sink>(
     requires input { CanFail (I.feed input.old) }
     requires output { CanRefuse (O.tally output.old) }
     requires faults { CanRefuse (F.tally faults.old) }
+    ensures told { ReportsSome (F.tally faults.old) (F.tally faults.new) result }
+    ensures silent { result ≡ 0 → faults.new ≡ faults.old }
 {
     match open_within(rt, words.file, seconds) {
         Ok(connection) => {
@@ -125,7 +144,9 @@ fn serve_words<I: Source, O: Sink, F: Sink>(
     requires input { CanFail (I.feed input.old) }
     requires output { CanRefuse (O.tally output.old) }
     requires faults { CanRefuse (F.tally faults.old) }
-    ensures { AskNothing (map string_bytes words.now) → (result ≡ 2)
+    ensures told { ReportsSome (F.tally faults.old) (F.tally faults.new) result }
+    ensures silent { result ≡ 0 → faults.new ≡ faults.old }
+    ensures misuse { AskNothing (map string_bytes words.now) → (result ≡ 2)
         × TakesText (F.tally faults.old) (F.tally faults.new) (complaint_line Usage)
         × (input.new ≡ input.old) × (output.new ≡ output.old) }
 {
@@ -150,6 +171,9 @@ pub fn serve<I: Source, O: Sink, F: Sink>(
     requires input { CanFail (I.feed input.old) }
     requires output { CanRefuse (O.tally output.old) }
     requires faults { CanRefuse (F.tally faults.old) }
+    // Status 0, and nothing is reported; or why the command failed, with the status of that.
+    ensures told { ReportsSome (F.tally faults.old) (F.tally faults.new) result }
+    ensures silent { result ≡ 0 → faults.new ≡ faults.old }
     // Words that ask for nothing touch nothing, and the usage is reported.
     ensures misuse { AreNoLine (map string_bytes words.now) → (result ≡ 2)
         × TakesText (F.tally faults.old) (F.tally faults.new) (complaint_line Usage)

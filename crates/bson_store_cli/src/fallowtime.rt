@@ -1,24 +1,24 @@
 //! The program `fallowtime`: one command over a database file, or a session of requests.
 
-ghost use Rattle.std.specs.Prelude.{◌≡◌, ◌⊎◌, None, Result, Some, map, string_bytes};
+ghost use Rattle.std.specs.Prelude.{◌≡◌, ◌⊎◌, Err, None, Result, map, string_bytes};
+ghost use Rattle.sqlite.specs.Held.{state};
 ghost use Rattle.store_table.specs.Crash.{AddsNothing};
 ghost use Rattle.store_table.specs.Moves.{WasOpen};
 ghost use Rattle.bson_base.specs.Device.{CanFail, CanRefuse};
 ghost use Rattle.bson_store.specs.Calls.{Relates, store_state};
 ghost use Rattle.bson_store.specs.Export.{SendsCollection};
-ghost use Rattle.fallowtime_commands.specs.Executing.{Executes};
-ghost use Rattle.fallowtime_commands.specs.declared.refusal.Refusal.{Refusal as Refused};
-ghost use Rattle.fallowtime_requests.specs.declared.request.Request.{Request as Requested};
+ghost use Rattle.fallowtime_commands.specs.Reports.{plain};
 ghost use Rattle.store_model.specs.declared.error.StoreError.{StoreError as StoreRefusal};
 ghost use Rattle.fallowtime_front.specs.Asking.{form_by};
-ghost use Rattle.fallowtime_front.specs.Ending.{TellsEnd, ended_by};
+ghost use Rattle.fallowtime_front.specs.Ending.{TellsEnd};
 ghost use Rattle.fallowtime_front.specs.declared.ending.Ended.{Ended as WhyEnded};
-ghost use Rattle.fallowtime_front.specs.declared.ending.Ended.TheVariants.{Words as BadWords};
+ghost use Rattle.fallowtime_front.specs.declared.ending.Ended.TheVariants.{Refused, Words as BadWords};
 ghost use Rattle.fallowtime_requests.specs.declared.unread.Unread.TheVariants.{Command as Usage};
 ghost use Rattle.fallowtime_words.specs.Words.{Asked as Asking, IsTask};
 ghost use Rattle.fallowtime_help.specs.Topics.{IsTopic};
 ghost use Rattle.fallowtime_help.specs.declared.topic.Topic.{Topic as About};
-ghost use Rattle.bson_store_cli.specs.Serving.{plainly};
+ghost use Rattle.bson_store_cli.specs.Over.{OpensFor};
+ghost use Rattle.bson_store_cli.specs.Serving.{AnswersLines, ServesExport, ServesRequest, plainly};
 
 use crate::commands::judged;
 use crate::help;
@@ -79,18 +79,12 @@ fn serve_store<S: Alter + Drop, O: Sink>(
 ) -> Result<(), Ended>
     requires { CanRefuse (O.tally output.old) }
     // A request is performed, and what it returns is printed in the form of the options.
-    ensures request { (r : Requested) → asked.old.request ≡ Some r
-        → (done : Result (Unit {0}) Refused) × (result ≡ ended_by asked.old.lines.items done)
-        × Executes asked.old.collection.now r (form_by words.now.options.bytes words.now.options.canonical)
-        (O.tally output.old) (O.tally output.new) done (store_state S.Store store.old)
-        (store_state S.Store store.new) }
+    ensures request { ServesRequest asked.old
+        (form_by words.now.options.bytes words.now.options.canonical) (O.tally output.old)
+        (O.tally output.new) result (store_state S.Store store.old) (store_state S.Store store.new) }
     // Without one the collection is written as BSON.
-    ensures export { asked.old.request ≡ None → (sent : Result (Unit {0}) StoreRefusal)
-        × (result ≡ ended_by asked.old.lines.items (plainly sent))
-        × Relates S.Store store.old store.new (SendsCollection asked.old.collection.now
-        (O.tally output.old) (O.tally output.new) sent)
-        × AddsNothing (store_state S.Store store.old) (store_state S.Store store.new)
-        × WasOpen (store_state S.Store store.old) (store_state S.Store store.new) sent }
+    ensures export { ServesExport asked.old (O.tally output.old) (O.tally output.new) result
+        (store_state S.Store store.old) (store_state S.Store store.new) }
 {
     match &mut asked.request {
         None => {
@@ -115,6 +109,13 @@ fn over<S: Alter + Drop, O: Sink>(
     output: &mut O,
 ) -> (Result<(), Ended>, Connection<S>)
     requires { CanRefuse (O.tally output.old) }
+    // A store that is refused is asked nothing, and nothing is printed.
+    ensures { OpensFor S.Store connection result.1 (λ opened. ServesRequest asked.old
+        (form_by words.now.options.bytes words.now.options.canonical) (O.tally output.old)
+        (O.tally output.new) result.0 (state S.Store opened) (state S.Store result.1)
+        × ServesExport asked.old (O.tally output.old) (O.tally output.new) result.0
+        (state S.Store opened) (state S.Store result.1)) (λ e. (result.0 ≡ Err (Refused (plain e)))
+        × (output.new ≡ output.old)) }
 {
     match Store::open(alloc, connection) {
         Ok(mut store) => {
@@ -290,6 +291,26 @@ fn command<I: Source, O: Sink>(
     ask_and_do(rt, words, &mut maker, input, output)
 }
 
+/// The session over an open store.
+fn answer<S: Alter + Drop, I: Source, O: Sink>(
+    alloc: Global,
+    store: &mut Store<S>,
+    maker: &mut IdMaker,
+    input: &mut I,
+    output: &mut O,
+) -> Result<(), Ended>
+    requires input { CanFail (I.feed input.old) }
+    requires output { CanRefuse (O.tally output.old) }
+    ensures { AnswersLines maker.old maker.new (I.feed input.old) (I.feed input.new)
+        (O.tally output.old) (O.tally output.new) result (store_state S.Store store.old)
+        (store_state S.Store store.new) }
+{
+    match fallowtime_session::serve(alloc, store, maker, input, output) {
+        Ok(()) => Ok(()),
+        Err(kind) => Err(Ended::Refused(Refusal::from(kind))),
+    }
+}
+
 /// The session over a connection, which it gives back. It is over any store, for the reason that `over` is.
 fn answer_over<S: Alter + Drop, I: Source, O: Sink>(
     alloc: Global,
@@ -300,13 +321,15 @@ fn answer_over<S: Alter + Drop, I: Source, O: Sink>(
 ) -> (Result<(), Ended>, Connection<S>)
     requires input { CanFail (I.feed input.old) }
     requires output { CanRefuse (O.tally output.old) }
+    // A store that is refused answers nothing.
+    ensures { OpensFor S.Store connection result.1 (λ opened. AnswersLines maker.old maker.new
+        (I.feed input.old) (I.feed input.new) (O.tally output.old) (O.tally output.new) result.0
+        (state S.Store opened) (state S.Store result.1)) (λ e. (result.0 ≡ Err (Refused (plain e)))
+        × (maker.new ≡ maker.old) × (input.new ≡ input.old) × (output.new ≡ output.old)) }
 {
     match Store::open(alloc, connection) {
         Ok(mut store) => {
-            let ended = match fallowtime_session::serve(alloc, &mut store, maker, input, output) {
-                Ok(()) => Ok(()),
-                Err(kind) => Err(Ended::Refused(Refusal::from(kind))),
-            };
+            let ended = answer(alloc, &mut store, maker, input, output);
             (ended, store.close())
         }
         Err((error, connection)) => (Err(Ended::Refused(Refusal::from(error))), connection),

@@ -4,7 +4,7 @@
 //! answers the requests of lines. `bson_json` turns BSON documents into lines of Extended JSON, and such lines into BSON.
 #![tactic(auto)]
 
-ghost use Rattle.std.specs.Prelude.{◌≡◌, Bool};
+ghost use Rattle.std.specs.Prelude.{◌≡◌, ◌⊎◌, Bool};
 ghost use Rattle.terminal_text.specs.Writing.{Begins};
 
 mod commands;
@@ -42,7 +42,9 @@ fn run_words<O: Write>(rt: &HostRuntime, words: &[String], output: &mut Counted<
 }
 
 /// Reports a refusal if nothing was reported yet, and returns the program's status.
-fn report(rt: &HostRuntime, kind: ErrorKind) -> u8 {
+fn report(rt: &HostRuntime, kind: ErrorKind) -> u8
+    ensures { result ≡ 1 }
+{
     let mut faults = Counted::new(rt.stderr());
     refuse(&mut faults, kind)
 }
@@ -66,7 +68,10 @@ fn printed_on<W: Write>(rt: &HostRuntime, writer: W) -> Output<W>
 
 /// Writes the gathered output, and returns the program's status: a failure here is one of the output, like that of any
 /// write before it.
-fn let_out<W: Write + Drop>(rt: &HostRuntime, mut output: Counted<W>, status: u8) -> u8 {
+fn let_out<W: Write + Drop>(rt: &HostRuntime, mut output: Counted<W>, status: u8) -> u8
+    // A status that reports something stays.
+    ensures { (result ≡ status) ⊎ ((status ≡ 0) × (result ≡ 1)) }
+{
     match output.device.flush() {
         Err(_) if status == 0 => report(rt, ErrorKind::Writer),
         _ => status,

@@ -5,3 +5,4 @@ pub mod Loading
 pub mod Printing
 pub mod Requests
 pub mod Leaving
+pub mod Outcome

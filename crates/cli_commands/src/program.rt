@@ -10,7 +10,8 @@ ghost use Rattle.bson_store.specs.Refusals.{as_done, reply_by};
 ghost use Rattle.cli_commands.specs.Commands.{Spares};
 ghost use Rattle.store_table.specs.Moves.{WasOpen};
 ghost use Rattle.cli_commands.specs.Execute.{Executes, Reports, ReportsFailures, ShowsAnswer, SilentUnread, Tells, line_of, streams};
-ghost use Rattle.cli_commands.specs.Leaving.{LeavesCall, StaysOpen};
+ghost use Rattle.cli_commands.specs.Leaving.{LeavesCall};
+ghost use Rattle.cli_commands.specs.Outcome.{HasOutcome};
 ghost use Rattle.cli_commands.specs.Requests.{IsRequestOf};
 ghost use Rattle.cli_commands.specs.declared.stop.Failure.{Failure as Outcome};
 
@@ -168,25 +169,12 @@ pub fn execute<S: Alter + Drop, I: Source, O: Sink, F: Sink>(
     // Only `import` and `load` read the input.
     ensures spared { Spares words.now.call input.old input.new }
     // What was done, and that just this is reported: the refusal of the command's own step, or of a device exactly if that failed.
+    // Whatever the disk does, a failed read or write is reported. After an accepted command a crash leaves what it leaves of that;
+    // otherwise what it could leave before, or what it leaves of a refused one.
     ensures step { (outcome : Result (Unit {0}) Outcome)
         × Reports outcome result (F.tally faults.old) (F.tally faults.new)
-        × Relates S.Store store.old store.new (Executes words.now (streams (I.feed input.old)
-        (I.feed input.new) (O.tally output.old) (O.tally output.new)) outcome) }
-    // Whatever the disk does, a failed read or write is reported.
-    ensures devices { (outcome : Result (Unit {0}) Outcome)
-        × Reports outcome result (F.tally faults.old) (F.tally faults.new)
-        × ReportsFailures words.now.call outcome (I.feed input.old).failures
-        (I.feed input.new).failures (O.tally output.old).failures (O.tally output.new).failures }
-    // A command is accepted only on an open connection, which stays open.
-    ensures open { result ≡ 0 → StaysOpen (store_state S.Store store.old)
-        (store_state S.Store store.new) }
-    // What a crash leaves of it: after an accepted command what it leaves of that; otherwise what it could leave
-    // before, or what it leaves of a refused one.
-    ensures crash { (outcome : Result (Unit {0}) Outcome)
-        × Reports outcome result (F.tally faults.old) (F.tally faults.new)
-        × LeavesCall (line_of words.now) (streams (I.feed input.old)
-        (I.feed input.new) (O.tally output.old) (O.tally output.new)) outcome (store_state S.Store store.old)
-        (store_state S.Store store.new) }
+        × HasOutcome words.now (streams (I.feed input.old) (I.feed input.new) (O.tally output.old)
+        (O.tally output.new)) outcome (store_state S.Store store.old) (store_state S.Store store.new) }
 {
     match obey(alloc, store, words, input, output) {
         Ok(()) => 0,
