@@ -33,7 +33,7 @@ _fallowtime_files() {
 
 _fallowtime() {
     local word=${COMP_WORDS[COMP_CWORD]} before=${COMP_WORDS[COMP_CWORD - 1]} options=--wait front
-    local commands=(insert put replace get set unset update delete remove find count import export collections backup)
+    local commands=(insert put replace get set unset update replace-one delete remove find count import export collections check backup)
     COMPREPLY=()
     if [ "$COMP_CWORD" -eq 1 ]; then
         case $word in -*) _fallowtime_among "$word" --help --version --explain ;; *) _fallowtime_files "$word" ;; esac
@@ -63,15 +63,16 @@ _fallowtime() {
     set) front=7 ;;
     unset) front=6 ;;
     update) front=6 options="--many --wait" ;;
+    replace-one) front=6 ;;
     delete) front=5 options="--many --wait" ;;
-    find) front=4 options="--canonical --bson --wait" ;;
+    find) front=4 options="--sort --skip --limit --canonical --bson --wait" ;;
     count) front=4 ;;
     import) front=4 options="--json --wait" ;;
     export | backup) front=4 ;;
-    collections) front=3 ;;
+    collections | check) front=3 ;;
     *) return ;;
     esac
-    if [ "$before" = --wait ] && [ "$COMP_CWORD" -gt "$front" ]; then return; fi
+    case $before in --wait | --sort | --skip | --limit) [ "$COMP_CWORD" -le "$front" ] || return ;; esac
     if [ "$COMP_CWORD" -ge "$front" ]; then
         # shellcheck disable=SC2086
         _fallowtime_among "$word" $options

@@ -60,7 +60,7 @@ function __fallowtime_complete
         case PATH FILE DIR '[FILE]'
             __fish_complete_path $word
         case ''
-            test "$words[-1]" = --wait; or __fallowtime_options $program $words[3]
+            contains -- "$words[-1]" --wait --sort --skip --limit; or __fallowtime_options $program $words[3]
         case '[*'
             string match -q -- '-*' $word; and __fallowtime_options $program $words[3]
     end

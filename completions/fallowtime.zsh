@@ -49,7 +49,7 @@ _fallowtime() {
         case $place in
         'COLL') _fallowtime_collections ;;
         'PATH' | 'FILE' | 'DIR' | '[FILE]') _files ;;
-        '') [[ ${words[CURRENT - 1]} = --wait ]] || _fallowtime_options ;;
+        '') [[ ${words[CURRENT - 1]} = --(wait|sort|skip|limit) ]] || _fallowtime_options ;;
         *)
             if [[ $place = '['* && $word = -* ]]; then _fallowtime_options; else _message $place; fi
             ;;

@@ -1,9 +1,10 @@
 -- A change of the documents that answer a question, by a look-up and one list of changes.
-use Rattle.std.proofs.Common.{◌≡◌, ◌⊎◌, ◌<◌, ◌≤◌, ◌+◌, inl, inr, ℕ, zero, suc, List, [], ◌∷◌, ◌++◌, length, map, take, drop, get_or, Bool, true, false, Option, Some, Result, Ok, Err, IfOk, Vec, Global, refl, sym, ap, subst, ◌∙◌, arith, append_assoc, append-nil}
+use Rattle.std.proofs.Common.{◌≡◌, ◌⊎◌, ◌<◌, ◌≤◌, ◌+◌, inl, inr, ℕ, zero, suc, List, [], ◌∷◌, ◌++◌, length, map, take, drop, get_or, Bool, true, false, Option, Some, Result, Ok, Err, IfOk, MatchResult, Vec, Global, refl, sym, ap, subst, ◌∙◌, arith, append_assoc, append-nil}
 use Rattle.std.proofs.lemmas.List.{length-map, take_all, take_more}
 use Rattle.sqlite.specs.State.{State, Survives}
 use Rattle.bson_base.specs.Value.{Members}
 use Rattle.bson_bytes.specs.Encode.{encode}
+use Rattle.bson_model.specs.View.{content}
 use Rattle.store_table.specs.Moves.{Moves, WasOpen}
 use Rattle.store_table.specs.Rows.{TableRow}
 use Rattle.store_table.proofs.OthersLemmas.{shows_then}
@@ -20,8 +21,7 @@ use Rattle.store_question.specs.Asked.{Asked}
 use Rattle.store_question.specs.Reads.{Form, Reads}
 use Rattle.store_update.specs.declared.error.UpdateError.{UpdateError}
 use Rattle.store_update.specs.declared.error.UpdateError.TheVariants as updates
-use Rattle.fallowtime_commands.specs.Storing.{IsUnkept}
-use Rattle.store_update.specs.Plan.{Plan}
+use Rattle.fallowtime_commands.specs.Storing.{IsFit, IsUnkept}
 use Rattle.store_update_read.specs.Outcome.{plans_of}
 use Rattle.fallowtime_requests.specs.declared.request.Work.{Work}
 use Rattle.fallowtime_requests.specs.declared.request.Work.TheVariants as work
@@ -34,7 +34,7 @@ use Rattle.bson_store.proofs.WholeLemmas.{length_take, split_at, take_none}
 use Rattle.fallowtime_commands.specs.Asking.{AreChosen, chosen}
 use Rattle.fallowtime_commands.specs.Left.{LeavesApplied, LeavesChange}
 use Rattle.fallowtime_commands.specs.Performing.{IsChange, reply_of}
-use Rattle.fallowtime_commands.specs.Changing.{Applies, AreEdits, AreMeant, Becomes, CanBe, Changes, ChangesFound, done_by, IsReplacement, IsUnfound, IsUnmadeAt, IsUnupdatedAt, listed, Makes, outcome_of, StopsAt, Updates}
+use Rattle.fallowtime_commands.specs.Changing.{Applies, AreEdits, AreMeant, Becomes, CanBe, Changes, ChangesFound, done_by, Exchanges, IsReplacement, IsUnfound, IsUnkeptAt, IsUnmadeAt, IsUnrenewedAt, listed, outcome_of, Renews, Replaces, StopsAt, Updates}
 use Rattle.fallowtime_commands.specs.declared.answer.Answer.{Answer}
 use Rattle.fallowtime_commands.specs.declared.changing.Unmade.{Unmade}
 use Rattle.fallowtime_commands.specs.declared.changing.Unmade.TheVariants as unmade
@@ -50,9 +50,27 @@ not_memory says e (inl is) other = is
 not_memory says e (inr memory) other = absurd (other memory)
 
 -- memory has no place
-pub unkept_at : (e : Members) (k : ErrorKind) (x : StoreError) (i : ℕ) → IsUnkept e k ⊎ (k ≡ Memory) → x ≡ refusal_at k i → (x ≡ refusal Memory) ⊎ ((j : ErrorKind) × IsUnkept e j × (x ≡ refusal_at j i))
-unkept_at e k x i (inl why) is = inr (k, why, is)
-unkept_at e k x i (inr memory) is = inl (is ∙ ap (λ j. refusal_at j i) memory)
+pub unkept_at : (e : Members) (k : ErrorKind) (x : StoreError) (i : ℕ) → IsUnkept e k ⊎ (k ≡ Memory) → x ≡ refusal_at k i → IsUnkeptAt e i (unmade.Store x)
+unkept_at e k x i (inl why) is = inr (k, why, ap unmade.Store is)
+unkept_at e k x i (inr memory) is = inl (ap unmade.Store (is ∙ ap (λ j. refusal_at j i) memory))
+
+-- another document replaces it
+pub exchanged : (n : List ℕ) (d e : Members) (bytes body : List ℕ) (x : Edit) → bytes ≡ encode e → body ≡ encode d → (bytes ≡ body → ⊥) → IsReplacement n e x → Exchanges n d e (Some x)
+exchanged n d e bytes body x is was other puts = inr ((λ same. other (is ∙ (same ∙ sym was))), (x, puts, refl))
+
+module _ (Outcome : Result Members UpdateError → Type 0) (i : ℕ) where
+  pub no_memory : (w : Unmade) → w ≡ unmade.Store (refusal Memory) → IsUnrenewedAt Outcome i w
+  no_memory w is = subst (λ y. IsUnrenewedAt Outcome i y) (sym is) (inl refl)
+
+  unrenewed : (e : Members) (w : Unmade) → Outcome (Ok e) → IsUnkeptAt e i w → IsUnrenewedAt Outcome i w
+  unrenewed e w becomes (inl memory) = no_memory w memory
+  unrenewed e w becomes (inr (k, why, is)) = subst (λ y. IsUnrenewedAt Outcome i y) (sym is) (inr (e, k, becomes, why, refl))
+
+  -- what becomes of a document takes its place, if it can be kept
+  pub renewed : (n : List ℕ) (d e : Members) (r : Result (Option Edit) Unmade) → Outcome (Ok e) → MatchResult r (λ change. IsFit e × Exchanges n d e change) (IsUnkeptAt e i)
+      → MatchResult r (Renews n Outcome d) (IsUnrenewedAt Outcome i)
+  renewed n d e (Ok change) becomes (fit, exchanges) = (e, becomes, fit, exchanges)
+  renewed n d e (Err w) becomes why = unrenewed e w becomes why
 
 -- ---- the first or all
 
@@ -117,17 +135,15 @@ module _ (n : List ℕ) (w : Work) (bodies : List (Vec ℕ Global)) (ds : Docume
       let long : length ds ≡ length bodies = sym (length-map ds encode) ∙ (ap length (sym same) ∙ length-map bodies (λ (v : Vec ℕ Global). v.items)) in
       subst (λ es. AreEdits n w es xs) (take_all i ds (omega (arith, long, end))) h
 
--- an update that makes another document replaces it
-pub replaced : (n : List ℕ) (plans : List Plan) (d e : Members) (bytes body : List ℕ) (x : Edit) → Makes plans d e → bytes ≡ encode e → body ≡ encode d → (bytes ≡ body → ⊥) → IsReplacement n e x → Updates n plans d (Some x)
-replaced n plans d e bytes body x makes is was other puts = (e, makes, inr ((λ same. other (is ∙ (same ∙ sym was))), (x, puts, refl)))
-
 -- memory may run out at every document
 pub out_of_memory : (w : Work) (d : Members) (i : ℕ) (why : Unmade) → why ≡ unmade.Store (refusal Memory) → IsUnmadeAt w d i why
-out_of_memory (work.Update steps) d i why is = subst (λ y. IsUnupdatedAt (plans_of steps) d i y) (sym is) (inl refl)
+out_of_memory (work.Update steps) d i why is = no_memory (Updates (plans_of steps) d) i why is
+out_of_memory (work.Replace e) d i why is = no_memory (Replaces (content e) d) i why is
 out_of_memory work.Remove d i why is = is
 
 pub memory_can_be : (w : Work) (why : Unmade) → why ≡ unmade.Store (refusal Memory) → CanBe w why
 memory_can_be (work.Update steps) why is = tt
+memory_can_be (work.Replace e) why is = tt
 memory_can_be work.Remove why is = subst (CanBe work.Remove) (sym is) tt
 
 -- ---- what is found
@@ -182,6 +198,9 @@ applied : (n : List ℕ) (w : Work) (ds : Documents) (xs : List Edit) (k : ℕ) 
 applied n (work.Update steps) ds xs k (Ok x) docs after count edits (is, does) =
     let w = work.Update steps in
     subst (λ y. Changes n w ds (Ok y) docs after) (sym is) (xs, edits, ap (λ m. done_by w m (length xs)) count, does)
+applied n (work.Replace e) ds xs k (Ok x) docs after count edits (is, does) =
+    let w = work.Replace e in
+    subst (λ y. Changes n w ds (Ok y) docs after) (sym is) (xs, edits, ap (λ m. done_by w m (length xs)) count, does)
 applied n work.Remove ds xs k (Ok x) docs after count edits (is, does) =
     let w = work.Remove in
     subst (λ y. Changes n w ds (Ok y) docs after) (sym is) (xs, edits, ap (λ m. done_by w m (length xs)) count, does)
@@ -195,10 +214,12 @@ outcome_refused (unmade.Store e) = tt
 
 pub done_is_change : (w : Work) (m c : ℕ) → IsChange w (done_by w m c)
 done_is_change (work.Update steps) m c = tt
+done_is_change (work.Replace e) m c = tt
 done_is_change work.Remove m c = tt
 
 pub unmade_is_change : (w : Work) (why : Unmade) → CanBe w why → IfOk (outcome_of why) (IsChange w)
 unmade_is_change (work.Update steps) (unmade.Update i e) can = tt
+unmade_is_change (work.Replace d) (unmade.Update i e) can = tt
 unmade_is_change work.Remove (unmade.Update i e) can = absurd can
 unmade_is_change w (unmade.Store e) can = tt
 

@@ -62,11 +62,12 @@ module _ (Same More : Type 0) (same : Same → More) (Of Then : Ways → Type 0)
   of_request (request.Remove id) h = of_call (model.remove (view id)) h
   of_request (request.Import stream) h = λ ds stop reads. of_call (model.import ds stop) (h ds stop reads)
   of_request (request.Get id) h = same h
-  of_request (request.Find f) h = same h
+  of_request (request.Find f a) h = same h
   of_request (request.Count f) h = same h
   of_request (request.Index path) h = same h
   of_request (request.DropIndex path) h = same h
   of_request request.Collections h = same h
+  of_request request.Check h = same h
 
 -- what is left is left by the request
 module _ (s t : State) (clean : HasCleanDisk t) (first : Database) (docs : List TableRow) (beside : ShowsOthers first s) (stands : Stands s docs) (a : DocumentTable) (shown : Represents docs a) (db : Trees) (may : t.may_leave db) (n : List ℕ) where

@@ -23,12 +23,13 @@ module _ (n : List ℕ) (s : State) (k : ErrorKind) where
   stays (request.Unset id key) none = absurd none
   stays (request.Change g w many) none = absurd none
   stays (request.Remove id) none = absurd none
-  stays (request.Find g) none = absurd none
+  stays (request.Find g a) none = absurd none
   stays (request.Count g) none = absurd none
   stays (request.Import stream) none = absurd none
   stays (request.Index path) none = absurd none
   stays (request.DropIndex path) none = absurd none
   stays request.Collections none = absurd none
+  stays request.Check none = absurd none
 
   pub leaves : (q : Request) → IsStoppedEarly n q k → LeavesRequest n q (refused k None) s s
   leaves (request.Insert id d) why = inl ((k, why, refl), survives_itself s)
@@ -39,9 +40,10 @@ module _ (n : List ℕ) (s : State) (k : ErrorKind) where
   leaves (request.Unset id key) none = absurd none
   leaves (request.Change g w many) none = absurd none
   leaves (request.Remove id) none = absurd none
-  leaves (request.Find g) none = absurd none
+  leaves (request.Find g a) none = absurd none
   leaves (request.Count g) none = absurd none
   leaves (request.Import stream) none = absurd none
   leaves (request.Index path) none = absurd none
   leaves (request.DropIndex path) none = absurd none
   leaves request.Collections none = absurd none
+  leaves request.Check none = absurd none

@@ -6,7 +6,9 @@ mod PutLemmas
 mod SetLemmas
 mod ChangeLemmas
 mod IndexLemmas
+mod ReplaceLemmas
 mod ReturnLemmas
 mod LookLemmas
 mod MeantLemmas
+mod TotalLemmas
 pub mod CrashLemmas

@@ -1,21 +1,22 @@
--- What is replied to a question about a collection.
-use Rattle.std.specs.Prelude.{◌≡◌, ℕ, List, [], ◌∷◌, map, length, Bool, true, false, Result, Vec}
+-- What is replied to a question about a collection, or about all.
+use Rattle.std.specs.Prelude.{◌≡◌, ℕ, List, [], ◌∷◌, map, length, sum_by, Bool, true, false, Result, Ok, Err, Vec}
 use Rattle.std.specs.declared.alloc.Global.{Global}
 use Rattle.bson_bytes.specs.Encode.{encode}
+use Rattle.store_asked.specs.Arranged.{AreArranged}
 use Rattle.store_asked.specs.Asking.{AskedFrom}
 use Rattle.store_model.specs.Reading.{Documents}
 use Rattle.store_model.specs.State as model
+use Rattle.store_model.specs.Table.{DocumentTable, state_of}
 use Rattle.store_model.specs.declared.error.StoreError.{StoreError}
 use Rattle.store_question.specs.Reads.{Form}
+use Rattle.store_sorted.specs.declared.arrangement.Arrangement.{Arrangement}
 use Rattle.store_table.specs.Rows.{TableRow}
+use Rattle.bson_store.specs.Calls.{Does}
 use Rattle.bson_store.specs.Export.{bytes_of_each}
 use Rattle.bson_store.specs.Questions.{as_list}
 use Rattle.bson_store.specs.Refusals.{as_number, reply_by}
+use Rattle.bson_store.specs.Shown.{Represents}
 use Rattle.fallowtime_commands.specs.declared.meant.Meant.{Meant}
-
--- the bodies are the written forms of the documents
-abbrev pub AreBodies : Vec (Vec ℕ Global) Global → Documents → Type 0
-AreBodies bodies ds = bytes_of_each bodies.items ≡ map encode ds
 
 -- all of them, or the first
 abbrev pub chosen : {A : Type 0} → Bool → List A → List A
@@ -33,10 +34,24 @@ MeansOf first t out = (t.many ≡ first.many) × AreChosen first.many t.copies.b
 abbrev pub IsNumberOf : ℕ → Documents → Type 0
 IsNumberOf n ds = n ≡ length ds
 
--- those of the collection n that answer the question, in their order
-abbrev pub Finds : List ℕ → Form → model.Reply → List TableRow → List TableRow → Type 0
-Finds n form r old new = (outcome : Result (Vec (Vec ℕ Global) Global) StoreError) × (r ≡ reply_by as_list outcome) × AskedFrom AreBodies n form outcome old new
+-- those of the collection n that answer the question, in the order and the part that the arrangement has
+abbrev pub Finds : List ℕ → Form → Arrangement → model.Reply → List TableRow → List TableRow → Type 0
+Finds n form a r old new = (outcome : Result (Vec (Vec ℕ Global) Global) StoreError) × (r ≡ reply_by as_list outcome) × AskedFrom (AreArranged a) n form outcome old new
 
 -- how many they are
 abbrev pub Counts : List ℕ → Form → model.Reply → List TableRow → List TableRow → Type 0
 Counts n form r old new = (outcome : Result ℕ StoreError) × (r ≡ reply_by as_number outcome) × AskedFrom IsNumberOf n form outcome old new
+
+-- ---- all collections
+
+-- how many documents the lists of all names have
+abbrev pub IsTotal : model.State → ℕ → Type 0
+IsTotal s k = (ns : List (List ℕ)) × model.AreNames s ns × (k ≡ sum_by (λ n. length (model.list_of s n)) ns)
+
+-- whatever table the rows showed, they show it still, and its documents are counted; or that is refused as `collections` is
+abbrev pub Totals : Result ℕ StoreError → List TableRow → List TableRow → Type 0
+Totals (Ok k) old new = (a : DocumentTable) → Represents old a → Represents new a × IsTotal (state_of a) k
+Totals (Err e) old new = Does model.collections (model.refused e.kind e.document) old new
+
+abbrev pub CountsAll : model.Reply → List TableRow → List TableRow → Type 0
+CountsAll r old new = (outcome : Result ℕ StoreError) × (r ≡ reply_by as_number outcome) × Totals outcome old new

@@ -1,8 +1,10 @@
--- Changes of documents: each is replaced by what an update makes of it, or removed, all of them in one step, or none.
-use Rattle.std.specs.Prelude.{◌≡◌, ◌⊎◌, ℕ, List, [], ◌∷◌, ◌++◌, length, Bool, false, Option, Some, None, Result, Ok, Err, string_bytes}
-use Rattle.bson_base.specs.Value.{Members, look_up}
+-- Changes of documents: each becomes what an update makes of it, or another document, or is removed, all of them in one
+-- step, or none.
+use Rattle.std.specs.Prelude.{◌≡◌, ◌⊎◌, ℕ, List, [], ◌∷◌, ◌++◌, length, Bool, false, if◌then◌else◌, IsSomeAnd, Option, Some, None, Result, Ok, Err, string_bytes}
+use Rattle.bson_base.specs.Value.{Value, Members, has_key, look_up, member, put}
 use Rattle.bson_bytes.specs.Encode.{encode}
-use Rattle.bson_model.specs.View.{view}
+use Rattle.bson_meaning.specs.Meaning.{Same}
+use Rattle.bson_model.specs.View.{content, view}
 use Rattle.store_model.specs.Reading.{Documents}
 use Rattle.store_model.specs.Refusal.{refusal, refusal_at}
 use Rattle.store_model.specs.State.{id_key, IsName, When}
@@ -16,6 +18,8 @@ use Rattle.store_question.specs.Asked.{Asked}
 use Rattle.store_question.specs.Reads.{Form, Reads}
 use Rattle.store_update.specs.Plan.{Plan}
 use Rattle.store_update.specs.Update.{updated}
+use Rattle.store_update.specs.declared.error.UpdateError.{UpdateError}
+use Rattle.store_update.specs.declared.error.UpdateError.TheVariants as update_error
 use Rattle.store_update_read.specs.Outcome.{plans_of}
 use Rattle.bson_store.specs.Refusals.{IsDenied}
 use Rattle.bson_store.specs.Shown.{Represents}
@@ -34,9 +38,22 @@ use Rattle.fallowtime_commands.specs.declared.changing.Unmade.TheVariants as unm
 
 -- ---- one document
 
--- the update makes this of it, which can be kept
-abbrev pub Makes : List Plan → Members → Members → Type 0
-Makes plans d e = (updated false plans d ≡ Ok e) × IsFit e
+-- what becomes of a document, or why nothing does: by an update
+abbrev pub Updates : List Plan → Members → Result Members UpdateError → Type 0
+Updates plans d r = updated false plans d ≡ r
+
+-- it has an `_id` of another meaning
+abbrev pub HasOtherId : Value → Members → Type 0
+HasOtherId id e = IsSomeAnd (look_up id_key e) (λ own. Same own id → ⊥)
+
+-- the document with this `_id`, in the place of its own one, or in front
+abbrev pub identified_by : Value → Members → Members
+identified_by id e = if has_key id_key e then put id_key id e else member id_key id e
+
+-- by the document e, which keeps the `_id` of the one that it replaces
+abbrev pub Replaces : Members → Members → Result Members UpdateError → Type 0
+Replaces e d (Ok m) = (id : Value) × (look_up id_key d ≡ Some id) × (HasOtherId id e → ⊥) × (m ≡ identified_by id e)
+Replaces e d (Err why) = ((id : Value) × (look_up id_key d ≡ Some id) × HasOtherId id e) × (why ≡ update_error.Id)
 
 -- the change puts this document in the place of the one with its `_id`
 abbrev pub IsReplacement : List ℕ → Members → Edit → Type 0
@@ -48,24 +65,30 @@ abbrev pub IsRemoval : List ℕ → Members → Edit → Type 0
 IsRemoval n d (Remove name id) = (string_bytes name ≡ n) × (look_up id_key d ≡ Some (view id))
 IsRemoval n d _ = ⊥
 
--- the replacement by what an update makes of the document; none if that is the same one
-abbrev pub Updates : List ℕ → List Plan → Members → Option Edit → Type 0
-Updates n plans d change = (e : Members) × Makes plans d e × When (encode e ≡ encode d) (change ≡ None) ((x : Edit) × IsReplacement n e x × (change ≡ Some x))
+-- the change of the document d to e; none if they are the same
+abbrev pub Exchanges : List ℕ → Members → Members → Option Edit → Type 0
+Exchanges n d e change = When (encode e ≡ encode d) (change ≡ None) ((x : Edit) × IsReplacement n e x × (change ≡ Some x))
+
+-- the change of the document d to what becomes of it, which can be kept
+abbrev pub Renews : List ℕ → (Result Members UpdateError → Type 0) → Members → Option Edit → Type 0
+Renews n Outcome d change = (e : Members) × Outcome (Ok e) × IsFit e × Exchanges n d e change
 
 -- the change that is to be made of a document, if one is
 abbrev pub Becomes : List ℕ → Work → Members → Option Edit → Type 0
-Becomes n (work.Update steps) d change = Updates n (plans_of steps) d change
+Becomes n (work.Update steps) d change = Renews n (Updates (plans_of steps) d) d change
+Becomes n (work.Replace e) d change = Renews n (Replaces (content e) d) d change
 Becomes n work.Remove d change = (x : Edit) × IsRemoval n d x × (change ≡ Some x)
 
--- why an update makes nothing of the document at the place i: it is refused, what it makes can't be kept, or memory ran out
-abbrev pub IsUnupdatedAt : List Plan → Members → ℕ → Unmade → Type 0
-IsUnupdatedAt plans d i (unmade.Update j e) = (j ≡ i) × (updated false plans d ≡ Err e)
-IsUnupdatedAt plans d i (unmade.Store e) =
-    (e ≡ refusal Memory) ⊎ ((m : Members) × (k : ErrorKind) × (updated false plans d ≡ Ok m) × IsUnkept m k × (e ≡ refusal_at k i))
+-- why nothing becomes of the document at the place i: that is refused, what becomes of it can't be kept, or memory ran out
+abbrev pub IsUnrenewedAt : (Result Members UpdateError → Type 0) → ℕ → Unmade → Type 0
+IsUnrenewedAt Outcome i (unmade.Update j e) = (j ≡ i) × Outcome (Err e)
+IsUnrenewedAt Outcome i (unmade.Store e) =
+    (e ≡ refusal Memory) ⊎ ((m : Members) × (k : ErrorKind) × Outcome (Ok m) × IsUnkept m k × (e ≡ refusal_at k i))
 
--- why nothing becomes of it; a removal fails for want of memory alone
+-- a removal fails for want of memory alone
 abbrev pub IsUnmadeAt : Work → Members → ℕ → Unmade → Type 0
-IsUnmadeAt (work.Update steps) d i w = IsUnupdatedAt (plans_of steps) d i w
+IsUnmadeAt (work.Update steps) d i w = IsUnrenewedAt (Updates (plans_of steps) d) i w
+IsUnmadeAt (work.Replace e) d i w = IsUnrenewedAt (Replaces (content e) d) i w
 IsUnmadeAt work.Remove d i w = w ≡ unmade.Store (refusal Memory)
 
 -- ---- all of them
@@ -93,6 +116,7 @@ pub record StopsAt (n : List ℕ) (w : Work) (ds : Documents) (why : Unmade) : T
 -- what is returned if so many documents are meant and so many of them changed
 abbrev pub done_by : Work → ℕ → ℕ → Answer
 done_by (work.Update steps) m c = answer.Updated m c
+done_by (work.Replace e) m c = answer.Updated m c
 done_by work.Remove m c = answer.Number m
 
 -- What comes of a change of these documents: the changes are made as one list; or, if nothing becomes of one of them, or
@@ -122,7 +146,11 @@ ChangesFound n form w many o old new =
 
 -- ---- its parts
 
--- a refusal of an update comes of an update alone
+-- the document can't be kept, or memory ran out
+abbrev pub IsUnkeptAt : Members → ℕ → Unmade → Type 0
+IsUnkeptAt e i w = (w ≡ unmade.Store (refusal Memory)) ⊎ ((k : ErrorKind) × IsUnkept e k × (w ≡ unmade.Store (refusal_at k i)))
+
+-- a removal is refused by no update
 abbrev pub CanBe : Work → Unmade → Type 0
 CanBe work.Remove (unmade.Update i e) = ⊥
 CanBe _ _ = Unit {0}

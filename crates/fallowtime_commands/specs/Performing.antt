@@ -18,7 +18,7 @@ use Rattle.bson_store.specs.Refusals.{as_done, reply_by}
 use Rattle.bson_store.specs.declared.store.Store.{Store}
 use Rattle.fallowtime_commands.specs.declared.answer.Answer.{Answer}
 use Rattle.fallowtime_commands.specs.declared.answer.Answer.TheVariants as answer
-use Rattle.fallowtime_commands.specs.Asking.{Counts, Finds}
+use Rattle.fallowtime_commands.specs.Asking.{Counts, CountsAll, Finds}
 use Rattle.fallowtime_commands.specs.Setting.{Sets}
 use Rattle.fallowtime_commands.specs.Storing.{IsUnasked, Puts, Stores}
 use Rattle.fallowtime_commands.specs.Changing.{ChangesFound}
@@ -63,7 +63,7 @@ abbrev pub AreNames : Answer → Type 0
 AreNames (answer.Names names) = Unit {0}
 AreNames _ = ⊥
 
--- how many documents were updated, or of which one the update isn't made
+-- how many documents were updated or replaced, or of which one that isn't done
 abbrev pub IsUpdate : Answer → Type 0
 IsUpdate (answer.Updated m c) = Unit {0}
 IsUpdate (answer.NotUpdated i e) = Unit {0}
@@ -71,6 +71,7 @@ IsUpdate _ = ⊥
 
 abbrev pub IsChange : Work → Answer → Type 0
 IsChange (work.Update steps) a = IsUpdate a
+IsChange (work.Replace e) a = IsUpdate a
 IsChange work.Remove a = IsNumber a
 
 -- an insertion returns the `_id`, a change by query how many documents it meant, another change returns nothing, and a question what it asks for
@@ -83,12 +84,13 @@ IsAnswerTo (request.Set id key v) a = a ≡ answer.Nothing
 IsAnswerTo (request.Unset id key) a = IsFlag a
 IsAnswerTo (request.Change q w many) a = IsChange w a
 IsAnswerTo (request.Remove id) a = a ≡ answer.Nothing
-IsAnswerTo (request.Find q) a = AreDocuments a
+IsAnswerTo (request.Find q arranged) a = AreDocuments a
 IsAnswerTo (request.Count q) a = IsNumber a
 IsAnswerTo (request.Import stream) a = IsNumber a
 IsAnswerTo (request.Index path) a = a ≡ answer.Nothing
 IsAnswerTo (request.DropIndex path) a = a ≡ answer.Nothing
 IsAnswerTo request.Collections a = AreNames a
+IsAnswerTo request.Check a = IsNumber a
 
 -- ---- rows
 
@@ -117,9 +119,10 @@ Performs n (request.Set id key v) o old new = Sets n (view id) key.now (view v) 
 Performs n (request.Unset id key) o old new = Does (model.on n (model.unset (view id) key.now)) (reply_of o) old new
 Performs n (request.Change q w many) o old new = ChangesFound n (form_of q) w many o old new
 Performs n (request.Remove id) o old new = Does (model.on n (model.remove (view id))) (reply_of o) old new
-Performs n (request.Find q) o old new = Finds n (form_of q) (reply_of o) old new
+Performs n (request.Find q a) o old new = Finds n (form_of q) a (reply_of o) old new
 Performs n (request.Count q) o old new = Counts n (form_of q) (reply_of o) old new
 Performs n (request.Import stream) o old new = DoesMany n (ReadsStream stream.items) (reply_of o) old new
 Performs n (request.Index path) o old new = Indexes n (reply_of o) old new
 Performs n (request.DropIndex path) o old new = Indexes n (reply_of o) old new
 Performs n request.Collections o old new = Does model.collections (reply_of o) old new
+Performs n request.Check o old new = CountsAll (reply_of o) old new

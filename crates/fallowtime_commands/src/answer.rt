@@ -27,9 +27,9 @@ pub enum Answer {
     Documents(Vec<Vec<u8>>),
     /// Names of collections.
     Names(Vec<String>),
-    /// How many documents answered the query of an update, and of how many it made other ones.
+    /// How many documents answered the query of an update or a replacement, and how many of them are other ones now.
     Updated(u64, u64),
-    /// Nothing was updated: why the update isn't made of this one of the documents that answered, counted from 0.
+    /// Nothing was changed: why nothing is made of this one of the documents that answered, counted from 0.
     NotUpdated(u64, UpdateError),
 }
 

@@ -6,37 +6,15 @@ ghost use Rattle.store_question.specs.Reads.{form_of};
 ghost use Rattle.bson_store.specs.Calls.{KeepsIndexes, Relates, store_state};
 ghost use Rattle.store_asked.specs.Asking.{AskedFrom};
 ghost use Rattle.store_lookup.specs.Reads.{Reads, Stays};
-ghost use Rattle.fallowtime_commands.specs.Asking.{AreBodies, IsNumberOf};
+ghost use Rattle.fallowtime_commands.specs.Asking.{IsNumberOf};
 
-use bson_store::{Copies, Count, Store, StoreError};
+use bson_store::{Count, Store, StoreError};
 use sqlite::Alter;
 use sqlite_pages::Pages;
 use std::alloc::Global;
 use store_asked::{look_up_answers, take_answers};
 use store_lookup::{ReadOnlyStore, SelectedRows};
 use store_question::Question;
-
-/// The written forms of the documents of the collection `name` that answer a question, in the collection's order.
-///
-/// Refused by BadName, Memory and Database.
-pub(crate) fn find<S: Alter + Drop>(
-    alloc: Global,
-    store: &mut Store<S>,
-    name: &str,
-    question: &Question,
-) -> Result<Vec<Vec<u8>>, StoreError>
-    ensures moves { Relates S.Store store.old store.new
-        (AskedFrom AreBodies name.now (form_of question.now) result) }
-    ensures open { WasOpen (store_state S.Store store.old)
-        (store_state S.Store store.new) result }
-    ensures indexes { KeepsIndexes store.old store.new }
-    ensures crash { AddsNothing (store_state S.Store store.old) (store_state S.Store store.new) }
-{
-    let bodies = Vec::new(alloc);
-    let taker = Copies { bodies, alloc };
-    let copies = take_answers(alloc, store, name, question, taker)?;
-    Ok(copies.bodies)
-}
 
 /// How many documents of the collection `name` answer a question.
 ///
@@ -56,23 +34,6 @@ pub(crate) fn count<S: Alter + Drop>(
 {
     let count = take_answers(alloc, store, name, question, Count { number: 0 })?;
     Ok(count.number)
-}
-
-/// As `find`, of a store that only reads. A row that no store can have written is refused by Database.
-pub(crate) fn find_in_pages<P: Pages + Drop>(
-    alloc: Global,
-    store: &mut ReadOnlyStore<P>,
-    name: &str,
-    question: &Question,
-) -> Result<Vec<Vec<u8>>, StoreError>
-    ensures reads { Reads P.Pages store.old store.new
-        (AskedFrom AreBodies name.now (form_of question.now) result) }
-    ensures stays { Stays P.Pages store.old store.new }
-{
-    let bodies = Vec::new(alloc);
-    let taker = Copies { bodies, alloc };
-    let copies = look_up_answers(alloc, store, name, question, taker, SelectedRows::Tested)?;
-    Ok(copies.bodies)
 }
 
 /// As `count`, of a store that only reads.

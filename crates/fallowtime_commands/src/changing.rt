@@ -1,29 +1,28 @@
 //! Changes of the documents that answer a question, whole or not at all.
 
-ghost use Rattle.std.specs.Prelude.{◌≡◌, ◌↔◌, ◌⊎◌, ◌++◌, ◌∷◌, [], false, Ok, Some, IfErr, IfOk, IsTrue, List, MatchResult, map, option_map};
+ghost use Rattle.std.specs.Prelude.{◌≡◌, ◌↔◌, ◌++◌, ◌∷◌, [], Ok, Some, IfErr, IfOk, IsTrue, List, MatchResult, map, option_map};
 ghost use Rattle.bson_base.specs.Value.{Members, look_up};
 ghost use Rattle.bson_bytes.specs.Encode.{encode};
 ghost use Rattle.bson_model.specs.View.{content, view};
 ghost use Rattle.store_model.specs.Reading.{Documents};
-ghost use Rattle.store_model.specs.Refusal.{refusal, refusal_at};
+ghost use Rattle.store_model.specs.Refusal.{refusal};
 ghost use Rattle.store_model.specs.State.{AreKept, IsKept, id_key};
-ghost use Rattle.store_model.specs.declared.error.ErrorKind.{ErrorKind as Kind};
 ghost use Rattle.store_model.specs.declared.error.ErrorKind.TheVariants.{Memory};
 ghost use Rattle.store_question.specs.Reads.{form_of};
 ghost use Rattle.store_table.specs.Moves.{WasOpen};
 ghost use Rattle.store_update.specs.Plan.{plan_of};
-ghost use Rattle.store_update.specs.Update.{updated as update_of};
 ghost use Rattle.bson_store.specs.Calls.{store_state, Relates};
 ghost use Rattle.bson_store.specs.Export.{bytes_of_each};
 ghost use Rattle.bson_store.specs.declared.edit.Edit.{Edit as Change};
 ghost use Rattle.fallowtime_commands.specs.Left.{LeavesApplied, LeavesChange};
 ghost use Rattle.fallowtime_commands.specs.Performing.{IsChange, reply_of};
-ghost use Rattle.fallowtime_commands.specs.Storing.{IsFit, IsUnkept};
-ghost use Rattle.fallowtime_commands.specs.Changing.{Applies, AreEdits, Becomes, CanBe, ChangesFound, IsRemoval, IsReplacement, IsUnmadeAt, IsUnupdatedAt, Makes, StopsAt, Updates, done_by, listed, outcome_of as outcome_by};
+ghost use Rattle.fallowtime_commands.specs.Storing.{IsFit};
+ghost use Rattle.fallowtime_commands.specs.Changing.{Applies, AreEdits, Becomes, CanBe, ChangesFound, Exchanges, IsRemoval, IsReplacement, IsUnkeptAt, IsUnmadeAt, IsUnrenewedAt, Renews, Replaces, StopsAt, Updates, done_by, listed, outcome_of as outcome_by};
 ghost use Rattle.fallowtime_commands.specs.declared.changing.Unmade.TheVariants.{Store as OfStore};
 
 use crate::answer::Answer;
 use crate::meant::find_meant;
+use crate::replacing::{copy_with_id, has_other_id};
 use crate::storing::kept_bytes;
 use bson_store::{Bson, Document, Edit, ErrorKind, Store, StoreError, apply_all};
 use fallowtime_requests::Work;
@@ -36,10 +35,21 @@ use store_update::{Step, UpdateError, updated};
 /// Why nothing becomes of a document.
 #[derive(Drop)]
 enum Unmade {
-    /// The update is refused for the document at this place among those that are meant, counted from 0.
+    /// It is refused for the document at this place among those that are meant, counted from 0.
     Update(u64, UpdateError),
-    /// What it makes of a document can't be kept, or memory ran out.
+    /// What becomes of a document can't be kept, or memory ran out.
     Store(StoreError),
+}
+
+/// The document of a body.
+fn document_of(alloc: Global, body: &[u8]) -> Result<Document, Unmade>
+    ensures { (d : Members) → IsKept d → body.now ≡ encode d
+        → MatchResult result (λ e. content e ≡ d) (λ w. w ≡ OfStore (refusal Memory)) }
+{
+    match document_of_body(alloc, body) {
+        Ok(document) => Ok(document),
+        Err(kind) => Err(Unmade::Store(StoreError::from(kind))),
+    }
 }
 
 /// What the steps make of the document at the place `at`.
@@ -50,8 +60,8 @@ fn updated_at(
     steps: &[Step],
 ) -> Result<Document, Unmade>
     ensures { MatchResult result
-        (λ e. update_of false (map plan_of steps.now) (content document) ≡ Ok (content e))
-        (IsUnupdatedAt (map plan_of steps.now) (content document) at) }
+        (λ e. Updates (map plan_of steps.now) (content document) (Ok (content e)))
+        (IsUnrenewedAt (Updates (map plan_of steps.now) (content document)) at) }
 {
     match updated(alloc, false, document, steps) {
         Ok(document) => Ok(document),
@@ -62,33 +72,62 @@ fn updated_at(
     }
 }
 
-/// The bytes of a document that is to be in the place `at`.
-fn kept_at(alloc: Global, at: u64, document: &Document) -> Result<Vec<u8>, StoreError>
-    ensures { MatchResult result
-        (λ bytes. (bytes.items ≡ encode (content document.now)) × IsFit (content document.now))
-        (λ e. (e ≡ refusal Memory) ⊎ ((k : Kind) × IsUnkept (content document.now) k
-        × (e ≡ refusal_at k at))) }
+/// The `_id` of a document, which is taken out.
+fn taken_id(document: &mut Document) -> Option<Bson>
+    ensures { option_map view result ≡ look_up id_key (content document.old) }
 {
-    match kept_bytes(alloc, document) {
-        Ok(bytes) => Ok(bytes),
-        Err(kind) => Err(StoreError::at(kind, at)),
+    document.remove(ID_KEY)
+}
+
+/// The `_id` of the document of a body.
+fn kept_id(alloc: Global, body: &[u8]) -> Result<Bson, StoreError>
+    ensures { (d : Members) → IsKept d → body.now ≡ encode d
+        → MatchResult result (λ id. look_up id_key d ≡ Some (view id)) (λ e. e ≡ refusal Memory) }
+{
+    let mut document = document_of_body(alloc, body)?;
+    // (a kept document has an `_id`)
+    let Some(id) = taken_id(&mut document) else {
+        return Err(StoreError::from(ErrorKind::NoId));
+    };
+    Ok(id)
+}
+
+/// The document `by` in the place of the one with this `_id`, which is at the place `at`.
+fn placed_at(alloc: Global, at: u64, id: Bson, by: &Document) -> Result<Document, Unmade>
+    ensures { (d : Members) → look_up id_key d ≡ Some (view id) → MatchResult result
+        (λ m. Replaces (content by.now) d (Ok (content m)))
+        (IsUnrenewedAt (Replaces (content by.now) d) at) }
+{
+    if has_other_id(by, &id) {
+        return Err(Unmade::Update(at, UpdateError::Id));
+    }
+    match copy_with_id(alloc, by, id) {
+        Ok(document) => Ok(document),
+        Err(_) => Err(Unmade::Store(StoreError::from(ErrorKind::Memory))),
     }
 }
 
-/// The bytes of what the steps make of the document of a body, which is at the place `at`.
-fn made(alloc: Global, at: u64, body: &[u8], steps: &[Step]) -> Result<Vec<u8>, Unmade>
+/// The document `by` in the place of that of a body, which is at the place `at`.
+fn replaced_at(alloc: Global, at: u64, body: &[u8], by: &Document) -> Result<Document, Unmade>
     ensures { (d : Members) → IsKept d → body.now ≡ encode d → MatchResult result
-        (λ bytes. (e : Members) × Makes (map plan_of steps.now) d e × (bytes.items ≡ encode e))
-        (IsUnupdatedAt (map plan_of steps.now) d at) }
+        (λ m. Replaces (content by.now) d (Ok (content m)))
+        (IsUnrenewedAt (Replaces (content by.now) d) at) }
 {
-    let document = match document_of_body(alloc, body) {
-        Ok(document) => document,
-        Err(kind) => return Err(Unmade::Store(StoreError::from(kind))),
-    };
-    let document = updated_at(alloc, at, document, steps)?;
-    match kept_at(alloc, at, &document) {
-        Ok(bytes) => Ok(bytes),
+    match kept_id(alloc, body) {
+        Ok(id) => placed_at(alloc, at, id, by),
         Err(error) => Err(Unmade::Store(error)),
+    }
+}
+
+/// The bytes of a document that is to be in the place `at`.
+fn kept_at(alloc: Global, at: u64, document: &Document) -> Result<Vec<u8>, Unmade>
+    ensures { MatchResult result
+        (λ bytes. (bytes.items ≡ encode (content document.now)) × IsFit (content document.now))
+        (IsUnkeptAt (content document.now) at) }
+{
+    match kept_bytes(alloc, document) {
+        Ok(bytes) => Ok(bytes),
+        Err(kind) => Err(Unmade::Store(StoreError::at(kind, at))),
     }
 }
 
@@ -108,23 +147,12 @@ fn removal(alloc: Global, name: &str, id: Bson) -> Result<Edit, AllocError>
     Ok(Edit::Remove { name, id })
 }
 
-/// The `_id` of a document, which is taken out.
-fn taken_id(document: &mut Document) -> Option<Bson>
-    ensures { option_map view result ≡ look_up id_key (content document.old) }
-{
-    document.remove(ID_KEY)
-}
-
 /// The change that takes away the document of a body.
 fn removal_of_body(alloc: Global, name: &str, body: &[u8]) -> Result<Edit, StoreError>
     ensures { (d : Members) → IsKept d → body.now ≡ encode d
         → MatchResult result (IsRemoval name.now d) (λ e. e ≡ refusal Memory) }
 {
-    let mut document = document_of_body(alloc, body)?;
-    // (a kept document has an `_id`)
-    let Some(id) = taken_id(&mut document) else {
-        return Err(StoreError::from(ErrorKind::NoId));
-    };
+    let id = kept_id(alloc, body)?;
     Ok(removal(alloc, name, id)?)
 }
 
@@ -135,8 +163,29 @@ fn are_same(bytes: &[u8], others: &[u8]) -> bool
     bytes == others
 }
 
-/// The replacement of the document of a body, which is at the place `at`, by what the steps make of it, if that is
-/// another one.
+/// The change that puts a document in the place of that of a body, which is at the place `at`; none if they are the same.
+fn exchange(
+    alloc: Global,
+    name: &str,
+    at: u64,
+    body: &[u8],
+    document: &Document,
+) -> Result<Option<Edit>, Unmade>
+    ensures { (d : Members) → body.now ≡ encode d → MatchResult result
+        (λ change. IsFit (content document.now) × Exchanges name.now d (content document.now) change)
+        (IsUnkeptAt (content document.now) at) }
+{
+    let bytes = kept_at(alloc, at, document)?;
+    if are_same(bytes.as_slice(), body) {
+        return Ok(None);
+    }
+    match replacement(alloc, name, bytes) {
+        Ok(edit) => Ok(Some(edit)),
+        Err(_) => Err(Unmade::Store(StoreError::from(ErrorKind::Memory))),
+    }
+}
+
+/// The change of the document of a body, which is at the place `at`, to what the steps make of it.
 fn update_of_body(
     alloc: Global,
     name: &str,
@@ -145,16 +194,28 @@ fn update_of_body(
     steps: &[Step],
 ) -> Result<Option<Edit>, Unmade>
     ensures { (d : Members) → IsKept d → body.now ≡ encode d → MatchResult result
-        (Updates name.now (map plan_of steps.now) d) (IsUnupdatedAt (map plan_of steps.now) d at) }
+        (Renews name.now (Updates (map plan_of steps.now) d) d)
+        (IsUnrenewedAt (Updates (map plan_of steps.now) d) at) }
 {
-    let bytes = made(alloc, at, body, steps)?;
-    if are_same(bytes.as_slice(), body) {
-        return Ok(None);
-    }
-    match replacement(alloc, name, bytes) {
-        Ok(edit) => Ok(Some(edit)),
-        Err(_) => Err(Unmade::Store(StoreError::from(ErrorKind::Memory))),
-    }
+    let stored = document_of(alloc, body)?;
+    let document = updated_at(alloc, at, stored, steps)?;
+    exchange(alloc, name, at, body, &document)
+}
+
+/// The change of the document of a body, which is at the place `at`, to the document `by` in its place.
+fn replacement_of_body(
+    alloc: Global,
+    name: &str,
+    at: u64,
+    body: &[u8],
+    by: &Document,
+) -> Result<Option<Edit>, Unmade>
+    ensures { (d : Members) → IsKept d → body.now ≡ encode d → MatchResult result
+        (Renews name.now (Replaces (content by.now) d) d)
+        (IsUnrenewedAt (Replaces (content by.now) d) at) }
+{
+    let document = replaced_at(alloc, at, body, by)?;
+    exchange(alloc, name, at, body, &document)
 }
 
 /// The change that is to be made of the document of a body, which is at the place `at`; none if it stays as it is.
@@ -171,6 +232,7 @@ fn edit_of(
 {
     match work {
         Work::Update(steps) => update_of_body(alloc, name, at, body, steps.as_slice()),
+        Work::Replace(document) => replacement_of_body(alloc, name, at, body, document),
         Work::Remove => match removal_of_body(alloc, name, body) {
             Ok(edit) => Ok(Some(edit)),
             Err(error) => Err(Unmade::Store(error)),
@@ -222,7 +284,7 @@ fn answer_to(work: &Work, matched: u64, changed: u64) -> Answer
     ensures { result ≡ done_by work.now matched changed }
 {
     match work {
-        Work::Update(_) => Answer::Updated(matched, changed),
+        Work::Update(_) | Work::Replace(_) => Answer::Updated(matched, changed),
         Work::Remove => Answer::Number(matched),
     }
 }
@@ -256,6 +318,8 @@ fn discard(edits: Vec<Edit>) {
 ///
 /// - An update makes of each what its steps say. The document keeps its `_id`, its place, and what is under keys that
 ///   the steps don't name, to the bit. If the steps can't be made on a document, the answer says why.
+/// - A replacement makes of each the document that it has, with the `_id` of the one that was there. If it has an `_id`
+///   of another meaning, the answer says so.
 /// - A removal takes each away. The answer is how many.
 ///
 /// Refused by BadName; TooDeep, Nul and TooLong of what becomes of a document, whose number among those that answer the

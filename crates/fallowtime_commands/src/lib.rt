@@ -13,8 +13,10 @@ mod meant;
 mod performing;
 mod printing;
 mod refusal;
+mod replacing;
 mod setting;
 mod storing;
+mod total;
 
 pub use answer::Answer;
 pub use executing::execute;

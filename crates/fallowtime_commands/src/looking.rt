@@ -1,6 +1,6 @@
 //! A request that only reads, answered from the pages of a file.
 
-ghost use Rattle.std.specs.Prelude.{◌≡◌, IfOk, IfSome, IsTrue};
+ghost use Rattle.std.specs.Prelude.{◌≡◌, IfOk, IfSome, IsTrue, None};
 ghost use Rattle.bson_base.specs.Device.{CanRefuse};
 ghost use Rattle.sqlite_wal.specs.Files.{seen_image};
 ghost use Rattle.store_pages.specs.Snapshot.{is_clean_of};
@@ -9,9 +9,10 @@ ghost use Rattle.bson_store.specs.Calls.{Does};
 ghost use Rattle.store_lookup.specs.Reads.{OfFiles, Reads, Stays};
 ghost use Rattle.fallowtime_commands.specs.Performing.{IsAnswerTo, Performs};
 ghost use Rattle.fallowtime_commands.specs.Printing.{IsRead, Tells};
+ghost use Rattle.fallowtime_requests.specs.declared.request.Request.TheVariants.{Check};
 
 use crate::answer::{Answer, document, documents, names, number};
-use crate::asking::{count_in_pages, find_in_pages};
+use crate::asking::count_in_pages;
 use crate::executing::print_outcome;
 use crate::printing::Form;
 use crate::refusal::Refusal;
@@ -21,6 +22,7 @@ use fallowtime_requests::Request;
 use sqlite_disk::{Disk, Files};
 use sqlite_pages::Pages;
 use std::alloc::Global;
+use store_asked::look_up_arranged;
 use store_lookup::{ReadOnlyStore, open_files};
 use store_pages::Snapshot;
 
@@ -39,8 +41,8 @@ fn told(outcome: Result<Answer, StoreError>) -> Option<Result<Answer, StoreError
     }
 }
 
-/// What is requested of the collection `name`, from the pages of a store. None of a request that changes something; and
-/// none if the pages don't tell: if it is refused by Memory or Database.
+/// What is requested of the collection `name`, from the pages of a store. None of a request that changes something, or
+/// that is to test all; and none if the pages don't tell: if it is refused by Memory or Database.
 fn ask<P: Pages + Drop>(
     alloc: Global,
     store: &mut ReadOnlyStore<P>,
@@ -52,10 +54,17 @@ fn ask<P: Pages + Drop>(
     ensures shape { IfSome result (λ outcome. IfOk outcome (IsAnswerTo request.now)) }
     ensures read { IfSome result (λ outcome. IfOk outcome IsRead) }
     ensures stays { Stays P.Pages store.old store.new }
+    ensures whole { request.now ≡ Check → result ≡ None }
 {
     match request {
         Request::Get(id) => told(document(store.get_raw(name, id))),
-        Request::Find(question) => told(documents(find_in_pages(alloc, store, name, question))),
+        Request::Find(question, arrangement) => told(documents(look_up_arranged(
+            alloc,
+            store,
+            name,
+            question,
+            arrangement,
+        ))),
         Request::Count(question) => told(number(count_in_pages(alloc, store, name, question))),
         Request::Collections => told(names(store.collections())),
         _ => None,
@@ -63,7 +72,7 @@ fn ask<P: Pages + Drop>(
 }
 
 /// What is requested of the collection `name` in the store that two files hold, and the pages in which it was found.
-/// None of a request that changes something; and none if pages alone don't tell.
+/// None of a request that changes something, or that is to test all; and none if pages alone don't tell.
 pub fn look_up<D: Disk + Drop>(
     alloc: Global,
     files: Files<D>,
@@ -77,6 +86,8 @@ pub fn look_up<D: Disk + Drop>(
         → OfFiles (seen_image D.Disk files.log files.db) (Performs name.now request.now r.0)) }
     ensures shape { IfSome result (λ r. IfOk r.0 (IsAnswerTo request.now)) }
     ensures read { IfSome result (λ r. IfOk r.0 IsRead) }
+    // What is to test all is never told.
+    ensures whole { request.now ≡ Check → result ≡ None }
 {
     let Ok(Some(mut store)) = open_files(alloc, files) else {
         return None;

@@ -7,15 +7,17 @@ ghost use Rattle.fallowtime_commands.specs.Left.{LeavesRequest};
 ghost use Rattle.fallowtime_commands.specs.Performing.{Drops, IsAnswerTo, Performs, reply_of};
 
 use crate::answer::{Answer, document, documents, flag, inserted, names, nothing, number};
-use crate::asking::{count, find};
+use crate::asking::count;
 use crate::changing::change;
 use crate::setting::set;
 use crate::storing::{insert, put, replace};
+use crate::total::total;
 use bson_store::{Bson, Store, StoreError};
 use fallowtime_requests::Request;
 use sqlite::Alter;
 use std::alloc::Global;
 use std::mem::replace as take;
+use store_asked::find_arranged;
 
 /// Does what is requested of the collection `name`: the call of the store for it. A value that is set, and the path of an
 /// index that is made, are taken out of the request.
@@ -52,7 +54,9 @@ pub fn perform<S: Alter + Drop>(
             change(alloc, store, name, question, work, *many)
         }
         Request::Remove(id) => nothing(store.remove(name, id)),
-        Request::Find(question) => documents(find(alloc, store, name, question)),
+        Request::Find(question, arrangement) => {
+            documents(find_arranged(alloc, store, name, question, arrangement))
+        }
         Request::Count(question) => number(count(alloc, store, name, question)),
         Request::Import(stream) => number(store.import_bytes(name, stream.as_slice())),
         Request::Index(path) => {
@@ -61,5 +65,6 @@ pub fn perform<S: Alter + Drop>(
         }
         Request::DropIndex(path) => nothing(store.drop_index(name, path.as_slice())),
         Request::Collections => names(store.collections()),
+        Request::Check => number(total(alloc, store)),
     }
 }

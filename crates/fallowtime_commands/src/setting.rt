@@ -36,7 +36,7 @@ fn put_owned(document: &mut Document, key: String, value: Bson) -> Result<(), Al
 }
 
 /// Puts a value under a key: in the key's place if it is there, else last.
-fn put_value(
+pub(crate) fn put_value(
     alloc: Global,
     document: &mut Document,
     key: &str,

@@ -1,5 +1,5 @@
 -- What a command of `fallowtime` asks for, by its words and the input.
-use Rattle.std.specs.Prelude.{◌≡◌, ℕ, List, [], ◌∷◌, map, string_bytes, Bool, true, false, Result, Ok, Err, Vec, Some, None}
+use Rattle.std.specs.Prelude.{◌≡◌, ◌⊎◌, ℕ, List, [], ◌∷◌, map, string_bytes, Bool, true, false, Result, Ok, Err, Vec, Some, None, option_map}
 use Rattle.std.specs.declared.alloc.Global.{Global}
 use Rattle.bson_base.specs.Device.{Feed, StopsReading, TookAll}
 use Rattle.bson_base.specs.declared.whole.ReadAllError.{ReadAllError}
@@ -9,6 +9,7 @@ use Rattle.cli_convert.specs.declared.stop.Stop.{Stop as LineStop}
 use Rattle.fallowtime_commands.specs.Reports.{plain}
 use Rattle.fallowtime_commands.specs.declared.printing.Form.{Form}
 use Rattle.fallowtime_commands.specs.declared.printing.Form.TheVariants.{Lines, Bytes}
+use Rattle.fallowtime_requests.specs.Arranging.{ArrangesWords}
 use Rattle.fallowtime_requests.specs.Inputs.{Given, texts}
 use Rattle.fallowtime_requests.specs.Reading.{KeepsMaker, Reads}
 use Rattle.fallowtime_requests.specs.Requests as requests
@@ -78,12 +79,14 @@ AsksToImport w old new before after result =
     (When (w.options.lines ≡ true) (AsksForLines (name_of w) old new before after result) (AsksForStream (name_of w) old new result × (after ≡ before)))
     ((result ≡ Err (refused BadName)) × (new ≡ old) × (after ≡ before))
 
--- what the command with its words and the option `--many` asks for, by the ids of the maker, which is the one behind those
--- that were taken
+-- what the command with its words and its options asks for, by the ids of the maker, which is the one behind those that were
+-- taken
 abbrev pub AsksByWords : Wording → IdMaker → IdMaker → Result Asked Ended → Type 0
 AsksByWords w before after (Ok a) =
-    (r : Request) × (l : Layout) × (a.request ≡ Some (requests.with_many w.options.many r)) × (a.lines.items ≡ []) × requests.Asks before after w.command (given_of w) a.collection.now r l
-AsksByWords w before after (Err e) = (s : Stop) × Reads before after w.command (given_of w) (Err s) × (e ≡ ended_of_stop s) × KeepsMaker before after s
+    (r q : Request) × (l : Layout) × (a.request ≡ Some (requests.with_many w.options.many q)) × (a.lines.items ≡ [])
+    × requests.Asks before after w.command (given_of w) a.collection.now r l × ArrangesWords (option_map (λ t. t.now) w.sort) w.options.skip w.options.limit r q
+AsksByWords w before after (Err e) =
+    (e ≡ refused Memory) ⊎ ((s : Stop) × Reads before after w.command (given_of w) (Err s) × (e ≡ ended_of_stop s) × KeepsMaker before after s)
 
 -- Only `import` reads the input, and only `export` asks for no request.
 abbrev pub Asks : Command → Wording → Feed → Feed → IdMaker → IdMaker → Result Asked Ended → Type 0

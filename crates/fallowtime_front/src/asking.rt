@@ -9,7 +9,7 @@ use crate::ending::Ended;
 use bson_base::{ReadAllError, Source, read_all};
 use bson_model::extjson::Mode;
 use fallowtime_commands::{Form, Refusal};
-use fallowtime_requests::{Request, question_of_words};
+use fallowtime_requests::{Request, arrange, arrangement_of_words, question_of_words};
 use fallowtime_texts::{IdMaker, read_lines};
 use fallowtime_words::{Command, Options, Words};
 use json::Scratch;
@@ -133,8 +133,17 @@ fn ask_by_words<'w>(
     ensures { AsksByWords words.now maker.old maker.new result }
 {
     let mut scratch = Scratch::new(alloc);
-    let question = question_of_words(alloc, words.command, words.arguments, maker, &mut scratch)?;
-    let request = question.request.with_many(words.options.many);
+    let mut question = question_of_words(
+        alloc,
+        words.command,
+        words.arguments,
+        maker,
+        &mut scratch,
+    )?;
+    let options = words.options;
+    let arrangement = arrangement_of_words(alloc, words.sort, options.skip, options.limit)?;
+    arrange(&mut question, arrangement);
+    let request = question.request.with_many(options.many);
     Ok(without_lines(alloc, question.collection, Some(request)))
 }
 

@@ -12,7 +12,7 @@ use Rattle.fallowtime_help.specs.declared.hint.OtherName.{OtherName}
 
 -- how commands are called elsewhere
 abbrev pub other_names : List (List ℕ × Command)
-other_names = (codes "delete", Remove) ∷ (codes "rm", Remove) ∷ (codes "upsert", Put) ∷ (codes "save", Put) ∷ (codes "add", Insert)
+other_names = (codes "rm", Remove) ∷ (codes "upsert", Put) ∷ (codes "save", Put) ∷ (codes "add", Insert)
     ∷ (codes "select", Find) ∷ (codes "query", Find) ∷ (codes "show", Collections) ∷ (codes "ls", Collections) ∷ (codes "load", Import) ∷ (codes "dump", Export) ∷ []
 
 -- the command of the first that is a word

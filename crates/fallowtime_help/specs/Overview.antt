@@ -23,7 +23,7 @@ has_file Alone = false
 
 -- what a command is called with, and what it does
 abbrev pub row_text : Signature → List ℕ
-row_text row = padded 28 (call_behind (codes "  ") row.command) ++ row.about.now ++ codes "\n"
+row_text row = padded 30 (call_behind (codes "  ") row.command) ++ row.about.now ++ codes "\n"
 
 abbrev pub rows_text : List Signature → List ℕ
 rows_text [] = []

@@ -30,6 +30,7 @@ abbrev pub options_text : Allowed → List ℕ
 options_text o =
     if o.lines then codes " [--json]"
     else if o.many then codes " [--many]"
+    else if o.arranged then codes " [--OPTION ..]"
     else if o.canonical && o.bytes then codes " [--canonical | --bson]"
     else if o.canonical then codes " [--canonical]"
     else codes ""

@@ -13,7 +13,7 @@ use fallowtime_words::{Command, Place, Signature, TABLE};
 use std::alloc::{AllocError, Global};
 
 /// The column at which the list of commands says what each does.
-const COLUMN: usize = 28;
+const COLUMN: usize = 30;
 
 /// Appends spaces up to a column, if the text ends before it.
 fn pad(text: &mut String, column: usize) -> Result<(), AllocError>

@@ -24,11 +24,7 @@ pub(crate) struct OtherName {
 }
 
 /// How a command is called elsewhere.
-pub(crate) const OTHER_NAMES: [OtherName; 11] = [
-    OtherName {
-        name: "delete",
-        command: Command::Remove,
-    },
+pub(crate) const OTHER_NAMES: [OtherName; 10] = [
     OtherName {
         name: "rm",
         command: Command::Remove,

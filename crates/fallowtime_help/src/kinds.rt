@@ -51,6 +51,7 @@ pub(crate) enum Item {
     NotAnArray,
     Decimal,
     Overflow,
+    OtherId,
 }
 
 /// A kind of refusal.
@@ -63,7 +64,7 @@ pub(crate) struct Kind {
 }
 
 /// The kinds, in the order of the page.
-pub(crate) const KINDS: [Kind; 54] = [
+pub(crate) const KINDS: [Kind; 55] = [
     Kind {
         name: "usage",
         items: &[Item::Usage],
@@ -275,6 +276,10 @@ pub(crate) const KINDS: [Kind; 54] = [
     Kind {
         name: "Overflow",
         items: &[Item::Overflow],
+    },
+    Kind {
+        name: "Id",
+        items: &[Item::OtherId],
     },
     Kind {
         name: "Usage",
@@ -497,7 +502,7 @@ const UPDATE: &str =
 
 const THROUGH: &str =
     "  `Through`: of `update`: a path leads through a value that is no document, such as `a.b` where `a` is a number or an
-  array. N counts the documents that `find COLL QUERY` prints. Nothing was changed, as after each of the next four.
+  array. N counts the documents that `find COLL QUERY` prints. Nothing was changed, as after each of the next five.
 ";
 
 const NOT_A_NUMBER: &str = "  `NotANumber`: `$inc` or `$mul` of a value that is no number.
@@ -514,6 +519,11 @@ const DECIMAL: &str =
 
 const OVERFLOW: &str =
     "  `Overflow`: `$inc` or `$mul` of whole numbers whose result has no room in 64 bits.
+";
+
+const OTHER_ID: &str =
+    "  `Id`: of `replace-one`: DOC has another `_id` than the document that it would replace. Without one it keeps what was
+  there.
 ";
 
 const WORDS: &str =
@@ -570,5 +580,6 @@ pub(crate) fn text_of(item: Item) -> &'static str {
         Item::NotAnArray => NOT_AN_ARRAY,
         Item::Decimal => DECIMAL,
         Item::Overflow => OVERFLOW,
+        Item::OtherId => OTHER_ID,
     }
 }

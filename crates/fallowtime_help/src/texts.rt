@@ -27,6 +27,8 @@ Options come last, in any order:
   --bson           writes documents as BSON (get, find)
   --json           reads lines of Extended JSON, a document each (import)
   --many           all selected documents, and not only the first (update, delete)
+  --sort KEYS, --skip N, --limit N
+                   an order of documents, and a part of them (find)
   --wait SECONDS   waits so long for a FILE that another process has; else 5
 
 DOC and VALUE are Extended JSON, and so is ID; an ID that is no JSON is the text
@@ -154,6 +156,22 @@ May be refused: NoFile, BadName, Through, NotANumber, NotAnArray, Decimal,
 Overflow, TooDeep, TooLong, Nul; words: query, words: update.
 ";
 
+const REPLACE_ONE: &str = "
+Puts DOC in the place of the first document of the collection COLL that QUERY
+selects, and prints how many were selected, and how many of these are other ones
+now: {\"matched\":1,\"changed\":1}, or 0 and 0 if there is none. The document keeps
+its _id: a DOC without one gets it, put first, and a DOC with another one is
+refused (Id). QUERY is that of find, {} for every document.
+
+  --wait SECONDS   waits so long if another process has FILE; else 5
+
+    fallowtime shop.db replace-one orders '{\"price\":12}' '{\"price\":15,\"new\":true}'
+    fallowtime shop.db replace-one orders '{\"_id\":{\"$gt\":1}}' '{\"status\":\"void\"}'
+
+May be refused: NoFile, BadName, Id, TooDeep, TooLong, Nul; words: query,
+words: JSON.
+";
+
 const DELETE: &str = "
 Removes the first document of the collection COLL that QUERY selects, or with
 --many all of them, in one step, and prints how many: 0 if there is none. QUERY
@@ -186,12 +204,21 @@ values, $eq, $ne, $gt, $gte, $lt, $lte, $in, $nin, $all, $elemMatch, $size,
 $exists, $type, $mod and $not, joined by $and, $or and $nor; an array is also its
 items.
 
+  --sort KEYS      prints them in the order of the values at paths: price:-1,name
+                   has the greatest price first, and names of one price ascend
+  --skip N         leaves out the first N
+  --limit N        prints N at the most
   --canonical      prints canonical Extended JSON, with the kind of each number
   --bson           writes the documents as BSON, one after the other
   --wait SECONDS   waits so long if another process has FILE; else 5
 
     fallowtime shop.db find orders '{\"customer.city\":\"Ulm\",\"price\":{\"$gt\":10}}'
+    fallowtime shop.db find orders --sort price:-1,name --limit 10
     fallowtime shop.db find orders --bson > orders.bson
+
+A line of a session has them as an object behind the query:
+
+    [\"find\",\"orders\",{},{\"sort\":{\"price\":-1,\"name\":1},\"limit\":10}]
 
 May be refused: NoFile, BadName, ReservedKey; words: query.
 ";
@@ -248,6 +275,20 @@ JSON if one of them has a line feed in it.
 May be refused: NoFile.
 ";
 
+const CHECK: &str = "
+Reads all of FILE and tests each row, page and index, and then prints how many
+documents all collections have, or is refused by what is at fault. Other commands
+that only read test no more than what they need. A line of a session counts alone,
+as all was tested when FILE was opened.
+
+  --wait SECONDS   waits so long if another process has FILE; else 5
+
+    fallowtime shop.db check
+    fallowtime shop-monday.db check --wait 60
+
+May be refused: NoFile, NotAStore, BadRow, IdsCollide.
+";
+
 const BACKUP: &str = "
 Writes all that FILE holds into the new file PATH, also while another process has
 FILE. PATH must not be there.
@@ -297,6 +338,7 @@ pub(crate) fn text_of(command: Command) -> &'static str {
         Command::Set => SET,
         Command::Unset => UNSET,
         Command::Update => UPDATE,
+        Command::ReplaceOne => REPLACE_ONE,
         Command::Delete => DELETE,
         Command::Remove => REMOVE,
         Command::Find => FIND,
@@ -304,6 +346,7 @@ pub(crate) fn text_of(command: Command) -> &'static str {
         Command::Import => IMPORT,
         Command::Export => EXPORT,
         Command::Collections => COLLECTIONS,
+        Command::Check => CHECK,
         Command::Backup => BACKUP,
         Command::Index => INDEX,
         Command::DropIndex => DROP_INDEX,

@@ -42,6 +42,8 @@ fn options_of(allowed: Allowed) -> &'static str
         " [--json]"
     } else if allowed.many {
         " [--many]"
+    } else if allowed.arranged {
+        " [--OPTION ..]"
     } else if allowed.canonical && allowed.bytes {
         " [--canonical | --bson]"
     } else if allowed.canonical {

@@ -40,11 +40,11 @@ stays m (Ok q) = tt
 stays m (Err (Words u)) = refl
 stays m (Err Memory) = tt
 
--- `collections` has no argument
+-- `collections` and `check` have no argument
 module _ {X : Type 0} (seen : X → Given) where
-  pub no_argument : (m : IdMaker) (xs : List X) (q : Question) (name : Bor (List ℕ)) → length xs ≡ 0 → name.now ≡ [] → IsPlain q name request.Collections → Reads m m command.Collections (map seen xs) (Ok q)
-  no_argument m [] q name none empty plain = asks m m command.Collections [] q name request.Collections plain (refl, empty, refl, refl)
-  no_argument m (x ∷ xs) q name none empty plain = absurd cc
+  pub no_argument : (m : IdMaker) (k : Command) (r : Request) (xs : List X) (q : Question) (name : Bor (List ℕ)) → length xs ≡ 0 → Asks m m k [] name.now r Each → IsPlain q name r → Reads m m k (map seen xs) (Ok q)
+  no_argument m k r [] q name none h plain = asks m m k [] q name r plain h
+  no_argument m k r (x ∷ xs) q name none h plain = absurd cc
 
 -- ---- out of memory once a document is read
 

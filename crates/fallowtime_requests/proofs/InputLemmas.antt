@@ -8,7 +8,7 @@ use Rattle.json.specs.declared.value.Value.{Value as Tree}
 use Rattle.fallowtime_texts.specs.declared.made.IdMaker.{IdMaker}
 use Rattle.fallowtime_words.specs.Commands.{arguments}
 use Rattle.fallowtime_words.specs.declared.command.Command.{Command}
-use Rattle.fallowtime_words.specs.declared.command.Command.TheVariants.{Insert, Put, Replace, Get, Set, Unset, Update, Delete, Remove, Find, Count, Import, Export, Collections, Backup, Index, DropIndex, Version}
+use Rattle.fallowtime_words.specs.declared.command.Command.TheVariants.{Insert, Put, Replace, Get, Set, Unset, Update, ReplaceOne, Delete, Remove, Find, Count, Import, Export, Collections, Check, Backup, Index, DropIndex, Version}
 use Rattle.fallowtime_words.specs.declared.table.Argument.{Argument}
 use Rattle.fallowtime_words.specs.declared.table.Argument.TheVariants.{Query}
 use Rattle.fallowtime_requests.specs.Inputs.{Given, seen, texts, tree, trees, word}
@@ -103,6 +103,7 @@ few Get = omega arith
 few Set = omega arith
 few Unset = omega arith
 few Update = omega arith
+few ReplaceOne = omega arith
 few Delete = omega arith
 few Remove = omega arith
 few Find = omega arith
@@ -110,6 +111,7 @@ few Count = omega arith
 few Import = omega arith
 few Export = omega arith
 few Collections = omega arith
+few Check = omega arith
 few Backup = omega arith
 few Index = omega arith
 few DropIndex = omega arith
@@ -131,6 +133,7 @@ too_many m Get gs more = inl (not_as_many Get gs more, refl)
 too_many m Set gs more = inl (not_as_many Set gs more, refl)
 too_many m Unset gs more = inl (not_as_many Unset gs more, refl)
 too_many m Update gs more = inl (not_as_many Update gs more, refl)
+too_many m ReplaceOne gs more = inl (not_as_many ReplaceOne gs more, refl)
 too_many m Delete gs more = inl (not_as_many Delete gs more, refl)
 too_many m Remove gs more = inl (not_as_many Remove gs more, refl)
 too_many m Find gs more = inl (not_as_many Find gs more, refl)
@@ -138,6 +141,7 @@ too_many m Count gs more = inl (not_as_many Count gs more, refl)
 too_many m Import gs more = inl (not_as_many Import gs more, refl)
 too_many m Export gs more = inl (not_as_many Export gs more, refl)
 too_many m Collections gs more = inl (not_as_many Collections gs more, refl)
+too_many m Check gs more = inl (not_as_many Check gs more, refl)
 too_many m Index gs more = inl (not_as_many Index gs more, refl)
 too_many m DropIndex gs more = inl (not_as_many DropIndex gs more, refl)
 

@@ -3,6 +3,7 @@ mod CountLemmas
 mod FirstLemmas
 mod InputLemmas
 mod OptionLemmas
+mod ArrangeLemmas
 mod OwnIdLemmas
 mod QueryLemmas
 mod StreamLemmas

@@ -15,7 +15,7 @@ several [] two = absurd (omega (arith, two))
 several (m ∷ []) two = absurd (omega (arith, two))
 several (m ∷ n ∷ ms) two = refl
 
-object_seen : (v : Tree Global) (ms : Vec Entry Global) (shown : List Entry) → v ≡ Object ms → shown ≡ ms.items → value_view v ≡ object (members_view shown)
+pub object_seen : (v : Tree Global) (ms : Vec Entry Global) (shown : List Entry) → v ≡ Object ms → shown ≡ ms.items → value_view v ≡ object (members_view shown)
 object_seen v ms shown h k = rw (h, k) (search (rules, the_lemmas))
 
 pub of_object : (v : Tree Global) (ms : Vec Entry Global) (shown : List Entry) (found : Option Bool) → v ≡ Object ms → shown ≡ ms.items → found ≡ many_among (members_view shown) → found ≡ many_of (tree (value_view v))

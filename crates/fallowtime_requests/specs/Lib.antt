@@ -1,3 +1,4 @@
+pub mod Arranging
 pub mod Inputs
 pub mod Reading
 pub mod Reports

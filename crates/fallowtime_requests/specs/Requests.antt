@@ -20,6 +20,8 @@ use Rattle.store_model.specs.State.{id_key}
 use Rattle.store_question.specs.Asked.{Asked, all_of, no_asked}
 use Rattle.store_question.specs.declared.question.Question.{Question}
 use Rattle.store_question_read.specs.Outcome.{Asks as StandsFor}
+use Rattle.store_sorted.specs.Bodies.{keys_of}
+use Rattle.store_sorted.specs.declared.arrangement.Arrangement.{Arrangement}
 use Rattle.store_update.specs.Plan.{Plan}
 use Rattle.store_update_read.specs.Outcome.{plans_of}
 use Rattle.fallowtime_requests.specs.Inputs.{Given, word, tree, IsAsked, IsDocument, IsId, IsPath, IsText, IsUpdate, IsValue, many_of}
@@ -107,6 +109,11 @@ NameQueryAndMany (c ∷ g ∷ []) name q many = IsText c name × ((a : Asked) ×
 NameQueryAndMany (c ∷ g ∷ o ∷ []) name q many = IsText c name × ((a : Asked) × IsAsked g a × StandsFor q a) × (many_of o ≡ Some many)
 NameQueryAndMany _ name q many = ⊥
 
+-- a replacement has no options: the first of the documents is meant
+abbrev pub NameQueryAndDocument : List Given → List ℕ → Question → Members → Type 0
+NameQueryAndDocument (c ∷ g ∷ h ∷ []) name q d = IsText c name × ((a : Asked) × IsAsked g a × StandsFor q a) × IsDocument h d
+NameQueryAndDocument _ name q d = ⊥
+
 abbrev pub NameAndStream : IdMaker → IdMaker → List Given → List ℕ → List ℕ → Type 0
 NameAndStream m n (c ∷ s ∷ []) name bytes = IsText c name × IsStream m n s bytes
 NameAndStream m n _ name bytes = ⊥
@@ -114,6 +121,10 @@ NameAndStream m n _ name bytes = ⊥
 abbrev pub NameAndPath : List Given → List ℕ → List (List ℕ) → Type 0
 NameAndPath (c ∷ p ∷ []) name path = IsText c name × IsPath p path
 NameAndPath _ name path = ⊥
+
+-- all documents, as they come
+abbrev pub IsWhole : Arrangement → Type 0
+IsWhole a = (keys_of a.keys.items ≡ []) × (a.skip ≡ 0) × (a.limit ≡ None)
 
 -- The request for what a command with these arguments asks, of which collection, and how documents are laid out in the
 -- answer; and the maker afterwards: documents that come without an `_id` get its next ones, and no other command takes
@@ -127,15 +138,17 @@ Asks m n command.Get gs name (request.Get id) l = NameAndId gs name (view id) ×
 Asks m n command.Set gs name (request.Set id key value) l = NameIdKeyAndValue gs name (view id) key.now (view value) × (n ≡ m) × (l ≡ layout.Each)
 Asks m n command.Unset gs name (request.Unset id key) l = NameIdAndKey gs name (view id) key.now × (n ≡ m) × (l ≡ layout.Each)
 Asks m n command.Update gs name (request.Change q (work.Update steps) many) l = NameQueryUpdateAndMany gs name q (plans_of steps) many × (n ≡ m) × (l ≡ layout.Each)
+Asks m n command.ReplaceOne gs name (request.Change q (work.Replace d) many) l = NameQueryAndDocument gs name q (content d) × (many ≡ false) × (n ≡ m) × (l ≡ layout.Each)
 Asks m n command.Delete gs name (request.Change q work.Remove many) l = NameQueryAndMany gs name q many × (n ≡ m) × (l ≡ layout.Each)
 Asks m n command.Remove gs name (request.Remove id) l = NameAndId gs name (view id) × (n ≡ m) × (l ≡ layout.Each)
-Asks m n command.Find gs name (request.Find q) l = NameAndQuery gs name q × (n ≡ m) × (l ≡ layout.Each)
+Asks m n command.Find gs name (request.Find q a) l = NameAndQuery gs name q × IsWhole a × (n ≡ m) × (l ≡ layout.Each)
 Asks m n command.Count gs name (request.Count q) l = NameAndQuery gs name q × (n ≡ m) × (l ≡ layout.Each)
 Asks m n command.Import gs name (request.Import stream) l = NameAndStream m n gs name stream.items × (l ≡ layout.Each)
-Asks m n command.Export gs name (request.Find q) l = NameAlone gs name × StandsFor q everything × (n ≡ m) × (l ≡ layout.Stream)
+Asks m n command.Export gs name (request.Find q a) l = NameAlone gs name × StandsFor q everything × IsWhole a × (n ≡ m) × (l ≡ layout.Stream)
 Asks m n command.Index gs name (request.Index path) l = NameAndPath gs name (path_of path.items) × (n ≡ m) × (l ≡ layout.Each)
 Asks m n command.DropIndex gs name (request.DropIndex path) l = NameAndPath gs name (path_of path.items) × (n ≡ m) × (l ≡ layout.Each)
 Asks m n command.Collections gs name request.Collections l = (gs ≡ []) × (name ≡ []) × (n ≡ m) × (l ≡ layout.Each)
+Asks m n command.Check gs name request.Check l = (gs ≡ []) × (name ≡ []) × (n ≡ m) × (l ≡ layout.Each)
 Asks m n _ gs _ _ _ = ⊥
 
 -- with the option of a command line a change by query is one of all documents

@@ -2,6 +2,7 @@
 //! words of a command line or the JSON of a line of a session.
 #![tactic(auto)]
 
+mod arranging;
 mod input;
 mod options;
 mod parts;
@@ -12,7 +13,8 @@ mod stream;
 mod unread;
 mod updates;
 
-pub use reading::{Layout, Question, question_of_items, question_of_words};
+pub use arranging::{arrange, arrangement_of_words, question_of_line};
+pub use reading::{Layout, Question, ask_for_all, question_of_items, question_of_words};
 pub use request::{Request, Work};
 pub use stop::Stop;
 pub use stream::items_of;

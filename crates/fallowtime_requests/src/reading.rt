@@ -6,7 +6,7 @@ ghost use Rattle.bson_model.specs.View.{content, view};
 ghost use Rattle.json.specs.Value.{items_view};
 ghost use Rattle.fallowtime_requests.specs.Inputs.{seen, texts, trees};
 ghost use Rattle.fallowtime_requests.specs.Reading.{IsUnread, KeepsMaker, Reads};
-ghost use Rattle.fallowtime_requests.specs.Requests.{NameAlone, NameAndDocument, NameAndId, NameAndPath, NameAndQuery, NameAndStream, NameIdAndKey, NameIdKeyAndValue, NameQueryAndMany, NameQueryUpdateAndMany, everything};
+ghost use Rattle.fallowtime_requests.specs.Requests.{NameAlone, NameAndDocument, NameAndId, NameAndPath, NameAndQuery, NameAndStream, NameIdAndKey, NameIdKeyAndValue, NameQueryAndDocument, NameQueryAndMany, NameQueryUpdateAndMany, everything};
 ghost use Rattle.fallowtime_texts.specs.declared.made.IdMaker.{IdMaker as Maker};
 ghost use Rattle.fallowtime_words.specs.declared.command.Command.TheVariants as commands;
 ghost use Rattle.fallowtime_words.specs.declared.table.Argument.TheVariants as argument;
@@ -15,6 +15,7 @@ ghost use Rattle.store_model.specs.State.{id_key};
 ghost use Rattle.store_question_read.specs.Outcome.{Asks as StandsFor};
 ghost use Rattle.store_update_read.specs.Outcome.{plans_of};
 
+use crate::arranging::whole_of;
 use crate::input::{Input, of_value, of_word};
 use crate::options::many_of;
 use crate::parts::{collection_of, document_of, id_of, key_of, path_of, query_in, value_of};
@@ -43,7 +44,7 @@ pub enum Layout {
 /// What a command with its arguments asks for.
 #[derive(Drop)]
 pub struct Question<'w> {
-    /// The collection; an empty text for `Collections`.
+    /// The collection; an empty text for `Collections` and `Check`.
     pub collection: &'w str,
     /// What is requested of the store.
     pub request: Request<'w>,
@@ -171,7 +172,7 @@ fn with_value<'w>(
 }
 
 /// The question that every document answers.
-fn ask_for_all(alloc: Global) -> store_question::Question
+pub fn ask_for_all(alloc: Global) -> store_question::Question
     ensures { StandsFor result everything }
 {
     store_question::Question::All(Vec::new(alloc))
@@ -241,6 +242,27 @@ fn with_selection<'w>(
             let name = collection_of(*name)?;
             let question = query_in(alloc, *query, scratch)?;
             Ok((name, question, many_of(*options)?))
+        }
+        _ => Err(Stop::Words(Unread::Command)),
+    }
+}
+
+/// A collection, the question of the query, and a document.
+fn with_replacement<'w>(
+    alloc: Global,
+    arguments: &[Input<'_, 'w>],
+    scratch: &mut Scratch,
+) -> Result<(&'w str, store_question::Question, Document), Stop>
+    ensures { (m : Maker) → MatchResult result
+        (λ p. NameQueryAndDocument (map seen arguments.now) p.0.now p.1 (content p.2))
+        (IsUnread m (argument.Collection ∷ argument.Selection ∷ argument.Document ∷ [])
+        (map seen arguments.now)) }
+{
+    match arguments {
+        [name, query, document] => {
+            let name = collection_of(*name)?;
+            let question = query_in(alloc, *query, scratch)?;
+            Ok((name, question, document_of(alloc, *document, scratch)?))
         }
         _ => Err(Stop::Words(Unread::Command)),
     }
@@ -339,6 +361,18 @@ fn update<'w>(
     Ok(plain(collection, Request::Change(question, work, many)))
 }
 
+fn replace_one<'w>(
+    alloc: Global,
+    arguments: &[Input<'_, 'w>],
+    scratch: &mut Scratch,
+) -> Result<Question<'w>, Stop>
+    ensures { (m : Maker) → Reads m m commands.ReplaceOne (map seen arguments.now) result }
+{
+    let (collection, question, document) = with_replacement(alloc, arguments, scratch)?;
+    let work = Work::Replace(document);
+    Ok(plain(collection, Request::Change(question, work, false)))
+}
+
 fn delete<'w>(
     alloc: Global,
     arguments: &[Input<'_, 'w>],
@@ -369,7 +403,7 @@ fn find<'w>(
     ensures { (m : Maker) → Reads m m commands.Find (map seen arguments.now) result }
 {
     let (collection, query) = with_query(alloc, arguments, scratch)?;
-    Ok(plain(collection, Request::Find(query)))
+    Ok(plain(collection, Request::Find(query, whole_of(alloc))))
 }
 
 fn count<'w>(
@@ -406,7 +440,7 @@ fn export<'w>(alloc: Global, arguments: &[Input<'_, 'w>]) -> Result<Question<'w>
     let collection = name_of(arguments)?;
     Ok(Question {
         collection,
-        request: Request::Find(ask_for_all(alloc)),
+        request: Request::Find(ask_for_all(alloc), whole_of(alloc)),
         layout: Layout::Stream,
     })
 }
@@ -434,6 +468,15 @@ fn collections<'w>(arguments: &[Input<'_, 'w>]) -> Result<Question<'w>, Stop>
     }
 }
 
+fn check<'w>(arguments: &[Input<'_, 'w>]) -> Result<Question<'w>, Stop>
+    ensures { (m : Maker) → Reads m m commands.Check (map seen arguments.now) result }
+{
+    match arguments {
+        [] => Ok(plain("", Request::Check)),
+        _ => Err(Stop::Words(Unread::Command)),
+    }
+}
+
 /// What a command asks for by its arguments, in whatever way they come.
 fn question_of<'w>(
     alloc: Global,
@@ -453,6 +496,7 @@ fn question_of<'w>(
         Command::Set => set(alloc, arguments, scratch),
         Command::Unset => unset(alloc, arguments, scratch),
         Command::Update => update(alloc, arguments, scratch),
+        Command::ReplaceOne => replace_one(alloc, arguments, scratch),
         Command::Delete => delete(alloc, arguments, scratch),
         Command::Remove => remove(alloc, arguments, scratch),
         Command::Find => find(alloc, arguments, scratch),
@@ -462,6 +506,7 @@ fn question_of<'w>(
         Command::Index => index(alloc, arguments),
         Command::DropIndex => drop_index(alloc, arguments),
         Command::Collections => collections(arguments),
+        Command::Check => check(arguments),
         Command::Backup | Command::Version => Err(Stop::Words(Unread::Command)),
     }
 }

@@ -2,6 +2,7 @@
 
 use bson_model::{Bson, Document};
 use store_question::Question;
+use store_sorted::Arrangement;
 use store_update::Step;
 
 /// What becomes of each document that a change by query means.
@@ -9,11 +10,13 @@ use store_update::Step;
 pub enum Work {
     /// What these steps make of it.
     Update(Vec<Step>),
+    /// This document takes its place, with the `_id` of the one that was there.
+    Replace(Document),
     /// It is removed.
     Remove,
 }
 
-/// What is asked of one collection, or, with `Collections`, of all, with every text of it read.
+/// What is asked of one collection, or, with `Collections` and `Check`, of all, with every text of it read.
 #[derive(Drop)]
 pub enum Request<'w> {
     /// To put a document in, which has this `_id`.
@@ -32,8 +35,8 @@ pub enum Request<'w> {
     Change(Question, Work, bool),
     /// To remove the document with an `_id`.
     Remove(Bson),
-    /// The documents that answer a question.
-    Find(Question),
+    /// The documents that answer a question, in an order and of that a part.
+    Find(Question, Arrangement),
     /// How many documents answer a question.
     Count(Question),
     /// To put in the documents of a stream of BSON, all or none.
@@ -44,6 +47,8 @@ pub enum Request<'w> {
     DropIndex(Vec<String>),
     /// The names of the collections.
     Collections,
+    /// How many documents all collections have.
+    Check,
 }
 
 impl<'w> Request<'w> {

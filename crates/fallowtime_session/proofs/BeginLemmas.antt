@@ -6,8 +6,7 @@ use Rattle.json.specs.Json as json
 use Rattle.json.specs.Json.{Json, Items, item}
 use Rattle.json.specs.Value.{items_view, value_view}
 use Rattle.json.specs.declared.value.Value.{Value}
-use Rattle.fallowtime_requests.specs.Inputs.{trees}
-use Rattle.fallowtime_requests.specs.Reading.{Reads}
+use Rattle.fallowtime_requests.specs.Arranging.{ReadsLine}
 use Rattle.fallowtime_requests.specs.declared.reading.Question.{Question}
 use Rattle.fallowtime_requests.specs.declared.stop.Stop.{Stop}
 use Rattle.fallowtime_requests.specs.declared.stop.Stop.TheVariants.{Words, Memory}
@@ -49,7 +48,7 @@ module _ (j : Json) where
     pub has_command : (t : List ℕ) (c : Command) → value_view v ≡ json.string t → Some c ≡ command_of t → HasCommand j c (items_view rest)
     has_command t c text some_command = (t, sym (ap (λ k. Some (item k (items_view rest))) (sym text) ∙ begins), sym some_command)
 
-pub of_command : (m n : IdMaker) (j : Json) (c : Command) (js : Items) (r : Result Question Stop) → HasCommand j c js → Reads m n c (trees js) r
+pub of_command : (m n : IdMaker) (j : Json) (c : Command) (js : Items) (r : Result Question Stop) → HasCommand j c js → ReadsLine m n c js r
     → MatchResult r (λ q. Asks m n j q.collection.now q.request q.layout) (Stops m j)
 of_command m n j c js (Ok q) has reads = (c, js, has, reads)
 of_command m n j c js (Err (Words u)) has reads = inr (n, c, js, has, reads)

@@ -4,9 +4,7 @@ use Rattle.std.specs.Str.{bytes_eq}
 use Rattle.json.specs.Find.{as_array}
 use Rattle.json.specs.Json as json
 use Rattle.json.specs.Json.{Json, Items, item, Members, no_members, member}
-use Rattle.fallowtime_requests.specs.Inputs.{trees}
-use Rattle.fallowtime_requests.specs.Reading.{Reads}
-use Rattle.fallowtime_requests.specs.Requests as requests
+use Rattle.fallowtime_requests.specs.Arranging.{AsksLine, ReadsLine}
 use Rattle.fallowtime_requests.specs.declared.reading.Layout.{Layout}
 use Rattle.fallowtime_requests.specs.declared.request.Request.{Request}
 use Rattle.fallowtime_requests.specs.declared.stop.Stop.{Stop}
@@ -55,11 +53,11 @@ HasCommand j c js = (name : List ℕ) × (as_array j ≡ Some (item (json.string
 
 -- It asks for this request, of this collection: a command with its arguments asks for it.
 abbrev pub Asks : IdMaker → IdMaker → Json → List ℕ → Request → Layout → Type 0
-Asks m n j name q l = (c : Command) × (js : Items) × HasCommand j c js × requests.Asks m n c (trees js) name q l
+Asks m n j name q l = (c : Command) × (js : Items) × HasCommand j c js × AsksLine m n c js name q l
 
 -- It asks for nothing: it has no command, or one with these arguments asks for nothing.
 abbrev pub Stops : IdMaker → Json → Stop → Type 0
 Stops m j Memory = Unit {0}
 Stops m j (Words u) =
     (((c : Command) (js : Items) → HasCommand j c js → ⊥) × (u ≡ unread.Command))
-    ⊎ ((n : IdMaker) × (c : Command) × (js : Items) × HasCommand j c js × Reads m n c (trees js) (Err (Words u)))
+    ⊎ ((n : IdMaker) × (c : Command) × (js : Items) × HasCommand j c js × ReadsLine m n c js (Err (Words u)))

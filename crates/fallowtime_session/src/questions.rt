@@ -7,7 +7,7 @@ ghost use Rattle.fallowtime_session.specs.Questions.{Asks, Stops};
 ghost use Rattle.fallowtime_session.specs.Reading.{Begins};
 
 use bson_json_read::Scratch;
-use fallowtime_requests::{Question, Stop, Unread, items_of, question_of_items};
+use fallowtime_requests::{Question, Stop, Unread, items_of, question_of_line};
 use fallowtime_texts::IdMaker;
 use fallowtime_words::Command;
 use json::Value;
@@ -49,5 +49,5 @@ pub(crate) fn question_in<'w>(
         return Err(Stop::Words(Unread::Command));
     };
     let mut scratch = Scratch::new(alloc);
-    question_of_items(alloc, command, items, maker, &mut scratch)
+    question_of_line(alloc, command, items, maker, &mut scratch)
 }

@@ -1,4 +1,4 @@
-mod IdLemmas
+pub mod IdLemmas
 mod ReadLemmas
 mod StraightLemmas
 mod AddLemmas

@@ -1,8 +1,10 @@
 //! Ids that are made.
 
-ghost use Rattle.std.specs.Prelude.{◌≡◌, ◌∷◌, map, IfOk};
+ghost use Rattle.std.specs.Prelude.{◌≡◌, ◌∷◌, false, map, IfOk};
+ghost use Rattle.bson_base.specs.Value.{has_key, member};
 ghost use Rattle.bson_model.specs.Rest.{owned_member};
-ghost use Rattle.bson_model.specs.View.{content, pairs_of};
+ghost use Rattle.bson_model.specs.View.{content, pairs_of, view};
+ghost use Rattle.store_model.specs.State.{id_key};
 ghost use Rattle.fallowtime_texts.specs.Made.{id_member, identified, maker_after, next_maker};
 
 use bson_base::ObjectId;
@@ -55,23 +57,38 @@ impl IdMaker {
     }
 }
 
-/// The pairs of a document after a made `_id`.
+/// The pairs of a document after an `_id`.
 fn pairs_behind_id(
     alloc: Global,
+    id: Bson,
     document: Document,
-    maker: &mut IdMaker,
 ) -> Result<Vec<(String, Bson)>, AllocError>
-    ensures pairs { IfOk result (λ v. map owned_member v.items ≡ id_member maker.old ∷ pairs_of
-        document) }
-    ensures maker { maker.new ≡ next_maker maker.old }
+    ensures { IfOk result (λ v. map owned_member v.items ≡ (id_key, view id) ∷ pairs_of document) }
 {
-    let id = Bson::ObjectId(maker.make());
     let mut pairs = Vec::new(alloc);
     pairs.push((String::from_str(alloc, "_id")?, id))?;
     for (key, value) in document {
         pairs.push((key, value))?;
     }
     Ok(pairs)
+}
+
+/// A document without an `_id`, with this one in front of what it has. It fails only if a growth of memory was refused.
+pub fn with_front_id(alloc: Global, id: Bson, document: Document) -> Result<Document, AllocError>
+    requires { has_key id_key (content document) ≡ false }
+    ensures { IfOk result (λ d. content d ≡ member id_key (view id) (content document)) }
+{
+    bson_model::laws::distinct_keys_of_level(&document);
+    let pairs = pairs_behind_id(alloc, id, document)?;
+    Document::from_pairs(alloc, pairs)
+}
+
+/// The next id of a maker, as a value.
+fn made_id(maker: &mut IdMaker) -> Bson
+    ensures id { view result ≡ (id_member maker.old).1 }
+    ensures maker { maker.new ≡ next_maker maker.old }
+{
+    Bson::ObjectId(maker.make())
 }
 
 /// The document with an `_id`: itself if it has one, and else with a made one in front of what it has. It fails only if a
@@ -87,7 +104,6 @@ pub fn with_id(
     if document.contains_key("_id") {
         return Ok(document);
     }
-    bson_model::laws::distinct_keys_of_level(&document);
-    let pairs = pairs_behind_id(alloc, document, maker)?;
-    Document::from_pairs(alloc, pairs)
+    let id = made_id(maker);
+    with_front_id(alloc, id, document)
 }

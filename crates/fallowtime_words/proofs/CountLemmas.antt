@@ -1,5 +1,5 @@
 -- How many words are for arguments.
-use Rattle.std.proofs.Common.{◌≡◌, ◌≤◌, ◌+◌, ◌-◌, ℕ, suc, List, [], ◌∷◌, ◌++◌, String, Global, string_bytes, length, take, drop, map, refl, sym, ◌∙◌, ap, subst, arith}
+use Rattle.std.proofs.Common.{◌≡◌, ◌≤◌, ◌+◌, ◌-◌, ℕ, List, [], ◌∷◌, ◌++◌, String, Global, string_bytes, length, take, drop, map, ◌∙◌, ap, subst, arith}
 use Rattle.std.proofs.lemmas.List.{take_all}
 use Rattle.fallowtime_words.specs.Commands.{AreWords}
 use Rattle.fallowtime_words.specs.Reading.{MayFollow}

@@ -1,11 +1,11 @@
 -- The words ask for one thing at the most.
-use Rattle.std.proofs.Common.{◌≡◌, ℕ, suc, List, [], ◌∷◌, ◌++◌, Option, Some, None, slice_index, length, codes, inl, inr, refl, sym, ◌∙◌, ap, subst, arith}
+use Rattle.std.proofs.Common.{◌≡◌, ℕ, suc, List, [], ◌∷◌, ◌++◌, Option, Some, slice_index, length, codes, inl, inr, refl, sym, ◌∙◌, ap, subst, arith}
 use Rattle.fallowtime_words.specs.Commands.{arguments, command_name, command_of, AreWords, BeginsWith, IsLast, IsQuery}
 use Rattle.fallowtime_words.specs.Options.{Spell, Gathers, AreOptions}
 use Rattle.fallowtime_words.specs.Reading.{MayFollow}
 use Rattle.fallowtime_words.specs.Words.{Asked, line, session, HasRest, IsTask, Wait}
 use Rattle.fallowtime_words.specs.declared.command.Command.{Command}
-use Rattle.fallowtime_words.specs.declared.command.Command.TheVariants.{Insert, Put, Replace, Get, Set, Unset, Update, Delete, Remove, Find, Count, Import, Export, Collections, Backup, Index, DropIndex, Version}
+use Rattle.fallowtime_words.specs.declared.command.Command.TheVariants.{Insert, Put, Replace, Get, Set, Unset, Update, ReplaceOne, Delete, Remove, Find, Count, Import, Export, Collections, Check, Backup, Index, DropIndex, Version}
 use Rattle.fallowtime_words.specs.declared.options.Given.{Given}
 use Rattle.fallowtime_words.specs.declared.options.Options.{Options}
 use Rattle.fallowtime_words.specs.declared.table.Argument.{Argument}
@@ -22,6 +22,7 @@ command_is Get = refl
 command_is Set = refl
 command_is Unset = refl
 command_is Update = refl
+command_is ReplaceOne = refl
 command_is Delete = refl
 command_is Remove = refl
 command_is Find = refl
@@ -29,6 +30,7 @@ command_is Count = refl
 command_is Import = refl
 command_is Export = refl
 command_is Collections = refl
+command_is Check = refl
 command_is Backup = refl
 command_is Index = refl
 command_is DropIndex = refl
@@ -46,6 +48,7 @@ no_option_name Get (rest, e) = let first : 103 ≡ 45 = ap (λ w. slice_index w 
 no_option_name Set (rest, e) = let first : 115 ≡ 45 = ap (λ w. slice_index w 0) e in absurd (omega (arith, first))
 no_option_name Unset (rest, e) = let first : 117 ≡ 45 = ap (λ w. slice_index w 0) e in absurd (omega (arith, first))
 no_option_name Update (rest, e) = let first : 117 ≡ 45 = ap (λ w. slice_index w 0) e in absurd (omega (arith, first))
+no_option_name ReplaceOne (rest, e) = let first : 114 ≡ 45 = ap (λ w. slice_index w 0) e in absurd (omega (arith, first))
 no_option_name Delete (rest, e) = let first : 100 ≡ 45 = ap (λ w. slice_index w 0) e in absurd (omega (arith, first))
 no_option_name Remove (rest, e) = let first : 114 ≡ 45 = ap (λ w. slice_index w 0) e in absurd (omega (arith, first))
 no_option_name Find (rest, e) = let first : 102 ≡ 45 = ap (λ w. slice_index w 0) e in absurd (omega (arith, first))
@@ -53,6 +56,7 @@ no_option_name Count (rest, e) = let first : 99 ≡ 45 = ap (λ w. slice_index w
 no_option_name Import (rest, e) = let first : 105 ≡ 45 = ap (λ w. slice_index w 0) e in absurd (omega (arith, first))
 no_option_name Export (rest, e) = let first : 101 ≡ 45 = ap (λ w. slice_index w 0) e in absurd (omega (arith, first))
 no_option_name Collections (rest, e) = let first : 99 ≡ 45 = ap (λ w. slice_index w 0) e in absurd (omega (arith, first))
+no_option_name Check (rest, e) = let first : 99 ≡ 45 = ap (λ w. slice_index w 0) e in absurd (omega (arith, first))
 no_option_name Backup (rest, e) = let first : 98 ≡ 45 = ap (λ w. slice_index w 0) e in absurd (omega (arith, first))
 no_option_name Index (rest, e) = let first : 105 ≡ 45 = ap (λ w. slice_index w 0) e in absurd (omega (arith, first))
 no_option_name DropIndex (rest, e) = let first : 100 ≡ 45 = ap (λ w. slice_index w 0) e in absurd (omega (arith, first))

@@ -2,7 +2,7 @@
 use Rattle.std.specs.Prelude.{◌≡◌, ◌⊎◌, ℕ, List, [], ◌∷◌, ◌++◌, length, codes, if◌then◌else◌, true, false, Option, Some, None}
 use Rattle.std.specs.Str.{bytes_eq}
 use Rattle.fallowtime_words.specs.declared.command.Command.{Command}
-use Rattle.fallowtime_words.specs.declared.command.Command.TheVariants.{Insert, Put, Replace, Get, Set, Unset, Update, Delete, Remove, Find, Count, Import, Export, Collections, Backup, Index, DropIndex, Version}
+use Rattle.fallowtime_words.specs.declared.command.Command.TheVariants.{Insert, Put, Replace, Get, Set, Unset, Update, ReplaceOne, Delete, Remove, Find, Count, Import, Export, Collections, Check, Backup, Index, DropIndex, Version}
 use Rattle.fallowtime_words.specs.declared.table.Allowed.{Allowed}
 use Rattle.fallowtime_words.specs.declared.table.Argument.{Argument}
 use Rattle.fallowtime_words.specs.declared.table.Argument.TheVariants.{Collection, Document, Id, Key, Value, Query, Selection, Update as Change, Options, Documents, IndexPath, File}
@@ -13,7 +13,7 @@ use Rattle.fallowtime_words.specs.declared.table.Place.TheVariants.{Both, Comman
 
 -- in the order of the help
 abbrev pub commands : List Command
-commands = Insert ∷ Put ∷ Replace ∷ Get ∷ Set ∷ Unset ∷ Update ∷ Delete ∷ Remove ∷ Find ∷ Count ∷ Import ∷ Export ∷ Collections ∷ Backup ∷ Index ∷ DropIndex ∷ Version ∷ []
+commands = Insert ∷ Put ∷ Replace ∷ Get ∷ Set ∷ Unset ∷ Update ∷ ReplaceOne ∷ Delete ∷ Remove ∷ Find ∷ Count ∷ Import ∷ Export ∷ Collections ∷ Check ∷ Backup ∷ Index ∷ DropIndex ∷ Version ∷ []
 
 abbrev pub command_name : Command → List ℕ
 command_name Insert = codes "insert"
@@ -23,6 +23,7 @@ command_name Get = codes "get"
 command_name Set = codes "set"
 command_name Unset = codes "unset"
 command_name Update = codes "update"
+command_name ReplaceOne = codes "replace-one"
 command_name Delete = codes "delete"
 command_name Remove = codes "remove"
 command_name Find = codes "find"
@@ -30,6 +31,7 @@ command_name Count = codes "count"
 command_name Import = codes "import"
 command_name Export = codes "export"
 command_name Collections = codes "collections"
+command_name Check = codes "check"
 command_name Backup = codes "backup"
 command_name Index = codes "index"
 command_name DropIndex = codes "drop_index"
@@ -52,6 +54,7 @@ arguments Get = Collection ∷ Id ∷ []
 arguments Set = Collection ∷ Id ∷ Key ∷ Value ∷ []
 arguments Unset = Collection ∷ Id ∷ Key ∷ []
 arguments Update = Collection ∷ Selection ∷ Change ∷ Options ∷ []
+arguments ReplaceOne = Collection ∷ Selection ∷ Document ∷ []
 arguments Delete = Collection ∷ Selection ∷ Options ∷ []
 arguments Remove = Collection ∷ Id ∷ []
 arguments Find = Collection ∷ Query ∷ []
@@ -59,6 +62,7 @@ arguments Count = Collection ∷ Query ∷ []
 arguments Import = Collection ∷ Documents ∷ []
 arguments Export = Collection ∷ []
 arguments Collections = []
+arguments Check = []
 arguments Backup = File ∷ []
 arguments Index = Collection ∷ IndexPath ∷ []
 arguments DropIndex = Collection ∷ IndexPath ∷ []
@@ -66,13 +70,13 @@ arguments Version = []
 
 -- the options beside `--wait`
 abbrev pub allowed : Command → Allowed
-allowed Insert = record { canonical = true; bytes = false; lines = false; many = false }
-allowed Get = record { canonical = true; bytes = true; lines = false; many = false }
-allowed Find = record { canonical = true; bytes = true; lines = false; many = false }
-allowed Import = record { canonical = false; bytes = false; lines = true; many = false }
-allowed Update = record { canonical = false; bytes = false; lines = false; many = true }
-allowed Delete = record { canonical = false; bytes = false; lines = false; many = true }
-allowed _ = record { canonical = false; bytes = false; lines = false; many = false }
+allowed Insert = record { canonical = true; bytes = false; lines = false; many = false; arranged = false }
+allowed Get = record { canonical = true; bytes = true; lines = false; many = false; arranged = false }
+allowed Find = record { canonical = true; bytes = true; lines = false; many = false; arranged = true }
+allowed Import = record { canonical = false; bytes = false; lines = true; many = false; arranged = false }
+allowed Update = record { canonical = false; bytes = false; lines = false; many = true; arranged = false }
+allowed Delete = record { canonical = false; bytes = false; lines = false; many = true; arranged = false }
+allowed _ = record { canonical = false; bytes = false; lines = false; many = false; arranged = false }
 
 -- what becomes of FILE
 abbrev pub effect : Command → Effect
@@ -83,6 +87,7 @@ effect Replace = Changes
 effect Set = Changes
 effect Unset = Changes
 effect Update = Changes
+effect ReplaceOne = Changes
 effect Delete = Changes
 effect Remove = Changes
 effect _ = Reads

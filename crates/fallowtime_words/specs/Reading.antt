@@ -4,7 +4,7 @@ use Rattle.std.specs.Str.{bytes_eq}
 use Rattle.fallowtime_words.specs.Commands.{BeginsWith}
 use Rattle.fallowtime_words.specs.declared.command.Command.{Command}
 use Rattle.fallowtime_words.specs.declared.options.Given.{Given}
-use Rattle.fallowtime_words.specs.declared.options.Given.TheVariants.{Canonical, Bytes, Lines, Many, Wait}
+use Rattle.fallowtime_words.specs.declared.options.Given.TheVariants.{Canonical, Bytes, Lines, Many, Wait, Sort, Skip, Limit}
 use Rattle.fallowtime_words.specs.declared.options.Options.{Options}
 use Rattle.fallowtime_words.specs.declared.table.Signature.{Signature}
 
@@ -24,3 +24,6 @@ added Bytes o = if o.bytes then None else Some (record o { bytes = true })
 added Lines o = if o.lines then None else Some (record o { lines = true })
 added Many o = if o.many then None else Some (record o { many = true })
 added (Wait n) o = if is_some o.seconds then None else Some (record o { seconds = Some n })
+added (Sort n) o = if is_some o.sort then None else Some (record o { sort = Some n })
+added (Skip n) o = if is_some o.skip then None else Some (record o { skip = Some n })
+added (Limit n) o = if is_some o.limit then None else Some (record o { limit = Some n })

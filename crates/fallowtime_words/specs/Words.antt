@@ -1,5 +1,5 @@
 -- The words after the program's name, and what they ask for.
-use Rattle.std.specs.Prelude.{◌≡◌, ℕ, List, ◌∷◌, ◌++◌, codes, map, string_bytes, Option}
+use Rattle.std.specs.Prelude.{◌≡◌, ℕ, List, [], ◌∷◌, ◌++◌, codes, map, string_bytes, length, if◌then◌else◌, ◌==◌, Option, Some, None, option_and_then, option_map}
 use Rattle.fallowtime_words.specs.Commands.{arguments, command_name, AreWords, BeginsWith}
 use Rattle.fallowtime_words.specs.Options.{AreOptions, OnlyWait, Takes}
 use Rattle.fallowtime_words.specs.declared.command.Command.{Command}
@@ -23,6 +23,20 @@ IsFile word = ¬ BeginsWith (codes "-") word
 -- after the command: the words of its arguments, and then the options
 abbrev pub HasRest : Command → List (List ℕ) → List (List ℕ) → Options → Type 0
 HasRest command words taken o = (given : List (List ℕ)) × (words ≡ taken ++ given) × AreWords (arguments command) taken × AreOptions given o × Takes command o
+
+-- the word with n words behind it
+abbrev pub word_before : ℕ → List (List ℕ) → Option (List ℕ)
+word_before n [] = None
+word_before n (w ∷ ws) = if length ws == n then Some w else word_before n ws
+
+-- the text of `--sort` among the words behind a command
+abbrev pub sort_text : List (List ℕ) → Options → Option (List ℕ)
+sort_text words o = option_and_then (λ n. word_before n words) o.sort
+
+-- the text of `--sort` is given with the task
+abbrev pub HasSort : List (List ℕ) → Task → Type 0
+HasSort words (task.Command w) = (behind : List (List ℕ)) × (words ≡ w.file.now ∷ command_name w.command ∷ behind) × (option_map (λ t. t.now) w.sort ≡ sort_text behind w.options)
+HasSort words (task.Session file seconds) = Unit {0}
 
 -- no option, or only this one: for how many seconds a file is waited for
 abbrev pub Wait : List (List ℕ) → Option ℕ → Type 0

@@ -24,6 +24,9 @@ pub enum Command {
     /// `update COLL QUERY UPDATE`: updates the first of the selected documents, or with `--many` all of them, and
     /// prints how many were selected and changed.
     Update,
+    /// `replace-one COLL QUERY DOC`: replaces the first of the selected documents, and prints how many were selected and
+    /// changed.
+    ReplaceOne,
     /// `delete COLL QUERY`: removes the first of the selected documents, or with `--many` all of them, and prints how
     /// many.
     Delete,
@@ -39,6 +42,8 @@ pub enum Command {
     Export,
     /// `collections`: prints the names of the collections.
     Collections,
+    /// `check`: tests all that the file holds, and prints how many documents that is.
+    Check,
     /// `backup PATH`: writes a whole copy of the store.
     Backup,
     /// `index COLL PATH`: makes an index until the session ends.
@@ -107,13 +112,9 @@ impl Command {
         ensures { IsTrue result ↔ Takes self options }
     {
         let row = self.signature();
-        let allowed = row.options;
         row.place != Place::Session
             && row.place != Place::Alone
-            && (!options.canonical || allowed.canonical)
-            && (!options.bytes || allowed.bytes)
-            && (!options.lines || allowed.lines)
-            && (!options.many || allowed.many)
+            && options.are_among(row.options)
             && !(options.canonical && options.bytes)
     }
 }

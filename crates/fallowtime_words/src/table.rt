@@ -66,6 +66,8 @@ pub struct Allowed {
     pub lines: bool,
     /// `--many`.
     pub many: bool,
+    /// `--sort`, `--skip` and `--limit`.
+    pub arranged: bool,
 }
 
 /// A row of the table.
@@ -92,6 +94,7 @@ const NO_OPTION: Allowed = Allowed {
     bytes: false,
     lines: false,
     many: false,
+    arranged: false,
 };
 
 const CANONICAL: Allowed = Allowed {
@@ -99,6 +102,7 @@ const CANONICAL: Allowed = Allowed {
     bytes: false,
     lines: false,
     many: false,
+    arranged: false,
 };
 
 const PRINTED: Allowed = Allowed {
@@ -106,6 +110,15 @@ const PRINTED: Allowed = Allowed {
     bytes: true,
     lines: false,
     many: false,
+    arranged: false,
+};
+
+const FOUND: Allowed = Allowed {
+    canonical: true,
+    bytes: true,
+    lines: false,
+    many: false,
+    arranged: true,
 };
 
 const LINES: Allowed = Allowed {
@@ -113,6 +126,7 @@ const LINES: Allowed = Allowed {
     bytes: false,
     lines: true,
     many: false,
+    arranged: false,
 };
 
 const MANY: Allowed = Allowed {
@@ -120,10 +134,11 @@ const MANY: Allowed = Allowed {
     bytes: false,
     lines: false,
     many: true,
+    arranged: false,
 };
 
 /// The commands, in the order of the help.
-pub const TABLE: [Signature; 18] = [
+pub const TABLE: [Signature; 20] = [
     Signature {
         command: Command::Insert,
         name: "insert",
@@ -140,7 +155,7 @@ pub const TABLE: [Signature; 18] = [
         options: NO_OPTION,
         effect: Effect::Makes,
         place: Place::Both,
-        about: "puts a document in, or replaces the one with its _id",
+        about: "puts a document in, or replaces one of its _id",
     },
     Signature {
         command: Command::Replace,
@@ -149,7 +164,7 @@ pub const TABLE: [Signature; 18] = [
         options: NO_OPTION,
         effect: Effect::Changes,
         place: Place::Both,
-        about: "puts a document in the place of the one with its _id",
+        about: "puts a document where the one with its _id is",
     },
     Signature {
         command: Command::Get,
@@ -195,7 +210,20 @@ pub const TABLE: [Signature; 18] = [
         options: MANY,
         effect: Effect::Changes,
         place: Place::Both,
-        about: "updates the selected documents, and prints how many",
+        about: "updates the first that is selected, or all",
+    },
+    Signature {
+        command: Command::ReplaceOne,
+        name: "replace-one",
+        arguments: &[
+            Argument::Collection,
+            Argument::Selection,
+            Argument::Document,
+        ],
+        options: NO_OPTION,
+        effect: Effect::Changes,
+        place: Place::Both,
+        about: "puts a document where the first selected one is",
     },
     Signature {
         command: Command::Delete,
@@ -204,7 +232,7 @@ pub const TABLE: [Signature; 18] = [
         options: MANY,
         effect: Effect::Changes,
         place: Place::Both,
-        about: "removes the first selected document, with --many all",
+        about: "removes the first that is selected, or all",
     },
     Signature {
         command: Command::Remove,
@@ -219,7 +247,7 @@ pub const TABLE: [Signature; 18] = [
         command: Command::Find,
         name: "find",
         arguments: &[Argument::Collection, Argument::Query],
-        options: PRINTED,
+        options: FOUND,
         effect: Effect::Reads,
         place: Place::Both,
         about: "prints the documents that are selected, or all",
@@ -240,7 +268,7 @@ pub const TABLE: [Signature; 18] = [
         options: LINES,
         effect: Effect::Makes,
         place: Place::Both,
-        about: "puts the documents of standard input in, all or none",
+        about: "puts documents of standard input in, all or none",
     },
     Signature {
         command: Command::Export,
@@ -259,6 +287,15 @@ pub const TABLE: [Signature; 18] = [
         effect: Effect::Reads,
         place: Place::Both,
         about: "prints the names of the collections",
+    },
+    Signature {
+        command: Command::Check,
+        name: "check",
+        arguments: &[],
+        options: NO_OPTION,
+        effect: Effect::Reads,
+        place: Place::Both,
+        about: "tests all of FILE, and prints how many documents it has",
     },
     Signature {
         command: Command::Backup,

@@ -1,8 +1,8 @@
 //! The words that the program is started with.
 
-ghost use Rattle.std.specs.Prelude.{◌≡◌, ◌↔◌, ◌∷◌, ℕ, List, Option, Some, IsTrue, MatchOption, map, option_map, string_bytes};
+ghost use Rattle.std.specs.Prelude.{◌≡◌, ◌↔◌, ◌∷◌, ℕ, List, Option, Some, IfSome, IsTrue, MatchOption, map, option_map, string_bytes};
 ghost use Rattle.fallowtime_words.specs.Commands.{command_name};
-ghost use Rattle.fallowtime_words.specs.Words.{Asked, session, HasRest, IsFile, IsTask, Wait, asked_of};
+ghost use Rattle.fallowtime_words.specs.Words.{Asked, session, HasRest, HasSort, IsFile, IsTask, Wait, asked_of, sort_text, word_before};
 ghost use Rattle.fallowtime_words.specs.declared.command.Command.{Command};
 ghost use Rattle.fallowtime_words.specs.declared.options.Options.{Options};
 
@@ -22,6 +22,8 @@ pub struct Words<'a> {
     pub arguments: &'a [String],
     /// The options.
     pub options: Options,
+    /// The text of `--sort`, if that is given.
+    pub sort: Option<&'a str>,
 }
 
 /// What the program is to do.
@@ -56,11 +58,35 @@ fn split_command(words: &[String]) -> Option<(Command, &[String])>
     Some((command, behind))
 }
 
+/// The word with so many behind it.
+fn word_before(words: &[String], count: usize) -> Option<&str>
+    ensures { option_map (λ t. t.now) result ≡ word_before count (map string_bytes words.now) }
+{
+    match words {
+        [] => None,
+        [word, rest @ ..] => {
+            if rest.len() == count {
+                Some(word.as_str())
+            } else {
+                word_before(rest, count)
+            }
+        }
+    }
+}
+
+/// The text of `--sort`.
+fn sort_text(words: &[String], options: Options) -> Option<&str>
+    ensures { option_map (λ t. t.now) result ≡ sort_text (map string_bytes words.now) options }
+{
+    word_before(words, options.sort?)
+}
+
 /// The line of a command over a file, by the words after the command.
 fn read_line<'a>(file: &'a str, command: Command, words: &'a [String]) -> Option<Words<'a>>
     ensures { MatchOption result
         ((taken : List (List ℕ)) (options : Options) → HasRest command (map string_bytes words.now) taken options → ⊥)
         (λ w. (w.file.now ≡ file.now) × (w.command ≡ command)
+        × (option_map (λ t. t.now) w.sort ≡ sort_text (map string_bytes words.now) w.options)
         × HasRest command (map string_bytes words.now) (map string_bytes w.arguments.now) w.options) }
 {
     let (arguments, options) = read_rest(command, words)?;
@@ -69,6 +95,7 @@ fn read_line<'a>(file: &'a str, command: Command, words: &'a [String]) -> Option
         command,
         arguments,
         options,
+        sort: sort_text(words, options),
     })
 }
 
@@ -89,9 +116,10 @@ fn read_patience(words: &[String]) -> Option<Option<u64>>
 /// What the words over a file ask for.
 fn read_behind<'a>(file: &'a str, words: &'a [String]) -> Option<Task<'a>>
     requires { IsFile file.now }
-    ensures { MatchOption result
+    ensures task { MatchOption result
         ((asked : Asked) → IsTask (file.now ∷ map string_bytes words.now) asked → ⊥)
         (λ task. IsTask (file.now ∷ map string_bytes words.now) (asked_of task)) }
+    ensures sort { IfSome result (HasSort (file.now ∷ map string_bytes words.now)) }
 {
     match split_command(words) {
         Some((command, behind)) => Some(Task::Command(read_line(file, command, behind)?)),
@@ -109,6 +137,7 @@ pub fn read_words(words: &[String]) -> Option<Task<'_>>
         ((asked : Asked) → IsTask (map string_bytes words.now) asked → ⊥)
         (λ task. IsTask (map string_bytes words.now) (asked_of task)) }
     ensures only { (asked : Asked) → IsTask (map string_bytes words.now) asked → option_map asked_of result ≡ Some asked }
+    ensures sort { IfSome result (HasSort (map string_bytes words.now)) }
 {
     let (file, behind) = words.split_first()?;
     if !is_file(file.as_str()) {

@@ -1,6 +1,6 @@
 use Rattle.bson_store.specs.Calls.{store_state}
 use Rattle.store_question.specs.Reads.{form_of}
-use Rattle.fallowtime_commands.proofs.AskLemmas.{counted, found}
+use Rattle.fallowtime_commands.proofs.AskLemmas.{counted, counted_all, found}
 use Rattle.fallowtime_commands.proofs.IndexLemmas.{indexed}
 use Rattle.fallowtime_commands.proofs.performing.perform.Goals as goal
 
@@ -51,7 +51,7 @@ returns-in-Remove-clause-crash g c = rw (c.in-Remove.is, c.nothing-in-Remove.ens
 
 pub returns-in-Find-clause-moves : goal.returns-in-Find-clause-moves
 returns-in-Find-clause-moves g c =
-    rw (c.in-Find.is, c.documents.ensures.reply) (found c.args.name.now (form_of c.in-Find.question) (store_state g.S.Store c.args.store.now) (store_state g.S.Store c.find.new.store) c.find.result c.find.ensures.moves)
+    rw (c.in-Find.is, c.documents.ensures.reply) (found c.args.name.now (form_of c.in-Find.question) c.in-Find.arrangement (store_state g.S.Store c.args.store.now) (store_state g.S.Store c.find_arranged.new.store) c.find_arranged.result c.find_arranged.ensures.moves)
 
 pub returns-in-Count-clause-moves : goal.returns-in-Count-clause-moves
 returns-in-Count-clause-moves g c =
@@ -73,3 +73,7 @@ returns-in-DropIndex-clause-moves g c =
 
 pub returns-in-Collections-clause-moves : goal.returns-in-Collections-clause-moves
 returns-in-Collections-clause-moves g c = rw (c.in-Collections.is, c.names.ensures.reply) c.collections.ensures.moves
+
+pub returns-in-Check-clause-moves : goal.returns-in-Check-clause-moves
+returns-in-Check-clause-moves g c =
+    rw (c.in-Check.is, c.number-in-Check.ensures.reply) (counted_all (store_state g.S.Store c.args.store.now) (store_state g.S.Store c.total.new.store) c.total.result c.total.ensures.moves)

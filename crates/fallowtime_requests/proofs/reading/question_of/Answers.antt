@@ -49,6 +49,12 @@ returns-in-Update-clause-asked c = by_command c.args.maker.now c.args.command co
 pub returns-in-Update-clause-maker : goal.returns-in-Update-clause-maker
 returns-in-Update-clause-maker c = λ other. stays c.args.maker.now c.update.result
 
+pub returns-in-ReplaceOne-clause-asked : goal.returns-in-ReplaceOne-clause-asked
+returns-in-ReplaceOne-clause-asked c = by_command c.args.maker.now c.args.command command.ReplaceOne (map seen c.args.arguments.now) c.replace_one.result c.in-ReplaceOne.is c.replace_one.ensures
+
+pub returns-in-ReplaceOne-clause-maker : goal.returns-in-ReplaceOne-clause-maker
+returns-in-ReplaceOne-clause-maker c = λ other. stays c.args.maker.now c.replace_one.result
+
 pub returns-in-Delete-clause-asked : goal.returns-in-Delete-clause-asked
 returns-in-Delete-clause-asked c = by_command c.args.maker.now c.args.command command.Delete (map seen c.args.arguments.now) c.delete.result c.in-Delete.is c.delete.ensures
 
@@ -96,3 +102,9 @@ returns-in-Collections-clause-asked c = by_command c.args.maker.now c.args.comma
 
 pub returns-in-Collections-clause-maker : goal.returns-in-Collections-clause-maker
 returns-in-Collections-clause-maker c = λ other. stays c.args.maker.now c.collections.result
+
+pub returns-in-Check-clause-asked : goal.returns-in-Check-clause-asked
+returns-in-Check-clause-asked c = by_command c.args.maker.now c.args.command command.Check (map seen c.args.arguments.now) c.check.result c.in-Check.is c.check.ensures
+
+pub returns-in-Check-clause-maker : goal.returns-in-Check-clause-maker
+returns-in-Check-clause-maker c = λ other. stays c.args.maker.now c.check.result

@@ -1,0 +1,226 @@
+//! The order in which `find` returns documents, and which part of them.
+
+ghost use Rattle.std.specs.Prelude.{◌≡◌, ◌≢◌, ◌⊎◌, [], ℕ, IfErr, MatchOption, Err, MatchResult, None, OnOk, Some};
+ghost use Rattle.std.specs.Option.{option_map};
+ghost use Rattle.json.specs.Value.{items_view, members_view, value_view as data_of};
+ghost use Rattle.store_sorted.specs.Bodies.{key_of, keys_of};
+ghost use Rattle.fallowtime_requests.specs.Arranging.{AsksArranged, IsCount, IsOfWords, IsPlan, Plan, PutsOption, PutsOptions, ReadsLine, StopsOptions, key_in, keys_behind, keys_under, plan_of, turn_in, whole, with_arrangement};
+ghost use Rattle.fallowtime_requests.specs.Inputs.{trees};
+ghost use Rattle.fallowtime_requests.specs.Reading.{KeepsMaker, Reads};
+ghost use Rattle.fallowtime_requests.specs.Requests.{IsWhole};
+ghost use Rattle.fallowtime_requests.specs.declared.stop.Stop.TheVariants.{Memory, Words};
+ghost use Rattle.fallowtime_requests.specs.declared.unread.Unread.TheVariants as unread;
+ghost use Rattle.fallowtime_words.specs.declared.command.Command.TheVariants as commands;
+
+use crate::reading::{Question, question_of_items};
+use crate::request::Request;
+use crate::stop::Stop;
+use crate::unread::Unread;
+use bson_json_read::Scratch;
+use fallowtime_texts::IdMaker;
+use fallowtime_words::Command;
+use json::Value;
+use std::alloc::Global;
+use store_sorted::{Arrangement, SortKey, sort_key_by, sort_keys_of};
+
+/// The arrangement of all documents, as they come.
+pub(crate) fn whole_of(alloc: Global) -> Arrangement
+    ensures { IsWhole result }
+{
+    Arrangement {
+        keys: Vec::new(alloc),
+        skip: 0,
+        limit: None,
+    }
+}
+
+/// The arrangement that the options of a command line ask for: the text of `--sort`, and the numbers of `--skip` and
+/// `--limit`.
+pub fn arrangement_of_words(
+    alloc: Global,
+    sort: Option<&str>,
+    skip: Option<usize>,
+    limit: Option<usize>,
+) -> Result<Arrangement, Stop>
+    ensures { MatchResult result (λ a. IsOfWords (option_map (λ t. t.now) sort.entry) skip limit a) (λ s. s ≡ Memory) }
+{
+    let keys = match sort {
+        Some(text) => sort_keys_of(alloc, text)?,
+        None => Vec::new(alloc),
+    };
+    Ok(Arrangement {
+        keys,
+        skip: skip.unwrap_or(0),
+        limit,
+    })
+}
+
+/// Gives a question that finds documents an arrangement. Any other stays as it is.
+pub fn arrange(question: &mut Question<'_>, arrangement: Arrangement)
+    ensures request { question.new.request ≡ with_arrangement arrangement question.old.request }
+    ensures collection { question.new.collection ≡ question.old.collection }
+    ensures layout { question.new.layout ≡ question.old.layout }
+{
+    if let Request::Find(_, place) = &mut question.request {
+        *place = arrangement;
+    }
+}
+
+/// The number of documents that a value is: decimal digits alone.
+fn count_in(value: &Value<'_>) -> Option<usize>
+    ensures { MatchOption result ((n : ℕ) → IsCount (data_of value.now) n → ⊥) (λ n. IsCount (data_of value.now) n) }
+{
+    match value {
+        Value::Number(text) if !text.starts_with('+') => text.parse::<usize>().ok(),
+        _ => None,
+    }
+}
+
+/// Whether the greatest comes first under a key: `1` says that the least does, `-1` that the greatest does.
+fn is_descending(value: &Value<'_>) -> Option<bool>
+    ensures { result ≡ turn_in (data_of value.now) }
+{
+    match value {
+        Value::Number(text) => match *text {
+            "1" => Some(false),
+            "-1" => Some(true),
+            _ => None,
+        },
+        _ => None,
+    }
+}
+
+/// A key of an order.
+fn key_in(alloc: Global, name: &str, value: &Value<'_>) -> Result<SortKey, Stop>
+    ensures { MatchResult result (λ key. key_in name.now (data_of value.now) ≡ Some (key_of key))
+        (λ s. (s ≡ Memory) ⊎ ((s ≡ Words unread.Options) × (key_in name.now (data_of value.now) ≡ None))) }
+{
+    match is_descending(value) {
+        Some(descending) => Ok(sort_key_by(alloc, name, descending)?),
+        None => Err(Stop::Words(Unread::Options)),
+    }
+}
+
+/// The keys of an order, one after the other.
+fn keys_among(alloc: Global, members: &[(&str, Value<'_>)]) -> Result<Vec<SortKey>, Stop>
+    ensures { MatchResult result (λ keys. keys_behind [] (members_view members.now) ≡ Some (keys_of keys.items))
+        (λ s. (s ≡ Memory) ⊎ ((s ≡ Words unread.Options) × (keys_behind [] (members_view members.now) ≡ None))) }
+{
+    let mut keys = Vec::new(alloc);
+    for (name, value) in members {
+        let key = key_in(alloc, *name, value)?;
+        keys.push(key)?;
+    }
+    Ok(keys)
+}
+
+/// The keys that an object is as an order.
+fn keys_in(alloc: Global, value: &Value<'_>) -> Result<Vec<SortKey>, Stop>
+    ensures { MatchResult result (λ keys. keys_under (data_of value.now) ≡ Some (keys_of keys.items))
+        (λ s. (s ≡ Memory) ⊎ ((s ≡ Words unread.Options) × (keys_under (data_of value.now) ≡ None))) }
+{
+    match value {
+        Value::Object(members) => keys_among(alloc, members.as_slice()),
+        _ => Err(Stop::Words(Unread::Options)),
+    }
+}
+
+/// Gives an arrangement the option of one name.
+fn put_option(
+    alloc: Global,
+    arrangement: &mut Arrangement,
+    name: &str,
+    value: &Value<'_>,
+) -> Result<(), Stop>
+    ensures put { OnOk result (PutsOption (plan_of arrangement.old) name.now (data_of value.now) (plan_of arrangement.new)) }
+    ensures stop { IfErr result (StopsOptions ((q : Plan) → PutsOption (plan_of arrangement.old) name.now (data_of value.now) q → ⊥)) }
+{
+    match name {
+        "sort" => arrangement.keys = keys_in(alloc, value)?,
+        "skip" => arrangement.skip = count_in(value).ok_or(Stop::Words(Unread::Options))?,
+        "limit" => {
+            arrangement.limit = Some(count_in(value).ok_or(Stop::Words(Unread::Options))?);
+        }
+        _ => return Err(Stop::Words(Unread::Options)),
+    }
+    Ok(())
+}
+
+/// The arrangement that the members of an object of options ask for.
+fn arrangement_among(alloc: Global, members: &[(&str, Value<'_>)]) -> Result<Arrangement, Stop>
+    ensures { MatchResult result (λ a. PutsOptions whole (members_view members.now) (plan_of a))
+        (StopsOptions ((q : Plan) → PutsOptions whole (members_view members.now) q → ⊥)) }
+{
+    let mut arrangement = whole_of(alloc);
+    for (name, value) in members {
+        put_option(alloc, &mut arrangement, *name, value)?;
+    }
+    Ok(arrangement)
+}
+
+/// The arrangement that an object of options asks for.
+fn arrangement_of(alloc: Global, tree: &Value<'_>) -> Result<Arrangement, Stop>
+    ensures { MatchResult result (λ a. IsPlan (data_of tree.now) (plan_of a))
+        (StopsOptions ((q : Plan) → IsPlan (data_of tree.now) q → ⊥)) }
+{
+    match tree {
+        Value::Object(members) => arrangement_among(alloc, members.as_slice()),
+        _ => Err(Stop::Words(Unread::Options)),
+    }
+}
+
+/// What `find` asks for by a collection, a query and an object of options.
+fn find_by_options<'w>(
+    alloc: Global,
+    items: &[Value<'w>],
+    options: &Value<'_>,
+    maker: &mut IdMaker,
+    scratch: &mut Scratch,
+) -> Result<Question<'w>, Stop>
+    ensures asked { MatchResult result
+        (λ q. AsksArranged maker.old maker.new (items_view items.now) (data_of options.now) q.collection.now q.request q.layout)
+        (λ s. Reads maker.old maker.new commands.Find (trees (items_view items.now)) (Err s)
+        ⊎ StopsOptions ((p : Plan) → IsPlan (data_of options.now) p → ⊥) s) }
+    ensures maker { IfErr result (KeepsMaker maker.old maker.new) }
+{
+    let mut question = question_of_items(alloc, Command::Find, items, maker, scratch)?;
+    let arrangement = arrangement_of(alloc, options)?;
+    arrange(&mut question, arrangement);
+    Ok(question)
+}
+
+/// What `find` asks for by the values of a line.
+fn find_of_line<'w>(
+    alloc: Global,
+    items: &[Value<'w>],
+    maker: &mut IdMaker,
+    scratch: &mut Scratch,
+) -> Result<Question<'w>, Stop>
+    ensures asked { ReadsLine maker.old maker.new commands.Find (items_view items.now) result }
+    ensures maker { IfErr result (KeepsMaker maker.old maker.new) }
+{
+    match items {
+        [_, _, options] => find_by_options(alloc, &items[..2], options, maker, scratch),
+        _ => question_of_items(alloc, Command::Find, items, maker, scratch),
+    }
+}
+
+/// What a line asks for whose command has the values of an array as its arguments, as `question_of_items` says; `find`
+/// has a third one, an object of the options `sort`, `skip` and `limit`.
+///
+/// `Words` as there, and `Options` if that object can't be read.
+pub fn question_of_line<'w>(
+    alloc: Global,
+    command: Command,
+    items: &[Value<'w>],
+    maker: &mut IdMaker,
+    scratch: &mut Scratch,
+) -> Result<Question<'w>, Stop>
+    ensures asked { ReadsLine maker.old maker.new command (items_view items.now) result }
+    ensures maker { command ≢ commands.Import → IfErr result (KeepsMaker maker.old maker.new) }
+{
+    match command {
+        Command::Find => find_of_line(alloc, items, maker, scratch),
+        _ => question_of_items(alloc, command, items, maker, scratch),
+    }
+}
