@@ -27,7 +27,7 @@ with fallowtime.open(sys.argv[1]) as shop:
     print(orders.update_one({"customer.name": "Max"}, {"$set": {"paid": True}}))
     print("from Ulm:", orders.count_documents({"customer.city": "Ulm"}))
     print("to be paid:", sum(order["total"] for order in orders.find({"paid": False})))
-    for order in sorted(orders.find(), key=lambda order: order["total"]):
+    for order in orders.find().sort("total"):
         print(order["_id"], order["customer"]["name"], order["weight"], order["total"])
 
     shop.backup("before.db")

@@ -7,7 +7,8 @@ PROGRAM is the program under the name fallowtime. The tests are those of Debian'
 both of their forms, v1 and unified; left out are those for servers before 5.0, of writes that aren't acknowledged and
 of servers that are made to fail. Each one passes, or is refused by name, as NotImplementedError, or is answered
 otherwise than MongoDB answers. Prints how many there are of each, and those that are answered otherwise, with --refused
-also why the others were refused. Ends with status 1 if one is answered otherwise, or fewer pass than did before.
+also why the others were refused. Ends with status 1 if one is answered otherwise, fewer pass than did before, or the
+page of the package names others as refused than are.
 """
 import collections
 import json
@@ -17,26 +18,29 @@ import re
 import shutil
 import sys
 import tempfile
+import types
 
+ROOT = pathlib.Path(__file__).resolve().parent.parent
+PAGE = ROOT / "python" / "README.md"
 FOLDER = pathlib.Path("/usr/share/gocode/src/go.mongodb.org/mongo-driver/data/crud")
 # How many there are, and how many have to pass.
 COUNT = 202
-LEAST = 106
+LEAST = 153
 # The version of MongoDB whose answers are wanted.
 VERSION = (5, 0)
 
 if not 2 <= len(sys.argv) <= 3 or sys.argv[2:] not in ([], ["--refused"]):
     sys.exit("crud.py: the words are PROGRAM [--refused]")
 os.environ["FALLOWTIME"] = os.path.abspath(sys.argv[1])
-sys.path.insert(0, str(pathlib.Path(__file__).resolve().parent.parent / "python"))
+sys.path.insert(0, str(ROOT / "python"))
 sys.dont_write_bytecode = True
 
 import fallowtime  # noqa: E402
 
 # A test: its file, its own line, the collections before it, its operations, and the collections behind it.
 Test = collections.namedtuple("Test", "file description before operations behind")
-# An operation of a test: on a collection, or on the store if that is None.
-Operation = collections.namedtuple("Operation", "name collection arguments result error")
+# An operation of a test: on a collection, which may be read in a way of its own, or on the store if that is None.
+Operation = collections.namedtuple("Operation", "name collection arguments result error concern", defaults=[None])
 # The names of arguments that aren't those of the tests in small letters.
 ARGUMENTS = {"fieldName": "key", "maxTimeMS": "maxTimeMS"}
 # The methods of the package whose names aren't those of the tests in small letters.
@@ -78,13 +82,15 @@ def read_v1(path):
 def read_unified(path):
     """The tests of a file of the newer form."""
     page = json.loads(path.read_text())
-    names = {entity["collection"]["id"]: entity["collection"]["collectionName"]
-             for entity in page["createEntities"] if "collection" in entity}
+    entities = [entity["collection"] for entity in page["createEntities"] if "collection" in entity]
+    names = {entity["id"]: entity["collectionName"] for entity in entities}
+    concerns = {entity["id"]: entity.get("collectionOptions", {}).get("readConcern") for entity in entities}
     before = {part["collectionName"]: part["documents"] for part in page.get("initialData", [])}
     for test in page["tests"]:
         requirements = test.get("runOnRequirements") or page.get("runOnRequirements")
         operations = [Operation(operation["name"], names.get(operation["object"]), operation.get("arguments", {}),
-                                operation.get("expectResult", ANY), operation.get("expectError"))
+                                operation.get("expectResult", ANY), operation.get("expectError"),
+                                concerns.get(operation["object"]))
                       for operation in test["operations"]]
         if is_for_older(requirements) or any(operation.name == "failPoint" for operation in operations):
             continue
@@ -135,6 +141,8 @@ def request_of(request):
 def ask(store, operation):
     """The answer to an operation, as the tests write it."""
     thing = store if operation.collection is None else store[operation.collection]
+    if operation.concern is not None:
+        thing = thing.with_options(read_concern=types.SimpleNamespace(**operation.concern))
     method = getattr(thing, METHODS.get(operation.name, snake(operation.name)))
     return written(method(**named(operation.arguments)))
 
@@ -253,6 +261,18 @@ def run_all(folder):
     return passed, refused, otherwise
 
 
+def named_on_page():
+    """The files that the page's table of what is refused names, with how many tests of each."""
+    begin = "| what they ask for | tests | files |"
+    table = PAGE.read_text().partition(begin)[2].partition("\n\n")[0]
+    rows = [line.split("|") for line in table.splitlines()[2:]]
+    found = [re.findall(r"`([^`]+)`(?: (\d+))?", row[3]) for row in rows]
+    for row, files in zip(rows, found):
+        if int(row[2]) != sum(int(number or 1) for _, number in files):
+            sys.exit(f"crud.py: {PAGE}: the files of a row have other tests than {row[2].strip()}:{row[1]}")
+    return {f"{name}.json": int(number or 1) for files in found for name, number in files}
+
+
 def main():
     folder = pathlib.Path(tempfile.mkdtemp(prefix="crud-", dir="/dev/shm" if os.access("/dev/shm", os.W_OK) else None))
     try:
@@ -268,7 +288,11 @@ def main():
           " answered otherwise")
     if count != COUNT or passed < LEAST:
         print(f"crud.py: there are {COUNT} tests, of which {LEAST} passed before")
-    sys.exit(bool(otherwise) or count != COUNT or passed < LEAST)
+    by_file = collections.Counter(line.partition(":")[0] for line in refused)
+    is_page_right = by_file == named_on_page()
+    if not is_page_right:
+        print(f"crud.py: {PAGE} names other tests as refused than {dict(by_file)}")
+    sys.exit(bool(otherwise) or count != COUNT or passed < LEAST or not is_page_right)
 
 
 main()

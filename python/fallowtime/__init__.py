@@ -12,11 +12,12 @@ of the environment, on the path, or in the checkout in which this package lies.
 """
 from __future__ import annotations
 
+from ._client import MongoClient
 from ._collection import Collection
 from ._cursor import CommandCursor, Cursor
-from ._errors import (BulkWriteError, CollectionInvalid, ConnectionFailure, DuplicateKeyError, Ended, FallowtimeError,
-                      InsertManyError, InvalidOperation, InvalidWriteError, OperationFailure, Refused, RefusedWrite,
-                      WriteError)
+from ._errors import (BulkWriteError, CollectionInvalid, ConfigurationError, ConnectionFailure, DuplicateKeyError,
+                      Ended, FallowtimeError, InsertManyError, InvalidName, InvalidOperation, InvalidWriteError,
+                      OperationFailure, Refused, RefusedWrite, WriteError)
 from ._index import ASCENDING, DESCENDING
 from ._results import BulkWriteResult, DeleteResult, InsertManyResult, InsertOneResult, ReturnDocument, UpdateResult
 from ._store import Store, open
@@ -28,11 +29,12 @@ __version__ = "0.1.0"
 
 __all__ = [
     "ASCENDING", "Binary", "BulkWriteError", "BulkWriteResult", "Code", "Collection", "CollectionInvalid",
-    "CommandCursor", "ConnectionFailure", "Cursor", "DBPointer", "DESCENDING", "DatetimeMS", "DeleteMany", "DeleteOne",
-    "DeleteResult", "DuplicateKeyError", "Ended", "FallowtimeError", "IndexModel", "InsertManyError",
-    "InsertManyResult", "InsertOne", "InsertOneResult", "Int64", "InvalidOperation", "InvalidWriteError", "MaxKey",
-    "MinKey", "ObjectId", "OperationFailure", "Refused", "RefusedWrite", "Regex", "ReplaceOne", "ReturnDocument",
-    "Store", "Symbol", "Timestamp", "Undefined", "UpdateMany", "UpdateOne", "UpdateResult", "WriteError", "open",
+    "CommandCursor", "ConfigurationError", "ConnectionFailure", "Cursor", "DBPointer", "DESCENDING", "DatetimeMS",
+    "DeleteMany", "DeleteOne", "DeleteResult", "DuplicateKeyError", "Ended", "FallowtimeError", "IndexModel",
+    "InsertManyError", "InsertManyResult", "InsertOne", "InsertOneResult", "Int64", "InvalidName", "InvalidOperation",
+    "InvalidWriteError", "MaxKey", "MinKey", "MongoClient", "ObjectId", "OperationFailure", "Refused", "RefusedWrite",
+    "Regex", "ReplaceOne", "ReturnDocument", "Store", "Symbol", "Timestamp", "Undefined", "UpdateMany", "UpdateOne",
+    "UpdateResult", "WriteError", "open",
 ]
 
 # They are of this package, as tracebacks and pickle name them, wherever in it they are written.

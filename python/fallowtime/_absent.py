@@ -11,9 +11,7 @@ _LETTERS = "texts are compared by their letters"
 # What an option of a method would do, or why there is no such method.
 OPTIONS = {
     "collation": _LETTERS,
-    "array_filters": "a path leads through documents alone",
     "session": "there are no transactions",
-    "sort": "of changes find_one_and_update, find_one_and_replace and find_one_and_delete take one",
     "let": "there are no variables",
     "hint": _CHOSEN,
     "min": _CHOSEN,
@@ -57,7 +55,7 @@ OF_COLLECTION = {
     "drop_search_index": _SEARCHED,
     "find_raw_batches": "export gives the bytes of BSON",
     "list_search_indexes": _SEARCHED,
-    "rename": "a collection keeps its name",
+    "rename": "a request puts documents in or removes them, and to do both would be two steps",
     "update_search_index": _SEARCHED,
     "watch": "changes aren't reported",
 }
@@ -65,7 +63,6 @@ OF_CURSOR = {
     "add_option": "a query has no options",
     "collation": _LETTERS,
     "count": "count_documents counts",
-    "explain": "how a query is answered isn't reported",
     "max": _CHOSEN,
     "max_await_time_ms": "a request has no time limit",
     "max_time_ms": "a request has no time limit",
@@ -84,6 +81,25 @@ OF_STORE = {
     "watch": "changes aren't reported",
 }
 
+OF_CLIENT = {
+    "drop_database": "a store is a file",
+    "fsync": "what was answered is on the disk",
+    "list_databases": "list_database_names lists them",
+    "start_session": "there are no transactions",
+    "watch": "changes aren't reported",
+}
+# Options of a client. Those of connections mean nothing here.
+OPTIONS_OF_CLIENT = {
+    "document_class": "a document is a dict",
+    "host": "a client has a folder of stores, and no server",
+    "port": "a client has a folder of stores, and no server",
+    "type_registry": "values are of the classes of this package",
+}
+IDLE_OF_CLIENT = frozenset([
+    "appname", "connect", "connectTimeoutMS", "heartbeatFrequencyMS", "j", "journal", "localThresholdMS",
+    "maxIdleTimeMS", "maxPoolSize", "minPoolSize", "readPreference", "retryReads", "retryWrites",
+    "serverSelectionTimeoutMS", "socketTimeoutMS", "w", "waitQueueTimeoutMS", "wtimeoutMS",
+])
 
 # What pymongo's collections and databases have and these haven't, and what is no name of a collection, therefore.
 PROPERTIES = frozenset(["client", "codec_options", "read_concern", "read_preference", "write_concern"])
@@ -104,6 +120,13 @@ def test_options(
             raise TypeError(f"{method} has no argument {name}")
         if value and name not in idle:
             refuse(f"{name} of {method}", known[name])
+
+
+def test_concern(options: Mapping[str, Any]) -> None:
+    """NotImplementedError for reading of the level that MongoDB refuses where something is written, too. The others
+    mean nothing here."""
+    if getattr(options.get("read_concern"), "level", None) == "linearizable":
+        refuse("the read_concern linearizable", "what is read is what every request that was answered has left")
 
 
 class WithAbsent:

@@ -10,11 +10,12 @@ import os
 from collections.abc import Mapping
 from typing import Any, Callable, Dict, Iterable, List, Optional, Sequence, Tuple
 
-from ._absent import test_options
+from ._absent import refuse, test_options
 from ._bulk import Bulk, insert_each
 from ._encode import encode_document, encode_value, test_document
 from ._errors import (IMMUTABLE, DuplicateKeyError, InsertManyError, InvalidOperation, InvalidWriteError,
                       OperationFailure)
+from ._items import ItemUpdate, item_update_of
 from ._part import FIRST, Part
 from ._projection import projection_of
 from ._query import are_operators, encode_query, ids_of, is_number, is_one_look
@@ -115,59 +116,79 @@ class Changing(Reading):
     # ---- changing
 
     def replace_one(self, filter: Document, replacement: Document, upsert: bool = False, *, hint: Hint = None,
-                    **options: Any) -> UpdateResult:
-        """Puts `replacement` in the place of the first document that a query selects. It gets the `_id` of that one,
-        and may not have another one.
+                    sort: Any = None, **options: Any) -> UpdateResult:
+        """Puts `replacement` in the place of the first document that a query selects, as it came, or by `sort`. It
+        gets the `_id` of that one, and may not have another one.
 
         With `upsert` it is put in if no document is selected: with its own `_id`, else with that of the query, else
         with a new ObjectId.
         """
-        return self._replacement("replace_one", filter, replacement, upsert, hint, options)()
+        return self._replacement("replace_one", filter, replacement, upsert, hint, options, sort)()
 
     def _replacement(self, method: str, filter: Document, replacement: Document, upsert: bool, hint: Hint,
-                     options: Document) -> Callable[[], UpdateResult]:
+                     options: Document, sort: Any) -> Callable[[], UpdateResult]:
         self._test_change(method, filter, hint, options)
         _test_replacement(replacement)
+        part = Part(sort)
         if upsert:
             _id_to_put_in(filter, replacement)
 
         def step() -> UpdateResult:
             with self._session.lock:
-                found = self._seek(filter, even_reserved=True)
+                found = self._seek(filter, part, even_reserved=True)
                 if found is None:
                     return self._put_in(filter, replacement) if upsert else UpdateResult(0, 0)
                 return self._replace(found, replacement)
 
         return step
 
-    def update_one(self, filter: Document, update: Document, upsert: bool = False, *, hint: Hint = None,
-                   **options: Any) -> UpdateResult:
-        """Changes the first document that a query selects by MongoDB's operators, such as `$set`, `$unset`, `$inc` and
-        `$push`, at paths: all at once. What is under other keys stays as it is, bit for bit.
+    def update_one(self, filter: Document, update: Document, upsert: bool = False, *, array_filters: Any = None,
+                   hint: Hint = None, sort: Any = None, **options: Any) -> UpdateResult:
+        """Changes the first document that a query selects, as it came, or by `sort`: by MongoDB's operators, such as
+        `$set`, `$unset`, `$inc` and `$push`, at paths, all at once. What is under other keys stays as it is, bit for
+        bit. Items of arrays are changed by `$set` and `$unset` at paths such as ``lines.$[i].count``, with
+        ``array_filters=[{"i.article": "tea"}]``.
 
         With `upsert` a document is put in if none is selected: with the values that the query asks to be equal, and
         what the operators make of that, as far as nothing has to be calculated.
         """
-        return self._change("update_one", filter, update, upsert, hint, options)()
+        return self._change("update_one", filter, update, upsert, hint, options, sort=sort,
+                            array_filters=array_filters)()
 
-    def update_many(self, filter: Document, update: Document, upsert: bool = False, *, hint: Hint = None,
-                    **options: Any) -> UpdateResult:
+    def update_many(self, filter: Document, update: Document, upsert: bool = False, *, array_filters: Any = None,
+                    hint: Hint = None, **options: Any) -> UpdateResult:
         """Changes all documents that a query selects, as `update_one` does the first one, in one step: if one of them
-        is refused, none is changed, and `document` of the `Refused` says which of those that `find` returns it is."""
-        return self._change("update_many", filter, update, upsert, hint, options, '{"many":true}')()
+        is refused, none is changed, and `document` of the `Refused` says which of those that `find` returns it is. If
+        items are changed, it is a step for each document."""
+        return self._change("update_many", filter, update, upsert, hint, options, is_many=True,
+                            array_filters=array_filters)()
 
-    def _change(self, method: str, filter: Document, update: Document, upsert: bool, hint: Hint, options: Document,
-                *many: str) -> Callable[[], UpdateResult]:
+    def _change(self, method: str, filter: Document, update: Document, upsert: bool, hint: Hint, options: Document, *,
+                is_many: bool = False, sort: Any = None, array_filters: Any = None) -> Callable[[], UpdateResult]:
         self._test_change(method, filter, hint, options)
-        text, query = encode_update(method, update), encode_query(filter)
-        if not upsert:
+        text, query, part = encode_update(method, update), encode_query(filter), Part(sort)
+        items = self._item_update(update, array_filters, upsert)
+        if items is not None:
+            return self._change_of_items(self._selection(filter), part if is_many else part.first(), items)
+        document = upserted_document(filter, update) if upsert else None
+        many = ['{"many":true}'] if is_many else []
+        if document is None and not sort:
             return lambda: self._update(query, text, *many)
-        document = upserted_document(filter, update)
 
         def step() -> UpdateResult:
             with self._session.lock:
+                if sort:
+                    return self._update_found(self._seek(filter, part), filter, text, sort, document)
                 result = self._update(query, text, *many)
-                return result if result.matched_count else self._put_in(filter, document)
+                return result if result.matched_count or document is None else self._put_in(filter, document)
+
+        return step
+
+    def _change_of_items(self, select: Callable[[Part], List[Any]], part: Part,
+                         items: ItemUpdate) -> Callable[[], UpdateResult]:
+        def step() -> UpdateResult:
+            with self._session.lock:
+                return self._change_items(select(part), items)
 
         return step
 
@@ -240,15 +261,15 @@ class Changing(Reading):
                             hint: Hint = None, **options: Any) -> Optional[Dict[str, Any]]:
         """Changes the first document that a query selects, and returns it as it was, or as it is with
         `ReturnDocument.AFTER`. None if no document is selected, or was there before an `upsert`."""
-        self._test_change("find_one_and_update", filter, hint, {**options, "array_filters": array_filters})
+        self._test_change("find_one_and_update", filter, hint, options)
         text = encode_update("find_one_and_update", update)
+        items = self._item_update(update, array_filters, upsert)
         document = upserted_document(filter, update) if upsert and encode_query(filter) else None
 
         def change(found: Found) -> UpdateResult:
-            if found is not None:
-                return self._update(self._query_of(found, filter, sort), text)
-            self._update(encode_query(filter), text)
-            return UpdateResult(0, 0) if document is None else self._put_in(filter, document)
+            if items is not None:
+                return self._change_items([] if found is None else [found[1]], items)
+            return self._update_found(found, filter, text, sort, document)
 
         return self._find_and_change(filter, projection, sort, return_document, change)
 
@@ -268,9 +289,32 @@ class Changing(Reading):
     # ---- parts
 
     def _test_change(self, method: str, filter: Document, hint: Hint, options: Document) -> None:
+        self._session.test_changes()
         test_options(method, options)
         test_document(filter)
         self._test_hint(hint)
+
+    def _update_found(self, found: Found, filter: Document, text: str, sort: Any,
+                      document: Optional[Document]) -> UpdateResult:
+        """Changes the document that was found, or puts one in. If it can't be, the program says so of the update."""
+        if found is not None:
+            return self._update(self._query_of(found, filter, sort), text)
+        result = self._update(encode_query(filter), text)
+        return result if document is None else self._put_in(filter, document)
+
+    def _item_update(self, update: Document, array_filters: Any, upsert: bool) -> Optional[ItemUpdate]:
+        items = item_update_of(update, array_filters, self._decoder)
+        if items is not None and upsert:
+            refuse("a path through items with upsert", "the document that is put in has no items")
+        return items
+
+    def _change_items(self, trees: List[Any], items: ItemUpdate) -> UpdateResult:
+        """Changes items of documents, once it is known what becomes of each one."""
+        texts = [items.changed(tree) for tree in trees]
+        for text in texts:
+            if text is not None:
+                self._ask("replace", text)
+        return UpdateResult(len(texts), sum(text is not None for text in texts))
 
     def _query_of(self, found: Tuple[str, Any], filter: Document, sort: Any) -> str:
         """A query whose first document is one that was found by another query: that itself, unless it was sorted, or

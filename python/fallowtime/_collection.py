@@ -3,14 +3,14 @@ from __future__ import annotations
 
 from typing import TYPE_CHECKING, Any, Dict, NoReturn
 
-from ._absent import OF_COLLECTION, WithAbsent, is_name, test_options
-from ._changing import Changing
+from ._absent import OF_COLLECTION, WithAbsent, is_name, test_concern, test_options
+from ._aggregating import Aggregating
 
 if TYPE_CHECKING:
     from ._store import Store
 
 
-class Collection(Changing, WithAbsent):
+class Collection(Aggregating, WithAbsent):
     """The documents of one name in a store. It is there as soon as it has a document, and as long as it has one.
 
     ``store.orders.archive`` is the collection of the name ``orders.archive``.
@@ -37,6 +37,7 @@ class Collection(Changing, WithAbsent):
     def with_options(self, **options: Any) -> "Collection":
         """The collection itself: options of reading and writing several servers mean nothing here."""
         test_options("with_options", options)
+        test_concern(options)
         return self
 
     def options(self, **options: Any) -> Dict[str, Any]:

@@ -1,17 +1,19 @@
 """The documents of an answer, one after the other."""
 from __future__ import annotations
 
+import json
 from typing import TYPE_CHECKING, Any, Callable, Dict, Iterator, List, Optional, Union, overload
 
 from ._absent import OF_CURSOR, WithAbsent
-from ._decode import Tree
 from ._distinct import distinct_values
 from ._errors import InvalidOperation
+from ._explain import plan_of
 from ._part import Part, keys_of
 from ._projection import Projection
 
 if TYPE_CHECKING:
     from ._indexing import Indexing
+    from ._requests import Selection
 
 Document = Dict[str, Any]
 
@@ -100,8 +102,7 @@ class Cursor(CommandCursor):
 
     __slots__ = ("_select", "_project", "_part")
 
-    def __init__(self, collection: "Indexing", select: Callable[[Part], List[Tree]], project: Projection,
-                 part: Part) -> None:
+    def __init__(self, collection: "Indexing", select: "Selection", project: Projection, part: Part) -> None:
         super().__init__(collection, lambda: select(self._part))
         self._select, self._project, self._part = select, project, part
 
@@ -161,6 +162,18 @@ class Cursor(CommandCursor):
         """The different values at a path of all documents of the query, whatever the part."""
         whole = Cursor(self._collection, self._select, lambda document: document, Part())
         return distinct_values(whole, key)
+
+    def explain(self) -> Dict[str, Any]:
+        """How the documents are found, as MongoDB says it: ``["queryPlanner"]["winningPlan"]["stage"]`` is `IXSCAN` by
+        an index, whose `indexName` is there, `IDHACK` by the `_id` at once, and `COLLSCAN` by a look at each document.
+        Nothing is asked for: it is told from the query and the indexes that are there now. Of several that serve the
+        query `indexNames` has them all, and the program goes by the one that has the fewest documents."""
+        self._collection._session.test_open()
+        query = json.loads(self._select.query)
+        plan = plan_of(query, self._select.is_one_look, self._collection._known_indexes())
+        return {"queryPlanner": {"namespace": self._collection.full_name,
+                                 "parsedQuery": self._collection._decoder.document(query),
+                                 "winningPlan": plan, "rejectedPlans": []}, "ok": 1.0}
 
     @overload
     def __getitem__(self, index: int) -> Document: ...

@@ -90,7 +90,7 @@ class Decoder:
     def document(self, tree: Tree) -> Dict[str, Any]:
         """A document, at whose top no key is taken for a typed value."""
         value = self.value
-        return {key: value(inner) for key, inner in tree.items()}
+        return {key: inner if type(inner) is str else value(inner) for key, inner in tree.items()}
 
     def value(self, tree: Tree) -> Any:
         """A value."""

@@ -268,7 +268,9 @@ def _members(document: Mapping[str, Any], level: int, reserved: FrozenSet[str]) 
             raise TypeError(f"a key is a text, and not {key!r}")
         if key in reserved:
             raise _Reserved
-        parts.append(encode_text(key) + ":" + _value(value, level + 1))
+        # As `_value` begins, without a call of it: most values have no value in them.
+        write = _SCALARS.get(type(value))
+        parts.append(encode_text(key) + ":" + (_value(value, level + 1) if write is None else write(value)))
     return "{" + ",".join(parts) + "}"
 
 

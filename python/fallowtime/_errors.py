@@ -12,11 +12,13 @@ PYMONGO = "pymongo.errors"
 # MongoDB's numbers of errors.
 DUPLICATE_KEY, BULK_WRITE, NO_INDEX, NO_HINT = 11000, 65, 27, 2
 DOLLAR_KEY, INDEX_NAME, INDEX_KEYS, ID_INDEX, COLLISION = 52, 86, 85, 72, 31250
-NOT_PARSED, CONFLICT, IMMUTABLE = 9, 40, 66
+NOT_PARSED, CONFLICT, IMMUTABLE, BAD_VALUE, THROUGH, EMPTY_KEY = 9, 40, 66, 2, 28, 15998
+NO_MATCH = 13113
 # Those of a refusal, by its kind.
 CODES = {
-    "DuplicateId": DUPLICATE_KEY, "BadKey": IMMUTABLE, "NotANumber": 14, "NotAnArray": 2, "Overflow": 2, "Decimal": 2,
-    "Through": 28, "BadName": 73, "TooLong": 10334, "BadLength": 10334, "Usage": 2,
+    "DuplicateId": DUPLICATE_KEY, "BadKey": IMMUTABLE, "NotANumber": 14, "NotAnArray": BAD_VALUE,
+    "Overflow": BAD_VALUE, "Decimal": BAD_VALUE, "Through": THROUGH, "BadName": 73, "TooLong": 10334,
+    "BadLength": 10334, "Usage": BAD_VALUE,
 }
 # The kinds of refusals that are of a write, for which pymongo has a class.
 OF_WRITES = frozenset([
@@ -51,6 +53,18 @@ class InvalidOperation(FallowtimeError):
     """What is called can't be done there, such as a sort of a cursor that has returned documents already."""
 
     _pymongos = "InvalidOperation"
+
+
+class ConfigurationError(FallowtimeError):
+    """What would have to be said is missing, such as the name of a store."""
+
+    _pymongos = "ConfigurationError"
+
+
+class InvalidName(FallowtimeError):
+    """A store can't have this name."""
+
+    _pymongos = "InvalidName"
 
 
 class CollectionInvalid(FallowtimeError):

@@ -92,6 +92,11 @@ class Indexing(Requests):
         found.update((name, {"v": VERSION, "key": index.keys, **index.options}) for name, index in known.items())
         return found
 
+    def _known_indexes(self) -> List[Index]:
+        """The indexes that were made, as they came."""
+        with self._session.lock:
+            return list(self._store._indexes.get(self._name, {}).values())
+
     def _test_hint(self, hint: Any) -> None:
         """OperationFailure if an index is named, by its name or its keys, that isn't there. The program takes the best
         one itself."""

@@ -7,10 +7,7 @@ from typing import Any, Dict, List, Optional, Tuple
 from ._absent import refuse
 from ._decode import Tree
 from ._encode import encode_text
-
-# Whether the program takes an order and a part in `find`: ["find",COLL,QUERY,{"sort":{"a":1},"skip":1,"limit":1}]. As
-# long as it doesn't, a sort is refused, and of all documents that it returns the part is taken here.
-HAS_PARTS = False
+from ._errors import EMPTY_KEY, OperationFailure
 
 
 class Part:
@@ -21,8 +18,6 @@ class Part:
     def __init__(self, sort: Any = None, skip: int = 0, limit: int = 0) -> None:
         self.keys = keys_of(sort)
         self.skip, self.limit = _number("skip", skip), abs(_number("limit", limit))
-        if self.keys and not HAS_PARTS:
-            refuse("sort", "nothing is sorted here; sorted() does it with what find returns")
 
     def first(self) -> "Part":
         """The first document of the part."""
@@ -34,7 +29,8 @@ class Part:
         return Part(**options)
 
     def text(self) -> str:
-        """It as the program reads it; empty if all documents are wanted as they came."""
+        """It as the program reads it: `{"sort":{"a":1},"skip":1,"limit":1}`; empty if all documents are wanted as they
+        came."""
         parts = []
         if self.keys:
             parts.append('"sort":{%s}' % ",".join(f"{encode_text(path)}:{way}" for path, way in self.keys.items()))
@@ -42,7 +38,7 @@ class Part:
         return "{%s}" % ",".join(parts) if parts else ""
 
     def of(self, trees: List[Tree]) -> List[Tree]:
-        """The part of all documents, in their order."""
+        """The part of documents that are in order."""
         return trees[self.skip:self.skip + self.limit] if self.limit else trees[self.skip:]
 
     def count(self, number: int) -> int:
@@ -68,6 +64,8 @@ def _key(path: Any, direction: Any) -> Tuple[str, int]:
         raise TypeError(f"a path is a text, and not {path!r}")
     if path.startswith("$") or isinstance(direction, Mapping):
         refuse(f"a sort by {path}", "documents are sorted by the values at paths")
+    if not all(path.split(".")):
+        raise OperationFailure(f"the path {path!r} of a sort has a key that is empty", EMPTY_KEY)
     if isinstance(direction, bool) or direction not in (1, -1):
         raise ValueError(f"a direction is 1 or -1, and not {direction!r}")
     return path, int(direction)

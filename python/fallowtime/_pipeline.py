@@ -1,25 +1,27 @@
-"""Pipelines that are one find or one count."""
+"""Pipelines that are one find or one count, of which the documents may go into a collection."""
 from __future__ import annotations
 
 from typing import Any, List, Mapping, Optional, Tuple
 
 from ._absent import refuse
 from ._part import WHOLE, Part
+from ._target import MERGE, OUT, Target, target_of
 
-# In which order stages may come. A sort may come before a match as well as behind it.
-ORDER = ["$match", "$sort", "$skip", "$limit", "$project", "$count"]
+# In which order stages may come. A sort may come before a match as well as behind it, and of the last two one.
+ORDER = ["$match", "$sort", "$skip", "$limit", "$project", "$count", OUT, MERGE]
 
 
 class Stages:
     """What a pipeline asks for."""
 
-    __slots__ = ("queries", "part", "projection", "count")
+    __slots__ = ("queries", "part", "projection", "count", "target")
 
     def __init__(self) -> None:
         self.queries: List[Mapping[str, Any]] = []
         self.part: Part = WHOLE
         self.projection: Any = None
         self.count: Optional[str] = None
+        self.target: Optional[Target] = None
 
     @property
     def query(self) -> Mapping[str, Any]:
@@ -40,6 +42,8 @@ class Stages:
             if not isinstance(value, str) or not value or value.startswith("$") or "." in value:
                 raise ValueError(f"$count takes the name of a key, and not {value!r}")
             self.count = value
+        elif name in (OUT, MERGE):
+            self.target = target_of(name, value)
         else:
             if name == "$limit" and (not isinstance(value, int) or value < 1):
                 raise ValueError(f"$limit takes a number from 1, and not {value!r}")
@@ -53,7 +57,7 @@ def pipeline_of(pipeline: Any) -> Stages:
     stages, last = Stages(), "$match"
     for name, value in [_named(stage) for stage in pipeline]:
         is_match_of_sorted = name == "$match" and last == "$sort"
-        is_again = name == last and name != "$match"
+        is_again = name == last and name != "$match" or last == OUT
         if not is_match_of_sorted and (is_again or ORDER.index(name) < ORDER.index(last)):
             refuse(f"the stage {name} behind {last}", "stages come in the order " + ", ".join(ORDER))
         stages.add(name, value)

@@ -9,7 +9,7 @@ import subprocess
 import sys
 import tempfile
 import threading
-from typing import IO, Iterator, List, Optional, Tuple
+from typing import IO, Iterator, Optional, Sequence, Tuple, Union
 
 from ._errors import REFUSED, WORDS, Ended, Refused, refusal
 
@@ -22,6 +22,8 @@ PARENT = "FALLOWTIME_PARENT"
 CARRIED = pathlib.Path(__file__).resolve().parent / "program" / NAME
 # How much of what the program reports is kept, in bytes.
 LONGEST_REPORT = 1 << 16
+
+Word = Union[str, bytes]
 
 # Held while a process is made, so that no fork comes between: the new process would keep the ends of the pipes open.
 starting = threading.RLock()
@@ -111,8 +113,8 @@ class Report:
         self.file.close()
 
 
-def start(program: str, words: List[str], pipes: Optional[int], report: Report) -> "subprocess.Popen[bytes]":
-    """Starts the program with its words, its input and output as `pipes`. `Ended` if it can't be started.
+def start(program: str, words: Sequence[Word], source: int, report: Report) -> "subprocess.Popen[bytes]":
+    """Starts the program with its words, which reads `source` and writes into a pipe. `Ended` if it can't be started.
 
     It gets a session of its own, so that the signals of a terminal reach it by this process alone. What this process
     ignores it ignores, too: by SIGXFSZ a file that would outgrow `ulimit -f` would else end it.
@@ -120,28 +122,29 @@ def start(program: str, words: List[str], pipes: Optional[int], report: Report) 
     environment = {**os.environ, PARENT: str(os.getpid())}
     try:
         with starting:
-            return subprocess.Popen([program, *words], stdin=pipes, stdout=pipes, stderr=report.file, bufsize=0,
-                                    env=environment, start_new_session=True, restore_signals=False)
+            return subprocess.Popen([program, *words], stdin=source, stdout=subprocess.PIPE, stderr=report.file,
+                                    bufsize=0, env=environment, start_new_session=True, restore_signals=False)
     except OSError as error:
         raise Ended(f"the program {program} can't be started: {error}") from error
 
 
-def run(program: str, words: List[str]) -> None:
-    """Runs the program once. `Refused` if it refuses, `Ended` if it ends otherwise."""
+def run(program: str, words: Sequence[Word]) -> bytes:
+    """Runs the program once, and returns what it wrote. `Refused` if it refuses, `Ended` if it ends otherwise."""
     report = Report()
     try:
         process = start(program, words, subprocess.DEVNULL, report)
         try:
-            status = process.wait()
+            output, _ = process.communicate()
         except BaseException:
             process.kill()
-            process.wait()
+            process.communicate()
             raise
         text = report.text()
     finally:
         report.close()
-    if status == 0:
-        return
+    if process.returncode == 0:
+        return output
+    status = process.returncode
     raise refused_of(text) or Ended(f"the program ended with status {status}", text, status)
 
 

@@ -8,8 +8,10 @@ from collections.abc import Mapping
 from typing import Any, Callable, Dict, Iterator, List
 
 from ._encode import GREATEST_INT32, GREATEST_INT64, LEAST_INT32, LEAST_INT64, RESERVED, encode_text, encode_value
-from ._values import Code, Int64, Regex, Symbol, is_foreign
+from ._values import Code, Int64, ObjectId, Regex, Symbol, is_foreign
 
+# Classes of values that are equal to `_id`s of one way of writing, and of which most are.
+PLAIN = frozenset([int, str, float, ObjectId])
 JOINING = frozenset(["$and", "$or", "$nor"])
 
 
@@ -165,6 +167,8 @@ def asks_for_id(query: "Mapping[str, Any]") -> bool:
 def is_one_look(query: "Mapping[str, Any]") -> bool:
     """Whether a query is one for an `_id` alone whose documents are those with the `ids_of` its value. What is made of
     several values, a decimal and a symbol are equal to `_id`s that are written in other ways, too."""
+    if len(query) == 1 and type(query.get("_id")) in PLAIN:
+        return True
     return asks_for_id(query) and not (
         isinstance(query["_id"], (Mapping, list, tuple, decimal.Decimal, Symbol, Code))
         or any(is_foreign(query["_id"], name) for name in ("Decimal128", "Code", "DBRef")))

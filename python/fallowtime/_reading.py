@@ -5,14 +5,13 @@ import binascii
 import builtins
 import os
 from collections.abc import Mapping
-from typing import IO, Any, Dict, List, Optional, Sequence, Union
+from typing import IO, Any, Dict, List, Optional, Union
 
 from ._absent import test_options
-from ._cursor import CommandCursor, Cursor
+from ._cursor import Cursor
 from ._distinct import distinct_values
 from ._indexing import Indexing
 from ._part import WHOLE, Part
-from ._pipeline import pipeline_of
 from ._projection import projection_of
 from ._query import encode_query
 from ._requests import Document
@@ -29,8 +28,8 @@ class Reading(Indexing):
                  **options: Any) -> Optional[Dict[str, Any]]:
         """The first document that a query selects, or None. What is no dict is the `_id` that is asked for.
 
-        By an `_id` it is one look into an index, unless it is a dict, a list or a decimal. By another query all
-        documents that are selected come from the program.
+        By an `_id` it is one look into an index, unless it is a dict, a list or a decimal. By another query the
+        program reads the documents up to that one, or with `sort` all of them, and sends that one alone.
         """
         test_options("find_one", options)
         self._test_hint(hint)
@@ -71,23 +70,6 @@ class Reading(Indexing):
         if not isinstance(key, str):
             raise TypeError(f"a path is a text, and not {key!r}")
         return distinct_values(self.find(filter), key)
-
-    def aggregate(self, pipeline: Sequence[Document], *, hint: Any = None, **options: Any) -> CommandCursor:
-        """What a pipeline makes of the documents: `$match`, `$sort`, `$skip`, `$limit`, `$project` and `$count`, in
-        this order and each once at the most, except that there may be several `$match`, also behind the `$sort`."""
-        test_options("aggregate", options)
-        self._test_hint(hint)
-        stages = pipeline_of(pipeline)
-        if stages.count is None:
-            cursor = self.find(stages.query, stages.projection)
-            return CommandCursor(self, lambda: cursor._fetched(stages.part))
-        query, name = encode_query(stages.query), stages.count
-
-        def counted() -> List[Dict[str, Any]]:
-            number = stages.part.count(int(self._ask("count", query)["count"]))
-            return [{name: number}] if number else []
-
-        return CommandCursor(self, counted)
 
     def export(self, file: File) -> int:
         """Writes all documents as BSON, one after the other, to a file that is named, or is open for bytes. Returns

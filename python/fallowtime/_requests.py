@@ -3,14 +3,14 @@ from __future__ import annotations
 
 import json
 from collections.abc import Mapping, MutableMapping
-from typing import TYPE_CHECKING, Any, Callable, List, Optional, Tuple
+from typing import TYPE_CHECKING, Any, Callable, List, Optional, Tuple, Union
 
-from . import _part
 from ._decode import Decoder, Tree
 from ._encode import encode_document, encode_text, encode_value, test_document
 from ._errors import CONFLICT, DOLLAR_KEY, NOT_PARSED, DuplicateKeyError, InvalidWriteError, Refused, WriteError
 from ._part import WHOLE, Part
 from ._query import encode_query, ids_of, is_number, is_one_look
+from ._reader import Reader
 from ._results import UpdateResult
 from ._session import Session
 from ._values import ObjectId
@@ -29,6 +29,20 @@ PLAIN = (int, str, ObjectId, float, bytes)
 OF_REFERENCES = frozenset(["$ref", "$id", "$db"])
 
 
+class Selection:
+    """A query that was read, which asks for the trees of the documents that it selects, or of a part of them."""
+
+    __slots__ = ("query", "is_one_look", "_fetch")
+
+    def __init__(self, query: str, is_one_look: bool, fetch: Callable[[Part], List[Tree]]) -> None:
+        # As the program reads it, and whether it is one look into the index on `_id`.
+        self.query, self.is_one_look = query, is_one_look
+        self._fetch = fetch
+
+    def __call__(self, part: Part) -> List[Tree]:
+        return self._fetch(part)
+
+
 class Requests:
     """The requests of one collection."""
 
@@ -36,7 +50,7 @@ class Requests:
 
     def __init__(self, store: "Store", name: str) -> None:
         self._store, self._name = store, name
-        self._session: Session = store._session
+        self._session: Union[Session, Reader] = store._session
         self._decoder: Decoder = store._decoder
         self._quoted = encode_text(name)
 
@@ -47,7 +61,7 @@ class Requests:
 
     def _ask(self, command: str, *places: str) -> Any:
         """The answer to a command of this collection."""
-        return self._session.ask("[" + ",".join([f'"{command}"', self._quoted, *places]) + "]")
+        return self._session.ask(command, self._quoted, *places)
 
     def _answer_if_found(self, command: str, *places: str) -> Any:
         """The answer to a command of a document, or None if there is no such document."""
@@ -58,15 +72,14 @@ class Requests:
                 return None
             raise
 
-    def _selection(self, query: Document) -> Callable[[Part], List[Tree]]:
-        """What asks for the trees of the documents that a query selects, or of a part of them. The query itself is read
-        here."""
+    def _selection(self, query: Document) -> Selection:
+        """A query that is read here."""
         test_document(query)
         if is_one_look(query) and not is_number(query["_id"]):
             own = encode_value(query["_id"])
-            return lambda part: part.of(self._got(own))
+            return Selection('{"_id":%s}' % own, True, lambda part: part.of(self._got(own)))
         text = encode_query(query)
-        return lambda part: self._ask_part(text, part)
+        return Selection(text, False, lambda part: self._ask_part(text, part))
 
     def _got(self, own: str) -> List[Tree]:
         """The tree of the document with this `_id`, if there is one."""
@@ -75,10 +88,8 @@ class Requests:
 
     def _ask_part(self, query: str, part: Part) -> List[Tree]:
         text = part.text()
-        if _part.HAS_PARTS and text:
-            return list(self._ask("find", query, text)["documents"])
-        answer = self._ask("find") if query == "{}" else self._ask("find", query)
-        return part.of(answer["documents"])
+        places = [query, text] if text else [query] if query != "{}" else []
+        return list(self._ask("find", *places)["documents"])
 
     def _seek(self, query: Document, part: Part = WHOLE, even_reserved: bool = False) -> Found:
         """The first document that a query selects. With `even_reserved` the tree is None of a document that has no

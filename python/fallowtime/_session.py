@@ -12,6 +12,8 @@ from typing import Any, List, Optional
 from ._errors import Ended, refusal
 from ._program import Report, start
 
+# Reads JSON, as `json.loads` does.
+_read = json.JSONDecoder().decode
 # What the program takes of a line, in bytes.
 LONGEST = 64 << 20
 # How much is written or read at a time, in bytes: what a pipe holds.
@@ -68,14 +70,19 @@ class Session:
             if answer.get("error") != "Usage":
                 raise self._stop("this isn't the program fallowtime, or one of another time")
 
-    def ask(self, question: str) -> Any:
-        """The answer to a question, which is a text of JSON. `Refused` if it is refused, and `Ended` if there is no
-        program.
+    @property
+    def is_open(self) -> bool:
+        """Whether there is a program."""
+        return self._end is None
+
+    def ask(self, command: str, *places: str) -> Any:
+        """The answer to a command, whose places are texts of JSON. `Refused` if it is refused, and `Ended` if there is
+        no program.
 
         An exception that comes in between, as of a signal, leaves the answer to be passed over by the next question, or
-        ends the program if that can't be. Whether the command of the question was done is then open.
+        ends the program if that can't be. Whether the command was done is then open.
         """
-        line = question.encode()
+        line = ("[" + ",".join([f'"{command}"', *places]) + "]").encode()
         if len(line) > LONGEST:
             raise ValueError(f"a request has at most {LONGEST} bytes, and this one has {len(line)}")
         with self.lock:
@@ -84,6 +91,9 @@ class Session:
         if kind is not None:
             raise refusal(kind, answer.get("document"), answer.get("key"), answer.get("at"))
         return answer
+
+    def test_changes(self) -> None:
+        """Nothing: the store may be changed."""
 
     def test_open(self) -> None:
         """`Ended` if there is no program any more."""
@@ -147,7 +157,7 @@ class Session:
         finally:
             self._is_inside = False
         try:
-            answer = json.loads(text.decode())
+            answer = _read(text.decode())
         except ValueError:
             answer = None
         if not isinstance(answer, dict):

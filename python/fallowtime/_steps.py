@@ -34,20 +34,22 @@ def step_of(collection: "Changing", request: Any) -> Step:
         return Step(run, "", {"q": request._filter, "limit": int(kind == "DeleteOne")})
     if kind == "ReplaceOne":
         run_replace = collection._replacement(kind, request._filter, request._doc, bool(request._upsert),
-                                              getattr(request, "_hint", None), _options(request))
+                                              getattr(request, "_hint", None), _options(request),
+                                              getattr(request, "_sort", None))
         return Step(run_replace, "", _changed(request, is_many=False))
     if kind in ("UpdateOne", "UpdateMany"):
-        many = ['{"many":true}'] if kind == "UpdateMany" else []
         run_update = collection._change(kind, request._filter, request._doc, bool(request._upsert),
-                                        getattr(request, "_hint", None), _options(request), *many)
-        return Step(run_update, "", _changed(request, is_many=bool(many)))
+                                        getattr(request, "_hint", None), _options(request),
+                                        is_many=kind == "UpdateMany", sort=getattr(request, "_sort", None),
+                                        array_filters=getattr(request, "_array_filters", None))
+        return Step(run_update, "", _changed(request, is_many=kind == "UpdateMany"))
     raise TypeError(f"{request!r} is not a valid request")
 
 
 def _options(request: Any) -> Dict[str, Any]:
-    """What else a request has that means nothing here or can't be had."""
-    names = "collation", "array_filters", "sort"
-    return {name: value for name in names if (value := getattr(request, "_" + name, None)) is not None}
+    """What else a request has, which can't be had."""
+    collation = getattr(request, "_collation", None)
+    return {} if collation is None else {"collation": collation}
 
 
 def _changed(request: Any, is_many: bool) -> Dict[str, Any]:

@@ -5,13 +5,17 @@ import os
 import weakref
 from typing import TYPE_CHECKING, Any, Dict, List, NoReturn, Optional, Union
 
-from ._absent import OF_STORE, WithAbsent, is_name, refuse, test_options
+from ._absent import OF_STORE, WithAbsent, is_name, refuse, test_concern, test_options
 from ._collection import Collection
 from ._decode import Decoder
 from ._errors import CollectionInvalid
 from ._index import Index
 from ._program import absolute, find_program, run
+from ._reader import Reader
 from ._session import Session
+
+if TYPE_CHECKING:
+    from ._client import MongoClient
 
 Path = Union[str, "os.PathLike[str]"]
 
@@ -21,20 +25,27 @@ class Store(WithAbsent):
 
     Threads may share it: their requests are answered one after the other, each to the one who asked. It is closed by
     `close`, at the end of a `with`, or when nothing refers to it any more. A process that is forked has to open a file
-    of its own.
+    of its own, unless it only reads.
     """
 
     _absent = OF_STORE
 
-    def __init__(self, path: Path, wait: Optional[int] = None, tz_aware: bool = False) -> None:
+    def __init__(self, path: Path, wait: Optional[int] = None, tz_aware: bool = False, readonly: bool = False,
+                 client: Optional["MongoClient"] = None, is_opened: bool = True) -> None:
         self._path = absolute(path)
         self._program = find_program()
+        self._client = client
         self._waiting = [] if wait is None else ["--wait", str(_seconds(wait))]
         self._decoder = Decoder(tz_aware)
-        self._session = Session(self._program, [self._path, *self._waiting])
+        self._session: Union[Session, Reader]
+        if readonly:
+            self._session = Reader(self._program, self._path, self._waiting)
+        else:
+            self._session = Session(self._program, [self._path, *self._waiting])
         # The indexes of each collection that were made, by their names: they are in memory, until the store is closed.
         self._indexes: Dict[str, Dict[str, Index]] = {}
-        self._session.open()
+        if is_opened:
+            self._session.open()
         self._closing = weakref.finalize(self, self._session.close_quietly)
 
     @property
@@ -46,6 +57,13 @@ class Store(WithAbsent):
     def name(self) -> str:
         """The name of the file, without its folder and its ending."""
         return os.path.splitext(os.path.basename(self._path))[0]
+
+    @property
+    def client(self) -> "MongoClient":
+        """The client that opened the store. AttributeError if `fallowtime.open` did."""
+        if self._client is None:
+            raise AttributeError("a store that fallowtime.open opened has no client")
+        return self._client
 
     def __getitem__(self, name: str) -> Collection:
         """The collection of a name, which may have no document yet."""
@@ -72,6 +90,7 @@ class Store(WithAbsent):
     def get_collection(self, name: str, **options: Any) -> Collection:
         """The collection of a name. Options of reading and writing several servers mean nothing here."""
         test_options("get_collection", options)
+        test_concern(options)
         return self[name]
 
     def create_collection(self, name: str, **options: Any) -> Collection:
@@ -84,7 +103,7 @@ class Store(WithAbsent):
         return self[name]
 
     def drop_collection(self, name_or_collection: Union[str, Collection], **options: Any) -> None:
-        """Removes all documents of a collection, one after the other, and drops its indexes."""
+        """Removes all documents of a collection, and drops its indexes."""
         if not isinstance(name_or_collection, Collection):
             name_or_collection = self[name_or_collection]
         name_or_collection.drop(**options)
@@ -92,12 +111,13 @@ class Store(WithAbsent):
     def with_options(self, **options: Any) -> "Store":
         """The store itself: options of reading and writing several servers mean nothing here."""
         test_options("with_options", options)
+        test_concern(options)
         return self
 
     def list_collection_names(self, **options: Any) -> List[str]:
         """The names of the collections that have a document."""
         test_options("list_collection_names", options)
-        names: List[str] = self._session.ask('["collections"]')["names"]
+        names: List[str] = self._session.ask("collections")["names"]
         return names
 
     def backup(self, path: Path) -> None:
@@ -135,12 +155,15 @@ def _seconds(wait: int) -> int:
     return wait
 
 
-def open(path: Path, *, wait: Optional[int] = None, tz_aware: bool = False) -> Store:
+def open(path: Path, *, wait: Optional[int] = None, tz_aware: bool = False, readonly: bool = False) -> Store:
     """Opens the store in a file, which is made if it isn't there.
 
     `wait` is for how many seconds a file is waited for that another process has; else it is 5. With `tz_aware` the
-    dates that come back say that they are in UTC; without it they have no zone, as pymongo's.
+    dates that come back say that they are in UTC; without it they have no zone, as pymongo's. With `readonly` nothing
+    can be changed, and nobody has to wait: each request is a process of the program that takes no lock, and its answer
+    what every request that was answered before has left, of this process and of any other one.
 
-    `Ended` if the file can't be had; its `kind` says why: ``"Busy"`` if another process has it.
+    `Ended` if the file can't be had; its `kind` says why: ``"Busy"`` if another process has it, ``"NoFile"`` if there
+    is none that could be read.
     """
-    return Store(path, wait, tz_aware)
+    return Store(path, wait, tz_aware, readonly)

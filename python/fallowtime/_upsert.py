@@ -84,9 +84,11 @@ def _made_of_nothing(operator: str, value: Any) -> Any:
         refuse(f"{operator} with upsert", "what it makes of nothing is calculated by the program alone")
     if not are_operators(value):
         return [value]
-    if list(value) != ["$each"] or operator == "$addToSet" and len(value["$each"]) > 1:
+    items = list(value.get("$each", ()))
+    if not {"$each"} <= value.keys() <= {"$each", "$position", "$slice"} or operator == "$addToSet" and len(items) > 1:
         refuse(f"{', '.join(value)} of {operator} with upsert", "what it makes of nothing is calculated by the program")
-    return list(value["$each"])
+    size = value.get("$slice", len(items))
+    return items[:int(size)] if size >= 0 else items[int(size):]
 
 
 def _has_begun(document: Document, path: str) -> bool:

@@ -57,12 +57,12 @@ class DeleteMany(_Delete):
 class ReplaceOne(_Request):
     """Puts a document in the place of the first one that a query selects."""
 
-    __slots__ = ("_filter", "_doc", "_upsert", "_collation", "_hint")
+    __slots__ = ("_filter", "_doc", "_upsert", "_collation", "_hint", "_sort")
 
     def __init__(self, filter: Document, replacement: Document, upsert: bool = False, collation: Any = None,
-                 hint: Any = None) -> None:
-        self._filter, self._doc, self._upsert, self._collation, self._hint = (filter, replacement, upsert, collation,
-                                                                              hint)
+                 hint: Any = None, sort: Any = None) -> None:
+        self._filter, self._doc, self._upsert, self._collation = filter, replacement, upsert, collation
+        self._hint, self._sort = hint, sort
 
 
 class _Update(_Request):
@@ -77,7 +77,12 @@ class _Update(_Request):
 class UpdateOne(_Update):
     """Changes the first document that a query selects."""
 
-    __slots__ = ()
+    __slots__ = ("_sort",)
+
+    def __init__(self, filter: Document, update: Any, upsert: bool = False, collation: Any = None,
+                 array_filters: Optional[Sequence[Document]] = None, hint: Any = None, sort: Any = None) -> None:
+        super().__init__(filter, update, upsert, collation, array_filters, hint)
+        self._sort = sort
 
 
 class UpdateMany(_Update):

@@ -13,7 +13,7 @@ import unittest
 from common import PROGRAM, WithFolder
 
 import fallowtime
-from fallowtime import Int64, ObjectId, Regex
+from fallowtime import Int64, ObjectId, Regex, aio
 
 
 def counts(result):
@@ -379,6 +379,9 @@ class Changing(WithFolder):
             ({"_id": 15, "$or": [{"z": 5}, {"z": 6}]}, {"$pull": {"a": 1}, "$max": {"e": None}},
              {"_id": 15, "e": None}),
             ({"_id": 16, "z": {"a": 1}}, {"$set": {"z": 2}}, {"_id": 16, "z": 2}),
+            ({"_id": 17}, {"$push": {"a": {"$each": [1, 2, 3], "$position": 9, "$slice": 2},
+                                     "b": {"$each": [1, 2, 3], "$slice": -2}, "c": {"$each": [1], "$slice": 0}}},
+             {"_id": 17, "a": [1, 2], "b": [2, 3], "c": []}),
         ]:
             with self.subTest(query=query):
                 self.assertEqual(counts(update(query, changes, upsert=True)), (0, 0, wanted["_id"]))
@@ -390,7 +393,7 @@ class Changing(WithFolder):
             ({"_id": 77, "b": {"c": 1}}, {"$set": {"b.d": 1}}), ({"_id": 77, "b.c": 1}, {"$set": {"b": 1}}),
             ({"_id": 77, "b": {"$in": [1]}}, {"$set": {"c": 1}}), ({"_id": 77, "b": {"$all": [1]}}, {"$set": {"c": 1}}),
             ({"_id": 77, "$or": [{"b": 1}]}, {"$set": {"c": 1}}), ({"_id": 77, "b": 1}, {"$unset": {"b": 1}}),
-            ({"_id": 77}, {"$push": {"b": {"$each": [1], "$slice": 1}}}), ({"_id.a": 77}, {"$set": {"c": 1}}),
+            ({"_id": 77}, {"$addToSet": {"b": {"$each": [1, 2]}}}), ({"_id.a": 77}, {"$set": {"c": 1}}),
         ]:
             with self.subTest(query=query), self.assertRaises(NotImplementedError):
                 update(query, changes, upsert=True)
@@ -574,7 +577,7 @@ class Absent(WithFolder):
         for name in "rename", "watch", "find_raw_batches", "create_search_index":
             with self.assertRaisesRegex(NotImplementedError, name):
                 getattr(collection, name)({}, x=1)
-        for name in "explain", "where", "count", "collation", "max_time_ms", "min":
+        for name in "where", "count", "collation", "max_time_ms", "min":
             with self.assertRaisesRegex(NotImplementedError, name):
                 getattr(cursor, name)(1)
         for name in "command", "aggregate", "start_session", "watch":
@@ -587,8 +590,8 @@ class Absent(WithFolder):
             [("insert_one", ({},), {"session": 1}), ("insert_many", ([{}],), {"session": 1}),
              ("delete_one", ({},), {"collation": 1}), ("delete_many", ({},), {"let": {"a": 1}}),
              ("replace_one", ({}, {}), {"collation": 1}), ("find_one_and_delete", ({},), {"collation": 1}),
-             ("find_one_and_update", ({}, {"$set": {"a": 1}}), {"array_filters": [1]}),
-             ("update_one", ({}, {"$set": {"a": 1}}), {"array_filters": [1]})],
+             ("find_one_and_update", ({}, {"$set": {"a": 1}}), {"collation": 1}),
+             ("update_one", ({}, {"$set": {"a": 1}}), {"let": {"a": 1}})],
         ):
             with self.assertRaisesRegex(NotImplementedError, next(iter(option))):
                 getattr(collection, method)(*words, **option)
@@ -631,12 +634,13 @@ class Absent(WithFolder):
                 self.assertRaises(TypeError, iter, thing)
 
     def test_each_method_has_a_text(self):
-        for kind in (value for value in vars(fallowtime).values() if inspect.isclass(value)):
+        classes = [vars(module)[name] for module in (fallowtime, aio) for name in module.__all__]
+        for kind in filter(inspect.isclass, classes):
             self.assertTrue(inspect.getdoc(kind), kind)
             for name, method in vars(kind).items():
                 if not name.startswith("_") and (inspect.isfunction(method) or isinstance(method, property)):
                     self.assertTrue(inspect.getdoc(method), f"{kind.__name__}.{name}")
-        self.assertTrue(inspect.getdoc(fallowtime.open))
+        self.assertTrue(inspect.getdoc(fallowtime.open) and inspect.getdoc(aio.open))
 
 
 if __name__ == "__main__":

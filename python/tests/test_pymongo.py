@@ -7,13 +7,14 @@ import subprocess
 import sys
 import threading
 import unittest
+from types import SimpleNamespace
 from unittest import mock
 
 from common import PYTHON, WithFolder
 
 import fallowtime
 from fallowtime import (DeleteMany, DeleteOne, InsertOne, Int64, ObjectId, ReplaceOne, ReturnDocument, UpdateMany,
-                        UpdateOne, _part)
+                        UpdateOne)
 
 AFTER = ReturnDocument.AFTER
 
@@ -194,7 +195,9 @@ class Several(WithOrders):
     def test_what_is_refused_before_anything_is_sent(self):
         for request, error in [(UpdateOne({}, [{"$set": {"a": 1}}]), NotImplementedError), (5, TypeError),
                                (DeleteOne({}, collation={"locale": "de"}), NotImplementedError),
-                               (UpdateMany({}, {"$set": {"a": 1}}, array_filters=[{"a": 1}]), NotImplementedError),
+                               (UpdateMany({}, {"$set": {"a": 1}}, array_filters=[{"a": 1}]), ValueError),
+                               (UpdateMany({}, {"$inc": {"a.$[]": 1}}), NotImplementedError),
+                               (UpdateOne({}, {"$set": {"a": 1}}, sort=5), TypeError),
                                (UpdateOne({}, {"a": 1}), ValueError), (ReplaceOne({}, {"$set": {"a": 1}}), ValueError),
                                (InsertOne({"a": {1}}), TypeError), (DeleteMany({"$where": "x"}), NotImplementedError),
                                ({"_id": 1}, TypeError), (InsertOne([]), TypeError)]:
@@ -363,20 +366,15 @@ class Asking(WithOrders):
         cursor.close()
         self.assertEqual((cursor.try_next(), cursor.alive), (None, False))
 
-    def test_sorts_are_refused(self):
-        if _part.HAS_PARTS:
-            self.skipTest("the program sorts")
-        for call in (lambda: self.orders.find().sort("x"), lambda: self.orders.find(sort=[("x", 1)]),
-                     lambda: self.orders.find_one({}, sort=[("x", -1)]),
-                     lambda: self.orders.find_one_and_delete({}, sort=[("x", 1)]),
-                     lambda: self.orders.aggregate([{"$sort": {"x": 1}}])):
-            self.assertRaisesRegex(NotImplementedError, "sort", call)
-        for keys, error in [("$natural", NotImplementedError), ([("x", 2)], ValueError), (5, TypeError),
-                            ([(5, 1)], TypeError), ([], ValueError)]:
+    def test_what_is_no_sort(self):
+        for keys, error in [("$natural", NotImplementedError), ({"x": {"$meta": "textScore"}}, NotImplementedError),
+                            ([("x", 2)], ValueError), (5, TypeError), ([(5, 1)], TypeError), ([], ValueError),
+                            ("", fallowtime.OperationFailure), ("a..b", fallowtime.OperationFailure)]:
             self.assertRaises(error, self.orders.find().sort, keys)
+        for method in self.orders.update_many, self.orders.delete_one, self.orders.delete_many:
+            self.assertRaises(TypeError, method, {}, {"$set": {"x": 1}}, sort=[("x", 1)])
         self.assertEqual(self.ids(), [1, 2, 3])
 
-    @unittest.skipUnless(_part.HAS_PARTS, "the program doesn't sort")
     def test_sorts(self):
         orders = self.orders
         orders.insert_one({"_id": 4, "x": 11})
@@ -391,10 +389,75 @@ class Asking(WithOrders):
         self.assertEqual(orders.find_one_and_replace({"_id": {"$lt": 4}}, {"x": 1}, sort=[("x", -1)],
                                                      return_document=AFTER), {"_id": 3, "x": 1})
         self.assertEqual(orders.find_one_and_delete({}, sort=[("x", -1)])["_id"], 2)
+        self.assertEqual([found["_id"] for found in orders.find(sort={"x": 1, "_id": -1}, limit=2)], [3, 4])
         orders.insert_many([{"_id": Int64(1), "x": 50}, {"_id": "1", "x": 0}])
         self.assert_fails(None, orders.find_one_and_update, {}, {"$set": {"x": 1}}, sort=[("x", -1)])
         self.assertEqual(orders.find_one_and_update({}, {"$set": {"x": 7}}, ["x"], [("x", 1)], return_document=AFTER),
                          {"_id": "1", "x": 7})
+
+    def test_order(self):
+        """Of the values of all kinds, and of arrays by their least or their greatest item."""
+        values = [None, -1, 0.5, Int64(1), "B", "a", {"a": 1}, b"b", ObjectId("6" * 24), False, True]
+        some = self.store.some
+        some.insert_many([{"_id": number, "v": value} for number, value in reversed(list(enumerate(values)))])
+        self.assertEqual([found["_id"] for found in some.find().sort("v")], list(range(len(values))))
+        self.assertEqual([found["_id"] for found in some.find().sort("v", -1).limit(3)], [10, 9, 8])
+        some.insert_many([{"_id": "l", "v": [0.25, 2]}, {"_id": "e", "v": []}, {"_id": "n"}])
+        self.assertEqual([found["_id"] for found in some.find().sort("v").limit(6)], ["e", 0, "n", 1, "l", 2])
+        self.assertEqual([found["_id"] for found in some.find({"v": {"$gt": 0}}).sort("v", -1)], ["l", 3, 2])
+
+    def test_changes_by_sort(self):
+        orders = self.orders
+        self.assertEqual(orders.update_one({"_id": {"$lt": 3}}, {"$set": {"y": 1}}, sort=[("x", -1)]).modified_count, 1)
+        self.assertEqual(orders.replace_one({}, {"y": 2}, sort={"x": -1}).modified_count, 1)
+        self.assertEqual(orders.update_one({"x": 5}, {"$set": {"y": 3}}, upsert=True, sort=[("x", 1)]).upserted_id,
+                         orders.find_one({"y": 3})["_id"])
+        self.assertEqual(orders.update_one({"x": 6}, {"$set": {"y": 3}}, sort=[("x", 1)]).matched_count, 0)
+        self.assertEqual([*orders.find({"_id": {"$lt": 4}}, {"tags": 0})],
+                         [{"_id": 1, "x": 11}, {"_id": 2, "x": 22, "y": 1}, {"_id": 3, "y": 2}])
+        result = orders.bulk_write([UpdateOne({}, {"$set": {"y": 0}}, sort=[("x", -1)]),
+                                    ReplaceOne({}, {"y": 9}, sort=[("y", -1)])])
+        self.assertEqual((result.matched_count, orders.find_one({"y": 0})["_id"]), (2, 2))
+
+    def test_pipelines_that_write(self):
+        aggregate, out = self.orders.aggregate, self.store.out
+        first, later = {"$match": {"_id": {"$lt": 3}}}, {"$match": {"_id": {"$gt": 1}}}
+        self.assertEqual(list(aggregate([{"$sort": {"x": -1}}, first, {"$project": {"x": 1}}, {"$out": "out"}])), [])
+        self.assertEqual([*out.find()], [{"_id": 2, "x": 22}, {"_id": 1, "x": 11}])
+        self.assertRaisesRegex(NotImplementedError, "has documents", aggregate, [{"$out": "out"}])
+        for stage, wanted in [
+            ({"into": "out", "whenMatched": "keepExisting", "whenNotMatched": "discard"}, [[2, 22], [1, 11]]),
+            ({"into": "out", "whenMatched": "keepExisting"}, [[2, 22], [1, 11], [3, 33, "a"]]),
+            ("out", [[2, 22, "a"], [1, 11], [3, 33, "a"]]),
+        ]:
+            aggregate([later, {"$merge": stage}])
+            found = [[document["_id"], document["x"], *document.get("tags", [])[:1]] for document in out.find()]
+            self.assertEqual(found, wanted)
+        out.update_many({}, {"$set": {"y": 1}, "$unset": {"x": 1}})
+        self.orders.aggregate([first, {"$merge": {"into": {"db": "test", "coll": "out"}, "on": ["_id"]}}])
+        self.assert_same(out.find_one(2), {"_id": 2, "tags": ["a", {"b": 2}], "y": 1, "x": 22})
+        self.orders.aggregate([first, {"$project": {"x": 1}}, {"$merge": {"into": "out", "whenMatched": "replace"}}])
+        self.assertEqual([*out.find({"_id": {"$lt": 3}})], [{"_id": 2, "x": 22}, {"_id": 1, "x": 11}])
+        self.assert_fails(11000, aggregate, [{"$merge": {"into": "out", "whenMatched": "fail"}}])
+        self.assert_fails(13113, aggregate, [{"$merge": {"into": "none", "whenNotMatched": "fail"}}])
+        aggregate([{"$count": "n"}, {"$out": "counts"}])
+        self.assertEqual([*self.store.counts.find({}, {"_id": 0})], [{"n": 3}])
+        aggregate([{"$match": {"_id": 9}}, {"$out": "none"}])
+        self.assertEqual(sorted(self.store.list_collection_names()), ["counts", "orders", "out"])
+
+    def test_pipelines_that_dont_write(self):
+        for stage, error in [
+            ({"$out": {"db": "x", "coll": "y"}}, NotImplementedError), ({"$out": 5}, fallowtime.OperationFailure),
+            ({"$out": {"db": "x"}}, NotImplementedError), ({"$merge": {"into": "x", "on": "y"}}, NotImplementedError),
+            ({"$merge": {"into": "x", "whenMatched": []}}, NotImplementedError),
+            ({"$merge": {"into": "x", "let": {}}}, NotImplementedError), ({"$merge": {}}, fallowtime.OperationFailure),
+            ({"$merge": {"into": "x", "whenMatched": "insert"}}, fallowtime.OperationFailure),
+        ]:
+            with self.subTest(stage=stage):
+                self.assertRaises(error, self.orders.aggregate, [stage])
+        self.assertRaises(NotImplementedError, self.orders.aggregate, [{"$out": "x"}, {"$merge": "x"}])
+        self.assertRaises(NotImplementedError, self.orders.aggregate, [{"$out": "x"}, {"$limit": 1}])
+        self.assertEqual(self.store.list_collection_names(), ["orders"])
 
     def test_pipelines(self):
         aggregate = self.orders.aggregate
@@ -410,7 +473,7 @@ class Asking(WithOrders):
         for pipeline, error in [
             ([{"$group": {"_id": None}}], NotImplementedError), ([{"$limit": 1}, {"$match": {}}], NotImplementedError),
             ([{"$limit": 1}, {"$skip": 1}], NotImplementedError), ([{"$limit": 1}, {"$limit": 1}], NotImplementedError),
-            ([{"$project": {"x": "$y"}}], NotImplementedError), ([{"$out": "x"}], NotImplementedError),
+            ([{"$project": {"x": "$y"}}], NotImplementedError), ([{"$unwind": "$x"}], NotImplementedError),
             ([{"$match": {}, "$limit": 1}], TypeError), ({"$match": {}}, TypeError), ([{"$limit": 0}], ValueError),
             ([{"$count": "$x"}], ValueError), ([{"$project": {}}], TypeError), ([{"$match": 5}], TypeError),
         ]:
@@ -431,6 +494,11 @@ class Names(WithOrders):
         for thing in self.orders, self.store:
             self.assertFalse(hasattr(thing, "codec_options"))
         self.assertFalse(hasattr(self.store, "client"))
+        linearizable = SimpleNamespace(level="linearizable")
+        for method in self.orders.with_options, self.store.with_options, lambda **options: self.store.get_collection(
+                "orders", **options):
+            method(read_concern=SimpleNamespace(level="majority"))
+            self.assertRaises(NotImplementedError, method, read_concern=linearizable)
         self.assertRaises(NotImplementedError, self.orders.with_options, codec_options=5)
         self.assertRaises(NotImplementedError, self.store.get_collection, "orders", codec_options=5)
         self.assertEqual(self.store.create_collection("new").name, "new")
@@ -438,9 +506,10 @@ class Names(WithOrders):
         self.assertRaises(NotImplementedError, self.store.create_collection, "capped", capped=True)
 
     def test_modules(self):
-        for module, names in [("fallowtime.errors", ["PyMongoError", "DuplicateKeyError", "BulkWriteError"]),
+        for module, names in [("fallowtime.errors", ["PyMongoError", "DuplicateKeyError", "BulkWriteError",
+                                                     "ConfigurationError"]),
                               ("fallowtime.operations", ["InsertOne", "UpdateOne", "IndexModel"]),
-                              ("fallowtime", ["ASCENDING", "DESCENDING", "ReturnDocument"])]:
+                              ("fallowtime", ["ASCENDING", "DESCENDING", "ReturnDocument", "MongoClient"])]:
             for name in names:
                 self.assertTrue(hasattr(importlib.import_module(module), name), name)
 
