@@ -4,16 +4,20 @@ import re
 
 TABLE = pathlib.Path(__file__).resolve().parent.parent / "crates/fallowtime_words/src/table.rt"
 # What pages and the help have for each argument; neither the documents of import nor an object of options are words.
-ARGUMENTS = {"Collection": "COLL", "Document": "DOC", "Id": "ID", "Key": "KEY", "Value": "VALUE", "Query": "[QUERY]", "Selection": "QUERY", "Update": "UPDATE", "Options": "", "Documents": "",
-             "IndexPath": "PATH", "File": "PATH"}
+ARGUMENTS = {"Collection": "COLL", "Document": "DOC", "Id": "ID", "Key": "KEY", "Value": "VALUE", "Query": "[QUERY]", "Selection": "QUERY", "Update": "UPDATE",
+             "Options": "", "Documents": "", "IndexPath": "PATH", "File": "PATH"}
 # The options beside --wait by the constants of the table.
-OPTIONS = {"NO_OPTION": [], "CANONICAL": ["--canonical"], "PRINTED": ["--canonical", "--bson"], "LINES": ["--json"], "MANY": ["--many"]}
+OPTIONS = {"NO_OPTION": [], "CANONICAL": ["--canonical"], "PRINTED": ["--canonical", "--bson"],
+           "FOUND": ["--sort", "--skip", "--limit", "--canonical", "--bson"], "LINES": ["--json"], "MANY": ["--many"]}
+
+# The options that are more than a word.
+VALUED = ["--sort", "--skip", "--limit", "--wait"]
 
 
 def rows(*places):
     """The commands that are one in one of these places, each with its arguments and its options."""
     for row in re.findall(r"^    Signature \{(.*?)^    \},", TABLE.read_text(), re.M | re.S):
-        name, options, place = (re.search(rf"\b{field}(\w+)", row)[1] for field in ('name: "', "options: ", "place: Place::"))
+        name, options, place = (re.search(rf"\b{field}([\w-]+)", row)[1] for field in ('name: "', "options: ", "place: Place::"))
         if place in places:
             yield name, " ".join(filter(None, (ARGUMENTS[kind] for kind in re.findall(r"Argument::(\w+)", row)))), OPTIONS[options]
 
@@ -21,3 +25,8 @@ def rows(*places):
 def over_a_file():
     """The commands of a command line over a FILE."""
     return {name: (arguments, options) for name, arguments, options in rows("Both", "CommandLine")}
+
+
+def words_of(options):
+    """Options in brackets, as the first line of the help of a command has them: too many for that line aren't named."""
+    return f"[{' | '.join(options)}]" if not set(options) & set(VALUED) else "[--OPTION ..]"

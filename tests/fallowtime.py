@@ -55,16 +55,18 @@ COMMANDS = {
     "set": (["c", "1", "k", "1"], []),
     "unset": (["c", "1", "k"], []),
     "update": (["c", "{}", '{"$set":{"a":1}}'], ["--many"]),
+    "replace-one": (["c", "{}", "{}"], []),
     "delete": (["c", "{}"], ["--many"]),
     "remove": (["c", "1"], []),
-    "find": (["c"], ["--canonical", "--bson"]),
+    "find": (["c"], ["--canonical", "--bson", "--sort", "--skip", "--limit"]),
     "count": (["c"], []),
     "import": (["c"], ["--json"]),
     "export": (["c"], []),
     "collections": ([], []),
+    "check": ([], []),
     "backup": (["copy.db"], []),
 }
-READERS = ["get", "find", "count", "export", "collections"]
+READERS = ["get", "find", "count", "export", "collections", "check"]
 steps = 0
 
 
@@ -130,7 +132,7 @@ def body_of(document):
 # ---- Words: no command takes a word less or more, nor another's option, nor one twice, and both forms of output exclude each other.
 for words in [["frob"], ["frob", "c"], ["Insert", "c", "{}"], ["--canonical"], ["--wait"], ["insert--canonical", "c", "{}"]]:
     check(words, USAGE)
-OPTIONS = [["--canonical"], ["--bson"], ["--json"], ["--wait", "0"], ["--wait", "1"], ["--pretty"]]
+OPTIONS = [["--canonical"], ["--bson"], ["--json"], ["--wait", "0"], ["--wait", "1"], ["--pretty"], ["--sort", "a:-1,b"], ["--skip", "1"], ["--limit", "0"]]
 for command, (places, own) in COMMANDS.items():
     start("none/none.db")
     for count in range(len(places)):
@@ -177,12 +179,31 @@ done("find orders", ONE, TWO, A4)
 done("find orders --canonical --wait 0", CANONICAL, '{"_id":{"$numberLong":"2"},"price":{"$numberDouble":"1.0"},"lines":[{"count":'
      '{"$numberInt":"3"},"article":"tea"}]}', '{"z":{"$numberInt":"1"},"_id":"A-4","a":null}')
 done('find orders {"price":1}', TWO)
+done("find orders --sort price", A4, TWO, ONE)
+done("find orders --sort price:-1", ONE, TWO, A4)
+done("find orders --sort city:-1,_id:1", ONE, TWO, A4)
+done("find orders --sort nothing", ONE, TWO, A4)
+done("find orders --limit 2", ONE, TWO)
+done("find orders --skip 1", TWO, A4)
+done("find orders --skip 1 --limit 1 --wait 1", TWO)
+done("find orders --limit 1 --sort price:-1 --skip 1", TWO)
+done("find orders --skip 18446744073709551615 --limit 18446744073709551615")
+done("find orders --limit 0")
+done('find orders {"price":{"$gt":1}} --sort _id --limit 9', ONE)
+for option in "--skip", "--limit":
+    for number in ["", "-1", "+1", "1.5", " 1", "18446744073709551616", "x"]:
+        check(["find", "orders", option, number], USAGE)
+for option in "--sort", "--skip", "--limit":
+    check(["find", "orders", option], USAGE)
+    check(["find", "orders", option, "1", option, "1"], USAGE)
+    check(["count", "orders", option, "1"], USAGE)
 check('find orders {"city":"Ulm"} --wait 007 --bson', (0, BODIES[0], ""))
 check("find orders --bson", (0, BODIES[0] + BODIES[2] + BODIES[1], ""))
 check("export orders", (0, BODIES[0] + BODIES[2] + BODIES[1], ""))
 done("count orders", "3")
 done('count orders {"price":{"$exists":true}} --wait 18446744073709551615', "2")
 done("collections", "orders")
+done("check --wait 0", "3")
 refused('insert orders {"_id":1}', "DuplicateId _id 1")
 refused('replace orders {"_id":9}', "NotFound _id 9")
 done('put orders {"_id":9,"b":1,"a":2.5}')
@@ -218,6 +239,20 @@ for line, kind in [('update ups {} {"$inc":{"n":1}} --many', "Overflow document 
 done("find ups", '{"_id":1,"n":1,"a":{"b":1.5}}', '{"_id":2,"n":9223372036854775807,"a":{"b":1.5}}', '{"_id":3,"n":"x","a":{"b":1.5}}')
 done('update ups {"_id":1} {"$inc":{"n":1},"$push":{"l":{"$each":[2,1]}},"$rename":{"a.b":"b"},"$min":{"m":-1}}', '{"matched":1,"changed":1}')
 done("get ups 1", '{"_id":1,"n":2,"a":{},"l":[2,1],"b":1.5,"m":-1}')
+# The first of those that are selected is replaced, and keeps its _id; a document with another one is refused.
+for line in 'put rep {"_id":{"a":1,"b":2},"n":1}', 'put rep {"n":2,"_id":2}', 'put rep {"_id":3,"n":2}':
+    done(line)
+for line, count, changed in [("replace-one none {} {}", 0, 0), ('replace-one rep {"n":7} {"_id":9}', 0, 0), ('replace-one rep {"n":2} {"x":1.5,"n":[2]}', 1, 1),
+                             ('replace-one rep {"n":2} {"x":1.5,"n":[2]}', 1, 0), ('replace-one rep {"_id":3} {"z":{"y":1,"x":2},"_id":3,"a":2}', 1, 1),
+                             ('replace-one rep {} {"m":2,"_id":{"b":2,"a":1}}', 1, 1)]:
+    done(line, '{"matched":%d,"changed":%d}' % (count, changed))
+REPLACED = '{"m":2,"_id":{"a":1,"b":2}}', '{"_id":2,"x":1.5,"n":[2]}', '{"z":{"y":1,"x":2},"_id":3,"a":2}'
+done("find rep", *REPLACED)
+for line, kind in [('replace-one rep {"_id":3} {"_id":4}', "Id document 0"), ('replace-one rep {"_id":3} {"_id":3.0}', "Id document 0"), ('replace-one rep {"a":2} {"_id":2}', "Id document 0"),
+                   (["replace-one", "rep", "{}", '{"a\\u0000":1}'], "Nul document 0"), (["replace-one", "", "{}", "{}"], "BadName")]:
+    refused(line, kind)
+done("find rep", *REPLACED)
+done('delete rep {} --many', "3")
 for line, count in [('delete ups {"n":7}', 0), ("delete none {} --many", 0), ('delete ups {"_id":{"$gt":1}}', 1), ("delete ups {} --many", 2), ("delete ups {} --many", 0)]:
     done(line, str(count))
     if count == 1:
@@ -251,6 +286,7 @@ NAMES = {"\x1b[2J\r": r'"\u001b[2J\r"', '"': r'"\""', r'"B\nb"': r'"\"B\\nb\""',
 for name in NAMES.keys() - {"orders"}:
     done(["insert", name, '{"_id":1}'], "1")
 done("collections", *NAMES.values())
+done("check", str(len(NAMES) - 1 + int(run("count", "orders")[1])))
 for name in NAMES.keys() - {"orders"}:
     done(["remove", name, "1"])
 done("collections", "orders")

@@ -40,7 +40,7 @@ shutil.copy(sys.argv[1], PROGRAM)
 FOLDER.chmod(0o755)
 os.chdir(SHOP)
 INSERTS = int(sys.argv[2]) if len(sys.argv) > 2 else 1000
-READS = [["get", "c", "0"], ["find", "c"], ["count", "c"], ["export", "c"], ["collections"], ["backup", "copy.db"]]
+READS = [["get", "c", "0"], ["find", "c"], ["count", "c"], ["export", "c"], ["collections"], ["check"], ["backup", "copy.db"]]
 CHANGES = [["insert", "c", '{"_id":-1}'], ["put", "c", '{"_id":-1}'], ["replace", "c", '{"_id":0}'], ["set", "c", "0", "k", "1"],
            ["unset", "c", "0", "k"], ["remove", "c", "0"], ["import", "c"]]
 MAKERS = ["insert", "put", "import"]
@@ -133,7 +133,7 @@ def line_of(one):
 def answers_of(numbers):
     lines = [line_of(document(number)) for number in numbers]
     texts = [lines[0], b"".join(lines), b"%d\n" % len(lines)]
-    return [(0, out, "") for out in [*texts, stream(numbers), b"c\n", b"", stream(numbers)]]
+    return [(0, out, "") for out in [*texts, stream(numbers), b"c\n", texts[-1], b"", stream(numbers)]]
 
 
 def by_sqlite(file, *statements):
@@ -220,7 +220,7 @@ holds("have keys of now", run("before.db", "find", "c"), (0, b'{"_id":-0.0,"k":1
 holds("by a link", run("link.db", "set", "c", "0", "name", '"n0"'), (0, b"", ""))
 holds("it is the file's", [run(file, "export", "c") == (0, stream(range(300)), "") for file in ("link.db", "shop.db")], [True, True])
 pathlib.Path("empty.db").touch()
-holds("a file of no bytes", [run("empty.db", *words) for words in READS[1:5]], [(0, b"", ""), (0, b"0\n", ""), (0, b"", ""), (0, b"", "")])
+holds("a file of no bytes", [run("empty.db", *words) for words in READS[1:6]], [(0, b"", ""), (0, b"0\n", ""), (0, b"", ""), (0, b"", ""), (0, b"0\n", "")])
 holds("stays one", os.path.getsize("empty.db"), 0)
 by_sqlite("rule.db", "CREATE TABLE documents (place INTEGER PRIMARY KEY, coll TEXT NOT NULL, idkey BLOB NOT NULL, body BLOB NOT NULL, CHECK (coll < 'd'))")
 holds("a rule of somebody else", run("rule.db", "insert", "c", '{"_id":1}'), (0, b"1\n", ""))

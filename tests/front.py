@@ -40,7 +40,7 @@ NAMES = ["bson_store", "bson_json", "fallowtime"]
 USAGE = "words: usage\n"
 # For each command its places, and its options beside --wait.
 COMMANDS = command_table.over_a_file()
-OPTIONS = ["--canonical", "--bson", "--json", "--wait 5"]
+OPTIONS = ["--canonical", "--bson", "--json", "--wait 5", "--sort --skip", "--skip 1"]
 # The program that is made up says how it was started, or which kinds or collections there are, or how many lines it read.
 STUB = """#!/bin/sh
 if [ "$1" = --explain ]; then echo "fallowtime: the kinds are: Busy NoFile NoFolder" >&2; exit 2; fi
@@ -130,11 +130,12 @@ def is_line(words):
     given = []
     while rest:
         option, *rest = rest
-        if option == "--wait":
-            if not rest or not re.fullmatch("[0-9]+", rest[0]) or int(rest.pop(0)) >= 2 ** 64:
-                return False
-        elif option not in forms:
+        if option not in ["--wait", *forms]:
             return False
+        if option in command_table.VALUED:
+            if not rest or option != "--sort" and (not re.fullmatch("[0-9]+", rest[0]) or int(rest[0]) >= 2 ** 64):
+                return False
+            rest.pop(0)
         given.append(option)
     return len(given) == len(set(given)) and not {"--canonical", "--bson"} <= set(given)
 
@@ -182,9 +183,9 @@ if PROGRAM:
     section = {"fallowtime": run(PROGRAM, "help")[1]}
     for words in ["--help"], ["-h"], ["help"]:
         holds(f"{words}", run(PROGRAM, *words), (0, section["fallowtime"], ""))
-    listed = re.findall(r"^  ([a-z_]+)((?: [A-Z\[\]]+)*)(?:  |$)", section["fallowtime"], re.M)
-    about = dict(re.findall(r'name: "(\w+)".*?about: "(.*?)",$', command_table.TABLE.read_text(), re.M | re.S))
-    holds("what the commands do", [line[28:] for line in re.findall(r"^  [a-z_]+ .*$", section["fallowtime"], re.M)], [about[name] for name in COMMANDS])
+    listed = re.findall(r"^  ([a-z][a-z_-]*)((?: [A-Z\[\]]+)*)(?:  |$)", section["fallowtime"], re.M)
+    about = dict(re.findall(r'name: "([\w-]+)".*?about: "(.*?)",$', command_table.TABLE.read_text(), re.M | re.S))
+    holds("what the commands do", [line[30:] for line in re.findall(r"^  [a-z][a-z_-]* .*$", section["fallowtime"], re.M)], [about[name] for name in COMMANDS])
     holds("the commands of the help", listed, [(name, f" {places}" if places else "") for name, (places, _) in COMMANDS.items()])
     status, out, errors = run(PROGRAM, "--explain")
     holds("--explain", (status, out, errors.split(": ")[:3]), (2, "", ["words", "usage\nfallowtime", "the kinds are"]))
@@ -194,11 +195,11 @@ for name, (places, forms) in COMMANDS.items() if PROGRAM else []:
     out = section[name] = run(PROGRAM, "help", name)[1]
     for words in [name, "--help"], ["--help", name], [name, "-h"], [name, "help"]:
         holds(f"{words}", run(PROGRAM, *words), (0, out, ""))
-    usage = " ".join(["fallowtime FILE", name, *places.split(), *([f"[{' | '.join(forms)}]"] if forms else []), "[--wait SECONDS]"])
+    usage = " ".join(["fallowtime FILE", name, *places.split(), *([command_table.words_of(forms)] if forms else []), "[--wait SECONDS]"])
     holds(f"{name}: its words", out.split("\n")[0], usage)
     holds(f"{name}: its options", re.findall(r"^  (--[a-z]+)", out, re.M), [*forms, "--wait"])
     examples = re.findall(rf"^    (?:.* )?fallowtime \S+ {name}(?: .*)?$", out, re.M)
-    holds(f"{name}: its examples", len(examples), 2)
+    holds(f"{name}: its examples", len(examples), 3 if name == "find" else 2)
     for example in examples:
         text = "set -- " + re.split(" [<>|] ", example)[0] + r"; printf '%s\n' " + '"$@"'
         words = subprocess.run(["bash", "-c", text], capture_output=True, text=True, cwd=HERE).stdout.split("\n")[1:-1]
@@ -215,7 +216,7 @@ if PROGRAM:
     holds("version", run(PROGRAM, "version"), (0, f"fallowtime {(ROOT / 'VERSION').read_text()}", ""))
     named = re.findall(r"[A-Z]\w+", every.split(":", 1)[1].split(" fallowtime ")[0].replace("FILE", ""))
     holds("every command: refusals that aren't explained", [kind for kind in named if kind not in kinds], [])
-    holds("the columns of the help", [line for text in section.values() for line in text.split("\n") if len(line) > 84], [])
+    holds("the columns of the help", [line for text in section.values() for line in text.split("\n") if len(line) > 85], [])
 
 # Each kind of refusal is explained, in the words of the page, and each kind that the page names.
 page = re.sub(r"\[([^\][]*)\]\([^)]*\)", r"\1", (ROOT / "docs/REFUSALS.md").read_text())
@@ -277,7 +278,7 @@ for words, hint in [
     (["t.db", "aggregate", "c"], "there is no command 'aggregate'; "),
     (["t.db", "a\x1b[31mb\nc"], "there is no command 'a31mbc'; "),
     (["t.db", "rm", "c", "1"], "there is no command 'rm', but there is remove; "),
-    (["t.db", "Delete", "c", "1"], "there is no command 'Delete', but there is remove; "),
+    (["t.db", "Delete", "c", "1"], "there is no command 'Delete', but there is delete; "),
     (["t.db", "export"], "the words are fallowtime FILE export COLL "),
     (["t.db", "Update", "c", "1"], "there is no command 'Update', but there is update; "),
     (["t.db", "show"], "there is no command 'show', but there is collections; "),
@@ -416,12 +417,12 @@ for words in ["t.db", "find", "c"], ["t.db", "backup", "b.db"], ["t.db", "get", 
 # The page for man and the crate have the same commands and options.
 man = (ROOT / "man/fallowtime.1").read_text()
 shown = []
-for name, words in re.findall(r"^\.It Ic (\w+)(.*)$", man, re.M):
+for name, words in re.findall(r"^\.It Ic ([\w-]+)(.*)$", man, re.M):
     forms = re.findall(r"Fl (-[a-z]+)", words)
-    places = re.sub(r"Oo Ar (\w+) Oc|Op Ar (\w+)$", lambda found: f"Ar [{found[1] or found[2]}]", words.split(" Op Fl")[0])
+    places = re.sub(r"Oo Ar (\w+) Oc|Op Ar (\w+)$", lambda found: f"Ar [{found[1] or found[2]}]", re.split(" O[op] Fl", words)[0])
     shown.append((name, (" ".join(re.findall(r"[A-Z\[\]]{2,}", places)), [f"-{form}" for form in forms])))
 holds("the commands of the page", shown, list(COMMANDS.items()))
-holds("the options of the page", sorted(re.findall(r"^\.It Fl -([a-z]+)", man, re.M)), ["bson", "canonical", "explain", "help", "json", "many", "version", "wait"])
+holds("the options of the page", sorted(re.findall(r"^\.It Fl -([a-z]+)", man, re.M)), ["bson", "canonical", "explain", "help", "json", "limit", "many", "skip", "sort", "version", "wait"])
 for tool, words in ("mandoc", ["-T", "lint", "-W", "warning"]), ("groff", ["-mdoc", "-Tutf8", "-z", "-ww"]):
     if shutil.which(tool):
         done = subprocess.run([tool, *words, ROOT / "man/fallowtime.1"], capture_output=True, text=True)
@@ -443,19 +444,22 @@ for line, wanted in [
     (["--"], ["--help", "--version", "--explain"]),
     (["ins"], ["insert"]),
     (["hel"], ["help"]),
-    (["help", "re"], ["replace", "remove"]),
+    (["help", "re"], ["replace", "replace-one", "remove"]),
     (["help", "v"], ["version"]),
     (["--explain", "No"], ["NoFile", "NoFolder"]),
     (["shop.db", ""], list(COMMANDS)),
-    (["shop.db", "re"], ["replace", "remove"]),
+    (["shop.db", "re"], ["replace", "replace-one", "remove"]),
     (["shop.db", "--"], ["--wait", "--help"]),
     (["shop.db", "get", ""], ["orders", "old\\ orders", "more"]),
     (["shop.db", "get", "o"], ["orders", "old\\ orders"]),
     (["shop.db", "get", "old\\ "], ["old\\ orders"]),
     (["my\\ shop.db", "find", "m"], ["more"]),
     (["none.db", "find", "m"], [""]),
-    (["shop.db", "find", "more", "--"], ["--canonical", "--bson", "--wait"]),
-    (["shop.db", "find", "more", "--bson", "--"], ["--canonical", "--wait"]),
+    (["shop.db", "find", "more", "--"], ["--sort", "--skip", "--limit", "--canonical", "--bson", "--wait"]),
+    (["shop.db", "get", "more", "1", "--bson", "--"], ["--canonical", "--wait"]),
+    (["shop.db", "find", "more", "--bson", "--s"], ["--sort", "--skip"]),
+    (["shop.db", "find", "more", "--sort", "price", "--s"], ["--skip"]),
+    (["shop.db", "find", "more", "--sort", ""], [""]),
     (["shop.db", "insert", "more", "{}", "--"], ["--canonical", "--wait"]),
     (["shop.db", "insert", "more", "--"], [""]),
     (["shop.db", "import", "more", ""], ["--json", "--wait"]),

@@ -119,8 +119,8 @@ class Lists:
         if self.happens(0.01):
             name = ""
         command = self.chance.choices(
-            ["insert", "put", "replace", "set", "unset", "remove", "import", "find", "count", "index", "drop_index", "update", "delete"],
-            [14, 4, 4, 6, 2, 6, 3, 24, 10, 9, 2, 6, 3])[0]
+            ["insert", "put", "replace", "set", "unset", "remove", "import", "find", "count", "index", "drop_index", "update", "replace-one", "delete"],
+            [14, 4, 4, 6, 2, 6, 3, 24, 10, 9, 2, 6, 2, 3])[0]
         if command in ("insert", "put", "replace"):
             return [command, name, self.document(own)]
         if command == "set":
@@ -133,6 +133,11 @@ class Lists:
             key = self.one_of([key for key in KEYS if key])
             update = {"$set": {key: self.value()}} if self.happens(0.7) else {"$inc": {key: 1}}
             return [command, name, self.query(), update, *([{"many": True}] if self.happens(0.5) else [])]
+        if command == "replace-one":
+            document = self.document(own)
+            if self.happens(0.8):
+                del document["_id"]
+            return [command, name, self.query(), document]
         if command == "delete":
             return [command, name, self.query(), *([{"many": True}] if self.happens(0.3) else [])]
         if command == "import":

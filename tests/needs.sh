@@ -14,6 +14,9 @@ sqlite3 command -v sqlite3
 jq command -v jq
 strace command -v strace
 python3-pymongo /usr/bin/python3 -c 'import bson.json_util'
+python3-mongomock /usr/bin/python3 -c 'import mongomock'
+python3-apscheduler /usr/bin/python3 -c 'import apscheduler.jobstores.mongodb'
+python3-requests-cache /usr/bin/python3 -c 'import requests_cache.backends.mongodb'
 golang-mongodb-mongo-driver-dev test -d /usr/share/gocode/src/go.mongodb.org/mongo-driver/data/crud
 python3-venv /usr/bin/python3 -c 'import ensurepip, venv'
 lintian command -v lintian

@@ -170,13 +170,13 @@ for name in NAMES:
 
 # What is installed has pages for man, which have the commands and the options of the help.
 def words_of_page(text):
-    return set(re.findall(r"^\.It Ic (\w+)", text, re.M)), set(re.findall(r"Fl -([a-z-]+)", text))
+    return set(re.findall(r"^\.It Ic ([\w-]+)", text, re.M)), set(re.findall(r"Fl -([a-z-]+)", text))
 
 
 for name in NAMES:
     page, help_text = prefix / f"share/man/man1/{name}.1", done(prefix / "bin" / name, "--help")
     holds(f"the page of {name}", done("mandoc", "-T", "lint", "-W", "warning", page), "")
-    commands = set(re.findall(r"^  ([a-z][a-z_]*)(?: |$)", help_text, re.M)) - {name}
+    commands = set(re.findall(r"^  ([a-z][a-z_-]*)(?: |$)", help_text, re.M)) - {name}
     # (the option that prints a help is named by the page, and not by every help)
     options = {"help", *re.findall(r"--([a-z][a-z-]*)", help_text)}
     holds(f"the words of the page of {name}", words_of_page(page.read_text()), (commands, options))
@@ -185,7 +185,7 @@ for name in NAMES:
 # bash, zsh and fish complete by what was installed.
 done(prefix / "bin/fallowtime", "shop.db", "put", "orders", '{"_id":1}')
 done(prefix / "bin/fallowtime", "shop.db", "put", "old orders", '{"_id":1}')
-COMMANDS = re.findall(r"^  ([a-z]+)(?: |$)", done(prefix / "bin/fallowtime", "--help"), re.M)
+COMMANDS = re.findall(r"^  ([a-z][a-z-]*)(?: |$)", done(prefix / "bin/fallowtime", "--help"), re.M)
 KINDS = run(prefix / "bin/fallowtime", "--explain")[2].split("the kinds are: ")[1].split()
 # What zsh would show of the words that are told, one a line: what it is given to complete by is printed instead.
 ZSH = r"""
@@ -217,8 +217,8 @@ for words, wanted in [
     (["shop.db", "get", ""], ["old orders", "orders"]), (["shop.db", "get", "or"], ["orders"]), (["none.db", "get", ""], []),
     (["shop.db", "get", "orders", ""], []), (["shop.db", "get", "orders", "1", ""], ["--bson", "--canonical", "--wait"]),
     (["shop.db", "get", "orders", "1", "--bson", "--"], ["--canonical", "--wait"]), (["shop.db", "find", "orders", "--w"], ["--wait"]),
-    (["shop.db", "find", "orders", "{}", "--wait", ""], []), (["shop.db", "backup", "shop.db"], ["shop.db", "shop.db-wal"]),
-    (["shop.db", "collections", ""], ["--wait"]), (["shop.db", "insert", "orders", "--"], []),
+    (["shop.db", "find", "orders", "{}", "--wait", ""], []), (["shop.db", "find", "orders", "{}", "--sort", ""], []), (["shop.db", "backup", "shop.db"], ["shop.db", "shop.db-wal"]),
+    (["shop.db", "collections", ""], ["--wait"]), (["shop.db", "insert", "orders", "--"], []), (["shop.db", "find", "orders", "--s"], ["--skip", "--sort"]),
 ]:
     for shell in "zsh", "fish":
         holds(f"{shell} completes {words}", completed(shell, words), sorted(wanted))
