@@ -1,0 +1,119 @@
+-- What comes of a command.
+use Rattle.std.proofs.Common.{◌≡◌, inl, inr, pos, ℕ, Bool, false, List, [], ◌∷◌, map, Option, Some, None, Result, Ok, Err, IfOk, Vec, String, string_bytes, refl, ap, sym, ◌∙◌, subst}
+use Rattle.std.specs.declared.alloc.AllocError.{AllocError}
+use Rattle.std.specs.declared.alloc.Global.{Global}
+use Rattle.sqlite.specs.State.{State}
+use Rattle.std.specs.List.{AllZip}
+use Rattle.bson_base.specs.Value.{Items, Members, no_items}
+use Rattle.bson_model.specs.declared.bson.Bson.{Bson}
+use Rattle.bson_store.specs.Export.{bytes_of_each}
+use Rattle.bson_model.specs.View.{content, items_of, view}
+use Rattle.bson_model.specs.declared.document.Document.{Document}
+use Rattle.bson_message.specs.declared.section.Sequence.{Sequence}
+use Rattle.store_model.specs.declared.error.StoreError.{StoreError}
+use Rattle.fallowtime_commands.specs.Performing.{IsAnswerTo}
+use Rattle.fallowtime_commands.specs.declared.answer.Answer.{Answer}
+use Rattle.fallowtime_session.specs.Deeds.{Deed, Did}
+use Rattle.fallowtime_messages.specs.Answers as told
+use Rattle.fallowtime_messages.specs.Done.{DoesAll}
+use Rattle.fallowtime_messages.specs.Outcomes.{AreImports, AreMeant, Carries, CarriesOrStarts, Comes, InsertsOrStarts, IsImport, IsMeant, IsRefused, PutsAll, Starts, Tells, TellsFault, TellsWritten, joined, told_by}
+use Rattle.fallowtime_messages.specs.Plans.{Asks}
+use Rattle.fallowtime_messages.specs.Runs.{RunsTo, Sums, changes, counts, deed_of, errors_from}
+use Rattle.fallowtime_messages.specs.declared.asked.Plan.{Plan}
+use Rattle.fallowtime_messages.specs.declared.asked.Plan.TheVariants as plan
+use Rattle.fallowtime_messages.specs.declared.asked.Statement.{Statement}
+use Rattle.fallowtime_messages.specs.declared.asked.Way.{Way}
+use Rattle.fallowtime_messages.specs.declared.fault.Code.{Code}
+use Rattle.fallowtime_messages.specs.declared.fault.Fault.{Fault}
+use Rattle.fallowtime_messages.specs.declared.fault.Fault.TheVariants.{Memory, Refused}
+use Rattle.fallowtime_messages.specs.declared.writing.Written.{Written}
+use Rattle.fallowtime_messages.proofs.DoneLemmas.{none_done, one_before, one_done}
+use Rattle.fallowtime_messages.proofs.ListLemmas.{zip_seen}
+use Rattle.fallowtime_messages.proofs.RunLemmas.{run_begins}
+
+-- ---- one thing
+
+pub carried_one : (s : Statement) (w : Way) (o : Result Answer StoreError) (r : Result Document AllocError) (t u : State) → Did (Some (deed_of s o)) t u → IfOk o (IsAnswerTo s.request) → IfOk r (λ d. Tells w o (content d)) → DoesAll (CarriesOrStarts (plan.One s w) r) t u
+carried_one s w o (Ok d) t u did shape tells = (deed_of s o ∷ [], (deed_of s o, (refl, refl, shape), refl, tells), one_done t u (deed_of s o) did)
+carried_one s w o (Err e) t u did shape tells = (deed_of s o ∷ [], ((refl, refl, shape), tt), one_done t u (deed_of s o) did)
+
+-- the documents of a batch
+pub found_told : (r : Result Document AllocError) (bodies : List (Vec ℕ Global)) (xs : List Bson) (space text : List ℕ) → AllZip (λ (b : Vec ℕ Global) (v : Bson). IsMeant b.items (view v)) bodies xs → text ≡ space
+    → IfOk r (λ d. content d ≡ told.found text (items_of (map view xs))) → IfOk r (λ d. (vs : Items) × AreMeant (bytes_of_each bodies) vs × (content d ≡ told.found space vs))
+found_told (Ok d) bodies xs space text zip same is = (items_of (map view xs), (map view xs, refl, zip_seen IsMeant (λ (b : Vec ℕ Global). b.items) view bodies xs zip), is ∙ ap (λ t. told.found t (items_of (map view xs))) same)
+found_told (Err e) bodies xs space text zip same is = tt
+
+-- ---- changes
+
+-- so they are told
+told_written : (changed : Bool) (w : Written) (ds : List Deed) (m : Members) → Sums ds w → TellsWritten changed w m → m ≡ told.written changed (pos (counts ds)) (pos (changes ds)) (items_of (errors_from 0 ds))
+told_written changed w ds m sums tells =
+    tells ∙ ap (λ n. told.written changed (pos n) (pos w.changed) (items_of (map view w.errors.items))) sums.count
+    ∙ ap (λ n. told.written changed (pos (counts ds)) (pos n) (items_of (map view w.errors.items))) sums.changed
+    ∙ ap (λ vs. told.written changed (pos (counts ds)) (pos (changes ds)) (items_of vs)) sums.errors
+
+-- ---- insertions
+
+module _ (name : List ℕ) (documents : List (List ℕ)) (stops : Bool) where
+  -- nothing was put in yet
+  pub none_put : (e : AllocError) (t : State) → DoesAll (InsertsOrStarts name documents stops (Err e)) t t
+  none_put e t = ([], inl refl, none_done t)
+
+  module _ (s : Statement) (t u : State) (is : IsImport name (joined documents) s) where
+    -- all were
+    pub all_put : (n : ℕ) (o : Option ℕ) (r : Result Document AllocError) → o ≡ Some n → PutsAll s o t u → IfOk r (λ d. content d ≡ told.written false (pos n) (pos 0) no_items) → DoesAll (InsertsOrStarts name documents stops r) t u
+    all_put n o (Ok x) some (d, deed, number, did) tells = (d ∷ [], (s, d, [], is, deed, refl, inl (n, sym number ∙ some, refl, tells)), one_done t u d did)
+    all_put n o (Err e) some (d, deed, number, did) tells = (d ∷ [], inr (s, d, [], is, deed, refl, inl refl), one_done t u d did)
+
+    -- that is refused, and there is no room to go on
+    pub none_left : (o : Option ℕ) (e : AllocError) → PutsAll s o t u → DoesAll (InsertsOrStarts name documents stops (Err e)) t u
+    none_left o e (d, deed, number, did) = (d ∷ [], inr (s, d, [], is, deed, refl, inl refl), one_done t u d did)
+
+    module _ (o : Option ℕ) (none : o ≡ None) (ss : List Statement) (are : AreImports name documents ss) (v : State) where
+      -- each by itself
+      pub each_put : (w : Written) (r : Result Document AllocError) → PutsAll s o t u → DoesAll (RunsTo stops ss (Ok w)) u v → IfOk r (λ x. TellsWritten false w (content x)) → DoesAll (InsertsOrStarts name documents stops r) t v
+      each_put w (Ok x) (d, deed, number, did) (ds, (run, sums), moves) tells =
+          (d ∷ ds, (s, d, ds, is, deed, refl, inr (sym number ∙ none, (ss, are, run), told_written false w ds (content x) sums tells)), one_before t u v d ds did moves)
+      each_put w (Err e) (d, deed, number, did) (ds, (run, sums), moves) tells =
+          (d ∷ ds, inr (s, d, ds, is, deed, refl, inr (sym number ∙ none, (ss, are, run_begins stops ss ds run))), one_before t u v d ds did moves)
+
+      pub some_put : (x : AllocError) (e : AllocError) → PutsAll s o t u → DoesAll (RunsTo stops ss (Err x)) u v → DoesAll (InsertsOrStarts name documents stops (Err e)) t v
+      some_put x e (d, deed, number, did) (ds, begins, moves) = (d ∷ ds, inr (s, d, ds, is, deed, refl, inr (sym number ∙ none, (ss, are, begins))), one_before t u v d ds did moves)
+
+-- ---- plans
+
+pub carried_told : (d : Document) (t : State) → DoesAll (CarriesOrStarts (plan.Told d) (Ok d)) t t
+carried_told d t = ([], (refl, refl), none_done t)
+
+-- what is carried out begins
+starts : (p : Plan) (ds : List Deed) (m : Members) → Carries p ds m → Starts p ds
+starts (plan.Told d) ds m h = h.0
+starts (plan.One s w) ds m (d, deed, one, tells) = subst (λ xs. Starts (plan.One s w) xs) (sym one) (deed, tt)
+starts (plan.Inserts name documents stops) ds m (s, d, rest, is, deed, split, inl all) = inr (s, d, rest, is, deed, split, inl all.2)
+starts (plan.Inserts name documents stops) ds m (s, d, rest, is, deed, split, inr (none, (ss, are, run), tells)) = inr (s, d, rest, is, deed, split, inr (none, (ss, are, run_begins stops ss rest run)))
+
+-- ---- commands
+
+module _ (db : List ℕ) (ms : Members) (ss : List Sequence) where
+  pub carried : (p : Plan) (r : Result Document AllocError) (t u : State) → Asks db ms ss p → DoesAll (CarriesOrStarts p r) t u → DoesAll (Comes db ms ss (told_by r)) t u
+  carried p (Ok d) t u asks (ds, is, moves) = (ds, inr (p, asks, inl is), moves)
+  carried p (Err e) t u asks (ds, is, moves) = (ds, inr (p, asks, inr (is, refl)), moves)
+
+  pub refused : (f : Fault) (r : Result Document AllocError) (t : State) → IsRefused ms f → TellsFault f (told_by r) → DoesAll (Comes db ms ss (told_by r)) t t
+  refused f r t is tells = ([], inl (refl, (f, is, tells)), none_done t)
+
+  -- there may be no room for what is told
+  pub no_room_too : (m : Members) (ds : List Deed) → Comes db ms ss m ds → Comes db ms ss told.no_room ds
+  no_room_too m ds (inl h) = inl (h.0, (Memory, inl tt, refl))
+  no_room_too m ds (inr (p, asks, inl carries)) = inr (p, asks, inr (starts p ds m carries, refl))
+  no_room_too m ds (inr (p, asks, inr begins)) = inr (p, asks, inr (begins.0, refl))
+
+-- ---- what is told
+
+pub tells_refusal : (c : Code) (text : String Global) (r : Result Document AllocError) → IfOk r (λ d. content d ≡ told.refused (string_bytes text) c) → TellsFault (Refused c text) (told_by r)
+tells_refusal c text (Ok d) is = inl is
+tells_refusal c text (Err e) is = inr refl
+
+pub tells_memory : (r : Result Document AllocError) → IfOk r (λ d. content d ≡ told.no_room) → TellsFault Memory (told_by r)
+tells_memory (Ok d) is = is
+tells_memory (Err e) is = refl

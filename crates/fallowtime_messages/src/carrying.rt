@@ -1,0 +1,150 @@
+//! What a command asks, done on a store.
+
+ghost use Rattle.std.specs.Prelude.{◌≡◌, IfOk, string_bytes};
+ghost use Rattle.std.specs.List.{AllZip};
+ghost use Rattle.bson_store.specs.Calls.{store_state};
+ghost use Rattle.bson_store.specs.Export.{bytes_of_each};
+ghost use Rattle.fallowtime_messages.specs.Done.{DoesAll};
+ghost use Rattle.fallowtime_messages.specs.Outcomes.{CarriesOrStarts, InsertsOrStarts, IsImport, PutsAll, joined, number_of};
+ghost use Rattle.fallowtime_messages.specs.declared.asked.Plan.TheVariants as plans;
+
+use crate::asked::{Plan, Statement, Way};
+use crate::lists::copy_of;
+use crate::telling::{tell, tell_inserted, tell_written};
+use crate::writing::{discard, perform_statement, write_all};
+use bson_model::Document;
+use bson_store::{Store, StoreError};
+use fallowtime_commands::Answer;
+use fallowtime_requests::Request;
+use sqlite::Alter;
+use std::alloc::{AllocError, Global};
+
+/// Does one thing, and tells it.
+fn carry_one<S: Alter + Drop>(
+    alloc: Global,
+    store: &mut Store<S>,
+    statement: Statement,
+    way: &Way,
+) -> Result<Document, AllocError>
+    ensures { DoesAll (CarriesOrStarts (plans.One statement way.now) result) (store_state S.Store store.old) (store_state S.Store store.new) }
+{
+    let mut statement = statement;
+    let outcome = perform_statement(alloc, store, &mut statement);
+    discard(statement);
+    tell(alloc, way, &outcome)
+}
+
+/// The bytes of documents, one after the other.
+fn joined(alloc: Global, documents: &[Vec<u8>]) -> Result<Vec<u8>, AllocError>
+    ensures { IfOk result (λ stream. stream.items ≡ joined (bytes_of_each documents.now)) }
+{
+    let mut stream = Vec::new(alloc);
+    for document in documents {
+        stream.extend_from_slice(document.as_slice())?;
+    }
+    Ok(stream)
+}
+
+/// What puts the documents of a stream into a collection.
+fn import_of(alloc: Global, name: &String, stream: Vec<u8>) -> Result<Statement, AllocError>
+    ensures { IfOk result (IsImport (string_bytes name.now) stream.items) }
+{
+    Ok(Statement {
+        name: String::from_str(alloc, name.as_str())?,
+        request: Request::Import(stream),
+    })
+}
+
+/// What puts all documents into a collection at once.
+fn import_all(alloc: Global, name: &String, documents: &[Vec<u8>]) -> Result<Statement, AllocError>
+    ensures { IfOk result (IsImport (string_bytes name.now) (joined (bytes_of_each documents.now))) }
+{
+    import_of(alloc, name, joined(alloc, documents)?)
+}
+
+/// What puts a document into a collection.
+fn import_one(alloc: Global, name: &String, document: &[u8]) -> Result<Statement, AllocError>
+    ensures { IfOk result (IsImport (string_bytes name.now) document.now) }
+{
+    import_of(alloc, name, copy_of(alloc, document)?)
+}
+
+/// What puts each document into a collection.
+fn imports(
+    alloc: Global,
+    name: &String,
+    documents: &[Vec<u8>],
+) -> Result<Vec<Statement>, AllocError>
+    ensures { IfOk result (λ list. AllZip (λ b. IsImport (string_bytes name.now) b.items) documents.now list.items) }
+{
+    let mut list = Vec::new(alloc);
+    for document in documents {
+        let statement = import_one(alloc, name, document.as_slice())?;
+        list.push(statement)?;
+    }
+    Ok(list)
+}
+
+/// How many documents were put in, if they were.
+fn number_put(outcome: &Result<Answer, StoreError>) -> Option<u64>
+    ensures { result ≡ number_of outcome.now }
+{
+    match outcome {
+        Ok(Answer::Number(number)) => Some(*number),
+        _ => None,
+    }
+}
+
+/// Puts all documents in at once: how many, or none if that is refused.
+fn put_all<S: Alter + Drop>(
+    alloc: Global,
+    store: &mut Store<S>,
+    statement: Statement,
+) -> Option<u64>
+    ensures { PutsAll statement result (store_state S.Store store.old) (store_state S.Store store.new) }
+{
+    let mut statement = statement;
+    let outcome = perform_statement(alloc, store, &mut statement);
+    discard(statement);
+    number_put(&outcome)
+}
+
+/// Puts documents in: all at once; or, if that is refused, each by itself.
+fn carry_inserts<S: Alter + Drop>(
+    alloc: Global,
+    store: &mut Store<S>,
+    name: &String,
+    documents: &[Vec<u8>],
+    stops: bool,
+) -> Result<Document, AllocError>
+    ensures { DoesAll (InsertsOrStarts (string_bytes name.now) (bytes_of_each documents.now) stops result) (store_state S.Store store.old) (store_state S.Store store.new) }
+{
+    let all = import_all(alloc, name, documents)?;
+    match put_all(alloc, store, all) {
+        Some(number) => tell_inserted(alloc, number),
+        None => {
+            let each = imports(alloc, name, documents)?;
+            let written = write_all(alloc, store, each, stops)?;
+            tell_written(alloc, written, false)
+        }
+    }
+}
+
+/// Does what a command asks, and tells it.
+///
+/// After an error there is no room to tell it, and some of it may have been done.
+pub(crate) fn carry<S: Alter + Drop>(
+    alloc: Global,
+    store: &mut Store<S>,
+    plan: Plan,
+) -> Result<Document, AllocError>
+    ensures { DoesAll (CarriesOrStarts plan result) (store_state S.Store store.old) (store_state S.Store store.new) }
+{
+    match plan {
+        Plan::Told(document) => Ok(document),
+        Plan::One(statement, way) => carry_one(alloc, store, statement, &way),
+        Plan::Inserts(name, documents, stops) => {
+            carry_inserts(alloc, store, &name, documents.as_slice(), stops)
+        }
+    }
+}

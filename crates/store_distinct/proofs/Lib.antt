@@ -1,0 +1,5 @@
+pub mod OnceLemmas
+pub mod OneLemmas
+pub mod CountLemmas
+pub mod WalkLemmas
+pub mod TakeLemmas

@@ -1,0 +1,10 @@
+pub mod UseLemmas
+pub mod SoundLemmas
+pub mod StoreLemmas
+pub mod EditLemmas
+pub mod ChangeLemmas
+pub mod RowLemmas
+pub mod PoolLemmas
+pub mod LastLemmas
+pub mod DocLemmas
+pub mod WriterLemmas

@@ -1,0 +1,78 @@
+//! The pages of two files, opened without reading all of them.
+
+ghost use Rattle.std.specs.Prelude.{◌≡◌, IsTrue, IfOk, IfSome};
+ghost use Rattle.sqlite_wal.specs.Files.{seen_image};
+ghost use Rattle.sqlite_wal.specs.PageSize.{IsPageSize, bytes_of};
+ghost use Rattle.sqlite_wal.specs.Reads.{AreClean, OnlyReads};
+ghost use Rattle.sqlite_pool.specs.Pool.{state};
+ghost use Rattle.sqlite_pages.specs.Calls.{IsClean, Continues};
+ghost use Rattle.store_pages.specs.Frames.{NamesSize};
+ghost use Rattle.store_pages.specs.Roots.{ListsTwo};
+ghost use Rattle.store_writer.specs.Store.{IsOpenOn};
+
+use sqlite_btree::Scratch;
+use sqlite_disk::{Disk, Files};
+use sqlite_pager::{Options, Pager};
+use sqlite_pages::Pages;
+use sqlite_pool::Pool;
+use sqlite_wal::{PageSize, probe_page_size};
+use std::alloc::Global;
+use store_pages::{Roots, find_roots};
+
+/// The size of a page, by the log or the file.
+fn page_size<D: Disk>(files: &mut Files<D>) -> Option<PageSize>
+    requires log_usable { IsTrue (D.Disk.is_usable files.old.log) }
+    requires db_usable { IsTrue (D.Disk.is_usable files.old.db) }
+    ensures log { OnlyReads D.Disk files.old.log files.new.log }
+    ensures db { OnlyReads D.Disk files.old.db files.new.db }
+    ensures named { IfSome result (λ size. AreClean D.Disk files.new.log files.new.db → NamesSize (seen_image D.Disk files.old.log files.old.db) (bytes_of size)) }
+{
+    let probed = probe_page_size(files);
+    match probed {
+        Ok(found) => found,
+        Err(_) => None,
+    }
+}
+
+/// The pages that two files stand for, of which the header and the free list were read. A refusal gives the files back.
+pub(crate) fn recover<D: Disk + Drop>(
+    alloc: Global,
+    mut files: Files<D>,
+    options: Options,
+) -> Result<Pool<D>, Files<D>>
+    requires log_usable { IsTrue (D.Disk.is_usable files.log) }
+    requires db_usable { IsTrue (D.Disk.is_usable files.db) }
+    ensures { IfOk result (λ it. IsTrue (state it).is_clean → IsOpenOn (seen_image D.Disk files.log files.db) it) }
+{
+    let Some(size) = page_size(&mut files) else {
+        return Err(files);
+    };
+    let pager = match Pager::new(alloc, files, size, options) {
+        Ok(pager) => pager,
+        Err(failed) => return Err(failed.value),
+    };
+    let mut pool = match Pool::new(alloc, pager, false) {
+        Ok(pool) => pool,
+        Err(failed) => return Err(failed.value.close()),
+    };
+    match pool.recover(false) {
+        Ok(()) => Ok(pool),
+        Err(_) => Err(pool.close()),
+    }
+}
+
+/// Where the store's table and its index begin, if these two are all that the pages have, and can be read.
+pub(crate) fn own_roots<P: Pages>(
+    alloc: Global,
+    pages: &mut P,
+    scratch: &mut Scratch,
+) -> Option<Roots>
+    ensures found { IfSome result (λ roots. IsClean P.Pages pages.new → ListsTwo (P.Pages.size pages.old) (P.Pages.pages pages.old) roots.table roots.index) }
+    ensures kept { Continues P.Pages pages.old pages.new }
+    ensures pages { P.Pages.pages pages.new ≡ P.Pages.pages pages.old }
+{
+    match find_roots(alloc, pages, scratch) {
+        Ok(found) => found,
+        Err(_) => None,
+    }
+}
