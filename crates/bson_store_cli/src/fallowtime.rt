@@ -25,16 +25,17 @@ use crate::help;
 use bson_base::write_all;
 use bson_store::{ErrorKind, Sink, Source, Store};
 use cli_files::{FileError, close, copy, open_parts, open_within, read};
-use fallowtime_commands::{Refusal, execute, export_all, look_up, print_found};
+use fallowtime_commands::{Answer, Refusal, execute, export_all, look_up, print_found};
 use fallowtime_front::{Asked, Ended, asked_of, ended_of, form_of, tell};
-use fallowtime_help::topic_of;
-use fallowtime_requests::Unread;
+use fallowtime_help::{Packing, packing_of, topic_of};
+use fallowtime_requests::{Request, Unread};
 use fallowtime_texts::IdMaker;
-use fallowtime_words::{Command, Task, Words, read_words};
+use fallowtime_words::{Argument, Command, Task, Words, read_words};
 use sqlite::{Alter, Connection};
 use sqlite_disk::{Start, Unknown};
 use std::alloc::Global;
 use std::hash::{BuildHasher, RandomState};
+use std::io::IsTerminal;
 use std::time::SystemTime;
 use std::{fs, io};
 
@@ -187,15 +188,17 @@ fn look<O: Sink>(
     }
 }
 
-/// Whether a command finds no file that it needs.
-fn lacks_file(rt: &HostRuntime, words: &Words<'_>) -> bool {
-    if words.command.makes_file() {
-        return false;
-    }
-    match fs::metadata(rt, words.file) {
+/// Whether a file isn't there.
+fn is_missing(rt: &HostRuntime, file: &str) -> bool {
+    match fs::metadata(rt, file) {
         Ok(_) => false,
         Err(error) => error.kind() == io::ErrorKind::NotFound,
     }
+}
+
+/// Whether a command finds no file that it needs.
+fn lacks_file(rt: &HostRuntime, words: &Words<'_>) -> bool {
+    !words.command.makes_file() && is_missing(rt, words.file)
 }
 
 /// Does a command that changes the file.
@@ -257,29 +260,42 @@ fn do_asked<O: Sink>(
     }
 }
 
-/// Reads what the words ask for, and does that.
+/// What packed the documents that are imported, if they seem to be packed.
+fn packing_in(asked: &Asked<'_>) -> Option<Packing> {
+    match &asked.request {
+        Some(Request::Import(stream)) => packing_of(stream.as_slice()),
+        _ => None,
+    }
+}
+
+/// Reads what the words ask for, and does that. What packed the documents of an import is told in `packing`.
 fn ask_and_do<I: Source, O: Sink>(
     rt: &HostRuntime,
     words: &Words<'_>,
     maker: &mut IdMaker,
     input: &mut I,
     output: &mut O,
+    packing: &mut Option<Packing>,
 ) -> Result<(), Ended>
     requires input { CanFail (I.feed input.old) }
     requires output { CanRefuse (O.tally output.old) }
 {
     match asked_of(rt.alloc(), words, maker, input) {
-        Ok(mut asked) => do_asked(rt, words, &mut asked, output),
+        Ok(mut asked) => {
+            *packing = packing_in(&asked);
+            do_asked(rt, words, &mut asked, output)
+        }
         Err(ended) => Err(ended),
     }
 }
 
-/// Does the command of the words.
+/// Does the command of the words. What packed the documents of an import is told in `packing`.
 fn command<I: Source, O: Sink>(
     rt: &HostRuntime,
     words: &Words<'_>,
     input: &mut I,
     output: &mut O,
+    packing: &mut Option<Packing>,
 ) -> Result<(), Ended>
     requires input { CanFail (I.feed input.old) }
     requires output { CanRefuse (O.tally output.old) }
@@ -288,7 +304,7 @@ fn command<I: Source, O: Sink>(
         return back_up(rt, words);
     }
     let mut maker = maker_of(rt)?;
-    ask_and_do(rt, words, &mut maker, input, output)
+    ask_and_do(rt, words, &mut maker, input, output, packing)
 }
 
 /// The session over an open store.
@@ -336,7 +352,18 @@ fn answer_over<S: Alter + Drop, I: Source, O: Sink>(
     }
 }
 
-/// Answers the requests of the lines over a file, which is made if it isn't there.
+/// Whether a name has neither a dot nor a slash, as a file mostly has.
+pub fn is_bare(name: &str) -> bool {
+    for byte in name.as_bytes() {
+        if *byte == b'.' || *byte == b'/' {
+            return false;
+        }
+    }
+    true
+}
+
+/// Answers the requests of the lines over a file, which is made if it isn't there, except if its name is a single word,
+/// which may be meant for a command.
 fn session<I: Source, O: Sink>(
     rt: &HostRuntime,
     file: &str,
@@ -347,6 +374,9 @@ fn session<I: Source, O: Sink>(
     requires input { CanFail (I.feed input.old) }
     requires output { CanRefuse (O.tally output.old) }
 {
+    if is_bare(file) && is_missing(rt, file) {
+        return Err(Ended::File(FileError::NoFile));
+    }
     let mut maker = maker_of(rt)?;
     match open_within(rt, file, seconds) {
         Ok(connection) => {
@@ -384,8 +414,9 @@ fn serve_task<I: Source, O: Sink, F: Sink>(
     let Some(task) = read_words(words) else {
         return tell(rt, faults, Ended::Words(Unread::Command));
     };
+    let mut packing = None;
     let ended = match task {
-        Task::Command(words) => command(rt, &words, input, output),
+        Task::Command(words) => command(rt, &words, input, output, &mut packing),
         Task::Session { file, seconds } => {
             session(rt, file, seconds.unwrap_or(PATIENCE), input, output)
         }
@@ -395,7 +426,7 @@ fn serve_task<I: Source, O: Sink, F: Sink>(
         Err(ended) => {
             let kind = ended.kind();
             let status = tell(rt, faults, ended);
-            help::advise(rt, kind, words);
+            help::advise(rt, kind, words, packing);
             status
         }
     }
@@ -425,5 +456,45 @@ pub fn serve<I: Source, O: Sink, F: Sink>(
     match topic_of(words) {
         Some(topic) => help::serve(rt, topic, output, faults),
         None => serve_task(rt, words, input, output, faults),
+    }
+}
+
+/// The collections of a file, if its pages tell them.
+fn names_in(rt: &HostRuntime, file: &str) -> Option<Vec<String>> {
+    let (files, moment) = open_parts(rt, file, Unknown).ok()??;
+    let (outcome, pages) = look_up(rt.alloc(), files, "", &Request::Collections)?;
+    if !moment.is_still(rt, &pages).ok()? {
+        return None;
+    }
+    match outcome {
+        Ok(Answer::Names(names)) => Some(names),
+        _ => None,
+    }
+}
+
+/// The collection that a command needs, as only some make one.
+fn needed_collection<'w>(words: &Words<'w>) -> Option<&'w str> {
+    if words.command.makes_file() {
+        return None;
+    }
+    match (words.command.signature().arguments, words.arguments) {
+        ([Argument::Collection, ..], [name, ..]) => Some(name.as_str()),
+        _ => None,
+    }
+}
+
+/// Says at a terminal that there is no such collection as the words name, and which one is meant.
+pub fn point_at_collection(rt: &HostRuntime, words: &[String]) {
+    if !rt.stderr().is_terminal() {
+        return;
+    }
+    let Some(Task::Command(words)) = read_words(words) else {
+        return;
+    };
+    let Some(name) = needed_collection(&words) else {
+        return;
+    };
+    if let Some(names) = names_in(rt, words.file) {
+        help::hint_at_collection(rt, names.as_slice(), name);
     }
 }

@@ -7,11 +7,15 @@ ghost use Rattle.fallowtime_front.specs.Ending.{TellsEnd};
 ghost use Rattle.fallowtime_front.specs.declared.ending.Ended.{Ended as Ending};
 ghost use Rattle.fallowtime_help.specs.Overview.{Tells};
 
+use crate::fallowtime::is_bare;
 use bson_base::write_all;
 use bson_store::{ErrorKind, Sink};
 use fallowtime_commands::Refusal;
 use fallowtime_front::{Ended, tell};
-use fallowtime_help::{Topic, about, advice_for, hint_of, kind_names, topic_of};
+use fallowtime_help::{
+    Packing, Topic, about, advice_for, advice_on_packed, hint_at_name, hint_of, kind_names,
+    topic_of,
+};
 use fallowtime_requests::Unread;
 use fallowtime_words::read_words;
 use std::alloc::AllocError;
@@ -75,14 +79,38 @@ pub fn hint(rt: &HostRuntime, words: &[String]) {
     }
 }
 
-/// Says at a terminal what mostly helps after a refusal of this kind, by the words behind the command.
-pub fn advise(rt: &HostRuntime, kind: &str, words: &[String]) {
-    let Some(arguments) = words.get(2..) else {
+/// What helps if a session is to be over a single word that is no file.
+const BARE: &str =
+    "there is no such file; with ./ in front one of this name is made; fallowtime help lists the commands";
+
+/// Says that a collection isn't there, and which of these is meant; nothing if it is one of them.
+pub fn hint_at_collection(rt: &HostRuntime, names: &[String], name: &str) {
+    if let Ok(Some(text)) = hint_at_name(rt.alloc(), names, name) {
+        note(rt, "", Ok(text));
+    }
+}
+
+/// What mostly helps after a refusal of this kind: by what packed the bytes of an import, or by the words behind the command.
+fn advice(kind: &str, arguments: &[String], packing: Option<Packing>) -> Option<&'static str> {
+    match advice_on_packed(kind, packing) {
+        Some(text) => Some(text),
+        None => advice_for(kind, arguments),
+    }
+}
+
+/// Says at a terminal what mostly helps after a refusal of this kind, by the words, and by what packed the bytes of an
+/// import.
+pub fn advise(rt: &HostRuntime, kind: &str, words: &[String], packing: Option<Packing>) {
+    if !rt.stderr().is_terminal() {
         return;
+    }
+    let text = match words {
+        [] => None,
+        [file] | [file, _, _] if kind.is_empty() && is_bare(file.as_str()) => Some(BARE),
+        [_] => None,
+        [_, _, arguments @ ..] => advice(kind, arguments, packing),
     };
-    if rt.stderr().is_terminal() {
-        if let Some(text) = advice_for(kind, arguments) {
-            note(rt, text, Ok(String::new(rt.alloc())));
-        }
+    if let Some(text) = text {
+        note(rt, text, Ok(String::new(rt.alloc())));
     }
 }

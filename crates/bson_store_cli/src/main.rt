@@ -132,6 +132,8 @@ fn run_by_words(rt: &HostRuntime, words: &[String]) -> u8 {
     };
     if status == MISUSE {
         help::hint(rt, words);
+    } else {
+        fallowtime::point_at_collection(rt, words);
     }
     status
 }

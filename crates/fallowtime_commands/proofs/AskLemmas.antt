@@ -5,16 +5,15 @@ use Rattle.sqlite.specs.State.{State}
 use Rattle.store_table.specs.Moves.{Moves}
 use Rattle.store_model.specs.declared.error.StoreError.{StoreError}
 use Rattle.store_question.specs.Reads.{Form}
-use Rattle.store_asked.specs.Arranged.{AreArranged}
 use Rattle.store_asked.specs.Asking.{AskedFrom}
-use Rattle.store_sorted.specs.declared.arrangement.Arrangement.{Arrangement}
+use Rattle.fallowtime_requests.specs.declared.request.Wanted.{Wanted}
 use Rattle.bson_store.proofs.MoveLemmas.{moved}
 use Rattle.bson_store.specs.Questions.{as_list}
 use Rattle.bson_store.specs.Refusals.{as_number, reply_by}
-use Rattle.fallowtime_commands.specs.Asking.{Counts, CountsAll, Finds, IsNumberOf, Totals}
+use Rattle.fallowtime_commands.specs.Asking.{AreWanted, Counts, CountsAll, Finds, IsNumberOf, Totals}
 
-pub found : (n : List ℕ) (form : Form) (a : Arrangement) (s t : State) (outcome : Result (Vec (Vec ℕ Global) Global) StoreError) → Moves s t (AskedFrom (AreArranged a) n form outcome) → Moves s t (Finds n form a (reply_by as_list outcome))
-found n form a s t outcome moves = moved s t (AskedFrom (AreArranged a) n form outcome) (Finds n form a (reply_by as_list outcome)) moves (λ docs after h. (outcome, refl, h))
+pub found : (n : List ℕ) (form : Form) (w : Wanted) (s t : State) (outcome : Result (Vec (Vec ℕ Global) Global) StoreError) → Moves s t (AskedFrom (AreWanted w) n form outcome) → Moves s t (Finds n form w (reply_by as_list outcome))
+found n form w s t outcome moves = moved s t (AskedFrom (AreWanted w) n form outcome) (Finds n form w (reply_by as_list outcome)) moves (λ docs after h. (outcome, refl, h))
 
 pub counted : (n : List ℕ) (form : Form) (s t : State) (outcome : Result ℕ StoreError) → Moves s t (AskedFrom IsNumberOf n form outcome) → Moves s t (Counts n form (reply_by as_number outcome))
 counted n form s t outcome moves = moved s t (AskedFrom IsNumberOf n form outcome) (Counts n form (reply_by as_number outcome)) moves (λ docs after h. (outcome, refl, h))

@@ -11,4 +11,5 @@ mod ReturnLemmas
 mod LookLemmas
 mod MeantLemmas
 mod TotalLemmas
+mod WantLemmas
 pub mod CrashLemmas

@@ -2,20 +2,21 @@
 use Rattle.std.specs.Prelude.{◌≡◌, ℕ, List, [], ◌∷◌, map, length, sum_by, Bool, true, false, Result, Ok, Err, Vec}
 use Rattle.std.specs.declared.alloc.Global.{Global}
 use Rattle.bson_bytes.specs.Encode.{encode}
-use Rattle.store_asked.specs.Arranged.{AreArranged}
 use Rattle.store_asked.specs.Asking.{AskedFrom}
 use Rattle.store_model.specs.Reading.{Documents}
 use Rattle.store_model.specs.State as model
 use Rattle.store_model.specs.Table.{DocumentTable, state_of}
 use Rattle.store_model.specs.declared.error.StoreError.{StoreError}
 use Rattle.store_question.specs.Reads.{Form}
-use Rattle.store_sorted.specs.declared.arrangement.Arrangement.{Arrangement}
+use Rattle.store_sorted.specs.Bodies.{AreBodies, ArrangedBy}
 use Rattle.store_table.specs.Rows.{TableRow}
 use Rattle.bson_store.specs.Calls.{Does}
 use Rattle.bson_store.specs.Export.{bytes_of_each}
 use Rattle.bson_store.specs.Questions.{as_list}
 use Rattle.bson_store.specs.Refusals.{as_number, reply_by}
 use Rattle.bson_store.specs.Shown.{Represents}
+use Rattle.fallowtime_requests.specs.Fields.{left_by}
+use Rattle.fallowtime_requests.specs.declared.request.Wanted.{Wanted}
 use Rattle.fallowtime_commands.specs.declared.meant.Meant.{Meant}
 
 -- all of them, or the first
@@ -34,9 +35,13 @@ MeansOf first t out = (t.many ≡ first.many) × AreChosen first.many t.copies.b
 abbrev pub IsNumberOf : ℕ → Documents → Type 0
 IsNumberOf n ds = n ≡ length ds
 
--- those of the collection n that answer the question, in the order and the part that the arrangement has
-abbrev pub Finds : List ℕ → Form → Arrangement → model.Reply → List TableRow → List TableRow → Type 0
-Finds n form a r old new = (outcome : Result (Vec (Vec ℕ Global) Global) StoreError) × (r ≡ reply_by as_list outcome) × AskedFrom (AreArranged a) n form outcome old new
+-- the bodies are those of what is left of each of the documents that the arrangement has
+abbrev pub AreWanted : Wanted → Vec (Vec ℕ Global) Global → Documents → Type 0
+AreWanted w bodies ds = (es : Documents) × ArrangedBy w.arrangement ds es × AreBodies bodies.items (map (left_by w.fields) es)
+
+-- those of the collection n that answer the question, as they are wanted
+abbrev pub Finds : List ℕ → Form → Wanted → model.Reply → List TableRow → List TableRow → Type 0
+Finds n form w r old new = (outcome : Result (Vec (Vec ℕ Global) Global) StoreError) × (r ≡ reply_by as_list outcome) × AskedFrom (AreWanted w) n form outcome old new
 
 -- how many they are
 abbrev pub Counts : List ℕ → Form → model.Reply → List TableRow → List TableRow → Type 0

@@ -17,6 +17,7 @@ mod replacing;
 mod setting;
 mod storing;
 mod total;
+mod wanting;
 
 pub use answer::Answer;
 pub use executing::execute;

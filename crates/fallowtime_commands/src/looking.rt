@@ -16,13 +16,13 @@ use crate::asking::count_in_pages;
 use crate::executing::print_outcome;
 use crate::printing::Form;
 use crate::refusal::Refusal;
+use crate::wanting::look_up_wanted;
 use bson_base::Sink;
 use bson_store::{ErrorKind, StoreError};
 use fallowtime_requests::Request;
 use sqlite_disk::{Disk, Files};
 use sqlite_pages::Pages;
 use std::alloc::Global;
-use store_asked::look_up_arranged;
 use store_lookup::{ReadOnlyStore, open_files};
 use store_pages::Snapshot;
 
@@ -58,13 +58,9 @@ fn ask<P: Pages + Drop>(
 {
     match request {
         Request::Get(id) => told(document(store.get_raw(name, id))),
-        Request::Find(question, arrangement) => told(documents(look_up_arranged(
-            alloc,
-            store,
-            name,
-            question,
-            arrangement,
-        ))),
+        Request::Find(question, wanted) => {
+            told(documents(look_up_wanted(alloc, store, name, question, wanted)))
+        }
         Request::Count(question) => told(number(count_in_pages(alloc, store, name, question))),
         Request::Collections => told(names(store.collections())),
         _ => None,

@@ -12,12 +12,12 @@ use crate::changing::change;
 use crate::setting::set;
 use crate::storing::{insert, put, replace};
 use crate::total::total;
+use crate::wanting::find_wanted;
 use bson_store::{Bson, Store, StoreError};
 use fallowtime_requests::Request;
 use sqlite::Alter;
 use std::alloc::Global;
 use std::mem::replace as take;
-use store_asked::find_arranged;
 
 /// Does what is requested of the collection `name`: the call of the store for it. A value that is set, and the path of an
 /// index that is made, are taken out of the request.
@@ -54,8 +54,8 @@ pub fn perform<S: Alter + Drop>(
             change(alloc, store, name, question, work, *many)
         }
         Request::Remove(id) => nothing(store.remove(name, id)),
-        Request::Find(question, arrangement) => {
-            documents(find_arranged(alloc, store, name, question, arrangement))
+        Request::Find(question, wanted) => {
+            documents(find_wanted(alloc, store, name, question, wanted))
         }
         Request::Count(question) => number(count(alloc, store, name, question)),
         Request::Import(stream) => number(store.import_bytes(name, stream.as_slice())),

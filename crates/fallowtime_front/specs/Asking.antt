@@ -1,5 +1,5 @@
 -- What a command of `fallowtime` asks for, by its words and the input.
-use Rattle.std.specs.Prelude.{◌≡◌, ◌⊎◌, ℕ, List, [], ◌∷◌, map, string_bytes, Bool, true, false, Result, Ok, Err, Vec, Some, None, option_map}
+use Rattle.std.specs.Prelude.{◌≡◌, ◌⊎◌, ℕ, List, [], ◌∷◌, map, string_bytes, Bool, true, false, Result, Ok, Err, Vec, Some, None}
 use Rattle.std.specs.declared.alloc.Global.{Global}
 use Rattle.bson_base.specs.Device.{Feed, StopsReading, TookAll}
 use Rattle.bson_base.specs.declared.whole.ReadAllError.{ReadAllError}
@@ -9,13 +9,14 @@ use Rattle.cli_convert.specs.declared.stop.Stop.{Stop as LineStop}
 use Rattle.fallowtime_commands.specs.Reports.{plain}
 use Rattle.fallowtime_commands.specs.declared.printing.Form.{Form}
 use Rattle.fallowtime_commands.specs.declared.printing.Form.TheVariants.{Lines, Bytes}
-use Rattle.fallowtime_requests.specs.Arranging.{ArrangesWords}
+use Rattle.fallowtime_requests.specs.Arranging.{IsOfWords, StopsWanted, WantsByWords}
 use Rattle.fallowtime_requests.specs.Inputs.{Given, texts}
 use Rattle.fallowtime_requests.specs.Reading.{KeepsMaker, Reads}
 use Rattle.fallowtime_requests.specs.Requests as requests
 use Rattle.fallowtime_requests.specs.declared.reading.Layout.{Layout}
 use Rattle.fallowtime_requests.specs.declared.request.Request.{Request}
 use Rattle.fallowtime_requests.specs.declared.request.Request.TheVariants as request
+use Rattle.fallowtime_requests.specs.declared.request.Wanted.{Wanted}
 use Rattle.fallowtime_requests.specs.declared.stop.Stop.{Stop}
 use Rattle.fallowtime_requests.specs.declared.stop.Stop.TheVariants as stop
 use Rattle.fallowtime_texts.specs.Lines.{ReadsLines}
@@ -79,14 +80,19 @@ AsksToImport w old new before after result =
     (When (w.options.lines ≡ true) (AsksForLines (name_of w) old new before after result) (AsksForStream (name_of w) old new result × (after ≡ before)))
     ((result ≡ Err (refused BadName)) × (new ≡ old) × (after ≡ before))
 
+-- what the options want can't be read; or it can, and an argument can't
+abbrev pub StopsAsking : Wording → IdMaker → IdMaker → Stop → Type 0
+StopsAsking w before after s =
+    (StopsWanted w s × (after ≡ before)) ⊎ (((a : Wanted) × IsOfWords w a) × Reads before after w.command (given_of w) (Err s))
+
 -- what the command with its words and its options asks for, by the ids of the maker, which is the one behind those that were
 -- taken
 abbrev pub AsksByWords : Wording → IdMaker → IdMaker → Result Asked Ended → Type 0
 AsksByWords w before after (Ok a) =
     (r q : Request) × (l : Layout) × (a.request ≡ Some (requests.with_many w.options.many q)) × (a.lines.items ≡ [])
-    × requests.Asks before after w.command (given_of w) a.collection.now r l × ArrangesWords (option_map (λ t. t.now) w.sort) w.options.skip w.options.limit r q
+    × requests.Asks before after w.command (given_of w) a.collection.now r l × WantsByWords w r q
 AsksByWords w before after (Err e) =
-    (e ≡ refused Memory) ⊎ ((s : Stop) × Reads before after w.command (given_of w) (Err s) × (e ≡ ended_of_stop s) × KeepsMaker before after s)
+    (e ≡ refused Memory) ⊎ ((s : Stop) × StopsAsking w before after s × (e ≡ ended_of_stop s) × KeepsMaker before after s)
 
 -- Only `import` reads the input, and only `export` asks for no request.
 abbrev pub Asks : Command → Wording → Feed → Feed → IdMaker → IdMaker → Result Asked Ended → Type 0

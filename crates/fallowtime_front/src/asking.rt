@@ -9,7 +9,7 @@ use crate::ending::Ended;
 use bson_base::{ReadAllError, Source, read_all};
 use bson_model::extjson::Mode;
 use fallowtime_commands::{Form, Refusal};
-use fallowtime_requests::{Request, arrange, arrangement_of_words, question_of_words};
+use fallowtime_requests::{Request, question_of_words, want, wanted_of_words};
 use fallowtime_texts::{IdMaker, read_lines};
 use fallowtime_words::{Command, Options, Words};
 use json::Scratch;
@@ -132,6 +132,7 @@ fn ask_by_words<'w>(
     requires { words.now.command ≢ Import }
     ensures { AsksByWords words.now maker.old maker.new result }
 {
+    let wanted = wanted_of_words(alloc, words)?;
     let mut scratch = Scratch::new(alloc);
     let mut question = question_of_words(
         alloc,
@@ -140,16 +141,15 @@ fn ask_by_words<'w>(
         maker,
         &mut scratch,
     )?;
-    let options = words.options;
-    let arrangement = arrangement_of_words(alloc, words.sort, options.skip, options.limit)?;
-    arrange(&mut question, arrangement);
-    let request = question.request.with_many(options.many);
+    want(&mut question, wanted);
+    let request = question.request.with_many(words.options.many);
     Ok(without_lines(alloc, question.collection, Some(request)))
 }
 
 /// What the words and the input ask for: only `import` reads the input, to its end.
 ///
-/// `Words` if a word can't be read, the first one. For `import`, `Refused` by BadName, by Reader if a read failed, and
+/// `Words` if the paths of `--fields` and `--without` can't name fields, or else if an argument can't be read, of the
+/// first one. For `import`, `Refused` by BadName, by Reader if a read failed, and
 /// by Memory; `Lines` if a line of `import --json` can't be read. `Refused` by Memory if a growth was refused.
 pub fn asked_of<'w, I: Source>(
     alloc: Global,

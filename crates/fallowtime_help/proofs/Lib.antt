@@ -1,4 +1,5 @@
 mod DistanceLemmas
+mod NameLemmas
 mod NearLemmas
 mod OverviewLemmas
 mod PadLemmas

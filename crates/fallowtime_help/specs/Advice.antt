@@ -4,6 +4,13 @@ use Rattle.std.specs.List.{list_all}
 use Rattle.std.specs.Str.{bytes_eq}
 use Rattle.fallowtime_help.specs.declared.advice.Advice.{Advice}
 
+-- how what gzip packs begins, by deflate, and how an archive of mongodump does
+abbrev pub gzip_front : List ℕ
+gzip_front = 31 ∷ 139 ∷ 8 ∷ []
+
+abbrev pub archive_front : List ℕ
+archive_front = 109 ∷ 226 ∷ 153 ∷ 129 ∷ []
+
 -- a hexadecimal digit
 abbrev pub is_hex : ℕ → Bool
 is_hex b = (leb 48 b && leb b 57) || (leb 65 b && leb b 70) || (leb 97 b && leb b 102)

@@ -1,11 +1,11 @@
 -- What is said of words that are no line of the table.
-use Rattle.std.specs.Prelude.{◌≡◌, ◌⊎◌, ◌==◌, ◌&&◌, ◌||◌, ℕ, List, [], ◌∷◌, ◌++◌, leb, codes, take, Bool, if◌then◌else◌, Option, Some, None}
+use Rattle.std.specs.Prelude.{◌≡◌, ◌≢◌, ◌⊎◌, ◌==◌, ◌&&◌, ◌||◌, ℕ, List, [], ◌∷◌, ◌++◌, leb, codes, take, Bool, if◌then◌else◌, Option, Some, None}
 use Rattle.std.specs.List.{filter}
 use Rattle.std.specs.Str.{bytes_eq, str_to_ascii_lowercase}
 use Rattle.fallowtime_words.specs.Commands.{command_name, BeginsWith}
 use Rattle.fallowtime_words.specs.declared.command.Command.{Command}
 use Rattle.fallowtime_words.specs.declared.command.Command.TheVariants.{Insert, Put, Remove, Find, Import, Export, Collections}
-use Rattle.fallowtime_help.specs.Nearest.{IsNearest}
+use Rattle.fallowtime_help.specs.Nearest.{IsAmong, IsNearest, IsNearestName}
 use Rattle.fallowtime_help.specs.Usage.{line_text}
 use Rattle.fallowtime_help.specs.declared.hint.TheConstants.{OPTIONS}
 use Rattle.fallowtime_help.specs.declared.hint.OtherName.{OtherName}
@@ -45,3 +45,18 @@ abbrev pub HintsAt : List ℕ → Option Command → List ℕ → Type 0
 HintsAt word (Some c) text = text ≡ codes "the words are " ++ line_text c
 HintsAt word None text = (BeginsWith (codes "-") word × (text ≡ OPTIONS.now))
     ⊎ (¬ BeginsWith (codes "-") word × ((meant : Option Command) × IsMeant (str_to_ascii_lowercase word) meant × (text ≡ unknown_text word meant)))
+
+-- ---- names of collections
+
+-- the one that is meant, of which only what a terminal may show, or where to find one
+abbrev pub near_text : Option (List ℕ) → List ℕ
+near_text None = codes "; fallowtime FILE collections lists them"
+near_text (Some name) = codes ", but there is " ++ filter is_shown (take 40 name)
+
+abbrev pub missing_text : List ℕ → Option (List ℕ) → List ℕ
+missing_text name near = codes "there is no collection '" ++ filter is_shown (take 40 name) ++ codes "'" ++ near_text near
+
+-- the hint at a name that isn't among some: the nearest of them; at one of them there is none
+abbrev pub HintsAtName : List (List ℕ) → List ℕ → Option (List ℕ) → Type 0
+HintsAtName names name None = IsAmong name names
+HintsAtName names name (Some text) = (near : Option (List ℕ)) × IsNearestName names name near × (near ≢ Some name) × (text ≡ missing_text name near)

@@ -3,7 +3,7 @@ use Rattle.std.specs.Prelude.{◌≡◌, ℕ, List, [], ◌∷◌, ◌++◌, ◌
 use Rattle.fallowtime_words.specs.Commands.{commands}
 use Rattle.fallowtime_words.specs.declared.command.Command.{Command}
 use Rattle.fallowtime_words.specs.declared.table.Place.{Place}
-use Rattle.fallowtime_words.specs.declared.table.Place.TheVariants.{Both, CommandLine, Session, Alone}
+use Rattle.fallowtime_words.specs.declared.table.Place.TheVariants.{Both, CommandLine, Session, Alone, Script}
 use Rattle.fallowtime_words.specs.declared.table.Signature.{Signature}
 use Rattle.fallowtime_help.specs.Usage.{call_behind, line_text}
 use Rattle.fallowtime_help.specs.declared.texts.TheConstants.{BACK, FRONT, VERSION}
@@ -20,6 +20,7 @@ has_file Both = true
 has_file CommandLine = true
 has_file Session = false
 has_file Alone = false
+has_file Script = true
 
 -- what a command is called with, and what it does
 abbrev pub row_text : Signature → List ℕ

@@ -4,9 +4,9 @@ use Rattle.fallowtime_words.specs.Commands.{allowed, arguments, command_name, pl
 use Rattle.fallowtime_words.specs.declared.command.Command.{Command}
 use Rattle.fallowtime_words.specs.declared.table.Allowed.{Allowed}
 use Rattle.fallowtime_words.specs.declared.table.Argument.{Argument}
-use Rattle.fallowtime_words.specs.declared.table.Argument.TheVariants.{Collection, Document, Id, Key, Value, Query, Selection, Update, Options, Documents, IndexPath, File}
+use Rattle.fallowtime_words.specs.declared.table.Argument.TheVariants.{Collection, Document, Id, Key, Value, Query, Selection, Update, Options, Documents, IndexPath, File, Folder}
 use Rattle.fallowtime_words.specs.declared.table.Place.{Place}
-use Rattle.fallowtime_words.specs.declared.table.Place.TheVariants.{Both, CommandLine, Session, Alone}
+use Rattle.fallowtime_words.specs.declared.table.Place.TheVariants.{Both, CommandLine, Session, Alone, Script}
 
 abbrev pub argument_text : Argument → List ℕ
 argument_text Collection = codes " COLL"
@@ -18,9 +18,10 @@ argument_text Query = codes " [QUERY]"
 argument_text Selection = codes " QUERY"
 argument_text Update = codes " UPDATE"
 argument_text Options = codes ""
-argument_text Documents = codes ""
+argument_text Documents = codes " [INPUT]"
 argument_text IndexPath = codes " PATH"
 argument_text File = codes " PATH"
+argument_text Folder = codes " DIR"
 
 abbrev pub arguments_text : List Argument → List ℕ
 arguments_text [] = []
@@ -49,6 +50,7 @@ line_at Both c = usage_text c
 line_at CommandLine c = usage_text c
 line_at Session c = call_behind (codes "a line of fallowtime FILE: ") c
 line_at Alone c = call_behind (codes "fallowtime ") c
+line_at Script c = usage_text c
 
 -- the words of a command
 abbrev pub line_text : Command → List ℕ

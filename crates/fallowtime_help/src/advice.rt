@@ -51,7 +51,7 @@ pub(crate) const ADVICE: [Advice; 12] = [
     },
     Advice {
         kind: "JSON",
-        text: "a text has quotes of its own inside those of the shell: '\"new\"'; an ObjectId is '{\"$oid\":\"..\"}'",
+        text: "a text has quotes of its own inside those of the shell: '\"new\"'; an ObjectId is '{\"$oid\":\"..\"}', a date '{\"$date\":\"2026-01-02T03:04:05Z\"}'",
     },
     Advice {
         kind: "id",

@@ -40,7 +40,7 @@ fn row_of(alloc: Global, row: &Signature) -> Result<String, AllocError>
 fn is_over_a_file(place: Place) -> bool
     ensures { result ≡ has_file place }
 {
-    matches!(place, Place::Both | Place::CommandLine)
+    matches!(place, Place::Both | Place::CommandLine | Place::Script)
 }
 
 /// The lines of the commands that are done over a file.

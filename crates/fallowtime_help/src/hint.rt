@@ -90,7 +90,7 @@ fn is_plain(byte: u8) -> bool
 }
 
 /// Appends those of the bytes that a terminal may show.
-fn push_plain(text: &mut String, bytes: &[u8]) -> Result<(), AllocError>
+pub(crate) fn push_plain(text: &mut String, bytes: &[u8]) -> Result<(), AllocError>
     ensures { OnOk result (string_bytes text.new ≡ string_bytes text.old ++ filter is_shown bytes.now) }
 {
     for byte in bytes {
@@ -102,7 +102,7 @@ fn push_plain(text: &mut String, bytes: &[u8]) -> Result<(), AllocError>
 }
 
 /// The first bytes of a word.
-fn front_of(word: &str) -> &[u8]
+pub(crate) fn front_of(word: &str) -> &[u8]
     ensures { result.now ≡ take 40 word.now }
 {
     let bytes = word.as_bytes();

@@ -1,4 +1,4 @@
-//! What each kind of refusal means, and what to do: the items of docs/REFUSALS.md that name it, those of `fallowtime` alone
+//! What each kind of refusal means, and what to do: the items of docs/ERRORS.md that name it, those of `fallowtime` alone
 //! if it has one.
 
 /// An item of the page.
@@ -433,7 +433,7 @@ const LINE_UTF8: &str =
 
 const NO_FILE: &str =
     "  `NoFile`: FILE isn't there, and the command doesn't make it: `insert`, `put`, `import` and `fallowtime FILE` alone do.
-  Mostly it is a mistyped path.
+  Mostly it is a mistyped path. `fallowtime NAME` of a single word makes none, but `fallowtime ./NAME` does.
 ";
 
 const BUSY: &str =

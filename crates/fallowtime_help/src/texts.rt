@@ -10,7 +10,8 @@ double bit for bit and the keys in their order.
 
     fallowtime FILE COMMAND .. [OPTIONS]   does one command
     fallowtime FILE [--wait SECONDS]       keeps FILE open, and answers each line
-                                           of standard input by a line
+                                           of standard input by a line; at a
+                                           terminal it has a prompt
     fallowtime help [COMMAND]              this, or what a command takes
     fallowtime --explain KIND              what a refusal means, and what to do
     fallowtime version                     which version this is
@@ -25,10 +26,13 @@ Options come last, in any order:
   --canonical      prints canonical Extended JSON, with the kind of each number;
                    else it is relaxed (insert, get, find)
   --bson           writes documents as BSON (get, find)
+  --pretty         prints a member or an item a line, as at a terminal (get, find)
   --json           reads lines of Extended JSON, a document each (import)
   --many           all selected documents, and not only the first (update, delete)
   --sort KEYS, --skip N, --limit N
                    an order of documents, and a part of them (find)
+  --fields PATHS, --without PATHS
+                   which fields of documents there are (find)
   --wait SECONDS   waits so long for a FILE that another process has; else 5
 
 DOC and VALUE are Extended JSON, and so is ID; an ID that is no JSON is the text
@@ -104,6 +108,7 @@ Extended JSON. ID is Extended JSON; a word that is no JSON is the text itself, s
 
   --canonical      prints canonical Extended JSON, with the kind of each number
   --bson           writes the document as BSON
+  --pretty         prints a member or an item a line, as at a terminal
   --wait SECONDS   waits so long if another process has FILE; else 5
 
     fallowtime shop.db get orders A-4
@@ -208,19 +213,24 @@ items.
                    has the greatest price first, and names of one price ascend
   --skip N         leaves out the first N
   --limit N        prints N at the most
+  --fields PATHS   prints the fields at paths alone, and the _id: name,customer.city
+  --without PATHS  prints all other fields; beside --fields it may be _id alone
   --canonical      prints canonical Extended JSON, with the kind of each number
   --bson           writes the documents as BSON, one after the other
+  --pretty         prints a member or an item a line, as at a terminal
   --wait SECONDS   waits so long if another process has FILE; else 5
 
     fallowtime shop.db find orders '{\"customer.city\":\"Ulm\",\"price\":{\"$gt\":10}}'
     fallowtime shop.db find orders --sort price:-1,name --limit 10
+    fallowtime shop.db find orders --fields name,customer.city --without _id
     fallowtime shop.db find orders --bson > orders.bson
 
 A line of a session has them as an object behind the query:
 
     [\"find\",\"orders\",{},{\"sort\":{\"price\":-1,\"name\":1},\"limit\":10}]
+    [\"find\",\"orders\",{},{\"fields\":{\"name\":1,\"customer.city\":1,\"_id\":0}}]
 
-May be refused: NoFile, BadName, ReservedKey; words: query.
+May be refused: NoFile, BadName, ReservedKey; words: query, fields.
 ";
 
 const COUNT: &str = "
@@ -236,15 +246,17 @@ May be refused: NoFile, BadName; words: query.
 ";
 
 const IMPORT: &str = "
-Puts the documents of standard input into the collection COLL, all or none, and
-prints their number. They are BSON, one after the other, each with its _id. A
-FILE that isn't there is made.
+Puts the documents of the file INPUT, or of standard input, into the collection
+COLL, all or none, and prints their number. They are BSON, one after the other,
+each with its _id; those of an INPUT .json, .jsonl or .ndjson are JSON. A FILE that
+isn't there is made.
 
   --json           reads lines of Extended JSON, a document each, which without
-                   an _id gets an ObjectId; a line of no bytes is left out
+                   an _id gets an ObjectId; a line of no bytes is left out. INPUT
+                   may be an array of documents, too
   --wait SECONDS   waits so long if another process has FILE; else 5
 
-    fallowtime shop.db import orders < orders.bson
+    fallowtime shop.db import orders orders.bson
     fallowtime shop.db import orders --json < orders.jsonl
 
 May be refused: DuplicateId, NoId, EndInside, BadLength, NotTerminated, Faulty,
@@ -320,6 +332,51 @@ Drops the index of the collection COLL on a path, if there is one.
 May be refused: BadName; Words: collection, path.
 ";
 
+const IMPORT_ALL: &str = "
+Puts the documents of each DIR/COLL.bson into the collection COLL, and prints its
+name and their number. DIR is what mongodump makes for a database, and export-all.
+Each collection is one step: if one is refused, those that were printed stay. A
+FILE that isn't there is made.
+
+  --wait SECONDS   waits so long if another process has FILE; else 5
+
+    fallowtime shop.db import-all dump/shop
+    fallowtime copy.db import-all shop-monday
+
+May be refused: DuplicateId, NoId, EndInside, BadLength, NotTerminated, Faulty,
+TooDeep, TooLong, BadName, Places.
+";
+
+const EXPORT_ALL: &str = "
+Writes all documents of each collection into DIR/COLL.bson, as they are at one
+moment, and beside it what mongorestore reads, DIR/COLL.metadata.json, and prints
+the name of each and their number. A DIR that isn't there is made; no file is
+written over.
+
+  --wait SECONDS   waits so long if another process writes FILE without a pause;
+                   else 5
+
+    fallowtime shop.db export-all shop-monday
+    fallowtime shop.db export-all \"shop-$(date +%F)\"
+
+May be refused: NoFile.
+";
+
+const EDIT: &str = "
+Opens the document with this _id in $VISUAL, $EDITOR or vi, as canonical Extended
+JSON, and puts what is saved there in its place. If that is no document with the
+same _id, or the document was changed meanwhile, nothing is changed, and the file
+is named in which it is.
+
+  --wait SECONDS   waits so long if another process has FILE; else 5
+
+    fallowtime shop.db edit orders A-4
+    fallowtime shop.db edit orders '{\"$oid\":\"650000000000000000000002\"}'
+
+May be refused: NotFound, NoFile, BadName, ReservedKey, NoId, TooDeep, TooLong,
+Nul; words: id, words: JSON.
+";
+
 const ABOUT_VERSION: &str = "
 Prints `fallowtime` and the number of this version. fallowtime --version says, too,
 from which commit the program was built, and how.
@@ -351,5 +408,8 @@ pub(crate) fn text_of(command: Command) -> &'static str {
         Command::Index => INDEX,
         Command::DropIndex => DROP_INDEX,
         Command::Version => ABOUT_VERSION,
+        Command::ImportAll => IMPORT_ALL,
+        Command::ExportAll => EXPORT_ALL,
+        Command::Edit => EDIT,
     }
 }

@@ -19,8 +19,10 @@ fn text_of(argument: Argument) -> &'static str
         Argument::Query => " [QUERY]",
         Argument::Selection => " QUERY",
         Argument::Update => " UPDATE",
-        Argument::Options | Argument::Documents => "",
+        Argument::Options => "",
+        Argument::Documents => " [INPUT]",
         Argument::IndexPath | Argument::File => " PATH",
+        Argument::Folder => " DIR",
     }
 }
 
@@ -79,7 +81,7 @@ pub(crate) fn line_of(alloc: Global, command: Command) -> Result<String, AllocEr
     ensures { IfOk result (λ t. string_bytes t ≡ line_text command) }
 {
     match command.signature().place {
-        Place::Both | Place::CommandLine => usage_of(alloc, command),
+        Place::Both | Place::CommandLine | Place::Script => usage_of(alloc, command),
         Place::Session => call_of(alloc, "a line of fallowtime FILE: ", command),
         Place::Alone => call_of(alloc, "fallowtime ", command),
     }

@@ -6,10 +6,13 @@ use Rattle.json.specs.Json.{Items, Json, Members, member}
 use Rattle.json.specs.Json as json
 use Rattle.json.specs.Value.{items_view, members_view, value_view}
 use Rattle.json.specs.declared.value.Value.{Value as Tree}
-use Rattle.fallowtime_requests.specs.Arranging.{AsksArranged, IsCount, IsPlan, Plan, PutsOption, PutsOptions, ReadsLine, StopsOptions, whole}
+use Rattle.fallowtime_requests.specs.Arranging.{AsksWanted, IsCount, IsPlan, Plan, PutsOption, PutsOptions, ReadsLine, StopsOptions, plan_of, whole}
+use Rattle.fallowtime_requests.specs.Fields.{left_by, left_where}
 use Rattle.fallowtime_requests.specs.Inputs.{trees}
 use Rattle.fallowtime_requests.specs.Reading.{Reads}
+use Rattle.fallowtime_requests.specs.Requests.{WantsAll}
 use Rattle.fallowtime_requests.specs.declared.reading.Question.{Question}
+use Rattle.fallowtime_requests.specs.declared.request.Wanted.{Wanted}
 use Rattle.fallowtime_requests.specs.declared.stop.Stop.{Stop}
 use Rattle.fallowtime_texts.specs.declared.made.IdMaker.{IdMaker}
 use Rattle.fallowtime_words.specs.declared.command.Command.TheVariants as command
@@ -27,13 +30,23 @@ one_count (json.object ms) n m e g = absurd e
 one_option : (p : Plan) (name : List ℕ) (j : Json) (a b : Plan) → PutsOption p name j a → PutsOption p name j b → a ≡ b
 one_option p name j a b (inl (is, (ks, e, f))) (inl (also, (ls, g, h))) = let same : ks ≡ ls = cc in f ∙ (ap (λ k. record p { keys = k }) same ∙ sym h)
 one_option p name j a b (inl (is, first)) (inr (inl (also, second))) = let e : 111 ≡ 107 = ap (λ w. slice_index w 1) (sym is ∙ also) in absurd (omega (arith, e))
-one_option p name j a b (inl (is, first)) (inr (inr (also, second))) = let e : 115 ≡ 108 = ap (λ w. slice_index w 0) (sym is ∙ also) in absurd (omega (arith, e))
+one_option p name j a b (inl (is, first)) (inr (inr (inl (also, second)))) = let e : 115 ≡ 108 = ap (λ w. slice_index w 0) (sym is ∙ also) in absurd (omega (arith, e))
+one_option p name j a b (inl (is, first)) (inr (inr (inr (also, second)))) = let e : 115 ≡ 102 = ap (λ w. slice_index w 0) (sym is ∙ also) in absurd (omega (arith, e))
 one_option p name j a b (inr (inl (is, first))) (inl (also, second)) = let e : 107 ≡ 111 = ap (λ w. slice_index w 1) (sym is ∙ also) in absurd (omega (arith, e))
 one_option p name j a b (inr (inl (is, (n, e, f)))) (inr (inl (also, (m, g, h)))) = let same : n ≡ m = one_count j n m e g in f ∙ (ap (λ k. record p { skip = k }) same ∙ sym h)
-one_option p name j a b (inr (inl (is, first))) (inr (inr (also, second))) = let e : 115 ≡ 108 = ap (λ w. slice_index w 0) (sym is ∙ also) in absurd (omega (arith, e))
-one_option p name j a b (inr (inr (is, first))) (inl (also, second)) = let e : 108 ≡ 115 = ap (λ w. slice_index w 0) (sym is ∙ also) in absurd (omega (arith, e))
-one_option p name j a b (inr (inr (is, first))) (inr (inl (also, second))) = let e : 108 ≡ 115 = ap (λ w. slice_index w 0) (sym is ∙ also) in absurd (omega (arith, e))
-one_option p name j a b (inr (inr (is, (n, e, f)))) (inr (inr (also, (m, g, h)))) = let same : n ≡ m = one_count j n m e g in f ∙ (ap (λ k. record p { limit = Some k }) same ∙ sym h)
+one_option p name j a b (inr (inl (is, first))) (inr (inr (inl (also, second)))) = let e : 115 ≡ 108 = ap (λ w. slice_index w 0) (sym is ∙ also) in absurd (omega (arith, e))
+one_option p name j a b (inr (inl (is, first))) (inr (inr (inr (also, second)))) = let e : 115 ≡ 102 = ap (λ w. slice_index w 0) (sym is ∙ also) in absurd (omega (arith, e))
+one_option p name j a b (inr (inr (inl (is, first)))) (inl (also, second)) = let e : 108 ≡ 115 = ap (λ w. slice_index w 0) (sym is ∙ also) in absurd (omega (arith, e))
+one_option p name j a b (inr (inr (inl (is, first)))) (inr (inl (also, second))) = let e : 108 ≡ 115 = ap (λ w. slice_index w 0) (sym is ∙ also) in absurd (omega (arith, e))
+one_option p name j a b (inr (inr (inl (is, (n, e, f))))) (inr (inr (inl (also, (m, g, h))))) = let same : n ≡ m = one_count j n m e g in f ∙ (ap (λ k. record p { limit = Some k }) same ∙ sym h)
+one_option p name j a b (inr (inr (inl (is, first)))) (inr (inr (inr (also, second)))) = let e : 108 ≡ 102 = ap (λ w. slice_index w 0) (sym is ∙ also) in absurd (omega (arith, e))
+one_option p name j a b (inr (inr (inr (is, first)))) (inl (also, second)) = let e : 102 ≡ 115 = ap (λ w. slice_index w 0) (sym is ∙ also) in absurd (omega (arith, e))
+one_option p name j a b (inr (inr (inr (is, first)))) (inr (inl (also, second))) = let e : 102 ≡ 115 = ap (λ w. slice_index w 0) (sym is ∙ also) in absurd (omega (arith, e))
+one_option p name j a b (inr (inr (inr (is, first)))) (inr (inr (inl (also, second)))) = let e : 102 ≡ 108 = ap (λ w. slice_index w 0) (sym is ∙ also) in absurd (omega (arith, e))
+one_option p name j a b (inr (inr (inr (is, (m, e, can, f))))) (inr (inr (inr (also, (n, g, may, h))))) = let same : m ≡ n = cc in f ∙ (ap (λ k. record p { left = λ d. left_where k.kept k.left_out d }) same ∙ sym h)
+
+pub plan_of_all : (w : Wanted) → WantsAll w → plan_of w ≡ whole
+plan_of_all w (keys, skip, limit, fields) = λ i. record { keys = keys i; skip = skip i; limit = limit i; left = λ d. left_by (fields i) d }
 
 pub next_option : (p new q : Plan) (name : List ℕ) (j : Json) (rest : Members) → PutsOption p name j new → PutsOptions p (member name j rest) q ↔ PutsOptions new rest q
 next_option p new q name j rest put = (λ h. subst (λ m. PutsOptions m rest q) (one_option p name j h.0 new h.1 put) h.2, λ h. (new, put, h))
@@ -59,15 +72,15 @@ stops_then F G s then (inr (fault, is)) = inr (then fault, is)
 -- ---- the values of a line
 
 module _ (m n : IdMaker) where
-  abbrev Arranged : Items → Json → Result Question Stop → Type 0
-  Arranged js o r = MatchResult r (λ q. AsksArranged m n js o q.collection.now q.request q.layout) (λ s. Reads m n command.Find (trees js) (Err s) ⊎ StopsOptions ((p : Plan) → IsPlan o p → ⊥) s)
+  abbrev Wants : Items → Json → Result Question Stop → Type 0
+  Wants js o r = MatchResult r (λ q. AsksWanted m n js o q.collection.now q.request q.layout) (λ s. Reads m n command.Find (trees js) (Err s) ⊎ StopsOptions ((p : Plan) → IsPlan o p → ⊥) s)
 
-  pub three_values : (xs : List (Tree Global)) (o : Tree Global) (r : Result Question Stop) → length xs ≡ 3 → o ≡ get_or xs 2 o → Arranged (items_view (take 2 xs)) (value_view o) r → ReadsLine m n command.Find (items_view xs) r
+  pub three_values : (xs : List (Tree Global)) (o : Tree Global) (r : Result Question Stop) → length xs ≡ 3 → o ≡ get_or xs 2 o → Wants (items_view (take 2 xs)) (value_view o) r → ReadsLine m n command.Find (items_view xs) r
   three_values [] o r long is h = absurd cc
   three_values (x ∷ []) o r long is h = absurd cc
   three_values (x ∷ y ∷ []) o r long is h = absurd cc
-  three_values (x ∷ y ∷ z ∷ []) o (Ok q) long is h = subst (λ v. Arranged (items_view (x ∷ y ∷ [])) (value_view v) (Ok q)) is h
-  three_values (x ∷ y ∷ z ∷ []) o (Err s) long is h = subst (λ v. Arranged (items_view (x ∷ y ∷ [])) (value_view v) (Err s)) is h
+  three_values (x ∷ y ∷ z ∷ []) o (Ok q) long is h = subst (λ v. Wants (items_view (x ∷ y ∷ [])) (value_view v) (Ok q)) is h
+  three_values (x ∷ y ∷ z ∷ []) o (Err s) long is h = subst (λ v. Wants (items_view (x ∷ y ∷ [])) (value_view v) (Err s)) is h
   three_values (x ∷ y ∷ z ∷ w ∷ xs) o r long is h = absurd cc
 
   pub other_values : (xs : List (Tree Global)) (r : Result Question Stop) → (length xs ≡ 3 → ⊥) → Reads m n command.Find (trees (items_view xs)) r → ReadsLine m n command.Find (items_view xs) r

@@ -8,7 +8,7 @@ use Rattle.json.specs.declared.value.Value.{Value as Tree}
 use Rattle.fallowtime_texts.specs.declared.made.IdMaker.{IdMaker}
 use Rattle.fallowtime_words.specs.Commands.{arguments}
 use Rattle.fallowtime_words.specs.declared.command.Command.{Command}
-use Rattle.fallowtime_words.specs.declared.command.Command.TheVariants.{Insert, Put, Replace, Get, Set, Unset, Update, ReplaceOne, Delete, Remove, Find, Count, Import, Export, Collections, Check, Backup, Index, DropIndex, Version}
+use Rattle.fallowtime_words.specs.declared.command.Command.TheVariants.{Insert, Put, Replace, Get, Set, Unset, Update, ReplaceOne, Delete, Remove, Find, Count, Import, Export, Collections, Check, Backup, Index, DropIndex, Version, ImportAll, ExportAll, Edit}
 use Rattle.fallowtime_words.specs.declared.table.Argument.{Argument}
 use Rattle.fallowtime_words.specs.declared.table.Argument.TheVariants.{Query}
 use Rattle.fallowtime_requests.specs.Inputs.{Given, seen, texts, tree, trees, word}
@@ -116,6 +116,9 @@ few Backup = omega arith
 few Index = omega arith
 few DropIndex = omega arith
 few Version = omega arith
+few ImportAll = omega arith
+few ExportAll = omega arith
+few Edit = omega arith
 
 not_as_many : (c : Command) (gs : List Given) → 4 < length gs → AsMany (arguments c) gs → ⊥
 not_as_many c gs more all =
@@ -126,6 +129,9 @@ not_as_many c gs more all =
 too_many : (m : IdMaker) (c : Command) (gs : List Given) → 4 < length gs → Reads m m c gs (Err (Words unread.Command))
 too_many m Backup gs more = refl
 too_many m Version gs more = refl
+too_many m ImportAll gs more = refl
+too_many m ExportAll gs more = refl
+too_many m Edit gs more = refl
 too_many m Insert gs more = inl (not_as_many Insert gs more, refl)
 too_many m Put gs more = inl (not_as_many Put gs more, refl)
 too_many m Replace gs more = inl (not_as_many Replace gs more, refl)

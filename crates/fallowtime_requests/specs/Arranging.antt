@@ -1,6 +1,8 @@
--- In which order `find` returns documents, and which part of them, as words and as JSON say it.
+-- What `find` returns of documents, as words and as JSON say it: their order, which part of them, and which fields.
 use Rattle.std.specs.Prelude.{◌≡◌, ◌⊎◌, ℕ, List, [], ◌∷◌, ◌++◌, codes, Bool, true, false, if◌then◌else◌, Option, Some, None, Result, Ok, Err, unwrap_or, option_map, option_and_then}
+use Rattle.std.specs.Borrow.{Bor}
 use Rattle.std.specs.Str.{bytes_eq}
+use Rattle.bson_base.specs.Value.{Members as Document}
 use Rattle.json.specs.Json.{Json, Items, no_items, item, Members, no_members, member}
 use Rattle.json.specs.Json as json
 use Rattle.fallowtime_texts.specs.declared.made.IdMaker.{IdMaker}
@@ -11,6 +13,8 @@ use Rattle.store_sorted.specs.Bodies.{keys_of}
 use Rattle.store_sorted.specs.Order.{Key}
 use Rattle.store_sorted.specs.Texts.{ReadsKeys, key_by}
 use Rattle.store_sorted.specs.declared.arrangement.Arrangement.{Arrangement}
+use Rattle.fallowtime_words.specs.declared.words.Words.{Words as Wording}
+use Rattle.fallowtime_requests.specs.Fields.{CanName, IsOfTexts, Marked, TextsNameNone, left_by, left_where, marked_under}
 use Rattle.fallowtime_requests.specs.Inputs.{tree, trees}
 use Rattle.fallowtime_requests.specs.Reading.{Reads}
 use Rattle.fallowtime_requests.specs.Requests.{Asks}
@@ -18,27 +22,29 @@ use Rattle.fallowtime_requests.specs.declared.reading.Layout.{Layout}
 use Rattle.fallowtime_requests.specs.declared.reading.Question.{Question}
 use Rattle.fallowtime_requests.specs.declared.request.Request.{Request}
 use Rattle.fallowtime_requests.specs.declared.request.Request.TheVariants as request
+use Rattle.fallowtime_requests.specs.declared.request.Wanted.{Wanted}
 use Rattle.fallowtime_requests.specs.declared.stop.Stop.{Stop}
 use Rattle.fallowtime_requests.specs.declared.stop.Stop.TheVariants.{Words, Memory}
 use Rattle.fallowtime_requests.specs.declared.unread.Unread.TheVariants as unread
 
--- the keys of the order, how many are passed over, and how many there are at most
+-- the keys of the order, how many are passed over, how many there are at most, and what is left of each
 pub record Plan : Type 0 where
   pub keys : List Key
   pub skip : ℕ
   pub limit : Option ℕ
+  pub left : Document → Document
 
-abbrev pub plan_of : Arrangement → Plan
-plan_of a = record { keys = keys_of a.keys.items; skip = a.skip; limit = a.limit }
+abbrev pub plan_of : Wanted → Plan
+plan_of w = record { keys = keys_of w.arrangement.keys.items; skip = w.arrangement.skip; limit = w.arrangement.limit; left = λ d. left_by w.fields d }
 
--- all, as they come
+-- all, as they come, each whole
 abbrev pub whole : Plan
-whole = record { keys = []; skip = 0; limit = None }
+whole = record { keys = []; skip = 0; limit = None; left = λ d. d }
 
--- the request, with this arrangement if it finds documents
-abbrev pub with_arrangement : Arrangement → Request → Request
-with_arrangement a (request.Find q was) = request.Find q a
-with_arrangement a r = r
+-- the request, with what is wanted if it finds documents
+abbrev pub with_wanted : Wanted → Request → Request
+with_wanted w (request.Find q was) = request.Find q w
+with_wanted w r = r
 
 -- ---- words
 
@@ -47,11 +53,23 @@ ReadsSort None ks = ks ≡ []
 ReadsSort (Some text) ks = ReadsKeys text ks
 
 -- the text of `--sort` and the numbers of `--skip` and `--limit`
-abbrev pub IsOfWords : Option (List ℕ) → Option ℕ → Option ℕ → Arrangement → Type 0
-IsOfWords sort skip limit a = ReadsSort sort (keys_of a.keys.items) × (a.skip ≡ unwrap_or skip 0) × (a.limit ≡ limit)
+abbrev pub IsOfNumbers : Option (List ℕ) → Option ℕ → Option ℕ → Arrangement → Type 0
+IsOfNumbers sort skip limit a = ReadsSort sort (keys_of a.keys.items) × (a.skip ≡ unwrap_or skip 0) × (a.limit ≡ limit)
 
-abbrev pub ArrangesWords : Option (List ℕ) → Option ℕ → Option ℕ → Request → Request → Type 0
-ArrangesWords sort skip limit r q = (a : Arrangement) × IsOfWords sort skip limit a × (q ≡ with_arrangement a r)
+abbrev pub text_in : Option (Bor (List ℕ)) → Option (List ℕ)
+text_in t = option_map (λ (b : Bor (List ℕ)). b.now) t
+
+-- what the options of a line want
+abbrev pub IsOfWords : Wording → Wanted → Type 0
+IsOfWords w a = IsOfNumbers (text_in w.sort) w.options.skip w.options.limit a.arrangement × IsOfTexts (text_in w.fields) (text_in w.without) a.fields
+
+-- the line says it to the request
+abbrev pub WantsByWords : Wording → Request → Request → Type 0
+WantsByWords w r q = (a : Wanted) × IsOfWords w a × (q ≡ with_wanted a r)
+
+-- out of memory, or it is reported that the paths of fields can't be read, for they can't name fields
+abbrev pub StopsWanted : Wording → Stop → Type 0
+StopsWanted w s = (s ≡ Memory) ⊎ (TextsNameNone (text_in w.fields) (text_in w.without) × (s ≡ Words unread.Fields))
 
 -- ---- JSON
 
@@ -83,6 +101,7 @@ PutsOption p name j q =
     ((name ≡ codes "sort") × ((ks : List Key) × (keys_under j ≡ Some ks) × (q ≡ record p { keys = ks })))
     ⊎ ((name ≡ codes "skip") × ((n : ℕ) × IsCount j n × (q ≡ record p { skip = n })))
     ⊎ ((name ≡ codes "limit") × ((n : ℕ) × IsCount j n × (q ≡ record p { limit = Some n })))
+    ⊎ ((name ≡ codes "fields") × ((m : Marked) × (marked_under j ≡ Some m) × CanName m.kept m.left_out × (q ≡ record p { left = λ d. left_where m.kept m.left_out d })))
 
 -- one after the other; a line has no key of an object twice
 abbrev pub PutsOptions : Plan → Members → Plan → Type 0
@@ -98,12 +117,12 @@ abbrev pub StopsOptions : Type 0 → Stop → Type 0
 StopsOptions Fault s = (s ≡ Memory) ⊎ (Fault × (s ≡ Words unread.Options))
 
 -- the request that `find` makes of a collection and a query, with what the options say
-abbrev pub AsksArranged : IdMaker → IdMaker → Items → Json → List ℕ → Request → Layout → Type 0
-AsksArranged m n js o name q l = (r : Request) × (a : Arrangement) × Asks m n command.Find (trees js) name r l × IsPlan o (plan_of a) × (q ≡ with_arrangement a r)
+abbrev pub AsksWanted : IdMaker → IdMaker → Items → Json → List ℕ → Request → Layout → Type 0
+AsksWanted m n js o name q l = (r : Request) × (w : Wanted) × Asks m n command.Find (trees js) name r l × IsPlan o (plan_of w) × (q ≡ with_wanted w r)
 
 -- what a command with the values of a line asks for: `find` has options as a third one
 abbrev pub AsksLine : IdMaker → IdMaker → Command → Items → List ℕ → Request → Layout → Type 0
-AsksLine m n command.Find (item c (item q (item o no_items))) name r l = AsksArranged m n (item c (item q no_items)) o name r l
+AsksLine m n command.Find (item c (item q (item o no_items))) name r l = AsksWanted m n (item c (item q no_items)) o name r l
 AsksLine m n c js name r l = Asks m n c (trees js) name r l
 
 -- or why it asks for nothing

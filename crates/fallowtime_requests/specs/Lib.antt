@@ -1,4 +1,5 @@
 pub mod Arranging
+pub mod Fields
 pub mod Inputs
 pub mod Reading
 pub mod Reports

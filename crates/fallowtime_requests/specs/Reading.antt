@@ -94,6 +94,7 @@ Stops m argument.Options g s = StopsOptions g s
 Stops m argument.Documents g s = StopsStream m g s
 Stops m argument.IndexPath g s = (s ≡ Memory) ⊎ StopsText unread.Path g s
 Stops m argument.File g s = ⊥
+Stops m argument.Folder g s = ⊥
 
 -- it can be read
 abbrev pub IsRead : Argument → Given → Type 0
@@ -138,4 +139,7 @@ abbrev pub Reads : IdMaker → IdMaker → Command → List Given → Result Que
 Reads m n c gs (Ok q) = Asks m n c gs q.collection.now q.request q.layout
 Reads m n command.Backup gs (Err s) = s ≡ Words unread.Command
 Reads m n command.Version gs (Err s) = s ≡ Words unread.Command
+Reads m n command.ImportAll gs (Err s) = s ≡ Words unread.Command
+Reads m n command.ExportAll gs (Err s) = s ≡ Words unread.Command
+Reads m n command.Edit gs (Err s) = s ≡ Words unread.Command
 Reads m n c gs (Err s) = IsUnread m (arguments c) gs s

@@ -21,7 +21,6 @@ use Rattle.store_question.specs.Asked.{Asked, all_of, no_asked}
 use Rattle.store_question.specs.declared.question.Question.{Question}
 use Rattle.store_question_read.specs.Outcome.{Asks as StandsFor}
 use Rattle.store_sorted.specs.Bodies.{keys_of}
-use Rattle.store_sorted.specs.declared.arrangement.Arrangement.{Arrangement}
 use Rattle.store_update.specs.Plan.{Plan}
 use Rattle.store_update_read.specs.Outcome.{plans_of}
 use Rattle.fallowtime_requests.specs.Inputs.{Given, word, tree, IsAsked, IsDocument, IsId, IsPath, IsText, IsUpdate, IsValue, many_of}
@@ -29,6 +28,7 @@ use Rattle.fallowtime_requests.specs.declared.reading.Layout.{Layout}
 use Rattle.fallowtime_requests.specs.declared.reading.Layout.TheVariants as layout
 use Rattle.fallowtime_requests.specs.declared.request.Request.{Request}
 use Rattle.fallowtime_requests.specs.declared.request.Request.TheVariants as request
+use Rattle.fallowtime_requests.specs.declared.request.Wanted.{Wanted}
 use Rattle.fallowtime_requests.specs.declared.request.Work.TheVariants as work
 
 -- ---- documents of an array
@@ -122,9 +122,9 @@ abbrev pub NameAndPath : List Given → List ℕ → List (List ℕ) → Type 0
 NameAndPath (c ∷ p ∷ []) name path = IsText c name × IsPath p path
 NameAndPath _ name path = ⊥
 
--- all documents, as they come
-abbrev pub IsWhole : Arrangement → Type 0
-IsWhole a = (keys_of a.keys.items ≡ []) × (a.skip ≡ 0) × (a.limit ≡ None)
+-- all documents, as they come, each whole
+abbrev pub WantsAll : Wanted → Type 0
+WantsAll w = (keys_of w.arrangement.keys.items ≡ []) × (w.arrangement.skip ≡ 0) × (w.arrangement.limit ≡ None) × (w.fields ≡ None)
 
 -- The request for what a command with these arguments asks, of which collection, and how documents are laid out in the
 -- answer; and the maker afterwards: documents that come without an `_id` get its next ones, and no other command takes
@@ -141,10 +141,10 @@ Asks m n command.Update gs name (request.Change q (work.Update steps) many) l = 
 Asks m n command.ReplaceOne gs name (request.Change q (work.Replace d) many) l = NameQueryAndDocument gs name q (content d) × (many ≡ false) × (n ≡ m) × (l ≡ layout.Each)
 Asks m n command.Delete gs name (request.Change q work.Remove many) l = NameQueryAndMany gs name q many × (n ≡ m) × (l ≡ layout.Each)
 Asks m n command.Remove gs name (request.Remove id) l = NameAndId gs name (view id) × (n ≡ m) × (l ≡ layout.Each)
-Asks m n command.Find gs name (request.Find q a) l = NameAndQuery gs name q × IsWhole a × (n ≡ m) × (l ≡ layout.Each)
+Asks m n command.Find gs name (request.Find q w) l = NameAndQuery gs name q × WantsAll w × (n ≡ m) × (l ≡ layout.Each)
 Asks m n command.Count gs name (request.Count q) l = NameAndQuery gs name q × (n ≡ m) × (l ≡ layout.Each)
 Asks m n command.Import gs name (request.Import stream) l = NameAndStream m n gs name stream.items × (l ≡ layout.Each)
-Asks m n command.Export gs name (request.Find q a) l = NameAlone gs name × StandsFor q everything × IsWhole a × (n ≡ m) × (l ≡ layout.Stream)
+Asks m n command.Export gs name (request.Find q w) l = NameAlone gs name × StandsFor q everything × WantsAll w × (n ≡ m) × (l ≡ layout.Stream)
 Asks m n command.Index gs name (request.Index path) l = NameAndPath gs name (path_of path.items) × (n ≡ m) × (l ≡ layout.Each)
 Asks m n command.DropIndex gs name (request.DropIndex path) l = NameAndPath gs name (path_of path.items) × (n ≡ m) × (l ≡ layout.Each)
 Asks m n command.Collections gs name request.Collections l = (gs ≡ []) × (name ≡ []) × (n ≡ m) × (l ≡ layout.Each)

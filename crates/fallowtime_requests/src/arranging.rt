@@ -1,48 +1,52 @@
-//! The order in which `find` returns documents, and which part of them.
+//! What `find` returns of the documents that it finds: their order, which part of them, and which fields.
 
-ghost use Rattle.std.specs.Prelude.{◌≡◌, ◌≢◌, ◌⊎◌, [], ℕ, IfErr, MatchOption, Err, MatchResult, None, OnOk, Some};
+ghost use Rattle.std.specs.Prelude.{◌≡◌, ◌≢◌, ◌⊎◌, [], ℕ, IfErr, IfOk, MatchOption, Err, MatchResult, None, OnOk, Some};
 ghost use Rattle.std.specs.Option.{option_map};
 ghost use Rattle.json.specs.Value.{items_view, members_view, value_view as data_of};
 ghost use Rattle.store_sorted.specs.Bodies.{key_of, keys_of};
-ghost use Rattle.fallowtime_requests.specs.Arranging.{AsksArranged, IsCount, IsOfWords, IsPlan, Plan, PutsOption, PutsOptions, ReadsLine, StopsOptions, key_in, keys_behind, keys_under, plan_of, turn_in, whole, with_arrangement};
+ghost use Rattle.fallowtime_requests.specs.Arranging.{AsksWanted, IsCount, IsOfNumbers, IsOfWords, IsPlan, Plan, PutsOption, PutsOptions, ReadsLine, StopsOptions, StopsWanted, key_in, keys_behind, keys_under, plan_of, turn_in, whole, with_wanted};
 ghost use Rattle.fallowtime_requests.specs.Inputs.{trees};
 ghost use Rattle.fallowtime_requests.specs.Reading.{KeepsMaker, Reads};
-ghost use Rattle.fallowtime_requests.specs.Requests.{IsWhole};
-ghost use Rattle.fallowtime_requests.specs.declared.stop.Stop.TheVariants.{Memory, Words};
+ghost use Rattle.fallowtime_requests.specs.Requests.{WantsAll};
+ghost use Rattle.fallowtime_requests.specs.declared.stop.Stop.TheVariants.{Memory, Words as InWords};
 ghost use Rattle.fallowtime_requests.specs.declared.unread.Unread.TheVariants as unread;
 ghost use Rattle.fallowtime_words.specs.declared.command.Command.TheVariants as commands;
 
+use crate::fields::{fields_in, fields_of_words};
 use crate::reading::{Question, question_of_items};
-use crate::request::Request;
+use crate::request::{Request, Wanted};
 use crate::stop::Stop;
 use crate::unread::Unread;
 use bson_json_read::Scratch;
 use fallowtime_texts::IdMaker;
-use fallowtime_words::Command;
+use fallowtime_words::{Command, Words};
 use json::Value;
-use std::alloc::Global;
+use std::alloc::{AllocError, Global};
 use store_sorted::{Arrangement, SortKey, sort_key_by, sort_keys_of};
 
-/// The arrangement of all documents, as they come.
-pub(crate) fn whole_of(alloc: Global) -> Arrangement
-    ensures { IsWhole result }
+/// All documents, as they come, each whole.
+pub(crate) fn all_of(alloc: Global) -> Wanted
+    ensures { WantsAll result }
 {
-    Arrangement {
-        keys: Vec::new(alloc),
-        skip: 0,
-        limit: None,
+    Wanted {
+        arrangement: Arrangement {
+            keys: Vec::new(alloc),
+            skip: 0,
+            limit: None,
+        },
+        fields: None,
     }
 }
 
 /// The arrangement that the options of a command line ask for: the text of `--sort`, and the numbers of `--skip` and
 /// `--limit`.
-pub fn arrangement_of_words(
+fn arrangement_of_words(
     alloc: Global,
     sort: Option<&str>,
     skip: Option<usize>,
     limit: Option<usize>,
-) -> Result<Arrangement, Stop>
-    ensures { MatchResult result (λ a. IsOfWords (option_map (λ t. t.now) sort.entry) skip limit a) (λ s. s ≡ Memory) }
+) -> Result<Arrangement, AllocError>
+    ensures { IfOk result (IsOfNumbers (option_map (λ t. t.now) sort.entry) skip limit) }
 {
     let keys = match sort {
         Some(text) => sort_keys_of(alloc, text)?,
@@ -55,14 +59,28 @@ pub fn arrangement_of_words(
     })
 }
 
-/// Gives a question that finds documents an arrangement. Any other stays as it is.
-pub fn arrange(question: &mut Question<'_>, arrangement: Arrangement)
-    ensures request { question.new.request ≡ with_arrangement arrangement question.old.request }
+/// What the options of a command line want of documents. `Words`, of `Fields`, if the paths of `--fields` and
+/// `--without` can't name fields.
+pub fn wanted_of_words(alloc: Global, words: &Words<'_>) -> Result<Wanted, Stop>
+    ensures { MatchResult result (IsOfWords words.now) (StopsWanted words.now) }
+{
+    let options = words.options;
+    let arrangement = arrangement_of_words(alloc, words.sort, options.skip, options.limit)?;
+    let fields = fields_of_words(alloc, words.fields, words.without)?;
+    Ok(Wanted {
+        arrangement,
+        fields,
+    })
+}
+
+/// Lets a question that finds documents return what is wanted of them. Any other stays as it is.
+pub fn want(question: &mut Question<'_>, wanted: Wanted)
+    ensures request { question.new.request ≡ with_wanted wanted question.old.request }
     ensures collection { question.new.collection ≡ question.old.collection }
     ensures layout { question.new.layout ≡ question.old.layout }
 {
     if let Request::Find(_, place) = &mut question.request {
-        *place = arrangement;
+        *place = wanted;
     }
 }
 
@@ -93,7 +111,7 @@ fn is_descending(value: &Value<'_>) -> Option<bool>
 /// A key of an order.
 fn key_in(alloc: Global, name: &str, value: &Value<'_>) -> Result<SortKey, Stop>
     ensures { MatchResult result (λ key. key_in name.now (data_of value.now) ≡ Some (key_of key))
-        (λ s. (s ≡ Memory) ⊎ ((s ≡ Words unread.Options) × (key_in name.now (data_of value.now) ≡ None))) }
+        (λ s. (s ≡ Memory) ⊎ ((s ≡ InWords unread.Options) × (key_in name.now (data_of value.now) ≡ None))) }
 {
     match is_descending(value) {
         Some(descending) => Ok(sort_key_by(alloc, name, descending)?),
@@ -104,7 +122,7 @@ fn key_in(alloc: Global, name: &str, value: &Value<'_>) -> Result<SortKey, Stop>
 /// The keys of an order, one after the other.
 fn keys_among(alloc: Global, members: &[(&str, Value<'_>)]) -> Result<Vec<SortKey>, Stop>
     ensures { MatchResult result (λ keys. keys_behind [] (members_view members.now) ≡ Some (keys_of keys.items))
-        (λ s. (s ≡ Memory) ⊎ ((s ≡ Words unread.Options) × (keys_behind [] (members_view members.now) ≡ None))) }
+        (λ s. (s ≡ Memory) ⊎ ((s ≡ InWords unread.Options) × (keys_behind [] (members_view members.now) ≡ None))) }
 {
     let mut keys = Vec::new(alloc);
     for (name, value) in members {
@@ -117,7 +135,7 @@ fn keys_among(alloc: Global, members: &[(&str, Value<'_>)]) -> Result<Vec<SortKe
 /// The keys that an object is as an order.
 fn keys_in(alloc: Global, value: &Value<'_>) -> Result<Vec<SortKey>, Stop>
     ensures { MatchResult result (λ keys. keys_under (data_of value.now) ≡ Some (keys_of keys.items))
-        (λ s. (s ≡ Memory) ⊎ ((s ≡ Words unread.Options) × (keys_under (data_of value.now) ≡ None))) }
+        (λ s. (s ≡ Memory) ⊎ ((s ≡ InWords unread.Options) × (keys_under (data_of value.now) ≡ None))) }
 {
     match value {
         Value::Object(members) => keys_among(alloc, members.as_slice()),
@@ -125,46 +143,44 @@ fn keys_in(alloc: Global, value: &Value<'_>) -> Result<Vec<SortKey>, Stop>
     }
 }
 
-/// Gives an arrangement the option of one name.
-fn put_option(
-    alloc: Global,
-    arrangement: &mut Arrangement,
-    name: &str,
-    value: &Value<'_>,
-) -> Result<(), Stop>
-    ensures put { OnOk result (PutsOption (plan_of arrangement.old) name.now (data_of value.now) (plan_of arrangement.new)) }
-    ensures stop { IfErr result (StopsOptions ((q : Plan) → PutsOption (plan_of arrangement.old) name.now (data_of value.now) q → ⊥)) }
+/// Puts the option of one name to what is wanted.
+fn put_option(alloc: Global, wanted: &mut Wanted, name: &str, value: &Value<'_>) -> Result<(), Stop>
+    ensures put { OnOk result (PutsOption (plan_of wanted.old) name.now (data_of value.now) (plan_of wanted.new)) }
+    ensures stop { IfErr result (StopsOptions ((q : Plan) → PutsOption (plan_of wanted.old) name.now (data_of value.now) q → ⊥)) }
 {
     match name {
-        "sort" => arrangement.keys = keys_in(alloc, value)?,
-        "skip" => arrangement.skip = count_in(value).ok_or(Stop::Words(Unread::Options))?,
-        "limit" => {
-            arrangement.limit = Some(count_in(value).ok_or(Stop::Words(Unread::Options))?);
+        "sort" => wanted.arrangement.keys = keys_in(alloc, value)?,
+        "skip" => {
+            wanted.arrangement.skip = count_in(value).ok_or(Stop::Words(Unread::Options))?;
         }
+        "limit" => {
+            wanted.arrangement.limit = Some(count_in(value).ok_or(Stop::Words(Unread::Options))?);
+        }
+        "fields" => wanted.fields = fields_in(alloc, value)?,
         _ => return Err(Stop::Words(Unread::Options)),
     }
     Ok(())
 }
 
-/// The arrangement that the members of an object of options ask for.
-fn arrangement_among(alloc: Global, members: &[(&str, Value<'_>)]) -> Result<Arrangement, Stop>
+/// What the members of an object of options want.
+fn wanted_among(alloc: Global, members: &[(&str, Value<'_>)]) -> Result<Wanted, Stop>
     ensures { MatchResult result (λ a. PutsOptions whole (members_view members.now) (plan_of a))
         (StopsOptions ((q : Plan) → PutsOptions whole (members_view members.now) q → ⊥)) }
 {
-    let mut arrangement = whole_of(alloc);
+    let mut wanted = all_of(alloc);
     for (name, value) in members {
-        put_option(alloc, &mut arrangement, *name, value)?;
+        put_option(alloc, &mut wanted, *name, value)?;
     }
-    Ok(arrangement)
+    Ok(wanted)
 }
 
-/// The arrangement that an object of options asks for.
-fn arrangement_of(alloc: Global, tree: &Value<'_>) -> Result<Arrangement, Stop>
+/// What an object of options wants.
+fn wanted_of(alloc: Global, tree: &Value<'_>) -> Result<Wanted, Stop>
     ensures { MatchResult result (λ a. IsPlan (data_of tree.now) (plan_of a))
         (StopsOptions ((q : Plan) → IsPlan (data_of tree.now) q → ⊥)) }
 {
     match tree {
-        Value::Object(members) => arrangement_among(alloc, members.as_slice()),
+        Value::Object(members) => wanted_among(alloc, members.as_slice()),
         _ => Err(Stop::Words(Unread::Options)),
     }
 }
@@ -178,14 +194,14 @@ fn find_by_options<'w>(
     scratch: &mut Scratch,
 ) -> Result<Question<'w>, Stop>
     ensures asked { MatchResult result
-        (λ q. AsksArranged maker.old maker.new (items_view items.now) (data_of options.now) q.collection.now q.request q.layout)
+        (λ q. AsksWanted maker.old maker.new (items_view items.now) (data_of options.now) q.collection.now q.request q.layout)
         (λ s. Reads maker.old maker.new commands.Find (trees (items_view items.now)) (Err s)
         ⊎ StopsOptions ((p : Plan) → IsPlan (data_of options.now) p → ⊥) s) }
     ensures maker { IfErr result (KeepsMaker maker.old maker.new) }
 {
     let mut question = question_of_items(alloc, Command::Find, items, maker, scratch)?;
-    let arrangement = arrangement_of(alloc, options)?;
-    arrange(&mut question, arrangement);
+    let wanted = wanted_of(alloc, options)?;
+    want(&mut question, wanted);
     Ok(question)
 }
 
@@ -206,7 +222,7 @@ fn find_of_line<'w>(
 }
 
 /// What a line asks for whose command has the values of an array as its arguments, as `question_of_items` says; `find`
-/// has a third one, an object of the options `sort`, `skip` and `limit`.
+/// has a third one, an object of the options `sort`, `skip`, `limit` and `fields`.
 ///
 /// `Words` as there, and `Options` if that object can't be read.
 pub fn question_of_line<'w>(

@@ -3,6 +3,7 @@
 #![tactic(auto)]
 
 mod arranging;
+mod fields;
 mod input;
 mod options;
 mod parts;
@@ -13,9 +14,9 @@ mod stream;
 mod unread;
 mod updates;
 
-pub use arranging::{arrange, arrangement_of_words, question_of_line};
+pub use arranging::{question_of_line, want, wanted_of_words};
 pub use reading::{Layout, Question, ask_for_all, question_of_items, question_of_words};
-pub use request::{Request, Work};
+pub use request::{Request, Wanted, Work};
 pub use stop::Stop;
 pub use stream::items_of;
 pub use unread::Unread;

@@ -15,7 +15,7 @@ ghost use Rattle.store_model.specs.State.{id_key};
 ghost use Rattle.store_question_read.specs.Outcome.{Asks as StandsFor};
 ghost use Rattle.store_update_read.specs.Outcome.{plans_of};
 
-use crate::arranging::whole_of;
+use crate::arranging::all_of;
 use crate::input::{Input, of_value, of_word};
 use crate::options::many_of;
 use crate::parts::{collection_of, document_of, id_of, key_of, path_of, query_in, value_of};
@@ -403,7 +403,7 @@ fn find<'w>(
     ensures { (m : Maker) → Reads m m commands.Find (map seen arguments.now) result }
 {
     let (collection, query) = with_query(alloc, arguments, scratch)?;
-    Ok(plain(collection, Request::Find(query, whole_of(alloc))))
+    Ok(plain(collection, Request::Find(query, all_of(alloc))))
 }
 
 fn count<'w>(
@@ -440,7 +440,7 @@ fn export<'w>(alloc: Global, arguments: &[Input<'_, 'w>]) -> Result<Question<'w>
     let collection = name_of(arguments)?;
     Ok(Question {
         collection,
-        request: Request::Find(ask_for_all(alloc), whole_of(alloc)),
+        request: Request::Find(ask_for_all(alloc), all_of(alloc)),
         layout: Layout::Stream,
     })
 }
@@ -507,7 +507,11 @@ fn question_of<'w>(
         Command::DropIndex => drop_index(alloc, arguments),
         Command::Collections => collections(arguments),
         Command::Check => check(arguments),
-        Command::Backup | Command::Version => Err(Stop::Words(Unread::Command)),
+        Command::Backup
+        | Command::Version
+        | Command::ImportAll
+        | Command::ExportAll
+        | Command::Edit => Err(Stop::Words(Unread::Command)),
     }
 }
 

@@ -1,6 +1,7 @@
 //! What is asked of a store.
 
 use bson_model::{Bson, Document};
+use store_fields::Fields;
 use store_question::Question;
 use store_sorted::Arrangement;
 use store_update::Step;
@@ -14,6 +15,15 @@ pub enum Work {
     Replace(Document),
     /// It is removed.
     Remove,
+}
+
+/// What is returned of the documents that are found.
+#[derive(Drop)]
+pub struct Wanted {
+    /// In which order they are returned, and which of them.
+    pub arrangement: Arrangement,
+    /// Which fields of each of them, if not all.
+    pub fields: Option<Fields>,
 }
 
 /// What is asked of one collection, or, with `Collections` and `Check`, of all, with every text of it read.
@@ -35,8 +45,8 @@ pub enum Request<'w> {
     Change(Question, Work, bool),
     /// To remove the document with an `_id`.
     Remove(Bson),
-    /// The documents that answer a question, in an order and of that a part.
-    Find(Question, Arrangement),
+    /// The documents that answer a question: in an order, of that a part, and of each the fields that are wanted.
+    Find(Question, Wanted),
     /// How many documents answer a question.
     Count(Question),
     /// To put in the documents of a stream of BSON, all or none.

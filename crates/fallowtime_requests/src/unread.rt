@@ -32,6 +32,9 @@ pub enum Unread {
     Update(ReadError),
     /// It is no object of the options that the command has.
     Options,
+    /// The paths of `--fields` and `--without` can't name fields: a key is empty or begins with `$`, one path is the
+    /// beginning of another, or beside kept fields others than the `_id` are left out.
+    Fields,
     /// The path of an index is no text.
     Path,
     /// It is neither bytes of subtype 00 nor an array.
@@ -161,6 +164,7 @@ impl Unread {
             Unread::Key => line.push_str("key"),
             Unread::Value(_) => line.push_str("value"),
             Unread::Options => line.push_str("options"),
+            Unread::Fields => line.push_str("fields"),
             Unread::Path => line.push_str("path"),
             Unread::Stream => line.push_str("stream"),
             Unread::Query(error) => {

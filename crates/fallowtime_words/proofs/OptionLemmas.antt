@@ -9,19 +9,11 @@ use Rattle.fallowtime_words.specs.Reading.{MayFollow}
 use Rattle.fallowtime_words.specs.Words.{HasRest}
 use Rattle.fallowtime_words.specs.declared.command.Command.{Command}
 use Rattle.fallowtime_words.specs.declared.options.Given.{Given}
-use Rattle.fallowtime_words.specs.declared.options.Given.TheVariants.{Canonical, Bytes, Lines, Many, Wait, Sort, Skip, Limit}
 use Rattle.fallowtime_words.specs.declared.options.Options.{Options}
 
 -- an option begins with two hyphens
 lead_follows : (words : List (List ℕ)) (g : Given) (b : List (List ℕ)) → Lead words g b → MayFollow words
-lead_follows words Canonical b l word more e = let same : word ≡ codes "--canonical" = cc in (codes "canonical", same)
-lead_follows words Bytes b l word more e = let same : word ≡ codes "--bson" = cc in (codes "bson", same)
-lead_follows words Lines b l word more e = let same : word ≡ codes "--json" = cc in (codes "json", same)
-lead_follows words Many b l word more e = let same : word ≡ codes "--many" = cc in (codes "many", same)
-lead_follows words (Wait n) b (t, l, i) word more e = let same : word ≡ codes "--wait" = cc in (codes "wait", same)
-lead_follows words (Sort n) b (t, l, i) word more e = let same : word ≡ codes "--sort" = cc in (codes "sort", same)
-lead_follows words (Skip n) b (t, l, i) word more e = let same : word ≡ codes "--skip" = cc in (codes "skip", same)
-lead_follows words (Limit n) b (t, l, i) word more e = let same : word ≡ codes "--limit" = cc in (codes "limit", same)
+lead_follows words g b (rest, (name, is, named), value) word more e = let same : word ≡ codes "--" ++ name = cc in (name, same)
 
 pub options_follow : (words : List (List ℕ)) (o : Options) → AreOptions words o → MayFollow words
 options_follow words o ([], s, h) word more e = cc

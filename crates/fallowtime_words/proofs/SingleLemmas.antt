@@ -1,15 +1,15 @@
 -- The words ask for one thing at the most.
 use Rattle.std.proofs.Common.{◌≡◌, ℕ, suc, List, [], ◌∷◌, ◌++◌, Option, Some, slice_index, length, codes, inl, inr, refl, sym, ◌∙◌, ap, subst, arith}
 use Rattle.fallowtime_words.specs.Commands.{arguments, command_name, command_of, AreWords, BeginsWith, IsLast, IsQuery}
-use Rattle.fallowtime_words.specs.Options.{Spell, Gathers, AreOptions}
+use Rattle.fallowtime_words.specs.Options.{Spell, AreOptions, no_options, with_all}
 use Rattle.fallowtime_words.specs.Reading.{MayFollow}
 use Rattle.fallowtime_words.specs.Words.{Asked, line, session, HasRest, IsTask, Wait}
 use Rattle.fallowtime_words.specs.declared.command.Command.{Command}
-use Rattle.fallowtime_words.specs.declared.command.Command.TheVariants.{Insert, Put, Replace, Get, Set, Unset, Update, ReplaceOne, Delete, Remove, Find, Count, Import, Export, Collections, Check, Backup, Index, DropIndex, Version}
+use Rattle.fallowtime_words.specs.declared.command.Command.TheVariants.{Insert, Put, Replace, Get, Set, Unset, Update, ReplaceOne, Delete, Remove, Find, Count, Import, Export, Collections, Check, Backup, Index, DropIndex, Version, ImportAll, ExportAll, Edit}
 use Rattle.fallowtime_words.specs.declared.options.Given.{Given}
 use Rattle.fallowtime_words.specs.declared.options.Options.{Options}
 use Rattle.fallowtime_words.specs.declared.table.Argument.{Argument}
-use Rattle.fallowtime_words.specs.declared.table.Argument.TheVariants.{Collection, Document, Id, Key, Value, Query, Selection, Update as Change, Options as Further, Documents, IndexPath, File}
+use Rattle.fallowtime_words.specs.declared.table.Argument.TheVariants.{Collection, Document, Id, Key, Value, Query, Selection, Update as Change, Options as Further, Documents, IndexPath, File, Folder}
 use Rattle.fallowtime_words.proofs.OptionLemmas.{options_follow, cut}
 use Rattle.fallowtime_words.proofs.GatherLemmas.{one_lead, not_empty, same_gathered}
 
@@ -35,6 +35,9 @@ command_is Backup = refl
 command_is Index = refl
 command_is DropIndex = refl
 command_is Version = refl
+command_is ImportAll = refl
+command_is ExportAll = refl
+command_is Edit = refl
 
 pub one_name : (c c' : Command) → command_name c ≡ command_name c' → c ≡ c'
 one_name c c' e = let same : Some c ≡ Some c' = sym (command_is c) ∙ (ap command_of e ∙ command_is c') in cc
@@ -61,6 +64,9 @@ no_option_name Backup (rest, e) = let first : 98 ≡ 45 = ap (λ w. slice_index 
 no_option_name Index (rest, e) = let first : 105 ≡ 45 = ap (λ w. slice_index w 0) e in absurd (omega (arith, first))
 no_option_name DropIndex (rest, e) = let first : 100 ≡ 45 = ap (λ w. slice_index w 0) e in absurd (omega (arith, first))
 no_option_name Version (rest, e) = let first : 118 ≡ 45 = ap (λ w. slice_index w 0) e in absurd (omega (arith, first))
+no_option_name ImportAll (rest, e) = let first : 105 ≡ 45 = ap (λ w. slice_index w 0) e in absurd (omega (arith, first))
+no_option_name ExportAll (rest, e) = let first : 101 ≡ 45 = ap (λ w. slice_index w 0) e in absurd (omega (arith, first))
+no_option_name Edit (rest, e) = let first : 101 ≡ 45 = ap (λ w. slice_index w 0) e in absurd (omega (arith, first))
 
 -- one list of options
 one_given : (words : List (List ℕ)) (gs hs : List Given) → Spell words gs → Spell words hs → gs ≡ hs
@@ -73,7 +79,7 @@ one_given words (g ∷ gs) (h ∷ hs) (b, l, s) (b', l', t) =
     ap (λ x. x ∷ gs) p.0 ∙ ap (λ x. h ∷ x) more
 
 pub one_options : (words : List (List ℕ)) (o all : Options) → AreOptions words o → AreOptions words all → o ≡ all
-one_options words o all (gs, s, h) (hs, t, k) = same_gathered gs o all h (subst (λ x. Gathers x all) (sym (one_given words gs hs s t)) k)
+one_options words o all (gs, s, h) (hs, t, k) = same_gathered gs o all h (ap (λ x. with_all x no_options) (one_given words gs hs s t) ∙ k)
 
 -- a word that begins with two hyphens is no query
 no_query : (query : List ℕ) (given more : List (List ℕ)) → MayFollow given → given ≡ query ∷ more → ¬ BeginsWith (codes "--") query → ⊥
@@ -103,6 +109,7 @@ as_many_last words taken taken' given given' e e' m m' Selection h h' = h ∙ sy
 as_many_last words taken taken' given given' e e' m m' Change h h' = h ∙ sym h'
 as_many_last words taken taken' given given' e e' m m' IndexPath h h' = h ∙ sym h'
 as_many_last words taken taken' given given' e e' m m' File h h' = h ∙ sym h'
+as_many_last words taken taken' given given' e e' m m' Folder h h' = h ∙ sym h'
 
 as_many : (words taken taken' given given' : List (List ℕ)) → words ≡ taken ++ given → words ≡ taken' ++ given' → MayFollow given → MayFollow given'
     → (all : List Argument) → AreWords all taken → AreWords all taken' → length taken ≡ length taken'

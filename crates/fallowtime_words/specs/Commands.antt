@@ -2,18 +2,18 @@
 use Rattle.std.specs.Prelude.{◌≡◌, ◌⊎◌, ℕ, List, [], ◌∷◌, ◌++◌, length, codes, if◌then◌else◌, true, false, Option, Some, None}
 use Rattle.std.specs.Str.{bytes_eq}
 use Rattle.fallowtime_words.specs.declared.command.Command.{Command}
-use Rattle.fallowtime_words.specs.declared.command.Command.TheVariants.{Insert, Put, Replace, Get, Set, Unset, Update, ReplaceOne, Delete, Remove, Find, Count, Import, Export, Collections, Check, Backup, Index, DropIndex, Version}
+use Rattle.fallowtime_words.specs.declared.command.Command.TheVariants.{Insert, Put, Replace, Get, Set, Unset, Update, ReplaceOne, Delete, Remove, Find, Count, Import, Export, Collections, Check, Backup, Index, DropIndex, Version, ImportAll, ExportAll, Edit}
 use Rattle.fallowtime_words.specs.declared.table.Allowed.{Allowed}
 use Rattle.fallowtime_words.specs.declared.table.Argument.{Argument}
-use Rattle.fallowtime_words.specs.declared.table.Argument.TheVariants.{Collection, Document, Id, Key, Value, Query, Selection, Update as Change, Options, Documents, IndexPath, File}
+use Rattle.fallowtime_words.specs.declared.table.Argument.TheVariants.{Collection, Document, Id, Key, Value, Query, Selection, Update as Change, Options, Documents, IndexPath, File, Folder}
 use Rattle.fallowtime_words.specs.declared.table.Effect.{Effect}
 use Rattle.fallowtime_words.specs.declared.table.Effect.TheVariants.{Reads, Changes, Makes}
 use Rattle.fallowtime_words.specs.declared.table.Place.{Place}
-use Rattle.fallowtime_words.specs.declared.table.Place.TheVariants.{Both, CommandLine, Session, Alone}
+use Rattle.fallowtime_words.specs.declared.table.Place.TheVariants.{Both, CommandLine, Session, Alone, Script}
 
 -- in the order of the help
 abbrev pub commands : List Command
-commands = Insert ∷ Put ∷ Replace ∷ Get ∷ Set ∷ Unset ∷ Update ∷ ReplaceOne ∷ Delete ∷ Remove ∷ Find ∷ Count ∷ Import ∷ Export ∷ Collections ∷ Check ∷ Backup ∷ Index ∷ DropIndex ∷ Version ∷ []
+commands = Insert ∷ Put ∷ Replace ∷ Get ∷ Set ∷ Unset ∷ Update ∷ ReplaceOne ∷ Delete ∷ Remove ∷ Find ∷ Count ∷ Import ∷ Export ∷ Collections ∷ Check ∷ Backup ∷ Index ∷ DropIndex ∷ Version ∷ ImportAll ∷ ExportAll ∷ Edit ∷ []
 
 abbrev pub command_name : Command → List ℕ
 command_name Insert = codes "insert"
@@ -36,6 +36,9 @@ command_name Backup = codes "backup"
 command_name Index = codes "index"
 command_name DropIndex = codes "drop_index"
 command_name Version = codes "version"
+command_name ImportAll = codes "import-all"
+command_name ExportAll = codes "export-all"
+command_name Edit = codes "edit"
 
 -- the first of the commands that has this name
 abbrev pub first_named : List Command → List ℕ → Option Command
@@ -67,6 +70,9 @@ arguments Backup = File ∷ []
 arguments Index = Collection ∷ IndexPath ∷ []
 arguments DropIndex = Collection ∷ IndexPath ∷ []
 arguments Version = []
+arguments ImportAll = Folder ∷ []
+arguments ExportAll = Folder ∷ []
+arguments Edit = Collection ∷ Id ∷ []
 
 -- the options beside `--wait`
 abbrev pub allowed : Command → Allowed
@@ -83,6 +89,7 @@ abbrev pub effect : Command → Effect
 effect Insert = Makes
 effect Put = Makes
 effect Import = Makes
+effect ImportAll = Makes
 effect Replace = Changes
 effect Set = Changes
 effect Unset = Changes
@@ -90,6 +97,7 @@ effect Update = Changes
 effect ReplaceOne = Changes
 effect Delete = Changes
 effect Remove = Changes
+effect Edit = Changes
 effect _ = Reads
 
 -- where it is a command
@@ -98,6 +106,9 @@ place Backup = CommandLine
 place Index = Session
 place DropIndex = Session
 place Version = Alone
+place ImportAll = Script
+place ExportAll = Script
+place Edit = Script
 place _ = Both
 
 -- the word begins with these bytes

@@ -1,92 +1,96 @@
 -- The options after the places: what their words are, and which a command has.
-use Rattle.std.specs.Prelude.{◌≡◌, ◌≢◌, ◌<◌, ◌^◌, ◌⊎◌, ℕ, List, [], ◌∷◌, codes, count_by, Bool, true, false, if◌then◌else◌, is_some, length, Option, Some, None}
-use Rattle.std.specs.List.{filter_map}
+use Rattle.std.specs.Prelude.{◌≡◌, ◌≢◌, ◌<◌, ◌^◌, ◌⊎◌, ℕ, List, [], ◌∷◌, ◌++◌, codes, true, false, if◌then◌else◌, is_some, length, Option, Some, None, option_and_then}
+use Rattle.std.specs.Str.{bytes_eq}
 use Rattle.std.specs.Str.Parse.{IsNumeral, digits_value}
 use Rattle.fallowtime_words.specs.declared.command.Command.{Command}
 use Rattle.fallowtime_words.specs.Commands.{allowed, place}
 use Rattle.fallowtime_words.specs.declared.table.Allowed.{Allowed}
-use Rattle.fallowtime_words.specs.declared.table.Place.TheVariants.{Alone, Session}
+use Rattle.fallowtime_words.specs.declared.table.Place.TheVariants.{Alone, Script, Session}
 use Rattle.fallowtime_words.specs.declared.options.Given.{Given}
-use Rattle.fallowtime_words.specs.declared.options.Given.TheVariants.{Canonical, Bytes, Lines, Many, Wait, Sort, Skip, Limit}
+use Rattle.fallowtime_words.specs.declared.options.OptionValue.{OptionValue}
+use Rattle.fallowtime_words.specs.declared.options.OptionValue.TheVariants.{Nothing, Number, Text}
+use Rattle.fallowtime_words.specs.declared.options.OptionName.{OptionName}
+use Rattle.fallowtime_words.specs.declared.options.OptionName.TheVariants.{Canonical, Bytes, Lines, Many, Wait, Sort, Skip, Limit, Fields, Without}
 use Rattle.fallowtime_words.specs.declared.options.Options.{Options}
 
 -- decimal digits, and the number that they write
 abbrev pub IsNumber : List ℕ → ℕ → Type 0
 IsNumber text n = IsNumeral 10 text × (digits_value 10 text ≡ n) × (n < 2 ^ 64)
 
--- the words begin with those of an option; of the text of `--sort` it is given how many words are behind it
+-- the option that a word names, without its hyphens
+abbrev pub option_named : List ℕ → Option OptionName
+option_named word =
+    if bytes_eq word (codes "canonical") then Some Canonical
+    else if bytes_eq word (codes "bson") then Some Bytes
+    else if bytes_eq word (codes "json") then Some Lines
+    else if bytes_eq word (codes "many") then Some Many
+    else if bytes_eq word (codes "wait") then Some Wait
+    else if bytes_eq word (codes "sort") then Some Sort
+    else if bytes_eq word (codes "skip") then Some Skip
+    else if bytes_eq word (codes "limit") then Some Limit
+    else if bytes_eq word (codes "fields") then Some Fields
+    else if bytes_eq word (codes "without") then Some Without
+    else None
+
+abbrev pub value_taken_by : OptionName → OptionValue
+value_taken_by Wait = Number
+value_taken_by Skip = Number
+value_taken_by Limit = Number
+value_taken_by Sort = Text
+value_taken_by Fields = Text
+value_taken_by Without = Text
+value_taken_by _ = Nothing
+
+-- the first word names an option
+abbrev pub IsNamed : List (List ℕ) → OptionName → List (List ℕ) → Type 0
+IsNamed words name rest = (word : List ℕ) × (words ≡ (codes "--" ++ word) ∷ rest) × (option_named word ≡ Some name)
+
+-- the words begin with what follows the name of an option: a number, or a text, of which it is given how many words are behind it
+abbrev pub HasValue : OptionValue → ℕ → List (List ℕ) → List (List ℕ) → Type 0
+HasValue Nothing n words behind = (n ≡ 0) × (words ≡ behind)
+HasValue Number n words behind = (text : List ℕ) × (words ≡ text ∷ behind) × IsNumber text n
+HasValue Text n words behind = (text : List ℕ) × (words ≡ text ∷ behind) × (n ≡ length behind)
+
+-- the words begin with those of an option
 abbrev pub Lead : List (List ℕ) → Given → List (List ℕ) → Type 0
-Lead words Canonical behind = words ≡ codes "--canonical" ∷ behind
-Lead words Bytes behind = words ≡ codes "--bson" ∷ behind
-Lead words Lines behind = words ≡ codes "--json" ∷ behind
-Lead words Many behind = words ≡ codes "--many" ∷ behind
-Lead words (Wait n) behind = (text : List ℕ) × (words ≡ codes "--wait" ∷ text ∷ behind) × IsNumber text n
-Lead words (Sort n) behind = (text : List ℕ) × (words ≡ codes "--sort" ∷ text ∷ behind) × (n ≡ length behind)
-Lead words (Skip n) behind = (text : List ℕ) × (words ≡ codes "--skip" ∷ text ∷ behind) × IsNumber text n
-Lead words (Limit n) behind = (text : List ℕ) × (words ≡ codes "--limit" ∷ text ∷ behind) × IsNumber text n
+Lead words g behind = (rest : List (List ℕ)) × IsNamed words g.name rest × HasValue (value_taken_by g.name) g.number rest behind
 
 -- the words are those of options, one after the other
 abbrev pub Spell : List (List ℕ) → List Given → Type 0
 Spell words [] = words ≡ []
 Spell words (g ∷ gs) = (behind : List (List ℕ)) × Lead words g behind × Spell behind gs
 
-abbrev pub is_canonical : Given → Bool
-is_canonical Canonical = true
-is_canonical _ = false
+abbrev pub no_options : Options
+no_options = record { canonical = false; bytes = false; lines = false; many = false; seconds = None; sort = None; skip = None; limit = None; fields = None; without = None }
 
-abbrev pub is_bytes : Given → Bool
-is_bytes Bytes = true
-is_bytes _ = false
+-- the options and one more of this number, if it isn't among them
+abbrev pub with_option : OptionName → ℕ → Options → Option Options
+with_option Canonical n o = if o.canonical then None else Some (record o { canonical = true })
+with_option Bytes n o = if o.bytes then None else Some (record o { bytes = true })
+with_option Lines n o = if o.lines then None else Some (record o { lines = true })
+with_option Many n o = if o.many then None else Some (record o { many = true })
+with_option Wait n o = if is_some o.seconds then None else Some (record o { seconds = Some n })
+with_option Sort n o = if is_some o.sort then None else Some (record o { sort = Some n })
+with_option Skip n o = if is_some o.skip then None else Some (record o { skip = Some n })
+with_option Limit n o = if is_some o.limit then None else Some (record o { limit = Some n })
+with_option Fields n o = if is_some o.fields then None else Some (record o { fields = Some n })
+with_option Without n o = if is_some o.without then None else Some (record o { without = Some n })
 
-abbrev pub is_lines : Given → Bool
-is_lines Lines = true
-is_lines _ = false
+abbrev pub added : Given → Options → Option Options
+added g o = with_option g.name g.number o
 
-abbrev pub is_many : Given → Bool
-is_many Many = true
-is_many _ = false
+-- the options and those that are given beside them; none if one is given twice
+abbrev pub with_all : List Given → Options → Option Options
+with_all [] o = Some o
+with_all (g ∷ gs) o = option_and_then (λ more. with_all gs more) (added g o)
 
-abbrev pub seconds_of : Given → Option ℕ
-seconds_of (Wait n) = Some n
-seconds_of _ = None
-
-abbrev pub sort_of : Given → Option ℕ
-sort_of (Sort n) = Some n
-sort_of _ = None
-
-abbrev pub skip_of : Given → Option ℕ
-skip_of (Skip n) = Some n
-skip_of _ = None
-
-abbrev pub limit_of : Given → Option ℕ
-limit_of (Limit n) = Some n
-limit_of _ = None
-
-abbrev pub times : Bool → ℕ
-times on = if on then 1 else 0
-
-abbrev pub listed : Option ℕ → List ℕ
-listed None = []
-listed (Some n) = n ∷ []
-
--- each option is given once if it is on, and else not at all; in any order
-pub record Gathers (gs : List Given) (o : Options) : Type 0 where
-  pub canonical : count_by is_canonical gs ≡ times o.canonical
-  pub bytes : count_by is_bytes gs ≡ times o.bytes
-  pub lines : count_by is_lines gs ≡ times o.lines
-  pub many : count_by is_many gs ≡ times o.many
-  pub seconds : filter_map seconds_of gs ≡ listed o.seconds
-  pub sort : filter_map sort_of gs ≡ listed o.sort
-  pub skip : filter_map skip_of gs ≡ listed o.skip
-  pub limit : filter_map limit_of gs ≡ listed o.limit
-
--- the words are those of the options
+-- the words are those of the options, in any order, each at most once
 abbrev pub AreOptions : List (List ℕ) → Options → Type 0
-AreOptions words o = (gs : List Given) × Spell words gs × Gathers gs o
+AreOptions words o = (gs : List Given) × Spell words gs × (with_all gs no_options ≡ Some o)
 
--- an order or a part is asked for
+-- an order, a part or fields are asked for
 abbrev pub IsArranged : Options → Type 0
-IsArranged o = (is_some o.sort ≡ true) ⊎ (is_some o.skip ≡ true) ⊎ (is_some o.limit ≡ true)
+IsArranged o = (is_some o.sort ≡ true) ⊎ (is_some o.skip ≡ true) ⊎ (is_some o.limit ≡ true) ⊎ (is_some o.fields ≡ true) ⊎ (is_some o.without ≡ true)
 
 -- no option except `--wait`
 abbrev pub OnlyWait : Options → Type 0
@@ -104,5 +108,6 @@ pub record AreAllowed (row : Allowed) (o : Options) : Type 0 where
 pub record Takes (command : Command) (o : Options) : Type 0 where
   pub is_one : place command ≢ Session
   pub has_file : place command ≢ Alone
+  pub is_done_here : place command ≢ Script
   pub among : AreAllowed (allowed command) o
   pub one_form : (o.canonical ≡ false) ⊎ (o.bytes ≡ false)

@@ -6,6 +6,7 @@ use Rattle.fallowtime_words.specs.declared.command.Command.{Command}
 use Rattle.fallowtime_words.specs.declared.options.Options.{Options}
 use Rattle.fallowtime_words.specs.declared.words.Task.{Task}
 use Rattle.fallowtime_words.specs.declared.words.Task.TheVariants as task
+use Rattle.fallowtime_words.specs.declared.words.Words.{Words as Wording}
 
 -- a command, or a session, over a file
 pub data Asked : Type 0 where
@@ -29,14 +30,20 @@ abbrev pub word_before : ℕ → List (List ℕ) → Option (List ℕ)
 word_before n [] = None
 word_before n (w ∷ ws) = if length ws == n then Some w else word_before n ws
 
--- the text of `--sort` among the words behind a command
-abbrev pub sort_text : List (List ℕ) → Options → Option (List ℕ)
-sort_text words o = option_and_then (λ n. word_before n words) o.sort
+-- the text of an option among the words behind a command, by how many words are behind it
+abbrev pub text_of : List (List ℕ) → Option ℕ → Option (List ℕ)
+text_of words behind = option_and_then (λ n. word_before n words) behind
 
--- the text of `--sort` is given with the task
-abbrev pub HasSort : List (List ℕ) → Task → Type 0
-HasSort words (task.Command w) = (behind : List (List ℕ)) × (words ≡ w.file.now ∷ command_name w.command ∷ behind) × (option_map (λ t. t.now) w.sort ≡ sort_text behind w.options)
-HasSort words (task.Session file seconds) = Unit {0}
+-- the texts of `--sort`, `--fields` and `--without` are those among the words behind the command
+pub record HasTexts (words : List (List ℕ)) (w : Wording) : Type 0 where
+  pub sort : option_map (λ t. t.now) w.sort ≡ text_of words w.options.sort
+  pub fields : option_map (λ t. t.now) w.fields ≡ text_of words w.options.fields
+  pub without : option_map (λ t. t.now) w.without ≡ text_of words w.options.without
+
+-- these texts are given with the task
+abbrev pub IsTold : List (List ℕ) → Task → Type 0
+IsTold words (task.Command w) = (behind : List (List ℕ)) × (words ≡ w.file.now ∷ command_name w.command ∷ behind) × HasTexts behind w
+IsTold words (task.Session file seconds) = Unit {0}
 
 -- no option, or only this one: for how many seconds a file is waited for
 abbrev pub Wait : List (List ℕ) → Option ℕ → Type 0

@@ -52,6 +52,12 @@ pub enum Command {
     DropIndex,
     /// `version`: prints which version this is. It has no FILE.
     Version,
+    /// `import-all DIR`: imports each file of the folder of a dump.
+    ImportAll,
+    /// `export-all DIR`: writes each collection into a file of a folder.
+    ExportAll,
+    /// `edit COLL ID`: opens a document in an editor.
+    Edit,
 }
 
 /// The command of the first of the rows that has this name.
@@ -114,6 +120,7 @@ impl Command {
         let row = self.signature();
         row.place != Place::Session
             && row.place != Place::Alone
+            && row.place != Place::Script
             && options.are_among(row.options)
             && !(options.canonical && options.bytes)
     }

@@ -1,8 +1,9 @@
 //! The options after the places of a command.
 
-ghost use Rattle.std.specs.Prelude.{◌≡◌, ◌↔◌, ◌<◌, ◌∷◌, ℕ, List, Some, IfSome, MatchOption, codes, length, map, string_bytes};
-ghost use Rattle.fallowtime_words.specs.Options.{AreOptions, IsNumber, Lead};
+ghost use Rattle.std.specs.Prelude.{◌≡◌, ◌↔◌, ◌<◌, ◌≤◌, ℕ, List, Some, IfSome, MatchOption, length, map, string_bytes};
+ghost use Rattle.fallowtime_words.specs.Options.{AreOptions, HasValue, IsNamed, IsNumber, Lead, value_taken_by, option_named};
 ghost use Rattle.fallowtime_words.specs.declared.options.Given.{Given};
+ghost use Rattle.fallowtime_words.specs.declared.options.OptionName.{OptionName};
 ghost use Rattle.fallowtime_words.specs.declared.options.Options.{Options};
 
 use crate::table::Allowed;
@@ -26,33 +27,84 @@ pub struct Options {
     pub skip: Option<usize>,
     /// `--limit NUMBER`: how many documents are returned at most, if that is given.
     pub limit: Option<usize>,
+    /// `--fields PATHS`: how many words are behind PATHS, if that is given.
+    pub fields: Option<usize>,
+    /// `--without PATHS`: how many words are behind PATHS, if that is given.
+    pub without: Option<usize>,
 }
 
-/// One option.
-#[derive(Clone, Copy)]
-enum Given {
+/// An option, by its name.
+#[derive(Clone, Copy, Debug, PartialEq, Eq)]
+pub enum OptionName {
+    /// `--canonical`.
     Canonical,
+    /// `--bson`.
     Bytes,
+    /// `--json`.
     Lines,
+    /// `--many`.
     Many,
-    Wait(u64),
-    Sort(usize),
-    Skip(usize),
-    Limit(usize),
+    /// `--wait`.
+    Wait,
+    /// `--sort`.
+    Sort,
+    /// `--skip`.
+    Skip,
+    /// `--limit`.
+    Limit,
+    /// `--fields`.
+    Fields,
+    /// `--without`.
+    Without,
+}
+
+/// What follows the name of an option.
+#[derive(Clone, Copy)]
+enum OptionValue {
+    Nothing,
+    Number,
+    Text,
+}
+
+/// An option that is given, and its number: of a text how many words are behind it, and 0 if nothing follows.
+#[derive(Clone, Copy)]
+struct Given {
+    name: OptionName,
+    number: usize,
+}
+
+/// The option that a word names, without its hyphens.
+fn option_named(word: &str) -> Option<OptionName>
+    ensures { result ≡ option_named word.now }
+{
+    match word {
+        "canonical" => Some(OptionName::Canonical),
+        "bson" => Some(OptionName::Bytes),
+        "json" => Some(OptionName::Lines),
+        "many" => Some(OptionName::Many),
+        "wait" => Some(OptionName::Wait),
+        "sort" => Some(OptionName::Sort),
+        "skip" => Some(OptionName::Skip),
+        "limit" => Some(OptionName::Limit),
+        "fields" => Some(OptionName::Fields),
+        "without" => Some(OptionName::Without),
+        _ => None,
+    }
+}
+
+/// What follows the name of an option.
+fn value_taken_by(name: OptionName) -> OptionValue
+    ensures { result ≡ value_taken_by name }
+{
+    match name {
+        OptionName::Wait | OptionName::Skip | OptionName::Limit => OptionValue::Number,
+        OptionName::Sort | OptionName::Fields | OptionName::Without => OptionValue::Text,
+        _ => OptionValue::Nothing,
+    }
 }
 
 /// The number that a word names: decimal digits alone, below 2^64.
-fn number_of(word: &str) -> Option<u64>
-    ensures { MatchOption result ((n : ℕ) → IsNumber word.now n → ⊥) (λ n. IsNumber word.now n) }
-{
-    if word.starts_with('+') {
-        return None;
-    }
-    word.parse::<u64>().ok()
-}
-
-/// The number that a word names, as a count of documents.
-fn count_of(word: &str) -> Option<usize>
+fn number_of(word: &str) -> Option<usize>
     ensures { MatchOption result ((n : ℕ) → IsNumber word.now n → ⊥) (λ n. IsNumber word.now n) }
 {
     let signed = word.starts_with('+');
@@ -62,51 +114,36 @@ fn count_of(word: &str) -> Option<usize>
     word.parse::<usize>().ok()
 }
 
-/// The option `--wait` whose SECONDS is the first of the words, and the words after that.
-fn split_wait(words: &[String]) -> Option<(Given, &[String])>
-    ensures lead { MatchOption result
-        ((given : Given) (behind : List (List ℕ)) → Lead (codes "--wait" ∷ map string_bytes words.now) given behind → ⊥)
-        (λ r. Lead (codes "--wait" ∷ map string_bytes words.now) r.0 (map string_bytes r.1.now)) }
-    ensures fewer { IfSome result (λ r. length r.1.now < length words.now) }
+/// The number of an option, by the words behind its name, and the words behind that.
+fn split_value(value: OptionValue, words: &[String]) -> Option<(usize, &[String])>
+    ensures value { MatchOption result
+        ((n : ℕ) (behind : List (List ℕ)) → HasValue value n (map string_bytes words.now) behind → ⊥)
+        (λ r. HasValue value r.0 (map string_bytes words.now) (map string_bytes r.1.now)) }
+    ensures fewer { IfSome result (λ r. length r.1.now ≤ length words.now) }
 {
-    let (text, behind) = words.split_first()?;
-    let seconds = number_of(text.as_str())?;
-    Some((Given::Wait(seconds), behind))
+    match value {
+        OptionValue::Nothing => Some((0, words)),
+        OptionValue::Number => {
+            let (text, behind) = words.split_first()?;
+            Some((number_of(text.as_str())?, behind))
+        }
+        OptionValue::Text => {
+            let (_, behind) = words.split_first()?;
+            Some((behind.len(), behind))
+        }
+    }
 }
 
-/// The option `--sort` whose KEYS are the first of the words, and the words after that.
-fn split_sort(words: &[String]) -> Option<(Given, &[String])>
-    ensures lead { MatchOption result
-        ((given : Given) (behind : List (List ℕ)) → Lead (codes "--sort" ∷ map string_bytes words.now) given behind → ⊥)
-        (λ r. Lead (codes "--sort" ∷ map string_bytes words.now) r.0 (map string_bytes r.1.now)) }
+/// The option that the first word names.
+fn named_first(words: &[String]) -> Option<(OptionName, &[String])>
+    ensures named { MatchOption result
+        ((name : OptionName) (rest : List (List ℕ)) → IsNamed (map string_bytes words.now) name rest → ⊥)
+        (λ r. IsNamed (map string_bytes words.now) r.0 (map string_bytes r.1.now)) }
     ensures fewer { IfSome result (λ r. length r.1.now < length words.now) }
 {
-    let (_, behind) = words.split_first()?;
-    Some((Given::Sort(behind.len()), behind))
-}
-
-/// The option `--skip` whose NUMBER is the first of the words, and the words after that.
-fn split_skip(words: &[String]) -> Option<(Given, &[String])>
-    ensures lead { MatchOption result
-        ((given : Given) (behind : List (List ℕ)) → Lead (codes "--skip" ∷ map string_bytes words.now) given behind → ⊥)
-        (λ r. Lead (codes "--skip" ∷ map string_bytes words.now) r.0 (map string_bytes r.1.now)) }
-    ensures fewer { IfSome result (λ r. length r.1.now < length words.now) }
-{
-    let (text, behind) = words.split_first()?;
-    let count = count_of(text.as_str())?;
-    Some((Given::Skip(count), behind))
-}
-
-/// The option `--limit` whose NUMBER is the first of the words, and the words after that.
-fn split_limit(words: &[String]) -> Option<(Given, &[String])>
-    ensures lead { MatchOption result
-        ((given : Given) (behind : List (List ℕ)) → Lead (codes "--limit" ∷ map string_bytes words.now) given behind → ⊥)
-        (λ r. Lead (codes "--limit" ∷ map string_bytes words.now) r.0 (map string_bytes r.1.now)) }
-    ensures fewer { IfSome result (λ r. length r.1.now < length words.now) }
-{
-    let (text, behind) = words.split_first()?;
-    let count = count_of(text.as_str())?;
-    Some((Given::Limit(count), behind))
+    let (word, rest) = words.split_first()?;
+    let name = option_named(word.strip_prefix("--")?)?;
+    Some((name, rest))
 }
 
 /// The option at the front of the words, and the words after it.
@@ -116,24 +153,14 @@ fn split_option(words: &[String]) -> Option<(Given, &[String])>
         (λ r. Lead (map string_bytes words.now) r.0 (map string_bytes r.1.now)) }
     ensures fewer { IfSome result (λ r. length r.1.now < length words.now) }
 {
-    let (word, behind) = words.split_first()?;
-    match word.as_str() {
-        "--canonical" => Some((Given::Canonical, behind)),
-        "--bson" => Some((Given::Bytes, behind)),
-        "--json" => Some((Given::Lines, behind)),
-        "--many" => Some((Given::Many, behind)),
-        "--wait" => split_wait(behind),
-        "--sort" => split_sort(behind),
-        "--skip" => split_skip(behind),
-        "--limit" => split_limit(behind),
-        _ => None,
-    }
+    let (name, rest) = named_first(words)?;
+    let (number, behind) = split_value(value_taken_by(name), rest)?;
+    Some((Given { name, number }, behind))
 }
 
 impl Options {
     ghost use Rattle.std.specs.Prelude.{◌≡◌, ◌↔◌, IsTrue};
-    ghost use Rattle.fallowtime_words.specs.Options.{AreAllowed, IsArranged, OnlyWait};
-    ghost use Rattle.fallowtime_words.specs.Reading.{added};
+    ghost use Rattle.fallowtime_words.specs.Options.{AreAllowed, IsArranged, OnlyWait, added};
 
     /// No option.
     const NONE: Options = Options {
@@ -145,13 +172,19 @@ impl Options {
         sort: None,
         skip: None,
         limit: None,
+        fields: None,
+        without: None,
     };
 
-    /// Whether an order or a part is asked for.
+    /// Whether an order, a part or fields are asked for.
     pub(crate) fn is_arranged(self) -> bool
         ensures { IsTrue result ↔ IsArranged self }
     {
-        self.sort.is_some() || self.skip.is_some() || self.limit.is_some()
+        self.sort.is_some()
+            || self.skip.is_some()
+            || self.limit.is_some()
+            || self.fields.is_some()
+            || self.without.is_some()
     }
 
     /// Whether each is among those that a row allows.
@@ -176,34 +209,43 @@ impl Options {
     fn with(self, given: Given) -> Option<Options>
         ensures { result ≡ added given self }
     {
-        match given {
-            Given::Canonical if !self.canonical => Some(Options {
+        let number = given.number;
+        match given.name {
+            OptionName::Canonical if !self.canonical => Some(Options {
                 canonical: true,
                 ..self
             }),
-            Given::Bytes if !self.bytes => Some(Options {
+            OptionName::Bytes if !self.bytes => Some(Options {
                 bytes: true,
                 ..self
             }),
-            Given::Lines if !self.lines => Some(Options {
+            OptionName::Lines if !self.lines => Some(Options {
                 lines: true,
                 ..self
             }),
-            Given::Many if !self.many => Some(Options { many: true, ..self }),
-            Given::Wait(seconds) if self.seconds.is_none() => Some(Options {
-                seconds: Some(seconds),
+            OptionName::Many if !self.many => Some(Options { many: true, ..self }),
+            OptionName::Wait if self.seconds.is_none() => Some(Options {
+                seconds: Some(number as u64),
                 ..self
             }),
-            Given::Sort(behind) if self.sort.is_none() => Some(Options {
-                sort: Some(behind),
+            OptionName::Sort if self.sort.is_none() => Some(Options {
+                sort: Some(number),
                 ..self
             }),
-            Given::Skip(count) if self.skip.is_none() => Some(Options {
-                skip: Some(count),
+            OptionName::Skip if self.skip.is_none() => Some(Options {
+                skip: Some(number),
                 ..self
             }),
-            Given::Limit(count) if self.limit.is_none() => Some(Options {
-                limit: Some(count),
+            OptionName::Limit if self.limit.is_none() => Some(Options {
+                limit: Some(number),
+                ..self
+            }),
+            OptionName::Fields if self.fields.is_none() => Some(Options {
+                fields: Some(number),
+                ..self
+            }),
+            OptionName::Without if self.without.is_none() => Some(Options {
+                without: Some(number),
                 ..self
             }),
             _ => None,

@@ -29,6 +29,8 @@ pub enum Argument {
     IndexPath,
     /// PATH: a file that isn't there.
     File,
+    /// DIR: the folder of a dump.
+    Folder,
 }
 
 /// What a command does to FILE.
@@ -53,6 +55,8 @@ pub enum Place {
     Session,
     /// On a command line, alone: it has no FILE.
     Alone,
+    /// On a command line of the script `fallowtime`, which does it by other commands.
+    Script,
 }
 
 /// Which options a command has beside `--wait`.
@@ -66,7 +70,7 @@ pub struct Allowed {
     pub lines: bool,
     /// `--many`.
     pub many: bool,
-    /// `--sort`, `--skip` and `--limit`.
+    /// `--sort`, `--skip`, `--limit`, `--fields` and `--without`.
     pub arranged: bool,
 }
 
@@ -99,46 +103,31 @@ const NO_OPTION: Allowed = Allowed {
 
 const CANONICAL: Allowed = Allowed {
     canonical: true,
-    bytes: false,
-    lines: false,
-    many: false,
-    arranged: false,
+    ..NO_OPTION
 };
 
 const PRINTED: Allowed = Allowed {
-    canonical: true,
     bytes: true,
-    lines: false,
-    many: false,
-    arranged: false,
+    ..CANONICAL
 };
 
 const FOUND: Allowed = Allowed {
-    canonical: true,
-    bytes: true,
-    lines: false,
-    many: false,
     arranged: true,
+    ..PRINTED
 };
 
 const LINES: Allowed = Allowed {
-    canonical: false,
-    bytes: false,
     lines: true,
-    many: false,
-    arranged: false,
+    ..NO_OPTION
 };
 
 const MANY: Allowed = Allowed {
-    canonical: false,
-    bytes: false,
-    lines: false,
     many: true,
-    arranged: false,
+    ..NO_OPTION
 };
 
 /// The commands, in the order of the help.
-pub const TABLE: [Signature; 20] = [
+pub const TABLE: [Signature; 23] = [
     Signature {
         command: Command::Insert,
         name: "insert",
@@ -295,7 +284,7 @@ pub const TABLE: [Signature; 20] = [
         options: NO_OPTION,
         effect: Effect::Reads,
         place: Place::Both,
-        about: "tests all of FILE, and prints how many documents it has",
+        about: "tests all of FILE, and counts its documents",
     },
     Signature {
         command: Command::Backup,
@@ -332,5 +321,32 @@ pub const TABLE: [Signature; 20] = [
         effect: Effect::Reads,
         place: Place::Alone,
         about: "prints which version this is",
+    },
+    Signature {
+        command: Command::ImportAll,
+        name: "import-all",
+        arguments: &[Argument::Folder],
+        options: NO_OPTION,
+        effect: Effect::Makes,
+        place: Place::Script,
+        about: "imports each COLL.bson of the folder of a dump",
+    },
+    Signature {
+        command: Command::ExportAll,
+        name: "export-all",
+        arguments: &[Argument::Folder],
+        options: NO_OPTION,
+        effect: Effect::Reads,
+        place: Place::Script,
+        about: "writes each collection into a folder",
+    },
+    Signature {
+        command: Command::Edit,
+        name: "edit",
+        arguments: &[Argument::Collection, Argument::Id],
+        options: NO_OPTION,
+        effect: Effect::Changes,
+        place: Place::Script,
+        about: "opens a document in $EDITOR",
     },
 ];

@@ -2,7 +2,7 @@
 
 ghost use Rattle.std.specs.Prelude.{◌≡◌, ◌↔◌, ◌∷◌, ℕ, List, Option, Some, IfSome, IsTrue, MatchOption, map, option_map, string_bytes};
 ghost use Rattle.fallowtime_words.specs.Commands.{command_name};
-ghost use Rattle.fallowtime_words.specs.Words.{Asked, session, HasRest, HasSort, IsFile, IsTask, Wait, asked_of, sort_text, word_before};
+ghost use Rattle.fallowtime_words.specs.Words.{Asked, session, HasRest, HasTexts, IsFile, IsTask, IsTold, Wait, asked_of, text_of, word_before};
 ghost use Rattle.fallowtime_words.specs.declared.command.Command.{Command};
 ghost use Rattle.fallowtime_words.specs.declared.options.Options.{Options};
 
@@ -24,6 +24,10 @@ pub struct Words<'a> {
     pub options: Options,
     /// The text of `--sort`, if that is given.
     pub sort: Option<&'a str>,
+    /// The text of `--fields`, if that is given.
+    pub fields: Option<&'a str>,
+    /// The text of `--without`, if that is given.
+    pub without: Option<&'a str>,
 }
 
 /// What the program is to do.
@@ -74,11 +78,11 @@ fn word_before(words: &[String], count: usize) -> Option<&str>
     }
 }
 
-/// The text of `--sort`.
-fn sort_text(words: &[String], options: Options) -> Option<&str>
-    ensures { option_map (λ t. t.now) result ≡ sort_text (map string_bytes words.now) options }
+/// The text of an option, by how many words are behind it, if it is given.
+fn text_of(words: &[String], behind: Option<usize>) -> Option<&str>
+    ensures { option_map (λ t. t.now) result ≡ text_of (map string_bytes words.now) behind }
 {
-    word_before(words, options.sort?)
+    word_before(words, behind?)
 }
 
 /// The line of a command over a file, by the words after the command.
@@ -86,7 +90,7 @@ fn read_line<'a>(file: &'a str, command: Command, words: &'a [String]) -> Option
     ensures { MatchOption result
         ((taken : List (List ℕ)) (options : Options) → HasRest command (map string_bytes words.now) taken options → ⊥)
         (λ w. (w.file.now ≡ file.now) × (w.command ≡ command)
-        × (option_map (λ t. t.now) w.sort ≡ sort_text (map string_bytes words.now) w.options)
+        × HasTexts (map string_bytes words.now) w
         × HasRest command (map string_bytes words.now) (map string_bytes w.arguments.now) w.options) }
 {
     let (arguments, options) = read_rest(command, words)?;
@@ -95,7 +99,9 @@ fn read_line<'a>(file: &'a str, command: Command, words: &'a [String]) -> Option
         command,
         arguments,
         options,
-        sort: sort_text(words, options),
+        sort: text_of(words, options.sort),
+        fields: text_of(words, options.fields),
+        without: text_of(words, options.without),
     })
 }
 
@@ -119,7 +125,7 @@ fn read_behind<'a>(file: &'a str, words: &'a [String]) -> Option<Task<'a>>
     ensures task { MatchOption result
         ((asked : Asked) → IsTask (file.now ∷ map string_bytes words.now) asked → ⊥)
         (λ task. IsTask (file.now ∷ map string_bytes words.now) (asked_of task)) }
-    ensures sort { IfSome result (HasSort (file.now ∷ map string_bytes words.now)) }
+    ensures texts { IfSome result (IsTold (file.now ∷ map string_bytes words.now)) }
 {
     match split_command(words) {
         Some((command, behind)) => Some(Task::Command(read_line(file, command, behind)?)),
@@ -137,7 +143,7 @@ pub fn read_words(words: &[String]) -> Option<Task<'_>>
         ((asked : Asked) → IsTask (map string_bytes words.now) asked → ⊥)
         (λ task. IsTask (map string_bytes words.now) (asked_of task)) }
     ensures only { (asked : Asked) → IsTask (map string_bytes words.now) asked → option_map asked_of result ≡ Some asked }
-    ensures sort { IfSome result (HasSort (map string_bytes words.now)) }
+    ensures texts { IfSome result (IsTold (map string_bytes words.now)) }
 {
     let (file, behind) = words.split_first()?;
     if !is_file(file.as_str()) {

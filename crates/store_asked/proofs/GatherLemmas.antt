@@ -1,15 +1,16 @@
 -- What was gathered, as the part of all documents that an arrangement has.
-use Rattle.std.proofs.Common.{◌≡◌, ◌∙◌, ◌+◌, ◌<◌, ℕ, List, [], ◌∷◌, ◌++◌, Vec, Bor, Option, Some, None, Result, Ok, Err, map, take, drop, length, get_or, refl, sym, ap, ap₂, subst}
+use Rattle.std.proofs.Common.{◌≡◌, ◌∙◌, ◌+◌, ◌<◌, ℕ, zero, suc, List, [], ◌∷◌, ◌++◌, Vec, Bor, Option, Some, None, Result, Ok, Err, map, take, drop, length, get_or, refl, sym, ap, ap₂, subst}
 use Rattle.std.specs.declared.alloc.Global.{Global}
 use Rattle.std.specs.Prelude.{IfOk, OnOk}
 use Rattle.std.specs.declared.alloc.AllocError.{AllocError}
-use Rattle.std.proofs.lemmas.List.{drop-map, map-append, take-map, take_more}
+use Rattle.std.proofs.lemmas.List.{map-append, take_more}
+use Rattle.std.specs.List.{AllZip}
 use Rattle.bson_base.specs.Value.{Members}
-use Rattle.bson_bytes.specs.Encode.{encode}
 use Rattle.store_model.specs.Reading.{Documents}
 use Rattle.store_model.specs.declared.error.StoreError.{StoreError}
 use Rattle.store_sorted.proofs.SortLemmas.{part_in_first, unmoved}
-use Rattle.store_sorted.specs.Bodies.{AreBodies, ArrangedBy, AreLent, keys_of}
+use Rattle.store_sorted.proofs.PlaceLemmas.{zip_take}
+use Rattle.store_sorted.specs.Bodies.{AreBodies, ArrangedBy, AreLent, IsBody, keys_of}
 use Rattle.store_sorted.specs.Held.{top_bodies, top_limit}
 use Rattle.store_sorted.specs.Order.{Sorts, cut}
 use Rattle.store_sorted.specs.declared.arrangement.Arrangement.{Arrangement}
@@ -48,24 +49,38 @@ one_whole first old w v (Err e) out more is took h = tt
 
 -- ---- parts
 
-cut_mapped : {X Y : Type 0} (f : X → Y) (skip : ℕ) (limit : Option ℕ) (xs : List X) → map f (cut skip limit xs) ≡ cut skip limit (map f xs)
-cut_mapped f skip None xs = sym (drop-map f skip xs)
-cut_mapped f skip (Some n) xs = sym (take-map f n (drop skip xs)) ∙ ap (take n) (sym (drop-map f skip xs))
+module _ {A B : Type 0} (R : A → B → Type 0) where
+  zip_drop : (n : ℕ) (xs : List A) (ys : List B) → AllZip R xs ys → AllZip R (drop n xs) (drop n ys)
+  zip_drop zero xs ys h = h
+  zip_drop (suc n) [] [] h = tt
+  zip_drop (suc n) [] (y ∷ ys) h = absurd h
+  zip_drop (suc n) (x ∷ xs) [] h = absurd h
+  zip_drop (suc n) (x ∷ xs) (y ∷ ys) h = zip_drop n xs ys h.1
 
-written : (bodies : List (Vec ℕ Global)) (ds : List Members) → AreBodies bodies ds → bytes_of_each bodies ≡ map encode ds
-written [] [] h = refl
-written [] (d ∷ ds) h = absurd h
-written (b ∷ bodies) [] h = absurd h
-written (b ∷ bodies) (d ∷ ds) h = ap₂ (λ x xs. x ∷ xs) h.0.written (written bodies ds h.1)
+  zip_cut : (skip : ℕ) (limit : Option ℕ) (xs : List A) (ys : List B) → AllZip R xs ys → AllZip R (cut skip limit xs) (cut skip limit ys)
+  zip_cut skip None xs ys h = zip_drop skip xs ys h
+  zip_cut skip (Some n) xs ys h = zip_take R n (drop skip xs) (drop skip ys) (zip_drop skip xs ys h)
+
+bodies_cut : (skip : ℕ) (limit : Option ℕ) (bodies : List (Vec ℕ Global)) (ds : List Members) → AreBodies bodies ds → AreBodies (cut skip limit bodies) (cut skip limit ds)
+bodies_cut = zip_cut (λ (b : Vec ℕ Global) d. IsBody b.items d)
+
+lent_cut : (skip : ℕ) (limit : Option ℕ) (bodies : List (Bor (List ℕ))) (ds : List Members) → AreLent bodies ds → AreLent (cut skip limit bodies) (cut skip limit ds)
+lent_cut = zip_cut (λ (b : Bor (List ℕ)) d. IsBody b.now d)
 
 abbrev pub seen : List (Bor (List ℕ)) → List (List ℕ)
 seen = map (λ (b : Bor (List ℕ)). b.now)
 
-lent_written : (bodies : List (Bor (List ℕ))) (ds : List Members) → AreLent bodies ds → seen bodies ≡ map encode ds
-lent_written [] [] h = refl
-lent_written [] (d ∷ ds) h = absurd h
-lent_written (b ∷ bodies) [] h = absurd h
-lent_written (b ∷ bodies) (d ∷ ds) h = ap₂ (λ x xs. x ∷ xs) h.0.written (lent_written bodies ds h.1)
+-- copies of bodies are bodies
+copied_bodies : (copies : List (Vec ℕ Global)) (part : List (Bor (List ℕ))) (es : List Members) → bytes_of_each copies ≡ seen part → AreLent part es → AreBodies copies es
+copied_bodies [] [] [] is h = tt
+copied_bodies [] [] (e ∷ es) is h = absurd h
+copied_bodies [] (b ∷ part) es is h = absurd cc
+copied_bodies (c ∷ copies) [] es is h = absurd cc
+copied_bodies (c ∷ copies) (b ∷ part) [] is h = absurd h
+copied_bodies (c ∷ copies) (b ∷ part) (e ∷ es) is h =
+    let first : b.now ≡ c.items = cc in
+    let rest : bytes_of_each copies ≡ seen part = cc in
+    (subst (λ (x : List ℕ). IsBody x e) first h.0, copied_bodies copies part es rest h.1)
 
 -- copies of bodies that are lent
 pub copy_more : (bodies : List (Bor (List ℕ))) (copies now : List (Vec ℕ Global)) (copy : Vec ℕ Global) (i : ℕ) (b : Bor (List ℕ)) → i < length bodies → now ≡ copies ++ copy ∷ [] → copy.items ≡ (get_or bodies i b).now
@@ -78,11 +93,11 @@ copy_more bodies copies now copy i b inside is same h =
 pub first_arranged : (a : Arrangement) (f : First) (ds : Documents) (bodies part : Vec (Vec ℕ Global) Global) → Holding a (held.First f) ds → bodies.items ≡ top_bodies f.top → part.items ≡ cut a.skip a.limit bodies.items → AreArranged a part ds
 first_arranged a f ds bodies part (n, limited, long, keyed, holds) held_is part_is =
     let all = holds.all in
-    let first : bytes_of_each bodies.items ≡ map encode (take (a.skip + n) all) = ap bytes_of_each held_is ∙ written (top_bodies f.top) (take (top_limit f.top) all) holds.are ∙ ap (λ k. map encode (take k all)) long in
+    let first : AreBodies bodies.items (take (a.skip + n) all) = subst (λ l. AreBodies l (take (a.skip + n) all)) (sym held_is) (subst (λ k. AreBodies (top_bodies f.top) (take k all)) long holds.are) in
     let within : cut a.skip a.limit (take (a.skip + n) all) ≡ cut a.skip a.limit all = ap (λ l. cut a.skip l (take (a.skip + n) all)) limited ∙ part_in_first a.skip n all ∙ ap (λ l. cut a.skip l all) (sym limited) in (
       cut a.skip a.limit all,
       record { all = all; sorts = subst (λ ks. Sorts ks ds all) keyed holds.sorts; part = refl },
-      ap bytes_of_each part_is ∙ cut_mapped (λ (v : Vec ℕ Global). v.items) a.skip a.limit bodies.items ∙ ap (cut a.skip a.limit) first ∙ sym (cut_mapped encode a.skip a.limit (take (a.skip + n) all)) ∙ ap (map encode) within,
+      subst (λ l. AreBodies l (cut a.skip a.limit all)) (sym part_is) (subst (AreBodies (cut a.skip a.limit bodies.items)) within (bodies_cut a.skip a.limit bodies.items (take (a.skip + n) all) first)),
     )
 
 -- all, as they came
@@ -90,7 +105,7 @@ pub whole_arranged : (a : Arrangement) (ds : Documents) (bodies part : Vec (Vec 
 whole_arranged a ds bodies part none are part_is = (
   cut a.skip a.limit ds,
   record { all = ds; sorts = subst (λ ks. Sorts ks ds ds) (sym none) (unmoved ds); part = refl },
-  ap bytes_of_each part_is ∙ cut_mapped (λ (v : Vec ℕ Global). v.items) a.skip a.limit bodies.items ∙ ap (cut a.skip a.limit) (written bodies.items ds are) ∙ sym (cut_mapped encode a.skip a.limit ds),
+  subst (λ l. AreBodies l (cut a.skip a.limit ds)) (sym part_is) (bodies_cut a.skip a.limit bodies.items ds are),
 )
 
 -- all, in order
@@ -98,7 +113,7 @@ sorted_arranged : (a : Arrangement) (ds es : Documents) (sorted part : List (Bor
 sorted_arranged a ds es sorted part copies sorts are part_is copied = (
   cut a.skip a.limit es,
   record { all = es; sorts = sorts; part = refl },
-  copied ∙ ap seen part_is ∙ cut_mapped (λ (b : Bor (List ℕ)). b.now) a.skip a.limit sorted ∙ ap (cut a.skip a.limit) (lent_written sorted es are) ∙ sym (cut_mapped encode a.skip a.limit es),
+  copied_bodies copies.items part (cut a.skip a.limit es) copied (subst (λ l. AreLent l (cut a.skip a.limit es)) (sym part_is) (lent_cut a.skip a.limit sorted es are)),
 )
 
 pub sorted_part : (a : Arrangement) (ds es : Documents) (sorted part : List (Bor (List ℕ))) (r : Result (Vec (Vec ℕ Global) Global) AllocError) → Sorts (keys_of a.keys.items) ds es → AreLent sorted es → part ≡ cut a.skip a.limit sorted

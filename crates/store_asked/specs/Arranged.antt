@@ -1,9 +1,7 @@
 -- What is gathered of documents, in an order and of that a part.
-use Rattle.std.specs.Prelude.{◌≡◌, ◌+◌, ℕ, List, map, Some, Vec}
+use Rattle.std.specs.Prelude.{◌≡◌, ◌+◌, ℕ, List, Some, Vec}
 use Rattle.std.specs.declared.alloc.Global.{Global}
 use Rattle.bson_base.specs.Value.{Members}
-use Rattle.bson_bytes.specs.Encode.{encode}
-use Rattle.bson_store.specs.Export.{bytes_of_each}
 use Rattle.store_model.specs.Reading.{Documents}
 use Rattle.store_sorted.specs.Bodies.{AreBodies, ArrangedBy, keys_of}
 use Rattle.store_sorted.specs.Held.{Holds, top_keys, top_limit}
@@ -12,9 +10,9 @@ use Rattle.store_asked.specs.declared.gathering.Gathering.{Gathering}
 use Rattle.store_asked.specs.declared.gathering.Held.{Held}
 use Rattle.store_asked.specs.declared.gathering.Held.TheVariants as held
 
--- the bodies are the written forms of what the arrangement makes of the documents
+-- the bodies are those of what the arrangement makes of the documents
 abbrev pub AreArranged : Arrangement → Vec (Vec ℕ Global) Global → Documents → Type 0
-AreArranged a bodies ds = (es : Documents) × ArrangedBy a ds es × (bytes_of_each bodies.items ≡ map encode es)
+AreArranged a bodies ds = (es : Documents) × ArrangedBy a ds es × AreBodies bodies.items es
 
 -- what is held are the first of the documents, as many as are skipped and taken; or all of them
 abbrev pub Holding : Arrangement → Held → Documents → Type 0

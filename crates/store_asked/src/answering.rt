@@ -31,6 +31,6 @@ impl<'a, T: Take> Take for Answering<'a, T> {
 
 impl<'a, T: Choose> Choose for Answering<'a, T> {
     fn chooses(&self, document: RawDocument<'_>) -> bool {
-        answers(document, self.question)
+        answers(document, self.question) && self.taker.chooses(document)
     }
 }

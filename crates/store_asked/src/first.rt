@@ -27,7 +27,7 @@ impl<'a> Take for First<'a> {
 }
 
 impl<'a> Choose for First<'a> {
-    fn chooses(&self, _document: RawDocument<'_>) -> bool {
-        true
+    fn chooses(&self, document: RawDocument<'_>) -> bool {
+        self.top.would_hold(document)
     }
 }

@@ -83,8 +83,11 @@ impl<'a> Take for Gathering<'a> {
 }
 
 impl<'a> Choose for Gathering<'a> {
-    fn chooses(&self, _document: RawDocument<'_>) -> bool {
-        true
+    fn chooses(&self, document: RawDocument<'_>) -> bool {
+        match &self.held {
+            Held::First(first) => first.chooses(document),
+            Held::All(_) => true,
+        }
     }
 }
 

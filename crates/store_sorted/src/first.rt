@@ -39,6 +39,14 @@ impl<'a> TopN<'a> {
         }
     }
 
+    /// Whether a document is held once it is taken. One that isn't leaves all as it is.
+    pub fn would_hold(&self, document: RawDocument<'_>) -> bool
+        ensures { (ds : List Members) → Holds self.now ds → OfBody (bytes_of document.entry)
+            (λ d. (IsTrue result → ⊥) → Holds self.now (ds ++ d ∷ [])) }
+    {
+        place_for(self.bodies.as_slice(), document.as_bytes(), self.keys) < self.limit
+    }
+
     /// Takes a document, which is held if it is among the first. Those that no key tells apart stay in the order in
     /// which they were taken. The error is a refused growth; what is held then may lack its last one.
     pub fn take(&mut self, document: RawDocument<'_>) -> Result<(), AllocError>

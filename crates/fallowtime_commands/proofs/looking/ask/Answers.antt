@@ -10,7 +10,7 @@ returns-in-Get-clause-reads g c =
 
 pub returns-in-Find-clause-reads : goal.returns-in-Find-clause-reads
 returns-in-Find-clause-reads g c =
-    if_told c.told-in-Find.result c.documents.result (λ o. Reads g.P.Pages c.args.store.now c.look_up_arranged.new.store (Performs c.args.name.now c.args.request.now o)) c.told-in-Find.ensures (rw (c.in-Find.is, c.documents.ensures.reply) (λ clean docs are. (c.look_up_arranged.result, refl, c.look_up_arranged.ensures.reads clean docs are)))
+    if_told c.told-in-Find.result c.documents.result (λ o. Reads g.P.Pages c.args.store.now c.look_up_wanted.new.store (Performs c.args.name.now c.args.request.now o)) c.told-in-Find.ensures (rw (c.in-Find.is, c.documents.ensures.reply) (λ clean docs are. (c.look_up_wanted.result, refl, c.look_up_wanted.ensures.reads clean docs are)))
 
 pub returns-in-Count-clause-reads : goal.returns-in-Count-clause-reads
 returns-in-Count-clause-reads g c =

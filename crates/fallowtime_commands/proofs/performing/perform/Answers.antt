@@ -51,7 +51,7 @@ returns-in-Remove-clause-crash g c = rw (c.in-Remove.is, c.nothing-in-Remove.ens
 
 pub returns-in-Find-clause-moves : goal.returns-in-Find-clause-moves
 returns-in-Find-clause-moves g c =
-    rw (c.in-Find.is, c.documents.ensures.reply) (found c.args.name.now (form_of c.in-Find.question) c.in-Find.arrangement (store_state g.S.Store c.args.store.now) (store_state g.S.Store c.find_arranged.new.store) c.find_arranged.result c.find_arranged.ensures.moves)
+    rw (c.in-Find.is, c.documents.ensures.reply) (found c.args.name.now (form_of c.in-Find.question) c.in-Find.wanted (store_state g.S.Store c.args.store.now) (store_state g.S.Store c.find_wanted.new.store) c.find_wanted.result c.find_wanted.ensures.moves)
 
 pub returns-in-Count-clause-moves : goal.returns-in-Count-clause-moves
 returns-in-Count-clause-moves g c =

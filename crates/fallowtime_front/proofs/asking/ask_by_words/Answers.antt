@@ -1,20 +1,20 @@
 use Rattle.std.proofs.lemmas.Result.{err_from_is_err_and}
-use Rattle.fallowtime_front.proofs.AskingLemmas.{by_memory, by_question, by_stop}
+use Rattle.fallowtime_front.proofs.AskingLemmas.{by_question, by_stop, by_wanted}
 use Rattle.fallowtime_front.proofs.asking.ask_by_words.Goals as goal
 
 pub returns : goal.returns
 returns c =
-    by_question c.args.words.now c.args.maker.now c.question_of_words.new.maker c.in_ok-question.question c.arrange.new.question c.without_lines.result c.with_many-request.result c.in_ok-question.ensures.asked
-    (c.in_ok-arrangement.arrangement, c.in_ok-arrangement.ensures, c.arrange.ensures.request) c.arrange.ensures.collection c.without_lines.ensures.collection c.with_many-request.ensures c.without_lines.ensures.request c.without_lines.ensures.lines
+    by_question c.args.words.now c.args.maker.now c.question_of_words.new.maker c.in_ok-question.question c.want.new.question c.without_lines.result c.with_many-request.result c.in_ok-question.ensures.asked
+    (c.in_ok-wanted.wanted, c.in_ok-wanted.ensures, c.want.ensures.request) c.want.ensures.collection c.without_lines.ensures.collection c.with_many-request.ensures c.without_lines.ensures.request c.without_lines.ensures.lines
 
 pub returns-in_err-question : goal.returns-in_err-question
 returns-in_err-question c =
-    let p = err_from_is_err_and c.from_residual.result c.from_residual.ensures.1 in
+    let p = err_from_is_err_and c.from_residual-in_err-question.result c.from_residual-in_err-question.ensures.1 in
     rw p.1 (
-    by_stop c.args.words.now c.args.maker.now c.question_of_words.new.maker c.in_err-question.field-0.0 p.0 c.in_err-question.ensures.asked (c.in_err-question.ensures.maker c.requires) p.2
+    by_stop c.args.words.now c.args.maker.now c.question_of_words.new.maker c.in_ok-wanted.wanted c.in_err-question.field-0.0 p.0 c.in_ok-wanted.ensures c.in_err-question.ensures.asked (c.in_err-question.ensures.maker c.requires) p.2
     )
 
-pub returns-in_err-arrangement : goal.returns-in_err-arrangement
-returns-in_err-arrangement c =
-    let p = err_from_is_err_and c.from_residual-in_err-arrangement.result c.from_residual-in_err-arrangement.ensures.1 in
-    rw p.1 (by_memory c.args.words.now c.args.maker.now c.question_of_words.new.maker c.in_err-arrangement.field-0.0 p.0 c.in_err-arrangement.ensures p.2)
+pub returns-in_err-wanted : goal.returns-in_err-wanted
+returns-in_err-wanted c =
+    let p = err_from_is_err_and c.from_residual.result c.from_residual.ensures.1 in
+    rw p.1 (by_wanted c.args.words.now c.args.maker.now c.in_err-wanted.field-0.0 p.0 c.in_err-wanted.ensures p.2)

@@ -23,10 +23,10 @@ keeps m n Memory same = tt
 
 pub returns-clause-asked : goal.returns-clause-asked
 returns-clause-asked c =
-    rw (c.arrange.ensures.collection, c.arrange.ensures.layout) (c.in_ok-question.question.request, c.in_ok-arrangement.arrangement, c.in_ok-question.ensures.asked, c.in_ok-arrangement.ensures, c.arrange.ensures.request)
+    rw (c.want.ensures.collection, c.want.ensures.layout) (c.in_ok-question.question.request, c.in_ok-wanted.wanted, c.in_ok-question.ensures.asked, c.in_ok-wanted.ensures, c.want.ensures.request)
 
-pub returns-in_err-arrangement-clause-maker : goal.returns-in_err-arrangement-clause-maker
-returns-in_err-arrangement-clause-maker c =
-    let p = err_from_is_err_and c.from_residual-in_err-arrangement.result c.from_residual-in_err-arrangement.ensures.1 in
+pub returns-in_err-wanted-clause-maker : goal.returns-in_err-wanted-clause-maker
+returns-in_err-wanted-clause-maker c =
+    let p = err_from_is_err_and c.from_residual-in_err-wanted.result c.from_residual-in_err-wanted.ensures.1 in
     let q = c.in_ok-question.question in
     rw p.1 (keeps c.args.maker.now c.question_of_items.new.maker p.0 (same_maker c.args.maker.now c.question_of_items.new.maker _ q.collection.now q.request q.layout c.in_ok-question.ensures.asked))

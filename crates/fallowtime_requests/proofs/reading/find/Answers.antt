@@ -6,4 +6,4 @@ use Rattle.fallowtime_requests.proofs.AskLemmas.{asks}
 use Rattle.fallowtime_requests.proofs.reading.find.Goals as goal
 
 pub returns : goal.returns
-returns c = λ m. asks m m command.Find (map seen c.args.arguments.now) c.plain.result c.in_ok-collection.collection (request.Find c.in_ok-collection.query c.whole_of.result) c.plain.ensures (c.in_ok-collection.ensures m, c.whole_of.ensures, refl, refl)
+returns c = λ m. asks m m command.Find (map seen c.args.arguments.now) c.plain.result c.in_ok-collection.collection (request.Find c.in_ok-collection.query c.all_of.result) c.plain.ensures (c.in_ok-collection.ensures m, c.all_of.ensures, refl, refl)

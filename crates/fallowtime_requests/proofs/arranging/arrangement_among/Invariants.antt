@@ -1,7 +1,0 @@
-use Rattle.std.proofs.Common.{◌↔◌, drop}
-use Rattle.json.specs.Value.{members_view}
-use Rattle.fallowtime_requests.specs.Arranging.{Plan, PutsOptions, plan_of, whole}
-use Rattle.fallowtime_requests.proofs.arranging.arrangement_among.Given as goal
-
-abbrev pub invariant-loop-name : goal.invariant-loop-name
-invariant-loop-name l = (q : Plan) → PutsOptions whole (members_view l.members) q ↔ PutsOptions (plan_of l.arrangement) (members_view (drop l.name-index l.members)) q

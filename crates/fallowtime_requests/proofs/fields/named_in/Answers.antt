@@ -1,0 +1,12 @@
+use Rattle.std.proofs.Common.{◌≡◌, ◌⊎◌, Some, None, sym, subst}
+use Rattle.std.specs.Prelude.{MatchResult}
+use Rattle.fallowtime_requests.specs.Fields.{marked_of, marked_under}
+use Rattle.fallowtime_requests.specs.declared.stop.Stop.TheVariants.{Memory, Words}
+use Rattle.fallowtime_requests.specs.declared.unread.Unread.TheVariants as unread
+use Rattle.fallowtime_requests.proofs.OptionLemmas.{object_seen}
+use Rattle.fallowtime_requests.proofs.fields.named_in.Goals as goal
+
+pub returns-in-Object : goal.returns-in-Object
+returns-in-Object c =
+    let seen = object_seen c.args.value.now c.in-Object.members c.as_slice.result.now c.in-Object.is c.as_slice.ensures.value in
+    subst (λ j. MatchResult c.named_among.result (λ named. marked_under j ≡ Some (marked_of named)) (λ s. (s ≡ Memory) ⊎ ((s ≡ Words unread.Options) × (marked_under j ≡ None)))) (sym seen) c.named_among.ensures
