@@ -33,7 +33,7 @@ _fallowtime_files() {
 
 _fallowtime() {
     local word=${COMP_WORDS[COMP_CWORD]} before=${COMP_WORDS[COMP_CWORD - 1]} options=--wait front
-    local commands=(insert put replace get set unset update replace-one delete remove find count import export collections check backup)
+    local commands=(insert put replace get set unset update replace-one delete remove find count import export collections check backup import-all export-all edit)
     COMPREPLY=()
     if [ "$COMP_CWORD" -eq 1 ]; then
         case $word in -*) _fallowtime_among "$word" --help --version --explain ;; *) _fallowtime_files "$word" ;; esac
@@ -59,26 +59,28 @@ _fallowtime() {
     case ${COMP_WORDS[2]} in
     insert) front=5 options="--canonical --wait" ;;
     put | replace | remove) front=5 ;;
-    get) front=5 options="--canonical --bson --wait" ;;
+    get) front=5 options="--canonical --bson --pretty --wait" ;;
     set) front=7 ;;
     unset) front=6 ;;
     update) front=6 options="--many --wait" ;;
     replace-one) front=6 ;;
     delete) front=5 options="--many --wait" ;;
-    find) front=4 options="--sort --skip --limit --canonical --bson --wait" ;;
+    find) front=4 options="--sort --skip --limit --fields --without --canonical --bson --pretty --wait" ;;
     count) front=4 ;;
     import) front=4 options="--json --wait" ;;
-    export | backup) front=4 ;;
+    edit) front=5 ;;
+    export | backup | import-all | export-all) front=4 ;;
     collections | check) front=3 ;;
     *) return ;;
     esac
-    case $before in --wait | --sort | --skip | --limit) [ "$COMP_CWORD" -le "$front" ] || return ;; esac
+    case $before in --wait | --sort | --skip | --limit | --fields | --without) [ "$COMP_CWORD" -le "$front" ] || return ;; esac
     if [ "$COMP_CWORD" -ge "$front" ]; then
         # shellcheck disable=SC2086
         _fallowtime_among "$word" $options
+        case ${COMP_WORDS[2]},$COMP_CWORD,$word in import,4,-*) ;; import,4,*) _fallowtime_files "$word" ;; esac
     elif [ "$COMP_CWORD" -eq 3 ]; then
         case ${COMP_WORDS[2]} in
-        backup) _fallowtime_files "$word" ;;
+        backup | import-all | export-all) _fallowtime_files "$word" ;;
         *) _fallowtime_collections "$1" "${COMP_WORDS[1]}" "$word" ;;
         esac
     fi

@@ -57,10 +57,12 @@ function __fallowtime_complete
     switch $place
         case COLL
             __fallowtime_collections $program $words[2]
-        case PATH FILE DIR '[FILE]'
+        case PATH FILE DIR
             __fish_complete_path $word
+        case '[INPUT]'
+            string match -q -- '-*' $word; and __fallowtime_options $program $words[3]; or __fish_complete_path $word
         case ''
-            contains -- "$words[-1]" --wait --sort --skip --limit; or __fallowtime_options $program $words[3]
+            contains -- "$words[-1]" --wait --sort --skip --limit --fields --without; or __fallowtime_options $program $words[3]
         case '[*'
             string match -q -- '-*' $word; and __fallowtime_options $program $words[3]
     end

@@ -48,8 +48,9 @@ _fallowtime() {
         place=${places[CURRENT - 3]-}
         case $place in
         'COLL') _fallowtime_collections ;;
-        'PATH' | 'FILE' | 'DIR' | '[FILE]') _files ;;
-        '') [[ ${words[CURRENT - 1]} = --(wait|sort|skip|limit) ]] || _fallowtime_options ;;
+        'PATH' | 'FILE' | 'DIR') _files ;;
+        '[INPUT]') if [[ $word = -* ]]; then _fallowtime_options; else _files; fi ;;
+        '') [[ ${words[CURRENT - 1]} = --(wait|sort|skip|limit|fields|without) ]] || _fallowtime_options ;;
         *)
             if [[ $place = '['* && $word = -* ]]; then _fallowtime_options; else _message $place; fi
             ;;

@@ -13,7 +13,7 @@ proved_folder=$root/crates/$crate/out
 installed_folder=$root/program
 
 # A line on standard error, or one that is only for the eye.
-note() { echo "$name: $1" >&2; }
+note() { printf '%s\n' "$name: $1" >&2; }
 say() { if [ -t 2 ]; then note "$1"; fi; }
 
 # Sets `waiting` to the number of words in front of FILE: the two of --wait SECONDS, or none.

@@ -49,13 +49,13 @@ def closing(tokens, at):
 
 
 def body_of(tokens, at):
-    """The places of the braces of the body of the function whose `fn` stands at `at`, or None if it has none, or keeps it: what has a
-    clause with a star is proved by its body's form."""
+    """The places of the braces of the body of the function whose `fn` stands at `at`, which are one if a trait declares it without
+    a body, or None if it keeps its body: what has a clause with a star is proved by its body's form."""
     in_clause, starred = False, False
     while True:
         text = tokens[at].group()
         if text == ";":
-            return None
+            return at, at
         starred = starred or text in CLAUSES and tokens[at + 1].group() == "*"
         if text in CLAUSES:
             in_clause = True
@@ -85,6 +85,9 @@ def without_bodies(text):
             at = found[1] if found else at + 1
             continue
         opening, end = found
+        if opening == end:
+            at = end
+            continue
         made += [text[kept:tokens[opening].end()], f"\n    crate::{NEVER}::never();\n    unreachable!()\n", "}"]
         kept, at = tokens[end - 1].end(), end
     return CYCLE.sub("", "".join(made) + text[kept:]), names

@@ -1,0 +1,232 @@
+# shellcheck shell=sh disable=SC2086,SC2154
+# What the script fallowtime does beside the program: it lays out what is printed at a terminal, opens the file that is imported, walks
+# the folder of a dump, starts an editor and a prompt. It calls the program for each step, whose words are the program's affair, and so
+# are refusals. It is read by `.`, behind tools/program.sh, with `root`, and `program` set.
+fail() { note "$1"; exit 1; }
+
+# Whether the terminal has colours, and they are wanted.
+has_colours() {
+    [ -z "${NO_COLOR-}" ] && [ "${TERM:-dumb}" != dumb ] && [ "$(tput colors 2>/dev/null || echo 8)" -ge 8 ]
+}
+
+# Lays out lines of JSON, for a terminal if standard output is one.
+lay_out() {
+    set --
+    if [ -t 1 ]; then
+        set -- -v terminal=1
+        ! has_colours || set -- -v terminal=1 -v colours=1
+    fi
+    LC_ALL=C awk "$@" -f "$root/tools/layout.awk"
+}
+
+# Prints what `find` and `get` print laid out, at a terminal or if the words have the option --pretty, which the program hasn't.
+lay_out_found() {
+    case " $* " in *" --pretty "*) ;; *) [ -t 1 ] || return 0 ;; esac
+    is_wanted=
+    is_bytes=
+    options=4
+    [ "$2" = find ] || options=5
+    place=0
+    option=
+    for word do
+        shift
+        place=$((place + 1))
+        if [ "$place" -ge "$options" ] && [ -z "$option" ]; then
+            case $word in
+            --pretty) is_wanted=yes; continue ;;
+            --bson) is_bytes=yes ;;
+            --sort | --skip | --limit | --fields | --without | --wait) option=$word ;;
+            esac
+        else
+            option=
+        fi
+        set -- "$@" "$word"
+    done
+    # Bytes aren't laid out: the program knows no --pretty, and refuses it.
+    case $is_wanted,$is_bytes in yes,yes) run "$@" --pretty ;; ,yes) return 0 ;; esac
+    [ -n "$is_wanted" ] || [ -t 1 ] || return 0
+    { status=$({ { "$program" "$@" 3>&- 4>&-; echo "$?" >&3; } | lay_out >&4 3>&- 4>&-; } 3>&1); } 4>&1
+    exit "${status:-1}"
+}
+
+# Whether the words are so many, or two more, --wait and a number, which `wait` then is.
+has_words() {
+    wanted=$1
+    shift
+    wait=
+    [ $# -ne "$wanted" ] || return 0
+    [ $# -eq $((wanted + 2)) ] || return
+    shift "$wanted"
+    case $1,$2 in --wait, | --wait,*[!0-9]*) return 1 ;; --wait,*) wait="--wait $2" ;; *) return 1 ;; esac
+}
+
+# Makes standard input the file that is to be imported.
+open_input() {
+    [ ! -d "$1" ] || fail "$1 is a folder: import-all takes all of a dump's folder"
+    [ -e "$1" ] || fail "$1 isn't there"
+    # (where that fails, the shell would end)
+    { command exec <"$1"; } 2>/dev/null || fail "$1 can't be read"
+}
+
+# If standard input is a file whose text begins with a bracket, an array of documents, makes it lines of these.
+open_items() {
+    [ -f /dev/stdin ] || return 0
+    case $(head -c 4096 /dev/stdin 2>/dev/null | tr -d ' \t\r\n\000' | head -c 1) in "[") ;; *) return 0 ;; esac
+    lines=$(mktemp) || fail "no file can be made among the temporary files"
+    tr '\000' '\001' | LC_ALL=C awk -f "$root/tools/items.awk" >"$lines" || { rm -f "$lines"; fail "$lines can't be written"; }
+    exec <"$lines"
+    rm -f "$lines"
+}
+
+# Imports from a file that is named behind the collection: of JSON, if its name says so.
+import_file() {
+    [ $# -ge 3 ] || return 0
+    store=$1
+    collection=$3
+    shift 3
+    file=-
+    case ${1---} in --*) ;; *) file=$1; shift ;; esac
+    [ "$file" = - ] || open_input "$file"
+    case $file," $* " in
+    *,*" --json "*) ;;
+    *.json,* | *.jsonl,* | *.ndjson,*) set -- "$@" --json ;;
+    esac
+    case " $* " in *" --json "*) open_items ;; esac
+    [ ! -t 0 ] || say "documents are read from the terminal, until Ctrl-D; import COLL FILE reads a file"
+    run "$store" import "$collection" "$@"
+}
+
+# The name of a file as mongodump makes it of a collection's: what stands for something else in a path is % and two digits, and so is a
+# dot in front, by which a file is hidden.
+name_of_file() {
+    printf '%s\n' "$1" | LC_ALL=C awk '
+        BEGIN { for (i = 1; i < 256; i++) escaped[sprintf("%c", i)] = sprintf("%%%02X", i) }
+        {
+            for (i = 1; i <= length($0); i++) {
+                mark = substr($0, i, 1)
+                name = name (mark ~ /[A-Za-z0-9_~$&+=:@-]/ || mark == "." && i > 1 ? mark : escaped[mark])
+            }
+            print name
+        }'
+}
+name_of_collection() {
+    printf '%s\n' "$1" | LC_ALL=C awk '
+        BEGIN { for (i = 1; i < 256; i++) byte[sprintf("%%%02X", i)] = byte[sprintf("%%%02x", i)] = sprintf("%c", i) }
+        {
+            while (place = index($0, "%")) {
+                digits = substr($0, place, 3)
+                name = name substr($0, 1, place - 1) (digits in byte ? byte[digits] : digits)
+                $0 = substr($0, place + 3)
+            }
+            print name $0
+        }'
+}
+
+# Fails if a folder has no file that import-all takes, or one that it can't take.
+see_dump() {
+    [ -d "$1" ] || fail "$1 is no folder"
+    for file in "$1"/*.bson.gz; do
+        [ ! -e "$file" ] || fail "$file is packed: gunzip $1/*.gz unpacks all"
+    done
+    for file in "$1"/*.bson; do
+        [ ! -e "$file" ] || [ -r "$file" ] || fail "$file can't be read"
+        [ ! -e "$file" ] || return 0
+    done
+    for file in "$1"/*/*.bson; do
+        [ ! -e "$file" ] || fail "$1 has no .bson, but ${file%/*} has: a dump has a folder for each database"
+    done
+    fail "$1 has no .bson"
+}
+
+# Puts the documents of each COLL.bson of a folder into the collection of that name, and prints the names and how many these are.
+import_all() {
+    store=$1
+    folder=${3%/}
+    see_dump "$folder"
+    for file in "$folder"/*.bson; do
+        collection=${file##*/}
+        collection=$(name_of_collection "${collection%.bson}")
+        count=$("$program" "$store" import "$collection" $wait <"$file") || {
+            status=$?
+            note "$file isn't in, and nothing behind it; what is listed is in"
+            exit "$status"
+        }
+        printf '%s %s\n' "$collection" "$count"
+    done
+    exit 0
+}
+
+# What mongorestore reads beside the documents: the name of the collection, and its index, which every one has.
+print_metadata() {
+    printf '{"options":{},"indexes":[{"v":{"$numberInt":"2"},"key":{"_id":{"$numberInt":"1"}},"name":"_id_"}],"collectionName":"%s","type":"collection"}\n' \
+        "$(printf '%s\n' "$1" | sed 's/[\\"]/\\&/g')"
+}
+
+# Writes each collection into a folder as COLL.bson, with COLL.metadata.json, all as they are at one moment, and prints the names and how
+# many documents these are. No file is written over.
+export_all() {
+    store=$1
+    folder=${3%/}
+    [ -e "$store" ] || exec "$program" "$store" collections
+    [ -d "$folder" ] || mkdir -- "$folder" 2>/dev/null || fail "the folder $folder can't be made"
+    work=$(mktemp -d "$folder/.export.XXXXXX" 2>/dev/null) || fail "no file can be made in $folder"
+    trap 'rm -rf "$work"' EXIT
+    trap 'exit 129' HUP
+    trap 'exit 130' INT
+    trap 'exit 143' TERM
+    "$program" "$store" backup "$work/store.db" $wait && "$program" "$work/store.db" collections >"$work/names" || exit
+    while IFS= read -r collection; do
+        case $collection in \"*) fail "the collection $collection has no name that a file could have: export writes it" ;; esac
+        file=$(name_of_file "$collection")
+        for ending in bson metadata.json; do
+            [ ! -e "$folder/$file.$ending" ] || fail "$folder/$file.$ending is there already"
+        done
+        "$program" "$work/store.db" export "$collection" >"$work/$file.bson" || exit
+        print_metadata "$collection" >"$work/$file.metadata.json" || exit
+    done <"$work/names"
+    while IFS= read -r collection; do
+        file=$(name_of_file "$collection")
+        mv "$work/$file.metadata.json" "$work/$file.bson" "$folder" || exit
+        printf '%s %s\n' "$collection" "$("$program" "$work/store.db" count "$collection")"
+    done <"$work/names"
+    exit 0
+}
+
+# What was written in the editor stays in a file, which is named.
+keep() {
+    trap - EXIT
+    rm -f "$work"/new.db*
+    [ -z "${1-}" ] || note "$1"
+    fail "nothing was changed; what you wrote is in $work/document.json"
+}
+
+# Opens a document in the editor, as canonical Extended JSON, and puts what comes of it in its place. That it is a document with the
+# same _id is seen by a store of its own.
+edit() {
+    store=$1
+    collection=$3
+    id=$4
+    old=$("$program" "$store" get "$collection" "$id" --canonical) || exit
+    work=$(mktemp -d) || fail "no folder can be made among the temporary files"
+    trap 'rm -rf "$work"' EXIT
+    printf '%s\n' "$old" | lay_out >"$work/document.json"
+    # (a word for a program has at most 128 KiB)
+    [ "$(wc -c <"$work/document.json")" -lt 120000 ] || fail "the document has more than 120 kB: export and import take it"
+    sh -c "${VISUAL:-${EDITOR:-vi}} \"\$1\"" sh "$work/document.json" || keep "the editor ended with status $?"
+    new=$(cat "$work/document.json")
+    "$program" "$work/new.db" put edited "$new" || keep
+    found=$("$program" "$work/new.db" get edited "$id" --canonical 2>/dev/null) || keep "the _id of a document stays"
+    [ "$found" != "$old" ] || exit 0
+    [ "$("$program" "$store" get "$collection" "$id" --canonical)" = "$old" ] || keep "the document was changed meanwhile"
+    "$program" "$store" replace "$collection" "$new" $wait || keep
+    exit 0
+}
+
+# Ends as the prompt does, if there is a terminal to read from: by bash, which lets lines be edited, if it is here.
+start_prompt() {
+    [ -t 0 ] && [ -t 1 ] || return 0
+    case $1 in */* | *.*) ;; *) [ -e "$1" ] || return 0 ;; esac
+    shell='sh'
+    ! command -v bash >/dev/null || shell=bash
+    exec "$shell" "$root/tools/prompt.sh" "$root" "$@"
+}
