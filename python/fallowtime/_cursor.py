@@ -9,7 +9,7 @@ from ._distinct import distinct_values
 from ._errors import InvalidOperation
 from ._explain import plan_of
 from ._part import Part, keys_of
-from ._projection import Projection
+from ._projection import WHOLE_DOCUMENTS, Projection
 
 if TYPE_CHECKING:
     from ._indexing import Indexing
@@ -103,15 +103,21 @@ class Cursor(CommandCursor):
     __slots__ = ("_select", "_project", "_part")
 
     def __init__(self, collection: "Indexing", select: "Selection", project: Projection, part: Part) -> None:
-        super().__init__(collection, lambda: select(self._part))
+        super().__init__(collection, lambda: self._selected(self._part))
         self._select, self._project, self._part = select, project, part
 
+    def _selected(self, part: Part) -> List[Any]:
+        """The trees of the documents of a part: of their fields alone, unless they come by their `_id`."""
+        fields = self._project.fields
+        return self._select(part.but(fields=fields) if fields and not self._select.is_one_look else part)
+
     def _made(self, fetched: Any) -> Document:
-        return self._project(self._collection._decoder.document(fetched))
+        document = self._collection._decoder.document(fetched)
+        return self._project(document) if self._select.is_one_look else document
 
     def _fetched(self, part: Part) -> List[Document]:
         """All documents of a part."""
-        return [self._made(tree) for tree in self._select(part)]
+        return [self._made(tree) for tree in self._selected(part)]
 
     def _with(self, **changed: Any) -> "Cursor":
         if self._is_begun:
@@ -160,7 +166,7 @@ class Cursor(CommandCursor):
 
     def distinct(self, key: str) -> List[Any]:
         """The different values at a path of all documents of the query, whatever the part."""
-        whole = Cursor(self._collection, self._select, lambda document: document, Part())
+        whole = Cursor(self._collection, self._select, WHOLE_DOCUMENTS, Part())
         return distinct_values(whole, key)
 
     def explain(self) -> Dict[str, Any]:

@@ -1,4 +1,4 @@
-"""Which of the documents that a query selects are wanted, and in which order."""
+"""Which of the documents that a query selects are wanted, in which order, and which fields of them."""
 from __future__ import annotations
 
 from collections.abc import Mapping
@@ -11,12 +11,14 @@ from ._errors import EMPTY_KEY, OperationFailure
 
 
 class Part:
-    """An order, how many documents are left out at the beginning, and how many are wanted at the most, 0 for all."""
+    """An order, how many documents are left out at the beginning, and how many are wanted at the most, 0 for all. Of
+    each the fields at paths with 1, or all but those with 0."""
 
-    __slots__ = ("keys", "skip", "limit")
+    __slots__ = ("keys", "skip", "limit", "fields")
 
-    def __init__(self, sort: Any = None, skip: int = 0, limit: int = 0) -> None:
-        self.keys = keys_of(sort)
+    def __init__(self, sort: Any = None, skip: int = 0, limit: int = 0,
+                 fields: Optional[Dict[str, int]] = None) -> None:
+        self.keys, self.fields = keys_of(sort), fields or {}
         self.skip, self.limit = _number("skip", skip), abs(_number("limit", limit))
 
     def first(self) -> "Part":
@@ -25,15 +27,14 @@ class Part:
 
     def but(self, **changed: Any) -> "Part":
         """The same, except for what is named."""
-        options: Dict[str, Any] = {"sort": self.keys, "skip": self.skip, "limit": self.limit, **changed}
-        return Part(**options)
+        options: Dict[str, Any] = {"sort": self.keys, "skip": self.skip, "limit": self.limit, "fields": self.fields}
+        return Part(**{**options, **changed})
 
     def text(self) -> str:
-        """It as the program reads it: `{"sort":{"a":1},"skip":1,"limit":1}`; empty if all documents are wanted as they
-        came."""
-        parts = []
-        if self.keys:
-            parts.append('"sort":{%s}' % ",".join(f"{encode_text(path)}:{way}" for path, way in self.keys.items()))
+        """It as the program reads it: `{"sort":{"a":1},"fields":{"b":0},"skip":1,"limit":1}`; empty if all documents
+        are wanted as they came."""
+        named = (("sort", self.keys), ("fields", self.fields))
+        parts = [f'"{name}":{{{_paths_text(paths)}}}' for name, paths in named if paths]
         parts.extend(f'"{name}":{number}' for name, number in (("skip", self.skip), ("limit", self.limit)) if number)
         return "{%s}" % ",".join(parts) if parts else ""
 
@@ -45,6 +46,10 @@ class Part:
         """How many of so many documents are in the part."""
         left = max(0, number - self.skip)
         return min(left, self.limit) if self.limit else left
+
+
+def _paths_text(paths: Dict[str, int]) -> str:
+    return ",".join(f"{encode_text(path)}:{number}" for path, number in paths.items())
 
 
 def keys_of(sort: Any, direction: Optional[int] = 1) -> Dict[str, int]:

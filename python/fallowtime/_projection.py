@@ -1,5 +1,5 @@
-"""The parts of documents that are wanted, by paths: those that are named, or all others. They are taken here from the
-documents that come whole from the program."""
+"""The fields of documents that are wanted, by paths: those that are named, or all others. The program takes them where
+it looks for documents (`find`), and this module where a document comes whole: by its `_id`, or as it is changed."""
 from __future__ import annotations
 
 from collections.abc import Mapping
@@ -10,29 +10,46 @@ from ._errors import COLLISION, OperationFailure
 from ._query import is_number
 
 Document = Dict[str, Any]
-Projection = Callable[[Document], Document]
 # Which paths are named, as a tree of their keys; None ends one.
 Paths = Dict[str, Any]
 
 
+class Projection:
+    """What is wanted of documents."""
+
+    __slots__ = ("fields", "_take")
+
+    def __init__(self, fields: Dict[str, int], take: Callable[[Document], Document]) -> None:
+        # As the program reads it: the paths, with 1 at those that are wanted and 0 at the others; empty for all.
+        self.fields = fields
+        self._take = take
+
+    def __call__(self, document: Document) -> Document:
+        """What is wanted of a whole document."""
+        return self._take(document)
+
+
 def projection_of(asked: Any) -> Projection:
-    """What makes of a document the one that is wanted."""
+    """What is wanted, as a program for pymongo says it."""
     if asked is None:
-        return _whole
+        return WHOLE_DOCUMENTS
     members = _members(asked)
     kinds = {path: _is_wanted(path, value) for path, value in members.items()}
     wanted = {is_wanted for path, is_wanted in kinds.items() if path != "_id"}
     if len(wanted) > 1:
         raise OperationFailure("a projection names what is wanted or what isn't, and not both", 31254)
     if not kinds:
-        return _whole
+        return WHOLE_DOCUMENTS
     is_inclusion = wanted.pop() if wanted else kinds["_id"]
+    _tree(kinds)
     paths = _tree([path for path, is_wanted in kinds.items() if is_wanted == is_inclusion])
+    # Beside fields that aren't wanted the `_id` is there anyhow, and the program lets it not be named.
+    fields = {path: int(is_wanted) for path, is_wanted in kinds.items() if is_inclusion or not is_wanted}
     if is_inclusion:
         if kinds.get("_id", True):
             paths.setdefault("_id", None)
-        return lambda document: _included(document, paths)
-    return lambda document: _excluded(document, paths)
+        return Projection(fields, lambda document: _included(document, paths))
+    return Projection(fields, lambda document: _excluded(document, paths))
 
 
 def _whole(document: Document) -> Document:
@@ -122,3 +139,6 @@ def _items(items: Any, paths: Paths, take: Callable[[Document, Paths], Document]
         elif keeps:
             made.append(item)
     return made
+
+
+WHOLE_DOCUMENTS = Projection({}, _whole)

@@ -77,11 +77,14 @@ def _words_of_get(name: str, own: str) -> Words:
 
 def _words_of_find(name: str, query: str = "{}", part: str = "{}") -> Words:
     options = json.loads(part)
-    if "sort" in options:
-        if any("," in path for path in options["sort"]):
-            refuse("a sort by a path with a comma of a store that is only read", "it is a word of a command")
-        options["sort"] = ",".join(f"{path}:{way}" for path, way in options["sort"].items())
-    words = [word for option, value in options.items() for word in (f"--{option}", str(value))]
+    paths = {option: options.pop(option, {}) for option in ("sort", "fields")}
+    for option, named in paths.items():
+        if any("," in path for path in named):
+            refuse(f"a path with a comma in {option} of a store that is only read", "it is a word of a command")
+    options["sort"] = ",".join(f"{path}:{way}" for path, way in paths["sort"].items())
+    options["fields"] = ",".join(path for path, is_wanted in paths["fields"].items() if is_wanted)
+    options["without"] = ",".join(path for path, is_wanted in paths["fields"].items() if not is_wanted)
+    words = [word for option, value in options.items() if value != "" for word in (f"--{option}", str(value))]
     return [*_named(name, query), *words, "--canonical"]
 
 

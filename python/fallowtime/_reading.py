@@ -13,7 +13,7 @@ from ._distinct import distinct_values
 from ._indexing import Indexing
 from ._part import WHOLE, Part
 from ._projection import projection_of
-from ._query import encode_query
+from ._query import encode_query, is_one_look
 from ._requests import Document
 
 File = Union[str, "os.PathLike[str]", IO[bytes]]
@@ -36,11 +36,11 @@ class Reading(Indexing):
         project, part = projection_of(projection), Part(sort, skip) if sort or skip else WHOLE
         if not isinstance(filter, Mapping):
             filter = {} if filter is None else {"_id": filter}
-        if skip:
-            trees = self._selection(filter)(part.first())
-            return project(self._decoder.document(trees[0])) if trees else None
-        found = self._seek(filter, part)
-        return None if found is None else project(self._decoder.document(found[1]))
+        if skip or not is_one_look(filter):
+            found = Cursor(self, self._selection(filter), project, part)._fetched(part.first())
+            return found[0] if found else None
+        held = self._seek(filter)
+        return None if held is None else project(self._decoder.document(held[1]))
 
     def find(self, filter: Optional[Document] = None, projection: Any = None, skip: int = 0, limit: int = 0,
              *, sort: Any = None, hint: Any = None, **options: Any) -> Cursor:
