@@ -3,15 +3,18 @@ import pathlib
 import re
 
 TABLE = pathlib.Path(__file__).resolve().parent.parent / "crates/fallowtime_words/src/table.rt"
-# What pages and the help have for each argument; neither the documents of import nor an object of options are words.
+# What pages and the help have for each argument; an object of options is no word. The script alone takes INPUT.
 ARGUMENTS = {"Collection": "COLL", "Document": "DOC", "Id": "ID", "Key": "KEY", "Value": "VALUE", "Query": "[QUERY]", "Selection": "QUERY", "Update": "UPDATE",
-             "Options": "", "Documents": "", "IndexPath": "PATH", "File": "PATH"}
+             "Options": "", "Documents": "[INPUT]", "IndexPath": "PATH", "File": "PATH", "Folder": "DIR"}
 # The options beside --wait by the constants of the table.
 OPTIONS = {"NO_OPTION": [], "CANONICAL": ["--canonical"], "PRINTED": ["--canonical", "--bson"],
-           "FOUND": ["--sort", "--skip", "--limit", "--canonical", "--bson"], "LINES": ["--json"], "MANY": ["--many"]}
+           "FOUND": ["--sort", "--skip", "--limit", "--fields", "--without", "--canonical", "--bson"], "LINES": ["--json"], "MANY": ["--many"]}
+
+# The options that the script takes for the program.
+OF_SCRIPT = {"get": ["--pretty"], "find": ["--pretty"]}
 
 # The options that are more than a word.
-VALUED = ["--sort", "--skip", "--limit", "--wait"]
+VALUED = ["--sort", "--skip", "--limit", "--fields", "--without", "--wait"]
 
 
 def rows(*places):
@@ -22,9 +25,9 @@ def rows(*places):
             yield name, " ".join(filter(None, (ARGUMENTS[kind] for kind in re.findall(r"Argument::(\w+)", row)))), OPTIONS[options]
 
 
-def over_a_file():
-    """The commands of a command line over a FILE."""
-    return {name: (arguments, options) for name, arguments, options in rows("Both", "CommandLine")}
+def over_a_file(*more):
+    """The commands of a command line over a FILE, and of further places."""
+    return {name: (arguments, options) for name, arguments, options in rows("Both", "CommandLine", *more)}
 
 
 def words_of(options):

@@ -9,7 +9,7 @@
 What is wrong: a line over 120 columns outside of blocks of code and tables; a cell of a table over 240, which is a paragraph; a
 table whose rows have different numbers of cells; a page over 150 lines without a table of contents; a link to a file or a
 heading that isn't there, or to anything outside the repository; a row that stands in two tables; a crate without a page or without
-its line in ARCHITECTURE; a refusal without its line in REFUSALS; a decision that is cited anywhere by a name that it hasn't, or has
+its line in ARCHITECTURE; a refusal without its line in ERRORS; a decision that is cited anywhere by a name that it hasn't, or has
 no reason; a page that a script, a test or a page names by a path where it isn't; a command that only one of COMMANDS and `--help`
 has; a signature in CALLS that no source has, or a call of a store that isn't there.
 """
@@ -159,7 +159,7 @@ def wrong_rows(all_pages):
 
 def missing():
     """What has to have its line and hasn't."""
-    architecture, refusals = ROOT / "docs/development/ARCHITECTURE.md", ROOT / "docs/REFUSALS.md"
+    architecture, refusals = ROOT / "docs/development/ARCHITECTURE.md", ROOT / "docs/ERRORS.md"
     for name in re.findall(r"^([a-z]\w*):", (ROOT / "crates.txt").read_text(), re.M):
         if not (ROOT / "crates" / name / "README.md").exists():
             yield ROOT / "crates.txt", 1, f"{name} has no page crates/{name}/README.md"
@@ -210,7 +210,7 @@ def wrong_commands():
     """Commands that COMMANDS and a program don't both have: fallowtime by its table, and bson_store by its help."""
     page = ROOT / "docs/COMMANDS.md"
     helped = subprocess.run([ROOT / "bson_store", "--help"], capture_output=True, text=True).stdout
-    told = {"fallowtime": {" ".join(filter(None, row[:2])) for row in command_table.rows("Both", "CommandLine", "Alone")},
+    told = {"fallowtime": {" ".join(filter(None, row[:2])) for row in command_table.rows("Both", "CommandLine", "Alone", "Script")},
             "bson_store": set(re.findall(r"^  ([a-z]+)(?: |$)", helped, re.M))}
     for program, names in told.items():
         table = re.search(rf"^### Commands of `{program}`\n(.*?)^#", page.read_text(), re.M | re.S)[1]

@@ -40,6 +40,8 @@ NAMES = ["bson_store", "bson_json", "fallowtime"]
 USAGE = "words: usage\n"
 # For each command its places, and its options beside --wait.
 COMMANDS = command_table.over_a_file()
+# With those that the script does by others.
+ALL = command_table.over_a_file("Script")
 OPTIONS = ["--canonical", "--bson", "--json", "--wait 5", "--sort --skip", "--skip 1"]
 # The program that is made up says how it was started, or which kinds or collections there are, or how many lines it read.
 STUB = """#!/bin/sh
@@ -83,7 +85,7 @@ def checkout():
     for folder in "tools", "man", "completions":
         shutil.copytree(ROOT / folder, there / folder, ignore=shutil.ignore_patterns("__pycache__"))
     (there / "docs").mkdir()
-    shutil.copy(ROOT / "docs/REFUSALS.md", there / "docs")
+    shutil.copy(ROOT / "docs/ERRORS.md", there / "docs")
     write(there / "VERSION", "1.2.3\n")
     return there
 
@@ -122,7 +124,7 @@ def is_line(words):
     command = words[1] if words[1:] and words[1] in COMMANDS else None
     places, forms = COMMANDS.get(command, ("", []))
     rest = words[2:] if command else words[1:]
-    for place in places.split():
+    for place in places.replace("[INPUT]", "").split():
         if rest and not (place == "[QUERY]" and rest[0].startswith("--")):
             rest = rest[1:]
         elif place != "[QUERY]":
@@ -133,15 +135,25 @@ def is_line(words):
         if option not in ["--wait", *forms]:
             return False
         if option in command_table.VALUED:
-            if not rest or option != "--sort" and (not re.fullmatch("[0-9]+", rest[0]) or int(rest[0]) >= 2 ** 64):
+            if not rest or option in ["--wait", "--skip", "--limit"] and (not re.fullmatch("[0-9]+", rest[0]) or int(rest[0]) >= 2 ** 64):
                 return False
             rest.pop(0)
         given.append(option)
     return len(given) == len(set(given)) and not {"--canonical", "--bson"} <= set(given)
 
 
+def is_line_of_script(words):
+    """Whether the words are a line of the script: one of the program, or with what the script takes for it."""
+    if words[1] == "import" and words[3:4] and not words[3].startswith("--"):
+        return is_line(words[:3] + words[4:])
+    if words[1] in ALL and words[1] not in COMMANDS:
+        return len(words) == 2 + len(ALL[words[1]][0].split())
+    return is_line(words)
+
+
 def lines_of_command(command, places):
     """Lines of a command: with each list of options, its own or another's, and with one word more, less or else."""
+    places = places.replace("[INPUT]", "").strip()
     for form in {places, places.replace("[QUERY]", "").strip(), places.replace("[QUERY]", "--q")}:
         line = ["f", command, *form.replace("[QUERY]", "q").split()]
         for count in range(3):
@@ -185,25 +197,25 @@ if PROGRAM:
         holds(f"{words}", run(PROGRAM, *words), (0, section["fallowtime"], ""))
     listed = re.findall(r"^  ([a-z][a-z_-]*)((?: [A-Z\[\]]+)*)(?:  |$)", section["fallowtime"], re.M)
     about = dict(re.findall(r'name: "([\w-]+)".*?about: "(.*?)",$', command_table.TABLE.read_text(), re.M | re.S))
-    holds("what the commands do", [line[30:] for line in re.findall(r"^  [a-z][a-z_-]* .*$", section["fallowtime"], re.M)], [about[name] for name in COMMANDS])
-    holds("the commands of the help", listed, [(name, f" {places}" if places else "") for name, (places, _) in COMMANDS.items()])
+    holds("what the commands do", [line[30:] for line in re.findall(r"^  [a-z][a-z_-]* .*$", section["fallowtime"], re.M)], [about[name] for name in ALL])
+    holds("the commands of the help", listed, [(name, f" {places}" if places else "") for name, (places, _) in ALL.items()])
     status, out, errors = run(PROGRAM, "--explain")
     holds("--explain", (status, out, errors.split(": ")[:3]), (2, "", ["words", "usage\nfallowtime", "the kinds are"]))
     kinds = errors.split("the kinds are: ")[1].split()
     every = run(PROGRAM, "help", "export")[1].split("\n\nEach command may be refused")[1]
-for name, (places, forms) in COMMANDS.items() if PROGRAM else []:
+for name, (places, forms) in ALL.items() if PROGRAM else []:
     out = section[name] = run(PROGRAM, "help", name)[1]
     for words in [name, "--help"], ["--help", name], [name, "-h"], [name, "help"]:
         holds(f"{words}", run(PROGRAM, *words), (0, out, ""))
     usage = " ".join(["fallowtime FILE", name, *places.split(), *([command_table.words_of(forms)] if forms else []), "[--wait SECONDS]"])
     holds(f"{name}: its words", out.split("\n")[0], usage)
-    holds(f"{name}: its options", re.findall(r"^  (--[a-z]+)", out, re.M), [*forms, "--wait"])
+    holds(f"{name}: its options", re.findall(r"^  (--[a-z]+)", out, re.M), [*forms, *command_table.OF_SCRIPT.get(name, []), "--wait"])
     examples = re.findall(rf"^    (?:.* )?fallowtime \S+ {name}(?: .*)?$", out, re.M)
-    holds(f"{name}: its examples", len(examples), 3 if name == "find" else 2)
+    holds(f"{name}: its examples", len(examples), 4 if name == "find" else 2)
     for example in examples:
         text = "set -- " + re.split(" [<>|] ", example)[0] + r"; printf '%s\n' " + '"$@"'
         words = subprocess.run(["bash", "-c", text], capture_output=True, text=True, cwd=HERE).stdout.split("\n")[1:-1]
-        holds(f"{name}: {example.strip()} is a line", is_line(words), True)
+        holds(f"{name}: {example.strip()} is a line", is_line_of_script(words), True)
     named = re.findall(r"[A-Z][a-z]+[A-Za-z]+|words: [A-Za-z]+", re.search(r"^May be refused: ([^.]*)\.", out, re.M)[1])
     holds(f"{name}: refusals that aren't explained", [kind for kind in named if kind.removeprefix("words: ") not in kinds], [])
     holds(f"{name}: the text of every command", out.endswith("\n\nEach command may be refused" + every), True)
@@ -219,7 +231,7 @@ if PROGRAM:
     holds("the columns of the help", [line for text in section.values() for line in text.split("\n") if len(line) > 85], [])
 
 # Each kind of refusal is explained, in the words of the page, and each kind that the page names.
-page = re.sub(r"\[([^\][]*)\]\([^)]*\)", r"\1", (ROOT / "docs/REFUSALS.md").read_text())
+page = re.sub(r"\[([^\][]*)\]\([^)]*\)", r"\1", (ROOT / "docs/ERRORS.md").read_text())
 store = (ROOT / "crates/store_model/src/error.rt").read_text()
 fault = re.search(r"pub enum FileError \{(.*?)\n\}", (ROOT / "crates/cli_files/src/fault.rt").read_text(), re.S)[1]
 unread = ["JSON", "usage", "id", "query", "line", "Usage", "NotJson", "RepeatedKey", "InvalidObjectId", "NumberOutOfRange", "NotExtendedJson",
@@ -260,7 +272,7 @@ knows = knows_its_name()
 count = 0
 for words in all_lines():
     count += is_line(words)
-    if words and words[1:2] != ["collections"] and count % 20 == 0:
+    if words and words[1:2] not in (["collections"], ["import"]) and count % 20 == 0:
         told = "fallowtime" + "".join(f" <{word}>" for word in words) + "\n"
         found = run(script, *words)
         if found != (0, told, ""):
@@ -282,10 +294,12 @@ for words, hint in [
     (["t.db", "export"], "the words are fallowtime FILE export COLL "),
     (["t.db", "Update", "c", "1"], "there is no command 'Update', but there is update; "),
     (["t.db", "show"], "there is no command 'show', but there is collections; "),
+    (["t.db", "edit", "c"], "the words are fallowtime FILE edit COLL ID [--wait SECONDS]"),
+    (["t.db", "import-al", "d"], "there is no command 'import-al', but there is import-all; "),
     (["t.db", "version"], "the words are fallowtime version"),
     (["t.db", "index", "c", "a"], "the words are a line of fallowtime FILE: index COLL PATH"),
     (["t.db", "get", "c"], "the words are fallowtime FILE get COLL ID [--canonical | --bson] [--wait SECONDS]"),
-    (["t.db", "import", "c", "--canonical"], "the words are fallowtime FILE import COLL [--json] [--wait SECONDS]"),
+    (["t.db", "import", "c", "--canonical"], "the words are fallowtime FILE import COLL [INPUT] [--json] [--wait SECONDS]"),
     (["insert", "orders", "{}"], "FILE comes first: fallowtime FILE insert COLL DOC [--canonical] [--wait SECONDS]"),
     (["-t.db", "collections"], "a FILE that begins with - is written ./-x.db; "),
     (["--versoin"], "a FILE that begins with - is written ./-x.db; --help, --version and "),
@@ -308,6 +322,7 @@ for words, status, advice in [
     (["advice.db", "get", "c", "65000000000000000000000a"], 1, "this ID is a text; an ObjectId is written "),
     (["advice.db", "get", "c", '{"$oid":"12"}'], 2, "an ObjectId is "),
     (["advice.db", "set", "c", "1", "k", "new"], 2, "a text has quotes of its own "),
+    (["advice.db", "set", "c", "1", "k", '{"$date":"2026"}'], 2, "a text has quotes of its own "),
     (["advice.db", "find", "c", "k"], 2, "a query is an object, "),
 ]:
     if knows:
@@ -421,8 +436,8 @@ for name, words in re.findall(r"^\.It Ic ([\w-]+)(.*)$", man, re.M):
     forms = re.findall(r"Fl (-[a-z]+)", words)
     places = re.sub(r"Oo Ar (\w+) Oc|Op Ar (\w+)$", lambda found: f"Ar [{found[1] or found[2]}]", re.split(" O[op] Fl", words)[0])
     shown.append((name, (" ".join(re.findall(r"[A-Z\[\]]{2,}", places)), [f"-{form}" for form in forms])))
-holds("the commands of the page", shown, list(COMMANDS.items()))
-holds("the options of the page", sorted(re.findall(r"^\.It Fl -([a-z]+)", man, re.M)), ["bson", "canonical", "explain", "help", "json", "limit", "many", "skip", "sort", "version", "wait"])
+holds("the commands of the page", shown, [(name, (places, forms + command_table.OF_SCRIPT.get(name, []))) for name, (places, forms) in ALL.items()])
+holds("the options of the page", sorted(re.findall(r"^\.It Fl -([a-z]+)", man, re.M)), ["bson", "canonical", "explain", "fields", "help", "json", "limit", "many", "pretty", "skip", "sort", "version", "wait", "without"])
 for tool, words in ("mandoc", ["-T", "lint", "-W", "warning"]), ("groff", ["-mdoc", "-Tutf8", "-z", "-ww"]):
     if shutil.which(tool):
         done = subprocess.run([tool, *words, ROOT / "man/fallowtime.1"], capture_output=True, text=True)
@@ -447,7 +462,8 @@ for line, wanted in [
     (["help", "re"], ["replace", "replace-one", "remove"]),
     (["help", "v"], ["version"]),
     (["--explain", "No"], ["NoFile", "NoFolder"]),
-    (["shop.db", ""], list(COMMANDS)),
+    (["shop.db", ""], list(ALL)),
+    (["shop.db", "ex"], ["export", "export-all"]),
     (["shop.db", "re"], ["replace", "replace-one", "remove"]),
     (["shop.db", "--"], ["--wait", "--help"]),
     (["shop.db", "get", ""], ["orders", "old\\ orders", "more"]),
@@ -455,14 +471,19 @@ for line, wanted in [
     (["shop.db", "get", "old\\ "], ["old\\ orders"]),
     (["my\\ shop.db", "find", "m"], ["more"]),
     (["none.db", "find", "m"], [""]),
-    (["shop.db", "find", "more", "--"], ["--sort", "--skip", "--limit", "--canonical", "--bson", "--wait"]),
-    (["shop.db", "get", "more", "1", "--bson", "--"], ["--canonical", "--wait"]),
+    (["shop.db", "find", "more", "--"], ["--sort", "--skip", "--limit", "--fields", "--without", "--canonical", "--bson", "--pretty", "--wait"]),
+    (["shop.db", "get", "more", "1", "--bson", "--"], ["--canonical", "--pretty", "--wait"]),
+    (["shop.db", "edit", "m"], ["more"]),
+    (["shop.db", "edit", "more", "1", ""], ["--wait"]),
+    (["shop.db", "import", "more", "sh"], ["shop.db"]),
+    (["shop.db", "import", "more", "shop.db", ""], ["--json", "--wait"]),
+    (["shop.db", "import-all", "sh"], ["shop.db"]),
     (["shop.db", "find", "more", "--bson", "--s"], ["--sort", "--skip"]),
     (["shop.db", "find", "more", "--sort", "price", "--s"], ["--skip"]),
     (["shop.db", "find", "more", "--sort", ""], [""]),
     (["shop.db", "insert", "more", "{}", "--"], ["--canonical", "--wait"]),
     (["shop.db", "insert", "more", "--"], [""]),
-    (["shop.db", "import", "more", ""], ["--json", "--wait"]),
+    (["shop.db", "import", "more", "--"], ["--json", "--wait"]),
     (["shop.db", "set", "more", "1", "k", "v", ""], ["--wait"]),
     (["shop.db", "collections", ""], ["--wait"]),
     (["shop.db", "collections", "--wait", ""], [""]),

@@ -18,6 +18,11 @@ python3-mongomock /usr/bin/python3 -c 'import mongomock'
 python3-apscheduler /usr/bin/python3 -c 'import apscheduler.jobstores.mongodb'
 python3-requests-cache /usr/bin/python3 -c 'import requests_cache.backends.mongodb'
 golang-mongodb-mongo-driver-dev test -d /usr/share/gocode/src/go.mongodb.org/mongo-driver/data/crud
+gcc command -v gcc
+pkg-config command -v pkg-config
+libmongoc-dev pkg-config libmongoc-1.0
+nodejs command -v node
+node-mongodb NODE_PATH=/usr/share/nodejs:/usr/lib/nodejs node -e 'require("mongodb")'
 python3-venv /usr/bin/python3 -c 'import ensurepip, venv'
 lintian command -v lintian
 mandoc command -v mandoc

@@ -8,8 +8,8 @@
 #
 # In a block ```console each line `$ COMMAND` is run (a line that ends in \ goes on in the next one), and the lines below it, up to
 # the next `$`, are what it prints on standard output and standard error. One shell runs all commands of a page. It starts in an
-# empty folder that has what the commands need of a checkout: `fallowtime`, `bson_store` and `bson_json`, which are
-# PROGRAM under three names, and the folders `samples`, `tools` and `python`; it is on the path. With a FOLDER, that of the programs
+# empty folder that has what the commands need of a checkout: the scripts `fallowtime`, `bson_store` and `bson_json`,
+# which start PROGRAM, and the folders `samples`, `tools` and `python`; it is on the path. With a FOLDER, that of the programs
 # of an installation, that is on the path, and there is nothing else. Blocks of other kinds aren't run: ```sh is for what takes hours,
 # a network or a toolchain. The lines of each block ```rust stand one after the other in a source of crates/ or cases/, those of
 # ```antt in a proof there, apart from their indentation and the comments behind them.
@@ -55,7 +55,8 @@ run_page() {
     if [ ! -d "$program" ]; then
         path=$folder/checkout
         local name
-        for name in bson_store bson_json fallowtime; do cp "$program" "$path/$name"; done
+        mkdir "$path/program"
+        for name in bson_store bson_json fallowtime; do cp "$root/$name" "$path" && cp "$program" "$path/program/$name"; done
         cp -r "$root/samples" "$root/tools" "$root/python" "$path"
     fi
     blocks console "$1" >"$folder/printed"
